@@ -1,0 +1,36 @@
+-- One bit of a set of squares.
+use Rattle.std.proofs.Common.{◌≡◌, ◌≢◌, ◌↔◌, ℕ, zero, Bool, true, false, inl, inr, suc, ◌<◌, ◌^◌, ◌*◌, ◌%◌, ◌-◌, ◌≤◌, bit_and, w64, w8, arith, ap, sym, ◌∙◌, refl, subst}
+use Rattle.std.specs.Int.{bit_at, trailing_zeros, bit_not}
+use Rattle.std.proofs.lemmas.Nat.{and_le_l}
+use Rattle.std.proofs.lemmas.Nat.Bits.{bit_at-trailing_zeros, bit_at_clear_same, bit_at-zero, bit_at-lt}
+use Rattle.std.proofs.lemmas.Bool.{cases_eq, false≢true}
+
+-- the lowest 1 of a number of 64 bits that has one
+pub bit_at_first : (n k : ℕ) → n < 2 ^ 64 → k < 64 → k ≡ trailing_zeros w64 n → (bit_at n k ≡ 1) × ((t : ℕ) → t < k → bit_at n t ≡ 0)
+unfolding lib.Count.count_trailing_zeros
+bit_at_first zero k small below e = let bad : k ≡ 64 = e in absurd (omega arith)
+bit_at_first (suc n) k small below e =
+    let h = bit_at-trailing_zeros w64 (suc n) (omega arith) small in
+    (ap (bit_at (suc n)) e ∙ h.1, λ t lt. h.2 t (subst (λ j. t < j) e lt))
+
+-- a number whose trailing zeros are all its bits has no 1
+pub bit_at_none : (n : ℕ) → n < 2 ^ 64 → 64 ≤ trailing_zeros w64 n → (t : ℕ) → bit_at n t ≡ 0
+bit_at_none zero small h t = bit_at-zero t
+bit_at_none (suc n) small h t = absurd (omega (arith, (bit_at-trailing_zeros w64 (suc n) (omega arith) small).0))
+
+less : (m n : ℕ) → m ≤ n → m ≢ n → m < n
+less m n le other = omega arith
+
+-- to clear a bit that is 1 makes the number less
+pub clear-lt : (n k : ℕ) → k < 64 → bit_at n k ≡ 1 → bit_and n (bit_not w64 (1 * 2 ^ k % 2 ^ 64)) < n
+clear-lt n k below one =
+    less _ n (and_le_l n (bit_not w64 (1 * 2 ^ k % 2 ^ 64))) (λ e.
+      let bad : 0 ≡ 1 = sym (bit_at_clear_same w64 n k below) ∙ (ap (λ j. bit_at j k) e ∙ one) in absurd (omega arith))
+
+-- a bit that a test did not find is 0
+pub bit_at_untold : (b : Bool) (n t : ℕ) → ((b ≡ true) ↔ (bit_at n t ≡ 1)) → b ≡ false → bit_at n t ≡ 0
+bit_at_untold b n t told untrue =
+    elim (cases_eq (bit_at n t) 1) [
+      | inl one ↦ absurd (false≢true (sym untrue ∙ told.1 one))
+      | inr other ↦ let small = bit_at-lt n t in omega arith
+    ]

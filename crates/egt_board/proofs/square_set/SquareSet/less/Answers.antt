@@ -1,0 +1,14 @@
+use Rattle.std.proofs.Common.{arith, ◌≡◌, ◌≢◌, ℕ, ◌<◌, w64}
+use Rattle.std.proofs.lemmas.Nat.Bits.{bit_at_clear_same, bit_at_clear_other}
+use Rattle.egt_board.proofs.Bits.{clear-lt}
+use Rattle.egt_board.proofs.square_set.SquareSet.less.Goals as goal
+
+pub returns-clause-same : goal.returns-clause-same
+returns-clause-same c = rw (← c.number.ensures.value) (bit_at_clear_same w64 c.args.self.bits c.number.result (omega arith))
+
+pub returns-clause-others : goal.returns-clause-others
+returns-clause-others c =
+    λ t below other. bit_at_clear_other w64 c.args.self.bits c.number.result (omega arith) t below (rw c.number.ensures.value other)
+
+pub returns-clause-fewer : goal.returns-clause-fewer
+returns-clause-fewer c = λ has. clear-lt c.args.self.bits c.number.result (omega arith) (rw c.number.ensures.value has)

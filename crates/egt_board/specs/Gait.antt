@@ -1,0 +1,63 @@
+-- How each man goes: FIDE Laws of Chess 2023, articles 3.2 to 3.6 and 3.8.
+use Rattle.std.specs.Prelude.{Bool, nat_lt, ◌&&◌, ◌≡◌, ℕ, ◌<◌, ◌≤◌, List, [], ◌∷◌, ◌++◌, ◌⊎◌}
+use Rattle.egt_board.specs.declared.man.Kind.{Kind}
+use Rattle.egt_board.specs.declared.man.Kind.TheVariants.{Q, R, B, N, K}
+use Rattle.egt_board.specs.declared.man.Man.{Man}
+use Rattle.egt_board.specs.declared.step.Way.{Way}
+use Rattle.egt_board.specs.declared.step.Way.TheVariants.{Up, Down, Still}
+use Rattle.egt_board.specs.declared.step.Step.{Step}
+use Rattle.egt_board.specs.Step.{Away}
+
+abbrev step : Way → ℕ → Way → ℕ → Step
+step files wide ranks high = record { files = files; wide = wide; ranks = ranks; high = high }
+
+-- along a file or a rank
+abbrev pub straight_steps : List Step
+straight_steps = step Up 1 Still 0 ∷ step Down 1 Still 0 ∷ step Still 0 Up 1 ∷ step Still 0 Down 1 ∷ []
+
+-- along a diagonal
+abbrev pub diagonal_steps : List Step
+diagonal_steps = step Up 1 Up 1 ∷ step Up 1 Down 1 ∷ step Down 1 Up 1 ∷ step Down 1 Down 1 ∷ []
+
+-- to one of the nearest squares that are not on the same file, rank or diagonal
+abbrev pub knight_steps : List Step
+knight_steps =
+    step Up 1 Up 2 ∷ step Up 1 Down 2 ∷ step Down 1 Up 2 ∷ step Down 1 Down 2
+    ∷ step Up 2 Up 1 ∷ step Up 2 Down 1 ∷ step Down 2 Up 1 ∷ step Down 2 Down 1 ∷ []
+
+-- the steps of a man
+abbrev pub steps_of : Kind → List Step
+steps_of Q = straight_steps ++ diagonal_steps
+steps_of R = straight_steps
+steps_of B = diagonal_steps
+steps_of N = knight_steps
+steps_of K = straight_steps ++ diagonal_steps
+
+-- how many of its steps a man may go at once
+abbrev pub farthest : Kind → ℕ
+farthest Q = 7
+farthest R = 7
+farthest B = 7
+farthest N = 1
+farthest K = 1
+
+-- a step that stays on the board in some place
+abbrev pub is_short : Step → Bool
+is_short d = nat_lt d.wide 8 && nat_lt d.high 8
+
+-- P holds of one of these steps
+abbrev pub OneOf : (Step → Type 0) → List Step → Type 0
+OneOf P [] = ⊥
+OneOf P (d ∷ ds) = P d ⊎ OneOf P ds
+
+-- t is this step away, from one to `most` times, and each square before it is free
+pub record Rides (Free : ℕ → Type 0) (most : ℕ) (s t : ℕ) (d : Step) : Type 0 where
+  pub count : ℕ
+  pub moves : 0 < count
+  pub within : count ≤ most
+  pub away : Away d count s t
+  pub clear : (k u : ℕ) → 0 < k → k < count → Away d k s u → Free u
+
+-- a man of this kind on s reaches t, where only free squares are passed
+abbrev pub Reaches : (ℕ → Type 0) → Kind → ℕ → ℕ → Type 0
+Reaches Free kind s t = OneOf (Rides Free (farthest kind) s t) (steps_of kind)

@@ -1,0 +1,10 @@
+pub mod Man
+pub mod Square
+pub mod Coordinate
+pub mod Step
+pub mod SquareSet
+pub mod Placement
+pub mod Board
+pub mod Gait
+pub mod Attack
+pub mod Setup

@@ -1,0 +1,40 @@
+-- Positions and which of them the rules of play admit.
+use Rattle.std.specs.Prelude.{◌≡◌, ℕ, ◌<◌, ◌≤◌, Option, Some, None}
+use Rattle.std.specs.FinMap as map
+use Rattle.egt_board.specs.declared.man.Side.{Side}
+use Rattle.egt_board.specs.declared.man.Side.TheVariants.{White, Black}
+use Rattle.egt_board.specs.declared.man.Man.{Man}
+use Rattle.egt_board.specs.Man.{other_side}
+use Rattle.egt_board.specs.Placement.{Placement, Stands}
+use Rattle.egt_board.specs.Attack.{king_of, IsInCheck}
+
+-- the men, the side to move, and the square that a pawn has just passed
+pub record Setup : Type 0 where
+  pub men : Placement
+  pub side : Side
+  pub target : Option ℕ
+
+-- that side's king stands on the square, and nowhere else
+pub record IsKingOn (men : Placement) (side : Side) (s : ℕ) : Type 0 where
+  pub stands : Stands men s (king_of side)
+  pub only : (t : ℕ) → Stands men t (king_of side) → t ≡ s
+
+-- one king a side
+pub record HasKings (men : Placement) : Type 0 where
+  pub white : ℕ
+  pub black : ℕ
+  pub white_there : IsKingOn men White white
+  pub black_there : IsKingOn men Black black
+
+-- the target is one that the last move may have set: no man here advances two squares, so there is none
+abbrev pub FitsTarget : Setup → Type 0
+FitsTarget p = p.target ≡ None
+
+-- at most four men on squares of the board, one king a side, a target that fits, and the side that
+-- waits is not in check
+pub record IsAdmissible (p : Setup) : Type 0 where
+  pub few : map.len p.men ≤ 4
+  pub on_board : (s : ℕ) (man : Man) → Stands p.men s man → s < 64
+  pub kings : HasKings p.men
+  pub target : FitsTarget p
+  pub quiet : ¬ IsInCheck p.men (other_side p.side)

@@ -1,0 +1,17 @@
+//! Squares, men and positions of chess with at most four men, and which squares the men attack.
+//!
+//! A [`Position`] is always one that the rules of play admit: see [`Position::new`].
+#![tactic(auto)]
+
+pub mod board;
+pub mod gait;
+pub mod man;
+pub mod square;
+pub mod square_set;
+pub mod step;
+
+pub use board::Board;
+pub use man::{Kind, Man, Side};
+pub use square::Square;
+pub use square_set::SquareSet;
+pub use step::{Step, Way};
