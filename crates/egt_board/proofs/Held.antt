@@ -4,7 +4,7 @@ use Rattle.std.specs.Option.{is_none}
 use Rattle.std.specs.Ordering.{nat_cmp}
 use Rattle.std.proofs.lemmas.Bool.{false≢true}
 use Rattle.std.proofs.lemmas.Nat.Bits.{bit_at-zero}
-use Rattle.std.proofs.Common.{true, [], ◌∷◌, zero, suc, ◌≡◌, ◌≢◌, ℕ, ◌+◌, ◌<◌, ◌≤◌, ◌↔◌, List, length, get_or, Option, Some, None, replicate, arith, refl, sym, ap, ◌∙◌, max, inl, inr}
+use Rattle.std.proofs.Common.{◌^◌, true, [], ◌∷◌, zero, suc, ◌≡◌, ◌≢◌, ℕ, ◌+◌, ◌<◌, ◌≤◌, ◌↔◌, List, length, get_or, Option, Some, None, replicate, arith, refl, sym, ap, ◌∙◌, max, inl, inr}
 use Rattle.std.specs.FinMap as map
 use Rattle.std.proofs.lemmas.Bool.{cases_lt}
 use Rattle.std.proofs.lemmas.List.{get_or_past}
@@ -13,6 +13,7 @@ use Rattle.egt_board.specs.declared.man.Side.TheVariants.{White, Black}
 use Rattle.egt_board.specs.declared.man.Man.{Man}
 use Rattle.egt_board.specs.Placement.{Placement, Stands, IsFree, same_men}
 use Rattle.egt_board.specs.Board.{placed, bit_of, is_side, IsHeld, AreOf}
+use Rattle.std.specs.Int.{bit_at}
 use Rattle.egt_board.proofs.Placed.{get-placed}
 
 is_side-same : (a b : Side) → (is_side a b ≡ 1) ↔ (b ≡ a)
@@ -58,7 +59,12 @@ bare-slot (Some man ∷ xs) h t = absurd (false≢true h)
 
 -- on squares with nothing on them no side has a man
 pub bare-AreOf : (side : Side) (xs : List (Option Man)) → list_all is_none xs ≡ true → AreOf 0 side xs
-bare-AreOf side xs h = λ t t_in. bit_at-zero t ∙ sym (ap (bit_of side) (bare-slot xs h t))
+bare-AreOf side xs h = λ t. bit_at-zero t ∙ sym (ap (bit_of side) (bare-slot xs h t))
 
 pub bare-placed : (xs : List (Option Man)) → list_all is_none xs ≡ true → placed xs ≡ map.empty
 bare-placed xs h = same_men _ _ (λ q. get-placed xs q ∙ bare-slot xs h q ∙ sym (map.get-empty nat_cmp q))
+
+-- the squares of a side's set are those on which its men stand
+pub Has-IsHeld : (men : Placement) (side : Side) (xs : List (Option Man)) (bits : ℕ) → placed xs ≡ men → AreOf bits side xs → (t : ℕ) → (bit_at bits t ≡ 1) ↔ IsHeld men t side
+Has-IsHeld men side xs bits shown are t =
+    bit_of-IsHeld men t side _ _ (ap (λ m. map.get m t) (sym shown) ∙ get-placed xs t) (are t)

@@ -4,3 +4,7 @@ pub mod Rides
 pub mod Steps
 pub mod Placed
 pub mod Held
+pub mod Attacks
+pub mod Kings
+pub mod Lists
+pub mod Positions

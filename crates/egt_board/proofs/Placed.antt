@@ -10,10 +10,10 @@ use Rattle.egt_board.specs.declared.man.Man.{Man}
 use Rattle.egt_board.specs.Placement.{Placement, same_men, tied, untied, get-insert_same, get-insert_other, get-remove_same, get-remove_other}
 use Rattle.egt_board.specs.Board.{men_from, placed}
 
-find-here : (q k : ℕ) (man : Man) (es : List (ℕ × Man)) → q ≡ k → map.find nat_cmp q ((k, man) ∷ es) ≡ Some man
+pub find-here : (q k : ℕ) (man : Man) (es : List (ℕ × Man)) → q ≡ k → map.find nat_cmp q ((k, man) ∷ es) ≡ Some man
 find-here q k man es e = ap (λ b. cond b (Some man) (map.find nat_cmp q es)) (tied q k e)
 
-find-later : (q k : ℕ) (man : Man) (es : List (ℕ × Man)) → q ≢ k → map.find nat_cmp q ((k, man) ∷ es) ≡ map.find nat_cmp q es
+pub find-later : (q k : ℕ) (man : Man) (es : List (ℕ × Man)) → q ≢ k → map.find nat_cmp q ((k, man) ∷ es) ≡ map.find nat_cmp q es
 find-later q k man es other = ap (λ b. cond b (Some man) (map.find nat_cmp q es)) (untied q k other)
 
 find-before : (xs : List (Option Man)) (i q : ℕ) → q < i → map.find nat_cmp q (men_from i xs) ≡ None

@@ -30,7 +30,7 @@ bit_of side (Some man) = is_side side man.side
 
 -- the set has the squares on which men of this side stand
 abbrev pub AreOf : ℕ → Side → List (Option Man) → Type 0
-AreOf bits side xs = (t : ℕ) → t < 64 → bit_at bits t ≡ bit_of side (slice_index_or xs t None)
+AreOf bits side xs = (t : ℕ) → bit_at bits t ≡ bit_of side (slice_index_or xs t None)
 
 -- a man of this side stands on the square
 pub record IsHeld (men : Placement) (s : ℕ) (side : Side) : Type 0 where

@@ -8,3 +8,5 @@ pub mod Board
 pub mod Gait
 pub mod Attack
 pub mod Setup
+pub mod Listed
+pub mod Position

@@ -1,6 +1,9 @@
 -- Positions and which of them the rules of play admit.
-use Rattle.std.specs.Prelude.{◌≡◌, ℕ, ◌<◌, ◌≤◌, Option, Some, None}
+use Rattle.std.specs.Prelude.{◌≡◌, ℕ, ◌<◌, ◌≤◌, Option, None, refl}
+use Rattle.std.specs.Coded.{Coded, code_by, coded×, coded_ℕ, coded_option}
 use Rattle.std.specs.FinMap as map
+use Rattle.egt_board.specs.contracts.man.Man as man_row
+use Rattle.egt_board.specs.contracts.man.Side as side_row
 use Rattle.egt_board.specs.declared.man.Side.{Side}
 use Rattle.egt_board.specs.declared.man.Side.TheVariants.{White, Black}
 use Rattle.egt_board.specs.declared.man.Man.{Man}
@@ -13,6 +16,12 @@ pub record Setup : Type 0 where
   pub men : Placement
   pub side : Side
   pub target : Option ℕ
+
+-- a setup is stored as its three parts
+abbrev pub setup_code : Coded Setup
+setup_code =
+    code_by (Placement × (Side × Option ℕ)) (coded× (map.code coded_ℕ man_row.the_row.coded) (coded× side_row.the_row.coded (coded_option coded_ℕ)))
+    (λ p. (p.men, (p.side, p.target))) (λ e. record { men = e.0; side = e.1.0; target = e.1.1 }) (λ _. refl)
 
 -- that side's king stands on the square, and nowhere else
 pub record IsKingOn (men : Placement) (side : Side) (s : ℕ) : Type 0 where
@@ -31,7 +40,7 @@ abbrev pub FitsTarget : Setup → Type 0
 FitsTarget p = p.target ≡ None
 
 -- at most four men on squares of the board, one king a side, a target that fits, and the side that
--- waits is not in check
+-- waits is not in check (FIDE Laws of Chess 2023, article 3.9)
 pub record IsAdmissible (p : Setup) : Type 0 where
   pub few : map.len p.men ≤ 4
   pub on_board : (s : ℕ) (man : Man) → Stands p.men s man → s < 64

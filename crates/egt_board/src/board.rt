@@ -89,7 +89,7 @@ impl Board {
 
     /// The squares of that side's men.
     pub fn of(&self, side: Side) -> SquareSet
-        ensures { (t : ℕ) → t < 64 → Has result t ↔ IsHeld self.now t side }
+        ensures { (t : ℕ) → Has result t ↔ IsHeld self.now t side }
     {
         match side {
             Side::White => self.white,
@@ -99,7 +99,7 @@ impl Board {
 
     /// The squares of all men.
     pub fn occupied(&self) -> SquareSet
-        ensures free { (t : ℕ) → t < 64 → (bit_at result.bits t ≡ 0) ↔ IsFree self.now t }
+        ensures free { (t : ℕ) → (bit_at result.bits t ≡ 0) ↔ IsFree self.now t }
         ensures on_board { (s : ℕ) (man : Man) → Stands self.now s man → s < 64 }
     {
         self.white.union(self.black)

@@ -207,7 +207,7 @@ fn ride_all(from: Square, steps: &[Step], most: u8, occupied: SquareSet) -> Squa
 
 /// The squares that a man of this kind on `from` reaches where these squares are occupied: those on
 /// which it may capture or, where nothing stands, arrive.
-pub fn reach(kind: Kind, from: Square, occupied: SquareSet) -> SquareSet
+pub(crate) fn reach(kind: Kind, from: Square, occupied: SquareSet) -> SquareSet
     ensures { (t : ℕ) → t < 64 → Has result t ↔ Reaches (λ u. bit_at occupied.bits u ≡ 0) kind from t }
 {
     match kind {

@@ -3,15 +3,22 @@
 //! A [`Position`] is always one that the rules of play admit: see [`Position::new`].
 #![tactic(auto)]
 
+pub mod attack;
 pub mod board;
+pub mod fault;
 pub mod gait;
+pub mod king;
+pub mod listed;
 pub mod man;
+pub mod position;
 pub mod square;
 pub mod square_set;
 pub mod step;
 
 pub use board::Board;
+pub use fault::PosFault;
 pub use man::{Kind, Man, Side};
+pub use position::Position;
 pub use square::Square;
 pub use square_set::SquareSet;
 pub use step::{Step, Way};

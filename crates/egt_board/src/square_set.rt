@@ -36,7 +36,7 @@ impl SquareSet {
     /// The set without the square.
     pub fn less(self, square: Square) -> SquareSet
         ensures same { bit_at result.bits square ≡ 0 }
-        ensures others { (t : ℕ) → t < 64 → t ≢ square → bit_at result.bits t ≡ bit_at self.bits t }
+        ensures others { (t : ℕ) → t ≢ square → bit_at result.bits t ≡ bit_at self.bits t }
         ensures fewer { Has self square → result.bits < self.bits }
     {
         SquareSet {
@@ -47,7 +47,7 @@ impl SquareSet {
     /// The set, with the square in it or not.
     pub fn changed(self, square: Square, here: bool) -> SquareSet
         ensures same { bit_at result.bits square ≡ (if here then 1 else 0) }
-        ensures others { (t : ℕ) → t < 64 → t ≢ square → bit_at result.bits t ≡ bit_at self.bits t }
+        ensures others { (t : ℕ) → t ≢ square → bit_at result.bits t ≡ bit_at self.bits t }
     {
         if here { self.with(square) } else { self.less(square) }
     }
@@ -63,7 +63,7 @@ impl SquareSet {
 
     /// The squares that the other set lacks.
     pub fn without(self, other: SquareSet) -> SquareSet
-        ensures { (t : ℕ) → t < 64 → bit_at result.bits t ≡ min (bit_at self.bits t) (1 - bit_at other.bits t) }
+        ensures { (t : ℕ) → bit_at result.bits t ≡ min (bit_at self.bits t) (1 - bit_at other.bits t) }
     {
         SquareSet {
             bits: self.bits & !other.bits,
@@ -75,7 +75,7 @@ impl SquareSet {
         ensures had { IfSome result (λ s. Has self.old s) }
         ensures gone { IfSome result (λ s. bit_at self.new.bits s ≡ 0) }
         ensures least { IfSome result (λ s. (t : ℕ) → t < s → bit_at self.old.bits t ≡ 0) }
-        ensures others { IfSome result (λ s. (t : ℕ) → t < 64 → t ≢ s → bit_at self.new.bits t ≡ bit_at self.old.bits t) }
+        ensures others { IfSome result (λ s. (t : ℕ) → t ≢ s → bit_at self.new.bits t ≡ bit_at self.old.bits t) }
         ensures fewer { IfSome result (λ _. self.new.bits < self.old.bits) }
         ensures empty { IfNone result ((t : ℕ) → bit_at self.old.bits t ≡ 0) }
         ensures stays { IfNone result (self.new ≡ self.old) }

@@ -1,13 +1,9 @@
-use Rattle.std.proofs.Common.{ap, sym, ◌∙◌}
-use Rattle.std.specs.FinMap as map
-use Rattle.egt_board.proofs.Placed.{get-placed}
-use Rattle.egt_board.proofs.Held.{bit_of-IsHeld}
+use Rattle.egt_board.specs.declared.man.Side.TheVariants.{White, Black}
+use Rattle.egt_board.proofs.Held.{Has-IsHeld}
 use Rattle.egt_board.proofs.board.Board.of.Goals as goal
 
 pub returns-in-White : goal.returns-in-White
-returns-in-White c = λ t t_in.
-    rw c.in-White.is (bit_of-IsHeld c.args.self.now t _ _ _ (ap (λ m. map.get m t) (sym c.self.view_is) ∙ get-placed _ t) (c.self.invariant.1 t t_in))
+returns-in-White c = rw c.in-White.is (Has-IsHeld c.args.self.now White _ _ c.self.view_is c.self.invariant.1)
 
 pub returns-in-Black : goal.returns-in-Black
-returns-in-Black c = λ t t_in.
-    rw c.in-Black.is (bit_of-IsHeld c.args.self.now t _ _ _ (ap (λ m. map.get m t) (sym c.self.view_is) ∙ get-placed _ t) (c.self.invariant.2 t t_in))
+returns-in-Black c = rw c.in-Black.is (Has-IsHeld c.args.self.now Black _ _ c.self.view_is c.self.invariant.2)

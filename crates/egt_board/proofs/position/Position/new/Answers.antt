@@ -1,0 +1,44 @@
+use Rattle.std.proofs.Common.{◌≡◌, ◌≤◌, ◌⊎◌, arith, rules, sym, ap, ◌∙◌, inl, inr, subst, refl, ℕ, List}
+use Rattle.std.specs.FinMap as map
+use Rattle.egt_board.specs.declared.man.Side.{Side}
+use Rattle.egt_board.specs.declared.man.Side.TheVariants.{White, Black}
+use Rattle.egt_board.specs.declared.man.Man.{Man}
+use Rattle.egt_board.specs.Man.{other_side}
+use Rattle.egt_board.specs.Placement.{Placement}
+use Rattle.egt_board.specs.Position.{IsWhole}
+use Rattle.egt_board.specs.Setup.{Setup, IsAdmissible, IsKingOn}
+use Rattle.egt_board.specs.Listed.{men_of, setup_of, FitsBoard}
+use Rattle.egt_board.proofs.Lists.{len-men_of}
+use Rattle.egt_board.proofs.Positions.{quiet_of, waiting_king, none_of}
+use Rattle.egt_board.proofs.position.Position.new.Goals as goal
+use Rattle.egt_board.proofs.position.Position.new.Goals.{in-White, in-Black}
+
+few : (board : Placement) (list : List (Man × ℕ)) → FitsBoard list → board ≡ men_of list → map.len board ≤ 4
+few board list fits placed = let le = len-men_of list in let n = fits.few in let e = ap map.len placed in omega arith
+
+pub invariant_of-result : goal.invariant_of-result
+invariant_of-result c =
+    let white : IsKingOn c.in-Some.board White c.in-Some-king.white_king = c.in-Some-king.ensures.found in
+    let black : IsKingOn c.in-Some.board Black c.in-Some-king-2.black_king = c.in-Some-king-2.ensures.found in
+    let fits : FitsBoard c.args.men.now = c.in-Some.ensures.fits.0 (search rules) in
+    let waiting : IsKingOn c.in-Some.board (other_side c.args.side) c.match-side.waiting =
+      waiting_king c.in-Some.board c.args.side c.in-Some-king.white_king c.in-Some-king-2.black_king c.match-side.waiting white black
+      (elim c.match-side.branch [ in-White w ↦ inl (w.in-White.is, w.waiting-is) | in-Black w ↦ inr (w.in-Black.is, w.waiting-is) ]) in
+    record {
+      admissible = record {
+        few = few c.in-Some.board c.args.men.now fits c.in-Some.ensures.placed;
+        on_board = c.in-Some.ensures.on_board;
+        kings = record { white = c.in-Some-king.white_king; black = c.in-Some-king-2.black_king; white_there = white; black_there = black };
+        target = none_of c.args.target (sym c.is_some.ensures ∙ c.if-is_some.false);
+        quiet = quiet_of c.in-Some.board c.args.side c.match-side.waiting c.attacks.result waiting c.attacks.ensures c.if-attacks.false
+      };
+      white = white;
+      black = black
+    }
+
+pub returns-clause-admits : goal.returns-clause-admits
+returns-clause-admits c =
+    let whole = invariant_of-result c in
+    (λ _. (c.in-Some.ensures.fits.0 (search rules),
+       subst (λ m. IsAdmissible (record { men = m; side = c.args.side; target = c.args.target })) c.in-Some.ensures.placed whole.admissible),
+     λ _. refl)

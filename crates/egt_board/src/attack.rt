@@ -1,0 +1,36 @@
+//! What the men on a board attack: FIDE Laws of Chess 2023, articles 3.1.3 and 3.9.
+ghost use Rattle.std.specs.Prelude.{◌≡◌, ℕ, ◌<◌, ◌↔◌, IsTrue};
+ghost use Rattle.egt_board.specs.Attack.{IsAttacked};
+ghost use Rattle.egt_board.specs.Gait.{Reaches};
+ghost use Rattle.egt_board.specs.Placement.{IsFree};
+ghost use Rattle.egt_board.specs.SquareSet.{Has};
+
+use crate::board::Board;
+use crate::gait;
+use crate::man::{Kind, Side};
+use crate::square::Square;
+use crate::square_set::SquareSet;
+
+impl Board {
+    /// The squares that a man of this kind attacks from `from`, past free squares alone. Squares of its
+    /// own side's men are among them.
+    pub fn reach(&self, kind: Kind, from: Square) -> SquareSet
+        ensures { (t : ℕ) → Has result t ↔ Reaches (IsFree self.now) kind from t }
+    {
+        gait::reach(kind, from, self.occupied())
+    }
+
+    /// Whether a man of that side attacks the square, even if it may not move itself.
+    pub fn attacks(&self, square: Square, side: Side) -> bool
+        ensures { IsTrue result ↔ IsAttacked self.now square side }
+    {
+        let mut attackers = self.of(side);
+        while let Some(from) = attackers.pop_first() {
+            let kind = self.at(from).unwrap().kind;
+            if self.reach(kind, from).contains(square) {
+                return true;
+            }
+        }
+        false
+    }
+}
