@@ -21,8 +21,11 @@ OneOf-weaker P Q (d ∷ ds) h some = elim some [ inl p ↦ inl (h d p) | inr r �
 pub Reaches-free : (F G : ℕ → Type 0) (kind : Kind) (s t : ℕ) → ((u : ℕ) → u < 64 → F u → G u) → Reaches F kind s t → Reaches G kind s t
 Reaches-free F G kind s t free =
     OneOf-weaker (Rides F (farthest kind) s t) (Rides G (farthest kind) s t) (steps_of kind) (λ d r. record {
-      count = r.count; moves = r.moves; within = r.within; away = r.away;
-      clear = λ k u some less away. free u away.on_board (r.clear k u some less away)
+      count = r.count;
+      moves = r.moves;
+      within = r.within;
+      away = r.away;
+      clear = λ k u some less away. free u away.on_board (r.clear k u some less away);
     })
 
 -- what is reached is on the board
@@ -46,13 +49,13 @@ pub OnlyLeft-less : (men : Placement) (side : Side) (left left' t s : ℕ) (man 
 OnlyLeft-less men side left left' t s man stands out others only = λ u other_man u_stands theirs reaches.
     elim (cases_eq u s) [
       | inl e ↦
-        let same : other_man ≡ man = (let both : Some other_man ≡ Some man = sym u_stands ∙ (ap (map.get men) e ∙ stands) in cc) in
-        absurd (out (subst (λ (m : Man). Reaches (IsFree men) m.kind s t) same (subst (λ v. Reaches (IsFree men) other_man.kind v t) e reaches)))
+          let same : other_man ≡ man = (let both : Some other_man ≡ Some man = sym u_stands ∙ (ap (map.get men) e ∙ stands) in cc) in
+          absurd (out (subst (λ (m : Man). Reaches (IsFree men) m.kind s t) same (subst (λ v. Reaches (IsFree men) other_man.kind v t) e reaches)))
       | inr other ↦ others u other ∙ only u other_man u_stands theirs reaches
     ]
 
 pub AreHeld-less : (men : Placement) (side : Side) (left left' s : ℕ) → bit_at left' s ≡ 0 → ((u : ℕ) → u ≢ s → bit_at left' u ≡ bit_at left u) → AreHeld men side left → AreHeld men side left'
 AreHeld-less men side left left' s gone others held = λ u one. elim (cases_eq u s) [
-    | inl e ↦ not_both _ gone (ap (bit_at left') (sym e) ∙ one)
-    | inr other ↦ held u (sym (others u other) ∙ one)
-  ]
+  | inl e ↦ not_both _ gone (ap (bit_at left') (sym e) ∙ one)
+  | inr other ↦ held u (sym (others u other) ∙ one)
+]

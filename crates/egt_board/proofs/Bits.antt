@@ -28,7 +28,7 @@ less m n le other = omega arith
 pub clear-lt : (n k : ℕ) → k < 64 → bit_at n k ≡ 1 → bit_and n (bit_not w64 (1 * 2 ^ k % 2 ^ 64)) < n
 clear-lt n k below one =
     less _ n (and_le_l n (bit_not w64 (1 * 2 ^ k % 2 ^ 64))) (λ e.
-      let bad : 0 ≡ 1 = sym (bit_at_clear_same w64 n k below) ∙ (ap (λ j. bit_at j k) e ∙ one) in absurd (omega arith))
+    let bad : 0 ≡ 1 = sym (bit_at_clear_same w64 n k below) ∙ (ap (λ j. bit_at j k) e ∙ one) in absurd (omega arith))
 
 -- a bit that a test did not find is 0
 pub bit_at_untold : (b : Bool) (n t : ℕ) → ((b ≡ true) ↔ (bit_at n t ≡ 1)) → b ≡ false → bit_at n t ≡ 0
@@ -41,18 +41,18 @@ bit_at_untold b n t told untrue =
 -- a number of 64 bits has its ones below 64
 pub bit_at-within : (n t : ℕ) → n < 2 ^ 64 → bit_at n t ≡ 1 → t < 64
 bit_at-within n t small one = elim (cases_lt t 64) [
-    | inl within ↦ within
-    | inr past ↦ not_both _ (bit_at_above n 64 t small past) one
-  ]
+  | inl within ↦ within
+  | inr past ↦ not_both _ (bit_at_above n 64 t small past) one
+]
 
 -- to clear a bit leaves the others
 pub bit_at_cleared_other : (n k t : ℕ) → n < 2 ^ 64 → k < 64 → t ≢ k → bit_at (bit_and n (bit_not w64 (1 * 2 ^ k % 2 ^ 64))) t ≡ bit_at n t
 bit_at_cleared_other n k t small below other = elim (cases_lt t 64) [
-    | inl within ↦ bit_at_clear_other w64 n k below t within other
-    | inr past ↦
+  | inl within ↦ bit_at_clear_other w64 n k below t within other
+  | inr past ↦
       let le = and_le_l n (bit_not w64 (1 * 2 ^ k % 2 ^ 64)) in
       bit_at_above _ 64 t (within_of _ n le small) past ∙ sym (bit_at_above n 64 t small past)
-  ]
+]
   where
     within_of : (m n : ℕ) → m ≤ n → n < 2 ^ 64 → m < 2 ^ 64
     within_of m n le lt = omega arith
@@ -60,11 +60,11 @@ bit_at_cleared_other n k t small below other = elim (cases_lt t 64) [
 -- the bits of a set that another lacks
 pub bit_at_without : (a b t : ℕ) → a < 2 ^ 64 → b < 2 ^ 64 → bit_at (bit_and a (bit_not w64 b)) t ≡ min (bit_at a t) (1 - bit_at b t)
 bit_at_without a b t a_in b_in = elim (cases_lt t 64) [
-    | inl within ↦ bit_at_and a (bit_not w64 b) t ∙ ap (min (bit_at a t)) (bit_at_not w64 b t b_in within)
-    | inr past ↦
+  | inl within ↦ bit_at_and a (bit_not w64 b) t ∙ ap (min (bit_at a t)) (bit_at_not w64 b t b_in within)
+  | inr past ↦
       let none = bit_at_above a 64 t a_in past in
       bit_at_and a (bit_not w64 b) t ∙ ap (λ x. min x (bit_at (bit_not w64 b) t)) none ∙ nothing _ ∙ sym (ap (λ x. min x (1 - bit_at b t)) none ∙ nothing _)
-  ]
+]
   where
     nothing : (x : ℕ) → min 0 x ≡ 0
     nothing x = omega arith

@@ -44,7 +44,7 @@ pub Away-more : (d : Step) (n s t u : ℕ) → Away d n s t → Away d 1 t u →
 Away-more d n s t u p q = record {
   on_board = q.on_board;
   across = Further-more d.files n d.wide _ _ _ p.across q.across;
-  along = Further-more d.ranks n d.high _ _ _ p.along q.along
+  along = Further-more d.ranks n d.high _ _ _ p.along q.along;
 }
 
 same_square : (t u : ℕ) → file_of t ≡ file_of u → rank_of t ≡ rank_of u → t ≡ u
@@ -65,9 +65,11 @@ pub Away-next : (d : Step) (n k s a t : ℕ) → n < k → a < 64 → Away d n s
 Away-next d n k s a t far a_in p q =
     let t_in = q.on_board in
     let f = Further-next d.files n k d.wide (file_of s) (file_of a) (file_of t) (omega arith) (omega arith) (omega arith) p.across q.across in
-    let r = Further-next d.ranks n k d.high (rank_of s) (rank_of a) (rank_of t) (omega arith) (omega arith) (omega arith) p.along q.along in
-    (8 * r.0 + f.0, record {
-      on_board = omega (arith, f.1, r.1);
-      across = subst (λ x. Further d.files (1 * d.wide) (file_of a) x) (sym (file_at f.0 r.0 f.1)) f.2;
-      along = subst (λ x. Further d.ranks (1 * d.high) (rank_of a) x) (sym (rank_at f.0 r.0 f.1)) r.2
-    })
+    let r = Further-next d.ranks n k d.high (rank_of s) (rank_of a) (rank_of t) (omega arith) (omega arith) (omega arith) p.along q.along in (
+      8 * r.0 + f.0,
+      record {
+        on_board = omega (arith, f.1, r.1);
+        across = subst (λ x. Further d.files (1 * d.wide) (file_of a) x) (sym (file_at f.0 r.0 f.1)) f.2;
+        along = subst (λ x. Further d.ranks (1 * d.high) (rank_of a) x) (sym (rank_at f.0 r.0 f.1)) r.2;
+      },
+    )

@@ -27,11 +27,12 @@ pub bit_of-IsHeld : (men : Placement) (t : ℕ) (side : Side) (slot : Option Man
 bit_of-IsHeld men t side None b is e =
     (λ one. absurd (omega arith), λ held. let bad : Some held.man ≡ None = sym held.stands ∙ is in absurd (cc))
 bit_of-IsHeld men t side (Some man) b is e =
-    let same = is_side-same side man.side in
-    (λ one. record { man = man; stands = is; theirs = same.0 (sym e ∙ one) },
-     λ held.
-       let same_man : held.man ≡ man = (let both : Some held.man ≡ Some man = sym held.stands ∙ is in cc) in
-       e ∙ same.1 (ap (λ (m : Man). m.side) (sym same_man) ∙ held.theirs))
+    let same = is_side-same side man.side in (
+      λ one. record { man = man; stands = is; theirs = same.0 (sym e ∙ one) },
+      λ held.
+          let same_man : held.man ≡ man = (let both : Some held.man ≡ Some man = sym held.stands ∙ is in cc) in
+          e ∙ same.1 (ap (λ (m : Man). m.side) (sym same_man) ∙ held.theirs),
+    )
 
 either_side : (side : Side) → max (is_side White side) (is_side Black side) ≡ 1
 either_side White = refl
@@ -40,16 +41,17 @@ either_side Black = refl
 -- no bit of either side is 1 exactly where nothing stands
 pub bit_of-free : (men : Placement) (t : ℕ) (slot : Option Man) (b : ℕ) → map.get men t ≡ slot → b ≡ max (bit_of White slot) (bit_of Black slot) → (b ≡ 0) ↔ IsFree men t
 bit_of-free men t None b is e = (λ _. is, λ _. e)
-bit_of-free men t (Some man) b is e =
-    (λ none. let bad : 0 ≡ 1 = sym none ∙ (e ∙ either_side man.side) in absurd (omega arith),
-     λ free. let bad : Some man ≡ None = sym is ∙ free in absurd (cc))
+bit_of-free men t (Some man) b is e = (
+  λ none. let bad : 0 ≡ 1 = sym none ∙ (e ∙ either_side man.side) in absurd (omega arith),
+  λ free. let bad : Some man ≡ None = sym is ∙ free in absurd (cc),
+)
 
 -- where a man stands there is a square
 pub placed-within : (xs : List (Option Man)) (s : ℕ) (man : Man) → Stands (placed xs) s man → s < length xs
 placed-within xs s man stands = elim (cases_lt s (length xs)) [
-    | inl less ↦ less
-    | inr past ↦ let bad : Some man ≡ None = sym stands ∙ (get-placed xs s ∙ get_or_past xs s None past) in absurd (cc)
-  ]
+  | inl less ↦ less
+  | inr past ↦ let bad : Some man ≡ None = sym stands ∙ (get-placed xs s ∙ get_or_past xs s None past) in absurd (cc)
+]
 
 bare-slot : (xs : List (Option Man)) → list_all is_none xs ≡ true → (t : ℕ) → get_or xs t None ≡ None
 bare-slot [] h t = refl

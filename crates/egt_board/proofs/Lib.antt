@@ -8,3 +8,4 @@ pub mod Attacks
 pub mod Kings
 pub mod Lists
 pub mod Positions
+pub mod Gather

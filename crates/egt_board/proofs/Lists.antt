@@ -18,9 +18,9 @@ find-none (x ∷ xs) s none zero j_in = λ e. some_none (sym (find-here s x.1 x.
     some_none : {A : Type 0} → Some x.0 ≡ None → A
     some_none e = absurd (cc)
 find-none (x ∷ xs) s none (suc j) j_in = elim (cases_eq s x.1) [
-    | inl e ↦ absurd (some_none (sym (find-here s x.1 x.0 (map entry_of xs) e) ∙ none))
-    | inr other ↦ find-none xs s (sym (find-later s x.1 x.0 (map entry_of xs) other) ∙ none) j (omega arith)
-  ]
+  | inl e ↦ absurd (some_none (sym (find-here s x.1 x.0 (map entry_of xs) e) ∙ none))
+  | inr other ↦ find-none xs s (sym (find-later s x.1 x.0 (map entry_of xs) other) ∙ none) j (omega arith)
+]
   where
     some_none : Some x.0 ≡ None → ⊥
     some_none e = cc
@@ -29,9 +29,9 @@ find-none (x ∷ xs) s none (suc j) j_in = elim (cases_eq s x.1) [
 find-some : (xs : List (Man × ℕ)) (s : ℕ) (man : Man) → placement.find nat_cmp s (map entry_of xs) ≡ Some man → (j : ℕ) × (j < length xs) × (get_or (squares_of xs) j 0 ≡ s)
 find-some [] s man some = absurd (cc)
 find-some (x ∷ xs) s man some = elim (cases_eq s x.1) [
-    | inl e ↦ (0, omega arith, sym e)
-    | inr other ↦ later (find-some xs s man (sym (find-later s x.1 x.0 (map entry_of xs) other) ∙ some))
-  ]
+  | inl e ↦ (0, omega arith, sym e)
+  | inr other ↦ later (find-some xs s man (sym (find-later s x.1 x.0 (map entry_of xs) other) ∙ some))
+]
   where
     later : (j : ℕ) × (j < length xs) × (get_or (squares_of xs) j 0 ≡ s) → (j : ℕ) × (j < length (x ∷ xs)) × (get_or (squares_of (x ∷ xs)) j 0 ≡ s)
     later w = (suc w.0, omega (arith, w.1), w.2)
@@ -68,19 +68,20 @@ pub Laid-more : (board : Placement) (men : List (Man × ℕ)) (i s : ℕ) (man :
     → placement.get board s ≡ None → Laid board men i → Laid (placement.insert board s man) men (i + 1)
 Laid-more board men i s man d i_in e free laid = record {
   shown =
-    ap (λ b. placement.insert b s man) laid.shown
-    ∙ sym (men_of-push (take i men) man s before)
-    ∙ ap men_of (ap (λ x. take i men ++ x ∷ []) (sym e) ∙ sym (take_more men i d i_in));
+      ap (λ b. placement.insert b s man) laid.shown
+      ∙ sym (men_of-push (take i men) man s before)
+      ∙ ap men_of (ap (λ x. take i men ++ x ∷ []) (sym e) ∙ sym (take_more men i d i_in));
   apart = λ j k less k_in. elim (cases_eq k i) [
     | inl last ↦ subst (λ x. get_or (squares_of men) j 0 ≢ get_or (squares_of men) x 0) (sym last)
-      (λ same. find-none (take i men) s (sym (get-men_of (take i men) s) ∙ before) j (j_below j k less last)
+        (λ same. find-none (take i men) s (sym (get-men_of (take i men) s) ∙ before) j (j_below j k less last)
         (squares_of-take men i j (omega arith) ∙ same ∙ squares_of-at men i d i_in ∙ ap (λ (x : Man × ℕ). x.1) e))
     | inr other ↦ laid.apart j k less (omega arith)
-  ]
+  ];
 }
   where
     before : placement.get (men_of (take i men)) s ≡ None
     before = ap (λ b. placement.get b s) (sym laid.shown) ∙ free
+
     j_below : (j k : ℕ) → j < k → k ≡ i → j < length (take i men)
     j_below j k less last = let n = length-take i men in omega arith
 

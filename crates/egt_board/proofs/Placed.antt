@@ -36,14 +36,14 @@ get-placed xs q = map.get-from_entries nat_cmp_total (men_from 0 xs) q ∙ find-
 
 pub placed-set_Some : (xs : List (Option Man)) (s : ℕ) (man : Man) → s < length xs → placed (set xs s (Some man)) ≡ map.insert (placed xs) s man
 placed-set_Some xs s man s_in = same_men _ _ (λ q. get-placed (set xs s (Some man)) q ∙ elim (cases_eq q s) [
-      | inl e ↦ subst (λ j. get_or (set xs s (Some man)) j None ≡ Some man) (sym e) (get_or-set_same xs s (Some man) None s_in)
-        ∙ sym (get-insert_same (placed xs) s man q e)
-      | inr other ↦ get_or-set_other xs s q (Some man) None other ∙ sym (get-placed xs q) ∙ sym (get-insert_other (placed xs) s man q other)
-    ])
+  | inl e ↦ subst (λ j. get_or (set xs s (Some man)) j None ≡ Some man) (sym e) (get_or-set_same xs s (Some man) None s_in)
+      ∙ sym (get-insert_same (placed xs) s man q e)
+  | inr other ↦ get_or-set_other xs s q (Some man) None other ∙ sym (get-placed xs q) ∙ sym (get-insert_other (placed xs) s man q other)
+])
 
 pub placed-set_None : (xs : List (Option Man)) (s : ℕ) → s < length xs → placed (set xs s None) ≡ map.remove (placed xs) s
 placed-set_None xs s s_in = same_men _ _ (λ q. get-placed (set xs s None) q ∙ elim (cases_eq q s) [
-      | inl e ↦ subst (λ j. get_or (set xs s None) j None ≡ None) (sym e) (get_or-set_same xs s None None s_in)
-        ∙ sym (get-remove_same (placed xs) s q e)
-      | inr other ↦ get_or-set_other xs s q None None other ∙ sym (get-placed xs q) ∙ sym (get-remove_other (placed xs) s q other)
-    ])
+  | inl e ↦ subst (λ j. get_or (set xs s None) j None ≡ None) (sym e) (get_or-set_same xs s None None s_in)
+      ∙ sym (get-remove_same (placed xs) s q e)
+  | inr other ↦ get_or-set_other xs s q None None other ∙ sym (get-placed xs q) ∙ sym (get-remove_other (placed xs) s q other)
+])

@@ -13,10 +13,11 @@ use Rattle.egt_board.specs.Setup.{Setup, IsAdmissible, IsKingOn, HasKings, FitsT
 
 -- the king of the other side is in check exactly where its square is attacked
 pub check_at : (men : Placement) (side : Side) (s : ℕ) → IsKingOn men (other_side side) s → IsInCheck men (other_side side) ↔ IsAttacked men s side
-check_at men side s king =
-    (λ check. subst (λ t. IsAttacked men t side) (king.only check.square check.stands)
-       (subst (λ x. IsAttacked men check.square x) (twice side) check.attacked),
-     λ attacked. record { square = s; stands = king.stands; attacked = subst (λ x. IsAttacked men s x) (sym (twice side)) attacked })
+check_at men side s king = (
+  λ check. subst (λ t. IsAttacked men t side) (king.only check.square check.stands)
+      (subst (λ x. IsAttacked men check.square x) (twice side) check.attacked),
+  λ attacked. record { square = s; stands = king.stands; attacked = subst (λ x. IsAttacked men s x) (sym (twice side)) attacked },
+)
   where
     twice : (x : Side) → other_side (other_side x) ≡ x
     twice White = refl
@@ -29,9 +30,9 @@ quiet_of men side s b king tells untrue =
 -- the king that waits, chosen by the side to move
 pub waiting_king : (men : Placement) (side : Side) (white black s : ℕ) → IsKingOn men White white → IsKingOn men Black black → ((side ≡ White) × (s ≡ black)) ⊎ ((side ≡ Black) × (s ≡ white)) → IsKingOn men (other_side side) s
 waiting_king men side white black s w b chosen = elim chosen [
-    | inl h ↦ subst (λ x. IsKingOn men (other_side x) s) (sym h.0) (subst (IsKingOn men Black) (sym h.1) b)
-    | inr h ↦ subst (λ x. IsKingOn men (other_side x) s) (sym h.0) (subst (IsKingOn men White) (sym h.1) w)
-  ]
+  | inl h ↦ subst (λ x. IsKingOn men (other_side x) s) (sym h.0) (subst (IsKingOn men Black) (sym h.1) b)
+  | inr h ↦ subst (λ x. IsKingOn men (other_side x) s) (sym h.0) (subst (IsKingOn men White) (sym h.1) w)
+]
 
 pub none_of : {A : Type 0} (o : Option A) → is_some o ≡ false → o ≡ None
 none_of None e = refl

@@ -13,6 +13,9 @@ use Rattle.egt_board.specs.Setup.{Setup, HasKings, FitsTarget}
 abbrev pub entry_of : Man × ℕ → ℕ × Man
 entry_of e = (e.1, e.0)
 
+abbrev pub man_entry : ℕ × Man → Man × ℕ
+man_entry e = (e.1, e.0)
+
 -- the placement of these men
 unfoldable pub men_of : List (Man × ℕ) → Placement
 men_of list = placement.from_entries (map entry_of list)

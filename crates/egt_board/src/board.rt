@@ -104,4 +104,15 @@ impl Board {
     {
         self.white.union(self.black)
     }
+
+    /// A copy of the board.
+    pub fn copied(&self) -> Board
+        ensures { result ≡ self.now }
+    {
+        Board {
+            squares: self.squares,
+            white: self.white,
+            black: self.black,
+        }
+    }
 }

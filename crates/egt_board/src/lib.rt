@@ -18,7 +18,7 @@ pub mod step;
 pub use board::Board;
 pub use fault::PosFault;
 pub use man::{Kind, Man, Side};
-pub use position::Position;
+pub use position::{Position, attacked};
 pub use square::Square;
 pub use square_set::SquareSet;
 pub use step::{Step, Way};

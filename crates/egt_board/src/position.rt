@@ -1,11 +1,13 @@
 //! Positions: the setups that the rules of play admit.
-ghost use Rattle.std.specs.Prelude.{◌≡◌, ℕ, ◌<◌, ◌↔◌, IsOk, IfOk, IfErr};
+ghost use Rattle.std.specs.Prelude.{◌≡◌, ℕ, ◌<◌, ◌↔◌, IsOk, IfOk, IfErr, IsTrue, map};
+ghost use Rattle.egt_board.specs.Attack.{IsAttacked};
 ghost use Rattle.std.specs.FinMap as placement;
 
 use crate::board::Board;
 use crate::fault::PosFault;
 use crate::man::{Man, Side};
 use crate::square::Square;
+use arrayvec::ArrayVec;
 use std::marker::Model;
 
 /// The men on the board, the side to move, and the square that a pawn has just passed (the target).
@@ -37,7 +39,7 @@ impl Model for Position {
 
 impl Position {
     ghost use Rattle.egt_board.specs.Setup.{IsAdmissible, IsKingOn};
-    ghost use Rattle.egt_board.specs.Listed.{setup_of, FitsBoard, IsFirstFault};
+    ghost use Rattle.egt_board.specs.Listed.{setup_of, man_entry, FitsBoard, IsFirstFault};
 
     /// The position with these men, in whatever order, that side to move and that target.
     ///
@@ -46,7 +48,11 @@ impl Position {
     /// The first of these that holds: `MenCount` where there are more than four men or two on one square;
     /// `KingCount` where a side has not one king; `EpMismatch` where the last move cannot have set the
     /// target; `WaitingInCheck` where the king of the side that waits is attacked.
-    pub fn new(men: &[(Man, Square)], side: Side, target: Option<Square>) -> Result<Position, PosFault>
+    pub fn new(
+        men: &[(Man, Square)],
+        side: Side,
+        target: Option<Square>,
+    ) -> Result<Position, PosFault>
         ensures setup { IfOk result (λ p. p ≡ setup_of men.now side target) }
         ensures admits { IsOk result ↔ (FitsBoard men.now × IsAdmissible (setup_of men.now side target)) }
         ensures fault { IfErr result (λ fault. IsFirstFault fault men.now (setup_of men.now side target)) }
@@ -78,4 +84,93 @@ impl Position {
             black_king,
         })
     }
+
+    /// The man on the square.
+    pub fn at(&self, square: Square) -> Option<Man>
+        ensures { result ≡ placement.get self.now.men square }
+    {
+        self.board.at(square)
+    }
+
+    /// The side to move.
+    pub fn side(&self) -> Side
+        ensures { result ≡ self.now.side }
+    {
+        self.side
+    }
+
+    /// The square that a pawn has just passed, where it advanced two squares in the last move.
+    pub fn target(&self) -> Option<Square>
+        ensures { result ≡ self.now.target }
+    {
+        self.target
+    }
+
+    /// The men and their squares, in order of square.
+    pub fn men(&self) -> ArrayVec<(Man, Square), 4>
+        ensures { result.items ≡ map man_entry (placement.entries self.now.men) }
+    {
+        let mut men = ArrayVec::new();
+        let mut rest = self.board.occupied();
+        while let Some(square) = rest.pop_first() {
+            let man = self.board.at(square).unwrap();
+            men.push((man, square));
+        }
+        men
+    }
+
+    /// The men on the board.
+    pub fn board(&self) -> &Board
+        ensures men { result.now ≡ self.now.men }
+        ensures admissible { IsAdmissible self.now }
+    {
+        &self.board
+    }
+
+    /// The square of that side's king.
+    pub fn king(&self, side: Side) -> Square
+        ensures { IsKingOn self.now.men side result }
+    {
+        match side {
+            Side::White => self.white_king,
+            Side::Black => self.black_king,
+        }
+    }
+
+    /// The position with this board, side to move and target, which the caller knows to be admissible.
+    pub fn admitted(board: Board, side: Side, target: Option<Square>) -> Position
+        requires { IsAdmissible (record { men = board; side = side; target = target }) }
+        ensures { result ≡ record { men = board; side = side; target = target } }
+    {
+        let white_king = board.king(Side::White).unwrap();
+        let black_king = board.king(Side::Black).unwrap();
+        Position {
+            board,
+            side,
+            target,
+            white_king,
+            black_king,
+        }
+    }
+
+    /// A copy of the position.
+    pub fn copied(&self) -> Position
+        ensures { result ≡ self.now }
+    {
+        Position {
+            board: self.board.copied(),
+            side: self.side,
+            target: self.target,
+            white_king: self.white_king,
+            black_king: self.black_king,
+        }
+    }
+}
+
+/// Whether a man of that side attacks the square, even if it may not move itself (FIDE Laws of Chess 2023,
+/// article 3.1.3).
+pub fn attacked(position: &Position, square: Square, side: Side) -> bool
+    ensures { IsTrue result ↔ IsAttacked position.now.men square side }
+{
+    position.board.attacks(square, side)
 }

@@ -31,7 +31,11 @@ impl Square {
         ensures on_board { IsSome result ↔ (number < 64) }
         ensures value { IfSome result (λ s. s ≡ number) }
     {
-        if number < 64 { Some(Square { number }) } else { None }
+        if number < 64 {
+            Some(Square { number })
+        } else {
+            None
+        }
     }
 
     /// The number, from 0 to 63.

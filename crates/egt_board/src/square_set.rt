@@ -49,7 +49,11 @@ impl SquareSet {
         ensures same { bit_at result.bits square ≡ (if here then 1 else 0) }
         ensures others { (t : ℕ) → t ≢ square → bit_at result.bits t ≡ bit_at self.bits t }
     {
-        if here { self.with(square) } else { self.less(square) }
+        if here {
+            self.with(square)
+        } else {
+            self.less(square)
+        }
     }
 
     /// The squares of either set.

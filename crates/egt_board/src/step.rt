@@ -47,13 +47,7 @@ fn further(way: Way, by: u8, at: u8) -> Option<u8>
 {
     match way {
         Way::Up => (at + by < 8).then_some(at + by),
-        Way::Down => {
-            if by <= at {
-                Some(at - by)
-            } else {
-                None
-            }
-        }
+        Way::Down => { if by <= at { Some(at - by) } else { None } }
         Way::Still => Some(at),
     }
 }

@@ -7,9 +7,10 @@ use Rattle.egt_board.proofs.Attacks.{OnlyLeft-less, AreHeld-less}
 use Rattle.egt_board.proofs.board.Board.attacks.Goals as goal
 
 pub loop-from-init : goal.loop-from-init
-loop-from-init c =
-    ((λ s has. (c.of-attackers.ensures s).0 has),
-     (λ s man stands theirs reaches. (c.of-attackers.ensures s).1 (record { man = man; stands = stands; theirs = theirs })))
+loop-from-init c = (
+  (λ s has. (c.of-attackers.ensures s).0 has),
+  (λ s man stands theirs reaches. (c.of-attackers.ensures s).1 (record { man = man; stands = stands; theirs = theirs })),
+)
 
 pub unwrap-kind-requires : goal.unwrap-kind-requires
 unwrap-kind-requires c =
@@ -21,24 +22,30 @@ returns-then-contains c =
     let held = c.loop-from.invariant.0 c.in-Some.from c.in-Some.ensures.had in
     let man = c.unwrap-kind.result in
     let stands = sym c.at.ensures ∙ c.unwrap-kind.ensures in
-    let same : held.man ≡ man = (let both : Some held.man ≡ Some man = sym held.stands ∙ stands in cc) in
-    (λ _. record {
-       from = c.in-Some.from; man = man; stands = stands; theirs = rw (← same) held.theirs;
-       reaches = (c.reach.ensures c.args.square).0 (c.contains.ensures.0 c.if-contains.true)
-     },
-     λ _. refl)
+    let same : held.man ≡ man = (let both : Some held.man ≡ Some man = sym held.stands ∙ stands in cc) in (
+      λ _. record {
+        from = c.in-Some.from;
+        man = man;
+        stands = stands;
+        theirs = rw (← same) held.theirs;
+        reaches = (c.reach.ensures c.args.square).0 (c.contains.ensures.0 c.if-contains.true);
+      },
+      λ _. refl,
+    )
 
 pub loop-from-preserved : goal.loop-from-preserved
 loop-from-preserved c =
-    let stands = sym c.at.ensures ∙ c.unwrap-kind.ensures in
-    (AreHeld-less _ _ _ _ c.in-Some.from c.in-Some.ensures.gone c.in-Some.ensures.others c.loop-from.invariant.0,
-     OnlyLeft-less _ _ _ _ c.args.square c.in-Some.from c.unwrap-kind.result stands
-     (λ reaches. false≢true (sym c.if-contains.false ∙ c.contains.ensures.1 ((c.reach.ensures c.args.square).1 reaches)))
-     c.in-Some.ensures.others c.loop-from.invariant.1)
+    let stands = sym c.at.ensures ∙ c.unwrap-kind.ensures in (
+      AreHeld-less _ _ _ _ c.in-Some.from c.in-Some.ensures.gone c.in-Some.ensures.others c.loop-from.invariant.0,
+      OnlyLeft-less _ _ _ _ c.args.square c.in-Some.from c.unwrap-kind.result stands
+          (λ reaches. false≢true (sym c.if-contains.false ∙ c.contains.ensures.1 ((c.reach.ensures c.args.square).1 reaches)))
+          c.in-Some.ensures.others c.loop-from.invariant.1,
+    )
 
 pub returns : goal.returns
-returns c =
-    (λ untrue. absurd (false≢true untrue),
-     λ attacked.
-       let left = c.loop-from.invariant.1 attacked.from attacked.man attacked.stands attacked.theirs attacked.reaches in
-       let none = c.in_default.ensures.empty attacked.from in absurd (omega arith))
+returns c = (
+  λ untrue. absurd (false≢true untrue),
+  λ attacked.
+      let left = c.loop-from.invariant.1 attacked.from attacked.man attacked.stands attacked.theirs attacked.reaches in
+      let none = c.in_default.ensures.empty attacked.from in absurd (omega arith),
+)

@@ -4,8 +4,9 @@ use Rattle.egt_board.proofs.Bits.{bit_at-within}
 use Rattle.egt_board.proofs.board.Board.reach.Goals as goal
 
 pub returns : goal.returns
-returns c = λ t.
-    (λ has. Reaches-free _ _ c.args.kind c.args.from t (λ u u_in. (c.occupied.ensures.free u).0)
-       ((c.reach.ensures t (bit_at-within c.reach.result.bits t (omega arith) has)).0 has),
-     λ r. (c.reach.ensures t (Reaches-within _ c.args.kind c.args.from t r)).1
-       (Reaches-free _ _ c.args.kind c.args.from t (λ u u_in. (c.occupied.ensures.free u).1) r))
+returns c = λ t. (
+  λ has. Reaches-free _ _ c.args.kind c.args.from t (λ u u_in. (c.occupied.ensures.free u).0)
+      ((c.reach.ensures t (bit_at-within c.reach.result.bits t (omega arith) has)).0 has),
+  λ r. (c.reach.ensures t (Reaches-within _ c.args.kind c.args.from t r)).1
+      (Reaches-free _ _ c.args.kind c.args.from t (λ u u_in. (c.occupied.ensures.free u).1) r),
+)

@@ -22,23 +22,26 @@ invariant_of-result c =
     let black : IsKingOn c.in-Some.board Black c.in-Some-king-2.black_king = c.in-Some-king-2.ensures.found in
     let fits : FitsBoard c.args.men.now = c.in-Some.ensures.fits.0 (search rules) in
     let waiting : IsKingOn c.in-Some.board (other_side c.args.side) c.match-side.waiting =
-      waiting_king c.in-Some.board c.args.side c.in-Some-king.white_king c.in-Some-king-2.black_king c.match-side.waiting white black
-      (elim c.match-side.branch [ in-White w ↦ inl (w.in-White.is, w.waiting-is) | in-Black w ↦ inr (w.in-Black.is, w.waiting-is) ]) in
+    waiting_king c.in-Some.board c.args.side c.in-Some-king.white_king c.in-Some-king-2.black_king c.match-side.waiting white black
+    (elim c.match-side.branch [ in-White w ↦ inl (w.in-White.is, w.waiting-is) | in-Black w ↦ inr (w.in-Black.is, w.waiting-is) ]) in
     record {
       admissible = record {
         few = few c.in-Some.board c.args.men.now fits c.in-Some.ensures.placed;
         on_board = c.in-Some.ensures.on_board;
         kings = record { white = c.in-Some-king.white_king; black = c.in-Some-king-2.black_king; white_there = white; black_there = black };
         target = none_of c.args.target (sym c.is_some.ensures ∙ c.if-is_some.false);
-        quiet = quiet_of c.in-Some.board c.args.side c.match-side.waiting c.attacks.result waiting c.attacks.ensures c.if-attacks.false
+        quiet = quiet_of c.in-Some.board c.args.side c.match-side.waiting c.attacks.result waiting c.attacks.ensures c.if-attacks.false;
       };
       white = white;
-      black = black
+      black = black;
     }
 
 pub returns-clause-admits : goal.returns-clause-admits
 returns-clause-admits c =
-    let whole = invariant_of-result c in
-    (λ _. (c.in-Some.ensures.fits.0 (search rules),
-       subst (λ m. IsAdmissible (record { men = m; side = c.args.side; target = c.args.target })) c.in-Some.ensures.placed whole.admissible),
-     λ _. refl)
+    let whole = invariant_of-result c in (
+      λ _. (
+        c.in-Some.ensures.fits.0 (search rules),
+        subst (λ m. IsAdmissible (record { men = m; side = c.args.side; target = c.args.target })) c.in-Some.ensures.placed whole.admissible,
+      ),
+      λ _. refl,
+    )
