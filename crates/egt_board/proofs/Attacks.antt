@@ -1,5 +1,5 @@
 -- Attacks as a set of squares shows them.
-use Rattle.std.proofs.Common.{◌≡◌, ◌≢◌, ℕ, ◌<◌, ◌↔◌, List, [], ◌∷◌, arith, sym, ap, ◌∙◌, inl, inr, subst, Some}
+use Rattle.std.proofs.Common.{◌≡◌, ◌≢◌, ℕ, ◌<◌, List, [], ◌∷◌, sym, ap, ◌∙◌, inl, inr, subst, Some}
 use Rattle.std.specs.Int.{bit_at}
 use Rattle.std.specs.FinMap as map
 use Rattle.std.proofs.lemmas.Bool.{cases_eq}
@@ -9,8 +9,7 @@ use Rattle.egt_board.specs.declared.man.Man.{Man}
 use Rattle.egt_board.specs.declared.step.Step.{Step}
 use Rattle.egt_board.specs.Placement.{Placement, Stands, IsFree}
 use Rattle.egt_board.specs.Gait.{Rides, OneOf, Reaches, farthest, steps_of}
-use Rattle.egt_board.specs.Attack.{IsAttacked}
-use Rattle.egt_board.specs.Board.{IsHeld}
+use Rattle.egt_board.specs.Placement.{IsHeld}
 use Rattle.egt_board.proofs.Bits.{not_both}
 
 OneOf-weaker : (P Q : Step → Type 0) (ds : List Step) → ((d : Step) → P d → Q d) → OneOf P ds → OneOf Q ds

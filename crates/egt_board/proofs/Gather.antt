@@ -4,7 +4,6 @@ use Rattle.std.specs.Prelude.{T}
 use Rattle.std.specs.Int.{bit_at}
 use Rattle.std.specs.Option.{is_some}
 use Rattle.std.specs.Ordering.{nat_cmp, is_lt}
-use Rattle.std.specs.declared.cmp.Ordering.{Ordering}
 use Rattle.std.specs.declared.cmp.Ordering.TheVariants.{Less, Equal, Greater}
 use Rattle.std.specs.FinMap as placement
 use Rattle.std.specs.FinMap.Entries.{below_all}
@@ -17,7 +16,7 @@ use Rattle.egt_board.specs.Listed.{man_entry}
 use Rattle.egt_board.proofs.Bits.{not_both}
 use Rattle.egt_board.proofs.Placed.{find-here, find-later}
 
-abbrev IsKey : ℕ → List (ℕ × Man) → Type 0
+abbrev pub IsKey : ℕ → List (ℕ × Man) → Type 0
 IsKey t es = is_some (placement.find nat_cmp t es) ≡ true
 
 abbrev Sorted : List (ℕ × Man) → Type 0

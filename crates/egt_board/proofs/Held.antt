@@ -4,15 +4,15 @@ use Rattle.std.specs.Option.{is_none}
 use Rattle.std.specs.Ordering.{nat_cmp}
 use Rattle.std.proofs.lemmas.Bool.{false≢true}
 use Rattle.std.proofs.lemmas.Nat.Bits.{bit_at-zero}
-use Rattle.std.proofs.Common.{◌^◌, true, [], ◌∷◌, zero, suc, ◌≡◌, ◌≢◌, ℕ, ◌+◌, ◌<◌, ◌≤◌, ◌↔◌, List, length, get_or, Option, Some, None, replicate, arith, refl, sym, ap, ◌∙◌, max, inl, inr}
+use Rattle.std.proofs.Common.{true, [], ◌∷◌, zero, suc, ◌≡◌, ℕ, ◌<◌, ◌↔◌, List, length, get_or, Option, Some, None, arith, refl, sym, ap, ◌∙◌, max, inl, inr}
 use Rattle.std.specs.FinMap as map
 use Rattle.std.proofs.lemmas.Bool.{cases_lt}
 use Rattle.std.proofs.lemmas.List.{get_or_past}
 use Rattle.egt_board.specs.declared.man.Side.{Side}
 use Rattle.egt_board.specs.declared.man.Side.TheVariants.{White, Black}
 use Rattle.egt_board.specs.declared.man.Man.{Man}
-use Rattle.egt_board.specs.Placement.{Placement, Stands, IsFree, same_men}
-use Rattle.egt_board.specs.Board.{placed, bit_of, is_side, IsHeld, AreOf}
+use Rattle.egt_board.specs.Placement.{Placement, Stands, IsFree, IsHeld, same_men}
+use Rattle.egt_board.specs.Board.{placed, bit_of, is_side, AreOf}
 use Rattle.std.specs.Int.{bit_at}
 use Rattle.egt_board.proofs.Placed.{get-placed}
 

@@ -9,3 +9,5 @@ pub mod Kings
 pub mod Lists
 pub mod Positions
 pub mod Gather
+pub mod Sizes
+pub mod Counts

@@ -1,11 +1,11 @@
 -- A board as the 64 squares in order, and the placement that it shows.
-use Rattle.std.specs.Prelude.{◌≡◌, ℕ, ◌+◌, ◌<◌, List, [], ◌∷◌, Option, Some, None, slice_index_or}
+use Rattle.std.specs.Prelude.{◌≡◌, ℕ, ◌+◌, List, [], ◌∷◌, Option, Some, None, slice_index_or}
 use Rattle.std.specs.Int.{bit_at}
 use Rattle.std.specs.FinMap as map
 use Rattle.egt_board.specs.declared.man.Side.{Side}
 use Rattle.egt_board.specs.declared.man.Side.TheVariants.{White, Black}
 use Rattle.egt_board.specs.declared.man.Man.{Man}
-use Rattle.egt_board.specs.Placement.{Placement, Stands}
+use Rattle.egt_board.specs.Placement.{Placement}
 
 -- the men of the squares from number i on
 abbrev pub men_from : ℕ → List (Option Man) → List (ℕ × Man)
@@ -31,9 +31,3 @@ bit_of side (Some man) = is_side side man.side
 -- the set has the squares on which men of this side stand
 abbrev pub AreOf : ℕ → Side → List (Option Man) → Type 0
 AreOf bits side xs = (t : ℕ) → bit_at bits t ≡ bit_of side (slice_index_or xs t None)
-
--- a man of this side stands on the square
-pub record IsHeld (men : Placement) (s : ℕ) (side : Side) : Type 0 where
-  pub man : Man
-  pub stands : Stands men s man
-  pub theirs : man.side ≡ side

@@ -1,5 +1,5 @@
 -- Positions given by a list of men, and the first fault of such a list.
-use Rattle.std.specs.Prelude.{◌≡◌, ◌≢◌, ℕ, ◌<◌, ◌≤◌, List, length, map, Option, slice_index}
+use Rattle.std.specs.Prelude.{◌≢◌, ℕ, ◌<◌, ◌≤◌, List, length, map, Option, slice_index}
 use Rattle.std.specs.FinMap as placement
 use Rattle.egt_board.specs.declared.fault.PosFault.{PosFault}
 use Rattle.egt_board.specs.declared.fault.PosFault.TheVariants.{MenCount, KingCount, EpMismatch, WaitingInCheck}

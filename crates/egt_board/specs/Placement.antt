@@ -1,10 +1,11 @@
-use Rattle.std.specs.Prelude.{◌≡◌, ◌≢◌, ℕ, ◌<◌, Option, Some, None, List, cond, true, false}
+use Rattle.std.specs.Prelude.{◌≡◌, ◌≢◌, ℕ, Some, None, cond, true, false}
 use Rattle.std.specs.Ordering.{nat_cmp, eq_by_cmp}
 use Rattle.std.specs.Cmp.{nat_cmp_total, unsigned_tied}
 use Rattle.std.specs.FinMap as map
 use Rattle.std.proofs.Common.{ap, ◌∙◌, inl, inr}
 use Rattle.std.proofs.lemmas.Bool.{eq-eqb}
 use Rattle.std.proofs.lemmas.Bool.Decides.{eqb_tells}
+use Rattle.egt_board.specs.declared.man.Side.{Side}
 use Rattle.egt_board.specs.declared.man.Man.{Man}
 
 -- a placement: what stands on which square
@@ -18,6 +19,12 @@ Stands men s man = map.get men s ≡ Some man
 -- nothing stands on the square
 abbrev pub IsFree : Placement → ℕ → Type 0
 IsFree men s = map.get men s ≡ None
+
+-- a man of this side stands on the square
+pub record IsHeld (men : Placement) (s : ℕ) (side : Side) : Type 0 where
+  pub man : Man
+  pub stands : Stands men s man
+  pub theirs : man.side ≡ side
 
 -- placements with the same men on each square are the same
 pub same_men : (m n : Placement) → ((q : ℕ) → map.get m q ≡ map.get n q) → m ≡ n

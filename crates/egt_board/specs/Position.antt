@@ -1,5 +1,4 @@
 -- A position's fields and the setup that they show.
-use Rattle.std.specs.Prelude.{◌≡◌}
 use Rattle.egt_board.specs.declared.position.Position.TheInside.{Inside}
 use Rattle.egt_board.specs.declared.man.Side.TheVariants.{White, Black}
 use Rattle.egt_board.specs.Setup.{Setup, IsAdmissible, IsKingOn}

@@ -1,9 +1,10 @@
 //! What the men on a board attack: FIDE Laws of Chess 2023, articles 3.1.3 and 3.9.
-ghost use Rattle.std.specs.Prelude.{◌≡◌, ℕ, ◌<◌, ◌↔◌, IsTrue};
-ghost use Rattle.egt_board.specs.Attack.{IsAttacked};
+ghost use Rattle.std.specs.Prelude.{◌≡◌, ℕ, ◌≤◌, ◌↔◌, IsTrue};
+ghost use Rattle.egt_board.specs.Attack.{IsAttacked, IsInCheck};
 ghost use Rattle.egt_board.specs.Gait.{Reaches};
 ghost use Rattle.egt_board.specs.Placement.{IsFree};
-ghost use Rattle.egt_board.specs.SquareSet.{Has};
+ghost use Rattle.egt_board.specs.Setup.{IsKingOn};
+ghost use Rattle.egt_board.specs.SquareSet.{Has, size_of, most_reached};
 
 use crate::board::Board;
 use crate::gait;
@@ -15,7 +16,8 @@ impl Board {
     /// The squares that a man of this kind attacks from `from`, past free squares alone. Squares of its
     /// own side's men are among them.
     pub fn reach(&self, kind: Kind, from: Square) -> SquareSet
-        ensures { (t : ℕ) → Has result t ↔ Reaches (IsFree self.now) kind from t }
+        ensures reached { (t : ℕ) → Has result t ↔ Reaches (IsFree self.now) kind from t }
+        ensures few { size_of result ≤ most_reached kind }
     {
         gait::reach(kind, from, self.occupied())
     }
@@ -32,5 +34,13 @@ impl Board {
             }
         }
         false
+    }
+
+    /// Whether that side's king, which stands on `king`, is attacked.
+    pub fn is_in_check(&self, king: Square, side: Side) -> bool
+        requires { IsKingOn self.now side king }
+        ensures { IsTrue result ↔ IsInCheck self.now side }
+    {
+        self.attacks(king, side.other())
     }
 }

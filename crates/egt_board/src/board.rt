@@ -40,7 +40,7 @@ impl Model for Board {
 
 impl Board {
     ghost use Rattle.egt_board.specs.SquareSet.{Has};
-    ghost use Rattle.egt_board.specs.Board.{IsHeld};
+    ghost use Rattle.egt_board.specs.Placement.{IsHeld};
     ghost use Rattle.egt_board.specs.Placement.{IsFree, Stands};
 
     /// The board with no man on it.

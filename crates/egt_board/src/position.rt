@@ -1,5 +1,5 @@
 //! Positions: the setups that the rules of play admit.
-ghost use Rattle.std.specs.Prelude.{◌≡◌, ℕ, ◌<◌, ◌↔◌, IsOk, IfOk, IfErr, IsTrue, map};
+ghost use Rattle.std.specs.Prelude.{◌≡◌, ℕ, ◌≤◌, ◌↔◌, IsOk, IfOk, IfErr, IsTrue, map};
 ghost use Rattle.egt_board.specs.Attack.{IsAttacked};
 ghost use Rattle.std.specs.FinMap as placement;
 
@@ -7,6 +7,7 @@ use crate::board::Board;
 use crate::fault::PosFault;
 use crate::man::{Man, Side};
 use crate::square::Square;
+use crate::square_set::SquareSet;
 use arrayvec::ArrayVec;
 use std::marker::Model;
 
@@ -39,6 +40,8 @@ impl Model for Position {
 
 impl Position {
     ghost use Rattle.egt_board.specs.Setup.{IsAdmissible, IsKingOn};
+    ghost use Rattle.egt_board.specs.Placement.{IsHeld};
+    ghost use Rattle.egt_board.specs.SquareSet.{Has, size_of};
     ghost use Rattle.egt_board.specs.Listed.{setup_of, man_entry, FitsBoard, IsFirstFault};
 
     /// The position with these men, in whatever order, that side to move and that target.
@@ -73,7 +76,7 @@ impl Position {
             Side::White => black_king,
             Side::Black => white_king,
         };
-        if board.attacks(waiting, side) {
+        if board.is_in_check(waiting, side.other()) {
             return Err(PosFault::WaitingInCheck);
         }
         Ok(Position {
@@ -125,6 +128,14 @@ impl Position {
         ensures admissible { IsAdmissible self.now }
     {
         &self.board
+    }
+
+    /// The squares of that side's men, of which the other side's king leaves at most three.
+    pub fn of(&self, side: Side) -> SquareSet
+        ensures held { (t : ℕ) → Has result t ↔ IsHeld self.now.men t side }
+        ensures few { size_of result ≤ 3 }
+    {
+        self.board.of(side)
     }
 
     /// The square of that side's king.

@@ -1,5 +1,5 @@
 //! Sets of squares, as 64 bits.
-ghost use Rattle.std.specs.Prelude.{◌≡◌, ◌≢◌, ℕ, ◌<◌, ◌-◌, ◌^◌, ◌↔◌, IsTrue, IfSome, IfNone, max, min, if◌then◌else◌};
+ghost use Rattle.std.specs.Prelude.{◌≡◌, ◌≢◌, ℕ, ◌<◌, ◌≤◌, ◌+◌, ◌-◌, ◌^◌, ◌↔◌, IsTrue, IfSome, IfNone, max, min, if◌then◌else◌};
 ghost use Rattle.std.specs.Int.{bit_at};
 
 use crate::square::Square;
@@ -11,7 +11,7 @@ pub struct SquareSet {
 }
 
 impl SquareSet {
-    ghost use Rattle.egt_board.specs.SquareSet.{Has};
+    ghost use Rattle.egt_board.specs.SquareSet.{Has, size_of};
 
     /// The set without a square.
     pub const EMPTY: SquareSet = SquareSet { bits: 0 };
@@ -67,7 +67,8 @@ impl SquareSet {
 
     /// The squares that the other set lacks.
     pub fn without(self, other: SquareSet) -> SquareSet
-        ensures { (t : ℕ) → bit_at result.bits t ≡ min (bit_at self.bits t) (1 - bit_at other.bits t) }
+        ensures squares { (t : ℕ) → bit_at result.bits t ≡ min (bit_at self.bits t) (1 - bit_at other.bits t) }
+        ensures few { size_of result ≤ size_of self }
     {
         SquareSet {
             bits: self.bits & !other.bits,
@@ -81,6 +82,7 @@ impl SquareSet {
         ensures least { IfSome result (λ s. (t : ℕ) → t < s → bit_at self.old.bits t ≡ 0) }
         ensures others { IfSome result (λ s. (t : ℕ) → t ≢ s → bit_at self.new.bits t ≡ bit_at self.old.bits t) }
         ensures fewer { IfSome result (λ _. self.new.bits < self.old.bits) }
+        ensures size { IfSome result (λ _. size_of self.new + 1 ≡ size_of self.old) }
         ensures empty { IfNone result ((t : ℕ) → bit_at self.old.bits t ≡ 0) }
         ensures stays { IfNone result (self.new ≡ self.old) }
     {

@@ -1,5 +1,5 @@
 use Rattle.std.proofs.Common.{arith, rules, ◌+◌}
-use Rattle.egt_board.proofs.Rides.{Rode-none, Rode-more, reach_more, reach_stopped, reach_edge}
+use Rattle.egt_board.proofs.Rides.{Rode-more, reach_more, reach_stopped, reach_edge}
 use Rattle.egt_board.proofs.Bits.{bit_at_untold}
 use Rattle.egt_board.proofs.Geometry.{Away-more}
 use Rattle.egt_board.proofs.gait.ride.Goals as goal

@@ -1,8 +1,5 @@
-use Rattle.std.proofs.Common.{◌≡◌, arith, rules, refl, sym, ◌∙◌, ap, Some, false, true, List}
+use Rattle.std.proofs.Common.{◌≡◌, arith, rules, refl, sym, ◌∙◌, Some}
 use Rattle.std.proofs.lemmas.Bool.{false≢true}
-use Rattle.std.specs.FinMap as map
-use Rattle.std.specs.Option.{IsSome}
-use Rattle.egt_board.specs.Attack.{IsAttacked}
 use Rattle.egt_board.proofs.Attacks.{OnlyLeft-less, AreHeld-less}
 use Rattle.egt_board.proofs.board.Board.attacks.Goals as goal
 
@@ -28,7 +25,7 @@ returns-then-contains c =
         man = man;
         stands = stands;
         theirs = rw (← same) held.theirs;
-        reaches = (c.reach.ensures c.args.square).0 (c.contains.ensures.0 c.if-contains.true);
+        reaches = (c.reach.ensures.reached c.args.square).0 (c.contains.ensures.0 c.if-contains.true);
       },
       λ _. refl,
     )
@@ -38,7 +35,7 @@ loop-from-preserved c =
     let stands = sym c.at.ensures ∙ c.unwrap-kind.ensures in (
       AreHeld-less _ _ _ _ c.in-Some.from c.in-Some.ensures.gone c.in-Some.ensures.others c.loop-from.invariant.0,
       OnlyLeft-less _ _ _ _ c.args.square c.in-Some.from c.unwrap-kind.result stands
-          (λ reaches. false≢true (sym c.if-contains.false ∙ c.contains.ensures.1 ((c.reach.ensures c.args.square).1 reaches)))
+          (λ reaches. false≢true (sym c.if-contains.false ∙ c.contains.ensures.1 ((c.reach.ensures.reached c.args.square).1 reaches)))
           c.in-Some.ensures.others c.loop-from.invariant.1,
     )
 

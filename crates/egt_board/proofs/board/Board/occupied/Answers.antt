@@ -1,6 +1,5 @@
 use Rattle.std.proofs.Common.{ap, sym, ◌∙◌, arith, refl}
 use Rattle.std.specs.FinMap as map
-use Rattle.egt_board.specs.Placement.{Stands}
 use Rattle.egt_board.proofs.Placed.{get-placed}
 use Rattle.egt_board.proofs.Held.{bit_of-free, placed-within}
 use Rattle.egt_board.proofs.board.Board.occupied.Goals as goal

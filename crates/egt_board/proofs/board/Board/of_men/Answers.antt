@@ -1,9 +1,6 @@
-use Rattle.std.proofs.Common.{◌≡◌, arith, rules, sym, ap, ◌∙◌, Option, Some, None, true, false, refl}
+use Rattle.std.proofs.Common.{arith, sym, ◌∙◌}
 use Rattle.std.proofs.lemmas.Bool.{false≢true}
-use Rattle.std.specs.FinMap as placement
-use Rattle.std.specs.Option.{is_some}
-use Rattle.egt_board.specs.declared.man.Man.{Man}
-use Rattle.egt_board.proofs.Lists.{Laid, Laid-none, Laid-more, Laid-twice}
+use Rattle.egt_board.proofs.Lists.{Laid-none, Laid-more, Laid-twice}
 use Rattle.egt_board.proofs.Positions.{some_of, none_of}
 use Rattle.egt_board.proofs.board.Board.of_men.Goals as goal
 

@@ -1,11 +1,9 @@
-use Rattle.std.proofs.Common.{◌≡◌, ◌<◌, arith, rules, sym, ap, ◌∙◌, Option, Some, None, List, map, lit<}
-use Rattle.std.specs.Option.{IsSome}
+use Rattle.std.proofs.Common.{rules, sym, ap, ◌∙◌, map, lit<}
 use Rattle.std.specs.FinMap as placement
 use Rattle.std.proofs.lemmas.Nat.Bits.{bit_at-lt}
-use Rattle.egt_board.specs.declared.man.Man.{Man}
 use Rattle.egt_board.specs.Setup.{Setup}
 use Rattle.egt_board.specs.Listed.{man_entry}
-use Rattle.egt_board.proofs.Gather.{Gathered, Gathered-none, Gathered-more, Gathered-all, next_stands, next_room}
+use Rattle.egt_board.proofs.Gather.{Gathered-none, Gathered-more, Gathered-all, next_stands, next_room}
 use Rattle.egt_board.proofs.position.Position.men.Goals as goal
 
 pub loop-square-init : goal.loop-square-init

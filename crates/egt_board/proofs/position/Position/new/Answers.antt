@@ -1,15 +1,14 @@
-use Rattle.std.proofs.Common.{◌≡◌, ◌≤◌, ◌⊎◌, arith, rules, sym, ap, ◌∙◌, inl, inr, subst, refl, ℕ, List}
+use Rattle.std.proofs.Common.{◌≡◌, ◌≤◌, arith, rules, sym, ap, ◌∙◌, inl, inr, subst, refl, ℕ, List}
+use Rattle.std.proofs.lemmas.Bool.{false≢true}
 use Rattle.std.specs.FinMap as map
-use Rattle.egt_board.specs.declared.man.Side.{Side}
 use Rattle.egt_board.specs.declared.man.Side.TheVariants.{White, Black}
 use Rattle.egt_board.specs.declared.man.Man.{Man}
 use Rattle.egt_board.specs.Man.{other_side}
 use Rattle.egt_board.specs.Placement.{Placement}
-use Rattle.egt_board.specs.Position.{IsWhole}
-use Rattle.egt_board.specs.Setup.{Setup, IsAdmissible, IsKingOn}
-use Rattle.egt_board.specs.Listed.{men_of, setup_of, FitsBoard}
+use Rattle.egt_board.specs.Setup.{IsAdmissible, IsKingOn}
+use Rattle.egt_board.specs.Listed.{men_of, FitsBoard}
 use Rattle.egt_board.proofs.Lists.{len-men_of}
-use Rattle.egt_board.proofs.Positions.{quiet_of, waiting_king, none_of}
+use Rattle.egt_board.proofs.Positions.{waiting_king, none_of}
 use Rattle.egt_board.proofs.position.Position.new.Goals as goal
 use Rattle.egt_board.proofs.position.Position.new.Goals.{in-White, in-Black}
 
@@ -30,7 +29,7 @@ invariant_of-result c =
         on_board = c.in-Some.ensures.on_board;
         kings = record { white = c.in-Some-king.white_king; black = c.in-Some-king-2.black_king; white_there = white; black_there = black };
         target = none_of c.args.target (sym c.is_some.ensures ∙ c.if-is_some.false);
-        quiet = quiet_of c.in-Some.board c.args.side c.match-side.waiting c.attacks.result waiting c.attacks.ensures c.if-attacks.false;
+        quiet = λ check. false≢true (sym c.if-is_in_check.false ∙ c.is_in_check.ensures.1 (rw c.other.ensures check));
       };
       white = white;
       black = black;

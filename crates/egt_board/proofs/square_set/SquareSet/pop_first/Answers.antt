@@ -1,5 +1,6 @@
 use Rattle.std.proofs.Common.{arith}
 use Rattle.egt_board.proofs.Bits.{bit_at_first}
+use Rattle.egt_board.proofs.Sizes.{size_of-less}
 use Rattle.egt_board.proofs.square_set.SquareSet.pop_first.Goals as goal
 
 pub returns-clause-had : goal.returns-clause-had
@@ -13,3 +14,8 @@ returns-clause-least c =
 pub returns-clause-fewer : goal.returns-clause-fewer
 returns-clause-fewer c =
     c.less.ensures.fewer (bit_at_first c.args.self.now.bits c.in_ok-first.first (omega arith) (omega arith) c.in_ok-first.ensures.value).0
+
+pub returns-clause-size : goal.returns-clause-size
+returns-clause-size c =
+    size_of-less c.args.self.now c.less.result c.in_ok-first.first (omega arith)
+    (bit_at_first c.args.self.now.bits c.in_ok-first.first (omega arith) (omega arith) c.in_ok-first.ensures.value).0 c.less.ensures.same c.less.ensures.others

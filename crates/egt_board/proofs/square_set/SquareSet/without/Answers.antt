@@ -1,6 +1,11 @@
 use Rattle.std.proofs.Common.{arith}
 use Rattle.egt_board.proofs.Bits.{bit_at_without}
+use Rattle.egt_board.proofs.Sizes.{size_of-le}
 use Rattle.egt_board.proofs.square_set.SquareSet.without.Goals as goal
 
-pub returns : goal.returns
-returns c = λ t. bit_at_without c.args.self.bits c.args.other.bits t (omega arith) (omega arith)
+pub returns-clause-squares : goal.returns-clause-squares
+returns-clause-squares c = λ t. bit_at_without c.args.self.bits c.args.other.bits t (omega arith) (omega arith)
+
+pub returns-clause-few : goal.returns-clause-few
+returns-clause-few c = size_of-le _ c.args.self (λ t.
+    let e = bit_at_without c.args.self.bits c.args.other.bits t (omega arith) (omega arith) in rw e (omega arith))

@@ -1,0 +1,104 @@
+-- How many men a side has at most.
+use Rattle.std.proofs.Common.{◌≡◌, ◌≢◌, ℕ, zero, suc, ◌+◌, ◌<◌, ◌≤◌, ◌↔◌, List, [], ◌∷◌, length, Some, cond, eqb, arith, refl, sym, ap, ◌∙◌, inl, inr, subst, ◌⊎◌}
+use Rattle.std.specs.Int.{bit_at}
+use Rattle.std.specs.Option.{is_some}
+use Rattle.std.specs.FinMap as placement
+use Rattle.std.proofs.lemmas.Bool.{cases_eq, false≢true}
+use Rattle.std.proofs.lemmas.Bool.Decides.{eqb_tells}
+use Rattle.std.proofs.lemmas.Nat.Bits.{bit_at-lt}
+use Rattle.egt_board.specs.declared.man.Side.{Side}
+use Rattle.egt_board.specs.declared.man.Side.TheVariants.{White, Black}
+use Rattle.egt_board.specs.declared.man.Man.{Man}
+use Rattle.egt_board.specs.declared.square_set.SquareSet.{SquareSet}
+use Rattle.egt_board.specs.Man.{other_side}
+use Rattle.egt_board.specs.Placement.{Placement, IsHeld}
+use Rattle.egt_board.specs.Attack.{king_of}
+use Rattle.egt_board.specs.Setup.{IsKingOn}
+use Rattle.egt_board.specs.SquareSet.{total, size_of}
+use Rattle.egt_board.proofs.Placed.{find-later}
+use Rattle.egt_board.proofs.Gather.{IsKey}
+use Rattle.egt_board.proofs.Sizes.{total-le, total-less}
+
+-- f, but with another number at k
+changed_at : (ℕ → ℕ) → ℕ → ℕ → ℕ → ℕ
+changed_at f k v t = cond (eqb t k) v (f t)
+
+changed_here : (f : ℕ → ℕ) (k v t : ℕ) → t ≡ k → changed_at f k v t ≡ v
+unfolding changed_at
+changed_here f k v t e = elim (eqb_tells t k) [ inl h ↦ ap (λ b. cond b v (f t)) h.0 | inr h ↦ absurd (h.1 e) ]
+
+changed_other : (f : ℕ → ℕ) (k v t : ℕ) → t ≢ k → changed_at f k v t ≡ f t
+unfolding changed_at
+changed_other f k v t other = elim (eqb_tells t k) [ inl h ↦ absurd (other h.1) | inr h ↦ ap (λ b. cond b v (f t)) h.0 ]
+
+total-none : (f : ℕ → ℕ) (n : ℕ) → ((t : ℕ) → f t ≡ 0) → total f n ≡ 0
+total-none f zero none = refl
+total-none f (suc n) none = let rest : total f n ≡ 0 = total-none f n none in let last : f n ≡ 0 = none n in omega arith
+
+total-cleared : (f : ℕ → ℕ) (k n : ℕ) → f k ≤ 1 → total f n ≤ total (changed_at f k 0) n + 1
+total-cleared f k zero small = omega arith
+total-cleared f k (suc n) small = elim (cases_eq n k) [
+  | inl e ↦
+      let rest : total f n ≤ total (changed_at f k 0) n = total-le f (changed_at f k 0) n (λ t t_in. let same : changed_at f k 0 t ≡ f t = changed_other f k 0 t (λ t_is. omega arith) in omega arith) in
+      let last : f n ≤ 1 = subst (λ j. f j ≤ 1) (sym e) small in omega arith
+  | inr other ↦
+      let rest : total f n ≤ total (changed_at f k 0) n + 1 = total-cleared f k n small in
+      let last : changed_at f k 0 n ≡ f n = changed_other f k 0 n other in omega arith
+]
+
+-- no more than the entries whose keys they are
+covered : (es : List (ℕ × Man)) (f : ℕ → ℕ) (n : ℕ) → ((t : ℕ) → f t ≤ 1) → ((t : ℕ) → f t ≡ 1 → IsKey t es) → total f n ≤ length es
+covered [] f n small keys =
+    let none : total f n ≡ 0 = total-none f n (λ t. elim (cases_eq (f t) 1) [
+      | inl one ↦ absurd (false≢true (keys t one))
+      | inr other ↦ let le = small t in omega arith
+    ]) in omega arith
+covered (e ∷ es) f n small keys =
+    let rest : total (changed_at f e.0 0) n ≤ length es = covered es (changed_at f e.0 0) n (λ t. bound t (cases_eq t e.0)) (λ t one. key t one (cases_eq t e.0)) in
+    let more = total-cleared f e.0 n (small e.0) in omega arith
+  where
+    bound : (t : ℕ) → (t ≡ e.0) ⊎ (t ≢ e.0) → changed_at f e.0 0 t ≤ 1
+    bound t (inl h) = let is = changed_here f e.0 0 t h in omega arith
+    bound t (inr h) = let is = changed_other f e.0 0 t h in let le = small t in omega arith
+
+    key : (t : ℕ) → changed_at f e.0 0 t ≡ 1 → (t ≡ e.0) ⊎ (t ≢ e.0) → IsKey t es
+    key t one (inl h) = let is = changed_here f e.0 0 t h in absurd (omega arith)
+    key t one (inr h) = sym (ap is_some (find-later t e.0 e.1 es h)) ∙ keys t (sym (changed_other f e.0 0 t h) ∙ one)
+
+sides_differ : (side : Side) → other_side side ≡ side → ⊥
+sides_differ White e = cc
+sides_differ Black e = cc
+
+-- the other side's king leaves three
+pub own_few : (men : Placement) (side : Side) (set : SquareSet) (k : ℕ) → placement.len men ≤ 4 → k < 64 → IsKingOn men (other_side side) k → ((t : ℕ) → (bit_at set.bits t ≡ 1) ↔ IsHeld men t side) → size_of set ≤ 3
+unfolding size_of
+own_few men side set k few k_in king held =
+    let f : ℕ → ℕ = bit_at set.bits in
+    let h : ℕ → ℕ = changed_at f k 1 in
+    let le : total h 64 ≤ length (placement.entries men) = covered (placement.entries men) h 64 (λ t. bound t (cases_eq t k)) (λ t one. key t one (cases_eq t k)) in
+    let one_more : total f 64 + 1 ≡ total h 64 = total-less h f 64 k k_in (changed_here f k 1 k refl) not_own (λ t other. sym (changed_other f k 1 t other)) in
+    let size = placement.len-entries men in omega arith
+  where
+    not_own : bit_at set.bits k ≡ 0
+    not_own = elim (cases_eq (bit_at set.bits k) 1) [
+      | inl one ↦
+          let own = (held k).0 one in
+          let both : Some own.man ≡ Some (king_of (other_side side)) = sym own.stands ∙ king.stands in
+          let same : own.man ≡ king_of (other_side side) = (cc) in
+          absurd (sides_differ side (sym (ap (λ (m : Man). m.side) same) ∙ own.theirs))
+      | inr other ↦ let small = bit_at-lt set.bits k in omega arith
+    ]
+
+    bound : (t : ℕ) → (t ≡ k) ⊎ (t ≢ k) → changed_at (bit_at set.bits) k 1 t ≤ 1
+    bound t (inl e) = let is = changed_here (bit_at set.bits) k 1 t e in omega arith
+    bound t (inr other) = let is = changed_other (bit_at set.bits) k 1 t other in let small = bit_at-lt set.bits t in omega arith
+
+    key : (t : ℕ) → changed_at (bit_at set.bits) k 1 t ≡ 1 → (t ≡ k) ⊎ (t ≢ k) → IsKey t (placement.entries men)
+    key t one (inl e) = ap is_some (sym (placement.get-entries men t) ∙ ap (placement.get men) e ∙ king.stands)
+    key t one (inr other) =
+        ap is_some (sym (placement.get-entries men t) ∙ ((held t).0 (sym (changed_other (bit_at set.bits) k 1 t other) ∙ one)).stands)
+
+pub few_of_side : (men : Placement) (side : Side) (set : SquareSet) (white black : ℕ) → placement.len men ≤ 4 → white < 64 → black < 64 → IsKingOn men White white → IsKingOn men Black black
+    → ((t : ℕ) → (bit_at set.bits t ≡ 1) ↔ IsHeld men t side) → size_of set ≤ 3
+few_of_side men White set white black few white_in black_in w b held = own_few men White set black few black_in b held
+few_of_side men Black set white black few white_in black_in w b held = own_few men Black set white few white_in w held
