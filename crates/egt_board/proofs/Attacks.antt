@@ -27,14 +27,6 @@ Reaches-free F G kind s t free =
       clear = λ k u some less away. free u away.on_board (r.clear k u some less away);
     })
 
--- what is reached is on the board
-pub Reaches-within : (F : ℕ → Type 0) (kind : Kind) (s t : ℕ) → Reaches F kind s t → t < 64
-Reaches-within F kind s t r = one (steps_of kind) r
-  where
-    one : (ds : List Step) → OneOf (Rides F (farthest kind) s t) ds → t < 64
-    one [] none = absurd none
-    one (d ∷ ds) some = elim some [ inl p ↦ p.away.on_board | inr q ↦ one ds q ]
-
 -- no man of this side attacks the square, but one that is left in the set
 abbrev pub OnlyLeft : Placement → Side → ℕ → ℕ → Type 0
 OnlyLeft men side left t = (s : ℕ) (man : Man) → Stands men s man → man.side ≡ side → Reaches (IsFree men) man.kind s t → bit_at left s ≡ 1

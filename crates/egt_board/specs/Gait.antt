@@ -1,5 +1,6 @@
 -- How each man goes: FIDE Laws of Chess 2023, articles 3.2 to 3.6 and 3.8.
 use Rattle.std.specs.Prelude.{Bool, nat_lt, ◌&&◌, ℕ, ◌<◌, ◌≤◌, List, [], ◌∷◌, ◌++◌, ◌⊎◌}
+use Rattle.std.proofs.Common.{inl, inr}
 use Rattle.egt_board.specs.declared.man.Kind.{Kind}
 use Rattle.egt_board.specs.declared.man.Kind.TheVariants.{Q, R, B, N, K}
 use Rattle.egt_board.specs.declared.step.Way.{Way}
@@ -60,3 +61,11 @@ pub record Rides (Free : ℕ → Type 0) (most : ℕ) (s t : ℕ) (d : Step) : T
 -- a man of this kind on s reaches t, where only free squares are passed
 abbrev pub Reaches : (ℕ → Type 0) → Kind → ℕ → ℕ → Type 0
 Reaches Free kind s t = OneOf (Rides Free (farthest kind) s t) (steps_of kind)
+
+-- what is reached is on the board
+pub Reaches-on_board : (F : ℕ → Type 0) (kind : Kind) (s t : ℕ) → Reaches F kind s t → t < 64
+Reaches-on_board F kind s t r = one (steps_of kind) r
+  where
+    one : (ds : List Step) → OneOf (Rides F (farthest kind) s t) ds → t < 64
+    one [] none = absurd none
+    one (d ∷ ds) some = elim some [ inl p ↦ p.away.on_board | inr q ↦ one ds q ]

@@ -1,4 +1,6 @@
-use Rattle.std.specs.Prelude.{◌≡◌, ℕ, zero, suc, ◌+◌}
+use Rattle.std.specs.Prelude.{◌≡◌, ℕ, zero, suc, ◌+◌, ◌<◌, ◌≤◌}
+use Rattle.std.proofs.Common.{arith, inl, inr, ap, sym, ◌∙◌}
+use Rattle.std.proofs.lemmas.Bool.{cases_eq}
 use Rattle.std.specs.Int.{bit_at}
 use Rattle.egt_board.specs.declared.man.Kind.{Kind}
 use Rattle.egt_board.specs.declared.man.Kind.TheVariants.{Q, R, B, N, K}
@@ -24,3 +26,15 @@ most_reached R = 28
 most_reached B = 28
 most_reached N = 28
 most_reached K = 8
+
+-- a set that has a square is not empty
+pub size_of-some : (set : SquareSet) (k : ℕ) → k < 64 → Has set k → 1 ≤ size_of set
+unfolding size_of
+size_of-some set k k_in has = within 64 k_in
+  where
+    within : (n : ℕ) → k < n → 1 ≤ total (bit_at set.bits) n
+    within zero lt = absurd (omega arith)
+    within (suc n) lt = elim (cases_eq k n) [
+        | inl e ↦ let here : bit_at set.bits n ≡ 1 = ap (bit_at set.bits) (sym e) ∙ has in omega arith
+        | inr other ↦ let rest : 1 ≤ total (bit_at set.bits) n = within n (omega arith) in omega arith
+      ]

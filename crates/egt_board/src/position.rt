@@ -97,7 +97,8 @@ impl Position {
 
     /// The side to move.
     pub fn side(&self) -> Side
-        ensures { result ≡ self.now.side }
+        ensures side { result ≡ self.now.side }
+        ensures admissible { IsAdmissible self.now }
     {
         self.side
     }
@@ -124,8 +125,7 @@ impl Position {
 
     /// The men on the board.
     pub fn board(&self) -> &Board
-        ensures men { result.now ≡ self.now.men }
-        ensures admissible { IsAdmissible self.now }
+        ensures { result.now ≡ self.now.men }
     {
         &self.board
     }

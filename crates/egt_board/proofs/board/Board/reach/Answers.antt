@@ -1,5 +1,6 @@
 use Rattle.std.proofs.Common.{arith}
-use Rattle.egt_board.proofs.Attacks.{Reaches-free, Reaches-within}
+use Rattle.egt_board.specs.Gait.{Reaches-on_board}
+use Rattle.egt_board.proofs.Attacks.{Reaches-free}
 use Rattle.egt_board.proofs.Bits.{bit_at-within}
 use Rattle.egt_board.proofs.Sizes.{reach_few}
 use Rattle.egt_board.proofs.board.Board.reach.Goals as goal
@@ -8,7 +9,7 @@ pub returns-clause-reached : goal.returns-clause-reached
 returns-clause-reached c = λ t. (
   λ has. Reaches-free _ _ c.args.kind c.args.from t (λ u u_in. (c.occupied.ensures.free u).0)
       ((c.reach.ensures t (bit_at-within c.reach.result.bits t (omega arith) has)).0 has),
-  λ r. (c.reach.ensures t (Reaches-within _ c.args.kind c.args.from t r)).1
+  λ r. (c.reach.ensures t (Reaches-on_board _ c.args.kind c.args.from t r)).1
       (Reaches-free _ _ c.args.kind c.args.from t (λ u u_in. (c.occupied.ensures.free u).1) r),
 )
 

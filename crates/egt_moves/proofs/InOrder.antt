@@ -1,0 +1,33 @@
+-- Lists of moves in order.
+use Rattle.std.proofs.Common.{◌≡◌, ℕ, suc, ◌+◌, ◌<◌, List, [], ◌∷◌, ◌++◌, length, arith, refl, sym, ap, subst, inl, inr, ◌⊎◌, slice_index_or, eqb, true, false}
+use Rattle.std.proofs.lemmas.Bool.{false≢true, eqb-true}
+use Rattle.std.specs.List.{Contains}
+use Rattle.std.proofs.lemmas.List.Elements.{Contains-push, Contains-push_cases, Contains-append_left}
+use Rattle.egt_moves.specs.declared.chess_move.Move.{Move}
+use Rattle.egt_moves.specs.Order.{place_of, IsInOrder}
+
+Contains-head : (m : Move) (ms : List Move) → Contains (m ∷ ms) m
+Contains-head m ms = (0, omega arith, refl)
+
+Contains-tail : (m n : Move) (ms : List Move) → Contains ms n → Contains (m ∷ ms) n
+Contains-tail m n ms w = (suc w.0, omega (arith, w.1), w.2)
+
+-- a move that comes after all others may stand last
+pub IsInOrder-push : (ms : List Move) (n : Move) → IsInOrder ms → ((m : Move) → Contains ms m → place_of m < place_of n) → IsInOrder (ms ++ n ∷ [])
+IsInOrder-push [] n ordered before = ((λ m none. let k = none.1 in absurd (omega arith)), tt)
+IsInOrder-push (x ∷ ms) n ordered before = (
+  (λ m there. elim (Contains-push_cases ms n m there) [
+     | inl old ↦ ordered.0 m old
+     | inr e ↦ subst (λ y. place_of x < place_of y) e (before x (Contains-head x ms))
+   ]),
+  IsInOrder-push ms n ordered.1 (λ m there. before m (Contains-tail x m ms there))
+)
+
+-- a list that is not empty has a move
+pub some_move : (ms : List Move) → eqb (length ms) 0 ≡ false → (m : Move) × Contains ms m
+some_move [] e = absurd (false≢true (sym e))
+some_move (m ∷ ms) e = (m, Contains-head m ms)
+
+-- and an empty one has none
+pub no_move : (ms : List Move) → eqb (length ms) 0 ≡ true → (m : Move) → ¬ Contains ms m
+no_move ms e m there = let less = there.1 in let none = eqb-true (length ms) 0 e in omega arith

@@ -1,0 +1,4 @@
+pub mod After
+pub mod InOrder
+pub mod Growing
+pub mod Walking

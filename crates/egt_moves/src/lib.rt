@@ -1,0 +1,15 @@
+//! The legal moves of a position, and what they lead to: FIDE Laws of Chess 2023, articles 3 and 5.
+#![tactic(auto)]
+
+pub mod chess_move;
+pub mod going;
+pub mod listing;
+pub mod playing;
+pub mod outcome;
+pub mod standings;
+
+pub use chess_move::Move;
+pub use listing::legal_moves;
+pub use outcome::Standing;
+pub use playing::play;
+pub use standings::standing;

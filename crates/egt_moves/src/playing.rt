@@ -1,0 +1,27 @@
+//! What a move leads to.
+ghost use Rattle.std.specs.Prelude.{IfSome, IfNone};
+ghost use Rattle.egt_board.specs.Setup.{Setup};
+ghost use Rattle.egt_moves.specs.Legal.{Leads};
+
+use crate::chess_move::Move;
+use crate::going::{is_safe, moved, targets};
+use egt_board::Position;
+
+/// The position that the move leads to; `None` where the move is not legal.
+pub fn play(position: &Position, chess_move: Move) -> Option<Position>
+    ensures leads { IfSome result (λ q. Leads position.now chess_move q) }
+    ensures illegal { IfNone result ((q : Setup) → ¬ Leads position.now chess_move q) }
+{
+    let man = position.at(chess_move.from)?;
+    if man.side != position.side() || chess_move.promo.is_some() {
+        return None;
+    }
+    if !targets(position, man, chess_move.from).contains(chess_move.to) {
+        return None;
+    }
+    if !is_safe(position, man, chess_move.from, chess_move.to) {
+        return None;
+    }
+    let board = moved(position, man, chess_move.from, chess_move.to);
+    Some(Position::admitted(board, man.side.other(), None))
+}
