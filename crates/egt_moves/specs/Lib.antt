@@ -1,3 +1,4 @@
 pub mod Legal
 pub mod Order
 pub mod Standing
+pub mod Text

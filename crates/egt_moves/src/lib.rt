@@ -7,6 +7,7 @@ pub mod listing;
 pub mod playing;
 pub mod outcome;
 pub mod standings;
+pub mod text;
 
 pub use chess_move::Move;
 pub use listing::legal_moves;

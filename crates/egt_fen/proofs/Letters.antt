@@ -1,0 +1,51 @@
+-- What a man's letter is not, and what a byte adds to a placement that is read from its front.
+use Rattle.std.proofs.Common.{◌≡◌, ◌≢◌, ℕ, ◌+◌, ◌-◌, ◌*◌, ◌<◌, ◌≤◌, Bool, true, false, cond, ◌&&◌, eqb, leb, ltb, List, [], ◌∷◌, ◌++◌, Option, Some, None, arith, refl, sym, ap, ◌∙◌, inl, inr, subst}
+use Rattle.std.specs.Option.{option_map, is_some}
+use Rattle.std.proofs.lemmas.Bool.{false≢true, agree_below_at, le-leb, and_from, cases_Bool}
+use Rattle.std.proofs.lemmas.List.{append_assoc}
+use Rattle.egt_board.specs.declared.man.Man.{Man}
+use Rattle.egt_fen.specs.Letter.{man_of}
+use Rattle.egt_fen.specs.Placement.{is_slash, width_of, has_width, on_square}
+use Rattle.egt_fen.specs.Walk.{men_left}
+
+-- neither a slash nor a digit is a letter
+slash_no_letter : (c : ℕ) → c < 256 → (is_slash c && is_some (man_of c)) ≡ false
+slash_no_letter c small = agree_below_at (λ b. is_slash b && is_some (man_of b)) (λ _. false) 256 c refl small
+
+digit_no_letter : (c : ℕ) → c < 256 → (leb 49 c && leb c 56 && is_some (man_of c)) ≡ false
+digit_no_letter c small = agree_below_at (λ b. leb 49 b && leb b 56 && is_some (man_of b)) (λ _. false) 256 c refl small
+
+not_both : (a b : Bool) → (a && b) ≡ false → b ≡ true → a ≡ false
+not_both true b e h = absurd (false≢true (sym e ∙ h))
+not_both false b e h = refl
+
+letter_slash : (c : ℕ) (man : Man) → c < 256 → man_of c ≡ Some man → is_slash c ≡ false
+letter_slash c man small e = not_both (is_slash c) (is_some (man_of c)) (slash_no_letter c small) (ap is_some e)
+
+letter_width : (c : ℕ) (man : Man) → c < 256 → man_of c ≡ Some man → width_of c ≡ 1
+letter_width c man small e =
+    ap (λ b. cond b (c - 48) (cond (is_some (man_of c)) 1 0)) (not_both (leb 49 c && leb c 56) (is_some (man_of c)) (digit_no_letter c small) (ap is_some e))
+    ∙ ap (λ b. cond b 1 0) (ap is_some e)
+
+-- a letter puts its man on the next square
+put : (men : List (Man × ℕ)) (slash : Bool) (width : ℕ) (o : Option Man) (man : Man) (rest : List ℕ) (rank file : ℕ) (after : Option (List (Man × ℕ)))
+    → slash ≡ false → width ≡ 1 → o ≡ Some man → file < 8
+    → option_map (λ ms. men ++ ms) (cond slash after (cond (ltb 0 width && leb (file + width) 8) (option_map (λ ms. on_square (8 * rank + file) o ++ ms) (men_left rest rank (file + width))) None))
+    ≡ option_map (λ ms. (men ++ (man, 8 * rank + file) ∷ []) ++ ms) (men_left rest rank (file + 1))
+put men slash width o man rest rank file after es ew eo room =
+    ap (λ b. option_map (λ ms. men ++ ms) (cond b after (cond (ltb 0 width && leb (file + width) 8) (option_map (λ ms. on_square (8 * rank + file) o ++ ms) (men_left rest rank (file + width))) None))) es
+    ∙ ap (λ w. option_map (λ ms. men ++ ms) (cond (ltb 0 w && leb (file + w) 8) (option_map (λ ms. on_square (8 * rank + file) o ++ ms) (men_left rest rank (file + w))) None)) ew
+    ∙ ap (λ b. option_map (λ ms. men ++ ms) (cond (true && b) (option_map (λ ms. on_square (8 * rank + file) o ++ ms) (men_left rest rank (file + 1))) None)) (le-leb (file + 1) 8 (omega arith))
+    ∙ ap (λ m. option_map (λ ms. men ++ ms) (option_map (λ ms. on_square (8 * rank + file) m ++ ms) (men_left rest rank (file + 1)))) eo
+    ∙ joined (men_left rest rank (file + 1))
+  where
+    joined : (left : Option (List (Man × ℕ))) → option_map (λ ms. men ++ ms) (option_map (λ ms. on_square (8 * rank + file) (Some man) ++ ms) left)
+        ≡ option_map (λ ms. (men ++ (man, 8 * rank + file) ∷ []) ++ ms) left
+    joined None = refl
+    joined (Some ms) = ap Some (sym (append_assoc men ((man, 8 * rank + file) ∷ []) ms))
+
+pub men_left-letter : (men new : List (Man × ℕ)) (c : ℕ) (man : Man) (rest : List ℕ) (rank file s : ℕ) → c < 256 → man_of c ≡ Some man → file < 8 → s ≡ 8 * rank + file → new ≡ men ++ (man, s) ∷ []
+    → option_map (λ ms. men ++ ms) (men_left (c ∷ rest) rank file) ≡ option_map (λ ms. new ++ ms) (men_left rest rank (file + 1))
+men_left-letter men new c man rest rank file s small e room es en =
+    put men (is_slash c) (width_of c) (man_of c) man rest rank file _ (letter_slash c man small e) (letter_width c man small e) e room
+    ∙ ap (λ xs. option_map (λ ms. xs ++ ms) (men_left rest rank (file + 1))) (ap (λ n. men ++ (man, n) ∷ []) (sym es) ∙ sym en)

@@ -1,0 +1,90 @@
+-- The runs of a text: where the first ends and the rest begins.
+use Rattle.std.proofs.Common.{◌≡◌, ◌≢◌, ℕ, zero, suc, ◌+◌, ◌-◌, ◌<◌, ◌≤◌, Bool, true, false, cond, not, eqb, ltb, List, [], ◌∷◌, length, take, drop, get_or, filter, Option, Some, None, unwrap_or, arith, refl, sym, ap, ◌∙◌, inl, inr, subst}
+use Rattle.std.specs.List.{slice_split, position_or_len, position, onto_first}
+use Rattle.std.proofs.lemmas.Bool.{false≢true, cases_Bool, ne_eqb, eqb-true, eqb-false, ltb-false}
+use Rattle.std.proofs.lemmas.List.Splits.{slice_split-cons_yes}
+use Rattle.std.proofs.lemmas.List.Sums.{prefix_len-le-length}
+use Rattle.egt_fen.specs.Fields.{is_space, is_other, has_bytes, runs_of}
+
+pub runs_of-nil : runs_of [] ≡ []
+unfolding runs_of
+runs_of-nil = refl
+
+-- a place that is found, or else the length
+pub place_or_len : (p : ℕ → Bool) (xs : List ℕ) → unwrap_or (position p xs) (length xs) ≡ position_or_len p xs
+place_or_len p xs = at (ltb (position_or_len p xs) (length xs)) refl
+  where
+    at : (b : Bool) → b ≡ ltb (position_or_len p xs) (length xs) → unwrap_or (cond b (Some (position_or_len p xs)) None) (length xs) ≡ position_or_len p xs
+    at true e = refl
+    at false e =
+        let le = prefix_len-le-length (λ x. not (p x)) xs in
+        let ge = ltb-false (position_or_len p xs) (length xs) (sym e) in
+        omega arith
+
+abbrev run_len : List ℕ → ℕ
+run_len xs = position_or_len is_space xs
+
+-- the parts behind the first
+abbrev parts_behind : List ℕ → List (List ℕ)
+parts_behind [] = []
+parts_behind (c ∷ cs) = slice_split is_space cs
+
+one : (n : ℕ) → 1 + n ≡ suc n
+one n = omega arith
+
+split_is : (xs : List ℕ) → slice_split is_space xs ≡ take (run_len xs) xs ∷ parts_behind (drop (run_len xs) xs)
+split_is [] = refl
+split_is (x ∷ xs) = elim (is_space x) as (λ b. cond b ([] ∷ slice_split is_space xs) (onto_first x (slice_split is_space xs))
+    ≡ take (cond (not b) (1 + run_len xs) 0) (x ∷ xs) ∷ parts_behind (drop (cond (not b) (1 + run_len xs) 0) (x ∷ xs))) [
+      | true ↦ refl
+      | false ↦ ap (onto_first x) (split_is xs) ∙ ap (λ n. take n (x ∷ xs) ∷ parts_behind (drop n (x ∷ xs))) (sym (one (run_len xs)))
+    ]
+
+behind_is : (xs : List ℕ) → filter has_bytes (slice_split is_space (drop (run_len xs) xs)) ≡ filter has_bytes (parts_behind (drop (run_len xs) xs))
+behind_is [] = refl
+behind_is (x ∷ xs) = at (behind_is xs) (is_space x) refl
+  where
+    at : filter has_bytes (slice_split is_space (drop (run_len xs) xs)) ≡ filter has_bytes (parts_behind (drop (run_len xs) xs)) → (b : Bool) → b ≡ is_space x
+        → filter has_bytes (slice_split is_space (drop (cond (not b) (1 + run_len xs) 0) (x ∷ xs))) ≡ filter has_bytes (parts_behind (drop (cond (not b) (1 + run_len xs) 0) (x ∷ xs)))
+    at ih true e = ap (filter has_bytes) (slice_split-cons_yes is_space x xs (sym e))
+    at ih false e = subst (λ n. filter has_bytes (slice_split is_space (drop n (x ∷ xs))) ≡ filter has_bytes (parts_behind (drop n (x ∷ xs)))) (sym (one (run_len xs))) ih
+
+-- a run that does not begin with a space has bytes
+run_has_bytes : (xs : List ℕ) → 0 < length xs → get_or xs 0 0 ≢ 32 → has_bytes (take (run_len xs) xs) ≡ true
+run_has_bytes [] some other = absurd (omega arith)
+run_has_bytes (x ∷ xs) some other = at (is_space x) (ne_eqb x 32 other)
+  where
+    at : (b : Bool) → b ≡ false → has_bytes (take (cond (not b) (1 + run_len xs) 0) (x ∷ xs)) ≡ true
+    at true e = absurd (false≢true (sym e))
+    at false e = subst (λ n. has_bytes (take n (x ∷ xs)) ≡ true) (sym (one (run_len xs)))
+        (ap not (ne_eqb (suc (length (take (run_len xs) xs))) 0 (λ h. omega arith)))
+
+-- a run ends at the first space
+pub runs_of-run : (xs : List ℕ) → 0 < length xs → get_or xs 0 0 ≢ 32 → runs_of xs ≡ take (run_len xs) xs ∷ runs_of (drop (run_len xs) xs)
+unfolding runs_of
+runs_of-run xs some other =
+    ap (filter has_bytes) (split_is xs)
+    ∙ ap (λ b. cond b (take (run_len xs) xs ∷ filter has_bytes (parts_behind (drop (run_len xs) xs))) (filter has_bytes (parts_behind (drop (run_len xs) xs)))) (run_has_bytes xs some other)
+    ∙ ap (λ rest. take (run_len xs) xs ∷ rest) (sym (behind_is xs))
+
+abbrev space_len : List ℕ → ℕ
+space_len xs = position_or_len is_other xs
+
+-- spaces in front tell nothing
+pub runs_of-spaces : (xs : List ℕ) → runs_of (drop (space_len xs) xs) ≡ runs_of xs
+unfolding runs_of
+runs_of-spaces [] = refl
+runs_of-spaces (x ∷ xs) = at (runs_of-spaces xs) (is_space x) refl
+  where
+    at : filter has_bytes (slice_split is_space (drop (space_len xs) xs)) ≡ filter has_bytes (slice_split is_space xs) → (b : Bool) → b ≡ is_space x → filter has_bytes (slice_split is_space (drop (cond (not (not b)) (1 + space_len xs) 0) (x ∷ xs))) ≡ filter has_bytes (slice_split is_space (x ∷ xs))
+    at ih true e = ap (λ n. filter has_bytes (slice_split is_space (drop n (x ∷ xs)))) (one (space_len xs))
+        ∙ ih ∙ sym (ap (filter has_bytes) (slice_split-cons_yes is_space x xs (sym e)))
+    at ih false e = refl
+
+pub other_first : (xs : List ℕ) → get_or (drop (space_len xs) xs) 0 0 ≢ 32
+other_first [] = λ e. omega arith
+other_first (x ∷ xs) = at (other_first xs) (is_space x) refl
+  where
+    at : get_or (drop (space_len xs) xs) 0 0 ≢ 32 → (b : Bool) → b ≡ is_space x → get_or (drop (cond (not (not b)) (1 + space_len xs) 0) (x ∷ xs)) 0 0 ≢ 32
+    at ih true e = subst (λ n. get_or (drop n (x ∷ xs)) 0 0 ≢ 32) (sym (one (space_len xs))) ih
+    at ih false e = eqb-false x 32 (sym e)

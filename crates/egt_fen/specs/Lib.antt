@@ -1,0 +1,14 @@
+pub mod Fault
+pub mod Fields
+pub mod Shown
+pub mod Letter
+pub mod Placement
+pub mod Walk
+pub mod Walked
+pub mod Side
+pub mod Castling
+pub mod Target
+pub mod Counter
+pub mod Parts
+pub mod Fen
+pub mod Canonical

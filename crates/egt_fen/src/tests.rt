@@ -1,0 +1,167 @@
+//! Worked texts, whose answers come from the PGN standard or are worked out by hand.
+
+use crate::{Fen, FenFault, read};
+use egt_board::{Kind, Man, Side, Square};
+use std::test::Fail;
+
+/// The number of the text's fault; 0 where it spells a position.
+fn number_of(text: &str) -> u8 {
+    match read(text.as_bytes()) {
+        Ok(_) => 0,
+        Err(fault) => fault.number(),
+    }
+}
+
+#[test]
+fn first_faults(rt: HostRuntime) {
+    for (text, number) in [
+        ("", 1),
+        ("k7/8/8/8/8/8/8/K7 w - - 0", 1),
+        ("k8/8/8/8/8/8/8/K7 w - - 0 1", 2),
+        ("k7/8/8/8/8/8/8/K7 x - - 0 1", 3),
+        ("4k3/8/8/8/8/8/8/4K2R w KQkq - 0 1", 4),
+        ("k7/8/8/8/8/8/8/K7 w - e4 0 1", 5),
+        ("k7/8/8/8/8/8/8/K7 w - - x 1", 6),
+        ("k7/8/8/8/8/8/8/KQRB4 w - - 0 1", 7),
+        ("8/8/8/8/8/8/8/K7 w - - 0 1", 8),
+        // These two hold a pawn, whose letter is not read yet. With pawns they are 9 and 10.
+        ("4P2k/8/8/8/8/8/8/K7 w - - 0 1", 2),
+        ("4k3/8/8/8/4P3/8/8/4K3 w - e3 0 1", 2),
+        ("k7/8/8/8/8/8/8/R6K w - - 0 1", 11),
+    ] {
+        assert_eq!(rt; number_of(text), number, "{text}");
+    }
+}
+
+#[test]
+fn counts_of_fields(rt: HostRuntime) {
+    for (text, number) in [
+        ("k7/8/8/8/8/8/8/K7 w - - 0 1", 0),
+        ("k7/8/8/8/8/8/8/K7 w - -", 0),
+        ("  k7/8/8/8/8/8/8/K7   w -  - 0 1 ", 0),
+        ("k7/8/8/8/8/8/8/K7 w -", 1),
+        ("k7/8/8/8/8/8/8/K7 w - - 0 1 -", 1),
+        ("k7/8/8/8/8/8/8/K7\tw - - 0 1", 1),
+        (" \r", 1),
+        ("k7/8/8/8/8/8/8/K7 w - - 0 1\r", 0),
+        ("k7/8/8/8/8/8/8/K7 w - -\r", 0),
+        ("k7/8/8/8/8/8/8/K7 w - - 0 1\r\r", 6),
+        ("k7/8/8/8/8/8/8/K7 w - - 0 1\r ", 6),
+        ("k7/8/8/8/8/8/8/K7 w - - 0 1\n", 6),
+    ] {
+        assert_eq!(rt; number_of(text), number, "{text}");
+    }
+}
+
+#[test]
+fn placements(rt: HostRuntime) {
+    for (text, number) in [
+        ("k43/8/8/44/8/8/8/K7 w - -", 0),
+        ("1111k111/8/8/8/8/8/8/K7 w - -", 0),
+        ("k7/8/8/8/8/8/K7 w - -", 2),
+        ("k7/8/8/8/8/8/8/8/K7 w - -", 2),
+        ("k7/8/8/8/8/8/8/K7/ w - -", 2),
+        ("k7/8/8/8/8/8/8/K6 w - -", 2),
+        ("k7/8/8/8/8/8/8/K9 w - -", 2),
+        ("k7/8/8/8/8/8/8/K07 w - -", 2),
+        ("k7/8/8/8/8/8/8/X7 w - -", 2),
+        ("/k7/8/8/8/8/8/K7 w - -", 2),
+        // Five men, then two kings of one side, then men on every square.
+        ("kq6/8/8/8/8/8/8/KQR5 w - -", 7),
+        ("kk6/8/8/8/8/8/8/K7 w - -", 8),
+        (
+            "kkkkkkkk/kkkkkkkk/kkkkkkkk/kkkkkkkk/kkkkkkkk/kkkkkkkk/kkkkkkkk/kkkkkkkk w - -",
+            7,
+        ),
+        // What is wrong further right is not told.
+        ("kq6/8/8/8/8/8/8/KQR5 x KQkq e4 x", 1),
+        ("kq6/8/8/8/8/8/8/KQR6 x KQkq e4 x 1", 2),
+        ("kq6/8/8/8/8/8/8/KQR5 x KQkq e4 x 1", 3),
+        ("kq6/8/8/8/8/8/8/KQR5 w KQkq e4 x 1", 4),
+        ("kq6/8/8/8/8/8/8/KQR5 w - e4 x 1", 5),
+        ("kq6/8/8/8/8/8/8/KQR5 w - e3 x 1", 6),
+        ("kq6/8/8/8/8/8/8/KQR5 w - e3 0 1", 7),
+        ("kk6/8/8/8/8/8/8/K7 w - e6 0 1", 8),
+        ("k7/8/8/8/8/8/8/R6K w - e6 0 1", 10),
+    ] {
+        assert_eq!(rt; number_of(text), number, "{text}");
+    }
+}
+
+#[test]
+fn targets_and_clocks(rt: HostRuntime) {
+    for (text, number) in [
+        // A target that no pawn has passed: the squares are read, and the position is refused.
+        ("k7/8/8/8/8/8/8/K7 w - e6 0 1", 10),
+        ("k7/8/8/8/8/8/8/K7 b - h3 0 1", 10),
+        ("k7/8/8/8/8/8/8/K7 b - a3 0 1", 10),
+        ("k7/8/8/8/8/8/8/K7 w - i3 0 1", 5),
+        ("k7/8/8/8/8/8/8/K7 w - E3 0 1", 5),
+        ("k7/8/8/8/8/8/8/K7 w - e 0 1", 5),
+        ("k7/8/8/8/8/8/8/K7 w - e33 0 1", 5),
+        ("k7/8/8/8/8/8/8/K7 w - -- 0 1", 5),
+        ("k7/8/8/8/8/8/8/K7 w -- - 0 1", 4),
+        ("k7/8/8/8/8/8/8/K7 ww - - 0 1", 3),
+        ("k7/8/8/8/8/8/8/K7 W - - 0 1", 3),
+        ("k7/8/8/8/8/8/8/K7 w - - 999999999 000000001", 0),
+        ("k7/8/8/8/8/8/8/K7 w - - 1000000000 1", 6),
+        ("k7/8/8/8/8/8/8/K7 w - - 0 0000000001", 6),
+        ("k7/8/8/8/8/8/8/K7 w - - -1 1", 6),
+        ("k7/8/8/8/8/8/8/K7 w - - +1 1", 6),
+        ("k7/8/8/8/8/8/8/K7 w - - 0 1.", 6),
+    ] {
+        assert_eq!(rt; number_of(text), number, "{text}");
+    }
+}
+
+#[test]
+fn reads_what_is_spelled(rt: HostRuntime) -> Result<(), Fail> {
+    let Fen {
+        position,
+        halfmove,
+        fullmove,
+    } = read(b"1q6/8/8/44/8/4K3/8/4k2N b - - 007 42")?;
+    assert_eq!(rt; (halfmove, fullmove), (7, 42));
+    assert_eq!(rt; position.side(), Side::Black);
+    assert_eq!(rt; position.target(), None);
+    let men = [
+        (4, Side::Black, Kind::K),
+        (7, Side::White, Kind::N),
+        (20, Side::White, Kind::K),
+        (57, Side::Black, Kind::Q),
+    ];
+    assert_eq!(rt; position.men().len(), men.len());
+    for (number, side, kind) in men {
+        let square = Square::new(number).ok_or("a square")?;
+        assert_eq!(rt; position.at(square), Some(Man { side, kind }));
+    }
+    Ok(())
+}
+
+#[test]
+fn four_fields_have_clocks_of_their_own(rt: HostRuntime) -> Result<(), Fail> {
+    let fen = read(b"8/8/8/44/8/4K3/8/4k3 w - -")?;
+    assert_eq!(rt; (fen.halfmove, fen.fullmove), (0, 1));
+    assert_eq!(rt; fen.position.side(), Side::White);
+    Ok(())
+}
+
+#[test]
+fn names_of_faults(rt: HostRuntime) {
+    for (fault, number, name) in [
+        (FenFault::FieldCount, 1, "FieldCount"),
+        (FenFault::Placement, 2, "Placement"),
+        (FenFault::Colour, 3, "Colour"),
+        (FenFault::Castling, 4, "Castling"),
+        (FenFault::EpField, 5, "EpField"),
+        (FenFault::Counter, 6, "Counter"),
+        (FenFault::MenCount, 7, "MenCount"),
+        (FenFault::KingCount, 8, "KingCount"),
+        (FenFault::PawnRank, 9, "PawnRank"),
+        (FenFault::EpMismatch, 10, "EpMismatch"),
+        (FenFault::WaitingInCheck, 11, "WaitingInCheck"),
+    ] {
+        assert_eq!(rt; fault.number(), number);
+        assert_eq!(rt; fault.name(), name);
+    }
+}
