@@ -35,6 +35,6 @@ size_of-some set k k_in has = within 64 k_in
     within : (n : ℕ) → k < n → 1 ≤ total (bit_at set.bits) n
     within zero lt = absurd (omega arith)
     within (suc n) lt = elim (cases_eq k n) [
-        | inl e ↦ let here : bit_at set.bits n ≡ 1 = ap (bit_at set.bits) (sym e) ∙ has in omega arith
-        | inr other ↦ let rest : 1 ≤ total (bit_at set.bits) n = within n (omega arith) in omega arith
-      ]
+      | inl e ↦ let here : bit_at set.bits n ≡ 1 = ap (bit_at set.bits) (sym e) ∙ has in omega arith
+      | inr other ↦ let rest : 1 ≤ total (bit_at set.bits) n = within n (omega arith) in omega arith
+    ]

@@ -22,3 +22,6 @@ pub use position::{Position, attacked};
 pub use square::Square;
 pub use square_set::SquareSet;
 pub use step::{Step, Way};
+
+#[cfg(test)]
+mod tests;

@@ -30,16 +30,16 @@ after_other p man m t not_from not_to = get-insert_other (map.remove p.men m.fro
 -- a man that stands after the move is the one that moved or stood there before
 pub after_cases : (p : Setup) (man : Man) (m : Move) (t : ℕ) (other : Man) → Stands (men_after p man m) t other → ((t ≡ m.to) × (other ≡ man)) ⊎ ((t ≢ m.from) × (t ≢ m.to) × Stands p.men t other)
 after_cases p man m t other stands = elim (cases_eq t m.to) [
-    | inl e ↦
+  | inl e ↦
       let both : Some other ≡ Some man = sym stands ∙ ap (map.get (men_after p man m)) e ∙ after_to p man m in
       let same : other ≡ man = cc in inl (e, same)
-    | inr not_to ↦ elim (cases_eq t m.from) [
-      | inl e ↦
+  | inr not_to ↦ elim (cases_eq t m.from) [
+    | inl e ↦
         let bad : Some other ≡ None = sym stands ∙ get-insert_other (map.remove p.men m.from) m.to man t not_to ∙ get-remove_same p.men m.from t e in
         absurd (cc)
-      | inr not_from ↦ inr (not_from, not_to, sym (after_other p man m t not_from not_to) ∙ stands)
-    ]
+    | inr not_from ↦ inr (not_from, not_to, sym (after_other p man m t not_from not_to) ∙ stands)
   ]
+]
 
 pub one_man : (men : Placement) (s : ℕ) (a b : Man) → Stands men s a → Stands men s b → a ≡ b
 one_man men s a b p q = let both : Some a ≡ Some b = sym p ∙ q in cc
@@ -51,7 +51,7 @@ king_moves p man m k stands king is_king = record {
   only = λ t there. elim (after_cases p man m t (king_of man.side) there) [
     | inl h ↦ h.0
     | inr h ↦ absurd (h.0 (king.only t h.2 ∙ sym (king.only m.from (stands ∙ ap Some man_is))))
-  ]
+  ];
 }
   where
     man_is : man ≡ king_of man.side
@@ -64,11 +64,12 @@ king_stays p man m k stands mine not_own king not_king = record {
   only = λ t there. elim (after_cases p man m t (king_of man.side) there) [
     | inl h ↦ absurd (not_king (ap (λ (x : Man). x.kind) (sym h.1)))
     | inr h ↦ king.only t h.2
-  ]
+  ];
 }
   where
     not_from : k ≢ m.from
     not_from e = not_king (ap (λ (x : Man). x.kind) (one_man p.men m.from man (king_of man.side) stands (subst (λ s. Stands p.men s (king_of man.side)) e king.stands)))
+
     not_to : k ≢ m.to
     not_to e = not_own (record { man = king_of man.side; stands = subst (λ s. Stands p.men s (king_of man.side)) e king.stands; theirs = mine })
 
@@ -88,15 +89,17 @@ other_king_stays p man m k stands mine goes ok king = record {
   only = λ t there. elim (after_cases p man m t (king_of (other_side p.side)) there) [
     | inl h ↦ absurd (sides_differ p.side (sym mine ∙ ap (λ (x : Man). x.side) (sym h.1)))
     | inr h ↦ king.only t h.2
-  ]
+  ];
 }
   where
     not_from : k ≢ m.from
     not_from e = sides_differ p.side (sym mine ∙ ap (λ (x : Man). x.side) (one_man p.men m.from man (king_of (other_side p.side)) stands (subst (λ s. Stands p.men s (king_of (other_side p.side))) e king.stands)))
+
     not_to : k ≢ m.to
     not_to e = ok.quiet (record {
-      square = k; stands = king.stands;
-      attacked = record { from = m.from; man = man; stands = stands; theirs = mine ∙ sym (side_twice p.side); reaches = subst (Reaches (IsFree p.men) man.kind m.from) (sym e) goes.reaches }
+      square = k;
+      stands = king.stands;
+      attacked = record { from = m.from; man = man; stands = stands; theirs = mine ∙ sym (side_twice p.side); reaches = subst (Reaches (IsFree p.men) man.kind m.from) (sym e) goes.reaches };
     })
 
 pub len_after : (p : Setup) (man : Man) (m : Move) → Stands p.men m.from man → map.len p.men ≤ 4 → map.len (men_after p man m) ≤ 4
@@ -125,8 +128,10 @@ kings_after p man m stands mine goes ok = by_side p.side refl
   where
     own : (k : ℕ) (side : Side) → p.side ≡ side → IsKingOn p.men side k → (s : ℕ) × IsKingOn (men_after p man m) side s
     own k side e king = subst (λ x. IsKingOn p.men x k → (s : ℕ) × IsKingOn (men_after p man m) x s) e (own_king_after p man m k stands mine goes) king
+
     theirs : (k : ℕ) (side : Side) → other_side p.side ≡ side → IsKingOn p.men side k → IsKingOn (men_after p man m) side k
     theirs k side e king = subst (λ x. IsKingOn p.men x k → IsKingOn (men_after p man m) x k) e (other_king_stays p man m k stands mine goes ok) king
+
     by_side : (side : Side) → p.side ≡ side → HasKings (men_after p man m)
     by_side White e =
         let mine_there = own ok.kings.white White e ok.kings.white_there in
@@ -145,7 +150,7 @@ admissible_after p man m stands mine goes ok safe = record {
   ];
   kings = kings_after p man m stands mine goes ok;
   target = refl;
-  quiet = λ check. safe (subst (IsInCheck (men_after p man m)) (side_twice p.side) check)
+  quiet = λ check. safe (subst (IsInCheck (men_after p man m)) (side_twice p.side) check);
 }
 
 pub none_of : {A : Type 0} (o : Option A) → is_some o ≡ false → o ≡ None

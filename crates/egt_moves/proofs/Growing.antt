@@ -52,7 +52,7 @@ Lists-none p man from old left stands ordered before goes few = record {
   legal = λ m. (λ there. inl there, λ h. elim h [ inl there ↦ there | inr w ↦ absurd (not_left m w) ]);
   later = λ m there. inl (before m there);
   goes = λ t has. (goes t).0 has;
-  room = omega arith
+  room = omega arith;
 }
   where
     not_left : (m : Move) → (m.from ≡ from) × IsLegal p m × (bit_at left.bits m.to ≡ 0) → ⊥
@@ -70,27 +70,31 @@ pub record Added (p : Setup) (man : Man) (from s : ℕ) (old new : List Move) : 
 pub Added-push : (p : Setup) (man : Man) (from s : ℕ) (old : List Move) → Stands p.men from man → man.side ≡ p.side → Goes p man (plain from s) → ¬ IsInCheck (men_after p man (plain from s)) p.side
     → Added p man from s old (old ++ plain from s ∷ [])
 Added-push p man from s old stands mine goes safe = record {
-  more = λ m.
-    (λ there. elim (Contains-push_cases old (plain from s) m there) [
-       | inl h ↦ inl h
-       | inr e ↦ inr (sym e, subst (IsLegal p) e (legal_of p man (plain from s) stands mine goes safe))
-     ],
-     λ h. elim h [
-       | inl there ↦ Contains-append_left old (plain from s ∷ []) m there
-       | inr w ↦ subst (Contains (old ++ plain from s ∷ [])) (sym w.0) (Contains-push old (plain from s))
-     ]);
+  more = λ m. (
+    λ there. elim (Contains-push_cases old (plain from s) m there) [
+      | inl h ↦ inl h
+      | inr e ↦ inr (sym e, subst (IsLegal p) e (legal_of p man (plain from s) stands mine goes safe))
+    ],
+    λ h. elim h [
+      | inl there ↦ Contains-append_left old (plain from s ∷ []) m there
+      | inr w ↦ subst (Contains (old ++ plain from s ∷ [])) (sym w.0) (Contains-push old (plain from s))
+    ],
+  );
   ordered = λ before ordered. IsInOrder-push old (plain from s) ordered before;
-  few = let n = length-append old (plain from s ∷ []) in omega arith
+  few = let n = length-append old (plain from s ∷ []) in omega arith;
 }
 
 pub Added-none : (p : Setup) (man : Man) (from s : ℕ) (old : List Move) → Stands p.men from man → ¬ ¬ IsInCheck (men_after p man (plain from s)) p.side → Added p man from s old old
 Added-none p man from s old stands unsafe = record {
-  more = λ m. (λ there. inl there, λ h. elim h [
+  more = λ m. (
+    λ there. inl there,
+    λ h. elim h [
       | inl there ↦ there
       | inr w ↦ absurd (unsafe (safe_of p man (plain from s) stands (subst (IsLegal p) w.0 w.1)))
-    ]);
+    ],
+  );
   ordered = λ before ordered. ordered;
-  few = omega arith
+  few = omega arith;
 }
 
 -- one square less is left
@@ -99,53 +103,58 @@ pub Lists-more : (p : Setup) (man : Man) (from s : ℕ) (old now new : List Move
     → Added p man from s now new → Lists p man from old now left → Lists p man from old new left'
 Lists-more p man from s old now new left left' stands s_in has least gone others size added lists = record {
   ordered = added.ordered (λ m there. elim (lists.later m there) [
-      | inl lt ↦ omega arith
-      | inr h ↦ first_by_to m h.0 h.1 (h.2 s has)
-    ]) lists.ordered;
+    | inl lt ↦ omega arith
+    | inr h ↦ first_by_to m h.0 h.1 (h.2 s has)
+  ]) lists.ordered;
   legal = λ m. (there m, back m);
   later = λ m there. elim ((added.more m).0 there) [
     | inl before ↦ elim (lists.later m before) [ inl lt ↦ inl lt | inr h ↦ inr (h.0, h.1, λ t one. h.2 t (was_left t one)) ]
     | inr w ↦ inr (ap (λ (x : Move). x.from) w.0, ap (λ (x : Move). x.promo) w.0, λ t one. subst (λ x. x < t) (sym (ap (λ (x : Move). x.to) w.0)) (above t one))
   ];
   goes = λ t one. lists.goes t (was_left t one);
-  room = let a = added.few in let b = lists.room in omega arith
+  room = let a = added.few in let b = lists.room in omega arith;
 }
   where
     was_left : (t : ℕ) → bit_at left'.bits t ≡ 1 → bit_at left.bits t ≡ 1
     was_left t one = elim (cases_eq t s) [ inl e ↦ absurd (not_both (bit_at left'.bits s) gone (ap (bit_at left'.bits) (sym e) ∙ one)) | inr other ↦ sym (others t other) ∙ one ]
+
     above : (t : ℕ) → bit_at left'.bits t ≡ 1 → s < t
     above t one = elim (cases_lt s t) [
-        | inl lt ↦ lt
-        | inr le ↦ elim (cases_eq t s) [
-          | inl e ↦ absurd (not_both (bit_at left'.bits s) gone (ap (bit_at left'.bits) (sym e) ∙ one))
-          | inr other ↦ absurd (not_both (bit_at left.bits t) (least t (omega arith)) (was_left t one))
-        ]
+      | inl lt ↦ lt
+      | inr le ↦ elim (cases_eq t s) [
+        | inl e ↦ absurd (not_both (bit_at left'.bits s) gone (ap (bit_at left'.bits) (sym e) ∙ one))
+        | inr other ↦ absurd (not_both (bit_at left.bits t) (least t (omega arith)) (was_left t one))
       ]
+    ]
+
     first_by_to : (m : Move) → m.from ≡ from → m.promo ≡ None → m.to < s → place_of m < place_of (plain from s)
     first_by_to m e f lt = let none : promotion_place m.promo ≡ 0 = ap promotion_place f in omega arith
+
     there : (m : Move) → Contains new m → Contains old m ⊎ ((m.from ≡ from) × IsLegal p m × (bit_at left'.bits m.to ≡ 0))
     there m h = elim ((added.more m).0 h) [
-        | inl before ↦ elim ((lists.legal m).0 before) [
-          | inl o ↦ inl o
-          | inr w ↦ inr (w.0, w.1, still m.to w.2)
-        ]
-        | inr w ↦ inr (ap (λ (x : Move). x.from) w.0, w.1, ap (bit_at left'.bits) (ap (λ (x : Move). x.to) w.0) ∙ gone)
+      | inl before ↦ elim ((lists.legal m).0 before) [
+        | inl o ↦ inl o
+        | inr w ↦ inr (w.0, w.1, still m.to w.2)
       ]
+      | inr w ↦ inr (ap (λ (x : Move). x.from) w.0, w.1, ap (bit_at left'.bits) (ap (λ (x : Move). x.to) w.0) ∙ gone)
+    ]
       where
         still : (t : ℕ) → bit_at left.bits t ≡ 0 → bit_at left'.bits t ≡ 0
         still t none = elim (cases_eq t s) [ inl e ↦ ap (bit_at left'.bits) e ∙ gone | inr other ↦ others t other ∙ none ]
+
     back : (m : Move) → Contains old m ⊎ ((m.from ≡ from) × IsLegal p m × (bit_at left'.bits m.to ≡ 0)) → Contains new m
     back m h = elim h [
-        | inl o ↦ (added.more m).1 (inl ((lists.legal m).1 (inl o)))
-        | inr w ↦ elim (cases_eq m.to s) [
-          | inl e ↦ (added.more m).1 (inr (plain-is m from s w.0 e (goes_of p man m (subst (λ x. Stands p.men x man) (sym w.0) stands) w.1).keeps_kind, w.1))
-          | inr other ↦ (added.more m).1 (inl ((lists.legal m).1 (inr (w.0, w.1, sym (others m.to other) ∙ w.2))))
-        ]
+      | inl o ↦ (added.more m).1 (inl ((lists.legal m).1 (inl o)))
+      | inr w ↦ elim (cases_eq m.to s) [
+        | inl e ↦ (added.more m).1 (inr (plain-is m from s w.0 e (goes_of p man m (subst (λ x. Stands p.men x man) (sym w.0) stands) w.1).keeps_kind, w.1))
+        | inr other ↦ (added.more m).1 (inl ((lists.legal m).1 (inr (w.0, w.1, sym (others m.to other) ∙ w.2))))
       ]
+    ]
 
 -- no square is left
 pub Lists-all : (p : Setup) (man : Man) (from : ℕ) (old new : List Move) (left : SquareSet) → Lists p man from old new left → ((t : ℕ) → bit_at left.bits t ≡ 0)
     → (m : Move) → Contains new m ↔ (Contains old m ⊎ ((m.from ≡ from) × IsLegal p m))
-Lists-all p man from old new left lists none m =
-    (λ there. elim ((lists.legal m).0 there) [ inl o ↦ inl o | inr w ↦ inr (w.0, w.1) ],
-     λ h. (lists.legal m).1 (elim h [ inl o ↦ inl o | inr w ↦ inr (w.0, w.1, none m.to) ]))
+Lists-all p man from old new left lists none m = (
+  λ there. elim ((lists.legal m).0 there) [ inl o ↦ inl o | inr w ↦ inr (w.0, w.1) ],
+  λ h. (lists.legal m).1 (elim h [ inl o ↦ inl o | inr w ↦ inr (w.0, w.1, none m.to) ]),
+)

@@ -17,10 +17,10 @@ pub IsInOrder-push : (ms : List Move) (n : Move) → IsInOrder ms → ((m : Move
 IsInOrder-push [] n ordered before = ((λ m none. let k = none.1 in absurd (omega arith)), tt)
 IsInOrder-push (x ∷ ms) n ordered before = (
   (λ m there. elim (Contains-push_cases ms n m there) [
-     | inl old ↦ ordered.0 m old
-     | inr e ↦ subst (λ y. place_of x < place_of y) e (before x (Contains-head x ms))
-   ]),
-  IsInOrder-push ms n ordered.1 (λ m there. before m (Contains-tail x m ms there))
+    | inl old ↦ ordered.0 m old
+    | inr e ↦ subst (λ y. place_of x < place_of y) e (before x (Contains-head x ms))
+  ]),
+  IsInOrder-push ms n ordered.1 (λ m there. before m (Contains-tail x m ms there)),
 )
 
 -- a list that is not empty has a move

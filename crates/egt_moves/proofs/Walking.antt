@@ -47,14 +47,15 @@ not_both n none one = absurd (omega arith)
 pub Walks-none : (p : Setup) (rest : SquareSet) → ((t : ℕ) → Has rest t ↔ IsHeld p.men t p.side) → size_of rest ≤ 3 → Walks p [] rest
 Walks-none p rest held few = record {
   ordered = tt;
-  legal = λ m.
-    (λ none. let lt = none.1 in absurd (omega arith),
-     λ w. not_both (bit_at rest.bits m.from) w.1 ((held m.from).1 (mover_held p m w.0)));
+  legal = λ m. (
+    λ none. let lt = none.1 in absurd (omega arith),
+    λ w. not_both (bit_at rest.bits m.from) w.1 ((held m.from).1 (mover_held p m w.0)),
+  );
   later = λ m none. let lt = none.1 in absurd (omega arith);
   held = λ t has. (held t).0 has;
   room = λ k king.
-    let one : bit_at rest.bits k ≡ 1 = (held k).1 (record { man = king_of p.side; stands = king.stands; theirs = refl }) in
-    rw one (omega arith)
+      let one : bit_at rest.bits k ≡ 1 = (held k).1 (record { man = king_of p.side; stands = king.stands; theirs = refl }) in
+      rw one (omega arith);
 }
 
 few_moves : (kind : Kind) → most_reached kind ≤ 28
@@ -67,28 +68,27 @@ few_moves K = omega arith
 king_moves_few : (p : Setup) (man : Man) (k : ℕ) → Stands p.men k man → IsKingOn p.men p.side k → most_reached man.kind ≡ 8
 king_moves_few p man k stands king = ap (λ (x : Man). most_reached x.kind) (one_man p.men k man (king_of p.side) stands king.stands)
 
-
 room_for : (p : Setup) (moves : List Move) (rest rest' : SquareSet) (s : ℕ) (man : Man) (k : ℕ) → IsAdmissible p → Has rest s → bit_at rest'.bits s ≡ 0 → ((t : ℕ) → t ≢ s → bit_at rest'.bits t ≡ bit_at rest.bits t)
     → size_of rest' + 1 ≡ size_of rest → Stands p.men s man → IsKingOn p.men p.side k → length moves + 28 * size_of rest ≤ 64 + 20 * bit_at rest.bits k
     → ((length moves + most_reached man.kind) + 28 * size_of rest' ≤ 64 + 20 * bit_at rest'.bits k) × (length moves + most_reached man.kind ≤ 64)
 room_for p moves rest rest' s man k ok has gone others size stands king room = elim (cases_eq s k) [
-    | inl e ↦
+  | inl e ↦
       let eight : most_reached man.kind ≡ 8 = king_moves_few p man k (subst (λ x. Stands p.men x man) e stands) king in
       let one : bit_at rest.bits k ≡ 1 = ap (bit_at rest.bits) (sym e) ∙ has in
       let none : bit_at rest'.bits k ≡ 0 = ap (bit_at rest'.bits) (sym e) ∙ gone in
       (omega arith, omega arith)
-    | inr other ↦
+  | inr other ↦
       let few : most_reached man.kind ≤ 28 = few_moves man.kind in
       let same : bit_at rest'.bits k ≡ bit_at rest.bits k = others k (λ e. other (sym e)) in
       elim (cases_eq (bit_at rest.bits k) 1) [
         | inl one ↦
-          let some : 1 ≤ size_of rest' = size_of-some rest' k (ok.on_board k _ king.stands) (same ∙ one) in
-          (omega arith, omega arith)
+            let some : 1 ≤ size_of rest' = size_of-some rest' k (ok.on_board k _ king.stands) (same ∙ one) in
+            (omega arith, omega arith)
         | inr not_one ↦
-          let small : bit_at rest.bits k < 2 = bit_at-lt rest.bits k in
-          (omega arith, omega arith)
+            let small : bit_at rest.bits k < 2 = bit_at-lt rest.bits k in
+            (omega arith, omega arith)
       ]
-  ]
+]
 
 pub Walks-room : (p : Setup) (moves : List Move) (rest rest' : SquareSet) (s : ℕ) (man : Man) → IsAdmissible p → Has rest s → bit_at rest'.bits s ≡ 0 → ((t : ℕ) → t ≢ s → bit_at rest'.bits t ≡ bit_at rest.bits t)
     → size_of rest' + 1 ≡ size_of rest → Stands p.men s man → Walks p moves rest → length moves + most_reached man.kind ≤ 64
@@ -113,36 +113,39 @@ pub Walks-more : (p : Setup) (moves moves' : List Move) (rest rest' : SquareSet)
     → Walks p moves rest → Walks p moves' rest'
 Walks-more p moves moves' rest rest' s man ok has least gone others size stands ordered legal few walks = record {
   ordered = ordered;
-  legal = λ m.
-    (λ there. elim ((legal m).0 there) [
-       | inl before ↦ let w = (walks.legal m).0 before in (w.0, still m.from w.1)
-       | inr w ↦ (w.1, ap (bit_at rest'.bits) w.0 ∙ gone)
-     ],
-     λ w. (legal m).1 (elim (cases_eq m.from s) [
-       | inl e ↦ inr (e, w.0)
-       | inr other ↦ inl ((walks.legal m).1 (w.0, sym (others m.from other) ∙ w.1))
-     ]));
+  legal = λ m. (
+    λ there. elim ((legal m).0 there) [
+      | inl before ↦ let w = (walks.legal m).0 before in (w.0, still m.from w.1)
+      | inr w ↦ (w.1, ap (bit_at rest'.bits) w.0 ∙ gone)
+    ],
+    λ w. (legal m).1 (elim (cases_eq m.from s) [
+      | inl e ↦ inr (e, w.0)
+      | inr other ↦ inl ((walks.legal m).1 (w.0, sym (others m.from other) ∙ w.1))
+    ]),
+  );
   later = λ m there t left. elim ((legal m).0 there) [
     | inl before ↦ walks.later m before t (was_left t left)
     | inr w ↦ subst (λ x. x < t) (sym w.0) (above t left)
   ];
   held = λ t left. walks.held t (was_left t left);
   room = λ k king.
-    let all = (room_for p moves rest rest' s man k ok has gone others size stands king (walks.room k king)).0 in omega arith
+      let all = (room_for p moves rest rest' s man k ok has gone others size stands king (walks.room k king)).0 in omega arith;
 }
   where
     still : (t : ℕ) → bit_at rest.bits t ≡ 0 → bit_at rest'.bits t ≡ 0
     still t none = elim (cases_eq t s) [ inl e ↦ ap (bit_at rest'.bits) e ∙ gone | inr other ↦ others t other ∙ none ]
+
     was_left : (t : ℕ) → Has rest' t → Has rest t
     was_left t one = elim (cases_eq t s) [ inl e ↦ not_both (bit_at rest'.bits s) gone (ap (bit_at rest'.bits) (sym e) ∙ one) | inr other ↦ sym (others t other) ∙ one ]
+
     above : (t : ℕ) → Has rest' t → s < t
     above t one = elim (cases_lt s t) [
-        | inl lt ↦ lt
-        | inr le ↦ elim (cases_eq t s) [
-          | inl e ↦ not_both (bit_at rest'.bits s) gone (ap (bit_at rest'.bits) (sym e) ∙ one)
-          | inr other ↦ not_both (bit_at rest.bits t) (least t (omega arith)) (was_left t one)
-        ]
+      | inl lt ↦ lt
+      | inr le ↦ elim (cases_eq t s) [
+        | inl e ↦ not_both (bit_at rest'.bits s) gone (ap (bit_at rest'.bits) (sym e) ∙ one)
+        | inr other ↦ not_both (bit_at rest.bits t) (least t (omega arith)) (was_left t one)
       ]
+    ]
 
 -- no man is left
 pub Walks-all : (p : Setup) (moves : List Move) (rest : SquareSet) → Walks p moves rest → ((t : ℕ) → bit_at rest.bits t ≡ 0) → (m : Move) → Contains moves m ↔ IsLegal p m

@@ -4,8 +4,8 @@
 pub mod chess_move;
 pub mod going;
 pub mod listing;
-pub mod playing;
 pub mod outcome;
+pub mod playing;
 pub mod standings;
 pub mod text;
 
@@ -14,3 +14,6 @@ pub use listing::legal_moves;
 pub use outcome::Standing;
 pub use playing::play;
 pub use standings::standing;
+
+#[cfg(test)]
+mod tests;

@@ -9,3 +9,5 @@ pub use fault::MovesFault;
 pub use moves::moves_text;
 pub use program::run;
 
+#[cfg(test)]
+mod tests;

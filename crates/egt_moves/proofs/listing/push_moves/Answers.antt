@@ -12,16 +12,16 @@ pub loop-to-preserved-then-is_safe : goal.loop-to-preserved-then-is_safe
 loop-to-preserved-then-is_safe c =
     let goes = c.loop-to.invariant.goes c.in-Some.to c.in-Some.ensures.had in
     rw c.push.ensures.items (Lists-more c.args.position.now c.args.man c.args.from c.in-Some.to c.args.moves.now.items c.loop-to.moves.items _ c.loop-to.left c.pop_first.new.self
-      c.requires.stands (omega arith) c.in-Some.ensures.had c.in-Some.ensures.least c.in-Some.ensures.gone c.in-Some.ensures.others c.in-Some.ensures.size
-      (Added-push c.args.position.now c.args.man c.args.from c.in-Some.to c.loop-to.moves.items c.requires.stands c.requires.mine goes (c.is_safe.ensures.0 c.if-is_safe.true))
-      c.loop-to.invariant)
+    c.requires.stands (omega arith) c.in-Some.ensures.had c.in-Some.ensures.least c.in-Some.ensures.gone c.in-Some.ensures.others c.in-Some.ensures.size
+    (Added-push c.args.position.now c.args.man c.args.from c.in-Some.to c.loop-to.moves.items c.requires.stands c.requires.mine goes (c.is_safe.ensures.0 c.if-is_safe.true))
+    c.loop-to.invariant)
 
 pub loop-to-preserved : goal.loop-to-preserved
 loop-to-preserved c =
     Lists-more c.args.position.now c.args.man c.args.from c.in-Some.to c.args.moves.now.items c.loop-to.moves.items _ c.loop-to.left c.pop_first.new.self
-      c.requires.stands (omega arith) c.in-Some.ensures.had c.in-Some.ensures.least c.in-Some.ensures.gone c.in-Some.ensures.others c.in-Some.ensures.size
-      (Added-none c.args.position.now c.args.man c.args.from c.in-Some.to c.loop-to.moves.items c.requires.stands (λ safe. false≢true (sym c.if-is_safe.false ∙ c.is_safe.ensures.1 safe)))
-      c.loop-to.invariant
+    c.requires.stands (omega arith) c.in-Some.ensures.had c.in-Some.ensures.least c.in-Some.ensures.gone c.in-Some.ensures.others c.in-Some.ensures.size
+    (Added-none c.args.position.now c.args.man c.args.from c.in-Some.to c.loop-to.moves.items c.requires.stands (λ safe. false≢true (sym c.if-is_safe.false ∙ c.is_safe.ensures.1 safe)))
+    c.loop-to.invariant
 
 pub returns-clause-legal : goal.returns-clause-legal
 returns-clause-legal c = Lists-all c.args.position.now c.args.man c.args.from c.args.moves.now.items c.loop-to.moves.items c.loop-to.left c.loop-to.invariant c.in_default.ensures.empty

@@ -29,10 +29,12 @@ returns-clause-leads c =
     let goes : Goes p man m = search rules in
     let safe : ¬ IsInCheck (men_after p man m) p.side = search rules in
     let becomes : c.admitted.result ≡ after p man m =
-      c.admitted.ensures ∙ (λ i. record { men = c.moved-board.ensures i; side = (c.other.ensures ∙ ap other_side mine) i; target = None }) in
+    c.admitted.ensures ∙ (λ i. record { men = c.moved-board.ensures i; side = (c.other.ensures ∙ ap other_side mine) i; target = None }) in
     record {
-      man = man; stands = stands; mine = mine;
+      man = man;
+      stands = stands;
+      mine = mine;
       goes = record { reaches = goes.reaches; not_own = goes.not_own; keeps_kind = none_of c.args.chess_move.promo (sym c.is_some.ensures ∙ c.if-is_some.false) };
       becomes = becomes;
-      safe = subst (λ (q : Setup). ¬ IsInCheck q.men p.side) (sym becomes) safe
+      safe = subst (λ (q : Setup). ¬ IsInCheck q.men p.side) (sym becomes) safe;
     }

@@ -12,11 +12,11 @@ returns-then-not-is_empty c =
 pub returns-then-is_in_check : goal.returns-then-is_in_check
 returns-then-is_in_check c = record {
   stuck = λ m legal. no_move c.legal_moves.result.items (sym c.is_empty.ensures ∙ c.if-not-is_empty.false) m ((c.legal_moves.ensures.legal m).1 legal);
-  check = rw (← c.board.ensures, ← c.side-side.ensures.side) (c.is_in_check.ensures.0 c.if-is_in_check.true)
+  check = rw (← c.board.ensures, ← c.side-side.ensures.side) (c.is_in_check.ensures.0 c.if-is_in_check.true);
 }
 
 pub returns-else-is_in_check : goal.returns-else-is_in_check
 returns-else-is_in_check c = record {
   stuck = λ m legal. no_move c.legal_moves.result.items (sym c.is_empty.ensures ∙ c.if-not-is_empty.false) m ((c.legal_moves.ensures.legal m).1 legal);
-  quiet = λ check. false≢true (sym c.if-is_in_check.false ∙ c.is_in_check.ensures.1 (rw (c.board.ensures, c.side-side.ensures.side) check))
+  quiet = λ check. false≢true (sym c.if-is_in_check.false ∙ c.is_in_check.ensures.1 (rw (c.board.ensures, c.side-side.ensures.side) check));
 }

@@ -8,5 +8,5 @@ returns-in-Ok-lines-clause-moves c = record {
   moves = c.legal_moves-moves.result.items;
   spells = c.in-Ok.ensures.spells;
   all = record { legal = c.legal_moves-moves.ensures.legal; ordered = c.legal_moves-moves.ensures.ordered };
-  lines = c.in-Ok-lines.ensures ∙ ap lines_of c.as_slice.ensures.value
+  lines = c.in-Ok-lines.ensures ∙ ap lines_of c.as_slice.ensures.value;
 }
