@@ -1,5 +1,5 @@
 -- How many men a side has at most.
-use Rattle.std.proofs.Common.{◌≡◌, ◌≢◌, ℕ, zero, suc, ◌+◌, ◌<◌, ◌≤◌, ◌↔◌, List, [], ◌∷◌, length, Some, cond, eqb, arith, refl, sym, ap, ◌∙◌, inl, inr, subst, ◌⊎◌}
+use Rattle.std.proofs.Common.{Option, None, ◌≡◌, ◌≢◌, ℕ, zero, suc, ◌+◌, ◌<◌, ◌≤◌, ◌↔◌, List, [], ◌∷◌, length, Some, cond, eqb, arith, refl, sym, ap, ◌∙◌, inl, inr, subst, ◌⊎◌}
 use Rattle.std.specs.Int.{bit_at}
 use Rattle.std.specs.Option.{is_some}
 use Rattle.std.specs.FinMap as placement
@@ -102,3 +102,15 @@ pub few_of_side : (men : Placement) (side : Side) (set : SquareSet) (white black
     → ((t : ℕ) → (bit_at set.bits t ≡ 1) ↔ IsHeld men t side) → size_of set ≤ 3
 few_of_side men White set white black few white_in black_in w b held = own_few men White set black few black_in b held
 few_of_side men Black set white black few white_in black_in w b held = own_few men Black set white few white_in w held
+
+-- no more squares are occupied than there are men
+pub occupied_few : (men : Placement) (set : SquareSet) → ((t : ℕ) → (bit_at set.bits t ≡ 0) ↔ placement.get men t ≡ None) → size_of set ≤ placement.len men
+unfolding size_of
+occupied_few men set free =
+    let le : total (bit_at set.bits) 64 ≤ length (placement.entries men) =
+    covered (placement.entries men) (bit_at set.bits) 64 (λ t. let small = bit_at-lt set.bits t in omega arith) (λ t one. key t one (placement.get men t) refl) in
+    let size = placement.len-entries men in omega arith
+  where
+    key : (t : ℕ) → bit_at set.bits t ≡ 1 → (o : Option Man) → placement.get men t ≡ o → IsKey t (placement.entries men)
+    key t one None e = let none = (free t).1 e in absurd (omega arith)
+    key t one (Some man) e = ap is_some (sym (placement.get-entries men t) ∙ e)

@@ -9,4 +9,5 @@ pub mod Gait
 pub mod Attack
 pub mod Setup
 pub mod Listed
+pub mod Mirror
 pub mod Position

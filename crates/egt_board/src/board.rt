@@ -1,5 +1,5 @@
 //! A board with any men on it, and what they attack: FIDE Laws of Chess 2023, articles 3.1 to 3.9.
-ghost use Rattle.std.specs.Prelude.{◌≡◌, ℕ, ◌<◌, ◌↔◌, IsTrue};
+ghost use Rattle.std.specs.Prelude.{◌≡◌, ℕ, ◌<◌, ◌≤◌, ◌↔◌, IsTrue};
 ghost use Rattle.std.specs.FinMap as map;
 ghost use Rattle.std.specs.Int.{bit_at};
 ghost use Rattle.std.specs.List.{list_all};
@@ -39,7 +39,7 @@ impl Model for Board {
 }
 
 impl Board {
-    ghost use Rattle.egt_board.specs.SquareSet.{Has};
+    ghost use Rattle.egt_board.specs.SquareSet.{Has, size_of};
     ghost use Rattle.egt_board.specs.Placement.{IsHeld};
     ghost use Rattle.egt_board.specs.Placement.{IsFree, Stands};
 
@@ -101,6 +101,7 @@ impl Board {
     pub fn occupied(&self) -> SquareSet
         ensures free { (t : ℕ) → (bit_at result.bits t ≡ 0) ↔ IsFree self.now t }
         ensures on_board { (s : ℕ) (man : Man) → Stands self.now s man → s < 64 }
+        ensures few { size_of result ≤ map.len self.now }
     {
         self.white.union(self.black)
     }

@@ -38,6 +38,14 @@ impl Square {
         }
     }
 
+    /// The square of that number, which the caller knows to be one.
+    pub fn at(number: u8) -> Square
+        requires { number < 64 }
+        ensures { result ≡ number }
+    {
+        Square { number }
+    }
+
     /// The number, from 0 to 63.
     pub fn number(self) -> u8
         ensures value { result ≡ self }

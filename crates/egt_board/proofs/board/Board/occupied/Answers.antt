@@ -1,6 +1,7 @@
 use Rattle.std.proofs.Common.{ap, sym, ◌∙◌, arith, refl}
 use Rattle.std.specs.FinMap as map
 use Rattle.egt_board.proofs.Placed.{get-placed}
+use Rattle.egt_board.proofs.Counts.{occupied_few}
 use Rattle.egt_board.proofs.Held.{bit_of-free, placed-within}
 use Rattle.egt_board.proofs.board.Board.occupied.Goals as goal
 
@@ -13,3 +14,6 @@ pub returns-clause-on_board : goal.returns-clause-on_board
 returns-clause-on_board c = λ s man stands.
     let within = placed-within c.self.inside.squares s man (ap (λ m. map.get m s) c.self.view_is ∙ stands) in
     omega (arith, c.self.invariant.0)
+
+pub returns-clause-few : goal.returns-clause-few
+returns-clause-few c = occupied_few c.args.self.now c.union.result (returns-clause-free c)

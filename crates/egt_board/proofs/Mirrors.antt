@@ -1,0 +1,218 @@
+-- Mirrors keep what men reach.
+use Rattle.std.proofs.Common.{◌≡◌, ℕ, ◌+◌, ◌-◌, ◌*◌, ◌/◌, ◌%◌, ◌<◌, ◌≤◌, Bool, true, false, ◌&&◌, ◌||◌, eqb, List, [], ◌∷◌, ◌++◌, arith, refl, sym, ap, ◌∙◌, subst, inl, inr, ◌⊎◌}
+use Rattle.std.specs.List.{list_any, list_all}
+use Rattle.std.proofs.lemmas.Bool.{false≢true, eqb-true}
+use Rattle.egt_board.specs.declared.mirror.Mirror.{Mirror}
+use Rattle.egt_board.specs.declared.mirror.Mirror.TheVariants.{Files, Ranks, Diagonal, Colours}
+use Rattle.egt_board.specs.declared.man.Kind.{Kind}
+use Rattle.egt_board.specs.declared.man.Kind.TheVariants.{Q, R, B, N, K}
+use Rattle.egt_board.specs.declared.step.Way.{Way}
+use Rattle.egt_board.specs.declared.step.Way.TheVariants.{Up, Down, Still}
+use Rattle.egt_board.specs.declared.step.Step.{Step}
+use Rattle.egt_board.specs.Square.{file_of, rank_of}
+use Rattle.egt_board.specs.Coordinate.{Further}
+use Rattle.egt_board.specs.Step.{Away}
+use Rattle.egt_board.specs.Gait.{Rides, OneOf, Reaches, farthest, steps_of, straight_steps, diagonal_steps, knight_steps}
+use Rattle.egt_board.specs.Mirror.{square_by}
+
+pub square_by-within : (m : Mirror) (s : ℕ) → s < 64 → square_by m s < 64
+square_by-within Files s h = omega arith
+square_by-within Ranks s h = omega arith
+square_by-within Diagonal s h = omega arith
+square_by-within Colours s h = omega arith
+
+pub square_by-twice : (m : Mirror) (s : ℕ) → s < 64 → square_by m (square_by m s) ≡ s
+square_by-twice Files s h = omega arith
+square_by-twice Ranks s h = omega arith
+square_by-twice Diagonal s h = omega arith
+square_by-twice Colours s h = omega arith
+
+turned : Way → Way
+turned Up = Down
+turned Down = Up
+turned Still = Still
+
+turned-twice : (w : Way) → turned (turned w) ≡ w
+unfolding turned
+turned-twice Up = refl
+turned-twice Down = refl
+turned-twice Still = refl
+
+step_by : Mirror → Step → Step
+step_by Files d = record { files = turned d.files; wide = d.wide; ranks = d.ranks; high = d.high }
+step_by Ranks d = record { files = d.files; wide = d.wide; ranks = turned d.ranks; high = d.high }
+step_by Diagonal d = record { files = d.ranks; wide = d.high; ranks = d.files; high = d.wide }
+step_by Colours d = record { files = d.files; wide = d.wide; ranks = turned d.ranks; high = d.high }
+
+step_by-twice : (m : Mirror) (d : Step) → step_by m (step_by m d) ≡ d
+unfolding step_by
+step_by-twice Files d = λ i. record { files = turned-twice d.files i; wide = d.wide; ranks = d.ranks; high = d.high }
+step_by-twice Ranks d = λ i. record { files = d.files; wide = d.wide; ranks = turned-twice d.ranks i; high = d.high }
+step_by-twice Diagonal d = refl
+step_by-twice Colours d = λ i. record { files = d.files; wide = d.wide; ranks = turned-twice d.ranks i; high = d.high }
+
+-- a coordinate in a mirror goes the other way
+Further-turned : (w : Way) (n a b : ℕ) → a < 8 → b < 8 → Further w n a b → Further (turned w) n (7 - a) (7 - b)
+unfolding turned
+Further-turned Up n a b a_in b_in h = omega arith
+Further-turned Down n a b a_in b_in h = omega arith
+Further-turned Still n a b a_in b_in h = ap (λ x. 7 - x) h
+
+file_by_files : (s : ℕ) → s < 64 → file_of (8 * rank_of s + (7 - file_of s)) ≡ 7 - file_of s
+file_by_files s h = omega arith
+
+rank_by_files : (s : ℕ) → s < 64 → rank_of (8 * rank_of s + (7 - file_of s)) ≡ rank_of s
+rank_by_files s h = omega arith
+
+file_by_ranks : (s : ℕ) → s < 64 → file_of (8 * (7 - rank_of s) + file_of s) ≡ file_of s
+file_by_ranks s h = omega arith
+
+rank_by_ranks : (s : ℕ) → s < 64 → rank_of (8 * (7 - rank_of s) + file_of s) ≡ 7 - rank_of s
+rank_by_ranks s h = omega arith
+
+file_by_diagonal : (s : ℕ) → s < 64 → file_of (8 * file_of s + rank_of s) ≡ rank_of s
+file_by_diagonal s h = omega arith
+
+rank_by_diagonal : (s : ℕ) → s < 64 → rank_of (8 * file_of s + rank_of s) ≡ file_of s
+rank_by_diagonal s h = omega arith
+
+file_in : (s : ℕ) → file_of s < 8
+file_in s = omega arith
+
+rank_in : (s : ℕ) → s < 64 → rank_of s < 8
+rank_in s h = omega arith
+
+along_by : (w : Way) (n a b a' b' : ℕ) → a' ≡ a → b' ≡ b → Further w n a b → Further w n a' b'
+along_by w n a b a' b' e f h = subst (λ x. Further w n x b') (sym e) (subst (Further w n a) (sym f) h)
+
+Away-ranks : (d : Step) (n s t : ℕ) → s < 64 → Away d n s t → Away (step_by Ranks d) n (square_by Ranks s) (square_by Ranks t)
+unfolding step_by
+Away-ranks d n s t s_in away =
+    let t_in = away.on_board in
+    record {
+      on_board = square_by-within Ranks t t_in;
+      across = along_by d.files (n * d.wide) _ _ _ _ (file_by_ranks s s_in) (file_by_ranks t t_in) away.across;
+      along = along_by (turned d.ranks) (n * d.high) _ _ _ _ (rank_by_ranks s s_in) (rank_by_ranks t t_in) (Further-turned d.ranks (n * d.high) _ _ (rank_in s s_in) (rank_in t t_in) away.along);
+    }
+
+Away-by : (m : Mirror) (d : Step) (n s t : ℕ) → s < 64 → Away d n s t → Away (step_by m d) n (square_by m s) (square_by m t)
+unfolding step_by
+Away-by Files d n s t s_in away =
+    let t_in = away.on_board in
+    record {
+      on_board = square_by-within Files t t_in;
+      across = along_by (turned d.files) (n * d.wide) _ _ _ _ (file_by_files s s_in) (file_by_files t t_in) (Further-turned d.files (n * d.wide) _ _ (file_in s) (file_in t) away.across);
+      along = along_by d.ranks (n * d.high) _ _ _ _ (rank_by_files s s_in) (rank_by_files t t_in) away.along;
+    }
+Away-by Ranks d n s t s_in away = Away-ranks d n s t s_in away
+Away-by Diagonal d n s t s_in away =
+    let t_in = away.on_board in
+    record {
+      on_board = square_by-within Diagonal t t_in;
+      across = along_by d.ranks (n * d.high) _ _ _ _ (file_by_diagonal s s_in) (file_by_diagonal t t_in) away.along;
+      along = along_by d.files (n * d.wide) _ _ _ _ (rank_by_diagonal s s_in) (rank_by_diagonal t t_in) away.across;
+    }
+Away-by Colours d n s t s_in away = Away-ranks d n s t s_in away
+
+Rides-by : (m : Mirror) (F G : ℕ → Type 0) (most s t : ℕ) (d : Step) → s < 64 → ((u : ℕ) → u < 64 → F u → G (square_by m u)) → Rides F most s t d → Rides G most (square_by m s) (square_by m t) (step_by m d)
+Rides-by m F G most s t d s_in free r = record {
+  count = r.count;
+  moves = r.moves;
+  within = r.within;
+  away = Away-by m d r.count s t s_in r.away;
+  clear = λ k u some less away.
+      let u_in = away.on_board in
+      let back = Away-by m (step_by m d) k (square_by m s) u (square_by-within m s s_in) away in
+      let here : Away d k s (square_by m u) = subst (λ x. Away x k s (square_by m u)) (step_by-twice m d) (subst (λ x. Away (step_by m (step_by m d)) k x (square_by m u)) (square_by-twice m s s_in) back) in
+      subst G (square_by-twice m u u_in) (free (square_by m u) (square_by-within m u u_in) (r.clear k (square_by m u) some less here));
+}
+
+same_way : Way → Way → Bool
+same_way Up Up = true
+same_way Down Down = true
+same_way Still Still = true
+same_way _ _ = false
+
+same_step : Step → Step → Bool
+same_step d e = same_way d.files e.files && (eqb d.wide e.wide && (same_way d.ranks e.ranks && eqb d.high e.high))
+
+left_true : (a b : Bool) → (a && b) ≡ true → a ≡ true
+left_true true b e = refl
+left_true false b e = e
+
+right_true : (a b : Bool) → (a && b) ≡ true → b ≡ true
+right_true true b e = e
+right_true false b e = absurd (false≢true e)
+
+same_way-is : (v w : Way) → same_way v w ≡ true → v ≡ w
+unfolding same_way
+same_way-is Up Up e = refl
+same_way-is Down Down e = refl
+same_way-is Still Still e = refl
+same_way-is Up Down e = absurd (false≢true e)
+same_way-is Up Still e = absurd (false≢true e)
+same_way-is Down Up e = absurd (false≢true e)
+same_way-is Down Still e = absurd (false≢true e)
+same_way-is Still Up e = absurd (false≢true e)
+same_way-is Still Down e = absurd (false≢true e)
+
+same_step-is : (d e : Step) → same_step d e ≡ true → d ≡ e
+unfolding same_step
+same_step-is d e h =
+    let files = same_way-is d.files e.files (left_true _ _ h) in
+    let rest = right_true (same_way d.files e.files) _ h in
+    let wide = eqb-true d.wide e.wide (left_true _ _ rest) in
+    let more = right_true (eqb d.wide e.wide) _ rest in
+    let ranks = same_way-is d.ranks e.ranks (left_true _ _ more) in
+    let high = eqb-true d.high e.high (right_true (same_way d.ranks e.ranks) _ more) in
+    λ i. record { files = files i; wide = wide i; ranks = ranks i; high = high i }
+
+-- a step of the list, found by a test
+found_step : (P : Step → Type 0) (d : Step) (es : List Step) → list_any (same_step d) es ≡ true → P d → OneOf P es
+found_step P d [] none p = absurd (false≢true none)
+found_step P d (e ∷ es) some p = by_test (same_step d e) refl (λ h. found_step P d es h p) some
+  where
+    by_test : (b : Bool) → same_step d e ≡ b → (list_any (same_step d) es ≡ true → OneOf P es) → (b || list_any (same_step d) es) ≡ true → OneOf P (e ∷ es)
+    by_test true is later h = inl (subst P (same_step-is d e is) p)
+    by_test false is later h = inr (later h)
+
+-- what holds of one step holds of its mirrored step, which is in the other list
+OneOf-by : (m : Mirror) (P P' : Step → Type 0) (ds es : List Step) → list_all (λ d. list_any (same_step (step_by m d)) es) ds ≡ true → ((d : Step) → P d → P' (step_by m d)) → OneOf P ds → OneOf P' es
+OneOf-by m P P' [] es all h none = absurd none
+OneOf-by m P P' (d ∷ ds) es all h some = elim some [
+  | inl p ↦ found_step P' (step_by m d) es (left_true _ _ all) (h d p)
+  | inr rest ↦ OneOf-by m P P' ds es (right_true (list_any (same_step (step_by m d)) es) _ all) h rest
+]
+
+abbrev Keeps : Mirror → Kind → Type 0
+Keeps m kind = list_all (λ d. list_any (same_step (step_by m d)) (steps_of kind)) (steps_of kind) ≡ true
+
+-- the mirrored steps of a kind are its steps
+keeps_steps : (m : Mirror) (kind : Kind) → Keeps m kind
+unfolding same_step same_way step_by turned
+keeps_steps Files Q = refl
+keeps_steps Files R = refl
+keeps_steps Files B = refl
+keeps_steps Files N = refl
+keeps_steps Files K = refl
+keeps_steps Ranks Q = refl
+keeps_steps Ranks R = refl
+keeps_steps Ranks B = refl
+keeps_steps Ranks N = refl
+keeps_steps Ranks K = refl
+keeps_steps Diagonal Q = refl
+keeps_steps Diagonal R = refl
+keeps_steps Diagonal B = refl
+keeps_steps Diagonal N = refl
+keeps_steps Diagonal K = refl
+keeps_steps Colours Q = refl
+keeps_steps Colours R = refl
+keeps_steps Colours B = refl
+keeps_steps Colours N = refl
+keeps_steps Colours K = refl
+
+-- what a man reaches it reaches in the mirror
+pub Reaches-by : (m : Mirror) (F G : ℕ → Type 0) (kind : Kind) (s t : ℕ) → s < 64 → ((u : ℕ) → u < 64 → F u → G (square_by m u)) → Reaches F kind s t → Reaches G kind (square_by m s) (square_by m t)
+Reaches-by m F G kind s t s_in free r =
+    OneOf-by m (Rides F (farthest kind) s t) (Rides G (farthest kind) (square_by m s) (square_by m t)) (steps_of kind) (steps_of kind) (keeps_steps m kind)
+    (λ d ride. Rides-by m F G (farthest kind) s t d s_in free ride) r

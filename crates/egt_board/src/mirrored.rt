@@ -1,0 +1,38 @@
+//! Positions in a mirror.
+ghost use Rattle.std.specs.Prelude.{◌≡◌, ℕ, ◌<◌, ◌≤◌};
+ghost use Rattle.std.specs.FinMap as map;
+ghost use Rattle.std.specs.Option.{option_map};
+ghost use Rattle.egt_board.specs.Mirror.{IsMirrored, square_by, man_by};
+ghost use Rattle.egt_board.specs.Placement.{Stands};
+ghost use Rattle.egt_board.specs.declared.man.Man.{Man};
+
+use crate::board::Board;
+use crate::mirror::Mirror;
+use crate::position::Position;
+
+impl Position {
+    /// The board in a mirror.
+    fn mirrored_board(&self, mirror: Mirror) -> Board
+        ensures shows { (t : ℕ) → t < 64
+            → map.get result (square_by mirror t) ≡ option_map (man_by mirror) (map.get self.now.men t) }
+        ensures on_board { (s : ℕ) (man : Man) → Stands result s man → s < 64 }
+        ensures few { map.len result ≤ map.len self.now.men }
+    {
+        let mut board = Board::new();
+        let mut rest = self.board().occupied();
+        while let Some(square) = rest.pop_first() {
+            let man = self.at(square).unwrap();
+            board.put(mirror.square(square), mirror.man(man));
+        }
+        board
+    }
+
+    /// The position in a mirror: its men, the side to move and the target.
+    pub fn mirrored(&self, mirror: Mirror) -> Position
+        ensures { IsMirrored mirror self.now result }
+    {
+        let board = self.mirrored_board(mirror);
+        let target = mirror.target(self.target());
+        Position::admitted(board, mirror.side(self.side()), target)
+    }
+}
