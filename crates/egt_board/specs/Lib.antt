@@ -11,3 +11,4 @@ pub mod Setup
 pub mod Listed
 pub mod Mirror
 pub mod Position
+pub mod Symmetry

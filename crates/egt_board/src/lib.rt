@@ -16,6 +16,7 @@ pub mod position;
 pub mod square;
 pub mod square_set;
 pub mod step;
+pub mod symmetry;
 
 pub use board::Board;
 pub use fault::PosFault;
@@ -25,6 +26,7 @@ pub use position::{Position, attacked};
 pub use square::Square;
 pub use square_set::SquareSet;
 pub use step::{Step, Way};
+pub use symmetry::Symmetry;
 
 #[cfg(test)]
 mod tests;

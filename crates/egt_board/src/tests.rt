@@ -1,5 +1,5 @@
 //! Each public function once, with squares and attacks read off a board.
-use crate::{Board, Kind, Man, PosFault, Position, Side, Square, SquareSet, attacked};
+use crate::{Board, Kind, Man, PosFault, Position, Side, Square, SquareSet, Symmetry, attacked};
 use std::test::Fail;
 
 fn square(number: u8) -> Result<Square, Fail> {
@@ -125,5 +125,23 @@ fn setups_are_refused_with_the_first_fault(rt: HostRuntime) -> Result<(), Fail> 
         )
     );
     assert!(rt; Position::new(&[white, black, rook], Side::Black, None).is_ok());
+    Ok(())
+}
+
+#[test]
+fn positions_have_images(rt: HostRuntime) -> Result<(), Fail> {
+    let position = queen_ending(Side::White)?;
+    assert!(rt; Symmetry::new(8).is_none());
+    // Files, then ranks, then the diagonal: d1 goes to e1, e8, h5.
+    let all = Symmetry::new(7).ok_or("no symmetry")?;
+    assert_eq!(rt; all.number(), 7);
+    assert_eq!(rt;
+        position.image(all).at(square(39)?),
+        Some(man(Side::White, Kind::Q))
+    );
+    // Colours: d1 goes to d8, and Black is to move.
+    let flipped = position.flip_colours();
+    assert_eq!(rt; flipped.side(), Side::Black);
+    assert_eq!(rt; flipped.at(square(59)?), Some(man(Side::Black, Kind::Q)));
     Ok(())
 }
