@@ -1,4 +1,10 @@
+pub mod Arena
+pub mod Zeroing
+pub mod Entries
+pub mod Likeness
 pub mod Legal
 pub mod Order
 pub mod Standing
 pub mod Text
+pub mod Chess
+pub mod Found

@@ -2,15 +2,21 @@
 #![tactic(auto)]
 
 pub mod chess_move;
+pub mod forcing;
+pub mod found;
 pub mod going;
+pub mod laws;
 pub mod listing;
+pub mod mate_search;
 pub mod outcome;
 pub mod playing;
 pub mod standings;
 pub mod text;
 
 pub use chess_move::Move;
+pub use found::Search;
 pub use listing::legal_moves;
+pub use mate_search::search;
 pub use outcome::Standing;
 pub use playing::play;
 pub use standings::standing;

@@ -2,12 +2,16 @@
 #![tactic(auto)]
 
 mod fault;
+mod mate_text;
 mod moves;
 mod program;
 
 pub use fault::MovesFault;
+pub use mate_text::search_text;
 pub use moves::moves_text;
 pub use program::run;
 
+#[cfg(test)]
+mod search_tests;
 #[cfg(test)]
 mod tests;

@@ -1,8 +1,9 @@
 //! The program's words, and what each command prints.
 use crate::fault::MovesFault;
+use crate::mate_text::search_text;
 use crate::moves::moves_text;
 use clap::error::ErrorKind;
-use clap::{Arg, ArgMatches, Command};
+use clap::{Arg, ArgMatches, Command, value_parser};
 use egt_fen::FenFault;
 use std::alloc::{AllocError, Global};
 use std::io::{self, Write};
@@ -22,18 +23,35 @@ enum Status {
     Memory = 4,
 }
 
+/// The word that is a position.
+fn fen_word<'a>(alloc: Global) -> Arg<'a> {
+    Arg::new(alloc, "FEN")
+        .help("A position in Forsyth-Edwards notation, as one word")
+        .required(true)
+}
+
+/// The words of `search`.
+fn search_command<'a>(alloc: Global) -> Result<Command<'a>, AllocError> {
+    let plies = Arg::new(alloc, "N")
+        .help("How many plies to search, from 1 to 6")
+        .required(true)
+        .value_parser(value_parser!(u8).range(1..7));
+    Command::new(alloc, "search")
+        .about("Searches for a mate within so many plies")
+        .arg(plies)?
+        .arg(fen_word(alloc))
+}
+
 /// The words that the program understands.
 fn command<'a>(alloc: Global) -> Result<Command<'a>, AllocError> {
-    let fen = Arg::new(alloc, "FEN")
-        .help("A position in Forsyth-Edwards notation, as one word")
-        .required(true);
     let moves = Command::new(alloc, "moves")
         .about("Prints the legal moves, one a line")
-        .arg(fen)?;
+        .arg(fen_word(alloc))?;
     Command::new(alloc, "egtb")
         .about("Chess endgame tables of two to four men")
         .subcommand_required(true)
-        .subcommand(moves)
+        .subcommand(moves)?
+        .subcommand(search_command(alloc)?)
 }
 
 /// Prints `error fen NUMBER NAME`. What becomes of it changes no status.
@@ -85,6 +103,15 @@ fn dispatch<R: Print + Eprint + AllocGlobal>(rt: &R, matches: &ArgMatches<'_>) -
         Some(("moves", given)) => {
             let fen = given.get_str("FEN").unwrap_or("");
             deliver(rt, moves_text(rt.alloc(), fen.as_bytes()))
+        }
+        Some(("search", given)) => {
+            let fen = given.get_str("FEN").unwrap_or("");
+            match given.get_one::<u8>("N") {
+                Some(plies) if 1 <= plies && plies <= 6 => {
+                    deliver(rt, search_text(rt.alloc(), plies, fen.as_bytes()))
+                }
+                _ => Status::Usage,
+            }
         }
         _ => Status::Usage,
     }

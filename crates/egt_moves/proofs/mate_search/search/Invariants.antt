@@ -1,0 +1,7 @@
+use Rattle.egt_moves.specs.Arena.{AvoidsMateBefore, CannotMateBefore}
+use Rattle.egt_moves.specs.Chess.{chess}
+use Rattle.egt_moves.proofs.mate_search.search.Given as goal
+
+-- neither side mates within fewer plies
+abbrev pub invariant-loop-within : goal.invariant-loop-within
+invariant-loop-within l = AvoidsMateBefore chess l.within l.position × CannotMateBefore chess l.within l.position

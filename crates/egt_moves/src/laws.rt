@@ -1,0 +1,70 @@
+//! What holds of the rules of play alone. These functions do nothing: a caller calls one to know what it
+//! ensures.
+
+ghost use Rattle.std.specs.Prelude.{◌≡◌, ◌↔◌, ℕ, ◌≤◌, Bool, IsTrue, Option};
+ghost use Rattle.egt_board.specs.Setup.{Setup, IsAdmissible};
+ghost use Rattle.egt_moves.specs.Arena.{Value, Win, Loss, HasValue, IsMatedWithin, MatesWithin, AvoidsMateFor, CannotMateWithin, AnswersWithin};
+ghost use Rattle.egt_moves.specs.Chess.{chess};
+ghost use Rattle.egt_moves.specs.Entries.{JudgedOver, ZeroingJudgedOver};
+ghost use Rattle.egt_moves.specs.Likeness.{Alike, IsMirror};
+ghost use Rattle.egt_moves.specs.Zeroing.{HasZeroing, ZeroesLosingWithin, ZeroesWinningWithin};
+
+/// A forced mate is forced within any greater number of plies, and a defence lasts for any lesser one.
+pub fn more_plies()
+    ensures mated { (m n : ℕ) (p : Setup) → m ≤ n → IsMatedWithin chess m p → IsMatedWithin chess n p }
+    ensures mates { (m n : ℕ) (p : Setup) → m ≤ n → MatesWithin chess m p → MatesWithin chess n p }
+    ensures avoids { (m n : ℕ) (p : Setup) → m ≤ n → AvoidsMateFor chess n p → AvoidsMateFor chess m p }
+    ensures cannot { (m n : ℕ) (p : Setup) → m ≤ n → CannotMateWithin chess n p → CannotMateWithin chess m p }
+{}
+
+/// The winner does not force mate within as many plies as the defender keeps from it.
+pub fn halves_exclude()
+    ensures mated { (n : ℕ) (p : Setup) → IsMatedWithin chess n p → AvoidsMateFor chess n p → ⊥ }
+    ensures mates { (n : ℕ) (p : Setup) → MatesWithin chess n p → CannotMateWithin chess n p → ⊥ }
+{}
+
+/// No position is both won and lost, and none has two values.
+pub fn one_value()
+    ensures won_or_lost { (m n : ℕ) (p : Setup) → MatesWithin chess m p → IsMatedWithin chess n p → ⊥ }
+    ensures one { (p : Setup) (v w : Value) → HasValue chess p v → HasValue chess p w → v ≡ w }
+{}
+
+/// A search of some number of plies has one answer.
+pub fn one_answer()
+    ensures { (n : ℕ) (p : Setup) (x y : Option Value) → AnswersWithin chess n p x → AnswersWithin chess n p y → x ≡ y }
+{}
+
+/// Entries that fit their successors' are the values and the zeroing distances, in whatever class a test tells.
+pub fn entries_are_true()
+    ensures values { (own : Setup → Bool) (e : Setup → Value) → JudgedOver chess (λ p. IsTrue (own p)) e →
+        (p : Setup) → IsTrue (own p) → HasValue chess p (e p) }
+    ensures distances { (own : Setup → Bool) (e z : Setup → Value) →
+        JudgedOver chess (λ p. IsTrue (own p)) e → ZeroingJudgedOver chess (λ p. IsTrue (own p)) e z →
+        (p : Setup) → IsTrue (own p) → HasZeroing chess p (z p) }
+{}
+
+/// A mate within some number of plies is a capture or mate within as many: the zeroing distance never exceeds
+/// the mate distance.
+pub fn zeroes_in_time()
+    ensures losing { (n : ℕ) (p : Setup) → IsMatedWithin chess n p → ZeroesLosingWithin chess n p }
+    ensures winning { (n : ℕ) (p : Setup) → MatesWithin chess n p → ZeroesWinningWithin chess n p }
+    ensures win { (m n : ℕ) (p : Setup) → HasValue chess p (Win m) → HasZeroing chess p (Win n) → n ≤ m }
+    ensures loss { (m n : ℕ) (p : Setup) → HasValue chess p (Loss m) → HasZeroing chess p (Loss n) → n ≤ m }
+{}
+
+/// A map of positions that keeps steps, checkmate and zeroing keeps values and zeroing distances.
+pub fn images_are_alike()
+    ensures values { (f : Setup → Setup) → Alike chess (λ p q. q ≡ f p) →
+        (p : Setup) (v : Value) → HasValue chess p v ↔ HasValue chess (f p) v }
+    ensures distances { (f : Setup → Setup) → Alike chess (λ p q. q ≡ f p) →
+        (p : Setup) (v : Value) → HasZeroing chess p v ↔ HasZeroing chess (f p) v }
+{}
+
+/// So does a map of the admissible positions that is its own inverse and keeps steps, checkmate and zeroing
+/// one way.
+pub fn mirrors_are_alike()
+    ensures values { (f : Setup → Setup) → IsMirror chess IsAdmissible f →
+        (p : Setup) → IsAdmissible p → (v : Value) → HasValue chess p v ↔ HasValue chess (f p) v }
+    ensures distances { (f : Setup → Setup) → IsMirror chess IsAdmissible f →
+        (p : Setup) → IsAdmissible p → (v : Value) → HasZeroing chess p v ↔ HasZeroing chess (f p) v }
+{}
