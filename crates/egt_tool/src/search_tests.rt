@@ -40,3 +40,70 @@ fn tells_worked_mates(rt: HostRuntime) -> Result<(), Fail> {
     }
     Ok(())
 }
+
+/// Mates of queens, rooks, bishops and knights: the plies to mate, the winner, and the position.
+///
+/// The distances are those of Stockfish 15.1 (Debian's package), `go depth 34`: a mate in n moves is one in
+/// 2n - 1 plies where the side to move mates, and in 2n where the other side does.
+const MATES: [(u8, &str, &str); 24] = [
+    (1, "white", "5Q2/3N4/8/8/8/8/5K2/7k w - - 0 1"),
+    (2, "white", "1k6/8/2K5/8/Q7/8/8/8 b - - 0 1"),
+    (2, "white", "8/8/8/8/3N2K1/8/7Q/5k2 b - - 0 1"),
+    (2, "black", "q7/8/8/4N3/8/1k6/8/K7 w - - 0 1"),
+    (3, "black", "1K6/8/8/1k6/1q6/1N6/8/8 b - - 0 1"),
+    (3, "white", "7B/8/8/5K2/8/7k/5R2/8 w - - 0 1"),
+    (3, "black", "8/1b6/8/2r5/8/2k5/K7/8 b - - 0 1"),
+    (3, "white", "8/5K2/8/7k/8/6Q1/8/8 w - - 0 1"),
+    (3, "white", "8/8/8/8/1N4Q1/8/8/1k2K3 w - - 0 1"),
+    (4, "white", "7k/8/8/7K/5N2/6Q1/8/8 b - - 0 1"),
+    (4, "white", "8/3K1k2/8/6R1/8/2B5/8/8 b - - 0 1"),
+    (4, "white", "8/8/8/k1K5/8/4R3/8/8 b - - 0 1"),
+    (4, "black", "q7/6N1/8/8/8/3k4/8/3K4 w - - 0 1"),
+    (5, "white", "2K5/8/1k6/2R5/4N3/8/8/8 w - - 0 1"),
+    (5, "white", "7B/8/8/1B6/6K1/8/8/7k w - - 0 1"),
+    (5, "black", "8/1k6/8/1K6/8/4r3/5b2/8 b - - 0 1"),
+    (5, "black", "8/5K2/8/6k1/8/7q/8/4N3 b - - 0 1"),
+    (5, "white", "8/8/8/3K4/k7/8/1r6/1Q6 w - - 0 1"),
+    (5, "white", "8/8/8/8/4B1KR/8/8/5k2 w - - 0 1"),
+    (5, "white", "8/Q7/3k4/2N5/2K5/8/8/8 w - - 0 1"),
+    (5, "white", "k7/8/8/K1R5/8/8/8/8 w - - 0 1"),
+    (6, "white", "5B1R/8/8/8/8/1K6/8/1k6 b - - 0 1"),
+    (6, "white", "7k/3Q4/1K6/8/8/8/8/5N2 b - - 0 1"),
+    (6, "white", "8/4K2k/5Q2/8/8/8/8/8 b - - 0 1"),
+];
+
+#[test]
+fn finds_the_mates_that_an_engine_finds(rt: HostRuntime) -> Result<(), Fail> {
+    for (plies, winner, fen) in MATES {
+        let line = format!(in rt.alloc(); "{} mates in {} plies\n", winner, plies)?;
+        let found = search_text(rt.alloc(), 6, fen.as_bytes())?;
+        assert_eq!(rt; found.as_slice(), line.as_bytes(), "{fen}");
+    }
+    Ok(())
+}
+
+#[test]
+fn finds_no_mate_sooner_than_an_engine(rt: HostRuntime) -> Result<(), Fail> {
+    for (plies, _, fen) in MATES {
+        if plies > 1 {
+            let line = format!(in rt.alloc(); "no mate within {} plies\n", plies - 1)?;
+            let found = search_text(rt.alloc(), plies - 1, fen.as_bytes())?;
+            assert_eq!(rt; found.as_slice(), line.as_bytes(), "{fen}");
+        }
+    }
+    Ok(())
+}
+
+#[test]
+fn searches_from_1_to_6_plies(rt: HostRuntime) {
+    let fen = "k7/8/1K6/8/8/8/8/3Q4 b - - 0 1";
+    assert_eq!(rt; run(&rt, &["egtb", "search", "1", fen]), 0);
+    assert_eq!(rt; run(&rt, &["egtb", "search", "6", fen]), 0);
+    assert_eq!(rt; run(&rt, &["egtb", "search", "0", fen]), 2);
+    assert_eq!(rt; run(&rt, &["egtb", "search", "7", fen]), 2);
+    assert_eq!(rt; run(&rt, &["egtb", "search", "256", fen]), 2);
+    assert_eq!(rt; run(&rt, &["egtb", "search", "two", fen]), 2);
+    assert_eq!(rt; run(&rt, &["egtb", "search", "2"]), 2);
+    assert_eq!(rt; run(&rt, &["egtb", "search", "2", "k7/8/8/8/8/8/8/K7 w - -"]), 0);
+    assert_eq!(rt; run(&rt, &["egtb", "search", "2", "k7/8/8/8/8/8/8/K7 w -"]), 1);
+}
