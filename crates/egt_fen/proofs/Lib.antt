@@ -4,3 +4,8 @@ pub mod Letters
 pub mod Ranks
 pub mod Spelling
 pub mod Written
+pub mod Found
+pub mod Parsed
+pub mod Ink
+pub mod Round
+pub mod Faults

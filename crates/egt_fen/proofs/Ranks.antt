@@ -1,14 +1,14 @@
 -- A placement read from its front is the placement read by ranks.
-use Rattle.std.proofs.Common.{◌≡◌, ◌≢◌, ℕ, zero, suc, ◌+◌, ◌-◌, ◌*◌, ◌<◌, ◌≤◌, Bool, true, false, cond, ◌&&◌, eqb, ltb, leb, List, [], ◌∷◌, ◌++◌, length, Option, Some, None, arith, refl, sym, ap, ◌∙◌, inl, inr, subst, add_assoc}
+use Rattle.std.proofs.Common.{◌≡◌, ◌≢◌, ℕ, zero, suc, ◌+◌, ◌-◌, ◌*◌, ◌<◌, Bool, true, false, cond, ◌&&◌, eqb, ltb, leb, List, [], ◌∷◌, ◌++◌, length, Option, Some, None, arith, refl, sym, ap, ◌∙◌, inl, inr, add_assoc}
 use Rattle.std.specs.List.{slice_split, list_all, onto_first, sum_by}
 use Rattle.std.specs.Option.{option_map}
 use Rattle.std.proofs.Math.Nat.{add-zero, zero-add}
-use Rattle.std.proofs.lemmas.Bool.{false≢true, cases_lt, cases_Bool, ltb-true, ltb-false, lt-ltb, le-ltb, eqb-true, eqb-false, eq-eqb, ne_eqb, le-leb, lt-leb, leb-true, leb-false}
+use Rattle.std.proofs.lemmas.Bool.{cases_Bool, lt-ltb, eqb-true, eqb-false, eq-eqb, ne_eqb, leb-false}
 use Rattle.std.proofs.lemmas.List.{append_assoc}
 use Rattle.std.proofs.lemmas.List.Sums.{sum_by-cons}
 use Rattle.egt_board.specs.declared.man.Man.{Man}
 use Rattle.egt_fen.specs.Letter.{man_of}
-use Rattle.egt_fen.specs.Placement.{is_slash, width_of, has_width, is_rank, on_square, men_from, men_of_ranks, are_ranks, ranks_of, placement_of}
+use Rattle.egt_fen.specs.Placement.{is_slash, width_of, has_width, is_rank, on_square, men_from, men_of_ranks, ranks_of, placement_of}
 use Rattle.egt_fen.specs.Walk.{men_left}
 
 abbrev Men : Type 0

@@ -1,7 +1,7 @@
 -- The runs of a text: where the first ends and the rest begins.
-use Rattle.std.proofs.Common.{◌≡◌, ◌≢◌, ℕ, zero, suc, ◌+◌, ◌-◌, ◌<◌, ◌≤◌, Bool, true, false, cond, not, eqb, ltb, List, [], ◌∷◌, length, take, drop, get_or, filter, Option, Some, None, unwrap_or, arith, refl, sym, ap, ◌∙◌, inl, inr, subst}
+use Rattle.std.proofs.Common.{◌≡◌, ◌≢◌, ℕ, suc, ◌+◌, ◌<◌, Bool, true, false, cond, not, ltb, List, [], ◌∷◌, length, take, drop, get_or, filter, Some, None, unwrap_or, arith, refl, sym, ap, ◌∙◌, subst}
 use Rattle.std.specs.List.{slice_split, position_or_len, position, onto_first}
-use Rattle.std.proofs.lemmas.Bool.{false≢true, cases_Bool, ne_eqb, eqb-true, eqb-false, ltb-false}
+use Rattle.std.proofs.lemmas.Bool.{false≢true, ne_eqb, eqb-false, ltb-false}
 use Rattle.std.proofs.lemmas.List.Splits.{slice_split-cons_yes}
 use Rattle.std.proofs.lemmas.List.Sums.{prefix_len-le-length}
 use Rattle.egt_fen.specs.Fields.{is_space, is_other, has_bytes, runs_of}

@@ -1,9 +1,9 @@
 -- What a text spells and what its parts say are the same.
-use Rattle.std.proofs.Common.{◌≡◌, ℕ, List, Bool, true, false, Option, Some, None, Result, Ok, Err, refl, sym, ap, ◌∙◌, subst}
+use Rattle.std.proofs.Common.{◌≡◌, ℕ, List, Option, Some, None, Result, Ok, Err, refl, sym, ap, ◌∙◌, subst}
 use Rattle.std.specs.Result.{IsOk, IsErr}
 use Rattle.egt_board.specs.declared.man.Side.{Side}
 use Rattle.egt_board.specs.declared.man.Man.{Man}
-use Rattle.egt_board.specs.Listed.{men_of, setup_of, FitsBoard}
+use Rattle.egt_board.specs.Listed.{setup_of, FitsBoard}
 use Rattle.egt_board.specs.Setup.{Setup, IsAdmissible}
 use Rattle.egt_fen.specs.declared.fault.FenFault.{FenFault}
 use Rattle.egt_fen.specs.declared.fault.FenFault.TheVariants.{FieldCount, Placement, Colour, Castling, EpField, Counter}
@@ -21,7 +21,7 @@ pub not_both : {T E : Type 0} (r : Result T E) → IsErr r → IsOk r → ⊥
 not_both (Ok x) err ok = absurd (cc)
 not_both (Err e) err ok = absurd (cc)
 
-abbrev Read : Type 0
+abbrev pub Read : Type 0
 Read = Result Parts FenFault
 
 -- the reading of each part after those before it
@@ -63,10 +63,10 @@ says_read text p s =
     ∙ ap (target_then s.fields p.men p.side) s.target
     ∙ ap (clocks_then p.men p.side p.target) s.clocks
 
-abbrev done : Parts → Read
+abbrev pub done : Parts → Read
 done x = Ok x
 
-ok_is : (x y : Parts) → done x ≡ done y → x ≡ y
+pub ok_is : (x y : Parts) → done x ≡ done y → x ≡ y
 ok_is x y h = cc
 
 -- a value that was read
@@ -87,11 +87,11 @@ read_says text p e =
     subst (Says text) (ok_is (record { men = b.0; side = c.0; target = t.0; halfmove = k.0.0; fullmove = k.0.1 }) p k.2)
     (record { fields = f; split = a.1; placement = b.1; side = c.1; castling = d.1; target = t.1; clocks = k.1 })
 
-abbrev parts_with : List (Man × ℕ) → Fen → Parts
+abbrev pub parts_with : List (Man × ℕ) → Fen → Parts
 parts_with men fen = record { men = men; side = fen.position.side; target = fen.position.target; halfmove = fen.halfmove; fullmove = fen.fullmove }
 
 -- a text that spells a position is read
-spelled_read : (text : List ℕ) (fen : Fen) (s : Spells text fen) → parts_of text ≡ Ok (parts_with s.men fen)
+pub spelled_read : (text : List ℕ) (fen : Fen) (s : Spells text fen) → parts_of text ≡ Ok (parts_with s.men fen)
 spelled_read text fen s =
     says_read text (parts_with s.men fen)
     (record { fields = s.fields; split = s.split; placement = s.placement; side = s.side; castling = s.castling; target = s.target; clocks = s.clocks })

@@ -8,7 +8,7 @@ use Rattle.std.specs.Str.Parse.{digits_value}
 abbrev pub counter_of : List ℕ → Option ℕ
 counter_of digits = if nat_lt 0 (length digits) && nat_le (length digits) 9 && list_all is_ascii_digit digits then Some (digits_value 10 digits) else None
 
-abbrev both : Option ℕ → Option ℕ → Option (ℕ × ℕ)
+abbrev pub both : Option ℕ → Option ℕ → Option (ℕ × ℕ)
 both (Some half) (Some full) = Some (half, full)
 both (Some half) None = None
 both None _ = None

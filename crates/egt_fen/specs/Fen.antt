@@ -1,6 +1,6 @@
 -- The texts that spell a position with its clocks (PGN standard of 1994, section 16.1), and the first fault of
 -- any other text.
-use Rattle.std.specs.Prelude.{◌≡◌, ℕ, List, Option, Some, Ok, Err, MatchResult}
+use Rattle.std.specs.Prelude.{◌≡◌, ℕ, List, Some, MatchResult}
 use Rattle.egt_board.specs.declared.fault.PosFault.{PosFault}
 use Rattle.egt_board.specs.declared.man.Man.{Man}
 use Rattle.egt_board.specs.Listed as listed

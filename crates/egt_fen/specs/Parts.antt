@@ -1,10 +1,10 @@
 -- What the fields of a text say, and the first of them that says nothing.
-use Rattle.std.specs.Prelude.{ℕ, ◌==◌, if◌then◌else◌, List, [], ◌∷◌, Option, Some, None, Result, Ok, Err}
+use Rattle.std.specs.Prelude.{ℕ, List, Option, Some, None, Result, Ok, Err}
 use Rattle.egt_board.specs.declared.man.Side.{Side}
 use Rattle.egt_board.specs.declared.man.Man.{Man}
 use Rattle.egt_fen.specs.declared.fault.FenFault.{FenFault}
 use Rattle.egt_fen.specs.declared.fault.FenFault.TheVariants.{FieldCount, Placement, Colour, Castling, EpField, Counter}
-use Rattle.egt_fen.specs.Fields.{Fields, fields_of}
+use Rattle.egt_fen.specs.Fields.{fields_of}
 use Rattle.egt_fen.specs.Placement.{placement_of}
 use Rattle.egt_fen.specs.Side.{side_of}
 use Rattle.egt_fen.specs.Castling.{castling_of}

@@ -3,32 +3,32 @@ ghost use Rattle.std.specs.Prelude.{◌≡◌, ◌<◌, ◌≤◌, ◌++◌, OnO
 ghost use Rattle.egt_fen.specs.Canonical.{gap_text, rank_text, placement_text};
 
 use crate::letter::letter_of;
-use egt_board::{Position, Square};
+use egt_board::{Board, Square};
 use std::alloc::AllocError;
 
 /// Appends the placement, from the eighth rank to the first.
-pub fn push_placement(text: &mut Vec<u8>, position: &Position) -> Result<(), AllocError>
-    ensures { OnOk result (text.new.items ≡ text.old.items ++ placement_text position.now.men) }
+pub fn push_placement(text: &mut Vec<u8>, board: &Board) -> Result<(), AllocError>
+    ensures { OnOk result (text.new.items ≡ text.old.items ++ placement_text board.now) }
 {
     let mut rank = 7;
-    push_rank(text, position, rank)?;
+    push_rank(text, board, rank)?;
     while rank > 0 {
         rank -= 1;
         text.push(b'/')?;
-        push_rank(text, position, rank)?;
+        push_rank(text, board, rank)?;
     }
     Ok(())
 }
 
 /// Appends a rank, from the a-file to the h-file.
-fn push_rank(text: &mut Vec<u8>, position: &Position, rank: u8) -> Result<(), AllocError>
+fn push_rank(text: &mut Vec<u8>, board: &Board, rank: u8) -> Result<(), AllocError>
     requires { rank < 8 }
-    ensures { OnOk result (text.new.items ≡ text.old.items ++ rank_text position.now.men rank) }
+    ensures { OnOk result (text.new.items ≡ text.old.items ++ rank_text board.now rank) }
 {
     let mut gap = 0;
     for file in 0..8 {
         let square = Square::new(8 * rank + file).unwrap();
-        match position.at(square) {
+        match board.at(square) {
             None => gap += 1,
             Some(man) => {
                 push_gap(text, gap)?;

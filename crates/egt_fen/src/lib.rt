@@ -7,6 +7,7 @@ mod counter;
 mod fault;
 mod fen;
 mod fields;
+mod laws;
 mod letter;
 mod memory;
 mod parts;
@@ -19,6 +20,7 @@ mod writing;
 
 pub use fault::FenFault;
 pub use fen::Fen;
+pub use laws::{one_fault, one_meaning, written_is_read};
 pub use memory::NoMemory;
 pub use reading::read;
 pub use writing::write;

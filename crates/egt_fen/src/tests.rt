@@ -1,6 +1,6 @@
 //! Worked texts, whose answers come from the PGN standard or are worked out by hand.
 
-use crate::{Fen, FenFault, read};
+use crate::{Fen, FenFault, read, write};
 use egt_board::{Kind, Man, Side, Square};
 use std::test::Fail;
 
@@ -143,6 +143,53 @@ fn four_fields_have_clocks_of_their_own(rt: HostRuntime) -> Result<(), Fail> {
     let fen = read(b"8/8/8/44/8/4K3/8/4k3 w - -")?;
     assert_eq!(rt; (fen.halfmove, fen.fullmove), (0, 1));
     assert_eq!(rt; fen.position.side(), Side::White);
+    Ok(())
+}
+
+#[test]
+fn writes_the_one_text(rt: HostRuntime) -> Result<(), Fail> {
+    for (text, written) in [
+        (
+            "8/8/8/44/8/4K3/8/4k3 w - -",
+            "8/8/8/8/8/4K3/8/4k3 w - - 0 1",
+        ),
+        (
+            "  k43/8/8/44/8/8/8/K7   b -  - 007 00042 \r",
+            "k7/8/8/8/8/8/8/K7 b - - 7 42",
+        ),
+        (
+            "111k4/8/8/8/1r1113/8/8/K11111N1 w - - 0 0",
+            "3k4/8/8/8/1r6/8/8/K5N1 w - - 0 0",
+        ),
+        (
+            "7k/8/8/8/8/8/6b1/KQ6 b - - 999999999 999999999",
+            "7k/8/8/8/8/8/6b1/KQ6 b - - 999999999 999999999",
+        ),
+    ] {
+        let fen = read(text.as_bytes())?;
+        assert_eq!(rt;
+            write(rt.alloc(), &fen)?.as_slice(),
+            written.as_bytes(),
+            "{text}"
+        );
+    }
+    Ok(())
+}
+
+#[test]
+fn reads_what_it_wrote(rt: HostRuntime) -> Result<(), Fail> {
+    let fen = read(b"4k3/8/8/8/2n5/8/8/R3K3 b - - 12 34")?;
+    let again = read(&write(rt.alloc(), &fen)?)?;
+    assert_eq!(rt; (again.halfmove, again.fullmove), (12, 34));
+    assert_eq!(rt; again.position.side(), Side::Black);
+    for number in 0..64 {
+        let square = Square::new(number).ok_or("a square")?;
+        assert_eq!(rt;
+            again.position.at(square),
+            fen.position.at(square),
+            "{number}"
+        );
+    }
     Ok(())
 }
 

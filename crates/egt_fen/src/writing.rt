@@ -1,6 +1,7 @@
 //! A FEN text written (PGN standard of 1994, section 16.1).
 ghost use Rattle.std.specs.Prelude.{◌≡◌, ◌∷◌, [], ◌++◌, OnOk, IfOk};
 ghost use Rattle.egt_fen.specs.Canonical.{canonical, side_text, target_text};
+ghost use Rattle.egt_fen.specs.Fen.{Spells};
 
 use crate::board_text::push_placement;
 use crate::fen::Fen;
@@ -13,22 +14,25 @@ use std::alloc::{AllocError, Global};
 const ROOM: usize = 64;
 
 /// The one text of a position with its clocks: six fields with one space between, the longest runs of empty
-/// squares, `-` for castling and where there is no target, and clocks without leading zeros.
+/// squares, `-` for castling and where there is no target, and clocks without leading zeros. `read` gives back
+/// what it spells.
 ///
 /// # Errors
 ///
 /// `NoMemory` where there is no memory for the text, and nowhere else.
 pub fn write(alloc: Global, fen: &Fen) -> Result<Vec<u8>, NoMemory>
-    ensures { IfOk result (λ text. text.items ≡ canonical fen.now) }
+    ensures canonical { IfOk result (λ text. text.items ≡ canonical fen.now) }
+    ensures spells { IfOk result (λ text. Spells text.items fen.now) }
 {
     Ok(text_of(alloc, fen)?)
 }
 
 fn text_of(alloc: Global, fen: &Fen) -> Result<Vec<u8>, AllocError>
-    ensures { IfOk result (λ text. text.items ≡ canonical fen.now) }
+    ensures canonical { IfOk result (λ text. text.items ≡ canonical fen.now) }
+    ensures spells { IfOk result (λ text. Spells text.items fen.now) }
 {
     let mut text = Vec::with_capacity(alloc, ROOM)?;
-    push_placement(&mut text, &fen.position)?;
+    push_placement(&mut text, fen.position.board())?;
     text.push(b' ')?;
     text.push(side_letter(fen.position.side()))?;
     text.extend_from_slice(b" - ")?;

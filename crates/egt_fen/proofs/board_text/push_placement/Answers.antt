@@ -1,11 +1,11 @@
-use Rattle.std.proofs.Common.{◌≡◌, ◌-◌, ◌++◌, suc, arith, sym, ap, ◌∙◌}
-use Rattle.egt_fen.specs.Canonical.{rank_text, placement_text}
+use Rattle.std.proofs.Common.{◌-◌, ◌++◌, arith, sym, ap, ◌∙◌}
+use Rattle.egt_fen.specs.Canonical.{rank_text}
 use Rattle.egt_fen.proofs.Written.{below, below-first, below-more}
 use Rattle.egt_fen.proofs.board_text.push_placement.Goals as goal
 
 pub loop-rank-init : goal.loop-rank-init
 loop-rank-init c =
-    let men = c.args.position.now.men in
+    let men = c.args.board.now in
     record {
       on_board = omega arith;
       written = ap (λ text. text ++ below men 7) c.in_ok-push_rank.ensures ∙ below-first men c.args.text.now.items;
@@ -13,7 +13,7 @@ loop-rank-init c =
 
 pub loop-rank-preserved : goal.loop-rank-preserved
 loop-rank-preserved c =
-    let men = c.args.position.now.men in
+    let men = c.args.board.now in
     let next = c.loop-rank.rank - 1 in
     record {
       on_board = omega arith;

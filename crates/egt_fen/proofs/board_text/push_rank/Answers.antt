@@ -1,15 +1,14 @@
-use Rattle.std.proofs.Common.{◌≡◌, ◌≤◌, ◌+◌, ◌*◌, ◌++◌, ◌∷◌, [], List, ℕ, drop, arith, sym, ap, ◌∙◌}
+use Rattle.std.proofs.Common.{◌≡◌, ◌+◌, ◌*◌, ◌++◌, ◌∷◌, [], drop, arith, sym, ap, ◌∙◌}
 use Rattle.std.specs.FinMap as placement
 use Rattle.std.proofs.lemmas.Result.{on_ok_weaker}
 use Rattle.egt_fen.specs.Canonical.{gap_text, squares_text, squares_of}
-use Rattle.egt_fen.specs.Letter.{letter_of}
 use Rattle.egt_fen.proofs.Written.{squares_text-free, squares_text-man, squares_text-end}
 use Rattle.egt_fen.proofs.board_text.push_rank.Goals as goal
 use Rattle.egt_fen.proofs.board_text.push_rank.Goals.{in-None, in-Some+in_ok-push_gap-in-Some+in_ok-push-in-Some}
 
 pub loop-file-preserved : goal.loop-file-preserved
 loop-file-preserved c =
-    let men = c.args.position.now.men in
+    let men = c.args.board.now in
     let file = c.loop-file.file in
     let gap = c.loop-file.gap in
     let text = c.loop-file.text.items in
@@ -18,28 +17,28 @@ loop-file-preserved c =
     let at = sym (c.at.ensures ∙ ap (placement.get men) there) in
     elim c.match-at.branch [
       | in-None w ↦ record {
-          few = omega arith;
-          written =
-              ap (λ g. c.match-at.text.items ++ squares_text g rest) w.gap-is
-              ∙ ap (λ t. t.items ++ squares_text (gap + 1) rest) w.text-is
-              ∙ sym (squares_text-free text men c.args.rank file gap (omega arith) (at ∙ w.in-None.is))
-              ∙ c.loop-file.invariant.written;
-        }
+        few = omega arith;
+        written =
+            ap (λ g. c.match-at.text.items ++ squares_text g rest) w.gap-is
+            ∙ ap (λ t. t.items ++ squares_text (gap + 1) rest) w.text-is
+            ∙ sym (squares_text-free text men c.args.rank file gap (omega arith) (at ∙ w.in-None.is))
+            ∙ c.loop-file.invariant.written;
+      }
       | in-Some+in_ok-push_gap-in-Some+in_ok-push-in-Some w ↦ record {
-          few = omega arith;
-          written =
-              ap (λ g. c.match-at.text.items ++ squares_text g rest) w.gap-is
-              ∙ ap (λ t. t.items ++ squares_text 0 rest) w.text-is
-              ∙ ap (λ xs. xs ++ squares_text 0 rest) (w.in_ok-push-in-Some.ensures.items
-                  ∙ ap (λ xs. xs ++ w.letter_of.result ∷ []) w.in_ok-push_gap-in-Some.ensures
-                  ∙ ap (λ l. (text ++ gap_text gap) ++ l ∷ []) w.letter_of.ensures)
-              ∙ sym (squares_text-man text men w.in-Some.man c.args.rank file gap (omega arith) (at ∙ w.in-Some.is))
-              ∙ c.loop-file.invariant.written;
-        }
+        few = omega arith;
+        written =
+            ap (λ g. c.match-at.text.items ++ squares_text g rest) w.gap-is
+            ∙ ap (λ t. t.items ++ squares_text 0 rest) w.text-is
+            ∙ ap (λ xs. xs ++ squares_text 0 rest) (w.in_ok-push-in-Some.ensures.items
+            ∙ ap (λ xs. xs ++ w.letter_of.result ∷ []) w.in_ok-push_gap-in-Some.ensures
+            ∙ ap (λ l. (text ++ gap_text gap) ++ l ∷ []) w.letter_of.ensures)
+            ∙ sym (squares_text-man text men w.in-Some.man c.args.rank file gap (omega arith) (at ∙ w.in-Some.is))
+            ∙ c.loop-file.invariant.written;
+      }
     ]
 
 pub returns : goal.returns
 returns c =
     on_ok_weaker c.push_gap-2.result (λ added. added
-        ∙ sym (squares_text-end c.loop-file.text.items c.args.position.now.men c.args.rank c.loop-file.file c.loop-file.gap (omega arith))
-        ∙ c.loop-file.invariant.written) c.push_gap-2.ensures
+    ∙ sym (squares_text-end c.loop-file.text.items c.args.board.now c.args.rank c.loop-file.file c.loop-file.gap (omega arith))
+    ∙ c.loop-file.invariant.written) c.push_gap-2.ensures

@@ -5,5 +5,5 @@ use Rattle.egt_fen.proofs.board_text.push_rank.Given as goal
 abbrev pub invariant-loop-file : goal.invariant-loop-file
 invariant-loop-file l = record {
   few : l.gap ≤ l.file;
-  written : l.text.items ++ squares_text l.gap (drop l.file (squares_of l.position.men l.rank)) ≡ l.fn.text.items ++ rank_text l.position.men l.rank;
+  written : l.text.items ++ squares_text l.gap (drop l.file (squares_of l.board l.rank)) ≡ l.fn.text.items ++ rank_text l.board l.rank;
 }

@@ -1,5 +1,4 @@
-use Rattle.std.proofs.Common.{rules, ◌<◌, ◌≡◌, List, ℕ, [], ◌∷◌, length, take, drop, arith, sym, ap, ◌∙◌, unwrap_or}
-use Rattle.std.specs.List.{position_or_len}
+use Rattle.std.proofs.Common.{◌<◌, ◌∷◌, length, take, drop, arith, sym, ap, ◌∙◌, unwrap_or}
 use Rattle.std.proofs.lemmas.Bool.{eqb-true, eqb-false}
 use Rattle.std.proofs.lemmas.List.{nil_from_length}
 use Rattle.egt_fen.specs.Fields.{is_space, runs_of}

@@ -1,4 +1,4 @@
-use Rattle.std.proofs.Common.{rules, arith, sym, ◌∙◌, ◌≡◌, ◌+◌, ◌*◌, ℕ, Some}
+use Rattle.std.proofs.Common.{arith, sym, ◌≡◌, ◌+◌, ◌*◌}
 use Rattle.egt_fen.proofs.Letters.{men_left-letter}
 use Rattle.egt_fen.proofs.walk.Walk.step.Goals as goal
 

@@ -1,0 +1,52 @@
+-- A text has one first fault at most, and none where it spells a position.
+use Rattle.std.proofs.Common.{◌≡◌, ℕ, List, Result, Ok, Err, refl, sym, ap, ◌∙◌, subst}
+use Rattle.std.specs.Result.{MatchResult}
+use Rattle.egt_board.specs.declared.fault.PosFault.{PosFault}
+use Rattle.egt_board.specs.declared.fault.PosFault.TheVariants.{MenCount, KingCount, EpMismatch, WaitingInCheck}
+use Rattle.egt_board.specs.declared.man.Man.{Man}
+use Rattle.egt_board.specs.Listed as listed
+use Rattle.egt_board.specs.Setup.{Setup, IsAdmissible}
+use Rattle.egt_fen.specs.declared.fault.FenFault.{FenFault}
+use Rattle.egt_fen.specs.declared.fen.Fen.{Fen}
+use Rattle.egt_fen.specs.Fault.{fault_of}
+use Rattle.egt_fen.specs.Parts.{Parts, parts_of}
+use Rattle.egt_fen.specs.Fen.{Spells, IsSetupFault, IsFirstFault}
+use Rattle.egt_fen.proofs.Spelling.{parts_with, spelled_read, spelled_admits}
+
+one_setup_fault : (list : List (Man × ℕ)) (p : Setup) (a b : PosFault) → listed.IsFirstFault a list p → listed.IsFirstFault b list p → a ≡ b
+one_setup_fault list p MenCount MenCount x y = refl
+one_setup_fault list p MenCount KingCount x y = absurd (x y.0)
+one_setup_fault list p MenCount EpMismatch x y = absurd (x y.0)
+one_setup_fault list p MenCount WaitingInCheck x y = absurd (x y.0)
+one_setup_fault list p KingCount MenCount x y = absurd (y x.0)
+one_setup_fault list p KingCount KingCount x y = refl
+one_setup_fault list p KingCount EpMismatch x y = absurd (x.1 y.1)
+one_setup_fault list p KingCount WaitingInCheck x y = absurd (x.1 y.1)
+one_setup_fault list p EpMismatch MenCount x y = absurd (y x.0)
+one_setup_fault list p EpMismatch KingCount x y = absurd (y.1 x.1)
+one_setup_fault list p EpMismatch EpMismatch x y = refl
+one_setup_fault list p EpMismatch WaitingInCheck x y = absurd (x.2 y.2)
+one_setup_fault list p WaitingInCheck MenCount x y = absurd (y x.0)
+one_setup_fault list p WaitingInCheck KingCount x y = absurd (y.1 x.1)
+one_setup_fault list p WaitingInCheck EpMismatch x y = absurd (y.2 x.2)
+one_setup_fault list p WaitingInCheck WaitingInCheck x y = refl
+
+pub one_fault : (text : List ℕ) (one other : FenFault) → IsFirstFault text one → IsFirstFault text other → one ≡ other
+one_fault text one other x y = at (parts_of text) x y
+  where
+    at : (r : Result Parts FenFault) → MatchResult r (λ parts. IsSetupFault parts one) (λ first. one ≡ first) → MatchResult r (λ parts. IsSetupFault parts other) (λ first. other ≡ first) → one ≡ other
+    at (Ok p) a b = a.named ∙ ap fault_of (one_setup_fault p.men (listed.setup_of p.men p.side p.target) a.of b.of a.first b.first) ∙ sym b.named
+    at (Err e) a b = a ∙ sym b
+
+admissible_fault : (list : List (Man × ℕ)) (p : Setup) (fault : PosFault) → listed.FitsBoard list → IsAdmissible p → listed.IsFirstFault fault list p → ⊥
+admissible_fault list p MenCount fits admissible x = x fits
+admissible_fault list p KingCount fits admissible x = x.1 admissible.kings
+admissible_fault list p EpMismatch fits admissible x = x.2 admissible.target
+admissible_fault list p WaitingInCheck fits admissible x = admissible.quiet x.3
+
+pub spelled_faultless : (text : List ℕ) (fen : Fen) (fault : FenFault) → Spells text fen → IsFirstFault text fault → ⊥
+spelled_faultless text fen fault s x =
+    let p = parts_with s.men fen in
+    let admits = spelled_admits text fen p s (spelled_read text fen s) in
+    let setup : IsSetupFault p fault = subst (λ r. MatchResult r (λ parts. IsSetupFault parts fault) (λ first. fault ≡ first)) (spelled_read text fen s) x in
+    admissible_fault p.men (listed.setup_of p.men p.side p.target) setup.of admits.fits admits.admissible setup.first

@@ -1,0 +1,130 @@
+-- The written placement, read again.
+use Rattle.std.proofs.Common.{◌≡◌, ℕ, zero, suc, ◌+◌, ◌-◌, ◌*◌, ◌<◌, ◌≤◌, Bool, false, cond, ◌&&◌, ltb, leb, List, [], ◌∷◌, ◌++◌, length, Option, Some, None, arith, refl, sym, ap, ◌∙◌}
+use Rattle.std.specs.Option.{option_map}
+use Rattle.std.proofs.Math.Nat.{add-zero}
+use Rattle.std.proofs.lemmas.Bool.{lt-ltb, le-leb}
+use Rattle.std.proofs.lemmas.List.{append_assoc, append-nil}
+use Rattle.egt_board.specs.declared.man.Side.{Side}
+use Rattle.egt_board.specs.declared.man.Side.TheVariants.{White, Black}
+use Rattle.egt_board.specs.declared.man.Kind.{Kind}
+use Rattle.egt_board.specs.declared.man.Kind.TheVariants.{Q, R, B, N, K}
+use Rattle.egt_board.specs.declared.man.Man.{Man}
+use Rattle.egt_board.specs.Placement.{Placement}
+use Rattle.egt_fen.specs.Letter.{man_of, letter_of}
+use Rattle.egt_fen.specs.Placement.{is_slash, width_of, on_square, placement_of}
+use Rattle.egt_fen.specs.Walk.{men_left}
+use Rattle.egt_fen.specs.Canonical.{gap_text, squares_text, squares_of, rank_text, ranks_text, placement_text}
+use Rattle.egt_fen.proofs.Written.{length-squares_of}
+use Rattle.egt_fen.proofs.Letters.{men_left-letter}
+use Rattle.egt_fen.proofs.Ranks.{men_left_is}
+use Rattle.egt_fen.proofs.Found.{listed, listed_ranks}
+
+abbrev Men : Type 0
+Men = List (Man × ℕ)
+
+-- the digit of a run of n + 1 empty squares
+record IsGap (n : ℕ) : Type 0 where
+  slash : is_slash (49 + n) ≡ false
+  width : width_of (49 + n) ≡ suc n
+  empty : man_of (49 + n) ≡ None
+
+gap_is : (n : ℕ) → n < 8 → IsGap n
+gap_is zero n_in = record { slash = refl; width = refl; empty = refl }
+gap_is (suc zero) n_in = record { slash = refl; width = refl; empty = refl }
+gap_is (suc (suc zero)) n_in = record { slash = refl; width = refl; empty = refl }
+gap_is (suc (suc (suc zero))) n_in = record { slash = refl; width = refl; empty = refl }
+gap_is (suc (suc (suc (suc zero)))) n_in = record { slash = refl; width = refl; empty = refl }
+gap_is (suc (suc (suc (suc (suc zero))))) n_in = record { slash = refl; width = refl; empty = refl }
+gap_is (suc (suc (suc (suc (suc (suc zero)))))) n_in = record { slash = refl; width = refl; empty = refl }
+gap_is (suc (suc (suc (suc (suc (suc (suc zero))))))) n_in = record { slash = refl; width = refl; empty = refl }
+gap_is (suc (suc (suc (suc (suc (suc (suc (suc n)))))))) n_in = absurd (omega arith)
+
+map_nothing : (o : Option Men) → option_map (λ men. men) o ≡ o
+map_nothing None = refl
+map_nothing (Some men) = refl
+
+-- a digit passes its squares
+skip : (slash : Bool) (width n : ℕ) (o : Option Man) (rest : List ℕ) (rank file : ℕ) (after : Option Men)
+    → slash ≡ false → width ≡ suc n → o ≡ None → file + suc n ≤ 8
+    → cond slash after (cond (ltb 0 width && leb (file + width) 8) (option_map (λ men. on_square (8 * rank + file) o ++ men) (men_left rest rank (file + width))) None)
+    ≡ men_left rest rank (file + suc n)
+skip slash width n o rest rank file after es ew eo room =
+    ap (λ b. cond b after (cond (ltb 0 width && leb (file + width) 8) (option_map (λ men. on_square (8 * rank + file) o ++ men) (men_left rest rank (file + width))) None)) es
+    ∙ ap (λ w. cond (ltb 0 w && leb (file + w) 8) (option_map (λ men. on_square (8 * rank + file) o ++ men) (men_left rest rank (file + w))) None) ew
+    ∙ ap (λ b. cond (b && leb (file + suc n) 8) (option_map (λ men. on_square (8 * rank + file) o ++ men) (men_left rest rank (file + suc n))) None) (lt-ltb 0 (suc n) (omega arith))
+    ∙ ap (λ b. cond b (option_map (λ men. on_square (8 * rank + file) o ++ men) (men_left rest rank (file + suc n))) None) (le-leb (file + suc n) 8 room)
+    ∙ ap (λ m. option_map (λ men. on_square (8 * rank + file) m ++ men) (men_left rest rank (file + suc n))) eo
+    ∙ map_nothing (men_left rest rank (file + suc n))
+
+gap_read : (gap rank file : ℕ) (rest : List ℕ) → file + gap ≤ 8 → men_left (gap_text gap ++ rest) rank file ≡ men_left rest rank (file + gap)
+gap_read zero rank file rest room = ap (men_left rest rank) (sym (add-zero file))
+gap_read (suc n) rank file rest room =
+    let is = gap_is n (omega arith) in
+    skip (is_slash (49 + n)) (width_of (49 + n)) n (man_of (49 + n)) rest rank file _ is.slash is.width is.empty room
+
+-- a letter is below 256 and its man is the one that was written
+letter_read : (side : Side) (kind : Kind) → (letter_of (record { side = side; kind = kind }) < 256) × (man_of (letter_of (record { side = side; kind = kind })) ≡ Some (record { side = side; kind = kind }))
+letter_read White Q = (omega arith, refl)
+letter_read White R = (omega arith, refl)
+letter_read White B = (omega arith, refl)
+letter_read White N = (omega arith, refl)
+letter_read White K = (omega arith, refl)
+letter_read Black Q = (omega arith, refl)
+letter_read Black R = (omega arith, refl)
+letter_read Black B = (omega arith, refl)
+letter_read Black N = (omega arith, refl)
+letter_read Black K = (omega arith, refl)
+
+man_read : (man : Man) (rank file : ℕ) (rest : List ℕ) → file < 8 → men_left (letter_of man ∷ rest) rank file ≡ option_map (λ men. (man, 8 * rank + file) ∷ men) (men_left rest rank (file + 1))
+man_read man rank file rest room =
+    let is = letter_read man.side man.kind in
+    sym (map_nothing (men_left (letter_of man ∷ rest) rank file))
+    ∙ men_left-letter [] ((man, 8 * rank + file) ∷ []) (letter_of man) man rest rank file (8 * rank + file) is.0 is.1 room refl refl
+
+map_twice : (first : Man × ℕ) (row : Men) (o : Option Men) → option_map (λ men. first ∷ men) (option_map (λ men. row ++ men) o) ≡ option_map (λ men. (first ∷ row) ++ men) o
+map_twice first row None = refl
+map_twice first row (Some men) = refl
+
+-- the rest of a rank, behind so many files and a run of empty squares
+squares_read : (squares : List (Option Man)) (gap rank file : ℕ) (rest : List ℕ) → file + gap + length squares ≡ 8
+    → men_left (squares_text gap squares ++ rest) rank file ≡ option_map (λ men. listed (8 * rank + (file + gap)) squares ++ men) (men_left rest rank 8)
+squares_read [] gap rank file rest whole =
+    gap_read gap rank file rest (omega arith)
+    ∙ ap (men_left rest rank) (omega arith)
+    ∙ sym (map_nothing (men_left rest rank 8))
+squares_read (None ∷ squares) gap rank file rest whole =
+    squares_read squares (gap + 1) rank file rest (omega arith)
+    ∙ ap (λ s. option_map (λ men. listed s squares ++ men) (men_left rest rank 8)) (next (8 * rank) file gap)
+  where
+    next : (a b c : ℕ) → a + (b + (c + 1)) ≡ a + (b + c) + 1
+    next a b c = omega arith
+squares_read (Some man ∷ squares) gap rank file rest whole =
+    ap (λ xs. men_left xs rank file) (append_assoc (gap_text gap) (letter_of man ∷ squares_text 0 squares) rest)
+    ∙ gap_read gap rank file (letter_of man ∷ (squares_text 0 squares ++ rest)) (omega arith)
+    ∙ man_read man rank (file + gap) (squares_text 0 squares ++ rest) (omega arith)
+    ∙ ap (option_map (λ men. (man, 8 * rank + (file + gap)) ∷ men)) (squares_read squares 0 rank (file + gap + 1) rest (omega arith)
+    ∙ ap (λ s. option_map (λ men. listed s squares ++ men) (men_left rest rank 8)) (next (8 * rank) (file + gap)))
+    ∙ map_twice (man, 8 * rank + (file + gap)) (listed (8 * rank + (file + gap) + 1) squares) (men_left rest rank 8)
+  where
+    next : (a b : ℕ) → a + (b + 1 + 0) ≡ a + b + 1
+    next a b = omega arith
+
+ranks_read : (men : Placement) (rank : ℕ) → men_left (ranks_text men rank) rank 0 ≡ Some (listed_ranks men rank)
+ranks_read men zero =
+    ap (λ xs. men_left xs 0 0) (sym (append-nil (rank_text men 0)))
+    ∙ squares_read (squares_of men 0) 0 0 0 [] (omega (arith, length-squares_of men 0))
+    ∙ ap Some (append-nil (listed 0 (squares_of men 0)))
+ranks_read men (suc rank) =
+    squares_read (squares_of men (suc rank)) 0 (suc rank) 0 (47 ∷ ranks_text men rank) (omega (arith, length-squares_of men (suc rank)))
+    ∙ ap (λ o. option_map (λ ms. listed (8 * suc rank + (0 + 0)) (squares_of men (suc rank)) ++ ms) o) (
+    ap (λ b. cond b (men_left (ranks_text men rank) (suc rank - 1) 0) None) (lt-ltb 0 (suc rank) (omega arith))
+    ∙ ap (λ n. men_left (ranks_text men rank) n 0) (pred rank)
+    ∙ ranks_read men rank)
+    ∙ ap (λ s. Some (listed s (squares_of men (suc rank)) ++ listed_ranks men rank)) (add-zero (8 * suc rank))
+  where
+    pred : (r : ℕ) → suc r - 1 ≡ r
+    pred r = omega arith
+
+pub placement_read : (men : Placement) → placement_of (placement_text men) ≡ Some (listed_ranks men 7)
+unfolding placement_text
+placement_read men = sym (men_left_is (ranks_text men 7)) ∙ ranks_read men 7

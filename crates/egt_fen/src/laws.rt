@@ -1,0 +1,23 @@
+//! Laws of the texts. These functions call nothing and answer nothing: their contracts are the laws.
+ghost use Rattle.std.specs.Prelude.{◌≡◌, ℕ, List};
+ghost use Rattle.egt_board.specs.Setup.{IsAdmissible};
+ghost use Rattle.egt_fen.specs.Canonical.{canonical};
+ghost use Rattle.egt_fen.specs.declared.fen.Fen.{Fen};
+ghost use Rattle.egt_fen.specs.declared.fault.FenFault.{FenFault};
+ghost use Rattle.egt_fen.specs.Fen.{Spells, IsFirstFault};
+
+/// The text that is written for a position with its clocks spells it: what was written is read again.
+pub fn written_is_read()
+    ensures { (fen : Fen) → IsAdmissible fen.position → Spells (canonical fen) fen }
+{}
+
+/// No bytes spell two.
+pub fn one_meaning()
+    ensures { (text : List ℕ) (one other : Fen) → Spells text one → Spells text other → one ≡ other }
+{}
+
+/// A text has one first fault at most, and none where it spells a position.
+pub fn one_fault()
+    ensures only { (text : List ℕ) (one other : FenFault) → IsFirstFault text one → IsFirstFault text other → one ≡ other }
+    ensures none { (text : List ℕ) (fen : Fen) (fault : FenFault) → Spells text fen → IsFirstFault text fault → ⊥ }
+{}

@@ -1,0 +1,17 @@
+pub mod Ranges
+pub mod Fronts
+pub mod Lists
+pub mod Values
+pub mod Holding
+pub mod Nodes
+pub mod Exits
+pub mod Closing
+pub mod Ranking
+pub mod Ending
+pub mod Steps
+pub mod Growing
+pub mod Blocks
+pub mod Taking
+pub mod Running
+pub mod Beginning
+pub mod Histories

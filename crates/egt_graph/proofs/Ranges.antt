@@ -1,0 +1,53 @@
+-- A filter of consecutive numbers.
+use Rattle.std.proofs.Common.{◌≡◌, ℕ, zero, suc, ◌+◌, ◌<◌, ◌≤◌, Bool, true, false, cond, List, [], ◌∷◌, ◌++◌, length, refl, ap, ◌∙◌, arith, filter, slice_index, IsFalse}
+use Rattle.egt_graph.specs.Frontier.{frontier_below, is_entry_of_round}
+use Rattle.std.specs.List.{range_with_len}
+use Rattle.std.proofs.lemmas.List.{append-nil}
+use Rattle.std.proofs.lemmas.List.Elements.{filter-append}
+use Rattle.std.proofs.lemmas.List.Sums.{length-filter, count_by-le-length}
+use Rattle.std.proofs.lemmas.List.FromFn.{length-range_with_len}
+
+pub range_with_len-append : (a n m : ℕ) → range_with_len a (n + m) ≡ range_with_len a n ++ range_with_len (a + n) m
+range_with_len-append a zero m = let e : a + 0 ≡ a = omega arith in let f : 0 + m ≡ m = omega arith in rw (f, e) refl
+range_with_len-append a (suc n) m =
+    let e : suc n + m ≡ suc (n + m) = omega arith in
+    let f : a + suc n ≡ a + 1 + n = omega arith in
+    rw (e, f) (ap (λ xs. a ∷ xs) (range_with_len-append (a + 1) n m))
+
+-- one more number
+pub filter_range_more : (p : ℕ → Bool) (a n : ℕ) → filter p (range_with_len a (n + 1)) ≡ filter p (range_with_len a n) ++ cond (p (a + n)) ((a + n) ∷ []) []
+filter_range_more p a n = ap (filter p) (range_with_len-append a n 1) ∙ filter-append p (range_with_len a n) (range_with_len (a + n) 1)
+
+-- numbers that all fail
+pub filter_range_none : (p : ℕ → Bool) (a n : ℕ) → ((k : ℕ) → a ≤ k → k < a + n → p k ≡ false) → filter p (range_with_len a n) ≡ []
+filter_range_none p a zero h = refl
+filter_range_none p a (suc n) h =
+    rw (h a (omega arith) (omega arith)) (filter_range_none p (a + 1) n (λ k low high. h k (omega arith) (omega arith)))
+
+pub filter_range_quiet : (p : ℕ → Bool) (n m : ℕ) → ((k : ℕ) → n ≤ k → k < n + m → p k ≡ false) → filter p (range_with_len 0 (n + m)) ≡ filter p (range_with_len 0 n)
+filter_range_quiet p n m h =
+    let e : 0 + n ≡ n = omega arith in
+    ap (filter p) (range_with_len-append 0 n m) ∙ filter-append p (range_with_len 0 n) (range_with_len (0 + n) m)
+    ∙ ap (λ xs. filter p (range_with_len 0 n) ++ xs) (rw e (filter_range_none p n m h)) ∙ append-nil (filter p (range_with_len 0 n))
+
+pub length-filter_range : (p : ℕ → Bool) (a n : ℕ) → length (filter p (range_with_len a n)) ≤ n
+length-filter_range p a n =
+    omega (arith, length-filter p (range_with_len a n), count_by-le-length p (range_with_len a n), length-range_with_len a n)
+
+pub length_frontier_below : (entries : List ℕ) (n m : ℕ) → length (frontier_below entries n m) ≤ m
+length_frontier_below entries n m = length-filter_range (λ k. is_entry_of_round n (slice_index entries k)) 0 m
+
+-- one more place
+pub frontier_yes : (entries : List ℕ) (n m : ℕ) → is_entry_of_round n (slice_index entries m) ≡ true → frontier_below entries n (m + 1) ≡ frontier_below entries n m ++ m ∷ []
+frontier_yes entries n m h =
+    let e : 0 + m ≡ m = omega arith in
+    filter_range_more (λ k. is_entry_of_round n (slice_index entries k)) 0 m ∙ rw (e, h) refl
+
+pub frontier_no : (entries : List ℕ) (n m : ℕ) → is_entry_of_round n (slice_index entries m) ≡ false → frontier_below entries n (m + 1) ≡ frontier_below entries n m
+frontier_no entries n m h =
+    let e : 0 + m ≡ m = omega arith in
+    filter_range_more (λ k. is_entry_of_round n (slice_index entries k)) 0 m ∙ rw (e, h) (append-nil (frontier_below entries n m))
+
+-- a load without an entry of the round
+pub frontier_quiet : (entries : List ℕ) (n m : ℕ) → ((k : ℕ) → m ≤ k → k < m + 16 → IsFalse (is_entry_of_round n (slice_index entries k))) → frontier_below entries n (m + 16) ≡ frontier_below entries n m
+frontier_quiet entries n m h = filter_range_quiet (λ k. is_entry_of_round n (slice_index entries k)) m 16 h

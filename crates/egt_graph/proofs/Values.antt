@@ -1,0 +1,109 @@
+-- Values of nodes: more plies do no harm, and nobody both wins and loses.
+use Rattle.std.proofs.Common.{◌≡◌, ℕ, zero, suc, ◌+◌, ◌<◌, ◌≤◌, Bool, true, ◌&&◌, List, [], sym, ap, ◌∙◌, inl, inr, ⊎_elim, arith}
+use Rattle.std.specs.List.{list_any, list_all}
+use Rattle.std.proofs.lemmas.Bool.{or_cases, or_left, or_right, and_parts, and_from, false≢true, lt-ltb, ltb-true, cases_order}
+use Rattle.egt_graph.specs.Graph.{Graph, IsNode, IsGame}
+use Rattle.egt_graph.specs.Value.{is_lost_before, is_won_before, has_move, mated_within, mates_within, mated_before, mates_before, decided_within}
+use Rattle.egt_graph.specs.declared.game.Exit.{Exit}
+use Rattle.egt_graph.specs.declared.game.Exit.TheVariants.{Win, Loss, Draw}
+use Rattle.egt_graph.proofs.Lists.{any_weaker, all_weaker, any_all_clash}
+
+pub lost_before_more : (n : ℕ) (e : Exit) → is_lost_before n e ≡ true → is_lost_before (suc n) e ≡ true
+lost_before_more n (Win k) h = h
+lost_before_more n (Loss k) h = let l = ltb-true k n h in lt-ltb _ _ (omega arith)
+lost_before_more n Draw h = h
+
+pub won_before_more : (n : ℕ) (e : Exit) → is_won_before n e ≡ true → is_won_before (suc n) e ≡ true
+won_before_more n (Win k) h = let l = ltb-true k n h in lt-ltb _ _ (omega arith)
+won_before_more n (Loss k) h = h
+won_before_more n Draw h = h
+
+-- one ply more
+pub one_more : (g : Graph) (n i : ℕ) → (mated_within g n i ≡ true → mated_within g (suc n) i ≡ true) × (mates_within g n i ≡ true → mates_within g (suc n) i ≡ true)
+one_more g zero i = (λ h. or_left _ _ h, λ h. absurd (false≢true h))
+one_more g (suc n) i = (
+  λ h. ⊎_elim
+      (λ m. or_left _ _ m)
+      (λ r.
+      let t = and_parts (has_move g i) (list_all (mates_within g n) (g.out i) && list_all (is_won_before (suc n)) (g.exits i)) r in
+      let u = and_parts (list_all (mates_within g n) (g.out i)) (list_all (is_won_before (suc n)) (g.exits i)) t.1 in
+      or_right (g.mated i) _ (and_from _ _ t.0 (and_from _ _
+      (all_weaker (mates_within g n) (mates_within g (suc n)) (λ j. (one_more g n j).1) (g.out i) u.0)
+      (all_weaker (is_won_before (suc n)) (is_won_before (suc (suc n))) (won_before_more (suc n)) (g.exits i) u.1))))
+      (or_cases (g.mated i) _ h),
+  λ h. ⊎_elim
+      (λ a. or_left _ _ (any_weaker (mated_within g n) (mated_within g (suc n)) (λ j. (one_more g n j).0) (g.out i) a))
+      (λ b. or_right (list_any (mated_within g (suc n)) (g.out i)) _ (any_weaker (is_lost_before (suc n)) (is_lost_before (suc (suc n))) (lost_before_more (suc n)) (g.exits i) b))
+      (or_cases (list_any (mated_within g n) (g.out i)) _ h),
+)
+
+pub mates_more : (g : Graph) (n i : ℕ) → mates_within g n i ≡ true → mates_within g (suc n) i ≡ true
+mates_more g n i = (one_more g n i).1
+
+pub mated_more : (g : Graph) (n i : ℕ) → mated_within g n i ≡ true → mated_within g (suc n) i ≡ true
+mated_more g n i = (one_more g n i).0
+
+pub mates_before_within : (g : Graph) (n i : ℕ) → mates_before g n i ≡ true → mates_within g n i ≡ true
+mates_before_within g zero i h = h
+mates_before_within g (suc n) i h = mates_more g n i h
+
+pub mated_before_within : (g : Graph) (n i : ℕ) → mated_before g n i ≡ true → mated_within g n i ≡ true
+mated_before_within g zero i h = absurd (false≢true h)
+mated_before_within g (suc n) i h = mated_more g n i h
+
+exits_clash : (n : ℕ) (e : Exit) → Unit {0} → is_lost_before n e ≡ true → is_won_before n e ≡ true → ⊥
+exits_clash n (Win k) u a b = false≢true a
+exits_clash n (Loss k) u a b = false≢true b
+exits_clash n Draw u a b = false≢true a
+
+any_of_nil : {X : Type 0} (p : X → Bool) (xs : List X) → xs ≡ [] → list_any p xs ≡ true → ⊥
+any_of_nil p xs e h = false≢true (sym (ap (list_any p) e) ∙ h)
+
+-- nobody both mates and is mated
+pub never_both : (g : Graph) → IsGame g → (n i : ℕ) → IsNode g i → mates_within g n i ≡ true → mated_within g n i ≡ true → ⊥
+never_both g law zero i node a b = false≢true a
+never_both g law (suc n) i node a b =
+    ⊎_elim
+    (λ m.
+    let ends = law.mate_ends i node m in
+    ⊎_elim (any_of_nil _ (g.out i) ends.0) (any_of_nil _ (g.exits i) ends.1) (or_cases (list_any (mated_within g n) (g.out i)) _ a))
+    (λ r.
+    let t = and_parts (has_move g i) (list_all (mates_within g n) (g.out i) && list_all (is_won_before (suc n)) (g.exits i)) r in
+    let u = and_parts (list_all (mates_within g n) (g.out i)) (list_all (is_won_before (suc n)) (g.exits i)) t.1 in
+    ⊎_elim
+    (λ s. any_all_clash (IsNode g) (mated_within g n) (mates_within g n) (λ j q x y. never_both g law n j q y x) (g.out i) (law.out_nodes i node) s u.0)
+    (λ s. any_all_clash (λ _. Unit {0}) (is_lost_before (suc n)) (is_won_before (suc n)) (exits_clash (suc n)) (g.exits i) (λ k d l. tt) s u.1)
+    (or_cases (list_any (mated_within g n) (g.out i)) _ a))
+    (or_cases (g.mated i) _ b)
+
+-- ---- any number of plies more
+
+pub mates_le : (g : Graph) (i n m : ℕ) → n ≤ m → mates_within g n i ≡ true → mates_within g m i ≡ true
+mates_le g i n zero le h = let e : n ≡ 0 = omega arith in rw e at h
+mates_le g i n (suc m) le h = elim (cases_order n (suc m)) [
+  | inl e ↦ rw e at h
+  | inr o ↦ elim o [ inl lt ↦ mates_more g m i (mates_le g i n m (omega arith) h) | inr gt ↦ absurd (omega arith) ]
+]
+
+pub mated_le : (g : Graph) (i n m : ℕ) → n ≤ m → mated_within g n i ≡ true → mated_within g m i ≡ true
+mated_le g i n zero le h = let e : n ≡ 0 = omega arith in rw e at h
+mated_le g i n (suc m) le h = elim (cases_order n (suc m)) [
+  | inl e ↦ rw e at h
+  | inr o ↦ elim o [ inl lt ↦ mated_more g m i (mated_le g i n m (omega arith) h) | inr gt ↦ absurd (omega arith) ]
+]
+
+pub decided_le : (g : Graph) (i n m : ℕ) → n ≤ m → decided_within g n i ≡ true → decided_within g m i ≡ true
+decided_le g i n m le h =
+    ⊎_elim (λ a. or_left _ _ (mates_le g i n m le a)) (λ b. or_right (mates_within g m i) _ (mated_le g i n m le b)) (or_cases (mates_within g n i) _ h)
+
+pub never_both_ever : (g : Graph) → IsGame g → (n m i : ℕ) → IsNode g i → mates_within g n i ≡ true → mated_within g m i ≡ true → ⊥
+never_both_ever g law n m i node a b =
+    never_both g law (n + m) i node (mates_le g i n (n + m) (omega arith) a) (mated_le g i m (n + m) (omega arith) b)
+
+pub mates_before_lt : (g : Graph) (i n m : ℕ) → n < m → mates_within g n i ≡ true → mates_before g m i ≡ true
+mates_before_lt g i n zero lt h = absurd (omega arith)
+mates_before_lt g i n (suc m) lt h = mates_le g i n m (omega arith) h
+
+pub mated_before_lt : (g : Graph) (i n m : ℕ) → n < m → mated_within g n i ≡ true → mated_before g m i ≡ true
+mated_before_lt g i n zero lt h = absurd (omega arith)
+mated_before_lt g i n (suc m) lt h = mated_le g i n m (omega arith) h

@@ -1,0 +1,11 @@
+pub mod Graph
+pub mod Value
+pub mod Frontier
+pub mod Rounds
+pub mod Events
+pub mod Columns
+pub mod Batch
+pub mod Run
+pub mod Begin
+pub mod Fault
+pub mod Laws

@@ -1,0 +1,30 @@
+//! Laws over the definitions alone. Each is the contract of a function that does nothing.
+ghost use Rattle.egt_graph.specs.Events.{EventsLeave, EachRoundIsOfItsRank, FinishedRunsAgree};
+ghost use Rattle.egt_graph.specs.Laws.{MorePliesDoNoHarm, EachNodeHasOneValue};
+
+/// A mate within n plies is a mate within more.
+pub fn more_plies_do_no_harm()
+    ensures { MorePliesDoNoHarm }
+{}
+
+/// No node both mates and is mated, and each has one value at most.
+pub fn each_node_has_one_value()
+    ensures { EachNodeHasOneValue }
+{}
+
+/// After any list of expansions, posts and closes, with batches repeated, late or lost: the round is the number of
+/// answers `Next`, and `posted` tells the blocks that were posted since the last of them.
+pub fn any_events_leave_a_round()
+    ensures { EventsLeave }
+{}
+
+/// Within any such list, the nodes that an expansion lists are those of its block whose rank is the round.
+pub fn each_round_is_of_its_rank()
+    ensures { EachRoundIsOfItsRank }
+{}
+
+/// Two finished runs over one game, in whatever orders, have gone as many rounds; their ranks and those that `solve`
+/// gives are equal.
+pub fn finished_runs_agree()
+    ensures { FinishedRunsAgree }
+{}
