@@ -11,5 +11,4 @@ pub mod Positions
 pub mod Gather
 pub mod Sizes
 pub mod Counts
-pub mod Mirrors
 pub mod Turning

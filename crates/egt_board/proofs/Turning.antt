@@ -21,14 +21,7 @@ use Rattle.egt_board.specs.Setup.{Setup, IsAdmissible, IsKingOn, HasKings}
 use Rattle.egt_board.specs.Gait.{Reaches}
 use Rattle.egt_board.specs.Mirror.{square_by, side_by, man_by, IsMirrored}
 use Rattle.egt_board.proofs.Bits.{not_both}
-use Rattle.egt_board.proofs.Mirrors.{square_by-within, square_by-twice, Reaches-by}
-
--- what stands in the mirror
-abbrev pub ShowsMen : Mirror → Placement → Placement → Type 0
-ShowsMen m men men' = (t : ℕ) → t < 64 → map.get men' (square_by m t) ≡ option_map (man_by m) (map.get men t)
-
-abbrev pub OnBoard : Placement → Type 0
-OnBoard men = (s : ℕ) (man : Man) → Stands men s man → s < 64
+use Rattle.egt_board.specs.MirrorLaws.{square_by-within, square_by-twice, Reaches-by, ShowsMen, OnBoard, shows_back, stands_back, free_back, attacked_back, side_by-twice, side_by-turned, side_by-turned_twice, man_by-twice}
 
 -- the men on squares that are no longer left stand in the mirror
 pub record Turns (m : Mirror) (men board : Placement) (rest : SquareSet) : Type 0 where
@@ -36,59 +29,6 @@ pub record Turns (m : Mirror) (men board : Placement) (rest : SquareSet) : Type 
   pub stands : (t : ℕ) → Has rest t → is_some (map.get men t) ≡ true
   pub on_board : OnBoard board
   pub few : map.len board + size_of rest ≤ map.len men
-
--- seen from the mirror
-shows_back : (m : Mirror) (men men' : Placement) → ShowsMen m men men' → (t : ℕ) → t < 64 → map.get men' t ≡ option_map (man_by m) (map.get men (square_by m t))
-shows_back m men men' shows t t_in =
-    subst (λ x. map.get men' x ≡ option_map (man_by m) (map.get men (square_by m t))) (square_by-twice m t t_in) (shows (square_by m t) (square_by-within m t t_in))
-
-side_by-twice : (m : Mirror) (side : Side) → side_by m (side_by m side) ≡ side
-side_by-twice Files side = refl
-side_by-twice Ranks side = refl
-side_by-twice Diagonal side = refl
-side_by-twice Colours White = refl
-side_by-twice Colours Black = refl
-
-side_by-other : (m : Mirror) (side : Side) → side_by m (other_side side) ≡ other_side (side_by m side)
-side_by-other Files side = refl
-side_by-other Ranks side = refl
-side_by-other Diagonal side = refl
-side_by-other Colours side = refl
-
-side_by-turned : (m : Mirror) (side : Side) → side_by m (other_side (side_by m side)) ≡ other_side side
-side_by-turned Files side = refl
-side_by-turned Ranks side = refl
-side_by-turned Diagonal side = refl
-side_by-turned Colours White = refl
-side_by-turned Colours Black = refl
-
-side_by-turned_twice : (m : Mirror) (side : Side) → side_by m (other_side (other_side (side_by m side))) ≡ other_side (other_side side)
-side_by-turned_twice Files side = refl
-side_by-turned_twice Ranks side = refl
-side_by-turned_twice Diagonal side = refl
-side_by-turned_twice Colours White = refl
-side_by-turned_twice Colours Black = refl
-
-man_by-twice : (m : Mirror) (man : Man) → man_by m (man_by m man) ≡ man
-man_by-twice m man = λ i. record { side = side_by-twice m man.side i; kind = man.kind }
-
--- a man that stands in the mirror stands on the board
-stands_back : (m : Mirror) (men men' : Placement) → ShowsMen m men men' → (t : ℕ) (man : Man) → t < 64 → Stands men' t man → Stands men (square_by m t) (man_by m man)
-stands_back m men men' shows t man t_in stands = go (map.get men (square_by m t)) (sym (shows_back m men men' shows t t_in) ∙ stands)
-  where
-    go : (o : Option Man) → option_map (man_by m) o ≡ Some man → o ≡ Some (man_by m man)
-    go None e = let bad : None ≡ Some man = e in absurd (cc)
-    go (Some x) e =
-        let both : Some (man_by m x) ≡ Some man = e in
-        let same : man_by m x ≡ man = cc in
-        ap Some (sym (man_by-twice m x) ∙ ap (man_by m) same)
-
-free_back : (m : Mirror) (men men' : Placement) → ShowsMen m men men' → (t : ℕ) → t < 64 → IsFree men' t → IsFree men (square_by m t)
-free_back m men men' shows t t_in free = go (map.get men (square_by m t)) (sym (shows_back m men men' shows t t_in) ∙ free)
-  where
-    go : (o : Option Man) → option_map (man_by m) o ≡ None → o ≡ None
-    go None e = refl
-    go (Some x) e = let bad : Some (man_by m x) ≡ None = e in absurd (cc)
 
 king_by : (m : Mirror) (men men' : Placement) (side : Side) (k : ℕ) → ShowsMen m men men' → OnBoard men → OnBoard men' → IsKingOn men side k → IsKingOn men' (side_by m side) (square_by m k)
 king_by m men men' side k shows ok ok' king = record {
@@ -99,17 +39,6 @@ king_by m men men' side k shows ok ok' king = record {
       let here : Stands men (square_by m t) (king_of side) = subst (λ x. Stands men (square_by m t) x) (man_by-twice m (king_of side)) back in
       sym (square_by-twice m t t_in) ∙ ap (square_by m) (king.only (square_by m t) here);
 }
-
-attacked_back : (m : Mirror) (men men' : Placement) (side : Side) (t : ℕ) → ShowsMen m men men' → OnBoard men' → IsAttacked men' t side → IsAttacked men (square_by m t) (side_by m side)
-attacked_back m men men' side t shows ok' a =
-    let s_in = ok' a.from a.man a.stands in
-    record {
-      from = square_by m a.from;
-      man = man_by m a.man;
-      stands = stands_back m men men' shows a.from a.man s_in a.stands;
-      theirs = ap (side_by m) a.theirs;
-      reaches = Reaches-by m (IsFree men') (IsFree men) a.man.kind a.from t s_in (free_back m men men' shows) a.reaches;
-    }
 
 kings_by : (m : Mirror) (men men' : Placement) → ShowsMen m men men' → OnBoard men → OnBoard men' → HasKings men → HasKings men'
 kings_by Files men men' shows ok ok' kings = record { white = square_by Files kings.white; black = square_by Files kings.black; white_there = king_by Files men men' White kings.white shows ok ok' kings.white_there; black_there = king_by Files men men' Black kings.black shows ok ok' kings.black_there }

@@ -12,3 +12,4 @@ pub mod Listed
 pub mod Mirror
 pub mod Position
 pub mod Symmetry
+pub mod MirrorLaws

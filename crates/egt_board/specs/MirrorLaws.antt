@@ -1,7 +1,15 @@
--- Mirrors keep what men reach.
-use Rattle.std.proofs.Common.{◌≡◌, ℕ, ◌+◌, ◌-◌, ◌*◌, ◌/◌, ◌%◌, ◌<◌, ◌≤◌, Bool, true, false, ◌&&◌, ◌||◌, eqb, List, [], ◌∷◌, ◌++◌, arith, refl, sym, ap, ◌∙◌, subst, inl, inr, ◌⊎◌}
+-- Laws of mirrors: they keep what men reach and attack.
+use Rattle.std.proofs.Common.{◌≡◌, ℕ, ◌+◌, ◌-◌, ◌*◌, ◌/◌, ◌%◌, ◌<◌, ◌≤◌, Bool, true, false, ◌&&◌, ◌||◌, eqb, List, [], ◌∷◌, ◌++◌, arith, refl, sym, ap, ◌∙◌, subst, inl, inr, Option, Some, None, ◌⊎◌}
 use Rattle.std.specs.List.{list_any, list_all}
 use Rattle.std.proofs.lemmas.Bool.{false≢true, eqb-true}
+use Rattle.std.specs.Option.{option_map}
+use Rattle.std.specs.FinMap as map
+use Rattle.egt_board.specs.declared.man.Side.{Side}
+use Rattle.egt_board.specs.declared.man.Side.TheVariants.{White, Black}
+use Rattle.egt_board.specs.declared.man.Man.{Man}
+use Rattle.egt_board.specs.Man.{other_side}
+use Rattle.egt_board.specs.Placement.{Placement, Stands, IsFree}
+use Rattle.egt_board.specs.Attack.{IsAttacked}
 use Rattle.egt_board.specs.declared.mirror.Mirror.{Mirror}
 use Rattle.egt_board.specs.declared.mirror.Mirror.TheVariants.{Files, Ranks, Diagonal, Colours}
 use Rattle.egt_board.specs.declared.man.Kind.{Kind}
@@ -13,7 +21,7 @@ use Rattle.egt_board.specs.Square.{file_of, rank_of}
 use Rattle.egt_board.specs.Coordinate.{Further}
 use Rattle.egt_board.specs.Step.{Away}
 use Rattle.egt_board.specs.Gait.{Rides, OneOf, Reaches, farthest, steps_of, straight_steps, diagonal_steps, knight_steps}
-use Rattle.egt_board.specs.Mirror.{square_by}
+use Rattle.egt_board.specs.Mirror.{square_by, side_by, man_by}
 
 pub square_by-within : (m : Mirror) (s : ℕ) → s < 64 → square_by m s < 64
 square_by-within Files s h = omega arith
@@ -216,3 +224,75 @@ pub Reaches-by : (m : Mirror) (F G : ℕ → Type 0) (kind : Kind) (s t : ℕ) �
 Reaches-by m F G kind s t s_in free r =
     OneOf-by m (Rides F (farthest kind) s t) (Rides G (farthest kind) (square_by m s) (square_by m t)) (steps_of kind) (steps_of kind) (keeps_steps m kind)
     (λ d ride. Rides-by m F G (farthest kind) s t d s_in free ride) r
+
+-- what stands in the mirror
+abbrev pub ShowsMen : Mirror → Placement → Placement → Type 0
+ShowsMen m men men' = (t : ℕ) → t < 64 → map.get men' (square_by m t) ≡ option_map (man_by m) (map.get men t)
+
+abbrev pub OnBoard : Placement → Type 0
+OnBoard men = (s : ℕ) (man : Man) → Stands men s man → s < 64
+
+-- seen from the mirror
+pub shows_back : (m : Mirror) (men men' : Placement) → ShowsMen m men men' → (t : ℕ) → t < 64 → map.get men' t ≡ option_map (man_by m) (map.get men (square_by m t))
+shows_back m men men' shows t t_in =
+    subst (λ x. map.get men' x ≡ option_map (man_by m) (map.get men (square_by m t))) (square_by-twice m t t_in) (shows (square_by m t) (square_by-within m t t_in))
+
+pub side_by-twice : (m : Mirror) (side : Side) → side_by m (side_by m side) ≡ side
+side_by-twice Files side = refl
+side_by-twice Ranks side = refl
+side_by-twice Diagonal side = refl
+side_by-twice Colours White = refl
+side_by-twice Colours Black = refl
+
+pub side_by-other : (m : Mirror) (side : Side) → side_by m (other_side side) ≡ other_side (side_by m side)
+side_by-other Files side = refl
+side_by-other Ranks side = refl
+side_by-other Diagonal side = refl
+side_by-other Colours side = refl
+
+pub side_by-turned : (m : Mirror) (side : Side) → side_by m (other_side (side_by m side)) ≡ other_side side
+side_by-turned Files side = refl
+side_by-turned Ranks side = refl
+side_by-turned Diagonal side = refl
+side_by-turned Colours White = refl
+side_by-turned Colours Black = refl
+
+pub side_by-turned_twice : (m : Mirror) (side : Side) → side_by m (other_side (other_side (side_by m side))) ≡ other_side (other_side side)
+side_by-turned_twice Files side = refl
+side_by-turned_twice Ranks side = refl
+side_by-turned_twice Diagonal side = refl
+side_by-turned_twice Colours White = refl
+side_by-turned_twice Colours Black = refl
+
+pub man_by-twice : (m : Mirror) (man : Man) → man_by m (man_by m man) ≡ man
+man_by-twice m man = λ i. record { side = side_by-twice m man.side i; kind = man.kind }
+
+-- a man that stands in the mirror stands on the board
+pub stands_back : (m : Mirror) (men men' : Placement) → ShowsMen m men men' → (t : ℕ) (man : Man) → t < 64 → Stands men' t man → Stands men (square_by m t) (man_by m man)
+stands_back m men men' shows t man t_in stands = go (map.get men (square_by m t)) (sym (shows_back m men men' shows t t_in) ∙ stands)
+  where
+    go : (o : Option Man) → option_map (man_by m) o ≡ Some man → o ≡ Some (man_by m man)
+    go None e = let bad : None ≡ Some man = e in absurd (cc)
+    go (Some x) e =
+        let both : Some (man_by m x) ≡ Some man = e in
+        let same : man_by m x ≡ man = cc in
+        ap Some (sym (man_by-twice m x) ∙ ap (man_by m) same)
+
+pub free_back : (m : Mirror) (men men' : Placement) → ShowsMen m men men' → (t : ℕ) → t < 64 → IsFree men' t → IsFree men (square_by m t)
+free_back m men men' shows t t_in free = go (map.get men (square_by m t)) (sym (shows_back m men men' shows t t_in) ∙ free)
+  where
+    go : (o : Option Man) → option_map (man_by m) o ≡ None → o ≡ None
+    go None e = refl
+    go (Some x) e = let bad : Some (man_by m x) ≡ None = e in absurd (cc)
+
+pub attacked_back : (m : Mirror) (men men' : Placement) (side : Side) (t : ℕ) → ShowsMen m men men' → OnBoard men' → IsAttacked men' t side → IsAttacked men (square_by m t) (side_by m side)
+attacked_back m men men' side t shows ok' a =
+    let s_in = ok' a.from a.man a.stands in
+    record {
+      from = square_by m a.from;
+      man = man_by m a.man;
+      stands = stands_back m men men' shows a.from a.man s_in a.stands;
+      theirs = ap (side_by m) a.theirs;
+      reaches = Reaches-by m (IsFree men') (IsFree men) a.man.kind a.from t s_in (free_back m men men' shows) a.reaches;
+    }
+
