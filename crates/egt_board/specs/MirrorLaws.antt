@@ -295,4 +295,3 @@ attacked_back m men men' side t shows ok' a =
       theirs = ap (side_by m) a.theirs;
       reaches = Reaches-by m (IsFree men') (IsFree men) a.man.kind a.from t s_in (free_back m men men' shows) a.reaches;
     }
-

@@ -8,3 +8,4 @@ pub mod Standing
 pub mod Text
 pub mod Chess
 pub mod Found
+pub mod Mirrored

@@ -3,10 +3,12 @@
 
 ghost use Rattle.std.specs.Prelude.{◌≡◌, ◌↔◌, ℕ, ◌≤◌, Bool, IsTrue, Option};
 ghost use Rattle.egt_board.specs.Setup.{Setup, IsAdmissible};
+ghost use Rattle.egt_board.specs.declared.mirror.Mirror.{Mirror};
 ghost use Rattle.egt_moves.specs.Arena.{Value, Win, Loss, HasValue, IsMatedWithin, MatesWithin, AvoidsMateFor, CannotMateWithin, AnswersWithin};
 ghost use Rattle.egt_moves.specs.Chess.{chess};
 ghost use Rattle.egt_moves.specs.Entries.{JudgedOver, ZeroingJudgedOver};
 ghost use Rattle.egt_moves.specs.Likeness.{Alike, IsMirror};
+ghost use Rattle.egt_moves.specs.Mirrored.{AreMirrored};
 ghost use Rattle.egt_moves.specs.Zeroing.{HasZeroing, ZeroesLosingWithin, ZeroesWinningWithin};
 
 /// A forced mate is forced within any greater number of plies, and a defence lasts for any lesser one.
@@ -50,6 +52,15 @@ pub fn zeroes_in_time()
     ensures winning { (n : ℕ) (p : Setup) → MatesWithin chess n p → ZeroesWinningWithin chess n p }
     ensures win { (m n : ℕ) (p : Setup) → HasValue chess p (Win m) → HasZeroing chess p (Win n) → n ≤ m }
     ensures loss { (m n : ℕ) (p : Setup) → HasValue chess p (Loss m) → HasZeroing chess p (Loss n) → n ≤ m }
+{}
+
+/// A position and the same position in a mirror, of files, of ranks, of the long diagonal or of colours, have
+/// the same value and the same zeroing distance.
+pub fn mirrored_positions_are_alike()
+    ensures values { (mirror : Mirror) (p p' : Setup) → AreMirrored mirror p p' →
+        (v : Value) → HasValue chess p v ↔ HasValue chess p' v }
+    ensures distances { (mirror : Mirror) (p p' : Setup) → AreMirrored mirror p p' →
+        (v : Value) → HasZeroing chess p v ↔ HasZeroing chess p' v }
 {}
 
 /// A map of positions that keeps steps, checkmate and zeroing keeps values and zeroing distances.
