@@ -90,12 +90,12 @@ decided_among {A} P each xs = go (each_or_some (λ x. ¬ (P x)) P (λ x. ⊎_eli
     go (inl none) = inr (λ some. let h = found_among (λ x. ¬ (P x)) P xs none some in h.1 h.2)
     go (inr some) = inl some
 
-module _ {S M : Type 0} (a : Arena S) (moves : List M) (tried : (p : S) → M → Option (Next a p)) where
+module _ {S M : Type 0} (a : Arena S) (moves : S → List M) (tried : (p : S) → M → Option (Next a p)) where
   -- the successors, where finitely many moves can be tried at each position and each step is what one of them gives
-  pub successors_among : ((p q : S) (m : a.Move p q) → Any (λ x. IsSomeAnd (tried p x) (λ s. SameStep a p s (q, m))) moves) → ((p : S) → Decided (a.Checkmate p)) → ((p q : S) (m : a.Move p q) → Decided (a.Zeroes p q m)) → Successors a
+  pub successors_among : ((p q : S) (m : a.Move p q) → Any (λ x. IsSomeAnd (tried p x) (λ s. SameStep a p s (q, m))) (moves p)) → ((p : S) → Decided (a.Checkmate p)) → ((p q : S) (m : a.Move p q) → Decided (a.Zeroes p q m)) → Successors a
   successors_among finds checkmate zeroes = record {
-    steps = λ p. filter_map (tried p) moves;
-    complete = λ p q m. any_filter_map (tried p) (λ s. SameStep a p s (q, m)) moves (finds p q m);
+    steps = λ p. filter_map (tried p) (moves p);
+    complete = λ p q m. any_filter_map (tried p) (λ s. SameStep a p s (q, m)) (moves p) (finds p q m);
     checkmate = checkmate;
     zeroes = zeroes;
   }

@@ -18,3 +18,5 @@ pub mod Growing
 pub mod Walking
 pub mod Ending
 pub mod Trying
+pub mod Telling
+pub mod NextMoves

@@ -1,7 +1,7 @@
 //! What holds of the rules of play alone. These functions do nothing: a caller calls one to know what it
 //! ensures.
 
-ghost use Rattle.std.specs.Prelude.{◌≡◌, ◌↔◌, ℕ, ◌≤◌, Bool, IsTrue, Option};
+ghost use Rattle.std.specs.Prelude.{◌≡◌, ◌↔◌, ◌⊎◌, ℕ, ◌≤◌, Bool, IsTrue, Option};
 ghost use Rattle.egt_board.specs.Setup.{Setup, IsAdmissible};
 ghost use Rattle.egt_board.specs.declared.mirror.Mirror.{Mirror};
 ghost use Rattle.egt_moves.specs.Arena.{Value, Win, Loss, HasValue, IsMatedWithin, MatesWithin, AvoidsMateFor, CannotMateWithin, AnswersWithin};
@@ -19,10 +19,12 @@ pub fn more_plies()
     ensures cannot { (m n : ℕ) (p : Setup) → m ≤ n → CannotMateWithin chess n p → CannotMateWithin chess m p }
 {}
 
-/// The winner does not force mate within as many plies as the defender keeps from it.
-pub fn halves_exclude()
-    ensures mated { (n : ℕ) (p : Setup) → IsMatedWithin chess n p → AvoidsMateFor chess n p → ⊥ }
-    ensures mates { (n : ℕ) (p : Setup) → MatesWithin chess n p → CannotMateWithin chess n p → ⊥ }
+/// The winner forces mate within n plies or the defender keeps from it for n, and never both.
+pub fn halves_meet()
+    ensures mated { (n : ℕ) (p : Setup) → IsMatedWithin chess n p ⊎ AvoidsMateFor chess n p }
+    ensures mates { (n : ℕ) (p : Setup) → MatesWithin chess n p ⊎ CannotMateWithin chess n p }
+    ensures mated_once { (n : ℕ) (p : Setup) → IsMatedWithin chess n p → AvoidsMateFor chess n p → ⊥ }
+    ensures mates_once { (n : ℕ) (p : Setup) → MatesWithin chess n p → CannotMateWithin chess n p → ⊥ }
 {}
 
 /// No position is both won and lost, and none has two values.
@@ -33,7 +35,8 @@ pub fn one_value()
 
 /// A search of some number of plies has one answer.
 pub fn one_answer()
-    ensures { (n : ℕ) (p : Setup) (x y : Option Value) → AnswersWithin chess n p x → AnswersWithin chess n p y → x ≡ y }
+    ensures some { (n : ℕ) (p : Setup) → (answer : Option Value) × AnswersWithin chess n p answer }
+    ensures one { (n : ℕ) (p : Setup) (x y : Option Value) → AnswersWithin chess n p x → AnswersWithin chess n p y → x ≡ y }
 {}
 
 /// Entries that fit their successors' are the values and the zeroing distances, in whatever class a test tells.
