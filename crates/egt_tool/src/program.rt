@@ -65,6 +65,11 @@ fn out_of_memory(rt: &impl Eprint) -> Status {
     Status::Memory
 }
 
+fn device_failed(rt: &impl Eprint) -> Status {
+    let _ = eprintln!(rt; "error device");
+    Status::Device
+}
+
 /// Prints the text that a command made.
 fn deliver<R: Print + Eprint>(rt: &R, made: Result<Vec<u8>, MovesFault>) -> Status {
     match made {
@@ -78,10 +83,7 @@ fn deliver<R: Print + Eprint>(rt: &R, made: Result<Vec<u8>, MovesFault>) -> Stat
 fn show<R: Print + Eprint>(rt: &R, text: &[u8]) -> Status {
     match io::writer(rt).write_all(text) {
         Ok(()) => Status::Done,
-        Err(_) => {
-            let _ = eprintln!(rt; "error device");
-            Status::Device
-        }
+        Err(_) => device_failed(rt),
     }
 }
 
@@ -91,7 +93,7 @@ fn explain<R: Print + Eprint>(rt: &R, error: &clap::Error) -> Status {
         return out_of_memory(rt);
     }
     match error.print(rt) {
-        Err(_) if !error.use_stderr() => Status::Device,
+        Err(_) if !error.use_stderr() => device_failed(rt),
         _ if error.use_stderr() => Status::Usage,
         _ => Status::Done,
     }
