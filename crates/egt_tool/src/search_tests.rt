@@ -104,6 +104,12 @@ fn searches_from_1_to_6_plies(rt: HostRuntime) {
     assert_eq!(rt; run(&rt, &["egtb", "search", "256", fen]), 2);
     assert_eq!(rt; run(&rt, &["egtb", "search", "two", fen]), 2);
     assert_eq!(rt; run(&rt, &["egtb", "search", "2"]), 2);
-    assert_eq!(rt; run(&rt, &["egtb", "search", "2", "k7/8/8/8/8/8/8/K7 w - -"]), 0);
-    assert_eq!(rt; run(&rt, &["egtb", "search", "2", "k7/8/8/8/8/8/8/K7 w -"]), 1);
+    assert_eq!(rt;
+        run(&rt, &["egtb", "search", "2", "k7/8/8/8/8/8/8/K7 w - -"]),
+        0
+    );
+    assert_eq!(rt;
+        run(&rt, &["egtb", "search", "2", "k7/8/8/8/8/8/8/K7 w -"]),
+        1
+    );
 }

@@ -1,9 +1,8 @@
 //! The program `egtb`: hands its words to the library and ends with the status that it answers.
 #![tactic(auto)]
 
-use std::env;
-use std::io;
 use std::process::ExitCode;
+use std::{env, io};
 
 fn main(rt: HostRuntime) -> io::Result<ExitCode> {
     let mut words = Vec::new(rt.alloc());
