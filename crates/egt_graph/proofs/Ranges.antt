@@ -37,16 +37,16 @@ length-filter_range p a n =
 pub length_frontier_below : (entries : List ℕ) (n m : ℕ) → length (frontier_below entries n m) ≤ m
 length_frontier_below entries n m = length-filter_range (λ k. is_entry_of_round n (slice_index entries k)) 0 m
 
--- one more place
-pub frontier_yes : (entries : List ℕ) (n m : ℕ) → is_entry_of_round n (slice_index entries m) ≡ true → frontier_below entries n (m + 1) ≡ frontier_below entries n m ++ m ∷ []
-frontier_yes entries n m h =
-    let e : 0 + m ≡ m = omega arith in
-    filter_range_more (λ k. is_entry_of_round n (slice_index entries k)) 0 m ∙ rw (e, h) refl
+-- one more number from 0 on, which passes or not
+pub filter_below_yes : (p : ℕ → Bool) (n : ℕ) → p n ≡ true → filter p (range_with_len 0 (n + 1)) ≡ filter p (range_with_len 0 n) ++ n ∷ []
+filter_below_yes p n h =
+    let e : 0 + n ≡ n = omega arith in
+    filter_range_more p 0 n ∙ rw (e, h) refl
 
-pub frontier_no : (entries : List ℕ) (n m : ℕ) → is_entry_of_round n (slice_index entries m) ≡ false → frontier_below entries n (m + 1) ≡ frontier_below entries n m
-frontier_no entries n m h =
-    let e : 0 + m ≡ m = omega arith in
-    filter_range_more (λ k. is_entry_of_round n (slice_index entries k)) 0 m ∙ rw (e, h) (append-nil (frontier_below entries n m))
+pub filter_below_no : (p : ℕ → Bool) (n : ℕ) → p n ≡ false → filter p (range_with_len 0 (n + 1)) ≡ filter p (range_with_len 0 n)
+filter_below_no p n h =
+    let e : 0 + n ≡ n = omega arith in
+    filter_range_more p 0 n ∙ rw (e, h) (append-nil (filter p (range_with_len 0 n)))
 
 -- a load without an entry of the round
 pub frontier_quiet : (entries : List ℕ) (n m : ℕ) → ((k : ℕ) → m ≤ k → k < m + 16 → IsFalse (is_entry_of_round n (slice_index entries k))) → frontier_below entries n (m + 16) ≡ frontier_below entries n m

@@ -9,3 +9,4 @@ pub mod Run
 pub mod Begin
 pub mod Fault
 pub mod Laws
+pub mod Sample

@@ -23,3 +23,6 @@ pub use rounds::Rounds;
 pub use scan::frontier;
 pub use solver::{SolveFault, solve};
 pub use std::alloc::AllocError as NoMemory;
+
+#[cfg(test)]
+mod tests;

@@ -1,0 +1,5 @@
+mod games;
+mod hand_made;
+mod orders;
+mod places;
+mod refused;

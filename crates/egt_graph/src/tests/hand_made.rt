@@ -1,0 +1,156 @@
+//! Small games whose values were worked out by hand.
+use super::games::{Sample, Stairs};
+use crate::{Exit, SolveFault, solve};
+use std::test::*;
+
+// 0 leaves for a position lost in 3: a win in 4, found late and through the exit alone.
+// 1 has one move, to 0: a loss in 5.
+// 2 leaves for positions won in 1 and in 6: a loss in 7, which waits for the last.
+// 3 leaves for a position won in 1 and for a draw, which saves it.
+// 4 has one move, to 2: a win in 8. No other node has a rank above 7.
+fn with_exits() -> Sample<'static> {
+    Sample {
+        size: 5,
+        voids: &[],
+        mates: &[],
+        moves: &[(1, 0), (4, 2)],
+        exits: &[
+            (0, Exit::Loss(3)),
+            (2, Exit::Win(1)),
+            (2, Exit::Win(6)),
+            (3, Exit::Win(1)),
+            (3, Exit::Draw),
+        ],
+    }
+}
+
+#[test]
+fn exits_that_fall_due(rt: HostRuntime) -> Result<(), Fail> {
+    let ranks = solve(rt.alloc(), &with_exits(), 32_000)?;
+    assert_eq!(rt; ranks.entries(), [10, 13, 17, 1, 18].as_slice());
+    Ok(())
+}
+
+#[test]
+fn limit_met_and_passed(rt: HostRuntime) -> Result<(), Fail> {
+    let ranks = solve(rt.alloc(), &with_exits(), 8)?;
+    assert_eq!(rt; ranks.entries(), [10, 13, 17, 1, 18].as_slice());
+    assert!(rt;
+        matches!(
+            solve(rt.alloc(), &with_exits(), 7),
+            Err(SolveFault::TooDeep)
+        )
+    );
+    assert!(rt;
+        matches!(
+            solve(rt.alloc(), &with_exits(), 0),
+            Err(SolveFault::TooDeep)
+        )
+    );
+    Ok(())
+}
+
+// 0 and 1 lead to each other: draws. 2 has no move and is no checkmate: a draw. 3 is void. 4 is checkmate.
+// 5 leads to 4: a win in 1. 6 leads to 5 alone: a loss in 2. 7 leads to 5 and to 0: it keeps the draw.
+// 8 leads to 6, which is lost in 2, and to 4: a win in 1 and not in 3.
+#[test]
+fn moves_alone(rt: HostRuntime) -> Result<(), Fail> {
+    let game = Sample {
+        size: 9,
+        voids: &[3],
+        mates: &[4],
+        moves: &[
+            (0, 1),
+            (1, 0),
+            (5, 4),
+            (6, 5),
+            (7, 5),
+            (7, 0),
+            (8, 6),
+            (8, 4),
+        ],
+        exits: &[],
+    };
+    let ranks = solve(rt.alloc(), &game, 2)?;
+    assert_eq!(rt; ranks.entries(), [1, 1, 1, 0, 3, 4, 7, 1, 4].as_slice());
+    assert!(rt; matches!(solve(rt.alloc(), &game, 1), Err(SolveFault::TooDeep)));
+    Ok(())
+}
+
+// Two moves lead from 1 to 0, which wins in 1: they are one edge, and 1 is lost in 2.
+#[test]
+fn two_moves_to_one_node(rt: HostRuntime) -> Result<(), Fail> {
+    let game = Sample {
+        size: 2,
+        voids: &[],
+        mates: &[],
+        moves: &[(1, 0), (1, 0)],
+        exits: &[(0, Exit::Loss(0))],
+    };
+    let ranks = solve(rt.alloc(), &game, 9)?;
+    assert_eq!(rt; ranks.entries(), [4, 7].as_slice());
+    Ok(())
+}
+
+// 1 leaves for a position lost in 1: a win in 2. 0 leads to 1 and leaves for positions won in 0, twice, and in 2: it is lost
+// once the last of these is known, in 3.
+#[test]
+fn moves_and_exits(rt: HostRuntime) -> Result<(), Fail> {
+    let game = Sample {
+        size: 2,
+        voids: &[],
+        mates: &[],
+        moves: &[(0, 1), (1, 0)],
+        exits: &[
+            (0, Exit::Win(0)),
+            (0, Exit::Win(0)),
+            (0, Exit::Win(2)),
+            (1, Exit::Loss(1)),
+        ],
+    };
+    let ranks = solve(rt.alloc(), &game, 3)?;
+    assert_eq!(rt; ranks.entries(), [9, 6].as_slice());
+    Ok(())
+}
+
+#[test]
+fn no_nodes(rt: HostRuntime) -> Result<(), Fail> {
+    let ranks = solve(rt.alloc(), &Stairs { size: 0, step: 1 }, 0)?;
+    assert_eq!(rt; ranks.entries().len(), 0);
+    Ok(())
+}
+
+// Node i is i moves from the checkmate: lost where i is even, won where it is odd. The last stands in a block of its own.
+#[test]
+fn one_node_more_than_a_block(rt: HostRuntime) -> Result<(), Fail> {
+    let game = Stairs {
+        size: 4097,
+        step: 1,
+    };
+    let ranks = solve(rt.alloc(), &game, 4096)?;
+    assert_eq!(rt; ranks.entries().len(), 4097);
+    for (node, entry) in ranks.entries().iter().enumerate() {
+        assert_eq!(rt;
+            usize::from(*entry),
+            node.wrapping_mul(2).wrapping_add(3).wrapping_sub(node % 2)
+        );
+    }
+    Ok(())
+}
+
+#[test]
+fn one_ply_too_few(rt: HostRuntime) {
+    let game = Stairs {
+        size: 4097,
+        step: 1,
+    };
+    assert!(rt; matches!(solve(rt.alloc(), &game, 4095), Err(SolveFault::TooDeep)));
+}
+
+#[test]
+fn faults(rt: HostRuntime) {
+    assert_eq!(rt; SolveFault::NoMemory.number(), 1);
+    assert_eq!(rt; SolveFault::NoMemory.name(), "NoMemory");
+    assert_eq!(rt; SolveFault::TooDeep.number(), 2);
+    assert_eq!(rt; SolveFault::TooDeep.name(), "TooDeep");
+}
