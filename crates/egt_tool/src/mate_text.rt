@@ -63,7 +63,10 @@ pub fn search_text(alloc: Global, plies: u8, fen: &[u8]) -> Result<Vec<u8>, Move
         Err(fault) => return Err(MovesFault::Fen(fault)),
     };
     let line = match search(&read.position, plies) {
-        Search::Mate { winner, plies: within } => mate(alloc, winner, within),
+        Search::Mate {
+            winner,
+            plies: within,
+        } => mate(alloc, winner, within),
         Search::NotWithin => no_mate(alloc, plies),
     };
     match line {

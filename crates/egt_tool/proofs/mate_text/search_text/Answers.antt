@@ -11,10 +11,10 @@ returns-in-Ok-line-clause-mate c = record {
   answers = c.search.ensures;
   line = elim c.match-search.branch [
     | in-Mate w ↦
-      subst (λ made. IfOk made (λ text. text.items ≡ mate_line w.in-Mate.winner w.in-Mate.within)) (sym w.line-is ∙ c.in-Ok-line.is) w.mate-line.ensures
-      ∙ ap (line_of c.args.plies) (sym w.in-Mate.is)
+        subst (λ made. IfOk made (λ text. text.items ≡ mate_line w.in-Mate.winner w.in-Mate.within)) (sym w.line-is ∙ c.in-Ok-line.is) w.mate-line.ensures
+        ∙ ap (line_of c.args.plies) (sym w.in-Mate.is)
     | in-NotWithin w ↦
-      subst (λ made. IfOk made (λ text. text.items ≡ no_mate_line c.args.plies)) (sym w.line-is ∙ c.in-Ok-line.is) w.no_mate-line.ensures
-      ∙ ap (line_of c.args.plies) (sym w.in-NotWithin.is)
-  ]
+        subst (λ made. IfOk made (λ text. text.items ≡ no_mate_line c.args.plies)) (sym w.line-is ∙ c.in-Ok-line.is) w.no_mate-line.ensures
+        ∙ ap (line_of c.args.plies) (sym w.in-NotWithin.is)
+  ];
 }
