@@ -30,9 +30,9 @@ pub struct Rounds<'g, G: Game> {
     entries: Vec<u16>,
     /// For each node the moves and exits that it waits for: at first all, and one less for each that is found won.
     waits: Vec<u8>,
-    /// For each node the exits not yet due that are won.
+    /// For each node the exits into positions won for the opponent that have not fallen due.
     later: Vec<u8>,
-    /// Has the node an exit that is lost for its opponent?
+    /// Has the node an exit into a position lost for the opponent?
     lost: Vec<bool>,
     lost_due: Schedule,
     won_due: Schedule,

@@ -12,10 +12,10 @@ use Rattle.egt_board.specs.declared.man.Man.{Man}
 use Rattle.egt_board.specs.Man.{other_side}
 use Rattle.egt_board.specs.Placement.{Placement, Stands, IsFree, IsHeld, get-insert_same, get-insert_other, get-remove_same, get-remove_other}
 use Rattle.egt_board.specs.Gait.{Reaches, Reaches-on_board}
-use Rattle.egt_board.specs.Attack.{king_of, IsInCheck}
+use Rattle.egt_board.specs.Attack.{king_of, IsInCheck, IsAttacked}
 use Rattle.egt_board.specs.Setup.{Setup, IsAdmissible, IsKingOn, HasKings}
 use Rattle.egt_moves.specs.declared.chess_move.Move.{Move}
-use Rattle.egt_moves.specs.Legal.{Goes, men_after, after}
+use Rattle.egt_moves.specs.Legal.{Goes, Leads, men_after, after, plain}
 
 -- what stands where after the move
 pub after_to : (p : Setup) (man : Man) (m : Move) → map.get (men_after p man m) m.to ≡ Some man

@@ -7,12 +7,12 @@ use Rattle.std.proofs.lemmas.List.Elements.{Contains-push, Contains-push_cases, 
 use Rattle.std.proofs.lemmas.List.{length-append}
 use Rattle.egt_board.specs.declared.man.Man.{Man}
 use Rattle.egt_board.specs.declared.square_set.SquareSet.{SquareSet}
-use Rattle.egt_board.specs.Placement.{Stands}
+use Rattle.egt_board.specs.Placement.{Stands, IsHeld}
 use Rattle.egt_board.specs.SquareSet.{Has, size_of, most_reached}
 use Rattle.egt_board.specs.Attack.{IsInCheck}
 use Rattle.egt_board.specs.Setup.{Setup}
 use Rattle.egt_moves.specs.declared.chess_move.Move.{Move}
-use Rattle.egt_moves.specs.Legal.{Goes, IsLegal, men_after, after, plain}
+use Rattle.egt_moves.specs.Legal.{Goes, Leads, IsLegal, men_after, after, plain}
 use Rattle.egt_moves.specs.Order.{place_of, promotion_place, IsInOrder}
 use Rattle.egt_moves.proofs.After.{one_man}
 use Rattle.egt_moves.proofs.InOrder.{IsInOrder-push}

@@ -1,6 +1,7 @@
 -- The list of moves over all men of the side to move.
-use Rattle.std.proofs.Common.{◌≡◌, ◌≢◌, ℕ, ◌+◌, ◌*◌, ◌<◌, ◌≤◌, ◌↔◌, ◌⊎◌, List, [], length, arith, refl, sym, ap, ◌∙◌, inl, inr, subst}
+use Rattle.std.proofs.Common.{◌≡◌, ◌≢◌, ℕ, ◌+◌, ◌*◌, ◌<◌, ◌≤◌, ◌↔◌, ◌⊎◌, List, [], ◌∷◌, ◌++◌, length, None, Some, arith, refl, sym, ap, ◌∙◌, inl, inr, subst}
 use Rattle.std.specs.Int.{bit_at}
+use Rattle.std.specs.FinMap as map
 use Rattle.std.specs.List.{Contains}
 use Rattle.std.proofs.lemmas.Bool.{cases_eq, cases_lt}
 use Rattle.std.proofs.lemmas.Nat.Bits.{bit_at-lt}
@@ -16,7 +17,7 @@ use Rattle.egt_board.specs.SquareSet.{Has, size_of, size_of-some, most_reached}
 use Rattle.egt_board.specs.Attack.{king_of}
 use Rattle.egt_board.specs.Setup.{Setup, IsAdmissible, IsKingOn}
 use Rattle.egt_moves.specs.declared.chess_move.Move.{Move}
-use Rattle.egt_moves.specs.Legal.{IsLegal}
+use Rattle.egt_moves.specs.Legal.{Goes, Leads, IsLegal, plain}
 use Rattle.egt_moves.specs.Order.{place_of, promotion_place, IsInOrder}
 use Rattle.egt_moves.proofs.After.{one_man}
 

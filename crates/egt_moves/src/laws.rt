@@ -1,10 +1,10 @@
 //! What holds of the rules of play alone. These functions do nothing: a caller calls one to know what it
 //! ensures.
 
-ghost use Rattle.std.specs.Prelude.{◌≡◌, ◌↔◌, ◌⊎◌, ℕ, ◌≤◌, Bool, IsTrue, Option};
+ghost use Rattle.std.specs.Prelude.{◌≡◌, ◌↔◌, ◌⊎◌, ℕ, suc, ◌≤◌, Bool, IsTrue, Option};
 ghost use Rattle.egt_board.specs.Setup.{Setup, IsAdmissible};
 ghost use Rattle.egt_board.specs.declared.mirror.Mirror.{Mirror};
-ghost use Rattle.egt_moves.specs.Arena.{Value, Win, Loss, HasValue, IsMatedWithin, MatesWithin, AvoidsMateFor, CannotMateWithin, AnswersWithin};
+ghost use Rattle.egt_moves.specs.Arena.{Value, Win, Loss, SomeMove, EachMove, HasValue, IsMatedWithin, MatesWithin, AvoidsMateFor, CannotMateWithin, AnswersWithin};
 ghost use Rattle.egt_moves.specs.Chess.{chess};
 ghost use Rattle.egt_moves.specs.Entries.{JudgedOver, ZeroingJudgedOver};
 ghost use Rattle.egt_moves.specs.Likeness.{Alike, IsMirror};
@@ -33,6 +33,19 @@ pub fn one_value()
     ensures one { (p : Setup) (v w : Value) → HasValue chess p v → HasValue chess p w → v ≡ w }
 {}
 
+/// Whoever forces mate within n plies, or is mated within n, does so in a least number of plies.
+pub fn least_plies()
+    ensures win { (n : ℕ) (p : Setup) → MatesWithin chess n p → (k : ℕ) × HasValue chess p (Win k) × (k ≤ n) }
+    ensures loss { (n : ℕ) (p : Setup) → IsMatedWithin chess n p → (k : ℕ) × HasValue chess p (Loss k) × (k ≤ n) }
+{}
+
+/// A win goes on to a loss one ply less, a loss to a win one ply less, and no step from a loss leads to a later win.
+pub fn play_goes_on()
+    ensures win { (n : ℕ) (p : Setup) → HasValue chess p (Win (suc n)) → SomeMove chess p (λ q. HasValue chess q (Loss n)) }
+    ensures loss { (n : ℕ) (p : Setup) → HasValue chess p (Loss (suc n)) → SomeMove chess p (λ q. HasValue chess q (Win n)) }
+    ensures no_later { (n : ℕ) (p : Setup) → HasValue chess p (Loss (suc n)) → EachMove chess p (MatesWithin chess n) }
+{}
+
 /// A search of some number of plies has one answer.
 pub fn one_answer()
     ensures some { (n : ℕ) (p : Setup) → (answer : Option Value) × AnswersWithin chess n p answer }
@@ -46,6 +59,20 @@ pub fn entries_are_true()
     ensures distances { (own : Setup → Bool) (e z : Setup → Value) →
         JudgedOver chess (λ p. IsTrue (own p)) e → ZeroingJudgedOver chess (λ p. IsTrue (own p)) e z →
         (p : Setup) → IsTrue (own p) → HasZeroing chess p (z p) }
+{}
+
+/// The values and the zeroing distances fit, so that entries that are true are never refused.
+pub fn true_entries_fit()
+    ensures values { (own : Setup → Bool) (e : Setup → Value) →
+        ((p : Setup) → IsTrue (own p) → HasValue chess p (e p)) →
+        ((p q : Setup) → IsTrue (own p) → chess.Move p q → IsTrue (own q) ⊎ HasValue chess q (e q)) →
+        JudgedOver chess (λ p. IsTrue (own p)) e }
+    ensures distances { (own : Setup → Bool) (e z : Setup → Value) →
+        ((p : Setup) → IsTrue (own p) → HasValue chess p (e p)) →
+        ((p : Setup) → IsTrue (own p) → HasZeroing chess p (z p)) →
+        ((p q : Setup) → IsTrue (own p) → chess.Move p q → IsTrue (own q) ⊎ HasValue chess q (e q)) →
+        ((p q : Setup) → IsTrue (own p) → chess.Move p q → IsTrue (own q) ⊎ HasZeroing chess q (z q)) →
+        ZeroingJudgedOver chess (λ p. IsTrue (own p)) e z }
 {}
 
 /// A mate within some number of plies is a capture or mate within as many: the zeroing distance never exceeds

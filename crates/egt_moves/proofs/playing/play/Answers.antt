@@ -1,9 +1,9 @@
 use Rattle.std.proofs.Common.{◌≡◌, ◌∙◌, sym, ap, subst, rules, None}
-use Rattle.egt_board.specs.Placement.{Stands}
+use Rattle.egt_board.specs.Placement.{Placement, Stands}
 use Rattle.egt_board.specs.Setup.{Setup, IsAdmissible}
 use Rattle.egt_board.specs.Man.{other_side}
 use Rattle.egt_board.specs.Attack.{IsInCheck}
-use Rattle.egt_moves.specs.Legal.{Goes, men_after, after, plain}
+use Rattle.egt_moves.specs.Legal.{Goes, Leads, men_after, after, plain}
 use Rattle.egt_moves.proofs.After.{admissible_after, none_of}
 use Rattle.egt_moves.proofs.playing.play.Goals as goal
 
