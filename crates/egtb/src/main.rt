@@ -1,17 +1,30 @@
 //! The program `egtb`: hands its words to the library and ends with the status that it answers.
 #![tactic(auto)]
 
+use std::io::ErrorKind;
 use std::process::ExitCode;
 use std::{env, io};
 
-fn main(rt: HostRuntime) -> io::Result<ExitCode> {
+/// Runs the program on its words.
+fn run(rt: &HostRuntime) -> io::Result<u8> {
     let mut words = Vec::new(rt.alloc());
-    for word in env::args(&rt)? {
+    for word in env::args(rt)? {
         words.push(word)?;
     }
     let mut texts = Vec::new(rt.alloc());
     for word in &words {
         texts.push(word.as_str())?;
     }
-    Ok(ExitCode::from(egt_tool::run(&rt, texts.as_slice())))
+    Ok(egt_tool::run(rt, texts.as_slice()))
+}
+
+fn main(rt: HostRuntime) -> io::Result<ExitCode> {
+    match run(&rt) {
+        Ok(status) => Ok(ExitCode::from(status)),
+        Err(error) if error.kind() == ErrorKind::OutOfMemory => {
+            let _ = eprintln!(rt; "error memory");
+            Ok(ExitCode::from(4))
+        }
+        Err(error) => Err(error),
+    }
 }
