@@ -1,9 +1,9 @@
-//! Why a text of moves could not be made.
+//! Why there is no text for a FEN.
 use egt_fen::FenFault;
 use std::alloc::{AllocError, AllocFailed};
 use thiserror::Error;
 
-/// Why there is no text for a FEN.
+/// What keeps a text from being made of a FEN.
 #[derive(Clone, Copy, Debug, PartialEq, Eq, Error)]
 pub enum MovesFault {
     /// The FEN was refused, with its first fault.
