@@ -1,5 +1,6 @@
 //! Games for the tests.
-ghost use Rattle.std.specs.Prelude.{◌≡◌, ◌<◌, ◌≤◌, length};
+ghost use Rattle.std.specs.Prelude.{◌≡◌, ◌<◌, ◌≤◌, length, filter};
+ghost use Rattle.std.specs.List.{range_with_len};
 ghost use Rattle.egt_graph.specs.Sample.{sample, sample_is_game, stairs, stairs_are_a_game, is_listed, is_pair, is_move, is_short};
 
 use crate::game::{Exit, Game};
@@ -50,6 +51,19 @@ impl Sample<'_> {
             && !listed(self.voids, j)
             && paired(self.moves, i, j)
     }
+
+    /// The nodes that a move from `i` leads to.
+    fn moves_from(&self, i: u32) -> ArrayVec<u32, 64>
+        ensures { result.items ≡ filter (is_move self.now.size self.now.voids.now self.now.mates.now self.now.moves.now i) (range_with_len 0 self.now.size) }
+    {
+        let mut nodes = ArrayVec::new();
+        for j in 0..self.size {
+            if self.moves_to(i, j) {
+                nodes.push(j);
+            }
+        }
+        nodes
+    }
 }
 
 impl Game for Sample<'_> {
@@ -70,13 +84,7 @@ impl Game for Sample<'_> {
     }
 
     fn out(&self, i: u32) -> ArrayVec<u32, 64> {
-        let mut nodes = ArrayVec::new();
-        for j in 0..self.size {
-            if self.moves_to(i, j) {
-                nodes.push(j);
-            }
-        }
-        nodes
+        self.moves_from(i)
     }
 
     fn degree(&self, i: u32) -> usize {
