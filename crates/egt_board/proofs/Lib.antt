@@ -6,9 +6,11 @@ pub mod Placed
 pub mod Held
 pub mod Attacks
 pub mod Kings
+pub mod Pawns
 pub mod Lists
 pub mod Positions
 pub mod Gather
 pub mod Sizes
 pub mod Counts
 pub mod Turning
+pub mod Settling

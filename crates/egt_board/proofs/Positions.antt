@@ -7,6 +7,7 @@ use Rattle.egt_board.specs.declared.man.Side.TheVariants.{White, Black}
 use Rattle.egt_board.specs.Man.{other_side}
 use Rattle.egt_board.specs.Placement.{Placement}
 use Rattle.egt_board.specs.Setup.{IsKingOn}
+use Rattle.egt_board.specs.Target.{IsTarget, FitsTarget}
 
 -- the king that waits, chosen by the side to move
 pub waiting_king : (men : Placement) (side : Side) (white black s : ℕ) → IsKingOn men White white → IsKingOn men Black black → ((side ≡ White) × (s ≡ black)) ⊎ ((side ≡ Black) × (s ≡ white)) → IsKingOn men (other_side side) s
@@ -14,6 +15,13 @@ waiting_king men side white black s w b chosen = elim chosen [
   | inl h ↦ subst (λ x. IsKingOn men (other_side x) s) (sym h.0) (subst (IsKingOn men Black) (sym h.1) b)
   | inr h ↦ subst (λ x. IsKingOn men (other_side x) s) (sym h.0) (subst (IsKingOn men White) (sym h.1) w)
 ]
+
+-- a target that fits, and none
+pub fits_some : (men : Placement) (mover : Side) (target : Option ℕ) (t : ℕ) → target ≡ Some t → IsTarget men mover t → FitsTarget men mover target
+fits_some men mover target t is fits = subst (FitsTarget men mover) (sym is) fits
+
+pub fits_none : (men : Placement) (mover : Side) (target : Option ℕ) → target ≡ None → FitsTarget men mover target
+fits_none men mover target is = subst (FitsTarget men mover) (sym is) tt
 
 pub none_of : {A : Type 0} (o : Option A) → is_some o ≡ false → o ≡ None
 none_of None e = refl

@@ -3,8 +3,11 @@ use Rattle.std.proofs.Common.{◌≡◌, ◌≢◌, ℕ, zero, suc, ◌+◌, ◌
 use Rattle.std.specs.Int.{bit_at}
 use Rattle.std.proofs.lemmas.Bool.{cases_eq, eq-eqb, leb-true, le-leb, false≢true}
 use Rattle.std.proofs.lemmas.Nat.Bits.{bit_at-lt}
+use Rattle.egt_board.specs.declared.man.Side.{Side}
+use Rattle.egt_board.specs.declared.man.Side.TheVariants.{White, Black}
 use Rattle.egt_board.specs.declared.man.Kind.{Kind}
-use Rattle.egt_board.specs.declared.man.Kind.TheVariants.{Q, R, B, N, K}
+use Rattle.egt_board.specs.declared.man.Kind.TheVariants.{Q, R, B, N, P, K}
+use Rattle.egt_board.specs.declared.man.Man.{Man}
 use Rattle.egt_board.specs.declared.step.Step.{Step}
 use Rattle.egt_board.specs.declared.square_set.SquareSet.{SquareSet}
 use Rattle.std.specs.List.{list_all}
@@ -15,7 +18,8 @@ use Rattle.egt_board.specs.Coordinate.{Further}
 use Rattle.egt_board.specs.Step.{Away}
 use Rattle.egt_board.specs.Square.{file_of, rank_of}
 use Rattle.egt_board.specs.SquareSet.{total, size_of, most_reached}
-use Rattle.egt_board.specs.Gait.{Rides, OneOf, Reaches, steps_of, straight_steps, diagonal_steps, knight_steps}
+use Rattle.egt_board.specs.Gait.{Rides, OneOf, Reaches, farthest, steps_of, straight_steps, diagonal_steps, knight_steps, pawn_steps}
+use Rattle.egt_board.specs.Pawn.{Advances, farthest_advance, forward}
 
 pub total-le : (f g : ℕ → ℕ) (n : ℕ) → ((t : ℕ) → t < n → f t ≤ g t) → total f n ≤ total g n
 total-le f g zero le = omega arith
@@ -59,28 +63,46 @@ within : ℕ → ℕ → ℕ → Bool
 within n s t =
     leb (file_of s) (file_of t + n) && (leb (file_of t) (file_of s + n) && (leb (rank_of s) (rank_of t + n) && leb (rank_of t) (rank_of s + n)))
 
+-- some ranks further forward
+further : Side → ℕ → ℕ → ℕ → Bool
+further White n s t = eqb (rank_of t) (rank_of s + n)
+further Black n s t = eqb (rank_of s) (rank_of t + n)
+
 -- a square that a man of this kind may attack from another, whatever stands where
-near : Kind → ℕ → ℕ → Bool
-near Q s t = aligned s t
-near R s t = aligned s t
-near B s t = aligned s t
-near N s t = within 2 s t
-near K s t = not (eqb s t) && within 1 s t
+near : Side → Kind → ℕ → ℕ → Bool
+near side Q s t = aligned s t
+near side R s t = aligned s t
+near side B s t = aligned s t
+near side N s t = within 2 s t
+near side P s t = further side 1 s t && (eqb (file_of t) (file_of s + 1) || eqb (file_of s) (file_of t + 1))
+near side K s t = not (eqb s t) && within 1 s t
+
+-- a square to which a pawn may advance
+near_ahead : Side → ℕ → ℕ → Bool
+near_ahead side s t = eqb (file_of s) (file_of t) && (further side 1 s t || further side 2 s t)
 
 all_below : (ℕ → Bool) → ℕ → Bool
 all_below p zero = true
 all_below p (suc n) = p n && all_below p n
 
-few_near : Kind → ℕ → Bool
-few_near kind s = leb (total (λ t. cond (near kind s t) 1 0) 64) (most_reached kind)
+-- at most so many squares are near to this one
+few_near : (ℕ → ℕ → Bool) → ℕ → ℕ → Bool
+few_near is_near most s = leb (total (λ t. cond (is_near s t) 1 0) 64) most
 
-all_few : (kind : Kind) → all_below (few_near kind) 64 ≡ true
-unfolding aligned within near all_below few_near
-all_few Q = refl
-all_few R = refl
-all_few B = refl
-all_few N = refl
-all_few K = refl
+all_few : (side : Side) (kind : Kind) → all_below (few_near (near side kind) (most_reached kind)) 64 ≡ true
+unfolding aligned within further near all_below few_near
+all_few side Q = refl
+all_few side R = refl
+all_few side B = refl
+all_few side N = refl
+all_few White P = refl
+all_few Black P = refl
+all_few side K = refl
+
+all_few_ahead : (side : Side) → all_below (few_near (near_ahead side) 2) 64 ≡ true
+unfolding further near_ahead all_below few_near
+all_few_ahead White = refl
+all_few_ahead Black = refl
 
 one_of_four : (a b c d : Bool) → (a ≡ true) ⊎ ((b ≡ true) ⊎ ((c ≡ true) ⊎ (d ≡ true))) → (a || (b || (c || d))) ≡ true
 one_of_four true b c d h = refl
@@ -156,11 +178,11 @@ diagonal_line F most s t some = elim some [
   ]
 ]
 
-OneOf-append : (P : Step → Type 0) (ds es : List Step) → OneOf P (ds ++ es) → OneOf P ds ⊎ OneOf P es
-OneOf-append P [] es some = inr some
-OneOf-append P (d ∷ ds) es some = elim some [
+OneOf-append : (Holds : Step → Type 0) (ds es : List Step) → OneOf Holds (ds ++ es) → OneOf Holds ds ⊎ OneOf Holds es
+OneOf-append Holds [] es some = inr some
+OneOf-append Holds (d ∷ ds) es some = elim some [
   | inl p ↦ inl (inl p)
-  | inr rest ↦ elim (OneOf-append P ds es rest) [ inl q ↦ inl (inr q) | inr q ↦ inr q ]
+  | inr rest ↦ elim (OneOf-append Holds ds es rest) [ inl q ↦ inl (inr q) | inr q ↦ inr q ]
 ]
 
 -- a step that goes somewhere
@@ -192,11 +214,11 @@ small_step : ℕ → Step → Bool
 small_step n d = leb d.wide n && leb d.high n
 
 -- one of several small steps is small
-some_small : (P : Step → Type 0) (n : ℕ) (ds : List Step) → list_all (small_step n) ds ≡ true → OneOf P ds → (d : Step) × P d × (small_step n d ≡ true)
-some_small P n [] all none = absurd none
-some_small P n (d ∷ ds) all some = elim some [
+some_small : (Holds : Step → Type 0) (n : ℕ) (ds : List Step) → list_all (small_step n) ds ≡ true → OneOf Holds ds → (d : Step) × Holds d × (small_step n d ≡ true)
+some_small Holds n [] all none = absurd none
+some_small Holds n (d ∷ ds) all some = elim some [
   | inl p ↦ (d, p, left_true _ _ all)
-  | inr rest ↦ some_small P n ds (right_true _ _ all) rest
+  | inr rest ↦ some_small Holds n ds (right_true _ _ all) rest
 ]
 
 Further-within : (w : Way) (by n a b : ℕ) → by ≤ n → Further w (1 * by) a b → (a ≤ b + n) × (b ≤ a + n)
@@ -221,28 +243,92 @@ within_of F n s t ds all some =
 apart_true : (s t : ℕ) → s ≢ t → not (eqb s t) ≡ true
 apart_true s t apart = elim (eqb_tells s t) [ inl h ↦ absurd (apart h.1) | inr h ↦ ap not h.0 ]
 
+one_of_two : (a b : Bool) → (a ≡ true) ⊎ (b ≡ true) → (a || b) ≡ true
+one_of_two true b h = refl
+one_of_two false b h = elim h [ inl e ↦ absurd (false≢true e) | inr e ↦ e ]
+
+-- a pawn attacks the squares next to the one ahead
+near_pawn : (F : ℕ → Type 0) (side : Side) (s t : ℕ) → OneOf (Rides F 1 s t) (pawn_steps side) → near side P s t ≡ true
+unfolding near further
+near_pawn F White s t some = elim some [
+  | inl r ↦
+      let one : r.count ≡ 1 = (let m = r.moves in let w = r.within in omega arith) in
+      let h = r.away.along in let g = r.away.across in
+      both_true _ _ (eq-eqb (rank_of t) (rank_of s + 1) (omega arith)) (one_of_two _ _ (inl (eq-eqb (file_of t) (file_of s + 1) (omega arith))))
+  | inr some ↦ elim some [
+    | inl r ↦
+        let one : r.count ≡ 1 = (let m = r.moves in let w = r.within in omega arith) in
+        let h = r.away.along in let g = r.away.across in
+        both_true _ _ (eq-eqb (rank_of t) (rank_of s + 1) (omega arith)) (one_of_two _ _ (inr (eq-eqb (file_of s) (file_of t + 1) (omega arith))))
+    | inr none ↦ absurd none
+  ]
+]
+near_pawn F Black s t some = elim some [
+  | inl r ↦
+      let one : r.count ≡ 1 = (let m = r.moves in let w = r.within in omega arith) in
+      let h = r.away.along in let g = r.away.across in
+      both_true _ _ (eq-eqb (rank_of s) (rank_of t + 1) (omega arith)) (one_of_two _ _ (inl (eq-eqb (file_of t) (file_of s + 1) (omega arith))))
+  | inr some ↦ elim some [
+    | inl r ↦
+        let one : r.count ≡ 1 = (let m = r.moves in let w = r.within in omega arith) in
+        let h = r.away.along in let g = r.away.across in
+        both_true _ _ (eq-eqb (rank_of s) (rank_of t + 1) (omega arith)) (one_of_two _ _ (inr (eq-eqb (file_of s) (file_of t + 1) (omega arith))))
+    | inr none ↦ absurd none
+  ]
+]
+
 -- a man attacks only squares that are near
-near_of : (F : ℕ → Type 0) (kind : Kind) (s t : ℕ) → Reaches F kind s t → near kind s t ≡ true
+near_of : (F : ℕ → Type 0) (side : Side) (kind : Kind) (s t : ℕ) → OneOf (Rides F (farthest kind) s t) (steps_of side kind) → near side kind s t ≡ true
 unfolding near small_step
-near_of F Q s t r = aligned_of s t (elim (OneOf-append (Rides F 7 s t) straight_steps diagonal_steps r) [ inl h ↦ straight_line F 7 s t h | inr h ↦ diagonal_line F 7 s t h ])
-near_of F R s t r = aligned_of s t (straight_line F 7 s t r)
-near_of F B s t r = aligned_of s t (diagonal_line F 7 s t r)
-near_of F N s t r = within_of F 2 s t knight_steps refl r
-near_of F K s t r =
+near_of F side Q s t r = aligned_of s t (elim (OneOf-append (Rides F 7 s t) straight_steps diagonal_steps r) [ inl h ↦ straight_line F 7 s t h | inr h ↦ diagonal_line F 7 s t h ])
+near_of F side R s t r = aligned_of s t (straight_line F 7 s t r)
+near_of F side B s t r = aligned_of s t (diagonal_line F 7 s t r)
+near_of F side N s t r = within_of F 2 s t knight_steps refl r
+near_of F side P s t r = near_pawn F side s t r
+near_of F side K s t r =
     both_true (not (eqb s t)) (within 1 s t)
     (apart_true s t (elim (OneOf-append (Rides F 1 s t) straight_steps diagonal_steps r) [ inl h ↦ straight_apart F 1 s t h | inr h ↦ diagonal_apart F 1 s t h ]))
-    (within_of F 1 s t (steps_of K) refl r)
+    (within_of F 1 s t (steps_of side K) refl r)
 
--- so it attacks few
-pub reach_few : (set : SquareSet) (F : ℕ → Type 0) (kind : Kind) (s : ℕ) → s < 64 → ((t : ℕ) → bit_at set.bits t ≡ 1 → Reaches F kind s t) → size_of set ≤ most_reached kind
+-- a pawn advances only to squares that are near ahead
+one_or_two : (b : Bool) (n : ℕ) → 0 < n → n ≤ cond b 2 1 → (n ≡ 1) ⊎ (n ≡ 2)
+one_or_two true n some most = elim (cases_eq n 1) [ inl e ↦ inl e | inr other ↦ inr (omega arith) ]
+one_or_two false n some most = inl (omega arith)
+
+ahead_of : (F : ℕ → Type 0) (side : Side) (s t : ℕ) → Advances F side s t → near_ahead side s t ≡ true
+unfolding near_ahead further
+ahead_of F White s t a =
+    let g = a.rides.away.across in
+    both_true _ _ (eq-eqb (file_of s) (file_of t) (omega arith)) (one_of_two _ _ (go (one_or_two _ a.rides.count a.rides.moves a.rides.within)))
+  where
+    go : (a.rides.count ≡ 1) ⊎ (a.rides.count ≡ 2) → (eqb (rank_of t) (rank_of s + 1) ≡ true) ⊎ (eqb (rank_of t) (rank_of s + 2) ≡ true)
+    go (inl one) = let h = a.rides.away.along in inl (eq-eqb (rank_of t) (rank_of s + 1) (omega arith))
+    go (inr two) = let h = a.rides.away.along in inr (eq-eqb (rank_of t) (rank_of s + 2) (omega arith))
+ahead_of F Black s t a =
+    let g = a.rides.away.across in
+    both_true _ _ (eq-eqb (file_of s) (file_of t) (omega arith)) (one_of_two _ _ (go (one_or_two _ a.rides.count a.rides.moves a.rides.within)))
+  where
+    go : (a.rides.count ≡ 1) ⊎ (a.rides.count ≡ 2) → (eqb (rank_of s) (rank_of t + 1) ≡ true) ⊎ (eqb (rank_of s) (rank_of t + 2) ≡ true)
+    go (inl one) = let h = a.rides.away.along in inl (eq-eqb (rank_of s) (rank_of t + 1) (omega arith))
+    go (inr two) = let h = a.rides.away.along in inr (eq-eqb (rank_of s) (rank_of t + 2) (omega arith))
+
+-- a set of squares that are near has few
+few_of_near : (is_near : ℕ → ℕ → Bool) (most : ℕ) (set : SquareSet) (s : ℕ) → all_below (few_near is_near most) 64 ≡ true → s < 64 → ((t : ℕ) → bit_at set.bits t ≡ 1 → is_near s t ≡ true) → size_of set ≤ most
 unfolding size_of few_near
-reach_few set F kind s s_in reached =
-    let few : total (λ t. cond (near kind s t) 1 0) 64 ≤ most_reached kind = leb-true _ _ (at_below (few_near kind) 64 s (all_few kind) s_in) in
-    let le : total (bit_at set.bits) 64 ≤ total (λ t. cond (near kind s t) 1 0) 64 = total-le (bit_at set.bits) (λ t. cond (near kind s t) 1 0) 64 (λ t _. bit_le t) in
+few_of_near is_near most set s all s_in nears =
+    let few : total (λ t. cond (is_near s t) 1 0) 64 ≤ most = leb-true _ _ (at_below (few_near is_near most) 64 s all s_in) in
+    let le : total (bit_at set.bits) 64 ≤ total (λ t. cond (is_near s t) 1 0) 64 = total-le (bit_at set.bits) (λ t. cond (is_near s t) 1 0) 64 (λ t _. bit_le t) in
     omega arith
   where
-    bit_le : (t : ℕ) → bit_at set.bits t ≤ cond (near kind s t) 1 0
+    bit_le : (t : ℕ) → bit_at set.bits t ≤ cond (is_near s t) 1 0
     bit_le t = elim (cases_eq (bit_at set.bits t) 1) [
-      | inl one ↦ rw (near_of F kind s t (reached t one)) (omega arith)
+      | inl one ↦ rw (nears t one) (omega arith)
       | inr other ↦ let small = bit_at-lt set.bits t in omega arith
     ]
+
+-- so a man attacks few, and a pawn advances to few
+pub reach_few : (set : SquareSet) (F : ℕ → Type 0) (man : Man) (s : ℕ) → s < 64 → ((t : ℕ) → bit_at set.bits t ≡ 1 → Reaches F man s t) → size_of set ≤ most_reached man.kind
+reach_few set F man s s_in reached = few_of_near (near man.side man.kind) (most_reached man.kind) set s (all_few man.side man.kind) s_in (λ t one. near_of F man.side man.kind s t (reached t one))
+
+pub advances_few : (set : SquareSet) (F : ℕ → Type 0) (side : Side) (s : ℕ) → s < 64 → ((t : ℕ) → bit_at set.bits t ≡ 1 → Advances F side s t) → size_of set ≤ 2
+advances_few set F side s s_in advances = few_of_near (near_ahead side) 2 set s (all_few_ahead side) s_in (λ t one. ahead_of F side s t (advances t one))

@@ -10,7 +10,8 @@ use Rattle.egt_board.specs.declared.mirror.Mirror.{Mirror}
 use Rattle.egt_board.specs.declared.mirror.Mirror.TheVariants.{Files, Ranks, Diagonal, Colours}
 use Rattle.egt_board.specs.declared.man.Side.{Side}
 use Rattle.egt_board.specs.declared.man.Side.TheVariants.{White, Black}
-use Rattle.egt_board.specs.declared.man.Kind.TheVariants.{K}
+use Rattle.egt_board.specs.declared.man.Kind.{Kind}
+use Rattle.egt_board.specs.declared.man.Kind.TheVariants.{P, K}
 use Rattle.egt_board.specs.declared.man.Man.{Man}
 use Rattle.egt_board.specs.declared.square_set.SquareSet.{SquareSet}
 use Rattle.egt_board.specs.Man.{other_side}
@@ -19,9 +20,12 @@ use Rattle.egt_board.specs.SquareSet.{Has, size_of}
 use Rattle.egt_board.specs.Attack.{king_of, IsAttacked, IsInCheck}
 use Rattle.egt_board.specs.Setup.{Setup, IsAdmissible, IsKingOn, HasKings}
 use Rattle.egt_board.specs.Gait.{Reaches}
-use Rattle.egt_board.specs.Mirror.{square_by, side_by, man_by, IsMirrored}
+use Rattle.egt_board.specs.Mirror.{square_by, side_by, man_by, Allows}
+use Rattle.egt_board.specs.Square.{rank_of}
+use Rattle.egt_board.specs.Pawn.{pawn_of, ahead, PawnsFit, HasNoPawn}
+use Rattle.egt_board.specs.Target.{target_rank, IsTarget, FitsTarget}
 use Rattle.egt_board.proofs.Bits.{not_both}
-use Rattle.egt_board.specs.MirrorLaws.{square_by-within, square_by-twice, Reaches-by, ShowsMen, OnBoard, shows_back, stands_back, free_back, attacked_back, side_by-twice, side_by-turned, side_by-turned_twice, man_by-twice}
+use Rattle.egt_board.specs.MirrorLaws.{Suits, suits_of, square_by-within, square_by-twice, Reaches-by, ShowsMen, OnBoard, shows_back, stands_back, free_back, attacked_back, side_by-twice, side_by-turned, side_by-turned_twice, man_by-twice}
 
 -- the men on squares that are no longer left stand in the mirror
 pub record Turns (m : Mirror) (men board : Placement) (rest : SquareSet) : Type 0 where
@@ -46,21 +50,93 @@ kings_by Ranks men men' shows ok ok' kings = record { white = square_by Ranks ki
 kings_by Diagonal men men' shows ok ok' kings = record { white = square_by Diagonal kings.white; black = square_by Diagonal kings.black; white_there = king_by Diagonal men men' White kings.white shows ok ok' kings.white_there; black_there = king_by Diagonal men men' Black kings.black shows ok ok' kings.black_there }
 kings_by Colours men men' shows ok ok' kings = record { white = square_by Colours kings.black; black = square_by Colours kings.white; white_there = king_by Colours men men' Black kings.black shows ok ok' kings.black_there; black_there = king_by Colours men men' White kings.white shows ok ok' kings.white_there }
 
+-- a rank stays between the first and the last
+between_by : (m : Mirror) (kind : Kind) (s : ℕ) → s < 64 → Suits m kind → kind ≡ P → (0 < rank_of s) × (rank_of s < 7) → (0 < rank_of (square_by m s)) × (rank_of (square_by m s) < 7)
+between_by Files kind s s_in suits pawn h = (let a = h.0 in omega arith, let b = h.1 in omega arith)
+between_by Ranks kind s s_in suits pawn h = absurd (suits pawn)
+between_by Diagonal kind s s_in suits pawn h = absurd (suits pawn)
+between_by Colours kind s s_in suits pawn h = (let b = h.1 in omega arith, let a = h.0 in omega arith)
+
+-- pawns stay off the first rank and the last
+pawns_by : (m : Mirror) (men men' : Placement) → Allows m men → ShowsMen m men men' → OnBoard men' → PawnsFit men → PawnsFit men'
+pawns_by m men men' allows shows ok' fit = λ t man stands pawn.
+    let t_in = ok' t man stands in
+    let back = stands_back m men men' shows t man t_in stands in
+    subst (λ x. (0 < rank_of x) × (rank_of x < 7)) (square_by-twice m t t_in)
+    (between_by m man.kind (square_by m t) (square_by-within m t t_in) (suits_of m men (square_by m t) (man_by m man) allows back) pawn (fit (square_by m t) (man_by m man) back pawn))
+
+stands_by : (m : Mirror) (men men' : Placement) (s : ℕ) (man : Man) → ShowsMen m men men' → s < 64 → Stands men s man → Stands men' (square_by m s) (man_by m man)
+stands_by m men men' s man shows s_in stands = shows s s_in ∙ ap (option_map (man_by m)) stands
+
+free_by : (m : Mirror) (men men' : Placement) (s : ℕ) → ShowsMen m men men' → s < 64 → IsFree men s → IsFree men' (square_by m s)
+free_by m men men' s shows s_in free = shows s s_in ∙ ap (option_map (man_by m)) free
+
+-- forward stays forward for the side that the side becomes
+pub ahead_files : (side : Side) (t : ℕ) → 0 < rank_of t → rank_of t < 7 → square_by Files (ahead side t) ≡ ahead side (square_by Files t)
+ahead_files White t low high = omega arith
+ahead_files Black t low high = omega arith
+
+pub ahead_colours : (side : Side) (t : ℕ) → 0 < rank_of t → rank_of t < 7 → square_by Colours (ahead side t) ≡ ahead (other_side side) (square_by Colours t)
+ahead_colours White t low high = omega arith
+ahead_colours Black t low high = omega arith
+
+pub ahead_within : (side : Side) (t : ℕ) → 0 < rank_of t → rank_of t < 7 → ahead side t < 64
+ahead_within White t low high = omega arith
+ahead_within Black t low high = omega arith
+
+target_between : (mover : Side) (t : ℕ) → rank_of t ≡ target_rank mover → (0 < rank_of t) × (rank_of t < 7)
+target_between White t e = (omega arith, omega arith)
+target_between Black t e = (omega arith, omega arith)
+
+rank_colours : (mover : Side) (t : ℕ) → rank_of t ≡ target_rank mover → rank_of (square_by Colours t) ≡ target_rank (other_side mover)
+rank_colours White t e = omega arith
+rank_colours Black t e = omega arith
+
+-- a target stays one
+target_by : (m : Mirror) (men men' : Placement) (mover : Side) (t : ℕ) → Allows m men → ShowsMen m men men' → IsTarget men mover t → IsTarget men' (side_by m mover) (square_by m t)
+target_by Files men men' mover t allows shows is =
+    let b = target_between mover t is.rank in
+    record {
+      rank = (let e = is.rank in omega arith);
+      empty = free_by Files men men' t shows (let h = b.1 in omega arith) is.empty;
+      left = subst (IsFree men') (ahead_files mover t b.0 b.1) (free_by Files men men' (ahead mover t) shows (ahead_within mover t b.0 b.1) is.left);
+      advanced = subst (λ x. Stands men' x (pawn_of (other_side mover))) (ahead_files (other_side mover) t b.0 b.1) (stands_by Files men men' (ahead (other_side mover) t) (pawn_of (other_side mover)) shows (ahead_within (other_side mover) t b.0 b.1) is.advanced);
+    }
+target_by Ranks men men' mover t allows shows is = absurd (allows _ _ is.advanced refl)
+target_by Diagonal men men' mover t allows shows is = absurd (allows _ _ is.advanced refl)
+target_by Colours men men' mover t allows shows is =
+    let b = target_between mover t is.rank in
+    record {
+      rank = rank_colours mover t is.rank;
+      empty = free_by Colours men men' t shows (let h = b.1 in omega arith) is.empty;
+      left = subst (IsFree men') (ahead_colours mover t b.0 b.1) (free_by Colours men men' (ahead mover t) shows (ahead_within mover t b.0 b.1) is.left);
+      advanced = subst (λ x. Stands men' x (pawn_of (other_side (other_side mover)))) (ahead_colours (other_side mover) t b.0 b.1) (stands_by Colours men men' (ahead (other_side mover) t) (pawn_of (other_side mover)) shows (ahead_within (other_side mover) t b.0 b.1) is.advanced);
+    }
+
+targets_by : (m : Mirror) (men men' : Placement) (mover : Side) (target : Option ℕ) → Allows m men → ShowsMen m men men' → FitsTarget men mover target → FitsTarget men' (side_by m mover) (option_map (square_by m) target)
+targets_by m men men' mover None allows shows fits = tt
+targets_by m men men' mover (Some t) allows shows is = target_by m men men' mover t allows shows is
+
+-- no pawn comes by a mirror
+pub no_pawn_by : (m : Mirror) (men men' : Placement) → ShowsMen m men men' → OnBoard men' → HasNoPawn men → HasNoPawn men'
+no_pawn_by m men men' shows ok' none = λ t man stands. none (square_by m t) (man_by m man) (stands_back m men men' shows t man (ok' t man stands) stands)
+
 -- a mirrored position is admissible
-pub admissible_by : (m : Mirror) (p : Setup) (men' : Placement) (target : Option ℕ) → IsAdmissible p → ShowsMen m p.men men' → OnBoard men' → map.len men' ≤ map.len p.men → target ≡ None
+pub admissible_by : (m : Mirror) (p : Setup) (men' : Placement) (target : Option ℕ) → IsAdmissible p → Allows m p.men → ShowsMen m p.men men' → OnBoard men' → map.len men' ≤ map.len p.men → target ≡ option_map (square_by m) p.target
     → IsAdmissible (record { men = men'; side = side_by m p.side; target = target })
-admissible_by m p men' target ok shows ok' few none = record {
+admissible_by m p men' target ok allows shows ok' few is = record {
   few = let le = ok.few in omega arith;
   on_board = ok';
   kings = kings_by m p.men men' shows ok.on_board ok' ok.kings;
-  target = none;
+  pawns = pawns_by m p.men men' allows shows ok' ok.pawns;
+  target = subst (FitsTarget men' (side_by m p.side)) (sym is) (targets_by m p.men men' p.side p.target allows shows ok.target);
   quiet = λ check.
       let t_in = ok' check.square _ check.stands in
       let back = stands_back m p.men men' shows check.square (king_of (other_side (side_by m p.side))) t_in check.stands in
       ok.quiet (record {
         square = square_by m check.square;
         stands = back ∙ ap Some (λ i. record { side = side_by-turned m p.side i; kind = K });
-        attacked = subst (IsAttacked p.men (square_by m check.square)) (side_by-turned_twice m p.side) (attacked_back m p.men men' _ check.square shows ok' check.attacked);
+        attacked = subst (IsAttacked p.men (square_by m check.square)) (side_by-turned_twice m p.side) (attacked_back m p.men men' _ check.square allows shows ok' check.attacked);
       });
 }
 

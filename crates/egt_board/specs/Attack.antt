@@ -13,7 +13,7 @@ pub record IsAttacked (men : Placement) (t : ℕ) (side : Side) : Type 0 where
   pub man : Man
   pub stands : Stands men from man
   pub theirs : man.side ≡ side
-  pub reaches : Reaches (IsFree men) man.kind from t
+  pub reaches : Reaches (IsFree men) man from t
 
 -- the king of that side
 abbrev pub king_of : Side → Man

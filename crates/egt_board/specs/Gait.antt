@@ -1,14 +1,17 @@
--- How each man goes: FIDE Laws of Chess 2023, articles 3.2 to 3.6 and 3.8.
+-- What each man attacks: FIDE Laws of Chess 2023, articles 3.2 to 3.8.
 use Rattle.std.specs.Prelude.{Bool, nat_lt, ◌&&◌, ℕ, ◌<◌, ◌≤◌, List, [], ◌∷◌, ◌++◌, ◌⊎◌}
 use Rattle.std.proofs.Common.{inl, inr}
+use Rattle.egt_board.specs.declared.man.Side.{Side}
+use Rattle.egt_board.specs.declared.man.Side.TheVariants.{White, Black}
 use Rattle.egt_board.specs.declared.man.Kind.{Kind}
-use Rattle.egt_board.specs.declared.man.Kind.TheVariants.{Q, R, B, N, K}
+use Rattle.egt_board.specs.declared.man.Kind.TheVariants.{Q, R, B, N, P, K}
+use Rattle.egt_board.specs.declared.man.Man.{Man}
 use Rattle.egt_board.specs.declared.step.Way.{Way}
 use Rattle.egt_board.specs.declared.step.Way.TheVariants.{Up, Down, Still}
 use Rattle.egt_board.specs.declared.step.Step.{Step}
 use Rattle.egt_board.specs.Step.{Away}
 
-abbrev step : Way → ℕ → Way → ℕ → Step
+abbrev pub step : Way → ℕ → Way → ℕ → Step
 step files wide ranks high = record { files = files; wide = wide; ranks = ranks; high = high }
 
 -- along a file or a rank
@@ -25,13 +28,19 @@ knight_steps =
     step Up 1 Up 2 ∷ step Up 1 Down 2 ∷ step Down 1 Up 2 ∷ step Down 1 Down 2
     ∷ step Up 2 Up 1 ∷ step Up 2 Down 1 ∷ step Down 2 Up 1 ∷ step Down 2 Down 1 ∷ []
 
--- the steps of a man
-abbrev pub steps_of : Kind → List Step
-steps_of Q = straight_steps ++ diagonal_steps
-steps_of R = straight_steps
-steps_of B = diagonal_steps
-steps_of N = knight_steps
-steps_of K = straight_steps ++ diagonal_steps
+-- diagonally forward, which is up the ranks for White and down for Black
+abbrev pub pawn_steps : Side → List Step
+pawn_steps White = step Up 1 Up 1 ∷ step Down 1 Up 1 ∷ []
+pawn_steps Black = step Up 1 Down 1 ∷ step Down 1 Down 1 ∷ []
+
+-- the steps by which a man attacks
+abbrev pub steps_of : Side → Kind → List Step
+steps_of side Q = straight_steps ++ diagonal_steps
+steps_of side R = straight_steps
+steps_of side B = diagonal_steps
+steps_of side N = knight_steps
+steps_of side P = pawn_steps side
+steps_of side K = straight_steps ++ diagonal_steps
 
 -- how many of its steps a man may go at once
 abbrev pub farthest : Kind → ℕ
@@ -39,16 +48,17 @@ farthest Q = 7
 farthest R = 7
 farthest B = 7
 farthest N = 1
+farthest P = 1
 farthest K = 1
 
 -- a step that stays on the board in some place
 abbrev pub is_short : Step → Bool
 is_short d = nat_lt d.wide 8 && nat_lt d.high 8
 
--- P holds of one of these steps
+-- this holds of one of these steps
 abbrev pub OneOf : (Step → Type 0) → List Step → Type 0
-OneOf P [] = ⊥
-OneOf P (d ∷ ds) = P d ⊎ OneOf P ds
+OneOf Holds [] = ⊥
+OneOf Holds (d ∷ ds) = Holds d ⊎ OneOf Holds ds
 
 -- t is this step away, from one to `most` times, and each square before it is free
 pub record Rides (Free : ℕ → Type 0) (most : ℕ) (s t : ℕ) (d : Step) : Type 0 where
@@ -58,14 +68,14 @@ pub record Rides (Free : ℕ → Type 0) (most : ℕ) (s t : ℕ) (d : Step) : T
   pub away : Away d count s t
   pub clear : (k u : ℕ) → 0 < k → k < count → Away d k s u → Free u
 
--- a man of this kind on s reaches t, where only free squares are passed
-abbrev pub Reaches : (ℕ → Type 0) → Kind → ℕ → ℕ → Type 0
-Reaches Free kind s t = OneOf (Rides Free (farthest kind) s t) (steps_of kind)
+-- this man on s attacks t, where only free squares are passed
+abbrev pub Reaches : (ℕ → Type 0) → Man → ℕ → ℕ → Type 0
+Reaches Free man s t = OneOf (Rides Free (farthest man.kind) s t) (steps_of man.side man.kind)
 
 -- what is reached is on the board
-pub Reaches-on_board : (F : ℕ → Type 0) (kind : Kind) (s t : ℕ) → Reaches F kind s t → t < 64
-Reaches-on_board F kind s t r = one (steps_of kind) r
+pub Reaches-on_board : (F : ℕ → Type 0) (man : Man) (s t : ℕ) → Reaches F man s t → t < 64
+Reaches-on_board F man s t r = one (steps_of man.side man.kind) r
   where
-    one : (ds : List Step) → OneOf (Rides F (farthest kind) s t) ds → t < 64
+    one : (ds : List Step) → OneOf (Rides F (farthest man.kind) s t) ds → t < 64
     one [] none = absurd none
     one (d ∷ ds) some = elim some [ inl p ↦ p.away.on_board | inr q ↦ one ds q ]

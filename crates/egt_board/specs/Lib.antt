@@ -7,7 +7,10 @@ pub mod Placement
 pub mod Board
 pub mod Gait
 pub mod Attack
+pub mod Pawn
+pub mod Target
 pub mod Setup
+pub mod Settled
 pub mod Listed
 pub mod Mirror
 pub mod Position

@@ -2,13 +2,15 @@
 use Rattle.std.specs.Prelude.{◌≢◌, ℕ, ◌<◌, ◌≤◌, List, length, map, Option, slice_index}
 use Rattle.std.specs.FinMap as placement
 use Rattle.egt_board.specs.declared.fault.PosFault.{PosFault}
-use Rattle.egt_board.specs.declared.fault.PosFault.TheVariants.{MenCount, KingCount, EpMismatch, WaitingInCheck}
+use Rattle.egt_board.specs.declared.fault.PosFault.TheVariants.{MenCount, KingCount, PawnRank, EpMismatch, WaitingInCheck}
 use Rattle.egt_board.specs.declared.man.Side.{Side}
 use Rattle.egt_board.specs.declared.man.Man.{Man}
 use Rattle.egt_board.specs.Man.{other_side}
 use Rattle.egt_board.specs.Placement.{Placement}
 use Rattle.egt_board.specs.Attack.{IsInCheck}
-use Rattle.egt_board.specs.Setup.{Setup, HasKings, FitsTarget}
+use Rattle.egt_board.specs.Setup.{Setup, HasKings}
+use Rattle.egt_board.specs.Pawn.{PawnsFit}
+use Rattle.egt_board.specs.Target.{FitsTarget}
 
 abbrev pub entry_of : Man × ℕ → ℕ × Man
 entry_of e = (e.1, e.0)
@@ -35,5 +37,6 @@ pub record FitsBoard (list : List (Man × ℕ)) : Type 0 where
 abbrev pub IsFirstFault : PosFault → List (Man × ℕ) → Setup → Type 0
 IsFirstFault MenCount list p = ¬ FitsBoard list
 IsFirstFault KingCount list p = FitsBoard list × ¬ HasKings p.men
-IsFirstFault EpMismatch list p = FitsBoard list × HasKings p.men × ¬ FitsTarget p
-IsFirstFault WaitingInCheck list p = FitsBoard list × HasKings p.men × FitsTarget p × IsInCheck p.men (other_side p.side)
+IsFirstFault PawnRank list p = FitsBoard list × HasKings p.men × ¬ PawnsFit p.men
+IsFirstFault EpMismatch list p = FitsBoard list × HasKings p.men × PawnsFit p.men × ¬ FitsTarget p.men p.side p.target
+IsFirstFault WaitingInCheck list p = FitsBoard list × HasKings p.men × PawnsFit p.men × FitsTarget p.men p.side p.target × IsInCheck p.men (other_side p.side)

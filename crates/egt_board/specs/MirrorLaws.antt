@@ -1,5 +1,5 @@
 -- Laws of mirrors: they keep what men reach and attack.
-use Rattle.std.proofs.Common.{◌≡◌, ℕ, ◌+◌, ◌-◌, ◌*◌, ◌/◌, ◌%◌, ◌<◌, ◌≤◌, Bool, true, false, ◌&&◌, ◌||◌, eqb, List, [], ◌∷◌, ◌++◌, arith, refl, sym, ap, ◌∙◌, subst, inl, inr, Option, Some, None, ◌⊎◌}
+use Rattle.std.proofs.Common.{◌≡◌, ◌≢◌, ℕ, ◌+◌, ◌-◌, ◌*◌, ◌/◌, ◌%◌, ◌<◌, ◌≤◌, Bool, true, false, ◌&&◌, ◌||◌, eqb, List, [], ◌∷◌, ◌++◌, arith, refl, sym, ap, ◌∙◌, subst, inl, inr, Option, Some, None, ◌⊎◌}
 use Rattle.std.specs.List.{list_any, list_all}
 use Rattle.std.proofs.lemmas.Bool.{false≢true, eqb-true}
 use Rattle.std.specs.Option.{option_map}
@@ -13,7 +13,7 @@ use Rattle.egt_board.specs.Attack.{IsAttacked}
 use Rattle.egt_board.specs.declared.mirror.Mirror.{Mirror}
 use Rattle.egt_board.specs.declared.mirror.Mirror.TheVariants.{Files, Ranks, Diagonal, Colours}
 use Rattle.egt_board.specs.declared.man.Kind.{Kind}
-use Rattle.egt_board.specs.declared.man.Kind.TheVariants.{Q, R, B, N, K}
+use Rattle.egt_board.specs.declared.man.Kind.TheVariants.{Q, R, B, N, P, K}
 use Rattle.egt_board.specs.declared.step.Way.{Way}
 use Rattle.egt_board.specs.declared.step.Way.TheVariants.{Up, Down, Still}
 use Rattle.egt_board.specs.declared.step.Step.{Step}
@@ -21,7 +21,7 @@ use Rattle.egt_board.specs.Square.{file_of, rank_of}
 use Rattle.egt_board.specs.Coordinate.{Further}
 use Rattle.egt_board.specs.Step.{Away}
 use Rattle.egt_board.specs.Gait.{Rides, OneOf, Reaches, farthest, steps_of, straight_steps, diagonal_steps, knight_steps}
-use Rattle.egt_board.specs.Mirror.{square_by, side_by, man_by}
+use Rattle.egt_board.specs.Mirror.{square_by, side_by, man_by, Allows}
 
 pub square_by-within : (m : Mirror) (s : ℕ) → s < 64 → square_by m s < 64
 square_by-within Files s h = omega arith
@@ -176,54 +176,67 @@ same_step-is d e h =
     λ i. record { files = files i; wide = wide i; ranks = ranks i; high = high i }
 
 -- a step of the list, found by a test
-found_step : (P : Step → Type 0) (d : Step) (es : List Step) → list_any (same_step d) es ≡ true → P d → OneOf P es
-found_step P d [] none p = absurd (false≢true none)
-found_step P d (e ∷ es) some p = by_test (same_step d e) refl (λ h. found_step P d es h p) some
+found_step : (Holds : Step → Type 0) (d : Step) (es : List Step) → list_any (same_step d) es ≡ true → Holds d → OneOf Holds es
+found_step Holds d [] none p = absurd (false≢true none)
+found_step Holds d (e ∷ es) some p = by_test (same_step d e) refl (λ h. found_step Holds d es h p) some
   where
-    by_test : (b : Bool) → same_step d e ≡ b → (list_any (same_step d) es ≡ true → OneOf P es) → (b || list_any (same_step d) es) ≡ true → OneOf P (e ∷ es)
-    by_test true is later h = inl (subst P (same_step-is d e is) p)
+    by_test : (b : Bool) → same_step d e ≡ b → (list_any (same_step d) es ≡ true → OneOf Holds es) → (b || list_any (same_step d) es) ≡ true → OneOf Holds (e ∷ es)
+    by_test true is later h = inl (subst Holds (same_step-is d e is) p)
     by_test false is later h = inr (later h)
 
 -- what holds of one step holds of its mirrored step, which is in the other list
-OneOf-by : (m : Mirror) (P P' : Step → Type 0) (ds es : List Step) → list_all (λ d. list_any (same_step (step_by m d)) es) ds ≡ true → ((d : Step) → P d → P' (step_by m d)) → OneOf P ds → OneOf P' es
-OneOf-by m P P' [] es all h none = absurd none
-OneOf-by m P P' (d ∷ ds) es all h some = elim some [
-  | inl p ↦ found_step P' (step_by m d) es (left_true _ _ all) (h d p)
-  | inr rest ↦ OneOf-by m P P' ds es (right_true (list_any (same_step (step_by m d)) es) _ all) h rest
+OneOf-by : (m : Mirror) (Holds Kept : Step → Type 0) (ds es : List Step) → list_all (λ d. list_any (same_step (step_by m d)) es) ds ≡ true → ((d : Step) → Holds d → Kept (step_by m d)) → OneOf Holds ds → OneOf Kept es
+OneOf-by m Holds Kept [] es all h none = absurd none
+OneOf-by m Holds Kept (d ∷ ds) es all h some = elim some [
+  | inl p ↦ found_step Kept (step_by m d) es (left_true _ _ all) (h d p)
+  | inr rest ↦ OneOf-by m Holds Kept ds es (right_true (list_any (same_step (step_by m d)) es) _ all) h rest
 ]
 
-abbrev Keeps : Mirror → Kind → Type 0
-Keeps m kind = list_all (λ d. list_any (same_step (step_by m d)) (steps_of kind)) (steps_of kind) ≡ true
+abbrev Keeps : Mirror → Side → Kind → Type 0
+Keeps m side kind = list_all (λ d. list_any (same_step (step_by m d)) (steps_of (side_by m side) kind)) (steps_of side kind) ≡ true
+
+-- the mirror leaves the steps of this kind what they are, the side's being turned with it
+abbrev pub Suits : Mirror → Kind → Type 0
+Suits Files kind = Unit {0}
+Suits Ranks kind = kind ≢ P
+Suits Diagonal kind = kind ≢ P
+Suits Colours kind = Unit {0}
 
 -- the mirrored steps of a kind are its steps
-keeps_steps : (m : Mirror) (kind : Kind) → Keeps m kind
+keeps_steps : (m : Mirror) (side : Side) (kind : Kind) → Suits m kind → Keeps m side kind
 unfolding same_step same_way step_by turned
-keeps_steps Files Q = refl
-keeps_steps Files R = refl
-keeps_steps Files B = refl
-keeps_steps Files N = refl
-keeps_steps Files K = refl
-keeps_steps Ranks Q = refl
-keeps_steps Ranks R = refl
-keeps_steps Ranks B = refl
-keeps_steps Ranks N = refl
-keeps_steps Ranks K = refl
-keeps_steps Diagonal Q = refl
-keeps_steps Diagonal R = refl
-keeps_steps Diagonal B = refl
-keeps_steps Diagonal N = refl
-keeps_steps Diagonal K = refl
-keeps_steps Colours Q = refl
-keeps_steps Colours R = refl
-keeps_steps Colours B = refl
-keeps_steps Colours N = refl
-keeps_steps Colours K = refl
+keeps_steps Files side Q suits = refl
+keeps_steps Files side R suits = refl
+keeps_steps Files side B suits = refl
+keeps_steps Files side N suits = refl
+keeps_steps Files White P suits = refl
+keeps_steps Files Black P suits = refl
+keeps_steps Files side K suits = refl
+keeps_steps Ranks side Q suits = refl
+keeps_steps Ranks side R suits = refl
+keeps_steps Ranks side B suits = refl
+keeps_steps Ranks side N suits = refl
+keeps_steps Ranks side P suits = absurd (suits refl)
+keeps_steps Ranks side K suits = refl
+keeps_steps Diagonal side Q suits = refl
+keeps_steps Diagonal side R suits = refl
+keeps_steps Diagonal side B suits = refl
+keeps_steps Diagonal side N suits = refl
+keeps_steps Diagonal side P suits = absurd (suits refl)
+keeps_steps Diagonal side K suits = refl
+keeps_steps Colours side Q suits = refl
+keeps_steps Colours side R suits = refl
+keeps_steps Colours side B suits = refl
+keeps_steps Colours side N suits = refl
+keeps_steps Colours White P suits = refl
+keeps_steps Colours Black P suits = refl
+keeps_steps Colours side K suits = refl
 
--- what a man reaches it reaches in the mirror
-pub Reaches-by : (m : Mirror) (F G : ℕ → Type 0) (kind : Kind) (s t : ℕ) → s < 64 → ((u : ℕ) → u < 64 → F u → G (square_by m u)) → Reaches F kind s t → Reaches G kind (square_by m s) (square_by m t)
-Reaches-by m F G kind s t s_in free r =
-    OneOf-by m (Rides F (farthest kind) s t) (Rides G (farthest kind) (square_by m s) (square_by m t)) (steps_of kind) (steps_of kind) (keeps_steps m kind)
-    (λ d ride. Rides-by m F G (farthest kind) s t d s_in free ride) r
+-- what a man attacks it attacks in the mirror
+pub Reaches-by : (m : Mirror) (F G : ℕ → Type 0) (man : Man) (s t : ℕ) → Suits m man.kind → s < 64 → ((u : ℕ) → u < 64 → F u → G (square_by m u)) → Reaches F man s t → Reaches G (man_by m man) (square_by m s) (square_by m t)
+Reaches-by m F G man s t suits s_in free r =
+    OneOf-by m (Rides F (farthest man.kind) s t) (Rides G (farthest man.kind) (square_by m s) (square_by m t)) (steps_of man.side man.kind) (steps_of (side_by m man.side) man.kind) (keeps_steps m man.side man.kind suits)
+    (λ d ride. Rides-by m F G (farthest man.kind) s t d s_in free ride) r
 
 -- what stands in the mirror
 abbrev pub ShowsMen : Mirror → Placement → Placement → Type 0
@@ -285,13 +298,21 @@ free_back m men men' shows t t_in free = go (map.get men (square_by m t)) (sym (
     go None e = refl
     go (Some x) e = let bad : Some (man_by m x) ≡ None = e in absurd (cc)
 
-pub attacked_back : (m : Mirror) (men men' : Placement) (side : Side) (t : ℕ) → ShowsMen m men men' → OnBoard men' → IsAttacked men' t side → IsAttacked men (square_by m t) (side_by m side)
-attacked_back m men men' side t shows ok' a =
+-- a mirror that these men allow suits each of them
+pub suits_of : (m : Mirror) (men : Placement) (s : ℕ) (man : Man) → Allows m men → Stands men s man → Suits m man.kind
+suits_of Files men s man allows stands = tt
+suits_of Ranks men s man allows stands = allows s man stands
+suits_of Diagonal men s man allows stands = allows s man stands
+suits_of Colours men s man allows stands = tt
+
+pub attacked_back : (m : Mirror) (men men' : Placement) (side : Side) (t : ℕ) → Allows m men → ShowsMen m men men' → OnBoard men' → IsAttacked men' t side → IsAttacked men (square_by m t) (side_by m side)
+attacked_back m men men' side t allows shows ok' a =
     let s_in = ok' a.from a.man a.stands in
+    let back = stands_back m men men' shows a.from a.man s_in a.stands in
     record {
       from = square_by m a.from;
       man = man_by m a.man;
-      stands = stands_back m men men' shows a.from a.man s_in a.stands;
+      stands = back;
       theirs = ap (side_by m) a.theirs;
-      reaches = Reaches-by m (IsFree men') (IsFree men) a.man.kind a.from t s_in (free_back m men men' shows) a.reaches;
+      reaches = Reaches-by m (IsFree men') (IsFree men) a.man a.from t (suits_of m men (square_by m a.from) (man_by m a.man) allows back) s_in (free_back m men men' shows) a.reaches;
     }

@@ -1,5 +1,5 @@
 -- Positions and which of them the rules of play admit.
-use Rattle.std.specs.Prelude.{◌≡◌, ℕ, ◌<◌, ◌≤◌, Option, None, refl}
+use Rattle.std.specs.Prelude.{◌≡◌, ℕ, ◌<◌, ◌≤◌, Option, refl}
 use Rattle.std.specs.Coded.{Coded, code_by, coded×, coded_ℕ, coded_option}
 use Rattle.std.specs.FinMap as map
 use Rattle.egt_board.specs.contracts.man.Man as man_row
@@ -10,6 +10,8 @@ use Rattle.egt_board.specs.declared.man.Man.{Man}
 use Rattle.egt_board.specs.Man.{other_side}
 use Rattle.egt_board.specs.Placement.{Placement, Stands}
 use Rattle.egt_board.specs.Attack.{king_of, IsInCheck}
+use Rattle.egt_board.specs.Pawn.{PawnsFit}
+use Rattle.egt_board.specs.Target.{FitsTarget}
 
 -- the men, the side to move, and the square that a pawn has just passed
 pub record Setup : Type 0 where
@@ -35,15 +37,12 @@ pub record HasKings (men : Placement) : Type 0 where
   pub white_there : IsKingOn men White white
   pub black_there : IsKingOn men Black black
 
--- the target is one that the last move may have set: no man here advances two squares, so there is none
-abbrev pub FitsTarget : Setup → Type 0
-FitsTarget p = p.target ≡ None
-
--- at most four men on squares of the board, one king a side, a target that fits, and the side that
--- waits is not in check (FIDE Laws of Chess 2023, article 3.9)
+-- at most four men on squares of the board, one king a side, no pawn on the first rank or the last, a target that the
+-- last move may have set, and the side that waits is not in check (FIDE Laws of Chess 2023, article 3.9)
 pub record IsAdmissible (p : Setup) : Type 0 where
   pub few : map.len p.men ≤ 4
   pub on_board : (s : ℕ) (man : Man) → Stands p.men s man → s < 64
   pub kings : HasKings p.men
-  pub target : FitsTarget p
+  pub pawns : PawnsFit p.men
+  pub target : FitsTarget p.men p.side p.target
   pub quiet : ¬ IsInCheck p.men (other_side p.side)

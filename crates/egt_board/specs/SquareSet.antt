@@ -3,7 +3,7 @@ use Rattle.std.proofs.Common.{arith, inl, inr, ap, sym, ◌∙◌}
 use Rattle.std.proofs.lemmas.Bool.{cases_eq}
 use Rattle.std.specs.Int.{bit_at}
 use Rattle.egt_board.specs.declared.man.Kind.{Kind}
-use Rattle.egt_board.specs.declared.man.Kind.TheVariants.{Q, R, B, N, K}
+use Rattle.egt_board.specs.declared.man.Kind.TheVariants.{Q, R, B, N, P, K}
 use Rattle.egt_board.specs.declared.square_set.SquareSet.{SquareSet}
 
 -- the set has this square
@@ -19,12 +19,14 @@ total f (suc n) = total f n + f n
 unfoldable pub size_of : SquareSet → ℕ
 size_of set = total (bit_at set.bits) 64
 
--- at most so many squares are attacked from one: eight by a king, and by any other man those of four lines
+-- at most so many squares are attacked from one: eight by a king, two by a pawn, and by any other man those of four
+-- lines
 abbrev pub most_reached : Kind → ℕ
 most_reached Q = 28
 most_reached R = 28
 most_reached B = 28
 most_reached N = 28
+most_reached P = 2
 most_reached K = 8
 
 -- a set that has a square is not empty

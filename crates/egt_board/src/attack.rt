@@ -8,18 +8,18 @@ ghost use Rattle.egt_board.specs.SquareSet.{Has, size_of, most_reached};
 
 use crate::board::Board;
 use crate::gait;
-use crate::man::{Kind, Side};
+use crate::man::{Man, Side};
 use crate::square::Square;
 use crate::square_set::SquareSet;
 
 impl Board {
-    /// The squares that a man of this kind attacks from `from`, past free squares alone. Squares of its
-    /// own side's men are among them.
-    pub fn reach(&self, kind: Kind, from: Square) -> SquareSet
-        ensures reached { (t : ℕ) → Has result t ↔ Reaches (IsFree self.now) kind from t }
-        ensures few { size_of result ≤ most_reached kind }
+    /// The squares that this man attacks from `from`, past free squares alone. Squares of its own side's
+    /// men are among them.
+    pub fn reach(&self, man: Man, from: Square) -> SquareSet
+        ensures reached { (t : ℕ) → Has result t ↔ Reaches (IsFree self.now) man from t }
+        ensures few { size_of result ≤ most_reached man.kind }
     {
-        gait::reach(kind, from, self.occupied())
+        gait::reach(man, from, self.occupied())
     }
 
     /// Whether a man of that side attacks the square, even if it may not move itself.
@@ -28,8 +28,8 @@ impl Board {
     {
         let mut attackers = self.of(side);
         while let Some(from) = attackers.pop_first() {
-            let kind = self.at(from).unwrap().kind;
-            if self.reach(kind, from).contains(square) {
+            let man = self.at(from).unwrap();
+            if self.reach(man, from).contains(square) {
                 return true;
             }
         }

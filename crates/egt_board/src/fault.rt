@@ -7,6 +7,8 @@ pub enum PosFault {
     MenCount,
     /// Not one king a side.
     KingCount,
+    /// A pawn on the first or the last rank.
+    PawnRank,
     /// A target that the last move cannot have set.
     EpMismatch,
     /// The king of the side that waits is attacked.

@@ -1,11 +1,11 @@
-//! Where a man's steps lead: FIDE Laws of Chess 2023, articles 3.2 to 3.6 and 3.8.
+//! What a man's steps attack: FIDE Laws of Chess 2023, articles 3.2 to 3.8.
 ghost use Rattle.std.specs.Prelude.{◌≡◌, ℕ, ◌<◌, ◌≤◌, ◌↔◌, IsTrue};
 ghost use Rattle.std.specs.Int.{bit_at};
 ghost use Rattle.std.specs.List.{list_all};
-ghost use Rattle.egt_board.specs.Gait.{Reaches, Rides, OneOf, is_short};
+ghost use Rattle.egt_board.specs.Gait.{Reaches, Rides, OneOf, is_short, pawn_steps};
 ghost use Rattle.egt_board.specs.SquareSet.{Has};
 
-use crate::man::Kind;
+use crate::man::{Kind, Man, Side};
 use crate::square::Square;
 use crate::square_set::SquareSet;
 use crate::step::{Step, Way};
@@ -170,8 +170,40 @@ const KNIGHT: [Step; 8] = [
     },
 ];
 
+/// Diagonally forward, for White.
+const WHITE_PAWN: [Step; 2] = [
+    Step {
+        files: Way::Up,
+        wide: 1,
+        ranks: Way::Up,
+        high: 1,
+    },
+    Step {
+        files: Way::Down,
+        wide: 1,
+        ranks: Way::Up,
+        high: 1,
+    },
+];
+
+/// Diagonally forward, for Black.
+const BLACK_PAWN: [Step; 2] = [
+    Step {
+        files: Way::Up,
+        wide: 1,
+        ranks: Way::Down,
+        high: 1,
+    },
+    Step {
+        files: Way::Down,
+        wide: 1,
+        ranks: Way::Down,
+        high: 1,
+    },
+];
+
 /// The squares along one step from `from`, at most `most` times and up to the first occupied square.
-fn ride(from: Square, step: Step, most: u8, occupied: SquareSet) -> SquareSet
+pub(crate) fn ride(from: Square, step: Step, most: u8, occupied: SquareSet) -> SquareSet
     requires wide { step.wide < 8 }
     requires high { step.high < 8 }
     requires most { most < 8 }
@@ -205,16 +237,26 @@ fn ride_all(from: Square, steps: &[Step], most: u8, occupied: SquareSet) -> Squa
     reached
 }
 
-/// The squares that a man of this kind on `from` reaches where these squares are occupied: those on
-/// which it may capture or, where nothing stands, arrive.
-pub(crate) fn reach(kind: Kind, from: Square, occupied: SquareSet) -> SquareSet
-    ensures { (t : ℕ) → t < 64 → Has result t ↔ Reaches (λ u. bit_at occupied.bits u ≡ 0) kind from t }
+/// The squares that a pawn of that side on `from` attacks.
+fn pawn_reach(side: Side, from: Square, occupied: SquareSet) -> SquareSet
+    ensures { (t : ℕ) → t < 64 → Has result t ↔ OneOf (Rides (λ u. bit_at occupied.bits u ≡ 0) 1 from t) (pawn_steps side) }
 {
-    match kind {
+    match side {
+        Side::White => ride_all(from, &WHITE_PAWN, 1, occupied),
+        Side::Black => ride_all(from, &BLACK_PAWN, 1, occupied),
+    }
+}
+
+/// The squares that this man on `from` attacks where these squares are occupied.
+pub(crate) fn reach(man: Man, from: Square, occupied: SquareSet) -> SquareSet
+    ensures { (t : ℕ) → t < 64 → Has result t ↔ Reaches (λ u. bit_at occupied.bits u ≡ 0) man from t }
+{
+    match man.kind {
         Kind::Q => ride_all(from, &ROYAL, 7, occupied),
         Kind::R => ride_all(from, &STRAIGHT, 7, occupied),
         Kind::B => ride_all(from, &DIAGONAL, 7, occupied),
         Kind::N => ride_all(from, &KNIGHT, 1, occupied),
+        Kind::P => pawn_reach(man.side, from, occupied),
         Kind::K => ride_all(from, &ROYAL, 1, occupied),
     }
 }

@@ -12,11 +12,14 @@ pub mod listed;
 pub mod man;
 pub mod mirror;
 pub mod mirrored;
+pub mod pawn;
 pub mod position;
+pub mod settled;
 pub mod square;
 pub mod square_set;
 pub mod step;
 pub mod symmetry;
+pub mod target;
 
 pub use board::Board;
 pub use fault::PosFault;

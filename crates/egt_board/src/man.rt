@@ -30,6 +30,7 @@ pub enum Kind {
     R,
     B,
     N,
+    P,
     K,
 }
 

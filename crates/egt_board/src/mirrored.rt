@@ -2,7 +2,7 @@
 ghost use Rattle.std.specs.Prelude.{◌≡◌, ℕ, ◌<◌, ◌≤◌};
 ghost use Rattle.std.specs.FinMap as map;
 ghost use Rattle.std.specs.Option.{option_map};
-ghost use Rattle.egt_board.specs.Mirror.{IsMirrored, square_by, man_by};
+ghost use Rattle.egt_board.specs.Mirror.{IsMirrored, Allows, square_by, man_by};
 ghost use Rattle.egt_board.specs.Placement.{Stands};
 ghost use Rattle.egt_board.specs.declared.man.Man.{Man};
 
@@ -27,8 +27,10 @@ impl Position {
         board
     }
 
-    /// The position in a mirror: its men, the side to move and the target.
+    /// The position in a mirror: its men, the side to move and the target. Pawns leave the mirrors of files
+    /// and of colours alone.
     pub fn mirrored(&self, mirror: Mirror) -> Position
+        requires { Allows mirror self.now.men }
         ensures { IsMirrored mirror self.now result }
     {
         let board = self.mirrored_board(mirror);

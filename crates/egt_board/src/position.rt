@@ -49,8 +49,8 @@ impl Position {
     /// # Errors
     ///
     /// The first of these that holds: `MenCount` where there are more than four men or two on one square;
-    /// `KingCount` where a side has not one king; `EpMismatch` where the last move cannot have set the
-    /// target; `WaitingInCheck` where the king of the side that waits is attacked.
+    /// `KingCount` where a side has not one king; `PawnRank` where a pawn stands on the first rank or the
+    /// last; `EpMismatch` where the last move cannot have set the target; `WaitingInCheck` where the king of the side that waits is attacked.
     pub fn new(
         men: &[(Man, Square)],
         side: Side,
@@ -69,8 +69,13 @@ impl Position {
         let Some(black_king) = board.king(Side::Black) else {
             return Err(PosFault::KingCount);
         };
-        if target.is_some() {
-            return Err(PosFault::EpMismatch);
+        if !board.pawns_fit() {
+            return Err(PosFault::PawnRank);
+        }
+        if let Some(square) = target {
+            if !board.is_target(side, square) {
+                return Err(PosFault::EpMismatch);
+            }
         }
         let waiting = match side {
             Side::White => black_king,
@@ -166,7 +171,8 @@ impl Position {
 
     /// A copy of the position.
     pub fn copied(&self) -> Position
-        ensures { result ≡ self.now }
+        ensures same { result ≡ self.now }
+        ensures admissible { IsAdmissible self.now }
     {
         Position {
             board: self.board.copied(),

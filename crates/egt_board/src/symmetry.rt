@@ -50,14 +50,17 @@ impl Symmetry {
 }
 
 impl Position {
-    ghost use Rattle.egt_board.specs.Symmetry.{IsImage, IsTurned, IsKeepingSides};
-    ghost use Rattle.egt_board.specs.Mirror.{IsMirrored};
+    ghost use Rattle.egt_board.specs.Symmetry.{IsImage, IsTurned, IsKeepingSides, KeepsPlay};
+    ghost use Rattle.egt_board.specs.Mirror.{IsMirrored, Allows};
+    ghost use Rattle.egt_board.specs.Pawn.{HasNoPawn};
     ghost use Rattle.egt_board.specs.declared.mirror.Mirror.TheVariants.{Colours};
 
     /// The position in the mirror, or as it is.
     fn turned(&self, mirror: Mirror, turns: bool) -> Position
-        requires { IsKeepingSides mirror }
-        ensures { IsTurned mirror turns self.now result }
+        requires sides { IsKeepingSides mirror }
+        requires allowed { IsTrue turns → Allows mirror self.now.men }
+        ensures turned { IsTurned mirror turns self.now result }
+        ensures no_pawn { HasNoPawn self.now.men → HasNoPawn result.men }
     {
         if turns {
             self.mirrored(mirror)
@@ -66,8 +69,10 @@ impl Position {
         }
     }
 
-    /// The position under a symmetry of the board: the same men, side and target on other squares.
+    /// The position under a symmetry of the board: the same men, side and target on other squares. Where there is
+    /// a pawn, the symmetry is the identity or the mirror of files.
     pub fn image(&self, symmetry: Symmetry) -> Position
+        requires { KeepsPlay symmetry self.now.men }
         ensures { IsImage symmetry self.now result }
     {
         let number = symmetry.number();

@@ -8,3 +8,6 @@ returns-in-N c = rw c.in-N.is c.ride_all-in-N.ensures
 
 pub returns-in-K : goal.returns-in-K
 returns-in-K c = rw c.in-K.is c.ride_all-in-K.ensures
+
+pub returns-in-P : goal.returns-in-P
+returns-in-P c = rw c.in-P.is c.pawn_reach.ensures

@@ -9,16 +9,16 @@ loop-from-init c = (
   (λ s man stands theirs reaches. (c.of-attackers.ensures s).1 (record { man = man; stands = stands; theirs = theirs })),
 )
 
-pub unwrap-kind-requires : goal.unwrap-kind-requires
-unwrap-kind-requires c =
+pub unwrap-man-requires : goal.unwrap-man-requires
+unwrap-man-requires c =
     let held = c.loop-from.invariant.0 c.in-Some.from c.in-Some.ensures.had in
     rw (c.at.ensures, held.stands) (search rules)
 
 pub returns-then-contains : goal.returns-then-contains
 returns-then-contains c =
     let held = c.loop-from.invariant.0 c.in-Some.from c.in-Some.ensures.had in
-    let man = c.unwrap-kind.result in
-    let stands = sym c.at.ensures ∙ c.unwrap-kind.ensures in
+    let man = c.unwrap-man.result in
+    let stands = sym c.at.ensures ∙ c.unwrap-man.ensures in
     let same : held.man ≡ man = (let both : Some held.man ≡ Some man = sym held.stands ∙ stands in cc) in (
       λ _. record {
         from = c.in-Some.from;
@@ -32,9 +32,9 @@ returns-then-contains c =
 
 pub loop-from-preserved : goal.loop-from-preserved
 loop-from-preserved c =
-    let stands = sym c.at.ensures ∙ c.unwrap-kind.ensures in (
+    let stands = sym c.at.ensures ∙ c.unwrap-man.ensures in (
       AreHeld-less _ _ _ _ c.in-Some.from c.in-Some.ensures.gone c.in-Some.ensures.others c.loop-from.invariant.0,
-      OnlyLeft-less _ _ _ _ c.args.square c.in-Some.from c.unwrap-kind.result stands
+      OnlyLeft-less _ _ _ _ c.args.square c.in-Some.from c.unwrap-man.result stands
           (λ reaches. false≢true (sym c.if-contains.false ∙ c.contains.ensures.1 ((c.reach.ensures.reached c.args.square).1 reaches)))
           c.in-Some.ensures.others c.loop-from.invariant.1,
     )

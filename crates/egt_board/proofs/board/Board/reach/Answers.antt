@@ -7,11 +7,11 @@ use Rattle.egt_board.proofs.board.Board.reach.Goals as goal
 
 pub returns-clause-reached : goal.returns-clause-reached
 returns-clause-reached c = λ t. (
-  λ has. Reaches-free _ _ c.args.kind c.args.from t (λ u u_in. (c.occupied.ensures.free u).0)
+  λ has. Reaches-free _ _ c.args.man c.args.from t (λ u u_in. (c.occupied.ensures.free u).0)
       ((c.reach.ensures t (bit_at-within c.reach.result.bits t (omega arith) has)).0 has),
-  λ r. (c.reach.ensures t (Reaches-on_board _ c.args.kind c.args.from t r)).1
-      (Reaches-free _ _ c.args.kind c.args.from t (λ u u_in. (c.occupied.ensures.free u).1) r),
+  λ r. (c.reach.ensures t (Reaches-on_board _ c.args.man c.args.from t r)).1
+      (Reaches-free _ _ c.args.man c.args.from t (λ u u_in. (c.occupied.ensures.free u).1) r),
 )
 
 pub returns-clause-few : goal.returns-clause-few
-returns-clause-few c = reach_few c.reach.result _ c.args.kind c.args.from (omega arith) (λ t has. (returns-clause-reached c t).0 has)
+returns-clause-few c = reach_few c.reach.result _ c.args.man c.args.from (omega arith) (λ t has. (returns-clause-reached c t).0 has)

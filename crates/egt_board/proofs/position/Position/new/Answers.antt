@@ -8,9 +8,9 @@ use Rattle.egt_board.specs.Placement.{Placement}
 use Rattle.egt_board.specs.Setup.{IsAdmissible, IsKingOn}
 use Rattle.egt_board.specs.Listed.{men_of, FitsBoard}
 use Rattle.egt_board.proofs.Lists.{len-men_of}
-use Rattle.egt_board.proofs.Positions.{waiting_king, none_of}
+use Rattle.egt_board.proofs.Positions.{waiting_king, fits_some, fits_none}
 use Rattle.egt_board.proofs.position.Position.new.Goals as goal
-use Rattle.egt_board.proofs.position.Position.new.Goals.{in-White, in-Black}
+use Rattle.egt_board.proofs.position.Position.new.Goals.{in-White, in-Black, in-Some-target+else-not-is_target, in_default-target}
 
 few : (board : Placement) (list : List (Man × ℕ)) → FitsBoard list → board ≡ men_of list → map.len board ≤ 4
 few board list fits placed = let le = len-men_of list in let n = fits.few in let e = ap map.len placed in omega arith
@@ -28,19 +28,31 @@ invariant_of-result c =
         few = few c.in-Some.board c.args.men.now fits c.in-Some.ensures.placed;
         on_board = c.in-Some.ensures.on_board;
         kings = record { white = c.in-Some-king.white_king; black = c.in-Some-king-2.black_king; white_there = white; black_there = black };
-        target = none_of c.args.target (sym c.is_some.ensures ∙ c.if-is_some.false);
+        pawns = c.pawns_fit.ensures.0 (search rules);
+        target = elim c.match-target.branch [
+          | in-Some-target+else-not-is_target w ↦ fits_some _ _ _ w.in-Some-target.square w.target-is (w.is_target.ensures.0 (search rules))
+          | in_default-target w ↦ fits_none _ _ _ (w.target-is ∙ w.in_default-target.is)
+        ];
         quiet = λ check. false≢true (sym c.if-is_in_check.false ∙ c.is_in_check.ensures.1 (rw c.other.ensures check));
       };
       white = white;
       black = black;
     }
 
+-- a target that was judged is the one that was given
+same_target : (c : goal.Else-is_in_check) → c.match-target.target ≡ c.args.target
+same_target c = elim c.match-target.branch [
+  | in-Some-target+else-not-is_target w ↦ w.target-is ∙ sym w.in-Some-target.is
+  | in_default-target w ↦ w.target-is
+]
+
 pub returns-clause-admits : goal.returns-clause-admits
 returns-clause-admits c =
     let whole = invariant_of-result c in (
       λ _. (
         c.in-Some.ensures.fits.0 (search rules),
-        subst (λ m. IsAdmissible (record { men = m; side = c.args.side; target = c.args.target })) c.in-Some.ensures.placed whole.admissible,
+        subst (λ m. IsAdmissible (record { men = m; side = c.args.side; target = c.args.target })) c.in-Some.ensures.placed
+            (subst (λ target. IsAdmissible (record { men = c.in-Some.board; side = c.args.side; target = target })) (same_target c) whole.admissible),
       ),
       λ _. refl,
     )

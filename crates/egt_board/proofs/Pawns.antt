@@ -1,0 +1,44 @@
+-- The search for a pawn on the first rank or the last.
+use Rattle.std.proofs.Common.{◌≡◌, ◌≢◌, ℕ, ◌<◌, ◌⊎◌, ◌↔◌, arith, Option, Some, None, true, sym, ap, ◌∙◌, inl, inr, refl, subst}
+use Rattle.std.specs.Int.{bit_at}
+use Rattle.std.specs.Option.{is_some}
+use Rattle.std.specs.FinMap as map
+use Rattle.std.proofs.lemmas.Bool.{cases_eq}
+use Rattle.egt_board.specs.declared.man.Man.{Man}
+use Rattle.egt_board.specs.Placement.{Placement, Stands, IsFree}
+use Rattle.egt_board.specs.Pawn.{MayStand, PawnsFit}
+use Rattle.egt_board.proofs.Bits.{not_both}
+
+-- the pawns that are not left stand neither on the first rank nor on the last, and each square left holds a man
+pub record FitSoFar (men : Placement) (rest : ℕ) : Type 0 where
+  pub fit : (s : ℕ) (man : Man) → Stands men s man → (bit_at rest s ≡ 1) ⊎ MayStand man s
+  pub held : (s : ℕ) → bit_at rest s ≡ 1 → is_some (map.get men s) ≡ true
+
+pub FitSoFar-init : (men : Placement) (rest : ℕ) → ((s : ℕ) → bit_at rest s < 2) → ((s : ℕ) → (bit_at rest s ≡ 0) ↔ IsFree men s) → FitSoFar men rest
+FitSoFar-init men rest small free = record {
+  fit = λ s man stands. elim (cases_eq (bit_at rest s) 1) [
+    | inl one ↦ inl one
+    | inr other ↦
+        let le = small s in
+        let none = (free s).0 (omega arith) in
+        let bad : Some man ≡ None = sym stands ∙ none in absurd (cc)
+  ];
+  held = λ s one. some (map.get men s) (λ none. not_both (bit_at rest s) ((free s).1 none) one);
+}
+  where
+    some : (o : Option Man) → (o ≡ None → ⊥) → is_some o ≡ true
+    some None h = absurd (h refl)
+    some (Some man) h = refl
+
+-- one square less, on which no pawn stands but on the ranks between
+pub FitSoFar-less : (men : Placement) (rest rest' s : ℕ) → FitSoFar men rest → bit_at rest' s ≡ 0 → ((u : ℕ) → u ≢ s → bit_at rest' u ≡ bit_at rest u) → ((man : Man) → Stands men s man → MayStand man s) → FitSoFar men rest'
+FitSoFar-less men rest rest' s so_far gone others fits = record {
+  fit = λ u man stands. elim (cases_eq u s) [
+    | inl e ↦ inr (subst (MayStand man) (sym e) (fits man (subst (λ v. Stands men v man) e stands)))
+    | inr other ↦ elim (so_far.fit u man stands) [ inl left ↦ inl (others u other ∙ left) | inr fit ↦ inr fit ]
+  ];
+  held = λ u left. elim (cases_eq u s) [
+    | inl e ↦ not_both (bit_at rest' s) gone (ap (bit_at rest') (sym e) ∙ left)
+    | inr other ↦ so_far.held u (sym (others u other) ∙ left)
+  ];
+}

@@ -1,0 +1,30 @@
+use Rattle.std.proofs.Common.{◌≡◌, rules, sym, ◌∙◌, inl, inr, refl, Some, subst, arith}
+use Rattle.std.proofs.lemmas.Bool.{false≢true}
+use Rattle.std.proofs.lemmas.Nat.Bits.{bit_at-lt}
+use Rattle.egt_board.specs.declared.man.Man.{Man}
+use Rattle.egt_board.specs.Pawn.{MayStand}
+use Rattle.egt_board.proofs.Pawns.{FitSoFar-init, FitSoFar-less}
+use Rattle.egt_board.proofs.board.Board.pawns_fit.Goals as goal
+
+pub loop-square-init : goal.loop-square-init
+loop-square-init c = FitSoFar-init _ _ (bit_at-lt c.occupied-rest.result.bits) c.occupied-rest.ensures.free
+
+pub unwrap-man-requires : goal.unwrap-man-requires
+unwrap-man-requires c = rw c.at.ensures (c.loop-square.invariant.held c.in-Some.square c.in-Some.ensures.had)
+
+pub loop-square-preserved : goal.loop-square-preserved
+loop-square-preserved c =
+    FitSoFar-less _ _ _ c.in-Some.square c.loop-square.invariant c.in-Some.ensures.gone c.in-Some.ensures.others
+    (λ man stands.
+    let both : Some man ≡ Some c.unwrap-man.result = sym stands ∙ (sym c.at.ensures ∙ c.unwrap-man.ensures) in
+    let same : man ≡ c.unwrap-man.result = cc in
+    subst (λ (m : Man). MayStand m c.in-Some.square) (sym same) (c.may_stand.ensures.0 (search rules)))
+
+pub returns : goal.returns
+returns c = (
+  λ _. λ s man stands. elim (c.loop-square.invariant.fit s man stands) [
+    | inl left ↦ let none = c.in_default.ensures.empty s in absurd (omega arith)
+    | inr fits ↦ fits
+  ],
+  λ _. refl,
+)
