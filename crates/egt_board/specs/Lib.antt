@@ -15,4 +15,5 @@ pub mod Listed
 pub mod Mirror
 pub mod Position
 pub mod Symmetry
+pub mod Images
 pub mod MirrorLaws
