@@ -1,5 +1,5 @@
 -- How many squares a set has.
-use Rattle.std.proofs.Common.{◌≡◌, ◌≢◌, ℕ, zero, suc, ◌+◌, ◌<◌, ◌≤◌, ◌⊎◌, Bool, true, false, cond, ◌&&◌, ◌||◌, not, eqb, leb, List, [], ◌∷◌, ◌++◌, ◌*◌, arith, refl, ap, ◌∙◌, inl, inr, subst}
+use Rattle.std.proofs.Common.{◌≡◌, ◌≢◌, ℕ, zero, suc, ◌+◌, ◌<◌, ◌≤◌, ◌⊎◌, max, Bool, true, false, cond, ◌&&◌, ◌||◌, not, eqb, leb, List, [], ◌∷◌, ◌++◌, ◌*◌, arith, refl, ap, ◌∙◌, inl, inr, subst}
 use Rattle.std.specs.Int.{bit_at}
 use Rattle.std.proofs.lemmas.Bool.{cases_eq, eq-eqb, leb-true, le-leb, false≢true}
 use Rattle.std.proofs.lemmas.Nat.Bits.{bit_at-lt}
@@ -52,6 +52,15 @@ size_of-less a b s s_in one none others = total-less (bit_at a.bits) (bit_at b.b
 pub size_of-le : (a b : SquareSet) → ((t : ℕ) → bit_at a.bits t ≤ bit_at b.bits t) → size_of a ≤ size_of b
 unfolding size_of
 size_of-le a b le = total-le (bit_at a.bits) (bit_at b.bits) 64 (λ t _. le t)
+
+total-sum : (f g h : ℕ → ℕ) (n : ℕ) → ((t : ℕ) → h t ≤ f t + g t) → total h n ≤ total f n + total g n
+total-sum f g h zero le = omega arith
+total-sum f g h (suc n) le = let rest = total-sum f g h n le in let last = le n in omega arith
+
+-- no more squares are in either of two sets than in both together
+pub size_of-either : (a b c : SquareSet) → ((t : ℕ) → bit_at c.bits t ≡ max (bit_at a.bits t) (bit_at b.bits t)) → size_of c ≤ size_of a + size_of b
+unfolding size_of
+size_of-either a b c either = total-sum (bit_at a.bits) (bit_at b.bits) (bit_at c.bits) 64 (λ t. let e = either t in omega arith)
 
 -- on one file, rank or diagonal
 aligned : ℕ → ℕ → Bool

@@ -58,10 +58,21 @@ impl SquareSet {
 
     /// The squares of either set.
     pub fn union(self, other: SquareSet) -> SquareSet
-        ensures { (t : ℕ) → bit_at result.bits t ≡ max (bit_at self.bits t) (bit_at other.bits t) }
+        ensures squares { (t : ℕ) → bit_at result.bits t ≡ max (bit_at self.bits t) (bit_at other.bits t) }
+        ensures few { size_of result ≤ size_of self + size_of other }
     {
         SquareSet {
             bits: self.bits | other.bits,
+        }
+    }
+
+    /// The squares of both sets.
+    pub fn common(self, other: SquareSet) -> SquareSet
+        ensures squares { (t : ℕ) → bit_at result.bits t ≡ min (bit_at self.bits t) (bit_at other.bits t) }
+        ensures few { size_of result ≤ size_of self }
+    {
+        SquareSet {
+            bits: self.bits & other.bits,
         }
     }
 

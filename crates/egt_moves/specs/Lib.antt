@@ -2,7 +2,10 @@ pub mod Arena
 pub mod Zeroing
 pub mod Entries
 pub mod Likeness
+pub mod Going
+pub mod Promotion
 pub mod Legal
+pub mod Room
 pub mod Order
 pub mod Standing
 pub mod Text

@@ -2,7 +2,7 @@
 use Rattle.std.specs.Prelude.{ℕ, ◌+◌, ◌*◌, ◌<◌, List, [], ◌∷◌, Option, Some, None}
 use Rattle.std.specs.List.{Contains}
 use Rattle.egt_board.specs.declared.man.Kind.{Kind}
-use Rattle.egt_board.specs.declared.man.Kind.TheVariants.{Q, R, B, N, K}
+use Rattle.egt_board.specs.declared.man.Kind.TheVariants.{Q, R, B, N, P, K}
 use Rattle.egt_moves.specs.declared.chess_move.Move.{Move}
 
 abbrev pub promotion_place : Option Kind → ℕ
@@ -11,7 +11,8 @@ promotion_place (Some Q) = 1
 promotion_place (Some R) = 2
 promotion_place (Some B) = 3
 promotion_place (Some N) = 4
-promotion_place (Some K) = 5
+promotion_place (Some P) = 5
+promotion_place (Some K) = 6
 
 -- a number that is less for the move that comes first
 abbrev pub place_of : Move → ℕ

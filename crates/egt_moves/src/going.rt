@@ -1,30 +1,91 @@
 //! Where a man may go, and the board after it has gone there.
-ghost use Rattle.std.specs.Prelude.{◌≡◌, ℕ, ◌≤◌, ◌↔◌, IsTrue};
+ghost use Rattle.std.specs.Prelude.{◌≡◌, ℕ, ◌≤◌, ◌↔◌, IsTrue, Option};
 ghost use Rattle.egt_board.specs.Attack.{IsInCheck};
-ghost use Rattle.egt_board.specs.Placement.{Stands};
+ghost use Rattle.egt_board.specs.Placement.{Stands, IsHeld};
 ghost use Rattle.egt_board.specs.Setup.{IsKingOn};
-ghost use Rattle.egt_board.specs.SquareSet.{Has, size_of, most_reached};
-ghost use Rattle.egt_moves.specs.Legal.{Goes, men_after, plain};
+ghost use Rattle.egt_board.specs.SquareSet.{Has, size_of};
+ghost use Rattle.egt_board.specs.Man.{other_side};
+ghost use Rattle.egt_board.specs.declared.man.Kind.TheVariants.{P};
+ghost use Rattle.egt_moves.specs.Going.{Goes, PieceGoes, PawnTakes};
+ghost use Rattle.egt_moves.specs.Legal.{men_after, men_left, takes_in_passing, passed, plain};
+ghost use Rattle.egt_moves.specs.Room.{most_goals};
 
+use crate::chess_move::Move;
+use crate::promotion::arriving;
 use egt_board::{Board, Kind, Man, Position, Square, SquareSet};
+
+/// The squares that a piece or king on `from` may go to where its king is left aside.
+fn piece_targets(position: &Position, man: Man, from: Square) -> SquareSet
+    requires mine { man.side ≡ position.now.side }
+    requires piece { man.kind ≡ P → ⊥ }
+    ensures goes { (t : ℕ) → Has result t ↔ PieceGoes position.now man from t }
+    ensures few { size_of result ≤ most_goals man.kind }
+{
+    position.board().reach(man, from).without(position.of(man.side))
+}
+
+/// The squares that an enemy man holds or a pawn has just passed.
+fn takeable(position: &Position, man: Man) -> SquareSet
+    requires { man.side ≡ position.now.side }
+    ensures { (t : ℕ) → Has result t ↔ (IsHeld position.now.men t (other_side position.now.side) ⊎ (position.now.target ≡ Some t)) }
+{
+    let enemies = position.of(man.side.other());
+    match position.target() {
+        Some(target) => enemies.with(target),
+        None => enemies,
+    }
+}
+
+/// The squares that a pawn on `from` may go to where its king is left aside.
+fn pawn_targets(position: &Position, man: Man, from: Square) -> SquareSet
+    requires mine { man.side ≡ position.now.side }
+    requires pawn { man.kind ≡ P }
+    ensures goes { (t : ℕ) → Has result t ↔ Goes position.now man from t }
+    ensures few { size_of result ≤ 4 }
+{
+    let advances = position.board().advances(man.side, from);
+    let takes = position.board().reach(man, from).common(takeable(position, man));
+    advances.union(takes)
+}
 
 /// The squares that the man on `from`, one of the side to move, may go to where its king is left aside.
 pub(crate) fn targets(position: &Position, man: Man, from: Square) -> SquareSet
     requires { man.side ≡ position.now.side }
-    ensures goes { (t : ℕ) → Has result t ↔ Goes position.now man (plain from t) }
-    ensures few { size_of result ≤ most_reached man.kind }
+    ensures goes { (t : ℕ) → Has result t ↔ Goes position.now man from t }
+    ensures few { size_of result ≤ most_goals man.kind }
 {
-    let own = position.of(man.side);
-    position.board().reach(man.kind, from).without(own)
+    if man.kind == Kind::P {
+        pawn_targets(position, man, from)
+    } else {
+        piece_targets(position, man, from)
+    }
 }
 
-/// The board after the man on `from` has gone to `to`.
-pub(crate) fn moved(position: &Position, man: Man, from: Square, to: Square) -> Board
-    ensures { result ≡ men_after position.now man (plain from to) }
+/// Whether the man arrives on `to` as a pawn that takes the one that has just passed there.
+fn takes_in_passing(position: &Position, man: Man, to: Square) -> bool
+    ensures { result ≡ takes_in_passing position.now man to }
+{
+    man.kind == Kind::P && position.target() == Some(to)
+}
+
+/// The board without a pawn that the man takes in passing.
+fn left(position: &Position, man: Man, to: Square) -> Board
+    ensures { result ≡ men_left position.now man to }
 {
     let mut board = position.board().copied();
-    board.clear(from);
-    board.put(to, man);
+    if takes_in_passing(position, man, to) {
+        board.clear(to.ahead(position.side().other()));
+    }
+    board
+}
+
+/// The board after the man has made the move.
+pub(crate) fn moved(position: &Position, man: Man, chess_move: Move) -> Board
+    ensures { result ≡ men_after position.now man chess_move }
+{
+    let mut board = left(position, man, chess_move.to);
+    board.clear(chess_move.from);
+    board.put(chess_move.to, arriving(man, chess_move.promo));
     board
 }
 
@@ -32,7 +93,7 @@ pub(crate) fn moved(position: &Position, man: Man, from: Square, to: Square) -> 
 fn king_after(position: &Position, man: Man, from: Square, to: Square) -> Square
     requires stands { Stands position.now.men from man }
     requires mine { man.side ≡ position.now.side }
-    requires goes { Goes position.now man (plain from to) }
+    requires goes { Goes position.now man from to }
     ensures { IsKingOn (men_after position.now man (plain from to)) man.side result }
 {
     let king = position.king(man.side);
@@ -42,13 +103,32 @@ fn king_after(position: &Position, man: Man, from: Square, to: Square) -> Square
     }
 }
 
-/// Whether the king of the side to move is safe once the man on `from`, one of its own, has gone to `to`.
+/// Whether the king of the side to move is safe once the man on `from`, one of its own, has gone to `to`. What a
+/// pawn becomes there does not matter.
 pub(crate) fn is_safe(position: &Position, man: Man, from: Square, to: Square) -> bool
     requires stands { Stands position.now.men from man }
     requires mine { man.side ≡ position.now.side }
-    requires goes { Goes position.now man (plain from to) }
+    requires goes { Goes position.now man from to }
     ensures { IsTrue result ↔ ¬ IsInCheck (men_after position.now man (plain from to)) position.now.side }
 {
     let king = king_after(position, man, from, to);
-    !moved(position, man, from, to).is_in_check(king, man.side)
+    let there = Move {
+        from,
+        to,
+        promo: None,
+    };
+    !moved(position, man, there).is_in_check(king, man.side)
+}
+
+/// The square that the man passes from `from` to `to` as a pawn that advances two squares.
+pub(crate) fn passed(man: Man, from: Square, to: Square) -> Option<Square>
+    ensures { result ≡ passed man from to }
+{
+    let ranks_up = to.rank() == from.rank() + 2;
+    let ranks_down = from.rank() == to.rank() + 2;
+    if man.kind == Kind::P && (ranks_up || ranks_down) {
+        Some(Square::at((from.number() + to.number()) / 2))
+    } else {
+        None
+    }
 }

@@ -10,8 +10,10 @@ pub mod listing;
 pub mod mate_search;
 pub mod outcome;
 pub mod playing;
+pub mod promotion;
 pub mod standings;
 pub mod text;
+pub mod zeroing;
 
 pub use chess_move::Move;
 pub use found::Search;
@@ -20,6 +22,7 @@ pub use mate_search::search;
 pub use outcome::Standing;
 pub use playing::play;
 pub use standings::standing;
+pub use zeroing::zeroing;
 
 #[cfg(test)]
 mod tests;

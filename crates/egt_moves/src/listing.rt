@@ -3,41 +3,67 @@ ghost use Rattle.std.specs.Prelude.{◌≡◌, ◌+◌, ◌*◌, ◌<◌, ◌≤
 ghost use Rattle.std.specs.List.{Contains};
 ghost use Rattle.arrayvec.specs.ArrayVec.{array_vec_len};
 ghost use Rattle.egt_board.specs.Placement.{Stands};
-ghost use Rattle.egt_board.specs.SquareSet.{most_reached};
 ghost use Rattle.egt_moves.specs.Legal.{IsLegal};
 ghost use Rattle.egt_moves.specs.Order.{IsInOrder, place_of};
+ghost use Rattle.egt_moves.specs.Promotion.{FitsPromotion, promotes};
+ghost use Rattle.egt_moves.specs.Room.{most_choices, most_moves};
 ghost use Rattle.egt_moves.specs.declared.chess_move.Move.{Move};
 
 use crate::chess_move::Move;
 use crate::going::{is_safe, targets};
+use crate::promotion::{OFFICERS, promotes};
 use arrayvec::ArrayVec;
 use egt_board::{Man, Position, Square};
+
+/// Adds the moves of the man from `from` to `to`, in order: one, or one for each man that a pawn may become.
+fn push_choices(man: Man, from: Square, to: Square, moves: &mut ArrayVec<Move, 64>)
+    requires room { array_vec_len moves.old + most_choices man.kind ≤ 64 }
+    requires ordered { IsInOrder moves.old.items }
+    requires before { (m : Move) → Contains moves.old.items m → place_of m < (from * 64 + to) * 8 }
+    ensures ordered { IsInOrder moves.new.items }
+    ensures choices { (m : Move) → Contains moves.new.items m
+        ↔ (Contains moves.old.items m ⊎ ((m.from ≡ from) × (m.to ≡ to) × FitsPromotion (promotes man to) m.promo)) }
+    ensures few { array_vec_len moves.new ≤ array_vec_len moves.old + most_choices man.kind }
+{
+    if promotes(man, to) {
+        for kind in OFFICERS {
+            moves.push(Move {
+                from,
+                to,
+                promo: Some(kind),
+            });
+        }
+    } else {
+        moves.push(Move {
+            from,
+            to,
+            promo: None,
+        });
+    }
+}
 
 /// Adds the legal moves of the man on `from`, one of the side to move, in order.
 fn push_moves(position: &Position, man: Man, from: Square, moves: &mut ArrayVec<Move, 64>)
     requires stands { Stands position.now.men from man }
     requires mine { man.side ≡ position.now.side }
-    requires room { array_vec_len moves.old + most_reached man.kind ≤ 64 }
+    requires room { array_vec_len moves.old + most_moves man.kind ≤ 64 }
     requires ordered { IsInOrder moves.old.items }
     requires before { (m : Move) → Contains moves.old.items m → place_of m < from * 512 }
     ensures ordered { IsInOrder moves.new.items }
     ensures legal { (m : Move) → Contains moves.new.items m
         ↔ (Contains moves.old.items m ⊎ ((m.from ≡ from) × IsLegal position.now m)) }
-    ensures few { array_vec_len moves.new ≤ array_vec_len moves.old + most_reached man.kind }
+    ensures few { array_vec_len moves.new ≤ array_vec_len moves.old + most_moves man.kind }
 {
     let mut left = targets(position, man, from);
     while let Some(to) = left.pop_first() {
         if is_safe(position, man, from, to) {
-            moves.push(Move {
-                from,
-                to,
-                promo: None,
-            });
+            push_choices(man, from, to, moves);
         }
     }
 }
 
-/// The legal moves, in order of the square left, then the square arrived at: each once. A side of at most
+/// The legal moves, in order of the square left, then the square arrived at, then the promotion q, r, b, n: each
+/// once. A side of at most
 /// three men has at most 64.
 pub fn legal_moves(position: &Position) -> ArrayVec<Move, 64>
     ensures legal { (m : Move) → Contains result.items m ↔ IsLegal position.now m }

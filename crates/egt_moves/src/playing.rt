@@ -4,7 +4,8 @@ ghost use Rattle.egt_board.specs.Setup.{Setup};
 ghost use Rattle.egt_moves.specs.Legal.{Leads};
 
 use crate::chess_move::Move;
-use crate::going::{is_safe, moved, targets};
+use crate::going::{is_safe, moved, passed, targets};
+use crate::promotion::fits_promotion;
 use egt_board::Position;
 
 /// The position that the move leads to; `None` where the move is not legal.
@@ -13,7 +14,7 @@ pub fn play(position: &Position, chess_move: Move) -> Option<Position>
     ensures illegal { IfNone result ((q : Setup) → ¬ Leads position.now chess_move q) }
 {
     let man = position.at(chess_move.from)?;
-    if man.side != position.side() || chess_move.promo.is_some() {
+    if man.side != position.side() || !fits_promotion(man, chess_move.to, chess_move.promo) {
         return None;
     }
     if !targets(position, man, chess_move.from).contains(chess_move.to) {
@@ -22,6 +23,7 @@ pub fn play(position: &Position, chess_move: Move) -> Option<Position>
     if !is_safe(position, man, chess_move.from, chess_move.to) {
         return None;
     }
-    let board = moved(position, man, chess_move.from, chess_move.to);
-    Some(Position::admitted(board, man.side.other(), None))
+    let board = moved(position, man, chess_move);
+    let target = passed(man, chess_move.from, chess_move.to);
+    Some(Position::admitted(board, man.side.other(), target))
 }

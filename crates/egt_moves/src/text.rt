@@ -37,6 +37,7 @@ fn letter(kind: Kind) -> u8
         Kind::R => b'r',
         Kind::B => b'b',
         Kind::N => b'n',
+        Kind::P => b'p',
         Kind::K => b'k',
     }
 }

@@ -8,7 +8,7 @@ use Rattle.egt_board.proofs.board.Board.occupied.Goals as goal
 pub returns-clause-free : goal.returns-clause-free
 returns-clause-free c = λ t.
     bit_of-free c.args.self.now t _ _ (ap (λ m. map.get m t) (sym c.self.view_is) ∙ get-placed _ t)
-    (c.union.ensures t ∙ rw (c.self.invariant.1 t, c.self.invariant.2 t) refl)
+    (c.union.ensures.squares t ∙ rw (c.self.invariant.1 t, c.self.invariant.2 t) refl)
 
 pub returns-clause-on_board : goal.returns-clause-on_board
 returns-clause-on_board c = λ s man stands.
