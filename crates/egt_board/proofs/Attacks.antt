@@ -5,29 +5,10 @@ use Rattle.std.specs.FinMap as map
 use Rattle.std.proofs.lemmas.Bool.{cases_eq}
 use Rattle.egt_board.specs.declared.man.Side.{Side}
 use Rattle.egt_board.specs.declared.man.Man.{Man}
-use Rattle.egt_board.specs.declared.step.Step.{Step}
 use Rattle.egt_board.specs.Placement.{Placement, Stands, IsFree}
-use Rattle.egt_board.specs.Gait.{Rides, OneOf, Reaches, farthest, steps_of}
+use Rattle.egt_board.specs.Gait.{Reaches}
 use Rattle.egt_board.specs.Placement.{IsHeld}
 use Rattle.egt_board.proofs.Bits.{not_both}
-
-OneOf-weaker : (P Q : Step → Type 0) (ds : List Step) → ((d : Step) → P d → Q d) → OneOf P ds → OneOf Q ds
-OneOf-weaker P Q [] h none = none
-OneOf-weaker P Q (d ∷ ds) h some = elim some [ inl p ↦ inl (h d p) | inr r ↦ inr (OneOf-weaker P Q ds h r) ]
-
--- only which squares are free counts
-pub Rides-free : (F G : ℕ → Type 0) (most s t : ℕ) (d : Step) → ((u : ℕ) → u < 64 → F u → G u) → Rides F most s t d → Rides G most s t d
-Rides-free F G most s t d free r = record {
-  count = r.count;
-  moves = r.moves;
-  within = r.within;
-  away = r.away;
-  clear = λ k u some less away. free u away.on_board (r.clear k u some less away);
-}
-
-pub Reaches-free : (F G : ℕ → Type 0) (man : Man) (s t : ℕ) → ((u : ℕ) → u < 64 → F u → G u) → Reaches F man s t → Reaches G man s t
-Reaches-free F G man s t free =
-    OneOf-weaker (Rides F (farthest man.kind) s t) (Rides G (farthest man.kind) s t) (steps_of man.side man.kind) (λ d. Rides-free F G (farthest man.kind) s t d free)
 
 -- no man of this side attacks the square, but one that is left in the set
 abbrev pub OnlyLeft : Placement → Side → ℕ → ℕ → Type 0

@@ -79,3 +79,21 @@ Reaches-on_board F man s t r = one (steps_of man.side man.kind) r
     one : (ds : List Step) → OneOf (Rides F (farthest man.kind) s t) ds → t < 64
     one [] none = absurd none
     one (d ∷ ds) some = elim some [ inl p ↦ p.away.on_board | inr q ↦ one ds q ]
+
+OneOf-weaker : (Holds Kept : Step → Type 0) (ds : List Step) → ((d : Step) → Holds d → Kept d) → OneOf Holds ds → OneOf Kept ds
+OneOf-weaker Holds Kept [] h none = none
+OneOf-weaker Holds Kept (d ∷ ds) h some = elim some [ inl p ↦ inl (h d p) | inr r ↦ inr (OneOf-weaker Holds Kept ds h r) ]
+
+-- only which squares are free counts
+pub Rides-free : (F G : ℕ → Type 0) (most s t : ℕ) (d : Step) → ((u : ℕ) → u < 64 → F u → G u) → Rides F most s t d → Rides G most s t d
+Rides-free F G most s t d free r = record {
+  count = r.count;
+  moves = r.moves;
+  within = r.within;
+  away = r.away;
+  clear = λ k u some less away. free u away.on_board (r.clear k u some less away);
+}
+
+pub Reaches-free : (F G : ℕ → Type 0) (man : Man) (s t : ℕ) → ((u : ℕ) → u < 64 → F u → G u) → Reaches F man s t → Reaches G man s t
+Reaches-free F G man s t free =
+    OneOf-weaker (Rides F (farthest man.kind) s t) (Rides G (farthest man.kind) s t) (steps_of man.side man.kind) (λ d. Rides-free F G (farthest man.kind) s t d free)

@@ -1,54 +1,194 @@
 -- The men after a move.
-use Rattle.std.proofs.Common.{◌≡◌, ◌≢◌, ℕ, ◌<◌, ◌≤◌, ◌+◌, ◌-◌, ◌⊎◌, Option, Some, None, cond, true, false, Bool, arith, refl, sym, ap, ◌∙◌, inl, inr, subst}
+use Rattle.std.proofs.Common.{◌≡◌, ◌≢◌, ℕ, ◌<◌, ◌≤◌, ◌+◌, ◌-◌, ◌*◌, ◌⊎◌, ◌&&◌, Option, Some, None, cond, true, false, Bool, arith, refl, sym, ap, ◌∙◌, inl, inr, subst, if◌then◌else◌, IfSome}
 use Rattle.std.specs.Option.{is_some}
 use Rattle.std.specs.Cmp.{nat_cmp_total}
 use Rattle.std.specs.FinMap as map
 use Rattle.std.proofs.lemmas.Bool.{cases_eq, false≢true}
+use Rattle.std.proofs.lemmas.Bool.Decides.{eqb_tells}
 use Rattle.egt_board.specs.declared.man.Side.{Side}
 use Rattle.egt_board.specs.declared.man.Side.TheVariants.{White, Black}
 use Rattle.egt_board.specs.declared.man.Kind.{Kind}
-use Rattle.egt_board.specs.declared.man.Kind.TheVariants.{Q, R, B, N, K}
+use Rattle.egt_board.specs.declared.man.Kind.TheVariants.{Q, R, B, N, P, K}
 use Rattle.egt_board.specs.declared.man.Man.{Man}
 use Rattle.egt_board.specs.Man.{other_side}
 use Rattle.egt_board.specs.Placement.{Placement, Stands, IsFree, IsHeld, get-insert_same, get-insert_other, get-remove_same, get-remove_other}
-use Rattle.egt_board.specs.Gait.{Reaches, Reaches-on_board}
+use Rattle.egt_board.specs.Pawn.{ahead, pawn_of}
+use Rattle.egt_board.specs.Target.{IsTarget}
+use Rattle.egt_board.specs.Gait.{Reaches, Reaches-on_board, Reaches-free}
 use Rattle.egt_board.specs.Attack.{king_of, IsInCheck, IsAttacked}
-use Rattle.egt_board.specs.Setup.{Setup, IsAdmissible, IsKingOn, HasKings}
+use Rattle.egt_board.specs.Setup.{Setup, IsAdmissible, IsKingOn}
 use Rattle.egt_moves.specs.declared.chess_move.Move.{Move}
-use Rattle.egt_moves.specs.Legal.{Goes, Leads, men_after, after, plain}
+use Rattle.egt_moves.specs.Going.{Goes, PieceGoes, PawnAdvances, PawnTakes}
+use Rattle.egt_moves.specs.Promotion.{is_pawn, promotes, IsOfficer, FitsPromotion, arriving}
+use Rattle.egt_moves.specs.Legal.{is_target, takes_in_passing, men_left, men_after, plain}
 
--- what stands where after the move
-pub after_to : (p : Setup) (man : Man) (m : Move) → map.get (men_after p man m) m.to ≡ Some man
-after_to p man m = get-insert_same (map.remove p.men m.from) m.to man m.to refl
+pub sides_differ : (side : Side) → side ≡ other_side side → ⊥
+sides_differ White e = cc
+sides_differ Black e = cc
 
-pub after_from : (p : Setup) (man : Man) (m : Move) → m.from ≢ m.to → map.get (men_after p man m) m.from ≡ None
-after_from p man m apart = get-insert_other (map.remove p.men m.from) m.to man m.from apart ∙ get-remove_same p.men m.from m.from refl
-
-pub after_other : (p : Setup) (man : Man) (m : Move) (t : ℕ) → t ≢ m.from → t ≢ m.to → map.get (men_after p man m) t ≡ map.get p.men t
-after_other p man m t not_from not_to = get-insert_other (map.remove p.men m.from) m.to man t not_to ∙ get-remove_other p.men m.from t not_from
-
--- a man that stands after the move is the one that moved or stood there before
-pub after_cases : (p : Setup) (man : Man) (m : Move) (t : ℕ) (other : Man) → Stands (men_after p man m) t other → ((t ≡ m.to) × (other ≡ man)) ⊎ ((t ≢ m.from) × (t ≢ m.to) × Stands p.men t other)
-after_cases p man m t other stands = elim (cases_eq t m.to) [
-  | inl e ↦
-      let both : Some other ≡ Some man = sym stands ∙ ap (map.get (men_after p man m)) e ∙ after_to p man m in
-      let same : other ≡ man = cc in inl (e, same)
-  | inr not_to ↦ elim (cases_eq t m.from) [
-    | inl e ↦
-        let bad : Some other ≡ None = sym stands ∙ get-insert_other (map.remove p.men m.from) m.to man t not_to ∙ get-remove_same p.men m.from t e in
-        absurd (cc)
-    | inr not_from ↦ inr (not_from, not_to, sym (after_other p man m t not_from not_to) ∙ stands)
-  ]
-]
+pub side_twice : (side : Side) → other_side (other_side side) ≡ side
+side_twice White = refl
+side_twice Black = refl
 
 pub one_man : (men : Placement) (s : ℕ) (a b : Man) → Stands men s a → Stands men s b → a ≡ b
 one_man men s a b p q = let both : Some a ≡ Some b = sym p ∙ q in cc
 
+pub not_free : {A : Type 0} (men : Placement) (s : ℕ) (man : Man) → IsFree men s → Stands men s man → A
+not_free men s man free stands = let bad : Some man ≡ None = sym stands ∙ free in absurd (cc)
+
+-- a pawn takes one that has just passed it
+pub record Passing (p : Setup) (man : Man) (to : ℕ) : Type 0 where
+  pub target : p.target ≡ Some to
+  pub is : IsTarget p.men p.side to
+  pub pawn : man.kind ≡ P
+  pub left : men_left p man to ≡ map.remove p.men (ahead (other_side p.side) to)
+
+pub target_is : (p : Setup) (t : ℕ) → IsAdmissible p → p.target ≡ Some t → IsTarget p.men p.side t
+target_is p t ok is = subst (λ (o : Option ℕ). IfSome o (IsTarget p.men p.side)) is ok.target
+
+-- no pawn is taken in passing, or one is
+pub left_cases : (p : Setup) (man : Man) (to : ℕ) → IsAdmissible p → (men_left p man to ≡ p.men) ⊎ Passing p man to
+left_cases p man to ok = by_kind man.kind refl
+  where
+    all_left : takes_in_passing p man to ≡ false → men_left p man to ≡ p.men
+    all_left e = ap (λ b. if b then map.remove p.men (ahead (other_side p.side) to) else p.men) e
+
+    one_less : takes_in_passing p man to ≡ true → men_left p man to ≡ map.remove p.men (ahead (other_side p.side) to)
+    one_less e = ap (λ b. if b then map.remove p.men (ahead (other_side p.side) to) else p.men) e
+
+    no_pawn : is_pawn man.kind ≡ false → (men_left p man to ≡ p.men) ⊎ Passing p man to
+    no_pawn e = inl (all_left (ap (λ b. b && is_target p.target to) e))
+
+    by_target : man.kind ≡ P → (o : Option ℕ) → p.target ≡ o → (men_left p man to ≡ p.men) ⊎ Passing p man to
+    by_target pawn None e = inl (all_left (ap (λ k. is_pawn k && is_target p.target to) pawn ∙ ap (λ o. is_target o to) e))
+    by_target pawn (Some t) e = elim (eqb_tells t to) [
+      | inl h ↦
+          let here : p.target ≡ Some to = e ∙ ap Some h.1 in
+          inr (record {
+            target = here;
+            is = target_is p to ok here;
+            pawn = pawn;
+            left = one_less (ap (λ k. is_pawn k && is_target p.target to) pawn ∙ ap (λ o. is_target o to) e ∙ h.0);
+          })
+      | inr h ↦ inl (all_left (ap (λ k. is_pawn k && is_target p.target to) pawn ∙ ap (λ o. is_target o to) e ∙ h.0))
+    ]
+
+    by_kind : (kind : Kind) → man.kind ≡ kind → (men_left p man to ≡ p.men) ⊎ Passing p man to
+    by_kind P e = by_target e p.target refl
+    by_kind Q e = no_pawn (ap is_pawn e)
+    by_kind R e = no_pawn (ap is_pawn e)
+    by_kind B e = no_pawn (ap is_pawn e)
+    by_kind N e = no_pawn (ap is_pawn e)
+    by_kind K e = no_pawn (ap is_pawn e)
+
+-- what is left stood there before
+pub left_stood : (p : Setup) (man : Man) (to t : ℕ) (other : Man) → IsAdmissible p → Stands (men_left p man to) t other → Stands p.men t other
+left_stood p man to t other ok stands = elim (left_cases p man to ok) [
+  | inl same ↦ ap (λ m. map.get m t) (sym same) ∙ stands
+  | inr passing ↦ elim (cases_eq t (ahead (other_side p.side) to)) [
+    | inl e ↦ not_free (men_left p man to) t other (ap (λ m. map.get m t) passing.left ∙ get-remove_same p.men (ahead (other_side p.side) to) t e) stands
+    | inr apart ↦ sym (get-remove_other p.men (ahead (other_side p.side) to) t apart) ∙ ap (λ m. map.get m t) (sym passing.left) ∙ stands
+  ]
+]
+
+pub left_free : (p : Setup) (man : Man) (to t : ℕ) → IsAdmissible p → IsFree p.men t → IsFree (men_left p man to) t
+left_free p man to t ok free = by_man (map.get (men_left p man to) t) refl
+  where
+    by_man : (o : Option Man) → map.get (men_left p man to) t ≡ o → IsFree (men_left p man to) t
+    by_man None e = e
+    by_man (Some other) e = not_free p.men t other free (left_stood p man to t other ok e)
+
+-- only an enemy pawn is taken in passing
+pub left_keeps : (p : Setup) (man : Man) (to t : ℕ) (other : Man) → IsAdmissible p → other ≢ pawn_of (other_side p.side) → Stands p.men t other → Stands (men_left p man to) t other
+left_keeps p man to t other ok not_it stands = elim (left_cases p man to ok) [
+  | inl same ↦ ap (λ m. map.get m t) same ∙ stands
+  | inr passing ↦ elim (cases_eq t (ahead (other_side p.side) to)) [
+    | inl e ↦ absurd (not_it (one_man p.men t other _ stands (ap (map.get p.men) e ∙ passing.is.advanced)))
+    | inr apart ↦ ap (λ m. map.get m t) passing.left ∙ get-remove_other p.men (ahead (other_side p.side) to) t apart ∙ stands
+  ]
+]
+
+-- what stands where after the move
+pub after_to : (p : Setup) (man : Man) (m : Move) → map.get (men_after p man m) m.to ≡ Some (arriving man m.promo)
+after_to p man m = get-insert_same (map.remove (men_left p man m.to) m.from) m.to (arriving man m.promo) m.to refl
+
+pub after_from : (p : Setup) (man : Man) (m : Move) → m.from ≢ m.to → map.get (men_after p man m) m.from ≡ None
+after_from p man m apart = get-insert_other (map.remove (men_left p man m.to) m.from) m.to (arriving man m.promo) m.from apart ∙ get-remove_same (men_left p man m.to) m.from m.from refl
+
+pub after_other : (p : Setup) (man : Man) (m : Move) (t : ℕ) → t ≢ m.from → t ≢ m.to → map.get (men_after p man m) t ≡ map.get (men_left p man m.to) t
+after_other p man m t not_from not_to =
+    get-insert_other (map.remove (men_left p man m.to) m.from) m.to (arriving man m.promo) t not_to ∙ get-remove_other (men_left p man m.to) m.from t not_from
+
+-- a man that stands after the move is the one that moved, or was promoted, or stood there before
+pub after_cases : (p : Setup) (man : Man) (m : Move) (t : ℕ) (other : Man) → IsAdmissible p → Stands (men_after p man m) t other → ((t ≡ m.to) × (other ≡ arriving man m.promo)) ⊎ ((t ≢ m.from) × (t ≢ m.to) × Stands p.men t other)
+after_cases p man m t other ok stands = elim (cases_eq t m.to) [
+  | inl e ↦ inl (e, one_man (men_after p man m) t other (arriving man m.promo) stands (ap (map.get (men_after p man m)) e ∙ after_to p man m))
+  | inr not_to ↦ elim (cases_eq t m.from) [
+    | inl e ↦
+        not_free (men_after p man m) t other
+        (get-insert_other (map.remove (men_left p man m.to) m.from) m.to (arriving man m.promo) t not_to ∙ get-remove_same (men_left p man m.to) m.from t e) stands
+    | inr not_from ↦ inr (not_from, not_to, left_stood p man m.to t other ok (sym (after_other p man m t not_from not_to) ∙ stands))
+  ]
+]
+
+-- a man that neither moves nor is taken stays
+pub after_stays : (p : Setup) (man : Man) (m : Move) (t : ℕ) (other : Man) → IsAdmissible p → other ≢ pawn_of (other_side p.side) → t ≢ m.from → t ≢ m.to → Stands p.men t other → Stands (men_after p man m) t other
+after_stays p man m t other ok not_it not_from not_to stands = after_other p man m t not_from not_to ∙ left_keeps p man m.to t other ok not_it stands
+
+-- a man goes to a square of the board on which no man of its side stands
+pub goes_on_board : (p : Setup) (man : Man) (from to : ℕ) → Goes p man from to → to < 64
+goes_on_board p man from to (inl piece) = Reaches-on_board (IsFree p.men) man from to piece.reaches
+goes_on_board p man from to (inr (inl advance)) = advance.advances.rides.away.on_board
+goes_on_board p man from to (inr (inr takes)) = Reaches-on_board (IsFree p.men) man from to takes.reaches
+
+pub goes_not_own : (p : Setup) (man : Man) (from to : ℕ) → IsAdmissible p → Goes p man from to → ¬ IsHeld p.men to p.side
+goes_not_own p man from to ok (inl piece) held = piece.not_own held
+goes_not_own p man from to ok (inr (inl advance)) held = not_free p.men to held.man advance.advances.free held.stands
+goes_not_own p man from to ok (inr (inr takes)) held = elim takes.takes [
+  | inl enemy ↦ sides_differ p.side (sym held.theirs ∙ ap (λ (m : Man). m.side) (one_man p.men to held.man enemy.man held.stands enemy.stands) ∙ enemy.theirs)
+  | inr target ↦ not_free p.men to held.man (target_is p to ok target).empty held.stands
+]
+
+-- an enemy man on the square that it goes to was attacked
+pub goes_to_attacked : (p : Setup) (man other : Man) (from to : ℕ) → Goes p man from to → Stands p.men to other → Reaches (IsFree p.men) man from to
+goes_to_attacked p man other from to (inl piece) stands = piece.reaches
+goes_to_attacked p man other from to (inr (inl advance)) stands = not_free p.men to other advance.advances.free stands
+goes_to_attacked p man other from to (inr (inr takes)) stands = takes.reaches
+
+-- nothing becomes a king
+pub MayBecome : Option Kind → Type 0
+MayBecome None = Unit {0}
+MayBecome (Some kind) = IsOfficer kind
+
+pub may_become : (b : Bool) (promo : Option Kind) → FitsPromotion b promo → MayBecome promo
+unfolding MayBecome
+may_become true None fits = absurd fits
+may_become true (Some kind) fits = fits
+may_become false None fits = tt
+may_become false (Some kind) fits = absurd fits
+
+not_king_of : (man : Man) (promo : Option Kind) (side : Side) → MayBecome promo → man.kind ≢ K → king_of side ≢ arriving man promo
+unfolding MayBecome
+not_king_of man None side may not_king e = not_king (ap (λ (m : Man). m.kind) (sym e))
+not_king_of man (Some K) side may not_king e = may
+not_king_of man (Some P) side may not_king e = may
+not_king_of man (Some Q) side may not_king e = let kinds : K ≡ Q = ap (λ (m : Man). m.kind) e in cc
+not_king_of man (Some R) side may not_king e = let kinds : K ≡ R = ap (λ (m : Man). m.kind) e in cc
+not_king_of man (Some B) side may not_king e = let kinds : K ≡ B = ap (λ (m : Man). m.kind) e in cc
+not_king_of man (Some N) side may not_king e = let kinds : K ≡ N = ap (λ (m : Man). m.kind) e in cc
+
+arriving_side : (man : Man) (promo : Option Kind) → (arriving man promo).side ≡ man.side
+arriving_side man None = refl
+arriving_side man (Some kind) = refl
+
+kings_are_no_pawns : (side other : Side) → king_of side ≢ pawn_of other
+kings_are_no_pawns side other e = let kinds : K ≡ P = ap (λ (m : Man). m.kind) e in cc
+
 -- the king that moves is then on its new square
-pub king_moves : (p : Setup) (man : Man) (m : Move) (k : ℕ) → Stands p.men m.from man → IsKingOn p.men man.side k → man.kind ≡ K → IsKingOn (men_after p man m) man.side m.to
-king_moves p man m k stands king is_king = record {
-  stands = after_to p man m ∙ ap Some man_is;
-  only = λ t there. elim (after_cases p man m t (king_of man.side) there) [
+pub king_moves : (p : Setup) (man : Man) (m : Move) (k : ℕ) → IsAdmissible p → Stands p.men m.from man → IsKingOn p.men man.side k → man.kind ≡ K → m.promo ≡ None → IsKingOn (men_after p man m) man.side m.to
+king_moves p man m k ok stands king is_king none = record {
+  stands = after_to p man m ∙ ap (λ o. Some (arriving man o)) none ∙ ap Some man_is;
+  only = λ t there. elim (after_cases p man m t (king_of man.side) ok there) [
     | inl h ↦ h.0
     | inr h ↦ absurd (h.0 (king.only t h.2 ∙ sym (king.only m.from (stands ∙ ap Some man_is))))
   ];
@@ -58,11 +198,11 @@ king_moves p man m k stands king is_king = record {
     man_is = λ i. record { side = man.side; kind = is_king i }
 
 -- another man leaves it where it is
-pub king_stays : (p : Setup) (man : Man) (m : Move) (k : ℕ) → Stands p.men m.from man → man.side ≡ p.side → ¬ IsHeld p.men m.to p.side → IsKingOn p.men man.side k → man.kind ≢ K → IsKingOn (men_after p man m) man.side k
-king_stays p man m k stands mine not_own king not_king = record {
-  stands = after_other p man m k not_from not_to ∙ king.stands;
-  only = λ t there. elim (after_cases p man m t (king_of man.side) there) [
-    | inl h ↦ absurd (not_king (ap (λ (x : Man). x.kind) (sym h.1)))
+pub king_stays : (p : Setup) (man : Man) (m : Move) (k : ℕ) → IsAdmissible p → Stands p.men m.from man → man.side ≡ p.side → Goes p man m.from m.to → MayBecome m.promo → IsKingOn p.men man.side k → man.kind ≢ K → IsKingOn (men_after p man m) man.side k
+king_stays p man m k ok stands mine goes may king not_king = record {
+  stands = after_stays p man m k (king_of man.side) ok (kings_are_no_pawns man.side (other_side p.side)) not_from not_to king.stands;
+  only = λ t there. elim (after_cases p man m t (king_of man.side) ok there) [
+    | inl h ↦ absurd (not_king_of man m.promo man.side may not_king h.1)
     | inr h ↦ king.only t h.2
   ];
 }
@@ -71,23 +211,15 @@ king_stays p man m k stands mine not_own king not_king = record {
     not_from e = not_king (ap (λ (x : Man). x.kind) (one_man p.men m.from man (king_of man.side) stands (subst (λ s. Stands p.men s (king_of man.side)) e king.stands)))
 
     not_to : k ≢ m.to
-    not_to e = not_own (record { man = king_of man.side; stands = subst (λ s. Stands p.men s (king_of man.side)) e king.stands; theirs = mine })
-
-sides_differ : (side : Side) → side ≡ other_side side → ⊥
-sides_differ White e = cc
-sides_differ Black e = cc
-
-side_twice : (side : Side) → other_side (other_side side) ≡ side
-side_twice White = refl
-side_twice Black = refl
+    not_to e = goes_not_own p man m.from m.to ok goes (record { man = king_of man.side; stands = subst (λ s. Stands p.men s (king_of man.side)) e king.stands; theirs = mine })
 
 -- the other side's king stays too: it cannot have been captured, since it was not attacked
-pub other_king_stays : (p : Setup) (man : Man) (m : Move) (k : ℕ) → Stands p.men m.from man → man.side ≡ p.side → Goes p man m → IsAdmissible p → IsKingOn p.men (other_side p.side) k
+pub other_king_stays : (p : Setup) (man : Man) (m : Move) (k : ℕ) → Stands p.men m.from man → man.side ≡ p.side → Goes p man m.from m.to → IsAdmissible p → IsKingOn p.men (other_side p.side) k
     → IsKingOn (men_after p man m) (other_side p.side) k
 other_king_stays p man m k stands mine goes ok king = record {
-  stands = after_other p man m k not_from not_to ∙ king.stands;
-  only = λ t there. elim (after_cases p man m t (king_of (other_side p.side)) there) [
-    | inl h ↦ absurd (sides_differ p.side (sym mine ∙ ap (λ (x : Man). x.side) (sym h.1)))
+  stands = after_stays p man m k (king_of (other_side p.side)) ok (kings_are_no_pawns (other_side p.side) (other_side p.side)) not_from not_to king.stands;
+  only = λ t there. elim (after_cases p man m t (king_of (other_side p.side)) ok there) [
+    | inl h ↦ absurd (sides_differ p.side (sym mine ∙ sym (arriving_side man m.promo) ∙ ap (λ (x : Man). x.side) (sym h.1)))
     | inr h ↦ king.only t h.2
   ];
 }
@@ -96,63 +228,43 @@ other_king_stays p man m k stands mine goes ok king = record {
     not_from e = sides_differ p.side (sym mine ∙ ap (λ (x : Man). x.side) (one_man p.men m.from man (king_of (other_side p.side)) stands (subst (λ s. Stands p.men s (king_of (other_side p.side))) e king.stands)))
 
     not_to : k ≢ m.to
-    not_to e = ok.quiet (record {
-      square = k;
-      stands = king.stands;
-      attacked = record { from = m.from; man = man; stands = stands; theirs = mine ∙ sym (side_twice p.side); reaches = subst (Reaches (IsFree p.men) man.kind m.from) (sym e) goes.reaches };
-    })
+    not_to e =
+        let on_to = subst (λ s. Stands p.men s (king_of (other_side p.side))) e king.stands in
+        ok.quiet (record {
+          square = k;
+          stands = king.stands;
+          attacked = record { from = m.from; man = man; stands = stands; theirs = mine ∙ sym (side_twice p.side); reaches = subst (Reaches (IsFree p.men) man m.from) (sym e) (goes_to_attacked p man (king_of (other_side p.side)) m.from m.to goes on_to) };
+        })
 
-pub len_after : (p : Setup) (man : Man) (m : Move) → Stands p.men m.from man → map.len p.men ≤ 4 → map.len (men_after p man m) ≤ 4
-len_after p man m stands few =
-    let removed : map.len (map.remove p.men m.from) ≡ cond (is_some (map.get p.men m.from)) (map.len p.men - 1) (map.len p.men) = map.len-remove nat_cmp_total p.men m.from in
-    let less : map.len (map.remove p.men m.from) ≡ map.len p.men - 1 = removed ∙ ap (λ o. cond (is_some o) (map.len p.men - 1) (map.len p.men)) stands in
-    bound (map.contains_key (map.remove p.men m.from) m.to) _ _ (map.len-insert nat_cmp_total (map.remove p.men m.from) m.to man) (omega arith)
-  where
-    bound : (b : Bool) (l n : ℕ) → l ≡ cond b n (n + 1) → n ≤ 3 → l ≤ 4
-    bound true l n e le = omega arith
-    bound false l n e le = omega arith
-
-own_king_after : (p : Setup) (man : Man) (m : Move) (k : ℕ) → Stands p.men m.from man → man.side ≡ p.side → Goes p man m → IsKingOn p.men p.side k → (s : ℕ) × IsKingOn (men_after p man m) p.side s
-own_king_after p man m k stands mine goes king = subst (λ side. IsKingOn p.men side k → (s : ℕ) × IsKingOn (men_after p man m) side s) mine (by_kind man.kind refl) king
-  where
-    by_kind : (kind : Kind) → man.kind ≡ kind → IsKingOn p.men man.side k → (s : ℕ) × IsKingOn (men_after p man m) man.side s
-    by_kind K e there = (m.to, king_moves p man m k stands there e)
-    by_kind Q e there = (k, king_stays p man m k stands mine goes.not_own there (λ f. let bad = sym e ∙ f in cc))
-    by_kind R e there = (k, king_stays p man m k stands mine goes.not_own there (λ f. let bad = sym e ∙ f in cc))
-    by_kind B e there = (k, king_stays p man m k stands mine goes.not_own there (λ f. let bad = sym e ∙ f in cc))
-    by_kind N e there = (k, king_stays p man m k stands mine goes.not_own there (λ f. let bad = sym e ∙ f in cc))
-
--- one king a side is there after the move as before
-kings_after : (p : Setup) (man : Man) (m : Move) → Stands p.men m.from man → man.side ≡ p.side → Goes p man m → IsAdmissible p → HasKings (men_after p man m)
-kings_after p man m stands mine goes ok = by_side p.side refl
-  where
-    own : (k : ℕ) (side : Side) → p.side ≡ side → IsKingOn p.men side k → (s : ℕ) × IsKingOn (men_after p man m) side s
-    own k side e king = subst (λ x. IsKingOn p.men x k → (s : ℕ) × IsKingOn (men_after p man m) x s) e (own_king_after p man m k stands mine goes) king
-
-    theirs : (k : ℕ) (side : Side) → other_side p.side ≡ side → IsKingOn p.men side k → IsKingOn (men_after p man m) side k
-    theirs k side e king = subst (λ x. IsKingOn p.men x k → IsKingOn (men_after p man m) x k) e (other_king_stays p man m k stands mine goes ok) king
-
-    by_side : (side : Side) → p.side ≡ side → HasKings (men_after p man m)
-    by_side White e =
-        let mine_there = own ok.kings.white White e ok.kings.white_there in
-        record { white = mine_there.0; black = ok.kings.black; white_there = mine_there.1; black_there = theirs ok.kings.black Black (ap other_side e) ok.kings.black_there }
-    by_side Black e =
-        let mine_there = own ok.kings.black Black e ok.kings.black_there in
-        record { white = ok.kings.white; black = mine_there.0; white_there = theirs ok.kings.white White (ap other_side e) ok.kings.white_there; black_there = mine_there.1 }
-
--- what a legal move leads to is admissible
-pub admissible_after : (p : Setup) (man : Man) (m : Move) → Stands p.men m.from man → man.side ≡ p.side → Goes p man m → IsAdmissible p → ¬ IsInCheck (men_after p man m) p.side → IsAdmissible (after p man m)
-admissible_after p man m stands mine goes ok safe = record {
-  few = len_after p man m stands ok.few;
-  on_board = λ s other there. elim (after_cases p man m s other there) [
-    | inl h ↦ subst (λ x. x < 64) (sym h.0) (Reaches-on_board (IsFree p.men) man.kind m.from m.to goes.reaches)
-    | inr h ↦ ok.on_board s other h.2
-  ];
-  kings = kings_after p man m stands mine goes ok;
-  target = refl;
-  quiet = λ check. safe (subst (IsInCheck (men_after p man m)) (side_twice p.side) check);
+-- what the pawn becomes does not matter to the king of its side
+pub check_whatever : (p : Setup) (man : Man) (from to : ℕ) (kind other : Option Kind) → man.side ≡ p.side → king_of p.side ≢ arriving man kind → (king_of p.side ≡ arriving man other → ⊥)
+    → IsInCheck (men_after p man (record { from = from; to = to; promo = kind })) p.side → IsInCheck (men_after p man (record { from = from; to = to; promo = other })) p.side
+check_whatever p man from to kind other mine not_king _ check = record {
+  square = check.square;
+  stands = same check.square (king_of p.side) (λ e. not_king (one_man _ to (king_of p.side) (arriving man kind) (subst (λ s. Stands before s (king_of p.side)) e check.stands) (get-insert_same _ to (arriving man kind) to refl))) check.stands;
+  attacked = record {
+    from = check.attacked.from;
+    man = check.attacked.man;
+    stands = same check.attacked.from check.attacked.man (λ e. sides_differ p.side (sym mine ∙ sym (arriving_side man kind) ∙ ap (λ (x : Man). x.side) (one_man _ to (arriving man kind) check.attacked.man (get-insert_same _ to (arriving man kind) to refl) (subst (λ s. Stands before s check.attacked.man) e check.attacked.stands)) ∙ check.attacked.theirs)) check.attacked.stands;
+    theirs = check.attacked.theirs;
+    reaches = Reaches-free (IsFree before) (IsFree behind) check.attacked.man check.attacked.from check.square (λ u _. free u) check.attacked.reaches;
+  };
 }
+  where
+    before : Placement
+    before = men_after p man (record { from = from; to = to; promo = kind })
 
-pub none_of : {A : Type 0} (o : Option A) → is_some o ≡ false → o ≡ None
-none_of None e = refl
-none_of (Some x) e = absurd (false≢true (sym e))
+    behind : Placement
+    behind = men_after p man (record { from = from; to = to; promo = other })
+
+    others : (t : ℕ) → t ≢ to → map.get behind t ≡ map.get before t
+    others t apart = get-insert_other _ to (arriving man other) t apart ∙ sym (get-insert_other _ to (arriving man kind) t apart)
+
+    same : (t : ℕ) (x : Man) → (t ≡ to → ⊥) → Stands before t x → Stands behind t x
+    same t x apart stands = others t apart ∙ stands
+
+    free : (t : ℕ) → IsFree before t → IsFree behind t
+    free t is = elim (cases_eq t to) [
+      | inl e ↦ not_free before t (arriving man kind) is (get-insert_same _ to (arriving man kind) t e)
+      | inr apart ↦ others t apart ∙ is
+    ]

@@ -12,6 +12,7 @@ pub mod Distances
 pub mod DistancesFit
 pub mod DistancesFound
 pub mod After
+pub mod Admissible
 pub mod MirroredMoves
 pub mod InOrder
 pub mod Growing

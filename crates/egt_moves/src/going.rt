@@ -1,5 +1,5 @@
 //! Where a man may go, and the board after it has gone there.
-ghost use Rattle.std.specs.Prelude.{◌≡◌, ℕ, ◌≤◌, ◌↔◌, IsTrue, Option};
+ghost use Rattle.std.specs.Prelude.{◌≡◌, ℕ, ◌≤◌, ◌↔◌, ◌⊎◌, IsTrue, Some};
 ghost use Rattle.egt_board.specs.Attack.{IsInCheck};
 ghost use Rattle.egt_board.specs.Placement.{Stands, IsHeld};
 ghost use Rattle.egt_board.specs.Setup.{IsKingOn};

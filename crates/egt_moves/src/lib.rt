@@ -13,7 +13,7 @@ pub mod playing;
 pub mod promotion;
 pub mod standings;
 pub mod text;
-pub mod zeroing;
+pub mod zeroing_moves;
 
 pub use chess_move::Move;
 pub use found::Search;
@@ -22,7 +22,7 @@ pub use mate_search::search;
 pub use outcome::Standing;
 pub use playing::play;
 pub use standings::standing;
-pub use zeroing::zeroing;
+pub use zeroing_moves::zeroing;
 
 #[cfg(test)]
 mod tests;

@@ -1,6 +1,5 @@
 use Rattle.std.proofs.Common.{arith}
-use Rattle.egt_board.specs.Gait.{Reaches-on_board}
-use Rattle.egt_board.proofs.Attacks.{Reaches-free}
+use Rattle.egt_board.specs.Gait.{Reaches-on_board, Reaches-free}
 use Rattle.egt_board.proofs.Bits.{bit_at-within}
 use Rattle.egt_board.proofs.Sizes.{reach_few}
 use Rattle.egt_board.proofs.board.Board.reach.Goals as goal

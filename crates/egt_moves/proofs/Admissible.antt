@@ -1,0 +1,298 @@
+-- What a legal move leads to is admissible.
+use Rattle.std.proofs.Common.{◌≡◌, ◌≢◌, ℕ, ◌<◌, ◌≤◌, ◌+◌, ◌-◌, ◌/◌, ◌*◌, ◌⊎◌, ◌&&◌, ◌||◌, Option, Some, None, cond, true, false, Bool, arith, refl, sym, ap, ◌∙◌, inl, inr, subst, if◌then◌else◌, ◌==◌}
+use Rattle.std.specs.Option.{is_some}
+use Rattle.std.specs.Cmp.{nat_cmp_total}
+use Rattle.std.specs.FinMap as map
+use Rattle.std.proofs.lemmas.Bool.{cases_eq, false≢true, eq-eqb}
+use Rattle.std.proofs.lemmas.Bool.Decides.{eqb_tells}
+use Rattle.egt_board.specs.declared.man.Side.{Side}
+use Rattle.egt_board.specs.declared.man.Side.TheVariants.{White, Black}
+use Rattle.egt_board.specs.declared.man.Kind.{Kind}
+use Rattle.egt_board.specs.declared.man.Kind.TheVariants.{Q, R, B, N, P, K}
+use Rattle.egt_board.specs.declared.man.Man.{Man}
+use Rattle.egt_board.specs.Man.{other_side}
+use Rattle.egt_board.specs.Square.{file_of, rank_of}
+use Rattle.egt_board.specs.Placement.{Placement, Stands, IsFree}
+use Rattle.egt_board.specs.Pawn.{ahead, pawn_of, last_rank, home_rank, forward, farthest_advance, Advances, PawnsFit}
+use Rattle.egt_board.specs.Target.{IsTarget, FitsTarget, target_rank}
+use Rattle.egt_board.specs.Gait.{Rides, OneOf, farthest, steps_of, pawn_steps}
+use Rattle.egt_board.specs.Attack.{IsInCheck}
+use Rattle.egt_board.specs.Setup.{Setup, IsAdmissible, IsKingOn, HasKings}
+use Rattle.egt_moves.specs.declared.chess_move.Move.{Move}
+use Rattle.egt_moves.specs.Going.{Goes, PieceGoes, PawnAdvances, PawnTakes}
+use Rattle.egt_moves.specs.Promotion.{is_pawn, promotes, IsOfficer, FitsPromotion, arriving}
+use Rattle.egt_moves.specs.Legal.{men_left, men_after, is_two_ranks, passed, after}
+use Rattle.egt_moves.proofs.After.{one_man, not_free, left_cases, left_keeps, left_free, after_to, after_from, after_other, after_cases, goes_on_board, king_moves, king_stays, other_king_stays, may_become, side_twice, sides_differ}
+
+-- no more men than before
+len_left : (p : Setup) (man : Man) (to : ℕ) → IsAdmissible p → map.len (men_left p man to) ≤ map.len p.men
+len_left p man to ok = elim (left_cases p man to ok) [
+  | inl same ↦ let e = ap map.len same in omega arith
+  | inr passing ↦
+      let e = ap map.len passing.left in
+      let less = shorter (is_some (map.get p.men (ahead (other_side p.side) to))) _ _ (map.len-remove nat_cmp_total p.men (ahead (other_side p.side) to)) in
+      omega arith
+]
+  where
+    shorter : (b : Bool) (l n : ℕ) → l ≡ cond b (n - 1) n → l ≤ n
+    shorter true l n e = omega arith
+    shorter false l n e = omega arith
+
+len_after : (p : Setup) (man : Man) (m : Move) → IsAdmissible p → man.side ≡ p.side → Stands p.men m.from man → map.len (men_after p man m) ≤ 4
+len_after p man m ok mine stands =
+    let left = men_left p man m.to in
+    let there : map.get left m.from ≡ Some man = left_keeps p man m.to m.from man ok (λ e. sides_differ p.side (sym mine ∙ ap (λ (x : Man). x.side) e)) stands in
+    let removed : map.len (map.remove left m.from) ≡ cond (is_some (map.get left m.from)) (map.len left - 1) (map.len left) = map.len-remove nat_cmp_total left m.from in
+    let less : map.len (map.remove left m.from) ≡ map.len left - 1 = removed ∙ ap (λ o. cond (is_some o) (map.len left - 1) (map.len left)) there in
+    let few = len_left p man m.to ok in
+    let four = ok.few in
+    bound (map.contains_key (map.remove left m.from) m.to) _ _ (map.len-insert nat_cmp_total (map.remove left m.from) m.to (arriving man m.promo)) (omega arith)
+  where
+    bound : (b : Bool) (l n : ℕ) → l ≡ cond b n (n + 1) → n ≤ 3 → l ≤ 4
+    bound true l n e le = omega arith
+    bound false l n e le = omega arith
+
+-- a king is not promoted
+pub no_promotion : (man : Man) (to : ℕ) (promo : Option Kind) → is_pawn man.kind ≡ false → FitsPromotion (promotes man to) promo → promo ≡ None
+no_promotion man to promo no_pawn fits = none promo (subst (λ b. FitsPromotion b promo) (ap (λ b. b && (rank_of to == last_rank man.side)) no_pawn) fits)
+  where
+    none : (o : Option Kind) → FitsPromotion false o → o ≡ None
+    none None f = refl
+    none (Some kind) f = absurd f
+
+own_king_after : (p : Setup) (man : Man) (m : Move) (k : ℕ) → IsAdmissible p → Stands p.men m.from man → man.side ≡ p.side → Goes p man m.from m.to → FitsPromotion (promotes man m.to) m.promo → IsKingOn p.men p.side k → (s : ℕ) × IsKingOn (men_after p man m) p.side s
+own_king_after p man m k ok stands mine goes fits king = subst (λ side. IsKingOn p.men side k → (s : ℕ) × IsKingOn (men_after p man m) side s) mine (by_kind man.kind refl) king
+  where
+    another : man.kind ≢ K → IsKingOn p.men man.side k → (s : ℕ) × IsKingOn (men_after p man m) man.side s
+    another not_king there = (k, king_stays p man m k ok stands mine goes (may_become _ m.promo fits) there not_king)
+
+    by_kind : (kind : Kind) → man.kind ≡ kind → IsKingOn p.men man.side k → (s : ℕ) × IsKingOn (men_after p man m) man.side s
+    by_kind K e there = (m.to, king_moves p man m k ok stands there e (no_promotion man m.to m.promo (ap is_pawn e) fits))
+    by_kind Q e there = another (λ f. let bad = sym e ∙ f in cc) there
+    by_kind R e there = another (λ f. let bad = sym e ∙ f in cc) there
+    by_kind B e there = another (λ f. let bad = sym e ∙ f in cc) there
+    by_kind N e there = another (λ f. let bad = sym e ∙ f in cc) there
+    by_kind P e there = another (λ f. let bad = sym e ∙ f in cc) there
+
+-- one king a side is there after the move as before
+kings_after : (p : Setup) (man : Man) (m : Move) → Stands p.men m.from man → man.side ≡ p.side → Goes p man m.from m.to → FitsPromotion (promotes man m.to) m.promo → IsAdmissible p → HasKings (men_after p man m)
+kings_after p man m stands mine goes fits ok = by_side p.side refl
+  where
+    own : (k : ℕ) (side : Side) → p.side ≡ side → IsKingOn p.men side k → (s : ℕ) × IsKingOn (men_after p man m) side s
+    own k side e king = subst (λ x. IsKingOn p.men x k → (s : ℕ) × IsKingOn (men_after p man m) x s) e (own_king_after p man m k ok stands mine goes fits) king
+
+    theirs : (k : ℕ) (side : Side) → other_side p.side ≡ side → IsKingOn p.men side k → IsKingOn (men_after p man m) side k
+    theirs k side e king = subst (λ x. IsKingOn p.men x k → IsKingOn (men_after p man m) x k) e (other_king_stays p man m k stands mine goes ok) king
+
+    by_side : (side : Side) → p.side ≡ side → HasKings (men_after p man m)
+    by_side White e =
+        let mine_there = own ok.kings.white White e ok.kings.white_there in
+        record { white = mine_there.0; black = ok.kings.black; white_there = mine_there.1; black_there = theirs ok.kings.black Black (ap other_side e) ok.kings.black_there }
+    by_side Black e =
+        let mine_there = own ok.kings.black Black e ok.kings.black_there in
+        record { white = ok.kings.white; black = mine_there.0; white_there = theirs ok.kings.white White (ap other_side e) ok.kings.white_there; black_there = mine_there.1 }
+
+-- how far forward a pawn goes
+Forward : Side → ℕ → ℕ → ℕ → Type 0
+Forward White n from to = rank_of to ≡ rank_of from + n
+Forward Black n from to = rank_of from ≡ rank_of to + n
+
+takes_forward : (F : ℕ → Type 0) (side : Side) (from to : ℕ) → OneOf (Rides F 1 from to) (pawn_steps side) → Forward side 1 from to
+unfolding Forward
+takes_forward F White from to (inl r) = let a = r.moves in let b = r.within in let h = r.away.along in omega arith
+takes_forward F White from to (inr (inl r)) = let a = r.moves in let b = r.within in let h = r.away.along in omega arith
+takes_forward F White from to (inr (inr none)) = absurd none
+takes_forward F Black from to (inl r) = let a = r.moves in let b = r.within in let h = r.away.along in omega arith
+takes_forward F Black from to (inr (inl r)) = let a = r.moves in let b = r.within in let h = r.away.along in omega arith
+takes_forward F Black from to (inr (inr none)) = absurd none
+
+advances_forward : (F : ℕ → Type 0) (side : Side) (from to : ℕ) (a : Advances F side from to) → Forward side a.rides.count from to
+unfolding Forward
+advances_forward F White from to a = let h = a.rides.away.along in omega arith
+advances_forward F Black from to a = let h = a.rides.away.along in omega arith
+
+-- a pawn goes forward
+pawn_forward : (p : Setup) (man : Man) (from to : ℕ) → man.kind ≡ P → Goes p man from to → (n : ℕ) × (0 < n) × Forward man.side n from to
+pawn_forward p man from to pawn (inl piece) = absurd (piece.piece pawn)
+pawn_forward p man from to pawn (inr (inl advance)) = (advance.advances.rides.count, advance.advances.rides.moves, advances_forward (IsFree p.men) man.side from to advance.advances)
+pawn_forward p man from to pawn (inr (inr takes)) =
+    (1, omega arith, takes_forward (IsFree p.men) man.side from to (subst (λ kind. OneOf (Rides (IsFree p.men) (farthest kind) from to) (steps_of man.side kind)) pawn takes.reaches))
+
+-- so it arrives on no first rank
+rank_between : (side : Side) (n from to : ℕ) → to < 64 → (0 < rank_of from) × (rank_of from < 7) → 0 < n → Forward side n from to → rank_of to ≢ last_rank side → (0 < rank_of to) × (rank_of to < 7)
+unfolding Forward
+rank_between White n from to to_in h some f not_last = let a = h.0 in (omega arith, omega arith)
+rank_between Black n from to to_in h some f not_last = let a = h.1 in (omega arith, omega arith)
+
+-- a pawn that arrives as one is not promoted
+arrived_pawn : (man : Man) (to : ℕ) (promo : Option Kind) → FitsPromotion (promotes man to) promo → (arriving man promo).kind ≡ P → (man.kind ≡ P) × (promotes man to ≡ false)
+arrived_pawn man to None fits pawn = (pawn, by_test (promotes man to) fits)
+  where
+    by_test : (b : Bool) → FitsPromotion b None → b ≡ false
+    by_test true none = absurd none
+    by_test false _ = refl
+arrived_pawn man to (Some kind) fits pawn = absurd (by_test (promotes man to) fits)
+  where
+    by_test : (b : Bool) → FitsPromotion b (Some kind) → ⊥
+    by_test true officer = subst IsOfficer pawn officer
+    by_test false none = none
+
+not_last_rank : (man : Man) (to : ℕ) → man.kind ≡ P → promotes man to ≡ false → rank_of to ≢ last_rank man.side
+not_last_rank man to pawn untrue last =
+    false≢true (sym untrue ∙ ap (λ kind. is_pawn kind && (rank_of to == last_rank man.side)) pawn ∙ eq-eqb (rank_of to) (last_rank man.side) last)
+
+-- no pawn stands on the first rank or the last
+pawns_after : (p : Setup) (man : Man) (m : Move) → Stands p.men m.from man → Goes p man m.from m.to → FitsPromotion (promotes man m.to) m.promo → IsAdmissible p → PawnsFit (men_after p man m)
+pawns_after p man m stands goes fits ok s other there pawn = elim (after_cases p man m s other ok there) [
+  | inl h ↦
+      let arrived = arrived_pawn man m.to m.promo fits (ap (λ (x : Man). x.kind) (sym h.1) ∙ pawn) in
+      let ahead = pawn_forward p man m.from m.to arrived.0 goes in
+      subst (λ t. (0 < rank_of t) × (rank_of t < 7)) (sym h.0)
+      (rank_between man.side ahead.0 m.from m.to (goes_on_board p man m.from m.to goes) (ok.pawns m.from man stands arrived.0) ahead.1 ahead.2 (not_last_rank man m.to arrived.0 arrived.1))
+  | inr h ↦ ok.pawns s other h.2 pawn
+]
+
+pawn_told : (kind : Kind) → is_pawn kind ≡ true → kind ≡ P
+pawn_told P e = refl
+pawn_told Q e = absurd (false≢true e)
+pawn_told R e = absurd (false≢true e)
+pawn_told B e = absurd (false≢true e)
+pawn_told N e = absurd (false≢true e)
+pawn_told K e = absurd (false≢true e)
+
+left_true : (a b : Bool) → (a && b) ≡ true → a ≡ true
+left_true true b e = refl
+left_true false b e = e
+
+right_true : (a b : Bool) → (a && b) ≡ true → b ≡ true
+right_true true b e = e
+right_true false b e = absurd (false≢true e)
+
+-- two ranks lie between
+two_ranks_told : (s t : ℕ) → is_two_ranks s t ≡ true → (rank_of t ≡ rank_of s + 2) ⊎ (rank_of s ≡ rank_of t + 2)
+two_ranks_told s t e = elim (eqb_tells (rank_of t) (rank_of s + 2)) [
+  | inl h ↦ inl h.1
+  | inr h ↦ elim (eqb_tells (rank_of s) (rank_of t + 2)) [
+    | inl k ↦ inr k.1
+    | inr k ↦ absurd (false≢true (sym (ap (λ b. b || (rank_of s == rank_of t + 2)) h.0 ∙ k.0) ∙ e))
+  ]
+]
+
+two_forward : (side : Side) (n from to : ℕ) → Forward side n from to → (rank_of to ≡ rank_of from + 2) ⊎ (rank_of from ≡ rank_of to + 2) → n ≡ 2
+unfolding Forward
+two_forward White n from to f (inl e) = omega arith
+two_forward White n from to f (inr e) = absurd (omega arith)
+two_forward Black n from to f (inl e) = absurd (omega arith)
+two_forward Black n from to f (inr e) = omega arith
+
+-- a pawn that advances two squares begins on its original rank
+from_home : (side : Side) (from : ℕ) → 2 ≤ farthest_advance side from → rank_of from ≡ home_rank side
+from_home side from le = elim (eqb_tells (rank_of from) (home_rank side)) [
+  | inl h ↦ h.1
+  | inr h ↦ let one : farthest_advance side from ≡ 1 = ap (λ b. if b then 2 else 1) h.0 in absurd (omega arith)
+]
+
+-- the squares of an advance of two
+record Leap (F : ℕ → Type 0) (side : Side) (from to : ℕ) : Type 0 where
+  pub home : rank_of from ≡ home_rank side
+  pub file : file_of to ≡ file_of from
+  pub two : Forward side 2 from to
+  pub between : F ((from + to) / 2)
+
+leap : (F : ℕ → Type 0) (side : Side) (from to : ℕ) → Advances F side from to → (rank_of to ≡ rank_of from + 2) ⊎ (rank_of from ≡ rank_of to + 2) → Leap F side from to
+unfolding Forward
+leap F White from to a ranks =
+    let two = two_forward White a.rides.count from to (advances_forward F White from to a) ranks in
+    let h = a.rides.away.along in let g = a.rides.away.across in let to_in = a.rides.away.on_board in
+    let home : rank_of from ≡ 1 = from_home White from (let w = a.rides.within in omega arith) in
+    record {
+      home = home;
+      file = omega arith;
+      two = omega arith;
+      between = a.rides.clear 1 ((from + to) / 2) (omega arith) (omega arith) (record { on_board = omega arith; across = omega arith; along = omega arith });
+    }
+leap F Black from to a ranks =
+    let two = two_forward Black a.rides.count from to (advances_forward F Black from to a) ranks in
+    let h = a.rides.away.along in let g = a.rides.away.across in let to_in = a.rides.away.on_board in
+    let home : rank_of from ≡ 6 = from_home Black from (let w = a.rides.within in omega arith) in
+    record {
+      home = home;
+      file = omega arith;
+      two = omega arith;
+      between = a.rides.clear 1 ((from + to) / 2) (omega arith) (omega arith) (record { on_board = omega arith; across = omega arith; along = omega arith });
+    }
+
+-- the square halfway
+record Halfway (side : Side) (from to : ℕ) : Type 0 where
+  pub rank : rank_of ((from + to) / 2) ≡ target_rank (other_side side)
+  pub behind : ahead (other_side side) ((from + to) / 2) ≡ from
+  pub before : ahead (other_side (other_side side)) ((from + to) / 2) ≡ to
+  pub not_from : (from + to) / 2 ≢ from
+  pub not_to : (from + to) / 2 ≢ to
+  pub apart : from ≢ to
+  pub not_last : rank_of to ≢ last_rank side
+
+halfway : (F : ℕ → Type 0) (side : Side) (from to : ℕ) → Leap F side from to → Halfway side from to
+unfolding Forward
+halfway F White from to l =
+    let h = l.home in let g = l.file in let t = l.two in
+    record { rank = omega arith; behind = omega arith; before = omega arith; not_from = λ e. omega arith; not_to = λ e. omega arith; apart = λ e. omega arith; not_last = λ e. omega arith }
+halfway F Black from to l =
+    let h = l.home in let g = l.file in let t = l.two in
+    record { rank = omega arith; behind = omega arith; before = omega arith; not_from = λ e. omega arith; not_to = λ e. omega arith; apart = λ e. omega arith; not_last = λ e. omega arith }
+
+not_promoted : (man : Man) (to : ℕ) (promo : Option Kind) → rank_of to ≢ last_rank man.side → FitsPromotion (promotes man to) promo → promo ≡ None
+not_promoted man to promo not_last fits = by_test (promotes man to) refl promo fits
+  where
+    by_test : (b : Bool) → promotes man to ≡ b → (o : Option Kind) → FitsPromotion b o → o ≡ None
+    by_test false e None f = refl
+    by_test false e (Some kind) f = absurd f
+    by_test true e o f = elim (eqb_tells (rank_of to) (last_rank man.side)) [
+      | inl h ↦ absurd (not_last h.1)
+      | inr h ↦ absurd (false≢true (sym h.0 ∙ right_true (is_pawn man.kind) _ e))
+    ]
+
+-- the square that was passed is a target
+target_there : (p : Setup) (man : Man) (m : Move) → Goes p man m.from m.to → FitsPromotion (promotes man m.to) m.promo → IsAdmissible p → man.kind ≡ P → (rank_of m.to ≡ rank_of m.from + 2) ⊎ (rank_of m.from ≡ rank_of m.to + 2)
+    → IsTarget (men_after p man m) (other_side man.side) ((m.from + m.to) / 2)
+target_there p man m (inl piece) fits ok pawn ranks = absurd (piece.piece pawn)
+target_there p man m (inr (inr takes)) fits ok pawn ranks =
+    let one = takes_forward (IsFree p.men) man.side m.from m.to (subst (λ kind. OneOf (Rides (IsFree p.men) (farthest kind) m.from m.to) (steps_of man.side kind)) pawn takes.reaches) in
+    absurd (one_is_two (two_forward man.side 1 m.from m.to one ranks))
+  where
+    one_is_two : 1 ≡ 2 → ⊥
+    one_is_two e = omega arith
+target_there p man m (inr (inl advance)) fits ok pawn ranks =
+    let l = leap (IsFree p.men) man.side m.from m.to advance.advances ranks in
+    let h = halfway (IsFree p.men) man.side m.from m.to l in
+    let none = not_promoted man m.to m.promo h.not_last fits in
+    record {
+      rank = h.rank;
+      empty = after_other p man m ((m.from + m.to) / 2) h.not_from h.not_to ∙ left_free p man m.to ((m.from + m.to) / 2) ok l.between;
+      left = subst (IsFree (men_after p man m)) (sym h.behind) (after_from p man m h.apart);
+      advanced = subst (λ s. Stands (men_after p man m) s (pawn_of (other_side (other_side man.side)))) (sym h.before)
+          (after_to p man m ∙ ap (λ o. Some (arriving man o)) none ∙ ap Some (λ i. record { side = sym (side_twice man.side) i; kind = pawn i }));
+    }
+
+target_after : (p : Setup) (man : Man) (m : Move) → man.side ≡ p.side → Goes p man m.from m.to → FitsPromotion (promotes man m.to) m.promo → IsAdmissible p → FitsTarget (men_after p man m) (other_side p.side) (passed man m.from m.to)
+target_after p man m mine goes fits ok = by_test (is_pawn man.kind && is_two_ranks m.from m.to) refl
+  where
+    by_test : (b : Bool) → (is_pawn man.kind && is_two_ranks m.from m.to) ≡ b → FitsTarget (men_after p man m) (other_side p.side) (if b then Some ((m.from + m.to) / 2) else None)
+    by_test false e = tt
+    by_test true e =
+        subst (λ side. IsTarget (men_after p man m) (other_side side) ((m.from + m.to) / 2)) mine
+        (target_there p man m goes fits ok (pawn_told man.kind (left_true (is_pawn man.kind) _ e)) (two_ranks_told m.from m.to (right_true (is_pawn man.kind) _ e)))
+
+-- what a legal move leads to is admissible
+pub admissible_after : (p : Setup) (man : Man) (m : Move) → Stands p.men m.from man → man.side ≡ p.side → Goes p man m.from m.to → FitsPromotion (promotes man m.to) m.promo → IsAdmissible p → ¬ IsInCheck (men_after p man m) p.side → IsAdmissible (after p man m)
+admissible_after p man m stands mine goes fits ok safe = record {
+  few = len_after p man m ok mine stands;
+  on_board = λ s other there. elim (after_cases p man m s other ok there) [
+    | inl h ↦ subst (λ x. x < 64) (sym h.0) (goes_on_board p man m.from m.to goes)
+    | inr h ↦ ok.on_board s other h.2
+  ];
+  kings = kings_after p man m stands mine goes fits ok;
+  pawns = pawns_after p man m stands goes fits ok;
+  target = target_after p man m mine goes fits ok;
+  quiet = λ check. safe (subst (IsInCheck (men_after p man m)) (side_twice p.side) check);
+}
