@@ -252,16 +252,16 @@ not_promoted man to promo not_last fits = by_test (promotes man to) refl promo f
       | inr h ↦ absurd (false≢true (sym h.0 ∙ right_true (is_pawn man.kind) _ e))
     ]
 
+not_two : (n : ℕ) → n ≡ 1 → n ≡ 2 → ⊥
+not_two n one two = omega arith
+
 -- the square that was passed is a target
 target_there : (p : Setup) (man : Man) (m : Move) → Goes p man m.from m.to → FitsPromotion (promotes man m.to) m.promo → IsAdmissible p → man.kind ≡ P → (rank_of m.to ≡ rank_of m.from + 2) ⊎ (rank_of m.from ≡ rank_of m.to + 2)
     → IsTarget (men_after p man m) (other_side man.side) ((m.from + m.to) / 2)
 target_there p man m (inl piece) fits ok pawn ranks = absurd (piece.piece pawn)
 target_there p man m (inr (inr takes)) fits ok pawn ranks =
     let one = takes_forward (IsFree p.men) man.side m.from m.to (subst (λ kind. OneOf (Rides (IsFree p.men) (farthest kind) m.from m.to) (steps_of man.side kind)) pawn takes.reaches) in
-    absurd (one_is_two (two_forward man.side 1 m.from m.to one ranks))
-  where
-    one_is_two : 1 ≡ 2 → ⊥
-    one_is_two e = omega arith
+    absurd (not_two 1 refl (two_forward man.side 1 m.from m.to one ranks))
 target_there p man m (inr (inl advance)) fits ok pawn ranks =
     let l = leap (IsFree p.men) man.side m.from m.to advance.advances ranks in
     let h = halfway (IsFree p.men) man.side m.from m.to l in
