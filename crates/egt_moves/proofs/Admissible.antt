@@ -93,7 +93,7 @@ kings_after p man m stands mine goes fits ok = by_side p.side refl
         record { white = ok.kings.white; black = mine_there.0; white_there = theirs ok.kings.white White (ap other_side e) ok.kings.white_there; black_there = mine_there.1 }
 
 -- how far forward a pawn goes
-Forward : Side → ℕ → ℕ → ℕ → Type 0
+unfoldable pub Forward : Side → ℕ → ℕ → ℕ → Type 0
 Forward White n from to = rank_of to ≡ rank_of from + n
 Forward Black n from to = rank_of from ≡ rank_of to + n
 
@@ -111,12 +111,19 @@ unfolding Forward
 advances_forward F White from to a = let h = a.rides.away.along in omega arith
 advances_forward F Black from to a = let h = a.rides.away.along in omega arith
 
+-- the steps of a pawn that takes
+pub pawn_reaches : (p : Setup) (man : Man) (from to : ℕ) → PawnTakes p man from to → OneOf (Rides (IsFree p.men) 1 from to) (pawn_steps man.side)
+pawn_reaches p man from to takes = subst (λ kind. OneOf (Rides (IsFree p.men) (farthest kind) from to) (steps_of man.side kind)) takes.pawn takes.reaches
+
+pub takes_forward_of : (p : Setup) (man : Man) (from to : ℕ) → PawnTakes p man from to → Forward man.side 1 from to
+takes_forward_of p man from to takes = takes_forward (IsFree p.men) man.side from to (pawn_reaches p man from to takes)
+
 -- a pawn goes forward
 pawn_forward : (p : Setup) (man : Man) (from to : ℕ) → man.kind ≡ P → Goes p man from to → (n : ℕ) × (0 < n) × Forward man.side n from to
 pawn_forward p man from to pawn (inl piece) = absurd (piece.piece pawn)
 pawn_forward p man from to pawn (inr (inl advance)) = (advance.advances.rides.count, advance.advances.rides.moves, advances_forward (IsFree p.men) man.side from to advance.advances)
 pawn_forward p man from to pawn (inr (inr takes)) =
-    (1, omega arith, takes_forward (IsFree p.men) man.side from to (subst (λ kind. OneOf (Rides (IsFree p.men) (farthest kind) from to) (steps_of man.side kind)) pawn takes.reaches))
+    (1, omega arith, takes_forward_of p man from to takes)
 
 -- so it arrives on no first rank
 rank_between : (side : Side) (n from to : ℕ) → to < 64 → (0 < rank_of from) × (rank_of from < 7) → 0 < n → Forward side n from to → rank_of to ≢ last_rank side → (0 < rank_of to) × (rank_of to < 7)
@@ -125,7 +132,7 @@ rank_between White n from to to_in h some f not_last = let a = h.0 in (omega ari
 rank_between Black n from to to_in h some f not_last = let a = h.1 in (omega arith, omega arith)
 
 -- a pawn that arrives as one is not promoted
-arrived_pawn : (man : Man) (to : ℕ) (promo : Option Kind) → FitsPromotion (promotes man to) promo → (arriving man promo).kind ≡ P → (man.kind ≡ P) × (promotes man to ≡ false)
+pub arrived_pawn : (man : Man) (to : ℕ) (promo : Option Kind) → FitsPromotion (promotes man to) promo → (arriving man promo).kind ≡ P → (man.kind ≡ P) × (promotes man to ≡ false)
 arrived_pawn man to None fits pawn = (pawn, by_test (promotes man to) fits)
   where
     by_test : (b : Bool) → FitsPromotion b None → b ≡ false
@@ -152,7 +159,7 @@ pawns_after p man m stands goes fits ok s other there pawn = elim (after_cases p
   | inr h ↦ ok.pawns s other h.2 pawn
 ]
 
-pawn_told : (kind : Kind) → is_pawn kind ≡ true → kind ≡ P
+pub pawn_told : (kind : Kind) → is_pawn kind ≡ true → kind ≡ P
 pawn_told P e = refl
 pawn_told Q e = absurd (false≢true e)
 pawn_told R e = absurd (false≢true e)
@@ -160,16 +167,16 @@ pawn_told B e = absurd (false≢true e)
 pawn_told N e = absurd (false≢true e)
 pawn_told K e = absurd (false≢true e)
 
-left_true : (a b : Bool) → (a && b) ≡ true → a ≡ true
+pub left_true : (a b : Bool) → (a && b) ≡ true → a ≡ true
 left_true true b e = refl
 left_true false b e = e
 
-right_true : (a b : Bool) → (a && b) ≡ true → b ≡ true
+pub right_true : (a b : Bool) → (a && b) ≡ true → b ≡ true
 right_true true b e = e
 right_true false b e = absurd (false≢true e)
 
 -- two ranks lie between
-two_ranks_told : (s t : ℕ) → is_two_ranks s t ≡ true → (rank_of t ≡ rank_of s + 2) ⊎ (rank_of s ≡ rank_of t + 2)
+pub two_ranks_told : (s t : ℕ) → is_two_ranks s t ≡ true → (rank_of t ≡ rank_of s + 2) ⊎ (rank_of s ≡ rank_of t + 2)
 two_ranks_told s t e = elim (eqb_tells (rank_of t) (rank_of s + 2)) [
   | inl h ↦ inl h.1
   | inr h ↦ elim (eqb_tells (rank_of s) (rank_of t + 2)) [
@@ -178,7 +185,7 @@ two_ranks_told s t e = elim (eqb_tells (rank_of t) (rank_of s + 2)) [
   ]
 ]
 
-two_forward : (side : Side) (n from to : ℕ) → Forward side n from to → (rank_of to ≡ rank_of from + 2) ⊎ (rank_of from ≡ rank_of to + 2) → n ≡ 2
+pub two_forward : (side : Side) (n from to : ℕ) → Forward side n from to → (rank_of to ≡ rank_of from + 2) ⊎ (rank_of from ≡ rank_of to + 2) → n ≡ 2
 unfolding Forward
 two_forward White n from to f (inl e) = omega arith
 two_forward White n from to f (inr e) = absurd (omega arith)
@@ -193,13 +200,13 @@ from_home side from le = elim (eqb_tells (rank_of from) (home_rank side)) [
 ]
 
 -- the squares of an advance of two
-record Leap (F : ℕ → Type 0) (side : Side) (from to : ℕ) : Type 0 where
+pub record Leap (F : ℕ → Type 0) (side : Side) (from to : ℕ) : Type 0 where
   pub home : rank_of from ≡ home_rank side
   pub file : file_of to ≡ file_of from
   pub two : Forward side 2 from to
   pub between : F ((from + to) / 2)
 
-leap : (F : ℕ → Type 0) (side : Side) (from to : ℕ) → Advances F side from to → (rank_of to ≡ rank_of from + 2) ⊎ (rank_of from ≡ rank_of to + 2) → Leap F side from to
+pub leap : (F : ℕ → Type 0) (side : Side) (from to : ℕ) → Advances F side from to → (rank_of to ≡ rank_of from + 2) ⊎ (rank_of from ≡ rank_of to + 2) → Leap F side from to
 unfolding Forward
 leap F White from to a ranks =
     let two = two_forward White a.rides.count from to (advances_forward F White from to a) ranks in
@@ -252,7 +259,7 @@ not_promoted man to promo not_last fits = by_test (promotes man to) refl promo f
       | inr h ↦ absurd (false≢true (sym h.0 ∙ right_true (is_pawn man.kind) _ e))
     ]
 
-not_two : (n : ℕ) → n ≡ 1 → n ≡ 2 → ⊥
+pub not_two : (n : ℕ) → n ≡ 1 → n ≡ 2 → ⊥
 not_two n one two = omega arith
 
 -- the square that was passed is a target
@@ -260,7 +267,7 @@ target_there : (p : Setup) (man : Man) (m : Move) → Goes p man m.from m.to →
     → IsTarget (men_after p man m) (other_side man.side) ((m.from + m.to) / 2)
 target_there p man m (inl piece) fits ok pawn ranks = absurd (piece.piece pawn)
 target_there p man m (inr (inr takes)) fits ok pawn ranks =
-    let one = takes_forward (IsFree p.men) man.side m.from m.to (subst (λ kind. OneOf (Rides (IsFree p.men) (farthest kind) m.from m.to) (steps_of man.side kind)) pawn takes.reaches) in
+    let one = takes_forward_of p man m.from m.to takes in
     absurd (not_two 1 refl (two_forward man.side 1 m.from m.to one ranks))
 target_there p man m (inr (inl advance)) fits ok pawn ranks =
     let l = leap (IsFree p.men) man.side m.from m.to advance.advances ranks in
