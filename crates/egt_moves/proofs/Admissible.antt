@@ -106,7 +106,7 @@ takes_forward F Black from to (inl r) = let a = r.moves in let b = r.within in l
 takes_forward F Black from to (inr (inl r)) = let a = r.moves in let b = r.within in let h = r.away.along in omega arith
 takes_forward F Black from to (inr (inr none)) = absurd none
 
-advances_forward : (F : ℕ → Type 0) (side : Side) (from to : ℕ) (a : Advances F side from to) → Forward side a.rides.count from to
+pub advances_forward : (F : ℕ → Type 0) (side : Side) (from to : ℕ) (a : Advances F side from to) → Forward side a.rides.count from to
 unfolding Forward
 advances_forward F White from to a = let h = a.rides.away.along in omega arith
 advances_forward F Black from to a = let h = a.rides.away.along in omega arith
@@ -193,7 +193,7 @@ two_forward Black n from to f (inl e) = absurd (omega arith)
 two_forward Black n from to f (inr e) = omega arith
 
 -- a pawn that advances two squares begins on its original rank
-from_home : (side : Side) (from : ℕ) → 2 ≤ farthest_advance side from → rank_of from ≡ home_rank side
+pub from_home : (side : Side) (from : ℕ) → 2 ≤ farthest_advance side from → rank_of from ≡ home_rank side
 from_home side from le = elim (eqb_tells (rank_of from) (home_rank side)) [
   | inl h ↦ h.1
   | inr h ↦ let one : farthest_advance side from ≡ 1 = ap (λ b. if b then 2 else 1) h.0 in absurd (omega arith)

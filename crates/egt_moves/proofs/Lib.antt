@@ -14,6 +14,7 @@ pub mod DistancesFound
 pub mod After
 pub mod Admissible
 pub mod MirroredMoves
+pub mod SettledMoves
 pub mod InOrder
 pub mod Growing
 pub mod Walking

@@ -1,4 +1,4 @@
--- How likenesses of positions are made: of one another, and of maps.
+-- How likenesses of positions are made: of one another, of maps, and of changes that leave the steps as they are.
 use Rattle.std.proofs.Common.{◌≡◌, ℕ, zero, suc, ◌⊎◌, inl, inr, refl, sym, subst}
 use Rattle.std.proofs.Math.Logic.{⊎_elim}
 use Rattle.egt_moves.specs.Arena.{Arena}
@@ -84,19 +84,17 @@ module _ {S : Type 0} (a : Arena S) where
       Image : S → S → Type 0
       Image p p' = Good p × (p' ≡ f p)
 
-  -- a map that changes no step and no checkmate
-  pub alike_by_steps : (f : S → S) → KeepsSteps a f → Alike a (λ p p'. (p ≡ p') ⊎ (p' ≡ f p))
-  alike_by_steps f keeps = record {
-    checkmate = λ p p'. ⊎_elim
-        (λ (e : p ≡ p'). (subst a.Checkmate e, subst a.Checkmate (sym e)))
-        (λ (e : p' ≡ f p). (λ c. subst a.Checkmate (sym e) ((keeps.checkmate p).0 c), λ c. (keeps.checkmate p).1 (subst a.Checkmate e c)));
+  -- a change that leaves each step and checkmate as they are
+  pub alike_by_steps : (T : S → S → Type 0) → KeepsSteps a T → Alike a (λ p p'. (p ≡ p') ⊎ T p p')
+  alike_by_steps T keeps = record {
+    checkmate = λ p p'. ⊎_elim (λ (e : p ≡ p'). (subst a.Checkmate e, subst a.Checkmate (sym e))) (λ (t : T p p'). keeps.checkmate p p' t);
     there = λ p p' q r m. ⊎_elim
-        (λ (e : p ≡ p'). like_wider (λ x y. x ≡ y) Image (λ x y. inl) p p' q m (like_itself p p' q m e))
-        (λ (e : p' ≡ f p). let s = keeps.there p q m in subst (λ x. HasLike a Image p x q m) (sym e) (q, s.0, inl refl, s.1)) r;
-    back = λ p p' q' r. ⊎_elim
-        (λ (e : p ≡ p') (m : a.Move p' q'). like_wider (λ x y. x ≡ y) (λ y x. Image x y) (λ x y k. inl (sym k)) p' p q' m (like_itself p' p q' m (sym e)))
-        (λ (e : p' ≡ f p). subst (λ x. (m : a.Move x q') → HasLike a (λ y x. Image x y) x p q' m) (sym e) (λ m. let s = keeps.back p q' m in (q', s.0, inl refl, s.1))) r;
+        (λ (e : p ≡ p'). like_wider (λ x y. x ≡ y) SameOr (λ x y. inl) p p' q m (like_itself p p' q m e))
+        (λ (t : T p p'). let s = keeps.there p p' q t m in (q, s.0, inl refl, s.1)) r;
+    back = λ p p' q' r m. ⊎_elim
+        (λ (e : p ≡ p'). like_wider (λ x y. x ≡ y) (λ y x. SameOr x y) (λ x y k. inl (sym k)) p' p q' m (like_itself p' p q' m (sym e)))
+        (λ (t : T p p'). let s = keeps.back p p' q' t m in (q', s.0, inl refl, s.1)) r;
   }
     where
-      Image : S → S → Type 0
-      Image p p' = (p ≡ p') ⊎ (p' ≡ f p)
+      SameOr : S → S → Type 0
+      SameOr p p' = (p ≡ p') ⊎ T p p'

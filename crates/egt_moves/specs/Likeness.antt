@@ -30,8 +30,8 @@ module _ {S : Type 0} (a : Arena S) where
     pub checkmate : (p : S) → Good p → a.Checkmate p → a.Checkmate (f p)
     pub step : (p q : S) → Good p → (m : a.Move p q) → (m' : a.Move (f p) (f q)) × (a.Zeroes p q m ↔ a.Zeroes (f p) (f q) m')
 
-  -- the same steps lead on from f p as from p, and it is checkmate where p is
-  pub record KeepsSteps (f : S → S) : Type 0 where
-    pub checkmate : (p : S) → a.Checkmate p ↔ a.Checkmate (f p)
-    pub there : (p q : S) (m : a.Move p q) → (m' : a.Move (f p) q) × (a.Zeroes p q m ↔ a.Zeroes (f p) q m')
-    pub back : (p q : S) (m : a.Move (f p) q) → (m' : a.Move p q) × (a.Zeroes (f p) q m ↔ a.Zeroes p q m')
+  -- the same steps lead on from positions that T relates, and both are checkmate or neither is
+  pub record KeepsSteps (T : S → S → Type 0) : Type 0 where
+    pub checkmate : (p p' : S) → T p p' → a.Checkmate p ↔ a.Checkmate p'
+    pub there : (p p' q : S) → T p p' → (m : a.Move p q) → (m' : a.Move p' q) × (a.Zeroes p q m ↔ a.Zeroes p' q m')
+    pub back : (p p' q : S) → T p p' → (m : a.Move p' q) → (m' : a.Move p q) × (a.Zeroes p' q m ↔ a.Zeroes p q m')

@@ -2,6 +2,7 @@
 //! ensures.
 
 ghost use Rattle.std.specs.Prelude.{◌≡◌, ◌↔◌, ◌⊎◌, ℕ, suc, ◌≤◌, Bool, IsTrue, Option};
+ghost use Rattle.egt_board.specs.Settled.{SettlesTo};
 ghost use Rattle.egt_board.specs.Setup.{Setup, IsAdmissible};
 ghost use Rattle.egt_board.specs.declared.mirror.Mirror.{Mirror};
 ghost use Rattle.egt_moves.specs.Arena.{Value, Win, Loss, SomeMove, EachMove, HasValue, IsMatedWithin, MatesWithin, AvoidsMateFor, CannotMateWithin, AnswersWithin};
@@ -91,6 +92,14 @@ pub fn mirrored_positions_are_alike()
         (v : Value) → HasValue chess p v ↔ HasValue chess p' v }
     ensures distances { (mirror : Mirror) (p p' : Setup) → AreMirrored mirror p p' →
         (v : Value) → HasZeroing chess p v ↔ HasZeroing chess p' v }
+{}
+
+/// A position and its settled form have the same value and the same zeroing distance.
+pub fn settled_positions_are_alike()
+    ensures values { (p q : Setup) → IsAdmissible p → SettlesTo p q →
+        (v : Value) → HasValue chess p v ↔ HasValue chess q v }
+    ensures distances { (p q : Setup) → IsAdmissible p → SettlesTo p q →
+        (v : Value) → HasZeroing chess p v ↔ HasZeroing chess q v }
 {}
 
 /// A map of positions that keeps steps, checkmate and zeroing keeps values and zeroing distances.
