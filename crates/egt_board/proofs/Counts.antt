@@ -47,7 +47,7 @@ total-cleared f k (suc n) small = elim (cases_eq n k) [
 ]
 
 -- no more than the entries whose keys they are
-covered : (es : List (ℕ × Man)) (f : ℕ → ℕ) (n : ℕ) → ((t : ℕ) → f t ≤ 1) → ((t : ℕ) → f t ≡ 1 → IsKey t es) → total f n ≤ length es
+pub covered : (es : List (ℕ × Man)) (f : ℕ → ℕ) (n : ℕ) → ((t : ℕ) → f t ≤ 1) → ((t : ℕ) → f t ≡ 1 → IsKey t es) → total f n ≤ length es
 covered [] f n small keys =
     let none : total f n ≡ 0 = total-none f n (λ t. elim (cases_eq (f t) 1) [
       | inl one ↦ absurd (false≢true (keys t one))

@@ -13,4 +13,7 @@ pub mod Gather
 pub mod Sizes
 pub mod Counts
 pub mod Turning
+pub mod Reflected
+pub mod Tallies
+pub mod Images
 pub mod Settling

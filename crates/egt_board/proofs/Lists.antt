@@ -6,6 +6,8 @@ use Rattle.std.specs.FinMap as placement
 use Rattle.std.proofs.lemmas.Bool.{cases_eq}
 use Rattle.std.proofs.lemmas.List.{map-append, take-map, get_or-take, get_or-map, take_more, length-take, length-map}
 use Rattle.egt_board.specs.declared.man.Man.{Man}
+use Rattle.egt_board.specs.declared.man.Kind.TheVariants.{P}
+use Rattle.egt_board.specs.Pawn.{HasNoPawn}
 use Rattle.egt_board.specs.Placement.{Placement}
 use Rattle.egt_board.specs.Listed.{entry_of, men_of, squares_of, FitsBoard}
 use Rattle.egt_board.proofs.Placed.{find-here, find-later}
@@ -109,3 +111,22 @@ len-from_entries (x ∷ es) =
 pub len-men_of : (xs : List (Man × ℕ)) → placement.len (men_of xs) ≤ length xs
 unfolding men_of
 len-men_of xs = subst (λ n. placement.len (placement.from_entries {R = nat_cmp} (map entry_of xs)) ≤ n) (length-map xs entry_of) (len-from_entries (map entry_of xs))
+
+-- no man of the list is a pawn
+abbrev pub NoPawnListed : List (Man × ℕ) → Type 0
+NoPawnListed [] = Unit {0}
+NoPawnListed (x ∷ xs) = (x.0.kind ≢ P) × NoPawnListed xs
+
+-- then none stands on the board
+pub no_pawn_listed : (xs : List (Man × ℕ)) → NoPawnListed xs → HasNoPawn (men_of xs)
+no_pawn_listed xs none = λ s man stands. go xs none s man (sym (get-men_of xs s) ∙ stands)
+  where
+    go : (xs : List (Man × ℕ)) → NoPawnListed xs → (s : ℕ) (man : Man) → placement.find nat_cmp s (map entry_of xs) ≡ Some man → man.kind ≢ P
+    go [] none s man found = let bad : None ≡ Some man = found in absurd (cc)
+    go (x ∷ xs) none s man found = elim (cases_eq s x.1) [
+      | inl e ↦
+          let both : Some x.0 ≡ Some man = sym (find-here s x.1 x.0 (map entry_of xs) e) ∙ found in
+          let same : x.0 ≡ man = (cc) in
+          subst (λ (m : Man). m.kind ≢ P) same none.0
+      | inr other ↦ go xs none.1 s man (sym (find-later s x.1 x.0 (map entry_of xs) other) ∙ found)
+    ]

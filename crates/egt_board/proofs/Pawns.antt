@@ -6,7 +6,7 @@ use Rattle.std.specs.FinMap as map
 use Rattle.std.proofs.lemmas.Bool.{cases_eq}
 use Rattle.egt_board.specs.declared.man.Man.{Man}
 use Rattle.egt_board.specs.Placement.{Placement, Stands, IsFree}
-use Rattle.egt_board.specs.Pawn.{MayStand, PawnsFit}
+use Rattle.egt_board.specs.Pawn.{MayStand}
 use Rattle.egt_board.proofs.Bits.{not_both}
 
 -- the pawns that are not left stand neither on the first rank nor on the last, and each square left holds a man

@@ -1,10 +1,47 @@
 -- Settled positions.
-use Rattle.std.proofs.Common.{◌≡◌, ℕ, Option, Some, IfSome, sym, subst}
+use Rattle.std.proofs.Common.{◌≡◌, ℕ, ◌<◌, Option, Some, None, IfSome, arith, refl, subst, inl, inr}
+use Rattle.std.specs.Option.{option_map}
+use Rattle.egt_board.specs.declared.mirror.Mirror.{Mirror}
+use Rattle.egt_board.specs.declared.mirror.Mirror.TheVariants.{Files, Ranks, Diagonal, Colours}
+use Rattle.egt_board.specs.declared.man.Side.{Side}
 use Rattle.egt_board.specs.Man.{other_side}
-use Rattle.egt_board.specs.Pawn.{ahead, HasPawnBeside}
+use Rattle.egt_board.specs.Placement.{Placement}
+use Rattle.egt_board.specs.Pawn.{pawn_of, ahead, IsBeside, HasPawnBeside}
+use Rattle.egt_board.specs.Target.{FitsTarget}
 use Rattle.egt_board.specs.Setup.{Setup}
 use Rattle.egt_board.specs.Settled.{IsSettled}
+use Rattle.egt_board.specs.Mirror.{square_by, side_by, Allows}
+use Rattle.egt_board.specs.MirrorLaws.{ShowsMen, OnBoard}
+use Rattle.egt_board.proofs.Turning.{ahead_files, ahead_colours, ahead_within, target_between, stands_by}
 
 -- a target with no pawn beside the one that advanced
 pub unsettled : (p : Setup) (t : ℕ) → p.target ≡ Some t → ¬ HasPawnBeside p.men p.side (ahead (other_side p.side) t) → ¬ IsSettled p
 unsettled p t is none settled = none (subst (λ (o : Option ℕ). IfSome o (λ s. HasPawnBeside p.men p.side (ahead (other_side p.side) s))) is settled)
+
+beside_files : (s t : ℕ) → IsBeside s t → IsBeside (square_by Files s) (square_by Files t)
+beside_files s t h = (let same = h.0 in omega arith, elim h.1 [ inl e ↦ inr (omega arith) | inr e ↦ inl (omega arith) ])
+
+beside_colours : (s t : ℕ) → s < 64 → t < 64 → IsBeside s t → IsBeside (square_by Colours s) (square_by Colours t)
+beside_colours s t s_in t_in h = (let same = h.0 in omega arith, elim h.1 [ inl e ↦ inl (omega arith) | inr e ↦ inr (omega arith) ])
+
+-- a pawn stands ready to take in a mirror
+pub ready_by : (m : Mirror) (men men' : Placement) (side : Side) (target : Option ℕ) → Allows m men → ShowsMen m men men' → OnBoard men → FitsTarget men side target
+    → IfSome target (λ t. HasPawnBeside men side (ahead (other_side side) t)) → IfSome (option_map (square_by m) target) (λ t. HasPawnBeside men' (side_by m side) (ahead (other_side (side_by m side)) t))
+ready_by m men men' side None allows shows ok fits ready = tt
+ready_by Files men men' side (Some t) allows shows ok fits ready =
+    let b = target_between side t fits.rank in
+    record {
+      square = square_by Files ready.square;
+      stands = stands_by Files men men' ready.square (pawn_of side) shows (ok _ _ ready.stands) ready.stands;
+      beside = subst (IsBeside (square_by Files ready.square)) (ahead_files (other_side side) t b.0 b.1) (beside_files ready.square (ahead (other_side side) t) ready.beside);
+    }
+ready_by Ranks men men' side (Some t) allows shows ok fits ready = absurd (allows _ _ fits.advanced refl)
+ready_by Diagonal men men' side (Some t) allows shows ok fits ready = absurd (allows _ _ fits.advanced refl)
+ready_by Colours men men' side (Some t) allows shows ok fits ready =
+    let b = target_between side t fits.rank in
+    let s_in = ok _ _ ready.stands in
+    record {
+      square = square_by Colours ready.square;
+      stands = stands_by Colours men men' ready.square (pawn_of side) shows s_in ready.stands;
+      beside = subst (IsBeside (square_by Colours ready.square)) (ahead_colours (other_side side) t b.0 b.1) (beside_colours ready.square (ahead (other_side side) t) s_in (ahead_within (other_side side) t b.0 b.1) ready.beside);
+    }

@@ -19,7 +19,7 @@ use Rattle.egt_board.specs.Step.{Away}
 use Rattle.egt_board.specs.Square.{file_of, rank_of}
 use Rattle.egt_board.specs.SquareSet.{total, size_of, most_reached}
 use Rattle.egt_board.specs.Gait.{Rides, OneOf, Reaches, farthest, steps_of, straight_steps, diagonal_steps, knight_steps, pawn_steps}
-use Rattle.egt_board.specs.Pawn.{Advances, farthest_advance, forward}
+use Rattle.egt_board.specs.Pawn.{Advances}
 
 pub total-le : (f g : ℕ → ℕ) (n : ℕ) → ((t : ℕ) → t < n → f t ≤ g t) → total f n ≤ total g n
 total-le f g zero le = omega arith
@@ -27,7 +27,7 @@ total-le f g (suc n) le =
     let rest : total f n ≤ total g n = total-le f g n (λ t t_in. le t (omega arith)) in
     let last : f n ≤ g n = le n (omega arith) in omega arith
 
-total-same : (f g : ℕ → ℕ) (n : ℕ) → ((t : ℕ) → t < n → f t ≡ g t) → total f n ≡ total g n
+pub total-same : (f g : ℕ → ℕ) (n : ℕ) → ((t : ℕ) → t < n → f t ≡ g t) → total f n ≡ total g n
 total-same f g zero same = refl
 total-same f g (suc n) same =
     let rest : total f n ≡ total g n = total-same f g n (λ t t_in. same t (omega arith)) in

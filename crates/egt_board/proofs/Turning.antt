@@ -1,11 +1,11 @@
 -- A position in a mirror.
-use Rattle.std.proofs.Common.{◌≡◌, ◌≢◌, ℕ, ◌+◌, ◌<◌, ◌≤◌, ◌↔◌, ◌⊎◌, List, length, Bool, true, false, cond, Option, Some, None, arith, refl, sym, ap, ◌∙◌, subst, inl, inr}
+use Rattle.std.proofs.Common.{◌≡◌, ◌≢◌, ℕ, ◌+◌, ◌<◌, ◌≤◌, ◌↔◌, Bool, true, false, cond, Option, Some, None, arith, refl, sym, ap, ◌∙◌, subst, inl, inr}
 use Rattle.std.specs.Int.{bit_at}
 use Rattle.std.specs.Option.{option_map, is_some}
 use Rattle.std.specs.Ordering.{nat_cmp}
 use Rattle.std.specs.Cmp.{nat_cmp_total}
 use Rattle.std.specs.FinMap as map
-use Rattle.std.proofs.lemmas.Bool.{cases_eq, false≢true}
+use Rattle.std.proofs.lemmas.Bool.{cases_eq}
 use Rattle.egt_board.specs.declared.mirror.Mirror.{Mirror}
 use Rattle.egt_board.specs.declared.mirror.Mirror.TheVariants.{Files, Ranks, Diagonal, Colours}
 use Rattle.egt_board.specs.declared.man.Side.{Side}
@@ -17,15 +17,14 @@ use Rattle.egt_board.specs.declared.square_set.SquareSet.{SquareSet}
 use Rattle.egt_board.specs.Man.{other_side}
 use Rattle.egt_board.specs.Placement.{Placement, Stands, IsFree, get-insert_same, get-insert_other}
 use Rattle.egt_board.specs.SquareSet.{Has, size_of}
-use Rattle.egt_board.specs.Attack.{king_of, IsAttacked, IsInCheck}
+use Rattle.egt_board.specs.Attack.{king_of, IsAttacked}
 use Rattle.egt_board.specs.Setup.{Setup, IsAdmissible, IsKingOn, HasKings}
-use Rattle.egt_board.specs.Gait.{Reaches}
 use Rattle.egt_board.specs.Mirror.{square_by, side_by, man_by, Allows}
 use Rattle.egt_board.specs.Square.{rank_of}
 use Rattle.egt_board.specs.Pawn.{pawn_of, ahead, PawnsFit, HasNoPawn}
 use Rattle.egt_board.specs.Target.{target_rank, IsTarget, FitsTarget}
 use Rattle.egt_board.proofs.Bits.{not_both}
-use Rattle.egt_board.specs.MirrorLaws.{Suits, suits_of, square_by-within, square_by-twice, Reaches-by, ShowsMen, OnBoard, shows_back, stands_back, free_back, attacked_back, side_by-twice, side_by-turned, side_by-turned_twice, man_by-twice}
+use Rattle.egt_board.specs.MirrorLaws.{Suits, suits_of, square_by-within, square_by-twice, ShowsMen, OnBoard, stands_back, attacked_back, side_by-turned, side_by-turned_twice, man_by-twice}
 
 -- the men on squares that are no longer left stand in the mirror
 pub record Turns (m : Mirror) (men board : Placement) (rest : SquareSet) : Type 0 where
@@ -65,7 +64,7 @@ pawns_by m men men' allows shows ok' fit = λ t man stands pawn.
     subst (λ x. (0 < rank_of x) × (rank_of x < 7)) (square_by-twice m t t_in)
     (between_by m man.kind (square_by m t) (square_by-within m t t_in) (suits_of m men (square_by m t) (man_by m man) allows back) pawn (fit (square_by m t) (man_by m man) back pawn))
 
-stands_by : (m : Mirror) (men men' : Placement) (s : ℕ) (man : Man) → ShowsMen m men men' → s < 64 → Stands men s man → Stands men' (square_by m s) (man_by m man)
+pub stands_by : (m : Mirror) (men men' : Placement) (s : ℕ) (man : Man) → ShowsMen m men men' → s < 64 → Stands men s man → Stands men' (square_by m s) (man_by m man)
 stands_by m men men' s man shows s_in stands = shows s s_in ∙ ap (option_map (man_by m)) stands
 
 free_by : (m : Mirror) (men men' : Placement) (s : ℕ) → ShowsMen m men men' → s < 64 → IsFree men s → IsFree men' (square_by m s)
@@ -84,7 +83,7 @@ pub ahead_within : (side : Side) (t : ℕ) → 0 < rank_of t → rank_of t < 7 �
 ahead_within White t low high = omega arith
 ahead_within Black t low high = omega arith
 
-target_between : (mover : Side) (t : ℕ) → rank_of t ≡ target_rank mover → (0 < rank_of t) × (rank_of t < 7)
+pub target_between : (mover : Side) (t : ℕ) → rank_of t ≡ target_rank mover → (0 < rank_of t) × (rank_of t < 7)
 target_between White t e = (omega arith, omega arith)
 target_between Black t e = (omega arith, omega arith)
 

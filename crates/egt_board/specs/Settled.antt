@@ -1,5 +1,5 @@
 -- Targets that a pawn may take, and positions without the others.
-use Rattle.std.specs.Prelude.{◌≡◌, ℕ, ◌⊎◌, None, IfSome}
+use Rattle.std.specs.Prelude.{◌≡◌, ◌⊎◌, None, IfSome}
 use Rattle.egt_board.specs.Man.{other_side}
 use Rattle.egt_board.specs.Pawn.{ahead, HasPawnBeside}
 use Rattle.egt_board.specs.Setup.{Setup}

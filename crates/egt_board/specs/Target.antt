@@ -1,5 +1,5 @@
 -- En passant targets: FIDE Laws of Chess 2023, article 3.7.3; PGN standard 1994, section 16.1.3.4.
-use Rattle.std.specs.Prelude.{◌≡◌, ℕ, Option, None, IfSome}
+use Rattle.std.specs.Prelude.{◌≡◌, ℕ, Option, IfSome}
 use Rattle.egt_board.specs.declared.man.Side.{Side}
 use Rattle.egt_board.specs.declared.man.Side.TheVariants.{White, Black}
 use Rattle.egt_board.specs.Man.{other_side}

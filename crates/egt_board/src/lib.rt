@@ -8,6 +8,7 @@ pub mod board;
 pub mod fault;
 pub mod gait;
 pub mod king;
+pub mod laws;
 pub mod listed;
 pub mod man;
 pub mod mirror;

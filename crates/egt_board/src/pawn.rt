@@ -79,7 +79,11 @@ fn farthest_advance(side: Side, from: Square) -> u8
     ensures value { result ≡ farthest_advance side from }
     ensures few { result ≤ 2 }
 {
-    if from.rank() == side.home_rank() { 2 } else { 1 }
+    if from.rank() == side.home_rank() {
+        2
+    } else {
+        1
+    }
 }
 
 /// Whether the man may stand on the square: a pawn on no square of the first rank or the last.

@@ -1,5 +1,4 @@
 use Rattle.std.proofs.Common.{◌≡◌, rules, sym, ◌∙◌, inl, inr, refl, Some, subst, arith}
-use Rattle.std.proofs.lemmas.Bool.{false≢true}
 use Rattle.std.proofs.lemmas.Nat.Bits.{bit_at-lt}
 use Rattle.egt_board.specs.declared.man.Man.{Man}
 use Rattle.egt_board.specs.Pawn.{MayStand}

@@ -1,7 +1,5 @@
-use Rattle.std.proofs.Common.{◌≡◌, ℕ, ◌<◌, ◌⊎◌, ◌/◌, ◌%◌, sym, ◌∙◌, inl, inr, arith}
+use Rattle.std.proofs.Common.{◌/◌, ◌%◌, inl, inr, arith}
 use Rattle.std.proofs.lemmas.Bool.{eqb-true}
-use Rattle.egt_board.specs.Pawn.{HasNoPawn}
-use Rattle.egt_board.proofs.Turning.{no_pawn_by}
 use Rattle.egt_board.proofs.position.Position.image.Goals as goal
 
 pub turned-by_ranks-requires-clause-allowed : goal.turned-by_ranks-requires-clause-allowed

@@ -1,6 +1,4 @@
-use Rattle.std.proofs.Common.{◌≡◌, sym, ap, ◌∙◌, Some, arith}
-use Rattle.std.specs.FinMap as map
-use Rattle.egt_board.specs.Placement.{Placement, Stands}
+use Rattle.std.proofs.Common.{sym, ◌∙◌, arith}
 use Rattle.egt_board.proofs.Turning.{Turns-none, Turns-more}
 use Rattle.egt_board.proofs.position.Position.mirrored_board.Goals as goal
 

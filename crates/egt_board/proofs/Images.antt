@@ -1,0 +1,266 @@
+-- What the images of a position keep, and the way back from each.
+use Rattle.std.proofs.Common.{◌≡◌, ℕ, zero, suc, ◌<◌, ◌↔◌, ◌⊎◌, ◌/◌, ◌%◌, ◌==◌, Bool, true, false, Option, Some, None, arith, refl, sym, ap, ◌∙◌, subst, inl, inr}
+use Rattle.std.specs.Option.{option_map}
+use Rattle.std.specs.FinMap as map
+use Rattle.std.proofs.lemmas.Bool.{eqb-true}
+use Rattle.egt_board.specs.declared.mirror.Mirror.{Mirror}
+use Rattle.egt_board.specs.declared.mirror.Mirror.TheVariants.{Files, Ranks, Diagonal, Colours}
+use Rattle.egt_board.specs.declared.man.Side.{Side}
+use Rattle.egt_board.specs.declared.man.Side.TheVariants.{White, Black}
+use Rattle.egt_board.specs.declared.man.Man.{Man}
+use Rattle.egt_board.specs.Man.{other_side}
+use Rattle.egt_board.specs.Placement.{Placement}
+use Rattle.egt_board.specs.Pawn.{HasNoPawn}
+use Rattle.egt_board.specs.Setup.{Setup, IsAdmissible}
+use Rattle.egt_board.specs.Target.{FitsTarget}
+use Rattle.egt_board.specs.Settled.{IsSettled}
+use Rattle.egt_board.specs.Mirror.{IsMirrored, square_by, side_by, man_by, Allows}
+use Rattle.egt_board.specs.MirrorLaws.{square_by-within, square_by-twice, ShowsMen, OnBoard, man_by-twice}
+use Rattle.egt_board.specs.Symmetry.{square_if, square_of, IsKeepingSides, KeepsPlay, IsCarried, IsImage}
+use Rattle.egt_board.specs.Images.{IsTurnOf, Comes, AreImages, count_of, SameMen, ExchangedMen}
+use Rattle.egt_board.proofs.Turning.{admissible_by, no_pawn_by, target_between}
+use Rattle.egt_board.proofs.Settling.{ready_by}
+use Rattle.egt_board.proofs.Reflected.{men_by, men_by-shows, men_by-on_board, men_by-few, same_on_board, setup_by, setup_by-is, setup_by-only, setup_by-back}
+use Rattle.egt_board.proofs.Tallies.{count_by}
+
+-- one step, and one after another
+pub images_by_turn : (p q : Setup) → IsTurnOf p q → AreImages p q
+images_by_turn p q turn = (1, (q, turn, refl))
+
+pub images_on : (p q r : Setup) → AreImages p q → AreImages q r → AreImages p r
+images_on p q r first second = go first.0 p first.1
+  where
+    go : (n : ℕ) (p : Setup) → Comes n p q → AreImages p r
+    go zero p same = subst (λ (x : Setup). AreImages x r) (sym same) second
+    go (suc n) p step = let rest = go n step.0 step.2 in (suc rest.0, (step.0, step.1, rest.1))
+
+-- what an image keeps of a position
+pub record Kept (p q : Setup) : Type 0 where
+  pub admissible : IsAdmissible q
+  pub settled : IsSettled p ↔ IsSettled q
+  pub men : SameMen p q ⊎ ExchangedMen p q
+  pub back : AreImages q p
+  pub no_pawn : HasNoPawn p.men → HasNoPawn q.men
+
+pub Kept-same : (p : Setup) → IsAdmissible p → Kept p p
+Kept-same p ok = record {
+  admissible = ok;
+  settled = (λ h. h, λ h. h);
+  men = inl (record { men = λ man. refl; side = refl });
+  back = (0, refl);
+  no_pawn = λ none. none;
+}
+
+other_twice : (side : Side) → other_side (other_side side) ≡ side
+other_twice White = refl
+other_twice Black = refl
+
+pub Kept-on : (p q r : Setup) → Kept p q → Kept q r → Kept p r
+Kept-on p q r first second = record {
+  admissible = second.admissible;
+  settled = (λ h. second.settled.0 (first.settled.0 h), λ h. first.settled.1 (second.settled.1 h));
+  men = both first.men second.men;
+  back = images_on r q p second.back first.back;
+  no_pawn = λ none. second.no_pawn (first.no_pawn none);
+}
+  where
+    both : SameMen p q ⊎ ExchangedMen p q → SameMen q r ⊎ ExchangedMen q r → SameMen p r ⊎ ExchangedMen p r
+    both (inl h) (inl k) = inl (record { men = λ man. k.men man ∙ h.men man; side = k.side ∙ h.side })
+    both (inl h) (inr k) = inr (record { men = λ man. k.men man ∙ h.men man; side = k.side ∙ ap other_side h.side })
+    both (inr h) (inl k) = inr (record { men = λ man. k.men (man_by Colours man) ∙ h.men man; side = k.side ∙ h.side })
+    both (inr h) (inr k) = inl (record {
+      men = λ man. sym (ap (count_of r.men) (man_by-twice Colours man)) ∙ k.men (man_by Colours man) ∙ h.men man;
+      side = k.side ∙ ap other_side h.side ∙ other_twice p.side;
+    })
+
+-- a mirror that keeps sides is a symmetry
+man_by-same : (m : Mirror) → IsKeepingSides m → (man : Man) → man_by m man ≡ man
+man_by-same Files keeps man = refl
+man_by-same Ranks keeps man = refl
+man_by-same Diagonal keeps man = refl
+man_by-same Colours keeps man = absurd keeps
+
+side_by-same : (m : Mirror) → IsKeepingSides m → (side : Side) → side_by m side ≡ side
+side_by-same Files keeps side = refl
+side_by-same Ranks keeps side = refl
+side_by-same Diagonal keeps side = refl
+side_by-same Colours keeps side = absurd keeps
+
+carried_of : (m : Mirror) (p q : Setup) → IsKeepingSides m → IsMirrored m p q → IsCarried (square_by m) p q
+carried_of m p q keeps is = record {
+  men = λ t t_in. is.men t t_in ∙ same (map.get p.men t);
+  side = is.side ∙ side_by-same m keeps p.side;
+  target = is.target;
+  on_board = is.on_board;
+}
+  where
+    same : (o : Option Man) → option_map (man_by m) o ≡ o
+    same None = refl
+    same (Some man) = ap Some (man_by-same m keeps man)
+
+-- so it is one step to an image
+turn_of : (m : Mirror) (p q : Setup) → Allows m p.men → IsMirrored m p q → IsTurnOf p q
+turn_of Files p q allows is = inl (1, omega arith, inr (omega arith), carried_of Files p q tt is)
+turn_of Ranks p q allows is = inl (2, omega arith, inl allows, carried_of Ranks p q tt is)
+turn_of Diagonal p q allows is = inl (4, omega arith, inl allows, carried_of Diagonal p q tt is)
+turn_of Colours p q allows is = inr is
+
+target_within : (men : Placement) (mover : Side) (target : Option ℕ) → FitsTarget men mover target → (t : ℕ) → target ≡ Some t → t < 64
+target_within men mover target fits t is =
+    let target_is = subst (FitsTarget men mover) is fits in
+    let b = target_between mover t target_is.rank in
+    let low = b.1 in omega arith
+
+allows_by : (m : Mirror) (men men' : Placement) → (HasNoPawn men → HasNoPawn men') → Allows m men → Allows m men'
+allows_by Files men men' none allows = tt
+allows_by Ranks men men' none allows = none allows
+allows_by Diagonal men men' none allows = none allows
+allows_by Colours men men' none allows = tt
+
+tallies_by : (m : Mirror) (p : Setup) → SameMen p (setup_by m p) ⊎ ExchangedMen p (setup_by m p)
+tallies_by Files p = inl (record { men = count_by Files p.men; side = refl })
+tallies_by Ranks p = inl (record { men = count_by Ranks p.men; side = refl })
+tallies_by Diagonal p = inl (record { men = count_by Diagonal p.men; side = refl })
+tallies_by Colours p = inr (record { men = count_by Colours p.men; side = refl })
+
+-- what a mirror keeps
+pub setup_by-kept : (m : Mirror) (p : Setup) → IsAdmissible p → Allows m p.men → Kept p (setup_by m p)
+setup_by-kept m p ok allows = record {
+  admissible = ok';
+  settled = (
+    ready_by m p.men (men_by m p.men) p.side p.target allows shows ok.on_board ok.target,
+    λ h. subst IsSettled (sym (setup_by-only m (setup_by m p) p back))
+        (ready_by m (men_by m p.men) (men_by m (men_by m p.men)) (side_by m p.side) (option_map (square_by m) p.target) allows' (men_by-shows m (men_by m p.men)) ok'.on_board ok'.target h),
+  );
+  men = tallies_by m p;
+  back = images_by_turn (setup_by m p) p (turn_of m (setup_by m p) p allows' back);
+  no_pawn = none;
+}
+  where
+    shows : ShowsMen m p.men (men_by m p.men)
+    shows = men_by-shows m p.men
+
+    none : HasNoPawn p.men → HasNoPawn (men_by m p.men)
+    none = no_pawn_by m p.men (men_by m p.men) (men_by-shows m p.men) (men_by-on_board m p.men)
+
+    allows' : Allows m (men_by m p.men)
+    allows' = allows_by m p.men (men_by m p.men) none allows
+
+    ok' : IsAdmissible (setup_by m p)
+    ok' = admissible_by m p (men_by m p.men) _ ok allows (men_by-shows m p.men) (men_by-on_board m p.men) (men_by-few m p.men) refl
+
+    back : IsMirrored m (setup_by m p) p
+    back = setup_by-back m p ok.on_board (target_within p.men p.side p.target ok.target)
+
+-- the setup in the mirror, or as it is
+setup_if : Bool → Mirror → Setup → Setup
+setup_if true m p = setup_by m p
+setup_if false m p = p
+
+setup_if-is : (turns : Bool) (m : Mirror) (p : Setup) → IsKeepingSides m → OnBoard p.men → IsCarried (square_if turns m) p (setup_if turns m p)
+unfolding setup_if
+setup_if-is true m p keeps ok = carried_of m p (setup_by m p) keeps (setup_by-is m p)
+setup_if-is false m p keeps ok = record { men = λ t t_in. refl; side = refl; target = same p.target; on_board = ok }
+  where
+    same : (o : Option ℕ) → o ≡ option_map (λ s. s) o
+    same None = refl
+    same (Some s) = refl
+
+setup_if-kept : (turns : Bool) (m : Mirror) (p : Setup) → IsAdmissible p → (turns ≡ true → Allows m p.men) → Kept p (setup_if turns m p)
+unfolding setup_if
+setup_if-kept true m p ok allows = setup_by-kept m p ok (allows refl)
+setup_if-kept false m p ok allows = Kept-same p ok
+
+-- carried twice
+carried_on : (f g : ℕ → ℕ) (p q r : Setup) → ((t : ℕ) → t < 64 → f t < 64) → IsCarried f p q → IsCarried g q r → IsCarried (λ s. g (f s)) p r
+carried_on f g p q r f_in first second = record {
+  men = λ t t_in. second.men (f t) (f_in t t_in) ∙ first.men t t_in;
+  side = second.side ∙ first.side;
+  target = second.target ∙ ap (option_map g) first.target ∙ twice p.target;
+  on_board = second.on_board;
+}
+  where
+    twice : (o : Option ℕ) → option_map g (option_map f o) ≡ option_map (λ s. g (f s)) o
+    twice None = refl
+    twice (Some s) = refl
+
+-- each square is where f puts another
+Onto : (ℕ → ℕ) → Type 0
+Onto f = (u : ℕ) → u < 64 → (t : ℕ) × (t < 64) × (f t ≡ u)
+
+carried_only : (f : ℕ → ℕ) (p q r : Setup) → Onto f → IsCarried f p q → IsCarried f p r → q ≡ r
+unfolding Onto
+carried_only f p q r onto first second = λ i. record { men = men i; side = (first.side ∙ sym second.side) i; target = (first.target ∙ sym second.target) i }
+  where
+    men : q.men ≡ r.men
+    men = same_on_board q.men r.men first.on_board second.on_board (λ u u_in.
+        let from = onto u u_in in
+        subst (λ x. map.get q.men x ≡ map.get r.men x) from.2 (first.men from.0 from.1 ∙ sym (second.men from.0 from.1)))
+
+square_if-within : (turns : Bool) (m : Mirror) (s : ℕ) → s < 64 → square_if turns m s < 64
+square_if-within true m s s_in = square_by-within m s s_in
+square_if-within false m s s_in = s_in
+
+square_if-twice : (turns : Bool) (m : Mirror) (s : ℕ) → s < 64 → square_if turns m (square_if turns m s) ≡ s
+square_if-twice true m s s_in = square_by-twice m s s_in
+square_if-twice false m s s_in = refl
+
+onto_three : (a b c : Bool) (l m n : Mirror) → Onto (λ s. square_if c n (square_if b m (square_if a l s)))
+unfolding Onto
+onto_three a b c l m n = λ u u_in.
+    let v = square_if-within c n u u_in in
+    let w = square_if-within b m (square_if c n u) v in (
+      square_if a l (square_if b m (square_if c n u)),
+      square_if-within a l _ w,
+      ap (λ s. square_if c n (square_if b m s)) (square_if-twice a l _ w) ∙ ap (square_if c n) (square_if-twice b m _ v) ∙ square_if-twice c n u u_in,
+    )
+
+-- the image under a symmetry, mirror by mirror
+pub image_kept : (n : ℕ) (p q : Setup) → IsAdmissible p → KeepsPlay n p.men → IsImage n p q → Kept p q
+image_kept n p q ok keeps is =
+    subst (Kept p) (sym (carried_only (square_of n) p q p3 (onto_three (n % 2 == 1) (n / 2 % 2 == 1) (n / 4 == 1) Files Ranks Diagonal) is is3)) kept3
+  where
+    p1 : Setup
+    p1 = setup_if (n % 2 == 1) Files p
+
+    kept1 : Kept p p1
+    kept1 = setup_if-kept (n % 2 == 1) Files p ok (λ _. tt)
+
+    p2 : Setup
+    p2 = setup_if (n / 2 % 2 == 1) Ranks p1
+
+    kept2 : Kept p p2
+    kept2 = Kept-on p p1 p2 kept1 (setup_if-kept (n / 2 % 2 == 1) Ranks p1 kept1.admissible (λ turns. elim keeps [
+      | inl none ↦ kept1.no_pawn none
+      | inr less ↦ let e = eqb-true (n / 2 % 2) 1 turns in absurd (omega arith)
+    ]))
+
+    p3 : Setup
+    p3 = setup_if (n / 4 == 1) Diagonal p2
+
+    kept3 : Kept p p3
+    kept3 = Kept-on p p2 p3 kept2 (setup_if-kept (n / 4 == 1) Diagonal p2 kept2.admissible (λ turns. elim keeps [
+      | inl none ↦ kept2.no_pawn none
+      | inr less ↦ let e = eqb-true (n / 4) 1 turns in absurd (omega arith)
+    ]))
+
+    is2 : IsCarried (λ s. square_if (n / 2 % 2 == 1) Ranks (square_if (n % 2 == 1) Files s)) p p2
+    is2 = carried_on (square_if (n % 2 == 1) Files) (square_if (n / 2 % 2 == 1) Ranks) p p1 p2 (square_if-within (n % 2 == 1) Files) (setup_if-is (n % 2 == 1) Files p tt ok.on_board) (setup_if-is (n / 2 % 2 == 1) Ranks p1 tt kept1.admissible.on_board)
+
+    is3 : IsImage n p p3
+    is3 = carried_on _ (square_if (n / 4 == 1) Diagonal) p p2 p3 (λ t t_in. square_if-within (n / 2 % 2 == 1) Ranks _ (square_if-within (n % 2 == 1) Files t t_in)) is2 (setup_if-is (n / 4 == 1) Diagonal p2 tt kept2.admissible.on_board)
+
+pub turn_kept : (p q : Setup) → IsAdmissible p → IsTurnOf p q → Kept p q
+turn_kept p q ok turn = elim turn [
+  | inl h ↦ image_kept h.0 p q ok h.2 h.3
+  | inr is ↦ subst (Kept p) (sym (setup_by-only Colours p q is)) (setup_by-kept Colours p ok tt)
+]
+
+pub images_kept : (p q : Setup) → IsAdmissible p → AreImages p q → Kept p q
+images_kept p q ok images = go images.0 p ok images.1
+  where
+    go : (n : ℕ) (p : Setup) → IsAdmissible p → Comes n p q → Kept p q
+    go zero p ok same = subst (Kept p) same (Kept-same p ok)
+    go (suc n) p ok step =
+        let first = turn_kept p step.0 ok step.1 in
+        Kept-on p step.0 q first (go n step.0 first.admissible step.2)

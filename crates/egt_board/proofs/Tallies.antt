@@ -1,0 +1,69 @@
+-- How many of each man stand on the board of a setup in a mirror.
+use Rattle.std.proofs.Common.{◌≡◌, ℕ, ◌+◌, ◌*◌, ◌<◌, Bool, cond, eqb, arith, Option, Some, None, refl, sym, ap, ◌∙◌, inl, inr}
+use Rattle.std.specs.Option.{option_map}
+use Rattle.std.specs.FinMap as map
+use Rattle.std.proofs.lemmas.Bool.{eq-eqb}
+use Rattle.std.proofs.lemmas.Bool.Decides.{eqb_tells}
+use Rattle.egt_board.specs.declared.mirror.Mirror.{Mirror}
+use Rattle.egt_board.specs.declared.mirror.Mirror.TheVariants.{Files, Ranks, Diagonal, Colours}
+use Rattle.egt_board.specs.declared.man.Side.{Side}
+use Rattle.egt_board.specs.declared.man.Side.TheVariants.{White, Black}
+use Rattle.egt_board.specs.declared.man.Kind.{Kind}
+use Rattle.egt_board.specs.declared.man.Kind.TheVariants.{Q, R, B, N, P, K}
+use Rattle.egt_board.specs.declared.man.Man.{Man}
+use Rattle.egt_board.specs.Man.{other_side}
+use Rattle.egt_board.specs.Placement.{Placement}
+use Rattle.egt_board.specs.SquareSet.{total}
+use Rattle.egt_board.specs.Mirror.{square_by, man_by}
+use Rattle.egt_board.specs.Images.{kind_number, side_number, stands_here, count_of}
+use Rattle.egt_board.proofs.Sizes.{total-same}
+use Rattle.egt_board.proofs.Reflected.{men_by, men_by-shows}
+
+-- a total over the board may be taken in a mirror
+total_by : (m : Mirror) (f : ℕ → ℕ) → total (λ s. f (square_by m s)) 64 ≡ total f 64
+total_by Files f = omega arith
+total_by Ranks f = omega arith
+total_by Diagonal f = omega arith
+total_by Colours f = omega arith
+
+-- 1 where the numbers are the same
+abbrev one_where_same : ℕ → ℕ → ℕ
+one_where_same a b = cond (eqb a b) 1 0
+
+-- two tests that say the same
+same_test : (a b c d : ℕ) → (a ≡ b → c ≡ d) → (c ≡ d → a ≡ b) → one_where_same a b ≡ one_where_same c d
+same_test a b c d f g = ap one (elim (eqb_tells a b) [
+  | inl h ↦ h.0 ∙ sym (eq-eqb c d (f h.1))
+  | inr h ↦ elim (eqb_tells c d) [ inl k ↦ absurd (h.1 (g k.1)) | inr k ↦ h.0 ∙ sym k.0 ]
+])
+  where
+    one : Bool → ℕ
+    one test = cond test 1 0
+
+kind_few : (kind : Kind) → kind_number kind < 6
+kind_few Q = omega arith
+kind_few R = omega arith
+kind_few B = omega arith
+kind_few N = omega arith
+kind_few P = omega arith
+kind_few K = omega arith
+
+-- men of the other sides are the same where the men are
+numbers_exchanged : (s t : Side) (k l : Kind) → one_where_same (6 * side_number (other_side s) + kind_number k) (6 * side_number (other_side t) + kind_number l) ≡ one_where_same (6 * side_number s + kind_number k) (6 * side_number t + kind_number l)
+numbers_exchanged White White k l = same_test _ _ _ _ (λ e. omega arith) (λ e. omega arith)
+numbers_exchanged Black Black k l = same_test _ _ _ _ (λ e. omega arith) (λ e. omega arith)
+numbers_exchanged White Black k l = let a = kind_few k in let b = kind_few l in same_test _ _ _ _ (λ e. omega arith) (λ e. omega arith)
+numbers_exchanged Black White k l = let a = kind_few k in let b = kind_few l in same_test _ _ _ _ (λ e. omega arith) (λ e. omega arith)
+
+here_by : (m : Mirror) (man : Man) (o : Option Man) → stands_here (man_by m man) (option_map (man_by m) o) ≡ stands_here man o
+here_by m man None = refl
+here_by Files man (Some other) = refl
+here_by Ranks man (Some other) = refl
+here_by Diagonal man (Some other) = refl
+here_by Colours man (Some other) = numbers_exchanged man.side other.side man.kind other.kind
+
+-- a mirror leaves as many men, each of them turned
+pub count_by : (m : Mirror) (men : Placement) (man : Man) → count_of (men_by m men) (man_by m man) ≡ count_of men man
+count_by m men man =
+    sym (total_by m (λ s. stands_here (man_by m man) (map.get (men_by m men) s)))
+    ∙ total-same _ _ 64 (λ t t_in. ap (stands_here (man_by m man)) (men_by-shows m men t t_in) ∙ here_by m man (map.get men t))
