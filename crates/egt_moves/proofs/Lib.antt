@@ -15,6 +15,7 @@ pub mod After
 pub mod Admissible
 pub mod MirroredMoves
 pub mod SettledMoves
+pub mod ImageMoves
 pub mod InOrder
 pub mod Growing
 pub mod Walking

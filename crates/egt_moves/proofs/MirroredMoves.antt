@@ -32,11 +32,15 @@ use Rattle.egt_moves.specs.Standing.{IsCheckmate}
 use Rattle.egt_moves.proofs.After.{target_is, after_to, after_from, after_other, after_cases, goes_on_board}
 use Rattle.egt_moves.proofs.Admissible.{admissible_after, arrived_pawn, pawn_told, left_true, right_true, Forward, takes_forward_of, two_ranks_told, two_forward, not_two, Leap, leap}
 
--- no pawn comes by a mirror, so that one which the men allow is allowed by their image
+-- no pawn comes by a mirror
+pub no_pawn_by : (m : Mirror) (men men' : Placement) → mirrors.ShowsMen m men men' → mirrors.OnBoard men' → HasNoPawn men → HasNoPawn men'
+no_pawn_by m men men' shows ok' none = λ s man stands. none (square_by m s) (man_by m man) (mirrors.stands_back m men men' shows s man (ok' s man stands) stands)
+
+-- so a mirror that the men allow is allowed by their image
 allows_by : (m : Mirror) (men men' : Placement) → mirrors.ShowsMen m men men' → mirrors.OnBoard men' → Allows m men → Allows m men'
 allows_by Files men men' shows ok' allows = tt
-allows_by Ranks men men' shows ok' allows = λ s man stands. allows (square_by Ranks s) (man_by Ranks man) (mirrors.stands_back Ranks men men' shows s man (ok' s man stands) stands)
-allows_by Diagonal men men' shows ok' allows = λ s man stands. allows (square_by Diagonal s) (man_by Diagonal man) (mirrors.stands_back Diagonal men men' shows s man (ok' s man stands) stands)
+allows_by Ranks men men' shows ok' allows = no_pawn_by Ranks men men' shows ok' allows
+allows_by Diagonal men men' shows ok' allows = no_pawn_by Diagonal men men' shows ok' allows
 allows_by Colours men men' shows ok' allows = tt
 
 target_between : (mover : Side) (t : ℕ) → rank_of t ≡ target_rank mover → (0 < rank_of t) × (rank_of t < 7)

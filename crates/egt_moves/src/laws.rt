@@ -2,6 +2,7 @@
 //! ensures.
 
 ghost use Rattle.std.specs.Prelude.{◌≡◌, ◌↔◌, ◌⊎◌, ℕ, suc, ◌≤◌, Bool, IsTrue, Option};
+ghost use Rattle.egt_board.specs.Images.{AreImages};
 ghost use Rattle.egt_board.specs.Settled.{SettlesTo};
 ghost use Rattle.egt_board.specs.Setup.{Setup, IsAdmissible};
 ghost use Rattle.egt_board.specs.declared.mirror.Mirror.{Mirror};
@@ -11,6 +12,8 @@ ghost use Rattle.egt_moves.specs.Entries.{JudgedOver, ZeroingJudgedOver};
 ghost use Rattle.egt_moves.specs.Likeness.{Alike, IsMirror};
 ghost use Rattle.egt_moves.specs.Mirrored.{AreMirrored};
 ghost use Rattle.egt_moves.specs.Zeroing.{HasZeroing, ZeroesLosingWithin, ZeroesWinningWithin};
+
+use egt_board::laws::images_keep_men;
 
 /// A forced mate is forced within any greater number of plies, and a defence lasts for any lesser one.
 pub fn more_plies()
@@ -101,6 +104,17 @@ pub fn settled_positions_are_alike()
     ensures distances { (p q : Setup) → IsAdmissible p → SettlesTo p q →
         (v : Value) → HasZeroing chess p v ↔ HasZeroing chess q v }
 {}
+
+/// So have a position and each of its images: whatever comes from it by symmetries that its men allow and by the flip
+/// of colours.
+pub fn all_images_are_alike()
+    ensures values { (p q : Setup) → IsAdmissible p → AreImages p q →
+        (v : Value) → HasValue chess p v ↔ HasValue chess q v }
+    ensures distances { (p q : Setup) → IsAdmissible p → AreImages p q →
+        (v : Value) → HasZeroing chess p v ↔ HasZeroing chess q v }
+{
+    images_keep_men();
+}
 
 /// A map of positions that keeps steps, checkmate and zeroing keeps values and zeroing distances.
 pub fn images_are_alike()
