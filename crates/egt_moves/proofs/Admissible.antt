@@ -152,7 +152,7 @@ pawns_after p man m stands goes fits ok s other there pawn = elim (after_cases p
   | inr h ↦ ok.pawns s other h.2 pawn
 ]
 
-pawn_told : (kind : Kind) → is_pawn kind ≡ true → kind ≡ P
+pub pawn_told : (kind : Kind) → is_pawn kind ≡ true → kind ≡ P
 pawn_told P e = refl
 pawn_told Q e = absurd (false≢true e)
 pawn_told R e = absurd (false≢true e)
@@ -160,11 +160,11 @@ pawn_told B e = absurd (false≢true e)
 pawn_told N e = absurd (false≢true e)
 pawn_told K e = absurd (false≢true e)
 
-left_true : (a b : Bool) → (a && b) ≡ true → a ≡ true
+pub left_true : (a b : Bool) → (a && b) ≡ true → a ≡ true
 left_true true b e = refl
 left_true false b e = e
 
-right_true : (a b : Bool) → (a && b) ≡ true → b ≡ true
+pub right_true : (a b : Bool) → (a && b) ≡ true → b ≡ true
 right_true true b e = e
 right_true false b e = absurd (false≢true e)
 

@@ -15,6 +15,7 @@ pub mod After
 pub mod Admissible
 pub mod MirroredMoves
 pub mod InOrder
+pub mod Choosing
 pub mod Growing
 pub mod Walking
 pub mod Ending
