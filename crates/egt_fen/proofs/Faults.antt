@@ -2,7 +2,7 @@
 use Rattle.std.proofs.Common.{◌≡◌, ℕ, List, Result, Ok, Err, refl, sym, ap, ◌∙◌, subst}
 use Rattle.std.specs.Result.{MatchResult}
 use Rattle.egt_board.specs.declared.fault.PosFault.{PosFault}
-use Rattle.egt_board.specs.declared.fault.PosFault.TheVariants.{MenCount, KingCount, EpMismatch, WaitingInCheck}
+use Rattle.egt_board.specs.declared.fault.PosFault.TheVariants.{MenCount, KingCount, PawnRank, EpMismatch, WaitingInCheck}
 use Rattle.egt_board.specs.declared.man.Man.{Man}
 use Rattle.egt_board.specs.Listed as listed
 use Rattle.egt_board.specs.Setup.{Setup, IsAdmissible}
@@ -16,19 +16,28 @@ use Rattle.egt_fen.proofs.Spelling.{parts_with, spelled_read, spelled_admits}
 one_setup_fault : (list : List (Man × ℕ)) (p : Setup) (a b : PosFault) → listed.IsFirstFault a list p → listed.IsFirstFault b list p → a ≡ b
 one_setup_fault list p MenCount MenCount x y = refl
 one_setup_fault list p MenCount KingCount x y = absurd (x y.0)
+one_setup_fault list p MenCount PawnRank x y = absurd (x y.0)
 one_setup_fault list p MenCount EpMismatch x y = absurd (x y.0)
 one_setup_fault list p MenCount WaitingInCheck x y = absurd (x y.0)
 one_setup_fault list p KingCount MenCount x y = absurd (y x.0)
 one_setup_fault list p KingCount KingCount x y = refl
+one_setup_fault list p KingCount PawnRank x y = absurd (x.1 y.1)
 one_setup_fault list p KingCount EpMismatch x y = absurd (x.1 y.1)
 one_setup_fault list p KingCount WaitingInCheck x y = absurd (x.1 y.1)
+one_setup_fault list p PawnRank MenCount x y = absurd (y x.0)
+one_setup_fault list p PawnRank KingCount x y = absurd (y.1 x.1)
+one_setup_fault list p PawnRank PawnRank x y = refl
+one_setup_fault list p PawnRank EpMismatch x y = absurd (x.2 y.2)
+one_setup_fault list p PawnRank WaitingInCheck x y = absurd (x.2 y.2)
 one_setup_fault list p EpMismatch MenCount x y = absurd (y x.0)
 one_setup_fault list p EpMismatch KingCount x y = absurd (y.1 x.1)
+one_setup_fault list p EpMismatch PawnRank x y = absurd (y.2 x.2)
 one_setup_fault list p EpMismatch EpMismatch x y = refl
-one_setup_fault list p EpMismatch WaitingInCheck x y = absurd (x.2 y.2)
+one_setup_fault list p EpMismatch WaitingInCheck x y = absurd (x.3 y.3)
 one_setup_fault list p WaitingInCheck MenCount x y = absurd (y x.0)
 one_setup_fault list p WaitingInCheck KingCount x y = absurd (y.1 x.1)
-one_setup_fault list p WaitingInCheck EpMismatch x y = absurd (y.2 x.2)
+one_setup_fault list p WaitingInCheck PawnRank x y = absurd (y.2 x.2)
+one_setup_fault list p WaitingInCheck EpMismatch x y = absurd (y.3 x.3)
 one_setup_fault list p WaitingInCheck WaitingInCheck x y = refl
 
 pub one_fault : (text : List ℕ) (one other : FenFault) → IsFirstFault text one → IsFirstFault text other → one ≡ other
@@ -41,8 +50,9 @@ one_fault text one other x y = at (parts_of text) x y
 admissible_fault : (list : List (Man × ℕ)) (p : Setup) (fault : PosFault) → listed.FitsBoard list → IsAdmissible p → listed.IsFirstFault fault list p → ⊥
 admissible_fault list p MenCount fits admissible x = x fits
 admissible_fault list p KingCount fits admissible x = x.1 admissible.kings
-admissible_fault list p EpMismatch fits admissible x = x.2 admissible.target
-admissible_fault list p WaitingInCheck fits admissible x = admissible.quiet x.3
+admissible_fault list p PawnRank fits admissible x = x.2 admissible.pawns
+admissible_fault list p EpMismatch fits admissible x = x.3 admissible.target
+admissible_fault list p WaitingInCheck fits admissible x = admissible.quiet x.4
 
 pub spelled_faultless : (text : List ℕ) (fen : Fen) (fault : FenFault) → Spells text fen → IsFirstFault text fault → ⊥
 spelled_faultless text fen fault s x =

@@ -11,7 +11,7 @@ use Rattle.std.proofs.lemmas.Fmt.{decimal_is_IsNumeral, decimal_nonempty, length
 use Rattle.egt_board.specs.declared.man.Side.{Side}
 use Rattle.egt_board.specs.declared.man.Side.TheVariants.{White, Black}
 use Rattle.egt_board.specs.declared.man.Kind.{Kind}
-use Rattle.egt_board.specs.declared.man.Kind.TheVariants.{Q, R, B, N, K}
+use Rattle.egt_board.specs.declared.man.Kind.TheVariants.{Q, R, B, N, P, K}
 use Rattle.egt_board.specs.declared.man.Man.{Man}
 use Rattle.egt_board.specs.Placement.{Placement}
 use Rattle.egt_board.specs.Square.{file_of, rank_of}
@@ -42,11 +42,13 @@ letter_ink White Q = refl
 letter_ink White R = refl
 letter_ink White B = refl
 letter_ink White N = refl
+letter_ink White P = refl
 letter_ink White K = refl
 letter_ink Black Q = refl
 letter_ink Black R = refl
 letter_ink Black B = refl
 letter_ink Black N = refl
+letter_ink Black P = refl
 letter_ink Black K = refl
 
 squares_ink : (gap : ℕ) (squares : List (Option Man)) → list_all is_ink (squares_text gap squares) ≡ true

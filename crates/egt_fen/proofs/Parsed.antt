@@ -7,7 +7,7 @@ use Rattle.std.proofs.lemmas.List.{append_assoc, append-nil}
 use Rattle.egt_board.specs.declared.man.Side.{Side}
 use Rattle.egt_board.specs.declared.man.Side.TheVariants.{White, Black}
 use Rattle.egt_board.specs.declared.man.Kind.{Kind}
-use Rattle.egt_board.specs.declared.man.Kind.TheVariants.{Q, R, B, N, K}
+use Rattle.egt_board.specs.declared.man.Kind.TheVariants.{Q, R, B, N, P, K}
 use Rattle.egt_board.specs.declared.man.Man.{Man}
 use Rattle.egt_board.specs.Placement.{Placement}
 use Rattle.egt_fen.specs.Letter.{man_of, letter_of}
@@ -68,11 +68,13 @@ letter_read White Q = (omega arith, refl)
 letter_read White R = (omega arith, refl)
 letter_read White B = (omega arith, refl)
 letter_read White N = (omega arith, refl)
+letter_read White P = (omega arith, refl)
 letter_read White K = (omega arith, refl)
 letter_read Black Q = (omega arith, refl)
 letter_read Black R = (omega arith, refl)
 letter_read Black B = (omega arith, refl)
 letter_read Black N = (omega arith, refl)
+letter_read Black P = (omega arith, refl)
 letter_read Black K = (omega arith, refl)
 
 man_read : (man : Man) (rank file : ℕ) (rest : List ℕ) → file < 8 → men_left (letter_of man ∷ rest) rank file ≡ option_map (λ men. (man, 8 * rank + file) ∷ men) (men_left rest rank (file + 1))

@@ -4,6 +4,8 @@ use Rattle.std.proofs.Common.{◌≡◌, ℕ, ◌+◌, ◌-◌, ◌*◌, ◌/◌
 use Rattle.std.proofs.Props.{props}
 use Rattle.egt_board.specs.Listed.{setup_of}
 use Rattle.egt_board.specs.Setup.{Setup, IsAdmissible}
+use Rattle.egt_board.specs.Placement.{Placement}
+use Rattle.egt_board.specs.Target.{FitsTarget, target_rank}
 use Rattle.egt_fen.specs.declared.fen.Fen.{Fen}
 use Rattle.egt_board.specs.declared.man.Side.{Side}
 use Rattle.egt_board.specs.declared.man.Side.TheVariants.{White, Black}
@@ -76,9 +78,15 @@ target_read : (target : Option ℕ) → IsWritable target → target_of (target_
 target_read None writable = refl
 target_read (Some s) writable = square_read s writable
 
--- an admissible position has no target yet
-target_writable : (p : Setup) → IsAdmissible p → IsWritable p.target
-target_writable p admissible = subst IsWritable (sym admissible.target) tt
+-- the ranks that a target has with either side to move
+rank_writable : (side : Side) (s : ℕ) → rank_of s ≡ target_rank side → IsWritable (Some s)
+rank_writable White s rank = inr rank
+rank_writable Black s rank = inl rank
+
+-- so the target of an admissible position can be written
+target_writable : (men : Placement) (side : Side) (target : Option ℕ) → FitsTarget men side target → IsWritable target
+target_writable men side None fits = tt
+target_writable men side (Some s) fits = rank_writable side s fits.rank
 
 clocks_read : (fen : Fen) → clocks_of (Some (decimal fen.halfmove, decimal fen.fullmove)) ≡ Some (fen.halfmove, fen.fullmove)
 clocks_read fen =
@@ -93,7 +101,7 @@ written_spells fen admissible = record {
   placement = placement_read fen.position.men;
   side = side_read fen.position.side;
   castling = refl;
-  target = target_read fen.position.target (target_writable fen.position admissible);
+  target = target_read fen.position.target (target_writable fen.position.men fen.position.side fen.position.target admissible.target);
   clocks = clocks_read fen;
   board = sym (men_of-ranks fen.position.men admissible.on_board);
   fits = ranks-FitsBoard fen.position.men admissible.on_board admissible.few;

@@ -35,5 +35,6 @@ name_of WaitingInCheck = codes "WaitingInCheck"
 abbrev pub fault_of : PosFault → FenFault
 fault_of pos.MenCount = MenCount
 fault_of pos.KingCount = KingCount
+fault_of pos.PawnRank = PawnRank
 fault_of pos.EpMismatch = EpMismatch
 fault_of pos.WaitingInCheck = WaitingInCheck

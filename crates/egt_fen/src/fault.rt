@@ -94,6 +94,7 @@ impl From<PosFault> for FenFault {
         match fault {
             PosFault::MenCount => FenFault::MenCount,
             PosFault::KingCount => FenFault::KingCount,
+            PosFault::PawnRank => FenFault::PawnRank,
             PosFault::EpMismatch => FenFault::EpMismatch,
             PosFault::WaitingInCheck => FenFault::WaitingInCheck,
         }

@@ -13,11 +13,13 @@ pub fn man_of(letter: u8) -> Option<Man>
         b'R' => (Side::White, Kind::R),
         b'B' => (Side::White, Kind::B),
         b'N' => (Side::White, Kind::N),
+        b'P' => (Side::White, Kind::P),
         b'K' => (Side::White, Kind::K),
         b'q' => (Side::Black, Kind::Q),
         b'r' => (Side::Black, Kind::R),
         b'b' => (Side::Black, Kind::B),
         b'n' => (Side::Black, Kind::N),
+        b'p' => (Side::Black, Kind::P),
         b'k' => (Side::Black, Kind::K),
         _ => return None,
     };
@@ -33,11 +35,13 @@ pub fn letter_of(man: Man) -> u8
         (Side::White, Kind::R) => b'R',
         (Side::White, Kind::B) => b'B',
         (Side::White, Kind::N) => b'N',
+        (Side::White, Kind::P) => b'P',
         (Side::White, Kind::K) => b'K',
         (Side::Black, Kind::Q) => b'q',
         (Side::Black, Kind::R) => b'r',
         (Side::Black, Kind::B) => b'b',
         (Side::Black, Kind::N) => b'n',
+        (Side::Black, Kind::P) => b'p',
         (Side::Black, Kind::K) => b'k',
     }
 }

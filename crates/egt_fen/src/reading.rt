@@ -27,8 +27,9 @@ use egt_board::Position;
 /// the first is not eight ranks of eight squares, with digits and the letters of men; `Colour` where the second is
 /// neither `w` nor `b`; `Castling` where the third is not `-`; `EpField` where the fourth is neither `-` nor a
 /// square of the third or the sixth rank; `Counter` where a clock is not one to nine decimal digits; `MenCount`
-/// where there are more than four men; `KingCount` where a side has not one king; `EpMismatch` where the last
-/// move cannot have set the target; `WaitingInCheck` where the king of the side that waits is attacked.
+/// where there are more than four men; `KingCount` where a side has not one king; `PawnRank` where a pawn stands
+/// on the first rank or the last; `EpMismatch` where the last move cannot have set the target; `WaitingInCheck`
+/// where the king of the side that waits is attacked. A target that no pawn can take is no fault.
 pub fn read(text: &[u8]) -> Result<Fen, FenFault>
     ensures spells { IfOk result (λ fen. Spells text.now fen) }
     ensures reads { IsOk result ↔ ((fen : Fen) × Spells text.now fen) }

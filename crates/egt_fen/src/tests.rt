@@ -24,9 +24,8 @@ fn first_faults(rt: HostRuntime) {
         ("k7/8/8/8/8/8/8/K7 w - - x 1", 6),
         ("k7/8/8/8/8/8/8/KQRB4 w - - 0 1", 7),
         ("8/8/8/8/8/8/8/K7 w - - 0 1", 8),
-        // These two hold a pawn, whose letter is not read yet. With pawns they are 9 and 10.
-        ("4P2k/8/8/8/8/8/8/K7 w - - 0 1", 2),
-        ("4k3/8/8/8/4P3/8/8/4K3 w - e3 0 1", 2),
+        ("4P2k/8/8/8/8/8/8/K7 w - - 0 1", 9),
+        ("4k3/8/8/8/4P3/8/8/4K3 w - e3 0 1", 10),
         ("k7/8/8/8/8/8/8/R6K w - - 0 1", 11),
     ] {
         assert_eq!(rt; number_of(text), number, "{text}");
@@ -89,6 +88,56 @@ fn placements(rt: HostRuntime) {
 }
 
 #[test]
+fn pawns(rt: HostRuntime) {
+    for (text, number) in [
+        ("4k3/4p3/8/8/8/8/4P3/4K3 w - - 0 1", 0),
+        ("4k3/2P5/8/8/8/8/2p5/4K3 b - - 0 1", 0),
+        ("k7/8/8/8/8/8/8/K3P3 w - - 0 1", 9),
+        ("k3p3/8/8/8/8/8/8/K7 b - - 0 1", 9),
+        ("k7/8/8/8/8/8/8/K6p b - - 0 1", 9),
+        // Of two faults the first is told.
+        ("4P3/8/8/8/8/8/8/K7 w - - 0 1", 8),
+        ("k3P3/8/8/8/8/8/8/K7 w - e6 0 1", 9),
+        ("k3P3/8/8/8/8/8/8/R6K w - - 0 1", 9),
+        // A pawn attacks diagonally forward, whoever is to move.
+        ("8/8/8/3k4/4P3/8/8/7K b - - 0 1", 0),
+        ("8/8/8/3k4/4P3/8/8/7K w - - 0 1", 11),
+        ("8/8/8/4k3/4P3/8/8/7K w - - 0 1", 0),
+        ("8/8/8/4P3/3k4/8/8/7K w - - 0 1", 0),
+    ] {
+        assert_eq!(rt; number_of(text), number, "{text}");
+    }
+}
+
+#[test]
+fn targets(rt: HostRuntime) {
+    for (text, number) in [
+        // With a pawn that may take, and with none.
+        ("8/8/8/3k4/3pP3/8/8/7K b - e3 0 1", 0),
+        ("8/8/8/8/4P3/8/8/k1K5 b - e3 0 1", 0),
+        ("k7/8/8/4p3/8/8/8/K7 w - e6 0 1", 0),
+        // On the rank of the other side's targets.
+        ("8/8/8/8/4P3/8/8/k1K5 w - e3 0 1", 10),
+        ("8/8/8/8/4P3/8/8/k1K5 b - e6 0 1", 10),
+        ("k7/8/8/4p3/8/8/8/K7 b - e6 0 1", 10),
+        ("k7/8/8/4p3/8/8/8/K7 w - e3 0 1", 10),
+        // Occupied, or with a man where the pawn came from.
+        ("k7/8/8/8/4P3/4N3/8/K7 b - e3 0 1", 10),
+        ("k7/8/8/8/4P3/8/4N3/K7 b - e3 0 1", 10),
+        ("k7/8/4n3/4p3/8/8/8/K7 w - e6 0 1", 10),
+        ("k7/4n3/8/4p3/8/8/8/K7 w - e6 0 1", 10),
+        // No pawn in front, one of the side to move, or another man.
+        ("8/8/8/8/4P3/8/8/k1K5 b - d3 0 1", 10),
+        ("k7/8/8/8/4p3/8/8/K7 b - e3 0 1", 10),
+        ("k7/8/8/8/4N3/8/8/K7 b - e3 0 1", 10),
+        // Told before a check: the pawn attacks the king of the side that waits.
+        ("8/8/8/3k4/4P3/8/8/7K w - e3 0 1", 10),
+    ] {
+        assert_eq!(rt; number_of(text), number, "{text}");
+    }
+}
+
+#[test]
 fn targets_and_clocks(rt: HostRuntime) {
     for (text, number) in [
         // A target that no pawn has passed: the squares are read, and the position is refused.
@@ -139,6 +188,25 @@ fn reads_what_is_spelled(rt: HostRuntime) -> Result<(), Fail> {
 }
 
 #[test]
+fn reads_pawns_and_the_target(rt: HostRuntime) -> Result<(), Fail> {
+    let Fen { position, .. } = read(b"8/8/8/3k4/3pP3/8/8/7K b - e3 0 1")?;
+    assert_eq!(rt; position.side(), Side::Black);
+    assert_eq!(rt; position.target(), Square::new(20));
+    let men = [
+        (7, Side::White, Kind::K),
+        (27, Side::Black, Kind::P),
+        (28, Side::White, Kind::P),
+        (35, Side::Black, Kind::K),
+    ];
+    assert_eq!(rt; position.men().len(), men.len());
+    for (number, side, kind) in men {
+        let square = Square::new(number).ok_or("a square")?;
+        assert_eq!(rt; position.at(square), Some(Man { side, kind }));
+    }
+    Ok(())
+}
+
+#[test]
 fn four_fields_have_clocks_of_their_own(rt: HostRuntime) -> Result<(), Fail> {
     let fen = read(b"8/8/8/44/8/4K3/8/4k3 w - -")?;
     assert_eq!(rt; (fen.halfmove, fen.fullmove), (0, 1));
@@ -177,11 +245,32 @@ fn writes_the_one_text(rt: HostRuntime) -> Result<(), Fail> {
 }
 
 #[test]
+fn writes_targets_as_they_were_read(rt: HostRuntime) -> Result<(), Fail> {
+    for text in [
+        "8/8/8/3k4/3pP3/8/8/7K b - e3 0 1",
+        "8/8/8/8/4P3/8/8/k1K5 b - e3 0 1",
+        "8/8/8/8/4P3/8/8/k1K5 b - - 0 1",
+        "8/8/8/8/P7/8/8/k1K5 b - a3 0 1",
+        "k7/8/8/7p/8/8/8/K7 w - h6 0 57",
+        "4k3/8/8/2Pp4/8/8/8/4K3 w - d6 0 1",
+    ] {
+        let fen = read(text.as_bytes())?;
+        assert_eq!(rt;
+            write(rt.alloc(), &fen)?.as_slice(),
+            text.as_bytes(),
+            "{text}"
+        );
+    }
+    Ok(())
+}
+
+#[test]
 fn reads_what_it_wrote(rt: HostRuntime) -> Result<(), Fail> {
-    let fen = read(b"4k3/8/8/8/2n5/8/8/R3K3 b - - 12 34")?;
+    let fen = read(b"4k3/8/8/8/2n2P2/8/8/4K3 b - f3 12 34")?;
     let again = read(&write(rt.alloc(), &fen)?)?;
     assert_eq!(rt; (again.halfmove, again.fullmove), (12, 34));
     assert_eq!(rt; again.position.side(), Side::Black);
+    assert_eq!(rt; again.position.target(), fen.position.target());
     for number in 0..64 {
         let square = Square::new(number).ok_or("a square")?;
         assert_eq!(rt;

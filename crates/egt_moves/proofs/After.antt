@@ -156,19 +156,17 @@ goes_to_attacked p man other from to (inr (inl advance)) stands = not_free p.men
 goes_to_attacked p man other from to (inr (inr takes)) stands = takes.reaches
 
 -- nothing becomes a king
-pub MayBecome : Option Kind → Type 0
+abbrev pub MayBecome : Option Kind → Type 0
 MayBecome None = Unit {0}
 MayBecome (Some kind) = IsOfficer kind
 
 pub may_become : (b : Bool) (promo : Option Kind) → FitsPromotion b promo → MayBecome promo
-unfolding MayBecome
 may_become true None fits = absurd fits
 may_become true (Some kind) fits = fits
 may_become false None fits = tt
 may_become false (Some kind) fits = absurd fits
 
-not_king_of : (man : Man) (promo : Option Kind) (side : Side) → MayBecome promo → man.kind ≢ K → king_of side ≢ arriving man promo
-unfolding MayBecome
+pub not_king_of : (man : Man) (promo : Option Kind) (side : Side) → MayBecome promo → man.kind ≢ K → king_of side ≢ arriving man promo
 not_king_of man None side may not_king e = not_king (ap (λ (m : Man). m.kind) (sym e))
 not_king_of man (Some K) side may not_king e = may
 not_king_of man (Some P) side may not_king e = may
@@ -177,7 +175,7 @@ not_king_of man (Some R) side may not_king e = let kinds : K ≡ R = ap (λ (m :
 not_king_of man (Some B) side may not_king e = let kinds : K ≡ B = ap (λ (m : Man). m.kind) e in cc
 not_king_of man (Some N) side may not_king e = let kinds : K ≡ N = ap (λ (m : Man). m.kind) e in cc
 
-arriving_side : (man : Man) (promo : Option Kind) → (arriving man promo).side ≡ man.side
+pub arriving_side : (man : Man) (promo : Option Kind) → (arriving man promo).side ≡ man.side
 arriving_side man None = refl
 arriving_side man (Some kind) = refl
 

@@ -1,118 +1,159 @@
 -- The list of moves as it grows.
-use Rattle.std.proofs.Common.{◌≡◌, ◌≢◌, ℕ, ◌+◌, ◌*◌, ◌<◌, ◌≤◌, ◌↔◌, ◌⊎◌, List, [], ◌∷◌, ◌++◌, length, None, arith, refl, sym, ap, ◌∙◌, inl, inr, subst}
+use Rattle.std.proofs.Common.{◌≡◌, ◌≢◌, ℕ, ◌+◌, ◌*◌, ◌<◌, ◌≤◌, ◌↔◌, ◌⊎◌, List, [], ◌∷◌, ◌++◌, length, Bool, true, false, Option, Some, None, arith, refl, sym, ap, ◌∙◌, inl, inr, subst}
 use Rattle.std.specs.Int.{bit_at}
 use Rattle.std.specs.List.{Contains}
 use Rattle.std.proofs.lemmas.Bool.{cases_eq, cases_lt}
 use Rattle.std.proofs.lemmas.List.Elements.{Contains-push, Contains-push_cases, Contains-append_left}
 use Rattle.std.proofs.lemmas.List.{length-append}
+use Rattle.egt_board.specs.declared.man.Kind.{Kind}
+use Rattle.egt_board.specs.declared.man.Kind.TheVariants.{Q, R, B, N, P, K}
 use Rattle.egt_board.specs.declared.man.Man.{Man}
 use Rattle.egt_board.specs.declared.square_set.SquareSet.{SquareSet}
 use Rattle.egt_board.specs.Placement.{Stands, IsHeld}
-use Rattle.egt_board.specs.SquareSet.{Has, size_of, most_reached}
+use Rattle.egt_board.specs.SquareSet.{Has, size_of}
 use Rattle.egt_board.specs.Attack.{IsInCheck}
 use Rattle.egt_board.specs.Setup.{Setup}
 use Rattle.egt_moves.specs.declared.chess_move.Move.{Move}
-use Rattle.egt_moves.specs.Legal.{Goes, Leads, IsLegal, men_after, after, plain}
+use Rattle.egt_moves.specs.Going.{Goes}
+use Rattle.egt_moves.specs.Promotion.{is_pawn, promotes, FitsPromotion, arriving}
+use Rattle.egt_moves.specs.Legal.{Leads, IsLegal, men_after, after, plain}
+use Rattle.egt_moves.specs.Room.{most_goals, most_choices, most_moves}
 use Rattle.egt_moves.specs.Order.{place_of, promotion_place, IsInOrder}
-use Rattle.egt_moves.proofs.After.{one_man}
+use Rattle.egt_moves.proofs.After.{one_man, not_king_of, may_become, check_whatever}
+use Rattle.egt_moves.proofs.Admissible.{pawn_told, left_true}
 use Rattle.egt_moves.proofs.InOrder.{IsInOrder-push}
 
 not_both : {A : Type 0} (n : ℕ) → n ≡ 0 → n ≡ 1 → A
 not_both n none one = absurd (omega arith)
 
--- a move that promotes nothing is given by its squares
-plain-is : (m : Move) (from to : ℕ) → m.from ≡ from → m.to ≡ to → m.promo ≡ None → m ≡ plain from to
-plain-is m from to e f g = λ i. record { from = e i; to = f i; promo = g i }
+-- the legal moves of a man go to its targets, promote as they must, and leave the king safe
+pub legal_of : (p : Setup) (man : Man) (m : Move) → Stands p.men m.from man → man.side ≡ p.side → Goes p man m.from m.to → FitsPromotion (promotes man m.to) m.promo → ¬ IsInCheck (men_after p man m) p.side → IsLegal p m
+legal_of p man m stands mine goes fits safe = (after p man m, record { man = man; stands = stands; mine = mine; goes = goes; promotion = fits; becomes = refl; safe = safe })
 
--- the moves of a man from a square that are legal go to its targets and leave the king safe
-pub legal_of : (p : Setup) (man : Man) (m : Move) → Stands p.men m.from man → man.side ≡ p.side → Goes p man m → ¬ IsInCheck (men_after p man m) p.side → IsLegal p m
-legal_of p man m stands mine goes safe = (after p man m, record { man = man; stands = stands; mine = mine; goes = goes; becomes = refl; safe = safe })
+pub goes_of : (p : Setup) (man : Man) (m : Move) → Stands p.men m.from man → IsLegal p m → Goes p man m.from m.to
+goes_of p man m stands legal = subst (λ x. Goes p x m.from m.to) (one_man p.men m.from legal.1.man man legal.1.stands stands) legal.1.goes
 
-pub goes_of : (p : Setup) (man : Man) (m : Move) → Stands p.men m.from man → IsLegal p m → Goes p man m
-goes_of p man m stands legal = subst (λ x. Goes p x m) (one_man p.men m.from legal.1.man man legal.1.stands stands) legal.1.goes
+pub fits_of : (p : Setup) (man : Man) (m : Move) → Stands p.men m.from man → IsLegal p m → FitsPromotion (promotes man m.to) m.promo
+fits_of p man m stands legal = subst (λ x. FitsPromotion (promotes x m.to) m.promo) (one_man p.men m.from legal.1.man man legal.1.stands stands) legal.1.promotion
 
 pub safe_of : (p : Setup) (man : Man) (m : Move) → Stands p.men m.from man → IsLegal p m → ¬ IsInCheck (men_after p man m) p.side
 safe_of p man m stands legal =
     subst (λ x. ¬ IsInCheck (men_after p x m) p.side) (one_man p.men m.from legal.1.man man legal.1.stands stands)
-    (subst (λ q. ¬ IsInCheck (q.men) p.side) legal.1.becomes legal.1.safe)
+    (subst (λ (q : Setup). ¬ IsInCheck (q.men) p.side) legal.1.becomes legal.1.safe)
+
+-- a man that is promoted is a pawn
+promoted_pawn : (man : Man) (to : ℕ) (kind : Kind) → FitsPromotion (promotes man to) (Some kind) → man.kind ≡ P
+promoted_pawn man to kind fits = by_test (promotes man to) refl fits
+  where
+    by_test : (b : Bool) → promotes man to ≡ b → FitsPromotion b (Some kind) → man.kind ≡ P
+    by_test true e f = pawn_told man.kind (left_true (is_pawn man.kind) _ e)
+    by_test false e f = absurd f
+
+-- the king is safe whatever a pawn becomes
+pub same_safety : (p : Setup) (man : Man) (from to : ℕ) (promo : Option Kind) → man.side ≡ p.side → FitsPromotion (promotes man to) promo
+    → IsInCheck (men_after p man (record { from = from; to = to; promo = promo })) p.side ↔ IsInCheck (men_after p man (plain from to)) p.side
+same_safety p man from to None mine fits = (λ check. check, λ check. check)
+same_safety p man from to (Some kind) mine fits =
+    let pawn = promoted_pawn man to kind fits in
+    let not_king : man.kind ≢ K = (λ e. let bad = sym pawn ∙ e in cc) in
+    let never = not_king_of man (Some kind) p.side (may_become _ (Some kind) fits) not_king in
+    let nor = not_king_of man None p.side tt not_king in
+    (check_whatever p man from to (Some kind) None mine never nor, check_whatever p man from to None (Some kind) mine nor never)
+
+-- a number below the next square's
+pub promotion_small : (promo : Option Kind) → promotion_place promo < 8
+promotion_small None = omega arith
+promotion_small (Some Q) = omega arith
+promotion_small (Some R) = omega arith
+promotion_small (Some B) = omega arith
+promotion_small (Some N) = omega arith
+promotion_small (Some P) = omega arith
+promotion_small (Some K) = omega arith
 
 -- the legal moves from this square to the squares that are no longer left have been added
 pub record Lists (p : Setup) (man : Man) (from : ℕ) (old new : List Move) (left : SquareSet) : Type 0 where
   pub ordered : IsInOrder new
   pub legal : (m : Move) → Contains new m ↔ (Contains old m ⊎ ((m.from ≡ from) × IsLegal p m × (bit_at left.bits m.to ≡ 0)))
-  pub later : (m : Move) → Contains new m → (place_of m < from * 512) ⊎ ((m.from ≡ from) × (m.promo ≡ None) × ((t : ℕ) → bit_at left.bits t ≡ 1 → m.to < t))
-  pub goes : (t : ℕ) → bit_at left.bits t ≡ 1 → Goes p man (plain from t)
-  pub room : length new + size_of left ≤ length old + most_reached man.kind
+  pub later : (m : Move) → Contains new m → (place_of m < from * 512) ⊎ ((m.from ≡ from) × ((t : ℕ) → bit_at left.bits t ≡ 1 → m.to < t))
+  pub goes : (t : ℕ) → bit_at left.bits t ≡ 1 → Goes p man from t
+  pub room : length new + most_choices man.kind * size_of left ≤ length old + most_moves man.kind
 
 -- at first nothing has been added
 pub Lists-none : (p : Setup) (man : Man) (from : ℕ) (old : List Move) (left : SquareSet) → Stands p.men from man → IsInOrder old → ((m : Move) → Contains old m → place_of m < from * 512)
-    → ((t : ℕ) → Has left t ↔ Goes p man (plain from t)) → size_of left ≤ most_reached man.kind → Lists p man from old old left
+    → ((t : ℕ) → Has left t ↔ Goes p man from t) → size_of left ≤ most_goals man.kind → Lists p man from old old left
 Lists-none p man from old left stands ordered before goes few = record {
   ordered = ordered;
   legal = λ m. (λ there. inl there, λ h. elim h [ inl there ↦ there | inr w ↦ absurd (not_left m w) ]);
   later = λ m there. inl (before m there);
   goes = λ t has. (goes t).0 has;
-  room = omega arith;
+  room = room_first man.kind (size_of left) (length old) few;
 }
   where
     not_left : (m : Move) → (m.from ≡ from) × IsLegal p m × (bit_at left.bits m.to ≡ 0) → ⊥
     not_left m w =
         let goes_there = goes_of p man m (subst (λ s. Stands p.men s man) (sym w.0) stands) w.1 in
-        let is = plain-is m from m.to w.0 refl goes_there.keeps_kind in
-        not_both (bit_at left.bits m.to) w.2 ((goes m.to).1 (subst (Goes p man) is goes_there))
+        not_both (bit_at left.bits m.to) w.2 ((goes m.to).1 (subst (λ s. Goes p man s m.to) w.0 goes_there))
 
--- the first square that is left, whether its move is legal or not
+    room_first : (kind : Kind) (n l : ℕ) → n ≤ most_goals kind → l + most_choices kind * n ≤ l + most_moves kind
+    room_first Q n l le = omega arith
+    room_first R n l le = omega arith
+    room_first B n l le = omega arith
+    room_first N n l le = omega arith
+    room_first P n l le = omega arith
+    room_first K n l le = omega arith
+
+-- the first square that is left, whether its moves are legal or not
 pub record Added (p : Setup) (man : Man) (from s : ℕ) (old new : List Move) : Type 0 where
-  pub more : (m : Move) → Contains new m ↔ (Contains old m ⊎ ((m ≡ plain from s) × IsLegal p m))
-  pub ordered : ((m : Move) → Contains old m → place_of m < place_of (plain from s)) → IsInOrder old → IsInOrder new
-  pub few : length new ≤ length old + 1
+  pub more : (m : Move) → Contains new m ↔ (Contains old m ⊎ ((m.from ≡ from) × (m.to ≡ s) × IsLegal p m))
+  pub ordered : IsInOrder new
+  pub few : length new ≤ length old + most_choices man.kind
 
-pub Added-push : (p : Setup) (man : Man) (from s : ℕ) (old : List Move) → Stands p.men from man → man.side ≡ p.side → Goes p man (plain from s) → ¬ IsInCheck (men_after p man (plain from s)) p.side
-    → Added p man from s old (old ++ plain from s ∷ [])
-Added-push p man from s old stands mine goes safe = record {
+-- the moves to that square are legal where the king is safe
+pub Added-all : (p : Setup) (man : Man) (from s : ℕ) (old new : List Move) → Stands p.men from man → man.side ≡ p.side → Goes p man from s → ¬ IsInCheck (men_after p man (plain from s)) p.side
+    → ((m : Move) → Contains new m ↔ (Contains old m ⊎ ((m.from ≡ from) × (m.to ≡ s) × FitsPromotion (promotes man s) m.promo))) → IsInOrder new → length new ≤ length old + most_choices man.kind → Added p man from s old new
+Added-all p man from s old new stands mine goes safe choices ordered few = record {
   more = λ m. (
-    λ there. elim (Contains-push_cases old (plain from s) m there) [
-      | inl h ↦ inl h
-      | inr e ↦ inr (sym e, subst (IsLegal p) e (legal_of p man (plain from s) stands mine goes safe))
-    ],
-    λ h. elim h [
-      | inl there ↦ Contains-append_left old (plain from s ∷ []) m there
-      | inr w ↦ subst (Contains (old ++ plain from s ∷ [])) (sym w.0) (Contains-push old (plain from s))
-    ],
+    λ there. elim ((choices m).0 there) [ inl o ↦ inl o | inr w ↦ inr (w.0, w.1, legal m w.0 w.1 w.2) ],
+    λ h. (choices m).1 (elim h [
+      | inl o ↦ inl o
+      | inr w ↦ inr (w.0, w.1, subst (λ t. FitsPromotion (promotes man t) m.promo) w.1 (fits_of p man m (subst (λ x. Stands p.men x man) (sym w.0) stands) w.2))
+    ]),
   );
-  ordered = λ before ordered. IsInOrder-push old (plain from s) ordered before;
-  few = let n = length-append old (plain from s ∷ []) in omega arith;
+  ordered = ordered;
+  few = few;
 }
+  where
+    legal : (m : Move) → m.from ≡ from → m.to ≡ s → FitsPromotion (promotes man s) m.promo → IsLegal p m
+    legal m e f fits = subst (IsLegal p) (λ i. record { from = sym e i; to = sym f i; promo = m.promo })
+        (legal_of p man (record { from = from; to = s; promo = m.promo }) stands mine goes fits (λ check. safe ((same_safety p man from s m.promo mine fits).0 check)))
 
-pub Added-none : (p : Setup) (man : Man) (from s : ℕ) (old : List Move) → Stands p.men from man → ¬ ¬ IsInCheck (men_after p man (plain from s)) p.side → Added p man from s old old
-Added-none p man from s old stands unsafe = record {
-  more = λ m. (
-    λ there. inl there,
-    λ h. elim h [
-      | inl there ↦ there
-      | inr w ↦ absurd (unsafe (safe_of p man (plain from s) stands (subst (IsLegal p) w.0 w.1)))
-    ],
-  );
-  ordered = λ before ordered. ordered;
+-- and none is where it is not
+pub Added-none : (p : Setup) (man : Man) (from s : ℕ) (old : List Move) → Stands p.men from man → man.side ≡ p.side → IsInOrder old → ¬ ¬ IsInCheck (men_after p man (plain from s)) p.side → Added p man from s old old
+Added-none p man from s old stands mine ordered unsafe = record {
+  more = λ m. (λ there. inl there, λ h. elim h [ inl there ↦ there | inr w ↦ absurd (none m w.0 w.1 w.2) ]);
+  ordered = ordered;
   few = omega arith;
 }
+  where
+    none : (m : Move) → m.from ≡ from → m.to ≡ s → IsLegal p m → ⊥
+    none m e f legal =
+        let there = subst (IsLegal p) (λ i. record { from = e i; to = f i; promo = m.promo }) legal in
+        let fits = fits_of p man (record { from = from; to = s; promo = m.promo }) stands there in
+        unsafe (λ check. safe_of p man (record { from = from; to = s; promo = m.promo }) stands there ((same_safety p man from s m.promo mine fits).1 check))
 
 -- one square less is left
 pub Lists-more : (p : Setup) (man : Man) (from s : ℕ) (old now new : List Move) (left left' : SquareSet) → Stands p.men from man → s < 64 → Has left s → ((t : ℕ) → t < s → bit_at left.bits t ≡ 0)
     → bit_at left'.bits s ≡ 0 → ((t : ℕ) → t ≢ s → bit_at left'.bits t ≡ bit_at left.bits t) → size_of left' + 1 ≡ size_of left
     → Added p man from s now new → Lists p man from old now left → Lists p man from old new left'
 Lists-more p man from s old now new left left' stands s_in has least gone others size added lists = record {
-  ordered = added.ordered (λ m there. elim (lists.later m there) [
-    | inl lt ↦ omega arith
-    | inr h ↦ first_by_to m h.0 h.1 (h.2 s has)
-  ]) lists.ordered;
+  ordered = added.ordered;
   legal = λ m. (there m, back m);
   later = λ m there. elim ((added.more m).0 there) [
-    | inl before ↦ elim (lists.later m before) [ inl lt ↦ inl lt | inr h ↦ inr (h.0, h.1, λ t one. h.2 t (was_left t one)) ]
-    | inr w ↦ inr (ap (λ (x : Move). x.from) w.0, ap (λ (x : Move). x.promo) w.0, λ t one. subst (λ x. x < t) (sym (ap (λ (x : Move). x.to) w.0)) (above t one))
+    | inl before ↦ elim (lists.later m before) [ inl lt ↦ inl lt | inr h ↦ inr (h.0, λ t one. h.1 t (was_left t one)) ]
+    | inr w ↦ inr (w.0, λ t one. subst (λ x. x < t) (sym w.1) (above t one))
   ];
   goes = λ t one. lists.goes t (was_left t one);
-  room = let a = added.few in let b = lists.room in omega arith;
+  room = room_less man.kind (size_of left') (size_of left) _ _ _ size added.few lists.room;
 }
   where
     was_left : (t : ℕ) → bit_at left'.bits t ≡ 1 → bit_at left.bits t ≡ 1
@@ -127,8 +168,13 @@ Lists-more p man from s old now new left left' stands s_in has least gone others
       ]
     ]
 
-    first_by_to : (m : Move) → m.from ≡ from → m.promo ≡ None → m.to < s → place_of m < place_of (plain from s)
-    first_by_to m e f lt = let none : promotion_place m.promo ≡ 0 = ap promotion_place f in omega arith
+    room_less : (kind : Kind) (n' n l l' o : ℕ) → n' + 1 ≡ n → l' ≤ l + most_choices kind → l + most_choices kind * n ≤ o + most_moves kind → l' + most_choices kind * n' ≤ o + most_moves kind
+    room_less Q n' n l l' o e a b = omega arith
+    room_less R n' n l l' o e a b = omega arith
+    room_less B n' n l l' o e a b = omega arith
+    room_less N n' n l l' o e a b = omega arith
+    room_less P n' n l l' o e a b = omega arith
+    room_less K n' n l l' o e a b = omega arith
 
     there : (m : Move) → Contains new m → Contains old m ⊎ ((m.from ≡ from) × IsLegal p m × (bit_at left'.bits m.to ≡ 0))
     there m h = elim ((added.more m).0 h) [
@@ -136,7 +182,7 @@ Lists-more p man from s old now new left left' stands s_in has least gone others
         | inl o ↦ inl o
         | inr w ↦ inr (w.0, w.1, still m.to w.2)
       ]
-      | inr w ↦ inr (ap (λ (x : Move). x.from) w.0, w.1, ap (bit_at left'.bits) (ap (λ (x : Move). x.to) w.0) ∙ gone)
+      | inr w ↦ inr (w.0, w.2, ap (bit_at left'.bits) w.1 ∙ gone)
     ]
       where
         still : (t : ℕ) → bit_at left.bits t ≡ 0 → bit_at left'.bits t ≡ 0
@@ -146,10 +192,29 @@ Lists-more p man from s old now new left left' stands s_in has least gone others
     back m h = elim h [
       | inl o ↦ (added.more m).1 (inl ((lists.legal m).1 (inl o)))
       | inr w ↦ elim (cases_eq m.to s) [
-        | inl e ↦ (added.more m).1 (inr (plain-is m from s w.0 e (goes_of p man m (subst (λ x. Stands p.men x man) (sym w.0) stands) w.1).keeps_kind, w.1))
+        | inl e ↦ (added.more m).1 (inr (w.0, e, w.1))
         | inr other ↦ (added.more m).1 (inl ((lists.legal m).1 (inr (w.0, w.1, sym (others m.to other) ∙ w.2))))
       ]
     ]
+
+-- what is listed comes before the moves to the first square that is left
+pub Lists-before : (p : Setup) (man : Man) (from s : ℕ) (old now : List Move) (left : SquareSet) → Has left s → Lists p man from old now left → (m : Move) → Contains now m → place_of m < (from * 64 + s) * 8
+Lists-before p man from s old now left has lists m there = elim (lists.later m there) [
+  | inl lt ↦ omega arith
+  | inr h ↦ let less = h.1 s has in let e = h.0 in let small = promotion_small m.promo in omega arith
+]
+
+-- there is room for its moves
+pub Lists-room : (p : Setup) (man : Man) (from : ℕ) (old now : List Move) (left left' : SquareSet) → size_of left' + 1 ≡ size_of left → length old + most_moves man.kind ≤ 64 → Lists p man from old now left → length now + most_choices man.kind ≤ 64
+Lists-room p man from old now left left' size room lists = enough man.kind (size_of left') (size_of left) (length now) (length old) size room lists.room
+  where
+    enough : (kind : Kind) (n' n l o : ℕ) → n' + 1 ≡ n → o + most_moves kind ≤ 64 → l + most_choices kind * n ≤ o + most_moves kind → l + most_choices kind ≤ 64
+    enough Q n' n l o e a b = omega arith
+    enough R n' n l o e a b = omega arith
+    enough B n' n l o e a b = omega arith
+    enough N n' n l o e a b = omega arith
+    enough P n' n l o e a b = omega arith
+    enough K n' n l o e a b = omega arith
 
 -- no square is left
 pub Lists-all : (p : Setup) (man : Man) (from : ℕ) (old new : List Move) (left : SquareSet) → Lists p man from old new left → ((t : ℕ) → bit_at left.bits t ≡ 0)

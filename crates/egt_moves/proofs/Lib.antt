@@ -17,6 +17,7 @@ pub mod MirroredMoves
 pub mod SettledMoves
 pub mod ImageMoves
 pub mod InOrder
+pub mod Choosing
 pub mod Growing
 pub mod Walking
 pub mod Ending

@@ -7,7 +7,7 @@ use Rattle.std.proofs.lemmas.Bool.{cases_eq}
 use Rattle.egt_board.specs.declared.man.Side.{Side}
 use Rattle.egt_board.specs.declared.man.Side.TheVariants.{White, Black}
 use Rattle.egt_board.specs.declared.man.Kind.{Kind}
-use Rattle.egt_board.specs.declared.man.Kind.TheVariants.{Q, R, B, N, K}
+use Rattle.egt_board.specs.declared.man.Kind.TheVariants.{Q, R, B, N, P, K}
 use Rattle.egt_board.specs.declared.man.Man.{Man}
 use Rattle.egt_board.specs.declared.step.Way.{Way}
 use Rattle.egt_board.specs.declared.step.Way.TheVariants.{Up, Down, Still}
@@ -16,6 +16,7 @@ use Rattle.egt_board.specs.Man.{other_side}
 use Rattle.egt_board.specs.Attack.{king_of, IsAttacked, IsInCheck}
 use Rattle.egt_board.specs.Coordinate.{Further}
 use Rattle.egt_board.specs.Gait.{OneOf, Rides, Reaches, steps_of, farthest}
+use Rattle.egt_board.specs.Pawn.{Advances, farthest_advance, forward}
 use Rattle.egt_board.specs.Placement.{Placement, Stands, IsFree, IsHeld, untied}
 use Rattle.egt_board.specs.Square.{file_of, rank_of}
 use Rattle.egt_board.specs.Step.{Away}
@@ -34,7 +35,16 @@ decided_king Q = inr (λ e. cc)
 decided_king R = inr (λ e. cc)
 decided_king B = inr (λ e. cc)
 decided_king N = inr (λ e. cc)
+decided_king P = inr (λ e. cc)
 decided_king K = inl refl
+
+pub decided_pawn : (kind : Kind) → Decided (kind ≡ P)
+decided_pawn Q = inr (λ e. cc)
+decided_pawn R = inr (λ e. cc)
+decided_pawn B = inr (λ e. cc)
+decided_pawn N = inr (λ e. cc)
+decided_pawn P = inl refl
+decided_pawn K = inr (λ e. cc)
 
 decided_king_of : (man : Man) (side : Side) → Decided (man ≡ king_of side)
 decided_king_of man side = decided_as
@@ -43,12 +53,12 @@ decided_king_of man side = decided_as
     (decided_both (decided_side man.side side) (λ _. decided_king man.kind))
 
 -- a man stands on the square, and what can be told of it holds
-pub decided_on : (men : Placement) (s : ℕ) (P : Man → Type 0) → ((man : Man) → Decided (P man)) → Decided ((man : Man) × Stands men s man × P man)
-decided_on men s P each = go (map.get men s) refl
+pub decided_on : (men : Placement) (s : ℕ) (Holds : Man → Type 0) → ((man : Man) → Decided (Holds man)) → Decided ((man : Man) × Stands men s man × Holds man)
+decided_on men s Holds each = go (map.get men s) refl
   where
-    go : (o : Option Man) → map.get men s ≡ o → Decided ((man : Man) × Stands men s man × P man)
+    go : (o : Option Man) → map.get men s ≡ o → Decided ((man : Man) × Stands men s man × Holds man)
     go None e = inr (λ h. let both : None ≡ Some h.0 = sym e ∙ h.1 in cc)
-    go (Some man) e = decided_as (λ (h : P man). (man, e, h)) (λ h. subst P (one_man men s h.0 man h.1 e) h.2) (each man)
+    go (Some man) e = decided_as (λ (h : Holds man). (man, e, h)) (λ h. subst Holds (one_man men s h.0 man h.1 e) h.2) (each man)
 
 pub decided_free : (men : Placement) (s : ℕ) → Decided (IsFree men s)
 decided_free men s = go (map.get men s) refl
@@ -69,33 +79,33 @@ squares [] = []
 squares (e ∷ es) = e.0 ∷ squares es
 
 -- a square where a man stands is one of them
-on_entry : (P : ℕ → Type 0) (es : List (ℕ × Man)) (s : ℕ) (man : Man) → map.find nat_cmp s es ≡ Some man → P s → Any P (squares es)
+on_entry : (Holds : ℕ → Type 0) (es : List (ℕ × Man)) (s : ℕ) (man : Man) → map.find nat_cmp s es ≡ Some man → Holds s → Any Holds (squares es)
 unfolding squares
-on_entry P [] s man found h = absurd (cc)
-on_entry P (e ∷ es) s man found h = elim (cases_eq s e.0) [
-  | inl same ↦ any_here P e.0 (squares es) (subst P same h)
+on_entry Holds [] s man found h = absurd (cc)
+on_entry Holds (e ∷ es) s man found h = elim (cases_eq s e.0) [
+  | inl same ↦ any_here Holds e.0 (squares es) (subst Holds same h)
   | inr other ↦
       let later : map.find nat_cmp s es ≡ Some man = sym (ap (λ b. cond b (Some e.1) (map.find nat_cmp s es)) (untied s e.0 other)) ∙ found in
-      any_there P e.0 (squares es) (on_entry P es s man later h)
+      any_there Holds e.0 (squares es) (on_entry Holds es s man later h)
 ]
 
 -- the squares where men stand
 pub squares_of : Placement → List ℕ
 squares_of men = squares (map.entries men)
 
-pub on_square : (P : ℕ → Type 0) (men : Placement) (s : ℕ) (man : Man) → Stands men s man → P s → Any P (squares_of men)
+pub on_square : (Holds : ℕ → Type 0) (men : Placement) (s : ℕ) (man : Man) → Stands men s man → Holds s → Any Holds (squares_of men)
 unfolding squares_of
-on_square P men s man stands h = on_entry P (map.entries men) s man (sym (map.get-entries men s) ∙ stands) h
+on_square Holds men s man stands h = on_entry Holds (map.entries men) s man (sym (map.get-entries men s) ∙ stands) h
 
 -- some man on the board
-decided_anywhere : (men : Placement) (P : ℕ → Man → Type 0) → ((s : ℕ) (man : Man) → Decided (P s man)) → Decided ((s : ℕ) × (man : Man) × Stands men s man × P s man)
-decided_anywhere men P each = decided_as
+decided_anywhere : (men : Placement) (Holds : ℕ → Man → Type 0) → ((s : ℕ) (man : Man) → Decided (Holds s man)) → Decided ((s : ℕ) × (man : Man) × Stands men s man × Holds s man)
+decided_anywhere men Holds each = decided_as
     (λ (h : Any Here (squares_of men)). (h.1, h.4.0, h.4.1, h.4.2))
-    (λ (h : (s : ℕ) × (man : Man) × Stands men s man × P s man). on_square Here men h.0 h.1 h.2 (h.1, h.2, h.3))
-    (decided_among Here (λ s. decided_on men s (P s) (each s)) (squares_of men))
+    (λ (h : (s : ℕ) × (man : Man) × Stands men s man × Holds s man). on_square Here men h.0 h.1 h.2 (h.1, h.2, h.3))
+    (decided_among Here (λ s. decided_on men s (Holds s) (each s)) (squares_of men))
   where
     Here : ℕ → Type 0
-    Here s = (man : Man) × Stands men s man × P s man
+    Here s = (man : Man) × Stands men s man × Holds s man
 
 decided_further : (way : Way) (n a b : ℕ) → Decided (Further way n a b)
 decided_further Up n a b = decided_eq b (a + n)
@@ -137,21 +147,27 @@ module _ (Free : ℕ → Type 0) (free : (s : ℕ) → Decided (Free s)) where
       back : Rides Free most s t d → (n : ℕ) × (n < suc most) × Ride n
       back r = (r.count, omega (arith, r.within), (r.moves, (r.away, λ k less u u_in some away. r.clear k u some less away)))
 
-  decided_one_of : (P : Step → Type 0) → ((d : Step) → Decided (P d)) → (ds : List Step) → Decided (OneOf P ds)
-  decided_one_of P each [] = inr (λ h. h)
-  decided_one_of P each (d ∷ ds) = decided_either (each d) (decided_one_of P each ds)
+  decided_one_of : (Holds : Step → Type 0) → ((d : Step) → Decided (Holds d)) → (ds : List Step) → Decided (OneOf Holds ds)
+  decided_one_of Holds each [] = inr (λ h. h)
+  decided_one_of Holds each (d ∷ ds) = decided_either (each d) (decided_one_of Holds each ds)
 
-  pub decided_reaches : (kind : Kind) (s t : ℕ) → Decided (Reaches Free kind s t)
-  decided_reaches kind s t = decided_one_of (Rides Free (farthest kind) s t) (decided_rides (farthest kind) s t) (steps_of kind)
+  pub decided_reaches : (man : Man) (s t : ℕ) → Decided (Reaches Free man s t)
+  decided_reaches man s t = decided_one_of (Rides Free (farthest man.kind) s t) (decided_rides (farthest man.kind) s t) (steps_of man.side man.kind)
+
+  pub decided_advances : (side : Side) (s t : ℕ) → Decided (Advances Free side s t)
+  decided_advances side s t = decided_as
+      (λ (h : Rides Free (farthest_advance side s) s t (forward side) × Free t). record { rides = h.0; free = h.1 })
+      (λ (a : Advances Free side s t). (a.rides, a.free))
+      (decided_both (decided_rides (farthest_advance side s) s t (forward side)) (λ _. free t))
 
 decided_attacked : (men : Placement) (t : ℕ) (side : Side) → Decided (IsAttacked men t side)
 decided_attacked men t side = decided_as
     (λ (h : (s : ℕ) × (man : Man) × Stands men s man × By s man). record { from = h.0; man = h.1; stands = h.2; theirs = h.3.0; reaches = h.3.1 })
     (λ (a : IsAttacked men t side). (a.from, a.man, a.stands, (a.theirs, a.reaches)))
-    (decided_anywhere men By (λ s man. decided_both (decided_side man.side side) (λ _. decided_reaches (IsFree men) (decided_free men) man.kind s t)))
+    (decided_anywhere men By (λ s man. decided_both (decided_side man.side side) (λ _. decided_reaches (IsFree men) (decided_free men) man s t)))
   where
     By : ℕ → Man → Type 0
-    By s man = (man.side ≡ side) × Reaches (IsFree men) man.kind s t
+    By s man = (man.side ≡ side) × Reaches (IsFree men) man s t
 
 pub decided_check : (men : Placement) (side : Side) → Decided (IsInCheck men side)
 decided_check men side = decided_as

@@ -8,18 +8,20 @@ use Rattle.std.proofs.lemmas.Nat.Bits.{bit_at-lt}
 use Rattle.egt_board.specs.declared.man.Side.{Side}
 use Rattle.egt_board.specs.declared.man.Side.TheVariants.{White, Black}
 use Rattle.egt_board.specs.declared.man.Kind.{Kind}
-use Rattle.egt_board.specs.declared.man.Kind.TheVariants.{Q, R, B, N, K}
+use Rattle.egt_board.specs.declared.man.Kind.TheVariants.{Q, R, B, N, P, K}
 use Rattle.egt_board.specs.declared.man.Man.{Man}
 use Rattle.egt_board.specs.declared.square_set.SquareSet.{SquareSet}
 use Rattle.egt_board.specs.Placement.{Stands, IsFree, IsHeld}
 use Rattle.egt_board.specs.Gait.{Reaches-on_board}
-use Rattle.egt_board.specs.SquareSet.{Has, size_of, size_of-some, most_reached}
+use Rattle.egt_board.specs.SquareSet.{Has, size_of, size_of-some}
 use Rattle.egt_board.specs.Attack.{king_of}
 use Rattle.egt_board.specs.Setup.{Setup, IsAdmissible, IsKingOn}
 use Rattle.egt_moves.specs.declared.chess_move.Move.{Move}
-use Rattle.egt_moves.specs.Legal.{Goes, Leads, IsLegal, plain}
+use Rattle.egt_moves.specs.Legal.{Leads, IsLegal}
+use Rattle.egt_moves.specs.Room.{most_moves}
 use Rattle.egt_moves.specs.Order.{place_of, promotion_place, IsInOrder}
-use Rattle.egt_moves.proofs.After.{one_man}
+use Rattle.egt_moves.proofs.After.{one_man, goes_on_board}
+use Rattle.egt_moves.proofs.Growing.{promotion_small}
 
 -- the king of the side to move stands somewhere
 pub king_square : (p : Setup) → IsAdmissible p → (k : ℕ) × IsKingOn p.men p.side k
@@ -58,27 +60,28 @@ Walks-none p rest held few = record {
       rw one (omega arith);
 }
 
-few_moves : (kind : Kind) → most_reached kind ≤ 28
+few_moves : (kind : Kind) → most_moves kind ≤ 28
 few_moves Q = omega arith
 few_moves R = omega arith
 few_moves B = omega arith
 few_moves N = omega arith
+few_moves P = omega arith
 few_moves K = omega arith
 
-king_moves_few : (p : Setup) (man : Man) (k : ℕ) → Stands p.men k man → IsKingOn p.men p.side k → most_reached man.kind ≡ 8
-king_moves_few p man k stands king = ap (λ (x : Man). most_reached x.kind) (one_man p.men k man (king_of p.side) stands king.stands)
+king_moves_few : (p : Setup) (man : Man) (k : ℕ) → Stands p.men k man → IsKingOn p.men p.side k → most_moves man.kind ≡ 8
+king_moves_few p man k stands king = ap (λ (x : Man). most_moves x.kind) (one_man p.men k man (king_of p.side) stands king.stands)
 
 room_for : (p : Setup) (moves : List Move) (rest rest' : SquareSet) (s : ℕ) (man : Man) (k : ℕ) → IsAdmissible p → Has rest s → bit_at rest'.bits s ≡ 0 → ((t : ℕ) → t ≢ s → bit_at rest'.bits t ≡ bit_at rest.bits t)
     → size_of rest' + 1 ≡ size_of rest → Stands p.men s man → IsKingOn p.men p.side k → length moves + 28 * size_of rest ≤ 64 + 20 * bit_at rest.bits k
-    → ((length moves + most_reached man.kind) + 28 * size_of rest' ≤ 64 + 20 * bit_at rest'.bits k) × (length moves + most_reached man.kind ≤ 64)
+    → ((length moves + most_moves man.kind) + 28 * size_of rest' ≤ 64 + 20 * bit_at rest'.bits k) × (length moves + most_moves man.kind ≤ 64)
 room_for p moves rest rest' s man k ok has gone others size stands king room = elim (cases_eq s k) [
   | inl e ↦
-      let eight : most_reached man.kind ≡ 8 = king_moves_few p man k (subst (λ x. Stands p.men x man) e stands) king in
+      let eight : most_moves man.kind ≡ 8 = king_moves_few p man k (subst (λ x. Stands p.men x man) e stands) king in
       let one : bit_at rest.bits k ≡ 1 = ap (bit_at rest.bits) (sym e) ∙ has in
       let none : bit_at rest'.bits k ≡ 0 = ap (bit_at rest'.bits) (sym e) ∙ gone in
       (omega arith, omega arith)
   | inr other ↦
-      let few : most_reached man.kind ≤ 28 = few_moves man.kind in
+      let few : most_moves man.kind ≤ 28 = few_moves man.kind in
       let same : bit_at rest'.bits k ≡ bit_at rest.bits k = others k (λ e. other (sym e)) in
       elim (cases_eq (bit_at rest.bits k) 1) [
         | inl one ↦
@@ -91,7 +94,7 @@ room_for p moves rest rest' s man k ok has gone others size stands king room = e
 ]
 
 pub Walks-room : (p : Setup) (moves : List Move) (rest rest' : SquareSet) (s : ℕ) (man : Man) → IsAdmissible p → Has rest s → bit_at rest'.bits s ≡ 0 → ((t : ℕ) → t ≢ s → bit_at rest'.bits t ≡ bit_at rest.bits t)
-    → size_of rest' + 1 ≡ size_of rest → Stands p.men s man → Walks p moves rest → length moves + most_reached man.kind ≤ 64
+    → size_of rest' + 1 ≡ size_of rest → Stands p.men s man → Walks p moves rest → length moves + most_moves man.kind ≤ 64
 Walks-room p moves rest rest' s man ok has gone others size stands walks =
     let k = king_square p ok in
     (room_for p moves rest rest' s man k.0 ok has gone others size stands k.1 (walks.room k.0 k.1)).1
@@ -99,8 +102,8 @@ Walks-room p moves rest rest' s man ok has gone others size stands walks =
 -- a legal move from a lesser square comes before all moves from a greater one
 pub place-before : (p : Setup) (m : Move) (s : ℕ) → IsLegal p m → m.from < s → place_of m < s * 512
 place-before p m s legal less =
-    let to_in : m.to < 64 = Reaches-on_board (IsFree p.men) legal.1.man.kind m.from m.to legal.1.goes.reaches in
-    let none : promotion_place m.promo ≡ 0 = ap promotion_place legal.1.goes.keeps_kind in
+    let to_in : m.to < 64 = goes_on_board p legal.1.man m.from m.to legal.1.goes in
+    let small = promotion_small m.promo in
     omega arith
 
 pub Walks-before : (p : Setup) (moves : List Move) (rest : SquareSet) (s : ℕ) → Has rest s → Walks p moves rest → (m : Move) → Contains moves m → place_of m < s * 512
@@ -109,7 +112,7 @@ Walks-before p moves rest s has walks m there = place-before p m s ((walks.legal
 -- the moves of one man more
 pub Walks-more : (p : Setup) (moves moves' : List Move) (rest rest' : SquareSet) (s : ℕ) (man : Man) → IsAdmissible p → Has rest s → ((t : ℕ) → t < s → bit_at rest.bits t ≡ 0) → bit_at rest'.bits s ≡ 0
     → ((t : ℕ) → t ≢ s → bit_at rest'.bits t ≡ bit_at rest.bits t) → size_of rest' + 1 ≡ size_of rest → Stands p.men s man
-    → IsInOrder moves' → ((m : Move) → Contains moves' m ↔ (Contains moves m ⊎ ((m.from ≡ s) × IsLegal p m))) → length moves' ≤ length moves + most_reached man.kind
+    → IsInOrder moves' → ((m : Move) → Contains moves' m ↔ (Contains moves m ⊎ ((m.from ≡ s) × IsLegal p m))) → length moves' ≤ length moves + most_moves man.kind
     → Walks p moves rest → Walks p moves' rest'
 Walks-more p moves moves' rest rest' s man ok has least gone others size stands ordered legal few walks = record {
   ordered = ordered;

@@ -96,7 +96,7 @@ fn king_after(position: &Position, man: Man, from: Square, to: Square) -> Square
     requires goes { Goes position.now man from to }
     ensures { IsKingOn (men_after position.now man (plain from to)) man.side result }
 {
-    let king = position.king(man.side);
+    let king = position.king(position.side());
     match man.kind {
         Kind::K => to,
         _ => king,

@@ -13,17 +13,21 @@ pub fn play(position: &Position, chess_move: Move) -> Option<Position>
     ensures leads { IfSome result (λ q. Leads position.now chess_move q) }
     ensures illegal { IfNone result ((q : Setup) → ¬ Leads position.now chess_move q) }
 {
-    let man = position.at(chess_move.from)?;
-    if man.side != position.side() || !fits_promotion(man, chess_move.to, chess_move.promo) {
+    let Move { from, to, promo } = chess_move;
+    let man = position.at(from)?;
+    if man.side != position.side() {
         return None;
     }
-    if !targets(position, man, chess_move.from).contains(chess_move.to) {
+    if !fits_promotion(man, to, promo) {
         return None;
     }
-    if !is_safe(position, man, chess_move.from, chess_move.to) {
+    if !targets(position, man, from).contains(to) {
+        return None;
+    }
+    if !is_safe(position, man, from, to) {
         return None;
     }
     let board = moved(position, man, chess_move);
-    let target = passed(man, chess_move.from, chess_move.to);
+    let target = passed(man, from, to);
     Some(Position::admitted(board, man.side.other(), target))
 }

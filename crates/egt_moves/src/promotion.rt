@@ -24,8 +24,8 @@ fn is_officer(kind: Kind) -> bool
     }
 }
 
-/// Whether this is what a man becomes that arrives on `to`: a queen, rook, bishop or knight where a pawn is
-/// promoted, and else nothing.
+/// Whether the move of the man promotes as it must: a pawn on its last rank to a queen, rook, bishop or knight,
+/// and nothing else.
 pub(crate) fn fits_promotion(man: Man, to: Square, promo: Option<Kind>) -> bool
     ensures { IsTrue result ↔ FitsPromotion (promotes man to) promo }
 {

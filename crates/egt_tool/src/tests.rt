@@ -93,8 +93,7 @@ fn prints_one_move_a_line(rt: HostRuntime) -> Result<(), Fail> {
     Ok(())
 }
 
-/// Texts that are refused, and the first fault of each. Pawns are not read yet, so the two texts with one
-/// are no placements.
+/// Texts that are refused, and the first fault of each.
 const REFUSED: [(&str, FenFault); 12] = [
     ("", FenFault::FieldCount),
     ("k7/8/8/8/8/8/8/K7 w - - 0", FenFault::FieldCount),
@@ -105,8 +104,8 @@ const REFUSED: [(&str, FenFault); 12] = [
     ("k7/8/8/8/8/8/8/K7 w - - x 1", FenFault::Counter),
     ("k7/8/8/8/8/8/8/KQRB4 w - - 0 1", FenFault::MenCount),
     ("8/8/8/8/8/8/8/K7 w - - 0 1", FenFault::KingCount),
-    ("4P2k/8/8/8/8/8/8/K7 w - - 0 1", FenFault::Placement),
-    ("4k3/8/8/8/4P3/8/8/4K3 w - e3 0 1", FenFault::Placement),
+    ("4P2k/8/8/8/8/8/8/K7 w - - 0 1", FenFault::PawnRank),
+    ("4k3/8/8/8/4P3/8/8/4K3 w - e3 0 1", FenFault::EpMismatch),
     ("k7/8/8/8/8/8/8/R6K w - - 0 1", FenFault::WaitingInCheck),
 ];
 

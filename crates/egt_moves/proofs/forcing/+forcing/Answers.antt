@@ -1,7 +1,7 @@
 use Rattle.std.proofs.Common.{◌-◌, subst, sym, arith}
 use Rattle.egt_moves.specs.Arena.{AvoidsMateFor, MatesWithin}
 use Rattle.egt_moves.specs.Chess.{chess}
-use Rattle.egt_moves.proofs.Trying.{listed_is_legal, stalemate_is_no_mate, not_mated_now, tried_all, wins_by, cannot_win, escapes_by, loses}
+use Rattle.egt_moves.proofs.Trying.{tried_more, listed_is_legal, stalemate_is_no_mate, not_mated_now, tried_all, wins_by, cannot_win, escapes_by, loses}
 use Rattle.egt_moves.proofs.forcing.+forcing.Goals as goal
 
 pub is_mated_within-returns-in-Stalemate : goal.is_mated_within-returns-in-Stalemate
@@ -36,3 +36,15 @@ pub mates_within-returns : goal.mates_within-returns
 mates_within-returns t c =
     cannot_win c.args.plies c.args.position.now (omega arith)
     (tried_all (AvoidsMateFor chess (c.args.plies - 1)) c.args.position.now c.as_slice-chess_move-items.result.now c.legal_moves-moves.result.items c.loop-chess_move.chess_move-index c.loop-chess_move-test.false c.as_slice-chess_move-items.ensures.value c.legal_moves-moves.ensures.legal c.loop-chess_move.invariant.1)
+
+pub is_mated_within-loop-chess_move-preserved : goal.is_mated_within-loop-chess_move-preserved
+is_mated_within-loop-chess_move-preserved t c = (
+  c.loop-chess_move.invariant.0,
+  tried_more (MatesWithin chess (c.args.plies - 1)) c.args.position.now c.after.result c.as_slice-chess_move-items.result.now c.loop-chess_move.chess_move-index c.chess_move-item.result c.loop-chess_move-test.true c.chess_move-item.is c.after.ensures c.if-not-mates_within.ensures c.loop-chess_move.invariant.1,
+)
+
+pub mates_within-loop-chess_move-preserved : goal.mates_within-loop-chess_move-preserved
+mates_within-loop-chess_move-preserved t c = (
+  c.loop-chess_move.invariant.0,
+  tried_more (AvoidsMateFor chess (c.args.plies - 1)) c.args.position.now c.after.result c.as_slice-chess_move-items.result.now c.loop-chess_move.chess_move-index c.chess_move-item.result c.loop-chess_move-test.true c.chess_move-item.is c.after.ensures c.if-is_mated_within.ensures c.loop-chess_move.invariant.1,
+)

@@ -1,26 +1,34 @@
 use Rattle.std.proofs.Common.{arith, rules, sym, ap, ◌∙◌, subst, List, ◌+◌, ◌≤◌}
 use Rattle.std.proofs.lemmas.Bool.{false≢true}
-use Rattle.egt_moves.specs.Legal.{plain}
-use Rattle.egt_moves.proofs.Growing.{Lists, Lists-none, Lists-more, Lists-all, Added, Added-push, Added-none}
+use Rattle.egt_moves.proofs.Growing.{Lists, Lists-none, Lists-more, Lists-all, Lists-before, Lists-room, Added, Added-all, Added-none}
 use Rattle.egt_moves.proofs.listing.push_moves.Goals as goal
 
 pub loop-to-init : goal.loop-to-init
 loop-to-init c =
     Lists-none c.args.position.now c.args.man c.args.from c.args.moves.now.items c.targets-left.result c.requires.stands c.requires.ordered c.requires.before c.targets-left.ensures.goes c.targets-left.ensures.few
 
+pub push_choices-requires-clause-before : goal.push_choices-requires-clause-before
+push_choices-requires-clause-before c =
+    Lists-before c.args.position.now c.args.man c.args.from c.in-Some.to c.args.moves.now.items c.loop-to.moves.items c.loop-to.left c.in-Some.ensures.had c.loop-to.invariant
+
+pub push_choices-requires-clause-room : goal.push_choices-requires-clause-room
+push_choices-requires-clause-room c =
+    Lists-room c.args.position.now c.args.man c.args.from c.args.moves.now.items c.loop-to.moves.items c.loop-to.left c.pop_first.new.self c.in-Some.ensures.size c.requires.room c.loop-to.invariant
+
 pub loop-to-preserved-then-is_safe : goal.loop-to-preserved-then-is_safe
 loop-to-preserved-then-is_safe c =
     let goes = c.loop-to.invariant.goes c.in-Some.to c.in-Some.ensures.had in
-    rw c.push.ensures.items (Lists-more c.args.position.now c.args.man c.args.from c.in-Some.to c.args.moves.now.items c.loop-to.moves.items _ c.loop-to.left c.pop_first.new.self
+    Lists-more c.args.position.now c.args.man c.args.from c.in-Some.to c.args.moves.now.items c.loop-to.moves.items _ c.loop-to.left c.pop_first.new.self
     c.requires.stands (omega arith) c.in-Some.ensures.had c.in-Some.ensures.least c.in-Some.ensures.gone c.in-Some.ensures.others c.in-Some.ensures.size
-    (Added-push c.args.position.now c.args.man c.args.from c.in-Some.to c.loop-to.moves.items c.requires.stands c.requires.mine goes (c.is_safe.ensures.0 c.if-is_safe.true))
-    c.loop-to.invariant)
+    (Added-all c.args.position.now c.args.man c.args.from c.in-Some.to c.loop-to.moves.items _ c.requires.stands c.requires.mine goes (c.is_safe.ensures.0 c.if-is_safe.true)
+    c.push_choices.ensures.choices c.push_choices.ensures.ordered c.push_choices.ensures.few)
+    c.loop-to.invariant
 
 pub loop-to-preserved : goal.loop-to-preserved
 loop-to-preserved c =
     Lists-more c.args.position.now c.args.man c.args.from c.in-Some.to c.args.moves.now.items c.loop-to.moves.items _ c.loop-to.left c.pop_first.new.self
     c.requires.stands (omega arith) c.in-Some.ensures.had c.in-Some.ensures.least c.in-Some.ensures.gone c.in-Some.ensures.others c.in-Some.ensures.size
-    (Added-none c.args.position.now c.args.man c.args.from c.in-Some.to c.loop-to.moves.items c.requires.stands (λ safe. false≢true (sym c.if-is_safe.false ∙ c.is_safe.ensures.1 safe)))
+    (Added-none c.args.position.now c.args.man c.args.from c.in-Some.to c.loop-to.moves.items c.requires.stands c.requires.mine c.loop-to.invariant.ordered (λ safe. false≢true (sym c.if-is_safe.false ∙ c.is_safe.ensures.1 safe)))
     c.loop-to.invariant
 
 pub returns-clause-legal : goal.returns-clause-legal

@@ -1,40 +1,59 @@
-use Rattle.std.proofs.Common.{◌≡◌, ◌∙◌, sym, ap, subst, rules, None}
+use Rattle.std.proofs.Common.{◌≡◌, ◌∙◌, sym, ap, subst, rules}
 use Rattle.egt_board.specs.Placement.{Placement, Stands}
 use Rattle.egt_board.specs.Setup.{Setup, IsAdmissible}
 use Rattle.egt_board.specs.Man.{other_side}
 use Rattle.egt_board.specs.Attack.{IsInCheck}
-use Rattle.egt_moves.specs.Legal.{Goes, Leads, men_after, after, plain}
-use Rattle.egt_moves.proofs.After.{admissible_after, none_of}
+use Rattle.egt_moves.specs.Going.{Goes}
+use Rattle.egt_moves.specs.Promotion.{FitsPromotion, promotes}
+use Rattle.egt_moves.specs.Legal.{Leads, men_after, after, passed, plain}
+use Rattle.std.proofs.lemmas.Bool.{false≢true}
+use Rattle.egt_moves.proofs.Growing.{fits_of, safe_of, same_safety}
+use Rattle.egt_moves.proofs.Admissible.{admissible_after}
 use Rattle.egt_moves.proofs.playing.play.Goals as goal
 
 pub admitted-requires : goal.admitted-requires
 admitted-requires c =
     let p = c.args.position.now in
     let man = c.in_ok-man.man in
-    let m = plain c.args.chess_move.from c.args.chess_move.to in
+    let m = c.args.chess_move in
     let stands : Stands p.men m.from man = search rules in
     let mine : man.side ≡ p.side = search rules in
-    let goes : Goes p man m = search rules in
-    let safe : ¬ IsInCheck (men_after p man m) p.side = search rules in
-    rw (c.moved-board.ensures, c.other.ensures)
-    (subst (λ side. IsAdmissible (record { men = men_after p man m; side = other_side side; target = None })) (sym mine) (admissible_after p man m stands mine goes c.side.ensures.admissible safe))
+    let goes : Goes p man m.from m.to = search rules in
+    let fits : FitsPromotion (promotes man m.to) m.promo = search rules in
+    let safe : ¬ IsInCheck (men_after p man (plain m.from m.to)) p.side = search rules in
+    rw (c.moved-board.ensures, c.other.ensures, c.passed-target.ensures)
+    (subst (λ side. IsAdmissible (record { men = men_after p man m; side = other_side side; target = passed man m.from m.to })) (sym mine)
+    (admissible_after p man m stands mine goes fits c.side.ensures.admissible (λ check. safe ((same_safety p man m.from m.to m.promo mine fits).0 check))))
 
 pub returns-clause-leads : goal.returns-clause-leads
 returns-clause-leads c =
     let p = c.args.position.now in
     let man = c.in_ok-man.man in
-    let m = plain c.args.chess_move.from c.args.chess_move.to in
+    let m = c.args.chess_move in
     let stands : Stands p.men m.from man = search rules in
     let mine : man.side ≡ p.side = search rules in
-    let goes : Goes p man m = search rules in
-    let safe : ¬ IsInCheck (men_after p man m) p.side = search rules in
+    let goes : Goes p man m.from m.to = search rules in
+    let fits : FitsPromotion (promotes man m.to) m.promo = search rules in
+    let safe : ¬ IsInCheck (men_after p man (plain m.from m.to)) p.side = search rules in
     let becomes : c.admitted.result ≡ after p man m =
-    c.admitted.ensures ∙ (λ i. record { men = c.moved-board.ensures i; side = (c.other.ensures ∙ ap other_side mine) i; target = None }) in
+    c.admitted.ensures ∙ (λ i. record { men = c.moved-board.ensures i; side = (c.other.ensures ∙ ap other_side mine) i; target = c.passed-target.ensures i }) in
     record {
       man = man;
       stands = stands;
       mine = mine;
-      goes = record { reaches = goes.reaches; not_own = goes.not_own; keeps_kind = none_of c.args.chess_move.promo (sym c.is_some.ensures ∙ c.if-is_some.false) };
+      goes = goes;
+      promotion = fits;
       becomes = becomes;
-      safe = subst (λ (q : Setup). ¬ IsInCheck q.men p.side) (sym becomes) safe;
+      safe = subst (λ (q : Setup). ¬ IsInCheck q.men p.side) (sym becomes) (λ check. safe ((same_safety p man m.from m.to m.promo mine fits).0 check));
     }
+
+pub returns-then-not-is_safe-clause-illegal : goal.returns-then-not-is_safe-clause-illegal
+returns-then-not-is_safe-clause-illegal c = λ q leads.
+    let p = c.args.position.now in
+    let man = c.in_ok-man.man in
+    let m = c.args.chess_move in
+    let stands : Stands p.men m.from man = search rules in
+    let mine : man.side ≡ p.side = search rules in
+    let safe = safe_of p man m stands (q, leads) in
+    let fits = fits_of p man m stands (q, leads) in
+    false≢true (sym c.if-not-is_safe.true ∙ c.is_safe.ensures.1 (λ check. safe ((same_safety p man m.from m.to m.promo mine fits).1 check)))

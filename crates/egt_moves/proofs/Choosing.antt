@@ -1,0 +1,138 @@
+-- What a man may become, one choice after the other.
+use Rattle.std.proofs.Common.{◌≡◌, ℕ, zero, suc, ◌+◌, ◌*◌, ◌<◌, ◌≤◌, ◌↔◌, ◌⊎◌, List, [], ◌∷◌, ◌++◌, length, get_or, Bool, true, false, Option, Some, None, arith, refl, sym, ap, ◌∙◌, inl, inr, subst}
+use Rattle.std.specs.List.{Contains}
+use Rattle.std.proofs.lemmas.Bool.{cases_eq}
+use Rattle.std.proofs.lemmas.List.{length-append}
+use Rattle.std.proofs.lemmas.List.Elements.{Contains-push, Contains-push_cases, Contains-append_left}
+use Rattle.egt_board.specs.declared.man.Kind.{Kind}
+use Rattle.egt_board.specs.declared.man.Kind.TheVariants.{Q, R, B, N, P, K}
+use Rattle.egt_moves.specs.declared.chess_move.Move.{Move}
+use Rattle.egt_moves.specs.Promotion.{FitsPromotion}
+use Rattle.egt_moves.specs.Legal.{plain}
+use Rattle.egt_moves.specs.Order.{place_of, promotion_place, IsInOrder}
+use Rattle.egt_moves.proofs.InOrder.{IsInOrder-push}
+
+-- the moves to one square that promote to the first n of four kinds have been added
+pub record Chosen (from to : ℕ) (old new : List Move) (n : ℕ) : Type 0 where
+  pub ordered : IsInOrder new
+  pub choices : (m : Move) → Contains new m ↔ (Contains old m ⊎ ((m.from ≡ from) × (m.to ≡ to) × ((0 < promotion_place m.promo) × (promotion_place m.promo ≤ n))))
+  pub few : length new ≡ length old + n
+
+-- the kinds in their order
+pub officer_place : (n : ℕ) (other : Kind) → n < 4 → promotion_place (Some (get_or (Q ∷ R ∷ B ∷ N ∷ []) n other)) ≡ n + 1
+officer_place zero other less = refl
+officer_place (suc zero) other less = refl
+officer_place (suc (suc zero)) other less = refl
+officer_place (suc (suc (suc zero))) other less = refl
+officer_place (suc (suc (suc (suc n)))) other less = absurd (omega arith)
+
+pub Chosen-none : (from to : ℕ) (old : List Move) → IsInOrder old → Chosen from to old old 0
+Chosen-none from to old ordered = record {
+  ordered = ordered;
+  choices = λ m. (λ there. inl there, λ h. elim h [ inl o ↦ o | inr w ↦ let some = w.2.0 in let most = w.2.1 in absurd (omega arith) ]);
+  few = omega arith;
+}
+
+-- a number tells the promotion
+same_place : (a b : Option Kind) → promotion_place a ≡ promotion_place b → a ≡ b
+same_place None None e = refl
+same_place None (Some Q) e = absurd (omega arith)
+same_place None (Some R) e = absurd (omega arith)
+same_place None (Some B) e = absurd (omega arith)
+same_place None (Some N) e = absurd (omega arith)
+same_place None (Some P) e = absurd (omega arith)
+same_place None (Some K) e = absurd (omega arith)
+same_place (Some a) None e = absurd (some_place a e)
+  where
+    some_place : (kind : Kind) → promotion_place (Some kind) ≡ 0 → ⊥
+    some_place Q h = omega arith
+    some_place R h = omega arith
+    some_place B h = omega arith
+    some_place N h = omega arith
+    some_place P h = omega arith
+    some_place K h = omega arith
+same_place (Some a) (Some b) e = sym (ap kind_of_place refl ∙ back a) ∙ ap kind_of_place e ∙ back b
+  where
+    kind_of_place : ℕ → Option Kind
+    kind_of_place (suc zero) = Some Q
+    kind_of_place (suc (suc zero)) = Some R
+    kind_of_place (suc (suc (suc zero))) = Some B
+    kind_of_place (suc (suc (suc (suc zero)))) = Some N
+    kind_of_place (suc (suc (suc (suc (suc zero))))) = Some P
+    kind_of_place _ = Some K
+
+    back : (kind : Kind) → kind_of_place (promotion_place (Some kind)) ≡ Some kind
+    back Q = refl
+    back R = refl
+    back B = refl
+    back N = refl
+    back P = refl
+    back K = refl
+
+pub Chosen-more : (from to : ℕ) (old now : List Move) (n : ℕ) (kind : Kind) → promotion_place (Some kind) ≡ n + 1 → ((m : Move) → Contains old m → place_of m < (from * 64 + to) * 8) → Chosen from to old now n
+    → Chosen from to old (now ++ record { from = from; to = to; promo = Some kind } ∷ []) (n + 1)
+Chosen-more from to old now n kind place before chosen = record {
+  ordered = IsInOrder-push now here chosen.ordered (λ m there. elim ((chosen.choices m).0 there) [
+    | inl o ↦ let lt = before m o in omega arith
+    | inr w ↦ let e = w.0 in let f = w.1 in let most = w.2.1 in omega arith
+  ]);
+  choices = λ m. (
+    λ there. elim (Contains-push_cases now here m there) [
+      | inl earlier ↦ elim ((chosen.choices m).0 earlier) [ inl o ↦ inl o | inr w ↦ inr (w.0, w.1, (w.2.0, let most = w.2.1 in omega arith)) ]
+      | inr e ↦ inr (ap (λ (x : Move). x.from) (sym e), ap (λ (x : Move). x.to) (sym e), placed m e)
+    ],
+    λ h. elim h [
+      | inl o ↦ Contains-append_left now (here ∷ []) m ((chosen.choices m).1 (inl o))
+      | inr w ↦ elim (cases_eq (promotion_place m.promo) (n + 1)) [
+        | inl e ↦ subst (Contains (now ++ here ∷ [])) (is_here m w.0 w.1 (same_place m.promo (Some kind) (e ∙ sym place))) (Contains-push now here)
+        | inr other ↦ Contains-append_left now (here ∷ []) m ((chosen.choices m).1 (inr (w.0, w.1, (w.2.0, let most = w.2.1 in omega arith))))
+      ]
+    ],
+  );
+  few = let l = length-append now (here ∷ []) in let e = chosen.few in omega arith;
+}
+  where
+    here : Move
+    here = record { from = from; to = to; promo = Some kind }
+
+    placed : (m : Move) → here ≡ m → (0 < promotion_place m.promo) × (promotion_place m.promo ≤ n + 1)
+    placed m e = subst (λ (x : Move). (0 < promotion_place x.promo) × (promotion_place x.promo ≤ n + 1)) e (omega arith, omega arith)
+
+    is_here : (m : Move) → m.from ≡ from → m.to ≡ to → m.promo ≡ Some kind → here ≡ m
+    is_here m e f g = λ i. record { from = sym e i; to = sym f i; promo = sym g i }
+
+-- all four: what a pawn may become
+four : (promo : Option Kind) → FitsPromotion true promo ↔ ((0 < promotion_place promo) × (promotion_place promo ≤ 4))
+four None = (λ none. absurd none, λ h. absurd (omega (arith, h.0)))
+four (Some Q) = (λ _. (omega arith, omega arith), λ _. tt)
+four (Some R) = (λ _. (omega arith, omega arith), λ _. tt)
+four (Some B) = (λ _. (omega arith, omega arith), λ _. tt)
+four (Some N) = (λ _. (omega arith, omega arith), λ _. tt)
+four (Some P) = (λ none. absurd none, λ h. absurd (omega (arith, h.1)))
+four (Some K) = (λ none. absurd none, λ h. absurd (omega (arith, h.1)))
+
+pub Chosen-all : (from to : ℕ) (old new : List Move) → Chosen from to old new 4 → (m : Move) → Contains new m ↔ (Contains old m ⊎ ((m.from ≡ from) × (m.to ≡ to) × FitsPromotion true m.promo))
+Chosen-all from to old new chosen m = (
+  λ there. elim ((chosen.choices m).0 there) [ inl o ↦ inl o | inr w ↦ inr (w.0, w.1, (four m.promo).1 w.2) ],
+  λ h. (chosen.choices m).1 (elim h [ inl o ↦ inl o | inr w ↦ inr (w.0, w.1, (four m.promo).0 w.2) ]),
+)
+
+-- no promotion
+pub plain_choice : (from to : ℕ) (old : List Move) (m : Move) → Contains (old ++ plain from to ∷ []) m ↔ (Contains old m ⊎ ((m.from ≡ from) × (m.to ≡ to) × FitsPromotion false m.promo))
+plain_choice from to old m = (
+  λ there. elim (Contains-push_cases old (plain from to) m there) [
+    | inl o ↦ inl o
+    | inr e ↦ inr (ap (λ (x : Move). x.from) (sym e), ap (λ (x : Move). x.to) (sym e), subst (λ (x : Move). FitsPromotion false x.promo) e tt)
+  ],
+  λ h. elim h [
+    | inl o ↦ Contains-append_left old (plain from to ∷ []) m o
+    | inr w ↦ subst (Contains (old ++ plain from to ∷ [])) (is_plain m w.0 w.1 w.2) (Contains-push old (plain from to))
+  ],
+)
+  where
+    none : (o : Option Kind) → FitsPromotion false o → None ≡ o
+    none None f = refl
+    none (Some kind) f = absurd f
+
+    is_plain : (m : Move) → m.from ≡ from → m.to ≡ to → FitsPromotion false m.promo → plain from to ≡ m
+    is_plain m e f g = λ i. record { from = sym e i; to = sym f i; promo = none m.promo g i }
