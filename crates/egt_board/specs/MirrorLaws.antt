@@ -1,5 +1,5 @@
 -- Laws of mirrors: they keep what men reach and attack.
-use Rattle.std.proofs.Common.{◌≡◌, ◌≢◌, ℕ, ◌+◌, ◌-◌, ◌*◌, ◌<◌, ◌≤◌, Bool, true, false, ◌&&◌, ◌||◌, eqb, ◌==◌, if◌then◌else◌, List, [], ◌∷◌, arith, refl, sym, ap, ◌∙◌, subst, inl, inr, Option, Some, None}
+use Rattle.std.proofs.Common.{◌≡◌, ◌≢◌, ℕ, ◌+◌, ◌-◌, ◌*◌, ◌<◌, Bool, true, false, ◌&&◌, ◌||◌, eqb, ◌==◌, if◌then◌else◌, List, [], ◌∷◌, arith, refl, sym, ap, ◌∙◌, subst, inl, inr, Option, Some, None}
 use Rattle.std.specs.List.{list_any, list_all}
 use Rattle.std.proofs.lemmas.Bool.{false≢true, eqb-true, eq-eqb}
 use Rattle.std.proofs.lemmas.Bool.Decides.{eqb_tells}
@@ -319,7 +319,7 @@ attacked_back m men men' side t allows shows ok' a =
       reaches = Reaches-by m (IsFree men') (IsFree men) a.man a.from t (suits_of m men (square_by m a.from) (man_by m a.man) allows back) s_in (free_back m men men' shows) a.reaches;
     }
 
--- forward stays forward for the side that the side becomes
+-- under a mirror that suits pawns, forward is forward for the side that the side becomes
 step_by-forward : (m : Mirror) (side : Side) → Suits m P → step_by m (forward side) ≡ forward (side_by m side)
 unfolding step_by turned
 step_by-forward Files White suits = refl
@@ -337,7 +337,7 @@ ahead_by Diagonal side t suits low high = absurd (suits refl)
 ahead_by Colours White t suits low high = omega arith
 ahead_by Colours Black t suits low high = omega arith
 
--- two tests that tell the same
+-- tests of two facts of which each gives the other
 pub same_test : (a b c d : ℕ) → (a ≡ b → c ≡ d) → (c ≡ d → a ≡ b) → (a == b) ≡ (c == d)
 same_test a b c d there back = elim (eqb_tells a b) [
   | inl h ↦ h.0 ∙ sym (eq-eqb c d (there h.1))
@@ -347,14 +347,15 @@ same_test a b c d there back = elim (eqb_tells a b) [
   ]
 ]
 
--- so do the original rank of pawns and their last rank
-pub home_by : (m : Mirror) (side : Side) (s : ℕ) → Suits m P → s < 64 → (rank_of (square_by m s) == home_rank (side_by m side)) ≡ (rank_of s == home_rank side)
+-- the original rank of a side's pawns becomes that of the side that it becomes
+home_by : (m : Mirror) (side : Side) (s : ℕ) → Suits m P → s < 64 → (rank_of (square_by m s) == home_rank (side_by m side)) ≡ (rank_of s == home_rank side)
 home_by Files side s suits s_in = ap (λ r. r == home_rank side) (rank_by_files s s_in)
 home_by Ranks side s suits s_in = absurd (suits refl)
 home_by Diagonal side s suits s_in = absurd (suits refl)
 home_by Colours White s suits s_in = same_test _ _ _ _ (λ e. omega arith) (λ e. omega arith)
 home_by Colours Black s suits s_in = same_test _ _ _ _ (λ e. omega arith) (λ e. omega arith)
 
+-- and so does the last rank
 pub last_by : (m : Mirror) (side : Side) (s : ℕ) → Suits m P → s < 64 → (rank_of (square_by m s) == last_rank (side_by m side)) ≡ (rank_of s == last_rank side)
 last_by Files side s suits s_in = ap (λ r. r == last_rank side) (rank_by_files s s_in)
 last_by Ranks side s suits s_in = absurd (suits refl)

@@ -1,5 +1,5 @@
 -- An image of a position comes from it by mirrors, one after another.
-use Rattle.std.proofs.Common.{◌≡◌, ◌≢◌, ℕ, zero, suc, ◌+◌, ◌<◌, ◌≤◌, ◌/◌, ◌%◌, ◌==◌, ◌⊎◌, Bool, true, false, Option, Some, None, arith, refl, sym, ap, ◌∙◌, subst, inl, inr}
+use Rattle.std.proofs.Common.{◌≡◌, ◌≢◌, ℕ, zero, suc, ◌<◌, ◌≤◌, ◌/◌, ◌%◌, ◌==◌, Bool, true, false, Option, Some, None, arith, refl, sym, ap, ◌∙◌, subst, inl, inr}
 use Rattle.std.specs.Option.{option_map}
 use Rattle.std.specs.Ordering.{nat_cmp}
 use Rattle.std.specs.FinMap as map
@@ -8,14 +8,13 @@ use Rattle.egt_board.specs.declared.mirror.Mirror.{Mirror}
 use Rattle.egt_board.specs.declared.mirror.Mirror.TheVariants.{Files, Ranks, Diagonal, Colours}
 use Rattle.egt_board.specs.declared.man.Side.{Side}
 use Rattle.egt_board.specs.declared.man.Man.{Man}
-use Rattle.egt_board.specs.Placement.{Placement, Stands, IsFree, same_men, get-insert_same, get-insert_other}
+use Rattle.egt_board.specs.Placement.{Placement, IsFree, same_men, get-insert_same, get-insert_other}
 use Rattle.egt_board.specs.Pawn.{HasNoPawn}
 use Rattle.egt_board.specs.Setup.{Setup, IsAdmissible}
 use Rattle.egt_board.specs.Mirror.{square_by, side_by, man_by, IsMirrored, Allows}
 use Rattle.egt_board.specs.MirrorLaws as mirrors
-use Rattle.egt_board.specs.Symmetry.{square_if, square_of, IsKeepingSides, KeepsPlay, IsCarried, IsImage}
+use Rattle.egt_board.specs.Symmetry.{square_if, IsKeepingSides, KeepsPlay, IsCarried, IsImage}
 use Rattle.egt_board.specs.Images.{IsTurnOf, Comes, AreImages}
-use Rattle.egt_moves.specs.Arena.{Arena}
 use Rattle.egt_moves.specs.Chess.{chess}
 use Rattle.egt_moves.specs.Likeness.{Alike, Chain}
 use Rattle.egt_moves.specs.Mirrored.{AreMirrored}

@@ -1,5 +1,5 @@
 -- In a mirror each legal move has its like.
-use Rattle.std.proofs.Common.{◌≡◌, ◌≢◌, ℕ, ◌+◌, ◌/◌, ◌==◌, ◌<◌, ◌↔◌, ◌⊎◌, ◌&&◌, ◌||◌, Bool, true, false, if◌then◌else◌, Option, Some, None, arith, refl, sym, ap, ◌∙◌, subst, inl, inr}
+use Rattle.std.proofs.Common.{◌≡◌, ◌≢◌, ℕ, ◌+◌, ◌/◌, ◌==◌, ◌<◌, ◌⊎◌, ◌&&◌, ◌||◌, Bool, true, false, if◌then◌else◌, Option, Some, None, arith, refl, sym, ap, ◌∙◌, subst, inl, inr}
 use Rattle.std.specs.Option.{option_map}
 use Rattle.std.specs.FinMap as map
 use Rattle.std.proofs.lemmas.Bool.{cases_eq, false≢true}
@@ -12,20 +12,19 @@ use Rattle.egt_board.specs.declared.man.Kind.{Kind}
 use Rattle.egt_board.specs.declared.man.Kind.TheVariants.{Q, R, B, N, P, K}
 use Rattle.egt_board.specs.declared.man.Man.{Man}
 use Rattle.egt_board.specs.Man.{other_side}
-use Rattle.egt_board.specs.Square.{file_of, rank_of}
+use Rattle.egt_board.specs.Square.{rank_of}
 use Rattle.egt_board.specs.Placement.{Placement, Stands, IsFree, IsHeld, get-remove_same, get-remove_other}
 use Rattle.egt_board.specs.Pawn.{ahead, last_rank, HasNoPawn}
-use Rattle.egt_board.specs.Target.{IsTarget, target_rank}
+use Rattle.egt_board.specs.Target.{target_rank}
 use Rattle.egt_board.specs.Attack.{king_of, IsAttacked, IsInCheck}
 use Rattle.egt_board.specs.Setup.{Setup, IsAdmissible}
 use Rattle.egt_board.specs.Mirror.{square_by, side_by, man_by, IsMirrored, Allows}
 use Rattle.egt_board.specs.MirrorLaws as mirrors
 use Rattle.egt_moves.specs.declared.chess_move.Move.{Move}
-use Rattle.egt_moves.specs.Arena.{Arena}
-use Rattle.egt_moves.specs.Chess.{chess, Zeroes, IsPawnOn}
-use Rattle.egt_moves.specs.Going.{Goes, PieceGoes, PawnAdvances, PawnTakes}
+use Rattle.egt_moves.specs.Chess.{chess, Zeroes}
+use Rattle.egt_moves.specs.Going.{Goes}
 use Rattle.egt_moves.specs.Promotion.{is_pawn, promotes, FitsPromotion, arriving}
-use Rattle.egt_moves.specs.Legal.{Leads, IsLegal, is_target, takes_in_passing, men_left, men_after, is_two_ranks, passed, after}
+use Rattle.egt_moves.specs.Legal.{Leads, is_target, takes_in_passing, men_left, men_after, is_two_ranks, passed, after}
 use Rattle.egt_moves.specs.Likeness.{Alike, HasLike}
 use Rattle.egt_moves.specs.Mirrored.{AreMirrored}
 use Rattle.egt_moves.specs.Standing.{IsCheckmate}
@@ -197,7 +196,7 @@ left_there m p p' man to t r suits to_in t_in = by_test (takes_in_passing p man 
         let pawn = pawn_told man.kind (left_true (is_pawn man.kind) _ e) in
         let between = target_between p.side to (target_is p to r.here (target_told p.target to (right_true (is_pawn man.kind) _ e))).rank in
         let same : taken' ≡ square_by m taken =
-            ap (λ side. ahead side (square_by m to)) (sym (other_side_there m p p' r)) ∙ sym (mirrors.ahead_by m (other_side p.side) to (subst (mirrors.Suits m) pawn suits) between.0 between.1) in
+        ap (λ side. ahead side (square_by m to)) (sym (other_side_there m p p' r)) ∙ sym (mirrors.ahead_by m (other_side p.side) to (subst (mirrors.Suits m) pawn suits) between.0 between.1) in
         let taken_in = ahead_within (other_side p.side) to between.0 between.1 in
         elim (cases_eq t taken) [
           | inl f ↦ get-remove_same p'.men taken' (square_by m t) (ap (square_by m) f ∙ sym same) ∙ sym (ap (option_map (man_by m)) (get-remove_same p.men taken t f))
@@ -268,9 +267,9 @@ two_ranks_there Ranks s t suits s_in t_in = absurd (suits refl)
 two_ranks_there Diagonal s t suits s_in t_in = absurd (suits refl)
 two_ranks_there Colours s t suits s_in t_in =
     ap (λ b. b || (rank_of (square_by Colours s) == rank_of (square_by Colours t) + 2))
-      (mirrors.same_test (rank_of (square_by Colours t)) (rank_of (square_by Colours s) + 2) (rank_of s) (rank_of t + 2) (λ e. omega arith) (λ e. omega arith))
+    (mirrors.same_test (rank_of (square_by Colours t)) (rank_of (square_by Colours s) + 2) (rank_of s) (rank_of t + 2) (λ e. omega arith) (λ e. omega arith))
     ∙ ap (λ b. (rank_of s == rank_of t + 2) || b)
-      (mirrors.same_test (rank_of (square_by Colours s)) (rank_of (square_by Colours t) + 2) (rank_of t) (rank_of s + 2) (λ e. omega arith) (λ e. omega arith))
+    (mirrors.same_test (rank_of (square_by Colours s)) (rank_of (square_by Colours t) + 2) (rank_of t) (rank_of s + 2) (λ e. omega arith) (λ e. omega arith))
     ∙ swapped (rank_of s == rank_of t + 2) (rank_of t == rank_of s + 2)
   where
     swapped : (a b : Bool) → (a || b) ≡ (b || a)

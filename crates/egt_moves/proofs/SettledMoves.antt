@@ -1,5 +1,5 @@
 -- A target that no pawn stands ready to take changes no move.
-use Rattle.std.proofs.Common.{◌≡◌, ◌≢◌, ℕ, ◌+◌, ◌-◌, ◌<◌, ◌≤◌, ◌==◌, ◌⊎◌, Bool, true, false, if◌then◌else◌, Option, Some, None, IfSome, arith, refl, sym, ap, ◌∙◌, subst, inl, inr}
+use Rattle.std.proofs.Common.{◌≡◌, ◌≢◌, ℕ, ◌≤◌, ◌==◌, ◌⊎◌, Bool, true, false, if◌then◌else◌, Option, Some, None, IfSome, arith, sym, ap, ◌∙◌, subst, inl, inr}
 use Rattle.std.specs.FinMap as map
 use Rattle.std.proofs.lemmas.Bool.{cases_eq}
 use Rattle.egt_board.specs.declared.man.Side.{Side}
@@ -7,17 +7,16 @@ use Rattle.egt_board.specs.declared.man.Side.TheVariants.{White, Black}
 use Rattle.egt_board.specs.declared.man.Kind.TheVariants.{P}
 use Rattle.egt_board.specs.declared.man.Man.{Man}
 use Rattle.egt_board.specs.Man.{other_side}
-use Rattle.egt_board.specs.Square.{file_of, rank_of}
-use Rattle.egt_board.specs.Placement.{Placement, Stands, IsFree, IsHeld}
+use Rattle.egt_board.specs.Square.{rank_of}
+use Rattle.egt_board.specs.Placement.{Stands, IsFree}
 use Rattle.egt_board.specs.Gait.{Rides, OneOf, pawn_steps}
 use Rattle.egt_board.specs.Pawn.{pawn_of, ahead, home_rank, farthest_advance, Advances, IsBeside, HasPawnBeside}
 use Rattle.egt_board.specs.Target.{IsTarget, target_rank}
 use Rattle.egt_board.specs.Setup.{Setup, IsAdmissible}
 use Rattle.egt_board.specs.Settled.{IsSettled, untargeted, SettlesTo}
 use Rattle.egt_moves.specs.declared.chess_move.Move.{Move}
-use Rattle.egt_moves.specs.Arena.{Arena}
 use Rattle.egt_moves.specs.Chess.{chess, Zeroes}
-use Rattle.egt_moves.specs.Going.{Goes, PieceGoes, PawnAdvances, PawnTakes}
+use Rattle.egt_moves.specs.Going.{Goes}
 use Rattle.egt_moves.specs.Promotion.{arriving}
 use Rattle.egt_moves.specs.Legal.{Leads, men_left, passed, after}
 use Rattle.egt_moves.specs.Likeness.{Alike, KeepsSteps}

@@ -7,16 +7,14 @@ use Rattle.egt_moves.proofs.laws.all_images_are_alike.Goals as goal
 
 pub returns-clause-values : goal.returns-clause-values
 returns-clause-values c p q ok images v =
-    let r = images_reflections c.images_keep_men.ensures.admissible p q ok images in
-    (
+    let r = images_reflections c.images_keep_men.ensures.admissible p q ok images in (
       alike_value chess (Chain AreReflected r.0) (reflections_alike r.0) p q v r.1,
       alike_value chess (λ q p. Chain AreReflected r.0 p q) (alike_backwards chess (Chain AreReflected r.0) (reflections_alike r.0)) q p v r.1,
     )
 
 pub returns-clause-distances : goal.returns-clause-distances
 returns-clause-distances c p q ok images v =
-    let r = images_reflections c.images_keep_men.ensures.admissible p q ok images in
-    (
+    let r = images_reflections c.images_keep_men.ensures.admissible p q ok images in (
       alike_zeroing chess (Chain AreReflected r.0) (reflections_alike r.0) p q v r.1,
       alike_zeroing chess (λ q p. Chain AreReflected r.0 p q) (alike_backwards chess (Chain AreReflected r.0) (reflections_alike r.0)) q p v r.1,
     )
