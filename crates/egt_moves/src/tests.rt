@@ -1,5 +1,5 @@
 //! Each public function once.
-use crate::{Move, Standing, legal_moves, play, standing};
+use crate::{Move, Standing, legal_moves, play, standing, zeroing};
 use egt_board::{Kind, Man, Position, Side, Square};
 use std::test::Fail;
 
@@ -75,5 +75,117 @@ fn writes_moves(rt: HostRuntime) -> Result<(), Fail> {
         ..plain(54, 62)?
     };
     assert_eq!(rt; promotion.text().as_str(), "g7g8q");
+    Ok(())
+}
+
+fn man(side: Side, kind: Kind) -> Man {
+    Man { side, kind }
+}
+
+/// White: king h1, pawn e4, which has just come from e2. Black, to move: king d5, in check, and pawn d4.
+fn passing_ending() -> Result<Position, Fail> {
+    let men = [
+        (man(Side::White, Kind::K), square(7)?),
+        (man(Side::White, Kind::P), square(28)?),
+        (man(Side::Black, Kind::K), square(35)?),
+        (man(Side::Black, Kind::P), square(27)?),
+    ];
+    Ok(Position::new(&men, Side::Black, Some(square(20)?))?)
+}
+
+#[test]
+fn takes_a_pawn_in_passing(rt: HostRuntime) -> Result<(), Fail> {
+    let position = passing_ending()?;
+    let takes = plain(27, 20)?;
+    assert!(rt; legal_moves(&position).as_slice().contains(&takes));
+    // d4d3 leaves the king in check by the pawn.
+    assert!(rt; !legal_moves(&position).as_slice().contains(&plain(27, 19)?));
+    assert!(rt; zeroing(&position, takes));
+    let Some(after) = play(&position, takes) else {
+        return Err(Fail::from("no position"));
+    };
+    assert_eq!(rt; after.at(square(28)?), None);
+    assert_eq!(rt; after.at(square(27)?), None);
+    assert_eq!(rt; after.at(square(20)?), Some(man(Side::Black, Kind::P)));
+    assert_eq!(rt; after.target(), None);
+    Ok(())
+}
+
+#[test]
+fn takes_in_passing_at_once_or_never(rt: HostRuntime) -> Result<(), Fail> {
+    let Some(waited) = play(&passing_ending()?, plain(35, 34)?) else {
+        return Err(Fail::from("no position"));
+    };
+    assert_eq!(rt; waited.target(), None);
+    let Some(later) = play(&waited, plain(7, 6)?) else {
+        return Err(Fail::from("no position"));
+    };
+    assert!(rt; play(&later, plain(27, 20)?).is_none());
+    assert!(rt; play(&later, plain(27, 19)?).is_some());
+    Ok(())
+}
+
+/// White, to move: king a1 and a pawn on that square. Black: king h7.
+fn pawn_ending(pawn: u8) -> Result<Position, Fail> {
+    let men = [
+        (man(Side::White, Kind::K), square(0)?),
+        (man(Side::White, Kind::P), square(pawn)?),
+        (man(Side::Black, Kind::K), square(55)?),
+    ];
+    Ok(Position::new(&men, Side::White, None)?)
+}
+
+#[test]
+fn sets_the_target_after_an_advance_of_two(rt: HostRuntime) -> Result<(), Fail> {
+    let position = pawn_ending(8)?;
+    let Some(two) = play(&position, plain(8, 24)?) else {
+        return Err(Fail::from("no position"));
+    };
+    assert_eq!(rt; two.target(), Some(square(16)?));
+    let Some(one) = play(&position, plain(8, 16)?) else {
+        return Err(Fail::from("no position"));
+    };
+    assert_eq!(rt; one.target(), None);
+    // From the third rank a pawn advances one square.
+    assert!(rt; play(&pawn_ending(16)?, plain(16, 32)?).is_none());
+    Ok(())
+}
+
+#[test]
+fn promotes_to_four_kinds(rt: HostRuntime) -> Result<(), Fail> {
+    let position = pawn_ending(48)?;
+    let promotion = |kind| -> Result<Move, Fail> {
+        Ok(Move {
+            promo: Some(kind),
+            ..plain(48, 56)?
+        })
+    };
+    let moves = [
+        plain(0, 1)?,
+        plain(0, 8)?,
+        plain(0, 9)?,
+        promotion(Kind::Q)?,
+        promotion(Kind::R)?,
+        promotion(Kind::B)?,
+        promotion(Kind::N)?,
+    ];
+    assert_eq!(rt; legal_moves(&position).as_slice(), moves.as_slice());
+    assert!(rt; play(&position, plain(48, 56)?).is_none());
+    assert!(rt; play(&position, promotion(Kind::K)?).is_none());
+    let Some(after) = play(&position, promotion(Kind::N)?) else {
+        return Err(Fail::from("no position"));
+    };
+    assert_eq!(rt; after.at(square(56)?), Some(man(Side::White, Kind::N)));
+    Ok(())
+}
+
+#[test]
+fn tells_moves_that_zero(rt: HostRuntime) -> Result<(), Fail> {
+    let position = pawn_ending(48)?;
+    assert!(rt; zeroing(&position, plain(48, 56)?));
+    assert!(rt; !zeroing(&position, plain(0, 1)?));
+    // A capture of the queen on d1, and a move to a square of an own man.
+    assert!(rt; zeroing(&queen_ending(3, Side::Black)?, plain(56, 3)?));
+    assert!(rt; !zeroing(&queen_ending(3, Side::White)?, plain(41, 3)?));
     Ok(())
 }
