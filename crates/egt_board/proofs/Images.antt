@@ -17,7 +17,7 @@ use Rattle.egt_board.specs.Settled.{IsSettled}
 use Rattle.egt_board.specs.Mirror.{IsMirrored, square_by, side_by, man_by, Allows}
 use Rattle.egt_board.specs.MirrorLaws.{square_by-within, square_by-twice, ShowsMen, OnBoard, man_by-twice}
 use Rattle.egt_board.specs.Symmetry.{square_if, square_of, IsKeepingSides, KeepsPlay, IsCarried, IsImage}
-use Rattle.egt_board.specs.Images.{IsTurnOf, Comes, AreImages, count_of, SameMen, ExchangedMen}
+use Rattle.egt_board.specs.Images.{IsTurnOf, Comes, AreImages, Reflects, count_of, SameMen, ExchangedMen}
 use Rattle.egt_board.proofs.Turning.{admissible_by, no_pawn_by, target_between}
 use Rattle.egt_board.proofs.Settling.{ready_by}
 use Rattle.egt_board.proofs.Reflected.{men_by, men_by-shows, men_by-on_board, men_by-few, same_on_board, setup_by, setup_by-is, setup_by-only, setup_by-back}
@@ -34,6 +34,13 @@ images_on p q r first second = go first.0 p first.1
     go zero p same = subst (λ (x : Setup). AreImages x r) (sym same) second
     go (suc n) p step = let rest = go n step.0 step.2 in (suc rest.0, (step.0, step.1, rest.1))
 
+reflects_on : (p q r : Setup) → (n : ℕ) × Reflects n p q → (n : ℕ) × Reflects n q r → (n : ℕ) × Reflects n p r
+reflects_on p q r first second = go first.0 p first.1
+  where
+    go : (n : ℕ) (p : Setup) → Reflects n p q → (k : ℕ) × Reflects k p r
+    go zero p same = subst (λ (x : Setup). (k : ℕ) × Reflects k x r) (sym same) second
+    go (suc n) p step = let rest = go n step.0 step.2 in (suc rest.0, (step.0, step.1, rest.1))
+
 -- what an image keeps of a position
 pub record Kept (p q : Setup) : Type 0 where
   pub admissible : IsAdmissible q
@@ -41,6 +48,7 @@ pub record Kept (p q : Setup) : Type 0 where
   pub men : SameMen p q ⊎ ExchangedMen p q
   pub back : AreImages q p
   pub no_pawn : HasNoPawn p.men → HasNoPawn q.men
+  pub mirrors : (n : ℕ) × Reflects n p q
 
 pub Kept-same : (p : Setup) → IsAdmissible p → Kept p p
 Kept-same p ok = record {
@@ -49,6 +57,7 @@ Kept-same p ok = record {
   men = inl (record { men = λ man. refl; side = refl });
   back = (0, refl);
   no_pawn = λ none. none;
+  mirrors = (0, refl);
 }
 
 other_twice : (side : Side) → other_side (other_side side) ≡ side
@@ -62,6 +71,7 @@ Kept-on p q r first second = record {
   men = both first.men second.men;
   back = images_on r q p second.back first.back;
   no_pawn = λ none. second.no_pawn (first.no_pawn none);
+  mirrors = reflects_on p q r first.mirrors second.mirrors;
 }
   where
     both : SameMen p q ⊎ ExchangedMen p q → SameMen q r ⊎ ExchangedMen q r → SameMen p r ⊎ ExchangedMen p r
@@ -135,6 +145,7 @@ setup_by-kept m p ok allows = record {
   men = tallies_by m p;
   back = images_by_turn (setup_by m p) p (turn_of m (setup_by m p) p allows' back);
   no_pawn = none;
+  mirrors = (1, (setup_by m p, (m, record { here = ok; there = ok'; mirrored = setup_by-is m p; allowed = allows }), refl));
 }
   where
     shows : ShowsMen m p.men (men_by m p.men)

@@ -6,12 +6,14 @@ use Rattle.egt_board.specs.declared.man.Side.TheVariants.{White, Black}
 use Rattle.egt_board.specs.declared.man.Kind.{Kind}
 use Rattle.egt_board.specs.declared.man.Kind.TheVariants.{Q, R, B, N, P, K}
 use Rattle.egt_board.specs.declared.man.Man.{Man}
+use Rattle.egt_board.specs.declared.mirror.Mirror.{Mirror}
 use Rattle.egt_board.specs.declared.mirror.Mirror.TheVariants.{Colours}
 use Rattle.egt_board.specs.Man.{other_side}
 use Rattle.egt_board.specs.Placement.{Placement}
 use Rattle.egt_board.specs.SquareSet.{total}
 use Rattle.egt_board.specs.Setup.{Setup}
 use Rattle.egt_board.specs.Mirror.{IsMirrored, man_by}
+use Rattle.egt_board.specs.Mirrored.{AreMirrored}
 use Rattle.egt_board.specs.Symmetry.{IsImage, KeepsPlay}
 
 -- q comes from p by one symmetry that p's men allow, or by the flip of colours
@@ -26,6 +28,11 @@ Comes (suc n) p q = (r : Setup) × IsTurnOf p r × Comes n r q
 -- by any number of them
 abbrev pub AreImages : Setup → Setup → Type 0
 AreImages p q = (n : ℕ) × Comes n p q
+
+-- so many mirrors lead from p to q, from position to position
+abbrev pub Reflects : ℕ → Setup → Setup → Type 0
+Reflects zero p q = p ≡ q
+Reflects (suc n) p q = (r : Setup) × ((m : Mirror) × AreMirrored m p r) × Reflects n r q
 
 -- kinds and men by number, to be compared
 abbrev pub kind_number : Kind → ℕ

@@ -15,5 +15,6 @@ pub mod Listed
 pub mod Mirror
 pub mod Position
 pub mod Symmetry
+pub mod Mirrored
 pub mod Images
 pub mod MirrorLaws

@@ -26,7 +26,7 @@ use Rattle.egt_moves.specs.Going.{Goes}
 use Rattle.egt_moves.specs.Promotion.{is_pawn, promotes, FitsPromotion, arriving}
 use Rattle.egt_moves.specs.Legal.{Leads, is_target, takes_in_passing, men_left, men_after, is_two_ranks, passed, after}
 use Rattle.egt_moves.specs.Likeness.{Alike, HasLike}
-use Rattle.egt_moves.specs.Mirrored.{AreMirrored}
+use Rattle.egt_board.specs.Mirrored.{AreMirrored}
 use Rattle.egt_moves.specs.Standing.{IsCheckmate}
 use Rattle.egt_moves.proofs.After.{target_is, after_to, after_from, after_other, after_cases, goes_on_board}
 use Rattle.egt_moves.proofs.Admissible.{admissible_after, arrived_pawn, pawn_told, left_true, right_true, Forward, takes_forward_of, two_ranks_told, two_forward, not_two, Leap, leap}

@@ -11,4 +11,3 @@ pub mod Standing
 pub mod Text
 pub mod Chess
 pub mod Found
-pub mod Mirrored

@@ -10,10 +10,10 @@ ghost use Rattle.egt_moves.specs.Arena.{Value, Win, Loss, SomeMove, EachMove, Ha
 ghost use Rattle.egt_moves.specs.Chess.{chess};
 ghost use Rattle.egt_moves.specs.Entries.{JudgedOver, ZeroingJudgedOver};
 ghost use Rattle.egt_moves.specs.Likeness.{Alike, IsMirror};
-ghost use Rattle.egt_moves.specs.Mirrored.{AreMirrored};
+ghost use Rattle.egt_board.specs.Mirrored.{AreMirrored};
 ghost use Rattle.egt_moves.specs.Zeroing.{HasZeroing, ZeroesLosingWithin, ZeroesWinningWithin};
 
-use egt_board::laws::images_keep_men;
+use egt_board::laws::images_come_by_mirrors;
 
 /// A forced mate is forced within any greater number of plies, and a defence lasts for any lesser one.
 pub fn more_plies()
@@ -113,7 +113,7 @@ pub fn all_images_are_alike()
     ensures distances { (p q : Setup) → IsAdmissible p → AreImages p q →
         (v : Value) → HasZeroing chess p v ↔ HasZeroing chess q v }
 {
-    images_keep_men();
+    images_come_by_mirrors();
 }
 
 /// A map of positions that keeps steps, checkmate and zeroing keeps values and zeroing distances.
