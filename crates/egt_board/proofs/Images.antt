@@ -15,10 +15,10 @@ use Rattle.egt_board.specs.Setup.{Setup, IsAdmissible}
 use Rattle.egt_board.specs.Target.{FitsTarget}
 use Rattle.egt_board.specs.Settled.{IsSettled}
 use Rattle.egt_board.specs.Mirror.{IsMirrored, square_by, side_by, man_by, Allows}
-use Rattle.egt_board.specs.MirrorLaws.{square_by-within, square_by-twice, ShowsMen, OnBoard, man_by-twice}
+use Rattle.egt_board.specs.MirrorLaws.{square_by-within, square_by-twice, ShowsMen, OnBoard, man_by-twice, no_pawn_by, target_between}
 use Rattle.egt_board.specs.Symmetry.{square_if, square_of, IsKeepingSides, KeepsPlay, IsCarried, IsImage}
 use Rattle.egt_board.specs.Images.{IsTurnOf, Comes, AreImages, Reflects, count_of, SameMen, ExchangedMen}
-use Rattle.egt_board.proofs.Turning.{admissible_by, no_pawn_by, target_between}
+use Rattle.egt_board.proofs.Turning.{admissible_by}
 use Rattle.egt_board.proofs.Settling.{ready_by}
 use Rattle.egt_board.proofs.Reflected.{men_by, men_by-shows, men_by-on_board, men_by-few, same_on_board, setup_by, setup_by-is, setup_by-only, setup_by-back}
 use Rattle.egt_board.proofs.Tallies.{count_by}

@@ -11,8 +11,8 @@ use Rattle.egt_board.specs.Target.{FitsTarget}
 use Rattle.egt_board.specs.Setup.{Setup}
 use Rattle.egt_board.specs.Settled.{IsSettled}
 use Rattle.egt_board.specs.Mirror.{square_by, side_by, Allows}
-use Rattle.egt_board.specs.MirrorLaws.{ShowsMen, OnBoard}
-use Rattle.egt_board.proofs.Turning.{ahead_files, ahead_colours, ahead_within, target_between, stands_by}
+use Rattle.egt_board.specs.MirrorLaws.{ahead_by, target_between, ShowsMen, OnBoard}
+use Rattle.egt_board.proofs.Turning.{ahead_within, stands_by}
 
 -- a target with no pawn beside the one that advanced
 pub unsettled : (p : Setup) (t : ℕ) → p.target ≡ Some t → ¬ HasPawnBeside p.men p.side (ahead (other_side p.side) t) → ¬ IsSettled p
@@ -33,7 +33,7 @@ ready_by Files men men' side (Some t) allows shows ok fits ready =
     record {
       square = square_by Files ready.square;
       stands = stands_by Files men men' ready.square (pawn_of side) shows (ok _ _ ready.stands) ready.stands;
-      beside = subst (IsBeside (square_by Files ready.square)) (ahead_files (other_side side) t b.0 b.1) (beside_files ready.square (ahead (other_side side) t) ready.beside);
+      beside = subst (IsBeside (square_by Files ready.square)) (ahead_by Files (other_side side) t tt b.0 b.1) (beside_files ready.square (ahead (other_side side) t) ready.beside);
     }
 ready_by Ranks men men' side (Some t) allows shows ok fits ready = absurd (allows _ _ fits.advanced refl)
 ready_by Diagonal men men' side (Some t) allows shows ok fits ready = absurd (allows _ _ fits.advanced refl)
@@ -43,5 +43,5 @@ ready_by Colours men men' side (Some t) allows shows ok fits ready =
     record {
       square = square_by Colours ready.square;
       stands = stands_by Colours men men' ready.square (pawn_of side) shows s_in ready.stands;
-      beside = subst (IsBeside (square_by Colours ready.square)) (ahead_colours (other_side side) t b.0 b.1) (beside_colours ready.square (ahead (other_side side) t) s_in (ahead_within (other_side side) t b.0 b.1) ready.beside);
+      beside = subst (IsBeside (square_by Colours ready.square)) (ahead_by Colours (other_side side) t tt b.0 b.1) (beside_colours ready.square (ahead (other_side side) t) s_in (ahead_within (other_side side) t b.0 b.1) ready.beside);
     }

@@ -1,7 +1,7 @@
 -- How many squares a set has.
 use Rattle.std.proofs.Common.{◌≡◌, ◌≢◌, ℕ, zero, suc, ◌+◌, ◌<◌, ◌≤◌, ◌⊎◌, max, Bool, true, false, cond, ◌&&◌, ◌||◌, not, eqb, leb, List, [], ◌∷◌, ◌++◌, ◌*◌, arith, refl, ap, ◌∙◌, inl, inr, subst}
 use Rattle.std.specs.Int.{bit_at}
-use Rattle.std.proofs.lemmas.Bool.{cases_eq, eq-eqb, leb-true, le-leb, false≢true}
+use Rattle.std.proofs.lemmas.Bool.{cases_eq, eq-eqb, leb-true, le-leb, false≢true, and_parts, and_from}
 use Rattle.std.proofs.lemmas.Nat.Bits.{bit_at-lt}
 use Rattle.egt_board.specs.declared.man.Side.{Side}
 use Rattle.egt_board.specs.declared.man.Side.TheVariants.{White, Black}
@@ -123,24 +123,12 @@ one_of_four false false false false h = absurd (elim h [
   | inr h ↦ elim h [ inl e ↦ false≢true e | inr h ↦ elim h [ inl e ↦ false≢true e | inr e ↦ false≢true e ] ]
 ])
 
-both_true : (a b : Bool) → a ≡ true → b ≡ true → (a && b) ≡ true
-both_true true b e f = f
-both_true false b e f = absurd (false≢true e)
-
-left_true : (a b : Bool) → (a && b) ≡ true → a ≡ true
-left_true true b e = refl
-left_true false b e = e
-
-right_true : (a b : Bool) → (a && b) ≡ true → b ≡ true
-right_true true b e = e
-right_true false b e = absurd (false≢true e)
-
 at_below : (p : ℕ → Bool) (n k : ℕ) → all_below p n ≡ true → k < n → p k ≡ true
 unfolding all_below
 at_below p zero k all k_in = absurd (omega arith)
 at_below p (suc n) k all k_in = elim (cases_eq k n) [
-  | inl e ↦ ap p e ∙ left_true (p n) (all_below p n) all
-  | inr other ↦ at_below p n k (right_true (p n) (all_below p n) all) (omega arith)
+  | inl e ↦ ap p e ∙ (and_parts (p n) (all_below p n) all).0
+  | inr other ↦ at_below p n k (and_parts (p n) (all_below p n) all).1 (omega arith)
 ]
 
 Line : ℕ → ℕ → Type 0
@@ -226,8 +214,8 @@ small_step n d = leb d.wide n && leb d.high n
 some_small : (Holds : Step → Type 0) (n : ℕ) (ds : List Step) → list_all (small_step n) ds ≡ true → OneOf Holds ds → (d : Step) × Holds d × (small_step n d ≡ true)
 some_small Holds n [] all none = absurd none
 some_small Holds n (d ∷ ds) all some = elim some [
-  | inl p ↦ (d, p, left_true _ _ all)
-  | inr rest ↦ some_small Holds n ds (right_true _ _ all) rest
+  | inl p ↦ (d, p, (and_parts _ _ all).0)
+  | inr rest ↦ some_small Holds n ds (and_parts _ _ all).1 rest
 ]
 
 Further-within : (w : Way) (by n a b : ℕ) → by ≤ n → Further w (1 * by) a b → (a ≤ b + n) × (b ≤ a + n)
@@ -245,9 +233,9 @@ within_of F n s t ds all some =
     let most = r.within in
     let one : r.count ≡ 1 = omega arith in
     let away : Away d 1 s t = subst (λ k. Away d k s t) one r.away in
-    let f = Further-within d.files d.wide n (file_of s) (file_of t) (leb-true _ _ (left_true _ _ w.2)) away.across in
-    let g = Further-within d.ranks d.high n (rank_of s) (rank_of t) (leb-true _ _ (right_true (leb d.wide n) _ w.2)) away.along in
-    both_true _ _ (le-leb _ _ f.0) (both_true _ _ (le-leb _ _ f.1) (both_true _ _ (le-leb _ _ g.0) (le-leb _ _ g.1)))
+    let f = Further-within d.files d.wide n (file_of s) (file_of t) (leb-true _ _ (and_parts _ _ w.2).0) away.across in
+    let g = Further-within d.ranks d.high n (rank_of s) (rank_of t) (leb-true _ _ (and_parts (leb d.wide n) _ w.2).1) away.along in
+    and_from _ _ (le-leb _ _ f.0) (and_from _ _ (le-leb _ _ f.1) (and_from _ _ (le-leb _ _ g.0) (le-leb _ _ g.1)))
 
 apart_true : (s t : ℕ) → s ≢ t → not (eqb s t) ≡ true
 apart_true s t apart = elim (eqb_tells s t) [ inl h ↦ absurd (apart h.1) | inr h ↦ ap not h.0 ]
@@ -263,12 +251,12 @@ near_pawn F White s t some = elim some [
   | inl r ↦
       let one : r.count ≡ 1 = (let m = r.moves in let w = r.within in omega arith) in
       let h = r.away.along in let g = r.away.across in
-      both_true _ _ (eq-eqb (rank_of t) (rank_of s + 1) (omega arith)) (one_of_two _ _ (inl (eq-eqb (file_of t) (file_of s + 1) (omega arith))))
+      and_from _ _ (eq-eqb (rank_of t) (rank_of s + 1) (omega arith)) (one_of_two _ _ (inl (eq-eqb (file_of t) (file_of s + 1) (omega arith))))
   | inr some ↦ elim some [
     | inl r ↦
         let one : r.count ≡ 1 = (let m = r.moves in let w = r.within in omega arith) in
         let h = r.away.along in let g = r.away.across in
-        both_true _ _ (eq-eqb (rank_of t) (rank_of s + 1) (omega arith)) (one_of_two _ _ (inr (eq-eqb (file_of s) (file_of t + 1) (omega arith))))
+        and_from _ _ (eq-eqb (rank_of t) (rank_of s + 1) (omega arith)) (one_of_two _ _ (inr (eq-eqb (file_of s) (file_of t + 1) (omega arith))))
     | inr none ↦ absurd none
   ]
 ]
@@ -276,12 +264,12 @@ near_pawn F Black s t some = elim some [
   | inl r ↦
       let one : r.count ≡ 1 = (let m = r.moves in let w = r.within in omega arith) in
       let h = r.away.along in let g = r.away.across in
-      both_true _ _ (eq-eqb (rank_of s) (rank_of t + 1) (omega arith)) (one_of_two _ _ (inl (eq-eqb (file_of t) (file_of s + 1) (omega arith))))
+      and_from _ _ (eq-eqb (rank_of s) (rank_of t + 1) (omega arith)) (one_of_two _ _ (inl (eq-eqb (file_of t) (file_of s + 1) (omega arith))))
   | inr some ↦ elim some [
     | inl r ↦
         let one : r.count ≡ 1 = (let m = r.moves in let w = r.within in omega arith) in
         let h = r.away.along in let g = r.away.across in
-        both_true _ _ (eq-eqb (rank_of s) (rank_of t + 1) (omega arith)) (one_of_two _ _ (inr (eq-eqb (file_of s) (file_of t + 1) (omega arith))))
+        and_from _ _ (eq-eqb (rank_of s) (rank_of t + 1) (omega arith)) (one_of_two _ _ (inr (eq-eqb (file_of s) (file_of t + 1) (omega arith))))
     | inr none ↦ absurd none
   ]
 ]
@@ -295,7 +283,7 @@ near_of F side B s t r = aligned_of s t (diagonal_line F 7 s t r)
 near_of F side N s t r = within_of F 2 s t knight_steps refl r
 near_of F side P s t r = near_pawn F side s t r
 near_of F side K s t r =
-    both_true (not (eqb s t)) (within 1 s t)
+    and_from (not (eqb s t)) (within 1 s t)
     (apart_true s t (elim (OneOf-append (Rides F 1 s t) straight_steps diagonal_steps r) [ inl h ↦ straight_apart F 1 s t h | inr h ↦ diagonal_apart F 1 s t h ]))
     (within_of F 1 s t (steps_of side K) refl r)
 
@@ -308,14 +296,14 @@ ahead_of : (F : ℕ → Type 0) (side : Side) (s t : ℕ) → Advances F side s 
 unfolding near_ahead further
 ahead_of F White s t a =
     let g = a.rides.away.across in
-    both_true _ _ (eq-eqb (file_of s) (file_of t) (omega arith)) (one_of_two _ _ (go (one_or_two _ a.rides.count a.rides.moves a.rides.within)))
+    and_from _ _ (eq-eqb (file_of s) (file_of t) (omega arith)) (one_of_two _ _ (go (one_or_two _ a.rides.count a.rides.moves a.rides.within)))
   where
     go : (a.rides.count ≡ 1) ⊎ (a.rides.count ≡ 2) → (eqb (rank_of t) (rank_of s + 1) ≡ true) ⊎ (eqb (rank_of t) (rank_of s + 2) ≡ true)
     go (inl one) = let h = a.rides.away.along in inl (eq-eqb (rank_of t) (rank_of s + 1) (omega arith))
     go (inr two) = let h = a.rides.away.along in inr (eq-eqb (rank_of t) (rank_of s + 2) (omega arith))
 ahead_of F Black s t a =
     let g = a.rides.away.across in
-    both_true _ _ (eq-eqb (file_of s) (file_of t) (omega arith)) (one_of_two _ _ (go (one_or_two _ a.rides.count a.rides.moves a.rides.within)))
+    and_from _ _ (eq-eqb (file_of s) (file_of t) (omega arith)) (one_of_two _ _ (go (one_or_two _ a.rides.count a.rides.moves a.rides.within)))
   where
     go : (a.rides.count ≡ 1) ⊎ (a.rides.count ≡ 2) → (eqb (rank_of s) (rank_of t + 1) ≡ true) ⊎ (eqb (rank_of s) (rank_of t + 2) ≡ true)
     go (inl one) = let h = a.rides.away.along in inl (eq-eqb (rank_of s) (rank_of t + 1) (omega arith))

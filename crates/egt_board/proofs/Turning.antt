@@ -24,7 +24,7 @@ use Rattle.egt_board.specs.Square.{rank_of}
 use Rattle.egt_board.specs.Pawn.{pawn_of, ahead, PawnsFit, HasNoPawn}
 use Rattle.egt_board.specs.Target.{target_rank, IsTarget, FitsTarget}
 use Rattle.egt_board.proofs.Bits.{not_both}
-use Rattle.egt_board.specs.MirrorLaws.{Suits, suits_of, square_by-within, square_by-twice, ShowsMen, OnBoard, stands_back, attacked_back, side_by-turned, side_by-turned_twice, man_by-twice}
+use Rattle.egt_board.specs.MirrorLaws.{ahead_by, target_between, Suits, suits_of, square_by-within, square_by-twice, ShowsMen, OnBoard, stands_back, attacked_back, side_by-turned, side_by-turned_twice, man_by-twice}
 
 -- the men on squares that are no longer left stand in the mirror
 pub record Turns (m : Mirror) (men board : Placement) (rest : SquareSet) : Type 0 where
@@ -70,22 +70,9 @@ stands_by m men men' s man shows s_in stands = shows s s_in ∙ ap (option_map (
 free_by : (m : Mirror) (men men' : Placement) (s : ℕ) → ShowsMen m men men' → s < 64 → IsFree men s → IsFree men' (square_by m s)
 free_by m men men' s shows s_in free = shows s s_in ∙ ap (option_map (man_by m)) free
 
--- forward stays forward for the side that the side becomes
-pub ahead_files : (side : Side) (t : ℕ) → 0 < rank_of t → rank_of t < 7 → square_by Files (ahead side t) ≡ ahead side (square_by Files t)
-ahead_files White t low high = omega arith
-ahead_files Black t low high = omega arith
-
-pub ahead_colours : (side : Side) (t : ℕ) → 0 < rank_of t → rank_of t < 7 → square_by Colours (ahead side t) ≡ ahead (other_side side) (square_by Colours t)
-ahead_colours White t low high = omega arith
-ahead_colours Black t low high = omega arith
-
 pub ahead_within : (side : Side) (t : ℕ) → 0 < rank_of t → rank_of t < 7 → ahead side t < 64
 ahead_within White t low high = omega arith
 ahead_within Black t low high = omega arith
-
-pub target_between : (mover : Side) (t : ℕ) → rank_of t ≡ target_rank mover → (0 < rank_of t) × (rank_of t < 7)
-target_between White t e = (omega arith, omega arith)
-target_between Black t e = (omega arith, omega arith)
 
 rank_colours : (mover : Side) (t : ℕ) → rank_of t ≡ target_rank mover → rank_of (square_by Colours t) ≡ target_rank (other_side mover)
 rank_colours White t e = omega arith
@@ -98,8 +85,8 @@ target_by Files men men' mover t allows shows is =
     record {
       rank = (let e = is.rank in omega arith);
       empty = free_by Files men men' t shows (let h = b.1 in omega arith) is.empty;
-      left = subst (IsFree men') (ahead_files mover t b.0 b.1) (free_by Files men men' (ahead mover t) shows (ahead_within mover t b.0 b.1) is.left);
-      advanced = subst (λ x. Stands men' x (pawn_of (other_side mover))) (ahead_files (other_side mover) t b.0 b.1) (stands_by Files men men' (ahead (other_side mover) t) (pawn_of (other_side mover)) shows (ahead_within (other_side mover) t b.0 b.1) is.advanced);
+      left = subst (IsFree men') (ahead_by Files mover t tt b.0 b.1) (free_by Files men men' (ahead mover t) shows (ahead_within mover t b.0 b.1) is.left);
+      advanced = subst (λ x. Stands men' x (pawn_of (other_side mover))) (ahead_by Files (other_side mover) t tt b.0 b.1) (stands_by Files men men' (ahead (other_side mover) t) (pawn_of (other_side mover)) shows (ahead_within (other_side mover) t b.0 b.1) is.advanced);
     }
 target_by Ranks men men' mover t allows shows is = absurd (allows _ _ is.advanced refl)
 target_by Diagonal men men' mover t allows shows is = absurd (allows _ _ is.advanced refl)
@@ -108,17 +95,13 @@ target_by Colours men men' mover t allows shows is =
     record {
       rank = rank_colours mover t is.rank;
       empty = free_by Colours men men' t shows (let h = b.1 in omega arith) is.empty;
-      left = subst (IsFree men') (ahead_colours mover t b.0 b.1) (free_by Colours men men' (ahead mover t) shows (ahead_within mover t b.0 b.1) is.left);
-      advanced = subst (λ x. Stands men' x (pawn_of (other_side (other_side mover)))) (ahead_colours (other_side mover) t b.0 b.1) (stands_by Colours men men' (ahead (other_side mover) t) (pawn_of (other_side mover)) shows (ahead_within (other_side mover) t b.0 b.1) is.advanced);
+      left = subst (IsFree men') (ahead_by Colours mover t tt b.0 b.1) (free_by Colours men men' (ahead mover t) shows (ahead_within mover t b.0 b.1) is.left);
+      advanced = subst (λ x. Stands men' x (pawn_of (other_side (other_side mover)))) (ahead_by Colours (other_side mover) t tt b.0 b.1) (stands_by Colours men men' (ahead (other_side mover) t) (pawn_of (other_side mover)) shows (ahead_within (other_side mover) t b.0 b.1) is.advanced);
     }
 
 targets_by : (m : Mirror) (men men' : Placement) (mover : Side) (target : Option ℕ) → Allows m men → ShowsMen m men men' → FitsTarget men mover target → FitsTarget men' (side_by m mover) (option_map (square_by m) target)
 targets_by m men men' mover None allows shows fits = tt
 targets_by m men men' mover (Some t) allows shows is = target_by m men men' mover t allows shows is
-
--- no pawn comes by a mirror
-pub no_pawn_by : (m : Mirror) (men men' : Placement) → ShowsMen m men men' → OnBoard men' → HasNoPawn men → HasNoPawn men'
-no_pawn_by m men men' shows ok' none = λ t man stands. none (square_by m t) (man_by m man) (stands_back m men men' shows t man (ok' t man stands) stands)
 
 -- a mirrored position is admissible
 pub admissible_by : (m : Mirror) (p : Setup) (men' : Placement) (target : Option ℕ) → IsAdmissible p → Allows m p.men → ShowsMen m p.men men' → OnBoard men' → map.len men' ≤ map.len p.men → target ≡ option_map (square_by m) p.target

@@ -1,7 +1,7 @@
 -- Laws of mirrors: they keep what men reach and attack.
 use Rattle.std.proofs.Common.{◌≡◌, ◌≢◌, ℕ, ◌+◌, ◌-◌, ◌*◌, ◌<◌, Bool, true, false, ◌&&◌, ◌||◌, eqb, ◌==◌, if◌then◌else◌, List, [], ◌∷◌, arith, refl, sym, ap, ◌∙◌, subst, inl, inr, Option, Some, None}
 use Rattle.std.specs.List.{list_any, list_all}
-use Rattle.std.proofs.lemmas.Bool.{false≢true, eqb-true, eq-eqb}
+use Rattle.std.proofs.lemmas.Bool.{false≢true, eqb-true, eq-eqb, and_parts}
 use Rattle.std.proofs.lemmas.Bool.Decides.{eqb_tells}
 use Rattle.std.specs.Option.{option_map}
 use Rattle.std.specs.FinMap as map
@@ -23,7 +23,8 @@ use Rattle.egt_board.specs.Coordinate.{Further}
 use Rattle.egt_board.specs.Step.{Away}
 use Rattle.egt_board.specs.Gait.{Rides, OneOf, Reaches, farthest, steps_of}
 use Rattle.egt_board.specs.Mirror.{square_by, side_by, man_by, Allows}
-use Rattle.egt_board.specs.Pawn.{forward, ahead, home_rank, last_rank, farthest_advance, Advances}
+use Rattle.egt_board.specs.Pawn.{forward, ahead, home_rank, last_rank, farthest_advance, Advances, HasNoPawn}
+use Rattle.egt_board.specs.Target.{target_rank}
 
 pub square_by-within : (m : Mirror) (s : ℕ) → s < 64 → square_by m s < 64
 square_by-within Files s h = omega arith
@@ -146,14 +147,6 @@ same_way _ _ = false
 same_step : Step → Step → Bool
 same_step d e = same_way d.files e.files && (eqb d.wide e.wide && (same_way d.ranks e.ranks && eqb d.high e.high))
 
-left_true : (a b : Bool) → (a && b) ≡ true → a ≡ true
-left_true true b e = refl
-left_true false b e = e
-
-right_true : (a b : Bool) → (a && b) ≡ true → b ≡ true
-right_true true b e = e
-right_true false b e = absurd (false≢true e)
-
 same_way-is : (v w : Way) → same_way v w ≡ true → v ≡ w
 unfolding same_way
 same_way-is Up Up e = refl
@@ -169,12 +162,12 @@ same_way-is Still Down e = absurd (false≢true e)
 same_step-is : (d e : Step) → same_step d e ≡ true → d ≡ e
 unfolding same_step
 same_step-is d e h =
-    let files = same_way-is d.files e.files (left_true _ _ h) in
-    let rest = right_true (same_way d.files e.files) _ h in
-    let wide = eqb-true d.wide e.wide (left_true _ _ rest) in
-    let more = right_true (eqb d.wide e.wide) _ rest in
-    let ranks = same_way-is d.ranks e.ranks (left_true _ _ more) in
-    let high = eqb-true d.high e.high (right_true (same_way d.ranks e.ranks) _ more) in
+    let files = same_way-is d.files e.files (and_parts _ _ h).0 in
+    let rest = (and_parts (same_way d.files e.files) _ h).1 in
+    let wide = eqb-true d.wide e.wide (and_parts _ _ rest).0 in
+    let more = (and_parts (eqb d.wide e.wide) _ rest).1 in
+    let ranks = same_way-is d.ranks e.ranks (and_parts _ _ more).0 in
+    let high = eqb-true d.high e.high (and_parts (same_way d.ranks e.ranks) _ more).1 in
     λ i. record { files = files i; wide = wide i; ranks = ranks i; high = high i }
 
 -- a step of the list, found by a test
@@ -190,8 +183,8 @@ found_step Holds d (e ∷ es) some p = by_test (same_step d e) refl (λ h. found
 OneOf-by : (m : Mirror) (Holds Kept : Step → Type 0) (ds es : List Step) → list_all (λ d. list_any (same_step (step_by m d)) es) ds ≡ true → ((d : Step) → Holds d → Kept (step_by m d)) → OneOf Holds ds → OneOf Kept es
 OneOf-by m Holds Kept [] es all h none = absurd none
 OneOf-by m Holds Kept (d ∷ ds) es all h some = elim some [
-  | inl p ↦ found_step Kept (step_by m d) es (left_true _ _ all) (h d p)
-  | inr rest ↦ OneOf-by m Holds Kept ds es (right_true (list_any (same_step (step_by m d)) es) _ all) h rest
+  | inl p ↦ found_step Kept (step_by m d) es (and_parts _ _ all).0 (h d p)
+  | inr rest ↦ OneOf-by m Holds Kept ds es (and_parts (list_any (same_step (step_by m d)) es) _ all).1 h rest
 ]
 
 abbrev Keeps : Mirror → Side → Kind → Type 0
@@ -372,3 +365,12 @@ Advances-by m F G side s t suits s_in free a = record {
       (subst (Rides G (farthest_advance side s) (square_by m s) (square_by m t)) (step_by-forward m side suits) (Rides-by m F G (farthest_advance side s) s t (forward side) s_in free a.rides));
   free = free t a.rides.away.on_board a.free;
 }
+
+-- no pawn comes by a mirror
+pub no_pawn_by : (m : Mirror) (men men' : Placement) → ShowsMen m men men' → OnBoard men' → HasNoPawn men → HasNoPawn men'
+no_pawn_by m men men' shows ok' none = λ t man stands. none (square_by m t) (man_by m man) (stands_back m men men' shows t man (ok' t man stands) stands)
+
+-- a target lies between the first rank and the last
+pub target_between : (mover : Side) (t : ℕ) → rank_of t ≡ target_rank mover → (0 < rank_of t) × (rank_of t < 7)
+target_between White t e = (omega arith, omega arith)
+target_between Black t e = (omega arith, omega arith)

@@ -3,7 +3,7 @@ use Rattle.std.proofs.Common.{◌≡◌, ◌≢◌, ℕ, ◌<◌, ◌≤◌, ◌
 use Rattle.std.specs.Option.{is_some}
 use Rattle.std.specs.Cmp.{nat_cmp_total}
 use Rattle.std.specs.FinMap as map
-use Rattle.std.proofs.lemmas.Bool.{cases_eq, false≢true, eq-eqb}
+use Rattle.std.proofs.lemmas.Bool.{cases_eq, false≢true, eq-eqb, and_parts}
 use Rattle.std.proofs.lemmas.Bool.Decides.{eqb_tells}
 use Rattle.egt_board.specs.declared.man.Side.{Side}
 use Rattle.egt_board.specs.declared.man.Side.TheVariants.{White, Black}
@@ -167,14 +167,6 @@ pawn_told B e = absurd (false≢true e)
 pawn_told N e = absurd (false≢true e)
 pawn_told K e = absurd (false≢true e)
 
-pub left_true : (a b : Bool) → (a && b) ≡ true → a ≡ true
-left_true true b e = refl
-left_true false b e = e
-
-pub right_true : (a b : Bool) → (a && b) ≡ true → b ≡ true
-right_true true b e = e
-right_true false b e = absurd (false≢true e)
-
 -- two ranks lie between
 pub two_ranks_told : (s t : ℕ) → is_two_ranks s t ≡ true → (rank_of t ≡ rank_of s + 2) ⊎ (rank_of s ≡ rank_of t + 2)
 two_ranks_told s t e = elim (eqb_tells (rank_of t) (rank_of s + 2)) [
@@ -256,7 +248,7 @@ not_promoted man to promo not_last fits = by_test (promotes man to) refl promo f
     by_test false e (Some kind) f = absurd f
     by_test true e o f = elim (eqb_tells (rank_of to) (last_rank man.side)) [
       | inl h ↦ absurd (not_last h.1)
-      | inr h ↦ absurd (false≢true (sym h.0 ∙ right_true (is_pawn man.kind) _ e))
+      | inr h ↦ absurd (false≢true (sym h.0 ∙ (and_parts (is_pawn man.kind) _ e).1))
     ]
 
 pub not_two : (n : ℕ) → n ≡ 1 → n ≡ 2 → ⊥
@@ -288,7 +280,7 @@ target_after p man m mine goes fits ok = by_test (is_pawn man.kind && is_two_ran
     by_test false e = tt
     by_test true e =
         subst (λ side. IsTarget (men_after p man m) (other_side side) ((m.from + m.to) / 2)) mine
-        (target_there p man m goes fits ok (pawn_told man.kind (left_true (is_pawn man.kind) _ e)) (two_ranks_told m.from m.to (right_true (is_pawn man.kind) _ e)))
+        (target_there p man m goes fits ok (pawn_told man.kind (and_parts (is_pawn man.kind) _ e).0) (two_ranks_told m.from m.to (and_parts (is_pawn man.kind) _ e).1))
 
 -- what a legal move leads to is admissible
 pub admissible_after : (p : Setup) (man : Man) (m : Move) → Stands p.men m.from man → man.side ≡ p.side → Goes p man m.from m.to → FitsPromotion (promotes man m.to) m.promo → IsAdmissible p → ¬ IsInCheck (men_after p man m) p.side → IsAdmissible (after p man m)

@@ -2,7 +2,7 @@
 use Rattle.std.proofs.Common.{◌≡◌, ◌≢◌, ℕ, ◌+◌, ◌*◌, ◌<◌, ◌≤◌, ◌↔◌, ◌⊎◌, List, [], ◌∷◌, ◌++◌, length, Bool, true, false, Option, Some, None, arith, refl, sym, ap, ◌∙◌, inl, inr, subst}
 use Rattle.std.specs.Int.{bit_at}
 use Rattle.std.specs.List.{Contains}
-use Rattle.std.proofs.lemmas.Bool.{cases_eq, cases_lt}
+use Rattle.std.proofs.lemmas.Bool.{cases_eq, cases_lt, and_parts}
 use Rattle.std.proofs.lemmas.List.Elements.{Contains-push, Contains-push_cases, Contains-append_left}
 use Rattle.std.proofs.lemmas.List.{length-append}
 use Rattle.egt_board.specs.declared.man.Kind.{Kind}
@@ -20,7 +20,7 @@ use Rattle.egt_moves.specs.Legal.{Leads, IsLegal, men_after, after, plain}
 use Rattle.egt_moves.specs.Room.{most_goals, most_choices, most_moves}
 use Rattle.egt_moves.specs.Order.{place_of, promotion_place, IsInOrder}
 use Rattle.egt_moves.proofs.After.{one_man, not_king_of, may_become, check_whatever}
-use Rattle.egt_moves.proofs.Admissible.{pawn_told, left_true}
+use Rattle.egt_moves.proofs.Admissible.{pawn_told}
 use Rattle.egt_moves.proofs.InOrder.{IsInOrder-push}
 
 not_both : {A : Type 0} (n : ℕ) → n ≡ 0 → n ≡ 1 → A
@@ -46,7 +46,7 @@ promoted_pawn : (man : Man) (to : ℕ) (kind : Kind) → FitsPromotion (promotes
 promoted_pawn man to kind fits = by_test (promotes man to) refl fits
   where
     by_test : (b : Bool) → promotes man to ≡ b → FitsPromotion b (Some kind) → man.kind ≡ P
-    by_test true e f = pawn_told man.kind (left_true (is_pawn man.kind) _ e)
+    by_test true e f = pawn_told man.kind (and_parts (is_pawn man.kind) _ e).0
     by_test false e f = absurd f
 
 -- the king is safe whatever a pawn becomes

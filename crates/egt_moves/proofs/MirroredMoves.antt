@@ -2,7 +2,7 @@
 use Rattle.std.proofs.Common.{◌≡◌, ◌≢◌, ℕ, ◌+◌, ◌/◌, ◌==◌, ◌<◌, ◌⊎◌, ◌&&◌, ◌||◌, Bool, true, false, if◌then◌else◌, Option, Some, None, arith, refl, sym, ap, ◌∙◌, subst, inl, inr}
 use Rattle.std.specs.Option.{option_map}
 use Rattle.std.specs.FinMap as map
-use Rattle.std.proofs.lemmas.Bool.{cases_eq, false≢true}
+use Rattle.std.proofs.lemmas.Bool.{cases_eq, false≢true, and_parts}
 use Rattle.std.proofs.lemmas.Bool.Decides.{eqb_tells}
 use Rattle.egt_board.specs.declared.mirror.Mirror.{Mirror}
 use Rattle.egt_board.specs.declared.mirror.Mirror.TheVariants.{Files, Ranks, Diagonal, Colours}
@@ -29,25 +29,17 @@ use Rattle.egt_moves.specs.Likeness.{Alike, HasLike}
 use Rattle.egt_board.specs.Mirrored.{AreMirrored}
 use Rattle.egt_moves.specs.Standing.{IsCheckmate}
 use Rattle.egt_moves.proofs.After.{target_is, after_to, after_from, after_other, after_cases, goes_on_board}
-use Rattle.egt_moves.proofs.Admissible.{admissible_after, arrived_pawn, pawn_told, left_true, right_true, Forward, takes_forward_of, two_ranks_told, two_forward, not_two, Leap, leap}
-
--- no pawn comes by a mirror
-pub no_pawn_by : (m : Mirror) (men men' : Placement) → mirrors.ShowsMen m men men' → mirrors.OnBoard men' → HasNoPawn men → HasNoPawn men'
-no_pawn_by m men men' shows ok' none = λ s man stands. none (square_by m s) (man_by m man) (mirrors.stands_back m men men' shows s man (ok' s man stands) stands)
+use Rattle.egt_moves.proofs.Admissible.{admissible_after, arrived_pawn, pawn_told, Forward, takes_forward_of, two_ranks_told, two_forward, not_two, Leap, leap}
 
 -- so a mirror that the men allow is allowed by their image
 allows_by : (m : Mirror) (men men' : Placement) → mirrors.ShowsMen m men men' → mirrors.OnBoard men' → Allows m men → Allows m men'
 allows_by Files men men' shows ok' allows = tt
-allows_by Ranks men men' shows ok' allows = no_pawn_by Ranks men men' shows ok' allows
-allows_by Diagonal men men' shows ok' allows = no_pawn_by Diagonal men men' shows ok' allows
+allows_by Ranks men men' shows ok' allows = mirrors.no_pawn_by Ranks men men' shows ok' allows
+allows_by Diagonal men men' shows ok' allows = mirrors.no_pawn_by Diagonal men men' shows ok' allows
 allows_by Colours men men' shows ok' allows = tt
 
-target_between : (mover : Side) (t : ℕ) → rank_of t ≡ target_rank mover → (0 < rank_of t) × (rank_of t < 7)
-target_between White t e = (omega arith, omega arith)
-target_between Black t e = (omega arith, omega arith)
-
 target_within : (p : Setup) (t : ℕ) → IsAdmissible p → p.target ≡ Some t → t < 64
-target_within p t ok e = let high = (target_between p.side t (target_is p t ok e).rank).1 in omega arith
+target_within p t ok e = let high = (mirrors.target_between p.side t (target_is p t ok e).rank).1 in omega arith
 
 -- the mirror seen from its other side
 pub back_again : (m : Mirror) (p p' : Setup) → AreMirrored m p p' → AreMirrored m p' p
@@ -193,8 +185,8 @@ left_there m p p' man to t r suits to_in t_in = by_test (takes_in_passing p man 
 
     removed : takes_in_passing p man to ≡ true → either true
     removed e =
-        let pawn = pawn_told man.kind (left_true (is_pawn man.kind) _ e) in
-        let between = target_between p.side to (target_is p to r.here (target_told p.target to (right_true (is_pawn man.kind) _ e))).rank in
+        let pawn = pawn_told man.kind (and_parts (is_pawn man.kind) _ e).0 in
+        let between = mirrors.target_between p.side to (target_is p to r.here (target_told p.target to (and_parts (is_pawn man.kind) _ e).1)).rank in
         let same : taken' ≡ square_by m taken =
         ap (λ side. ahead side (square_by m to)) (sym (other_side_there m p p' r)) ∙ sym (mirrors.ahead_by m (other_side p.side) to (subst (mirrors.Suits m) pawn suits) between.0 between.1) in
         let taken_in = ahead_within (other_side p.side) to between.0 between.1 in
@@ -311,7 +303,7 @@ passed_there m p man from to suits from_in goes = by_test (is_pawn man.kind && i
         ∙ sym (ap (λ b. option_map (square_by m) (if b then Some ((from + to) / 2) else None)) e)
     by_test true e =
         ap (λ b. if b then Some ((square_by m from + square_by m to) / 2) else None) (same man.kind suits ∙ e)
-        ∙ ap Some (halfway (pawn_told man.kind (left_true (is_pawn man.kind) _ e)) (two_ranks_told from to (right_true (is_pawn man.kind) _ e)) goes)
+        ∙ ap Some (halfway (pawn_told man.kind (and_parts (is_pawn man.kind) _ e).0) (two_ranks_told from to (and_parts (is_pawn man.kind) _ e).1) goes)
         ∙ sym (ap (λ b. option_map (square_by m) (if b then Some ((from + to) / 2) else None)) e)
 
 -- a legal move has its like in the mirror

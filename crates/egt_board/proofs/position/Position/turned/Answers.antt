@@ -1,4 +1,4 @@
-use Rattle.egt_board.proofs.Turning.{no_pawn_by}
+use Rattle.egt_board.specs.MirrorLaws.{no_pawn_by}
 use Rattle.egt_board.proofs.position.Position.turned.Goals as goal
 
 pub returns-then-turns-clause-no_pawn : goal.returns-then-turns-clause-no_pawn
