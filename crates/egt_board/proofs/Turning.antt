@@ -21,7 +21,7 @@ use Rattle.egt_board.specs.Attack.{king_of, IsAttacked}
 use Rattle.egt_board.specs.Setup.{Setup, IsAdmissible, IsKingOn, HasKings}
 use Rattle.egt_board.specs.Mirror.{square_by, side_by, man_by, Allows}
 use Rattle.egt_board.specs.Square.{rank_of}
-use Rattle.egt_board.specs.Pawn.{pawn_of, ahead, PawnsFit, HasNoPawn}
+use Rattle.egt_board.specs.Pawn.{pawn_of, ahead, PawnsFit}
 use Rattle.egt_board.specs.Target.{target_rank, IsTarget, FitsTarget}
 use Rattle.egt_board.proofs.Bits.{not_both}
 use Rattle.egt_board.specs.MirrorLaws.{ahead_by, target_between, Suits, suits_of, square_by-within, square_by-twice, ShowsMen, OnBoard, stands_back, attacked_back, side_by-turned, side_by-turned_twice, man_by-twice}

@@ -1,9 +1,9 @@
 -- What a legal move leads to is admissible.
-use Rattle.std.proofs.Common.{◌≡◌, ◌≢◌, ℕ, ◌<◌, ◌≤◌, ◌+◌, ◌-◌, ◌/◌, ◌*◌, ◌⊎◌, ◌&&◌, ◌||◌, Option, Some, None, cond, true, false, Bool, arith, refl, sym, ap, ◌∙◌, inl, inr, subst, if◌then◌else◌, ◌==◌}
+use Rattle.std.proofs.Common.{◌≡◌, ◌≢◌, ℕ, ◌<◌, ◌≤◌, ◌+◌, ◌-◌, ◌/◌, ◌⊎◌, ◌&&◌, ◌||◌, Option, Some, None, cond, true, false, Bool, arith, refl, sym, ap, ◌∙◌, inl, inr, subst, if◌then◌else◌, ◌==◌}
 use Rattle.std.specs.Option.{is_some}
 use Rattle.std.specs.Cmp.{nat_cmp_total}
 use Rattle.std.specs.FinMap as map
-use Rattle.std.proofs.lemmas.Bool.{cases_eq, false≢true, eq-eqb, and_parts}
+use Rattle.std.proofs.lemmas.Bool.{false≢true, eq-eqb, and_parts}
 use Rattle.std.proofs.lemmas.Bool.Decides.{eqb_tells}
 use Rattle.egt_board.specs.declared.man.Side.{Side}
 use Rattle.egt_board.specs.declared.man.Side.TheVariants.{White, Black}
@@ -12,17 +12,17 @@ use Rattle.egt_board.specs.declared.man.Kind.TheVariants.{Q, R, B, N, P, K}
 use Rattle.egt_board.specs.declared.man.Man.{Man}
 use Rattle.egt_board.specs.Man.{other_side}
 use Rattle.egt_board.specs.Square.{file_of, rank_of}
-use Rattle.egt_board.specs.Placement.{Placement, Stands, IsFree}
-use Rattle.egt_board.specs.Pawn.{ahead, pawn_of, last_rank, home_rank, forward, farthest_advance, Advances, PawnsFit}
+use Rattle.egt_board.specs.Placement.{Stands, IsFree}
+use Rattle.egt_board.specs.Pawn.{ahead, pawn_of, last_rank, home_rank, farthest_advance, Advances, PawnsFit}
 use Rattle.egt_board.specs.Target.{IsTarget, FitsTarget, target_rank}
 use Rattle.egt_board.specs.Gait.{Rides, OneOf, farthest, steps_of, pawn_steps}
 use Rattle.egt_board.specs.Attack.{IsInCheck}
 use Rattle.egt_board.specs.Setup.{Setup, IsAdmissible, IsKingOn, HasKings}
 use Rattle.egt_moves.specs.declared.chess_move.Move.{Move}
-use Rattle.egt_moves.specs.Going.{Goes, PieceGoes, PawnAdvances, PawnTakes}
+use Rattle.egt_moves.specs.Going.{Goes, PawnTakes}
 use Rattle.egt_moves.specs.Promotion.{is_pawn, promotes, IsOfficer, FitsPromotion, arriving}
 use Rattle.egt_moves.specs.Legal.{men_left, men_after, is_two_ranks, passed, after}
-use Rattle.egt_moves.proofs.After.{one_man, not_free, left_cases, left_keeps, left_free, after_to, after_from, after_other, after_cases, goes_on_board, king_moves, king_stays, other_king_stays, may_become, side_twice, sides_differ}
+use Rattle.egt_moves.proofs.After.{left_cases, left_keeps, left_free, after_to, after_from, after_other, after_cases, goes_on_board, king_moves, king_stays, other_king_stays, may_become, side_twice, sides_differ}
 
 -- no more men than before
 len_left : (p : Setup) (man : Man) (to : ℕ) → IsAdmissible p → map.len (men_left p man to) ≤ map.len p.men

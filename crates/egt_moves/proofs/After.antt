@@ -1,9 +1,7 @@
 -- The men after a move.
-use Rattle.std.proofs.Common.{◌≡◌, ◌≢◌, ℕ, ◌<◌, ◌≤◌, ◌+◌, ◌-◌, ◌*◌, ◌⊎◌, ◌&&◌, Option, Some, None, cond, true, false, Bool, arith, refl, sym, ap, ◌∙◌, inl, inr, subst, if◌then◌else◌, IfSome}
-use Rattle.std.specs.Option.{is_some}
-use Rattle.std.specs.Cmp.{nat_cmp_total}
+use Rattle.std.proofs.Common.{◌≡◌, ◌≢◌, ℕ, ◌<◌, ◌⊎◌, ◌&&◌, Option, Some, None, true, false, Bool, refl, sym, ap, ◌∙◌, inl, inr, subst, if◌then◌else◌, IfSome}
 use Rattle.std.specs.FinMap as map
-use Rattle.std.proofs.lemmas.Bool.{cases_eq, false≢true}
+use Rattle.std.proofs.lemmas.Bool.{cases_eq}
 use Rattle.std.proofs.lemmas.Bool.Decides.{eqb_tells}
 use Rattle.egt_board.specs.declared.man.Side.{Side}
 use Rattle.egt_board.specs.declared.man.Side.TheVariants.{White, Black}
@@ -15,12 +13,12 @@ use Rattle.egt_board.specs.Placement.{Placement, Stands, IsFree, IsHeld, get-ins
 use Rattle.egt_board.specs.Pawn.{ahead, pawn_of}
 use Rattle.egt_board.specs.Target.{IsTarget}
 use Rattle.egt_board.specs.Gait.{Reaches, Reaches-on_board, Reaches-free}
-use Rattle.egt_board.specs.Attack.{king_of, IsInCheck, IsAttacked}
+use Rattle.egt_board.specs.Attack.{king_of, IsInCheck}
 use Rattle.egt_board.specs.Setup.{Setup, IsAdmissible, IsKingOn}
 use Rattle.egt_moves.specs.declared.chess_move.Move.{Move}
-use Rattle.egt_moves.specs.Going.{Goes, PieceGoes, PawnAdvances, PawnTakes}
-use Rattle.egt_moves.specs.Promotion.{is_pawn, promotes, IsOfficer, FitsPromotion, arriving}
-use Rattle.egt_moves.specs.Legal.{is_target, takes_in_passing, men_left, men_after, plain}
+use Rattle.egt_moves.specs.Going.{Goes}
+use Rattle.egt_moves.specs.Promotion.{is_pawn, IsOfficer, FitsPromotion, arriving}
+use Rattle.egt_moves.specs.Legal.{is_target, takes_in_passing, men_left, men_after}
 
 pub sides_differ : (side : Side) → side ≡ other_side side → ⊥
 sides_differ White e = cc

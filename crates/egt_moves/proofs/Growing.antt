@@ -1,27 +1,24 @@
 -- The list of moves as it grows.
-use Rattle.std.proofs.Common.{◌≡◌, ◌≢◌, ℕ, ◌+◌, ◌*◌, ◌<◌, ◌≤◌, ◌↔◌, ◌⊎◌, List, [], ◌∷◌, ◌++◌, length, Bool, true, false, Option, Some, None, arith, refl, sym, ap, ◌∙◌, inl, inr, subst}
+use Rattle.std.proofs.Common.{◌≡◌, ◌≢◌, ℕ, ◌+◌, ◌*◌, ◌<◌, ◌≤◌, ◌↔◌, ◌⊎◌, List, length, Bool, true, false, Option, Some, None, arith, refl, sym, ap, ◌∙◌, inl, inr, subst}
 use Rattle.std.specs.Int.{bit_at}
 use Rattle.std.specs.List.{Contains}
 use Rattle.std.proofs.lemmas.Bool.{cases_eq, cases_lt, and_parts}
-use Rattle.std.proofs.lemmas.List.Elements.{Contains-push, Contains-push_cases, Contains-append_left}
-use Rattle.std.proofs.lemmas.List.{length-append}
 use Rattle.egt_board.specs.declared.man.Kind.{Kind}
 use Rattle.egt_board.specs.declared.man.Kind.TheVariants.{Q, R, B, N, P, K}
 use Rattle.egt_board.specs.declared.man.Man.{Man}
 use Rattle.egt_board.specs.declared.square_set.SquareSet.{SquareSet}
-use Rattle.egt_board.specs.Placement.{Stands, IsHeld}
+use Rattle.egt_board.specs.Placement.{Stands}
 use Rattle.egt_board.specs.SquareSet.{Has, size_of}
 use Rattle.egt_board.specs.Attack.{IsInCheck}
 use Rattle.egt_board.specs.Setup.{Setup}
 use Rattle.egt_moves.specs.declared.chess_move.Move.{Move}
 use Rattle.egt_moves.specs.Going.{Goes}
-use Rattle.egt_moves.specs.Promotion.{is_pawn, promotes, FitsPromotion, arriving}
-use Rattle.egt_moves.specs.Legal.{Leads, IsLegal, men_after, after, plain}
+use Rattle.egt_moves.specs.Promotion.{is_pawn, promotes, FitsPromotion}
+use Rattle.egt_moves.specs.Legal.{IsLegal, men_after, after, plain}
 use Rattle.egt_moves.specs.Room.{most_goals, most_choices, most_moves}
 use Rattle.egt_moves.specs.Order.{place_of, promotion_place, IsInOrder}
 use Rattle.egt_moves.proofs.After.{one_man, not_king_of, may_become, check_whatever}
 use Rattle.egt_moves.proofs.Admissible.{pawn_told}
-use Rattle.egt_moves.proofs.InOrder.{IsInOrder-push}
 
 not_both : {A : Type 0} (n : ℕ) → n ≡ 0 → n ≡ 1 → A
 not_both n none one = absurd (omega arith)

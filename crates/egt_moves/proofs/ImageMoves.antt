@@ -1,5 +1,5 @@
 -- Positions that mirrors lead to, one after another, play alike.
-use Rattle.std.proofs.Common.{ℕ, zero, suc, refl}
+use Rattle.std.proofs.Common.{ℕ, zero, suc}
 use Rattle.egt_board.specs.declared.mirror.Mirror.{Mirror}
 use Rattle.egt_board.specs.Setup.{Setup}
 use Rattle.egt_board.specs.Mirrored.{AreMirrored}

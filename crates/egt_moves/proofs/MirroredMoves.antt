@@ -15,7 +15,6 @@ use Rattle.egt_board.specs.Man.{other_side}
 use Rattle.egt_board.specs.Square.{rank_of}
 use Rattle.egt_board.specs.Placement.{Placement, Stands, IsFree, IsHeld, get-remove_same, get-remove_other}
 use Rattle.egt_board.specs.Pawn.{ahead, last_rank, HasNoPawn}
-use Rattle.egt_board.specs.Target.{target_rank}
 use Rattle.egt_board.specs.Attack.{king_of, IsAttacked, IsInCheck}
 use Rattle.egt_board.specs.Setup.{Setup, IsAdmissible}
 use Rattle.egt_board.specs.Mirror.{square_by, side_by, man_by, IsMirrored, Allows}

@@ -1,7 +1,6 @@
 -- The list of moves over all men of the side to move.
-use Rattle.std.proofs.Common.{◌≡◌, ◌≢◌, ℕ, ◌+◌, ◌*◌, ◌<◌, ◌≤◌, ◌↔◌, ◌⊎◌, List, [], ◌∷◌, ◌++◌, length, None, Some, arith, refl, sym, ap, ◌∙◌, inl, inr, subst}
+use Rattle.std.proofs.Common.{◌≡◌, ◌≢◌, ℕ, ◌+◌, ◌*◌, ◌<◌, ◌≤◌, ◌↔◌, ◌⊎◌, List, [], length, arith, refl, sym, ap, ◌∙◌, inl, inr, subst}
 use Rattle.std.specs.Int.{bit_at}
-use Rattle.std.specs.FinMap as map
 use Rattle.std.specs.List.{Contains}
 use Rattle.std.proofs.lemmas.Bool.{cases_eq, cases_lt}
 use Rattle.std.proofs.lemmas.Nat.Bits.{bit_at-lt}
@@ -11,15 +10,14 @@ use Rattle.egt_board.specs.declared.man.Kind.{Kind}
 use Rattle.egt_board.specs.declared.man.Kind.TheVariants.{Q, R, B, N, P, K}
 use Rattle.egt_board.specs.declared.man.Man.{Man}
 use Rattle.egt_board.specs.declared.square_set.SquareSet.{SquareSet}
-use Rattle.egt_board.specs.Placement.{Stands, IsFree, IsHeld}
-use Rattle.egt_board.specs.Gait.{Reaches-on_board}
+use Rattle.egt_board.specs.Placement.{Stands, IsHeld}
 use Rattle.egt_board.specs.SquareSet.{Has, size_of, size_of-some}
 use Rattle.egt_board.specs.Attack.{king_of}
 use Rattle.egt_board.specs.Setup.{Setup, IsAdmissible, IsKingOn}
 use Rattle.egt_moves.specs.declared.chess_move.Move.{Move}
-use Rattle.egt_moves.specs.Legal.{Leads, IsLegal}
+use Rattle.egt_moves.specs.Legal.{IsLegal}
 use Rattle.egt_moves.specs.Room.{most_moves}
-use Rattle.egt_moves.specs.Order.{place_of, promotion_place, IsInOrder}
+use Rattle.egt_moves.specs.Order.{place_of, IsInOrder}
 use Rattle.egt_moves.proofs.After.{one_man, goes_on_board}
 use Rattle.egt_moves.proofs.Growing.{promotion_small}
 

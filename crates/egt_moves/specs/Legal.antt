@@ -1,7 +1,6 @@
 -- Legal moves: FIDE Laws of Chess 2023, articles 3.1 to 3.9.
 use Rattle.std.specs.Prelude.{◌≡◌, ℕ, ◌+◌, ◌/◌, ◌==◌, ◌&&◌, ◌||◌, Bool, false, if◌then◌else◌, Option, Some, None}
 use Rattle.std.specs.FinMap as map
-use Rattle.egt_board.specs.declared.man.Side.{Side}
 use Rattle.egt_board.specs.declared.man.Man.{Man}
 use Rattle.egt_board.specs.Man.{other_side}
 use Rattle.egt_board.specs.Square.{rank_of}

@@ -21,7 +21,10 @@ fn piece_targets(position: &Position, man: Man, from: Square) -> SquareSet
     ensures goes { (t : ℕ) → Has result t ↔ PieceGoes position.now man from t }
     ensures few { size_of result ≤ most_goals man.kind }
 {
-    position.board().reach(man, from).without(position.of(man.side))
+    position
+        .board()
+        .reach(man, from)
+        .without(position.of(man.side))
 }
 
 /// The squares that an enemy man holds or a pawn has just passed.
@@ -44,7 +47,10 @@ fn pawn_targets(position: &Position, man: Man, from: Square) -> SquareSet
     ensures few { size_of result ≤ 4 }
 {
     let advances = position.board().advances(man.side, from);
-    let takes = position.board().reach(man, from).common(takeable(position, man));
+    let takes = position
+        .board()
+        .reach(man, from)
+        .common(takeable(position, man));
     advances.union(takes)
 }
 

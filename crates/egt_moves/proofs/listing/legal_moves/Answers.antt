@@ -1,5 +1,4 @@
-use Rattle.std.proofs.Common.{sym, ◌∙◌, arith, subst}
-use Rattle.egt_board.specs.Placement.{Stands}
+use Rattle.std.proofs.Common.{sym, ◌∙◌}
 use Rattle.egt_moves.proofs.Walking.{Walks-room, Walks-before, Walks-more, Walks-all}
 use Rattle.egt_moves.proofs.listing.legal_moves.Goals as goal
 

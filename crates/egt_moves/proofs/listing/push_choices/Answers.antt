@@ -1,6 +1,5 @@
-use Rattle.std.proofs.Common.{◌≡◌, ℕ, ◌≤◌, ◌+◌, sym, ap, ◌∙◌, subst, arith, rules, Some}
-use Rattle.egt_moves.specs.Promotion.{FitsPromotion}
-use Rattle.egt_moves.proofs.Choosing.{officer_place, Chosen, Chosen-none, Chosen-more, Chosen-all, plain_choice}
+use Rattle.std.proofs.Common.{◌≡◌, ℕ, ◌≤◌, sym, ◌∙◌, subst, arith}
+use Rattle.egt_moves.proofs.Choosing.{officer_place, Chosen, Chosen-more, Chosen-all, plain_choice}
 use Rattle.egt_moves.proofs.InOrder.{IsInOrder-push}
 use Rattle.egt_moves.proofs.listing.push_choices.Goals as goal
 

@@ -1,6 +1,6 @@
-use Rattle.std.proofs.Common.{arith, rules, sym, ap, ◌∙◌, subst, List, ◌+◌, ◌≤◌}
+use Rattle.std.proofs.Common.{arith, sym, ◌∙◌}
 use Rattle.std.proofs.lemmas.Bool.{false≢true}
-use Rattle.egt_moves.proofs.Growing.{Lists, Lists-none, Lists-more, Lists-all, Lists-before, Lists-room, Added, Added-all, Added-none}
+use Rattle.egt_moves.proofs.Growing.{Lists-none, Lists-more, Lists-all, Lists-before, Lists-room, Added-all, Added-none}
 use Rattle.egt_moves.proofs.listing.push_moves.Goals as goal
 
 pub loop-to-init : goal.loop-to-init

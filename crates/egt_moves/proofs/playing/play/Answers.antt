@@ -1,11 +1,11 @@
 use Rattle.std.proofs.Common.{◌≡◌, ◌∙◌, sym, ap, subst, rules}
-use Rattle.egt_board.specs.Placement.{Placement, Stands}
+use Rattle.egt_board.specs.Placement.{Stands}
 use Rattle.egt_board.specs.Setup.{Setup, IsAdmissible}
 use Rattle.egt_board.specs.Man.{other_side}
 use Rattle.egt_board.specs.Attack.{IsInCheck}
 use Rattle.egt_moves.specs.Going.{Goes}
 use Rattle.egt_moves.specs.Promotion.{FitsPromotion, promotes}
-use Rattle.egt_moves.specs.Legal.{Leads, men_after, after, passed, plain}
+use Rattle.egt_moves.specs.Legal.{men_after, after, passed, plain}
 use Rattle.std.proofs.lemmas.Bool.{false≢true}
 use Rattle.egt_moves.proofs.Growing.{fits_of, safe_of, same_safety}
 use Rattle.egt_moves.proofs.Admissible.{admissible_after}

@@ -1,6 +1,5 @@
-use Rattle.std.proofs.Common.{sym, ◌∙◌, subst}
+use Rattle.std.proofs.Common.{sym, ◌∙◌}
 use Rattle.std.proofs.lemmas.Bool.{false≢true}
-use Rattle.egt_board.specs.Attack.{IsInCheck}
 use Rattle.egt_moves.proofs.InOrder.{some_move, no_move}
 use Rattle.egt_moves.proofs.standings.standing.Goals as goal
 
