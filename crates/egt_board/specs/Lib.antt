@@ -5,6 +5,7 @@ pub mod Step
 pub mod SquareSet
 pub mod Placement
 pub mod Board
+pub mod Line
 pub mod Gait
 pub mod Attack
 pub mod Pawn

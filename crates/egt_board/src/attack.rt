@@ -8,6 +8,7 @@ ghost use Rattle.egt_board.specs.SquareSet.{Has, size_of, most_reached};
 
 use crate::board::Board;
 use crate::gait;
+use crate::line::may_attack;
 use crate::man::{Man, Side};
 use crate::square::Square;
 use crate::square_set::SquareSet;
@@ -22,6 +23,13 @@ impl Board {
         gait::reach(man, from, self.occupied())
     }
 
+    /// Whether this man on `from` attacks the square.
+    fn attacks_from(&self, man: Man, from: Square, square: Square) -> bool
+        ensures { IsTrue result ↔ Reaches (IsFree self.now) man from square }
+    {
+        may_attack(man, from, square) && self.reach(man, from).contains(square)
+    }
+
     /// Whether a man of that side attacks the square, even if it may not move itself.
     pub fn attacks(&self, square: Square, side: Side) -> bool
         ensures { IsTrue result ↔ IsAttacked self.now square side }
@@ -29,7 +37,7 @@ impl Board {
         let mut attackers = self.of(side);
         while let Some(from) = attackers.pop_first() {
             let man = self.at(from).unwrap();
-            if self.reach(man, from).contains(square) {
+            if self.attacks_from(man, from, square) {
                 return true;
             }
         }

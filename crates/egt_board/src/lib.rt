@@ -9,6 +9,7 @@ pub mod fault;
 pub mod gait;
 pub mod king;
 pub mod laws;
+pub mod line;
 pub mod listed;
 pub mod man;
 pub mod mirror;

@@ -14,8 +14,8 @@ unwrap-man-requires c =
     let held = c.loop-from.invariant.0 c.in-Some.from c.in-Some.ensures.had in
     rw (c.at.ensures, held.stands) (search rules)
 
-pub returns-then-contains : goal.returns-then-contains
-returns-then-contains c =
+pub returns-then-attacks_from : goal.returns-then-attacks_from
+returns-then-attacks_from c =
     let held = c.loop-from.invariant.0 c.in-Some.from c.in-Some.ensures.had in
     let man = c.unwrap-man.result in
     let stands = sym c.at.ensures ∙ c.unwrap-man.ensures in
@@ -25,7 +25,7 @@ returns-then-contains c =
         man = man;
         stands = stands;
         theirs = rw (← same) held.theirs;
-        reaches = (c.reach.ensures.reached c.args.square).0 (c.contains.ensures.0 c.if-contains.true);
+        reaches = c.attacks_from.ensures.0 c.if-attacks_from.true;
       },
       λ _. refl,
     )
@@ -35,7 +35,7 @@ loop-from-preserved c =
     let stands = sym c.at.ensures ∙ c.unwrap-man.ensures in (
       AreHeld-less _ _ _ _ c.in-Some.from c.in-Some.ensures.gone c.in-Some.ensures.others c.loop-from.invariant.0,
       OnlyLeft-less _ _ _ _ c.args.square c.in-Some.from c.unwrap-man.result stands
-          (λ reaches. false≢true (sym c.if-contains.false ∙ c.contains.ensures.1 ((c.reach.ensures.reached c.args.square).1 reaches)))
+          (λ reaches. false≢true (sym c.if-attacks_from.false ∙ c.attacks_from.ensures.1 reaches))
           c.in-Some.ensures.others c.loop-from.invariant.1,
     )
 
