@@ -12,6 +12,8 @@ pub use moves::moves_text;
 pub use program::run;
 
 #[cfg(test)]
+mod pawn_tests;
+#[cfg(test)]
 mod search_tests;
 #[cfg(test)]
 mod tests;

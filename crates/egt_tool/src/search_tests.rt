@@ -4,7 +4,7 @@ use std::alloc::Global;
 use std::test::Fail;
 
 /// Positions, how many plies are searched, and the line that tells what is found.
-const WORKED: [(u8, &str, &str); 5] = [
+const WORKED: [(u8, &str, &str); 10] = [
     (
         1,
         "k7/8/1K6/8/8/8/8/3Q4 b - - 0 1",
@@ -30,6 +30,32 @@ const WORKED: [(u8, &str, &str); 5] = [
         "k7/2Q5/8/8/8/8/8/4K3 b - - 0 1",
         "no mate within 6 plies\n",
     ),
+    (
+        2,
+        "8/5KPk/8/8/8/8/8/8 w - - 0 1",
+        "no mate within 2 plies\n",
+    ),
+    (
+        3,
+        "8/5KPk/8/8/8/8/8/8 w - - 0 1",
+        "white mates in 3 plies\n",
+    ),
+    // With a target these are mates in 5, by en passant (`MATES`). Stockfish 15.1 sees a draw.
+    (
+        6,
+        "k7/8/1K6/2Pp4/8/8/8/8 w - - 0 1",
+        "no mate within 6 plies\n",
+    ),
+    (
+        6,
+        "7k/8/6K1/4pP2/8/8/8/8 w - - 0 1",
+        "no mate within 6 plies\n",
+    ),
+    (
+        6,
+        "8/8/8/8/2pP4/1k6/8/K7 b - - 0 1",
+        "no mate within 6 plies\n",
+    ),
 ];
 
 #[test]
@@ -41,11 +67,12 @@ fn tells_worked_mates(rt: HostRuntime) -> Result<(), Fail> {
     Ok(())
 }
 
-/// Mates of queens, rooks, bishops and knights: the plies to mate, the winner, and the position.
+/// Mates: the plies to mate, the winner, and the position.
 ///
 /// The distances are those of Stockfish 15.1 (Debian's package), `go depth 34`: a mate in n moves is one in
 /// 2n - 1 plies where the side to move mates, and in 2n where the other side does.
-const MATES: [(u8, &str, &str); 24] = [
+const MATES: [(u8, &str, &str); 58] = [
+    // Without pawns.
     (1, "white", "5Q2/3N4/8/8/8/8/5K2/7k w - - 0 1"),
     (2, "white", "1k6/8/2K5/8/Q7/8/8/8 b - - 0 1"),
     (2, "white", "8/8/8/8/3N2K1/8/7Q/5k2 b - - 0 1"),
@@ -70,6 +97,45 @@ const MATES: [(u8, &str, &str); 24] = [
     (6, "white", "5B1R/8/8/8/8/1K6/8/1k6 b - - 0 1"),
     (6, "white", "7k/3Q4/1K6/8/8/8/8/5N2 b - - 0 1"),
     (6, "white", "8/4K2k/5Q2/8/8/8/8/8 b - - 0 1"),
+    // Kings and one pawn, kings and two pawns, and kings, a pawn and another man.
+    (1, "white", "1k6/3P4/1K6/8/8/8/8/8 w - - 0 1"),
+    (2, "white", "7k/1P6/6K1/8/8/8/8/8 b - - 0 1"),
+    (3, "white", "8/5KPk/8/8/8/8/8/8 w - - 0 1"),
+    (3, "white", "7k/8/2P3K1/8/8/8/8/8 w - - 0 1"),
+    (4, "black", "8/8/8/8/8/4p1k1/8/7K w - - 0 1"),
+    (5, "white", "8/5P2/8/8/8/7K/8/7k w - - 0 1"),
+    (6, "black", "8/8/8/8/8/8/2p2k2/7K w - - 0 1"),
+    (6, "white", "8/7P/8/8/8/1K6/8/k7 b - - 0 1"),
+    (1, "black", "8/8/8/3P4/8/6k1/3p4/5K2 b - - 0 1"),
+    (2, "black", "8/2p5/8/8/8/6k1/4p3/6K1 w - - 0 1"),
+    (3, "black", "8/8/8/2k5/K7/1P6/3p4/8 b - - 0 1"),
+    (4, "white", "8/2p1P3/8/8/8/8/5K2/7k b - - 0 1"),
+    (5, "black", "7K/8/6k1/P7/8/3p4/8/8 b - - 0 1"),
+    (5, "black", "6K1/8/6kp/8/8/8/6p1/8 b - - 0 1"),
+    (5, "white", "8/1P1p4/8/8/8/1K6/8/k7 w - - 0 1"),
+    (6, "black", "8/8/8/7P/8/2k5/K3p3/8 w - - 0 1"),
+    (6, "black", "8/8/7p/8/8/5k2/p6K/8 w - - 0 1"),
+    (3, "white", "8/4P3/8/5K1k/7r/8/8/8 w - - 0 1"),
+    (4, "white", "4k3/6K1/8/2PQ4/8/8/8/8 b - - 0 1"),
+    (5, "white", "8/5P2/8/8/4b3/k1K5/8/8 w - - 0 1"),
+    (5, "white", "8/8/2P5/8/K7/2R5/8/k7 w - - 0 1"),
+    (6, "white", "3k4/R5K1/5P2/8/8/8/8/8 b - - 0 1"),
+    // By promotion to a knight.
+    (1, "white", "8/1P6/kBK5/8/8/8/8/8 w - - 0 1"),
+    (1, "black", "8/8/8/8/8/Kbk5/1p6/8 b - - 0 1"),
+    // By promotion to a rook, where a queen would stalemate.
+    (3, "white", "8/k1P5/2K5/8/8/8/8/8 w - - 0 1"),
+    (3, "black", "8/8/8/8/8/5k2/5p1K/8 b - - 0 1"),
+    (3, "white", "2q5/k2P4/2K5/8/8/8/8/8 w - - 0 1"),
+    // By a pawn's advance, of one square or of two.
+    (1, "white", "7k/5K1p/6P1/8/8/8/8/8 w - - 0 1"),
+    (1, "black", "8/8/8/8/8/kp6/p7/K7 b - - 0 1"),
+    (1, "white", "8/8/8/5KBk/8/8/6P1/8 w - - 0 1"),
+    (1, "black", "8/6p1/8/8/5kbK/8/8/8 b - - 0 1"),
+    // By en passant, a pawn's advance and a promotion.
+    (5, "white", "k7/8/1K6/2Pp4/8/8/8/8 w - d6 0 1"),
+    (5, "white", "7k/8/6K1/4pP2/8/8/8/8 w - e6 0 1"),
+    (5, "black", "8/8/8/8/2pP4/1k6/8/K7 b - d3 0 1"),
 ];
 
 #[test]

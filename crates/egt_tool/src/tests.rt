@@ -67,7 +67,7 @@ const LEGAL_MOVES: [(&str, &str); 28] = [
 ];
 
 /// Whether the text has these words, one a line.
-fn has_lines(text: &[u8], words: &str) -> bool {
+pub(crate) fn has_lines(text: &[u8], words: &str) -> bool {
     let mut lines = text.split(|byte| *byte == b'\n');
     for word in words.split(' ') {
         if !word.is_empty() && lines.next() != Some(word.as_bytes()) {
