@@ -27,8 +27,8 @@ impl Position {
         board
     }
 
-    /// The position in a mirror: its men, the side to move and the target. Pawns leave the mirrors of files
-    /// and of colours alone.
+    /// The position in a mirror: its men, the side to move and the target. Where there is a pawn, only the
+    /// mirrors of files and of colours may be taken.
     pub fn mirrored(&self, mirror: Mirror) -> Position
         requires { Allows mirror self.now.men }
         ensures { IsMirrored mirror self.now result }

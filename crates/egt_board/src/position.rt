@@ -50,7 +50,8 @@ impl Position {
     ///
     /// The first of these that holds: `MenCount` where there are more than four men or two on one square;
     /// `KingCount` where a side has not one king; `PawnRank` where a pawn stands on the first rank or the
-    /// last; `EpMismatch` where the last move cannot have set the target; `WaitingInCheck` where the king of the side that waits is attacked.
+    /// last; `EpMismatch` where the last move cannot have set the target; `WaitingInCheck` where the king of
+    /// the side that waits is attacked.
     pub fn new(
         men: &[(Man, Square)],
         side: Side,
