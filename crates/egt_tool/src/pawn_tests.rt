@@ -1,14 +1,20 @@
 //! Worked texts of the program, with pawns.
-use crate::moves_text;
+//!
+//! The lists of moves are those of Stockfish 15.1 (Debian's package), `go perft 1`, put in order of square, then
+//! promotion (queen, rook, bishop, knight).
 use crate::tests::has_lines;
+use crate::{MovesFault, moves_text};
 use std::alloc::Global;
 use std::test::Fail;
 
-/// Positions with pawns, and their legal moves in order.
-///
-/// The lists are those of Stockfish 15.1 (Debian's package), `go perft 1`, put in order of square, then promotion
-/// (queen, rook, bishop, knight).
-const LEGAL_MOVES: [(&str, &str); 114] = [
+/// Whether these are the legal moves of the position, in order.
+fn lists(alloc: Global, fen: &str, moves: &str) -> Result<bool, MovesFault> {
+    let text = moves_text(alloc, fen.as_bytes())?;
+    Ok(has_lines(&text, moves))
+}
+
+/// Targets that a pawn can take en passant, and targets that none can.
+const EN_PASSANT: [(&str, &str); 31] = [
     // En passant, from either side, by either colour, beside the edges and on them.
     (
         "4k3/8/8/3pP3/8/8/8/4K3 w - d6 0 1",
@@ -47,8 +53,8 @@ const LEGAL_MOVES: [(&str, &str); 114] = [
         "4k3/8/8/8/3Pp3/8/4K3/8 b - d3 0 1",
         "e4d3 e4e3 e8d7 e8e7 e8f7 e8d8 e8f8",
     ),
-    // En passant that takes the checking pawn. With four men nothing else gives check there, and en passant
-    // uncovers no king.
+    // En passant that takes the checking pawn. With four men nothing else gives check there, and en passant uncovers
+    // no king.
     (
         "8/8/8/3k4/3pP3/8/8/7K b - e3 0 1",
         "d4e3 d5c4 d5e4 d5c5 d5e5 d5c6 d5d6 d5e6",
@@ -114,6 +120,18 @@ const LEGAL_MOVES: [(&str, &str); 114] = [
         "d5c4 d5d4 d5e4 d5c5 d5e5 d5c6 d5d6 d5e6",
     ),
     ("8/8/8/7k/4P3/8/8/K2B4 b - e3 0 1", "h5h4 h5g5 h5g6 h5h6"),
+];
+
+#[test]
+fn lists_en_passant_as_an_engine_does(rt: HostRuntime) -> Result<(), Fail> {
+    for (fen, moves) in EN_PASSANT {
+        assert!(rt; lists(rt.alloc(), fen, moves)?, "{fen}");
+    }
+    Ok(())
+}
+
+/// Advances and captures.
+const ADVANCES: [(&str, &str); 28] = [
     // Advances by one and two squares, from the original rank alone.
     ("4k3/8/8/8/8/8/P7/K7 w - - 0 1", "a1b1 a1b2 a2a3 a2a4"),
     (
@@ -199,6 +217,18 @@ const LEGAL_MOVES: [(&str, &str); 114] = [
         "8/8/8/8/8/1k6/R6p/3K4 b - - 0 1",
         "h2h1q h2h1r h2h1b h2h1n b3a2 b3c3 b3b4 b3c4",
     ),
+];
+
+#[test]
+fn lists_advances_and_captures_as_an_engine_does(rt: HostRuntime) -> Result<(), Fail> {
+    for (fen, moves) in ADVANCES {
+        assert!(rt; lists(rt.alloc(), fen, moves)?, "{fen}");
+    }
+    Ok(())
+}
+
+/// Pinned pawns, and pawns that answer a check.
+const PINS: [(&str, &str); 22] = [
     // Pinned pawns. Along the file they may advance.
     (
         "4r2k/8/8/8/8/8/4P3/4K3 w - - 0 1",
@@ -272,6 +302,18 @@ const LEGAL_MOVES: [(&str, &str); 114] = [
         "8/8/4k3/3P4/8/8/8/K3R3 b - - 0 1",
         "e6d5 e6f5 e6d6 e6f6 e6d7 e6f7",
     ),
+];
+
+#[test]
+fn lists_pins_and_answers_to_checks_as_an_engine_does(rt: HostRuntime) -> Result<(), Fail> {
+    for (fen, moves) in PINS {
+        assert!(rt; lists(rt.alloc(), fen, moves)?, "{fen}");
+    }
+    Ok(())
+}
+
+/// Promotions.
+const PROMOTIONS: [(&str, &str); 16] = [
     // Promotion by advance, with and without check.
     (
         "8/P6k/8/8/8/8/8/K7 w - - 0 1",
@@ -330,6 +372,18 @@ const LEGAL_MOVES: [(&str, &str); 114] = [
         "a1a2 a1b2 e2e1q e2e1r e2e1b e2e1n",
     ),
     ("8/4P3/8/8/K6r/8/8/7k w - - 0 1", "a4a3 a4b3 a4a5 a4b5"),
+];
+
+#[test]
+fn lists_promotions_as_an_engine_does(rt: HostRuntime) -> Result<(), Fail> {
+    for (fen, moves) in PROMOTIONS {
+        assert!(rt; lists(rt.alloc(), fen, moves)?, "{fen}");
+    }
+    Ok(())
+}
+
+/// Kings beside pawns, stalemates and checkmates.
+const KINGS: [(&str, &str); 17] = [
     // Kings in check by pawns, in front of them and beside them, on the last rank too.
     (
         "7k/8/8/4p3/3K4/8/8/8 w - - 0 1",
@@ -348,7 +402,8 @@ const LEGAL_MOVES: [(&str, &str); 114] = [
         "8/8/8/8/8/3K4/1p6/7k w - - 0 1",
         "d3c2 d3d2 d3e2 d3c3 d3e3 d3c4 d3d4 d3e4",
     ),
-    // The king captures nothing that a pawn guards, which is what stands diagonally ahead of it and not straight ahead.
+    // The king captures nothing that a pawn guards, which is what stands diagonally ahead of it and not straight
+    // ahead.
     ("8/8/8/4k3/4R3/3P4/8/7K b - - 0 1", "e5d5 e5f5 e5d6 e5f6"),
     ("8/8/8/3k4/3N4/3P4/8/7K b - - 0 1", "d5d4 d5c5 d5e5 d5d6"),
     (
@@ -382,10 +437,9 @@ const LEGAL_MOVES: [(&str, &str); 114] = [
 ];
 
 #[test]
-fn lists_the_moves_with_pawns_that_an_engine_lists(rt: HostRuntime) -> Result<(), Fail> {
-    for (fen, moves) in LEGAL_MOVES {
-        let text = moves_text(rt.alloc(), fen.as_bytes())?;
-        assert!(rt; has_lines(&text, moves), "{fen}");
+fn lists_moves_of_kings_beside_pawns_as_an_engine_does(rt: HostRuntime) -> Result<(), Fail> {
+    for (fen, moves) in KINGS {
+        assert!(rt; lists(rt.alloc(), fen, moves)?, "{fen}");
     }
     Ok(())
 }
