@@ -20,7 +20,8 @@ use Rattle.egt_board.specs.Symmetry.{square_if, square_of, IsKeepingSides, Keeps
 use Rattle.egt_board.specs.Images.{IsTurnOf, Comes, AreImages, Reflects, count_of, SameMen, ExchangedMen}
 use Rattle.egt_board.proofs.Turning.{admissible_by}
 use Rattle.egt_board.proofs.Settling.{ready_by}
-use Rattle.egt_board.proofs.Reflected.{men_by, men_by-shows, men_by-on_board, men_by-few, same_on_board, setup_by, setup_by-is, setup_by-only, setup_by-back}
+use Rattle.egt_board.specs.Turned.{men_by, setup_by, setup_if}
+use Rattle.egt_board.proofs.Reflected.{men_by-shows, men_by-on_board, men_by-few, same_on_board, setup_by-is, setup_by-only, setup_by-back}
 use Rattle.egt_board.proofs.Tallies.{count_by}
 
 -- one step, and one after another
@@ -162,11 +163,6 @@ setup_by-kept m p ok allows = record {
 
     back : IsMirrored m (setup_by m p) p
     back = setup_by-back m p ok.on_board (target_within p.men p.side p.target ok.target)
-
--- the setup in the mirror, or as it is
-setup_if : Bool → Mirror → Setup → Setup
-setup_if true m p = setup_by m p
-setup_if false m p = p
 
 setup_if-is : (turns : Bool) (m : Mirror) (p : Setup) → IsKeepingSides m → OnBoard p.men → IsCarried (square_if turns m) p (setup_if turns m p)
 unfolding setup_if

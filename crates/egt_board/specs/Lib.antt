@@ -16,6 +16,11 @@ pub mod Listed
 pub mod Mirror
 pub mod Position
 pub mod Symmetry
+pub mod Turned
 pub mod Mirrored
 pub mod Images
 pub mod MirrorLaws
+pub mod Among
+pub mod Decided
+pub mod DecidedMen
+pub mod DecidedSetup
