@@ -10,7 +10,7 @@ use Rattle.egt_board.specs.declared.man.Man.{Man}
 use Rattle.egt_board.specs.Placement.{Placement, same_men, get-insert_same, get-insert_other}
 use Rattle.egt_board.specs.SquareSet.{total}
 use Rattle.egt_board.specs.Setup.{Setup}
-use Rattle.egt_board.specs.Mirror.{IsMirrored, square_by, side_by, man_by}
+use Rattle.egt_board.specs.Mirror.{IsMirrored, square_by, man_by}
 use Rattle.egt_board.specs.Turned.{put_some, men_below, men_by, setup_by}
 use Rattle.egt_board.specs.MirrorLaws.{square_by-within, square_by-twice, ShowsMen, OnBoard, shows_back, side_by-twice, man_by-twice}
 use Rattle.egt_board.proofs.Gather.{IsKey}

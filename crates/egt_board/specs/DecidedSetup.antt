@@ -1,18 +1,19 @@
--- Whether two setups are the same, and whether one is admissible, can be told.
-use Rattle.std.proofs.Common.{◌≡◌, ℕ, ◌<◌, ◌≤◌, inl, Option, Some, None, refl, ap, ◌∙◌}
+-- Whether two setups are the same, whether one is admissible, and whether it is settled, can be told.
+use Rattle.std.proofs.Common.{◌≡◌, ℕ, ◌+◌, ◌<◌, if◌then◌else◌, IfSome, ◌≤◌, inl, Option, Some, None, refl, ap, ◌∙◌}
 use Rattle.std.specs.FinMap as map
 use Rattle.egt_board.specs.declared.man.Side.{Side}
 use Rattle.egt_board.specs.declared.man.Side.TheVariants.{White, Black}
 use Rattle.egt_board.specs.declared.man.Kind.TheVariants.{P}
 use Rattle.egt_board.specs.declared.man.Man.{Man}
 use Rattle.egt_board.specs.Man.{other_side}
-use Rattle.egt_board.specs.Square.{rank_of}
+use Rattle.egt_board.specs.Square.{file_of, rank_of}
 use Rattle.egt_board.specs.Placement.{Placement, Stands, IsFree}
 use Rattle.egt_board.specs.Attack.{king_of, IsInCheck}
-use Rattle.egt_board.specs.Pawn.{pawn_of, ahead, MayStand, PawnsFit}
+use Rattle.egt_board.specs.Pawn.{pawn_of, ahead, MayStand, PawnsFit, IsBeside, HasPawnBeside}
 use Rattle.egt_board.specs.Target.{target_rank, IsTarget, FitsTarget}
 use Rattle.egt_board.specs.Setup.{Setup, setup_code, IsKingOn, HasKings, IsAdmissible}
-use Rattle.egt_board.specs.Decided.{Decided, decided_as, decided_not, decided_both, decided_implies, decided_eq, decided_lt, decided_le, decided_same}
+use Rattle.egt_board.specs.Settled.{IsSettled, untargeted}
+use Rattle.egt_board.specs.Decided.{Decided, tells, decided_as, decided_not, decided_both, decided_either, decided_implies, decided_eq, decided_lt, decided_le, decided_same}
 use Rattle.egt_board.specs.DecidedMen.{decided_kind, decided_man, decided_stands, decided_anywhere, decided_everywhere, decided_free, decided_check}
 
 -- two setups are the same
@@ -66,3 +67,25 @@ decided_admissible p = decided_as
     (λ _. decided_both (decided_kings p.men)
     (λ _. decided_both (decided_pawns p.men)
     (λ _. decided_both (decided_target p.men p.side p.target) (λ _. decided_not (decided_check p.men (other_side p.side))))))))
+
+decided_beside : (s t : ℕ) → Decided (IsBeside s t)
+decided_beside s t = decided_both (decided_eq (rank_of s) (rank_of t))
+    (λ _. decided_either (decided_eq (file_of s) (file_of t + 1)) (decided_eq (file_of t) (file_of s + 1)))
+
+decided_ready : (men : Placement) (side : Side) (t : ℕ) → Decided (HasPawnBeside men side t)
+decided_ready men side t = decided_as
+    (λ (h : (s : ℕ) × (man : Man) × Stands men s man × ((man ≡ pawn_of side) × IsBeside s t)). record { square = h.0; stands = h.2 ∙ ap Some h.3.0; beside = h.3.1 })
+    (λ (h : HasPawnBeside men side t). (h.square, pawn_of side, h.stands, (refl, h.beside)))
+    (decided_anywhere men (λ s man. (man ≡ pawn_of side) × IsBeside s t) (λ s man. decided_both (decided_man man (pawn_of side)) (λ _. decided_beside s t)))
+
+-- the setup is settled
+pub decided_settled : (p : Setup) → Decided (IsSettled p)
+decided_settled p = by_target p.target
+  where
+    by_target : (o : Option ℕ) → Decided (IfSome o (λ t. HasPawnBeside p.men p.side (ahead (other_side p.side) t)))
+    by_target None = inl tt
+    by_target (Some t) = decided_ready p.men p.side (ahead (other_side p.side) t)
+
+-- what it settles to
+unfoldable pub settled_form : Setup → Setup
+settled_form p = if tells (decided_settled p) then p else untargeted p

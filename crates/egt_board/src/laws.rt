@@ -4,6 +4,7 @@ ghost use Rattle.std.specs.Prelude.{◌≡◌, ◌<◌, ◌↔◌, ◌⊎◌, �
 ghost use Rattle.egt_board.specs.Setup.{Setup, IsAdmissible};
 ghost use Rattle.egt_board.specs.Settled.{IsSettled, SettlesTo};
 ghost use Rattle.egt_board.specs.Images.{AreImages, Reflects, SameMen, ExchangedMen};
+ghost use Rattle.egt_board.specs.DecidedSetup.{settled_form};
 ghost use Rattle.egt_board.specs.Symmetry.{KeepsPlay};
 ghost use Rattle.egt_board.specs.Turned.{IsTurnedBy, IsSetBy, turned_by};
 
@@ -37,13 +38,12 @@ pub fn images_are_turns()
 pub fn turns_make_one()
     ensures made { (n : ℕ) (flipped : Bool) (p q : Setup) → IsAdmissible p → IsTurnedBy n flipped p q ↔ (q ≡ turned_by n flipped p) }
     ensures one { (n : ℕ) (flipped : Bool) (p q r : Setup) → IsTurnedBy n flipped p q → IsTurnedBy n flipped p r → q ≡ r }
-    ensures set { (n : ℕ) (flipped : Bool) (p q : Setup) → IsTurnedBy n flipped p q ↔ IsSetBy n flipped p q }
+    ensures set { (n : ℕ) (flipped : Bool) (p q : Setup) → IsAdmissible p → IsTurnedBy n flipped p q ↔ IsSetBy n flipped p q }
 {}
 
 /// A position settles to one position, with the same men.
 pub fn positions_settle_once()
-    ensures some { (p : Setup) → (q : Setup) × SettlesTo p q }
-    ensures one { (p q r : Setup) → SettlesTo p q → SettlesTo p r → q ≡ r }
+    ensures made { (p q : Setup) → SettlesTo p q ↔ (q ≡ settled_form p) }
     ensures admissible { (p q : Setup) → IsAdmissible p → SettlesTo p q → IsAdmissible q }
     ensures settled { (p q : Setup) → SettlesTo p q → IsSettled q }
     ensures men { (p q : Setup) → SettlesTo p q → q.men ≡ p.men }
