@@ -97,7 +97,7 @@ side_by-same Ranks keeps side = refl
 side_by-same Diagonal keeps side = refl
 side_by-same Colours keeps side = absurd keeps
 
-carried_of : (m : Mirror) (p q : Setup) → IsKeepingSides m → IsMirrored m p q → IsCarried (square_by m) p q
+pub carried_of : (m : Mirror) (p q : Setup) → IsKeepingSides m → IsMirrored m p q → IsCarried (square_by m) p q
 carried_of m p q keeps is = record {
   men = λ t t_in. is.men t t_in ∙ same (map.get p.men t);
   side = is.side ∙ side_by-same m keeps p.side;

@@ -18,4 +18,5 @@ pub mod Tallies
 pub mod Images
 pub mod Settling
 pub mod Turns
+pub mod TurnMirrors
 pub mod SettledForms

@@ -4,6 +4,7 @@ ghost use Rattle.std.specs.Prelude.{◌≡◌, ◌<◌, ◌↔◌, ◌⊎◌, �
 ghost use Rattle.egt_board.specs.Setup.{Setup, IsAdmissible};
 ghost use Rattle.egt_board.specs.Settled.{IsSettled, SettlesTo};
 ghost use Rattle.egt_board.specs.Images.{AreImages, Reflects, SameMen, ExchangedMen};
+ghost use Rattle.egt_board.specs.Mirrored.{ComesByMirrors};
 ghost use Rattle.egt_board.specs.DecidedSetup.{settled_form};
 ghost use Rattle.egt_board.specs.Symmetry.{KeepsPlay};
 ghost use Rattle.egt_board.specs.Turned.{IsTurnedBy, IsSetBy, turned_by};
@@ -39,6 +40,14 @@ pub fn turns_make_one()
     ensures made { (n : ℕ) (flipped : Bool) (p q : Setup) → IsAdmissible p → IsTurnedBy n flipped p q ↔ (q ≡ turned_by n flipped p) }
     ensures one { (n : ℕ) (flipped : Bool) (p q r : Setup) → IsTurnedBy n flipped p q → IsTurnedBy n flipped p r → q ≡ r }
     ensures set { (n : ℕ) (flipped : Bool) (p q : Setup) → IsAdmissible p → IsTurnedBy n flipped p q ↔ IsSetBy n flipped p q }
+{}
+
+/// A turn takes up to four mirrors, each from position to position.
+pub fn turns_come_by_mirrors()
+    ensures mirrored { (n : ℕ) (flipped : Bool) (p q : Setup) → IsAdmissible p → KeepsPlay n p.men →
+        IsTurnedBy n flipped p q → ComesByMirrors n flipped p q }
+    ensures turned { (n : ℕ) (flipped : Bool) (p q : Setup) → IsAdmissible p →
+        ComesByMirrors n flipped p q → IsTurnedBy n flipped p q }
 {}
 
 /// A position settles to one position, with the same men.
