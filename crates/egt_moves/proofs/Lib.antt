@@ -24,3 +24,5 @@ pub mod Ending
 pub mod Trying
 pub mod Telling
 pub mod NextMoves
+pub mod TurnedMoves
+pub mod ListedMoves

@@ -22,7 +22,7 @@ ghost use Rattle.egt_moves.specs.Likeness.{Alike, IsMirror};
 ghost use Rattle.egt_board.specs.Mirrored.{AreMirrored};
 ghost use Rattle.egt_moves.specs.Zeroing.{HasZeroing, ZeroesLosingWithin, ZeroesWinningWithin};
 
-use egt_board::laws::images_come_by_mirrors;
+use egt_board::laws::{images_are_turns, images_come_by_mirrors, turns_come_by_mirrors};
 
 /// A forced mate is forced within any greater number of plies, and a defence lasts for any lesser one.
 pub fn more_plies()
@@ -135,7 +135,11 @@ pub fn images_keep_steps()
     ensures images { (p p' q : Setup) (m : Move) → IsAdmissible p → AreImages p p' → Leads p m q →
         (m' : Move) × (q' : Setup) × Leads p' m' q' × AreImages q q' × (Zeroes p m ↔ Zeroes p' m') }
     ensures checkmate { (p p' : Setup) → IsAdmissible p → AreImages p p' → IsCheckmate p ↔ IsCheckmate p' }
-{}
+{
+    images_come_by_mirrors();
+    images_are_turns();
+    turns_come_by_mirrors();
+}
 
 /// The same moves lead to the same positions from a position and from its settled form, and zero in both or in
 /// neither.
