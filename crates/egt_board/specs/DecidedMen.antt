@@ -20,15 +20,11 @@ use Rattle.egt_board.specs.Attack.{king_of, IsAttacked, IsInCheck}
 use Rattle.egt_board.specs.Coordinate.{Further}
 use Rattle.egt_board.specs.Gait.{OneOf, Rides, Reaches, steps_of, farthest}
 use Rattle.egt_board.specs.Pawn.{Advances, farthest_advance, forward}
-use Rattle.egt_board.specs.Placement.{Placement, Stands, IsFree, IsHeld, untied}
+use Rattle.egt_board.specs.Placement.{Placement, Stands, IsFree, IsHeld, one_man, untied}
 use Rattle.egt_board.specs.Square.{file_of, rank_of}
 use Rattle.egt_board.specs.Step.{Away}
 use Rattle.egt_board.specs.Among.{any_here, any_there}
 use Rattle.egt_board.specs.Decided.{Decided, decided_as, decided_not, decided_both, decided_either, decided_implies, decided_eq, decided_lt, decided_below, decided_some_below, decided_among, decided_same}
-
--- one man stands on a square
-one_man : (men : Placement) (s : ℕ) (a b : Man) → Stands men s a → Stands men s b → a ≡ b
-one_man men s a b p q = let both : Some a ≡ Some b = sym p ∙ q in cc
 
 pub decided_side : (a b : Side) → Decided (a ≡ b)
 decided_side = decided_same side_row.the_row.coded

@@ -1,5 +1,5 @@
 -- The list of legal moves: what it holds, and that no other list in order holds the same.
-use Rattle.std.proofs.Common.{◌≡◌, ℕ, zero, suc, ◌+◌, ◌*◌, ◌<◌, ◌≤◌, ◌↔◌, ◌⊎◌, Bool, true, false, cond, IsTrue, List, [], ◌∷◌, ◌++◌, length, map, Option, Some, None, slice_index_or, arith, refl, sym, ap, ◌∙◌, subst, inl, inr}
+use Rattle.std.proofs.Common.{◌≡◌, ℕ, zero, suc, ◌+◌, ◌*◌, ◌<◌, ◌↔◌, ◌⊎◌, Bool, true, false, cond, List, [], ◌∷◌, ◌++◌, length, map, Option, Some, None, slice_index_or, arith, refl, sym, ap, ◌∙◌, subst, inl, inr}
 use Rattle.std.specs.List.{Contains, filter}
 use Rattle.std.proofs.lemmas.Bool.{cases_eq, false≢true}
 use Rattle.std.proofs.lemmas.List.Elements.{Contains-append_left, Contains-append_right, Contains-append_cases}
@@ -8,7 +8,7 @@ use Rattle.egt_board.specs.declared.man.Kind.TheVariants.{Q, R, B, N, P, K}
 use Rattle.egt_board.specs.Setup.{Setup, IsAdmissible}
 use Rattle.egt_board.specs.Decided.{tells_so, tells_where}
 use Rattle.egt_moves.specs.declared.chess_move.Move.{Move}
-use Rattle.egt_moves.specs.DecidedMoves.{decided_legal, goes_within}
+use Rattle.egt_moves.specs.DecidedMoves.{decided_legal, goes_on_board}
 use Rattle.egt_moves.specs.Legal.{IsLegal}
 use Rattle.egt_moves.specs.Moves.{promotions, moves_between, moves_from, moves_below, all_moves, is_legal, moves_of}
 use Rattle.egt_moves.specs.Order.{place_of, promotion_place, IsInOrder}
@@ -202,7 +202,7 @@ moves_of-legal p m h = tells_so (decided_legal p m) (Contains-filter (is_legal p
 pub in_moves_of : (p : Setup) (m : Move) → IsAdmissible p → IsLegal p m → Contains (moves_of p) m
 unfolding moves_of all_moves
 in_moves_of p m ok legal = filter-Contains (is_legal p) (moves_below 64) m
-    (in_below 64 m (ok.on_board m.from legal.1.man legal.1.stands) (goes_within p legal.1.man m.from m.to legal.1.goes)) (tells_where (decided_legal p m) legal)
+    (in_below 64 m (ok.on_board m.from legal.1.man legal.1.stands) (goes_on_board p legal.1.man m.from m.to legal.1.goes)) (tells_where (decided_legal p m) legal)
 
 -- so a list in order of exactly the legal moves is that list
 pub moves_of-is : (p : Setup) (ms : List Move) → IsAdmissible p → IsInOrder ms → ((m : Move) → Contains ms m ↔ IsLegal p m) → ms ≡ moves_of p

@@ -27,7 +27,8 @@ use Rattle.egt_moves.specs.Legal.{Leads, is_target, takes_in_passing, men_left, 
 use Rattle.egt_moves.specs.Likeness.{Alike, HasLike}
 use Rattle.egt_board.specs.Mirrored.{AreMirrored}
 use Rattle.egt_moves.specs.Standing.{IsCheckmate}
-use Rattle.egt_moves.proofs.After.{target_is, after_to, after_from, after_other, after_cases, goes_on_board}
+use Rattle.egt_moves.specs.DecidedMoves.{goes_on_board}
+use Rattle.egt_moves.proofs.After.{target_is, after_to, after_from, after_other, after_cases}
 use Rattle.egt_moves.proofs.Admissible.{admissible_after, arrived_pawn, pawn_told, Forward, takes_forward_of, two_ranks_told, two_forward, not_two, Leap, leap}
 
 -- so a mirror that the men allow is allowed by their image

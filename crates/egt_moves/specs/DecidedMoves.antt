@@ -7,7 +7,7 @@ use Rattle.egt_board.specs.Man.{other_side}
 use Rattle.egt_board.specs.Attack.{IsInCheck}
 use Rattle.egt_board.specs.Gait.{Reaches, Reaches-on_board}
 use Rattle.egt_board.specs.Pawn.{Advances}
-use Rattle.egt_board.specs.Placement.{Placement, Stands, IsFree, IsHeld}
+use Rattle.egt_board.specs.Placement.{Stands, IsFree, IsHeld, one_man}
 use Rattle.egt_board.specs.Setup.{Setup}
 use Rattle.egt_board.specs.Decided.{Decided, decided_as, decided_not, decided_both, decided_either, decided_eq, decided_some_below}
 use Rattle.egt_board.specs.DecidedMen.{decided_side, decided_kind, decided_on, decided_anywhere, decided_free, decided_held, decided_reaches, decided_advances, decided_check}
@@ -77,8 +77,7 @@ decided_legal p m = decided_as
 -- a move leads to one position
 pub leads_to_one : (p q r : Setup) (m : Move) → Leads p m q → Leads p m r → q ≡ r
 leads_to_one p q r m there here =
-    let both : Some there.man ≡ Some here.man = sym there.stands ∙ here.stands in
-    let same : there.man ≡ here.man = cc in
+    let same : there.man ≡ here.man = one_man p.men m.from there.man here.man there.stands here.stands in
     there.becomes ∙ ap (λ (x : Man). after p x m) same ∙ sym here.becomes
 
 -- it is legal, and leads to q
@@ -123,17 +122,17 @@ decided_some_promotion Holds each = decided_as there back
     back h = one h.0 h.1
 
 -- no man goes off the board
-pub goes_within : (p : Setup) (man : Man) (from to : ℕ) → Goes p man from to → to < 64
-goes_within p man from to (inl piece) = Reaches-on_board (IsFree p.men) man from to piece.reaches
-goes_within p man from to (inr (inl advance)) = advance.advances.rides.away.on_board
-goes_within p man from to (inr (inr takes)) = Reaches-on_board (IsFree p.men) man from to takes.reaches
+pub goes_on_board : (p : Setup) (man : Man) (from to : ℕ) → Goes p man from to → to < 64
+goes_on_board p man from to (inl piece) = Reaches-on_board (IsFree p.men) man from to piece.reaches
+goes_on_board p man from to (inr (inl advance)) = advance.advances.rides.away.on_board
+goes_on_board p man from to (inr (inr takes)) = Reaches-on_board (IsFree p.men) man from to takes.reaches
 
 -- some legal move of which can be told what holds
 pub decided_some_move : (p : Setup) (Holds : Move → Type 0) → ((m : Move) → Decided (Holds m)) → Decided ((m : Move) × IsLegal p m × Holds m)
 decided_some_move p Holds each = decided_as
     (λ (h : (s : ℕ) × (man : Man) × Stands p.men s man × From s). (record { from = h.0; to = h.3.0; promo = h.3.2.0 }, h.3.2.1.0, h.3.2.1.1))
     (λ (h : (m : Move) × IsLegal p m × Holds m).
-    (h.0.from, h.1.1.man, h.1.1.stands, (h.0.to, goes_within p h.1.1.man h.0.from h.0.to h.1.1.goes, (h.0.promo, (h.1, h.2)))))
+    (h.0.from, h.1.1.man, h.1.1.stands, (h.0.to, goes_on_board p h.1.1.man h.0.from h.0.to h.1.1.goes, (h.0.promo, (h.1, h.2)))))
     (decided_anywhere p.men (λ s man. From s) (λ s man. decided_some_below (λ t. To s t)
     (λ t. decided_some_promotion (λ promo. Made (record { from = s; to = t; promo = promo }))
     (λ promo. decided_both (decided_legal p (record { from = s; to = t; promo = promo })) (λ _. each (record { from = s; to = t; promo = promo })))) 64))
