@@ -12,6 +12,7 @@ pub mod Pawn
 pub mod Target
 pub mod Setup
 pub mod Settled
+pub mod Fault
 pub mod Listed
 pub mod Mirror
 pub mod Position

@@ -18,7 +18,7 @@ ghost use Rattle.egt_moves.specs.Order.{IsInOrder};
 ghost use Rattle.egt_moves.specs.Standing.{IsCheckmate};
 ghost use Rattle.egt_moves.specs.Turned.{turned_move};
 ghost use Rattle.egt_moves.specs.Entries.{JudgedOver, ZeroingJudgedOver};
-ghost use Rattle.egt_moves.specs.Likeness.{Alike, IsMirror};
+ghost use Rattle.egt_moves.specs.Likeness.{IsMirror};
 ghost use Rattle.egt_board.specs.Mirrored.{AreMirrored};
 ghost use Rattle.egt_moves.specs.Zeroing.{HasZeroing, ZeroesLosingWithin, ZeroesWinningWithin};
 
@@ -167,16 +167,8 @@ pub fn one_zeroing_distance()
     ensures { (p : Setup) (v w : Value) → HasZeroing chess p v → HasZeroing chess p w → v ≡ w }
 {}
 
-/// A map of positions that keeps steps, checkmate and zeroing keeps values and zeroing distances.
-pub fn images_are_alike()
-    ensures values { (f : Setup → Setup) → Alike chess (λ p q. q ≡ f p) →
-        (p : Setup) (v : Value) → HasValue chess p v ↔ HasValue chess (f p) v }
-    ensures distances { (f : Setup → Setup) → Alike chess (λ p q. q ≡ f p) →
-        (p : Setup) (v : Value) → HasZeroing chess p v ↔ HasZeroing chess (f p) v }
-{}
-
-/// So does a map of the admissible positions that is its own inverse and keeps steps, checkmate and zeroing
-/// one way.
+/// A map of the admissible positions that is its own inverse, and keeps steps, checkmate and zeroing one way, keeps
+/// values and zeroing distances.
 pub fn mirrors_are_alike()
     ensures values { (f : Setup → Setup) → IsMirror chess IsAdmissible f →
         (p : Setup) → IsAdmissible p → (v : Value) → HasValue chess p v ↔ HasValue chess (f p) v }
