@@ -1,5 +1,5 @@
 -- Positions turned: what a turn makes, and that one turn after another is a turn.
-use Rattle.std.proofs.Common.{◌≡◌, ℕ, zero, suc, ◌+◌, ◌-◌, ◌*◌, ◌<◌, ◌/◌, ◌%◌, ◌==◌, ◌&&◌, not, Bool, true, false, Option, Some, None, arith, refl, sym, ap, ◌∙◌, subst, inl, inr}
+use Rattle.std.proofs.Common.{◌≡◌, ℕ, zero, suc, ◌+◌, ◌-◌, ◌*◌, ◌<◌, ◌⊎◌, ◌/◌, ◌%◌, ◌==◌, ◌&&◌, not, Bool, true, false, Option, Some, None, arith, refl, sym, ap, ◌∙◌, subst, inl, inr}
 use Rattle.std.specs.Option.{option_map}
 use Rattle.std.specs.FinMap as map
 use Rattle.std.proofs.lemmas.Bool.{eqb-true, and_parts, cases_eq}
@@ -13,6 +13,7 @@ use Rattle.egt_board.specs.MirrorLaws.{square_by-within, OnBoard, man_by-twice, 
 use Rattle.egt_board.specs.Mirrored.{AreMirrored}
 use Rattle.egt_board.specs.Symmetry.{square_if, square_of, KeepsPlay, IsCarried, IsImage}
 use Rattle.egt_board.specs.Turned.{IsTurnedBy, IsSetBy, turned_square, turned_man, turned_side, setup_by, setup_if, turned_by}
+use Rattle.egt_board.specs.DecidedTurns.{IsTurn}
 use Rattle.egt_board.specs.Images.{AreImages, Reflects}
 use Rattle.egt_board.proofs.Reflected.{men_by-on_board, same_on_board, setup_by-is, setup_by-only, setup_by-back}
 use Rattle.egt_board.proofs.Images.{Kept, Kept-on, setup_by-kept, images_by_turn, images_on, images_kept, image_kept, setup_if-is, carried_on, Onto, carried_only, square_if-within, square_if-twice, onto_three, target_within}
@@ -245,3 +246,17 @@ turn_of_mirrors (suc k) p q ok step =
 
 pub images_turned : (p q : Setup) → IsAdmissible p → AreImages p q → (n : ℕ) × (flipped : Bool) × (n < 8) × KeepsPlay n p.men × IsTurnedBy n flipped p q
 images_turned p q ok images = let m = (images_kept p q ok images).mirrors in turn_of_mirrors m.0 p q ok m.1
+
+-- so an image can be told from the setups that the turns make
+pub images_told : (p q : Setup) → IsAdmissible p → (AreImages p q → IsTurn p q) × (IsTurn p q → AreImages p q)
+images_told p q ok = (
+  λ images. let t = images_turned p q ok images in (t.0, t.2, t.3, by_side t.1 t.0 ((turned_made t.0 t.1 p q ok.on_board).0 t.4)),
+  λ turn. elim turn.3 [
+    | inl e ↦ turned_is_image turn.0 false p q turn.1 turn.2 ((turned_made turn.0 false p q ok.on_board).1 e)
+    | inr e ↦ turned_is_image turn.0 true p q turn.1 turn.2 ((turned_made turn.0 true p q ok.on_board).1 e)
+  ],
+)
+  where
+    by_side : (flipped : Bool) (n : ℕ) → q ≡ turned_by n flipped p → (q ≡ turned_by n false p) ⊎ (q ≡ turned_by n true p)
+    by_side false n e = inl e
+    by_side true n e = inr e

@@ -25,3 +25,4 @@ pub mod Among
 pub mod Decided
 pub mod DecidedMen
 pub mod DecidedSetup
+pub mod DecidedTurns

@@ -4,6 +4,7 @@ ghost use Rattle.std.specs.Prelude.{◌≡◌, ◌<◌, ◌↔◌, ◌⊎◌, �
 ghost use Rattle.egt_board.specs.Setup.{Setup, IsAdmissible};
 ghost use Rattle.egt_board.specs.Settled.{IsSettled, SettlesTo};
 ghost use Rattle.egt_board.specs.Images.{AreImages, Reflects, SameMen, ExchangedMen};
+ghost use Rattle.egt_board.specs.DecidedTurns.{IsTurn};
 ghost use Rattle.egt_board.specs.Mirrored.{ComesByMirrors};
 ghost use Rattle.egt_board.specs.DecidedSetup.{settled_form};
 ghost use Rattle.egt_board.specs.Symmetry.{KeepsPlay};
@@ -31,8 +32,9 @@ pub fn images_keep_men()
 /// The images of a position are what its turns make of it, of which there are sixteen at most: one of the eight
 /// symmetries, one that the men allow, with colours exchanged or not.
 pub fn images_are_turns()
-    ensures { (p q : Setup) → IsAdmissible p →
+    ensures by_number { (p q : Setup) → IsAdmissible p →
         AreImages p q ↔ ((n : ℕ) × (flipped : Bool) × (n < 8) × KeepsPlay n p.men × IsTurnedBy n flipped p q) }
+    ensures told { (p q : Setup) → IsAdmissible p → AreImages p q ↔ IsTurn p q }
 {}
 
 /// Each turn makes one setup of a position, with each man, the side and the target where the turn takes them.

@@ -6,11 +6,11 @@ use Rattle.std.proofs.lemmas.List.Elements.{Contains-append_left, Contains-appen
 use Rattle.egt_board.specs.declared.man.Kind.{Kind}
 use Rattle.egt_board.specs.declared.man.Kind.TheVariants.{Q, R, B, N, P, K}
 use Rattle.egt_board.specs.Setup.{Setup, IsAdmissible}
-use Rattle.egt_board.specs.Decided.{tells_so, tells_where}
+use Rattle.egt_board.specs.Decided.{Decided, tells_so, tells_where}
 use Rattle.egt_moves.specs.declared.chess_move.Move.{Move}
-use Rattle.egt_moves.specs.DecidedMoves.{decided_legal, goes_on_board}
-use Rattle.egt_moves.specs.Legal.{IsLegal}
-use Rattle.egt_moves.specs.Moves.{promotions, moves_between, moves_from, moves_below, all_moves, is_legal, moves_of}
+use Rattle.egt_moves.specs.DecidedMoves.{decided_legal, goes_on_board, leads_to_one}
+use Rattle.egt_moves.specs.Legal.{Leads, IsLegal}
+use Rattle.egt_moves.specs.Moves.{promotions, moves_between, moves_from, moves_below, all_moves, is_legal, led_to, played, moves_of}
 use Rattle.egt_moves.specs.Order.{place_of, promotion_place, IsInOrder}
 use Rattle.egt_moves.proofs.Growing.{promotion_small}
 use Rattle.egt_moves.proofs.InOrder.{Contains-head, Contains-tail}
@@ -208,3 +208,15 @@ in_moves_of p m ok legal = filter-Contains (is_legal p) (moves_below 64) m
 pub moves_of-is : (p : Setup) (ms : List Move) → IsAdmissible p → IsInOrder ms → ((m : Move) → Contains ms m ↔ IsLegal p m) → ms ≡ moves_of p
 moves_of-is p ms ok ordered legal = in_order_same ms (moves_of p) ordered (moves_of-ordered p)
     (λ m h. in_moves_of p m ok ((legal m).0 h)) (λ m h. (legal m).1 (moves_of-legal p m h))
+
+-- where a move leads, as a function
+pub leads_played : (p q : Setup) (m : Move) → (Leads p m q → played p m ≡ Some q) × (played p m ≡ Some q → Leads p m q)
+leads_played p q m = (there (decided_legal p m), back (decided_legal p m))
+  where
+    there : (d : Decided (IsLegal p m)) → Leads p m q → led_to d ≡ Some q
+    there (inl legal) leads = ap Some (leads_to_one p legal.0 q m legal.1 leads)
+    there (inr illegal) leads = absurd (illegal (q, leads))
+
+    back : (d : Decided (IsLegal p m)) → led_to d ≡ Some q → Leads p m q
+    back (inl legal) e = let both : Some legal.0 ≡ Some q = e in let same : legal.0 ≡ q = cc in subst (Leads p m) same legal.1
+    back (inr illegal) e = let bad : None ≡ Some q = e in absurd (cc)

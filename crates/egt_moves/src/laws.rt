@@ -13,7 +13,7 @@ ghost use Rattle.egt_moves.specs.declared.chess_move.Move.{Move};
 ghost use Rattle.egt_moves.specs.Arena.{Value, Win, Loss, SomeMove, EachMove, HasValue, IsMatedWithin, MatesWithin, AvoidsMateFor, CannotMateWithin, AnswersWithin};
 ghost use Rattle.egt_moves.specs.Chess.{chess, Zeroes};
 ghost use Rattle.egt_moves.specs.Legal.{Leads, IsLegal};
-ghost use Rattle.egt_moves.specs.Moves.{moves_of};
+ghost use Rattle.egt_moves.specs.Moves.{moves_of, played};
 ghost use Rattle.egt_moves.specs.Order.{IsInOrder};
 ghost use Rattle.egt_moves.specs.Standing.{IsCheckmate};
 ghost use Rattle.egt_moves.specs.Turned.{turned_move};
@@ -154,6 +154,7 @@ pub fn moves_lead_to_one()
     ensures one { (p q r : Setup) (m : Move) → Leads p m q → Leads p m r → q ≡ r }
     ensures admissible { (p q : Setup) (m : Move) → IsAdmissible p → Leads p m q → IsAdmissible q }
     ensures within { (p q : Setup) (m : Move) → IsAdmissible p → Leads p m q → (m.from < 64) × (m.to < 64) }
+    ensures played { (p q : Setup) (m : Move) → Leads p m q ↔ (played p m ≡ Some q) }
 {}
 
 /// The list of legal moves has each of them, in order and so once.

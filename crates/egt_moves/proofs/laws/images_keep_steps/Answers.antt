@@ -10,11 +10,11 @@ returns-clause-turns c n flipped p p' q m ok keeps is leads =
 
 pub returns-clause-images : goal.returns-clause-images
 returns-clause-images c p p' q m ok images leads =
-    let t = (c.images_are_turns.ensures p p' ok).0 images in
+    let t = (c.images_are_turns.ensures.by_number p p' ok).0 images in
     let ok' = leads_admissible p q m ok leads in
     let like = like_turned t.0 t.1 p p' q m (c.turns_come_by_mirrors.ensures.mirrored t.0 t.1 p p' ok t.3 t.4) leads in
     let is = c.turns_come_by_mirrors.ensures.turned t.0 t.1 q like.0 ok' like.2 in
-    (turned_move t.0 t.1 m, like.0, like.1, (c.images_are_turns.ensures q like.0 ok').1 (t.0, t.1, t.2, leads_keeps t.0 p q m ok leads t.3, is), like.3)
+    (turned_move t.0 t.1 m, like.0, like.1, (c.images_are_turns.ensures.by_number q like.0 ok').1 (t.0, t.1, t.2, leads_keeps t.0 p q m ok leads t.3, is), like.3)
 
 pub returns-clause-checkmate : goal.returns-clause-checkmate
 returns-clause-checkmate c p p' ok images =
