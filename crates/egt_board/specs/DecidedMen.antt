@@ -1,5 +1,4 @@
--- What can be told of the men on a board: who stands where, what is reached, whether a king is in check, and whether two
--- boards hold the same.
+-- What can be told of the men on a board: who stands where, what is reached, and whether a king is in check.
 use Rattle.std.proofs.Common.{◌≡◌, ℕ, suc, ◌+◌, ◌*◌, ◌<◌, inl, inr, List, [], ◌∷◌, Option, Some, None, cond, refl, sym, ap, subst, arith, ◌∙◌}
 use Rattle.std.specs.FinMap as map
 use Rattle.std.proofs.Math.Logic.{⊎_elim}
