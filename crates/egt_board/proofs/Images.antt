@@ -20,7 +20,8 @@ use Rattle.egt_board.specs.Symmetry.{square_if, square_of, IsKeepingSides, Keeps
 use Rattle.egt_board.specs.Images.{IsTurnOf, Comes, AreImages, Reflects, count_of, SameMen, ExchangedMen}
 use Rattle.egt_board.proofs.Turning.{admissible_by}
 use Rattle.egt_board.proofs.Settling.{ready_by}
-use Rattle.egt_board.proofs.Reflected.{men_by, men_by-shows, men_by-on_board, men_by-few, same_on_board, setup_by, setup_by-is, setup_by-only, setup_by-back}
+use Rattle.egt_board.specs.Turned.{men_by, setup_by, setup_if}
+use Rattle.egt_board.proofs.Reflected.{men_by-shows, men_by-on_board, men_by-few, same_on_board, setup_by-is, setup_by-only, setup_by-back}
 use Rattle.egt_board.proofs.Tallies.{count_by}
 
 -- one step, and one after another
@@ -96,7 +97,7 @@ side_by-same Ranks keeps side = refl
 side_by-same Diagonal keeps side = refl
 side_by-same Colours keeps side = absurd keeps
 
-carried_of : (m : Mirror) (p q : Setup) → IsKeepingSides m → IsMirrored m p q → IsCarried (square_by m) p q
+pub carried_of : (m : Mirror) (p q : Setup) → IsKeepingSides m → IsMirrored m p q → IsCarried (square_by m) p q
 carried_of m p q keeps is = record {
   men = λ t t_in. is.men t t_in ∙ same (map.get p.men t);
   side = is.side ∙ side_by-same m keeps p.side;
@@ -115,7 +116,7 @@ turn_of Ranks p q allows is = inl (2, omega arith, inl allows, carried_of Ranks 
 turn_of Diagonal p q allows is = inl (4, omega arith, inl allows, carried_of Diagonal p q tt is)
 turn_of Colours p q allows is = inr is
 
-target_within : (men : Placement) (mover : Side) (target : Option ℕ) → FitsTarget men mover target → (t : ℕ) → target ≡ Some t → t < 64
+pub target_within : (men : Placement) (mover : Side) (target : Option ℕ) → FitsTarget men mover target → (t : ℕ) → target ≡ Some t → t < 64
 target_within men mover target fits t is =
     let target_is = subst (FitsTarget men mover) is fits in
     let b = target_between mover t target_is.rank in
@@ -163,12 +164,7 @@ setup_by-kept m p ok allows = record {
     back : IsMirrored m (setup_by m p) p
     back = setup_by-back m p ok.on_board (target_within p.men p.side p.target ok.target)
 
--- the setup in the mirror, or as it is
-setup_if : Bool → Mirror → Setup → Setup
-setup_if true m p = setup_by m p
-setup_if false m p = p
-
-setup_if-is : (turns : Bool) (m : Mirror) (p : Setup) → IsKeepingSides m → OnBoard p.men → IsCarried (square_if turns m) p (setup_if turns m p)
+pub setup_if-is : (turns : Bool) (m : Mirror) (p : Setup) → IsKeepingSides m → OnBoard p.men → IsCarried (square_if turns m) p (setup_if turns m p)
 unfolding setup_if
 setup_if-is true m p keeps ok = carried_of m p (setup_by m p) keeps (setup_by-is m p)
 setup_if-is false m p keeps ok = record { men = λ t t_in. refl; side = refl; target = same p.target; on_board = ok }
@@ -183,7 +179,7 @@ setup_if-kept true m p ok allows = setup_by-kept m p ok (allows refl)
 setup_if-kept false m p ok allows = Kept-same p ok
 
 -- carried twice
-carried_on : (f g : ℕ → ℕ) (p q r : Setup) → ((t : ℕ) → t < 64 → f t < 64) → IsCarried f p q → IsCarried g q r → IsCarried (λ s. g (f s)) p r
+pub carried_on : (f g : ℕ → ℕ) (p q r : Setup) → ((t : ℕ) → t < 64 → f t < 64) → IsCarried f p q → IsCarried g q r → IsCarried (λ s. g (f s)) p r
 carried_on f g p q r f_in first second = record {
   men = λ t t_in. second.men (f t) (f_in t t_in) ∙ first.men t t_in;
   side = second.side ∙ first.side;
@@ -196,10 +192,10 @@ carried_on f g p q r f_in first second = record {
     twice (Some s) = refl
 
 -- each square is where f puts another
-Onto : (ℕ → ℕ) → Type 0
+unfoldable pub Onto : (ℕ → ℕ) → Type 0
 Onto f = (u : ℕ) → u < 64 → (t : ℕ) × (t < 64) × (f t ≡ u)
 
-carried_only : (f : ℕ → ℕ) (p q r : Setup) → Onto f → IsCarried f p q → IsCarried f p r → q ≡ r
+pub carried_only : (f : ℕ → ℕ) (p q r : Setup) → Onto f → IsCarried f p q → IsCarried f p r → q ≡ r
 unfolding Onto
 carried_only f p q r onto first second = λ i. record { men = men i; side = (first.side ∙ sym second.side) i; target = (first.target ∙ sym second.target) i }
   where
@@ -208,15 +204,15 @@ carried_only f p q r onto first second = λ i. record { men = men i; side = (fir
         let from = onto u u_in in
         subst (λ x. map.get q.men x ≡ map.get r.men x) from.2 (first.men from.0 from.1 ∙ sym (second.men from.0 from.1)))
 
-square_if-within : (turns : Bool) (m : Mirror) (s : ℕ) → s < 64 → square_if turns m s < 64
+pub square_if-within : (turns : Bool) (m : Mirror) (s : ℕ) → s < 64 → square_if turns m s < 64
 square_if-within true m s s_in = square_by-within m s s_in
 square_if-within false m s s_in = s_in
 
-square_if-twice : (turns : Bool) (m : Mirror) (s : ℕ) → s < 64 → square_if turns m (square_if turns m s) ≡ s
+pub square_if-twice : (turns : Bool) (m : Mirror) (s : ℕ) → s < 64 → square_if turns m (square_if turns m s) ≡ s
 square_if-twice true m s s_in = square_by-twice m s s_in
 square_if-twice false m s s_in = refl
 
-onto_three : (a b c : Bool) (l m n : Mirror) → Onto (λ s. square_if c n (square_if b m (square_if a l s)))
+pub onto_three : (a b c : Bool) (l m n : Mirror) → Onto (λ s. square_if c n (square_if b m (square_if a l s)))
 unfolding Onto
 onto_three a b c l m n = λ u u_in.
     let v = square_if-within c n u u_in in

@@ -17,3 +17,6 @@ pub mod Reflected
 pub mod Tallies
 pub mod Images
 pub mod Settling
+pub mod Turns
+pub mod TurnMirrors
+pub mod SettledForms

@@ -10,24 +10,15 @@ use Rattle.egt_board.specs.declared.man.Man.{Man}
 use Rattle.egt_board.specs.Placement.{Placement, same_men, get-insert_same, get-insert_other}
 use Rattle.egt_board.specs.SquareSet.{total}
 use Rattle.egt_board.specs.Setup.{Setup}
-use Rattle.egt_board.specs.Mirror.{IsMirrored, square_by, side_by, man_by}
+use Rattle.egt_board.specs.Mirror.{IsMirrored, square_by, man_by}
+use Rattle.egt_board.specs.Turned.{put_some, men_below, men_by, setup_by}
 use Rattle.egt_board.specs.MirrorLaws.{square_by-within, square_by-twice, ShowsMen, OnBoard, shows_back, side_by-twice, man_by-twice}
 use Rattle.egt_board.proofs.Gather.{IsKey}
 use Rattle.egt_board.proofs.Counts.{covered}
 
--- a man put on the square, if there is one
-put_some : Placement → ℕ → Option Man → Placement
-put_some men s None = men
-put_some men s (Some man) = map.insert men s man
-
 one_if : Option Man → ℕ
 one_if None = 0
 one_if (Some man) = 1
-
--- the men of the squares below n, in the mirror
-men_below : Mirror → Placement → ℕ → Placement
-men_below m men zero = map.empty
-men_below m men (suc n) = put_some (men_below m men n) (square_by m n) (option_map (man_by m) (map.get men n))
 
 put_same : (men : Placement) (s q : ℕ) (o : Option Man) → q ≡ s → map.get men q ≡ None → map.get (put_some men s o) q ≡ o
 unfolding put_some
@@ -102,10 +93,6 @@ held_few men =
     key t None e one = absurd (omega arith)
     key t (Some man) e one = ap is_some (sym (map.get-entries men t) ∙ e)
 
--- what the men become
-pub men_by : Mirror → Placement → Placement
-men_by m men = men_below m men 64
-
 pub men_by-shows : (m : Mirror) (men : Placement) → ShowsMen m men (men_by m men)
 unfolding men_by
 men_by-shows m men = λ t t_in. below_shows m men 64 t (omega arith) t_in
@@ -126,10 +113,6 @@ same_on_board men men' ok ok' same = same_men men men' (λ t. here t (map.get me
     here t None None e e' = e ∙ sym e'
     here t (Some man) o' e e' = same t (ok t man e)
     here t None (Some man) e e' = same t (ok' t man e')
-
--- what the setup becomes
-abbrev pub setup_by : Mirror → Setup → Setup
-setup_by m p = record { men = men_by m p.men; side = side_by m p.side; target = option_map (square_by m) p.target }
 
 pub setup_by-is : (m : Mirror) (p : Setup) → IsMirrored m p (setup_by m p)
 setup_by-is m p = record { men = men_by-shows m p.men; side = refl; target = refl; on_board = men_by-on_board m p.men }

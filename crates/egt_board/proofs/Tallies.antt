@@ -17,7 +17,8 @@ use Rattle.egt_board.specs.SquareSet.{total}
 use Rattle.egt_board.specs.Mirror.{square_by, man_by}
 use Rattle.egt_board.specs.Images.{kind_number, side_number, stands_here, count_of}
 use Rattle.egt_board.proofs.Sizes.{total-same}
-use Rattle.egt_board.proofs.Reflected.{men_by, men_by-shows}
+use Rattle.egt_board.specs.Turned.{men_by}
+use Rattle.egt_board.proofs.Reflected.{men_by-shows}
 
 -- a total over the board may be taken in a mirror
 total_by : (m : Mirror) (f : ℕ → ℕ) → total (λ s. f (square_by m s)) 64 ≡ total f 64

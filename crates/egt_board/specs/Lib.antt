@@ -12,10 +12,17 @@ pub mod Pawn
 pub mod Target
 pub mod Setup
 pub mod Settled
+pub mod Fault
 pub mod Listed
 pub mod Mirror
 pub mod Position
 pub mod Symmetry
+pub mod Turned
 pub mod Mirrored
 pub mod Images
 pub mod MirrorLaws
+pub mod Among
+pub mod Decided
+pub mod DecidedMen
+pub mod DecidedSetup
+pub mod DecidedTurns

@@ -2,7 +2,7 @@ use Rattle.std.specs.Prelude.{◌≡◌, ◌≢◌, ℕ, Some, None, cond, true,
 use Rattle.std.specs.Ordering.{nat_cmp, eq_by_cmp}
 use Rattle.std.specs.Cmp.{nat_cmp_total, unsigned_tied}
 use Rattle.std.specs.FinMap as map
-use Rattle.std.proofs.Common.{ap, ◌∙◌, inl, inr}
+use Rattle.std.proofs.Common.{ap, sym, ◌∙◌, inl, inr}
 use Rattle.std.proofs.lemmas.Bool.{eq-eqb}
 use Rattle.std.proofs.lemmas.Bool.Decides.{eqb_tells}
 use Rattle.egt_board.specs.declared.man.Side.{Side}
@@ -25,6 +25,10 @@ pub record IsHeld (men : Placement) (s : ℕ) (side : Side) : Type 0 where
   pub man : Man
   pub stands : Stands men s man
   pub theirs : man.side ≡ side
+
+-- one man stands on a square
+pub one_man : (men : Placement) (s : ℕ) (a b : Man) → Stands men s a → Stands men s b → a ≡ b
+one_man men s a b p q = let both : Some a ≡ Some b = sym p ∙ q in cc
 
 -- placements with the same men on each square are the same
 pub same_men : (m n : Placement) → ((q : ℕ) → map.get m q ≡ map.get n q) → m ≡ n

@@ -245,3 +245,17 @@ fn positions_with_pawns_have_images(rt: HostRuntime) -> Result<(), Fail> {
     assert_eq!(rt; flipped.target(), Some(square(19)?));
     Ok(())
 }
+
+#[test]
+fn faults_have_numbers_and_names(rt: HostRuntime) {
+    for (fault, number, name) in [
+        (PosFault::MenCount, 7, "MenCount"),
+        (PosFault::KingCount, 8, "KingCount"),
+        (PosFault::PawnRank, 9, "PawnRank"),
+        (PosFault::EpMismatch, 10, "EpMismatch"),
+        (PosFault::WaitingInCheck, 11, "WaitingInCheck"),
+    ] {
+        assert_eq!(rt; fault.number(), number);
+        assert_eq!(rt; fault.name(), name);
+    }
+}

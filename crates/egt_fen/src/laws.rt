@@ -3,6 +3,9 @@ ghost use Rattle.std.specs.Prelude.{◌≡◌, ℕ, List};
 ghost use Rattle.egt_board.specs.Setup.{IsAdmissible};
 ghost use Rattle.egt_fen.specs.Canonical.{canonical};
 ghost use Rattle.egt_fen.specs.declared.fen.Fen.{Fen};
+ghost use Rattle.egt_board.specs.declared.fault.PosFault.{PosFault};
+ghost use Rattle.egt_board.specs.Fault as setup;
+ghost use Rattle.egt_fen.specs.Fault.{number_of, name_of, fault_of};
 ghost use Rattle.egt_fen.specs.declared.fault.FenFault.{FenFault};
 ghost use Rattle.egt_fen.specs.Fen.{Spells, IsFirstFault};
 
@@ -20,4 +23,10 @@ pub fn one_meaning()
 pub fn one_fault()
     ensures only { (text : List ℕ) (one other : FenFault) → IsFirstFault text one → IsFirstFault text other → one ≡ other }
     ensures none { (text : List ℕ) (fen : Fen) (fault : FenFault) → Spells text fen → IsFirstFault text fault → ⊥ }
+{}
+
+/// A fault of the setup keeps its number and its name as a fault of the text.
+pub fn faults_keep_numbers()
+    ensures number { (fault : PosFault) → number_of (fault_of fault) ≡ setup.number_of fault }
+    ensures name { (fault : PosFault) → name_of (fault_of fault) ≡ setup.name_of fault }
 {}

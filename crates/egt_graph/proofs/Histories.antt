@@ -7,7 +7,7 @@ use Rattle.egt_graph.specs.Graph.{Graph, IsNode, IsGame, IsAlike}
 use Rattle.egt_graph.specs.Value.{AreRanks, SomeAbove, NoneAbove, mated_within, mates_within, mated_before, mates_before, decided_within, is_empty, is_lost_before, is_won_before, HasRank}
 use Rattle.egt_graph.specs.Frontier.{blocks_of, front}
 use Rattle.egt_graph.specs.Rounds.{State, begun, listed, listed_in, is_posted_in, none_posted, Closes, ClosesIn, ClosesRunning}
-use Rattle.egt_graph.specs.Events.{Event, Expanded, Received, Closed, Steps, Runs, is_next, is_end, ticked_by, ticked_after, is_running, AfterEvents, EventsLeave, EachRoundIsOfItsRank, FinishedRunsAgree}
+use Rattle.egt_graph.specs.Events.{Event, Expanded, Received, Closed, Steps, Runs, is_next, is_end, ticked_by, ticked_after, phase_by, phase_after, is_running, AfterEvents, EventsLeave, EachRoundIsOfItsRank, FinishedRunsAgree}
 use Rattle.egt_graph.specs.declared.answer.Phase.{Phase}
 use Rattle.egt_graph.specs.declared.answer.Phase.TheVariants.{Running, Finished as IsOver, TooDeep as IsPastLimit}
 use Rattle.egt_graph.specs.declared.answer.Post.TheVariants.{Posted, Repeat, Stale}
@@ -30,6 +30,7 @@ record Sound (g : Graph) (limit : ℕ) (v : State) : Type 0 where
 record Stepped (g : Graph) (limit : ℕ) (v : State) (event : Event) (w : State) : Type 0 where
   sound : Sound g limit w
   round : w.round ≡ v.round + cond (is_next event) 1 0
+  phase : w.phase ≡ phase_by v.phase event
   running : is_running w.phase ≡ (is_running v.phase && not (is_end event))
   ticks : (b : ℕ) → b < blocks_of g.size → is_running w.phase ≡ true → slice_index_or w.posted b false ≡ ticked_by b (slice_index_or v.posted b false) event
 
@@ -41,9 +42,9 @@ over_stays : (b c : Bool) → b ≡ false → b ≡ (b && c)
 over_stays b c e = e ∙ sym (ap (λ x. x && c) e)
 
 -- nothing changes
-stays : (g : Graph) (limit : ℕ) (v w : State) (event : Event) → Sound g limit v → w ≡ v → is_next event ≡ false
+stays : (g : Graph) (limit : ℕ) (v w : State) (event : Event) → Sound g limit v → w ≡ v → is_next event ≡ false → v.phase ≡ phase_by v.phase event
     → is_running v.phase ≡ (is_running v.phase && not (is_end event)) → ((b : ℕ) (flag : Bool) → ticked_by b flag event ≡ flag) → Stepped g limit v event w
-stays g limit v w event s e next running ticks = subst P (sym e) go
+stays g limit v w event s e next phase running ticks = subst P (sym e) go
   where
     P : State → Type 0
     P x = Stepped g limit v event x
@@ -55,6 +56,7 @@ stays g limit v w event s e next running ticks = subst P (sym e) go
     go = record {
       sound = s;
       round = plus_none v.round _ (ap (λ (c : Bool). cond {A = ℕ} c 1 0) next);
+      phase = phase;
       running = running;
       ticks = λ b lt r. sym (ticks b (slice_index_or v.posted b false));
     }
@@ -82,6 +84,7 @@ step_posted g limit v w round block nodes s e = subst P (sym e) go
         too_deep = s.too_deep;
       };
       round = omega arith;
+      phase = refl;
       running = stays_running (is_running v.phase) false refl;
       ticks = λ b lt r. ticked v.posted block b (let l = s.long in omega arith);
     }
@@ -103,6 +106,7 @@ step_next g limit v w s run some e = subst P (sym e) go
         too_deep = λ q. absurd (true≢false (ap is_running (sym run ∙ q)));
       };
       round = refl;
+      phase = refl;
       running = stays_running (is_running v.phase) false refl;
       ticks = λ b lt r. get_or-replicate (blocks_of g.size) b false false lt;
     }
@@ -127,6 +131,7 @@ step_finished g limit v w s none e = subst P (sym e) go
         too_deep = λ q. absurd (over_is_over q);
       };
       round = omega arith;
+      phase = refl;
       running = no_more (is_running v.phase);
       ticks = λ b lt r. refl;
     }
@@ -154,6 +159,7 @@ step_past g limit v w s some at e = subst P (sym e) go
         too_deep = λ q. let Q : ℕ → Type 0 = λ m. SomeAbove g m in subst Q (at ∙ s.limited) some;
       };
       round = omega arith;
+      phase = refl;
       running = no_more (is_running v.phase);
       ticks = λ b lt r. refl;
     }
@@ -165,38 +171,39 @@ closes_at : (g : Graph) (v : State) (answer : Close) (w : State) (p : Phase) →
 closes_at g v answer w p e h = let P : Phase → Type 0 = λ x. ClosesIn x g v answer w in subst P e h
 
 step_close_running : (g : Graph) (limit : ℕ) (v w : State) (answer : Close) → Sound g limit v → v.phase ≡ Running → ClosesRunning g v answer w → Stepped g limit v (Closed answer) w
-step_close_running g limit v w NotAll s run h = stays g limit v w (Closed NotAll) s h.1 refl (stays_running (is_running v.phase) false refl) (λ b flag. refl)
+step_close_running g limit v w NotAll s run h = stays g limit v w (Closed NotAll) s h.1 refl refl (stays_running (is_running v.phase) false refl) (λ b flag. refl)
 step_close_running g limit v w Finished s run h = step_finished g limit v w s h.1 h.2
 step_close_running g limit v w TooDeep s run h = step_past g limit v w s h.1 h.2 h.3
 step_close_running g limit v w Next s run h = step_next g limit v w s run h.1 h.3
 
-step_close_over : (g : Graph) (limit : ℕ) (v w : State) (answer : Close) → Sound g limit v → is_running v.phase ≡ false → (answer ≡ Finished) ⊎ (answer ≡ TooDeep) → w ≡ v
+step_close_over : (g : Graph) (limit : ℕ) (v w : State) (answer : Close) → Sound g limit v → is_running v.phase ≡ false → (answer ≡ Finished) ⊎ (answer ≡ TooDeep) → v.phase ≡ phase_by v.phase (Closed answer) → w ≡ v
     → Stepped g limit v (Closed answer) w
-step_close_over g limit v w Next s over a e = absurd (not_next a)
+step_close_over g limit v w Next s over a same e = absurd (not_next a)
   where
     not_next : (Next ≡ Finished) ⊎ (Next ≡ TooDeep) → ⊥
     not_next (inl q) = cc
     not_next (inr q) = cc
-step_close_over g limit v w Finished s over a e = stays g limit v w (Closed Finished) s e refl (over_stays (is_running v.phase) false over) (λ b flag. refl)
-step_close_over g limit v w NotAll s over a e = stays g limit v w (Closed NotAll) s e refl (over_stays (is_running v.phase) true over) (λ b flag. refl)
-step_close_over g limit v w TooDeep s over a e = stays g limit v w (Closed TooDeep) s e refl (over_stays (is_running v.phase) false over) (λ b flag. refl)
+step_close_over g limit v w Finished s over a same e = stays g limit v w (Closed Finished) s e refl same (over_stays (is_running v.phase) false over) (λ b flag. refl)
+step_close_over g limit v w NotAll s over a same e = stays g limit v w (Closed NotAll) s e refl same (over_stays (is_running v.phase) true over) (λ b flag. refl)
+step_close_over g limit v w TooDeep s over a same e = stays g limit v w (Closed TooDeep) s e refl same (over_stays (is_running v.phase) false over) (λ b flag. refl)
 
 step_close : (g : Graph) (limit : ℕ) (v w : State) (answer : Close) → Sound g limit v → (p : Phase) → v.phase ≡ p → ClosesIn p g v answer w → Stepped g limit v (Closed answer) w
 step_close g limit v w answer s Running e h = step_close_running g limit v w answer s e h
-step_close g limit v w answer s IsOver e h = step_close_over g limit v w answer s (ap is_running e) (inl h.0) h.1
-step_close g limit v w answer s IsPastLimit e h = step_close_over g limit v w answer s (ap is_running e) (inr h.0) h.1
+step_close g limit v w answer s IsOver e h = step_close_over g limit v w answer s (ap is_running e) (inl h.0) (e ∙ sym (ap (λ a. phase_by v.phase (Closed a)) h.0)) h.1
+step_close g limit v w answer s IsPastLimit e h = step_close_over g limit v w answer s (ap is_running e) (inr h.0) (e ∙ sym (ap (λ a. phase_by v.phase (Closed a)) h.0)) h.1
 
 step : (g : Graph) (limit : ℕ) (v w : State) (event : Event) → Sound g limit v → Steps g v event w → Stepped g limit v event w
-step g limit v w (Expanded block nodes) s h = stays g limit v w (Expanded block nodes) s h.1 refl (stays_running (is_running v.phase) false refl) (λ b flag. refl)
+step g limit v w (Expanded block nodes) s h = stays g limit v w (Expanded block nodes) s h.1 refl refl (stays_running (is_running v.phase) false refl) (λ b flag. refl)
 step g limit v w (Received round block nodes Posted) s h = step_posted g limit v w round block nodes s h.2
-step g limit v w (Received round block nodes Repeat) s h = stays g limit v w (Received round block nodes Repeat) s h.2 refl (stays_running (is_running v.phase) false refl) (λ b flag. refl)
-step g limit v w (Received round block nodes Stale) s h = stays g limit v w (Received round block nodes Stale) s h.1 refl (stays_running (is_running v.phase) false refl) (λ b flag. refl)
+step g limit v w (Received round block nodes Repeat) s h = stays g limit v w (Received round block nodes Repeat) s h.2 refl refl (stays_running (is_running v.phase) false refl) (λ b flag. refl)
+step g limit v w (Received round block nodes Stale) s h = stays g limit v w (Received round block nodes Stale) s h.1 refl refl (stays_running (is_running v.phase) false refl) (λ b flag. refl)
 step g limit v w (Closed answer) s h = step_close g limit v w answer s v.phase refl h
 
 -- what a list of events does
 record Went (g : Graph) (limit : ℕ) (v : State) (events : List Event) (w : State) : Type 0 where
   sound : Sound g limit w
   round : w.round ≡ v.round + count_by is_next events
+  phase : w.phase ≡ phase_after v.phase events
   running : is_running w.phase ≡ (is_running v.phase && not (list_any is_end events))
   ticks : (b : ℕ) → b < blocks_of g.size → is_running w.phase ≡ true → slice_index_or w.posted b false ≡ ticked_after b (slice_index_or v.posted b false) events
 
@@ -219,13 +226,14 @@ went g limit v w [] s e = subst P (sym e) go
     P x = Went g limit v [] x
 
     go : P v
-    go = record { sound = s; round = plus_nothing v.round; running = stays_running (is_running v.phase) false refl; ticks = λ b lt r. refl }
+    go = record { sound = s; round = plus_nothing v.round; phase = refl; running = stays_running (is_running v.phase) false refl; ticks = λ b lt r. refl }
 went g limit v w (event ∷ events) s h =
     let a = step g limit v h.0 event s h.1 in
     let b = went g limit h.0 w events a.sound h.2 in
     record {
       sound = b.sound;
       round = let c = count_by-cons is_next event events in let p = a.round in let q = b.round in omega arith;
+      phase = b.phase ∙ ap (λ p. phase_after p events) a.phase;
       running = b.running ∙ ap (λ x. x && not (list_any is_end events)) a.running ∙ and_group (is_running v.phase) (is_end event) (list_any is_end events);
       ticks = λ k lt r. b.ticks k lt r ∙ ap (λ f. ticked_after k f events) (a.ticks k lt (still (is_running h.0.phase) _ (sym b.running ∙ r)));
     }
@@ -262,6 +270,7 @@ events_leave g limit events v runs =
     record {
       limited = h.sound.limited;
       round = h.round ∙ zero_plus (count_by is_next events);
+      phase = h.phase;
       running = h.running;
       posted = λ b lt. posted_while g limit events v h b lt v.phase refl;
       reached = h.sound.reached;

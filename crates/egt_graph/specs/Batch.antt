@@ -1,5 +1,6 @@
 -- A batch as its readers see it.
 use Rattle.std.specs.Prelude.{◌≡◌, ℕ, ◌+◌, ◌<◌, ◌≤◌, List, length, slice_index, slice_range, All}
+use Rattle.std.specs.List.Sorted.{IsStrictlyIncreasing}
 use Rattle.egt_graph.specs.Graph.{Graph, IsNode}
 use Rattle.egt_graph.specs.Frontier.{blocks_of}
 
@@ -19,5 +20,6 @@ pub record IsTargets (g : Graph) (nodes targets starts : List ℕ) (n : ℕ) : T
 pub record IsBatch (g : Graph) (block : ℕ) (nodes targets starts : List ℕ) : Type 0 where
   pub a_block : block < blocks_of g.size
   pub are_nodes : All (IsNode g) nodes
+  pub ascending : IsStrictlyIncreasing nodes
   pub one_more : length starts ≡ length nodes + 1
   pub kept : IsTargets g nodes targets starts (length nodes)

@@ -65,12 +65,26 @@ is_running Running = true
 is_running IsOver = false
 is_running IsPastLimit = false
 
+-- where the run stands after an event: an answer Finished or TooDeep is its end
+abbrev pub phase_by : Phase → Event → Phase
+phase_by phase (Expanded block nodes) = phase
+phase_by phase (Received round block nodes answer) = phase
+phase_by phase (Closed Next) = phase
+phase_by phase (Closed Finished) = IsOver
+phase_by phase (Closed NotAll) = phase
+phase_by phase (Closed TooDeep) = IsPastLimit
+
+abbrev pub phase_after : Phase → List Event → Phase
+phase_after phase [] = phase
+phase_after phase (event ∷ events) = phase_after (phase_by phase event) events
+
 -- what any list of events from the beginning leaves
 pub record AfterEvents (g : Graph) (limit : ℕ) (events : List Event) (v : State) : Type 0 where
   pub limited : v.limit ≡ limit
   -- the round is the number of answers Next
   pub round : v.round ≡ count_by is_next events
-  -- the run goes on until an answer Finished or TooDeep
+  -- the run goes on until an answer Finished or TooDeep, and that is the end it has
+  pub phase : v.phase ≡ phase_after Running events
   pub running : is_running v.phase ≡ not (list_any is_end events)
   -- the blocks that count as posted are those posted since the last answer Next, and all once the run has ended
   pub posted : (b : ℕ) → b < blocks_of g.size → is_posted v b ≡ (list_any is_end events || ticked_after b false events)

@@ -1,6 +1,10 @@
 -- The nodes of a round, block by block.
 use Rattle.std.specs.Prelude.{ℕ, ◌+◌, ◌-◌, ◌*◌, ◌/◌, Bool, ◌&&◌, ◌||◌, not, List, length, filter, min, ◌==◌, nat_lt, slice_index}
 use Rattle.std.specs.List.{range_with_len}
+use Rattle.std.specs.List.Sorted.{IsStrictlyIncreasing}
+use Rattle.std.proofs.Common.{arith}
+use Rattle.std.proofs.lemmas.List.FromFn.{length-range_with_len, get_or-range_with_len}
+use Rattle.std.proofs.lemmas.List.Kept.{IsStrictlyIncreasing-filter}
 use Rattle.egt_graph.specs.Graph.{Graph}
 use Rattle.egt_graph.specs.Value.{mates_within, mates_before, mated_within, mated_before}
 
@@ -25,6 +29,16 @@ is_ranked g n i =
 -- the nodes of the block whose rank is n, ascending
 abbrev pub front : Graph → ℕ → ℕ → List ℕ
 front g n block = filter (is_ranked g n) (range_with_len (4096 * block) (block_len g.size block))
+
+pub range-ascends : (a n : ℕ) → IsStrictlyIncreasing (range_with_len a n)
+range-ascends a n k lt =
+    let long = length-range_with_len a n in
+    let x = get_or-range_with_len a n k 0 (omega arith) in
+    let y = get_or-range_with_len a n (k + 1) 0 (omega arith) in
+    omega arith
+
+pub front-ascends : (g : Graph) (n block : ℕ) → IsStrictlyIncreasing (front g n block)
+front-ascends g n block = IsStrictlyIncreasing-filter (is_ranked g n) (range_with_len (4096 * block) (block_len g.size block)) (range-ascends (4096 * block) (block_len g.size block))
 
 -- an entry that spells a win or a loss in n plies
 abbrev pub is_entry_of_round : ℕ → ℕ → Bool

@@ -1,5 +1,5 @@
 -- A finite game as its players see it: who may go where. Positions are numbers, its nodes.
-use Rattle.std.specs.Prelude.{◌≡◌, ℕ, ◌<◌, ◌≤◌, Bool, List, [], length, All, Contains, IsTrue, IsFalse}
+use Rattle.std.specs.Prelude.{◌≡◌, ℕ, ◌<◌, ◌≤◌, Bool, List, [], All, Contains, IsTrue, IsFalse}
 use Rattle.std.specs.List.Sorted.{IsStrictlyIncreasing}
 use Rattle.egt_graph.specs.declared.game.Exit.{Exit}
 use Rattle.egt_graph.specs.declared.game.Exit.TheVariants.{Win, Loss, Draw}
@@ -34,8 +34,6 @@ pub record IsGame (g : Graph) : Type 0 where
   pub into_ascends : (j : ℕ) → IsNode g j → IsStrictlyIncreasing (g.into j)
   pub back : (i j : ℕ) → IsNode g i → IsNode g j → Contains (g.out i) j → Contains (g.into j) i
   pub forth : (i j : ℕ) → IsNode g i → IsNode g j → Contains (g.into j) i → Contains (g.out i) j
-  pub few_edges : (i : ℕ) → IsNode g i → length (g.out i) ≤ 64
-  pub few_exits : (i : ℕ) → IsNode g i → length (g.exits i) ≤ 64
   pub short_exits : (i : ℕ) → IsNode g i → All HasShortDistance (g.exits i)
   pub mate_ends : (i : ℕ) → IsNode g i → IsTrue (g.mated i) → (g.out i ≡ []) × (g.exits i ≡ [])
 

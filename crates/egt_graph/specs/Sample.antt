@@ -1,15 +1,13 @@
 -- Games given by lists, as tests make them. Whatever the lists, the game is lawful: moves from or to what is no node, and
 -- moves on from a checkmate, do not count, and a move that is given twice counts once.
-use Rattle.std.specs.Prelude.{◌≡◌, ℕ, zero, suc, ◌+◌, ◌-◌, ◌<◌, ◌≤◌, ◌==◌, Bool, true, false, not, ◌&&◌, cond, List, [], ◌∷◌, length, map, filter, nat_lt, nat_le, if◌then◌else◌, refl, All, Contains}
+use Rattle.std.specs.Prelude.{◌≡◌, ℕ, zero, suc, ◌+◌, ◌-◌, ◌<◌, ◌≤◌, ◌==◌, Bool, true, false, not, ◌&&◌, cond, List, [], ◌∷◌, map, filter, nat_lt, nat_le, if◌then◌else◌, refl, All, Contains}
 use Rattle.std.specs.List.{list_any, range_with_len}
 use Rattle.std.specs.List.Sorted.{IsStrictlyIncreasing}
 use Rattle.std.proofs.Common.{arith, ap, ◌∙◌, inl, inr, ltb, get_or}
 use Rattle.std.proofs.lemmas.Bool.{and_parts, cases_eq, leb-true, lt-ltb, le-ltb, ltb-true, ltb-false, not-true, false≢true}
 use Rattle.std.proofs.lemmas.List.Elements.{All-cons, All-nil, All-contains}
 use Rattle.std.proofs.lemmas.List.Kept.{IsStrictlyIncreasing-filter}
-use Rattle.std.proofs.lemmas.List.Sums.{length-filter, count_by-le-length}
-use Rattle.std.proofs.lemmas.List.FromFn.{length-range_with_len, get_or-range_with_len}
-use Rattle.std.proofs.lemmas.List.{length-map}
+use Rattle.egt_graph.specs.Frontier.{range-ascends}
 use Rattle.egt_graph.specs.Graph.{Graph, IsNode, IsGame, HasShortDistance}
 use Rattle.egt_graph.specs.declared.game.Exit.{Exit}
 use Rattle.egt_graph.specs.declared.game.Exit.TheVariants.{Win, Loss, Draw}
@@ -74,16 +72,6 @@ pass_contains p a (suc n) x low high h = elim (cases_eq a x) [
     here : a ≡ x → Contains (filter p (range_with_len a (suc n))) x
     here e = rw (← e) (contains_here (p a) a (filter p (range_with_len (a + 1) n)) (ap p e ∙ h))
 
-ascending : (a n : ℕ) → IsStrictlyIncreasing (range_with_len a n)
-ascending a n k lt =
-    let long = length-range_with_len a n in
-    let x = get_or-range_with_len a n k 0 (omega arith) in
-    let y = get_or-range_with_len a n (k + 1) 0 (omega arith) in
-    omega arith
-
-pub few_pass : (p : ℕ → Bool) (n : ℕ) → length (filter p (range_with_len 0 n)) ≤ n
-few_pass p n = omega (arith, length-filter p (range_with_len 0 n), count_by-le-length p (range_with_len 0 n), length-range_with_len 0 n)
-
 none_pass : (p : ℕ → Bool) → ((x : ℕ) → p x ≡ false) → (xs : List ℕ) → filter p xs ≡ []
 none_pass p h [] = refl
 none_pass p h (x ∷ xs) = rw (h x) (none_pass p h xs)
@@ -102,24 +90,18 @@ all_short : (i : ℕ) (exits : List (ℕ × Exit)) → All HasShortDistance (map
 all_short i [] = All-nil HasShortDistance
 all_short i (e ∷ es) = short_cond i (is_exit_of i e) e (filter (is_exit_of i) es) refl (all_short i es)
 
-few_exits : (i : ℕ) (exits : List (ℕ × Exit)) → length (map (λ (e : ℕ × Exit). e.1) (filter (is_exit_of i) exits)) ≤ length exits
-few_exits i exits = omega (arith, length-map (filter (is_exit_of i) exits) (λ (e : ℕ × Exit). e.1), length-filter (is_exit_of i) exits, count_by-le-length (is_exit_of i) exits)
-
 -- ---- the law
 
-pub sample_is_game : (size : ℕ) (voids mates : List ℕ) (moves : List (ℕ × ℕ)) (exits : List (ℕ × Exit)) → size ≤ 64 → length exits ≤ 64
-    → IsGame (sample size voids mates moves exits)
-sample_is_game size voids mates moves exits small few = record {
+pub sample_is_game : (size : ℕ) (voids mates : List ℕ) (moves : List (ℕ × ℕ)) (exits : List (ℕ × Exit)) → IsGame (sample size voids mates moves exits)
+sample_is_game size voids mates moves exits = record {
   out_nodes = λ i node. passing (IsNode g) (is_move size voids mates moves i) (λ j t. to_node i j t) (range_with_len 0 size);
   into_nodes = λ j node. passing (IsNode g) (λ i. is_move size voids mates moves i j) (λ i t. from_node i j t) (range_with_len 0 size);
-  out_ascends = λ i node. IsStrictlyIncreasing-filter (is_move size voids mates moves i) (range_with_len 0 size) (ascending 0 size);
-  into_ascends = λ j node. IsStrictlyIncreasing-filter (λ i. is_move size voids mates moves i j) (range_with_len 0 size) (ascending 0 size);
+  out_ascends = λ i node. IsStrictlyIncreasing-filter (is_move size voids mates moves i) (range_with_len 0 size) (range-ascends 0 size);
+  into_ascends = λ j node. IsStrictlyIncreasing-filter (λ i. is_move size voids mates moves i j) (range_with_len 0 size) (range-ascends 0 size);
   back = λ i j a b c. let lt = a.in_range in pass_contains (λ k. is_move size voids mates moves k j) 0 size i (omega arith) (omega arith)
       (All-contains (λ k. is_move size voids mates moves i k ≡ true) _ j (passing _ (is_move size voids mates moves i) (λ x t. t) (range_with_len 0 size)) c);
   forth = λ i j a b c. let lt = b.in_range in pass_contains (is_move size voids mates moves i) 0 size j (omega arith) (omega arith)
       (All-contains (λ k. is_move size voids mates moves k j ≡ true) _ i (passing _ (λ k. is_move size voids mates moves k j) (λ x t. t) (range_with_len 0 size)) c);
-  few_edges = λ i node. let f = few_pass (is_move size voids mates moves i) size in omega arith;
-  few_exits = λ i node. exits_fit i (is_listed mates i);
   short_exits = λ i node. exits_short i (is_listed mates i);
   mate_ends = λ i node m. (none_pass (is_move size voids mates moves i) (λ j. stays i j m) (range_with_len 0 size), ap (λ b. cond b [] (map (λ (e : ℕ × Exit). e.1) (filter (is_exit_of i) exits))) m);
 }
@@ -147,10 +129,6 @@ sample_is_game size voids mates moves exits small few = record {
 
     stays : (i j : ℕ) → is_listed mates i ≡ true → is_move size voids mates moves i j ≡ false
     stays i j m = mated_stays (is_place size voids i) (is_listed mates i) (is_place size voids j && is_pair moves i j) m
-
-    exits_fit : (i : ℕ) (b : Bool) → length (cond b [] (map (λ (e : ℕ × Exit). e.1) (filter (is_exit_of i) exits))) ≤ 64
-    exits_fit i true = omega arith
-    exits_fit i false = let f = few_exits i exits in omega arith
 
     exits_short : (i : ℕ) (b : Bool) → All HasShortDistance (cond b [] (map (λ (e : ℕ × Exit). e.1) (filter (is_exit_of i) exits)))
     exits_short i true = All-nil HasShortDistance
@@ -182,8 +160,6 @@ stairs_are_a_game size step = record {
   into_ascends = λ j node. into_ascends j (ltb (j + step) size);
   back = λ i j a b c. back i j a (ltb i step) refl c;
   forth = λ i j a b c. forth i j (ltb (j + step) size) refl c;
-  few_edges = λ i node. few i (ltb i step);
-  few_exits = λ i node. omega arith;
   short_exits = λ i node. All-nil HasShortDistance;
   mate_ends = λ i node m. (ap (λ b. cond b [] ((i - step) ∷ [])) m, refl);
 }
@@ -206,10 +182,6 @@ stairs_are_a_game size step = record {
     into_ascends : (j : ℕ) (b : Bool) → IsStrictlyIncreasing (cond b ((j + step) ∷ []) [])
     into_ascends j true = one_ascends (j + step)
     into_ascends j false = λ k lt. absurd (omega arith)
-
-    few : (i : ℕ) (b : Bool) → length (cond b [] ((i - step) ∷ [])) ≤ 64
-    few i true = omega arith
-    few i false = omega arith
 
     only : (x y k : ℕ) → k < 1 → get_or (x ∷ []) k y ≡ y → x ≡ y
     only x y zero lt e = e

@@ -1,5 +1,6 @@
 //! The work of one block in one round.
 ghost use Rattle.std.specs.Prelude.{◌≡◌, ◌<◌, length, slice_index, All, IfOk};
+ghost use Rattle.std.specs.List.Sorted.{IsStrictlyIncreasing};
 ghost use Rattle.egt_graph.specs.Graph.{IsNode};
 ghost use Rattle.egt_graph.specs.Frontier.{blocks_of};
 
@@ -40,6 +41,7 @@ impl<'g, G: Game> Batch<'g, G> {
     ) -> Result<Self, AllocError>
         requires a_block { block < blocks_of (G.graph game.now).size }
         requires are_nodes { All (IsNode (G.graph game.now)) nodes.items }
+        requires ascending { IsStrictlyIncreasing nodes.items }
         ensures { IfOk result
             (λ batch. (batch.game ≡ game.now) × (batch.round ≡ round) × (batch.block ≡ block) × (batch.nodes ≡ nodes.items)) }
     {
@@ -80,6 +82,7 @@ impl<'g, G: Game> Batch<'g, G> {
     pub fn nodes(&self) -> &[u32]
         ensures value { result.now ≡ self.now.nodes }
         ensures are_nodes { All (IsNode (G.graph self.now.game)) result.now }
+        ensures ascending { IsStrictlyIncreasing result.now }
     {
         &self.nodes
     }

@@ -1,5 +1,5 @@
 //! A finite game: nodes, the moves between them, and the moves that leave it.
-ghost use Rattle.std.specs.Prelude.{◌≡◌, ◌<◌, length};
+ghost use Rattle.std.specs.Prelude.{◌≡◌, ◌<◌, ◌≤◌, length};
 ghost use Rattle.egt_graph.specs.Graph.{Graph, IsNode, IsGame};
 
 use arrayvec::ArrayVec;
@@ -16,7 +16,7 @@ pub enum Exit {
 }
 
 /// A game over the nodes from 0 up to `size`. Some of the numbers may be void: they are no nodes.
-/// Lists of nodes ascend, without doubles.
+/// Lists of nodes ascend, without doubles. A node has at most 64 moves to others and 64 that leave the game.
 pub trait Game {
     ghost graph: { Self → Graph };
 
@@ -39,10 +39,11 @@ pub trait Game {
         requires { IsNode (graph self.now) i }
         ensures { result.items ≡ (graph self.now).out i };
 
-    /// How many nodes `out` lists.
+    /// How many nodes `out` lists, at most 64.
     fn degree(&self, i: u32) -> usize
         requires { IsNode (graph self.now) i }
-        ensures { result ≡ length ((graph self.now).out i) };
+        ensures value { result ≡ length ((graph self.now).out i) }
+        ensures few { result ≤ 64 };
 
     /// The nodes from which a move leads to `j`.
     fn into(&self, j: u32) -> ArrayVec<u32, 128>

@@ -1,5 +1,6 @@
 //! Ranks by rounds: in round r the nodes of rank r are taken back, block by block, in any order.
 ghost use Rattle.std.specs.Prelude.{◌≡◌, ◌≢◌, ◌↔◌, ℕ, ◌+◌, ◌<◌, ◌≤◌, true, false, List, length, slice_index, slice_index_or, All, IsTrue, IfOk, MatchResult, MatchBool, replicate};
+ghost use Rattle.std.specs.List.Sorted.{IsStrictlyIncreasing};
 ghost use Rattle.egt_graph.specs.Graph.{IsAlike, IsNode};
 ghost use Rattle.egt_graph.specs.Value.{AreRanks};
 ghost use Rattle.egt_graph.specs.Frontier.{blocks_of};
@@ -126,6 +127,7 @@ impl<'g, G: Game> Rounds<'g, G> {
         requires { block < blocks_of (G.graph self.now.game).size }
         ensures listed { IfOk result (λ nodes. nodes.items ≡ listed (G.graph self.now.game) self.now.state block) }
         ensures nodes { IfOk result (λ nodes. All (IsNode (G.graph self.now.game)) nodes.items) }
+        ensures ascending { IfOk result (λ nodes. IsStrictlyIncreasing nodes.items) }
     {
         match self.phase {
             Phase::Running => block_nodes(alloc, &self.entries, block, self.round),

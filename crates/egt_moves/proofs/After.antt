@@ -1,5 +1,5 @@
 -- The men after a move.
-use Rattle.std.proofs.Common.{◌≡◌, ◌≢◌, ℕ, ◌<◌, ◌⊎◌, ◌&&◌, Option, Some, None, true, false, Bool, refl, sym, ap, ◌∙◌, inl, inr, subst, if◌then◌else◌, IfSome}
+use Rattle.std.proofs.Common.{◌≡◌, ◌≢◌, ℕ, ◌⊎◌, ◌&&◌, Option, Some, None, true, false, Bool, refl, sym, ap, ◌∙◌, inl, inr, subst, if◌then◌else◌, IfSome}
 use Rattle.std.specs.FinMap as map
 use Rattle.std.proofs.lemmas.Bool.{cases_eq}
 use Rattle.std.proofs.lemmas.Bool.Decides.{eqb_tells}
@@ -9,13 +9,15 @@ use Rattle.egt_board.specs.declared.man.Kind.{Kind}
 use Rattle.egt_board.specs.declared.man.Kind.TheVariants.{Q, R, B, N, P, K}
 use Rattle.egt_board.specs.declared.man.Man.{Man}
 use Rattle.egt_board.specs.Man.{other_side}
+pub use Rattle.egt_board.specs.Placement.{one_man}
 use Rattle.egt_board.specs.Placement.{Placement, Stands, IsFree, IsHeld, get-insert_same, get-insert_other, get-remove_same, get-remove_other}
 use Rattle.egt_board.specs.Pawn.{ahead, pawn_of}
 use Rattle.egt_board.specs.Target.{IsTarget}
-use Rattle.egt_board.specs.Gait.{Reaches, Reaches-on_board, Reaches-free}
+use Rattle.egt_board.specs.Gait.{Reaches, Reaches-free}
 use Rattle.egt_board.specs.Attack.{king_of, IsInCheck}
 use Rattle.egt_board.specs.Setup.{Setup, IsAdmissible, IsKingOn}
 use Rattle.egt_moves.specs.declared.chess_move.Move.{Move}
+pub use Rattle.egt_moves.specs.DecidedMoves.{goes_on_board}
 use Rattle.egt_moves.specs.Going.{Goes}
 use Rattle.egt_moves.specs.Promotion.{is_pawn, IsOfficer, FitsPromotion, arriving}
 use Rattle.egt_moves.specs.Legal.{is_target, takes_in_passing, men_left, men_after}
@@ -27,9 +29,6 @@ sides_differ Black e = cc
 pub side_twice : (side : Side) → other_side (other_side side) ≡ side
 side_twice White = refl
 side_twice Black = refl
-
-pub one_man : (men : Placement) (s : ℕ) (a b : Man) → Stands men s a → Stands men s b → a ≡ b
-one_man men s a b p q = let both : Some a ≡ Some b = sym p ∙ q in cc
 
 pub not_free : {A : Type 0} (men : Placement) (s : ℕ) (man : Man) → IsFree men s → Stands men s man → A
 not_free men s man free stands = let bad : Some man ≡ None = sym stands ∙ free in absurd (cc)
@@ -134,11 +133,6 @@ pub after_stays : (p : Setup) (man : Man) (m : Move) (t : ℕ) (other : Man) →
 after_stays p man m t other ok not_it not_from not_to stands = after_other p man m t not_from not_to ∙ left_keeps p man m.to t other ok not_it stands
 
 -- a man goes to a square of the board on which no man of its side stands
-pub goes_on_board : (p : Setup) (man : Man) (from to : ℕ) → Goes p man from to → to < 64
-goes_on_board p man from to (inl piece) = Reaches-on_board (IsFree p.men) man from to piece.reaches
-goes_on_board p man from to (inr (inl advance)) = advance.advances.rides.away.on_board
-goes_on_board p man from to (inr (inr takes)) = Reaches-on_board (IsFree p.men) man from to takes.reaches
-
 pub goes_not_own : (p : Setup) (man : Man) (from to : ℕ) → IsAdmissible p → Goes p man from to → ¬ IsHeld p.men to p.side
 goes_not_own p man from to ok (inl piece) held = piece.not_own held
 goes_not_own p man from to ok (inr (inl advance)) held = not_free p.men to held.man advance.advances.free held.stands

@@ -1,15 +1,9 @@
 -- What can be told of all elements of a finite list, or of one.
-use Rattle.std.proofs.Common.{◌≡◌, ℕ, zero, suc, ◌+◌, ◌<◌, ◌≤◌, ◌⊎◌, inl, inr, refl, sym, subst, arith, List, [], ◌∷◌, length, get_or, Option, Some, None}
+use Rattle.std.proofs.Common.{ℕ, zero, ◌+◌, ◌≤◌, ◌⊎◌, inl, inr, arith, List, [], ◌∷◌, Option, Some, None}
 use Rattle.std.proofs.Math.Logic.{⊎_elim}
 use Rattle.std.specs.Option.{IsSomeAnd}
+use Rattle.egt_board.specs.Among.{any_here, any_there, any_cons}
 use Rattle.std.specs.List.{Any, AllByRecursion, filter_map, cons_option}
-
--- P holds of some element: of the first, or of a later one
-pub any_here : {A : Type 0} (P : A → Type 0) (x : A) (xs : List A) → P x → Any P (x ∷ xs)
-any_here P x xs h = (0, x, omega arith, refl, h)
-
-pub any_there : {A : Type 0} (P : A → Type 0) (x : A) (xs : List A) → Any P xs → Any P (x ∷ xs)
-any_there P x xs h = (suc h.0, h.1, omega arith, h.3, h.4)
 
 -- P holds of each element, or Q of some
 pub each_or_some : {A : Type 0} (P Q : A → Type 0) → ((x : A) → P x ⊎ Q x) → (xs : List A) → AllByRecursion P xs ⊎ Any Q xs
@@ -20,14 +14,6 @@ each_or_some {A} P Q choose (x ∷ xs) = go (choose x) (each_or_some P Q choose 
     go (inr h) _ = inr (any_here Q x xs h)
     go (inl h) (inl hs) = inl (h, hs)
     go (inl h) (inr hs) = inr (any_there Q x xs hs)
-
--- P holds of the first element or of a later one
-pub any_cons : {A : Type 0} (P : A → Type 0) (x : A) (xs : List A) → Any P (x ∷ xs) → P x ⊎ Any P xs
-any_cons {A} P x xs found = go found.0 found.1 found.2 found.3 found.4
-  where
-    go : (k : ℕ) (y : A) → k < length (x ∷ xs) → get_or (x ∷ xs) k y ≡ y → P y → P x ⊎ Any P xs
-    go zero y lt e h = inl (subst P (sym e) h)
-    go (suc k) y lt e h = inr (k, y, omega arith, e, h)
 
 -- what holds of each element holds of one that R finds
 pub found_among : {A : Type 0} (P R : A → Type 0) (xs : List A) → AllByRecursion P xs → Any R xs → (x : A) × P x × R x

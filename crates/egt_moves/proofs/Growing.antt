@@ -17,7 +17,8 @@ use Rattle.egt_moves.specs.Promotion.{is_pawn, promotes, FitsPromotion}
 use Rattle.egt_moves.specs.Legal.{IsLegal, men_after, after, plain}
 use Rattle.egt_moves.specs.Room.{most_goals, most_choices, most_moves}
 use Rattle.egt_moves.specs.Order.{place_of, promotion_place, IsInOrder}
-use Rattle.egt_moves.proofs.After.{one_man, not_king_of, may_become, check_whatever}
+use Rattle.egt_board.specs.Placement.{one_man}
+use Rattle.egt_moves.proofs.After.{not_king_of, may_become, check_whatever}
 use Rattle.egt_moves.proofs.Admissible.{pawn_told}
 
 not_both : {A : Type 0} (n : ℕ) → n ≡ 0 → n ≡ 1 → A

@@ -6,10 +6,10 @@ use Rattle.std.proofs.lemmas.List.Elements.{Contains-push_cases}
 use Rattle.egt_moves.specs.declared.chess_move.Move.{Move}
 use Rattle.egt_moves.specs.Order.{place_of, IsInOrder}
 
-Contains-head : (m : Move) (ms : List Move) → Contains (m ∷ ms) m
+pub Contains-head : (m : Move) (ms : List Move) → Contains (m ∷ ms) m
 Contains-head m ms = (0, omega arith, refl)
 
-Contains-tail : (m n : Move) (ms : List Move) → Contains ms n → Contains (m ∷ ms) n
+pub Contains-tail : (m n : Move) (ms : List Move) → Contains ms n → Contains (m ∷ ms) n
 Contains-tail m n ms w = (suc w.0, omega (arith, w.1), w.2)
 
 -- a move that comes after all others may stand last

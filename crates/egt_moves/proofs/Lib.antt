@@ -22,5 +22,6 @@ pub mod Growing
 pub mod Walking
 pub mod Ending
 pub mod Trying
-pub mod Telling
 pub mod NextMoves
+pub mod TurnedMoves
+pub mod ListedMoves

@@ -27,7 +27,8 @@ use Rattle.egt_moves.specs.Legal.{Leads, is_target, takes_in_passing, men_left, 
 use Rattle.egt_moves.specs.Likeness.{Alike, HasLike}
 use Rattle.egt_board.specs.Mirrored.{AreMirrored}
 use Rattle.egt_moves.specs.Standing.{IsCheckmate}
-use Rattle.egt_moves.proofs.After.{target_is, after_to, after_from, after_other, after_cases, goes_on_board}
+use Rattle.egt_moves.specs.DecidedMoves.{goes_on_board}
+use Rattle.egt_moves.proofs.After.{target_is, after_to, after_from, after_other, after_cases}
 use Rattle.egt_moves.proofs.Admissible.{admissible_after, arrived_pawn, pawn_told, Forward, takes_forward_of, two_ranks_told, two_forward, not_two, Leap, leap}
 
 -- so a mirror that the men allow is allowed by their image
@@ -88,7 +89,7 @@ check_there m men men' side allows shows ok check =
     }
 
 -- a move in the mirror
-pub move_by : Mirror → Move → Move
+unfoldable pub move_by : Mirror → Move → Move
 move_by m x = record { from = square_by m x.from; to = square_by m x.to; promo = x.promo }
 
 apart_there : (m : Mirror) (a b : ℕ) → a < 64 → b < 64 → a ≢ b → square_by m a ≢ square_by m b
@@ -234,7 +235,7 @@ on_board_after p man x ok to_in s other there = elim (after_cases p man x s othe
 ]
 
 -- no move makes a pawn
-no_pawn_after : (p : Setup) (man : Man) (x : Move) → IsAdmissible p → Stands p.men x.from man → FitsPromotion (promotes man x.to) x.promo → HasNoPawn p.men → HasNoPawn (men_after p man x)
+pub no_pawn_after : (p : Setup) (man : Man) (x : Move) → IsAdmissible p → Stands p.men x.from man → FitsPromotion (promotes man x.to) x.promo → HasNoPawn p.men → HasNoPawn (men_after p man x)
 no_pawn_after p man x ok stands fits none s other there pawn = elim (after_cases p man x s other ok there) [
   | inl h ↦ none x.from man stands (arrived_pawn man x.to x.promo fits (ap (λ (y : Man). y.kind) (sym h.1) ∙ pawn)).0
   | inr h ↦ none s other h.2 pawn
@@ -367,7 +368,7 @@ leads_there m p p' q x r l = (
     safe' check = safe (subst (IsInCheck (men_after p man x)) (ap (side_by m) r.mirrored.side ∙ mirrors.side_by-twice m p.side)
         (check_there m (men_after p' man' x') (men_after p man x) p'.side allows shows (on_board_after p' man' x' r.there (mirrors.square_by-within m x.to to_in)) check))
 
-zeroes_there : (m : Mirror) (p p' : Setup) (x : Move) → AreMirrored m p p' → Zeroes p x → Zeroes p' (move_by m x)
+pub zeroes_there : (m : Mirror) (p p' : Setup) (x : Move) → AreMirrored m p p' → Zeroes p x → Zeroes p' (move_by m x)
 unfolding move_by
 zeroes_there m p p' x r zeroes = elim zeroes [
   | inl held ↦ inl (subst (IsHeld p'.men (square_by m x.to)) (other_side_there m p p' r) (held_there m p p' x.to (other_side p.side) r held))
@@ -375,7 +376,7 @@ zeroes_there m p p' x r zeroes = elim zeroes [
 ]
 
 -- and the like of the like is the move
-zeroes_back : (m : Mirror) (p p' : Setup) (x : Move) → x.from < 64 → x.to < 64 → AreMirrored m p p' → Zeroes p' (move_by m x) → Zeroes p x
+pub zeroes_back : (m : Mirror) (p p' : Setup) (x : Move) → x.from < 64 → x.to < 64 → AreMirrored m p p' → Zeroes p' (move_by m x) → Zeroes p x
 unfolding move_by
 zeroes_back m p p' x from_in to_in r zeroes = subst (Zeroes p) same (zeroes_there m p' p (move_by m x) (back_again m p p' r) zeroes)
   where

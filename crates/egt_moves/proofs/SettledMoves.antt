@@ -1,5 +1,5 @@
 -- A target that no pawn stands ready to take changes no move.
-use Rattle.std.proofs.Common.{◌≡◌, ◌≢◌, ℕ, ◌≤◌, ◌==◌, ◌⊎◌, Bool, true, false, if◌then◌else◌, Option, Some, None, IfSome, arith, sym, ap, ◌∙◌, subst, inl, inr}
+use Rattle.std.proofs.Common.{◌≡◌, ◌≢◌, ℕ, ◌≤◌, ◌==◌, ◌⊎◌, ◌↔◌, Bool, true, false, if◌then◌else◌, Option, Some, None, IfSome, arith, sym, ap, ◌∙◌, subst, inl, inr}
 use Rattle.std.specs.FinMap as map
 use Rattle.std.proofs.lemmas.Bool.{cases_eq}
 use Rattle.egt_board.specs.declared.man.Side.{Side}
@@ -21,7 +21,8 @@ use Rattle.egt_moves.specs.Promotion.{arriving}
 use Rattle.egt_moves.specs.Legal.{Leads, men_left, passed, after}
 use Rattle.egt_moves.specs.Likeness.{Alike, KeepsSteps}
 use Rattle.egt_moves.specs.Standing.{IsCheckmate}
-use Rattle.egt_moves.proofs.After.{Passing, target_is, left_cases, one_man, sides_differ}
+use Rattle.egt_board.specs.Placement.{one_man}
+use Rattle.egt_moves.proofs.After.{Passing, target_is, left_cases, sides_differ}
 use Rattle.egt_moves.proofs.Admissible.{Forward, advances_forward, from_home, pawn_reaches}
 use Rattle.egt_moves.proofs.Likeness.{alike_by_steps}
 
@@ -179,3 +180,12 @@ settled_alike = alike_by_steps chess Untargets keeps_steps
 pub settles : (p q : Setup) → IsAdmissible p → SettlesTo p q → (p ≡ q) ⊎ Untargets p q
 settles p q ok (inl settled) = inl (sym settled.1)
 settles p q ok (inr unsettled) = inr (record { ok = ok; unsettled = unsettled.0; without = unsettled.1 })
+
+pub same_leads : (p q r : Setup) (m : Move) → IsAdmissible p → SettlesTo p q → Leads p m r ↔ Leads q m r
+same_leads p q r m ok s = elim (settles p q ok s) [
+  | inl e ↦ (subst (λ x. Leads x m r) e, subst (λ x. Leads x m r) (sym e))
+  | inr u ↦ subst (λ x. (Leads p m r → Leads x m r) × (Leads x m r → Leads p m r)) (sym u.without) (leads_without p r m ok u.unsettled, leads_with p r m ok u.unsettled)
+]
+
+pub same_checkmate : (p q : Setup) → IsAdmissible p → SettlesTo p q → IsCheckmate p ↔ IsCheckmate q
+same_checkmate p q ok s = settled_alike.checkmate p q (settles p q ok s)

@@ -10,7 +10,7 @@ use Rattle.egt_moves.specs.Arena.{HasMove, EachMove, IsMatedWithin, MatesWithin,
 use Rattle.egt_moves.specs.Chess.{chess}
 use Rattle.egt_moves.specs.Legal.{Leads, IsLegal}
 use Rattle.egt_moves.specs.Standing.{IsCheckmate, IsStalemate, CanMove}
-use Rattle.egt_moves.proofs.Ending.{leads_to_one}
+use Rattle.egt_moves.specs.DecidedMoves.{leads_to_one}
 use Rattle.egt_moves.proofs.Searching.{stalemate_avoids}
 
 -- each of the first n moves leads to a position with P

@@ -18,7 +18,8 @@ use Rattle.egt_moves.specs.declared.chess_move.Move.{Move}
 use Rattle.egt_moves.specs.Legal.{IsLegal}
 use Rattle.egt_moves.specs.Room.{most_moves}
 use Rattle.egt_moves.specs.Order.{place_of, IsInOrder}
-use Rattle.egt_moves.proofs.After.{one_man, goes_on_board}
+use Rattle.egt_board.specs.Placement.{one_man}
+use Rattle.egt_moves.specs.DecidedMoves.{goes_on_board}
 use Rattle.egt_moves.proofs.Growing.{promotion_small}
 
 -- the king of the side to move stands somewhere

@@ -11,3 +11,6 @@ pub mod Standing
 pub mod Text
 pub mod Chess
 pub mod Found
+pub mod Turned
+pub mod DecidedMoves
+pub mod Moves

@@ -1,19 +1,28 @@
 //! What holds of the rules of play alone. These functions do nothing: a caller calls one to know what it
 //! ensures.
 
-ghost use Rattle.std.specs.Prelude.{◌≡◌, ◌↔◌, ◌⊎◌, ℕ, suc, ◌≤◌, Bool, IsTrue, Option};
+ghost use Rattle.std.specs.Prelude.{◌≡◌, ◌↔◌, ◌⊎◌, ℕ, suc, ◌<◌, ◌≤◌, Bool, IsTrue, Option};
+ghost use Rattle.std.specs.List.{Contains};
 ghost use Rattle.egt_board.specs.Images.{AreImages};
 ghost use Rattle.egt_board.specs.Settled.{SettlesTo};
 ghost use Rattle.egt_board.specs.Setup.{Setup, IsAdmissible};
 ghost use Rattle.egt_board.specs.declared.mirror.Mirror.{Mirror};
+ghost use Rattle.egt_board.specs.Symmetry.{KeepsPlay};
+ghost use Rattle.egt_board.specs.Turned.{IsTurnedBy};
+ghost use Rattle.egt_moves.specs.declared.chess_move.Move.{Move};
 ghost use Rattle.egt_moves.specs.Arena.{Value, Win, Loss, SomeMove, EachMove, HasValue, IsMatedWithin, MatesWithin, AvoidsMateFor, CannotMateWithin, AnswersWithin};
-ghost use Rattle.egt_moves.specs.Chess.{chess};
+ghost use Rattle.egt_moves.specs.Chess.{chess, Zeroes};
+ghost use Rattle.egt_moves.specs.Legal.{Leads, IsLegal};
+ghost use Rattle.egt_moves.specs.Moves.{moves_of, played};
+ghost use Rattle.egt_moves.specs.Order.{IsInOrder};
+ghost use Rattle.egt_moves.specs.Standing.{IsCheckmate};
+ghost use Rattle.egt_moves.specs.Turned.{turned_move};
 ghost use Rattle.egt_moves.specs.Entries.{JudgedOver, ZeroingJudgedOver};
-ghost use Rattle.egt_moves.specs.Likeness.{Alike, IsMirror};
+ghost use Rattle.egt_moves.specs.Likeness.{IsMirror};
 ghost use Rattle.egt_board.specs.Mirrored.{AreMirrored};
 ghost use Rattle.egt_moves.specs.Zeroing.{HasZeroing, ZeroesLosingWithin, ZeroesWinningWithin};
 
-use egt_board::laws::images_come_by_mirrors;
+use egt_board::laws::{images_are_turns, images_come_by_mirrors, turns_come_by_mirrors};
 
 /// A forced mate is forced within any greater number of plies, and a defence lasts for any lesser one.
 pub fn more_plies()
@@ -116,16 +125,51 @@ pub fn all_images_are_alike()
     images_come_by_mirrors();
 }
 
-/// A map of positions that keeps steps, checkmate and zeroing keeps values and zeroing distances.
-pub fn images_are_alike()
-    ensures values { (f : Setup → Setup) → Alike chess (λ p q. q ≡ f p) →
-        (p : Setup) (v : Value) → HasValue chess p v ↔ HasValue chess (f p) v }
-    ensures distances { (f : Setup → Setup) → Alike chess (λ p q. q ≡ f p) →
-        (p : Setup) (v : Value) → HasZeroing chess p v ↔ HasZeroing chess (f p) v }
+/// Each step from a position has its like from each of its images: the move turned as the position is leads to the
+/// turned position, and both zero or neither does.
+pub fn images_keep_steps()
+    ensures turns { (n : ℕ) (flipped : Bool) (p p' q : Setup) (m : Move) → IsAdmissible p → KeepsPlay n p.men →
+        IsTurnedBy n flipped p p' → Leads p m q →
+        (q' : Setup) × Leads p' (turned_move n flipped m) q' × IsTurnedBy n flipped q q' × KeepsPlay n q.men
+        × (Zeroes p m ↔ Zeroes p' (turned_move n flipped m)) }
+    ensures images { (p p' q : Setup) (m : Move) → IsAdmissible p → AreImages p p' → Leads p m q →
+        (m' : Move) × (q' : Setup) × Leads p' m' q' × AreImages q q' × (Zeroes p m ↔ Zeroes p' m') }
+    ensures checkmate { (p p' : Setup) → IsAdmissible p → AreImages p p' → IsCheckmate p ↔ IsCheckmate p' }
+{
+    images_come_by_mirrors();
+    images_are_turns();
+    turns_come_by_mirrors();
+}
+
+/// The same moves lead to the same positions from a position and from its settled form, and zero in both or in
+/// neither.
+pub fn settling_keeps_steps()
+    ensures leads { (p q r : Setup) (m : Move) → IsAdmissible p → SettlesTo p q → Leads p m r ↔ Leads q m r }
+    ensures zeroes { (p q : Setup) (m : Move) → IsAdmissible p → SettlesTo p q → Zeroes p m ↔ Zeroes q m }
+    ensures checkmate { (p q : Setup) → IsAdmissible p → SettlesTo p q → IsCheckmate p ↔ IsCheckmate q }
 {}
 
-/// So does a map of the admissible positions that is its own inverse and keeps steps, checkmate and zeroing
-/// one way.
+/// A move leads from a position to one position, which is a position again.
+pub fn moves_lead_to_one()
+    ensures one { (p q r : Setup) (m : Move) → Leads p m q → Leads p m r → q ≡ r }
+    ensures admissible { (p q : Setup) (m : Move) → IsAdmissible p → Leads p m q → IsAdmissible q }
+    ensures within { (p q : Setup) (m : Move) → IsAdmissible p → Leads p m q → (m.from < 64) × (m.to < 64) }
+    ensures played { (p q : Setup) (m : Move) → Leads p m q ↔ (played p m ≡ Some q) }
+{}
+
+/// The list of legal moves has each of them, in order and so once.
+pub fn moves_are_listed()
+    ensures legal { (p : Setup) (m : Move) → IsAdmissible p → Contains (moves_of p) m ↔ IsLegal p m }
+    ensures ordered { (p : Setup) → IsInOrder (moves_of p) }
+{}
+
+/// No position has two zeroing distances.
+pub fn one_zeroing_distance()
+    ensures { (p : Setup) (v w : Value) → HasZeroing chess p v → HasZeroing chess p w → v ≡ w }
+{}
+
+/// A map of the admissible positions that is its own inverse, and keeps steps, checkmate and zeroing one way, keeps
+/// values and zeroing distances.
 pub fn mirrors_are_alike()
     ensures values { (f : Setup → Setup) → IsMirror chess IsAdmissible f →
         (p : Setup) → IsAdmissible p → (v : Value) → HasValue chess p v ↔ HasValue chess (f p) v }

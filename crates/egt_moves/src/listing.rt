@@ -4,6 +4,7 @@ ghost use Rattle.std.specs.List.{Contains};
 ghost use Rattle.arrayvec.specs.ArrayVec.{array_vec_len};
 ghost use Rattle.egt_board.specs.Placement.{Stands};
 ghost use Rattle.egt_moves.specs.Legal.{IsLegal};
+ghost use Rattle.egt_moves.specs.Moves.{moves_of};
 ghost use Rattle.egt_moves.specs.Order.{IsInOrder, place_of};
 ghost use Rattle.egt_moves.specs.Promotion.{FitsPromotion, promotes};
 ghost use Rattle.egt_moves.specs.Room.{most_choices, most_moves};
@@ -68,6 +69,7 @@ fn push_moves(position: &Position, man: Man, from: Square, moves: &mut ArrayVec<
 pub fn legal_moves(position: &Position) -> ArrayVec<Move, 64>
     ensures legal { (m : Move) → Contains result.items m ↔ IsLegal position.now m }
     ensures ordered { IsInOrder result.items }
+    ensures listed { result.items ≡ moves_of position.now }
 {
     let side = position.side();
     let mut moves = ArrayVec::new();

@@ -69,7 +69,7 @@ impl Sample<'_> {
 impl Game for Sample<'_> {
     ghost graph = { λ s. sample s.size s.voids.now s.mates.now s.moves.now s.exits.now };
 
-    ghost lawful = { λ s. sample_is_game s.size s.voids.now s.mates.now s.moves.now s.exits.now s.small s.few };
+    ghost lawful = { λ s. sample_is_game s.size s.voids.now s.mates.now s.moves.now s.exits.now };
 
     fn size(&self) -> u32 {
         self.size

@@ -1,5 +1,6 @@
 use Rattle.std.proofs.Common.{sym, ◌∙◌}
 use Rattle.egt_moves.proofs.Walking.{Walks-room, Walks-before, Walks-more, Walks-all}
+use Rattle.egt_moves.proofs.ListedMoves.{moves_of-is}
 use Rattle.egt_moves.proofs.listing.legal_moves.Goals as goal
 
 pub push_moves-requires-clause-room : goal.push_moves-requires-clause-room
@@ -19,3 +20,8 @@ loop-from-preserved c =
 
 pub returns-clause-legal : goal.returns-clause-legal
 returns-clause-legal c = Walks-all c.args.position.now c.loop-from.moves.items c.loop-from.rest c.loop-from.invariant c.in_default.ensures.empty
+
+pub returns-clause-listed : goal.returns-clause-listed
+returns-clause-listed c =
+    moves_of-is c.args.position.now c.loop-from.moves.items c.side-side.ensures.admissible c.loop-from.invariant.ordered
+    (Walks-all c.args.position.now c.loop-from.moves.items c.loop-from.rest c.loop-from.invariant c.in_default.ensures.empty)

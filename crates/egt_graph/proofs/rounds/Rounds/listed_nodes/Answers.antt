@@ -1,6 +1,6 @@
 use Rattle.std.proofs.Common.{ap, ◌∙◌}
 use Rattle.std.proofs.lemmas.Result.{IfOk-weaker}
-use Rattle.egt_graph.specs.Frontier.{entry_front}
+use Rattle.egt_graph.specs.Frontier.{entry_front, front-ascends}
 use Rattle.egt_graph.proofs.Blocks.{front_nodes}
 use Rattle.egt_graph.proofs.Running.{running_front, running_listed}
 use Rattle.egt_graph.proofs.rounds.Rounds.listed_nodes.Goals as goal
@@ -20,3 +20,12 @@ returns-in-Running-clause-nodes g c =
     ∙ running_front (g.G.Game.graph c.self.inside.game.now) (g.met.G.Game.lawful c.self.inside.game.now) _ _ _ _ _ _ _ c.self.invariant c.in-Running.is c.args.block in
     rw e (front_nodes (g.G.Game.graph c.self.inside.game.now) c.self.inside.round c.args.block))
     c.block_nodes.ensures)
+
+pub returns-in-Running-clause-ascending : goal.returns-in-Running-clause-ascending
+returns-in-Running-clause-ascending g c =
+    IfOk-weaker c.block_nodes.result _ _
+    (λ nodes is.
+    let e = is ∙ ap (λ es. entry_front es c.self.inside.round c.args.block) c.deref.ensures.value
+    ∙ running_front (g.G.Game.graph c.self.inside.game.now) (g.met.G.Game.lawful c.self.inside.game.now) _ _ _ _ _ _ _ c.self.invariant c.in-Running.is c.args.block in
+    rw e (front-ascends (g.G.Game.graph c.self.inside.game.now) c.self.inside.round c.args.block))
+    c.block_nodes.ensures

@@ -1,13 +1,15 @@
 -- What can be told of the men on a board: who stands where, what is reached, and whether a king is in check.
 use Rattle.std.proofs.Common.{◌≡◌, ℕ, suc, ◌+◌, ◌*◌, ◌<◌, inl, inr, List, [], ◌∷◌, Option, Some, None, cond, refl, sym, ap, subst, arith, ◌∙◌}
 use Rattle.std.specs.FinMap as map
+use Rattle.std.proofs.Math.Logic.{⊎_elim}
+use Rattle.egt_board.specs.contracts.man.Kind as kind_row
+use Rattle.egt_board.specs.contracts.man.Man as man_row
+use Rattle.egt_board.specs.contracts.man.Side as side_row
 use Rattle.std.specs.Ordering.{nat_cmp}
 use Rattle.std.specs.List.{Any}
 use Rattle.std.proofs.lemmas.Bool.{cases_eq}
 use Rattle.egt_board.specs.declared.man.Side.{Side}
-use Rattle.egt_board.specs.declared.man.Side.TheVariants.{White, Black}
 use Rattle.egt_board.specs.declared.man.Kind.{Kind}
-use Rattle.egt_board.specs.declared.man.Kind.TheVariants.{Q, R, B, N, P, K}
 use Rattle.egt_board.specs.declared.man.Man.{Man}
 use Rattle.egt_board.specs.declared.step.Way.{Way}
 use Rattle.egt_board.specs.declared.step.Way.TheVariants.{Up, Down, Still}
@@ -17,40 +19,20 @@ use Rattle.egt_board.specs.Attack.{king_of, IsAttacked, IsInCheck}
 use Rattle.egt_board.specs.Coordinate.{Further}
 use Rattle.egt_board.specs.Gait.{OneOf, Rides, Reaches, steps_of, farthest}
 use Rattle.egt_board.specs.Pawn.{Advances, farthest_advance, forward}
-use Rattle.egt_board.specs.Placement.{Placement, Stands, IsFree, IsHeld, untied}
+use Rattle.egt_board.specs.Placement.{Placement, Stands, IsFree, IsHeld, one_man, untied}
 use Rattle.egt_board.specs.Square.{file_of, rank_of}
 use Rattle.egt_board.specs.Step.{Away}
-use Rattle.egt_moves.proofs.After.{one_man}
-use Rattle.egt_moves.proofs.Among.{any_here, any_there}
-use Rattle.egt_moves.proofs.Deciding.{Decided, decided_as, decided_both, decided_either, decided_implies, decided_eq, decided_lt, decided_below, decided_some_below, decided_among}
+use Rattle.egt_board.specs.Among.{any_here, any_there}
+use Rattle.egt_board.specs.Decided.{Decided, decided_as, decided_not, decided_both, decided_either, decided_implies, decided_eq, decided_lt, decided_below, decided_some_below, decided_among, decided_same}
 
 pub decided_side : (a b : Side) → Decided (a ≡ b)
-decided_side White White = inl refl
-decided_side White Black = inr (λ e. cc)
-decided_side Black White = inr (λ e. cc)
-decided_side Black Black = inl refl
+decided_side = decided_same side_row.the_row.coded
 
-decided_king : (kind : Kind) → Decided (kind ≡ K)
-decided_king Q = inr (λ e. cc)
-decided_king R = inr (λ e. cc)
-decided_king B = inr (λ e. cc)
-decided_king N = inr (λ e. cc)
-decided_king P = inr (λ e. cc)
-decided_king K = inl refl
+pub decided_kind : (a b : Kind) → Decided (a ≡ b)
+decided_kind = decided_same kind_row.the_row.coded
 
-pub decided_pawn : (kind : Kind) → Decided (kind ≡ P)
-decided_pawn Q = inr (λ e. cc)
-decided_pawn R = inr (λ e. cc)
-decided_pawn B = inr (λ e. cc)
-decided_pawn N = inr (λ e. cc)
-decided_pawn P = inl refl
-decided_pawn K = inr (λ e. cc)
-
-decided_king_of : (man : Man) (side : Side) → Decided (man ≡ king_of side)
-decided_king_of man side = decided_as
-    (λ (h : (man.side ≡ side) × (man.kind ≡ K)). λ i. record { side = h.0 i; kind = h.1 i })
-    (λ e. (ap (λ (x : Man). x.side) e, ap (λ (x : Man). x.kind) e))
-    (decided_both (decided_side man.side side) (λ _. decided_king man.kind))
+pub decided_man : (a b : Man) → Decided (a ≡ b)
+decided_man = decided_same man_row.the_row.coded
 
 -- a man stands on the square, and what can be told of it holds
 pub decided_on : (men : Placement) (s : ℕ) (Holds : Man → Type 0) → ((man : Man) → Decided (Holds man)) → Decided ((man : Man) × Stands men s man × Holds man)
@@ -59,6 +41,13 @@ decided_on men s Holds each = go (map.get men s) refl
     go : (o : Option Man) → map.get men s ≡ o → Decided ((man : Man) × Stands men s man × Holds man)
     go None e = inr (λ h. let both : None ≡ Some h.0 = sym e ∙ h.1 in cc)
     go (Some man) e = decided_as (λ (h : Holds man). (man, e, h)) (λ h. subst Holds (one_man men s h.0 man h.1 e) h.2) (each man)
+
+-- this man stands on the square
+pub decided_stands : (men : Placement) (s : ℕ) (man : Man) → Decided (Stands men s man)
+decided_stands men s man = decided_as
+    (λ (h : (other : Man) × Stands men s other × (other ≡ man)). h.1 ∙ ap Some h.2)
+    (λ (there : Stands men s man). (man, there, refl))
+    (decided_on men s (λ other. other ≡ man) (λ other. decided_man other man))
 
 pub decided_free : (men : Placement) (s : ℕ) → Decided (IsFree men s)
 decided_free men s = go (map.get men s) refl
@@ -98,7 +87,7 @@ unfolding squares_of
 on_square Holds men s man stands h = on_entry Holds (map.entries men) s man (sym (map.get-entries men s) ∙ stands) h
 
 -- some man on the board
-decided_anywhere : (men : Placement) (Holds : ℕ → Man → Type 0) → ((s : ℕ) (man : Man) → Decided (Holds s man)) → Decided ((s : ℕ) × (man : Man) × Stands men s man × Holds s man)
+pub decided_anywhere : (men : Placement) (Holds : ℕ → Man → Type 0) → ((s : ℕ) (man : Man) → Decided (Holds s man)) → Decided ((s : ℕ) × (man : Man) × Stands men s man × Holds s man)
 decided_anywhere men Holds each = decided_as
     (λ (h : Any Here (squares_of men)). (h.1, h.4.0, h.4.1, h.4.2))
     (λ (h : (s : ℕ) × (man : Man) × Stands men s man × Holds s man). on_square Here men h.0 h.1 h.2 (h.1, h.2, h.3))
@@ -106,6 +95,14 @@ decided_anywhere men Holds each = decided_as
   where
     Here : ℕ → Type 0
     Here s = (man : Man) × Stands men s man × Holds s man
+
+-- each man on the board
+pub decided_everywhere : (men : Placement) (Holds : ℕ → Man → Type 0) → ((s : ℕ) (man : Man) → Decided (Holds s man)) → Decided ((s : ℕ) (man : Man) → Stands men s man → Holds s man)
+decided_everywhere men Holds each = decided_as
+    (λ (none : ¬ ((s : ℕ) × (man : Man) × Stands men s man × ¬ (Holds s man))) (s : ℕ) (man : Man) (stands : Stands men s man).
+    ⊎_elim (λ (h : Holds s man). h) (λ (fails : ¬ (Holds s man)). absurd (none (s, man, stands, fails))) (each s man))
+    (λ (all : (s : ℕ) (man : Man) → Stands men s man → Holds s man) (some : (s : ℕ) × (man : Man) × Stands men s man × ¬ (Holds s man)). some.3 (all some.0 some.1 some.2))
+    (decided_not (decided_anywhere men (λ s man. ¬ (Holds s man)) (λ s man. decided_not (each s man))))
 
 decided_further : (way : Way) (n a b : ℕ) → Decided (Further way n a b)
 decided_further Up n a b = decided_eq b (a + n)
@@ -173,7 +170,7 @@ pub decided_check : (men : Placement) (side : Side) → Decided (IsInCheck men s
 decided_check men side = decided_as
     (λ (h : (s : ℕ) × (man : Man) × Stands men s man × Attacked s man). record { square = h.0; stands = h.2 ∙ ap Some h.3.0; attacked = h.3.1 })
     (λ (c : IsInCheck men side). (c.square, king_of side, c.stands, (refl, c.attacked)))
-    (decided_anywhere men Attacked (λ s man. decided_both (decided_king_of man side) (λ _. decided_attacked men s (other_side side))))
+    (decided_anywhere men Attacked (λ s man. decided_both (decided_man man (king_of side)) (λ _. decided_attacked men s (other_side side))))
   where
     Attacked : ℕ → Man → Type 0
     Attacked s man = (man ≡ king_of side) × IsAttacked men s (other_side side)
