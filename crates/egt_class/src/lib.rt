@@ -1,0 +1,6 @@
+//! Classes of positions by their men: what class a position is of, and which classes a capture or a promotion leads to.
+#![tactic(auto)]
+
+pub mod class;
+
+pub use class::Class;
