@@ -1,2 +1,3 @@
 pub mod Material
 pub mod Below
+pub mod Name

@@ -58,21 +58,26 @@ materials =
 unfoldable pub material_of : ℕ → Material
 material_of c = slice_index_or materials c (beside [] [])
 
--- all men of a side of the class, White being the side named first
-abbrev pub men_of : ℕ → Side → List Kind
-men_of c White = K ∷ (material_of c).strong
-men_of c Black = K ∷ (material_of c).weak
+-- all men of a side, White being the side named first
+abbrev pub kinds_of : Material → Side → List Kind
+kinds_of m White = K ∷ m.strong
+kinds_of m Black = K ∷ m.weak
 
 abbrev pub is_kind : Kind → Kind → Bool
 is_kind kind other = kind_number kind == kind_number other
 
+-- how many men of that kind are among these
+abbrev pub count_in : List Kind → Kind → ℕ
+count_in kinds kind = count_by (is_kind kind) kinds
+
 -- how many men of that kind the side has in the class
 unfoldable pub men_in : ℕ → Side → Kind → ℕ
-men_in c side kind = count_by (is_kind kind) (men_of c side)
+men_in c side kind = count_in (kinds_of (material_of c) side) kind
 
-abbrev pub has_as_many : ℕ → Kind → Bool
-has_as_many c kind = men_in c White kind == men_in c Black kind
+abbrev pub has_as_many : Material → Kind → Bool
+has_as_many m kind = count_in m.strong kind == count_in m.weak kind
 
 -- both sides have the same men
 unfoldable pub has_equal_sides : ℕ → Bool
-has_equal_sides c = has_as_many c Q && has_as_many c R && has_as_many c B && has_as_many c N && has_as_many c P
+has_equal_sides c =
+    let m = material_of c in has_as_many m Q && has_as_many m R && has_as_many m B && has_as_many m N && has_as_many m P

@@ -38,6 +38,14 @@ impl Class {
         }
     }
 
+    /// The class of that number, which the caller knows to be one.
+    pub fn at(number: u8) -> Class
+        requires { number < 36 }
+        ensures { result ≡ number }
+    {
+        Class { number }
+    }
+
     /// The number, from 0 to 35.
     pub fn number(&self) -> u8
         ensures value { result ≡ self.now }

@@ -2,5 +2,7 @@
 #![tactic(auto)]
 
 pub mod class;
+pub mod naming;
 
 pub use class::Class;
+pub use naming::{by_name, name};

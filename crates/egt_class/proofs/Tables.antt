@@ -1,0 +1,31 @@
+-- Tables that are right at each of their entries, by computed tests.
+use Rattle.std.proofs.Common.{◌≡◌, ℕ, zero, suc, ◌<◌, ◌+◌, ◌&&◌, Bool, true, false, eqb, List, [], ◌∷◌, refl, ap, ◌∙◌, sym, ltb}
+use Rattle.std.proofs.lemmas.Bool.{eqb-true, and_parts, false≢true, ltb-true}
+use Rattle.std.specs.Prelude.{slice_index}
+
+-- the lists are the same
+unfoldable pub same_list : List ℕ → List ℕ → Bool
+same_list [] [] = true
+same_list [] (y ∷ ys) = false
+same_list (x ∷ xs) [] = false
+same_list (x ∷ xs) (y ∷ ys) = eqb x y && same_list xs ys
+
+pub same_list-equal : (xs ys : List ℕ) → same_list xs ys ≡ true → xs ≡ ys
+unfolding same_list
+same_list-equal [] [] same = refl
+same_list-equal [] (y ∷ ys) same = absurd (false≢true same)
+same_list-equal (x ∷ xs) [] same = absurd (false≢true same)
+same_list-equal (x ∷ xs) (y ∷ ys) same =
+    let both = and_parts (eqb x y) (same_list xs ys) same in
+    ap (λ z. z ∷ xs) (eqb-true x y both.0) ∙ ap (λ zs. y ∷ zs) (same_list-equal xs ys both.1)
+
+-- each number of the list is less
+unfoldable pub all_less : List ℕ → ℕ → Bool
+all_less [] n = true
+all_less (x ∷ xs) n = ltb x n && all_less xs n
+
+pub all_less-at : (xs : List ℕ) (n k : ℕ) → 0 < n → all_less xs n ≡ true → slice_index xs k < n
+unfolding all_less
+all_less-at [] n k some all = some
+all_less-at (x ∷ xs) n zero some all = ltb-true x n (and_parts (ltb x n) (all_less xs n) all).0
+all_less-at (x ∷ xs) n (suc k) some all = all_less-at xs n k some (and_parts (ltb x n) (all_less xs n) all).1
