@@ -1,7 +1,8 @@
 -- Tables that are right at each of their entries, by computed tests.
-use Rattle.std.proofs.Common.{◌≡◌, ℕ, zero, suc, ◌<◌, ◌+◌, ◌&&◌, Bool, true, false, eqb, List, [], ◌∷◌, refl, ap, ◌∙◌, sym, ltb}
+use Rattle.std.proofs.Common.{◌≡◌, ℕ, zero, suc, ◌<◌, ◌≤◌, ◌+◌, ◌-◌, ◌&&◌, Bool, true, false, eqb, ltb, List, [], ◌∷◌, ◌++◌, length, take, drop, get_or, refl, ap, ◌∙◌, arith}
 use Rattle.std.proofs.lemmas.Bool.{eqb-true, and_parts, false≢true, ltb-true}
-use Rattle.std.specs.Prelude.{slice_index}
+use Rattle.std.specs.Prelude.{slice_index, slice_range}
+use Rattle.std.proofs.lemmas.List.{take_more, length-take, length-drop, get_or-drop}
 
 -- the lists are the same
 unfoldable pub same_list : List ℕ → List ℕ → Bool
@@ -29,3 +30,19 @@ unfolding all_less
 all_less-at [] n k some all = some
 all_less-at (x ∷ xs) n zero some all = ltb-true x n (and_parts (ltb x n) (all_less xs n) all).0
 all_less-at (x ∷ xs) n (suc k) some all = all_less-at xs n k some (and_parts (ltb x n) (all_less xs n) all).1
+
+-- one more number at the end of a part of a list
+pub part_none : (xs : List ℕ) (a : ℕ) → slice_range xs a a ≡ []
+part_none xs a = let e : a - a ≡ 0 = omega arith in ap (λ n. take n (drop a xs)) e
+
+pub part_more : (xs : List ℕ) (a b : ℕ) → a ≤ b → b < length xs → slice_range xs a (b + 1) ≡ slice_range xs a b ++ slice_index xs b ∷ []
+part_more xs a b from b_in =
+    let more : b + 1 - a ≡ b - a + 1 = omega arith in
+    let at : a + (b - a) ≡ b = omega arith in
+    let n = length-drop a xs in
+    ap (λ n. take n (drop a xs)) more
+    ∙ take_more (drop a xs) (b - a) 0 (omega arith)
+    ∙ ap (λ x. take (b - a) (drop a xs) ++ x ∷ []) (get_or-drop a xs (b - a) 0 ∙ ap (λ i. get_or xs i 0) at)
+
+pub length-part : (xs : List ℕ) (a b : ℕ) → a ≤ b → b ≤ length xs → length (slice_range xs a b) ≡ b - a
+length-part xs a b from b_in = let n = length-drop a xs in let m = length-take (b - a) (drop a xs) in omega arith

@@ -1,3 +1,5 @@
 pub mod Material
 pub mod Below
 pub mod Name
+pub mod Children
+pub mod Listing

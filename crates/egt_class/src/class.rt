@@ -5,7 +5,7 @@ use std::marker::Model;
 
 /// A class of positions: those with the same men, colours exchanged or not. There are 36, for one king a side and up to two
 /// men beside them.
-#[derive(Clone, Copy, Debug, PartialEq, Eq)]
+#[derive(Clone, Copy, Debug, Default, PartialEq, Eq)]
 pub struct Class {
     number: u8,
 }

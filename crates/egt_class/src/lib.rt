@@ -2,7 +2,9 @@
 #![tactic(auto)]
 
 pub mod class;
+pub mod descent;
 pub mod naming;
 
 pub use class::Class;
+pub use descent::children;
 pub use naming::{by_name, name};
