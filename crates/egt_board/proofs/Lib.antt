@@ -17,3 +17,4 @@ pub mod Reflected
 pub mod Tallies
 pub mod Images
 pub mod Settling
+pub mod ManCounts

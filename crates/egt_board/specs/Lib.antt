@@ -19,3 +19,4 @@ pub mod Symmetry
 pub mod Mirrored
 pub mod Images
 pub mod MirrorLaws
+pub mod Counting
