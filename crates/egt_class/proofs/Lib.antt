@@ -1,3 +1,6 @@
 pub mod Tables
 pub mod NameTable
 pub mod ChildTable
+pub mod Agreeing
+pub mod PairTable
+pub mod Beside

@@ -3,3 +3,5 @@ pub mod Below
 pub mod Name
 pub mod Children
 pub mod Listing
+pub mod Membership
+pub mod Pair

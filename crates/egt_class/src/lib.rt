@@ -3,8 +3,10 @@
 
 pub mod class;
 pub mod descent;
+pub mod membership;
 pub mod naming;
 
 pub use class::Class;
 pub use descent::children;
+pub use membership::of;
 pub use naming::{by_name, name};

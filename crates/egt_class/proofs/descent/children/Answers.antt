@@ -1,6 +1,5 @@
-use Rattle.std.proofs.Common.{◌≡◌, ◌+◌, ◌<◌, ◌≤◌, ◌++◌, ◌∷◌, [], length, arith, ap, sym, ◌∙◌}
+use Rattle.std.proofs.Common.{◌<◌, ◌≤◌, arith, sym, ◌∙◌}
 use Rattle.std.proofs.lemmas.Grind.{common_steps}
-use Rattle.egt_class.specs.Listing.{listed, child_at}
 use Rattle.egt_class.proofs.ChildTable.{listed_none, listed_more}
 use Rattle.egt_class.proofs.descent.children.Goals as goal
 
