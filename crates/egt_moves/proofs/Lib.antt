@@ -24,3 +24,4 @@ pub mod Ending
 pub mod Trying
 pub mod Telling
 pub mod NextMoves
+pub mod MenExchanged

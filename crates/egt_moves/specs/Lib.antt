@@ -11,3 +11,4 @@ pub mod Standing
 pub mod Text
 pub mod Chess
 pub mod Found
+pub mod Exchange
