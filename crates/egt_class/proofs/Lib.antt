@@ -4,3 +4,6 @@ pub mod ChildTable
 pub mod Agreeing
 pub mod PairTable
 pub mod Beside
+pub mod ClassTests
+pub mod OneClass
+pub mod ChildMoves

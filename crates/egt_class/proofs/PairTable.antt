@@ -64,7 +64,7 @@ pair_counts a b a_in b_in side kind beside =
     all_agree (counted (class_at (11 * a + b)) (flip_at (11 * a + b))) (λ man. one_where (slot_of (Some man)) a + one_where (slot_of (Some man)) b)
     (and_parts _ _ (and_parts _ _ (right_at a b a_in b_in)).1).1 side kind beside
 
-one_king_in : (c : ℕ) (side : Side) → c < 36 → men_in c side K ≡ 1
+pub one_king_in : (c : ℕ) (side : Side) → c < 36 → men_in c side K ≡ 1
 one_king_in c White c_in = eqb-true _ _ (and_parts _ _ (passes_below one_king_each 36 c one_king c_in)).0
 one_king_in c Black c_in = eqb-true _ _ (and_parts _ _ (passes_below one_king_each 36 c one_king c_in)).1
 
@@ -125,7 +125,7 @@ here_by_slot man None man_other o_other =
     sym (none_where (slot_of (Some man)) some)
 here_by_slot man (Some other) man_other o_other = slots man.side other.side man.kind other.kind man_other o_other
 
-slot_below : (o : Option Man) → IfSome o (λ m. m.kind ≢ K) → slot_of o < 11
+pub slot_below : (o : Option Man) → IfSome o (λ m. m.kind ≢ K) → slot_of o < 11
 slot_below None other = omega arith
 slot_below (Some man) other =
     let few = kind_few man.kind other in

@@ -1,6 +1,6 @@
 -- Tables that are right at each of their entries, by computed tests.
-use Rattle.std.proofs.Common.{◌≡◌, ℕ, zero, suc, ◌<◌, ◌≤◌, ◌+◌, ◌-◌, ◌&&◌, Bool, true, false, eqb, ltb, List, [], ◌∷◌, ◌++◌, length, take, drop, get_or, refl, ap, ◌∙◌, arith}
-use Rattle.std.proofs.lemmas.Bool.{eqb-true, and_parts, false≢true, ltb-true}
+use Rattle.std.proofs.Common.{◌≡◌, ℕ, zero, suc, ◌<◌, ◌≤◌, ◌+◌, ◌-◌, ◌&&◌, Bool, true, false, eqb, ltb, List, [], ◌∷◌, ◌++◌, length, take, drop, get_or, refl, sym, ap, ◌∙◌, arith}
+use Rattle.std.proofs.lemmas.Bool.{eqb-true, eq-eqb, and_parts, false≢true, ltb-true}
 use Rattle.std.specs.Prelude.{slice_index, slice_range}
 use Rattle.std.proofs.lemmas.List.{take_more, length-take, length-drop, get_or-drop}
 
@@ -19,6 +19,14 @@ same_list-equal (x ∷ xs) [] same = absurd (false≢true same)
 same_list-equal (x ∷ xs) (y ∷ ys) same =
     let both = and_parts (eqb x y) (same_list xs ys) same in
     ap (λ z. z ∷ xs) (eqb-true x y both.0) ∙ ap (λ zs. y ∷ zs) (same_list-equal xs ys both.1)
+
+pub same_list-same : (xs ys : List ℕ) → xs ≡ ys → same_list xs ys ≡ true
+unfolding same_list
+same_list-same xs ys e = ap (same_list xs) (sym e) ∙ reflexive xs
+  where
+    reflexive : (xs : List ℕ) → same_list xs xs ≡ true
+    reflexive [] = refl
+    reflexive (x ∷ xs) = ap (λ b. b && same_list xs xs) (eq-eqb x x refl) ∙ reflexive xs
 
 -- each number of the list is less
 unfoldable pub all_less : List ℕ → ℕ → Bool

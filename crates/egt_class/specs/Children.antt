@@ -1,5 +1,5 @@
 -- Which classes a capture, a promotion or both lead to: FIDE Laws of Chess 2023, articles 3.1 and 3.7.
-use Rattle.std.specs.Prelude.{ℕ, ◌+◌, ◌==◌, nat_lt, ◌&&◌, ◌||◌, not, Bool, true, false, List, [], ◌∷◌, ◌++◌, Option, Some, None, map}
+use Rattle.std.specs.Prelude.{ℕ, ◌+◌, ◌==◌, nat_lt, ◌&&◌, ◌||◌, not, if◌then◌else◌, Bool, true, false, List, [], ◌∷◌, ◌++◌, Option, Some, None, map}
 use Rattle.std.specs.List.{filter, list_any, flat_map, range_with_len}
 use Rattle.std.specs.Option.{option_map, is_some}
 use Rattle.egt_board.specs.declared.man.Side.{Side}
@@ -32,8 +32,7 @@ man_promoted change = option_map (man_of change.mover) change.becomes
 
 -- how many of this man there are, White being the side named first, or the other side where colours are flipped
 abbrev pub side_if : Bool → Side → Side
-side_if true side = other_side side
-side_if false side = side
+side_if flipped side = if flipped then other_side side else side
 
 abbrev pub men_of : Material → Bool → Man → ℕ
 men_of m flipped man = count_in (kinds_of m (side_if flipped man.side)) man.kind
@@ -88,6 +87,10 @@ changes =
 abbrev pub leads_to : List Change → Material → Material → Bool
 leads_to some m n = list_any (λ change. follows m change n) some
 
+-- a change that is possible in class c leads to class d
+abbrev pub is_child_of : ℕ → ℕ → Bool
+is_child_of c d = leads_to (filter (is_possible (material_of c)) changes) (material_of c) (material_of d)
+
 -- the classes that a change leads to, ascending
 unfoldable pub children_of : ℕ → List ℕ
-children_of c = filter (λ d. leads_to (filter (is_possible (material_of c)) changes) (material_of c) (material_of d)) (range_with_len 0 36)
+children_of c = filter (is_child_of c) (range_with_len 0 36)

@@ -3,6 +3,7 @@
 
 pub mod class;
 pub mod descent;
+pub mod laws;
 pub mod membership;
 pub mod naming;
 
