@@ -11,3 +11,8 @@ pub use class::Class;
 pub use descent::children;
 pub use membership::of;
 pub use naming::{by_name, name};
+
+#[cfg(test)]
+mod move_tests;
+#[cfg(test)]
+mod tests;
