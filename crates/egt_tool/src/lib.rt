@@ -14,6 +14,8 @@ pub use moves::moves_text;
 pub use program::run;
 
 #[cfg(test)]
+mod list_tests;
+#[cfg(test)]
 mod pawn_tests;
 #[cfg(test)]
 mod search_tests;
