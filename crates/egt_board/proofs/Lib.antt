@@ -20,3 +20,4 @@ pub mod Settling
 pub mod Turns
 pub mod TurnMirrors
 pub mod SettledForms
+pub mod ManCounts

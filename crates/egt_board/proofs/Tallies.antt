@@ -65,6 +65,7 @@ here_by Colours man (Some other) = numbers_exchanged man.side other.side man.kin
 
 -- a mirror leaves as many men, each of them turned
 pub count_by : (m : Mirror) (men : Placement) (man : Man) → count_of (men_by m men) (man_by m man) ≡ count_of men man
+unfolding count_of
 count_by m men man =
     sym (total_by m (λ s. stands_here (man_by m man) (map.get (men_by m men) s)))
     ∙ total-same _ _ 64 (λ t t_in. ap (stands_here (man_by m man)) (men_by-shows m men t t_in) ∙ here_by m man (map.get men t))

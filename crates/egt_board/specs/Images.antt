@@ -56,7 +56,7 @@ stands_here man None = 0
 stands_here man (Some other) = if man_number man == man_number other then 1 else 0
 
 -- how many of this man stand on the board
-abbrev pub count_of : Placement → Man → ℕ
+unfoldable pub count_of : Placement → Man → ℕ
 count_of men man = total (λ s. stands_here man (map.get men s)) 64
 
 -- the men of q are those of p, with the same side to move, or those of p with colours exchanged, and the other side

@@ -26,3 +26,4 @@ pub mod Decided
 pub mod DecidedMen
 pub mod DecidedSetup
 pub mod DecidedTurns
+pub mod Counting

@@ -5,6 +5,7 @@
 
 pub mod attack;
 pub mod board;
+pub mod counting;
 pub mod fault;
 pub mod gait;
 pub mod king;

@@ -25,3 +25,4 @@ pub mod Trying
 pub mod NextMoves
 pub mod TurnedMoves
 pub mod ListedMoves
+pub mod MenExchanged

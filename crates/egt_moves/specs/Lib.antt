@@ -14,3 +14,4 @@ pub mod Found
 pub mod Turned
 pub mod DecidedMoves
 pub mod Moves
+pub mod Exchange

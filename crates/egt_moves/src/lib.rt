@@ -2,6 +2,7 @@
 #![tactic(auto)]
 
 pub mod chess_move;
+pub mod exchanging;
 pub mod forcing;
 pub mod found;
 pub mod going;

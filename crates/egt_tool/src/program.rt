@@ -1,5 +1,6 @@
 //! The program's words, and what each command prints.
 use crate::fault::MovesFault;
+use crate::listing::list_text;
 use crate::mate_text::search_text;
 use crate::moves::moves_text;
 use clap::error::ErrorKind;
@@ -47,11 +48,13 @@ fn command<'a>(alloc: Global) -> Result<Command<'a>, AllocError> {
     let moves = Command::new(alloc, "moves")
         .about("Prints the legal moves, one a line")
         .arg(fen_word(alloc))?;
+    let list = Command::new(alloc, "list").about("Prints the classes: number, name and size");
     Command::new(alloc, "egtb")
         .about("Chess endgame tables of two to four men")
         .subcommand_required(true)
         .subcommand(moves)?
-        .subcommand(search_command(alloc)?)
+        .subcommand(search_command(alloc)?)?
+        .subcommand(list)
 }
 
 /// Prints `error fen NUMBER NAME`. What becomes of it changes no status.
@@ -115,6 +118,10 @@ fn dispatch<R: Print + Eprint + AllocGlobal>(rt: &R, matches: &ArgMatches<'_>) -
                 _ => Status::Usage,
             }
         }
+        Some(("list", _)) => match list_text(rt.alloc()) {
+            Ok(text) => show(rt, text.as_slice()),
+            Err(_) => out_of_memory(rt),
+        },
         _ => Status::Usage,
     }
 }

@@ -1,0 +1,30 @@
+//! How many of each man stand on a board. These functions do nothing: a caller calls one to know what it ensures.
+ghost use Rattle.std.specs.Prelude.{◌≡◌, ◌+◌, ◌<◌, ℕ, Some, count_by};
+ghost use Rattle.std.specs.FinMap as placement;
+ghost use Rattle.egt_board.specs.declared.man.Side.{Side};
+ghost use Rattle.egt_board.specs.declared.man.Man.{Man};
+ghost use Rattle.egt_board.specs.Placement.{Placement, Stands};
+ghost use Rattle.egt_board.specs.Attack.{king_of};
+ghost use Rattle.egt_board.specs.Setup.{IsKingOn};
+ghost use Rattle.egt_board.specs.Images.{count_of, stands_here};
+ghost use Rattle.egt_board.specs.Counting.{is_man};
+
+/// The men on the board's squares are those of its list.
+pub fn listed_men_are_counted()
+    ensures { (men : Placement) → ((s : ℕ) (man : Man) → Stands men s man → s < 64) → (man : Man) →
+        count_of men man ≡ count_by (is_man man) (placement.values men) }
+{}
+
+/// What comes to a square is one man more, and what stood there one less.
+pub fn one_square_changes()
+    ensures put { (men : Placement) (s : ℕ) (other man : Man) → s < 64 →
+        count_of (placement.insert men s other) man + stands_here man (placement.get men s)
+        ≡ count_of men man + stands_here man (Some other) }
+    ensures cleared { (men : Placement) (s : ℕ) (man : Man) → s < 64 →
+        count_of (placement.remove men s) man + stands_here man (placement.get men s) ≡ count_of men man }
+{}
+
+/// A side with one king has one.
+pub fn one_king_is_counted()
+    ensures { (men : Placement) (side : Side) (s : ℕ) → s < 64 → IsKingOn men side s → count_of men (king_of side) ≡ 1 }
+{}

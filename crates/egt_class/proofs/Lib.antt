@@ -1,0 +1,9 @@
+pub mod Tables
+pub mod NameTable
+pub mod ChildTable
+pub mod Agreeing
+pub mod PairTable
+pub mod Beside
+pub mod ClassTests
+pub mod OneClass
+pub mod ChildMoves

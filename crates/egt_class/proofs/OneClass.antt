@@ -1,0 +1,64 @@
+-- Positions of a class: one class, the settled form, the images.
+use Rattle.std.proofs.Common.{◌≡◌, ℕ, ◌<◌, ◌⊎◌, ◌↔◌, Bool, true, false, not, if◌then◌else◌, refl, sym, ap, ◌∙◌, inl, inr}
+use Rattle.egt_board.specs.declared.man.Side.{Side}
+use Rattle.egt_board.specs.declared.man.Side.TheVariants.{White, Black}
+use Rattle.egt_board.specs.declared.man.Kind.{Kind}
+use Rattle.egt_board.specs.declared.man.Man.{Man}
+use Rattle.egt_board.specs.Man.{other_side}
+use Rattle.egt_board.specs.Placement.{Placement}
+use Rattle.egt_board.specs.Setup.{Setup}
+use Rattle.egt_board.specs.Settled.{SettlesTo}
+use Rattle.egt_board.specs.Images.{count_of, SameMen, ExchangedMen}
+use Rattle.egt_class.specs.Material.{men_in, has_equal_sides}
+use Rattle.egt_class.specs.Membership.{IsOf}
+use Rattle.egt_class.proofs.ClassTests.{one_class, equal_sides}
+
+pub same_class : (p : Setup) (c d : ℕ) (flipped turned : Bool) → c < 36 → d < 36 → IsOf c flipped p → IsOf d turned p → (c ≡ d) × ((flipped ≡ turned) ⊎ (has_equal_sides c ≡ true))
+unfolding men_in
+same_class p c d flipped turned c_in d_in is other = one_class c d flipped turned c_in d_in (λ man. sym (is.men man) ∙ other.men man)
+
+-- either side has the same men
+either_side : (c : ℕ) → c < 36 → has_equal_sides c ≡ true → (s t : Side) (kind : Kind) → men_in c s kind ≡ men_in c t kind
+either_side c c_in equal White White kind = refl
+either_side c c_in equal White Black kind = equal_sides c c_in equal kind
+either_side c c_in equal Black White kind = sym (equal_sides c c_in equal kind)
+either_side c c_in equal Black Black kind = refl
+
+pub either_flip : (p : Setup) (c : ℕ) (flipped turned : Bool) → c < 36 → has_equal_sides c ≡ true → IsOf c flipped p → IsOf c turned p
+either_flip p c flipped turned c_in equal is = record { men = λ man. is.men man ∙ either_side c c_in equal _ _ man.kind }
+
+-- the same men are of the same class
+pub by_men : (p q : Setup) (c : ℕ) (flipped : Bool) → ((man : Man) → count_of q.men man ≡ count_of p.men man) → IsOf c flipped p → IsOf c flipped q
+by_men p q c flipped same is = record { men = λ man. same man ∙ is.men man }
+
+settled_men : (p q : Setup) → SettlesTo p q → q.men ≡ p.men
+settled_men p q (inl h) = ap (λ (r : Setup). r.men) h.1
+settled_men p q (inr h) = ap (λ (r : Setup). r.men) h.1
+
+pub settled_class : (p q : Setup) (c : ℕ) (flipped : Bool) → SettlesTo p q → IsOf c flipped p ↔ IsOf c flipped q
+settled_class p q c flipped settles =
+    let same : q.men ≡ p.men = settled_men p q settles in
+    (by_men p q c flipped (λ man. ap (λ (men : Placement). count_of men man) same), by_men q p c flipped (λ man. ap (λ (men : Placement). count_of men man) (sym same)))
+
+-- with colours exchanged the other flip is taken
+exchanged_side : (flipped : Bool) (side : Side) → (if flipped then other_side (other_side side) else other_side side) ≡ (if not flipped then other_side side else side)
+exchanged_side true White = refl
+exchanged_side true Black = refl
+exchanged_side false White = refl
+exchanged_side false Black = refl
+
+exchanged_twice : (side : Side) → other_side (other_side side) ≡ side
+exchanged_twice White = refl
+exchanged_twice Black = refl
+
+pub image_class : (p q : Setup) (c : ℕ) (flipped : Bool) → SameMen p q ⊎ ExchangedMen p q → IsOf c flipped p → (IsOf c flipped q × (q.side ≡ p.side)) ⊎ (IsOf c (not flipped) q × (q.side ≡ other_side p.side))
+image_class p q c flipped (inl same) is = inl (by_men p q c flipped same.men is, same.side)
+image_class p q c flipped (inr exchanged) is = inr (record { men = λ man. by_side man.side man.kind }, exchanged.side)
+  where
+    by_side : (side : Side) (kind : Kind) → let man : Man = record { side = side; kind = kind } in count_of q.men man ≡ men_in c (if not flipped then other_side side else side) kind
+    by_side side kind =
+        let man = λ (s : Side). let made : Man = record { side = s; kind = kind } in made in
+        ap (λ s. count_of q.men (man s)) (sym (exchanged_twice side))
+        ∙ exchanged.men (man (other_side side))
+        ∙ is.men (man (other_side side))
+        ∙ ap (λ s. men_in c s kind) (exchanged_side flipped side)

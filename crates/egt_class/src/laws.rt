@@ -1,0 +1,83 @@
+//! What holds of classes and positions. These functions do nothing: a caller calls one to know what it ensures.
+ghost use Rattle.std.specs.Prelude.{◌≡◌, ◌<◌, ◌↔◌, ◌⊎◌, ℕ, Bool, not, Option, None, IsSome, IsTrue};
+ghost use Rattle.std.specs.List.{Contains};
+ghost use Rattle.std.specs.List.Sorted.{IsStrictlyIncreasing};
+ghost use Rattle.egt_board.specs.Man.{other_side};
+ghost use Rattle.egt_board.specs.declared.man.Side.TheVariants.{White, Black};
+ghost use Rattle.egt_board.specs.declared.man.Kind.{Kind};
+ghost use Rattle.egt_board.specs.Setup.{Setup, IsAdmissible};
+ghost use Rattle.egt_board.specs.Settled.{SettlesTo};
+ghost use Rattle.egt_board.specs.Images.{AreImages};
+ghost use Rattle.egt_moves.specs.declared.chess_move.Move.{Move};
+ghost use Rattle.egt_moves.specs.Legal.{Leads};
+ghost use Rattle.egt_moves.specs.Exchange.{Captures};
+ghost use Rattle.egt_class.specs.Material.{men_in, has_equal_sides};
+ghost use Rattle.egt_class.specs.Name.{name_of};
+ghost use Rattle.egt_class.specs.Membership.{IsOf};
+ghost use Rattle.egt_class.specs.Children.{children_of};
+
+use egt_board::counting::{listed_men_are_counted, one_king_is_counted};
+use egt_board::laws::images_keep_men;
+use egt_moves::exchanging::{moves_exchange_men, moves_keep_admissibility};
+
+/// No two classes have one name.
+pub fn names_tell_classes()
+    ensures { (c d : ℕ) → c < 36 → d < 36 → name_of c ≡ name_of d → c ≡ d }
+{}
+
+/// Both sides have the same men where they have as many of each kind.
+pub fn equal_sides_have_the_same_men()
+    ensures { (c : ℕ) → c < 36 → IsTrue (has_equal_sides c) ↔ ((kind : Kind) → men_in c White kind ≡ men_in c Black kind) }
+{}
+
+/// Each position is of some class.
+pub fn every_position_has_a_class()
+    ensures { (p : Setup) → IsAdmissible p → (c : ℕ) × (flipped : Bool) × (c < 36) × IsOf c flipped p }
+{
+    listed_men_are_counted();
+    one_king_is_counted();
+}
+
+/// A position is of one class, with one flip of colours but where both sides have the same men, and there with both.
+pub fn a_position_has_one_class()
+    ensures class { (p : Setup) (c d : ℕ) (flipped turned : Bool) → c < 36 → d < 36 →
+        IsOf c flipped p → IsOf d turned p → c ≡ d }
+    ensures flip { (p : Setup) (c : ℕ) (flipped turned : Bool) → c < 36 →
+        IsOf c flipped p → IsOf c turned p → (flipped ≡ turned) ⊎ IsTrue (has_equal_sides c) }
+    ensures both { (p : Setup) (c : ℕ) (flipped turned : Bool) → c < 36 →
+        IsTrue (has_equal_sides c) → IsOf c flipped p → IsOf c turned p }
+{}
+
+/// A position's settled form is of its class.
+pub fn settling_keeps_the_class()
+    ensures { (p q : Setup) (c : ℕ) (flipped : Bool) → SettlesTo p q → IsOf c flipped p ↔ IsOf c flipped q }
+{}
+
+/// So is an image of it, with the same flip or, where colours are exchanged, with the other.
+pub fn images_keep_the_class()
+    ensures { (p q : Setup) (c : ℕ) (flipped : Bool) → IsAdmissible p → AreImages p q → IsOf c flipped p →
+        (IsOf c flipped q × (q.side ≡ p.side)) ⊎ (IsOf c (not flipped) q × (q.side ≡ other_side p.side)) }
+{
+    images_keep_men();
+}
+
+/// A move that neither captures nor promotes stays in the class; any other leads into a child of it.
+pub fn moves_lead_into_the_class_or_a_child()
+    ensures quiet { (p q : Setup) (m : Move) (c : ℕ) (flipped : Bool) → IsAdmissible p → IsOf c flipped p →
+        Leads p m q → ¬ Captures p m → m.promo ≡ None → IsOf c flipped q }
+    ensures other { (p q : Setup) (m : Move) (c : ℕ) (flipped : Bool) → c < 36 → IsAdmissible p → IsOf c flipped p →
+        Leads p m q → Captures p m ⊎ IsSome m.promo →
+        (d : ℕ) × (turned : Bool) × Contains (children_of c) d × IsOf d turned q }
+    ensures any { (p q : Setup) (m : Move) (c : ℕ) (flipped : Bool) → c < 36 → IsAdmissible p → IsOf c flipped p →
+        Leads p m q → IsOf c flipped q ⊎ ((d : ℕ) × (turned : Bool) × Contains (children_of c) d × IsOf d turned q) }
+{
+    moves_exchange_men();
+    moves_keep_admissibility();
+    one_king_is_counted();
+}
+
+/// The children of a class ascend, and have smaller numbers.
+pub fn children_have_smaller_numbers()
+    ensures smaller { (c d : ℕ) → c < 36 → Contains (children_of c) d → d < c }
+    ensures ascending { (c : ℕ) → IsStrictlyIncreasing (children_of c) }
+{}
