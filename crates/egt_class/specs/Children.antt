@@ -21,6 +21,7 @@ pub record Change : Type 0 where
 abbrev pub man_of : Side → Kind → Man
 man_of side kind = record { side = side; kind = kind }
 
+-- the men that the change takes away, and the man that a pawn becomes
 abbrev pub man_taken : Change → Option Man
 man_taken change = option_map (man_of (other_side change.mover)) change.taken
 
@@ -30,10 +31,11 @@ pawn_promoted change = option_map (λ _. pawn_of change.mover) change.becomes
 abbrev pub man_promoted : Change → Option Man
 man_promoted change = option_map (man_of change.mover) change.becomes
 
--- how many of this man there are, White being the side named first, or the other side where colours are flipped
+-- the other side where colours are flipped
 abbrev pub side_if : Bool → Side → Side
 side_if flipped side = if flipped then other_side side else side
 
+-- how many of this man there are, White being the side named first, or Black where colours are flipped
 abbrev pub men_of : Material → Bool → Man → ℕ
 men_of m flipped man = count_in (kinds_of m (side_if flipped man.side)) man.kind
 
@@ -44,6 +46,7 @@ kinds_beside = Q ∷ R ∷ B ∷ N ∷ P ∷ []
 abbrev pub men_beside : List Man
 men_beside = map (man_of White) kinds_beside ++ map (man_of Black) kinds_beside
 
+-- the counts are the same at each of these men; no more are looked at once they differ
 abbrev pub agree_at : List Man → (Man → ℕ) → (Man → ℕ) → Bool
 agree_at [] f g = true
 agree_at (man ∷ men) f g = elim (f man == g man) [ true ↦ agree_at men f g | false ↦ false ]

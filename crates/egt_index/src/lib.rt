@@ -1,9 +1,20 @@
 //! Codes of positions: one number for all images of a position, so that a table has one entry for them.
 #![tactic(auto)]
 
+pub mod codes;
+pub mod digits;
+pub mod facts;
+pub mod indexing;
+pub mod laws;
+pub mod men;
 pub mod sizes;
+pub mod spelling;
 
+pub use indexing::index;
 pub use sizes::size;
+pub use spelling::position;
 
+#[cfg(test)]
+mod index_tests;
 #[cfg(test)]
 mod tests;

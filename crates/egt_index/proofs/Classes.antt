@@ -1,0 +1,106 @@
+-- What a code spells is of its class, in its colours.
+use Rattle.std.proofs.Common.{◌≡◌, ℕ, ◌<◌, ◌≤◌, ◌⊎◌, ◌||◌, not, Bool, true, false, cond, ltb, Some, List, [], ◌∷◌, map, arith, refl, sym, ap, ◌∙◌, inl, inr, subst}
+use Rattle.std.specs.FinMap as placement
+use Rattle.std.proofs.lemmas.Bool.{cases_eq, cases_lt, false≢true, ltb-true}
+use Rattle.std.proofs.lemmas.List.{get_or_past}
+use Rattle.egt_board.specs.declared.man.Side.{Side}
+use Rattle.egt_board.specs.declared.man.Side.TheVariants.{White, Black}
+use Rattle.egt_board.specs.declared.man.Kind.TheVariants.{P}
+use Rattle.egt_board.specs.declared.man.Man.{Man}
+use Rattle.egt_board.specs.Images.{count_of}
+use Rattle.egt_board.specs.Listed.{men_of}
+use Rattle.egt_board.specs.Man.{other_side}
+use Rattle.egt_board.specs.Pawn.{pawn_of, HasNoPawn}
+use Rattle.egt_board.specs.Placement.{Stands}
+use Rattle.egt_board.specs.Setup.{Setup}
+use Rattle.egt_class.specs.Below.{all_below, passes_below}
+use Rattle.egt_class.specs.Material.{Material, material_of, materials, beside, men_in}
+use Rattle.egt_class.specs.Membership.{IsOf}
+use Rattle.egt_index.specs.Digits.{AreDigits}
+use Rattle.egt_index.specs.Size.{base_of, men_in_order, has_pawns}
+use Rattle.egt_index.specs.Code.{Spells, square_of, placed, men_at}
+use Rattle.egt_index.specs.Picked.{AreCounted}
+use Rattle.egt_index.proofs.Listing.{AreApart, apart_of, get_here, get_later, get_none, remove_first}
+use Rattle.egt_index.proofs.Counted.{removed, counted_none, count_cons, least_below}
+use Rattle.egt_index.proofs.Tallied.{in_class}
+
+no_man : (man : Man) (t : ℕ) → Stands (men_of []) t man → ⊥
+no_man man t stands = let none = sym (get_none t) ∙ stands in cc
+
+-- the men of a list are counted as often as they stand in it
+pub placed_counted : (pawns : Bool) (list : List Man) (digits : List ℕ) → AreDigits (map (base_of pawns) list) digits → AreApart (placed pawns list digits)
+    → ((s : ℕ) (man : Man) → Stands (men_of (placed pawns list digits)) s man → s < 64) → AreCounted (men_of (placed pawns list digits)) list
+placed_counted pawns [] digits are apart on_board man = counted_none (men_of []) man (λ t t_in. no_man man t)
+placed_counted pawns (man ∷ list) [] are apart on_board other = absurd are
+placed_counted pawns (man ∷ list) (d ∷ ds) are apart on_board other =
+    let s_in = on_board (square_of pawns man d) man (get_here (man, square_of pawns man d) (placed pawns list ds) (square_of pawns man d) refl) in
+    let less = removed (men_of ((man, square_of pawns man d) ∷ placed pawns list ds)) man other (square_of pawns man d) s_in (get_here (man, square_of pawns man d) (placed pawns list ds) (square_of pawns man d) refl) in
+    let rest_is = ap (λ m. count_of m other) (remove_first (man, square_of pawns man d) (placed pawns list ds) apart.0) in
+    let rest = placed_counted pawns list ds are.1 apart.1 (λ s it stands. on_board s it (later s it stands)) other in
+    let more = count_cons man other list in omega arith
+  where
+    later : (s : ℕ) (it : Man) → Stands (men_of (placed pawns list ds)) s it → Stands (men_of ((man, square_of pawns man d) ∷ placed pawns list ds)) s it
+    later s it stands = elim (cases_eq s (square_of pawns man d)) [
+      | inl same ↦ absurd (let free = sym apart.0 ∙ subst (λ q. placement.get (men_of (placed pawns list ds)) q ≡ Some it) same stands in cc)
+      | inr other ↦ get_later (man, square_of pawns man d) (placed pawns list ds) s other ∙ stands
+    ]
+
+pub spells_class : (c code : ℕ) (p : Setup) → Spells c code p → IsOf c false p
+spells_class c code p s = record {
+  men = λ man. ap (λ m. count_of m man) s.men ∙ placed_counted (has_pawns m) (men_in_order m) s.digits s.are_digits (apart_of (men_at m s.digits) s.apart.apart) (λ t it stands. s.admissible.on_board t it (subst (λ x. Stands x t it) (sym s.men) stands)) man
+      ∙ in_class c man;
+}
+  where
+    m : Material
+    m = material_of c
+
+abbrev has_pawn_in : ℕ → Bool
+has_pawn_in c = not (has_pawns (material_of c)) || (ltb 0 (men_in c White P) || ltb 0 (men_in c Black P))
+
+all_have : all_below has_pawn_in 36 ≡ true
+unfolding all_below material_of materials men_in
+all_have = refl
+
+past : (c : ℕ) → 36 ≤ c → material_of c ≡ beside [] []
+unfolding material_of materials
+past c le = get_or_past materials c (beside [] []) le
+
+one_of : (a b : Bool) → (a || b) ≡ true → (a ≡ true) ⊎ (b ≡ true)
+one_of true b h = inl refl
+one_of false b h = inr h
+
+second : (a b : Bool) → a ≡ true → (not a || b) ≡ true → b ≡ true
+second true b h e = e
+second false b h e = absurd (false≢true h)
+
+some_side : (c : ℕ) → has_pawns (material_of c) ≡ true → (side : Side) × (0 < men_in c side P)
+some_side c has = elim (cases_lt c 36) [
+  | inl c_in ↦ elim (one_of _ _ (second (has_pawns (material_of c)) _ has (passes_below has_pawn_in 36 c all_have c_in))) [
+    | inl h ↦ (White, ltb-true 0 (men_in c White P) h)
+    | inr h ↦ (Black, ltb-true 0 (men_in c Black P) h)
+  ]
+  | inr c_past ↦ absurd (false≢true (sym (ap has_pawns (past c c_past)) ∙ has))
+]
+
+side_in : Bool → Side → Side
+side_in flipped side = cond flipped (other_side side) side
+
+side_back : (flipped : Bool) (side : Side) → side_in flipped (side_in flipped side) ≡ side
+unfolding side_in
+side_back true White = refl
+side_back true Black = refl
+side_back false side = refl
+
+-- a class with pawns has no position without
+pub pawns_there : (c : ℕ) (flipped : Bool) (p : Setup) → IsOf c flipped p → has_pawns (material_of c) ≡ true → HasNoPawn p.men → ⊥
+unfolding side_in
+pawns_there c flipped p is_of has none =
+    let some = some_side c has in
+    let man : Man = pawn_of (side_in flipped some.0) in
+    let count = is_of.men man in
+    let side = ap (λ s. men_in c s P) (side_back flipped some.0) in
+    let lt = some.1 in
+    elim (least_below p.men man 64) [
+      | inl found ↦ none found.0 man found.2.stands refl
+      | inr not ↦ let zero_of = counted_none p.men man not in absurd (omega arith)
+    ]

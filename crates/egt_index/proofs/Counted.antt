@@ -1,0 +1,176 @@
+-- Men counted on the squares of a placement, and taken off one by one.
+use Rattle.std.proofs.Common.{◌≡◌, ◌≢◌, ℕ, zero, suc, ◌+◌, ◌<◌, ◌≤◌, ◌⊎◌, Bool, true, false, cond, eqb, List, [], ◌∷◌, Option, Some, None, arith, refl, sym, ap, ◌∙◌, inl, inr, subst}
+use Rattle.std.specs.Prelude.{slice_index_or}
+use Rattle.std.specs.FinMap as placement
+use Rattle.std.proofs.lemmas.Bool.{cases_eq, eq-eqb}
+use Rattle.std.proofs.lemmas.Bool.Decides.{eqb_tells}
+use Rattle.std.proofs.lemmas.List.Sums.{sum_by-cons}
+use Rattle.egt_board.specs.declared.man.Side.{Side}
+use Rattle.egt_board.specs.declared.man.Side.TheVariants.{White, Black}
+use Rattle.egt_board.specs.declared.man.Kind.{Kind}
+use Rattle.egt_board.specs.declared.man.Kind.TheVariants.{Q, R, B, N, P, K}
+use Rattle.egt_board.specs.declared.man.Man.{Man}
+use Rattle.egt_board.specs.Images.{kind_number, side_number, man_number, stands_here, count_of}
+use Rattle.egt_board.specs.Placement.{Placement, Stands, same_men, get-remove_same, get-remove_other}
+use Rattle.egt_board.specs.SquareSet.{total}
+use Rattle.egt_board.specs.Counting.{is_man}
+use Rattle.egt_index.specs.Picked.{tally, AreCounted, Least}
+use Rattle.egt_board.specs.Listed.{men_of}
+use Rattle.egt_index.proofs.Listing.{get_none}
+
+kind_at : ℕ → Kind
+kind_at n = slice_index_or (Q ∷ R ∷ B ∷ N ∷ P ∷ K ∷ []) n Q
+
+kind_back : (kind : Kind) → kind_at (kind_number kind) ≡ kind
+unfolding kind_at
+kind_back Q = refl
+kind_back R = refl
+kind_back B = refl
+kind_back N = refl
+kind_back P = refl
+kind_back K = refl
+
+kind_below : (kind : Kind) → kind_number kind < 6
+kind_below Q = omega arith
+kind_below R = omega arith
+kind_below B = omega arith
+kind_below N = omega arith
+kind_below P = omega arith
+kind_below K = omega arith
+
+side_told : (a b : Side) → side_number a ≡ side_number b → a ≡ b
+side_told White White e = refl
+side_told Black Black e = refl
+side_told White Black e = absurd (omega arith)
+side_told Black White e = absurd (omega arith)
+
+-- men of one number are the same
+pub man_told : (man other : Man) → man_number man ≡ man_number other → man ≡ other
+man_told man other same =
+    let below = kind_below man.kind in
+    let below' = kind_below other.kind in
+    let kinds : kind_number man.kind ≡ kind_number other.kind = omega arith in
+    let sides : side_number man.side ≡ side_number other.side = omega arith in
+    same_man man other (side_told man.side other.side sides) (sym (kind_back man.kind) ∙ ap kind_at kinds ∙ kind_back other.kind)
+  where
+    same_man : (man other : Man) → man.side ≡ other.side → man.kind ≡ other.kind → man ≡ other
+    same_man man other side kind = ap (λ x. man_from x man.kind) side ∙ ap (λ x. man_from other.side x) kind
+      where
+        man_from : Side → Kind → Man
+        man_from side kind = record { side = side; kind = kind }
+
+here_one : (men : Placement) (s : ℕ) (man : Man) → Stands men s man → stands_here man (placement.get men s) ≡ 1
+here_one men s man stands = ap (stands_here man) stands ∙ ap (λ b. cond b 1 0) (eq-eqb (man_number man) (man_number man) refl)
+
+here_zero : (o : Option Man) (man : Man) → (o ≡ Some man → ⊥) → stands_here man o ≡ 0
+here_zero None man not = refl
+here_zero (Some other) man not = elim (eqb_tells (man_number man) (man_number other)) [
+  | inl h ↦ absurd (not (ap Some (sym (man_told man other h.1))))
+  | inr h ↦ ap (λ b. cond b 1 0) h.0
+]
+
+here_small : (o : Option Man) (man : Man) → stands_here man o ≤ 1
+here_small None man = omega arith
+here_small (Some other) man = small (eqb (man_number man) (man_number other))
+  where
+    small : (b : Bool) → cond b 1 0 ≤ 1
+    small true = omega arith
+    small false = omega arith
+
+pub told_here : (men : Placement) (s : ℕ) (man : Man) → Stands men s man ⊎ (Stands men s man → ⊥)
+told_here men s man = of_option (placement.get men s)
+  where
+    of_option : (o : Option Man) → (o ≡ Some man) ⊎ (o ≡ Some man → ⊥)
+    of_option None = inr (λ h. cc)
+    of_option (Some other) = elim (cases_eq (man_number other) (man_number man)) [
+      | inl h ↦ inl (ap Some (man_told other man h))
+      | inr h ↦ inr (λ e. h (ap man_number (some_same e)))
+    ]
+      where
+        some_same : {a b : Man} → Some a ≡ Some b → a ≡ b
+        some_same e = cc
+
+pub least_below : (men : Placement) (man : Man) (n : ℕ) → ((s : ℕ) × (s < n) × Least men man s) ⊎ ((t : ℕ) → t < n → Stands men t man → ⊥)
+least_below men man zero = inr (λ t t_in h. omega arith)
+least_below men man (suc n) = elim (least_below men man n) [
+  | inl found ↦ let lt = found.1 in inl (found.0, omega arith, found.2)
+  | inr none ↦ elim (told_here men n man) [
+    | inl here ↦ inl (n, omega arith, record { stands = here; least = none })
+    | inr not ↦ inr (λ t t_in h. elim (cases_eq t n) [
+      | inl e ↦ not (subst (λ k. Stands men k man) e h)
+      | inr other ↦ none t (omega arith) h
+    ])
+  ]
+]
+
+total_none : (f : ℕ → ℕ) (n : ℕ) → ((t : ℕ) → t < n → f t ≡ 0) → total f n ≡ 0
+total_none f zero none = refl
+total_none f (suc n) none = let rest = total_none f n (λ t t_in. none t (omega arith)) in let last = none n (omega arith) in omega arith
+
+total_some : (f : ℕ → ℕ) (n s : ℕ) → s < n → f s ≤ total f n
+total_some f zero s s_in = absurd (omega arith)
+total_some f (suc n) s s_in = elim (cases_eq s n) [
+  | inl e ↦ let here = ap f e in omega arith
+  | inr other ↦ let rest = total_some f n s (omega arith) in omega arith
+]
+
+total_same : (f g : ℕ → ℕ) (n : ℕ) → ((t : ℕ) → t < n → f t ≡ g t) → total f n ≡ total g n
+total_same f g zero same = refl
+total_same f g (suc n) same = let rest = total_same f g n (λ t t_in. same t (omega arith)) in let last = same n (omega arith) in omega arith
+
+total_but_one : (f g : ℕ → ℕ) (n s k : ℕ) → s < n → g s + k ≡ f s → ((t : ℕ) → t ≢ s → g t ≡ f t) → total g n + k ≡ total f n
+total_but_one f g zero s k s_in here others = absurd (omega arith)
+total_but_one f g (suc n) s k s_in here others = elim (cases_eq s n) [
+  | inl e ↦
+      let rest : total g n ≡ total f n = total_same g f n (λ t t_in. others t (λ same. omega arith)) in
+      let there : g n + k ≡ f n = subst (λ j. g j + k ≡ f j) e here in omega arith
+  | inr other ↦
+      let rest : total g n + k ≡ total f n = total_but_one f g n s k (omega arith) here others in
+      let last : g n ≡ f n = others n (λ same. omega arith) in omega arith
+]
+
+-- no such man on the board, and none of it counted
+pub counted_none : (men : Placement) (man : Man) → ((t : ℕ) → t < 64 → Stands men t man → ⊥) → count_of men man ≡ 0
+unfolding count_of
+counted_none men man none = total_none (λ s. stands_here man (placement.get men s)) 64 (λ t t_in. here_zero (placement.get men t) man (none t t_in))
+
+pub counted_some : (men : Placement) (man : Man) (s : ℕ) → s < 64 → Stands men s man → 1 ≤ count_of men man
+unfolding count_of
+counted_some men man s s_in stands =
+    let one = here_one men s man stands in
+    let le = total_some (λ s. stands_here man (placement.get men s)) 64 s s_in in omega arith
+
+-- a man taken off is counted once less
+pub removed : (men : Placement) (man other : Man) (s : ℕ) → s < 64 → Stands men s man → count_of (placement.remove men s) other + cond (is_man other man) 1 0 ≡ count_of men other
+unfolding count_of
+removed men man other s s_in stands =
+    total_but_one (λ t. stands_here other (placement.get men t)) (λ t. stands_here other (placement.get (placement.remove men s) t)) 64 s (cond (is_man other man) 1 0) s_in
+    (let gone = ap (stands_here other) (get-remove_same men s s refl) in let was = ap (stands_here other) stands in omega arith)
+    (λ t t_not. ap (stands_here other) (get-remove_other men s t t_not))
+
+pub count_cons : (man other : Man) (list : List Man) → tally other (man ∷ list) ≡ tally other list + cond (is_man other man) 1 0
+count_cons man other list = let is = sum_by-cons (λ x. cond {A = ℕ} (is_man other x) 1 0) man list in omega arith
+
+pub counted_rest : (men : Placement) (man : Man) (list : List Man) (s : ℕ) → s < 64 → Stands men s man → AreCounted men (man ∷ list) → AreCounted (placement.remove men s) list
+counted_rest men man list s s_in stands counted other =
+    let less = removed men man other s s_in stands in
+    let all = counted other in
+    let more = count_cons man other list in omega arith
+
+pub first_is_there : (men : Placement) (man : Man) (list : List Man) → AreCounted men (man ∷ list) → (s : ℕ) × (s < 64) × Least men man s
+first_is_there men man list counted = elim (least_below men man 64) [
+  | inl found ↦ found
+  | inr none ↦
+      let zero_of = counted_none men man none in
+      let all = counted man in
+      let more = count_cons man man list in
+      let one : cond {A = ℕ} (is_man man man) 1 0 ≡ 1 = ap (λ b. cond b 1 0) (eq-eqb (man_number man) (man_number man) refl) in
+      absurd (omega arith)
+]
+
+pub none_left : (men : Placement) → ((s : ℕ) (man : Man) → Stands men s man → s < 64) → AreCounted men [] → men ≡ men_of []
+none_left men on_board counted = same_men _ _ (λ q. free q (placement.get men q) refl ∙ sym (get_none q))
+  where
+    free : (q : ℕ) (o : Option Man) → placement.get men q ≡ o → placement.get men q ≡ None
+    free q None is = is
+    free q (Some man) is = let some = counted_some men man q (on_board q man is) is in let none = counted man in absurd (omega arith)

@@ -1,0 +1,186 @@
+-- What the digits of a code spell.
+use Rattle.std.proofs.Common.{◌≡◌, ℕ, ◌+◌, ◌-◌, ◌<◌, Bool, true, false, cond, List, [], ◌∷◌, ◌++◌, Option, Some, None, arith, refl, sym, ap, ◌∙◌, inl, inr, subst}
+use Rattle.std.proofs.lemmas.Bool.{false≢true}
+use Rattle.egt_board.specs.declared.man.Side.{Side}
+use Rattle.egt_board.specs.declared.man.Side.TheVariants.{White, Black}
+use Rattle.egt_board.specs.declared.man.Man.{Man}
+use Rattle.egt_board.specs.Images.{side_number}
+use Rattle.egt_board.specs.Man.{other_side}
+use Rattle.egt_board.specs.Pawn.{pawn_of}
+use Rattle.egt_board.specs.Placement.{Placement, Stands}
+use Rattle.egt_board.specs.Listed.{men_of, setup_of, FitsBoard}
+use Rattle.egt_board.specs.Setup.{Setup, IsAdmissible}
+use Rattle.egt_board.specs.Target.{IsTarget, FitsTarget}
+use Rattle.egt_class.specs.Material.{Material, material_of}
+use Rattle.egt_index.specs.Digits.{number_from, number_of, AreDigits}
+use Rattle.egt_index.specs.Size.{bases, men_bases, has_target}
+use Rattle.egt_index.specs.Code.{Spells, SpellsBy, HasTargetDigit, men_at, target_digit, target_digits}
+use Rattle.egt_index.specs.Spelled.{SpellsMen, SpellsNoMen, Ends, HasPawns, IsBehind, IsTold, IsListed}
+use Rattle.egt_index.proofs.Numbers.{number_from-same}
+use Rattle.egt_index.proofs.Coding.{last_digits, side_told}
+use Rattle.egt_index.proofs.Coded.{number_append}
+use Rattle.egt_index.proofs.Listing.{listed}
+use Rattle.egt_index.proofs.OnePosition.{a_pawn_each, one_pawn_each, one_square, same_setup}
+
+pub flag : Bool → ℕ
+flag passed = cond passed 1 0
+
+-- where a target may have been passed, there is a pawn each
+pub has_pawns_list : (c : ℕ) (number : ℕ) (list : List (Man × ℕ)) → has_target (material_of c) ≡ true → SpellsMen (material_of c) number list → HasPawns list
+has_pawns_list c number list has spells = of_digits spells.digits are list_is
+  where
+    same : material_of c ≡ a_pawn_each
+    same = one_pawn_each c has
+
+    are : AreDigits (men_bases a_pawn_each) spells.digits
+    are = subst (λ m. AreDigits (men_bases m) spells.digits) same spells.are
+
+    list_is : list ≡ men_at a_pawn_each spells.digits
+    list_is = spells.list_is ∙ ap (λ m. men_at m spells.digits) same
+
+    of_digits : (digits : List ℕ) → AreDigits (men_bases a_pawn_each) digits → list ≡ men_at a_pawn_each digits → HasPawns list
+    of_digits [] are is = absurd are
+    of_digits (a ∷ []) are is = absurd are.1
+    of_digits (a ∷ b ∷ []) are is = absurd are.1.1
+    of_digits (a ∷ b ∷ x ∷ []) are is = absurd are.1.1.1
+    of_digits (a ∷ b ∷ x ∷ y ∷ z ∷ rest) are is = absurd are.1.1.1.1
+    of_digits (a ∷ b ∷ x ∷ y ∷ []) are is = record {
+      white_king = _;
+      black_king = b;
+      white = x + 8;
+      black = y + 8;
+      white_in = let lt = are.1.1.0 in (omega arith, omega arith);
+      black_in = let lt = are.1.1.1.0 in (omega arith, omega arith);
+      list_is = is;
+    }
+
+told_digit : (passed : Bool) (side : Side) (list : List (Man × ℕ)) (target : Option ℕ) → IsTold passed side list target → target_digit target ≡ flag passed
+unfolding flag
+told_digit false side list target told = ap target_digit told
+told_digit true side list None told = absurd told
+told_digit true side list (Some t) told = refl
+
+told_has : (m : Material) (passed : Bool) (side : Side) (list : List (Man × ℕ)) (target : Option ℕ) → (has_target m ≡ false → passed ≡ false) → IsTold passed side list target → HasTargetDigit m target
+told_has m passed side list target never told = of_test (has_target m) refl
+  where
+    none : (passed : Bool) → passed ≡ false → IsTold passed side list target → target ≡ None
+    none false e told = told
+    none true e told = absurd (false≢true (sym e))
+
+    of_test : (b : Bool) → has_target m ≡ b → HasTargetDigit m target
+    of_test true is = inl is
+    of_test false is = inr (none passed (never is) told)
+
+-- the number that digits of men and the ends make
+code_of_parts : (m : Material) (digits : List ℕ) (side : Side) (d : ℕ) → AreDigits (men_bases m) digits
+    → number_of (bases m) (digits ++ side_number side ∷ cond (has_target m) (d ∷ []) []) ≡ number_from (number_of (men_bases m) digits) (2 ∷ cond (has_target m) (2 ∷ []) []) (side_number side ∷ cond (has_target m) (d ∷ []) [])
+code_of_parts m digits side d are = number_append (men_bases m) digits (2 ∷ cond (has_target m) (2 ∷ []) []) (side_number side ∷ cond (has_target m) (d ∷ []) []) 0 are
+
+pub decoded_spells : (m : Material) (code high : ℕ) (side : Side) (passed : Bool) (list : List (Man × ℕ)) (target : Option ℕ) → Ends m code high side passed → SpellsMen m high list
+    → IsTold passed side list target → FitsBoard list → IsAdmissible (setup_of list side target) → SpellsBy m code (setup_of list side target)
+unfolding flag
+decoded_spells m code high side passed list target ends spells told fits ok = record {
+  admissible = ok;
+  digits = spells.digits;
+  are_digits = spells.are;
+  apart = subst FitsBoard spells.list_is fits;
+  men = ap men_of spells.list_is;
+  target = told_has m passed side list target ends.never told;
+  number =
+      ends.number_is
+      ∙ ap (λ d. number_from high (2 ∷ cond (has_target m) (2 ∷ []) []) (side_number side ∷ cond (has_target m) (d ∷ []) [])) (sym (told_digit passed side list target told))
+      ∙ ap (λ h. number_from h (2 ∷ cond (has_target m) (2 ∷ []) []) (side_number side ∷ target_digits m target)) spells.number_is
+      ∙ sym (code_of_parts m spells.digits side (target_digit target) spells.are);
+}
+
+-- what any position that the code spells has of these
+pub record Parts (m : Material) (p : Setup) (digits : List ℕ) (high : ℕ) (side : Side) (passed : Bool) : Type 0 where
+  pub men_number : number_of (men_bases m) digits ≡ high
+  pub same_side : p.side ≡ side
+  pub same_target : target_digits m p.target ≡ cond (has_target m) (flag passed ∷ []) []
+
+flag_fits : (passed : Bool) → flag passed < 2
+unfolding flag
+flag_fits true = omega arith
+flag_fits false = omega arith
+
+ends_fit : (b : Bool) (side : Side) (passed : Bool) → AreDigits (2 ∷ cond b (2 ∷ []) []) (side_number side ∷ cond b (flag passed ∷ []) [])
+ends_fit true side passed = ((last_digits true side None).0, (flag_fits passed, tt))
+ends_fit false side passed = ((last_digits false side None).0, tt)
+
+pub parts_told : (m : Material) (code high : ℕ) (side : Side) (passed : Bool) (p : Setup) → Ends m code high side passed → (s : SpellsBy m code p) → Parts m p s.digits high side passed
+unfolding flag
+parts_told m code high side passed p ends s =
+    let both = number_from-same (2 ∷ cond (has_target m) (2 ∷ []) []) (side_number p.side ∷ target_digits m p.target) (side_number side ∷ cond (has_target m) (flag passed ∷ []) []) (number_of (men_bases m) s.digits) high
+    (last_digits (has_target m) p.side p.target) (ends_fit (has_target m) side passed) (sym (code_of_parts m s.digits p.side (target_digit p.target) s.are_digits) ∙ sym s.number ∙ ends.number_is) in
+    record { men_number = both.0; same_side = side_told p.side side (heads both.1); same_target = tails both.1 }
+  where
+    heads : {a b : ℕ} {x y : List ℕ} → a ∷ x ≡ b ∷ y → a ≡ b
+    heads e = cc
+
+    tails : {a b : ℕ} {x y : List ℕ} → a ∷ x ≡ b ∷ y → x ≡ y
+    tails e = cc
+
+pub no_men : (m : Material) (code high : ℕ) (side : Side) (passed : Bool) (p : Setup) → Ends m code high side passed → SpellsNoMen m high → SpellsBy m code p → ⊥
+no_men m code high side passed p ends none s = none s.digits s.are_digits (sym (parts_told m code high side passed p ends s).men_number)
+
+-- the target that the digits tell of is the position's
+passed_square : (mover : Side) (men : Placement) (list : List (Man × ℕ)) (t u : ℕ) → men ≡ men_of list → IsTarget men mover u → IsBehind mover list t
+    → ((a b : ℕ) → IsListed list (pawn_of (other_side mover)) a → IsListed list (pawn_of (other_side mover)) b → a ≡ b) → t ≡ u
+passed_square White men list t u is target behind one =
+    let same = one behind.0 (u - 8) behind.1 (listed list (pawn_of Black) (u - 8) (subst (λ m. Stands m (u - 8) (pawn_of Black)) is target.advanced)) in
+    let rank = target.rank in let at = behind.2 in omega arith
+passed_square Black men list t u is target behind one =
+    let same = one behind.0 (u + 8) behind.1 (listed list (pawn_of White) (u + 8) (subst (λ m. Stands m (u + 8) (pawn_of White)) is target.advanced)) in
+    let rank = target.rank in let at = behind.2 in omega arith
+
+pub spelled_setup : (c : ℕ) (code high : ℕ) (side : Side) (passed : Bool) (list : List (Man × ℕ)) (target : Option ℕ) (p : Setup) → Ends (material_of c) code high side passed → SpellsMen (material_of c) high list
+    → IsTold passed side list target → Spells c code p → FitsBoard list × IsAdmissible (setup_of list side target)
+unfolding flag
+spelled_setup c code high side passed list target p ends spells told s = (subst FitsBoard (sym list_is) s.apart, subst IsAdmissible p_is s.admissible)
+  where
+    m : Material
+    m = material_of c
+
+    parts : Parts m p s.digits high side passed
+    parts = parts_told m code high side passed p ends s
+
+    list_is : list ≡ men_at m s.digits
+    list_is = spells.list_is ∙ ap (men_at m) (number_from-same (men_bases m) spells.digits s.digits 0 0 spells.are s.are_digits (sym spells.number_is ∙ sym parts.men_number)).1
+
+    men_is : p.men ≡ men_of list
+    men_is = s.men ∙ ap men_of (sym list_is)
+
+    heads : {a b : ℕ} {x y : List ℕ} → a ∷ x ≡ b ∷ y → a ≡ b
+    heads e = cc
+
+    one : has_target m ≡ true → (side : Side) (a b : ℕ) → IsListed list (pawn_of side) a → IsListed list (pawn_of side) b → a ≡ b
+    one has side a b here there =
+        let same = one_pawn_each c has in
+        let is = list_is ∙ ap (λ x. men_at x s.digits) same in
+        one_square s.digits side a b (subst (λ x. AreDigits (men_bases x) s.digits) same s.are_digits) (subst (λ l. IsListed l (pawn_of side) a) is here) (subst (λ l. IsListed l (pawn_of side) b) is there)
+
+    digits_has : (b : Bool) → has_target m ≡ b → b ≡ true → target_digit p.target ≡ flag passed
+    digits_has true is e = heads (subst (λ x. cond x (target_digit p.target ∷ []) [] ≡ cond x (flag passed ∷ []) []) is parts.same_target)
+    digits_has false is e = absurd (false≢true e)
+
+    with_target : has_target m ≡ true → (passed : Bool) → target_digit p.target ≡ flag passed → (t o : Option ℕ) → p.target ≡ o → IsTold passed side list t → o ≡ t
+    with_target has false same t None is told = sym told
+    with_target has false same t (Some u) is told = absurd (let digit = ap target_digit is in omega arith)
+    with_target has true same t None is told = absurd (let digit = ap target_digit is in omega arith)
+    with_target has true same None (Some u) is told = absurd told
+    with_target has true same (Some t) (Some u) is told =
+        let fits = subst (λ o. FitsTarget p.men side o) is (subst (λ x. FitsTarget p.men x p.target) parts.same_side s.admissible.target) in
+        ap Some (sym (passed_square side p.men list t u men_is fits told (one has (other_side side))))
+
+    none_told : (passed : Bool) → passed ≡ false → IsTold passed side list target → target ≡ None
+    none_told false e told = told
+    none_told true e told = absurd (false≢true (sym e))
+
+    target_is : (b : Bool) → has_target m ≡ b → HasTargetDigit m p.target → p.target ≡ target
+    target_is true is has = with_target is passed (digits_has true is refl) target p.target refl told
+    target_is false is (inl has) = absurd (false≢true (sym is ∙ has))
+    target_is false is (inr none) = none ∙ sym (none_told passed (ends.never is) told)
+
+    p_is : p ≡ setup_of list side target
+    p_is = same_setup p (setup_of list side target) men_is parts.same_side (target_is (has_target m) refl s.target)

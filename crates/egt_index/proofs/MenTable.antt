@@ -1,0 +1,93 @@
+-- The table of the men beside the kings, and what the classes' numbers tell of pawns.
+use Rattle.std.proofs.Common.{◌≡◌, ℕ, ◌<◌, ◌++◌, ◌||◌, Bool, true, false, eqb, leb, List, map, Option, Some, None, IfSome, ◌≢◌, ◌&&◌, not, arith, ◌+◌, inl, inr, refl, sym, ap, ◌∙◌, subst}
+use Rattle.std.specs.Prelude.{slice_index_or}
+use Rattle.std.specs.List.{range_with_len}
+use Rattle.std.specs.Option.{option_to_list}
+use Rattle.std.proofs.Math.ListN.{get_or-map}
+use Rattle.std.proofs.lemmas.List.{get_or_default}
+use Rattle.std.proofs.lemmas.Bool.{false≢true, eq-eqb, and_parts}
+use Rattle.std.proofs.lemmas.Bool.Decides.{eqb_tells}
+use Rattle.std.proofs.lemmas.List.FromFn.{get_or-map-range_with_len}
+use Rattle.egt_board.specs.declared.man.Man.{Man}
+use Rattle.egt_board.specs.Images.{man_number}
+use Rattle.egt_board.specs.Attack.{king_of}
+use Rattle.egt_board.specs.declared.man.Side.TheVariants.{White}
+use Rattle.egt_class.specs.Below.{all_below, passes_below}
+use Rattle.egt_class.specs.Material.{material_of, materials}
+use Rattle.egt_index.specs.Size.{men_beside, has_pawns, has_target}
+use Rattle.egt_index.specs.declared.men.TheConstants.{BESIDE}
+
+men_of_row : Option Man × Option Man → List Man
+men_of_row row = option_to_list row.0 ++ option_to_list row.1
+
+rows : map men_of_row BESIDE ≡ map (λ c. men_beside (material_of c)) (range_with_len 0 36)
+unfolding men_of_row material_of materials
+rows = refl
+
+pub row_is : (c : ℕ) (d : Option Man × Option Man) → c < 36 → option_to_list (slice_index_or BESIDE c d).0 ++ option_to_list (slice_index_or BESIDE c d).1 ≡ men_beside (material_of c)
+unfolding men_of_row
+row_is c d c_in =
+    sym (get_or-map men_of_row BESIDE c d) ∙ ap (λ xs. slice_index_or xs c (men_of_row d)) rows ∙ get_or-map-range_with_len (λ k. men_beside (material_of k)) 0 36 c c (men_of_row d) c_in (add_none c)
+  where
+    add_none : (c : ℕ) → 0 + c ≡ c
+    add_none c = omega arith
+
+agree : Bool → Bool → Bool
+agree true b = b
+agree false true = false
+agree false false = true
+
+agreed : (a b : Bool) → agree a b ≡ true → a ≡ b
+unfolding agree
+agreed true b h = sym h
+agreed false true h = absurd (false≢true h)
+agreed false false h = refl
+
+pawns_agree : all_below (λ c. agree (eqb c 5 || leb 26 c) (has_pawns (material_of c))) 36 ≡ true
+unfolding all_below agree material_of materials
+pawns_agree = refl
+
+pub pawns_are : (c : ℕ) → c < 36 → (eqb c 5 || leb 26 c) ≡ has_pawns (material_of c)
+pawns_are c c_in = agreed _ _ (passes_below (λ c. agree (eqb c 5 || leb 26 c) (has_pawns (material_of c))) 36 c pawns_agree c_in)
+
+targets_agree : all_below (λ c. agree (eqb c 35) (has_target (material_of c))) 36 ≡ true
+unfolding all_below agree material_of materials
+targets_agree = refl
+
+pub targets_are : (c : ℕ) → c < 36 → eqb c 35 ≡ has_target (material_of c)
+targets_are c c_in = agreed _ _ (passes_below (λ c. agree (eqb c 35) (has_target (material_of c))) 36 c targets_agree c_in)
+
+pub pawns_at : (c : ℕ) → c < 36 → c ≡ 5 → eqb c 5 ≡ has_pawns (material_of c)
+pawns_at c c_in is = elim (eqb_tells c 5) [
+  | inl h ↦ h.0 ∙ sym (ap (λ b. b || leb 26 c) h.0) ∙ pawns_are c c_in
+  | inr h ↦ absurd (h.1 is)
+]
+
+pub pawns_else : (c : ℕ) → c < 36 → (c ≡ 5 → ⊥) → leb 26 c ≡ has_pawns (material_of c)
+pawns_else c c_in not = elim (eqb_tells c 5) [
+  | inl h ↦ absurd (not h.1)
+  | inr h ↦ sym (ap (λ b. b || leb 26 c) h.0) ∙ pawns_are c c_in
+]
+
+is_no_king : Option Man → Bool
+is_no_king None = true
+is_no_king (Some man) = not (eqb (man_number man) (man_number (king_of White)))
+
+are_no_kings : all_below (λ c. is_no_king (slice_index_or BESIDE c (None, None)).0 && is_no_king (slice_index_or BESIDE c (None, None)).1) 36 ≡ true
+unfolding all_below is_no_king
+are_no_kings = refl
+
+no_king_told : (o : Option Man) → is_no_king o ≡ true → IfSome o (λ man. man ≢ king_of White)
+unfolding is_no_king
+no_king_told None h = tt
+no_king_told (Some man) h = λ same. not_both _ (eq-eqb _ _ (ap man_number same)) h
+  where
+    not_both : (b : Bool) → b ≡ true → not b ≡ true → ⊥
+    not_both true e h = false≢true h
+    not_both false e h = false≢true e
+
+pub no_king : (c : ℕ) (d : Option Man × Option Man) → c < 36 → IfSome (slice_index_or BESIDE c d).0 (λ man. man ≢ king_of White) × IfSome (slice_index_or BESIDE c d).1 (λ man. man ≢ king_of White)
+no_king c d c_in =
+    let both = and_parts _ _ (passes_below (λ k. is_no_king (slice_index_or BESIDE k (None, None)).0 && is_no_king (slice_index_or BESIDE k (None, None)).1) 36 c are_no_kings c_in) in
+    let same : slice_index_or BESIDE c (None, None) ≡ slice_index_or BESIDE c d = get_or_default BESIDE c (None, None) d c_in in
+    subst (λ row. IfSome row.0 (λ man. man ≢ king_of White) × IfSome row.1 (λ man. man ≢ king_of White)) same (no_king_told _ both.0, no_king_told _ both.1)

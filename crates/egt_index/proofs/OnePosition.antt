@@ -1,0 +1,133 @@
+-- A code spells one position.
+use Rattle.std.proofs.Common.{◌≡◌, ℕ, ◌+◌, ◌-◌, ◌≤◌, ◌⊎◌, ◌||◌, ◌==◌, not, Bool, true, false, cond, IsTrue, List, [], ◌∷◌, Option, Some, None, arith, refl, sym, ap, ◌∙◌, inl, inr, subst}
+use Rattle.std.proofs.lemmas.Bool.{false≢true, cases_lt, eqb-true}
+use Rattle.std.proofs.lemmas.List.{get_or_past}
+use Rattle.egt_board.specs.declared.man.Side.{Side}
+use Rattle.egt_board.specs.declared.man.Side.TheVariants.{White, Black}
+use Rattle.egt_board.specs.declared.man.Kind.TheVariants.{P}
+use Rattle.egt_board.specs.declared.man.Man.{Man}
+use Rattle.egt_board.specs.Man.{other_side}
+use Rattle.egt_board.specs.Attack.{king_of}
+use Rattle.egt_board.specs.Pawn.{pawn_of}
+use Rattle.egt_board.specs.Placement.{Placement, Stands}
+use Rattle.egt_board.specs.Listed.{men_of}
+use Rattle.egt_board.specs.Setup.{Setup}
+use Rattle.egt_board.specs.Target.{IsTarget, FitsTarget}
+use Rattle.egt_class.specs.Below.{all_below, passes_below}
+use Rattle.egt_class.specs.Material.{Material, material_of, materials, beside}
+use Rattle.egt_index.specs.Digits.{AreDigits}
+use Rattle.egt_index.specs.Size.{men_bases, has_target}
+use Rattle.egt_index.specs.Code.{Spells, HasTargetDigit, men_at, target_digit, target_digits}
+use Rattle.egt_index.proofs.Listing.{listed}
+use Rattle.egt_index.specs.Spelled.{IsListed}
+use Rattle.egt_index.proofs.Coding.{SameSpelling, spells_same}
+
+abbrev pub a_pawn_each : Material
+a_pawn_each = beside (P ∷ []) (P ∷ [])
+
+abbrev is_only : ℕ → Bool
+is_only c = not (has_target (material_of c)) || (c == 35)
+
+all_only : all_below is_only 36 ≡ true
+unfolding all_below material_of materials
+all_only = refl
+
+unique : a_pawn_each ≡ material_of 35
+unfolding material_of materials
+unique = refl
+
+past : (c : ℕ) → 36 ≤ c → material_of c ≡ beside [] []
+unfolding material_of materials
+past c le = get_or_past materials c (beside [] []) le
+
+-- a class with targets has a pawn on each side and nothing else
+pub one_pawn_each : (c : ℕ) → has_target (material_of c) ≡ true → material_of c ≡ a_pawn_each
+one_pawn_each c has = elim (cases_lt c 36) [
+  | inl c_in ↦ ap material_of (eqb-true c 35 (second (has_target (material_of c)) (c == 35) has (passes_below is_only 36 c all_only c_in))) ∙ sym unique
+  | inr c_past ↦ absurd (false≢true (sym (ap has_target (past c c_past)) ∙ has))
+]
+  where
+    second : (a b : Bool) → a ≡ true → (not a || b) ≡ true → b ≡ true
+    second true b h e = e
+    second false b h e = absurd (false≢true h)
+
+no_king : (side other : Side) → king_of side ≡ pawn_of other → ⊥
+no_king side other h = let kinds = ap (λ (man : Man). man.kind) h in cc
+
+not_other : (side : Side) → pawn_of (other_side side) ≡ pawn_of side → ⊥
+not_other White h = let sides = ap (λ (man : Man). man.side) h in cc
+not_other Black h = let sides = ap (λ (man : Man). man.side) h in cc
+
+-- there each side's pawn stands on one square
+pub one_square : (digits : List ℕ) (side : Side) (s t : ℕ) → AreDigits (men_bases a_pawn_each) digits
+    → IsListed (men_at a_pawn_each digits) (pawn_of side) s → IsListed (men_at a_pawn_each digits) (pawn_of side) t → s ≡ t
+one_square [] side s t are here there = absurd are
+one_square (a ∷ []) side s t are here there = absurd are.1
+one_square (a ∷ b ∷ []) side s t are here there = absurd are.1.1
+one_square (a ∷ b ∷ x ∷ []) side s t are here there = absurd are.1.1.1
+one_square (a ∷ b ∷ x ∷ y ∷ z ∷ rest) side s t are here there = absurd are.1.1.1.1
+one_square (a ∷ b ∷ x ∷ y ∷ []) White s t are here there = sym (white s here) ∙ white t there
+  where
+    white : (u : ℕ) → IsListed (men_at a_pawn_each (a ∷ b ∷ x ∷ y ∷ [])) (pawn_of White) u → x + 8 ≡ u
+    white u (inl h) = absurd (no_king White White h.0)
+    white u (inr (inl h)) = absurd (no_king Black White h.0)
+    white u (inr (inr (inl h))) = h.1
+    white u (inr (inr (inr (inl h)))) = absurd (not_other White h.0)
+    white u (inr (inr (inr (inr h)))) = absurd h
+one_square (a ∷ b ∷ x ∷ y ∷ []) Black s t are here there = sym (black s here) ∙ black t there
+  where
+    black : (u : ℕ) → IsListed (men_at a_pawn_each (a ∷ b ∷ x ∷ y ∷ [])) (pawn_of Black) u → y + 8 ≡ u
+    black u (inl h) = absurd (no_king White Black h.0)
+    black u (inr (inl h)) = absurd (no_king Black Black h.0)
+    black u (inr (inr (inl h))) = absurd (not_other Black h.0)
+    black u (inr (inr (inr (inl h)))) = h.1
+    black u (inr (inr (inr (inr h)))) = absurd h
+
+-- the pawn that has just advanced tells the target
+target_told : (mover : Side) (men : Placement) (t u : ℕ) → IsTarget men mover t → IsTarget men mover u
+    → ((a b : ℕ) → Stands men a (pawn_of (other_side mover)) → Stands men b (pawn_of (other_side mover)) → a ≡ b) → t ≡ u
+target_told White men t u here there one = let same = one (t - 8) (u - 8) here.advanced there.advanced in let rank = here.rank in let other = there.rank in omega arith
+target_told Black men t u here there one = let same = one (t + 8) (u + 8) here.advanced there.advanced in omega arith
+
+same_target : (m : Material) (digits : List ℕ) (side : Side) (men : Placement) (t u : Option ℕ) → ((b : Bool) → b ≡ has_target m → b ≡ true → (a b : ℕ) → Stands men a (pawn_of (other_side side)) → Stands men b (pawn_of (other_side side)) → a ≡ b)
+    → FitsTarget men side t → FitsTarget men side u → HasTargetDigit m t → HasTargetDigit m u → target_digits m t ≡ target_digits m u → t ≡ u
+same_target m digits side men t u one here there has has' same = by_test (has_target m) refl t u here there has has' same
+  where
+    digits_differ : (a b : ℕ) → a ∷ [] ≡ b ∷ [] → a ≡ b
+    digits_differ a b h = cc
+
+    by_test : (b : Bool) → b ≡ has_target m → (t u : Option ℕ) → FitsTarget men side t → FitsTarget men side u → IsTrue b ⊎ (t ≡ None) → IsTrue b ⊎ (u ≡ None)
+        → cond b (target_digit t ∷ []) [] ≡ cond b (target_digit u ∷ []) [] → t ≡ u
+    by_test true is None None here there has has' same = refl
+    by_test true is (Some t) None here there has has' same = absurd (let h = digits_differ 1 0 same in omega arith)
+    by_test true is None (Some u) here there has has' same = absurd (let h = digits_differ 0 1 same in omega arith)
+    by_test true is (Some t) (Some u) here there has has' same = ap Some (target_told side men t u here there (one true is refl))
+    by_test false is t u here there (inl h) has' same = absurd (false≢true h)
+    by_test false is t u here there (inr e) (inl h) same = absurd (false≢true h)
+    by_test false is t u here there (inr e) (inr f) same = e ∙ sym f
+
+setup : Placement → Side → Option ℕ → Setup
+setup men side target = record { men = men; side = side; target = target }
+
+-- setups of the same parts are the same
+pub same_setup : (p q : Setup) → p.men ≡ q.men → p.side ≡ q.side → p.target ≡ q.target → p ≡ q
+unfolding setup
+same_setup p q men side target = ap (λ x. setup x p.side p.target) men ∙ ap (λ x. setup q.men x p.target) side ∙ ap (λ x. setup q.men q.side x) target
+
+pub spells_once : (c code : ℕ) (p q : Setup) → Spells c code p → Spells c code q → p ≡ q
+spells_once c code p q s t =
+    let both = spells_same (material_of c) code p q s t in
+    let there : FitsTarget p.men p.side q.target = subst (λ side. FitsTarget p.men side q.target) (sym both.side) (subst (λ men. FitsTarget men q.side q.target) (sym both.men) t.admissible.target) in
+    let target = same_target (material_of c) s.digits p.side p.men p.target q.target (pawns both) s.admissible.target there s.target t.target both.target in
+    same_setup p q both.men both.side target
+  where
+    pawns : SameSpelling (material_of c) p q s.digits t.digits → (b : Bool) → b ≡ has_target (material_of c) → b ≡ true
+        → (x y : ℕ) → Stands p.men x (pawn_of (other_side p.side)) → Stands p.men y (pawn_of (other_side p.side)) → x ≡ y
+    pawns both b is has x y here there = of_two (one_pawn_each c (sym is ∙ has)) (listed _ _ x (in_list x here)) (listed _ _ y (in_list y there))
+      where
+        in_list : (z : ℕ) → Stands p.men z (pawn_of (other_side p.side)) → Stands (men_of (men_at (material_of c) s.digits)) z (pawn_of (other_side p.side))
+        in_list z stands = subst (λ men. Stands men z (pawn_of (other_side p.side))) s.men stands
+
+        of_two : material_of c ≡ a_pawn_each → IsListed (men_at (material_of c) s.digits) (pawn_of (other_side p.side)) x → IsListed (men_at (material_of c) s.digits) (pawn_of (other_side p.side)) y → x ≡ y
+        of_two same = subst (λ m. AreDigits (men_bases m) s.digits → IsListed (men_at m s.digits) (pawn_of (other_side p.side)) x → IsListed (men_at m s.digits) (pawn_of (other_side p.side)) y → x ≡ y) (sym same)
+            (one_square s.digits (other_side p.side) x y) s.are_digits

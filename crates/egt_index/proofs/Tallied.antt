@@ -1,0 +1,93 @@
+-- The men of a class in order are those that its sides have.
+use Rattle.std.proofs.Common.{◌≡◌, ℕ, ◌+◌, ◌*◌, ◌<◌, false, cond, eqb, List, [], ◌∷◌, ◌++◌, map, count_by, arith, refl, sym, ap, ◌∙◌, inl, inr}
+use Rattle.std.proofs.lemmas.Bool.{eq-eqb}
+use Rattle.std.proofs.lemmas.Bool.Decides.{eqb_tells}
+use Rattle.std.proofs.lemmas.List.Sums.{sum_by-cons, sum_by-append}
+use Rattle.egt_board.specs.declared.man.Side.{Side}
+use Rattle.egt_board.specs.declared.man.Side.TheVariants.{White, Black}
+use Rattle.egt_board.specs.declared.man.Kind.{Kind}
+use Rattle.egt_board.specs.declared.man.Kind.TheVariants.{Q, R, B, N, P, K}
+use Rattle.egt_board.specs.declared.man.Man.{Man}
+use Rattle.egt_board.specs.Images.{kind_number, side_number}
+use Rattle.egt_class.specs.Material.{Material, material_of, is_kind, kinds_of, men_in}
+use Rattle.egt_index.specs.Size.{men_in_order, man_of}
+use Rattle.egt_board.specs.Counting.{is_man}
+use Rattle.egt_index.specs.Picked.{tally}
+
+-- equal tests of what is equal alike
+tests_alike : (a b x y : ℕ) → (a ≡ b → x ≡ y) → (x ≡ y → a ≡ b) → eqb a b ≡ eqb x y
+tests_alike a b x y there back = elim (eqb_tells a b) [
+  | inl h ↦ h.0 ∙ sym (eq-eqb x y (there h.1))
+  | inr h ↦ elim (eqb_tells x y) [
+    | inl k ↦ absurd (h.1 (back k.1))
+    | inr k ↦ h.0 ∙ sym k.0
+  ]
+]
+
+one_less : (k : Kind) → kind_number k < 6
+one_less Q = omega arith
+one_less R = omega arith
+one_less B = omega arith
+one_less N = omega arith
+one_less P = omega arith
+one_less K = omega arith
+
+same_side : (side : Side) (k other : Kind) → is_man (man_of side k) (man_of side other) ≡ is_kind k other
+same_side side k other =
+    tests_alike (6 * side_number side + kind_number k) (6 * side_number side + kind_number other) (kind_number k) (kind_number other) (λ e. omega arith) (λ e. omega arith)
+
+apart_of : (side other : Side) (k l : Kind) → (side_number side ≡ side_number other → ⊥) → is_man (man_of side k) (man_of other l) ≡ false
+apart_of side other k l differ = elim (eqb_tells (6 * side_number side + kind_number k) (6 * side_number other + kind_number l)) [
+  | inl h ↦ absurd (differ (let below = one_less k in let below' = one_less l in let same = h.1 in omega arith))
+  | inr h ↦ h.0
+]
+
+own : (side : Side) (k : Kind) (kinds : List Kind) → tally (man_of side k) (map (man_of side) kinds) ≡ count_by (is_kind k) kinds
+own side k [] = refl
+own side k (other ∷ kinds) =
+    sum_by-cons (λ x. cond {A = ℕ} (is_man (man_of side k) x) 1 0) (man_of side other) (map (man_of side) kinds)
+    ∙ add_same (ap (λ b. cond {A = ℕ} b 1 0) (same_side side k other)) (own side k kinds)
+    ∙ sym (sum_by-cons (λ x. cond {A = ℕ} (is_kind k x) 1 0) other kinds)
+  where
+    add_same : {a b x y : ℕ} → a ≡ b → x ≡ y → a + x ≡ b + y
+    add_same e f = omega arith
+
+others : (side other : Side) (k : Kind) (kinds : List Kind) → (side_number side ≡ side_number other → ⊥) → tally (man_of side k) (map (man_of other) kinds) ≡ 0
+others side other k [] differ = refl
+others side other k (l ∷ kinds) differ =
+    let is = sum_by-cons (λ x. cond {A = ℕ} (is_man (man_of side k) x) 1 0) (man_of other l) (map (man_of other) kinds) in
+    let none = ap (λ b. cond {A = ℕ} b 1 0) (apart_of side other k l differ) in
+    let rest = others side other k kinds differ in omega arith
+
+pub tallied : (m : Material) (side : Side) (k : Kind) → tally (man_of side k) (men_in_order m) ≡ count_by (is_kind k) (kinds_of m side)
+tallied m side k = of_side side
+  where
+    split : (side : Side) → tally (man_of side k) (men_in_order m)
+        ≡ cond {A = ℕ} (is_man (man_of side k) (man_of White K)) 1 0 + (cond {A = ℕ} (is_man (man_of side k) (man_of Black K)) 1 0 + (tally (man_of side k) (map (man_of White) m.strong) + tally (man_of side k) (map (man_of Black) m.weak)))
+    split side =
+        let f : Man → ℕ = λ x. cond {A = ℕ} (is_man (man_of side k) x) 1 0 in
+        let rest = map (man_of White) m.strong ++ map (man_of Black) m.weak in
+        let first = sum_by-cons f (man_of White K) (man_of Black K ∷ rest) in
+        let second = sum_by-cons f (man_of Black K) rest in
+        let both = sum_by-append f (map (man_of White) m.strong) (map (man_of Black) m.weak) in omega arith
+
+    of_side : (side : Side) → tally (man_of side k) (men_in_order m) ≡ count_by (is_kind k) (kinds_of m side)
+    of_side White =
+        let all = split White in
+        let king = ap (λ b. cond {A = ℕ} b 1 0) (same_side White k K) in
+        let other = ap (λ b. cond {A = ℕ} b 1 0) (apart_of White Black k K (λ e. omega arith)) in
+        let mine = own White k m.strong in
+        let theirs = others White Black k m.weak (λ e. omega arith) in
+        let sum = sum_by-cons (λ x. cond {A = ℕ} (is_kind k x) 1 0) K m.strong in omega arith
+    of_side Black =
+        let all = split Black in
+        let king = ap (λ b. cond {A = ℕ} b 1 0) (same_side Black k K) in
+        let other = ap (λ b. cond {A = ℕ} b 1 0) (apart_of Black White k K (λ e. omega arith)) in
+        let mine = own Black k m.weak in
+        let theirs = others Black White k m.strong (λ e. omega arith) in
+        let sum = sum_by-cons (λ x. cond {A = ℕ} (is_kind k x) 1 0) K m.weak in omega arith
+
+-- so they are in the class
+pub in_class : (c : ℕ) (man : Man) → tally man (men_in_order (material_of c)) ≡ men_in c man.side man.kind
+unfolding men_in
+in_class c man = tallied (material_of c) man.side man.kind

@@ -1,0 +1,8 @@
+use Rattle.std.proofs.Common.{ap, ◌∙◌}
+use Rattle.egt_class.specs.Material.{material_of}
+use Rattle.egt_index.specs.Size.{has_target}
+use Rattle.egt_index.proofs.MenTable.{targets_are}
+use Rattle.egt_index.proofs.men.has_target.Goals as goal
+
+pub returns : goal.returns
+returns c = targets_are c.number.result c.number.ensures.below ∙ ap (λ n. has_target (material_of n)) c.number.ensures.value

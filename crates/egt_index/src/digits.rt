@@ -1,0 +1,128 @@
+//! The digits of men on their squares.
+ghost use Rattle.std.specs.Prelude.{◌≡◌, ◌≢◌, ℕ, ◌<◌, ◌≤◌, Bool, IfSome, IfNone};
+ghost use Rattle.egt_board.specs.Attack.{king_of};
+ghost use Rattle.egt_board.specs.Pawn.{MayStand};
+ghost use Rattle.egt_board.specs.declared.man.Side.TheVariants.{White};
+ghost use Rattle.egt_index.specs.Code.{king_square, square_of};
+ghost use Rattle.egt_index.specs.Size.{king_base, base_of};
+ghost use Rattle.egt_index.specs.Triangle.{place_in_triangle};
+
+use egt_board::{Kind, Man, Square};
+
+/// The places in the triangle a1 b1 c1 d1 b2 c2 d2 c3 d3 d4, by square.
+const TRIANGLE: [Option<u8>; 64] = [
+    Some(0),
+    Some(1),
+    Some(2),
+    Some(3),
+    None,
+    None,
+    None,
+    None,
+    None,
+    Some(4),
+    Some(5),
+    Some(6),
+    None,
+    None,
+    None,
+    None,
+    None,
+    None,
+    Some(7),
+    Some(8),
+    None,
+    None,
+    None,
+    None,
+    None,
+    None,
+    None,
+    Some(9),
+    None,
+    None,
+    None,
+    None,
+    None,
+    None,
+    None,
+    None,
+    None,
+    None,
+    None,
+    None,
+    None,
+    None,
+    None,
+    None,
+    None,
+    None,
+    None,
+    None,
+    None,
+    None,
+    None,
+    None,
+    None,
+    None,
+    None,
+    None,
+    None,
+    None,
+    None,
+    None,
+    None,
+    None,
+    None,
+    None,
+];
+
+/// The square's place in the triangle, if it is there.
+fn place(square: Square) -> Option<u8>
+    ensures value { result ≡ place_in_triangle square }
+    ensures on_board { square < 64 }
+{
+    TRIANGLE[usize::from(square.number())]
+}
+
+/// The white king's digit; `None` where his square has none. In a class with pawns it is his square among those of the
+/// files a to d, else his place in the triangle.
+pub(crate) fn king_digit(pawns: bool, king: Square) -> Option<u8>
+    ensures found { IfSome result (λ digit. digit < king_base pawns) }
+    ensures is { IfSome result (λ digit. king_square pawns digit ≡ king) }
+    ensures none { IfNone result ((digit : ℕ) → digit < king_base pawns → king_square pawns digit ≢ king) }
+{
+    if !pawns {
+        place(king)
+    } else if king.file() < 4 {
+        Some(4 * king.rank() + king.file())
+    } else {
+        None
+    }
+}
+
+/// The base of the digit of a man other than the white king: how many squares it may stand on.
+pub(crate) fn base(man: Man) -> u32
+    requires { man ≢ king_of White }
+    ensures value { (pawns : Bool) → result ≡ base_of pawns man }
+    ensures few { result ≤ 64 }
+{
+    match man.kind {
+        Kind::P => 48,
+        _ => 64,
+    }
+}
+
+/// The digit of a man other than the white king.
+pub(crate) fn digit(man: Man, square: Square) -> u8
+    requires other { man ≢ king_of White }
+    requires stands { MayStand man square }
+    ensures below { (pawns : Bool) → result < base_of pawns man }
+    ensures few { result < 64 }
+    ensures is { (pawns : Bool) → square_of pawns man result ≡ square }
+{
+    match man.kind {
+        Kind::P => square.number() - 8,
+        _ => square.number(),
+    }
+}

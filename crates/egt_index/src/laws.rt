@@ -1,0 +1,43 @@
+//! What holds of codes and indexes. These functions do nothing: a caller calls one to know what it ensures.
+ghost use Rattle.std.specs.Prelude.{◌≡◌, ◌↔◌, ℕ, ◌<◌, Bool, false};
+ghost use Rattle.egt_board.specs.Setup.{Setup, IsAdmissible};
+ghost use Rattle.egt_class.specs.Membership.{IsOf};
+ghost use Rattle.egt_index.specs.Code.{Spells};
+ghost use Rattle.egt_index.specs.Index.{IsIndex, SettleAlike};
+ghost use Rattle.egt_index.specs.Size.{size_of};
+
+use crate::facts::facts;
+
+/// A code of a class spells one position.
+pub fn codes_spell_one_position()
+    ensures { (c code : ℕ) (p q : Setup) → Spells c code p → Spells c code q → p ≡ q }
+{}
+
+/// What a code of a class spells is of the class, in its colours.
+pub fn spelled_positions_are_of_the_class()
+    ensures { (c code : ℕ) (p : Setup) → Spells c code p → IsOf c false p }
+{}
+
+/// Each position of a class has one index, which is below the class's size.
+pub fn every_position_has_one_index()
+    ensures some { (p : Setup) (c : ℕ) (flipped : Bool) → c < 36 → IsAdmissible p → IsOf c flipped p → (i : ℕ) × IsIndex c p i }
+    ensures one { (p : Setup) (c i j : ℕ) → IsAdmissible p → IsIndex c p i → IsIndex c p j → i ≡ j }
+    ensures below { (p : Setup) (c i : ℕ) → IsIndex c p i → i < size_of c }
+{
+    facts();
+}
+
+/// Two positions of a class have one index exactly where they settle to images of one another.
+pub fn one_index_for_all_images()
+    ensures { (p q : Setup) (c i j : ℕ) → IsAdmissible p → IsAdmissible q → IsIndex c p i → IsIndex c q j →
+        (i ≡ j) ↔ SettleAlike p q }
+{
+    facts();
+}
+
+/// The position that an index spells has that index.
+pub fn an_index_spells_a_position_of_it()
+    ensures { (p q : Setup) (c i : ℕ) → IsAdmissible p → IsIndex c p i → Spells c i q → IsIndex c q i }
+{
+    facts();
+}

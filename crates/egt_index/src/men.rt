@@ -1,0 +1,143 @@
+//! The men of each class, in the order of its name.
+ghost use Rattle.std.specs.Prelude.{◌≡◌, ◌≢◌, ◌++◌, ◌∷◌, Option, IfSome};
+ghost use Rattle.std.specs.Option.{option_to_list};
+ghost use Rattle.egt_board.specs.Attack.{king_of};
+ghost use Rattle.egt_board.specs.declared.man.Side.TheVariants.{White, Black};
+ghost use Rattle.egt_class.specs.Material.{material_of};
+ghost use Rattle.egt_index.specs.Size.{men_beside, has_pawns, has_target};
+
+use arrayvec::ArrayVec;
+use egt_board::{Kind, Man, Side};
+use egt_class::Class;
+
+const WHITE_QUEEN: Man = Man {
+    side: Side::White,
+    kind: Kind::Q,
+};
+
+const WHITE_ROOK: Man = Man {
+    side: Side::White,
+    kind: Kind::R,
+};
+
+const WHITE_BISHOP: Man = Man {
+    side: Side::White,
+    kind: Kind::B,
+};
+
+const WHITE_KNIGHT: Man = Man {
+    side: Side::White,
+    kind: Kind::N,
+};
+
+const WHITE_PAWN: Man = Man {
+    side: Side::White,
+    kind: Kind::P,
+};
+
+const BLACK_QUEEN: Man = Man {
+    side: Side::Black,
+    kind: Kind::Q,
+};
+
+const BLACK_ROOK: Man = Man {
+    side: Side::Black,
+    kind: Kind::R,
+};
+
+const BLACK_BISHOP: Man = Man {
+    side: Side::Black,
+    kind: Kind::B,
+};
+
+const BLACK_KNIGHT: Man = Man {
+    side: Side::Black,
+    kind: Kind::N,
+};
+
+const BLACK_PAWN: Man = Man {
+    side: Side::Black,
+    kind: Kind::P,
+};
+
+/// The men beside the kings, in order of the classes' numbers.
+static BESIDE: [(Option<Man>, Option<Man>); 36] = [
+    (None, None),
+    (Some(WHITE_QUEEN), None),
+    (Some(WHITE_ROOK), None),
+    (Some(WHITE_BISHOP), None),
+    (Some(WHITE_KNIGHT), None),
+    (Some(WHITE_PAWN), None),
+    (Some(WHITE_QUEEN), Some(WHITE_QUEEN)),
+    (Some(WHITE_QUEEN), Some(WHITE_ROOK)),
+    (Some(WHITE_QUEEN), Some(WHITE_BISHOP)),
+    (Some(WHITE_QUEEN), Some(WHITE_KNIGHT)),
+    (Some(WHITE_ROOK), Some(WHITE_ROOK)),
+    (Some(WHITE_ROOK), Some(WHITE_BISHOP)),
+    (Some(WHITE_ROOK), Some(WHITE_KNIGHT)),
+    (Some(WHITE_BISHOP), Some(WHITE_BISHOP)),
+    (Some(WHITE_BISHOP), Some(WHITE_KNIGHT)),
+    (Some(WHITE_KNIGHT), Some(WHITE_KNIGHT)),
+    (Some(WHITE_QUEEN), Some(BLACK_QUEEN)),
+    (Some(WHITE_QUEEN), Some(BLACK_ROOK)),
+    (Some(WHITE_QUEEN), Some(BLACK_BISHOP)),
+    (Some(WHITE_QUEEN), Some(BLACK_KNIGHT)),
+    (Some(WHITE_ROOK), Some(BLACK_ROOK)),
+    (Some(WHITE_ROOK), Some(BLACK_BISHOP)),
+    (Some(WHITE_ROOK), Some(BLACK_KNIGHT)),
+    (Some(WHITE_BISHOP), Some(BLACK_BISHOP)),
+    (Some(WHITE_BISHOP), Some(BLACK_KNIGHT)),
+    (Some(WHITE_KNIGHT), Some(BLACK_KNIGHT)),
+    (Some(WHITE_QUEEN), Some(WHITE_PAWN)),
+    (Some(WHITE_ROOK), Some(WHITE_PAWN)),
+    (Some(WHITE_BISHOP), Some(WHITE_PAWN)),
+    (Some(WHITE_KNIGHT), Some(WHITE_PAWN)),
+    (Some(WHITE_QUEEN), Some(BLACK_PAWN)),
+    (Some(WHITE_ROOK), Some(BLACK_PAWN)),
+    (Some(WHITE_BISHOP), Some(BLACK_PAWN)),
+    (Some(WHITE_KNIGHT), Some(BLACK_PAWN)),
+    (Some(WHITE_PAWN), Some(WHITE_PAWN)),
+    (Some(WHITE_PAWN), Some(BLACK_PAWN)),
+];
+
+/// The men of the class beside the kings, in the order of its name.
+pub(crate) fn beside(class: Class) -> (Option<Man>, Option<Man>)
+    ensures men { option_to_list result.0 ++ option_to_list result.1 ≡ men_beside (material_of class) }
+    ensures first { IfSome result.0 (λ man. man ≢ king_of White) }
+    ensures second { IfSome result.1 (λ man. man ≢ king_of White) }
+{
+    BESIDE[usize::from(class.number())]
+}
+
+/// The men of the class in the order of its name, without the white king.
+pub(crate) fn men_behind(class: Class) -> ArrayVec<Man, 3>
+    ensures { result.items ≡ king_of Black ∷ men_beside (material_of class) }
+{
+    let (first, second) = beside(class);
+    let mut men = ArrayVec::new();
+    men.push(Man {
+        side: Side::Black,
+        kind: Kind::K,
+    });
+    if let Some(man) = first {
+        men.push(man);
+    }
+    if let Some(man) = second {
+        men.push(man);
+    }
+    men
+}
+
+/// Whether the class has pawns.
+pub(crate) fn has_pawns(class: Class) -> bool
+    ensures { result ≡ has_pawns (material_of class) }
+{
+    class.number() == 5 || class.number() >= 26
+}
+
+/// Whether positions of the class may have a target: only where both sides have a pawn.
+pub(crate) fn has_target(class: Class) -> bool
+    ensures { result ≡ has_target (material_of class) }
+{
+    class.number() == 35
+}
