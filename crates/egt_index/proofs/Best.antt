@@ -7,7 +7,7 @@ use Rattle.std.proofs.lemmas.Bool.Decides.{eqb_tells}
 use Rattle.egt_board.specs.declared.man.Side.TheVariants.{White, Black}
 use Rattle.egt_board.specs.declared.man.Man.{Man}
 use Rattle.egt_board.specs.Attack.{king_of}
-use Rattle.egt_board.specs.Placement.{Stands, get-remove_same}
+use Rattle.egt_board.specs.Placement.{Placement, Stands, get-remove_same}
 use Rattle.egt_board.specs.Listed.{men_of}
 use Rattle.egt_board.specs.Setup.{Setup, IsAdmissible, IsKingOn}
 use Rattle.egt_board.specs.Settled.{IsSettled, SettlesTo}
@@ -222,3 +222,36 @@ best_after facts c p k (Some least) (Some code) best after = best_more facts c p
 pub best_at_last : Facts → (c : ℕ) (flipped : Bool) (s : Setup) (o : Option ℕ) → IsAdmissible s → IsSettled s → IsOf c flipped s → Best c s 16 o → IsSome o
 best_at_last facts c flipped s None ok settled is_of best = absurd (index_there facts c flipped s ok settled is_of best)
 best_at_last facts c flipped s (Some code) ok settled is_of best = refl
+
+-- the king that a turn makes white
+pub king_after : Facts → (p q : Setup) (t k s : ℕ) → IsAdmissible p → IsTurn t p q → Stands p.men k (king_of (cond (eqb (t / 8) 1) Black White)) → s ≡ turned_square (t % 8) (eqb (t / 8) 1) k → IsKingOn q.men White s
+king_after facts p q t k s ok turn king is = subst (IsKingOn q.men White) (sym (is ∙ there.only _ stands)) there
+  where
+    becomes : (flipped : Bool) → turned_man flipped (king_of (cond flipped Black White)) ≡ king_of White
+    becomes true = refl
+    becomes false = refl
+
+    admissible : IsAdmissible q
+    admissible = facts.admissible p q ok (facts.images p q (t % 8) (eqb (t / 8) 1) ok (omega arith) turn.0 turn.1)
+
+    there : IsKingOn q.men White admissible.kings.white
+    there = admissible.kings.white_there
+
+    stands : Stands q.men (turned_square (t % 8) (eqb (t / 8) 1) k) (king_of White)
+    stands =
+        (facts.set (t % 8) (eqb (t / 8) 1) p q ok turn.1).men k (ok.on_board k (king_of (cond (eqb (t / 8) 1) Black White)) king)
+        ∙ ap (option_map (turned_man (eqb (t / 8) 1))) king ∙ ap Some (becomes (eqb (t / 8) 1))
+
+-- a turn after which the white king has no digit makes nothing that has a code
+pub none_after : (c : ℕ) (p : Setup) (t s : ℕ) → ((q : Setup) → IsTurn t p q → IsKingOn q.men White s)
+    → ((d : ℕ) → d < base_of (has_pawns (material_of c)) (king_of White) → square_of (has_pawns (material_of c)) (king_of White) d ≡ s → ⊥) → CodeAfter c p t None
+none_after c p t s king none = λ q code turn spells. code_missing c q s (king q turn) none code spells
+
+pub black_king : (t k : ℕ) (men : Placement) → t / 8 ≡ 1 → Stands men k (king_of Black) → Stands men k (king_of (cond (eqb (t / 8) 1) Black White))
+black_king t k men is stands = subst (λ b. Stands men k (king_of (cond b Black White))) (sym (eq-eqb (t / 8) 1 is)) stands
+
+pub white_king : (t k : ℕ) (men : Placement) → (t / 8 ≡ 1 → ⊥) → Stands men k (king_of White) → Stands men k (king_of (cond (eqb (t / 8) 1) Black White))
+white_king t k men not stands = elim (eqb_tells (t / 8) 1) [
+  | inl h ↦ absurd (not h.1)
+  | inr h ↦ subst (λ b. Stands men k (king_of (cond b Black White))) (sym h.0) stands
+]

@@ -1,5 +1,5 @@
 -- What a code spells is of its class, in its colours.
-use Rattle.std.proofs.Common.{◌≡◌, ℕ, ◌<◌, ◌≤◌, ◌⊎◌, ◌||◌, not, Bool, true, false, cond, ltb, Some, List, [], ◌∷◌, map, arith, refl, sym, ap, ◌∙◌, inl, inr, subst}
+use Rattle.std.proofs.Common.{eqb, ◌/◌, ◌%◌, ◌≡◌, ℕ, ◌<◌, ◌≤◌, ◌⊎◌, ◌||◌, not, Bool, true, false, cond, ltb, Some, List, [], ◌∷◌, map, arith, refl, sym, ap, ◌∙◌, inl, inr, subst}
 use Rattle.std.specs.FinMap as placement
 use Rattle.std.proofs.lemmas.Bool.{cases_eq, cases_lt, false≢true, ltb-true}
 use Rattle.std.proofs.lemmas.List.{get_or_past}
@@ -12,7 +12,7 @@ use Rattle.egt_board.specs.Listed.{men_of}
 use Rattle.egt_board.specs.Man.{other_side}
 use Rattle.egt_board.specs.Pawn.{pawn_of, HasNoPawn}
 use Rattle.egt_board.specs.Placement.{Stands}
-use Rattle.egt_board.specs.Setup.{Setup}
+use Rattle.egt_board.specs.Setup.{Setup, IsAdmissible}
 use Rattle.egt_class.specs.Below.{all_below, passes_below}
 use Rattle.egt_class.specs.Material.{Material, material_of, materials, beside, men_in}
 use Rattle.egt_class.specs.Membership.{IsOf}
@@ -22,7 +22,10 @@ use Rattle.egt_index.specs.Code.{Spells, square_of, placed, men_at}
 use Rattle.egt_index.specs.Picked.{AreCounted}
 use Rattle.egt_index.proofs.Listing.{AreApart, apart_of, get_here, get_later, get_none, remove_first}
 use Rattle.egt_index.proofs.Counted.{removed, counted_none, count_cons, least_below}
+use Rattle.egt_index.specs.Facts.{Facts}
+use Rattle.egt_index.specs.Turns.{IsTurn, IsInColours}
 use Rattle.egt_index.proofs.Tallied.{in_class}
+use Rattle.egt_index.proofs.Turned.{differ, turned_class}
 
 no_man : (man : Man) (t : ℕ) → Stands (men_of []) t man → ⊥
 no_man man t stands = let none = sym (get_none t) ∙ stands in cc
@@ -103,4 +106,33 @@ pawns_there c flipped p is_of has none =
     elim (least_below p.men man 64) [
       | inl found ↦ none found.0 man found.2.stands refl
       | inr not ↦ let zero_of = counted_none p.men man not in absurd (omega arith)
+    ]
+
+same_flip : (flipped turns : Bool) → turns ≡ flipped → differ flipped turns ≡ false
+same_flip true true e = refl
+same_flip false false e = refl
+same_flip true false e = absurd (false≢true e)
+same_flip false true e = absurd (false≢true (sym e))
+
+other_flip : (flipped turns : Bool) → (turns ≡ flipped → ⊥) → differ flipped turns ≡ true
+other_flip true true not = absurd (not refl)
+other_flip false false not = absurd (not refl)
+other_flip true false not = refl
+other_flip false true not = refl
+
+-- a turn's image is of the class in its colours exactly where the turn is in colours
+pub image_in_colours : Facts → (c : ℕ) (flipped : Bool) (p q : Setup) (t : ℕ) → c < 36 → IsAdmissible p → IsOf c flipped p → IsTurn t p q → IsInColours c flipped (eqb (t / 8) 1) → IsOf c false q
+image_in_colours facts c flipped p q t c_in ok is_of turn colours =
+    let is = turned_class facts c flipped (eqb (t / 8) 1) (t % 8) p q ok (omega arith) turn.0 turn.1 is_of in
+    elim colours [
+      | inl equal ↦ facts.both_flips q c (differ flipped (eqb (t / 8) 1)) false c_in equal is
+      | inr same ↦ subst (λ f. IsOf c f q) (same_flip flipped (eqb (t / 8) 1) same) is
+    ]
+
+pub image_in_others : Facts → (c : ℕ) (flipped : Bool) (p q : Setup) (t code : ℕ) → c < 36 → IsAdmissible p → IsOf c flipped p → IsTurn t p q → (IsInColours c flipped (eqb (t / 8) 1) → ⊥) → Spells c code q → ⊥
+image_in_others facts c flipped p q t code c_in ok is_of turn not spells =
+    let is = turned_class facts c flipped (eqb (t / 8) 1) (t % 8) p q ok (omega arith) turn.0 turn.1 is_of in
+    elim (facts.one_flip q c true false c_in (subst (λ f. IsOf c f q) (other_flip flipped (eqb (t / 8) 1) (λ same. not (inr same))) is) (spells_class c code q spells)) [
+      | inl e ↦ false≢true (sym e)
+      | inr equal ↦ not (inl equal)
     ]

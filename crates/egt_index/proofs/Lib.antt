@@ -18,3 +18,4 @@ pub mod Classes
 pub mod Exists
 pub mod Splitting
 pub mod Decoded
+pub mod TurnTable

@@ -13,9 +13,9 @@ use Rattle.egt_board.specs.Images.{man_number}
 use Rattle.egt_board.specs.Attack.{king_of}
 use Rattle.egt_board.specs.declared.man.Side.TheVariants.{White}
 use Rattle.egt_class.specs.Below.{all_below, passes_below}
-use Rattle.egt_class.specs.Material.{material_of, materials}
+use Rattle.egt_class.specs.Material.{material_of, materials, has_equal_sides}
 use Rattle.egt_index.specs.Size.{men_beside, has_pawns, has_target}
-use Rattle.egt_index.specs.declared.men.TheConstants.{BESIDE}
+use Rattle.egt_index.specs.declared.men.TheConstants.{BESIDE, EQUAL_SIDES}
 
 men_of_row : Option Man × Option Man → List Man
 men_of_row row = option_to_list row.0 ++ option_to_list row.1
@@ -91,3 +91,10 @@ no_king c d c_in =
     let both = and_parts _ _ (passes_below (λ k. is_no_king (slice_index_or BESIDE k (None, None)).0 && is_no_king (slice_index_or BESIDE k (None, None)).1) 36 c are_no_kings c_in) in
     let same : slice_index_or BESIDE c (None, None) ≡ slice_index_or BESIDE c d = get_or_default BESIDE c (None, None) d c_in in
     subst (λ row. IfSome row.0 (λ man. man ≢ king_of White) × IfSome row.1 (λ man. man ≢ king_of White)) same (no_king_told _ both.0, no_king_told _ both.1)
+
+sides_agree : all_below (λ c. agree (slice_index_or EQUAL_SIDES c false) (has_equal_sides c)) 36 ≡ true
+unfolding all_below agree has_equal_sides material_of materials
+sides_agree = refl
+
+pub sides_are : (c : ℕ) (d : Bool) → c < 36 → slice_index_or EQUAL_SIDES c d ≡ has_equal_sides c
+sides_are c d c_in = get_or_default EQUAL_SIDES c d false c_in ∙ agreed _ _ (passes_below (λ c. agree (slice_index_or EQUAL_SIDES c false) (has_equal_sides c)) 36 c sides_agree c_in)

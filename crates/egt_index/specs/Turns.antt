@@ -1,8 +1,9 @@
 -- The turns of a position by number, and the least code of what they make of it.
-use Rattle.std.specs.Prelude.{ℕ, ◌/◌, ◌%◌, ◌<◌, ◌≤◌, ◌==◌, min, Option, Some, None}
+use Rattle.std.specs.Prelude.{◌≡◌, ℕ, ◌/◌, ◌%◌, ◌<◌, ◌≤◌, ◌==◌, ◌⊎◌, Bool, IsTrue, min, Option, Some, None}
 use Rattle.egt_board.specs.Setup.{Setup}
 use Rattle.egt_board.specs.Symmetry.{KeepsPlay}
 use Rattle.egt_board.specs.Turned.{IsTurnedBy}
+use Rattle.egt_class.specs.Material.{has_equal_sides}
 use Rattle.egt_index.specs.Code.{Spells}
 use Rattle.egt_index.specs.Picked.{IsLeastCode}
 
@@ -38,3 +39,8 @@ abbrev pub lesser : Option ℕ → Option ℕ → Option ℕ
 lesser least None = least
 lesser None (Some code) = Some code
 lesser (Some least) (Some code) = Some (min least code)
+
+-- what a turn makes of a position in these colours is in the class's: it exchanges them where they are flipped, or both sides have
+-- the same men
+abbrev pub IsInColours : ℕ → Bool → Bool → Type 0
+IsInColours c flipped turns = IsTrue (has_equal_sides c) ⊎ (turns ≡ flipped)

@@ -1,27 +1,27 @@
 //! The index of a position.
-ghost use Rattle.std.specs.Prelude.{◌≡◌, ◌↔◌, ℕ, ◌<◌, ◌%◌, Bool, false, IsTrue, IfSome, IfNone};
+ghost use Rattle.std.specs.Prelude.{◌≡◌, ◌↔◌, ℕ, ◌<◌, ◌%◌, ◌/◌, ◌==◌, Bool, false, IsTrue, IfSome, IfNone};
 ghost use Rattle.egt_board.specs.Settled.{IsSettled};
 ghost use Rattle.egt_board.specs.Setup.{Setup};
 ghost use Rattle.egt_board.specs.Symmetry.{KeepsPlay};
 ghost use Rattle.egt_board.specs.Turned.{IsTurnedBy};
 ghost use Rattle.egt_class.specs.Membership.{IsOf};
 ghost use Rattle.egt_index.specs.Index.{IsIndex};
-ghost use Rattle.egt_index.specs.Turns.{IsTurn, CodeAfter, lesser};
+ghost use Rattle.egt_index.specs.Turns.{IsTurn, IsInColours, CodeAfter, lesser};
 
 use crate::codes::code_of;
+use crate::digits::king_digit;
 use crate::facts::facts;
-use crate::men::has_pawns;
+use crate::men::{has_equal_sides, has_pawns};
+use crate::turning::white_king_after;
 use egt_board::{Position, Symmetry};
-use egt_class::laws::a_position_has_one_class;
 use egt_class::{Class, of};
 
-/// Whether the position is of the class in the class's colours.
-fn is_in_colours(class: Class, position: &Position) -> bool
-    ensures { IsTrue result ↔ IsOf class false position.now }
+/// Whether what the turn makes of a position of the class, in colours flipped or not, is in the class's colours.
+fn is_in_colours(class: Class, flipped: bool, turn: u8) -> bool
+    ensures { IsTrue result ↔ IsInColours class flipped (turn / 8 == 1) }
 {
-    a_position_has_one_class();
-    let (own, flipped) = of(position);
-    own.number() == class.number() && !flipped
+    let flips = turn / 8 == 1;
+    has_equal_sides(class) || flips == flipped
 }
 
 /// The position under a symmetry, with colours exchanged or not.
@@ -63,21 +63,23 @@ fn image_after(class: Class, position: &Position, turn: u8) -> Option<Position>
     }
 }
 
-/// The least code of what a turn makes of a settled position, if it has one.
-fn code_after(class: Class, settled: &Position, turn: u8) -> Option<u32>
+/// The least code of what a turn makes of a settled position of the class, in colours flipped or not, if it has one. The
+/// colours and the white king's square tell most of those that have none.
+fn code_after(class: Class, flipped: bool, settled: &Position, turn: u8) -> Option<u32>
     requires turn { turn < 16 }
     requires settled { IsSettled settled.now }
-    requires of { (flipped : Bool) × IsOf class flipped settled.now }
+    requires of { IsOf class flipped settled.now }
     ensures { CodeAfter class settled.now turn result }
 {
     facts();
     let _side = settled.side();
-    let image = image_after(class, settled, turn)?;
-    if is_in_colours(class, &image) {
-        code_of(class, &image)
-    } else {
-        None
+    let _number = class.number();
+    if !is_in_colours(class, flipped, turn) {
+        return None;
     }
+    let _digit = king_digit(has_pawns(class), white_king_after(settled, turn))?;
+    let image = image_after(class, settled, turn)?;
+    code_of(class, &image)
 }
 
 /// The lesser of two codes, if there are any.
@@ -101,9 +103,11 @@ pub fn index(class: Class, position: &Position) -> u32
     facts();
     let settled = position.settle();
     let _side = settled.side();
+    let (own, flipped) = of(&settled);
+    let _numbers = (own.number(), class.number());
     let mut least = None;
     for turn in 0..16 {
-        least = lesser(least, code_after(class, &settled, turn));
+        least = lesser(least, code_after(class, flipped, &settled, turn));
     }
     least.unwrap()
 }

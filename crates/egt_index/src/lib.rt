@@ -9,6 +9,7 @@ pub mod laws;
 pub mod men;
 pub mod sizes;
 pub mod spelling;
+pub mod turning;
 
 pub use indexing::index;
 pub use sizes::size;

@@ -3,7 +3,7 @@ ghost use Rattle.std.specs.Prelude.{◌≡◌, ◌≢◌, ◌++◌, ◌∷◌, O
 ghost use Rattle.std.specs.Option.{option_to_list};
 ghost use Rattle.egt_board.specs.Attack.{king_of};
 ghost use Rattle.egt_board.specs.declared.man.Side.TheVariants.{White, Black};
-ghost use Rattle.egt_class.specs.Material.{material_of};
+ghost use Rattle.egt_class.specs.Material.{material_of, has_equal_sides};
 ghost use Rattle.egt_index.specs.Size.{men_beside, has_pawns, has_target};
 
 use arrayvec::ArrayVec;
@@ -100,6 +100,13 @@ static BESIDE: [(Option<Man>, Option<Man>); 36] = [
     (Some(WHITE_PAWN), Some(BLACK_PAWN)),
 ];
 
+/// Whether both sides have the same men, in order of the classes' numbers.
+static EQUAL_SIDES: [bool; 36] = [
+    true, false, false, false, false, false, false, false, false, false, false, false, false,
+    false, false, false, true, false, false, false, true, false, false, true, false, true, false,
+    false, false, false, false, false, false, false, false, true,
+];
+
 /// The men of the class beside the kings, in the order of its name.
 pub(crate) fn beside(class: Class) -> (Option<Man>, Option<Man>)
     ensures men { option_to_list result.0 ++ option_to_list result.1 ≡ men_beside (material_of class) }
@@ -140,4 +147,11 @@ pub(crate) fn has_target(class: Class) -> bool
     ensures { result ≡ has_target (material_of class) }
 {
     class.number() == 35
+}
+
+/// Whether both sides of the class have the same men.
+pub(crate) fn has_equal_sides(class: Class) -> bool
+    ensures { result ≡ has_equal_sides class }
+{
+    EQUAL_SIDES[usize::from(class.number())]
 }

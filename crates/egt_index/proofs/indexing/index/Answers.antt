@@ -1,3 +1,4 @@
+use Rattle.egt_class.specs.Membership.{IsOf}
 use Rattle.std.proofs.Common.{◌≡◌, ◌+◌, sym, subst, arith}
 use Rattle.egt_index.specs.Turns.{Best}
 use Rattle.egt_index.proofs.Best.{best_after, best_at_last, index_found}
@@ -22,3 +23,10 @@ returns c =
     let ended : c.loop-turn.turn ≡ 16 = (let past = c.loop-turn-test.false in let within = c.loop-turn.auto.turn-end in omega arith) in
     index_found c.facts.ensures c.args.class c.args.position.now c.settle-settled.result c.unwrap.result c.side-side.ensures.admissible c.settle-settled.ensures
     (subst (Best c.args.class c.settle-settled.result 16) c.unwrap.ensures (subst (λ k. Best c.args.class c.settle-settled.result k c.loop-turn.least) ended c.loop-turn.invariant))
+
+pub code_after-requires-clause-of : goal.code_after-requires-clause-of
+code_after-requires-clause-of c =
+    subst (λ k. IsOf k c.of-own.result.1 c.settle-settled.result)
+    (c.facts.ensures.one_class c.settle-settled.result c.of-own.result.0 c.args.class c.of-own.result.1 c.requires.0 (omega (arith, c.number.ensures.below, c.number.ensures.value)) (omega (arith, c.number-2.ensures.below, c.number-2.ensures.value)) c.of-own.ensures.class
+    (settled_class c.facts.ensures c.args.class c.requires.0 c.args.position.now c.settle-settled.result c.settle-settled.ensures c.requires.1))
+    c.of-own.ensures.class
