@@ -3,6 +3,7 @@ pub mod Geometry
 pub mod Rides
 pub mod Steps
 pub mod Placed
+pub mod Slots
 pub mod Held
 pub mod Attacks
 pub mod Kings

@@ -5,6 +5,7 @@ pub mod Step
 pub mod SquareSet
 pub mod Placement
 pub mod Board
+pub mod Slots
 pub mod Line
 pub mod Gait
 pub mod Attack

@@ -15,7 +15,7 @@ use std::marker::Model;
 ///
 /// Every `Position` is admissible: it has at most four men, one king a side, a target only where the last
 /// move may have set it, and the king of the side that waits is not attacked.
-#[derive(Drop)]
+#[derive(Clone, Copy)]
 pub struct Position {
     board: Board,
     side: Side,
@@ -31,11 +31,15 @@ impl Model for Position {
 
     ghost coded = { setup_code };
 
-    ghost use Rattle.egt_board.specs.Position.{shown, IsWhole};
+    ghost use Rattle.egt_board.specs.Position.{shown, IsWhole, fields_of, fields_of-shown};
 
     ghost view = { shown };
 
     ghost invariant = { IsWhole };
+
+    ghost inverse = { fields_of };
+
+    ghost inverse_ok = { fields_of-shown };
 }
 
 impl Position {

@@ -1,19 +1,16 @@
-use Rattle.std.proofs.Common.{ap, sym, ◌∙◌, arith, refl}
-use Rattle.std.specs.FinMap as map
-use Rattle.egt_board.proofs.Placed.{get-placed}
+use Rattle.std.proofs.Common.{arith}
+use Rattle.std.proofs.lemmas.Nat.Bits.{bit_at-lt}
 use Rattle.egt_board.proofs.Counts.{occupied_few}
-use Rattle.egt_board.proofs.Held.{bit_of-free, placed-within}
+use Rattle.egt_board.proofs.Held.{free_of_both, stands-within}
 use Rattle.egt_board.proofs.board.Board.occupied.Goals as goal
 
 pub returns-clause-free : goal.returns-clause-free
 returns-clause-free c = λ t.
-    bit_of-free c.args.self.now t _ _ (ap (λ m. map.get m t) (sym c.self.view_is) ∙ get-placed _ t)
-    (c.union.ensures.squares t ∙ rw (c.self.invariant.1 t, c.self.invariant.2 t) refl)
+    free_of_both c.args.self.now t _ _ _ (bit_at-lt c.of.result.bits t) (bit_at-lt c.of-2.result.bits t) (c.union.ensures.squares t) (c.of.ensures t) (c.of-2.ensures t)
 
 pub returns-clause-on_board : goal.returns-clause-on_board
 returns-clause-on_board c = λ s man stands.
-    let within = placed-within c.self.inside.squares s man (ap (λ m. map.get m s) c.self.view_is ∙ stands) in
-    omega (arith, c.self.invariant.0)
+    stands-within c.args.self.now c.of.result.bits c.of-2.result.bits s man (omega arith) (omega arith) (c.of.ensures s) (c.of-2.ensures s) stands
 
 pub returns-clause-few : goal.returns-clause-few
 returns-clause-few c = occupied_few c.args.self.now c.union.result (returns-clause-free c)
