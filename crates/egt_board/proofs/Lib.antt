@@ -2,6 +2,10 @@ pub mod Bits
 pub mod Geometry
 pub mod Rides
 pub mod Steps
+pub mod Towards
+pub mod Beams
+pub mod Computed
+pub mod Hiding
 pub mod Placed
 pub mod Slots
 pub mod Held

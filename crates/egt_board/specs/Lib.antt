@@ -6,8 +6,8 @@ pub mod SquareSet
 pub mod Placement
 pub mod Board
 pub mod Slots
-pub mod Line
 pub mod Gait
+pub mod Between
 pub mod Attack
 pub mod Pawn
 pub mod Target

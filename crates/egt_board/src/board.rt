@@ -10,7 +10,7 @@ use crate::square_set::SquareSet;
 use std::marker::Model;
 
 /// A man and its square, or nothing.
-type Slot = Option<(Square, Man)>;
+pub(crate) type Slot = Option<(Square, Man)>;
 
 /// At most four men and their squares, seen as the map from squares to men.
 ///
@@ -18,10 +18,10 @@ type Slot = Option<(Square, Man)>;
 /// order of square, so that a map has one form.
 #[derive(Clone, Copy)]
 pub struct Board {
-    first: Slot,
-    second: Slot,
-    third: Slot,
-    fourth: Slot,
+    pub(crate) first: Slot,
+    pub(crate) second: Slot,
+    pub(crate) third: Slot,
+    pub(crate) fourth: Slot,
 }
 
 impl Model for Board {

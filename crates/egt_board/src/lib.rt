@@ -9,8 +9,8 @@ pub mod fault;
 pub mod gait;
 pub mod king;
 pub mod laws;
-pub mod line;
 pub mod listed;
+mod lookup;
 pub mod man;
 pub mod mirror;
 pub mod mirrored;
@@ -21,6 +21,7 @@ pub mod square;
 pub mod square_set;
 pub mod step;
 pub mod symmetry;
+mod tables;
 pub mod target;
 
 pub use board::Board;

@@ -1,13 +1,15 @@
+use Rattle.std.proofs.Common.{sym, ◌∙◌}
+use Rattle.egt_board.proofs.Hiding.{Open, slider_sees, leaper_attacks}
 use Rattle.egt_board.proofs.gait.reach.Goals as goal
 
-pub returns-in-Q : goal.returns-in-Q
-returns-in-Q c = rw c.in-Q.is c.ride_all.ensures
+pub returns-then-is_slider : goal.returns-then-is_slider
+returns-then-is_slider c = λ t t_in.
+    slider_sees c.args.man c.args.from c.args.occupied.bits c.lone_reach-lone.result.bits (sym c.is_slider.ensures ∙ c.if-is_slider.true) c.lone_reach-lone.ensures t _ t_in (c.seen.ensures t)
 
-pub returns-in-N : goal.returns-in-N
-returns-in-N c = rw c.in-N.is c.ride_all-in-N.ensures
-
-pub returns-in-K : goal.returns-in-K
-returns-in-K c = rw c.in-K.is c.ride_all-in-K.ensures
-
-pub returns-in-P : goal.returns-in-P
-returns-in-P c = rw c.in-P.is c.pawn_reach.ensures
+pub returns-else-is_slider : goal.returns-else-is_slider
+returns-else-is_slider c = λ t t_in.
+    let leaps = sym c.is_slider.ensures ∙ c.if-is_slider.false in
+    let is = c.lone_reach-lone.ensures t t_in in (
+      λ one. leaper_attacks (Open 0) (Open c.args.occupied.bits) c.args.man c.args.from t leaps (is.0 one),
+      λ r. is.1 (leaper_attacks (Open c.args.occupied.bits) (Open 0) c.args.man c.args.from t leaps r),
+    )

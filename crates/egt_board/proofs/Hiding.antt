@@ -1,0 +1,282 @@
+-- What a man on a line hides: a square is attacked along it exactly where no square between is taken.
+use Rattle.std.proofs.Common.{◌≡◌, ◌≢◌, ◌↔◌, ℕ, ◌-◌, ◌<◌, Bool, true, false, List, [], ◌∷◌, ◌++◌, min, arith, refl, sym, ap, ◌∙◌, subst, inl, inr}
+use Rattle.std.specs.Int.{bit_at}
+use Rattle.std.proofs.lemmas.Bool.{cases_eq, false≢true}
+use Rattle.std.proofs.lemmas.Nat.Bits.{bit_at-lt, bit_at-zero}
+use Rattle.egt_board.specs.declared.man.Kind.{Kind}
+use Rattle.egt_board.specs.declared.man.Kind.TheVariants.{Q, R, B, N, P, K}
+use Rattle.egt_board.specs.declared.man.Man.{Man}
+use Rattle.egt_board.specs.declared.step.Way.TheVariants.{Up, Down, Still}
+use Rattle.egt_board.specs.declared.step.Step.{Step}
+use Rattle.egt_board.specs.Step.{Away}
+use Rattle.egt_board.specs.Gait.{Rides, OneOf, Reaches, Rides-free, steps_of, farthest, is_slider, straight_steps, diagonal_steps}
+use Rattle.egt_board.specs.Between.{IsRoyal, IsBetween}
+use Rattle.egt_board.proofs.Bits.{not_both}
+use Rattle.egt_board.proofs.Towards.{joined}
+
+AllRoyal : List Step → Type 0
+AllRoyal [] = Unit {0}
+AllRoyal (d ∷ ds) = IsRoyal d × AllRoyal ds
+
+straight_royal : AllRoyal straight_steps
+unfolding AllRoyal
+straight_royal = (
+  record { files = Up; ranks = Still; is = refl; moves = omega arith },
+  (
+    record { files = Down; ranks = Still; is = refl; moves = omega arith },
+    (
+      record { files = Still; ranks = Up; is = refl; moves = omega arith },
+      (
+        record { files = Still; ranks = Down; is = refl; moves = omega arith },
+        tt,
+      ),
+    ),
+  ),
+)
+
+diagonal_royal : AllRoyal diagonal_steps
+unfolding AllRoyal
+diagonal_royal = (
+  record { files = Up; ranks = Up; is = refl; moves = omega arith },
+  (
+    record { files = Up; ranks = Down; is = refl; moves = omega arith },
+    (
+      record { files = Down; ranks = Up; is = refl; moves = omega arith },
+      (
+        record { files = Down; ranks = Down; is = refl; moves = omega arith },
+        tt,
+      ),
+    ),
+  ),
+)
+
+queen_royal : AllRoyal (straight_steps ++ diagonal_steps)
+unfolding AllRoyal straight_royal diagonal_royal
+queen_royal = (straight_royal.0, (straight_royal.1.0, (straight_royal.1.1.0, (straight_royal.1.1.1.0, diagonal_royal))))
+
+sliders_royal : (man : Man) → is_slider man.kind ≡ true → AllRoyal (steps_of man.side man.kind)
+sliders_royal man h = go man.kind h
+  where
+    go : (k : Kind) → is_slider k ≡ true → AllRoyal (steps_of man.side k)
+    go Q h = queen_royal
+    go R h = straight_royal
+    go B h = diagonal_royal
+    go N h = absurd (false≢true h)
+    go P h = absurd (false≢true h)
+    go K h = absurd (false≢true h)
+
+-- between what is reached and the man every square is free
+ride_between : (Free : ℕ → Type 0) (most s t u : ℕ) (d : Step) → IsRoyal d → Rides Free most s t d → IsBetween s t u → Free u
+ride_between Free most s t u d royal r b =
+    let some = b.some in
+    let less = b.less in
+    let here = joined d r.count s t royal r.moves r.away in
+    let there = joined b.step b.far s t b.royal (omega arith) b.there in
+    let same : b.step ≡ d = sym there.step ∙ here.step in
+    let count : r.count ≡ b.far = sym here.count ∙ there.count in
+    r.clear b.near u b.some (omega arith) (subst (λ (e : Step). Away e b.near s u) same b.here)
+
+-- and where they are free it is reached
+ride_clear : (Free Bare : ℕ → Type 0) (most s t : ℕ) (d : Step) → IsRoyal d → Rides Bare most s t d → ((u : ℕ) → IsBetween s t u → Free u) → Rides Free most s t d
+ride_clear Free Bare most s t d royal r free = record {
+  count = r.count;
+  moves = r.moves;
+  within = r.within;
+  away = r.away;
+  clear = λ k u some less away. free u (record { step = d; royal = royal; near = k; far = r.count; some = some; less = less; here = away; there = r.away });
+}
+
+-- what stands between is on the line too
+ride_nearer : (Bare : ℕ → Type 0) (most s t u : ℕ) (d : Step) → IsRoyal d → ((v : ℕ) → Bare v) → Rides Bare most s t d → IsBetween s t u → Rides Bare most s u d
+ride_nearer Bare most s t u d royal bare r b =
+    let some = b.some in
+    let less = b.less in
+    let here = joined d r.count s t royal r.moves r.away in
+    let there = joined b.step b.far s t b.royal (omega arith) b.there in
+    let same : b.step ≡ d = sym there.step ∙ here.step in
+    let count : r.count ≡ b.far = sym here.count ∙ there.count in
+    let within = r.within in
+    record {
+      count = b.near;
+      moves = b.some;
+      within = omega arith;
+      away = subst (λ (e : Step). Away e b.near s u) same b.here;
+      clear = λ k v k_some k_less away. bare v;
+    }
+
+reach_between : (Free : ℕ → Type 0) (most s t u : ℕ) (ds : List Step) → AllRoyal ds → OneOf (Rides Free most s t) ds → IsBetween s t u → Free u
+unfolding AllRoyal
+reach_between Free most s t u [] royal none b = absurd none
+reach_between Free most s t u (d ∷ ds) royal some b = elim some [
+  | inl r ↦ ride_between Free most s t u d royal.0 r b
+  | inr rest ↦ reach_between Free most s t u ds royal.1 rest b
+]
+
+reach_clear : (Free Bare : ℕ → Type 0) (most s t : ℕ) (ds : List Step) → AllRoyal ds → OneOf (Rides Bare most s t) ds → ((u : ℕ) → IsBetween s t u → Free u) → OneOf (Rides Free most s t) ds
+unfolding AllRoyal
+reach_clear Free Bare most s t [] royal none free = absurd none
+reach_clear Free Bare most s t (d ∷ ds) royal some free = elim some [
+  | inl r ↦ inl (ride_clear Free Bare most s t d royal.0 r free)
+  | inr rest ↦ inr (reach_clear Free Bare most s t ds royal.1 rest free)
+]
+
+reach_nearer : (Bare : ℕ → Type 0) (most s t u : ℕ) (ds : List Step) → AllRoyal ds → ((v : ℕ) → Bare v) → OneOf (Rides Bare most s t) ds → IsBetween s t u → OneOf (Rides Bare most s u) ds
+unfolding AllRoyal
+reach_nearer Bare most s t u [] royal bare none b = absurd none
+reach_nearer Bare most s t u (d ∷ ds) royal bare some b = elim some [
+  | inl r ↦ inl (ride_nearer Bare most s t u d royal.0 bare r b)
+  | inr rest ↦ inr (reach_nearer Bare most s t u ds royal.1 bare rest b)
+]
+
+-- a set of squares that are not taken
+abbrev pub Open : ℕ → ℕ → Type 0
+Open occupied u = bit_at occupied u ≡ 0
+
+open_or_taken : (occupied u : ℕ) → bit_at occupied u ≢ 1 → Open occupied u
+open_or_taken occupied u other = let small = bit_at-lt occupied u in omega arith
+
+bare_open : (u : ℕ) → Open 0 u
+bare_open u = bit_at-zero u
+
+Rides-bare : (Free : ℕ → Type 0) (most s t : ℕ) (ds : List Step) → OneOf (Rides Free most s t) ds → OneOf (Rides (Open 0) most s t) ds
+Rides-bare Free most s t [] none = none
+Rides-bare Free most s t (d ∷ ds) some = elim some [
+  | inl r ↦ inl (Rides-free Free (Open 0) most s t d (λ u u_in free. bare_open u) r)
+  | inr rest ↦ inr (Rides-bare Free most s t ds rest)
+]
+
+-- a slider attacks what it attacks on the bare board and nothing hides
+pub slider_attacks : (man : Man) (s t occupied : ℕ) → is_slider man.kind ≡ true
+    → (Reaches (Open 0) man s t × ((u : ℕ) → IsBetween s t u → Open occupied u)) ↔ Reaches (Open occupied) man s t
+slider_attacks man s t occupied slides =
+    let ds = steps_of man.side man.kind in
+    let most = farthest man.kind in
+    let royal = sliders_royal man slides in (
+      λ h. reach_clear (Open occupied) (Open 0) most s t ds royal h.0 h.1,
+      λ r. (Rides-bare (Open occupied) most s t ds r, λ u b. reach_between (Open occupied) most s t u ds royal r b),
+    )
+
+-- the squares of the line that are taken are all that counts
+pub slider_sees : (man : Man) (s occupied lone : ℕ) → is_slider man.kind ≡ true → ((t : ℕ) → t < 64 → (bit_at lone t ≡ 1) ↔ Reaches (Open 0) man s t) → (t n : ℕ) → t < 64
+    → (n ≡ 1) ↔ ((bit_at lone t ≡ 1) × ((u : ℕ) → bit_at lone u ≡ 1 → bit_at occupied u ≡ 1 → ¬ IsBetween s t u)) → (n ≡ 1) ↔ Reaches (Open occupied) man s t
+slider_sees man s occupied lone slides shows t n t_in is =
+    let attacks = slider_attacks man s t occupied slides in
+    let royal = sliders_royal man slides in (
+      λ one.
+          let h = is.0 one in
+          let bare = (shows t t_in).0 h.0 in
+          attacks.0 (
+            bare,
+            λ u b. elim (cases_eq (bit_at occupied u) 1) [
+              | inl taken ↦ absurd (h.1 u ((shows u b.here.on_board).1 (reach_nearer (Open 0) (farthest man.kind) s t u (steps_of man.side man.kind) royal bare_open bare b)) taken b)
+              | inr other ↦ open_or_taken occupied u other
+            ],
+          ),
+      λ r.
+          let h = attacks.1 r in
+          is.1 ((shows t t_in).1 h.0, λ u on_lone taken b. not_both (bit_at occupied u) (h.1 u b) taken),
+    )
+
+-- any other man goes one step, which nothing hides
+near : (F G : ℕ → Type 0) (s t : ℕ) (ds : List Step) → OneOf (Rides F 1 s t) ds → OneOf (Rides G 1 s t) ds
+near F G s t [] none = none
+near F G s t (d ∷ ds) some = elim some [
+  | inl r ↦
+      let within = r.within in
+      inl (record { count = r.count; moves = r.moves; within = r.within; away = r.away; clear = λ k u k_some less away. absurd (omega arith) })
+  | inr rest ↦ inr (near F G s t ds rest)
+]
+
+pub leaper_attacks : (F G : ℕ → Type 0) (man : Man) (s t : ℕ) → is_slider man.kind ≡ false → Reaches F man s t → Reaches G man s t
+leaper_attacks F G man s t leaps r = go man.kind leaps r
+  where
+    go : (k : Kind) → is_slider k ≡ false → OneOf (Rides F (farthest k) s t) (steps_of man.side k) → OneOf (Rides G (farthest k) s t) (steps_of man.side k)
+    go Q h r = absurd (false≢true (sym h))
+    go R h r = absurd (false≢true (sym h))
+    go B h r = absurd (false≢true (sym h))
+    go N h r = near F G s t (steps_of man.side N) r
+    go P h r = near F G s t (steps_of man.side P) r
+    go K h r = near F G s t (steps_of man.side K) r
+
+-- the squares of a line, less those that the men met so far hide
+pub record Sees (from squares occupied left blockers : ℕ) : Type 0 where
+  pub ahead : (u : ℕ) → bit_at blockers u ≡ 1 → (bit_at squares u ≡ 1) × (bit_at occupied u ≡ 1)
+  pub seen : (t : ℕ) → (bit_at left t ≡ 1) ↔ ((bit_at squares t ≡ 1) × ((u : ℕ) → bit_at squares u ≡ 1 → bit_at occupied u ≡ 1 → bit_at blockers u ≡ 0 → ¬ IsBetween from t u))
+
+both_of : (a b m : ℕ) → a < 2 → b < 2 → m ≡ min a b → (m ≡ 1) ↔ ((a ≡ 1) × (b ≡ 1))
+both_of a b m a_bit b_bit e = (λ one. (omega arith, omega arith), λ h. let p = h.0 in let q = h.1 in omega arith)
+
+pub Sees-none : (from squares occupied blockers : ℕ) → ((t : ℕ) → bit_at blockers t ≡ min (bit_at squares t) (bit_at occupied t)) → Sees from squares occupied squares blockers
+Sees-none from squares occupied blockers common = record {
+  ahead = λ u one. (both_of _ _ _ (bit_at-lt squares u) (bit_at-lt occupied u) (common u)).0 one;
+  seen = λ t. (
+    λ one. (one, λ u on taken gone b. not_both _ gone ((both_of _ _ _ (bit_at-lt squares u) (bit_at-lt occupied u) (common u)).1 (on, taken))),
+    λ h. h.0,
+  );
+}
+
+pub Sees-more : (from squares occupied left left' blockers blockers' hidden blocker : ℕ) → bit_at blockers blocker ≡ 1 → bit_at blockers' blocker ≡ 0
+    → ((u : ℕ) → u ≢ blocker → bit_at blockers' u ≡ bit_at blockers u) → ((t : ℕ) → (bit_at hidden t ≡ 1) ↔ IsBetween from t blocker)
+    → ((t : ℕ) → bit_at left' t ≡ min (bit_at left t) (1 - bit_at hidden t)) → Sees from squares occupied left blockers → Sees from squares occupied left' blockers'
+Sees-more from squares occupied left left' blockers blockers' hidden blocker had gone others hides less sees = record {
+  ahead = λ u one. elim (cases_eq u blocker) [
+    | inl e ↦ not_both _ gone (ap (bit_at blockers') (sym e) ∙ one)
+    | inr other ↦ sees.ahead u (sym (others u other) ∙ one)
+  ];
+  seen = λ t.
+      let is = less t in
+      let left_bit = bit_at-lt left t in
+      let hidden_bit = bit_at-lt hidden t in (
+        λ one.
+            let was : bit_at left t ≡ 1 = omega arith in
+            let plain : bit_at hidden t ≡ 0 = omega arith in
+            let h = (sees.seen t).0 was in (
+              h.0,
+              λ u on taken past b. elim (cases_eq u blocker) [
+                | inl e ↦ not_both _ plain ((hides t).1 (subst (IsBetween from t) e b))
+                | inr other ↦ h.1 u on taken (sym (others u other) ∙ past) b
+              ],
+            ),
+        λ h.
+            let own = sees.ahead blocker had in
+            let was : bit_at left t ≡ 1 = (sees.seen t).1 (
+              h.0,
+              λ u on taken past b. elim (cases_eq u blocker) [
+                | inl e ↦ not_both _ past (ap (bit_at blockers) e ∙ had)
+                | inr other ↦ h.1 u on taken (others u other ∙ past) b
+              ],
+            ) in
+            let plain : bit_at hidden t ≢ 1 = λ one. h.1 blocker own.0 own.1 gone ((hides t).0 one) in
+            omega arith,
+      );
+}
+
+pub Sees-all : (from squares occupied left blockers : ℕ) → Sees from squares occupied left blockers → ((u : ℕ) → bit_at blockers u ≡ 0)
+    → (t : ℕ) → (bit_at left t ≡ 1) ↔ ((bit_at squares t ≡ 1) × ((u : ℕ) → bit_at squares u ≡ 1 → bit_at occupied u ≡ 1 → ¬ IsBetween from t u))
+Sees-all from squares occupied left blockers sees none t = (
+  λ one. let h = (sees.seen t).0 one in (h.0, λ u on taken. h.1 u on taken (none u)),
+  λ h. (sees.seen t).1 (h.0, λ u on taken past. h.1 u on taken),
+)
+
+pub Reaches-bare : (man : Man) (s t occupied : ℕ) → Reaches (Open occupied) man s t → Reaches (Open 0) man s t
+Reaches-bare man s t occupied r = Rides-bare (Open occupied) (farthest man.kind) s t (steps_of man.side man.kind) r
+
+-- a square on a slider's line is attacked exactly where no square between is taken
+pub slider_open : (man : Man) (s t occupied between both : ℕ) → is_slider man.kind ≡ true → Reaches (Open 0) man s t → ((u : ℕ) → (bit_at between u ≡ 1) ↔ IsBetween s t u)
+    → ((u : ℕ) → bit_at both u ≡ min (bit_at between u) (bit_at occupied u)) → {b : Bool} → (b ≡ true) ↔ ((u : ℕ) → bit_at both u ≡ 0) → (b ≡ true) ↔ Reaches (Open occupied) man s t
+slider_open man s t occupied between both slides bare shows common empty =
+    let attacks = slider_attacks man s t occupied slides in (
+      λ none. attacks.0 (
+        bare,
+        λ u b. open_or_taken occupied u (λ taken.
+            not_both (bit_at both u) (empty.0 none u) ((both_of _ _ _ (bit_at-lt between u) (bit_at-lt occupied u) (common u)).1 ((shows u).1 b, taken))),
+      ),
+      λ r.
+          let h = attacks.1 r in
+          empty.1 (λ u. elim (cases_eq (bit_at both u) 1) [
+            | inl one ↦
+                let b = (both_of _ _ _ (bit_at-lt between u) (bit_at-lt occupied u) (common u)).0 one in
+                not_both (bit_at occupied u) (h.1 u ((shows u).0 b.0)) b.1
+            | inr other ↦ let small = bit_at-lt both u in omega arith
+          ]),
+    )
