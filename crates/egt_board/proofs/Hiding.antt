@@ -9,7 +9,8 @@ use Rattle.egt_board.specs.declared.man.Man.{Man}
 use Rattle.egt_board.specs.declared.step.Way.TheVariants.{Up, Down, Still}
 use Rattle.egt_board.specs.declared.step.Step.{Step}
 use Rattle.egt_board.specs.Step.{Away}
-use Rattle.egt_board.specs.Gait.{Rides, OneOf, Reaches, Rides-free, steps_of, farthest, is_slider, straight_steps, diagonal_steps}
+use Rattle.egt_board.specs.Gait.{Rides, OneOf, Reaches, Rides-free, Reaches-free, steps_of, farthest, is_slider, straight_steps, diagonal_steps}
+use Rattle.egt_board.specs.Safety.{Stops}
 use Rattle.egt_board.specs.Between.{IsRoyal, IsBetween}
 use Rattle.egt_board.proofs.Bits.{not_both}
 use Rattle.egt_board.proofs.Towards.{joined}
@@ -127,6 +128,17 @@ reach_nearer Bare most s t u (d ∷ ds) royal bare some b = elim some [
   | inl r ↦ inl (ride_nearer Bare most s t u d royal.0 bare r b)
   | inr rest ↦ inr (reach_nearer Bare most s t u ds royal.1 bare rest b)
 ]
+
+-- a square between is neither end
+between_apart : (s t u : ℕ) → IsBetween s t u → u ≢ t
+between_apart s t u b e =
+    let some = b.some in
+    let less = b.less in
+    let here = joined b.step b.near s t b.royal b.some (subst (Away b.step b.near s) e b.here) in
+    let there = joined b.step b.far s t b.royal (omega arith) b.there in
+    let near = here.count in
+    let far = there.count in
+    omega arith
 
 -- a set of squares that are not taken
 abbrev pub Open : ℕ → ℕ → Type 0
@@ -280,3 +292,56 @@ slider_open man s t occupied between both slides bare shows common empty =
             | inr other ↦ let small = bit_at-lt both u in omega arith
           ]),
     )
+
+-- what a man come to t leaves open
+abbrev OpenBut : ℕ → ℕ → ℕ → Type 0
+OpenBut occupied t u = Open occupied u × (u ≢ t)
+
+-- a man that does not attack the square is not in need of being stopped
+pub stops_none : (man : Man) (s square t occupied : ℕ) → ¬ Reaches (Open occupied) man s square → Stops occupied man s square t
+stops_none man s square t occupied none = inr (λ r. none (Reaches-free (OpenBut occupied t) (Open occupied) man s square (λ u u_in free. free.0) r))
+
+-- a slider is stopped between
+pub stops_slider : (man : Man) (s square t occupied between : ℕ) → is_slider man.kind ≡ true → Reaches (Open occupied) man s square → ((u : ℕ) → (bit_at between u ≡ 1) ↔ IsBetween s square u)
+    → (n : ℕ) → (t ≡ s → n ≡ 1) → (t ≢ s → n ≡ bit_at between t) → (n ≡ 1) ↔ Stops occupied man s square t
+stops_slider man s square t occupied between slides attacks shows n here other =
+    let ds = steps_of man.side man.kind in
+    let most = farthest man.kind in
+    let royal = sliders_royal man slides in
+    let both = (slider_attacks man s square occupied slides).1 attacks in (
+      λ one. elim (cases_eq t s) [
+        | inl e ↦ inl e
+        | inr apart ↦ inr (λ r. (reach_between (OpenBut occupied t) most s square t ds royal r ((shows t).0 (sym (other apart) ∙ one))).1 refl)
+      ],
+      λ stopped. elim (cases_eq t s) [
+        | inl e ↦ here e
+        | inr apart ↦ elim (cases_eq (bit_at between t) 1) [
+          | inl one ↦ other apart ∙ one
+          | inr not_between ↦ elim stopped [
+            | inl e ↦ absurd (apart e)
+            | inr none ↦ absurd (none (reach_clear (OpenBut occupied t) (Open 0) most s square ds royal both.0 (λ u b. (both.1 u b, λ e. not_between ((shows t).1 (subst (IsBetween s square) e b))))))
+          ]
+        ]
+      ],
+    )
+
+-- and any other man is taken
+pub stops_leaper : (man : Man) (s square t occupied : ℕ) → is_slider man.kind ≡ false → Reaches (Open occupied) man s square → (n : ℕ) → (t ≡ s → n ≡ 1) → (t ≢ s → n ≡ 0) → (n ≡ 1) ↔ Stops occupied man s square t
+stops_leaper man s square t occupied leaps attacks n here other = (
+  λ one. elim (cases_eq t s) [ inl e ↦ inl e | inr apart ↦ not_both n (other apart) one ],
+  λ stopped. elim stopped [
+    | inl e ↦ here e
+    | inr none ↦ absurd (none (leaper_attacks (Open occupied) (OpenBut occupied t) man s square leaps attacks))
+  ],
+)
+
+-- what stands on the square that is attacked plays no part
+pub Reaches-target : (F G : ℕ → Type 0) (man : Man) (s t : ℕ) → ((u : ℕ) → u < 64 → u ≢ t → F u → G u) → Reaches F man s t → Reaches G man s t
+Reaches-target F G man s t free r = go (is_slider man.kind) refl
+  where
+    go : (b : Bool) → is_slider man.kind ≡ b → Reaches G man s t
+    go true slides =
+        reach_clear G (Open 0) (farthest man.kind) s t (steps_of man.side man.kind) (sliders_royal man slides)
+        (Rides-bare F (farthest man.kind) s t (steps_of man.side man.kind) r)
+        (λ u b. free u b.here.on_board (λ e. between_apart s t u b e) (reach_between F (farthest man.kind) s t u (steps_of man.side man.kind) (sliders_royal man slides) r b))
+    go false leaps = leaper_attacks F G man s t leaps r

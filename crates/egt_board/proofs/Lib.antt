@@ -6,6 +6,7 @@ pub mod Towards
 pub mod Beams
 pub mod Computed
 pub mod Hiding
+pub mod Sheltering
 pub mod Placed
 pub mod Slots
 pub mod Held

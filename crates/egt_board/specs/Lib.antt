@@ -9,6 +9,7 @@ pub mod Slots
 pub mod Gait
 pub mod Between
 pub mod Attack
+pub mod Safety
 pub mod Pawn
 pub mod Target
 pub mod Setup

@@ -3,6 +3,7 @@ ghost use Rattle.std.specs.Prelude.{◌≡◌, ℕ, ◌<◌, ◌≤◌, ◌↔�
 ghost use Rattle.std.specs.Int.{bit_at};
 ghost use Rattle.egt_board.specs.Between.{IsBetween};
 ghost use Rattle.egt_board.specs.Gait.{Reaches, Rides, is_slider};
+ghost use Rattle.egt_board.specs.Safety.{Stops};
 ghost use Rattle.egt_board.specs.SquareSet.{Has};
 
 use crate::lookup::{behind, between, lone_reach};
@@ -75,4 +76,19 @@ pub(crate) fn attacks(man: Man, from: Square, to: Square, occupied: SquareSet) -
         return false;
     }
     !is_slider(man.kind) || between(from, to).common(occupied).is_empty()
+}
+
+/// The squares to which a man may come so that this man on `from`, which it takes or whose line it crosses, does not
+/// attack `to` where these squares are occupied.
+pub(crate) fn stops(man: Man, from: Square, to: Square, occupied: SquareSet) -> SquareSet
+    ensures { (t : ℕ) → t < 64 → Has result t ↔ Stops occupied.bits man from to t }
+{
+    if !attacks(man, from, to, occupied) {
+        return SquareSet::ALL;
+    }
+    if is_slider(man.kind) {
+        between(from, to).with(from)
+    } else {
+        SquareSet::EMPTY.with(from)
+    }
 }

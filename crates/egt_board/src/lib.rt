@@ -16,6 +16,7 @@ pub mod mirror;
 pub mod mirrored;
 pub mod pawn;
 pub mod position;
+pub mod safety;
 pub mod settled;
 pub mod square;
 pub mod square_set;

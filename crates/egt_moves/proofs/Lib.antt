@@ -20,6 +20,7 @@ pub mod InOrder
 pub mod Choosing
 pub mod Growing
 pub mod Walking
+pub mod SafeGoals
 pub mod Ending
 pub mod Trying
 pub mod Telling
