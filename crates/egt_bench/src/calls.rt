@@ -1,24 +1,26 @@
 //! The calls that are timed.
 use egt_board::{Position, Side, Square, attacked};
-use egt_moves::{Move, legal_moves, play, standing};
+use egt_moves::{Move, legal_moves, legal_targets, play, standing};
 use std::alloc::{AllocError, Global};
 
 /// A call to be timed.
 #[derive(Clone, Copy)]
 pub enum Call {
     LegalMoves,
+    LegalTargets,
     Play,
     Attacked,
     Standing,
 }
 
 impl Call {
-    pub const ALL: [Call; 4] = [Call::LegalMoves, Call::Play, Call::Attacked, Call::Standing];
+    pub const ALL: [Call; 5] = [Call::LegalMoves, Call::Play, Call::Attacked, Call::Standing];
 
     /// The name of the function.
     pub fn name(self) -> &'static str {
         match self {
             Call::LegalMoves => "legal_moves",
+            Call::LegalTargets => "legal_targets of all men",
             Call::Play => "play",
             Call::Attacked => "attacked",
             Call::Standing => "standing",
@@ -44,6 +46,16 @@ pub fn moves_of(alloc: Global, positions: &[Position]) -> Result<Vec<Move>, Allo
     Ok(moves)
 }
 
+/// The legal targets of each man of the side to move, mixed into a number.
+fn targets_of_all(position: &Position) -> u64 {
+    let mut mixed = 0;
+    let mut men = position.of(position.side());
+    while let Some(from) = men.pop_first() {
+        mixed ^= legal_targets(position, from).bits;
+    }
+    mixed
+}
+
 /// Makes the call on each position, and adds something of the answers up.
 #[inline(never)]
 pub fn made(call: Call, positions: &[Position], moves: &[Move]) -> u64 {
@@ -51,6 +63,7 @@ pub fn made(call: Call, positions: &[Position], moves: &[Move]) -> u64 {
     for (position, chess_move) in positions.iter().zip(moves.iter()) {
         let answer = match call {
             Call::LegalMoves => legal_moves(position).len() as u64,
+            Call::LegalTargets => targets_of_all(position),
             Call::Play => u64::from(play(position, *chess_move).is_some()),
             Call::Attacked => u64::from(attacked(position, chess_move.to, Side::White)),
             Call::Standing => standing(position) as u64,

@@ -4,8 +4,9 @@ ghost use Rattle.egt_board.specs.Setup.{Setup};
 ghost use Rattle.egt_moves.specs.Legal.{Leads};
 
 use crate::chess_move::Move;
-use crate::going::{is_safe, moved, passed, targets};
+use crate::going::{moved, passed};
 use crate::promotion::fits_promotion;
+use crate::targets::legal_goals;
 use egt_board::Position;
 
 /// The position that the move leads to; `None` where the move is not legal.
@@ -21,10 +22,7 @@ pub fn play(position: &Position, chess_move: Move) -> Option<Position>
     if !fits_promotion(man, to, promo) {
         return None;
     }
-    if !targets(position, man, from).contains(to) {
-        return None;
-    }
-    if !is_safe(position, man, from, to) {
+    if !legal_goals(position, man, from).contains(to) {
         return None;
     }
     let board = moved(position, man, chess_move);

@@ -60,7 +60,13 @@ fn passing_goal(position: &Position, man: Man, goals: SquareSet) -> Option<Squar
 {
     let target = position.target()?;
     match man.kind {
-        Kind::P => { if goals.contains(target) { Some(target) } else { None } }
+        Kind::P => {
+            if goals.contains(target) {
+                Some(target)
+            } else {
+                None
+            }
+        }
         _ => None,
     }
 }

@@ -7,7 +7,7 @@ use Rattle.egt_moves.specs.Going.{Goes}
 use Rattle.egt_moves.specs.Promotion.{FitsPromotion, promotes}
 use Rattle.egt_moves.specs.Legal.{men_after, after, passed, plain}
 use Rattle.std.proofs.lemmas.Bool.{false≢true}
-use Rattle.egt_moves.proofs.Growing.{fits_of, safe_of, same_safety}
+use Rattle.egt_moves.proofs.Growing.{goes_of, fits_of, safe_of, same_safety}
 use Rattle.egt_moves.proofs.Admissible.{admissible_after}
 use Rattle.egt_moves.proofs.playing.play.Goals as goal
 
@@ -47,13 +47,14 @@ returns-clause-leads c =
       safe = subst (λ (q : Setup). ¬ IsInCheck q.men p.side) (sym becomes) (λ check. safe ((same_safety p man m.from m.to m.promo mine fits).0 check));
     }
 
-pub returns-then-not-is_safe-clause-illegal : goal.returns-then-not-is_safe-clause-illegal
-returns-then-not-is_safe-clause-illegal c = λ q leads.
+pub returns-then-not-contains-clause-illegal : goal.returns-then-not-contains-clause-illegal
+returns-then-not-contains-clause-illegal c = λ q leads.
     let p = c.args.position.now in
     let man = c.in_ok-man.man in
     let m = c.args.chess_move in
     let stands : Stands p.men m.from man = search rules in
     let mine : man.side ≡ p.side = search rules in
+    let goes = goes_of p man m stands (q, leads) in
     let safe = safe_of p man m stands (q, leads) in
     let fits = fits_of p man m stands (q, leads) in
-    false≢true (sym c.if-not-is_safe.true ∙ c.is_safe.ensures.1 (λ check. safe ((same_safety p man m.from m.to m.promo mine fits).1 check)))
+    false≢true (sym c.if-not-contains.true ∙ c.contains.ensures.1 ((c.legal_goals.ensures.safe m.to).1 (goes, λ check. safe ((same_safety p man m.from m.to m.promo mine fits).1 check))))
