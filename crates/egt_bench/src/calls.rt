@@ -14,7 +14,13 @@ pub enum Call {
 }
 
 impl Call {
-    pub const ALL: [Call; 5] = [Call::LegalMoves, Call::Play, Call::Attacked, Call::Standing];
+    pub const ALL: [Call; 5] = [
+        Call::LegalMoves,
+        Call::LegalTargets,
+        Call::Play,
+        Call::Attacked,
+        Call::Standing,
+    ];
 
     /// The name of the function.
     pub fn name(self) -> &'static str {

@@ -3,11 +3,16 @@ use Rattle.std.proofs.Common.{◌≡◌, ◌↔◌, ℕ, zero, suc, ◌+◌, ◌
 use Rattle.std.specs.Int.{bit_at}
 use Rattle.std.proofs.lemmas.Bool.{eqb-true, false≢true}
 use Rattle.std.proofs.lemmas.Nat.Bits.{bit_at-zero}
+use Rattle.egt_board.specs.declared.man.Side.{Side}
 use Rattle.egt_board.specs.declared.man.Side.TheVariants.{White, Black}
+use Rattle.egt_board.specs.declared.man.Kind.{Kind}
+use Rattle.egt_board.specs.declared.man.Kind.TheVariants.{Q, R, B, N, P, K}
+use Rattle.egt_board.specs.declared.man.Man.{Man}
+use Rattle.egt_board.specs.Lookup.{row_by}
 use Rattle.egt_board.specs.declared.step.Step.{Step}
-use Rattle.egt_board.specs.declared.tables.TheConstants.{KING, KNIGHT, WHITE_PAWN, BLACK_PAWN, STRAIGHT_LINES, DIAGONAL_LINES, BETWEEN, BEHIND}
+use Rattle.egt_board.specs.declared.tables.TheConstants.{LONE, BETWEEN, BEHIND}
 use Rattle.egt_board.specs.Step.{Away}
-use Rattle.egt_board.specs.Gait.{Rides, OneOf, straight_steps, diagonal_steps, knight_steps, pawn_steps}
+use Rattle.egt_board.specs.Gait.{Reaches, farthest, steps_of}
 use Rattle.egt_board.specs.Between.{IsBetween}
 use Rattle.egt_board.proofs.Bits.{bit_at-within}
 use Rattle.egt_board.proofs.Towards.{within_board, toward, distance, are_aligned, joined, on_line, Away-sum, Away-rest}
@@ -32,57 +37,50 @@ agree-at f (x ∷ xs) n i h i_in = go (eqb x (f n)) refl h (agree-at f xs (suc n
     go true here all rest = first i i_in (eqb-true x (f n) here) (λ j. rest j all)
     go false here all rest = absurd (false≢true all)
 
-king_right : agree (beams 1 (straight_steps ++ diagonal_steps)) 0 KING ≡ true
-unfolding agree further_on joint next_square beam beams
-king_right = refl
+-- the men of the rows
+unfoldable man_of_row : ℕ → Man
+man_of_row zero = record { side = White; kind = Q }
+man_of_row (suc zero) = record { side = White; kind = R }
+man_of_row (suc (suc zero)) = record { side = White; kind = B }
+man_of_row (suc (suc (suc zero))) = record { side = White; kind = N }
+man_of_row (suc (suc (suc (suc zero)))) = record { side = White; kind = P }
+man_of_row (suc (suc (suc (suc (suc zero))))) = record { side = Black; kind = P }
+man_of_row (suc (suc (suc (suc (suc (suc n)))))) = record { side = White; kind = K }
 
-knight_right : agree (beams 1 knight_steps) 0 KNIGHT ≡ true
-unfolding agree further_on joint next_square beam beams
-knight_right = refl
+-- what a man attacks on the bare board
+abbrev reached_by : Man → ℕ → ℕ
+reached_by man s = beams (farthest man.kind) (steps_of man.side man.kind) s
 
-white_pawn_right : agree (beams 1 (pawn_steps White)) 0 WHITE_PAWN ≡ true
-unfolding agree further_on joint next_square beam beams
-white_pawn_right = refl
+unfoldable by_row : ℕ → ℕ
+by_row n = reached_by (man_of_row (n / 64)) (n % 64)
 
-black_pawn_right : agree (beams 1 (pawn_steps Black)) 0 BLACK_PAWN ≡ true
-unfolding agree further_on joint next_square beam beams
-black_pawn_right = refl
+lone_right : agree by_row 0 LONE ≡ true
+unfolding agree by_row man_of_row further_on joint next_square beam beams
+lone_right = refl
 
-straight_right : agree (beams 7 straight_steps) 0 STRAIGHT_LINES ≡ true
-unfolding agree further_on joint next_square beam beams
-straight_right = refl
+row_at : (r s : ℕ) → r < 7 → s < 64 → get_or LONE (64 * r + s) 0 ≡ reached_by (man_of_row r) s
+unfolding by_row
+row_at r s r_in s_in =
+    let row : (64 * r + s) / 64 ≡ r = omega arith in
+    let column : (64 * r + s) % 64 ≡ s = omega arith in
+    agree-at by_row LONE 0 (64 * r + s) lone_right (omega arith) ∙ ap by_row (zero-add (64 * r + s))
+    ∙ ap (λ x. reached_by (man_of_row x) ((64 * r + s) % 64)) row ∙ ap (reached_by (man_of_row r)) column
 
-diagonal_right : agree (beams 7 diagonal_steps) 0 DIAGONAL_LINES ≡ true
-unfolding agree further_on joint next_square beam beams
-diagonal_right = refl
+row_of_man : (side : Side) (kind : Kind) (s : ℕ) → s < 64 → get_or LONE (64 * row_by side kind + s) 0 ≡ reached_by (record { side = side; kind = kind }) s
+unfolding man_of_row
+row_of_man side Q s s_in = row_at 0 s (omega arith) s_in
+row_of_man side R s s_in = row_at 1 s (omega arith) s_in
+row_of_man side B s s_in = row_at 2 s (omega arith) s_in
+row_of_man side N s s_in = row_at 3 s (omega arith) s_in
+row_of_man White P s s_in = row_at 4 s (omega arith) s_in
+row_of_man Black P s s_in = row_at 5 s (omega arith) s_in
+row_of_man side K s s_in = row_at 6 s (omega arith) s_in
 
--- a table of 64 entries shows what the steps reach on the bare board
-shows : (most : ℕ) (ds : List Step) (table : List ℕ) → agree (beams most ds) 0 table ≡ true → length table ≡ 64 → (s : ℕ) → s < 64 → (n : ℕ) → n ≡ get_or table s 0
-    → (t : ℕ) → t < 64 → (bit_at n t ≡ 1) ↔ OneOf (Rides (λ u. bit_at 0 u ≡ 0) most s t) ds
-shows most ds table right size s s_in n is t t_in =
-    subst (λ m. (bit_at m t ≡ 1) ↔ OneOf (Rides (λ u. bit_at 0 u ≡ 0) most s t) ds) (sym (is ∙ agree-at (beams most ds) table 0 s right (omega arith) ∙ ap (beams most ds) (zero-add s)))
-    (beams-reached most s ds s_in t t_in)
-
-abbrev pub Shows : ℕ → List Step → ℕ → ℕ → Type 0
-Shows most ds s n = (t : ℕ) → t < 64 → (bit_at n t ≡ 1) ↔ OneOf (Rides (λ u. bit_at 0 u ≡ 0) most s t) ds
-
-pub king_shows : (s n : ℕ) → s < 64 → n ≡ get_or KING s 0 → Shows 1 (straight_steps ++ diagonal_steps) s n
-king_shows s n s_in is = shows 1 (straight_steps ++ diagonal_steps) KING king_right refl s s_in n is
-
-pub knight_shows : (s n : ℕ) → s < 64 → n ≡ get_or KNIGHT s 0 → Shows 1 knight_steps s n
-knight_shows s n s_in is = shows 1 knight_steps KNIGHT knight_right refl s s_in n is
-
-pub white_pawn_shows : (s n : ℕ) → s < 64 → n ≡ get_or WHITE_PAWN s 0 → Shows 1 (pawn_steps White) s n
-white_pawn_shows s n s_in is = shows 1 (pawn_steps White) WHITE_PAWN white_pawn_right refl s s_in n is
-
-pub black_pawn_shows : (s n : ℕ) → s < 64 → n ≡ get_or BLACK_PAWN s 0 → Shows 1 (pawn_steps Black) s n
-black_pawn_shows s n s_in is = shows 1 (pawn_steps Black) BLACK_PAWN black_pawn_right refl s s_in n is
-
-pub straight_shows : (s n : ℕ) → s < 64 → n ≡ get_or STRAIGHT_LINES s 0 → Shows 7 straight_steps s n
-straight_shows s n s_in is = shows 7 straight_steps STRAIGHT_LINES straight_right refl s s_in n is
-
-pub diagonal_shows : (s n : ℕ) → s < 64 → n ≡ get_or DIAGONAL_LINES s 0 → Shows 7 diagonal_steps s n
-diagonal_shows s n s_in is = shows 7 diagonal_steps DIAGONAL_LINES diagonal_right refl s s_in n is
+-- the entry of a man shows what it attacks on the bare board
+pub lone_shows : (man : Man) (s n : ℕ) → s < 64 → n ≡ get_or LONE (64 * row_by man.side man.kind + s) 0 → (t : ℕ) → t < 64 → (bit_at n t ≡ 1) ↔ Reaches (λ u. bit_at 0 u ≡ 0) man s t
+lone_shows man s n s_in is t t_in =
+    subst (λ m. (bit_at m t ≡ 1) ↔ Reaches (λ u. bit_at 0 u ≡ 0) man s t) (sym (is ∙ row_of_man man.side man.kind s s_in))
+    (beams-reached (farthest man.kind) s (steps_of man.side man.kind) s_in t t_in)
 
 -- the squares between two, and those that the second hides from the first
 unfoldable squares_between : ℕ → ℕ → ℕ

@@ -10,9 +10,9 @@ use Rattle.egt_board.specs.declared.man.Side.{Side}
 use Rattle.egt_board.specs.declared.man.Side.TheVariants.{White, Black}
 use Rattle.egt_board.specs.declared.man.Man.{Man}
 use Rattle.egt_board.specs.Placement.{Placement, Stands, IsFree, IsHeld}
-use Rattle.egt_board.specs.Board.{Slot, listed, marks, is_side, InOrder, AreKept}
+use Rattle.egt_board.specs.Board.{Slot, listed, marks, takes, is_side, InOrder, AreOnBoard, AreKept}
 use Rattle.egt_board.specs.Position.{find-below, first_half, second_half}
-use Rattle.egt_board.proofs.Bits.{not_both, bit_at-within}
+use Rattle.egt_board.proofs.Placed.{find-later}
 use Rattle.egt_board.proofs.Slots.{AreShown, listed-shown}
 
 is_side-same : (a b : Side) → (is_side a b ≡ 1) ↔ (b ≡ a)
@@ -78,38 +78,57 @@ marked-IsHeld side a b c d men t n kept shown is =
     (is ∙ four (marks side a t) (marks side b t) (marks side c t) (marks side d t) ∙ marked-found side (a ∷ b ∷ c ∷ d ∷ []) t kept.in_order
     ∙ ap (λ es. bit_of side (map.find nat_cmp t es)) (listed-shown (a ∷ b ∷ c ∷ d ∷ []) men shown))
 
--- no bit of either side is 1 exactly where nothing stands
-pub free_of_both : (men : Placement) (t white black n : ℕ) → white < 2 → black < 2 → n ≡ max white black
-    → (white ≡ 1) ↔ IsHeld men t White → (black ≡ 1) ↔ IsHeld men t Black → (n ≡ 0) ↔ IsFree men t
-free_of_both men t white black n w_bit b_bit is w b = (λ none. go none (map.get men t) refl, λ free. back free)
+-- 1 where a man is there
+bit_if : Option Man → ℕ
+bit_if None = 0
+bit_if (Some man) = 1
+
+taken : List Slot → ℕ → ℕ
+taken [] t = 0
+taken (x ∷ xs) t = max (takes x t) (taken xs t)
+
+bit_if-small : (o : Option Man) → bit_if o < 2
+unfolding bit_if
+bit_if-small None = omega arith
+bit_if-small (Some man) = omega arith
+
+-- the slots take the squares on which men stand
+taken-found : (xs : List Slot) (t : ℕ) → taken xs t ≡ bit_if (map.find nat_cmp t (listed xs))
+unfolding taken bit_if
+taken-found [] t = refl
+taken-found (None ∷ xs) t = plain _ ∙ taken-found xs t
   where
-    held : (side : Side) (man : Man) → map.get men t ≡ Some man → man.side ≡ side → IsHeld men t side
-    held side man e own = record { man = man; stands = e; theirs = own }
-
-    taken : (man : Man) → map.get men t ≡ Some man → (side : Side) → man.side ≡ side → n ≡ 1
-    taken man e White own = let one = w.1 (held White man e own) in omega arith
-    taken man e Black own = let one = b.1 (held Black man e own) in omega arith
-
-    go : n ≡ 0 → (o : Option Man) → map.get men t ≡ o → IsFree men t
-    go none None e = e
-    go none (Some man) e = not_both n none (taken man e man.side refl)
-
-    no_man : (side : Side) → IsFree men t → IsHeld men t side → ⊥
-    no_man side free h = let bad : Some h.man ≡ None = sym h.stands ∙ free in cc
-
-    back : IsFree men t → n ≡ 0
-    back free = elim (cases_eq white 1) [
-      | inl one ↦ absurd (no_man White free (w.0 one))
-      | inr other ↦ elim (cases_eq black 1) [
-        | inl one ↦ absurd (no_man Black free (b.0 one))
-        | inr apart ↦ omega arith
-      ]
+    plain : (n : ℕ) → max 0 n ≡ n
+    plain n = omega arith
+taken-found (Some e ∷ xs) t =
+    elim (eqb t e.0) as (λ b. max (cond b 1 0) (taken xs t) ≡ bit_if (cond b (Some e.1) (map.find nat_cmp t (listed xs)))) [
+      | true ↦ (let rest = taken-found xs t in let small = bit_if-small (map.find nat_cmp t (listed xs)) in omega arith)
+      | false ↦ (let rest = taken-found xs t in plain _ ∙ rest)
     ]
-
--- where a man stands there is a square, since one of the two sets has it
-pub stands-within : (men : Placement) (white black s : ℕ) (man : Man) → white < 2 ^ 64 → black < 2 ^ 64 → (bit_at white s ≡ 1) ↔ IsHeld men s White → (bit_at black s ≡ 1) ↔ IsHeld men s Black → Stands men s man → s < 64
-stands-within men white black s man w_in b_in w b stands = go man.side refl
+    ∙ ap (λ b. bit_if (cond b (Some e.1) (map.find nat_cmp t (listed xs)))) (sym (unsigned_tied t e.0))
   where
-    go : (side : Side) → man.side ≡ side → s < 64
-    go White own = bit_at-within white s w_in (w.1 (record { man = man; stands = stands; theirs = own }))
-    go Black own = bit_at-within black s b_in (b.1 (record { man = man; stands = stands; theirs = own }))
+    plain : (n : ℕ) → max 0 n ≡ n
+    plain n = omega arith
+
+-- the squares that the four slots take are those on which men stand
+pub taken-free : (a b c d : Slot) (men : Placement) (t n : ℕ) → AreShown (a ∷ b ∷ c ∷ d ∷ []) men → n ≡ max (max (takes a t) (takes b t)) (max (takes c t) (takes d t)) → (n ≡ 0) ↔ IsFree men t
+unfolding taken bit_if
+taken-free a b c d men t n shown is =
+    let same : n ≡ bit_if (map.get men t) = is ∙ four (takes a t) (takes b t) (takes c t) (takes d t) ∙ taken-found (a ∷ b ∷ c ∷ d ∷ []) t
+        ∙ ap (λ es. bit_if (map.find nat_cmp t es)) (listed-shown (a ∷ b ∷ c ∷ d ∷ []) men shown) ∙ ap bit_if (sym (map.get-entries men t)) in
+    go (map.get men t) refl same
+  where
+    go : (o : Option Man) → map.get men t ≡ o → n ≡ bit_if o → (n ≡ 0) ↔ IsFree men t
+    go None e none = (λ _. e, λ _. none)
+    go (Some man) e one = (λ none. absurd (omega arith), λ free. let bad : Some man ≡ None = sym e ∙ free in absurd (cc))
+
+found-within : (es : List (ℕ × Man)) (s : ℕ) (man : Man) → AreOnBoard es → map.find nat_cmp s es ≡ Some man → s < 64
+found-within [] s man on found = let bad : None ≡ Some man = found in absurd (cc)
+found-within (e ∷ es) s man on found = elim (cases_eq s e.0) [
+  | inl same ↦ let less = on.0 in omega arith
+  | inr other ↦ found-within es s man on.1 (sym (find-later s e.0 e.1 es other) ∙ found)
+]
+
+-- where a man stands there is a square
+pub stands-within : (xs : List Slot) (men : Placement) (s : ℕ) (man : Man) → AreShown xs men → Stands men s man → s < 64
+stands-within xs men s man shown stands = found-within (map.entries men) s man shown.on_board (sym (map.get-entries men s) ∙ stands)

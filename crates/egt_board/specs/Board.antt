@@ -57,6 +57,11 @@ abbrev pub marks : Side → Slot → ℕ → ℕ
 marks side None t = 0
 marks side (Some e) t = if t == e.0 then is_side side e.1.side else 0
 
+-- 1 at the square of the slot's man
+abbrev pub takes : Slot → ℕ → ℕ
+takes None t = 0
+takes (Some e) t = if t == e.0 then 1 else 0
+
 -- the number of the man's square, and of none one behind every square
 abbrev pub place : Slot → ℕ
 place None = 64

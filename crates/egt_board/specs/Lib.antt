@@ -8,6 +8,7 @@ pub mod Board
 pub mod Slots
 pub mod Gait
 pub mod Between
+pub mod Lookup
 pub mod Attack
 pub mod Safety
 pub mod Pawn

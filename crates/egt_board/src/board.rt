@@ -2,7 +2,7 @@
 ghost use Rattle.std.specs.Prelude.{◌≡◌, ℕ, ◌<◌, ◌≤◌, ◌↔◌, if◌then◌else◌};
 ghost use Rattle.std.specs.FinMap as map;
 ghost use Rattle.std.specs.Int.{bit_at};
-ghost use Rattle.egt_board.specs.Board.{place, man_on, marks, lesser, greater};
+ghost use Rattle.egt_board.specs.Board.{place, man_on, marks, takes, lesser, greater};
 
 use crate::man::{Man, Side};
 use crate::square::Square;
@@ -68,6 +68,16 @@ fn held(slot: Slot, side: Side) -> SquareSet
         SquareSet::EMPTY.with(placed.0)
     } else {
         SquareSet::EMPTY
+    }
+}
+
+/// The square of the slot's man, if there is one.
+fn taken(slot: &Slot) -> SquareSet
+    ensures { (t : ℕ) → bit_at result.bits t ≡ takes slot.now t }
+{
+    match slot {
+        Some(placed) => SquareSet::EMPTY.with(placed.0),
+        None => SquareSet::EMPTY,
     }
 }
 
@@ -180,7 +190,9 @@ impl Board {
         ensures on_board { (s : ℕ) (man : Man) → Stands self.now s man → s < 64 }
         ensures few { size_of result ≤ map.len self.now }
     {
-        self.of(Side::White).union(self.of(Side::Black))
+        let front = taken(&self.first).union(taken(&self.second));
+        let back = taken(&self.third).union(taken(&self.fourth));
+        front.union(back)
     }
 
     /// A copy of the board.

@@ -11,19 +11,15 @@ use Rattle.egt_moves.proofs.Growing.{goes_of, fits_of, safe_of, same_safety}
 use Rattle.egt_moves.proofs.Admissible.{admissible_after}
 use Rattle.egt_moves.proofs.playing.play.Goals as goal
 
-pub admitted-requires : goal.admitted-requires
-admitted-requires c =
+pub played-requires-clause-safe : goal.played-requires-clause-safe
+played-requires-clause-safe c =
     let p = c.args.position.now in
     let man = c.in_ok-man.man in
     let m = c.args.chess_move in
-    let stands : Stands p.men m.from man = search rules in
     let mine : man.side ≡ p.side = search rules in
-    let goes : Goes p man m.from m.to = search rules in
     let fits : FitsPromotion (promotes man m.to) m.promo = search rules in
     let safe : ¬ IsInCheck (men_after p man (plain m.from m.to)) p.side = search rules in
-    rw (c.moved-board.ensures, c.other.ensures, c.passed-target.ensures)
-    (subst (λ side. IsAdmissible (record { men = men_after p man m; side = other_side side; target = passed man m.from m.to })) (sym mine)
-    (admissible_after p man m stands mine goes fits c.side.ensures.admissible (λ check. safe ((same_safety p man m.from m.to m.promo mine fits).0 check))))
+    λ check. safe ((same_safety p man m.from m.to m.promo mine fits).0 check)
 
 pub returns-clause-leads : goal.returns-clause-leads
 returns-clause-leads c =
@@ -35,8 +31,7 @@ returns-clause-leads c =
     let goes : Goes p man m.from m.to = search rules in
     let fits : FitsPromotion (promotes man m.to) m.promo = search rules in
     let safe : ¬ IsInCheck (men_after p man (plain m.from m.to)) p.side = search rules in
-    let becomes : c.admitted.result ≡ after p man m =
-    c.admitted.ensures ∙ (λ i. record { men = c.moved-board.ensures i; side = (c.other.ensures ∙ ap other_side mine) i; target = c.passed-target.ensures i }) in
+    let becomes : c.played.result ≡ after p man m = c.played.ensures in
     record {
       man = man;
       stands = stands;
