@@ -27,4 +27,6 @@ pub use targets::legal_targets;
 pub use zeroing_moves::zeroing;
 
 #[cfg(test)]
+mod target_tests;
+#[cfg(test)]
 mod tests;
