@@ -1,8 +1,7 @@
 -- Whose men stand on the squares of a set.
-use Rattle.std.proofs.Common.{◌≡◌, ℕ, ◌<◌, ◌^◌, ◌↔◌, true, false, cond, eqb, List, [], ◌∷◌, Option, Some, None, arith, refl, sym, ap, ◌∙◌, max, inl, inr}
+use Rattle.std.proofs.Common.{◌≡◌, ℕ, ◌<◌, ◌↔◌, true, false, cond, eqb, List, [], ◌∷◌, Option, Some, None, arith, refl, sym, ap, ◌∙◌, max, inl, inr}
 use Rattle.std.specs.Ordering.{nat_cmp}
 use Rattle.std.specs.Cmp.{unsigned_tied}
-use Rattle.std.specs.Int.{bit_at}
 use Rattle.std.specs.FinMap as map
 use Rattle.std.proofs.lemmas.Bool.{cases_eq}
 use Rattle.std.proofs.lemmas.Bool.Decides.{eqb_tells}
@@ -115,7 +114,7 @@ pub taken-free : (a b c d : Slot) (men : Placement) (t n : ℕ) → AreShown (a 
 unfolding taken bit_if
 taken-free a b c d men t n shown is =
     let same : n ≡ bit_if (map.get men t) = is ∙ four (takes a t) (takes b t) (takes c t) (takes d t) ∙ taken-found (a ∷ b ∷ c ∷ d ∷ []) t
-        ∙ ap (λ es. bit_if (map.find nat_cmp t es)) (listed-shown (a ∷ b ∷ c ∷ d ∷ []) men shown) ∙ ap bit_if (sym (map.get-entries men t)) in
+    ∙ ap (λ es. bit_if (map.find nat_cmp t es)) (listed-shown (a ∷ b ∷ c ∷ d ∷ []) men shown) ∙ ap bit_if (sym (map.get-entries men t)) in
     go (map.get men t) refl same
   where
     go : (o : Option Man) → map.get men t ≡ o → n ≡ bit_if o → (n ≡ 0) ↔ IsFree men t

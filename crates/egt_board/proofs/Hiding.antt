@@ -1,19 +1,22 @@
 -- What a man on a line hides: a square is attacked along it exactly where no square between is taken.
-use Rattle.std.proofs.Common.{◌≡◌, ◌≢◌, ◌↔◌, ℕ, ◌-◌, ◌<◌, Bool, true, false, List, [], ◌∷◌, ◌++◌, min, arith, refl, sym, ap, ◌∙◌, subst, inl, inr}
+use Rattle.std.proofs.Common.{◌≡◌, ◌≢◌, ◌↔◌, ℕ, ◌-◌, ◌<◌, Bool, true, false, List, [], ◌∷◌, ◌++◌, min, arith, refl, sym, ap, ◌∙◌, subst, inl, inr, ◌+◌, ◌⊎◌}
 use Rattle.std.specs.Int.{bit_at}
 use Rattle.std.proofs.lemmas.Bool.{cases_eq, false≢true}
 use Rattle.std.proofs.lemmas.Nat.Bits.{bit_at-lt, bit_at-zero}
+use Rattle.egt_board.specs.declared.man.Side.{Side}
+use Rattle.egt_board.specs.declared.man.Side.TheVariants.{White, Black}
 use Rattle.egt_board.specs.declared.man.Kind.{Kind}
 use Rattle.egt_board.specs.declared.man.Kind.TheVariants.{Q, R, B, N, P, K}
 use Rattle.egt_board.specs.declared.man.Man.{Man}
 use Rattle.egt_board.specs.declared.step.Way.TheVariants.{Up, Down, Still}
 use Rattle.egt_board.specs.declared.step.Step.{Step}
+use Rattle.egt_board.specs.Square.{file_of, rank_of}
 use Rattle.egt_board.specs.Step.{Away}
-use Rattle.egt_board.specs.Gait.{Rides, OneOf, Reaches, Rides-free, Reaches-free, steps_of, farthest, is_slider, straight_steps, diagonal_steps}
+use Rattle.egt_board.specs.Gait.{Rides, OneOf, Reaches, Rides-free, Reaches-free, steps_of, farthest, is_slider, straight_steps, diagonal_steps, knight_steps, pawn_steps}
 use Rattle.egt_board.specs.Safety.{Stops}
 use Rattle.egt_board.specs.Between.{IsRoyal, IsBetween}
 use Rattle.egt_board.proofs.Bits.{not_both}
-use Rattle.egt_board.proofs.Towards.{joined}
+use Rattle.egt_board.proofs.Towards.{apart, gap_of, joined}
 
 AllRoyal : List Step → Type 0
 AllRoyal [] = Unit {0}
@@ -157,38 +160,6 @@ Rides-bare Free most s t (d ∷ ds) some = elim some [
   | inr rest ↦ inr (Rides-bare Free most s t ds rest)
 ]
 
--- a slider attacks what it attacks on the bare board and nothing hides
-pub slider_attacks : (man : Man) (s t occupied : ℕ) → is_slider man.kind ≡ true
-    → (Reaches (Open 0) man s t × ((u : ℕ) → IsBetween s t u → Open occupied u)) ↔ Reaches (Open occupied) man s t
-slider_attacks man s t occupied slides =
-    let ds = steps_of man.side man.kind in
-    let most = farthest man.kind in
-    let royal = sliders_royal man slides in (
-      λ h. reach_clear (Open occupied) (Open 0) most s t ds royal h.0 h.1,
-      λ r. (Rides-bare (Open occupied) most s t ds r, λ u b. reach_between (Open occupied) most s t u ds royal r b),
-    )
-
--- the squares of the line that are taken are all that counts
-pub slider_sees : (man : Man) (s occupied lone : ℕ) → is_slider man.kind ≡ true → ((t : ℕ) → t < 64 → (bit_at lone t ≡ 1) ↔ Reaches (Open 0) man s t) → (t n : ℕ) → t < 64
-    → (n ≡ 1) ↔ ((bit_at lone t ≡ 1) × ((u : ℕ) → bit_at lone u ≡ 1 → bit_at occupied u ≡ 1 → ¬ IsBetween s t u)) → (n ≡ 1) ↔ Reaches (Open occupied) man s t
-slider_sees man s occupied lone slides shows t n t_in is =
-    let attacks = slider_attacks man s t occupied slides in
-    let royal = sliders_royal man slides in (
-      λ one.
-          let h = is.0 one in
-          let bare = (shows t t_in).0 h.0 in
-          attacks.0 (
-            bare,
-            λ u b. elim (cases_eq (bit_at occupied u) 1) [
-              | inl taken ↦ absurd (h.1 u ((shows u b.here.on_board).1 (reach_nearer (Open 0) (farthest man.kind) s t u (steps_of man.side man.kind) royal bare_open bare b)) taken b)
-              | inr other ↦ open_or_taken occupied u other
-            ],
-          ),
-      λ r.
-          let h = attacks.1 r in
-          is.1 ((shows t t_in).1 h.0, λ u on_lone taken b. not_both (bit_at occupied u) (h.1 u b) taken),
-    )
-
 -- any other man goes one step, which nothing hides
 near : (F G : ℕ → Type 0) (s t : ℕ) (ds : List Step) → OneOf (Rides F 1 s t) ds → OneOf (Rides G 1 s t) ds
 near F G s t [] none = none
@@ -199,7 +170,7 @@ near F G s t (d ∷ ds) some = elim some [
   | inr rest ↦ inr (near F G s t ds rest)
 ]
 
-pub leaper_attacks : (F G : ℕ → Type 0) (man : Man) (s t : ℕ) → is_slider man.kind ≡ false → Reaches F man s t → Reaches G man s t
+leaper_attacks : (F G : ℕ → Type 0) (man : Man) (s t : ℕ) → is_slider man.kind ≡ false → Reaches F man s t → Reaches G man s t
 leaper_attacks F G man s t leaps r = go man.kind leaps r
   where
     go : (k : Kind) → is_slider k ≡ false → OneOf (Rides F (farthest k) s t) (steps_of man.side k) → OneOf (Rides G (farthest k) s t) (steps_of man.side k)
@@ -209,6 +180,121 @@ leaper_attacks F G man s t leaps r = go man.kind leaps r
     go N h r = near F G s t (steps_of man.side N) r
     go P h r = near F G s t (steps_of man.side P) r
     go K h r = near F G s t (steps_of man.side K) r
+
+-- the step of a man that is no slider leads to no square with others between
+royal_near : (F : ℕ → Type 0) (s t u : ℕ) (ds : List Step) → AllRoyal ds → OneOf (Rides F 1 s t) ds → IsBetween s t u → ⊥
+unfolding AllRoyal
+royal_near F s t u [] royal none b = none
+royal_near F s t u (d ∷ ds) royal some b = elim some [
+  | inl r ↦
+      let near_some = b.some in
+      let less = b.less in
+      let within = r.within in
+      let here = joined d r.count s t royal.0 r.moves r.away in
+      let there = joined b.step b.far s t b.royal (omega arith) b.there in
+      let count = here.count in
+      let far = there.count in
+      omega arith
+  | inr rest ↦ royal_near F s t u ds royal.1 rest b
+]
+
+pawn_royal : (side : Side) → AllRoyal (pawn_steps side)
+unfolding AllRoyal
+pawn_royal White = (record { files = Up; ranks = Up; is = refl; moves = omega arith }, (record { files = Down; ranks = Up; is = refl; moves = omega arith }, tt))
+pawn_royal Black = (record { files = Up; ranks = Down; is = refl; moves = omega arith }, (record { files = Down; ranks = Down; is = refl; moves = omega arith }, tt))
+
+up_apart : (n a b : ℕ) → b ≡ a + n → apart a b ≡ n
+up_apart n a b h = omega arith
+
+down_apart : (n a b : ℕ) → a ≡ b + n → apart a b ≡ n
+down_apart n a b h = omega arith
+
+-- squares one and two apart are on no line
+off_the_line : (s t u : ℕ) → (((apart (file_of s) (file_of t) ≡ 1) × (apart (rank_of s) (rank_of t) ≡ 2)) ⊎ ((apart (file_of s) (file_of t) ≡ 2) × (apart (rank_of s) (rank_of t) ≡ 1))) → IsBetween s t u → ⊥
+off_the_line s t u h b =
+    let some = b.some in
+    let less = b.less in
+    let gap = gap_of s t (joined b.step b.far s t b.royal (omega arith) b.there).aligned in
+    elim h [ inl e ↦ (let f = e.0 in let r = e.1 in omega arith) | inr e ↦ (let f = e.0 in let r = e.1 in omega arith) ]
+
+-- one step of a knight
+one_step : (F : ℕ → Type 0) (s t : ℕ) (d : Step) → Rides F 1 s t d → Away d 1 s t
+one_step F s t d r =
+    let moves = r.moves in
+    let within = r.within in
+    let one : r.count ≡ 1 = omega arith in
+    subst (λ k. Away d k s t) one r.away
+
+knight_off : (F : ℕ → Type 0) (s t u : ℕ) → OneOf (Rides F 1 s t) knight_steps → IsBetween s t u → ⊥
+knight_off F s t u (inl r) b = let a = one_step F s t _ r in off_the_line s t u (inl (up_apart 1 _ _ a.across, up_apart 2 _ _ a.along)) b
+knight_off F s t u (inr (inl r)) b = let a = one_step F s t _ r in off_the_line s t u (inl (up_apart 1 _ _ a.across, down_apart 2 _ _ a.along)) b
+knight_off F s t u (inr (inr (inl r))) b = let a = one_step F s t _ r in off_the_line s t u (inl (down_apart 1 _ _ a.across, up_apart 2 _ _ a.along)) b
+knight_off F s t u (inr (inr (inr (inl r)))) b = let a = one_step F s t _ r in off_the_line s t u (inl (down_apart 1 _ _ a.across, down_apart 2 _ _ a.along)) b
+knight_off F s t u (inr (inr (inr (inr (inl r))))) b = let a = one_step F s t _ r in off_the_line s t u (inr (up_apart 2 _ _ a.across, up_apart 1 _ _ a.along)) b
+knight_off F s t u (inr (inr (inr (inr (inr (inl r)))))) b = let a = one_step F s t _ r in off_the_line s t u (inr (up_apart 2 _ _ a.across, down_apart 1 _ _ a.along)) b
+knight_off F s t u (inr (inr (inr (inr (inr (inr (inl r))))))) b = let a = one_step F s t _ r in off_the_line s t u (inr (down_apart 2 _ _ a.across, up_apart 1 _ _ a.along)) b
+knight_off F s t u (inr (inr (inr (inr (inr (inr (inr (inl r)))))))) b = let a = one_step F s t _ r in off_the_line s t u (inr (down_apart 2 _ _ a.across, down_apart 1 _ _ a.along)) b
+knight_off F s t u (inr (inr (inr (inr (inr (inr (inr (inr none)))))))) b = none
+
+leaper_between : (F : ℕ → Type 0) (man : Man) (s t u : ℕ) → is_slider man.kind ≡ false → Reaches F man s t → IsBetween s t u → ⊥
+leaper_between F man s t u leaps r b = go man.kind leaps r
+  where
+    go : (k : Kind) → is_slider k ≡ false → OneOf (Rides F (farthest k) s t) (steps_of man.side k) → ⊥
+    go Q h r = false≢true (sym h)
+    go R h r = false≢true (sym h)
+    go B h r = false≢true (sym h)
+    go N h r = knight_off F s t u r b
+    go P h r = royal_near F s t u (pawn_steps man.side) (pawn_royal man.side) r b
+    go K h r = royal_near F s t u (straight_steps ++ diagonal_steps) queen_royal r b
+
+-- so one rule serves all men: between what is attacked and the man every square is free
+pub free_between : (F : ℕ → Type 0) (man : Man) (s t u : ℕ) → Reaches F man s t → IsBetween s t u → F u
+free_between F man s t u r b = go (is_slider man.kind) refl
+  where
+    go : (slides : Bool) → is_slider man.kind ≡ slides → F u
+    go true h = reach_between F (farthest man.kind) s t u (steps_of man.side man.kind) (sliders_royal man h) r b
+    go false h = absurd (leaper_between F man s t u h r b)
+
+pub clear_reach : (F : ℕ → Type 0) (man : Man) (s t : ℕ) → Reaches (Open 0) man s t → ((u : ℕ) → IsBetween s t u → F u) → Reaches F man s t
+clear_reach F man s t bare free = go (is_slider man.kind) refl
+  where
+    go : (slides : Bool) → is_slider man.kind ≡ slides → Reaches F man s t
+    go true h = reach_clear F (Open 0) (farthest man.kind) s t (steps_of man.side man.kind) (sliders_royal man h) bare free
+    go false h = leaper_attacks (Open 0) F man s t h bare
+
+nearer_reach : (man : Man) (s t u : ℕ) → Reaches (Open 0) man s t → IsBetween s t u → Reaches (Open 0) man s u
+nearer_reach man s t u bare b = go (is_slider man.kind) refl
+  where
+    go : (slides : Bool) → is_slider man.kind ≡ slides → Reaches (Open 0) man s u
+    go true h = reach_nearer (Open 0) (farthest man.kind) s t u (steps_of man.side man.kind) (sliders_royal man h) bare_open bare b
+    go false h = absurd (leaper_between (Open 0) man s t u h bare b)
+
+-- a man attacks what it attacks on the bare board and nothing hides
+attacks_seen : (man : Man) (s t occupied : ℕ) → (Reaches (Open 0) man s t × ((u : ℕ) → IsBetween s t u → Open occupied u)) ↔ Reaches (Open occupied) man s t
+attacks_seen man s t occupied = (
+  λ h. clear_reach (Open occupied) man s t h.0 h.1,
+  λ r. (Rides-bare (Open occupied) (farthest man.kind) s t (steps_of man.side man.kind) r, λ u b. free_between (Open occupied) man s t u r b),
+)
+
+-- those of its squares that are taken are all that counts
+pub sees : (man : Man) (s occupied lone : ℕ) → ((t : ℕ) → t < 64 → (bit_at lone t ≡ 1) ↔ Reaches (Open 0) man s t) → (t n : ℕ) → t < 64
+    → (n ≡ 1) ↔ ((bit_at lone t ≡ 1) × ((u : ℕ) → bit_at lone u ≡ 1 → bit_at occupied u ≡ 1 → ¬ IsBetween s t u)) → (n ≡ 1) ↔ Reaches (Open occupied) man s t
+sees man s occupied lone shows t n t_in is =
+    let attacks = attacks_seen man s t occupied in (
+      λ one.
+          let h = is.0 one in
+          let bare = (shows t t_in).0 h.0 in
+          attacks.0 (
+            bare,
+            λ u b. elim (cases_eq (bit_at occupied u) 1) [
+              | inl taken ↦ absurd (h.1 u ((shows u b.here.on_board).1 (nearer_reach man s t u bare b)) taken b)
+              | inr other ↦ open_or_taken occupied u other
+            ],
+          ),
+      λ r.
+          let h = attacks.1 r in
+          is.1 ((shows t t_in).1 h.0, λ u on_lone taken b. not_both (bit_at occupied u) (h.1 u b) taken),
+    )
 
 -- the squares of a line, less those that the men met so far hide
 pub record Sees (from squares occupied left blockers : ℕ) : Type 0 where
@@ -273,11 +359,11 @@ Sees-all from squares occupied left blockers sees none t = (
 pub Reaches-bare : (man : Man) (s t occupied : ℕ) → Reaches (Open occupied) man s t → Reaches (Open 0) man s t
 Reaches-bare man s t occupied r = Rides-bare (Open occupied) (farthest man.kind) s t (steps_of man.side man.kind) r
 
--- a square on a slider's line is attacked exactly where no square between is taken
-pub slider_open : (man : Man) (s t occupied between both : ℕ) → is_slider man.kind ≡ true → Reaches (Open 0) man s t → ((u : ℕ) → (bit_at between u ≡ 1) ↔ IsBetween s t u)
+-- a square is attacked exactly where it is on the bare board and no square between is taken
+pub attacks_open : (man : Man) (s t occupied between both : ℕ) → Reaches (Open 0) man s t → ((u : ℕ) → (bit_at between u ≡ 1) ↔ IsBetween s t u)
     → ((u : ℕ) → bit_at both u ≡ min (bit_at between u) (bit_at occupied u)) → {b : Bool} → (b ≡ true) ↔ ((u : ℕ) → bit_at both u ≡ 0) → (b ≡ true) ↔ Reaches (Open occupied) man s t
-slider_open man s t occupied between both slides bare shows common empty =
-    let attacks = slider_attacks man s t occupied slides in (
+attacks_open man s t occupied between both bare shows common empty =
+    let attacks = attacks_seen man s t occupied in (
       λ none. attacks.0 (
         bare,
         λ u b. open_or_taken occupied u (λ taken.
@@ -301,17 +387,14 @@ OpenBut occupied t u = Open occupied u × (u ≢ t)
 pub stops_none : (man : Man) (s square t occupied : ℕ) → ¬ Reaches (Open occupied) man s square → Stops occupied man s square t
 stops_none man s square t occupied none = inr (λ r. none (Reaches-free (OpenBut occupied t) (Open occupied) man s square (λ u u_in free. free.0) r))
 
--- a slider is stopped between
-pub stops_slider : (man : Man) (s square t occupied between : ℕ) → is_slider man.kind ≡ true → Reaches (Open occupied) man s square → ((u : ℕ) → (bit_at between u ≡ 1) ↔ IsBetween s square u)
+-- another is stopped between, or taken
+pub stops_between : (man : Man) (s square t occupied between : ℕ) → Reaches (Open occupied) man s square → ((u : ℕ) → (bit_at between u ≡ 1) ↔ IsBetween s square u)
     → (n : ℕ) → (t ≡ s → n ≡ 1) → (t ≢ s → n ≡ bit_at between t) → (n ≡ 1) ↔ Stops occupied man s square t
-stops_slider man s square t occupied between slides attacks shows n here other =
-    let ds = steps_of man.side man.kind in
-    let most = farthest man.kind in
-    let royal = sliders_royal man slides in
-    let both = (slider_attacks man s square occupied slides).1 attacks in (
+stops_between man s square t occupied between attacks shows n here other =
+    let both = (attacks_seen man s square occupied).1 attacks in (
       λ one. elim (cases_eq t s) [
         | inl e ↦ inl e
-        | inr apart ↦ inr (λ r. (reach_between (OpenBut occupied t) most s square t ds royal r ((shows t).0 (sym (other apart) ∙ one))).1 refl)
+        | inr apart ↦ inr (λ r. (free_between (OpenBut occupied t) man s square t r ((shows t).0 (sym (other apart) ∙ one))).1 refl)
       ],
       λ stopped. elim (cases_eq t s) [
         | inl e ↦ here e
@@ -319,29 +402,14 @@ stops_slider man s square t occupied between slides attacks shows n here other =
           | inl one ↦ other apart ∙ one
           | inr not_between ↦ elim stopped [
             | inl e ↦ absurd (apart e)
-            | inr none ↦ absurd (none (reach_clear (OpenBut occupied t) (Open 0) most s square ds royal both.0 (λ u b. (both.1 u b, λ e. not_between ((shows t).1 (subst (IsBetween s square) e b))))))
+            | inr none ↦ absurd (none (clear_reach (OpenBut occupied t) man s square both.0 (λ u b. (both.1 u b, λ e. not_between ((shows t).1 (subst (IsBetween s square) e b))))))
           ]
         ]
       ],
     )
 
--- and any other man is taken
-pub stops_leaper : (man : Man) (s square t occupied : ℕ) → is_slider man.kind ≡ false → Reaches (Open occupied) man s square → (n : ℕ) → (t ≡ s → n ≡ 1) → (t ≢ s → n ≡ 0) → (n ≡ 1) ↔ Stops occupied man s square t
-stops_leaper man s square t occupied leaps attacks n here other = (
-  λ one. elim (cases_eq t s) [ inl e ↦ inl e | inr apart ↦ not_both n (other apart) one ],
-  λ stopped. elim stopped [
-    | inl e ↦ here e
-    | inr none ↦ absurd (none (leaper_attacks (Open occupied) (OpenBut occupied t) man s square leaps attacks))
-  ],
-)
-
 -- what stands on the square that is attacked plays no part
 pub Reaches-target : (F G : ℕ → Type 0) (man : Man) (s t : ℕ) → ((u : ℕ) → u < 64 → u ≢ t → F u → G u) → Reaches F man s t → Reaches G man s t
-Reaches-target F G man s t free r = go (is_slider man.kind) refl
-  where
-    go : (b : Bool) → is_slider man.kind ≡ b → Reaches G man s t
-    go true slides =
-        reach_clear G (Open 0) (farthest man.kind) s t (steps_of man.side man.kind) (sliders_royal man slides)
-        (Rides-bare F (farthest man.kind) s t (steps_of man.side man.kind) r)
-        (λ u b. free u b.here.on_board (λ e. between_apart s t u b e) (reach_between F (farthest man.kind) s t u (steps_of man.side man.kind) (sliders_royal man slides) r b))
-    go false leaps = leaper_attacks F G man s t leaps r
+Reaches-target F G man s t free r =
+    clear_reach G man s t (Rides-bare F (farthest man.kind) s t (steps_of man.side man.kind) r)
+    (λ u b. free u b.here.on_board (λ e. between_apart s t u b e) (free_between F man s t u r b))

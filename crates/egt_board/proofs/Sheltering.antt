@@ -4,7 +4,6 @@ use Rattle.std.specs.Int.{bit_at}
 use Rattle.std.specs.Ordering.{nat_cmp}
 use Rattle.std.specs.FinMap as map
 use Rattle.std.proofs.lemmas.Bool.{cases_eq}
-use Rattle.std.proofs.lemmas.Nat.Bits.{bit_at-lt}
 use Rattle.egt_board.specs.declared.board.Board.TheInside.{Inside}
 use Rattle.egt_board.specs.declared.man.Side.{Side}
 use Rattle.egt_board.specs.declared.man.Side.TheVariants.{White, Black}
@@ -17,8 +16,7 @@ use Rattle.egt_board.specs.declared.step.Step.{Step}
 use Rattle.egt_board.specs.Coordinate.{Further}
 use Rattle.egt_board.specs.Square.{file_of, rank_of}
 use Rattle.egt_board.specs.Placement.{Placement, Stands, IsFree, get-insert_same, get-insert_other}
-use Rattle.egt_board.specs.Step.{Away}
-use Rattle.egt_board.specs.Gait.{Rides, OneOf, Reaches, Reaches-free, steps_of, farthest, straight_steps, diagonal_steps, knight_steps, pawn_steps}
+use Rattle.egt_board.specs.Gait.{Rides, OneOf, Reaches, Reaches-free, steps_of, farthest}
 use Rattle.egt_board.specs.Board.{Slot, listed, placed, InOrder, AreKept}
 use Rattle.egt_board.specs.Slots.{slots_of}
 use Rattle.egt_board.specs.Position.{find-below, first_half, second_half}
@@ -122,13 +120,13 @@ kept_by a men occupied side square t newcomer kept is free foreign =
           let all = found_stop occupied side square t xs kept.in_order (λ s man found own. elim (cases_eq t s) [
             | inl e ↦ inl e
             | inr other ↦ inr (λ r. none (record {
-                from = s;
-                man = man;
-                stands = get-insert_other men t newcomer s (λ e. other (sym e)) ∙ (map.get-entries men s ∙ ap (map.find nat_cmp s) (sym same) ∙ found);
-                theirs = own;
-                reaches = Reaches-free (λ u. (bit_at occupied u ≡ 0) × (u ≢ t)) (IsFree (map.insert men t newcomer)) man s square
-                    (λ u u_in clear. get-insert_other men t newcomer u clear.1 ∙ (free u).0 clear.0) r;
-              }))
+              from = s;
+              man = man;
+              stands = get-insert_other men t newcomer s (λ e. other (sym e)) ∙ (map.get-entries men s ∙ ap (map.find nat_cmp s) (sym same) ∙ found);
+              theirs = own;
+              reaches = Reaches-free (λ u. (bit_at occupied u ≡ 0) × (u ≢ t)) (IsFree (map.insert men t newcomer)) man s square
+                  (λ u u_in clear. get-insert_other men t newcomer u clear.1 ∙ (free u).0 clear.0) r;
+            }))
           ]) in
           (all.0, all.1.0, all.1.1.0, all.1.1.1.0),
     )

@@ -178,3 +178,10 @@ Away-rest d m n s t u p q = record {
 
 pub within_board : (s t : ℕ) → s < 64 → t < 64 → distance s t < 8
 within_board s t s_in t_in = omega arith
+
+pub gap_of : (s t : ℕ) → are_aligned s t ≡ true → off_line (apart (file_of s) (file_of t)) (apart (rank_of s) (rank_of t)) ≡ 0
+gap_of s t h = go (ltb 0 (distance s t)) h
+  where
+    go : (b : Bool) → cond b (eqb (off_line (apart (file_of s) (file_of t)) (apart (rank_of s) (rank_of t))) 0) false ≡ true → off_line (apart (file_of s) (file_of t)) (apart (rank_of s) (rank_of t)) ≡ 0
+    go true line = eqb-true _ 0 line
+    go false line = absurd (false≢true line)

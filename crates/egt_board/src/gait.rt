@@ -2,12 +2,12 @@
 ghost use Rattle.std.specs.Prelude.{◌≡◌, ℕ, ◌<◌, ◌≤◌, ◌↔◌, IsTrue};
 ghost use Rattle.std.specs.Int.{bit_at};
 ghost use Rattle.egt_board.specs.Between.{IsBetween};
-ghost use Rattle.egt_board.specs.Gait.{Reaches, Rides, is_slider};
+ghost use Rattle.egt_board.specs.Gait.{Reaches, Rides};
 ghost use Rattle.egt_board.specs.Safety.{Stops};
 ghost use Rattle.egt_board.specs.SquareSet.{Has};
 
 use crate::lookup::{behind, between, lone_reach};
-use crate::man::{Kind, Man};
+use crate::man::Man;
 use crate::square::Square;
 use crate::square_set::SquareSet;
 use crate::step::Step;
@@ -34,16 +34,6 @@ pub(crate) fn ride(from: Square, step: Step, most: u8, occupied: SquareSet) -> S
     reached
 }
 
-/// Whether a man of this kind goes along whole lines.
-fn is_slider(kind: Kind) -> bool
-    ensures { result ≡ is_slider kind }
-{
-    match kind {
-        Kind::Q | Kind::R | Kind::B => true,
-        Kind::N | Kind::P | Kind::K => false,
-    }
-}
-
 /// Those of the squares that no man on an occupied one of them hides from `from`.
 fn seen(from: Square, squares: SquareSet, occupied: SquareSet) -> SquareSet
     ensures { (t : ℕ) → Has result t ↔ (Has squares t × ((u : ℕ) → Has squares u → Has occupied u → ¬ IsBetween from t u)) }
@@ -60,22 +50,14 @@ fn seen(from: Square, squares: SquareSet, occupied: SquareSet) -> SquareSet
 pub(crate) fn reach(man: Man, from: Square, occupied: SquareSet) -> SquareSet
     ensures { (t : ℕ) → t < 64 → Has result t ↔ Reaches (λ u. bit_at occupied.bits u ≡ 0) man from t }
 {
-    let lone = lone_reach(man, from);
-    if is_slider(man.kind) {
-        seen(from, lone, occupied)
-    } else {
-        lone
-    }
+    seen(from, lone_reach(man, from), occupied)
 }
 
 /// Whether this man on `from` attacks `to` where these squares are occupied.
 pub(crate) fn attacks(man: Man, from: Square, to: Square, occupied: SquareSet) -> bool
     ensures { IsTrue result ↔ Reaches (λ u. bit_at occupied.bits u ≡ 0) man from to }
 {
-    if !lone_reach(man, from).contains(to) {
-        return false;
-    }
-    !is_slider(man.kind) || between(from, to).common(occupied).is_empty()
+    lone_reach(man, from).contains(to) && between(from, to).common(occupied).is_empty()
 }
 
 /// The squares to which a man may come so that this man on `from`, which it takes or whose line it crosses, does not
@@ -83,12 +65,9 @@ pub(crate) fn attacks(man: Man, from: Square, to: Square, occupied: SquareSet) -
 pub(crate) fn stops(man: Man, from: Square, to: Square, occupied: SquareSet) -> SquareSet
     ensures { (t : ℕ) → t < 64 → Has result t ↔ Stops occupied.bits man from to t }
 {
-    if !attacks(man, from, to, occupied) {
-        return SquareSet::ALL;
-    }
-    if is_slider(man.kind) {
+    if attacks(man, from, to, occupied) {
         between(from, to).with(from)
     } else {
-        SquareSet::EMPTY.with(from)
+        SquareSet::ALL
     }
 }

@@ -52,10 +52,16 @@ impl Board {
         ensures { (t : ℕ) → t < 64 → Has result t ↔ IsAttacked self.now t side }
     {
         let occupied = self.occupied();
-        let front = attacked_by(&self.first, side, occupied)
-            .union(attacked_by(&self.second, side, occupied));
-        let back = attacked_by(&self.third, side, occupied)
-            .union(attacked_by(&self.fourth, side, occupied));
+        let front = attacked_by(&self.first, side, occupied).union(attacked_by(
+            &self.second,
+            side,
+            occupied,
+        ));
+        let back = attacked_by(&self.third, side, occupied).union(attacked_by(
+            &self.fourth,
+            side,
+            occupied,
+        ));
         front.union(back)
     }
 
@@ -64,10 +70,18 @@ impl Board {
         ensures { (t : ℕ) (newcomer : Man) → t < 64 → newcomer.side ≢ side → Has result t ↔ IsKeptFrom self.now t newcomer to side }
     {
         let occupied = self.occupied();
-        let front = stops(&self.first, side, to, occupied)
-            .common(stops(&self.second, side, to, occupied));
-        let back = stops(&self.third, side, to, occupied)
-            .common(stops(&self.fourth, side, to, occupied));
+        let front = stops(&self.first, side, to, occupied).common(stops(
+            &self.second,
+            side,
+            to,
+            occupied,
+        ));
+        let back = stops(&self.third, side, to, occupied).common(stops(
+            &self.fourth,
+            side,
+            to,
+            occupied,
+        ));
         front.common(back)
     }
 }
