@@ -1,35 +1,79 @@
--- Attacks as a set of squares shows them.
-use Rattle.std.proofs.Common.{◌≡◌, ◌≢◌, ℕ, sym, ap, ◌∙◌, inl, inr, subst, Some}
+-- Attacks by the men of a board's slots.
+use Rattle.std.proofs.Common.{◌≡◌, ◌↔◌, ◌⊎◌, ℕ, List, [], ◌∷◌, Some, None, refl, sym, ap, ◌∙◌, subst, inl, inr}
 use Rattle.std.specs.Int.{bit_at}
+use Rattle.std.specs.Ordering.{nat_cmp}
 use Rattle.std.specs.FinMap as map
 use Rattle.std.proofs.lemmas.Bool.{cases_eq}
 use Rattle.egt_board.specs.declared.man.Side.{Side}
 use Rattle.egt_board.specs.declared.man.Man.{Man}
-use Rattle.egt_board.specs.Placement.{Placement, Stands, IsFree}
-use Rattle.egt_board.specs.Gait.{Reaches}
-use Rattle.egt_board.specs.Placement.{IsHeld}
-use Rattle.egt_board.proofs.Bits.{not_both}
+use Rattle.egt_board.specs.Placement.{Placement, IsFree}
+use Rattle.egt_board.specs.Gait.{Reaches, Reaches-free}
+use Rattle.egt_board.specs.Board.{Slot, listed, placed, InOrder, AreKept}
+use Rattle.egt_board.specs.Slots.{slots_of}
+use Rattle.egt_board.specs.declared.board.Board.TheInside.{Inside}
+use Rattle.egt_board.specs.Position.{find-below, first_half, second_half}
+use Rattle.egt_board.specs.Attack.{IsAttacked, AttacksFrom}
+use Rattle.egt_board.proofs.Placed.{find-here, find-later}
+use Rattle.egt_board.proofs.Slots.{shown, listed-shown}
 
--- no man of this side attacks the square, but one that is left in the set
-abbrev pub OnlyLeft : Placement → Side → ℕ → ℕ → Type 0
-OnlyLeft men side left t = (s : ℕ) (man : Man) → Stands men s man → man.side ≡ side → Reaches (IsFree men) man s t → bit_at left s ≡ 1
+-- one of the slots' men attacks the square
+AnyAttacks : (ℕ → Type 0) → Side → ℕ → List Slot → Type 0
+AnyAttacks Free side t [] = ⊥
+AnyAttacks Free side t (x ∷ xs) = AttacksFrom Free side t x ⊎ AnyAttacks Free side t xs
 
--- each square of the set has a man of this side
-abbrev pub AreHeld : Placement → Side → ℕ → Type 0
-AreHeld men side left = (s : ℕ) → bit_at left s ≡ 1 → IsHeld men s side
+-- a man found among these attacks the square
+FoundAttacks : (ℕ → Type 0) → Side → ℕ → List (ℕ × Man) → Type 0
+FoundAttacks Free side t es = (s : ℕ) × (man : Man) × (map.find nat_cmp s es ≡ Some man) × (man.side ≡ side) × Reaches Free man s t
 
--- one attacker less, which does not reach the square
-pub OnlyLeft-less : (men : Placement) (side : Side) (left left' t s : ℕ) (man : Man) → Stands men s man → ¬ Reaches (IsFree men) man s t → ((u : ℕ) → u ≢ s → bit_at left' u ≡ bit_at left u) → OnlyLeft men side left t → OnlyLeft men side left' t
-OnlyLeft-less men side left left' t s man stands out others only = λ u other_man u_stands theirs reaches.
-    elim (cases_eq u s) [
-      | inl e ↦
-          let same : other_man ≡ man = (let both : Some other_man ≡ Some man = sym u_stands ∙ (ap (map.get men) e ∙ stands) in cc) in
-          absurd (out (subst (λ (m : Man). Reaches (IsFree men) m s t) same (subst (λ v. Reaches (IsFree men) other_man v t) e reaches)))
-      | inr other ↦ others u other ∙ only u other_man u_stands theirs reaches
-    ]
-
-pub AreHeld-less : (men : Placement) (side : Side) (left left' s : ℕ) → bit_at left' s ≡ 0 → ((u : ℕ) → u ≢ s → bit_at left' u ≡ bit_at left u) → AreHeld men side left → AreHeld men side left'
-AreHeld-less men side left left' s gone others held = λ u one. elim (cases_eq u s) [
-  | inl e ↦ not_both _ gone (ap (bit_at left') (sym e) ∙ one)
-  | inr other ↦ held u (sym (others u other) ∙ one)
+found_later : (Free : ℕ → Type 0) (side : Side) (t : ℕ) (e : ℕ × Man) (es : List (ℕ × Man)) → InOrder (e ∷ es) → FoundAttacks Free side t es → FoundAttacks Free side t (e ∷ es)
+unfolding FoundAttacks
+found_later Free side t e es sorted h = elim (cases_eq h.0 e.0) [
+  | inl same ↦
+      let none : map.find nat_cmp h.0 es ≡ None = ap (λ q. map.find nat_cmp q es) same ∙ find-below e.0 es (first_half _ _ sorted) in
+      let bad : None ≡ Some h.1 = sym none ∙ h.2 in absurd (cc)
+  | inr other ↦ (h.0, h.1, find-later h.0 e.0 e.1 es other ∙ h.2, h.3, h.4)
 ]
+
+slots_found : (Free : ℕ → Type 0) (side : Side) (t : ℕ) (xs : List Slot) → InOrder (listed xs) → AnyAttacks Free side t xs → FoundAttacks Free side t (listed xs)
+unfolding AnyAttacks FoundAttacks
+slots_found Free side t [] sorted none = absurd none
+slots_found Free side t (None ∷ xs) sorted some = elim some [ inl none ↦ absurd none | inr rest ↦ slots_found Free side t xs sorted rest ]
+slots_found Free side t (Some e ∷ xs) sorted some = elim some [
+  | inl here ↦ (e.0, e.1, find-here e.0 e.0 e.1 (listed xs) refl, here.0, here.1)
+  | inr rest ↦ found_later Free side t e (listed xs) sorted (slots_found Free side t xs (second_half _ _ sorted) rest)
+]
+
+found_slots : (Free : ℕ → Type 0) (side : Side) (t : ℕ) (xs : List Slot) → FoundAttacks Free side t (listed xs) → AnyAttacks Free side t xs
+unfolding AnyAttacks FoundAttacks
+found_slots Free side t [] h = let bad : None ≡ Some h.1 = h.2 in absurd (cc)
+found_slots Free side t (None ∷ xs) h = inr (found_slots Free side t xs h)
+found_slots Free side t (Some e ∷ xs) h = elim (cases_eq h.0 e.0) [
+  | inl same ↦
+      let both : Some e.1 ≡ Some h.1 = sym (find-here h.0 e.0 e.1 (listed xs) same) ∙ h.2 in
+      let man : e.1 ≡ h.1 = cc in
+      inl (ap (λ (m : Man). m.side) man ∙ h.3, subst (λ (m : Man). Reaches Free m e.0 t) (sym man) (subst (λ s. Reaches Free h.1 s t) same h.4))
+  | inr other ↦ inr (found_slots Free side t xs (h.0, h.1, sym (find-later h.0 e.0 e.1 (listed xs) other) ∙ h.2, h.3, h.4))
+]
+
+-- one of the board's four men attacks the square exactly where a man of that side does
+pub attacked_by : (a : Inside) (men : Placement) (occupied : ℕ) (side : Side) (t : ℕ) → AreKept (slots_of a) → placed (slots_of a) ≡ men → ((u : ℕ) → (bit_at occupied u ≡ 0) ↔ IsFree men u)
+    → (AttacksFrom (λ u. bit_at occupied u ≡ 0) side t a.first ⊎ (AttacksFrom (λ u. bit_at occupied u ≡ 0) side t a.second ⊎ (AttacksFrom (λ u. bit_at occupied u ≡ 0) side t a.third ⊎ AttacksFrom (λ u. bit_at occupied u ≡ 0) side t a.fourth)))
+    ↔ IsAttacked men t side
+unfolding AnyAttacks FoundAttacks
+attacked_by a men occupied side t kept is free =
+    let Free : ℕ → Type 0 = λ u. bit_at occupied u ≡ 0 in
+    let xs = slots_of a in
+    let same = listed-shown xs men (shown xs men kept is) in (
+      λ some.
+          let h = slots_found Free side t xs kept.in_order (elim some [ inl p ↦ inl p | inr r ↦ inr (elim r [ inl p ↦ inl p | inr q ↦ inr (elim q [ inl p ↦ inl p | inr o ↦ inr (inl o) ]) ]) ]) in
+          record { from = h.0; man = h.1; stands = map.get-entries men h.0 ∙ ap (map.find nat_cmp h.0) (sym same) ∙ h.2; theirs = h.3; reaches = Reaches-free Free (IsFree men) h.1 h.0 t (λ u u_in. (free u).0) h.4 },
+      λ attacked.
+          let some = found_slots Free side t xs (
+            attacked.from,
+            attacked.man,
+            ap (map.find nat_cmp attacked.from) same ∙ sym (map.get-entries men attacked.from) ∙ attacked.stands,
+            attacked.theirs,
+            Reaches-free (IsFree men) Free attacked.man attacked.from t (λ u u_in. (free u).1) attacked.reaches,
+          ) in
+          elim some [ inl p ↦ inl p | inr r ↦ inr (elim r [ inl p ↦ inl p | inr q ↦ inr (elim q [ inl p ↦ inl p | inr o ↦ inr (elim o [ inl p ↦ p | inr none ↦ absurd none ]) ]) ]) ],
+    )

@@ -1,20 +1,18 @@
 -- Whose men stand on the squares of a set.
-use Rattle.std.specs.List.{list_all}
-use Rattle.std.specs.Option.{is_none}
+use Rattle.std.proofs.Common.{◌≡◌, ℕ, ◌<◌, ◌↔◌, true, false, cond, eqb, List, [], ◌∷◌, Option, Some, None, arith, refl, sym, ap, ◌∙◌, max, inl, inr}
 use Rattle.std.specs.Ordering.{nat_cmp}
-use Rattle.std.proofs.lemmas.Bool.{false≢true}
-use Rattle.std.proofs.lemmas.Nat.Bits.{bit_at-zero}
-use Rattle.std.proofs.Common.{true, [], ◌∷◌, zero, suc, ◌≡◌, ℕ, ◌<◌, ◌↔◌, List, length, get_or, Option, Some, None, arith, refl, sym, ap, ◌∙◌, max, inl, inr}
+use Rattle.std.specs.Cmp.{unsigned_tied}
 use Rattle.std.specs.FinMap as map
-use Rattle.std.proofs.lemmas.Bool.{cases_lt}
-use Rattle.std.proofs.lemmas.List.{get_or_past}
+use Rattle.std.proofs.lemmas.Bool.{cases_eq}
+use Rattle.std.proofs.lemmas.Bool.Decides.{eqb_tells}
 use Rattle.egt_board.specs.declared.man.Side.{Side}
 use Rattle.egt_board.specs.declared.man.Side.TheVariants.{White, Black}
 use Rattle.egt_board.specs.declared.man.Man.{Man}
-use Rattle.egt_board.specs.Placement.{Placement, Stands, IsFree, IsHeld, same_men}
-use Rattle.egt_board.specs.Board.{placed, bit_of, is_side, AreOf}
-use Rattle.std.specs.Int.{bit_at}
-use Rattle.egt_board.proofs.Placed.{get-placed}
+use Rattle.egt_board.specs.Placement.{Placement, Stands, IsFree, IsHeld}
+use Rattle.egt_board.specs.Board.{Slot, listed, marks, takes, is_side, InOrder, AreOnBoard, AreKept}
+use Rattle.egt_board.specs.Position.{find-below, first_half, second_half}
+use Rattle.egt_board.proofs.Placed.{find-later}
+use Rattle.egt_board.proofs.Slots.{AreShown, listed-shown}
 
 is_side-same : (a b : Side) → (is_side a b ≡ 1) ↔ (b ≡ a)
 is_side-same White White = (λ _. refl, λ _. refl)
@@ -22,8 +20,14 @@ is_side-same Black Black = (λ _. refl, λ _. refl)
 is_side-same White Black = (λ e. absurd (omega arith), λ e. absurd (cc))
 is_side-same Black White = (λ e. absurd (omega arith), λ e. absurd (cc))
 
--- a bit that is 1 where the slot of the square holds a man of the side
-pub bit_of-IsHeld : (men : Placement) (t : ℕ) (side : Side) (slot : Option Man) (b : ℕ) → map.get men t ≡ slot → b ≡ bit_of side slot → (b ≡ 1) ↔ IsHeld men t side
+-- 1 where a man of this side is there
+bit_of : Side → Option Man → ℕ
+bit_of side None = 0
+bit_of side (Some man) = is_side side man.side
+
+-- a bit that is 1 where a man of the side stands
+bit_of-IsHeld : (men : Placement) (t : ℕ) (side : Side) (slot : Option Man) (b : ℕ) → map.get men t ≡ slot → b ≡ bit_of side slot → (b ≡ 1) ↔ IsHeld men t side
+unfolding bit_of
 bit_of-IsHeld men t side None b is e =
     (λ one. absurd (omega arith), λ held. let bad : Some held.man ≡ None = sym held.stands ∙ is in absurd (cc))
 bit_of-IsHeld men t side (Some man) b is e =
@@ -34,39 +38,96 @@ bit_of-IsHeld men t side (Some man) b is e =
           e ∙ same.1 (ap (λ (m : Man). m.side) (sym same_man) ∙ held.theirs),
     )
 
-either_side : (side : Side) → max (is_side White side) (is_side Black side) ≡ 1
-either_side White = refl
-either_side Black = refl
+marked : Side → List Slot → ℕ → ℕ
+marked side [] t = 0
+marked side (x ∷ xs) t = max (marks side x t) (marked side xs t)
 
--- no bit of either side is 1 exactly where nothing stands
-pub bit_of-free : (men : Placement) (t : ℕ) (slot : Option Man) (b : ℕ) → map.get men t ≡ slot → b ≡ max (bit_of White slot) (bit_of Black slot) → (b ≡ 0) ↔ IsFree men t
-bit_of-free men t None b is e = (λ _. is, λ _. e)
-bit_of-free men t (Some man) b is e = (
-  λ none. let bad : 0 ≡ 1 = sym none ∙ (e ∙ either_side man.side) in absurd (omega arith),
-  λ free. let bad : Some man ≡ None = sym is ∙ free in absurd (cc),
-)
+-- the slots mark the squares of the side's men
+marked-found : (side : Side) (xs : List Slot) (t : ℕ) → InOrder (listed xs) → marked side xs t ≡ bit_of side (map.find nat_cmp t (listed xs))
+unfolding marked bit_of
+marked-found side [] t sorted = refl
+marked-found side (None ∷ xs) t sorted = let h = marked-found side xs t sorted in plain _ ∙ h
+  where
+    plain : (n : ℕ) → max 0 n ≡ n
+    plain n = omega arith
+marked-found side (Some e ∷ xs) t sorted =
+    elim (eqb t e.0) as (λ b. eqb t e.0 ≡ b → max (cond b (is_side side e.1.side) 0) (marked side xs t) ≡ bit_of side (cond b (Some e.1) (map.find nat_cmp t (listed xs)))) [
+      | true ↦ λ h.
+          let none : marked side xs t ≡ 0 = marked-found side xs t (second_half _ _ sorted) ∙ ap (bit_of side) (ap (λ q. map.find nat_cmp q (listed xs)) (same h) ∙ find-below e.0 (listed xs) (first_half _ _ sorted)) in
+          omega arith
+      | false ↦ λ h. let rest = marked-found side xs t (second_half _ _ sorted) in plain _ ∙ rest
+    ] refl
+    ∙ ap (λ b. bit_of side (cond b (Some e.1) (map.find nat_cmp t (listed xs)))) (sym (unsigned_tied t e.0))
+  where
+    plain : (n : ℕ) → max 0 n ≡ n
+    plain n = omega arith
 
--- where a man stands there is a square
-pub placed-within : (xs : List (Option Man)) (s : ℕ) (man : Man) → Stands (placed xs) s man → s < length xs
-placed-within xs s man stands = elim (cases_lt s (length xs)) [
-  | inl less ↦ less
-  | inr past ↦ let bad : Some man ≡ None = sym stands ∙ (get-placed xs s ∙ get_or_past xs s None past) in absurd (cc)
+    same : eqb t e.0 ≡ true → t ≡ e.0
+    same h = elim (eqb_tells t e.0) [ inl here ↦ here.1 | inr apart ↦ let bad : false ≡ true = sym apart.0 ∙ h in absurd (cc) ]
+
+four : (p q r s : ℕ) → max (max p q) (max r s) ≡ max p (max q (max r (max s 0)))
+four p q r s = omega arith
+
+-- the squares that the four slots mark are those on which the side's men stand
+pub marked-IsHeld : (side : Side) (a b c d : Slot) (men : Placement) (t n : ℕ) → AreKept (a ∷ b ∷ c ∷ d ∷ []) → AreShown (a ∷ b ∷ c ∷ d ∷ []) men
+    → n ≡ max (max (marks side a t) (marks side b t)) (max (marks side c t) (marks side d t)) → (n ≡ 1) ↔ IsHeld men t side
+unfolding marked
+marked-IsHeld side a b c d men t n kept shown is =
+    bit_of-IsHeld men t side (map.find nat_cmp t (map.entries men)) n (map.get-entries men t)
+    (is ∙ four (marks side a t) (marks side b t) (marks side c t) (marks side d t) ∙ marked-found side (a ∷ b ∷ c ∷ d ∷ []) t kept.in_order
+    ∙ ap (λ es. bit_of side (map.find nat_cmp t es)) (listed-shown (a ∷ b ∷ c ∷ d ∷ []) men shown))
+
+-- 1 where a man is there
+bit_if : Option Man → ℕ
+bit_if None = 0
+bit_if (Some man) = 1
+
+taken : List Slot → ℕ → ℕ
+taken [] t = 0
+taken (x ∷ xs) t = max (takes x t) (taken xs t)
+
+bit_if-small : (o : Option Man) → bit_if o < 2
+unfolding bit_if
+bit_if-small None = omega arith
+bit_if-small (Some man) = omega arith
+
+-- the slots take the squares on which men stand
+taken-found : (xs : List Slot) (t : ℕ) → taken xs t ≡ bit_if (map.find nat_cmp t (listed xs))
+unfolding taken bit_if
+taken-found [] t = refl
+taken-found (None ∷ xs) t = plain _ ∙ taken-found xs t
+  where
+    plain : (n : ℕ) → max 0 n ≡ n
+    plain n = omega arith
+taken-found (Some e ∷ xs) t =
+    elim (eqb t e.0) as (λ b. max (cond b 1 0) (taken xs t) ≡ bit_if (cond b (Some e.1) (map.find nat_cmp t (listed xs)))) [
+      | true ↦ (let rest = taken-found xs t in let small = bit_if-small (map.find nat_cmp t (listed xs)) in omega arith)
+      | false ↦ (let rest = taken-found xs t in plain _ ∙ rest)
+    ]
+    ∙ ap (λ b. bit_if (cond b (Some e.1) (map.find nat_cmp t (listed xs)))) (sym (unsigned_tied t e.0))
+  where
+    plain : (n : ℕ) → max 0 n ≡ n
+    plain n = omega arith
+
+-- the squares that the four slots take are those on which men stand
+pub taken-free : (a b c d : Slot) (men : Placement) (t n : ℕ) → AreShown (a ∷ b ∷ c ∷ d ∷ []) men → n ≡ max (max (takes a t) (takes b t)) (max (takes c t) (takes d t)) → (n ≡ 0) ↔ IsFree men t
+unfolding taken bit_if
+taken-free a b c d men t n shown is =
+    let same : n ≡ bit_if (map.get men t) = is ∙ four (takes a t) (takes b t) (takes c t) (takes d t) ∙ taken-found (a ∷ b ∷ c ∷ d ∷ []) t
+    ∙ ap (λ es. bit_if (map.find nat_cmp t es)) (listed-shown (a ∷ b ∷ c ∷ d ∷ []) men shown) ∙ ap bit_if (sym (map.get-entries men t)) in
+    go (map.get men t) refl same
+  where
+    go : (o : Option Man) → map.get men t ≡ o → n ≡ bit_if o → (n ≡ 0) ↔ IsFree men t
+    go None e none = (λ _. e, λ _. none)
+    go (Some man) e one = (λ none. absurd (omega arith), λ free. let bad : Some man ≡ None = sym e ∙ free in absurd (cc))
+
+found-within : (es : List (ℕ × Man)) (s : ℕ) (man : Man) → AreOnBoard es → map.find nat_cmp s es ≡ Some man → s < 64
+found-within [] s man on found = let bad : None ≡ Some man = found in absurd (cc)
+found-within (e ∷ es) s man on found = elim (cases_eq s e.0) [
+  | inl same ↦ let less = on.0 in omega arith
+  | inr other ↦ found-within es s man on.1 (sym (find-later s e.0 e.1 es other) ∙ found)
 ]
 
-bare-slot : (xs : List (Option Man)) → list_all is_none xs ≡ true → (t : ℕ) → get_or xs t None ≡ None
-bare-slot [] h t = refl
-bare-slot (None ∷ xs) h zero = refl
-bare-slot (None ∷ xs) h (suc t) = bare-slot xs h t
-bare-slot (Some man ∷ xs) h t = absurd (false≢true h)
-
--- on squares with nothing on them no side has a man
-pub bare-AreOf : (side : Side) (xs : List (Option Man)) → list_all is_none xs ≡ true → AreOf 0 side xs
-bare-AreOf side xs h = λ t. bit_at-zero t ∙ sym (ap (bit_of side) (bare-slot xs h t))
-
-pub bare-placed : (xs : List (Option Man)) → list_all is_none xs ≡ true → placed xs ≡ map.empty
-bare-placed xs h = same_men _ _ (λ q. get-placed xs q ∙ bare-slot xs h q ∙ sym (map.get-empty nat_cmp q))
-
--- the squares of a side's set are those on which its men stand
-pub Has-IsHeld : (men : Placement) (side : Side) (xs : List (Option Man)) (bits : ℕ) → placed xs ≡ men → AreOf bits side xs → (t : ℕ) → (bit_at bits t ≡ 1) ↔ IsHeld men t side
-Has-IsHeld men side xs bits shown are t =
-    bit_of-IsHeld men t side _ _ (ap (λ m. map.get m t) (sym shown) ∙ get-placed xs t) (are t)
+-- where a man stands there is a square
+pub stands-within : (xs : List Slot) (men : Placement) (s : ℕ) (man : Man) → AreShown xs men → Stands men s man → s < 64
+stands-within xs men s man shown stands = found-within (map.entries men) s man shown.on_board (sym (map.get-entries men s) ∙ stands)

@@ -2,7 +2,13 @@ pub mod Bits
 pub mod Geometry
 pub mod Rides
 pub mod Steps
+pub mod Towards
+pub mod Beams
+pub mod Computed
+pub mod Hiding
+pub mod Sheltering
 pub mod Placed
+pub mod Slots
 pub mod Held
 pub mod Attacks
 pub mod Kings

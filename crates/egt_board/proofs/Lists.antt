@@ -112,6 +112,13 @@ pub len-men_of : (xs : List (Man × ℕ)) → placement.len (men_of xs) ≤ leng
 unfolding men_of
 len-men_of xs = subst (λ n. placement.len (placement.from_entries {R = nat_cmp} (map entry_of xs)) ≤ n) (length-map xs entry_of) (len-from_entries (map entry_of xs))
 
+-- and fewer stand there than are still to come
+pub Laid-room : (board : Placement) (men : List (Man × ℕ)) (i : ℕ) → i < length men → length men ≤ 4 → Laid board men i → placement.len board < 4
+Laid-room board men i i_in few laid =
+    let le = len-men_of (take i men) in
+    let n = length-take i men in
+    subst (λ b. placement.len b < 4) (sym laid.shown) (omega arith)
+
 -- no man of the list is a pawn
 abbrev pub NoPawnListed : List (Man × ℕ) → Type 0
 NoPawnListed [] = Unit {0}
@@ -130,3 +137,24 @@ no_pawn_listed xs none = λ s man stands. go xs none s man (sym (get-men_of xs s
           subst (λ (m : Man). m.kind ≢ P) same none.0
       | inr other ↦ go xs none.1 s man (sym (find-later s x.1 x.0 (map entry_of xs) other) ∙ found)
     ]
+
+-- a man more on the board
+len-more : (board : Placement) (s : ℕ) (man : Man) → placement.len (placement.insert board s man) ≤ placement.len board + 1
+len-more board s man = more (placement.contains_key board s) _ _ (placement.len-insert nat_cmp_total board s man)
+  where
+    more : (b : Bool) (l n : ℕ) → l ≡ cond b n (n + 1) → l ≤ n + 1
+    more true l n e = omega arith
+    more false l n e = omega arith
+
+len-none : placement.len {K = ℕ} {X = Man} {R = nat_cmp} placement.empty ≡ 0
+len-none = placement.len-empty nat_cmp Man
+
+-- boards of few men have room for another
+pub room_first : placement.len {K = ℕ} {X = Man} {R = nat_cmp} placement.empty < 4
+room_first = omega (arith, len-none)
+
+pub room_second : (s : ℕ) (man : Man) → placement.len (placement.insert {R = nat_cmp} placement.empty s man) < 4
+room_second s man = omega (arith, len-none, len-more placement.empty s man)
+
+pub room_third : (s t : ℕ) (man other : Man) → placement.len (placement.insert (placement.insert {R = nat_cmp} placement.empty s man) t other) < 4
+room_third s t man other = omega (arith, len-none, len-more placement.empty s man, len-more (placement.insert placement.empty s man) t other)

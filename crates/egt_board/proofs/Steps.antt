@@ -30,3 +30,21 @@ union_more P ds i d a b m i_in a_bit b_bit e before here =
       λ one. elim (bits.0 one) [ inl h ↦ push.1 (inl (before.0 h)) | inr h ↦ push.1 (inr (here.0 h)) ],
       λ some. elim (push.0 some) [ inl h ↦ bits.1 (inl (before.1 h)) | inr h ↦ bits.1 (inr (here.1 h)) ],
     )
+
+OneOf_append : (P : Step → Type 0) (ds es : List Step) → OneOf P (ds ++ es) ↔ (OneOf P ds ⊎ OneOf P es)
+OneOf_append P [] es = (λ h. inr h, λ h. elim h [ inl none ↦ absurd none | inr some ↦ some ])
+OneOf_append P (d ∷ ds) es =
+    let rest = OneOf_append P ds es in (
+      λ h. elim h [ inl p ↦ inl (inl p) | inr r ↦ elim (rest.0 r) [ inl q ↦ inl (inr q) | inr q ↦ inr q ] ],
+      λ h. elim h [ inl q ↦ elim q [ inl p ↦ inl p | inr r ↦ inr (rest.1 (inl r)) ] | inr q ↦ inr (rest.1 (inr q)) ],
+    )
+
+-- the squares along either of two lists of steps
+pub OneOf-append : (P : Step → Type 0) (ds es : List Step) (a b m : ℕ) → a < 2 → b < 2 → m ≡ max a b
+    → (a ≡ 1) ↔ OneOf P ds → (b ≡ 1) ↔ OneOf P es → (m ≡ 1) ↔ OneOf P (ds ++ es)
+OneOf-append P ds es a b m a_bit b_bit e one other =
+    let both = OneOf_append P ds es in
+    let bits = bit_of_either a b m a_bit b_bit e in (
+      λ h. elim (bits.0 h) [ inl p ↦ both.1 (inl (one.0 p)) | inr p ↦ both.1 (inr (other.0 p)) ],
+      λ h. elim (both.0 h) [ inl p ↦ bits.1 (inl (one.1 p)) | inr p ↦ bits.1 (inr (other.1 p)) ],
+    )

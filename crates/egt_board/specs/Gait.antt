@@ -1,5 +1,5 @@
 -- What each man attacks: FIDE Laws of Chess 2023, articles 3.2 to 3.8.
-use Rattle.std.specs.Prelude.{Bool, nat_lt, ◌&&◌, ℕ, ◌<◌, ◌≤◌, List, [], ◌∷◌, ◌++◌, ◌⊎◌}
+use Rattle.std.specs.Prelude.{Bool, true, false, ℕ, ◌<◌, ◌≤◌, List, [], ◌∷◌, ◌++◌, ◌⊎◌}
 use Rattle.std.proofs.Common.{inl, inr}
 use Rattle.egt_board.specs.declared.man.Side.{Side}
 use Rattle.egt_board.specs.declared.man.Side.TheVariants.{White, Black}
@@ -51,9 +51,14 @@ farthest N = 1
 farthest P = 1
 farthest K = 1
 
--- a step that stays on the board in some place
-abbrev pub is_short : Step → Bool
-is_short d = nat_lt d.wide 8 && nat_lt d.high 8
+-- a queen, a rook and a bishop go along whole lines
+abbrev pub is_slider : Kind → Bool
+is_slider Q = true
+is_slider R = true
+is_slider B = true
+is_slider N = false
+is_slider P = false
+is_slider K = false
 
 -- this holds of one of these steps
 abbrev pub OneOf : (Step → Type 0) → List Step → Type 0

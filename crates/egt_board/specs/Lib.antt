@@ -5,9 +5,12 @@ pub mod Step
 pub mod SquareSet
 pub mod Placement
 pub mod Board
-pub mod Line
+pub mod Slots
 pub mod Gait
+pub mod Between
+pub mod Lookup
 pub mod Attack
+pub mod Safety
 pub mod Pawn
 pub mod Target
 pub mod Setup

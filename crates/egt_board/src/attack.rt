@@ -1,17 +1,29 @@
 //! What the men on a board attack: FIDE Laws of Chess 2023, articles 3.1.3 and 3.9.
 ghost use Rattle.std.specs.Prelude.{◌≡◌, ℕ, ◌≤◌, ◌↔◌, IsTrue};
-ghost use Rattle.egt_board.specs.Attack.{IsAttacked, IsInCheck};
+ghost use Rattle.std.specs.Int.{bit_at};
+ghost use Rattle.egt_board.specs.Attack.{IsAttacked, IsInCheck, AttacksFrom};
 ghost use Rattle.egt_board.specs.Gait.{Reaches};
 ghost use Rattle.egt_board.specs.Placement.{IsFree};
 ghost use Rattle.egt_board.specs.Setup.{IsKingOn};
 ghost use Rattle.egt_board.specs.SquareSet.{Has, size_of, most_reached};
 
-use crate::board::Board;
+use crate::board::{Board, Slot};
 use crate::gait;
-use crate::line::may_attack;
 use crate::man::{Man, Side};
 use crate::square::Square;
 use crate::square_set::SquareSet;
+
+/// Whether the slot's man is that side's and attacks the square where these squares are occupied.
+fn attacks_from(slot: &Slot, side: Side, square: Square, occupied: SquareSet) -> bool
+    ensures { IsTrue result ↔ AttacksFrom (λ u. bit_at occupied.bits u ≡ 0) side square slot.now }
+{
+    match slot {
+        Some(placed) => {
+            placed.1.side == side && gait::attacks(placed.1, placed.0, square, occupied)
+        }
+        None => false,
+    }
+}
 
 impl Board {
     /// The squares that this man attacks from `from`, past free squares alone. Squares of its own side's
@@ -23,25 +35,21 @@ impl Board {
         gait::reach(man, from, self.occupied())
     }
 
-    /// Whether this man on `from` attacks the square.
-    fn attacks_from(&self, man: Man, from: Square, square: Square) -> bool
-        ensures { IsTrue result ↔ Reaches (IsFree self.now) man from square }
-    {
-        may_attack(man, from, square) && self.reach(man, from).contains(square)
-    }
-
     /// Whether a man of that side attacks the square, even if it may not move itself.
     pub fn attacks(&self, square: Square, side: Side) -> bool
         ensures { IsTrue result ↔ IsAttacked self.now square side }
     {
-        let mut attackers = self.of(side);
-        while let Some(from) = attackers.pop_first() {
-            let man = self.at(from).unwrap();
-            if self.attacks_from(man, from, square) {
-                return true;
-            }
+        let occupied = self.occupied();
+        if attacks_from(&self.first, side, square, occupied) {
+            return true;
         }
-        false
+        if attacks_from(&self.second, side, square, occupied) {
+            return true;
+        }
+        if attacks_from(&self.third, side, square, occupied) {
+            return true;
+        }
+        attacks_from(&self.fourth, side, square, occupied)
     }
 
     /// Whether that side's king, which stands on `king`, is attacked.

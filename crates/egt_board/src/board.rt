@@ -1,41 +1,118 @@
-//! A board with any men on it, and what they attack: FIDE Laws of Chess 2023, articles 3.1 to 3.9.
-ghost use Rattle.std.specs.Prelude.{◌≡◌, ℕ, ◌<◌, ◌≤◌, ◌↔◌, IsTrue};
+//! A board with at most four men on it, and what they attack: FIDE Laws of Chess 2023, articles 3.1 to 3.9.
+ghost use Rattle.std.specs.Prelude.{◌≡◌, ℕ, ◌<◌, ◌≤◌, ◌↔◌, if◌then◌else◌};
 ghost use Rattle.std.specs.FinMap as map;
 ghost use Rattle.std.specs.Int.{bit_at};
-ghost use Rattle.std.specs.List.{list_all};
-ghost use Rattle.std.specs.Option.{is_none};
+ghost use Rattle.egt_board.specs.Board.{place, man_on, marks, takes, lesser, greater};
 
 use crate::man::{Man, Side};
 use crate::square::Square;
 use crate::square_set::SquareSet;
 use std::marker::Model;
 
-/// The men on the 64 squares, seen as the map from squares to men.
+/// A man and its square, or nothing.
+pub(crate) type Slot = Option<(Square, Man)>;
+
+/// At most four men and their squares, seen as the map from squares to men.
 ///
-/// A board may hold any men anywhere. What the rules of play admit is a `Position`.
-#[derive(Drop)]
+/// They may be any men anywhere. What the rules of play admit is a `Position`. The men are in the first slots, in
+/// order of square, so that a map has one form.
+#[derive(Clone, Copy)]
 pub struct Board {
-    squares: [Option<Man>; 64],
-    white: SquareSet,
-    black: SquareSet,
+    pub(crate) first: Slot,
+    pub(crate) second: Slot,
+    pub(crate) third: Slot,
+    pub(crate) fourth: Slot,
 }
 
 impl Model for Board {
-    ghost use Rattle.std.specs.Prelude.{◌≡◌, length};
     ghost use Rattle.std.specs.Coded.{coded_ℕ};
     ghost use Rattle.std.specs.FinMap as map;
     ghost use Rattle.egt_board.specs.contracts.man.Man as man;
-    ghost use Rattle.egt_board.specs.declared.man.Side.TheVariants.{White, Black};
     ghost use Rattle.egt_board.specs.Placement.{Placement};
-    ghost use Rattle.egt_board.specs.Board.{placed, AreOf};
+    ghost use Rattle.egt_board.specs.Board.{placed, AreKept};
+    ghost use Rattle.egt_board.specs.Slots.{slots_of, fields_of, fields_of-placed};
 
     ghost Value = { Placement };
 
     ghost coded = { map.code coded_ℕ man.the_row.coded };
 
-    ghost view = { λ a. placed a.squares };
+    ghost view = { λ a. placed (slots_of a) };
 
-    ghost invariant = { λ a. (length a.squares ≡ 64) × AreOf a.white.bits White a.squares × AreOf a.black.bits Black a.squares };
+    ghost invariant = { λ a. AreKept (slots_of a) };
+
+    ghost inverse = { fields_of };
+
+    ghost inverse_ok = { fields_of-placed };
+}
+
+/// The man of the slot, if it stands on the square.
+fn man_on(square: Square, slot: Slot) -> Option<Man>
+    ensures { result ≡ man_on square slot }
+{
+    let placed = slot?;
+    if square.number() == placed.0.number() {
+        Some(placed.1)
+    } else {
+        None
+    }
+}
+
+/// The square of the slot's man, if it is that side's.
+fn held(slot: Slot, side: Side) -> SquareSet
+    ensures { (t : ℕ) → bit_at result.bits t ≡ marks side slot t }
+{
+    let Some(placed) = slot else {
+        return SquareSet::EMPTY;
+    };
+    if placed.1.side == side {
+        SquareSet::EMPTY.with(placed.0)
+    } else {
+        SquareSet::EMPTY
+    }
+}
+
+/// The square of the slot's man, if there is one.
+fn taken(slot: &Slot) -> SquareSet
+    ensures { (t : ℕ) → bit_at result.bits t ≡ takes slot.now t }
+{
+    match slot {
+        Some(placed) => SquareSet::EMPTY.with(placed.0),
+        None => SquareSet::EMPTY,
+    }
+}
+
+/// The number of the square of the slot's man, and 64 of none, which comes behind every square.
+fn place(slot: &Slot) -> u8
+    ensures { result ≡ place slot.now }
+{
+    match slot {
+        Some(placed) => placed.0.number(),
+        None => 64,
+    }
+}
+
+/// What stands first of a new man and what is in a slot; on one square it is the new man.
+fn lesser(new: &Slot, slot: &Slot) -> Slot
+    ensures { result ≡ lesser new.now slot.now }
+{
+    if place(slot) < place(new) {
+        *slot
+    } else {
+        *new
+    }
+}
+
+/// What is left over of the two: the one that stands behind the other; nothing on one square.
+fn greater(new: &Slot, slot: &Slot) -> Slot
+    ensures { result ≡ greater new.now slot.now }
+{
+    if place(slot) < place(new) {
+        *new
+    } else if place(new) < place(slot) {
+        *slot
+    } else {
+        None
+    }
 }
 
 impl Board {
@@ -47,18 +124,11 @@ impl Board {
     pub fn new() -> Board
         ensures { result ≡ map.empty }
     {
-        Board::bare([None; 64])
-    }
-
-    /// The board of these squares, on which nothing stands.
-    fn bare(squares: [Option<Man>; 64]) -> Board
-        requires { IsTrue (list_all is_none squares) }
-        ensures { result ≡ map.empty }
-    {
         Board {
-            squares,
-            white: SquareSet::EMPTY,
-            black: SquareSet::EMPTY,
+            first: None,
+            second: None,
+            third: None,
+            fourth: None,
         }
     }
 
@@ -66,35 +136,52 @@ impl Board {
     pub fn at(&self, square: Square) -> Option<Man>
         ensures { result ≡ map.get self.now square }
     {
-        self.squares[square.number() as usize]
+        man_on(square, self.first)
+            .or(man_on(square, self.second))
+            .or(man_on(square, self.third))
+            .or(man_on(square, self.fourth))
     }
 
-    /// Puts a man on the square, in place of any that stands there.
+    /// Puts a man on the square, in place of any that stands there, where there are fewer than four men.
     pub fn put(&mut self, square: Square, man: Man)
+        requires { map.len self.old < 4 }
         ensures { self.new ≡ map.insert self.old square man }
     {
-        self.squares[square.number() as usize] = Some(man);
-        self.white = self.white.changed(square, man.side == Side::White);
-        self.black = self.black.changed(square, man.side == Side::Black);
+        let new = filled(square, man);
+        let after_first = greater(&new, &self.first);
+        let after_second = greater(&after_first, &self.second);
+        let after_third = greater(&after_second, &self.third);
+        *self = Board {
+            first: lesser(&new, &self.first),
+            second: lesser(&after_first, &self.second),
+            third: lesser(&after_second, &self.third),
+            fourth: lesser(&after_third, &self.fourth),
+        };
     }
 
     /// Takes the man off the square, if one stands there.
     pub fn clear(&mut self, square: Square)
         ensures { self.new ≡ map.remove self.old square }
     {
-        self.squares[square.number() as usize] = None;
-        self.white = self.white.changed(square, false);
-        self.black = self.black.changed(square, false);
+        let by_first = man_on(square, self.first).is_some();
+        let by_second = by_first | man_on(square, self.second).is_some();
+        let by_third = by_second | man_on(square, self.third).is_some();
+        let by_fourth = by_third | man_on(square, self.fourth).is_some();
+        *self = Board {
+            first: chosen(by_first, self.second, self.first),
+            second: chosen(by_second, self.third, self.second),
+            third: chosen(by_third, self.fourth, self.third),
+            fourth: chosen(by_fourth, None, self.fourth),
+        };
     }
 
     /// The squares of that side's men.
     pub fn of(&self, side: Side) -> SquareSet
         ensures { (t : ℕ) → Has result t ↔ IsHeld self.now t side }
     {
-        match side {
-            Side::White => self.white,
-            Side::Black => self.black,
-        }
+        let front = held(self.first, side).union(held(self.second, side));
+        let back = held(self.third, side).union(held(self.fourth, side));
+        front.union(back)
     }
 
     /// The squares of all men.
@@ -103,17 +190,29 @@ impl Board {
         ensures on_board { (s : ℕ) (man : Man) → Stands self.now s man → s < 64 }
         ensures few { size_of result ≤ map.len self.now }
     {
-        self.white.union(self.black)
+        let front = taken(&self.first).union(taken(&self.second));
+        let back = taken(&self.third).union(taken(&self.fourth));
+        front.union(back)
     }
 
     /// A copy of the board.
     pub fn copied(&self) -> Board
         ensures { result ≡ self.now }
     {
-        Board {
-            squares: self.squares,
-            white: self.white,
-            black: self.black,
-        }
+        *self
     }
+}
+
+/// The slot of a man on that square.
+fn filled(square: Square, man: Man) -> Slot
+    ensures { result ≡ Some (record { 0 = square; 1 = man }) }
+{
+    Some((square, man))
+}
+
+/// The one slot or the other.
+fn chosen(first: bool, one: Slot, other: Slot) -> Slot
+    ensures { result ≡ (if first then one else other) }
+{
+    if first { one } else { other }
 }

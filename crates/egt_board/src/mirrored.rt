@@ -13,6 +13,7 @@ use crate::position::Position;
 impl Position {
     /// The board in a mirror.
     fn mirrored_board(&self, mirror: Mirror) -> Board
+        requires { map.len self.now.men ≤ 4 }
         ensures shows { (t : ℕ) → t < 64
             → map.get result (square_by mirror t) ≡ option_map (man_by mirror) (map.get self.now.men t) }
         ensures on_board { (s : ℕ) (man : Man) → Stands result s man → s < 64 }
@@ -33,8 +34,9 @@ impl Position {
         requires { Allows mirror self.now.men }
         ensures { IsMirrored mirror self.now result }
     {
+        let side = mirror.side(self.side());
         let board = self.mirrored_board(mirror);
         let target = mirror.target(self.target());
-        Position::admitted(board, mirror.side(self.side()), target)
+        Position::admitted(board, side, target)
     }
 }

@@ -2,6 +2,7 @@
 ghost use Rattle.std.specs.Prelude.{◌≡◌, ℕ, ◌≤◌, ◌↔◌, IsOk, IfOk, IfErr, IsTrue, map};
 ghost use Rattle.egt_board.specs.Attack.{IsAttacked};
 ghost use Rattle.std.specs.FinMap as placement;
+ghost use Rattle.egt_board.specs.declared.man.Side.TheVariants.{White, Black};
 
 use crate::board::Board;
 use crate::fault::PosFault;
@@ -15,7 +16,7 @@ use std::marker::Model;
 ///
 /// Every `Position` is admissible: it has at most four men, one king a side, a target only where the last
 /// move may have set it, and the king of the side that waits is not attacked.
-#[derive(Drop)]
+#[derive(Clone, Copy)]
 pub struct Position {
     board: Board,
     side: Side,
@@ -31,11 +32,15 @@ impl Model for Position {
 
     ghost coded = { setup_code };
 
-    ghost use Rattle.egt_board.specs.Position.{shown, IsWhole};
+    ghost use Rattle.egt_board.specs.Position.{shown, IsWhole, fields_of, fields_of-shown};
 
     ghost view = { shown };
 
     ghost invariant = { IsWhole };
+
+    ghost inverse = { fields_of };
+
+    ghost inverse_ok = { fields_of-shown };
 }
 
 impl Position {
@@ -170,18 +175,36 @@ impl Position {
         }
     }
 
+    /// The position with this board, side to move and target, and with its kings on these squares, which the caller
+    /// knows to be admissible.
+    pub fn with_kings(
+        board: Board,
+        side: Side,
+        target: Option<Square>,
+        white_king: Square,
+        black_king: Square,
+    ) -> Position
+        requires admissible { IsAdmissible (record { men = board; side = side; target = target }) }
+        requires white { IsKingOn board White white_king }
+        requires black { IsKingOn board Black black_king }
+        ensures { result ≡ record { men = board; side = side; target = target } }
+    {
+        Position {
+            board,
+            side,
+            target,
+            white_king,
+            black_king,
+        }
+    }
+
     /// A copy of the position.
     pub fn copied(&self) -> Position
         ensures same { result ≡ self.now }
         ensures admissible { IsAdmissible self.now }
     {
-        Position {
-            board: self.board.copied(),
-            side: self.side,
-            target: self.target,
-            white_king: self.white_king,
-            black_king: self.black_king,
-        }
+        let _ = &self.board;
+        *self
     }
 }
 

@@ -16,6 +16,16 @@ impl SquareSet {
     /// The set without a square.
     pub const EMPTY: SquareSet = SquareSet { bits: 0 };
 
+    /// The set of all squares.
+    pub const ALL: SquareSet = SquareSet { bits: u64::MAX };
+
+    /// Whether the set has no square.
+    pub fn is_empty(self) -> bool
+        ensures { IsTrue result ↔ ((t : ℕ) → bit_at self.bits t ≡ 0) }
+    {
+        self.bits == 0
+    }
+
     /// Whether the set has the square.
     pub fn contains(self, square: Square) -> bool
         ensures { IsTrue result ↔ Has self square }

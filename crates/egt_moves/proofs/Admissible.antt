@@ -39,14 +39,21 @@ len_left p man to ok = elim (left_cases p man to ok) [
     shorter true l n e = omega arith
     shorter false l n e = omega arith
 
+-- once the man is lifted there is room for it on its new square
+pub len_lifted : (p : Setup) (man : Man) (from to : ℕ) → IsAdmissible p → man.side ≡ p.side → Stands p.men from man → map.len (map.remove (men_left p man to) from) < 4
+len_lifted p man from to ok mine stands =
+    let left = men_left p man to in
+    let there : map.get left from ≡ Some man = left_keeps p man to from man ok (λ e. sides_differ p.side (sym mine ∙ ap (λ (x : Man). x.side) e)) stands in
+    let removed : map.len (map.remove left from) ≡ cond (is_some (map.get left from)) (map.len left - 1) (map.len left) = map.len-remove nat_cmp_total left from in
+    let less : map.len (map.remove left from) ≡ map.len left - 1 = removed ∙ ap (λ o. cond (is_some o) (map.len left - 1) (map.len left)) there in
+    let few = len_left p man to ok in
+    let four = ok.few in
+    omega arith
+
 len_after : (p : Setup) (man : Man) (m : Move) → IsAdmissible p → man.side ≡ p.side → Stands p.men m.from man → map.len (men_after p man m) ≤ 4
 len_after p man m ok mine stands =
     let left = men_left p man m.to in
-    let there : map.get left m.from ≡ Some man = left_keeps p man m.to m.from man ok (λ e. sides_differ p.side (sym mine ∙ ap (λ (x : Man). x.side) e)) stands in
-    let removed : map.len (map.remove left m.from) ≡ cond (is_some (map.get left m.from)) (map.len left - 1) (map.len left) = map.len-remove nat_cmp_total left m.from in
-    let less : map.len (map.remove left m.from) ≡ map.len left - 1 = removed ∙ ap (λ o. cond (is_some o) (map.len left - 1) (map.len left)) there in
-    let few = len_left p man m.to ok in
-    let four = ok.few in
+    let few = len_lifted p man m.from m.to ok mine stands in
     bound (map.contains_key (map.remove left m.from) m.to) _ _ (map.len-insert nat_cmp_total (map.remove left m.from) m.to (arriving man m.promo)) (omega arith)
   where
     bound : (b : Bool) (l n : ℕ) → l ≡ cond b n (n + 1) → n ≤ 3 → l ≤ 4

@@ -15,6 +15,7 @@ use Rattle.egt_moves.specs.declared.chess_move.Move.{Move}
 use Rattle.egt_moves.specs.Going.{Goes}
 use Rattle.egt_moves.specs.Promotion.{is_pawn, promotes, FitsPromotion}
 use Rattle.egt_moves.specs.Legal.{IsLegal, men_after, after, plain}
+use Rattle.egt_moves.specs.Targets.{IsSafeGoal}
 use Rattle.egt_moves.specs.Room.{most_goals, most_choices, most_moves}
 use Rattle.egt_moves.specs.Order.{place_of, promotion_place, IsInOrder}
 use Rattle.egt_board.specs.Placement.{one_man}
@@ -73,24 +74,27 @@ pub record Lists (p : Setup) (man : Man) (from : ℕ) (old new : List Move) (lef
   pub ordered : IsInOrder new
   pub legal : (m : Move) → Contains new m ↔ (Contains old m ⊎ ((m.from ≡ from) × IsLegal p m × (bit_at left.bits m.to ≡ 0)))
   pub later : (m : Move) → Contains new m → (place_of m < from * 512) ⊎ ((m.from ≡ from) × ((t : ℕ) → bit_at left.bits t ≡ 1 → m.to < t))
-  pub goes : (t : ℕ) → bit_at left.bits t ≡ 1 → Goes p man from t
+  pub safe : (t : ℕ) → bit_at left.bits t ≡ 1 → IsSafeGoal p man from t
   pub room : length new + most_choices man.kind * size_of left ≤ length old + most_moves man.kind
 
 -- at first nothing has been added
 pub Lists-none : (p : Setup) (man : Man) (from : ℕ) (old : List Move) (left : SquareSet) → Stands p.men from man → IsInOrder old → ((m : Move) → Contains old m → place_of m < from * 512)
-    → ((t : ℕ) → Has left t ↔ Goes p man from t) → size_of left ≤ most_goals man.kind → Lists p man from old old left
-Lists-none p man from old left stands ordered before goes few = record {
+    → man.side ≡ p.side → ((t : ℕ) → Has left t ↔ IsSafeGoal p man from t) → size_of left ≤ most_goals man.kind → Lists p man from old old left
+Lists-none p man from old left stands ordered before mine safe few = record {
   ordered = ordered;
   legal = λ m. (λ there. inl there, λ h. elim h [ inl there ↦ there | inr w ↦ absurd (not_left m w) ]);
   later = λ m there. inl (before m there);
-  goes = λ t has. (goes t).0 has;
+  safe = λ t has. (safe t).0 has;
   room = room_first man.kind (size_of left) (length old) few;
 }
   where
     not_left : (m : Move) → (m.from ≡ from) × IsLegal p m × (bit_at left.bits m.to ≡ 0) → ⊥
     not_left m w =
-        let goes_there = goes_of p man m (subst (λ s. Stands p.men s man) (sym w.0) stands) w.1 in
-        not_both (bit_at left.bits m.to) w.2 ((goes m.to).1 (subst (λ s. Goes p man s m.to) w.0 goes_there))
+        let stands_there = subst (λ s. Stands p.men s man) (sym w.0) stands in
+        let goes_there = goes_of p man m stands_there w.1 in
+        let fits = fits_of p man m stands_there w.1 in
+        let safe_there : ¬ IsInCheck (men_after p man (plain m.from m.to)) p.side = λ check. safe_of p man m stands_there w.1 ((same_safety p man m.from m.to m.promo mine fits).1 check) in
+        not_both (bit_at left.bits m.to) w.2 ((safe m.to).1 (subst (λ s. IsSafeGoal p man s m.to) w.0 (goes_there, safe_there)))
 
     room_first : (kind : Kind) (n l : ℕ) → n ≤ most_goals kind → l + most_choices kind * n ≤ l + most_moves kind
     room_first Q n l le = omega arith
@@ -150,7 +154,7 @@ Lists-more p man from s old now new left left' stands s_in has least gone others
     | inl before ↦ elim (lists.later m before) [ inl lt ↦ inl lt | inr h ↦ inr (h.0, λ t one. h.1 t (was_left t one)) ]
     | inr w ↦ inr (w.0, λ t one. subst (λ x. x < t) (sym w.1) (above t one))
   ];
-  goes = λ t one. lists.goes t (was_left t one);
+  safe = λ t one. lists.safe t (was_left t one);
   room = room_less man.kind (size_of left') (size_of left) _ _ _ size added.few lists.room;
 }
   where

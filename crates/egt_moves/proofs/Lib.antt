@@ -20,6 +20,8 @@ pub mod InOrder
 pub mod Choosing
 pub mod Growing
 pub mod Walking
+pub mod SafeGoals
+pub mod Sticking
 pub mod Ending
 pub mod Trying
 pub mod NextMoves

@@ -5,6 +5,7 @@ pub mod Likeness
 pub mod Going
 pub mod Promotion
 pub mod Legal
+pub mod Targets
 pub mod Room
 pub mod Order
 pub mod Standing

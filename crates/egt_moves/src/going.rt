@@ -2,7 +2,7 @@
 ghost use Rattle.std.specs.Prelude.{◌≡◌, ℕ, ◌≤◌, ◌↔◌, ◌⊎◌, IsTrue, Some};
 ghost use Rattle.egt_board.specs.Attack.{IsInCheck};
 ghost use Rattle.egt_board.specs.Placement.{Stands, IsHeld};
-ghost use Rattle.egt_board.specs.Setup.{IsKingOn};
+ghost use Rattle.egt_board.specs.Setup.{IsAdmissible, IsKingOn};
 ghost use Rattle.egt_board.specs.SquareSet.{Has, size_of};
 ghost use Rattle.egt_board.specs.Man.{other_side};
 ghost use Rattle.egt_board.specs.declared.man.Kind.TheVariants.{P};
@@ -76,17 +76,21 @@ fn takes_in_passing(position: &Position, man: Man, to: Square) -> bool
 
 /// The board without a pawn that the man takes in passing.
 fn left(position: &Position, man: Man, to: Square) -> Board
-    ensures { result ≡ men_left position.now man to }
+    ensures left { result ≡ men_left position.now man to }
+    ensures admissible { IsAdmissible position.now }
 {
     let mut board = position.board().copied();
+    let waiting = position.side().other();
     if takes_in_passing(position, man, to) {
-        board.clear(to.ahead(position.side().other()));
+        board.clear(to.ahead(waiting));
     }
     board
 }
 
-/// The board after the man has made the move.
+/// The board after the man, one of the side to move, has made the move.
 pub(crate) fn moved(position: &Position, man: Man, chess_move: Move) -> Board
+    requires stands { Stands position.now.men chess_move.from man }
+    requires mine { man.side ≡ position.now.side }
     ensures { result ≡ men_after position.now man chess_move }
 {
     let mut board = left(position, man, chess_move.to);

@@ -13,6 +13,7 @@ pub mod outcome;
 pub mod playing;
 pub mod promotion;
 pub mod standings;
+pub mod targets;
 pub mod text;
 pub mod zeroing_moves;
 
@@ -23,7 +24,10 @@ pub use mate_search::search;
 pub use outcome::Standing;
 pub use playing::play;
 pub use standings::standing;
+pub use targets::legal_targets;
 pub use zeroing_moves::zeroing;
 
+#[cfg(test)]
+mod target_tests;
 #[cfg(test)]
 mod tests;

@@ -11,8 +11,8 @@ ghost use Rattle.egt_moves.specs.Room.{most_choices, most_moves};
 ghost use Rattle.egt_moves.specs.declared.chess_move.Move.{Move};
 
 use crate::chess_move::Move;
-use crate::going::{is_safe, targets};
 use crate::promotion::{OFFICERS, promotes};
+use crate::targets::legal_goals;
 use arrayvec::ArrayVec;
 use egt_board::{Man, Position, Square};
 
@@ -55,11 +55,9 @@ fn push_moves(position: &Position, man: Man, from: Square, moves: &mut ArrayVec<
         ↔ (Contains moves.old.items m ⊎ ((m.from ≡ from) × IsLegal position.now m)) }
     ensures few { array_vec_len moves.new ≤ array_vec_len moves.old + most_moves man.kind }
 {
-    let mut left = targets(position, man, from);
+    let mut left = legal_goals(position, man, from);
     while let Some(to) = left.pop_first() {
-        if is_safe(position, man, from, to) {
-            push_choices(man, from, to, moves);
-        }
+        push_choices(man, from, to, moves);
     }
 }
 

@@ -1,12 +1,54 @@
 //! What a move leads to.
-ghost use Rattle.std.specs.Prelude.{IfSome, IfNone};
-ghost use Rattle.egt_board.specs.Setup.{Setup};
-ghost use Rattle.egt_moves.specs.Legal.{Leads};
+ghost use Rattle.std.specs.Prelude.{◌≡◌, IfSome, IfNone};
+ghost use Rattle.egt_board.specs.Attack.{IsInCheck};
+ghost use Rattle.egt_board.specs.Placement.{Stands};
+ghost use Rattle.egt_board.specs.Setup.{Setup, IsAdmissible, IsKingOn};
+ghost use Rattle.egt_moves.specs.Going.{Goes};
+ghost use Rattle.egt_moves.specs.Legal.{Leads, men_after, after};
+ghost use Rattle.egt_moves.specs.Promotion.{FitsPromotion, promotes};
 
 use crate::chess_move::Move;
-use crate::going::{is_safe, moved, passed, targets};
+use crate::going::{moved, passed};
 use crate::promotion::fits_promotion;
-use egt_board::Position;
+use crate::targets::legal_goals;
+use egt_board::{Kind, Man, Position, Side, Square};
+
+/// The square of that side's king after the man has made the move.
+fn king_after_move(position: &Position, man: Man, chess_move: &Move, side: Side) -> Square
+    requires stands { Stands position.now.men chess_move.now.from man }
+    requires mine { man.side ≡ position.now.side }
+    requires goes { Goes position.now man chess_move.now.from chess_move.now.to }
+    requires promotion { FitsPromotion (promotes man chess_move.now.to) chess_move.now.promo }
+    requires admissible { IsAdmissible position.now }
+    ensures { IsKingOn (men_after position.now man chess_move.now) side result }
+{
+    let king = position.king(side);
+    if man.side == side {
+        match man.kind {
+            Kind::K => chess_move.to,
+            _ => king,
+        }
+    } else {
+        king
+    }
+}
+
+/// The position after the man has made the move, which is legal.
+fn played(position: &Position, man: Man, chess_move: &Move) -> Position
+    requires stands { Stands position.now.men chess_move.now.from man }
+    requires mine { man.side ≡ position.now.side }
+    requires goes { Goes position.now man chess_move.now.from chess_move.now.to }
+    requires promotion { FitsPromotion (promotes man chess_move.now.to) chess_move.now.promo }
+    requires admissible { IsAdmissible position.now }
+    requires safe { ¬ IsInCheck (men_after position.now man chess_move.now) position.now.side }
+    ensures { result ≡ after position.now man chess_move.now }
+{
+    let board = moved(position, man, *chess_move);
+    let target = passed(man, chess_move.from, chess_move.to);
+    let white_king = king_after_move(position, man, chess_move, Side::White);
+    let black_king = king_after_move(position, man, chess_move, Side::Black);
+    Position::with_kings(board, man.side.other(), target, white_king, black_king)
+}
 
 /// The position that the move leads to; `None` where the move is not legal.
 pub fn play(position: &Position, chess_move: Move) -> Option<Position>
@@ -21,13 +63,8 @@ pub fn play(position: &Position, chess_move: Move) -> Option<Position>
     if !fits_promotion(man, to, promo) {
         return None;
     }
-    if !targets(position, man, from).contains(to) {
+    if !legal_goals(position, man, from).contains(to) {
         return None;
     }
-    if !is_safe(position, man, from, to) {
-        return None;
-    }
-    let board = moved(position, man, chess_move);
-    let target = passed(man, from, to);
-    Some(Position::admitted(board, man.side.other(), target))
+    Some(played(position, man, &chess_move))
 }

@@ -1,13 +1,5 @@
+use Rattle.egt_board.proofs.Hiding.{sees}
 use Rattle.egt_board.proofs.gait.reach.Goals as goal
 
-pub returns-in-Q : goal.returns-in-Q
-returns-in-Q c = rw c.in-Q.is c.ride_all.ensures
-
-pub returns-in-N : goal.returns-in-N
-returns-in-N c = rw c.in-N.is c.ride_all-in-N.ensures
-
-pub returns-in-K : goal.returns-in-K
-returns-in-K c = rw c.in-K.is c.ride_all-in-K.ensures
-
-pub returns-in-P : goal.returns-in-P
-returns-in-P c = rw c.in-P.is c.pawn_reach.ensures
+pub returns : goal.returns
+returns c = λ t t_in. sees c.args.man c.args.from c.args.occupied.bits c.lone_reach.result.bits c.lone_reach.ensures t _ t_in (c.seen.ensures t)

@@ -7,23 +7,19 @@ use Rattle.egt_moves.specs.Going.{Goes}
 use Rattle.egt_moves.specs.Promotion.{FitsPromotion, promotes}
 use Rattle.egt_moves.specs.Legal.{men_after, after, passed, plain}
 use Rattle.std.proofs.lemmas.Bool.{false≢true}
-use Rattle.egt_moves.proofs.Growing.{fits_of, safe_of, same_safety}
+use Rattle.egt_moves.proofs.Growing.{goes_of, fits_of, safe_of, same_safety}
 use Rattle.egt_moves.proofs.Admissible.{admissible_after}
 use Rattle.egt_moves.proofs.playing.play.Goals as goal
 
-pub admitted-requires : goal.admitted-requires
-admitted-requires c =
+pub played-requires-clause-safe : goal.played-requires-clause-safe
+played-requires-clause-safe c =
     let p = c.args.position.now in
     let man = c.in_ok-man.man in
     let m = c.args.chess_move in
-    let stands : Stands p.men m.from man = search rules in
     let mine : man.side ≡ p.side = search rules in
-    let goes : Goes p man m.from m.to = search rules in
     let fits : FitsPromotion (promotes man m.to) m.promo = search rules in
     let safe : ¬ IsInCheck (men_after p man (plain m.from m.to)) p.side = search rules in
-    rw (c.moved-board.ensures, c.other.ensures, c.passed-target.ensures)
-    (subst (λ side. IsAdmissible (record { men = men_after p man m; side = other_side side; target = passed man m.from m.to })) (sym mine)
-    (admissible_after p man m stands mine goes fits c.side.ensures.admissible (λ check. safe ((same_safety p man m.from m.to m.promo mine fits).0 check))))
+    λ check. safe ((same_safety p man m.from m.to m.promo mine fits).0 check)
 
 pub returns-clause-leads : goal.returns-clause-leads
 returns-clause-leads c =
@@ -35,8 +31,7 @@ returns-clause-leads c =
     let goes : Goes p man m.from m.to = search rules in
     let fits : FitsPromotion (promotes man m.to) m.promo = search rules in
     let safe : ¬ IsInCheck (men_after p man (plain m.from m.to)) p.side = search rules in
-    let becomes : c.admitted.result ≡ after p man m =
-    c.admitted.ensures ∙ (λ i. record { men = c.moved-board.ensures i; side = (c.other.ensures ∙ ap other_side mine) i; target = c.passed-target.ensures i }) in
+    let becomes : c.played.result ≡ after p man m = c.played.ensures in
     record {
       man = man;
       stands = stands;
@@ -47,13 +42,14 @@ returns-clause-leads c =
       safe = subst (λ (q : Setup). ¬ IsInCheck q.men p.side) (sym becomes) (λ check. safe ((same_safety p man m.from m.to m.promo mine fits).0 check));
     }
 
-pub returns-then-not-is_safe-clause-illegal : goal.returns-then-not-is_safe-clause-illegal
-returns-then-not-is_safe-clause-illegal c = λ q leads.
+pub returns-then-not-contains-clause-illegal : goal.returns-then-not-contains-clause-illegal
+returns-then-not-contains-clause-illegal c = λ q leads.
     let p = c.args.position.now in
     let man = c.in_ok-man.man in
     let m = c.args.chess_move in
     let stands : Stands p.men m.from man = search rules in
     let mine : man.side ≡ p.side = search rules in
+    let goes = goes_of p man m stands (q, leads) in
     let safe = safe_of p man m stands (q, leads) in
     let fits = fits_of p man m stands (q, leads) in
-    false≢true (sym c.if-not-is_safe.true ∙ c.is_safe.ensures.1 (λ check. safe ((same_safety p man m.from m.to m.promo mine fits).1 check)))
+    false≢true (sym c.if-not-contains.true ∙ c.contains.ensures.1 ((c.legal_goals.ensures.safe m.to).1 (goes, λ check. safe ((same_safety p man m.from m.to m.promo mine fits).1 check))))

@@ -1,7 +1,9 @@
-use Rattle.std.proofs.Common.{sym, ap, ◌∙◌}
-use Rattle.std.specs.FinMap as map
-use Rattle.egt_board.proofs.Placed.{get-placed}
+use Rattle.std.proofs.Common.{[], ◌∷◌}
+use Rattle.egt_board.proofs.Slots.{shown, found_on}
 use Rattle.egt_board.proofs.board.Board.at.Goals as goal
 
 pub returns : goal.returns
-returns c = sym (get-placed _ _) ∙ ap (λ m. map.get m c.number.result) c.self.view_is ∙ ap (map.get c.args.self.now) c.number.ensures.value
+returns c =
+    let a = c.self.inside in
+    rw (c.or-3.ensures, c.or-2.ensures, c.or.ensures, c.man_on.ensures, c.man_on-2.ensures, c.man_on-3.ensures, c.man_on-4.ensures)
+    (found_on c.args.square a.first a.second a.third a.fourth c.args.self.now (shown (a.first ∷ a.second ∷ a.third ∷ a.fourth ∷ []) c.args.self.now c.self.invariant c.self.view_is))

@@ -1,6 +1,6 @@
 use Rattle.std.proofs.Common.{arith, sym, ◌∙◌}
 use Rattle.std.proofs.lemmas.Bool.{false≢true}
-use Rattle.egt_board.proofs.Lists.{Laid-none, Laid-more, Laid-twice}
+use Rattle.egt_board.proofs.Lists.{Laid-none, Laid-more, Laid-twice, Laid-room}
 use Rattle.egt_board.proofs.Positions.{some_of, none_of}
 use Rattle.egt_board.proofs.board.Board.of_men.Goals as goal
 
@@ -19,3 +19,6 @@ pub loop-man-preserved : goal.loop-man-preserved
 loop-man-preserved c =
     rw c.put.ensures (Laid-more c.loop-man.board c.args.men.now c.loop-man.man-index c.loop-man-item.result.1 c.loop-man-item.result.0 c.loop-man-item.result
     (omega arith) (sym c.loop-man-item.is) (sym c.at.ensures ∙ none_of c.at.result (sym c.is_some.ensures ∙ c.if-is_some.false)) c.loop-man.invariant)
+
+pub put-requires : goal.put-requires
+put-requires c = Laid-room c.loop-man.board c.args.men.now c.loop-man.man-index (omega arith) (omega arith) c.loop-man.invariant

@@ -1,0 +1,187 @@
+-- The one step that leads from a square to another on its line, and how many of them.
+use Rattle.std.proofs.Common.{◌≡◌, ℕ, ◌+◌, ◌-◌, ◌*◌, ◌<◌, Bool, true, false, cond, eqb, ltb, max, min, arith, refl, sym, ap, ◌∙◌, subst, inl, inr, ◌⊎◌}
+use Rattle.std.proofs.lemmas.Bool.{lt-ltb, le-ltb, ltb-true, eqb-true, eq-eqb, cases_order, false≢true}
+use Rattle.egt_board.specs.declared.step.Way.{Way}
+use Rattle.egt_board.specs.declared.step.Way.TheVariants.{Up, Down, Still}
+use Rattle.egt_board.specs.declared.step.Step.{Step}
+use Rattle.egt_board.specs.Square.{file_of, rank_of}
+use Rattle.egt_board.specs.Coordinate.{Further}
+use Rattle.egt_board.specs.Step.{Away}
+use Rattle.egt_board.specs.Between.{size_of_way, unit, IsRoyal}
+
+-- along one coordinate
+abbrev pub way_to : ℕ → ℕ → Way
+way_to a b = cond (ltb a b) Up (cond (ltb b a) Down Still)
+
+abbrev pub apart : ℕ → ℕ → ℕ
+apart a b = (a - b) + (b - a)
+
+-- on the board
+abbrev pub toward : ℕ → ℕ → Step
+toward s t = unit (way_to (file_of s) (file_of t)) (way_to (rank_of s) (rank_of t))
+
+abbrev pub distance : ℕ → ℕ → ℕ
+distance s t = max (apart (file_of s) (file_of t)) (apart (rank_of s) (rank_of t))
+
+-- 0 on one line, and 1 elsewhere
+abbrev pub off_line : ℕ → ℕ → ℕ
+off_line f r = min f (min r (apart f r))
+
+-- whether they are two squares of one line
+abbrev pub are_aligned : ℕ → ℕ → Bool
+are_aligned s t = cond (ltb 0 (distance s t)) (eqb (off_line (apart (file_of s) (file_of t)) (apart (rank_of s) (rank_of t))) 0) false
+
+way_up : (a b : ℕ) → a < b → way_to a b ≡ Up
+way_up a b h = ap (λ x. cond x Up (cond (ltb b a) Down Still)) (lt-ltb a b h)
+
+way_down : (a b : ℕ) → b < a → way_to a b ≡ Down
+way_down a b h = ap (λ x. cond x Up (cond (ltb b a) Down Still)) (le-ltb a b (omega arith)) ∙ ap (λ x. cond x Down Still) (lt-ltb b a h)
+
+way_still : (a b : ℕ) → a ≡ b → way_to a b ≡ Still
+way_still a b h = ap (λ x. cond x Up (cond (ltb b a) Down Still)) (le-ltb a b (omega arith)) ∙ ap (λ x. cond x Down Still) (le-ltb b a (omega arith))
+
+-- k times this way leads there by the way that is found
+pub way_found : (w : Way) (k a b : ℕ) → 0 < k → Further w (k * size_of_way w) a b → (way_to a b ≡ w) × (apart a b ≡ k * size_of_way w)
+way_found Up k a b some h = (way_up a b (omega arith), omega arith)
+way_found Down k a b some h = (way_down a b (omega arith), omega arith)
+way_found Still k a b some h = (way_still a b (omega arith), omega arith)
+
+-- and the way that is found leads there
+pub way_leads : (n a b : ℕ) → (apart a b ≡ n) ⊎ (apart a b ≡ 0) → Further (way_to a b) (n * size_of_way (way_to a b)) a b
+way_leads n a b h = elim (cases_order a b) [
+  | inl same ↦ subst (λ w. Further w (n * size_of_way w) a b) (sym (way_still a b same)) (sym same)
+  | inr other ↦ elim other [
+    | inl up ↦ subst (λ w. Further w (n * size_of_way w) a b) (sym (way_up a b up)) (elim h [ inl e ↦ omega arith | inr e ↦ absurd (omega arith) ])
+    | inr down ↦ subst (λ w. Further w (n * size_of_way w) a b) (sym (way_down a b down)) (elim h [ inl e ↦ omega arith | inr e ↦ absurd (omega arith) ])
+  ]
+]
+
+sizes : (fw rw : Way) (k f r : ℕ) → 0 < k → 0 < size_of_way fw + size_of_way rw → f ≡ k * size_of_way fw → r ≡ k * size_of_way rw
+    → (max f r ≡ k) × (off_line f r ≡ 0)
+sizes Up Up k f r some moves e h = (omega arith, omega arith)
+sizes Up Down k f r some moves e h = (omega arith, omega arith)
+sizes Up Still k f r some moves e h = (omega arith, omega arith)
+sizes Down Up k f r some moves e h = (omega arith, omega arith)
+sizes Down Down k f r some moves e h = (omega arith, omega arith)
+sizes Down Still k f r some moves e h = (omega arith, omega arith)
+sizes Still Up k f r some moves e h = (omega arith, omega arith)
+sizes Still Down k f r some moves e h = (omega arith, omega arith)
+sizes Still Still k f r some moves e h = absurd (omega arith)
+
+pub record AreJoined (d : Step) (k s t : ℕ) : Type 0 where
+  pub aligned : are_aligned s t ≡ true
+  pub step : toward s t ≡ d
+  pub count : distance s t ≡ k
+
+-- a step to a neighbour that leads there k times over is the one that is found
+pub joined : (d : Step) (k s t : ℕ) → IsRoyal d → 0 < k → Away d k s t → AreJoined d k s t
+joined d k s t royal some away =
+    let there : Away (unit royal.files royal.ranks) k s t = subst (λ (e : Step). Away e k s t) royal.is away in
+    let f = way_found royal.files k (file_of s) (file_of t) some there.across in
+    let r = way_found royal.ranks k (rank_of s) (rank_of t) some there.along in
+    let n = sizes royal.files royal.ranks k _ _ some royal.moves f.1 r.1 in
+    let far : 0 < distance s t = subst (λ x. 0 < x) (sym n.0) some in
+    record {
+      aligned = ap (λ x. cond x (eqb (off_line (apart (file_of s) (file_of t)) (apart (rank_of s) (rank_of t))) 0) false) (lt-ltb 0 (distance s t) far) ∙ eq-eqb _ 0 n.1;
+      step = (λ i. unit (f.0 i) (r.0 i)) ∙ sym royal.is;
+      count = n.0;
+    }
+
+-- two squares of one line
+pub record AreOnLine (s t : ℕ) : Type 0 where
+  pub royal : IsRoyal (toward s t)
+  pub apart : 0 < distance s t
+  pub near : distance s t < 8
+  pub away : Away (toward s t) (distance s t) s t
+
+far_ways : (a b c d : ℕ) → 0 < max (apart a b) (apart c d) → 0 < size_of_way (way_to a b) + size_of_way (way_to c d)
+far_ways a b c d far = elim (cases_order a b) [
+  | inl same ↦ elim (cases_order c d) [
+    | inl also ↦ absurd (omega arith)
+    | inr other ↦ elim other [
+      | inl up ↦ subst (λ w. 0 < size_of_way (way_to a b) + size_of_way w) (sym (way_up c d up)) (omega arith)
+      | inr down ↦ subst (λ w. 0 < size_of_way (way_to a b) + size_of_way w) (sym (way_down c d down)) (omega arith)
+    ]
+  ]
+  | inr other ↦ elim other [
+    | inl up ↦ subst (λ w. 0 < size_of_way w + size_of_way (way_to c d)) (sym (way_up a b up)) (omega arith)
+    | inr down ↦ subst (λ w. 0 < size_of_way w + size_of_way (way_to c d)) (sym (way_down a b down)) (omega arith)
+  ]
+]
+
+first_size : (f r : ℕ) → off_line f r ≡ 0 → (f ≡ max f r) ⊎ (f ≡ 0)
+first_size f r h = elim (cases_order f r) [
+  | inl same ↦ inl (omega arith)
+  | inr other ↦ elim other [ inl less ↦ inr (omega arith) | inr more ↦ inl (omega arith) ]
+]
+
+second_size : (f r : ℕ) → off_line f r ≡ 0 → (r ≡ max f r) ⊎ (r ≡ 0)
+second_size f r h = elim (cases_order f r) [
+  | inl same ↦ inl (omega arith)
+  | inr other ↦ elim other [ inl less ↦ inl (omega arith) | inr more ↦ inr (omega arith) ]
+]
+
+pub on_line : (s t : ℕ) → s < 64 → t < 64 → are_aligned s t ≡ true → AreOnLine s t
+on_line s t s_in t_in h = go (ltb 0 (distance s t)) refl h
+  where
+    f : ℕ
+    f = apart (file_of s) (file_of t)
+
+    r : ℕ
+    r = apart (rank_of s) (rank_of t)
+
+    go : (b : Bool) → ltb 0 (distance s t) ≡ b → cond b (eqb (off_line f r) 0) false ≡ true → AreOnLine s t
+    go true far line =
+        let some : 0 < distance s t = ltb-true 0 (distance s t) far in
+        let gap : off_line f r ≡ 0 = eqb-true (off_line f r) 0 line in
+        record {
+          royal = record {
+            files = way_to (file_of s) (file_of t);
+            ranks = way_to (rank_of s) (rank_of t);
+            is = refl;
+            moves = far_ways (file_of s) (file_of t) (rank_of s) (rank_of t) some;
+          };
+          apart = some;
+          near = omega arith;
+          away = record {
+            on_board = t_in;
+            across = way_leads (distance s t) (file_of s) (file_of t) (first_size f r gap);
+            along = way_leads (distance s t) (rank_of s) (rank_of t) (second_size f r gap);
+          };
+        }
+    go false far line = absurd (false≢true line)
+
+-- steps one after another
+further_sum : (w : Way) (by m n a b c : ℕ) → Further w (m * by) a b → Further w (n * by) b c → Further w ((m + n) * by) a c
+further_sum Up by m n a b c p q = omega arith
+further_sum Down by m n a b c p q = omega arith
+further_sum Still by m n a b c p q = q ∙ p
+
+pub Away-sum : (d : Step) (m n s t u : ℕ) → Away d m s t → Away d n t u → Away d (m + n) s u
+Away-sum d m n s t u p q = record {
+  on_board = q.on_board;
+  across = further_sum d.files d.wide m n _ _ _ p.across q.across;
+  along = further_sum d.ranks d.high m n _ _ _ p.along q.along;
+}
+
+further_rest : (w : Way) (by m n a b c : ℕ) → Further w (m * by) a b → Further w ((m + n) * by) a c → Further w (n * by) b c
+further_rest Up by m n a b c p q = omega arith
+further_rest Down by m n a b c p q = omega arith
+further_rest Still by m n a b c p q = q ∙ sym p
+
+pub Away-rest : (d : Step) (m n s t u : ℕ) → Away d m s t → Away d (m + n) s u → Away d n t u
+Away-rest d m n s t u p q = record {
+  on_board = q.on_board;
+  across = further_rest d.files d.wide m n _ _ _ p.across q.across;
+  along = further_rest d.ranks d.high m n _ _ _ p.along q.along;
+}
+
+pub within_board : (s t : ℕ) → s < 64 → t < 64 → distance s t < 8
+within_board s t s_in t_in = omega arith
+
+pub gap_of : (s t : ℕ) → are_aligned s t ≡ true → off_line (apart (file_of s) (file_of t)) (apart (rank_of s) (rank_of t)) ≡ 0
+gap_of s t h = go (ltb 0 (distance s t)) h
+  where
+    go : (b : Bool) → cond b (eqb (off_line (apart (file_of s) (file_of t)) (apart (rank_of s) (rank_of t))) 0) false ≡ true → off_line (apart (file_of s) (file_of t)) (apart (rank_of s) (rank_of t)) ≡ 0
+    go true line = eqb-true _ 0 line
+    go false line = absurd (false≢true line)

@@ -1,0 +1,18 @@
+use Rattle.std.proofs.Common.{◌≡◌, ℕ, refl}
+use Rattle.std.specs.Int.{bit_at}
+use Rattle.std.proofs.lemmas.Nat.Bits.{bit_at-lt}
+use Rattle.egt_board.specs.Attack.{AttacksFrom}
+use Rattle.egt_board.proofs.Attacks.{attacked_by}
+use Rattle.egt_board.proofs.Sheltering.{any_of_four}
+use Rattle.egt_board.proofs.board.Board.danger.Goals as goal
+
+pub returns : goal.returns
+returns c = λ t t_in.
+    let a = c.self.inside in
+    let Free : ℕ → Type 0 = λ u. bit_at c.occupied-occupied.result.bits u ≡ 0 in
+    let any = any_of_four (AttacksFrom Free c.args.side t a.first) (AttacksFrom Free c.args.side t a.second) (AttacksFrom Free c.args.side t a.third) (AttacksFrom Free c.args.side t a.fourth) _ _ _ _ _
+    (bit_at-lt c.attacked_by.result.bits t) (bit_at-lt c.attacked_by-2.result.bits t) (bit_at-lt c.attacked_by-3.result.bits t) (bit_at-lt c.attacked_by-4.result.bits t)
+    (rw (c.union.ensures.squares t, c.union-front.ensures.squares t, c.union-back.ensures.squares t) refl)
+    (c.attacked_by.ensures t t_in) (c.attacked_by-2.ensures t t_in) (c.attacked_by-3.ensures t t_in) (c.attacked_by-4.ensures t t_in) in
+    let all = attacked_by a c.args.self.now c.occupied-occupied.result.bits c.args.side t c.self.invariant c.self.view_is c.occupied-occupied.ensures.free in
+    (λ one. all.0 (any.0 one), λ attacked. any.1 (all.1 attacked))

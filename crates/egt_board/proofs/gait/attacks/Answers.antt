@@ -1,0 +1,15 @@
+use Rattle.std.proofs.Common.{sym, ◌∙◌, arith}
+use Rattle.std.proofs.lemmas.Bool.{false≢true}
+use Rattle.egt_board.proofs.Hiding.{Reaches-bare, attacks_open}
+use Rattle.egt_board.proofs.gait.attacks.Goals as goal
+
+pub returns-then-contains : goal.returns-then-contains
+returns-then-contains c =
+    attacks_open c.args.man c.args.from c.args.to c.args.occupied.bits c.between.result.bits c.common.result.bits
+    ((c.lone_reach.ensures c.args.to (omega arith)).0 (c.contains.ensures.0 c.if-contains.true)) c.between.ensures c.common.ensures.squares c.is_empty.ensures
+
+pub returns-else-contains : goal.returns-else-contains
+returns-else-contains c = (
+  λ untrue. absurd (false≢true (sym c.if-contains.false ∙ untrue)),
+  λ r. absurd (false≢true (sym c.if-contains.false ∙ c.contains.ensures.1 ((c.lone_reach.ensures c.args.to (omega arith)).1 (Reaches-bare c.args.man c.args.from c.args.to c.args.occupied.bits r)))),
+)

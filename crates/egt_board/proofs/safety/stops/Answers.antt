@@ -1,0 +1,22 @@
+use Rattle.std.proofs.Common.{◌≡◌, true, refl, sym, ◌∙◌, ap}
+use Rattle.std.proofs.lemmas.Bool.{false≢true}
+use Rattle.std.proofs.lemmas.Nat.Bits.{bit_at_ones}
+use denote.Enum.Bare.{sameb}
+use Rattle.egt_board.specs.contracts.man.Side.{the_type}
+use Rattle.egt_board.specs.declared.man.Side.{Side}
+use Rattle.egt_board.specs.declared.man.Side.TheVariants.{White, Black}
+use Rattle.egt_board.proofs.safety.stops.Goals as goal
+
+pub returns-in_default : goal.returns-in_default
+returns-in_default c = rw c.in_default.is (λ t t_in. (λ _. tt, λ _. bit_at_ones 64 t t_in))
+
+itself : (side : Side) → sameb the_type side side ≡ true
+itself White = refl
+itself Black = refl
+
+pub returns-else-eq : goal.returns-else-eq
+returns-else-eq c =
+    rw c.in-Some.is (λ t t_in. (
+      λ _. λ own. absurd (false≢true (sym c.if-eq.false ∙ c.eq.ensures ∙ ap (λ side. sameb the_type side c.args.side) own ∙ itself c.args.side)),
+      λ _. bit_at_ones 64 t t_in,
+    ))

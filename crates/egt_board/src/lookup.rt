@@ -1,0 +1,70 @@
+//! What men attack on the bare board, and the squares between squares: look-ups in tables.
+ghost use Rattle.std.specs.Prelude.{◌≡◌, ℕ, ◌+◌, ◌*◌, ◌<◌, ◌↔◌, slice_index};
+ghost use Rattle.std.specs.Int.{bit_at};
+ghost use Rattle.egt_board.specs.Between.{IsBetween};
+ghost use Rattle.egt_board.specs.Gait.{Reaches};
+ghost use Rattle.egt_board.specs.Lookup.{row_by};
+ghost use Rattle.egt_board.specs.SquareSet.{Has};
+
+use crate::man::{Kind, Man, Side};
+use crate::square::Square;
+use crate::square_set::SquareSet;
+use crate::tables::{BEHIND, BETWEEN, LONE};
+
+/// The row of the man in the table of what men attack.
+fn row(man: Man) -> u8
+    ensures value { result ≡ row_by man.side man.kind }
+    ensures below { result < 7 }
+{
+    match man.kind {
+        Kind::Q => 0,
+        Kind::R => 1,
+        Kind::B => 2,
+        Kind::N => 3,
+        Kind::P => match man.side {
+            Side::White => 4,
+            Side::Black => 5,
+        },
+        Kind::K => 6,
+    }
+}
+
+/// The squares that this man on `from` attacks on the bare board.
+pub(crate) fn lone_reach(man: Man, from: Square) -> SquareSet
+    ensures { (t : ℕ) → t < 64 → Has result t ↔ Reaches (λ u. bit_at 0 u ≡ 0) man from t }
+{
+    row_entry(&LONE, row(man), from)
+}
+
+/// The entry of a table by rows of squares.
+fn row_entry(table: &[u64; 448], row: u8, at: Square) -> SquareSet
+    requires { row < 7 }
+    ensures { result.bits ≡ slice_index table.now (64 * row + at) }
+{
+    SquareSet {
+        bits: table[64 * row as usize + at.number() as usize],
+    }
+}
+
+/// The entry of a table by pairs of squares.
+fn pair_entry(table: &[u64; 4096], first: Square, second: Square) -> SquareSet
+    ensures { result.bits ≡ slice_index table.now (64 * first + second) }
+{
+    SquareSet {
+        bits: table[64 * first.number() as usize + second.number() as usize],
+    }
+}
+
+/// The squares strictly between the two, where they are on one file, rank or diagonal.
+pub fn between(one: Square, other: Square) -> SquareSet
+    ensures { (t : ℕ) → Has result t ↔ IsBetween one other t }
+{
+    pair_entry(&BETWEEN, one, other)
+}
+
+/// The squares that a man on `second` hides from `first`.
+pub(crate) fn behind(first: Square, second: Square) -> SquareSet
+    ensures { (t : ℕ) → Has result t ↔ IsBetween first t second }
+{
+    pair_entry(&BEHIND, first, second)
+}

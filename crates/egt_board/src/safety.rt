@@ -1,0 +1,94 @@
+//! Which squares a side attacks, and where a man shields another from attacks: FIDE Laws of Chess 2023, articles
+//! 3.1.3 and 3.9.
+ghost use Rattle.std.specs.Prelude.{◌≡◌, ◌≢◌, ℕ, ◌<◌, ◌↔◌};
+ghost use Rattle.std.specs.FinMap as map;
+ghost use Rattle.std.specs.Int.{bit_at};
+ghost use Rattle.egt_board.specs.Attack.{IsAttacked, AttacksFrom};
+ghost use Rattle.egt_board.specs.Gait.{Reaches};
+ghost use Rattle.egt_board.specs.Placement.{Placement};
+ghost use Rattle.egt_board.specs.Safety.{IsKeptFrom, StopsSlot};
+ghost use Rattle.egt_board.specs.SquareSet.{Has};
+ghost use Rattle.egt_board.specs.declared.man.Man.{Man};
+ghost use Rattle.egt_board.specs.declared.man.Side.{Side};
+
+use crate::board::{Board, Slot};
+use crate::gait;
+use crate::man::{Man, Side};
+use crate::square::Square;
+use crate::square_set::SquareSet;
+
+/// What the slot's man attacks, if it is that side's, where these squares are occupied.
+fn attacked_by(slot: &Slot, side: Side, occupied: SquareSet) -> SquareSet
+    ensures { (t : ℕ) → t < 64 → Has result t ↔ AttacksFrom (λ u. bit_at occupied.bits u ≡ 0) side t slot.now }
+{
+    let Some(placed) = slot else {
+        return SquareSet::EMPTY;
+    };
+    if placed.1.side == side {
+        gait::reach(placed.1, placed.0, occupied)
+    } else {
+        SquareSet::EMPTY
+    }
+}
+
+/// The squares to which a man of the other side may come so that the slot's man, if it is that side's, does not attack
+/// `to`: all where it does not attack it now, else its own square and those between.
+fn stops(slot: &Slot, side: Side, to: Square, occupied: SquareSet) -> SquareSet
+    ensures { (t : ℕ) → t < 64 → Has result t ↔ StopsSlot occupied.bits side to t slot.now }
+{
+    let Some(placed) = slot else {
+        return SquareSet::ALL;
+    };
+    if placed.1.side == side {
+        gait::stops(placed.1, placed.0, to, occupied)
+    } else {
+        SquareSet::ALL
+    }
+}
+
+impl Board {
+    /// The squares that men of that side attack.
+    pub fn danger(&self, side: Side) -> SquareSet
+        ensures { (t : ℕ) → t < 64 → Has result t ↔ IsAttacked self.now t side }
+    {
+        let occupied = self.occupied();
+        let front = attacked_by(&self.first, side, occupied).union(attacked_by(
+            &self.second,
+            side,
+            occupied,
+        ));
+        let back = attacked_by(&self.third, side, occupied).union(attacked_by(
+            &self.fourth,
+            side,
+            occupied,
+        ));
+        front.union(back)
+    }
+
+    /// The squares to which a man of the other side may come so that no man of that side attacks `to`.
+    pub fn shelter(&self, to: Square, side: Side) -> SquareSet
+        ensures { (t : ℕ) (newcomer : Man) → t < 64 → newcomer.side ≢ side → Has result t ↔ IsKeptFrom self.now t newcomer to side }
+    {
+        let occupied = self.occupied();
+        let front = stops(&self.first, side, to, occupied).common(stops(
+            &self.second,
+            side,
+            to,
+            occupied,
+        ));
+        let back = stops(&self.third, side, to, occupied).common(stops(
+            &self.fourth,
+            side,
+            to,
+            occupied,
+        ));
+        front.common(back)
+    }
+}
+
+/// Whether a side attacks a square does not depend on what of the other side's stands there. This function does
+/// nothing: a caller calls it to know what it ensures.
+pub fn attacks_pass_over_no_occupant()
+    ensures { (men : Placement) (t : ℕ) (side : Side) (occupant : Man) → occupant.side ≢ side
+        → IsAttacked (map.insert men t occupant) t side ↔ IsAttacked men t side }
+{}

@@ -1,0 +1,61 @@
+use Rattle.std.proofs.Common.{◌≡◌, ℕ, false, true, ◌&&◌, Option, Some, None, refl, sym, ap, ◌∙◌, subst}
+use Rattle.std.proofs.lemmas.Bool.{false≢true}
+use Rattle.std.specs.Prelude.{◌==◌}
+use Rattle.egt_board.specs.Square.{rank_of}
+use Rattle.egt_board.specs.Pawn.{last_rank}
+use denote.Enum.Bare.{sameb}
+use Rattle.egt_board.specs.contracts.man.Side.{the_type}
+use Rattle.egt_board.specs.declared.man.Side.{Side}
+use Rattle.egt_board.specs.declared.man.Side.TheVariants.{White, Black}
+use Rattle.egt_board.specs.declared.man.Kind.{Kind}
+use Rattle.egt_board.specs.declared.man.Kind.TheVariants.{K}
+use Rattle.egt_board.specs.declared.man.Man.{Man}
+use Rattle.egt_board.specs.Man.{other_side}
+use Rattle.egt_board.specs.Setup.{IsKingOn}
+use Rattle.egt_moves.specs.Promotion.{is_pawn, promotes, FitsPromotion}
+use Rattle.egt_moves.specs.Legal.{men_after}
+use Rattle.egt_moves.proofs.After.{king_moves, king_stays, other_king_stays, may_become}
+use Rattle.egt_moves.proofs.playing.king_after_move.Goals as goal
+
+like : (a b : Side) → sameb the_type a b ≡ true → a ≡ b
+like White White e = refl
+like Black Black e = refl
+like White Black e = absurd (false≢true e)
+like Black White e = absurd (false≢true e)
+
+unlike : (a b : Side) → sameb the_type a b ≡ false → other_side a ≡ b
+unlike White White e = absurd (false≢true (sym e))
+unlike Black Black e = absurd (false≢true (sym e))
+unlike White Black e = refl
+unlike Black White e = refl
+
+-- a king becomes nothing
+none_for_king : (man : Man) (to : ℕ) (promo : Option Kind) → man.kind ≡ K → FitsPromotion (promotes man to) promo → promo ≡ None
+none_for_king man to promo is_king fits = go promo (subst (λ k. FitsPromotion (is_pawn k && (rank_of to == last_rank man.side)) promo) is_king fits)
+  where
+    go : (o : Option Kind) → FitsPromotion false o → o ≡ None
+    go None h = refl
+    go (Some kind) h = absurd h
+
+pub returns-in-K : goal.returns-in-K
+returns-in-K c =
+    let p = c.args.position.now in
+    let same = like c.args.man.side c.args.side (sym c.eq.ensures ∙ c.if-eq.true) in
+    subst (λ side. IsKingOn (men_after p c.args.man c.args.chess_move.now) side c.args.chess_move.now.to) same
+    (king_moves p c.args.man c.args.chess_move.now c.king-king.result c.requires.admissible c.requires.stands (subst (λ side. IsKingOn p.men side c.king-king.result) (sym same) c.king-king.ensures) c.in-K.is
+    (none_for_king c.args.man c.args.chess_move.now.to c.args.chess_move.now.promo c.in-K.is c.requires.promotion))
+
+pub returns-in_default : goal.returns-in_default
+returns-in_default c =
+    let p = c.args.position.now in
+    let same = like c.args.man.side c.args.side (sym c.eq.ensures ∙ c.if-eq.true) in
+    subst (λ side. IsKingOn (men_after p c.args.man c.args.chess_move.now) side c.king-king.result) same
+    (king_stays p c.args.man c.args.chess_move.now c.king-king.result c.requires.admissible c.requires.stands c.requires.mine c.requires.goes (may_become _ c.args.chess_move.now.promo c.requires.promotion)
+    (subst (λ side. IsKingOn p.men side c.king-king.result) (sym same) c.king-king.ensures) c.in_default.not-K)
+
+pub returns-else-eq : goal.returns-else-eq
+returns-else-eq c =
+    let p = c.args.position.now in
+    let other : other_side p.side ≡ c.args.side = ap other_side (sym c.requires.mine) ∙ unlike c.args.man.side c.args.side (sym c.eq.ensures ∙ c.if-eq.false) in
+    subst (λ side. IsKingOn (men_after p c.args.man c.args.chess_move.now) side c.king-king.result) other
+    (other_king_stays p c.args.man c.args.chess_move.now c.king-king.result c.requires.stands c.requires.mine c.requires.goes c.requires.admissible (subst (λ side. IsKingOn p.men side c.king-king.result) (sym other) c.king-king.ensures))

@@ -1,0 +1,117 @@
+//! The squares to which legal moves go: FIDE Laws of Chess 2023, articles 3.1 to 3.9.
+ghost use Rattle.std.specs.Prelude.{◌≡◌, ◌≢◌, ℕ, ◌<◌, ◌≤◌, ◌↔◌, Some, IfSome, IfNone};
+ghost use Rattle.std.specs.FinMap as map;
+ghost use Rattle.egt_board.specs.Attack.{IsAttacked, IsInCheck};
+ghost use Rattle.egt_board.specs.Man.{other_side};
+ghost use Rattle.egt_board.specs.Placement.{Stands};
+ghost use Rattle.egt_board.specs.Safety.{IsKeptFrom};
+ghost use Rattle.egt_board.specs.Setup.{IsAdmissible, IsKingOn};
+ghost use Rattle.egt_board.specs.SquareSet.{Has, size_of};
+ghost use Rattle.egt_board.specs.declared.man.Kind.TheVariants.{K, P};
+ghost use Rattle.egt_moves.specs.Going.{Goes};
+ghost use Rattle.egt_moves.specs.Legal.{men_after, plain};
+ghost use Rattle.egt_moves.specs.Room.{most_goals};
+ghost use Rattle.egt_moves.specs.Targets.{IsLegalTarget, IsSafeGoal};
+
+use crate::going::{is_safe, targets};
+use egt_board::safety::attacks_pass_over_no_occupant;
+use egt_board::{Kind, Man, Position, Square, SquareSet};
+
+/// The squares that the enemy attacks once the man on `from` is lifted.
+fn danger(position: &Position, from: Square) -> SquareSet
+    ensures attacked { (t : ℕ) → t < 64 → Has result t ↔ IsAttacked (map.remove position.now.men from) t (other_side position.now.side) }
+    ensures admissible { IsAdmissible position.now }
+{
+    let enemy = position.side().other();
+    let mut lifted = *position.board();
+    lifted.clear(from);
+    lifted.danger(enemy)
+}
+
+/// The squares to which this man, lifted from `from`, may come so that the enemy does not attack `king`.
+fn shelter(position: &Position, man: Man, from: Square, king: Square) -> SquareSet
+    requires { man.side ≡ position.now.side }
+    ensures kept { (t : ℕ) → t < 64 → Has result t ↔ IsKeptFrom (map.remove position.now.men from) t man king (other_side position.now.side) }
+    ensures admissible { IsAdmissible position.now }
+{
+    let enemy = position.side().other();
+    let mut lifted = *position.board();
+    lifted.clear(from);
+    lifted.shelter(king, enemy)
+}
+
+/// Those of the squares to which the king on `from` may go without being attacked there.
+fn king_goals(position: &Position, man: Man, from: Square, goals: SquareSet) -> SquareSet
+    requires stands { Stands position.now.men from man }
+    requires mine { man.side ≡ position.now.side }
+    requires king { man.kind ≡ K }
+    requires goes { (t : ℕ) → Has goals t ↔ Goes position.now man from t }
+    ensures safe { (t : ℕ) → Has result t ↔ IsSafeGoal position.now man from t }
+    ensures few { size_of result ≤ size_of goals }
+{
+    attacks_pass_over_no_occupant();
+    goals.without(danger(position, from))
+}
+
+/// The target, where the man goes there as a pawn that takes in passing.
+fn passing_goal(position: &Position, man: Man, goals: SquareSet) -> Option<Square>
+    ensures some { IfSome result (λ t. (man.kind ≡ P) × (position.now.target ≡ Some t) × Has goals t) }
+    ensures none { IfNone result ((t : ℕ) → Has goals t → man.kind ≡ P → position.now.target ≢ Some t) }
+{
+    let target = position.target()?;
+    match man.kind {
+        Kind::P => {
+            if goals.contains(target) {
+                Some(target)
+            } else {
+                None
+            }
+        }
+        _ => None,
+    }
+}
+
+/// The squares where the man that went there from `from` shields its king, or there is nothing to be shielded from.
+fn shields(position: &Position, man: Man, from: Square, goals: SquareSet) -> SquareSet
+    requires stands { Stands position.now.men from man }
+    requires mine { man.side ≡ position.now.side }
+    requires other { man.kind ≡ K → ⊥ }
+    requires goes { (t : ℕ) → Has goals t ↔ Goes position.now man from t }
+    ensures { (t : ℕ) → Goes position.now man from t → Has result t ↔ ¬ IsInCheck (men_after position.now man (plain from t)) position.now.side }
+{
+    let shelter = shelter(position, man, from, position.king(man.side));
+    let Some(target) = passing_goal(position, man, goals) else {
+        return shelter;
+    };
+    // The pawn that has just passed is gone too, so this one move is played out.
+    shelter.changed(target, is_safe(position, man, from, target))
+}
+
+/// The squares to which the man on `from`, one of the side to move, legally goes.
+pub(crate) fn legal_goals(position: &Position, man: Man, from: Square) -> SquareSet
+    requires stands { Stands position.now.men from man }
+    requires mine { man.side ≡ position.now.side }
+    ensures safe { (t : ℕ) → Has result t ↔ IsSafeGoal position.now man from t }
+    ensures few { size_of result ≤ most_goals man.kind }
+{
+    let goals = targets(position, man, from);
+    if man.kind == Kind::K {
+        king_goals(position, man, from, goals)
+    } else {
+        goals.common(shields(position, man, from, goals))
+    }
+}
+
+/// The squares to which a legal move goes from this one; none where no man of the side to move stands.
+pub fn legal_targets(position: &Position, from: Square) -> SquareSet
+    ensures { (t : ℕ) → Has result t ↔ IsLegalTarget position.now from t }
+{
+    let Some(man) = position.at(from) else {
+        return SquareSet::EMPTY;
+    };
+    if man.side == position.side() {
+        legal_goals(position, man, from)
+    } else {
+        SquareSet::EMPTY
+    }
+}
