@@ -52,17 +52,11 @@ impl Board {
         ensures { (t : ℕ) → t < 64 → Has result t ↔ IsAttacked self.now t side }
     {
         let occupied = self.occupied();
-        let front = attacked_by(&self.first, side, occupied).union(attacked_by(
-            &self.second,
-            side,
-            occupied,
-        ));
-        let back = attacked_by(&self.third, side, occupied).union(attacked_by(
-            &self.fourth,
-            side,
-            occupied,
-        ));
-        front.union(back)
+        let first = attacked_by(&self.first, side, occupied);
+        let second = attacked_by(&self.second, side, occupied);
+        let third = attacked_by(&self.third, side, occupied);
+        let fourth = attacked_by(&self.fourth, side, occupied);
+        first.union(second).union(third.union(fourth))
     }
 
     /// The squares to which a man of the other side may come so that no man of that side attacks `to`.
@@ -70,19 +64,11 @@ impl Board {
         ensures { (t : ℕ) (newcomer : Man) → t < 64 → newcomer.side ≢ side → Has result t ↔ IsKeptFrom self.now t newcomer to side }
     {
         let occupied = self.occupied();
-        let front = stops(&self.first, side, to, occupied).common(stops(
-            &self.second,
-            side,
-            to,
-            occupied,
-        ));
-        let back = stops(&self.third, side, to, occupied).common(stops(
-            &self.fourth,
-            side,
-            to,
-            occupied,
-        ));
-        front.common(back)
+        let first = stops(&self.first, side, to, occupied);
+        let second = stops(&self.second, side, to, occupied);
+        let third = stops(&self.third, side, to, occupied);
+        let fourth = stops(&self.fourth, side, to, occupied);
+        first.common(second).common(third.common(fourth))
     }
 }
 

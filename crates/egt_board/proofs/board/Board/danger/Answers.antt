@@ -11,8 +11,8 @@ returns c = λ t t_in.
     let a = c.self.inside in
     let Free : ℕ → Type 0 = λ u. bit_at c.occupied-occupied.result.bits u ≡ 0 in
     let any = any_of_four (AttacksFrom Free c.args.side t a.first) (AttacksFrom Free c.args.side t a.second) (AttacksFrom Free c.args.side t a.third) (AttacksFrom Free c.args.side t a.fourth) _ _ _ _ _
-    (bit_at-lt c.attacked_by.result.bits t) (bit_at-lt c.attacked_by-2.result.bits t) (bit_at-lt c.attacked_by-3.result.bits t) (bit_at-lt c.attacked_by-4.result.bits t)
-    (rw (c.union.ensures.squares t, c.union-front.ensures.squares t, c.union-back.ensures.squares t) refl)
-    (c.attacked_by.ensures t t_in) (c.attacked_by-2.ensures t t_in) (c.attacked_by-3.ensures t t_in) (c.attacked_by-4.ensures t t_in) in
+    (bit_at-lt c.attacked_by-first.result.bits t) (bit_at-lt c.attacked_by-second.result.bits t) (bit_at-lt c.attacked_by-third.result.bits t) (bit_at-lt c.attacked_by-fourth.result.bits t)
+    (rw (c.union-3.ensures.squares t, c.union.ensures.squares t, c.union-2.ensures.squares t) refl)
+    (c.attacked_by-first.ensures t t_in) (c.attacked_by-second.ensures t t_in) (c.attacked_by-third.ensures t t_in) (c.attacked_by-fourth.ensures t t_in) in
     let all = attacked_by a c.args.self.now c.occupied-occupied.result.bits c.args.side t c.self.invariant c.self.view_is c.occupied-occupied.ensures.free in
     (λ one. all.0 (any.0 one), λ attacked. any.1 (all.1 attacked))

@@ -9,8 +9,8 @@ returns c = λ t newcomer t_in foreign.
     let a = c.self.inside in
     let occupied = c.occupied-occupied.result.bits in
     let all = all_of_four (StopsSlot occupied c.args.side c.args.to t a.first) (StopsSlot occupied c.args.side c.args.to t a.second) (StopsSlot occupied c.args.side c.args.to t a.third) (StopsSlot occupied c.args.side c.args.to t a.fourth) _ _ _ _ _
-    (bit_at-lt c.stops.result.bits t) (bit_at-lt c.stops-2.result.bits t) (bit_at-lt c.stops-3.result.bits t) (bit_at-lt c.stops-4.result.bits t)
-    (rw (c.common.ensures.squares t, c.common-front.ensures.squares t, c.common-back.ensures.squares t) refl)
-    (c.stops.ensures t t_in) (c.stops-2.ensures t t_in) (c.stops-3.ensures t t_in) (c.stops-4.ensures t t_in) in
+    (bit_at-lt c.stops-first.result.bits t) (bit_at-lt c.stops-second.result.bits t) (bit_at-lt c.stops-third.result.bits t) (bit_at-lt c.stops-fourth.result.bits t)
+    (rw (c.common-3.ensures.squares t, c.common.ensures.squares t, c.common-2.ensures.squares t) refl)
+    (c.stops-first.ensures t t_in) (c.stops-second.ensures t t_in) (c.stops-third.ensures t t_in) (c.stops-fourth.ensures t t_in) in
     let kept = kept_by a c.args.self.now occupied c.args.side c.args.to t newcomer c.self.invariant c.self.view_is c.occupied-occupied.ensures.free foreign in
     (λ one. kept.0 (all.0 one), λ none. all.1 (kept.1 none))
