@@ -129,20 +129,6 @@ Added-all p man from s old new stands mine goes safe choices ordered few = recor
     legal m e f fits = subst (IsLegal p) (λ i. record { from = sym e i; to = sym f i; promo = m.promo })
         (legal_of p man (record { from = from; to = s; promo = m.promo }) stands mine goes fits (λ check. safe ((same_safety p man from s m.promo mine fits).0 check)))
 
--- and none is where it is not
-pub Added-none : (p : Setup) (man : Man) (from s : ℕ) (old : List Move) → Stands p.men from man → man.side ≡ p.side → IsInOrder old → ¬ ¬ IsInCheck (men_after p man (plain from s)) p.side → Added p man from s old old
-Added-none p man from s old stands mine ordered unsafe = record {
-  more = λ m. (λ there. inl there, λ h. elim h [ inl there ↦ there | inr w ↦ absurd (none m w.0 w.1 w.2) ]);
-  ordered = ordered;
-  few = omega arith;
-}
-  where
-    none : (m : Move) → m.from ≡ from → m.to ≡ s → IsLegal p m → ⊥
-    none m e f legal =
-        let there = subst (IsLegal p) (λ i. record { from = e i; to = f i; promo = m.promo }) legal in
-        let fits = fits_of p man (record { from = from; to = s; promo = m.promo }) stands there in
-        unsafe (λ check. safe_of p man (record { from = from; to = s; promo = m.promo }) stands there ((same_safety p man from s m.promo mine fits).1 check))
-
 -- one square less is left
 pub Lists-more : (p : Setup) (man : Man) (from s : ℕ) (old now new : List Move) (left left' : SquareSet) → Stands p.men from man → s < 64 → Has left s → ((t : ℕ) → t < s → bit_at left.bits t ≡ 0)
     → bit_at left'.bits s ≡ 0 → ((t : ℕ) → t ≢ s → bit_at left'.bits t ≡ bit_at left.bits t) → size_of left' + 1 ≡ size_of left

@@ -1,6 +1,5 @@
 -- Lists of moves in order.
-use Rattle.std.proofs.Common.{◌≡◌, suc, ◌<◌, List, [], ◌∷◌, ◌++◌, length, arith, refl, sym, subst, inl, inr, eqb, true, false}
-use Rattle.std.proofs.lemmas.Bool.{false≢true, eqb-true}
+use Rattle.std.proofs.Common.{suc, ◌<◌, List, [], ◌∷◌, ◌++◌, arith, refl, subst, inl, inr}
 use Rattle.std.specs.List.{Contains}
 use Rattle.std.proofs.lemmas.List.Elements.{Contains-push_cases}
 use Rattle.egt_moves.specs.declared.chess_move.Move.{Move}
@@ -22,12 +21,3 @@ IsInOrder-push (x ∷ ms) n ordered before = (
   ]),
   IsInOrder-push ms n ordered.1 (λ m there. before m (Contains-tail x m ms there)),
 )
-
--- a list that is not empty has a move
-pub some_move : (ms : List Move) → eqb (length ms) 0 ≡ false → (m : Move) × Contains ms m
-some_move [] e = absurd (false≢true (sym e))
-some_move (m ∷ ms) e = (m, Contains-head m ms)
-
--- and an empty one has none
-pub no_move : (ms : List Move) → eqb (length ms) 0 ≡ true → (m : Move) → ¬ Contains ms m
-no_move ms e m there = let less = there.1 in let none = eqb-true (length ms) 0 e in omega arith

@@ -94,10 +94,6 @@ legal_target p man from t stands mine = (
         let fits : FitsPromotion (promotes man t) None = subst (λ b. FitsPromotion b None) (sym e) tt in
         (None, legal_of p man (plain from t) stands mine h.0 fits h.1)
 
--- no legal move leaves a square without a man of the side to move
-pub no_target : (p : Setup) (from t : ℕ) → ((man : Man) → Stands p.men from man → man.side ≡ p.side → ⊥) → ¬ IsLegalTarget p from t
-no_target p from t none w = let leads = w.1.1 in none leads.man leads.stands leads.mine
-
 -- a king's goals less the danger
 pub king_goal : (p : Setup) (man : Man) (from t goals danger n : ℕ) → OccupantPassedOver → IsAdmissible p → Stands p.men from man → man.side ≡ p.side → man.kind ≡ K → goals < 2 → danger < 2 → n ≡ min goals (1 - danger)
     → (goals ≡ 1) ↔ Goes p man from t → (t < 64 → (danger ≡ 1) ↔ IsAttacked (map.remove p.men from) t (other_side p.side)) → (n ≡ 1) ↔ IsSafeGoal p man from t

@@ -1,5 +1,5 @@
-use Rattle.std.proofs.Common.{◌≡◌, ◌∙◌, sym, ap, subst}
-use Rattle.egt_board.specs.Setup.{Setup, IsAdmissible}
+use Rattle.std.proofs.Common.{◌∙◌, sym, ap, subst}
+use Rattle.egt_board.specs.Setup.{IsAdmissible}
 use Rattle.egt_board.specs.Man.{other_side}
 use Rattle.egt_moves.specs.Legal.{men_after, passed}
 use Rattle.egt_moves.proofs.Admissible.{admissible_after}
