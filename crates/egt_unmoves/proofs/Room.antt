@@ -1,0 +1,21 @@
+-- A man taken back leaves as many men.
+use Rattle.std.proofs.Common.{◌≡◌, ℕ, ◌+◌, ◌-◌, ◌≤◌, Option, cond, Bool, true, false, arith, ap, ◌∙◌}
+use Rattle.std.specs.Option.{is_some}
+use Rattle.std.specs.FinMap as map
+use Rattle.std.specs.Cmp.{nat_cmp_total}
+use Rattle.egt_board.specs.declared.man.Man.{Man}
+use Rattle.egt_board.specs.Placement.{Placement, Stands}
+use Rattle.egt_unmoves.specs.Unmoves.{men_before}
+
+pub few_before : (men : Placement) (man : Man) (to from : ℕ) → Stands men to man → map.len men ≤ 4 → map.len (men_before men man to from) ≤ 4
+few_before men man to from stands few = by_key (is_some (map.get left from)) (map.len-insert nat_cmp_total left from man)
+  where
+    left : Placement
+    left = map.remove men to
+
+    gone : map.len left ≡ map.len men - 1
+    gone = map.len-remove nat_cmp_total men to ∙ ap (λ (o : Option Man). cond (is_some o) (map.len men - 1) (map.len men)) stands
+
+    by_key : (b : Bool) → map.len (map.insert left from man) ≡ cond b (map.len left) (map.len left + 1) → map.len (map.insert left from man) ≤ 4
+    by_key true e = let g = gone in omega arith
+    by_key false e = let g = gone in omega arith

@@ -1,0 +1,7 @@
+use Rattle.egt_unmoves.proofs.TwoKings.{two_kings-admissible}
+use Rattle.egt_unmoves.proofs.unmove.UnmoveDefault.default.Goals as goal
+
+pub admitted-requires : goal.admitted-requires
+admitted-requires c =
+    rw (c.put-2.ensures, c.put.ensures, c.new-board.ensures)
+    (two_kings-admissible c.at.result c.at-2.result c.king.result c.king-2.result c.at.ensures c.at-2.ensures c.king.ensures c.king-2.ensures)
