@@ -7,3 +7,4 @@ pub mod Men
 pub mod FiveMen
 pub mod Room
 pub mod TwoKings
+pub mod UnmoveImages

@@ -2,6 +2,7 @@
 #![tactic(auto)]
 
 pub mod admitting;
+pub mod laws;
 pub mod listing;
 pub mod sources;
 pub mod taking_back;
