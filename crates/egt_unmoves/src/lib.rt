@@ -11,3 +11,6 @@ pub mod unmove;
 
 pub use listing::unmoves;
 pub use unmove::Unmove;
+
+#[cfg(test)]
+mod tests;
