@@ -1,0 +1,10 @@
+pub mod Sides
+pub mod Came
+pub mod Ways
+pub mod InOrder
+pub mod Pushing
+pub mod Men
+pub mod FiveMen
+pub mod Room
+pub mod TwoKings
+pub mod UnmoveImages

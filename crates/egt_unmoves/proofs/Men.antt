@@ -1,0 +1,135 @@
+-- The unmoves of all men of the side that waits, and room for them: two a goal, of which a man has 28 and the king 8.
+use Rattle.std.proofs.Common.{◌≡◌, ◌≢◌, ℕ, ◌+◌, ◌*◌, ◌<◌, ◌≤◌, ◌↔◌, List, [], length, arith, refl, sym, ap, ◌∙◌, inl, inr, subst}
+use Rattle.std.specs.Int.{bit_at}
+use Rattle.std.proofs.lemmas.Bool.{cases_eq, cases_lt}
+use Rattle.std.proofs.lemmas.Nat.Bits.{bit_at-lt}
+use Rattle.egt_board.specs.declared.man.Side.{Side}
+use Rattle.egt_board.specs.declared.man.Side.TheVariants.{White, Black}
+use Rattle.egt_board.specs.declared.man.Kind.{Kind}
+use Rattle.egt_board.specs.declared.man.Kind.TheVariants.{Q, R, B, N, P, K}
+use Rattle.egt_board.specs.declared.man.Man.{Man}
+use Rattle.egt_board.specs.declared.square_set.SquareSet.{SquareSet}
+use Rattle.egt_board.specs.Man.{other_side}
+use Rattle.egt_board.specs.Attack.{king_of}
+use Rattle.egt_board.specs.Placement.{Stands, IsHeld, one_man}
+use Rattle.egt_board.specs.SquareSet.{Has, size_of, size_of-some}
+use Rattle.egt_board.specs.Setup.{Setup, IsAdmissible, IsKingOn}
+use Rattle.egt_moves.specs.Room.{most_goals}
+use Rattle.egt_unmoves.specs.declared.unmove.Unmove.{Unmove}
+use Rattle.egt_unmoves.specs.Order.{ListsBelow}
+use Rattle.egt_unmoves.proofs.Came.{came}
+use Rattle.egt_unmoves.proofs.InOrder.{squares_within, target_place_small, ListsBelow-none, ListsBelow-skip}
+
+-- that side's king stands somewhere
+king_square : (p : Setup) (side : Side) → IsAdmissible p → (k : ℕ) × IsKingOn p.men side k
+king_square p White ok = (ok.kings.white, ok.kings.white_there)
+king_square p Black ok = (ok.kings.black, ok.kings.black_there)
+
+-- the unmoves of the men on squares before `next` are listed, and the other men are left
+pub record ListsMen (q : Setup) (now : List Unmove) (left : SquareSet) : Type 0 where
+  pub next : ℕ
+  pub within : next ≤ 64
+  pub listed : ListsBelow q (next * 128) now
+  pub left_is : (t : ℕ) → Has left t ↔ (IsHeld q.men t (other_side q.side) × (next ≤ t))
+  pub room : (k : ℕ) → IsKingOn q.men (other_side q.side) k → length now + 56 * size_of left ≤ 128 + 40 * bit_at left.bits k
+
+not_both : {A : Type 0} (n : ℕ) → n ≡ 0 → n ≡ 1 → A
+not_both n none one = absurd (omega arith)
+
+pub ListsMen-none : (q : Setup) (left : SquareSet) → ((t : ℕ) → Has left t ↔ IsHeld q.men t (other_side q.side)) → size_of left ≤ 3 → ListsMen q [] left
+ListsMen-none q left held few = record {
+  next = 0;
+  within = omega arith;
+  listed = ListsBelow-none q;
+  left_is = λ t. (λ h. ((held t).0 h, omega arith), λ h. (held t).1 h.0);
+  room = λ k king.
+      let one : bit_at left.bits k ≡ 1 = (held k).1 (record { man = king_of (other_side q.side); stands = king.stands; theirs = refl }) in
+      rw one (omega arith);
+}
+
+few_goals : (kind : Kind) → most_goals kind ≤ 28
+few_goals Q = omega arith
+few_goals R = omega arith
+few_goals B = omega arith
+few_goals N = omega arith
+few_goals P = omega arith
+few_goals K = omega arith
+
+room_for : (q : Setup) (now : List Unmove) (left left' : SquareSet) (s : ℕ) (man : Man) (k : ℕ) → IsAdmissible q → Has left s → bit_at left'.bits s ≡ 0 → ((t : ℕ) → t ≢ s → bit_at left'.bits t ≡ bit_at left.bits t)
+    → size_of left' + 1 ≡ size_of left → Stands q.men s man → IsKingOn q.men (other_side q.side) k → length now + 56 * size_of left ≤ 128 + 40 * bit_at left.bits k
+    → ((length now + 2 * most_goals man.kind) + 56 * size_of left' ≤ 128 + 40 * bit_at left'.bits k) × (length now + 2 * most_goals man.kind ≤ 128)
+room_for q now left left' s man k ok has gone others size stands king room = elim (cases_eq s k) [
+  | inl e ↦
+      let eight : most_goals man.kind ≡ 8 = ap (λ (x : Man). most_goals x.kind) (one_man q.men k man (king_of (other_side q.side)) (subst (λ x. Stands q.men x man) e stands) king.stands) in
+      let one : bit_at left.bits k ≡ 1 = ap (bit_at left.bits) (sym e) ∙ has in
+      let none : bit_at left'.bits k ≡ 0 = ap (bit_at left'.bits) (sym e) ∙ gone in
+      (omega arith, omega arith)
+  | inr other ↦
+      let few : most_goals man.kind ≤ 28 = few_goals man.kind in
+      let same : bit_at left'.bits k ≡ bit_at left.bits k = others k (λ e. other (sym e)) in
+      elim (cases_eq (bit_at left.bits k) 1) [
+        | inl one ↦
+            let some : 1 ≤ size_of left' = size_of-some left' k (ok.on_board k _ king.stands) (same ∙ one) in
+            (omega arith, omega arith)
+        | inr not_one ↦
+            let small : bit_at left.bits k < 2 = bit_at-lt left.bits k in
+            (omega arith, omega arith)
+      ]
+]
+
+pub ListsMen-room : (q : Setup) (now : List Unmove) (left left' : SquareSet) (s : ℕ) (man : Man) → IsAdmissible q → Has left s → bit_at left'.bits s ≡ 0 → ((t : ℕ) → t ≢ s → bit_at left'.bits t ≡ bit_at left.bits t)
+    → size_of left' + 1 ≡ size_of left → Stands q.men s man → ListsMen q now left → length now + 2 * most_goals man.kind ≤ 128
+ListsMen-room q now left left' s man ok has gone others size stands l =
+    let k = king_square q (other_side q.side) ok in
+    (room_for q now left left' s man k.0 ok has gone others size stands k.1 (l.room k.0 k.1)).1
+
+-- no man that has moved stands on a square between
+skipped : (q : Setup) (now : List Unmove) (left : SquareSet) (n : ℕ) → n ≤ 64 → (l : ListsMen q now left) → l.next ≤ n → ((t : ℕ) → t < n → bit_at left.bits t ≡ 0) → ListsBelow q (n * 128) now
+skipped q now left n n_in l le least = ListsBelow-skip q _ _ now (omega arith) l.listed (λ w m takes low high.
+    let within = squares_within w.before m q takes.comes in
+    let m_in = within.0 in
+    let few = target_place_small w.before.target in
+    let to_low : l.next ≤ m.to = omega arith in
+    let to_high : m.to < n = omega arith in
+    let x = came w.before m q takes.comes in
+    not_both (bit_at left.bits m.to) (least m.to to_high) ((l.left_is m.to).1 (record { man = x.man; stands = x.stands; theirs = x.mine ∙ x.side }, to_low)))
+
+pub ListsMen-before : (q : Setup) (now : List Unmove) (left : SquareSet) (s : ℕ) → s < 64 → Has left s → ((t : ℕ) → t < s → bit_at left.bits t ≡ 0) → ListsMen q now left → ListsBelow q (s * 128) now
+ListsMen-before q now left s s_in has least l = skipped q now left s (omega arith) l ((l.left_is s).0 has).1 least
+
+pub ListsMen-theirs : (q : Setup) (now : List Unmove) (left : SquareSet) (s : ℕ) (man : Man) → Has left s → Stands q.men s man → ListsMen q now left → man.side ≡ other_side q.side
+ListsMen-theirs q now left s man has stands l =
+    let held = ((l.left_is s).0 has).0 in
+    ap (λ (x : Man). x.side) (one_man q.men s man held.man stands held.stands) ∙ held.theirs
+
+-- one man less is left
+pub ListsMen-more : (q : Setup) (now new : List Unmove) (left left' : SquareSet) (s : ℕ) (man : Man) → IsAdmissible q → s < 64 → Has left s → ((t : ℕ) → t < s → bit_at left.bits t ≡ 0) → bit_at left'.bits s ≡ 0
+    → ((t : ℕ) → t ≢ s → bit_at left'.bits t ≡ bit_at left.bits t) → size_of left' + 1 ≡ size_of left → Stands q.men s man → ListsBelow q ((s + 1) * 128) new → length new ≤ length now + 2 * most_goals man.kind
+    → ListsMen q now left → ListsMen q new left'
+ListsMen-more q now new left left' s man ok s_in has least gone others size stands lists few l = record {
+  next = s + 1;
+  within = omega arith;
+  listed = lists;
+  left_is = λ t. (there t, back t);
+  room = λ k king. let all = (room_for q now left left' s man k ok has gone others size stands king (l.room k king)).0 in omega arith;
+}
+  where
+    there : (t : ℕ) → Has left' t → IsHeld q.men t (other_side q.side) × (s + 1 ≤ t)
+    there t h = elim (cases_eq t s) [
+      | inl e ↦ not_both (bit_at left'.bits s) gone (ap (bit_at left'.bits) (sym e) ∙ h)
+      | inr other ↦ let was : Has left t = sym (others t other) ∙ h in (
+        ((l.left_is t).0 was).0,
+        elim (cases_lt t s) [
+          | inl less ↦ not_both (bit_at left.bits t) (least t less) was
+          | inr le ↦ omega arith
+        ],
+      )
+    ]
+
+    back : (t : ℕ) → IsHeld q.men t (other_side q.side) × (s + 1 ≤ t) → Has left' t
+    back t h = let high = h.1 in let first = ((l.left_is s).0 has).1 in
+        others t (λ e. omega arith) ∙ (l.left_is t).1 (h.0, omega arith)
+
+-- no man is left
+pub ListsMen-all : (q : Setup) (now : List Unmove) (left : SquareSet) → ListsMen q now left → ((t : ℕ) → bit_at left.bits t ≡ 0) → ListsBelow q (64 * 128) now
+ListsMen-all q now left l none = skipped q now left 64 (omega arith) l l.within (λ t _. none t)

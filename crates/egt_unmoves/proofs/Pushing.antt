@@ -1,0 +1,182 @@
+-- The unmoves of one place, of one square before, and of one man.
+use Rattle.std.proofs.Common.{◌≡◌, ◌≢◌, ℕ, ◌+◌, ◌*◌, ◌<◌, ◌≤◌, ◌↔◌, ◌⊎◌, List, [], ◌∷◌, ◌++◌, length, Bool, true, false, IsTrue, Option, Some, None, arith, refl, sym, ap, ◌∙◌, inl, inr, subst}
+use Rattle.std.specs.Int.{bit_at}
+use Rattle.std.proofs.lemmas.Bool.{cases_eq, cases_lt, false≢true}
+use Rattle.egt_board.specs.declared.man.Kind.TheVariants.{P}
+use Rattle.egt_board.specs.declared.man.Man.{Man}
+use Rattle.egt_board.specs.declared.square_set.SquareSet.{SquareSet}
+use Rattle.egt_board.specs.Placement.{Placement, one_man}
+use Rattle.egt_board.specs.SquareSet.{Has, size_of}
+use Rattle.egt_board.specs.Setup.{Setup, IsAdmissible}
+use Rattle.egt_board.specs.Settled.{IsSettled}
+use Rattle.egt_moves.specs.declared.chess_move.Move.{Move}
+use Rattle.egt_moves.specs.Chess.{IsPawnOn}
+use Rattle.egt_moves.specs.Legal.{plain}
+use Rattle.egt_moves.specs.Room.{most_goals}
+use Rattle.egt_unmoves.specs.declared.unmove.Unmove.{Unmove}
+use Rattle.egt_unmoves.specs.Unmoves.{ComesBy, TakesBack, MayComeFrom, men_before}
+use Rattle.egt_unmoves.specs.Order.{place_of, target_place, ListsBelow}
+use Rattle.egt_unmoves.proofs.Came.{Came, came, before_is}
+use Rattle.egt_unmoves.proofs.InOrder.{squares_within, target_place_small, ListsBelow-push, ListsBelow-skip}
+
+-- a place tells the squares
+pub placed : (w : Unmove) (n : Move) (q : Setup) (from to k : ℕ) → from < 64 → k < 2 → TakesBack w n q → place_of w n ≡ (to * 64 + from) * 2 + k
+    → (n ≡ plain from to) × (target_place w.before.target ≡ k)
+placed w n q from to k from_in small takes e =
+    let within = squares_within w.before n q takes.comes in
+    let n_in = within.0 in
+    let few = target_place_small w.before.target in
+    let same_from : n.from ≡ from = omega arith in
+    let same_to : n.to ≡ to = omega arith in
+    ((λ i. record { from = same_from i; to = same_to i; promo = takes.comes.no_promotion i }), omega arith)
+
+-- flags that tell the same are the same
+same_flag : (a b : Bool) (X : Type 0) → IsTrue a ↔ X → IsTrue b ↔ X → a ≡ b
+same_flag true true X f g = refl
+same_flag false false X f g = refl
+same_flag true false X f g = absurd (false≢true (g.1 (f.0 refl)))
+same_flag false true X f g = absurd (false≢true (f.1 (g.0 refl)))
+
+-- it tells whether the man is a pawn
+pub told : (b q : Setup) (man : Man) (from to : ℕ) (flag : Bool) → MayComeFrom q man to from → ComesBy b (plain from to) q → IsTrue flag ↔ (man.kind ≡ P) → IsTrue flag ↔ IsPawnOn b.men from
+told b q man from to flag may c is = (
+  λ h. record { man = x.man; stands = x.stood; pawn = ap (λ (y : Man). y.kind) same ∙ is.0 h },
+  λ (on : IsPawnOn b.men from). is.1 (sym (ap (λ (y : Man). y.kind) same) ∙ ap (λ (y : Man). y.kind) (one_man b.men from x.man on.man x.stood on.stands) ∙ on.pawn),
+)
+  where
+    x : Came b (plain from to) q
+    x = came b (plain from to) q c
+
+    same : x.man ≡ man
+    same = one_man q.men to x.man man x.stands may.stands
+
+-- what its board tells of its target
+pub shown_before : (q : Setup) (man : Man) (from to : ℕ) (board : Placement) (Holds : Option ℕ → Type 0) → MayComeFrom q man to from → board ≡ men_before q.men man to from
+    → ((p : Setup) → IsAdmissible p → IsSettled p → p.men ≡ board → p.side ≡ man.side → Holds p.target) → (b : Setup) → ComesBy b (plain from to) q → Holds b.target
+shown_before q man from to board Holds may is shown b comes =
+    let e = before_is b q man from to b.target may refl comes in
+    shown b comes.admissible comes.settled (ap (λ (x : Setup). x.men) e ∙ sym is) (ap (λ (x : Setup). x.side) e ∙ sym may.theirs)
+
+module _ (q : Setup) (man : Man) (from to : ℕ) (target : Option ℕ) (may : MayComeFrom q man to from) (from_in : from < 64)
+    (only : (b : Setup) → ComesBy b (plain from to) q → target_place b.target ≡ target_place target → b.target ≡ target) where
+  -- the position of this place is this one
+  place_is : (w : Unmove) (n : Move) → TakesBack w n q → place_of w n ≡ (to * 64 + from) * 2 + target_place target
+      → ComesBy w.before (plain from to) q × (w.before.target ≡ target) × (IsTrue w.pawn ↔ IsPawnOn w.before.men from)
+  place_is w n takes e =
+      let here = placed w n q from to (target_place target) from_in (target_place_small target) takes e in
+      let comes : ComesBy w.before (plain from to) q = subst (λ x. ComesBy w.before x q) here.0 takes.comes in
+      let pawn : IsTrue w.pawn ↔ IsPawnOn w.before.men from = subst (λ (x : Move). IsTrue w.pawn ↔ IsPawnOn w.before.men x.from) here.0 takes.pawn in
+      (comes, only w.before comes here.1, pawn)
+
+  -- it is listed
+  pub pushed : (us : List Unmove) (b : Setup) (flag : Bool) → ListsBelow q ((to * 64 + from) * 2 + target_place target) us → ComesBy b (plain from to) q → b.target ≡ target → IsTrue flag ↔ (man.kind ≡ P)
+      → ListsBelow q ((to * 64 + from) * 2 + target_place target + 1) (us ++ record { before = b; pawn = flag } ∷ [])
+  pushed us b flag lists comes is flag_is = ListsBelow-push q _ us u (plain from to) lists takes (ap (λ o. (to * 64 + from) * 2 + target_place o) is) same
+    where
+      u : Unmove
+      u = record { before = b; pawn = flag }
+
+      takes : TakesBack u (plain from to) q
+      takes = record { comes = comes; pawn = told b q man from to flag may comes flag_is }
+
+      same : (w : Unmove) (n : Move) → TakesBack w n q → place_of w n ≡ (to * 64 + from) * 2 + target_place target → u ≡ w
+      same w n there e =
+          let h = place_is w n there e in
+          let before : b ≡ w.before = before_is b q man from to target may is comes ∙ sym (before_is w.before q man from to target may h.1 h.0) in
+          let pawn : flag ≡ w.pawn = same_flag flag w.pawn (IsPawnOn b.men from) takes.pawn (subst (λ (x : Setup). IsTrue w.pawn ↔ IsPawnOn x.men from) (sym before) h.2) in
+          (λ i. record { before = before i; pawn = pawn i })
+
+  -- or there is none
+  pub not_pushed : (us : List Unmove) → ListsBelow q ((to * 64 + from) * 2 + target_place target) us → ((b : Setup) → b.target ≡ target → ¬ ComesBy b (plain from to) q)
+      → ListsBelow q ((to * 64 + from) * 2 + target_place target + 1) us
+  not_pushed us lists none = ListsBelow-skip q _ _ us (omega arith) lists (λ w n takes low high.
+      let h = place_is w n takes (omega arith) in none w.before h.1 h.0)
+
+-- a position before with a target has the one that its board shows
+pub this_one : (q : Setup) (man : Man) (from to t : ℕ) (board : Placement) → MayComeFrom q man to from → board ≡ men_before q.men man to from
+    → ((p : Setup) → IsAdmissible p → IsSettled p → p.men ≡ board → p.side ≡ man.side → (p.target ≡ None) ⊎ (p.target ≡ Some t))
+    → (b : Setup) → ComesBy b (plain from to) q → target_place b.target ≡ 1 → b.target ≡ Some t
+this_one q man from to t board may is shown b comes some = elim (shown_before q man from to board (λ o. (o ≡ None) ⊎ (o ≡ Some t)) may is shown b comes) [
+  | inl none ↦ let e : target_place b.target ≡ 0 = ap target_place none in absurd (omega arith)
+  | inr here ↦ here
+]
+
+-- where no target is possible, only the place without one counts
+pub no_target : (q : Setup) (man : Man) (from to : ℕ) (us : List Unmove) → from < 64 → ListsBelow q ((to * 64 + from) * 2 + 1) us
+    → ((b : Setup) → ComesBy b (plain from to) q → b.target ≡ None) → ListsBelow q ((to * 64 + from + 1) * 2) us
+no_target q man from to us from_in lists none = ListsBelow-skip q _ _ us (omega arith) lists (λ w n takes low high.
+    let here = placed w n q from to 1 from_in (omega arith) takes (omega arith) in
+    let comes : ComesBy w.before (plain from to) q = subst (λ x. ComesBy w.before x q) here.0 takes.comes in
+    let e : target_place w.before.target ≡ 0 = ap target_place (none w.before comes) in
+    let f = here.1 in
+    omega arith)
+
+-- the unmoves of one man from the squares before `next` are listed, and the others are left
+pub record ListsTo (q : Setup) (man : Man) (to : ℕ) (sources : SquareSet) (old now : List Unmove) (left : SquareSet) : Type 0 where
+  pub next : ℕ
+  pub within : next ≤ 64
+  pub listed : ListsBelow q ((to * 64 + next) * 2) now
+  pub left_is : (t : ℕ) → Has left t ↔ (Has sources t × (next ≤ t))
+  pub room : length now + 2 * size_of left ≤ length old + 2 * most_goals man.kind
+
+pub ListsTo-none : (q : Setup) (man : Man) (to : ℕ) (sources : SquareSet) (old : List Unmove) → ListsBelow q (to * 128) old → size_of sources ≤ most_goals man.kind → ListsTo q man to sources old old sources
+ListsTo-none q man to sources old lists few = record {
+  next = 0;
+  within = omega arith;
+  listed = subst (λ k. ListsBelow q k old) (omega arith) lists;
+  left_is = λ t. (λ h. (h, omega arith), λ h. h.0);
+  room = omega arith;
+}
+
+not_both : {A : Type 0} (n : ℕ) → n ≡ 0 → n ≡ 1 → A
+not_both n none one = absurd (omega arith)
+
+module _ (q : Setup) (man : Man) (to : ℕ) (sources : SquareSet) (complete : (b : Setup) (m : Move) → m.to ≡ to → ComesBy b m q → Has sources m.from) where
+  -- no unmove comes from a square between
+  skipped : (old now : List Unmove) (left : SquareSet) (n : ℕ) → n ≤ 64 → (l : ListsTo q man to sources old now left) → l.next ≤ n → ((t : ℕ) → t < n → bit_at left.bits t ≡ 0)
+      → ListsBelow q ((to * 64 + n) * 2) now
+  skipped old now left n n_in l le least = ListsBelow-skip q _ _ now (omega arith) l.listed (λ w m takes low high.
+      let within = squares_within w.before m q takes.comes in
+      let m_in = within.0 in
+      let few = target_place_small w.before.target in
+      let same : m.to ≡ to = omega arith in
+      let from_low : l.next ≤ m.from = omega arith in
+      let from_high : m.from < n = omega arith in
+      not_both (bit_at left.bits m.from) (least m.from from_high) ((l.left_is m.from).1 (complete w.before m same takes.comes, from_low)))
+
+  -- before the first square that is left
+  pub ListsTo-before : (old now : List Unmove) (left : SquareSet) (s : ℕ) → s < 64 → Has left s → ((t : ℕ) → t < s → bit_at left.bits t ≡ 0) → ListsTo q man to sources old now left
+      → ListsBelow q ((to * 64 + s) * 2) now
+  ListsTo-before old now left s s_in has least l = skipped old now left s (omega arith) l ((l.left_is s).0 has).1 least
+
+  -- one square less is left
+  pub ListsTo-more : (old now new : List Unmove) (left left' : SquareSet) (s : ℕ) → s < 64 → Has left s → ((t : ℕ) → t < s → bit_at left.bits t ≡ 0) → bit_at left'.bits s ≡ 0
+      → ((t : ℕ) → t ≢ s → bit_at left'.bits t ≡ bit_at left.bits t) → size_of left' + 1 ≡ size_of left → ListsBelow q ((to * 64 + s + 1) * 2) new → length new ≤ length now + 2
+      → ListsTo q man to sources old now left → ListsTo q man to sources old new left'
+  ListsTo-more old now new left left' s s_in has least gone others size lists few l = record {
+    next = s + 1;
+    within = omega arith;
+    listed = subst (λ k. ListsBelow q k new) (omega arith) lists;
+    left_is = λ t. (there t, back t);
+    room = let r = l.room in omega arith;
+  }
+    where
+      there : (t : ℕ) → Has left' t → Has sources t × (s + 1 ≤ t)
+      there t h = elim (cases_eq t s) [
+        | inl e ↦ not_both (bit_at left'.bits s) gone (ap (bit_at left'.bits) (sym e) ∙ h)
+        | inr other ↦ let was : Has left t = sym (others t other) ∙ h in (
+          ((l.left_is t).0 was).0,
+          elim (cases_lt t s) [
+            | inl less ↦ not_both (bit_at left.bits t) (least t less) was
+            | inr le ↦ omega arith
+          ],
+        )
+      ]
+
+      back : (t : ℕ) → Has sources t × (s + 1 ≤ t) → Has left' t
+      back t h = let high = h.1 in let first = ((l.left_is s).0 has).1 in
+          others t (λ e. omega arith) ∙ (l.left_is t).1 (h.0, omega arith)
+
+  -- no square is left
+  pub ListsTo-all : (old now : List Unmove) (left : SquareSet) → ListsTo q man to sources old now left → ((t : ℕ) → bit_at left.bits t ≡ 0) → ListsBelow q ((to + 1) * 128) now
+  ListsTo-all old now left l none = subst (λ k. ListsBelow q k now) (omega arith) (skipped old now left 64 (omega arith) l l.within (λ t _. none t))

@@ -1,0 +1,15 @@
+-- The two sides.
+use Rattle.std.proofs.Common.{◌≡◌, ◌⊎◌, refl, inl, inr}
+use Rattle.egt_board.specs.declared.man.Side.{Side}
+use Rattle.egt_board.specs.declared.man.Side.TheVariants.{White, Black}
+use Rattle.egt_board.specs.Man.{other_side}
+
+pub side_twice : (side : Side) → other_side (other_side side) ≡ side
+side_twice White = refl
+side_twice Black = refl
+
+pub side_cases : (s t : Side) → (s ≡ t) ⊎ (s ≡ other_side t)
+side_cases White White = inl refl
+side_cases White Black = inr refl
+side_cases Black White = inr refl
+side_cases Black Black = inl refl

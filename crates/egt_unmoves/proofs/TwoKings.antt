@@ -1,0 +1,118 @@
+-- Two kings in the corners are a position.
+use Rattle.std.proofs.Common.{◌≡◌, ◌≢◌, ℕ, ◌+◌, ◌≤◌, ◌⊎◌, Some, None, cond, Bool, true, false, arith, refl, sym, ap, ◌∙◌, inl, inr, subst}
+use Rattle.std.specs.Option.{is_some}
+use Rattle.std.specs.FinMap as map
+use Rattle.std.specs.Cmp.{nat_cmp_total}
+use Rattle.std.specs.Ordering.{nat_cmp}
+use Rattle.std.proofs.lemmas.Bool.{cases_eq}
+use Rattle.egt_board.specs.declared.man.Side.{Side}
+use Rattle.egt_board.specs.declared.man.Side.TheVariants.{White, Black}
+use Rattle.egt_board.specs.declared.man.Kind.TheVariants.{P, K}
+use Rattle.egt_board.specs.declared.man.Man.{Man}
+use Rattle.egt_board.specs.Attack.{king_of, IsInCheck}
+use Rattle.egt_board.specs.Gait.{Reaches}
+use Rattle.egt_board.specs.Placement.{Placement, Stands, IsFree, get-insert_same, get-insert_other}
+use Rattle.egt_board.specs.Setup.{IsAdmissible, IsKingOn}
+
+-- white's king on a1 and black's on h8
+abbrev pub corners : Placement
+corners = map.insert (map.insert map.empty 0 (king_of White)) 63 (king_of Black)
+
+no_more : (m : Placement) (s : ℕ) (man : Man) → map.len (map.insert m s man) ≤ map.len m + 1
+no_more m s man = by_key (is_some (map.get m s)) (map.len-insert nat_cmp_total m s man)
+  where
+    by_key : (b : Bool) → map.len (map.insert m s man) ≡ cond b (map.len m) (map.len m + 1) → map.len (map.insert m s man) ≤ map.len m + 1
+    by_key true e = omega arith
+    by_key false e = omega arith
+
+kings_differ : king_of White ≢ king_of Black
+kings_differ e = let bad : White ≡ Black = ap (λ (x : Man). x.side) e in cc
+
+on_white : Stands corners 0 (king_of White)
+on_white = get-insert_other (map.insert map.empty 0 (king_of White)) 63 (king_of Black) 0 (omega arith) ∙ get-insert_same map.empty 0 (king_of White) 0 refl
+
+on_black : Stands corners 63 (king_of Black)
+on_black = get-insert_same (map.insert map.empty 0 (king_of White)) 63 (king_of Black) 63 refl
+
+same : (a b : Man) → Some a ≡ Some b → a ≡ b
+same a b e = cc
+
+two_men : (s : ℕ) (man : Man) → Stands corners s man → ((s ≡ 0) × (man ≡ king_of White)) ⊎ ((s ≡ 63) × (man ≡ king_of Black))
+two_men s man stands = elim (cases_eq s 63) [
+  | inl e ↦ inr (e, same man (king_of Black) (sym stands ∙ get-insert_same (map.insert map.empty 0 (king_of White)) 63 (king_of Black) s e))
+  | inr not_black ↦ elim (cases_eq s 0) [
+    | inl e ↦
+        inl (e, same man (king_of White) (sym stands ∙ get-insert_other (map.insert map.empty 0 (king_of White)) 63 (king_of Black) s not_black ∙ get-insert_same map.empty 0 (king_of White) s e))
+    | inr not_white ↦
+        let none : map.get corners s ≡ None = get-insert_other (map.insert map.empty 0 (king_of White)) 63 (king_of Black) s not_black
+        ∙ get-insert_other map.empty 0 (king_of White) s not_white ∙ map.get-empty nat_cmp s in
+        let bad : Some man ≡ None = sym stands ∙ none in absurd (cc)
+  ]
+]
+
+white_there : IsKingOn corners White 0
+white_there = record { stands = on_white; only = only }
+  where
+    only : (t : ℕ) → Stands corners t (king_of White) → t ≡ 0
+    only t stands = elim (two_men t (king_of White) stands) [ inl w ↦ w.0 | inr b ↦ absurd (kings_differ b.1) ]
+
+black_there : IsKingOn corners Black 63
+black_there = record { stands = on_black; only = only }
+  where
+    only : (t : ℕ) → Stands corners t (king_of Black) → t ≡ 63
+    only t stands = elim (two_men t (king_of Black) stands) [ inl w ↦ absurd (kings_differ (sym w.1)) | inr b ↦ b.0 ]
+
+-- a king does not reach the other corner
+too_far : Reaches (IsFree corners) (king_of White) 0 63 → ⊥
+too_far (inl r) = let a = r.away.across in let few = r.within in omega arith
+too_far (inr (inl r)) = let a = r.away.across in let few = r.within in omega arith
+too_far (inr (inr (inl r))) = let a = r.away.across in let few = r.within in omega arith
+too_far (inr (inr (inr (inl r)))) = let a = r.away.across in let few = r.within in omega arith
+too_far (inr (inr (inr (inr (inl r))))) = let a = r.away.across in let few = r.within in omega arith
+too_far (inr (inr (inr (inr (inr (inl r)))))) = let a = r.away.across in let few = r.within in omega arith
+too_far (inr (inr (inr (inr (inr (inr (inl r))))))) = let a = r.away.across in let few = r.within in omega arith
+too_far (inr (inr (inr (inr (inr (inr (inr (inl r)))))))) = let a = r.away.across in let few = r.within in omega arith
+too_far (inr (inr (inr (inr (inr (inr (inr (inr none)))))))) = none
+
+no_check : ¬ IsInCheck corners Black
+no_check check = too_far (subst (λ t. Reaches (IsFree corners) (king_of White) 0 t) here there)
+  where
+    here : check.square ≡ 63
+    here = black_there.only check.square check.stands
+
+    there : Reaches (IsFree corners) (king_of White) 0 check.square
+    there = elim (two_men check.attacked.from check.attacked.man check.attacked.stands) [
+      | inl w ↦ subst (λ s. Reaches (IsFree corners) (king_of White) s check.square) w.0
+          (subst (λ x. Reaches (IsFree corners) x check.attacked.from check.square) w.1 check.attacked.reaches)
+      | inr b ↦ let bad : Black ≡ White = sym (ap (λ (x : Man). x.side) b.1) ∙ check.attacked.theirs in absurd (cc)
+    ]
+
+pub corners-admissible : IsAdmissible (record { men = corners; side = White; target = None })
+corners-admissible = record {
+  few = few;
+  on_board = λ s man stands. elim (two_men s man stands) [ inl w ↦ let e = w.0 in omega arith | inr b ↦ let e = b.0 in omega arith ];
+  kings = record { white = 0; black = 63; white_there = white_there; black_there = black_there };
+  pawns = λ s man stands pawn. elim (two_men s man stands) [
+    | inl w ↦ absurd (no_pawn man White w.1 pawn)
+    | inr b ↦ absurd (no_pawn man Black b.1 pawn)
+  ];
+  target = tt;
+  quiet = no_check;
+}
+  where
+    few : map.len corners ≤ 4
+    few =
+        let none = map.len-empty nat_cmp Man in
+        let one = no_more map.empty 0 (king_of White) in
+        let two = no_more (map.insert map.empty 0 (king_of White)) 63 (king_of Black) in
+        omega arith
+
+    no_pawn : (man : Man) (side : Side) → man ≡ king_of side → man.kind ≡ P → ⊥
+    no_pawn man side e pawn = let bad : K ≡ P = sym (ap (λ (x : Man). x.kind) e) ∙ pawn in cc
+
+-- whatever the squares are called
+pub two_kings-admissible : (a b : ℕ) (v w : Man) → a ≡ 0 → b ≡ 63 → v ≡ king_of White → w ≡ king_of Black
+    → IsAdmissible (record { men = map.insert (map.insert map.empty a v) b w; side = White; target = None })
+two_kings-admissible a b v w on_a on_b is_white is_black =
+    subst (λ (men : Placement). IsAdmissible (record { men = men; side = White; target = None }))
+    (λ i. map.insert (map.insert map.empty (sym on_a i) (sym is_white i)) (sym on_b i) (sym is_black i)) corners-admissible

@@ -1,0 +1,2 @@
+pub mod Unmoves
+pub mod Order

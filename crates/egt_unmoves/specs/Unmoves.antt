@@ -1,0 +1,43 @@
+-- Moves backwards: which positions a legal move, neither a capture nor a promotion, leads from (FIDE Laws of Chess 2023,
+-- articles 3.1 to 3.9).
+use Rattle.std.specs.Prelude.{◌≡◌, ℕ, ◌↔◌, None, IsTrue}
+use Rattle.std.specs.FinMap as map
+use Rattle.egt_board.specs.declared.man.Man.{Man}
+use Rattle.egt_board.specs.Man.{other_side}
+use Rattle.egt_board.specs.Placement.{Placement, Stands, IsFree}
+use Rattle.egt_board.specs.Setup.{Setup, IsAdmissible}
+use Rattle.egt_board.specs.Settled.{IsSettled, SettlesTo}
+use Rattle.egt_moves.specs.declared.chess_move.Move.{Move}
+use Rattle.egt_moves.specs.Chess.{IsPawnOn}
+use Rattle.egt_moves.specs.Exchange.{Captures}
+use Rattle.egt_moves.specs.Legal.{Leads}
+use Rattle.egt_unmoves.specs.declared.unmove.Unmove.{Unmove}
+
+-- the legal move m, neither a capture nor a promotion, leads from the settled position b to one that settles to q
+pub record ComesBy (b : Setup) (m : Move) (q : Setup) : Type 0 where
+  pub admissible : IsAdmissible b
+  pub settled : IsSettled b
+  pub led : Setup
+  pub leads : Leads b m led
+  pub no_capture : ¬ Captures b m
+  pub no_promotion : m.promo ≡ None
+  pub settles : SettlesTo led q
+
+-- u takes the move back, and tells whether it is a pawn's
+pub record TakesBack (u : Unmove) (m : Move) (q : Setup) : Type 0 where
+  pub comes : ComesBy u.before m q
+  pub pawn : IsTrue u.pawn ↔ IsPawnOn u.before.men m.from
+
+-- u takes back some move that leads to q
+abbrev pub IsUnmove : Setup → Unmove → Type 0
+IsUnmove q u = (m : Move) × TakesBack u m q
+
+-- the man that stands on the one square goes back to the other
+abbrev pub men_before : Placement → Man → ℕ → ℕ → Placement
+men_before men man to from = map.insert (map.remove men to) from man
+
+-- the man, one of the side that waits, may have come to the one square from the other, as far as the board tells
+pub record MayComeFrom (q : Setup) (man : Man) (to from : ℕ) : Type 0 where
+  pub stands : Stands q.men to man
+  pub theirs : man.side ≡ other_side q.side
+  pub free : IsFree q.men from
