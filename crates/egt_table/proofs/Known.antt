@@ -2,7 +2,7 @@
 use Rattle.std.proofs.Common.{◌≡◌, ℕ, ◌+◌, ◌<◌, ◌≤◌, min, List, [], ◌++◌, length, take, Option, Some, None, append_assoc, sym, ap, subst, ◌∙◌, refl, arith}
 use Rattle.std.specs.Io.KnownBytes.{Consumes, Appends, Keeps}
 use Rattle.std.proofs.lemmas.Grind.{common_steps}
-use Rattle.std.proofs.lemmas.List.{take-append-le}
+use Rattle.std.proofs.lemmas.List.{take-append-le, take_min}
 use Rattle.std.proofs.Math.Seq.{take-append-add, take-append_seam}
 use Rattle.egt_table.specs.Stream.{AppendsFront}
 
@@ -47,3 +47,16 @@ take_across a n us vs ws e h =
 pub front_kept : (a b c : Option (List ℕ)) (taken rest piece : List ℕ) → Appends a b taken → Keeps b c → piece ≡ taken ++ rest → AppendsFront a c piece
 front_kept a b c taken rest piece p q e =
     (length taken, subst (λ (w : List ℕ). Appends a c w) (sym (ap (take (length taken)) e ∙ take-append_seam taken rest)) (appends_kept a b c taken p q))
+
+-- what was added, and then a beginning of what comes next
+pub front_more : (a b c : Option (List ℕ)) (x y w z : List ℕ) → Appends a b x → AppendsFront b c y → z ≡ x ++ (y ++ w) → AppendsFront a c z
+front_more a b c x y w z p q e =
+    let k = min q.0 (length y) in
+    let short : take k (y ++ w) ≡ take q.0 y = take-append-le k y w (omega arith) ∙ take_min q.0 y in
+    let whole : take (length x + k) z ≡ x ++ take q.0 y =
+    ap (take (length x + k)) e ∙ take-append-add x (y ++ w) k ∙ ap (λ (v : List ℕ). x ++ v) short in
+    (length x + k, appends_more a b c x (take q.0 y) (take (length x + k) z) p q.1 whole)
+
+-- a beginning of a beginning
+pub front_longer : (a b : Option (List ℕ)) (x w z : List ℕ) → AppendsFront a b x → z ≡ x ++ w → AppendsFront a b z
+front_longer a b x w z p e = front_more a a b [] x w z (appends_none a) p e

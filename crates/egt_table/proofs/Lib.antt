@@ -1,1 +1,5 @@
 pub mod Known
+pub mod Digits
+pub mod Entries
+pub mod Columns
+pub mod Fields

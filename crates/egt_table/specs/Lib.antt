@@ -1,1 +1,4 @@
 pub mod Stream
+pub mod Fault
+pub mod Table
+pub mod File

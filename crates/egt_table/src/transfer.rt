@@ -6,6 +6,12 @@ ghost use Rattle.egt_table.specs.Stream.{CountsFailure, AppendsFront};
 use crate::device::Device;
 use crate::stream::{Sink, Source};
 
+/// How many entries go through the buffer at once.
+pub(crate) const PIECE: usize = 2048;
+
+/// How many bytes these have.
+pub(crate) const PIECE_BYTES: usize = 2 * PIECE;
+
 /// Pulls until the buffer is full or nothing is left, and gives the number of bytes that came.
 pub(crate) fn fill<S: Source>(source: &mut S, buffer: &mut [u8]) -> Result<usize, Device>
     ensures bound { IfOk result (λ n. n ≤ length buffer.new) }
