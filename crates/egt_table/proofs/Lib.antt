@@ -3,3 +3,4 @@ pub mod Digits
 pub mod Entries
 pub mod Columns
 pub mod Fields
+pub mod Answers

@@ -83,11 +83,15 @@ file_fault class bytes =
     if nat_lt (length bytes) header_length then Some faults.Short
     else or_else (header_fault class bytes) (length_fault class bytes)
 
+-- the bytes begin with a header that has no fault
+abbrev pub HasHeader : ℕ → List ℕ → Type 0
+HasHeader class bytes = (header_length ≤ length bytes) × (header_fault class bytes ≡ None)
+
 -- what may be answered to these bytes in place of a table: the first fault that they have, want of memory once the header is
 -- right, or a failure of the device
 abbrev pub IsAnswer : ℕ → List ℕ → FileFault → Type 0
 IsAnswer class bytes faults.Device = Unit {0}
-IsAnswer class bytes faults.NoMemory = (header_length ≤ length bytes) × (header_fault class bytes ≡ None)
+IsAnswer class bytes faults.NoMemory = HasHeader class bytes
 IsAnswer class bytes fault = file_fault class bytes ≡ Some fault
 
 -- what reading these bytes gives: the table whose file they are, or why they are none

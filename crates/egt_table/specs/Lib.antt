@@ -2,3 +2,4 @@ pub mod Stream
 pub mod Fault
 pub mod Table
 pub mod File
+pub mod Reading

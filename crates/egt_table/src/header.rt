@@ -1,5 +1,5 @@
 //! The header of a table's file.
-ghost use Rattle.std.specs.Prelude.{◌≡◌, ◌≤◌, length, drop};
+ghost use Rattle.std.specs.Prelude.{◌≡◌, ◌≤◌, length, drop, None, Some, OnOk, IfErr};
 ghost use Rattle.byteorder.specs.Endian.{little_number};
 ghost use Rattle.egt_table.specs.File.{header_of, header_fault};
 
@@ -53,34 +53,35 @@ fn front_u32(bytes: &[u8]) -> (u32, &[u8])
     (LittleEndian::read_u32(bytes), bytes.split_at(4).1)
 }
 
-/// The fault of the first field that is not as the class's file has it.
+/// Compares the header with that of the class's file. The fault is that of the first field that differs.
 #[tactic(auto, unfolding(crate::specs::File::header_fields))]
-pub(crate) fn fault_of(class: Class, header: &[u8; LENGTH]) -> Option<FileFault>
-    ensures { result ≡ header_fault class header.now }
+pub(crate) fn check_header(class: Class, header: &[u8; LENGTH]) -> Result<(), FileFault>
+    ensures right { OnOk result (header_fault class header.now ≡ None) }
+    ensures fault { IfErr result (λ fault. header_fault class header.now ≡ Some fault) }
 {
     let (magic, rest) = front_u32(header);
     if magic != MAGIC {
-        return Some(FileFault::Magic);
+        return Err(FileFault::Magic);
     }
     let (version, rest) = front_u16(rest);
     if version != VERSION {
-        return Some(FileFault::Version);
+        return Err(FileFault::Version);
     }
     let (layout, rest) = front_u16(rest);
     if layout != LAYOUT {
-        return Some(FileFault::Layout);
+        return Err(FileFault::Layout);
     }
     let (number, rest) = front_u16(rest);
     if number != u16::from(class.number()) {
-        return Some(FileFault::Class);
+        return Err(FileFault::Class);
     }
     let (columns, rest) = front_u16(rest);
     if columns != COLUMNS {
-        return Some(FileFault::Columns);
+        return Err(FileFault::Columns);
     }
     let (count, _) = front_u32(rest);
     if count != size(class) {
-        return Some(FileFault::Count);
+        return Err(FileFault::Count);
     }
-    None
+    Ok(())
 }

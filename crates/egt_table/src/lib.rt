@@ -8,6 +8,7 @@ pub mod fault;
 pub mod from_std;
 pub mod header;
 pub mod memory;
+pub mod reading;
 pub mod stream;
 pub mod table;
 pub mod transfer;

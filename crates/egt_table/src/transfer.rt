@@ -1,5 +1,5 @@
 //! Whole pieces through streams that take or give them in parts.
-ghost use Rattle.std.specs.Prelude.{◌≡◌, ◌<◌, ◌≤◌, length, take, IfOk, OnOk, OnErr};
+ghost use Rattle.std.specs.Prelude.{◌≡◌, ◌<◌, ◌≤◌, ℕ, length, take, slice_index, IfOk, OnOk, OnErr};
 ghost use Rattle.std.specs.Io.KnownBytes.{Consumes, Appends, IsAtEnd};
 ghost use Rattle.egt_table.specs.Stream.{CountsFailure, AppendsFront};
 
@@ -17,6 +17,7 @@ pub(crate) fn fill<S: Source>(source: &mut S, buffer: &mut [u8]) -> Result<usize
     ensures bound { IfOk result (λ n. n ≤ length buffer.new) }
     ensures bytes { IfOk result (λ n. Consumes (S.left source.old) (S.left source.new) (take n buffer.new)) }
     ensures end { IfOk result (λ n. n < length buffer.new → IsAtEnd (S.left source.new)) }
+    ensures range { (i : ℕ) → slice_index buffer.new i < 256 }
     ensures failures { CountsFailure result (S.failures source.old) (S.failures source.new) }
 {
     let mut got = 0;

@@ -8,6 +8,7 @@ loop-got-preserved g c =
     let before = length-take-le c.loop-got.got c.loop-got.buffer c.loop-got.invariant.bound in
     record {
       bound = omega (arith, length-append {A = ℕ}, before, c.in_ok-n.ensures.bound);
+      range = λ i. omega (arith, c.type_inv.buffer i);
       bytes = consumes_more _ _ _ _ _ _ c.loop-got.invariant.bytes c.in_ok-n.ensures.bytes.0 (take_across c.loop-got.got c.in_ok-n.n _ c.pull.new.buffer _ before c.in_ok-n.ensures.bound);
       failures = c.in_ok-n.ensures.failures ∙ c.loop-got.invariant.failures;
     }
