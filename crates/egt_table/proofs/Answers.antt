@@ -1,14 +1,17 @@
 -- What the parts of a file that were read tell of all its bytes.
-use Rattle.std.proofs.Common.{◌≡◌, ℕ, ◌+◌, ◌*◌, ◌<◌, ◌≤◌, nat_lt, ◌==◌, ◌⊎◌, inl, inr, Bool, true, false, le-ltb, lt-ltb, List, [], ◌∷◌, ◌++◌, length, drop, Option, Some, None, refl, sym, ap, subst, ◌∙◌, arith, length-append, IfSome, if◌then◌else◌}
+use Rattle.std.proofs.Common.{◌≡◌, ℕ, ◌+◌, ◌*◌, ◌^◌, ◌<◌, ◌≤◌, nat_lt, ◌==◌, ◌⊎◌, inl, inr, Bool, true, false, le-ltb, lt-ltb, List, [], ◌∷◌, ◌++◌, length, drop, Option, Some, None, refl, sym, ap, subst, ◌∙◌, arith, length-append, IfSome, if◌then◌else◌}
 use Rattle.std.specs.Io.KnownBytes.{Consumes}
 use Rattle.byteorder.specs.Endian.{little_number}
 use Rattle.egt_index.specs.Size.{size_of}
 use Rattle.egt_table.specs.declared.fault.FileFault.{FileFault}
 use Rattle.egt_table.specs.declared.fault.FileFault.TheVariants as faults
-use Rattle.egt_table.specs.File.{Field, HasHeader, IsAnswer, first_fault, header_fields, header_fault, header_of, file_fault, length_fault, file_length, or_else}
+use Rattle.egt_table.specs.File.{AreBytes, Field, bytes_of, column_bytes, entries_bytes, HasHeader, IsAnswer, first_fault, header_fields, header_fault, header_of, file_fault, length_fault, file_length, or_else}
 use Rattle.egt_table.specs.Reading.{CountsFault, IsCut, IsMisfit}
-use Rattle.egt_table.proofs.Digits.{IsBytes}
-use Rattle.egt_table.proofs.Fields.{fault_in_front, fields_right, widths}
+use Rattle.egt_table.proofs.Entries.{entries_length}
+use Rattle.egt_table.proofs.Fields.{AllFit, fault_in_front, fields_right, no_fault, widths}
+use Rattle.egt_table.specs.Table.{TableValue, IsTable, columns}
+use Rattle.egt_table.specs.declared.column.Column.TheVariants.{Mate, Zeroing}
+use Rattle.std.specs.List.{flat_map}
 
 -- the faults of fields
 abbrev pub IsOfField : FileFault → Type 0
@@ -73,7 +76,7 @@ header_is_right class (Some bytes) (Some rest) header p l e =
     let front = fault_in_front (header_fields class) header rest (omega (arith, header_widths class)) in
     (omega (arith, ap length p, length-append {A = ℕ}), ap (λ (w : List ℕ). header_fault class w) p ∙ front ∙ e)
 
-pub header_is : (class : ℕ) (header : List ℕ) → IsBytes header → length header ≡ 16 → header_fault class header ≡ None → header ≡ header_of class
+pub header_is : (class : ℕ) (header : List ℕ) → AreBytes header → length header ≡ 16 → header_fault class header ≡ None → header ≡ header_of class
 header_is class header b l e = fields_right (header_fields class) header b (l ∙ sym (header_widths class)) e
 
 -- what came before a cut
@@ -127,3 +130,22 @@ columns_answer class (Some bytes) (Some rest) header n fault p l s h q = absurd 
 pub header_of_length : (class : ℕ) → length (header_of class) ≡ 16
 unfolding header_fields
 header_of_length class = refl
+
+fields_fit : (class : ℕ) → class < 36 → size_of class < 2 ^ 32 → AllFit (header_fields class)
+unfolding header_fields
+fields_fit class c s = (omega arith, (omega arith, (omega arith, (omega arith, (omega arith, (s, tt))))))
+
+-- the file of a table has no fault
+pub written_right : (t : TableValue) → IsTable t → size_of t.class < 2 ^ 32 → file_fault t.class (bytes_of t) ≡ None
+written_right t h s =
+    let header = no_fault (header_fields t.class) (flat_map (column_bytes t) columns) (fields_fit t.class h.class_in s) in
+    let mate = entries_length t.mate in
+    let zeroing = entries_length t.zeroing in
+    let mate_size = h.sizes Mate in
+    let zeroing_size = h.sizes Zeroing in
+    let is : length (bytes_of t) ≡ file_length t.class =
+    omega (arith, header_of_length t.class, length-append (header_of t.class) (flat_map (column_bytes t) columns), length-append (entries_bytes t.mate) (entries_bytes t.zeroing ++ []), length-append (entries_bytes t.zeroing) []) in
+    let long : nat_lt (length (bytes_of t)) 16 ≡ false = le-ltb (length (bytes_of t)) 16 (omega arith) in
+    let not_short : nat_lt (length (bytes_of t)) (file_length t.class) ≡ false = le-ltb (length (bytes_of t)) (file_length t.class) (omega arith) in
+    let not_long : nat_lt (file_length t.class) (length (bytes_of t)) ≡ false = le-ltb (file_length t.class) (length (bytes_of t)) (omega arith) in
+    rw (long, header, not_short, not_long) refl

@@ -1,12 +1,11 @@
 -- Bytes, the lowest first, tell a number, and are told by it.
 use Rattle.std.proofs.Common.{◌/◌, ◌%◌, ◌≡◌, ℕ, zero, suc, ◌+◌, ◌*◌, ◌^◌, ◌<◌, ◌≤◌, List, [], ◌∷◌, ◌++◌, length, take, get_or, refl, sym, ap, ◌∙◌, arith}
 use Rattle.std.proofs.Math.Nat.{div-div-eq-div-mul, pow-succ'}
+use Rattle.std.proofs.lemmas.List.{take_all}
 use Rattle.std.specs.Int.{byte_at, bytes_low_first}
 use Rattle.byteorder.specs.Endian.{little_bytes, little_number, little_from}
+use Rattle.egt_table.specs.File.{AreBytes}
 use Rattle.byteorder.specs.Numbers.{little_from-cons, little_number-reads_back}
-
-abbrev pub IsBytes : List ℕ → Type 0
-IsBytes xs = (i : ℕ) → get_or xs i 0 < 256
 
 byte_behind : (k x : ℕ) → byte_at (suc k) x ≡ byte_at k (x / 256)
 byte_behind zero x = refl
@@ -23,7 +22,7 @@ quotient a r h = omega arith
 remainder : (a r : ℕ) → a < 256 → (a + 256 * r) % 256 ≡ a
 remainder a r h = omega arith
 
-pub bytes_back : (n : ℕ) (xs : List ℕ) → n ≤ length xs → IsBytes xs → little_bytes n (little_number n xs) ≡ take n xs
+pub bytes_back : (n : ℕ) (xs : List ℕ) → n ≤ length xs → AreBytes xs → little_bytes n (little_number n xs) ≡ take n xs
 bytes_back zero xs h b = refl
 bytes_back (suc n) [] h b = absurd (omega arith)
 bytes_back (suc n) (a ∷ xs) h b =
@@ -38,3 +37,8 @@ bytes_back (suc n) (a ∷ xs) h b =
 pub one_number : (n x y : ℕ) → x < 256 ^ n → y < 256 ^ n → little_bytes n x ≡ little_bytes n y → x ≡ y
 one_number n x y hx hy e =
     sym (little_number-reads_back n x [] hx) ∙ ap (λ (w : List ℕ). little_number n (w ++ [])) e ∙ little_number-reads_back n y [] hy
+
+-- bytes, as many, are determined by their number
+pub one_list : (n : ℕ) (xs ys : List ℕ) → AreBytes xs → AreBytes ys → length xs ≡ n → length ys ≡ n → little_number n xs ≡ little_number n ys → xs ≡ ys
+one_list n xs ys bx by lx ly e =
+    sym (take_all n xs (omega arith)) ∙ sym (bytes_back n xs (omega arith) bx) ∙ ap (little_bytes n) e ∙ bytes_back n ys (omega arith) by ∙ take_all n ys (omega arith)

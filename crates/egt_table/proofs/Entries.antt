@@ -2,15 +2,15 @@
 use Rattle.std.proofs.Common.{◌≡◌, ℕ, suc, ◌+◌, ◌*◌, ◌<◌, ◌≤◌, List, [], ◌∷◌, ◌++◌, length, take, drop, refl, sym, ap, ◌∙◌, arith, length-append}
 use Rattle.byteorder.specs.Endian.{little_bytes, little_number, IsRead}
 use Rattle.std.proofs.lemmas.Grind.{flat_map-append}
-use Rattle.egt_table.specs.File.{entries_bytes}
-use Rattle.egt_table.proofs.Digits.{IsBytes, bytes_back}
+use Rattle.egt_table.specs.File.{AreBytes, entries_bytes}
+use Rattle.egt_table.proofs.Digits.{bytes_back}
 
 pub entries_length : (xs : List ℕ) → length (entries_bytes xs) ≡ 2 * length xs
 entries_length [] = refl
 entries_length (x ∷ xs) = let e = entries_length xs in omega (arith, e)
 
 -- numbers that were read from bytes have these bytes
-pub entries_read : (bytes entries : List ℕ) → length bytes ≡ 2 * length entries → IsBytes bytes → IsRead little_number 2 bytes entries → entries_bytes entries ≡ bytes
+pub entries_read : (bytes entries : List ℕ) → length bytes ≡ 2 * length entries → AreBytes bytes → IsRead little_number 2 bytes entries → entries_bytes entries ≡ bytes
 entries_read [] [] e b r = refl
 entries_read (a ∷ bytes) [] e b r = absurd (omega arith)
 entries_read [] (x ∷ entries) e b r = absurd (omega arith)

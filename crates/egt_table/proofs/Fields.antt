@@ -6,8 +6,8 @@ use Rattle.byteorder.specs.Numbers.{little_from-append, little_number-reads_back
 use Rattle.std.proofs.lemmas.Bool.{eqb-true}
 use Rattle.std.proofs.lemmas.List.{take-append-drop, get_or-drop, drop_at, drop-append-le}
 use Rattle.egt_table.specs.declared.fault.FileFault.{FileFault}
-use Rattle.egt_table.specs.File.{Field, field_bytes, first_fault}
-use Rattle.egt_table.proofs.Digits.{IsBytes, bytes_back}
+use Rattle.egt_table.specs.File.{AreBytes, Field, field_bytes, first_fault}
+use Rattle.egt_table.proofs.Digits.{bytes_back}
 
 abbrev pub widths : List Field → ℕ
 widths [] = 0
@@ -17,7 +17,7 @@ abbrev pub AllFit : List Field → Type 0
 AllFit [] = Unit {0}
 AllFit (field ∷ fields) = (field.value < 256 ^ field.width) × AllFit fields
 
-bytes_behind : (n : ℕ) (xs : List ℕ) → IsBytes xs → IsBytes (drop n xs)
+bytes_behind : (n : ℕ) (xs : List ℕ) → AreBytes xs → AreBytes (drop n xs)
 bytes_behind n xs b i = rw (get_or-drop n xs i 0) (b (n + i))
 
 passes : (right : Bool) (later : Option FileFault) (fault : FileFault) → if right then later else Some fault ≡ None → (right ≡ true) × (later ≡ None)
@@ -25,7 +25,7 @@ passes true later fault e = (refl, e)
 passes false later fault e = absurd (cc)
 
 -- bytes without a fault are those of the fields
-pub fields_right : (fields : List Field) (bytes : List ℕ) → IsBytes bytes → length bytes ≡ widths fields → first_fault fields bytes ≡ None → bytes ≡ flat_map field_bytes fields
+pub fields_right : (fields : List Field) (bytes : List ℕ) → AreBytes bytes → length bytes ≡ widths fields → first_fault fields bytes ≡ None → bytes ≡ flat_map field_bytes fields
 fields_right [] [] b e f = refl
 fields_right [] (x ∷ bytes) b e f = absurd (omega arith)
 fields_right (field ∷ fields) bytes b e f =

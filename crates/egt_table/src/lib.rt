@@ -7,6 +7,7 @@ pub mod failing;
 pub mod fault;
 pub mod from_std;
 pub mod header;
+pub mod laws;
 pub mod memory;
 pub mod reading;
 pub mod stream;
@@ -23,3 +24,6 @@ pub use memory::{MemorySink, MemorySource};
 pub use std::alloc::AllocError as NoMemory;
 pub use stream::{Sink, Source};
 pub use table::Table;
+
+#[cfg(test)]
+mod tests;
