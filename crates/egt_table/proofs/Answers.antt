@@ -1,11 +1,11 @@
 -- What the parts of a file that were read tell of all its bytes.
-use Rattle.std.proofs.Common.{◌≡◌, ℕ, ◌+◌, ◌*◌, ◌^◌, ◌<◌, ◌≤◌, nat_lt, ◌==◌, ◌⊎◌, inl, inr, Bool, true, false, le-ltb, lt-ltb, List, [], ◌∷◌, ◌++◌, length, drop, Option, Some, None, refl, sym, ap, subst, ◌∙◌, arith, length-append, IfSome, if◌then◌else◌}
+use Rattle.std.proofs.Common.{◌≡◌, ℕ, ◌+◌, ◌^◌, ◌<◌, ◌≤◌, nat_lt, ◌==◌, ◌⊎◌, inl, inr, Bool, true, false, le-ltb, lt-ltb, List, [], ◌∷◌, ◌++◌, length, drop, Option, Some, None, refl, sym, ap, subst, ◌∙◌, arith, length-append, IfSome, if◌then◌else◌}
 use Rattle.std.specs.Io.KnownBytes.{Consumes}
 use Rattle.byteorder.specs.Endian.{little_number}
 use Rattle.egt_index.specs.Size.{size_of}
 use Rattle.egt_table.specs.declared.fault.FileFault.{FileFault}
 use Rattle.egt_table.specs.declared.fault.FileFault.TheVariants as faults
-use Rattle.egt_table.specs.File.{AreBytes, Field, bytes_of, column_bytes, entries_bytes, HasHeader, IsAnswer, first_fault, header_fields, header_fault, header_of, file_fault, length_fault, file_length, or_else}
+use Rattle.egt_table.specs.File.{AreBytes, Field, bytes_of, column_bytes, entries_bytes, HasHeader, IsAnswer, first_fault, header_fields, header_fault, header_of, file_fault, file_length}
 use Rattle.egt_table.specs.Reading.{CountsFault, IsCut, IsMisfit}
 use Rattle.egt_table.proofs.Entries.{entries_length}
 use Rattle.egt_table.proofs.Fields.{AllFit, fault_in_front, fields_right, no_fault, widths}

@@ -1,5 +1,5 @@
 -- Entries as bytes, two bytes each.
-use Rattle.std.proofs.Common.{◌≡◌, ℕ, suc, ◌+◌, ◌*◌, ◌<◌, ◌≤◌, List, [], ◌∷◌, ◌++◌, length, take, drop, refl, sym, ap, ◌∙◌, arith, length-append}
+use Rattle.std.proofs.Common.{◌≡◌, ℕ, suc, ◌*◌, List, [], ◌∷◌, ◌++◌, length, drop, refl, ap, ◌∙◌, arith}
 use Rattle.byteorder.specs.Endian.{little_bytes, little_number, IsRead}
 use Rattle.std.proofs.lemmas.Grind.{flat_map-append}
 use Rattle.egt_table.specs.File.{AreBytes, entries_bytes}

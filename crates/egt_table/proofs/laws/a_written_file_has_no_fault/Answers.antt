@@ -1,4 +1,4 @@
-use Rattle.std.proofs.Common.{◌≡◌, ℕ, ◌<◌, ◌^◌, ap, ◌∙◌, sym, subst, arith, None}
+use Rattle.std.proofs.Common.{◌≡◌, ℕ, ◌<◌, ◌^◌, sym, subst, arith, None}
 use Rattle.egt_index.specs.Size.{size_of}
 use Rattle.egt_table.specs.File.{bytes_of, file_fault}
 use Rattle.egt_table.proofs.Answers.{written_right}
