@@ -1,6 +1,5 @@
 //! Streams over memory.
-ghost use Rattle.std.specs.Prelude.{◌≡◌, Some, [], IfOk};
-ghost use Rattle.egt_table.specs.Stream.{Kept};
+ghost use Rattle.std.specs.Prelude.{◌≡◌, [], IfOk};
 
 use crate::device::Device;
 use crate::stream::{Sink, Source};
@@ -30,7 +29,9 @@ impl<'a> MemorySource<'a> {
 }
 
 impl Source for MemorySource<'_> {
-    ghost use Rattle.std.specs.Prelude.{Some, length};
+    ghost use Rattle.std.specs.Prelude.{◌≡◌, ◌<◌, ◌≤◌, min, Some, length, IfOk, IsOk};
+    ghost use Rattle.std.specs.Io.KnownBytes.{ReadConsumes};
+    ghost use Rattle.egt_table.specs.Stream.{CountsFailure};
 
     ghost left = { λ s. Some s };
 
@@ -38,7 +39,16 @@ impl Source for MemorySource<'_> {
 
     ghost turns = { λ s. length s };
 
-    fn pull(&mut self, buffer: &mut [u8]) -> Result<usize, Device> {
+    fn pull(&mut self, buffer: &mut [u8]) -> Result<usize, Device>
+        ensures bound { IfOk result (λ n. n ≤ length buffer.new) }
+        ensures bytes { ReadConsumes (Some self.old) (Some self.new) result buffer.new }
+        ensures falls { IfOk result (λ n. 0 < n → length self.new < length self.old) }
+        ensures failures { CountsFailure result 0 0 }
+
+        // It gives as much as there is and there is room for.
+        ensures most { IfOk result (λ n. n ≡ min (length buffer.new) (length self.old)) }
+        ensures never_fails { IsOk result }
+    {
         let n = buffer.len().min(self.rest.len());
         let (front, behind) = self.rest.split_at(n);
         buffer[..n].copy_from_slice(front);
@@ -93,13 +103,25 @@ impl MemorySink {
 }
 
 impl Sink for MemorySink {
-    ghost use Rattle.std.specs.Prelude.{Some};
+    ghost use Rattle.std.specs.Prelude.{◌≡◌, ◌-◌, ◌<◌, ◌≤◌, min, Some, length, IfOk, OnErr};
+    ghost use Rattle.std.specs.Io.KnownBytes.{WriteAppends};
+    ghost use Rattle.egt_table.specs.Stream.{CountsFailure};
 
     ghost written = { λ s. Some s.bytes };
 
     ghost failures = { λ s. s.failures };
 
-    fn push(&mut self, piece: &[u8]) -> Result<usize, Device> {
+    fn push(&mut self, piece: &[u8]) -> Result<usize, Device>
+        ensures bound { IfOk result (λ n. n ≤ length piece.now) }
+        ensures some { IfOk result (λ n. 0 < length piece.now → 0 < n) }
+        ensures bytes { WriteAppends (Some self.old.bytes) (Some self.new.bytes) result piece.now }
+        ensures failures { CountsFailure result self.old.failures self.new.failures }
+
+        // It takes what still fits, and fails only where nothing does.
+        ensures most { IfOk result (λ n. n ≡ min (length piece.now) (self.old.room - length self.old.bytes)) }
+        ensures full { OnErr result (length self.old.bytes ≡ self.old.room) }
+        ensures room { self.new.room ≡ self.old.room }
+    {
         let n = piece.len().min(self.room - self.bytes.len());
         if n == 0 && !piece.is_empty() {
             self.failures = self.failures.saturating_add(1);
