@@ -1,0 +1,6 @@
+pub mod Known
+pub mod Digits
+pub mod Entries
+pub mod Columns
+pub mod Fields
+pub mod Answers

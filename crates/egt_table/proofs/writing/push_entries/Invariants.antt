@@ -1,0 +1,15 @@
+use Rattle.std.proofs.Common.{◌≡◌, ◌++◌, List, ℕ, length}
+use Rattle.std.specs.Io.KnownBytes.{Appends}
+use Rattle.egt_table.specs.File.{entries_bytes}
+use Rattle.egt_table.proofs.writing.push_entries.Given as goal
+
+abbrev pub invariant-loop-rest : goal.invariant-loop-rest
+invariant-loop-rest g l = record {
+  pushed : List ℕ;
+  entries : l.entries ≡ pushed ++ l.rest;
+  bytes : Appends (g.S.Sink.written l.initial.sink) (g.S.Sink.written l.sink) (entries_bytes pushed);
+  failures : g.S.Sink.failures l.sink ≡ g.S.Sink.failures l.initial.sink;
+}
+
+abbrev pub decreases-loop-rest : goal.decreases-loop-rest
+decreases-loop-rest g l = length l.rest

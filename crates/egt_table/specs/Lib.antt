@@ -1,0 +1,5 @@
+pub mod Stream
+pub mod Fault
+pub mod Table
+pub mod File
+pub mod Reading

@@ -1,0 +1,34 @@
+-- What reading a part of a file gives.
+use Rattle.std.specs.Prelude.{◌≡◌, ℕ, ◌<◌, List, length, Option, Some, None, Result, MatchResult}
+use Rattle.egt_table.specs.declared.fault.FileFault.{FileFault}
+use Rattle.egt_table.specs.declared.fault.FileFault.TheVariants as faults
+use Rattle.egt_table.specs.Stream.{risen}
+
+abbrev pub CountsFault : FileFault → ℕ → ℕ → Type 0
+CountsFault faults.Device old new = new ≡ risen old
+CountsFault fault old new = new ≡ old
+
+-- a failure of the device is counted, and nothing else is
+abbrev pub CountsDevice : {A : Type 0} → Result A FileFault → ℕ → ℕ → Type 0
+CountsDevice result old new = MatchResult result (λ _. new ≡ old) (λ fault. CountsFault fault old new)
+
+-- the device failed, or fewer than n bytes were left
+abbrev pub IsCut : ℕ → Option (List ℕ) → FileFault → Type 0
+IsCut n left faults.Device = Unit {0}
+IsCut n None faults.Short = Unit {0}
+IsCut n (Some bytes) faults.Short = length bytes < n
+IsCut n left fault = ⊥
+
+-- the device failed, or fewer than n bytes were left, or more
+abbrev pub IsMisfit : ℕ → Option (List ℕ) → FileFault → Type 0
+IsMisfit n left faults.Device = Unit {0}
+IsMisfit n None faults.Short = Unit {0}
+IsMisfit n (Some bytes) faults.Short = length bytes < n
+IsMisfit n None faults.Trailing = Unit {0}
+IsMisfit n (Some bytes) faults.Trailing = n < length bytes
+IsMisfit n left fault = ⊥
+
+-- these bytes were all that was left, where that is known
+abbrev pub IsAll : Option (List ℕ) → List ℕ → Type 0
+IsAll None bytes = Unit {0}
+IsAll (Some left) bytes = left ≡ bytes

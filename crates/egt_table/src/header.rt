@@ -1,0 +1,87 @@
+//! The header of a table's file.
+ghost use Rattle.std.specs.Prelude.{◌≡◌, ◌≤◌, length, drop, None, Some, OnOk, IfErr};
+ghost use Rattle.byteorder.specs.Endian.{little_number};
+ghost use Rattle.egt_table.specs.File.{header_of, header_fault};
+
+use crate::column::Column;
+use crate::fault::FileFault;
+use byteorder::{ByteOrder, LittleEndian};
+use egt_class::Class;
+use egt_index::size;
+
+/// How many bytes a header has.
+pub(crate) const LENGTH: usize = 16;
+
+/// The bytes of `EGTB`.
+const MAGIC: u32 = 0x4254_4745;
+
+const VERSION: u16 = 1;
+
+const LAYOUT: u16 = 1;
+
+const COLUMNS: u16 = Column::ALL.len() as u16;
+
+/// The header of the class's file.
+pub(crate) fn header(class: Class) -> [u8; LENGTH]
+    ensures { result ≡ header_of class }
+{
+    let mut header = [0; LENGTH];
+    LittleEndian::write_u32(&mut header[0..4], MAGIC);
+    LittleEndian::write_u16(&mut header[4..6], VERSION);
+    LittleEndian::write_u16(&mut header[6..8], LAYOUT);
+    LittleEndian::write_u16(&mut header[8..10], u16::from(class.number()));
+    LittleEndian::write_u16(&mut header[10..12], COLUMNS);
+    LittleEndian::write_u32(&mut header[12..16], size(class));
+    header
+}
+
+/// The number in the first two bytes, and what stands behind them.
+fn front_u16(bytes: &[u8]) -> (u16, &[u8])
+    requires { 2 ≤ length bytes.now }
+    ensures number { result.0 ≡ little_number 2 bytes.now }
+    ensures rest { result.1.now ≡ drop 2 bytes.now }
+{
+    (LittleEndian::read_u16(bytes), bytes.split_at(2).1)
+}
+
+/// The number in the first four bytes, and what stands behind them.
+fn front_u32(bytes: &[u8]) -> (u32, &[u8])
+    requires { 4 ≤ length bytes.now }
+    ensures number { result.0 ≡ little_number 4 bytes.now }
+    ensures rest { result.1.now ≡ drop 4 bytes.now }
+{
+    (LittleEndian::read_u32(bytes), bytes.split_at(4).1)
+}
+
+/// Compares the header with that of the class's file. The fault is that of the first field that differs.
+#[tactic(auto, unfolding(crate::specs::File::header_fields))]
+pub(crate) fn check_header(class: Class, header: &[u8; LENGTH]) -> Result<(), FileFault>
+    ensures right { OnOk result (header_fault class header.now ≡ None) }
+    ensures fault { IfErr result (λ fault. header_fault class header.now ≡ Some fault) }
+{
+    let (magic, rest) = front_u32(header);
+    if magic != MAGIC {
+        return Err(FileFault::Magic);
+    }
+    let (version, rest) = front_u16(rest);
+    if version != VERSION {
+        return Err(FileFault::Version);
+    }
+    let (layout, rest) = front_u16(rest);
+    if layout != LAYOUT {
+        return Err(FileFault::Layout);
+    }
+    let (number, rest) = front_u16(rest);
+    if number != u16::from(class.number()) {
+        return Err(FileFault::Class);
+    }
+    let (columns, rest) = front_u16(rest);
+    if columns != COLUMNS {
+        return Err(FileFault::Columns);
+    }
+    let (count, _) = front_u32(rest);
+    if count != size(class) {
+        return Err(FileFault::Count);
+    }
+    Ok(())
+}

@@ -1,0 +1,132 @@
+//! Tables read from files.
+ghost use Rattle.std.specs.Prelude.{◌≡◌, ◌+◌, ◌*◌, ◌≤◌, [], ◌++◌, length, IfOk, IfErr, IfSome, OnOk};
+ghost use Rattle.std.specs.Io.KnownBytes.{Consumes, IsAtEnd};
+ghost use Rattle.egt_index.specs.Size.{size_of};
+ghost use Rattle.egt_table.specs.File.{HasHeader, IsAnswer, Reads, entries_bytes, header_of};
+ghost use Rattle.egt_table.specs.Reading.{CountsDevice, IsAll, IsCut, IsMisfit};
+
+use crate::fault::FileFault;
+use crate::header::{LENGTH, check_header};
+use crate::stream::Source;
+use crate::table::Table;
+use crate::transfer::{PIECE, PIECE_BYTES, fill};
+use byteorder::{ByteOrder, LittleEndian};
+use egt_class::Class;
+use egt_graph::Ranks;
+use egt_index::size;
+use std::alloc::{AllocError, Global};
+
+/// Takes the header off the source.
+fn read_header<S: Source>(class: Class, source: &mut S) -> Result<(), FileFault>
+    ensures header { OnOk result (Consumes (S.left source.old) (S.left source.new) (header_of class)) }
+    ensures right { OnOk result (IfSome (S.left source.old) (HasHeader class)) }
+    ensures fault { IfErr result (λ fault. IfSome (S.left source.old) (λ bytes. IsAnswer class bytes fault)) }
+    ensures failures { CountsDevice result (S.failures source.old) (S.failures source.new) }
+{
+    let mut header = [0; LENGTH];
+    let n = fill(source, &mut header)?;
+    if n < LENGTH {
+        return Err(FileFault::Short);
+    }
+    check_header(class, &header)
+}
+
+/// Takes the bytes of at most 2,048 entries off the source.
+fn read_piece<S: Source>(
+    source: &mut S,
+    entries: &mut [u16],
+    buffer: &mut [u8; PIECE_BYTES],
+) -> Result<(), FileFault>
+    requires { length entries.old ≤ 2048 }
+    ensures bytes { OnOk result (Consumes (S.left source.old) (S.left source.new) (entries_bytes entries.new)) }
+    ensures fault { IfErr result (λ fault. IsCut (2 * length entries.old) (S.left source.old) fault) }
+    ensures failures { CountsDevice result (S.failures source.old) (S.failures source.new) }
+{
+    let bytes = &mut buffer[..2 * entries.len()];
+    let n = fill(source, bytes)?;
+    if n < bytes.len() {
+        return Err(FileFault::Short);
+    }
+    LittleEndian::read_u16_into(bytes, entries);
+    Ok(())
+}
+
+/// Takes the bytes of as many entries off the source as there are.
+fn read_entries<S: Source>(source: &mut S, entries: &mut [u16]) -> Result<(), FileFault>
+    ensures bytes { OnOk result (Consumes (S.left source.old) (S.left source.new) (entries_bytes entries.new)) }
+    ensures fault { IfErr result (λ fault. IsCut (2 * length entries.old) (S.left source.old) fault) }
+    ensures failures { CountsDevice result (S.failures source.old) (S.failures source.new) }
+{
+    let mut buffer = [0; PIECE_BYTES];
+    let mut at = 0;
+    while at < entries.len() {
+        let end = at + (entries.len() - at).min(PIECE);
+        read_piece(source, &mut entries[at..end], &mut buffer)?;
+        at = end;
+    }
+    Ok(())
+}
+
+/// Sees that nothing is left.
+fn read_end<S: Source>(source: &mut S) -> Result<(), FileFault>
+    ensures end { OnOk result (IsAll (S.left source.old) []) }
+    ensures fault { IfErr result (λ fault. IsMisfit 0 (S.left source.old) fault) }
+    ensures failures { CountsDevice result (S.failures source.old) (S.failures source.new) }
+{
+    let n = fill(source, &mut [0])?;
+    if n > 0 {
+        return Err(FileFault::Trailing);
+    }
+    Ok(())
+}
+
+/// Takes the columns off the source, with which it ends.
+fn read_columns<S: Source>(
+    source: &mut S,
+    mate: &mut [u16],
+    zeroing: &mut [u16],
+) -> Result<(), FileFault>
+    ensures bytes { OnOk result (IsAll (S.left source.old) (entries_bytes mate.new ++ entries_bytes zeroing.new)) }
+    ensures fault { IfErr result (λ fault. IsMisfit (2 * length mate.old + 2 * length zeroing.old) (S.left source.old) fault) }
+    ensures failures { CountsDevice result (S.failures source.old) (S.failures source.new) }
+{
+    read_entries(source, mate)?;
+    read_entries(source, zeroing)?;
+    read_end(source)
+}
+
+/// Room for a column.
+fn room(alloc: Global, class: Class) -> Result<Vec<u16>, AllocError>
+    ensures { IfOk result (λ entries. length entries.items ≡ size_of class) }
+{
+    vec![in alloc; 0; size(class) as usize]
+}
+
+impl Table {
+    /// The table of the class whose file the bytes are that the source has left. Nothing is reserved before the header is
+    /// right. How much of the source was read after a fault is not said.
+    ///
+    /// # Errors
+    ///
+    /// The first fault of the bytes, in the order `Short` where there are fewer than 16, `Magic`, `Version`, `Layout`,
+    /// `Class`, `Columns`, `Count`, and then `Short` or `Trailing` where the file ends early or late. `Device` where the
+    /// source failed, and `NoMemory`, only for bytes with a right header, where there is no memory for the entries.
+    pub fn read<S: Source>(alloc: Global, class: Class, source: &mut S) -> Result<Table, FileFault>
+        ensures class { IfOk result (λ t. t.class ≡ class) }
+        ensures reads { IfSome (S.left source.old) (λ bytes. Reads class bytes result) }
+        ensures failures { CountsDevice result (S.failures source.old) (S.failures source.new) }
+    {
+        read_header(class, source)?;
+        let mut mate = room(alloc, class)?;
+        let mut zeroing = room(alloc, class)?;
+        read_columns(source, &mut mate, &mut zeroing)?;
+        match Table::from_ranks(
+            class,
+            Ranks::from_entries(mate),
+            Ranks::from_entries(zeroing),
+        ) {
+            Ok(table) => Ok(table),
+            Err(_) => unreachable!(),
+        }
+    }
+}
