@@ -1,5 +1,7 @@
 //! The calls that are timed.
 use egt_board::{Position, Side, Square, attacked};
+use egt_class::of;
+use egt_index::index;
 use egt_moves::{Move, legal_moves, legal_targets, play, standing};
 use std::alloc::{AllocError, Global};
 
@@ -11,15 +13,21 @@ pub enum Call {
     Play,
     Attacked,
     Standing,
+    Class,
+    Index,
+    Indexed,
 }
 
 impl Call {
-    pub const ALL: [Call; 5] = [
+    pub const ALL: [Call; 8] = [
         Call::LegalMoves,
         Call::LegalTargets,
         Call::Play,
         Call::Attacked,
         Call::Standing,
+        Call::Class,
+        Call::Index,
+        Call::Indexed,
     ];
 
     /// The name of the function.
@@ -30,6 +38,9 @@ impl Call {
             Call::Play => "play",
             Call::Attacked => "attacked",
             Call::Standing => "standing",
+            Call::Class => "of",
+            Call::Index => "of and index",
+            Call::Indexed => "of, index and the position of the index",
         }
     }
 }
@@ -62,6 +73,18 @@ fn targets_of_all(position: &Position) -> u64 {
     mixed
 }
 
+/// The index of the position in its class.
+fn indexed(position: &Position) -> u32 {
+    let (class, _) = of(position);
+    index(class, position)
+}
+
+/// Whether the index of the position spells one.
+fn is_indexed(position: &Position) -> bool {
+    let (class, _) = of(position);
+    egt_index::position(class, index(class, position)).is_some()
+}
+
 /// Makes the call on each position, and adds something of the answers up.
 #[inline(never)]
 pub fn made(call: Call, positions: &[Position], moves: &[Move]) -> u64 {
@@ -73,6 +96,9 @@ pub fn made(call: Call, positions: &[Position], moves: &[Move]) -> u64 {
             Call::Play => u64::from(play(position, *chess_move).is_some()),
             Call::Attacked => u64::from(attacked(position, chess_move.to, Side::White)),
             Call::Standing => standing(position) as u64,
+            Call::Class => u64::from(of(position).0.number()),
+            Call::Index => u64::from(indexed(position)),
+            Call::Indexed => u64::from(is_indexed(position)),
         };
         sum = sum.wrapping_add(answer);
     }

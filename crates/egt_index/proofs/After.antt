@@ -193,9 +193,9 @@ sorted_rest : (p : Setup) (stand : Stand) → IsAdmissible p → AllStand false 
 sorted_rest p stand ok all order = (
   all.3.0,
   (λ s h.
-    let there = ok.kings.black_there in
-    let one = there.only stand.black all.3.1 in
-    let other = there.only s (listed_there p.men (option_to_list stand.next ++ option_to_list stand.last) (king_of Black) s all.3.3 h) in omega arith),
+      let there = ok.kings.black_there in
+      let one = there.only stand.black all.3.1 in
+      let other = there.only s (listed_there p.men (option_to_list stand.next ++ option_to_list stand.last) (king_of Black) s all.3.3 h) in omega arith),
   sorted_two p.men stand.next stand.last all.3.3 order,
 )
 

@@ -11,12 +11,11 @@ take-next-requires c =
     let kings : KingsOff c.args.flips c.args.position.now.men c.less-left.result c.king-white.result c.king-black.result =
     kings_off c.args.flips c.args.position.now c.board-board.result.now c.named_first-colour.result c.other.result c.occupied.result c.less.result c.less-left.result c.king-white.result c.king-black.result
     c.side-side.ensures.admissible c.named_first-colour.ensures c.other.ensures c.king-white.ensures.stands c.king-black.ensures.stands c.board-board.ensures (λ t none. (c.occupied.ensures.free t).0 none)
-    c.less.ensures.same c.less.ensures.others c.less-left.ensures.same c.less-left.ensures.others in
-    (
+    c.less.ensures.same c.less.ensures.others c.less-left.ensures.same c.less-left.ensures.others in (
       option_to_list c.beside-first.result.1,
       subst (λ (men : Placement). AreLeft c.args.flips men c.less-left.result (option_to_list c.beside-first.result.0 ++ option_to_list c.beside-first.result.1)) (sym c.board-board.ensures)
-      (left_first c.args.class c.args.flips c.args.position.now c.less-left.result c.king-white.result c.king-black.result _ c.beside-first.ensures.men c.requires kings.white_in kings.black_in kings.apart
-      kings.white kings.black kings.white_off kings.black_off kings.others),
+          (left_first c.args.class c.args.flips c.args.position.now c.less-left.result c.king-white.result c.king-black.result _ c.beside-first.ensures.men c.requires kings.white_in kings.black_in kings.apart
+          kings.white kings.black kings.white_off kings.black_off kings.others),
     )
 
 pub take-last-requires : goal.take-last-requires
@@ -24,14 +23,13 @@ take-last-requires c =
     let kings : KingsOff c.args.flips c.args.position.now.men c.less-left.result c.king-white.result c.king-black.result =
     kings_off c.args.flips c.args.position.now c.board-board.result.now c.named_first-colour.result c.other.result c.occupied.result c.less.result c.less-left.result c.king-white.result c.king-black.result
     c.side-side.ensures.admissible c.named_first-colour.ensures c.other.ensures c.king-white.ensures.stands c.king-black.ensures.stands c.board-board.ensures (λ t none. (c.occupied.ensures.free t).0 none)
-    c.less.ensures.same c.less.ensures.others c.less-left.ensures.same c.less-left.ensures.others in
-    (
+    c.less.ensures.same c.less.ensures.others c.less-left.ensures.same c.less-left.ensures.others in (
       [],
       subst (AreLeft c.args.flips c.board-board.result.now c.take-next.new.left) (last_alone c.beside-first.result.1)
-      (c.take-next.ensures.left (option_to_list c.beside-first.result.1)
-      (subst (λ (men : Placement). AreLeft c.args.flips men c.less-left.result (option_to_list c.beside-first.result.0 ++ option_to_list c.beside-first.result.1)) (sym c.board-board.ensures)
-      (left_first c.args.class c.args.flips c.args.position.now c.less-left.result c.king-white.result c.king-black.result _ c.beside-first.ensures.men c.requires kings.white_in kings.black_in kings.apart
-      kings.white kings.black kings.white_off kings.black_off kings.others))),
+          (c.take-next.ensures.left (option_to_list c.beside-first.result.1)
+          (subst (λ (men : Placement). AreLeft c.args.flips men c.less-left.result (option_to_list c.beside-first.result.0 ++ option_to_list c.beside-first.result.1)) (sym c.board-board.ensures)
+          (left_first c.args.class c.args.flips c.args.position.now c.less-left.result c.king-white.result c.king-black.result _ c.beside-first.ensures.men c.requires kings.white_in kings.black_in kings.apart
+          kings.white kings.black kings.white_off kings.black_off kings.others))),
     )
 
 pub returns : goal.returns
