@@ -1,5 +1,5 @@
 -- The men of a class where a turn takes them, and the code of their squares.
-use Rattle.std.proofs.Common.{◌≡◌, ◌≢◌, ℕ, ◌+◌, ◌*◌, ◌/◌, ◌%◌, ◌<◌, ◌≤◌, ◌⊎◌, ◌&&◌, Bool, true, false, cond, ltb, eqb, List, [], ◌∷◌, ◌++◌, map, Option, Some, None, IfSome, arith, refl, sym, ap, ◌∙◌, inl, inr, subst}
+use Rattle.std.proofs.Common.{◌≡◌, ◌≢◌, ℕ, ◌/◌, ◌%◌, ◌<◌, ◌≤◌, ◌&&◌, Bool, true, false, cond, ltb, eqb, List, [], ◌∷◌, ◌++◌, map, Option, Some, None, arith, refl, sym, ap, ◌∙◌, inl, inr, subst}
 use Rattle.std.specs.Prelude.{slice_index}
 use Rattle.std.specs.Option.{option_map, option_to_list}
 use Rattle.std.specs.FinMap as placement
@@ -15,7 +15,7 @@ use Rattle.egt_board.specs.Placement.{Placement, Stands, get-remove_same, get-re
 use Rattle.egt_board.specs.Settled.{IsSettled}
 use Rattle.egt_board.specs.Setup.{Setup, IsAdmissible, IsKingOn}
 use Rattle.egt_board.specs.Symmetry.{square_if, square_of, KeepsPlay}
-use Rattle.egt_board.specs.Turned.{IsTurnedBy, IsSetBy, turned_square, turned_man, turned_side}
+use Rattle.egt_board.specs.Turned.{IsSetBy, turned_square, turned_man, turned_side}
 use Rattle.egt_class.specs.Below.{all_below, passes_below}
 use Rattle.egt_class.specs.Material.{Material, material_of}
 use Rattle.egt_class.specs.Membership.{IsOf}
@@ -24,7 +24,7 @@ use Rattle.egt_index.specs.Code as code_words
 use Rattle.egt_index.specs.Digits.{number_from, AreDigits}
 use Rattle.egt_index.specs.Facts.{Facts}
 use Rattle.egt_index.specs.Picked.{AreCounted, Picks, Goes}
-use Rattle.egt_index.specs.Size.{king_base, base_of, men_in_order, men_beside, has_pawns, has_target}
+use Rattle.egt_index.specs.Size.{king_base, base_of, men_beside, has_pawns, has_target}
 use Rattle.egt_index.specs.Spelled.{IsListed, Tells}
 use Rattle.egt_index.specs.Stood.{Entry, men_among, rest_of, list_of, IsOff, AllStand, Stood, entry_after, IsInOrder, IsOrdered, IsStandAfter, HasDigit}
 use Rattle.egt_index.specs.Turns.{IsTurn, TurnCode}

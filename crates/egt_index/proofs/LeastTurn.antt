@@ -1,5 +1,5 @@
 -- The least code over the turns that bring the white king home, which is that over all.
-use Rattle.std.proofs.Common.{◌≡◌, ◌≢◌, ℕ, ◌+◌, ◌/◌, ◌%◌, ◌<◌, ◌≤◌, ◌⊎◌, Bool, true, false, cond, eqb, min, Option, Some, None, IfSome, arith, refl, sym, ap, ◌∙◌, inl, inr, subst}
+use Rattle.std.proofs.Common.{◌≡◌, ◌≢◌, ℕ, ◌/◌, ◌%◌, ◌<◌, ◌≤◌, ◌⊎◌, Bool, true, false, cond, eqb, min, Option, Some, None, IfSome, arith, refl, sym, ap, ◌∙◌, inl, inr, subst}
 use Rattle.std.proofs.lemmas.Bool.{cases_eq, cases_lt}
 use Rattle.egt_board.specs.declared.man.Side.TheVariants.{White, Black}
 use Rattle.egt_board.specs.Attack.{king_of}
@@ -11,7 +11,7 @@ use Rattle.egt_class.specs.Material.{material_of}
 use Rattle.egt_class.specs.Membership.{IsOf}
 use Rattle.egt_index.specs.Code.{Spells}
 use Rattle.egt_index.specs.Facts.{Facts}
-use Rattle.egt_index.specs.Home.{symmetries, IsTurnWith, AreHome, FlipCode, LeastWith}
+use Rattle.egt_index.specs.Home.{symmetries, AreHome, FlipCode, LeastWith}
 use Rattle.egt_index.specs.Size.{has_pawns}
 use Rattle.egt_index.specs.Turns.{IsTurn, TurnCode, CodeAfter, Best, BestOf, lesser, IsInColours}
 use Rattle.egt_index.proofs.Best.{king_after, none_after}

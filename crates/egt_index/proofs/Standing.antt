@@ -1,5 +1,5 @@
 -- The men of a class found on their squares.
-use Rattle.std.proofs.Common.{◌≡◌, ◌≢◌, ℕ, ◌<◌, ◌+◌, Bool, true, false, cond, List, [], ◌∷◌, ◌++◌, map, Option, Some, None, IfNone, arith, refl, sym, ap, ◌∙◌, inl, inr, subst}
+use Rattle.std.proofs.Common.{◌≡◌, ◌≢◌, ℕ, ◌<◌, Bool, true, false, cond, List, [], ◌∷◌, ◌++◌, map, Option, Some, None, IfNone, arith, refl, sym, ap, ◌∙◌, inl, inr, subst}
 use Rattle.std.specs.Option.{option_to_list, IsSome}
 use Rattle.std.specs.Int.{bit_at}
 use Rattle.std.specs.FinMap as placement
@@ -11,7 +11,7 @@ use Rattle.egt_board.specs.declared.man.Man.{Man}
 use Rattle.egt_board.specs.declared.square_set.SquareSet.{SquareSet}
 use Rattle.egt_board.specs.Attack.{king_of}
 use Rattle.egt_board.specs.Counting.{is_man}
-use Rattle.egt_board.specs.Images.{man_number, count_of, side_number}
+use Rattle.egt_board.specs.Images.{man_number, side_number}
 use Rattle.egt_board.specs.Man.{other_side}
 use Rattle.egt_board.specs.Placement.{Placement, Stands, IsFree, one_man, get-remove_same, get-remove_other}
 use Rattle.egt_board.specs.Setup.{Setup, IsAdmissible}

@@ -1,5 +1,5 @@
 -- The least code of a position: each man in turn on the least square that is left to it.
-use Rattle.std.specs.Prelude.{◌≡◌, ℕ, ◌+◌, ◌*◌, ◌<◌, ◌≤◌, Bool, List, [], ◌∷◌, map, Option, Some, None, count_by}
+use Rattle.std.specs.Prelude.{◌≡◌, ℕ, ◌<◌, ◌≤◌, Bool, List, [], ◌∷◌, map, Option, Some, None, count_by}
 use Rattle.std.specs.FinMap as placement
 use Rattle.egt_board.specs.declared.man.Side.TheVariants.{White}
 use Rattle.egt_board.specs.declared.man.Man.{Man}

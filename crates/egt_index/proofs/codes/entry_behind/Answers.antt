@@ -1,8 +1,8 @@
-use Rattle.std.proofs.Common.{ap, sym, subst}
+use Rattle.std.proofs.Common.{sym, subst}
 use Rattle.std.specs.Option.{option_to_list}
 use Rattle.egt_index.specs.Spelled.{Tells}
 use Rattle.egt_index.specs.Stood.{Entry, men_among}
-use Rattle.egt_index.proofs.Splitting.{tells_one, tells_none}
+use Rattle.egt_index.proofs.Splitting.{tells_one}
 use Rattle.egt_index.proofs.codes.entry_behind.Goals as goal
 
 pub returns-in-Some-clause-tells : goal.returns-in-Some-clause-tells

@@ -1,4 +1,4 @@
-use Rattle.std.proofs.Common.{◌≢◌, ◌≡◌, ℕ, ◌%◌, ◌/◌, ◌<◌, ◌==◌, ◌∷◌, [], Some, cond, arith, ◌∙◌, sym, subst, ap}
+use Rattle.std.proofs.Common.{◌≢◌, ◌≡◌, ℕ, ◌/◌, ◌<◌, ◌==◌, ◌∷◌, [], Some, cond, arith, ◌∙◌, sym, subst, ap}
 use Rattle.egt_board.specs.Images.{side_number}
 use Rattle.egt_board.specs.Turned.{turned_side}
 use Rattle.egt_class.specs.Material.{material_of}
@@ -8,7 +8,7 @@ use Rattle.egt_index.specs.Size.{king_base, has_pawns, has_target}
 use Rattle.egt_index.specs.Spelled.{Tells}
 use Rattle.egt_index.specs.Stood.{men_among, rest_of}
 use Rattle.egt_index.specs.Turns.{CodeAfter}
-use Rattle.egt_index.proofs.After.{ImageStood, image_stood, digits_after, code_stood}
+use Rattle.egt_index.proofs.After.{image_stood, digits_after, code_stood}
 use Rattle.egt_index.proofs.Best.{king_after, none_after}
 use Rattle.egt_index.proofs.LeastTurn.{king_is}
 use Rattle.egt_index.proofs.indexing.code_after.Goals as goal

@@ -1,4 +1,4 @@
-use Rattle.std.proofs.Common.{◌≡◌, sym, subst, arith}
+use Rattle.std.proofs.Common.{sym, subst, arith}
 use Rattle.egt_class.specs.Membership.{IsOf}
 use Rattle.egt_index.specs.Turns.{Best}
 use Rattle.egt_index.proofs.Best.{best_at_last, index_found}

@@ -1,5 +1,4 @@
-use Rattle.std.proofs.Common.{◌≡◌, ℕ}
-use Rattle.std.specs.Int.{bit_at}
+use Rattle.std.proofs.Common.{ℕ}
 use Rattle.egt_board.specs.Placement.{Stands}
 use Rattle.egt_board.specs.SquareSet.{Has}
 use Rattle.egt_index.proofs.stand.find.Given as goal

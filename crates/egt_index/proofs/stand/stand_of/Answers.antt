@@ -1,7 +1,6 @@
-use Rattle.std.proofs.Common.{◌≡◌, ◌++◌, ◌∷◌, [], List, sym, subst, ap}
+use Rattle.std.proofs.Common.{◌++◌, [], sym, subst}
 use Rattle.std.specs.Option.{option_to_list}
 use Rattle.egt_board.specs.Placement.{Placement}
-use Rattle.egt_board.specs.declared.man.Man.{Man}
 use Rattle.egt_index.specs.Stood.{AreLeft, Found}
 use Rattle.egt_index.proofs.Standing.{KingsOff, kings_off, left_first, stood_of, last_alone}
 use Rattle.egt_index.proofs.stand.stand_of.Goals as goal

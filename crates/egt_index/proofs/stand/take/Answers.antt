@@ -1,4 +1,4 @@
-use Rattle.std.proofs.Common.{◌++◌, ◌∷◌, List, Option, ap, sym, subst, ◌∙◌, ℕ, ◌≡◌, IfNone, IfSome, Some, Bool}
+use Rattle.std.proofs.Common.{◌++◌, Option, subst, ℕ, ◌≡◌, IfNone, IfSome, Some, Bool}
 use Rattle.std.specs.Option.{option_to_list}
 use Rattle.egt_board.specs.declared.man.Man.{Man}
 use Rattle.egt_board.specs.Placement.{Placement, Stands}
