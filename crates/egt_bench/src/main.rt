@@ -44,7 +44,7 @@ fn main(rt: HostRuntime) -> io::Result<()> {
     if !asked {
         return Ok(());
     }
-    for class in ["KQkr", "KPkp", "KBNk"] {
+    for class in ["KQkr", "KPkp", "KBNk", "KRRk"] {
         for call in Call::ALL {
             bench(&rt, class, call)?;
         }

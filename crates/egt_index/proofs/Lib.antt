@@ -12,10 +12,13 @@ pub mod Turned
 pub mod Best
 pub mod MenTable
 pub mod Places
-pub mod Going
 pub mod Found
 pub mod Classes
 pub mod Exists
 pub mod Splitting
 pub mod Decoded
 pub mod TurnTable
+pub mod Standing
+pub mod Homing
+pub mod After
+pub mod LeastTurn

@@ -15,7 +15,7 @@ use Rattle.egt_board.specs.Counting.{is_man}
 use Rattle.egt_index.specs.Picked.{tally}
 
 -- equal tests of what is equal alike
-tests_alike : (a b x y : ℕ) → (a ≡ b → x ≡ y) → (x ≡ y → a ≡ b) → eqb a b ≡ eqb x y
+pub tests_alike : (a b x y : ℕ) → (a ≡ b → x ≡ y) → (x ≡ y → a ≡ b) → eqb a b ≡ eqb x y
 tests_alike a b x y there back = elim (eqb_tells a b) [
   | inl h ↦ h.0 ∙ sym (eq-eqb x y (there h.1))
   | inr h ↦ elim (eqb_tells x y) [

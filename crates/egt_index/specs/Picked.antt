@@ -1,5 +1,5 @@
 -- The least code of a position: each man in turn on the least square that is left to it.
-use Rattle.std.specs.Prelude.{◌≡◌, ℕ, ◌+◌, ◌*◌, ◌<◌, ◌≤◌, Bool, List, [], ◌∷◌, map, Option, Some, None, count_by}
+use Rattle.std.specs.Prelude.{◌≡◌, ℕ, ◌<◌, ◌≤◌, Bool, List, [], ◌∷◌, map, Option, Some, None, count_by}
 use Rattle.std.specs.FinMap as placement
 use Rattle.egt_board.specs.declared.man.Side.TheVariants.{White}
 use Rattle.egt_board.specs.declared.man.Man.{Man}
@@ -44,18 +44,6 @@ Picks pawns men [] digits = Unit {0}
 Picks pawns men (man ∷ list) [] = ⊥
 Picks pawns men (man ∷ list) (digit ∷ digits) =
     (square_of pawns man digit < 64) × Least men man (square_of pawns man digit) × Picks pawns (placement.remove men (square_of pawns man digit)) list digits
-
--- the man was taken off its least square, and its digit put behind the number
-pub record Next (number : ℕ) (man : Man) (men left : Placement) (result : ℕ) : Type 0 where
-  pub square : ℕ
-  pub on_board : square < 64
-  pub least : Least men man square
-  pub taken : left ≡ placement.remove men square
-  pub digit : ℕ
-  pub below : (pawns : Bool) → digit < base_of pawns man
-  pub is : (pawns : Bool) → square_of pawns man digit ≡ square
-  pub goes : (pawns : Bool) → result ≡ number * base_of pawns man + digit
-  pub few : result < (number + 1) * 64
 
 -- the digits of these men, picked one by one, go on behind those that made `high`
 pub record Goes (pawns : Bool) (high : ℕ) (men : Placement) (list : List Man) (number : ℕ) : Type 0 where

@@ -1,65 +1,67 @@
-//! The code of a position as it stands.
-ghost use Rattle.std.specs.Prelude.{◌≡◌, ◌+◌, ◌*◌, ◌^◌, ◌-◌, ◌<◌, ◌≤◌, ℕ, Bool, false, [], ◌∷◌, length, IfSome, IfNone, if◌then◌else◌};
+//! The code of men on their squares.
+ghost use Rattle.std.specs.Prelude.{◌≡◌, ◌≢◌, ◌+◌, ◌*◌, ◌^◌, ◌<◌, Bool, [], ◌∷◌, ◌++◌, if◌then◌else◌};
+ghost use Rattle.std.specs.Option.{option_to_list};
+ghost use Rattle.egt_board.specs.Attack.{king_of};
 ghost use Rattle.egt_board.specs.Images.{side_number};
-ghost use Rattle.egt_board.specs.Placement.{Stands};
-ghost use Rattle.egt_board.specs.Settled.{IsSettled};
+ghost use Rattle.egt_board.specs.Pawn.{MayStand};
+ghost use Rattle.egt_board.specs.declared.man.Side.TheVariants.{White, Black};
 ghost use Rattle.egt_class.specs.Material.{material_of};
-ghost use Rattle.egt_class.specs.Membership.{IsOf};
 ghost use Rattle.egt_index.specs.Code.{target_digits};
 ghost use Rattle.egt_index.specs.Digits.{number_from};
-ghost use Rattle.egt_index.specs.Picked.{AreCounted, Fits, Goes, Next, CodeOf, Least};
 ghost use Rattle.egt_index.specs.Size.{has_target};
+ghost use Rattle.egt_index.specs.Spelled.{Splits, Tells};
+ghost use Rattle.egt_index.specs.Stood.{HasDigit, men_among, rest_of};
 
-use crate::digits::{base, digit, king_digit};
-use crate::men::{has_pawns, has_target, men_behind};
-use egt_board::{Board, Man, Position, Side, Square};
+use crate::digits::{base, digit};
+use crate::men::has_target;
+use crate::stand::Stand;
+use egt_board::{Kind, Man, Side, Square};
 use egt_class::Class;
 
-/// The least square on which the man stands.
-fn first(board: &Board, man: Man) -> Option<Square>
-    ensures found { IfSome result (λ s. Least board.now man s) }
-    ensures none { IfNone result ((s : ℕ) → ¬ Stands board.now s man) }
-{
-    let mut rest = board.of(man.side);
-    while let Some(square) = rest.pop_first() {
-        if board.at(square) == Some(man) {
-            return Some(square);
-        }
-    }
-    None
-}
+const BLACK_KING: Man = Man {
+    side: Side::Black,
+    kind: Kind::K,
+};
 
-/// Takes the man off the least square on which it stands, and gives the number with its digit behind.
-fn next(number: u32, man: Man, left: &mut Board) -> u32
-    requires fits { Fits left.old }
-    requires there { (s : ℕ) × Stands left.old s man }
+/// The number with the digit of a man other than the white king behind it.
+fn behind(number: u32, man: Man, square: Square) -> u32
+    requires other { man ≢ king_of White }
+    requires stands { MayStand man square }
     requires small { number < 2 ^ 24 }
-    ensures { Next number man left.old left.new result }
+    ensures splits { Splits result man number square }
+    ensures few { result < (number + 1) * 64 }
 {
-    let square = first(left, man).unwrap();
-    left.clear(square);
     number * base(man) + u32::from(digit(man, square))
 }
 
-/// The number of the men's digits, each man on the least square that is left to it, behind the digits that made `high`.
-fn number_behind(high: u32, men: &[Man], board: Board) -> u32
-    requires fits { Fits board }
-    requires counted { AreCounted board men.now }
-    requires few { length men.now ≤ 3 }
+/// The number with the digit of the man, if there is one, behind it.
+fn entry_behind(number: u32, entry: Option<(Man, Square)>) -> u32
+    requires digit { HasDigit entry }
+    requires small { number < 2 ^ 24 }
+    ensures tells { (pawns : Bool) → Tells pawns result (men_among (option_to_list entry)) number (option_to_list entry) }
+    ensures few { result < (number + 1) * 64 }
+{
+    match entry {
+        Some(placed) => behind(number, placed.0, placed.1),
+        None => number,
+    }
+}
+
+/// The number of the digits of the men beside the white king behind those that made `high`.
+pub(crate) fn number_behind(high: u32, stand: &Stand) -> u32
     requires small { high < 32 }
-    ensures goes { (pawns : Bool) → Goes pawns high board men.now result }
+    requires next { HasDigit stand.now.next }
+    requires last { HasDigit stand.now.last }
+    ensures tells { (pawns : Bool) → Tells pawns result (men_among (rest_of stand.now)) high (rest_of stand.now) }
     ensures small { result < 32 * 64 ^ 3 }
 {
-    let mut left = board;
-    let mut number = high;
-    for man in men {
-        number = next(number, *man, &mut left);
-    }
-    number
+    let king = behind(high, BLACK_KING, stand.black);
+    let next = entry_behind(king, stand.next);
+    entry_behind(next, stand.last)
 }
 
 /// The number with the digits of the side to move and the target behind it.
-fn with_side(class: Class, side: Side, target: Option<Square>, number: u32) -> u32
+pub(crate) fn with_side(class: Class, side: Side, target: Option<Square>, number: u32) -> u32
     requires { number < 32 * 64 ^ 3 }
     ensures { result ≡ number_from number (2 ∷ (if has_target (material_of class) then 2 ∷ [] else []))
         (side_number side ∷ target_digits (material_of class) target) }
@@ -77,19 +79,4 @@ fn with_side(class: Class, side: Side, target: Option<Square>, number: u32) -> u
     } else {
         with_side * 2
     }
-}
-
-/// The least code that spells the position as it stands, if there is one.
-pub(crate) fn code_of(class: Class, position: &Position) -> Option<u32>
-    requires of { IsOf class false position.now }
-    requires settled { IsSettled position.now }
-    ensures { CodeOf class position.now result }
-{
-    let side = position.side();
-    let king = position.king(Side::White);
-    let high = king_digit(has_pawns(class), king)?;
-    let mut left = position.board().copied();
-    left.clear(king);
-    let number = number_behind(u32::from(high), men_behind(class).as_slice(), left);
-    Some(with_side(class, side, position.target(), number))
 }

@@ -1,85 +1,55 @@
 //! The index of a position.
-ghost use Rattle.std.specs.Prelude.{◌≡◌, ◌↔◌, ℕ, ◌<◌, ◌%◌, ◌/◌, ◌==◌, Bool, false, IsTrue, IfSome, IfNone};
+ghost use Rattle.std.specs.Prelude.{◌≡◌, ◌↔◌, ◌<◌, ◌%◌, ◌/◌, ◌==◌, Bool, IsTrue};
 ghost use Rattle.egt_board.specs.Settled.{IsSettled};
-ghost use Rattle.egt_board.specs.Setup.{Setup};
 ghost use Rattle.egt_board.specs.Symmetry.{KeepsPlay};
-ghost use Rattle.egt_board.specs.Turned.{IsTurnedBy};
+ghost use Rattle.egt_board.specs.Turned.{turned_side};
 ghost use Rattle.egt_class.specs.Membership.{IsOf};
+ghost use Rattle.egt_index.specs.Home.{LeastWith};
 ghost use Rattle.egt_index.specs.Index.{IsIndex};
-ghost use Rattle.egt_index.specs.Turns.{IsTurn, IsInColours, CodeAfter, lesser};
+ghost use Rattle.egt_index.specs.Stood.{Stood, list_of};
+ghost use Rattle.egt_index.specs.Turns.{IsInColours, CodeAfter, lesser};
 
-use crate::codes::code_of;
+use crate::codes::{number_behind, with_side};
 use crate::digits::king_digit;
 use crate::facts::facts;
+use crate::home::home;
 use crate::men::{has_equal_sides, has_pawns};
-use crate::turning::white_king_after;
-use egt_board::{Position, Symmetry};
+use crate::stand::{Stand, stand_after, stand_of};
+use egt_board::{Position, Side};
 use egt_class::{Class, of};
 
-/// Whether what the turn makes of a position of the class, in colours flipped or not, is in the class's colours.
-fn is_in_colours(class: Class, flipped: bool, turn: u8) -> bool
-    ensures { IsTrue result ↔ IsInColours class flipped (turn / 8 == 1) }
+/// Whether a position of the class, in colours flipped or not, comes to the class's colours where they are exchanged, or
+/// where they are not.
+fn is_in_colours(class: Class, flipped: bool, flips: bool) -> bool
+    ensures { IsTrue result ↔ IsInColours class flipped flips }
 {
-    let flips = turn / 8 == 1;
     has_equal_sides(class) || flips == flipped
 }
 
-/// The position under a symmetry, with colours exchanged or not.
-fn turned(position: &Position, symmetry: Symmetry, flips: bool) -> Position
-    requires { KeepsPlay symmetry position.now.men }
-    ensures { IsTurnedBy symmetry flips position.now result }
+/// The side, or the other one where colours are exchanged.
+fn side_after(side: Side, flips: bool) -> Side
+    ensures { result ≡ turned_side flips side }
 {
-    let image = position.image(symmetry);
-    if flips { image.flip_colours() } else { image }
+    if flips { side.other() } else { side }
 }
 
-/// The symmetry of a turn.
-fn symmetry_of(turn: u8) -> Symmetry
-    ensures { result ≡ turn % 8 }
-{
-    Symmetry::new(turn % 8).unwrap()
-}
-
-/// Whether the men of a position of the class allow the turn's symmetry.
-fn allows(class: Class, position: &Position, turn: u8) -> bool
-    requires { (flipped : Bool) × IsOf class flipped position.now }
-    ensures { IsTrue result ↔ KeepsPlay (turn % 8) position.now.men }
-{
-    let _side = position.side();
-    let pawns = has_pawns(class);
-    !pawns || turn % 8 < 2
-}
-
-/// What a turn makes of a position of the class, if its men allow that: its symmetry, from turn 8 on with colours exchanged.
-fn image_after(class: Class, position: &Position, turn: u8) -> Option<Position>
-    requires { (flipped : Bool) × IsOf class flipped position.now }
-    ensures made { IfSome result (λ q. IsTurn turn position.now q) }
-    ensures none { IfNone result ((q : Setup) → ¬ IsTurn turn position.now q) }
-{
-    if allows(class, position, turn) {
-        Some(turned(position, symmetry_of(turn), turn / 8 == 1))
-    } else {
-        None
-    }
-}
-
-/// The least code of what a turn makes of a settled position of the class, in colours flipped or not, if it has one. The
-/// colours and the white king's square tell most of those that have none.
-fn code_after(class: Class, flipped: bool, settled: &Position, turn: u8) -> Option<u32>
+/// The least code of what the turn makes of a settled position with these men of the class, if it has one.
+fn code_after(class: Class, settled: &Position, stand: &Stand, turn: u8) -> Option<u32>
     requires turn { turn < 16 }
+    requires keeps { KeepsPlay (turn % 8) settled.now.men }
     requires settled { IsSettled settled.now }
-    requires of { IsOf class flipped settled.now }
+    requires of { IsOf class (turn / 8 == 1) settled.now }
+    requires stood { Stood class (turn / 8 == 1) settled.now.men (list_of stand.now) }
     ensures { CodeAfter class settled.now turn result }
 {
     facts();
-    let _side = settled.side();
     let _number = class.number();
-    if !is_in_colours(class, flipped, turn) {
-        return None;
-    }
-    let _digit = king_digit(has_pawns(class), white_king_after(settled, turn))?;
-    let image = image_after(class, settled, turn)?;
-    code_of(class, &image)
+    let mover = settled.side();
+    let side = side_after(mover, turn / 8 == 1);
+    let after = stand_after(stand, turn);
+    let high = king_digit(has_pawns(class), after.white)?;
+    let number = number_behind(u32::from(high), &after);
+    Some(with_side(class, side, settled.target(), number))
 }
 
 /// The lesser of two codes, if there are any.
@@ -95,6 +65,40 @@ fn lesser(least: Option<u32>, code: Option<u32>) -> Option<u32>
     }
 }
 
+/// The least code of what the turns that exchange colours, or those that do not, make of a settled position of the class.
+/// Only one or two of them bring the white king to a square of his digit.
+fn least_code(class: Class, settled: &Position, flips: bool) -> Option<u32>
+    requires settled { IsSettled settled.now }
+    requires of { IsOf class flips settled.now }
+    ensures { LeastWith class settled.now flips result }
+{
+    facts();
+    let _side = settled.side();
+    let stand = stand_of(class, settled, flips);
+    let (first, second) = home(has_pawns(class), flips, stand.white);
+    let code = code_after(class, settled, &stand, first);
+    match second {
+        Some(second) => lesser(code, code_after(class, settled, &stand, second)),
+        None => code,
+    }
+}
+
+/// The same, of a settled position of the class in colours flipped or not.
+fn code_with(class: Class, flipped: bool, settled: &Position, flips: bool) -> Option<u32>
+    requires settled { IsSettled settled.now }
+    requires of { IsOf class flipped settled.now }
+    ensures { LeastWith class settled.now flips result }
+{
+    facts();
+    let _side = settled.side();
+    let _number = class.number();
+    if is_in_colours(class, flipped, flips) {
+        least_code(class, settled, flips)
+    } else {
+        None
+    }
+}
+
 /// The index of a position of the class, in whatever colours: the least code that spells an image of its settled form.
 pub fn index(class: Class, position: &Position) -> u32
     requires { (flipped : Bool) × IsOf class flipped position.now }
@@ -105,9 +109,7 @@ pub fn index(class: Class, position: &Position) -> u32
     let _side = settled.side();
     let (own, flipped) = of(&settled);
     let _numbers = (own.number(), class.number());
-    let mut least = None;
-    for turn in 0..16 {
-        least = lesser(least, code_after(class, flipped, &settled, turn));
-    }
-    least.unwrap()
+    let straight = code_with(class, flipped, &settled, false);
+    let exchanged = code_with(class, flipped, &settled, true);
+    lesser(straight, exchanged).unwrap()
 }

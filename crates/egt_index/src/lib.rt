@@ -4,11 +4,13 @@
 pub mod codes;
 pub mod digits;
 pub mod facts;
+pub mod home;
 pub mod indexing;
 pub mod laws;
 pub mod men;
 pub mod sizes;
 pub mod spelling;
+pub mod stand;
 pub mod turning;
 
 pub use indexing::index;
@@ -17,5 +19,7 @@ pub use spelling::position;
 
 #[cfg(test)]
 mod index_tests;
+#[cfg(test)]
+mod plain_tests;
 #[cfg(test)]
 mod tests;

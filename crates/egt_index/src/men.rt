@@ -1,12 +1,11 @@
 //! The men of each class, in the order of its name.
-ghost use Rattle.std.specs.Prelude.{◌≡◌, ◌≢◌, ◌++◌, ◌∷◌, Option, IfSome};
+ghost use Rattle.std.specs.Prelude.{◌≡◌, ◌≢◌, ◌++◌, Option, IfSome};
 ghost use Rattle.std.specs.Option.{option_to_list};
 ghost use Rattle.egt_board.specs.Attack.{king_of};
-ghost use Rattle.egt_board.specs.declared.man.Side.TheVariants.{White, Black};
+ghost use Rattle.egt_board.specs.declared.man.Side.TheVariants.{White};
 ghost use Rattle.egt_class.specs.Material.{material_of, has_equal_sides};
 ghost use Rattle.egt_index.specs.Size.{men_beside, has_pawns, has_target};
 
-use arrayvec::ArrayVec;
 use egt_board::{Kind, Man, Side};
 use egt_class::Class;
 
@@ -114,25 +113,6 @@ pub(crate) fn beside(class: Class) -> (Option<Man>, Option<Man>)
     ensures second { IfSome result.1 (λ man. man ≢ king_of White) }
 {
     BESIDE[usize::from(class.number())]
-}
-
-/// The men of the class in the order of its name, without the white king.
-pub(crate) fn men_behind(class: Class) -> ArrayVec<Man, 3>
-    ensures { result.items ≡ king_of Black ∷ men_beside (material_of class) }
-{
-    let (first, second) = beside(class);
-    let mut men = ArrayVec::new();
-    men.push(Man {
-        side: Side::Black,
-        kind: Kind::K,
-    });
-    if let Some(man) = first {
-        men.push(man);
-    }
-    if let Some(man) = second {
-        men.push(man);
-    }
-    men
 }
 
 /// Whether the class has pawns.

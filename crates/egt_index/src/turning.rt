@@ -1,12 +1,8 @@
-//! Where the turns take squares and kings.
+//! Where the turns take squares.
 ghost use Rattle.std.specs.Prelude.{◌≡◌, ◌<◌, ◌==◌, ◌/◌, ◌%◌, slice_index};
-ghost use Rattle.egt_board.specs.Setup.{Setup, IsKingOn};
 ghost use Rattle.egt_board.specs.Turned.{turned_square};
-ghost use Rattle.egt_board.specs.declared.man.Side.TheVariants.{White};
-ghost use Rattle.egt_index.specs.Turns.{IsTurn};
 
-use crate::facts::facts;
-use egt_board::{Position, Side, Square};
+use egt_board::Square;
 
 /// The square that each turn makes of each square: 64 for every turn, in order of their numbers.
 static TURNED: [u8; 1024] = [
@@ -63,25 +59,10 @@ fn entry(at: usize) -> u8
 }
 
 /// Where the turn takes the square.
-fn turned_square(turn: u8, square: Square) -> Square
+pub(crate) fn turned_square(turn: u8, square: Square) -> Square
     requires { turn < 16 }
     ensures { result ≡ turned_square (turn % 8) (turn / 8 == 1) square }
 {
     let number = entry(64 * usize::from(turn) + usize::from(square.number()));
     Square::at(number)
-}
-
-/// Where the white king stands after the turn: the king that White then has.
-pub(crate) fn white_king_after(position: &Position, turn: u8) -> Square
-    requires { turn < 16 }
-    ensures { (q : Setup) → IsTurn turn position.now q → IsKingOn q.men White result }
-{
-    facts();
-    let _side = position.side();
-    let king = if turn / 8 == 1 {
-        position.king(Side::Black)
-    } else {
-        position.king(Side::White)
-    };
-    turned_square(turn, king)
 }

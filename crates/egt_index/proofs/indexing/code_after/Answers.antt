@@ -1,36 +1,47 @@
-use Rattle.std.proofs.Common.{◌≢◌, ℕ, ◌%◌, ◌/◌, ◌<◌, ◌==◌, arith, ◌∙◌, sym, subst}
-use Rattle.std.proofs.lemmas.Bool.{false≢true}
-use Rattle.egt_index.specs.Code.{king_square}
-use Rattle.egt_index.specs.Size.{king_base}
+use Rattle.std.proofs.Common.{◌≢◌, ◌≡◌, ℕ, ◌/◌, ◌<◌, ◌==◌, ◌∷◌, [], Some, cond, arith, ◌∙◌, sym, subst, ap}
+use Rattle.egt_board.specs.Images.{side_number}
+use Rattle.egt_board.specs.Turned.{turned_side}
+use Rattle.egt_class.specs.Material.{material_of}
+use Rattle.egt_index.specs.Code.{king_square, target_digits}
+use Rattle.egt_index.specs.Digits.{number_from}
+use Rattle.egt_index.specs.Size.{king_base, has_pawns, has_target}
+use Rattle.egt_index.specs.Spelled.{Tells}
+use Rattle.egt_index.specs.Stood.{men_among, rest_of}
 use Rattle.egt_index.specs.Turns.{CodeAfter}
-use Rattle.egt_index.proofs.Best.{after_turn, none_after}
-use Rattle.egt_index.proofs.Classes.{image_in_colours, image_in_others}
+use Rattle.egt_index.proofs.After.{image_stood, digits_after, code_stood}
+use Rattle.egt_index.proofs.Best.{king_after, none_after}
+use Rattle.egt_index.proofs.LeastTurn.{king_is}
 use Rattle.egt_index.proofs.indexing.code_after.Goals as goal
 
-pub returns-then-not-is_in_colours : goal.returns-then-not-is_in_colours
-returns-then-not-is_in_colours c = λ q code turn spells.
-    image_in_others c.facts.ensures c.args.class c.args.flipped c.args.settled.now q c.args.turn code (omega (arith, c.number-number.ensures.below, c.number-number.ensures.value)) c.side-side.ensures.admissible c.requires.of turn
-    (λ colours. false≢true (sym c.if-not-is_in_colours.true ∙ c.is_in_colours.ensures.1 colours)) spells
-
-pub returns-in_err-_digit : goal.returns-in_err-_digit
-returns-in_err-_digit c =
+pub returns-in_err-high : goal.returns-in_err-high
+returns-in_err-high c =
     subst (CodeAfter c.args.class c.args.settled.now c.args.turn) (sym c.from_residual.ensures)
-    (none_after c.args.class c.args.settled.now c.args.turn c.white_king_after.result c.white_king_after.ensures
-    (subst (λ pawns. (digit : ℕ) → digit < king_base pawns → king_square pawns digit ≢ c.white_king_after.result) c.has_pawns.ensures c.in_err-_digit.ensures.none))
+    (none_after c.args.class c.args.settled.now c.args.turn c.stand_after-after.result.white
+    (λ q turn. king_after c.facts.ensures c.args.settled.now q c.args.turn c.args.stand.now.white c.stand_after-after.result.white c.side-mover.ensures.admissible turn
+    (c.requires.stood.all.1 ∙ ap Some (king_is (c.args.turn / 8 == 1))) c.stand_after-after.ensures.white)
+    (subst (λ pawns. (digit : ℕ) → digit < king_base pawns → king_square pawns digit ≢ c.stand_after-after.result.white) c.has_pawns.ensures c.in_err-high.ensures.none))
 
-pub returns-in_err-image : goal.returns-in_err-image
-returns-in_err-image c = subst (CodeAfter c.args.class c.args.settled.now c.args.turn) (sym c.from_residual-in_err-image.ensures) (λ q code turn spells. c.in_err-image.ensures.none q turn)
+pub number_behind-number-requires-clause-next : goal.number_behind-number-requires-clause-next
+number_behind-number-requires-clause-next c =
+    (digits_after c.args.class c.args.settled.now c.args.turn c.stand_after-after.result
+    (image_stood c.facts.ensures c.args.class c.args.settled.now c.args.turn c.args.stand.now c.stand_after-after.result (omega (arith, c.number-number.ensures.below, c.number-number.ensures.value)) c.side-mover.ensures.admissible
+    c.requires.settled c.requires.of c.requires.keeps c.requires.stood c.stand_after-after.ensures)).0
 
-pub code_of-requires-clause-of : goal.code_of-requires-clause-of
-code_of-requires-clause-of c =
-    image_in_colours c.facts.ensures c.args.class c.args.flipped c.args.settled.now c.in_ok-image.image c.args.turn (omega (arith, c.number-number.ensures.below, c.number-number.ensures.value)) c.side-side.ensures.admissible c.requires.of c.in_ok-image.ensures.made
-    (c.is_in_colours.ensures.0 c.if-not-is_in_colours.false)
-
-pub code_of-requires-clause-settled : goal.code_of-requires-clause-settled
-code_of-requires-clause-settled c =
-    let made = c.in_ok-image.ensures.made in
-    let images = c.facts.ensures.images c.args.settled.now c.in_ok-image.image (c.args.turn % 8) (c.args.turn / 8 == 1) c.side-side.ensures.admissible (omega arith) made.0 made.1 in
-    (c.facts.ensures.settled c.args.settled.now c.in_ok-image.image c.side-side.ensures.admissible images).0 c.requires.settled
+pub number_behind-number-requires-clause-last : goal.number_behind-number-requires-clause-last
+number_behind-number-requires-clause-last c =
+    (digits_after c.args.class c.args.settled.now c.args.turn c.stand_after-after.result
+    (image_stood c.facts.ensures c.args.class c.args.settled.now c.args.turn c.args.stand.now c.stand_after-after.result (omega (arith, c.number-number.ensures.below, c.number-number.ensures.value)) c.side-mover.ensures.admissible
+    c.requires.settled c.requires.of c.requires.keeps c.requires.stood c.stand_after-after.ensures)).1
 
 pub returns : goal.returns
-returns c = after_turn c.facts.ensures c.args.class c.args.settled.now c.in_ok-image.image c.args.turn c.code_of.result c.in_ok-image.ensures.made c.code_of.ensures
+returns c =
+    code_stood c.args.class c.args.settled.now c.args.turn c.stand_after-after.result c.in_ok-high.high c.number_behind-number.result c.with_side.result
+    (image_stood c.facts.ensures c.args.class c.args.settled.now c.args.turn c.args.stand.now c.stand_after-after.result (omega (arith, c.number-number.ensures.below, c.number-number.ensures.value)) c.side-mover.ensures.admissible
+    c.requires.settled c.requires.of c.requires.keeps c.requires.stood c.stand_after-after.ensures)
+    (subst (λ pawns. c.in_ok-high.high < king_base pawns) c.has_pawns.ensures c.in_ok-high.ensures.found)
+    (subst (λ pawns. king_square pawns c.in_ok-high.high ≡ c.stand_after-after.result.white) c.has_pawns.ensures c.in_ok-high.ensures.is)
+    (subst (λ h. Tells (has_pawns (material_of c.args.class)) c.number_behind-number.result (men_among (rest_of c.stand_after-after.result)) h (rest_of c.stand_after-after.result)) c.from.ensures
+    (c.number_behind-number.ensures.tells (has_pawns (material_of c.args.class))))
+    (c.with_side.ensures
+    ∙ ap (λ side. number_from c.number_behind-number.result (2 ∷ cond (has_target (material_of c.args.class)) (2 ∷ []) []) (side_number side ∷ target_digits (material_of c.args.class) c.target.result)) (c.side_after-side.ensures ∙ ap (turned_side (c.args.turn / 8 == 1)) c.side-mover.ensures.side)
+    ∙ ap (λ target. number_from c.number_behind-number.result (2 ∷ cond (has_target (material_of c.args.class)) (2 ∷ []) []) (side_number (turned_side (c.args.turn / 8 == 1) c.args.settled.now.side) ∷ target_digits (material_of c.args.class) target)) c.target.ensures)

@@ -1,4 +1,4 @@
-use Rattle.std.proofs.Common.{◌≡◌, ◌==◌, ◌/◌, Bool, true, false, inl, inr, refl, sym, ◌∙◌}
+use Rattle.std.proofs.Common.{◌≡◌, Bool, true, false, inl, inr, refl, sym, ◌∙◌}
 use Rattle.std.proofs.Math.Bool.{beq}
 use Rattle.std.proofs.lemmas.Bool.{false≢true}
 use Rattle.egt_index.proofs.indexing.is_in_colours.Goals as goal
@@ -20,9 +20,9 @@ returns-then-has_equal_sides c = (λ h. inl (sym c.has_equal_sides.ensures ∙ h
 
 pub returns-else-has_equal_sides : goal.returns-else-has_equal_sides
 returns-else-has_equal_sides c = (
-  λ h. inr (same (c.args.turn / 8 == 1) c.args.flipped h),
+  λ h. inr (same c.args.flips c.args.flipped h),
   λ h. elim h [
     | inl equal ↦ absurd (false≢true (sym c.if-has_equal_sides.false ∙ c.has_equal_sides.ensures ∙ equal))
-    | inr e ↦ tested (c.args.turn / 8 == 1) c.args.flipped e
+    | inr e ↦ tested c.args.flips c.args.flipped e
   ],
 )

@@ -1,0 +1,110 @@
+-- The tables of turns that bring a king home are right for each square.
+use Rattle.std.proofs.Common.{◌≡◌, ◌≢◌, ℕ, ◌+◌, ◌/◌, ◌%◌, ◌<◌, ◌⊎◌, ◌&&◌, ◌||◌, not, Bool, true, false, cond, ltb, eqb, Option, Some, None, IfSome, refl, sym, ap, ◌∙◌, inl, inr, subst}
+use Rattle.std.specs.Prelude.{slice_index}
+use Rattle.std.proofs.lemmas.Bool.{and_parts, and_from, eqb-true, eq-eqb, ltb-true, lt-ltb, false≢true}
+use Rattle.egt_board.specs.Turned.{turned_square}
+use Rattle.egt_class.specs.Below.{all_below, passes_below}
+use Rattle.egt_index.specs.Code.{king_square}
+use Rattle.egt_index.specs.Home.{symmetries, IsTurnWith, AreHome}
+use Rattle.egt_index.specs.Size.{king_base}
+use Rattle.egt_index.specs.declared.home.TheConstants.{FIRST, LAST}
+
+is_with : Bool → Bool → ℕ → Bool
+is_with pawns flips t = ltb t 16 && (same (eqb (t / 8) 1) flips && ltb (t % 8) (symmetries pawns))
+  where
+    same : Bool → Bool → Bool
+    same a b = cond a b (not b)
+
+-- the king of the square has no digit after the turn
+is_away : Bool → Bool → ℕ → ℕ → Bool
+is_away pawns flips king t = all_below (λ d. not (eqb (king_square pawns d) (turned_square (t % 8) flips king))) (king_base pawns)
+
+is_right_at : Bool → Bool → ℕ → ℕ → ℕ → Bool
+is_right_at pawns flips king first last =
+    is_with pawns flips first && (is_with pawns flips last && all_below (λ t. not (is_with pawns flips t) || (eqb t first || (eqb t last || is_away pawns flips king t))) 16)
+
+row : Bool → Bool → ℕ → ℕ
+row pawns flips king = cond pawns 128 0 + cond flips 64 0 + king
+
+is_right : Bool → Bool → ℕ → Bool
+is_right pawns flips king = is_right_at pawns flips king (slice_index FIRST (row pawns flips king)) (slice_index LAST (row pawns flips king))
+
+all_right : (pawns flips : Bool) → all_below (is_right pawns flips) 64 ≡ true
+unfolding all_below is_right is_right_at is_with is_away row
+all_right true true = refl
+all_right true false = refl
+all_right false true = refl
+all_right false false = refl
+
+with_told : (pawns flips : Bool) (t : ℕ) → is_with pawns flips t ≡ true → IsTurnWith pawns flips t
+unfolding is_with
+with_told pawns flips t h =
+    let both = and_parts _ _ h in
+    let more = and_parts _ _ both.1 in
+    record { below = ltb-true t 16 both.0; flips_is = told (eqb (t / 8) 1) flips more.0; keeps = ltb-true _ _ more.1 }
+  where
+    told : (a b : Bool) → cond a b (not b) ≡ true → a ≡ b
+    told true true h = refl
+    told true false h = absurd (false≢true h)
+    told false true h = absurd (false≢true h)
+    told false false h = refl
+
+told_with : (pawns flips : Bool) (t : ℕ) → IsTurnWith pawns flips t → is_with pawns flips t ≡ true
+unfolding is_with
+told_with pawns flips t h = and_from _ _ (lt-ltb t 16 h.below) (and_from _ _ (same (eqb (t / 8) 1) flips h.flips_is) (lt-ltb _ _ h.keeps))
+  where
+    same : (a b : Bool) → a ≡ b → cond a b (not b) ≡ true
+    same true true e = refl
+    same true false e = sym e
+    same false true e = e
+    same false false e = refl
+
+away_told : (pawns flips : Bool) (king t d : ℕ) → is_away pawns flips king t ≡ true → d < king_base pawns → king_square pawns d ≢ turned_square (t % 8) flips king
+unfolding is_away
+away_told pawns flips king t d away d_in same = no (eqb (king_square pawns d) (turned_square (t % 8) flips king)) (eq-eqb _ _ same) (passes_below _ _ d away d_in)
+  where
+    no : (b : Bool) → b ≡ true → not b ≡ true → ⊥
+    no true e h = false≢true h
+    no false e h = false≢true e
+
+one_of : (a b : Bool) → (a || b) ≡ true → (a ≡ true) ⊎ (b ≡ true)
+one_of true b h = inl refl
+one_of false b h = inr h
+
+other_of : (a b : Bool) → (not a || b) ≡ true → a ≡ true → b ≡ true
+other_of true b h e = h
+other_of false b h e = absurd (false≢true e)
+
+-- the one turn, or the two
+pub home_told : (pawns flips : Bool) (king at first last : ℕ) (second : Option ℕ) → king < 64 → at ≡ cond pawns 128 0 + cond flips 64 0 + king → first ≡ slice_index FIRST at → last ≡ slice_index LAST at
+    → ((first ≡ last) × (second ≡ None)) ⊎ (second ≡ Some last) → AreHome pawns flips king first second
+unfolding is_right is_right_at row
+home_told pawns flips king at first last second king_in at_is first_is last_is seconds = record {
+  one = with_told pawns flips first both.0;
+  other = of_second seconds;
+  none = λ t turn apart others d d_in. elim (one_of _ _ (other_of _ _ (passes_below _ 16 t more.1 turn.below) (told_with pawns flips t turn))) [
+    | inl h ↦ absurd (apart (eqb-true t first h))
+    | inr h ↦ elim (one_of _ _ h) [
+      | inl e ↦ absurd (not_last seconds t apart others (eqb-true t last e))
+      | inr away ↦ away_told pawns flips king t d away d_in
+    ]
+  ];
+}
+  where
+    right : is_right_at pawns flips king first last ≡ true
+    right = subst (λ n. is_right_at pawns flips king n last ≡ true) (sym (first_is ∙ ap (slice_index FIRST) at_is))
+        (subst (λ n. is_right_at pawns flips king (slice_index FIRST (row pawns flips king)) n ≡ true) (sym (last_is ∙ ap (slice_index LAST) at_is)) (passes_below (is_right pawns flips) 64 king (all_right pawns flips) king_in))
+
+    both : (is_with pawns flips first ≡ true) × ((is_with pawns flips last && all_below (λ t. not (is_with pawns flips t) || (eqb t first || (eqb t last || is_away pawns flips king t))) 16) ≡ true)
+    both = and_parts _ _ right
+
+    more : (is_with pawns flips last ≡ true) × (all_below (λ t. not (is_with pawns flips t) || (eqb t first || (eqb t last || is_away pawns flips king t))) 16 ≡ true)
+    more = and_parts _ _ both.1
+
+    of_second : ((first ≡ last) × (second ≡ None)) ⊎ (second ≡ Some last) → IfSome second (IsTurnWith pawns flips)
+    of_second (inl h) = subst (λ o. IfSome o (IsTurnWith pawns flips)) (sym h.1) tt
+    of_second (inr h) = subst (λ o. IfSome o (IsTurnWith pawns flips)) (sym h) (with_told pawns flips last more.0)
+
+    not_last : ((first ≡ last) × (second ≡ None)) ⊎ (second ≡ Some last) → (t : ℕ) → t ≢ first → IfSome second (λ u. t ≢ u) → t ≡ last → ⊥
+    not_last (inl h) t apart others is = apart (is ∙ sym h.0)
+    not_last (inr h) t apart others is = subst (λ o. IfSome o (λ u. t ≢ u)) h others is

@@ -1,0 +1,98 @@
+-- The men of a class on their squares in a position, and after a turn.
+use Rattle.std.specs.Prelude.{◌≡◌, ◌≢◌, ℕ, ◌<◌, ◌≤◌, ◌⊎◌, Bool, List, [], ◌∷◌, ◌++◌, map, Option, Some, None, IfSome}
+use Rattle.std.specs.Option.{option_map, option_to_list}
+use Rattle.std.specs.Int.{bit_at}
+use Rattle.egt_board.specs.declared.man.Side.TheVariants.{White, Black}
+use Rattle.egt_board.specs.declared.man.Man.{Man}
+use Rattle.egt_board.specs.declared.square_set.SquareSet.{SquareSet}
+use Rattle.egt_board.specs.Attack.{king_of}
+use Rattle.egt_board.specs.Pawn.{MayStand}
+use Rattle.egt_board.specs.Placement.{Placement, Stands}
+use Rattle.egt_board.specs.SquareSet.{Has}
+use Rattle.egt_board.specs.Turned.{turned_square, turned_man}
+use Rattle.egt_class.specs.Material.{material_of}
+use Rattle.egt_index.specs.Picked.{AreCounted}
+use Rattle.egt_index.specs.Size.{men_in_order}
+use Rattle.egt_index.specs.declared.stand.Stand.{Stand}
+
+-- a man of the class and its square, if there is one
+abbrev pub Entry : Type 0
+Entry = Option (Man × ℕ)
+
+abbrev pub men_among : List (Man × ℕ) → List Man
+men_among list = map (λ e. e.0) list
+
+-- the men beside the white king
+abbrev pub rest_of : Stand → List (Man × ℕ)
+rest_of s = (king_of Black, s.black) ∷ (option_to_list s.next ++ option_to_list s.last)
+
+abbrev pub list_of : Stand → List (Man × ℕ)
+list_of s = (king_of White, s.white) ∷ rest_of s
+
+-- none of these stands on the square
+abbrev pub IsOff : List (Man × ℕ) → ℕ → Type 0
+IsOff [] q = Unit {0}
+IsOff (e ∷ list) q = (e.1 ≢ q) × IsOff list q
+
+-- all of these stand on their squares, in colours exchanged where `flips`, each on a square of its own
+abbrev pub AllStand : Bool → Placement → List (Man × ℕ) → Type 0
+AllStand flips men [] = Unit {0}
+AllStand flips men (e ∷ list) = (e.1 < 64) × Stands men e.1 (turned_man flips e.0) × IsOff list e.1 × AllStand flips men list
+
+-- the list is of the men of the class, as they stand
+pub record Stood (c : ℕ) (flips : Bool) (men : Placement) (list : List (Man × ℕ)) : Type 0 where
+  pub are : men_among list ≡ men_in_order (material_of c)
+  pub all : AllStand flips men list
+
+-- the men on the squares of the set are those of the list
+pub record AreLeft (flips : Bool) (men : Placement) (left : SquareSet) (list : List Man) : Type 0 where
+  pub placement : Placement
+  pub counted : AreCounted placement (map (turned_man flips) list)
+  pub here : (s : ℕ) (man : Man) → Stands placement s man → Has left s × Stands men s man
+  pub there : (s : ℕ) (man : Man) → Has left s → Stands men s man → Stands placement s man
+
+-- the man was found on a square of the set and taken off it
+pub record FoundOn (flips : Bool) (men : Placement) (old new : SquareSet) (man : Man) (e : Man × ℕ) : Type 0 where
+  pub man_is : e.0 ≡ man
+  pub on_board : e.1 < 64
+  pub stands : Stands men e.1 (turned_man flips man)
+  pub had : Has old e.1
+  pub gone : bit_at new.bits e.1 ≡ 0
+  pub others : (t : ℕ) → t ≢ e.1 → bit_at new.bits t ≡ bit_at old.bits t
+
+abbrev pub Found : Bool → Placement → SquareSet → SquareSet → Option Man → Entry → Type 0
+Found flips men old new None None = new ≡ old
+Found flips men old new None (Some e) = ⊥
+Found flips men old new (Some man) None = ⊥
+Found flips men old new (Some man) (Some e) = FoundOn flips men old new man e
+
+-- where a turn takes a man
+abbrev pub entry_after : ℕ → Bool → Entry → Entry
+entry_after n flips entry = option_map (λ e. (e.0, turned_square n flips e.1)) entry
+
+-- of two equal men the first stands on the lesser square
+abbrev pub IsInOrder : Entry → Entry → Type 0
+IsInOrder None y = Unit {0}
+IsInOrder (Some x) None = Unit {0}
+IsInOrder (Some x) (Some y) = x.0 ≡ y.0 → x.1 ≤ y.1
+
+-- equal men, in order once they are exchanged
+pub record AreExchanged (x y : Entry) : Type 0 where
+  pub equal : men_among (option_to_list x) ≡ men_among (option_to_list y)
+  pub in_order : IsInOrder y x
+
+-- the two as they were, or equal men exchanged
+abbrev pub IsOrdered : Entry → Entry → Entry → Entry → Type 0
+IsOrdered x y first second =
+    ((first ≡ x) × (second ≡ y)) ⊎ ((first ≡ y) × (second ≡ x) × (men_among (option_to_list x) ≡ men_among (option_to_list y)))
+
+-- the men where the turn takes them
+pub record IsStandAfter (n : ℕ) (flips : Bool) (before after : Stand) : Type 0 where
+  pub white : after.white ≡ turned_square n flips before.white
+  pub black : after.black ≡ turned_square n flips before.black
+  pub both : IsOrdered (entry_after n flips before.next) (entry_after n flips before.last) after.next after.last
+  pub in_order : IsInOrder after.next after.last
+
+-- the man has a digit on its square
+abbrev pub HasDigit : Entry → Type 0
+HasDigit entry = IfSome entry (λ e. (e.0 ≢ king_of White) × MayStand e.0 e.1)

@@ -1,0 +1,141 @@
+//! The men of a class on their squares.
+ghost use Rattle.std.specs.Prelude.{◌≡◌, ◌≢◌, ◌++◌, ◌<◌, ◌%◌, ◌/◌, ◌==◌, ℕ, Bool, true, false, List, IfSome, IfNone, if◌then◌else◌};
+ghost use Rattle.std.specs.Option.{option_to_list};
+ghost use Rattle.egt_board.specs.Placement.{Stands};
+ghost use Rattle.egt_board.specs.SquareSet.{Has};
+ghost use Rattle.egt_board.specs.Turned.{turned_man};
+ghost use Rattle.egt_board.specs.declared.man.Man.{Man};
+ghost use Rattle.egt_board.specs.declared.man.Side.TheVariants.{White, Black};
+ghost use Rattle.egt_class.specs.Membership.{IsOf};
+ghost use Rattle.egt_index.specs.Stood.{Stood, AreLeft, Found, list_of, entry_after, IsInOrder, AreExchanged, IsStandAfter};
+
+use crate::men::beside;
+use crate::turning::turned_square;
+use egt_board::{Board, Man, Position, Side, Square, SquareSet};
+use egt_class::Class;
+
+/// The squares of a class's men: of the white king, the black king and the other men in the order of the name. Where
+/// colours are flipped, the white king's square is that on which the black king stands, and so on.
+#[derive(Clone, Copy)]
+pub(crate) struct Stand {
+    pub(crate) white: Square,
+    pub(crate) black: Square,
+    pub(crate) next: Option<(Man, Square)>,
+    pub(crate) last: Option<(Man, Square)>,
+}
+
+/// A square of the set on which the man stands.
+fn find(board: &Board, among: SquareSet, man: Man) -> Option<Square>
+    ensures stands { IfSome result (λ s. Stands board.now s man) }
+    ensures had { IfSome result (λ s. Has among s) }
+    ensures none { IfNone result ((s : ℕ) → Has among s → ¬ Stands board.now s man) }
+{
+    let mut rest = among;
+    while let Some(square) = rest.pop_first() {
+        if board.at(square) == Some(man) {
+            return Some(square);
+        }
+    }
+    None
+}
+
+/// The man, of the other side where colours are flipped.
+fn coloured(man: Man, flips: bool) -> Man
+    ensures { result ≡ turned_man flips man }
+{
+    if flips {
+        Man {
+            side: man.side.other(),
+            kind: man.kind,
+        }
+    } else {
+        man
+    }
+}
+
+/// Takes the square of the man, if there is one, out of the set.
+fn take(board: &Board, left: &mut SquareSet, man: Option<Man>, flips: bool) -> Option<(Man, Square)>
+    requires { (rest : List Man) × AreLeft flips board.now left.old (option_to_list man ++ rest) }
+    ensures found { Found flips board.now left.old left.new man result }
+    ensures left { (rest : List Man) → AreLeft flips board.now left.old (option_to_list man ++ rest) → AreLeft flips board.now left.new rest }
+{
+    let man = man?;
+    let _taken = board.occupied();
+    let square = find(board, *left, coloured(man, flips)).unwrap();
+    *left = left.less(square);
+    Some((man, square))
+}
+
+/// The side of the position that the class's name tells first.
+fn named_first(flips: bool) -> Side
+    ensures { result ≡ (if flips then Black else White) }
+{
+    if flips { Side::Black } else { Side::White }
+}
+
+/// Where the men of a position of the class stand.
+pub(crate) fn stand_of(class: Class, position: &Position, flips: bool) -> Stand
+    requires { IsOf class flips position.now }
+    ensures { Stood class flips position.now.men (list_of result) }
+{
+    let _side = position.side();
+    let colour = named_first(flips);
+    let white = position.king(colour);
+    let black = position.king(colour.other());
+    let (first, second) = beside(class);
+    let board = position.board();
+    let mut left = board.occupied().less(white).less(black);
+    let next = take(board, &mut left, first, flips);
+    let last = take(board, &mut left, second, flips);
+    Stand {
+        white,
+        black,
+        next,
+        last,
+    }
+}
+
+/// The man where the turn takes it.
+fn entry_after(entry: Option<(Man, Square)>, turn: u8) -> Option<(Man, Square)>
+    requires { turn < 16 }
+    ensures { result ≡ entry_after (turn % 8) (turn / 8 == 1) entry }
+{
+    match entry {
+        Some((man, square)) => Some((man, turned_square(turn, square))),
+        None => None,
+    }
+}
+
+/// Whether the men beside the kings are equal and the last stands on the lesser square.
+fn is_behind(stand: &Stand) -> bool
+    ensures behind { result ≡ true → AreExchanged stand.now.next stand.now.last }
+    ensures in_order { result ≡ false → IsInOrder stand.now.next stand.now.last }
+{
+    match (stand.next, stand.last) {
+        (Some(first), Some(second)) => first.0 == second.0 && second.1.number() < first.1.number(),
+        _ => false,
+    }
+}
+
+/// Where the turn takes the men, of two equal men the one on the lesser square first.
+pub(crate) fn stand_after(stand: &Stand, turn: u8) -> Stand
+    requires { turn < 16 }
+    ensures { IsStandAfter (turn % 8) (turn / 8 == 1) stand.now result }
+{
+    let after = Stand {
+        white: turned_square(turn, stand.white),
+        black: turned_square(turn, stand.black),
+        next: entry_after(stand.next, turn),
+        last: entry_after(stand.last, turn),
+    };
+    if is_behind(&after) {
+        Stand {
+            white: after.white,
+            black: after.black,
+            next: after.last,
+            last: after.next,
+        }
+    } else {
+        after
+    }
+}
