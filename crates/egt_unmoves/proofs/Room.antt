@@ -12,7 +12,7 @@ use Rattle.egt_unmoves.specs.Unmoves.{men_before}
 pub few_left : (men : Placement) (man : Man) (to : ℕ) → Stands men to man → map.len men ≤ 4 → map.len (map.remove men to) < 4
 few_left men man to stands few =
     let gone : map.len (map.remove men to) ≡ map.len men - 1 =
-        map.len-remove nat_cmp_total men to ∙ ap (λ (o : Option Man). cond (is_some o) (map.len men - 1) (map.len men)) stands in
+    map.len-remove nat_cmp_total men to ∙ ap (λ (o : Option Man). cond (is_some o) (map.len men - 1) (map.len men)) stands in
     omega arith
 
 pub len_one : (s : ℕ) (man : Man) → map.len (map.insert {R = nat_cmp} map.empty s man) < 4
