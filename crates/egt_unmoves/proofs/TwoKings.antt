@@ -110,9 +110,16 @@ corners-admissible = record {
     no_pawn : (man : Man) (side : Side) → man ≡ king_of side → man.kind ≡ P → ⊥
     no_pawn man side e pawn = let bad : K ≡ P = sym (ap (λ (x : Man). x.kind) e) ∙ pawn in cc
 
--- whatever the squares are called
-pub two_kings-admissible : (a b : ℕ) (v w : Man) → a ≡ 0 → b ≡ 63 → v ≡ king_of White → w ≡ king_of Black
-    → IsAdmissible (record { men = map.insert (map.insert map.empty a v) b w; side = White; target = None })
-two_kings-admissible a b v w on_a on_b is_white is_black =
-    subst (λ (men : Placement). IsAdmissible (record { men = men; side = White; target = None }))
-    (λ i. map.insert (map.insert map.empty (sym on_a i) (sym is_white i)) (sym on_b i) (sym is_black i)) corners-admissible
+-- whatever the squares and the kings are called
+module _ (a b : ℕ) (v w : Man) (on_a : a ≡ 0) (on_b : b ≡ 63) (is_white : v ≡ king_of White) (is_black : w ≡ king_of Black) where
+  same_corners : corners ≡ map.insert (map.insert map.empty a v) b w
+  same_corners = λ i. map.insert (map.insert map.empty (sym on_a i) (sym is_white i)) (sym on_b i) (sym is_black i)
+
+  pub two_kings-admissible : IsAdmissible (record { men = map.insert (map.insert map.empty a v) b w; side = White; target = None })
+  two_kings-admissible = subst (λ (men : Placement). IsAdmissible (record { men = men; side = White; target = None })) same_corners corners-admissible
+
+  pub two_kings-white : IsKingOn (map.insert (map.insert map.empty a v) b w) White a
+  two_kings-white = subst (IsKingOn (map.insert (map.insert map.empty a v) b w) White) (sym on_a) (subst (λ (men : Placement). IsKingOn men White 0) same_corners white_there)
+
+  pub two_kings-black : IsKingOn (map.insert (map.insert map.empty a v) b w) Black b
+  two_kings-black = subst (IsKingOn (map.insert (map.insert map.empty a v) b w) Black) (sym on_b) (subst (λ (men : Placement). IsKingOn men Black 63) same_corners black_there)

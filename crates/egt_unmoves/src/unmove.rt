@@ -5,7 +5,7 @@ ghost use Rattle.egt_board.specs.Attack.{king_of};
 use egt_board::{Board, Kind, Man, Position, Side, Square};
 
 /// A position from which a move led here, and whether a pawn made it.
-#[derive(Drop)]
+#[derive(Clone, Copy)]
 pub struct Unmove {
     pub before: Position,
     pub pawn: bool,
@@ -26,11 +26,13 @@ impl Default for Unmove {
 
     /// The two kings in the corners: what a list holds in the places that are not taken.
     fn default() -> Self {
+        let white_king = Square::at(0);
+        let black_king = Square::at(63);
         let mut board = Board::new();
-        board.put(Square::at(0), king(Side::White));
-        board.put(Square::at(63), king(Side::Black));
+        board.put(white_king, king(Side::White));
+        board.put(black_king, king(Side::Black));
         Unmove {
-            before: Position::admitted(board, Side::White, None),
+            before: Position::with_kings(board, Side::White, None, white_king, black_king),
             pawn: false,
         }
     }
