@@ -12,6 +12,9 @@ use Rattle.std.proofs.lemmas.Bool.{ltb-true, ltb-false, lt-ltb, le-ltb, eq-eqb, 
 use Rattle.std.proofs.lemmas.Bool.Decides.{eqb_tells}
 use Rattle.egt_board.specs.declared.man.Man.{Man}
 use Rattle.egt_board.specs.Placement.{Placement, same_men}
+use Rattle.egt_board.specs.declared.man.Side.TheVariants.{White, Black}
+use Rattle.egt_board.specs.Attack.{king_of}
+use Rattle.egt_board.specs.Corners.{corners}
 use Rattle.egt_board.specs.Board.{Slot, listed, padded, placed, InOrder, AreOnBoard, AreKept, man_on, lesser, greater}
 use Rattle.egt_board.specs.Position.{first_half, second_half}
 
@@ -321,3 +324,19 @@ pub without_four : (s : ℕ) (a b c d : Slot) →
     cond by_a b a ∷ cond by_b c b ∷ cond by_c d c ∷ cond by_d None d ∷ [] ≡ without_man false s (a ∷ b ∷ c ∷ d ∷ [])
 unfolding without_man first_of
 without_four s a b c d = refl
+
+-- two kings alone
+one_more : (men : Placement) (s : ℕ) (man : Man) → map.len (map.insert men s man) ≤ map.len men + 1
+one_more men s man = by_key (map.contains_key men s) (map.len-insert nat_cmp_total men s man)
+  where
+    by_key : (b : Bool) → map.len (map.insert men s man) ≡ cond b (map.len men) (map.len men + 1) → map.len (map.insert men s man) ≤ map.len men + 1
+    by_key true e = omega arith
+    by_key false e = omega arith
+
+pub shown_corners : AreShown (Some (0, king_of White) ∷ Some (63, king_of Black) ∷ None ∷ None ∷ []) corners
+unfolding with_man
+shown_corners =
+    let none : map.len {K = ℕ} {X = Man} {R = nat_cmp} map.empty ≡ 0 = map.len-empty nat_cmp Man in
+    let one = one_more map.empty 0 (king_of White) in
+    shown_with (Some (0, king_of White) ∷ None ∷ None ∷ None ∷ []) (map.insert map.empty 0 (king_of White)) 63 (king_of Black)
+    (shown_with (None ∷ None ∷ None ∷ None ∷ []) map.empty 0 (king_of White) shown_empty (omega arith) (omega arith)) (omega arith) (omega arith)

@@ -2,9 +2,10 @@
 ghost use Rattle.std.specs.Prelude.{◌≡◌, ℕ, ◌<◌, ◌≤◌, ◌↔◌, if◌then◌else◌};
 ghost use Rattle.std.specs.FinMap as map;
 ghost use Rattle.std.specs.Int.{bit_at};
+ghost use Rattle.egt_board.specs.Attack.{king_of};
 ghost use Rattle.egt_board.specs.Board.{place, man_on, marks, takes, lesser, greater};
 
-use crate::man::{Man, Side};
+use crate::man::{Kind, Man, Side};
 use crate::square::Square;
 use crate::square_set::SquareSet;
 use std::marker::Model;
@@ -117,6 +118,7 @@ fn greater(new: &Slot, slot: &Slot) -> Slot
 
 impl Board {
     ghost use Rattle.egt_board.specs.SquareSet.{Has, size_of};
+    ghost use Rattle.egt_board.specs.Corners.{corners};
     ghost use Rattle.egt_board.specs.Placement.{IsHeld};
     ghost use Rattle.egt_board.specs.Placement.{IsFree, Stands};
 
@@ -127,6 +129,18 @@ impl Board {
         Board {
             first: None,
             second: None,
+            third: None,
+            fourth: None,
+        }
+    }
+
+    /// The board with White's king on a1, Black's on h8, and no other man.
+    pub fn of_kings_in_corners() -> Board
+        ensures { result ≡ corners }
+    {
+        Board {
+            first: filled(Square::at(0), king(Side::White)),
+            second: filled(Square::at(63), king(Side::Black)),
             third: None,
             fourth: None,
         }
@@ -200,6 +214,16 @@ impl Board {
         ensures { result ≡ self.now }
     {
         *self
+    }
+}
+
+/// The king of that side.
+fn king(side: Side) -> Man
+    ensures { result ≡ king_of side }
+{
+    Man {
+        side,
+        kind: Kind::K,
     }
 }
 
