@@ -15,7 +15,7 @@ ghost use Rattle.egt_unmoves.specs.Order.{IsInOrder, ListsBelow, target_place};
 ghost use Rattle.egt_unmoves.specs.declared.unmove.Unmove.{Unmove};
 
 use crate::sources::sources;
-use crate::taking_back::{before, is_pawn, put_back, went};
+use crate::taking_back::{before, is_pawn, went};
 use crate::targets::{is_settled_target, target_before};
 use crate::unmove::Unmove;
 use arrayvec::ArrayVec;
@@ -67,7 +67,7 @@ fn push_from(
     ensures few { array_vec_len list.new ≤ array_vec_len list.old + 2 }
 {
     let _side = position.side();
-    let board = put_back(left, man, from);
+    let board = left.with_man(from, man);
     if !went(position, &board, man, from, to) {
         return;
     }

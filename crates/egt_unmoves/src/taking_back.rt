@@ -21,16 +21,6 @@ pub(crate) fn is_pawn(man: Man) -> bool
     man.kind == Kind::P
 }
 
-/// The board with the man, which has been taken off the square that it stands on, on the square that it came from.
-pub(crate) fn put_back(left: &Board, man: Man, from: Square) -> Board
-    requires { map.len left.now < 4 }
-    ensures { result ≡ map.insert left.now from man }
-{
-    let mut board = left.copied();
-    board.put(from, man);
-    board
-}
-
 /// Whether a pawn may stand on the square: on none of the first rank or the last.
 fn may_have_pawn(square: Square) -> bool
     ensures { (man : Man) → man.kind ≡ P → IsTrue result ↔ MayStand man square }
