@@ -115,10 +115,16 @@ fn boards_take_and_give_men(rt: HostRuntime) -> Result<(), Fail> {
             .contains(square(3)?)
     );
     assert!(rt; board.king(Side::White).is_none());
+    let kings = Board::of_kings_in_corners();
+    assert_eq!(rt; kings.king(Side::White), Some(square(0)?));
+    assert_eq!(rt; kings.king(Side::Black), Some(square(63)?));
     let mut copy = board.copied();
     copy.clear(square(9)?);
     assert_eq!(rt; copy.occupied(), SquareSet::EMPTY);
     assert_eq!(rt; board.at(square(9)?), Some(man(Side::White, Kind::N)));
+    let two = board.with_man(square(5)?, man(Side::Black, Kind::K));
+    assert_eq!(rt; two.at(square(9)?), Some(man(Side::White, Kind::N)));
+    assert_eq!(rt; two.king(Side::Black), Some(square(5)?));
     Ok(())
 }
 
