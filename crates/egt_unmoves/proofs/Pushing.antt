@@ -11,8 +11,7 @@ use Rattle.egt_board.specs.Pawn.{ahead, HasPawnBeside}
 use Rattle.egt_board.specs.Placement.{Placement, Stands, one_man}
 use Rattle.egt_board.specs.Target.{IsTarget}
 use Rattle.egt_board.specs.SquareSet.{Has, size_of}
-use Rattle.egt_board.specs.Setup.{Setup, IsAdmissible}
-use Rattle.egt_board.specs.Settled.{IsSettled}
+use Rattle.egt_board.specs.Setup.{Setup}
 use Rattle.egt_moves.specs.declared.chess_move.Move.{Move}
 use Rattle.egt_moves.specs.Chess.{IsPawnOn}
 use Rattle.egt_moves.specs.Legal.{plain}

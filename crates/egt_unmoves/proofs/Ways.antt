@@ -1,5 +1,5 @@
 -- The ways back.
-use Rattle.std.proofs.Common.{◌≡◌, ◌↔◌, ℕ, zero, suc, ◌+◌, ◌-◌, ◌*◌, ◌<◌, ◌≤◌, ◌⊎◌, ◌++◌, arith, refl, sym, ap, ◌∙◌, inl, inr, if◌then◌else◌, ◌==◌, Bool, true, false, subst, Option, Some, None, ◌&&◌, ◌||◌, ◌/◌}
+use Rattle.std.proofs.Common.{◌≡◌, ◌↔◌, ℕ, zero, suc, ◌+◌, ◌-◌, ◌*◌, ◌<◌, ◌≤◌, ◌⊎◌, ◌++◌, arith, refl, sym, ap, ◌∙◌, inl, inr, if◌then◌else◌, ◌==◌, Bool, true, false, subst, Some, None, ◌&&◌, ◌||◌, ◌/◌}
 use Rattle.std.proofs.Math.Nat.{add-mul}
 use Rattle.std.specs.FinMap as map
 use Rattle.std.proofs.lemmas.Bool.{false≢true}

@@ -1,5 +1,5 @@
 -- A move led here from a square exactly where what `Went` asks of the square holds.
-use Rattle.std.proofs.Common.{◌≡◌, ◌≢◌, ◌↔◌, ℕ, ◌+◌, ◌<◌, ◌≤◌, ◌⊎◌, ◌==◌, ◌&&◌, Option, Some, None, IfSome, Bool, true, false, arith, refl, sym, ap, ◌∙◌, inl, inr, subst, if◌then◌else◌}
+use Rattle.std.proofs.Common.{◌≡◌, ◌≢◌, ◌↔◌, ℕ, ◌<◌, ◌⊎◌, ◌==◌, ◌&&◌, Option, Some, None, IfSome, arith, refl, sym, ap, ◌∙◌, inl, inr, subst}
 use Rattle.std.specs.FinMap as map
 use Rattle.std.proofs.lemmas.Bool.{cases_eq}
 use Rattle.std.proofs.lemmas.Bool.Decides.{eqb_tells}
@@ -12,13 +12,12 @@ use Rattle.egt_board.specs.Attack.{king_of, IsInCheck}
 use Rattle.egt_board.specs.Gait.{Rides-free}
 use Rattle.egt_board.specs.Man.{other_side}
 use Rattle.egt_board.specs.Pawn.{pawn_of, ahead, forward, last_rank, farthest_advance, MayStand, Advances, HasPawnBeside}
-use Rattle.egt_board.specs.Placement.{Placement, Stands, IsFree, IsHeld, one_man, get-insert_same, get-insert_other, get-remove_same, get-remove_other}
+use Rattle.egt_board.specs.Placement.{Placement, Stands, IsFree, one_man, get-insert_other, get-remove_other}
 use Rattle.egt_board.specs.Setup.{Setup, IsAdmissible, IsKingOn, HasKings}
 use Rattle.egt_board.specs.Settled.{IsSettled, SettlesTo}
 use Rattle.egt_board.specs.Square.{rank_of}
 use Rattle.egt_board.specs.Target.{FitsTarget, IsTarget}
 use Rattle.egt_moves.specs.declared.chess_move.Move.{Move}
-use Rattle.egt_moves.specs.Exchange.{Captures}
 use Rattle.egt_moves.specs.Going.{Goes}
 use Rattle.egt_moves.specs.Legal.{plain, passed, men_after, after}
 use Rattle.egt_moves.specs.Promotion.{is_pawn, promotes, FitsPromotion}

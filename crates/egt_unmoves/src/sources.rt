@@ -1,5 +1,5 @@
 //! Where a man may have come from.
-ghost use Rattle.std.specs.Prelude.{◌≡◌, ◌≢◌, ℕ, ◌<◌, ◌≤◌, ◌↔◌};
+ghost use Rattle.std.specs.Prelude.{◌≡◌, ℕ, ◌<◌, ◌≤◌, ◌↔◌};
 ghost use Rattle.std.specs.FinMap as map;
 ghost use Rattle.egt_board.specs.Attack.{IsInCheck};
 ghost use Rattle.egt_board.specs.Man.{other_side};
@@ -9,7 +9,6 @@ ghost use Rattle.egt_board.specs.Pawn.{Advances};
 ghost use Rattle.egt_board.specs.Setup.{IsKingOn};
 ghost use Rattle.egt_board.specs.Square.{rank_of};
 ghost use Rattle.egt_board.specs.SquareSet.{Has, size_of};
-ghost use Rattle.egt_board.specs.declared.man.Kind.TheVariants.{P};
 ghost use Rattle.egt_moves.specs.Room.{most_goals};
 ghost use Rattle.egt_unmoves.specs.Unmoves.{MayHaveLeft, Went, facing};
 

@@ -1,11 +1,10 @@
 //! One man back on the square that it may have come from.
-ghost use Rattle.std.specs.Prelude.{◌≡◌, ℕ, ◌<◌, ◌↔◌, Some, IsTrue};
-ghost use Rattle.std.specs.FinMap as map;
+ghost use Rattle.std.specs.Prelude.{◌≡◌, ◌↔◌, IsTrue};
 ghost use Rattle.egt_board.specs.declared.man.Man.{Man};
 ghost use Rattle.egt_board.specs.Man.{other_side};
 ghost use Rattle.egt_board.specs.Pawn.{MayStand, Advances};
 ghost use Rattle.egt_board.specs.Placement.{IsFree};
-ghost use Rattle.egt_board.specs.Settled.{IsSettled, SettlesTo};
+ghost use Rattle.egt_board.specs.Settled.{SettlesTo};
 ghost use Rattle.egt_board.specs.Setup.{IsKingOn};
 ghost use Rattle.egt_board.specs.declared.man.Kind.TheVariants.{P};
 ghost use Rattle.egt_moves.specs.Legal.{plain};

@@ -1,7 +1,5 @@
-use Rattle.std.proofs.Common.{arith, rules, subst, ap, ◌∙◌}
+use Rattle.std.proofs.Common.{arith, ap}
 use Rattle.egt_board.specs.Setup.{Setup}
-use Rattle.egt_moves.specs.Legal.{plain}
-use Rattle.egt_unmoves.specs.Unmoves.{ComesBy}
 use Rattle.egt_unmoves.proofs.Pushing.{pushed}
 use Rattle.egt_unmoves.proofs.listing.push_before.Goals as goal
 

@@ -1,4 +1,4 @@
-use Rattle.std.proofs.Common.{◌≡◌, ◌≢◌, ◌<◌, ◌*◌, ◌+◌, Option, Some, None, IfSome, arith, rules, ap, sym, ◌∙◌, refl, inl, inr, subst, Bool, true, false}
+use Rattle.std.proofs.Common.{◌≡◌, Some, None, arith, ap, sym, ◌∙◌, refl, inl, inr, subst}
 use Rattle.std.specs.FinMap as map
 use Rattle.std.proofs.lemmas.Bool.{false≢true}
 use Rattle.egt_board.specs.Man.{other_side}

@@ -1,5 +1,4 @@
 use Rattle.std.proofs.Common.{arith, subst}
-use Rattle.std.specs.FinMap as map
 use Rattle.egt_board.specs.Placement.{IsFree}
 use Rattle.egt_board.specs.Gait.{Reaches}
 use Rattle.egt_unmoves.proofs.Ways.{attacks_back}

@@ -1,4 +1,4 @@
-use Rattle.std.proofs.Common.{◌≡◌, ◌≢◌, ◌↔◌, ℕ, ◌-◌, ◌<◌, min, arith, sym, ◌∙◌, ap, inl, inr, subst}
+use Rattle.std.proofs.Common.{◌≡◌, ℕ, ◌-◌, ◌<◌, min, arith, sym, ◌∙◌, ap, inl, inr, subst}
 use Rattle.std.specs.Int.{bit_at}
 use Rattle.std.specs.FinMap as map
 use Rattle.std.proofs.lemmas.Bool.{false≢true}
@@ -7,8 +7,8 @@ use Rattle.egt_board.specs.declared.square_set.SquareSet.{SquareSet}
 use Rattle.egt_board.specs.Attack.{IsInCheck}
 use Rattle.egt_board.specs.Gait.{Reaches}
 use Rattle.egt_board.specs.Pawn.{Advances}
-use Rattle.egt_board.specs.Placement.{Placement, IsFree, get-remove_same, get-remove_other}
-use Rattle.egt_unmoves.specs.Unmoves.{Went, MayHaveLeft, men_before}
+use Rattle.egt_board.specs.Placement.{Placement, IsFree}
+use Rattle.egt_unmoves.specs.Unmoves.{Went, men_before}
 use Rattle.egt_unmoves.proofs.Quiet.{king_left, free_left}
 use Rattle.egt_unmoves.proofs.sources.sources.Goals as goal
 use Rattle.egt_unmoves.proofs.sources.sources.Goals.{then-is_pawn, else-is_pawn}

@@ -1,4 +1,4 @@
-use Rattle.std.proofs.Common.{sym, ◌∙◌, ap}
+use Rattle.std.proofs.Common.{sym, ◌∙◌}
 use Rattle.std.proofs.lemmas.Bool.{false≢true}
 use Rattle.egt_board.specs.Placement.{IsFree}
 use Rattle.egt_unmoves.proofs.Went.{advances_anyhow, same_target}
