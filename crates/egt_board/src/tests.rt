@@ -122,9 +122,6 @@ fn boards_take_and_give_men(rt: HostRuntime) -> Result<(), Fail> {
     copy.clear(square(9)?);
     assert_eq!(rt; copy.occupied(), SquareSet::EMPTY);
     assert_eq!(rt; board.at(square(9)?), Some(man(Side::White, Kind::N)));
-    let two = board.with_man(square(5)?, man(Side::Black, Kind::K));
-    assert_eq!(rt; two.at(square(9)?), Some(man(Side::White, Kind::N)));
-    assert_eq!(rt; two.king(Side::Black), Some(square(5)?));
     Ok(())
 }
 
