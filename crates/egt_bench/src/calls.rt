@@ -89,6 +89,17 @@ fn is_indexed(position: &Position) -> bool {
     egt_index::position(class, index(class, position)).is_some()
 }
 
+/// The squares of the white king before each move that led to the settled position, added up: so each place of the
+/// list that is taken is read.
+fn kings_before(position: &Position) -> u64 {
+    let list = unmoves(&position.settle());
+    let mut sum = 0u64;
+    for unmove in list.as_slice() {
+        sum = sum.wrapping_add(u64::from(unmove.before.king(Side::White).number()));
+    }
+    sum
+}
+
 /// Makes the call on each position, and adds something of the answers up.
 #[inline(never)]
 pub fn made(call: Call, positions: &[Position], moves: &[Move]) -> u64 {
@@ -103,7 +114,7 @@ pub fn made(call: Call, positions: &[Position], moves: &[Move]) -> u64 {
             Call::Class => u64::from(of(position).0.number()),
             Call::Index => u64::from(indexed(position)),
             Call::Indexed => u64::from(is_indexed(position)),
-            Call::Unmoves => unmoves(&position.settle()).len() as u64,
+            Call::Unmoves => kings_before(position),
         };
         sum = sum.wrapping_add(answer);
     }

@@ -1,5 +1,5 @@
 -- The slots of a board: what stands on a square, and the slots with a man more or less.
-use Rattle.std.proofs.Common.{◌≡◌, ℕ, zero, suc, ◌+◌, ◌<◌, ◌≤◌, Bool, true, false, cond, eqb, ltb, not, ◌&&◌, ◌||◌, List, [], ◌∷◌, length, Option, Some, None, arith, refl, sym, ap, ◌∙◌, inl, inr, subst}
+use Rattle.std.proofs.Common.{◌≡◌, ◌≢◌, ℕ, zero, suc, ◌+◌, ◌<◌, ◌≤◌, Bool, true, false, cond, eqb, ltb, not, ◌&&◌, ◌||◌, List, [], ◌∷◌, length, Option, Some, None, arith, refl, sym, ap, ◌∙◌, inl, inr, subst}
 use Rattle.std.specs.Prelude.{T}
 use Rattle.std.specs.Option.{is_some, option_or}
 use Rattle.std.specs.Ordering.{nat_cmp, is_lt, is_eq, eq_by_cmp}
@@ -12,8 +12,12 @@ use Rattle.std.proofs.lemmas.Bool.{ltb-true, ltb-false, lt-ltb, le-ltb, eq-eqb, 
 use Rattle.std.proofs.lemmas.Bool.Decides.{eqb_tells}
 use Rattle.egt_board.specs.declared.man.Man.{Man}
 use Rattle.egt_board.specs.Placement.{Placement, same_men}
-use Rattle.egt_board.specs.Board.{Slot, listed, padded, placed, InOrder, AreOnBoard, AreKept, man_on, lesser, greater}
+use Rattle.egt_board.specs.declared.man.Side.TheVariants.{White, Black}
+use Rattle.egt_board.specs.Attack.{king_of}
+use Rattle.egt_board.specs.Corners.{corners}
+use Rattle.egt_board.specs.Board.{Slot, listed, padded, placed, InOrder, AreOnBoard, AreKept, man_on, place, lesser, greater}
 use Rattle.egt_board.specs.Position.{first_half, second_half}
+use Rattle.egt_board.proofs.Placed.{find-here, find-later}
 
 -- these slots show these men, with as many of them empty as there are fewer men than slots
 pub record AreShown (xs : List Slot) (men : Placement) : Type 0 where
@@ -321,3 +325,97 @@ pub without_four : (s : ℕ) (a b c d : Slot) →
     cond by_a b a ∷ cond by_b c b ∷ cond by_c d c ∷ cond by_d None d ∷ [] ≡ without_man false s (a ∷ b ∷ c ∷ d ∷ [])
 unfolding without_man first_of
 without_four s a b c d = refl
+
+-- the slots once a man has come to a free square: the new man, and behind it those of the squares behind
+pub opened : Slot → Bool → Slot → List Slot → List Slot
+opened new ahead last [] = []
+opened new ahead last (x ∷ xs) = cond (ltb (place x) (place new)) x (cond ahead new last) ∷ opened new (ltb (place x) (place new)) x xs
+
+opened_none : (n k : ℕ) (man : Man) → k < 64 → opened (Some (k, man)) false None (padded n []) ≡ padded n []
+unfolding opened
+opened_none zero k man k_in = refl
+opened_none (suc n) k man k_in =
+    ap (λ b. cond b None None ∷ opened (Some (k, man)) b None (padded n [])) (le-ltb 64 k (omega arith)) ∙ ap (λ xs. None ∷ xs) (opened_none n k man k_in)
+
+less_by : (a b : ℕ) → T (is_lt (nat_cmp a b)) → a < b
+less_by a b h = elim (ltb a b) as (λ l. ltb a b ≡ l → a < b) [
+  | true ↦ λ e. ltb-true a b e
+  | false ↦ λ e. absurd (not_less (ltb a b) (eqb a b) e h)
+] refl
+  where
+    not_less : (l m : Bool) → l ≡ false → T (is_lt (cond l Less (cond m Equal Greater))) → ⊥
+    not_less true m e h = absurd (false≢true (sym e))
+    not_less false true e h = h
+    not_less false false e h = h
+
+opened_behind : (n k : ℕ) (man : Man) (p : ℕ × Man) (es : List (ℕ × Man)) → InOrder (p ∷ es) → k < 64 → k < p.0 → length es < n
+    → opened (Some (k, man)) false (Some p) (padded n es) ≡ padded n (p ∷ es)
+unfolding opened
+opened_behind zero k man p es sorted k_in less room = absurd (omega arith)
+opened_behind (suc n) k man p [] sorted k_in less room =
+    ap (λ b. cond b None (Some p) ∷ opened (Some (k, man)) b None (padded n [])) (le-ltb 64 k (omega arith)) ∙ ap (λ xs. Some p ∷ xs) (opened_none n k man k_in)
+opened_behind (suc n) k man p (e ∷ es) sorted k_in less room =
+    let next : p.0 < e.0 = less_by p.0 e.0 (first_half _ _ (first_half _ _ sorted)) in
+    ap (λ b. cond b (Some e) (Some p) ∷ opened (Some (k, man)) b (Some e) (padded n es)) (le-ltb e.0 k (omega arith))
+    ∙ ap (λ xs. Some p ∷ xs) (opened_behind n k man e es (second_half _ _ sorted) k_in (omega arith) (omega arith))
+
+opened_put : (n k : ℕ) (man : Man) (last : Slot) (es : List (ℕ × Man)) → InOrder es → k < 64 → length es < n → map.find nat_cmp k es ≡ None
+    → opened (Some (k, man)) true last (padded n es) ≡ padded n (map.put nat_cmp k man es)
+unfolding opened
+opened_put zero k man last es sorted k_in room none = absurd (omega arith)
+opened_put (suc n) k man last [] sorted k_in room none =
+    ap (λ b. cond b None (Some (k, man)) ∷ opened (Some (k, man)) b None (padded n [])) (le-ltb 64 k (omega arith)) ∙ ap (λ xs. Some (k, man) ∷ xs) (opened_none n k man k_in)
+opened_put (suc n) k man last (e ∷ es) sorted k_in room none =
+    elim (ltb e.0 k) as (λ b. ltb e.0 k ≡ b
+    → (cond b (Some e) (Some (k, man)) ∷ opened (Some (k, man)) b (Some e) (padded n es)) ≡ padded (suc n) (map.put nat_cmp k man (e ∷ es))) [
+      | true ↦ λ h.
+          ap (λ xs. Some e ∷ xs) (opened_put n k man (Some e) es (second_half _ _ sorted) k_in (omega arith) (sym (find-later k e.0 e.1 es apart) ∙ none))
+          ∙ ap (λ o. padded (suc n) (by_order o ((k, man) ∷ e ∷ es) ((e.0, man) ∷ es) (e ∷ map.put nat_cmp k man es))) (sym (cmp_greater k e.0 (ltb-true e.0 k h)))
+      | false ↦ λ h.
+          let low = ltb-false e.0 k h in
+          let other = apart in
+          let less : k < e.0 = omega arith in
+          ap (λ xs. Some (k, man) ∷ xs) (opened_behind n k man e es sorted k_in less (omega arith))
+          ∙ ap (λ o. padded (suc n) (by_order o ((k, man) ∷ e ∷ es) ((e.0, man) ∷ es) (e ∷ map.put nat_cmp k man es))) (sym (cmp_less k e.0 less))
+    ] refl
+  where
+    apart : k ≢ e.0
+    apart same = let bad : None ≡ Some e.1 = sym none ∙ find-here k e.0 e.1 es same in cc
+
+pub shown_opened : (xs : List Slot) (men : Placement) (k : ℕ) (man : Man) → AreShown xs men → map.len men < 4 → k < 64 → map.get men k ≡ None
+    → AreShown (opened (Some (k, man)) true None xs) (map.insert men k man)
+shown_opened xs men k man is room k_in free =
+    let es = map.entries men in
+    let size = map.len-entries men in
+    let same = map.entries-insert nat_cmp_total men k man in
+    record {
+      full =
+          ap (opened (Some (k, man)) true None) is.full ∙ opened_put 4 k man None es (map.entries_sorted men) k_in (omega arith) (sym (map.get-entries men k) ∙ free)
+          ∙ ap (padded 4) (sym same);
+      few = subst (λ (fs : List (ℕ × Man)). length fs ≤ 4) (sym same) (let h = length_put k man es in omega arith);
+      on_board = subst AreOnBoard (sym same) (on_board_put k man es is.on_board k_in);
+    }
+
+pub opened_four : (new a b c d : Slot) →
+    cond (ltb (place a) (place new)) a new
+    ∷ cond (ltb (place b) (place new)) b (cond (ltb (place a) (place new)) new a)
+    ∷ cond (ltb (place c) (place new)) c (cond (ltb (place b) (place new)) new b)
+    ∷ cond (ltb (place d) (place new)) d (cond (ltb (place c) (place new)) new c) ∷ [] ≡ opened new true None (a ∷ b ∷ c ∷ d ∷ [])
+unfolding opened
+opened_four new a b c d = refl
+
+-- two kings alone
+one_more : (men : Placement) (s : ℕ) (man : Man) → map.len (map.insert men s man) ≤ map.len men + 1
+one_more men s man = by_key (map.contains_key men s) (map.len-insert nat_cmp_total men s man)
+  where
+    by_key : (b : Bool) → map.len (map.insert men s man) ≡ cond b (map.len men) (map.len men + 1) → map.len (map.insert men s man) ≤ map.len men + 1
+    by_key true e = omega arith
+    by_key false e = omega arith
+
+pub shown_corners : AreShown (Some (0, king_of White) ∷ Some (63, king_of Black) ∷ None ∷ None ∷ []) corners
+unfolding with_man
+shown_corners =
+    let none : map.len {K = ℕ} {X = Man} {R = nat_cmp} map.empty ≡ 0 = map.len-empty nat_cmp Man in
+    let one = one_more map.empty 0 (king_of White) in
+    shown_with (Some (0, king_of White) ∷ None ∷ None ∷ None ∷ []) (map.insert map.empty 0 (king_of White)) 63 (king_of Black)
+    (shown_with (None ∷ None ∷ None ∷ None ∷ []) map.empty 0 (king_of White) shown_empty (omega arith) (omega arith)) (omega arith) (omega arith)

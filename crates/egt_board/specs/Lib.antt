@@ -30,3 +30,4 @@ pub mod DecidedMen
 pub mod DecidedSetup
 pub mod DecidedTurns
 pub mod Counting
+pub mod Corners

@@ -1,10 +1,11 @@
 //! A board with at most four men on it, and what they attack: FIDE Laws of Chess 2023, articles 3.1 to 3.9.
-ghost use Rattle.std.specs.Prelude.{◌≡◌, ℕ, ◌<◌, ◌≤◌, ◌↔◌, if◌then◌else◌};
+ghost use Rattle.std.specs.Prelude.{◌≡◌, ℕ, ◌<◌, ◌≤◌, ◌↔◌, nat_lt, if◌then◌else◌};
 ghost use Rattle.std.specs.FinMap as map;
 ghost use Rattle.std.specs.Int.{bit_at};
+ghost use Rattle.egt_board.specs.Attack.{king_of};
 ghost use Rattle.egt_board.specs.Board.{place, man_on, marks, takes, lesser, greater};
 
-use crate::man::{Man, Side};
+use crate::man::{Kind, Man, Side};
 use crate::square::Square;
 use crate::square_set::SquareSet;
 use std::marker::Model;
@@ -91,6 +92,13 @@ fn place(slot: &Slot) -> u8
     }
 }
 
+/// Whether the slot's man stands ahead of a new man, on a square of a lesser number.
+fn is_ahead(slot: &Slot, new: &Slot) -> bool
+    ensures { result ≡ nat_lt (place slot.now) (place new.now) }
+{
+    place(slot) < place(new)
+}
+
 /// What stands first of a new man and what is in a slot; on one square it is the new man.
 fn lesser(new: &Slot, slot: &Slot) -> Slot
     ensures { result ≡ lesser new.now slot.now }
@@ -117,6 +125,7 @@ fn greater(new: &Slot, slot: &Slot) -> Slot
 
 impl Board {
     ghost use Rattle.egt_board.specs.SquareSet.{Has, size_of};
+    ghost use Rattle.egt_board.specs.Corners.{corners};
     ghost use Rattle.egt_board.specs.Placement.{IsHeld};
     ghost use Rattle.egt_board.specs.Placement.{IsFree, Stands};
 
@@ -127,6 +136,18 @@ impl Board {
         Board {
             first: None,
             second: None,
+            third: None,
+            fourth: None,
+        }
+    }
+
+    /// The board with White's king on a1, Black's on h8, and no other man.
+    pub fn of_kings_in_corners() -> Board
+        ensures { result ≡ corners }
+    {
+        Board {
+            first: filled(Square::at(0), king(Side::White)),
+            second: filled(Square::at(63), king(Side::Black)),
             third: None,
             fourth: None,
         }
@@ -157,6 +178,25 @@ impl Board {
             third: lesser(&after_second, &self.third),
             fourth: lesser(&after_third, &self.fourth),
         };
+    }
+
+    /// The board with the man on the square, which is free, where there are fewer than four men.
+    pub fn with_man(&self, square: Square, man: Man) -> Board
+        requires free { IsFree self.now square }
+        requires room { map.len self.now < 4 }
+        ensures { result ≡ map.insert self.now square man }
+    {
+        let new = filled(square, man);
+        let by_first = is_ahead(&self.first, &new);
+        let by_second = is_ahead(&self.second, &new);
+        let by_third = is_ahead(&self.third, &new);
+        let by_fourth = is_ahead(&self.fourth, &new);
+        Board {
+            first: chosen(by_first, self.first, new),
+            second: chosen(by_second, self.second, chosen(by_first, new, self.first)),
+            third: chosen(by_third, self.third, chosen(by_second, new, self.second)),
+            fourth: chosen(by_fourth, self.fourth, chosen(by_third, new, self.third)),
+        }
     }
 
     /// Takes the man off the square, if one stands there.
@@ -200,6 +240,16 @@ impl Board {
         ensures { result ≡ self.now }
     {
         *self
+    }
+}
+
+/// The king of that side.
+fn king(side: Side) -> Man
+    ensures { result ≡ king_of side }
+{
+    Man {
+        side,
+        kind: Kind::K,
     }
 }
 

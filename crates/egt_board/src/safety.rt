@@ -5,7 +5,7 @@ ghost use Rattle.std.specs.FinMap as map;
 ghost use Rattle.std.specs.Int.{bit_at};
 ghost use Rattle.egt_board.specs.Attack.{IsAttacked, AttacksFrom};
 ghost use Rattle.egt_board.specs.Gait.{Reaches};
-ghost use Rattle.egt_board.specs.Placement.{Placement};
+ghost use Rattle.egt_board.specs.Placement.{Placement, IsFree};
 ghost use Rattle.egt_board.specs.Safety.{IsKeptFrom, StopsSlot};
 ghost use Rattle.egt_board.specs.SquareSet.{Has};
 ghost use Rattle.egt_board.specs.declared.man.Man.{Man};
@@ -77,4 +77,11 @@ impl Board {
 pub fn attacks_pass_over_no_occupant()
     ensures { (men : Placement) (t : ℕ) (side : Side) (occupant : Man) → occupant.side ≢ side
         → IsAttacked (map.insert men t occupant) t side ↔ IsAttacked men t side }
+{}
+
+/// Whether a man attacks a square does not depend on what stands there. This function does nothing: a caller calls it
+/// to know what it ensures.
+pub fn reach_passes_over_its_end()
+    ensures { (men : Placement) (man occupant : Man) (s t : ℕ)
+        → Reaches (IsFree (map.insert men t occupant)) man s t ↔ Reaches (IsFree men) man s t }
 {}

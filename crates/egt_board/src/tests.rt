@@ -115,6 +115,9 @@ fn boards_take_and_give_men(rt: HostRuntime) -> Result<(), Fail> {
             .contains(square(3)?)
     );
     assert!(rt; board.king(Side::White).is_none());
+    let kings = Board::of_kings_in_corners();
+    assert_eq!(rt; kings.king(Side::White), Some(square(0)?));
+    assert_eq!(rt; kings.king(Side::Black), Some(square(63)?));
     let mut copy = board.copied();
     copy.clear(square(9)?);
     assert_eq!(rt; copy.occupied(), SquareSet::EMPTY);

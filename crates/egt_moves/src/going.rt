@@ -131,7 +131,7 @@ pub(crate) fn is_safe(position: &Position, man: Man, from: Square, to: Square) -
 }
 
 /// The square that the man passes from `from` to `to` as a pawn that advances two squares.
-pub(crate) fn passed(man: Man, from: Square, to: Square) -> Option<Square>
+pub fn passed(man: Man, from: Square, to: Square) -> Option<Square>
     ensures { result ≡ passed man from to }
 {
     let ranks_up = to.rank() == from.rank() + 2;

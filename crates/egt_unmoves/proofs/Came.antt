@@ -1,24 +1,21 @@
 -- What a move that neither captures nor promotes does to the men, and taking it back.
-use Rattle.std.proofs.Common.{◌≡◌, ◌≢◌, ℕ, ◌<◌, ◌⊎◌, ◌&&◌, Option, Some, None, false, refl, sym, ap, ◌∙◌, inl, inr, subst, if◌then◌else◌}
+use Rattle.std.proofs.Common.{◌≡◌, ◌≢◌, ℕ, ◌&&◌, Option, Some, None, false, refl, sym, ap, ◌∙◌, inl, inr, if◌then◌else◌}
 use Rattle.std.specs.FinMap as map
 use Rattle.std.proofs.lemmas.Bool.{cases_eq}
 use Rattle.std.proofs.lemmas.Bool.Decides.{eqb_tells}
-use Rattle.egt_board.specs.declared.man.Side.{Side}
 use Rattle.egt_board.specs.declared.man.Kind.{Kind}
 use Rattle.egt_board.specs.declared.man.Kind.TheVariants.{Q, R, B, N, P, K}
 use Rattle.egt_board.specs.declared.man.Man.{Man}
 use Rattle.egt_board.specs.Man.{other_side}
-use Rattle.egt_board.specs.Pawn.{ahead, Advances}
-use Rattle.egt_board.specs.Gait.{Reaches}
+use Rattle.egt_board.specs.Pawn.{ahead}
 use Rattle.egt_board.specs.Placement.{Placement, Stands, IsFree, one_man, same_men, get-insert_same, get-insert_other, get-remove_same, get-remove_other}
-use Rattle.egt_board.specs.Setup.{Setup, IsAdmissible}
-use Rattle.egt_board.specs.Settled.{IsSettled, SettlesTo}
+use Rattle.egt_board.specs.Setup.{Setup}
+use Rattle.egt_board.specs.Settled.{SettlesTo}
 use Rattle.egt_moves.specs.declared.chess_move.Move.{Move}
-use Rattle.egt_moves.specs.DecidedMoves.{leads_to_one}
 use Rattle.egt_moves.specs.Going.{Goes}
-use Rattle.egt_moves.specs.Legal.{Leads, plain, is_target, takes_in_passing, men_left, men_after}
+use Rattle.egt_moves.specs.Legal.{plain, is_target, takes_in_passing, men_left}
 use Rattle.egt_moves.specs.Promotion.{is_pawn, arriving}
-use Rattle.egt_unmoves.specs.Unmoves.{ComesBy, MayComeFrom, men_before}
+use Rattle.egt_unmoves.specs.Unmoves.{ComesBy, MayComeFrom, GoesOver, men_before, setup_before}
 use Rattle.egt_unmoves.proofs.Sides.{side_twice, side_cases}
 
 pub not_free : {A : Type 0} (men : Placement) (s : ℕ) (man : Man) → IsFree men s → Stands men s man → A
@@ -58,7 +55,7 @@ pub settles_side : (p q : Setup) → SettlesTo p q → q.side ≡ p.side
 settles_side p q (inl h) = ap (λ (x : Setup). x.side) h.1
 settles_side p q (inr h) = ap (λ (x : Setup). x.side) h.1
 
-settles_once : (p q r : Setup) → SettlesTo p q → SettlesTo p r → q ≡ r
+pub settles_once : (p q r : Setup) → SettlesTo p q → SettlesTo p r → q ≡ r
 settles_once p q r (inl h) (inl k) = h.1 ∙ sym k.1
 settles_once p q r (inl h) (inr k) = absurd (k.0 h.0)
 settles_once p q r (inr h) (inl k) = absurd (h.0 k.0)
@@ -74,10 +71,10 @@ pub record Came (b : Setup) (m : Move) (q : Setup) : Type 0 where
   pub free_from : IsFree q.men m.from
   pub side : b.side ≡ other_side q.side
   pub men : b.men ≡ men_before q.men man m.to m.from
-  pub goes : ((man.kind ≢ P) × Reaches (IsFree b.men) man m.from m.to) ⊎ ((man.kind ≡ P) × Advances (IsFree b.men) man.side m.from m.to)
+  pub goes : GoesOver b.men man m.from m.to
 
 -- the same men, but for one that has moved
-moved_on : (a c : Placement) (man : Man) (s t : ℕ) → Stands a s man → IsFree a t → c ≡ map.insert (map.remove a s) t man
+pub moved_on : (a c : Placement) (man : Man) (s t : ℕ) → Stands a s man → IsFree a t → c ≡ map.insert (map.remove a s) t man
     → Stands c t man × IsFree c s × (a ≡ map.insert (map.remove c t) s man)
 moved_on a c man s t stands free e = (stands_t, free_s, same_men a _ there)
   where
@@ -144,7 +141,7 @@ came b m q c = record {
     moved : Stands q.men m.to c.leads.man × IsFree q.men m.from × (b.men ≡ men_before q.men c.leads.man m.to m.from)
     moved = moved_on b.men q.men c.leads.man m.from m.to c.leads.stands free men_now
 
-    by_going : Goes b c.leads.man m.from m.to → ((c.leads.man.kind ≢ P) × Reaches (IsFree b.men) c.leads.man m.from m.to) ⊎ ((c.leads.man.kind ≡ P) × Advances (IsFree b.men) c.leads.man.side m.from m.to)
+    by_going : Goes b c.leads.man m.from m.to → GoesOver b.men c.leads.man m.from m.to
     by_going (inl piece) = inl (piece.piece, piece.reaches)
     by_going (inr (inl advance)) = inr (advance.pawn, advance.advances)
     by_going (inr (inr takes)) = elim takes.takes [
@@ -191,7 +188,7 @@ same_move b m n q c d = λ i. record { from = same_from i; to = same_to i; promo
 
 -- the position before, but for its target
 pub before_is : (b : Setup) (q : Setup) (man : Man) (from to : ℕ) (target : Option ℕ) → MayComeFrom q man to from → b.target ≡ target → ComesBy b (plain from to) q
-    → b ≡ record { men = men_before q.men man to from; side = other_side q.side; target = target }
+    → b ≡ setup_before q man to from target
 before_is b q man from to target may e c = λ i. record { men = men i; side = x.side i; target = e i }
   where
     x : Came b (plain from to) q
@@ -200,89 +197,9 @@ before_is b q man from to target may e c = λ i. record { men = men i; side = x.
     men : b.men ≡ men_before q.men man to from
     men = x.men ∙ ap (λ y. men_before q.men y to from) (came_man b (plain from to) q man x may.stands)
 
--- the same of the parts of a position
-pub before_shown : (b q : Setup) (man : Man) (from to : ℕ) (men : Placement) (side : Side) (target : Option ℕ) → MayComeFrom q man to from → men ≡ men_before q.men man to from → side ≡ other_side q.side
-    → b.target ≡ target → ComesBy b (plain from to) q → b ≡ record { men = men; side = side; target = target }
-before_shown b q man from to men side target may same_men same_side e c = before_is b q man from to target may e c ∙ (λ i. record { men = sym same_men i; side = sym same_side i; target = target })
-
-stands_before : (b q : Setup) (man : Man) (from to : ℕ) → b.men ≡ men_before q.men man to from → Stands b.men from man
-stands_before b q man from to men = ap (λ x. map.get x from) men ∙ get-insert_same (map.remove q.men to) from man from refl
-
--- a pawn that arrives on the target captures
-pub passing_captures : (b q : Setup) (man : Man) (from to : ℕ) → b.men ≡ men_before q.men man to from → man.kind ≡ P → b.target ≡ Some to → ¬ ComesBy b (plain from to) q
-passing_captures b q man from to men pawn target c = c.no_capture (inr (record { man = man; stands = stands_before b q man from to men; pawn = pawn }, target))
-
--- where the move leads to what settles to the same target, it leads here
-pub comes_of : (b q led s : Setup) (man : Man) (from to : ℕ) → MayComeFrom q man to from → b.men ≡ men_before q.men man to from → b.side ≡ other_side q.side
-    → (man.kind ≡ P → b.target ≡ Some to → ⊥) → IsAdmissible b → IsSettled b → Leads b (plain from to) led → SettlesTo led s → s.target ≡ q.target → ComesBy b (plain from to) q
-comes_of b q led s man from to may men side never ok settled leads settles target = record {
-  admissible = ok;
-  settled = settled;
-  led = led;
-  leads = leads;
-  no_capture = λ captures. elim captures [
-    | inl held ↦ not_free b.men to held.man free held.stands
-    | inr pawn ↦ never (ap (λ (x : Man). x.kind) (one_man b.men from man pawn.0.man (stands_before b q man from to men) pawn.0.stands) ∙ pawn.0.pawn) pawn.1
-  ];
-  no_promotion = refl;
-  settles = subst (SettlesTo led) (λ i. record { men = same i; side = same_side i; target = target i }) settles;
-}
-  where
-    back : Stands b.men from man × IsFree b.men to × (q.men ≡ map.insert (map.remove b.men from) to man)
-    back = moved_on q.men b.men man to from may.stands may.free men
-
-    free : IsFree b.men to
-    free = back.1
-
-    mover : leads.man ≡ man
-    mover = one_man b.men from leads.man man leads.stands (stands_before b q man from to men)
-
-    same : s.men ≡ q.men
-    same =
-        settles_men led s settles ∙ ap (λ (x : Setup). x.men) leads.becomes ∙ ap (λ x. men_after b x (plain from to)) mover
-        ∙ ap (λ x. map.insert (map.remove x from) to man) (left_whole b man to never) ∙ sym back.2
-
-    same_side : s.side ≡ q.side
-    same_side = settles_side led s settles ∙ ap (λ (x : Setup). x.side) leads.becomes ∙ ap other_side side ∙ side_twice q.side
-
--- and elsewhere it does not
-pub comes_to : (b q led s : Setup) (m : Move) → Leads b m led → SettlesTo led s → ComesBy b m q → s.target ≡ q.target
-comes_to b q led s m leads settles c =
-    ap (λ (x : Setup). x.target) (settles_once led s q settles (subst (λ x. SettlesTo x q) (leads_to_one b c.led led m c.leads leads) c.settles))
-
--- what stands nowhere stands nowhere when a man is taken off, or before one is put there
-pub removed_free : (men : Placement) (t s : ℕ) → IsFree men s → IsFree (map.remove men t) s
-removed_free men t s free = elim (cases_eq s t) [
-  | inl e ↦ get-remove_same men t s e
-  | inr other ↦ get-remove_other men t s other ∙ free
-]
-
+-- what is free with a man put on a square was free before
 pub unput_free : (men : Placement) (t : ℕ) (man : Man) (s : ℕ) → IsFree (map.insert men t man) s → IsFree men s
 unput_free men t man s free = elim (cases_eq s t) [
   | inl e ↦ not_free (map.insert men t man) s man free (get-insert_same men t man s e)
   | inr other ↦ sym (get-insert_other men t man s other) ∙ free
 ]
-
--- how the man came, on the board without it
-pub record CameOver (left : Placement) (man : Man) (from to : ℕ) : Type 0 where
-  pub within : from < 64
-  pub free : IsFree left from
-  pub goes : ((man.kind ≢ P) × Reaches (IsFree (map.insert left from man)) man from to) ⊎ ((man.kind ≡ P) × Advances (IsFree (map.insert left from man)) man.side from to)
-
-pub came_over : (b : Setup) (m : Move) (q : Setup) (man : Man) (to : ℕ) (left : Placement) → Stands q.men to man → left ≡ map.remove q.men to → m.to ≡ to → ComesBy b m q → CameOver left man m.from to
-came_over b m q man to left stands is same c = record {
-  within = c.admissible.on_board m.from x.man x.stood;
-  free = ap (λ (men : Placement). map.get men m.from) is ∙ removed_free q.men to m.from x.free_from;
-  goes = subst (λ (men : Placement). ((man.kind ≢ P) × Reaches (IsFree men) man m.from to) ⊎ ((man.kind ≡ P) × Advances (IsFree men) man.side m.from to)) men
-      (subst (λ t. ((man.kind ≢ P) × Reaches (IsFree b.men) man m.from t) ⊎ ((man.kind ≡ P) × Advances (IsFree b.men) man.side m.from t)) same
-      (subst (λ (y : Man). ((y.kind ≢ P) × Reaches (IsFree b.men) y m.from m.to) ⊎ ((y.kind ≡ P) × Advances (IsFree b.men) y.side m.from m.to)) same_man x.goes));
-}
-  where
-    x : Came b m q
-    x = came b m q c
-
-    same_man : x.man ≡ man
-    same_man = came_man b m q man x (ap (map.get q.men) same ∙ stands)
-
-    men : b.men ≡ map.insert left m.from man
-    men = x.men ∙ ap (λ y. men_before q.men y m.to m.from) same_man ∙ ap (λ t. map.insert (map.remove q.men t) m.from man) same ∙ ap (λ l. map.insert l m.from man) (sym is)

@@ -1,5 +1,5 @@
 -- Four men leave room for one target that a pawn stands ready to take.
-use Rattle.std.proofs.Common.{◌≡◌, ◌≢◌, ℕ, suc, zero, ◌+◌, ◌-◌, ◌*◌, ◌<◌, ◌≤◌, ◌⊎◌, Option, Some, None, IfSome, cond, arith, refl, sym, ap, ◌∙◌, inl, inr, subst}
+use Rattle.std.proofs.Common.{◌≡◌, ◌≢◌, ℕ, suc, zero, ◌-◌, ◌≤◌, ◌⊎◌, Option, Some, None, IfSome, cond, arith, refl, sym, ap, ◌∙◌, inl, inr, subst}
 use Rattle.std.specs.Option.{is_some}
 use Rattle.std.specs.FinMap as map
 use Rattle.std.specs.Cmp.{nat_cmp_total}
@@ -17,6 +17,12 @@ use Rattle.egt_board.specs.Setup.{Setup, IsAdmissible}
 use Rattle.egt_board.specs.Settled.{IsSettled}
 use Rattle.egt_board.specs.Square.{rank_of}
 use Rattle.egt_board.specs.Target.{IsTarget, target_rank}
+use Rattle.egt_moves.specs.declared.chess_move.Move.{Move}
+use Rattle.egt_unmoves.specs.Targets.{advanced_rank}
+use Rattle.egt_unmoves.specs.Unmoves.{ComesBy, MayComeFrom}
+use Rattle.egt_unmoves.proofs.Came.{Came, came, not_free}
+use Rattle.egt_unmoves.proofs.Sides.{side_twice, sides_differ}
+use Rattle.egt_unmoves.proofs.Went.{elsewhere, stood}
 
 -- a man less
 fewer : (men : Placement) (s : ℕ) (man : Man) → Stands men s man → suc (map.len (map.remove men s)) ≡ map.len men
@@ -63,23 +69,14 @@ kings_differ e = let bad : White ≡ Black = ap (λ (x : Man). x.side) e in cc
 king_no_pawn : (a b : Side) → king_of a ≢ pawn_of b
 king_no_pawn a b e = let bad : K ≡ P = ap (λ (x : Man). x.kind) e in cc
 
--- the pawns that advanced over two squares are two
-advanced_apart : (side : Side) (s t : ℕ) → rank_of s ≡ target_rank side → rank_of t ≡ target_rank side → s ≢ t → ahead (other_side side) s ≢ ahead (other_side side) t
-advanced_apart White s t rs rt other e = other (omega arith)
-advanced_apart Black s t rs rt other e = other (omega arith)
-
-pub one_target : (p : Setup) (s t : ℕ) → IsAdmissible p → IsTarget p.men p.side s → HasPawnBeside p.men p.side (ahead (other_side p.side) s) → IsTarget p.men p.side t → s ≡ t
-one_target p s t ok first ready second = elim (cases_eq s t) [
-  | inl e ↦ e
+-- with a pawn of the side to move, the other side has one pawn at most
+one_pawn : (p : Setup) (x y z : ℕ) → IsAdmissible p → Stands p.men x (pawn_of (other_side p.side)) → Stands p.men y (pawn_of (other_side p.side)) → Stands p.men z (pawn_of p.side) → x ≡ y
+one_pawn p x y z ok c d e = elim (cases_eq x y) [
+  | inl same ↦ same
   | inr other ↦
       let a = ok.kings.white_there.stands in
       let b = ok.kings.black_there.stands in
-      let c = first.advanced in
-      let d = second.advanced in
-      let e = ready.stands in
       let few = ok.few in
-      let theirs = pawn_of (other_side p.side) in
-      let mine = pawn_of p.side in
       let five = five_men p.men _ _ _ _ _ _ _ _ _ _ a b c d e
       (apart p.men _ _ _ _ kings_differ a b)
       (apart p.men _ _ _ _ (king_no_pawn White (other_side p.side)) a c)
@@ -88,44 +85,79 @@ one_target p s t ok first ready second = elim (cases_eq s t) [
       (apart p.men _ _ _ _ (king_no_pawn Black (other_side p.side)) b c)
       (apart p.men _ _ _ _ (king_no_pawn Black (other_side p.side)) b d)
       (apart p.men _ _ _ _ (king_no_pawn Black p.side) b e)
-      (advanced_apart p.side s t first.rank second.rank other)
+      other
       (apart p.men _ _ _ _ (λ same. pawns_differ p.side (sym same)) c e)
       (apart p.men _ _ _ _ (λ same. pawns_differ p.side (sym same)) d e) in
       absurd (omega arith)
 ]
 
 -- the target, if there is one, is one that a pawn stands ready to take
-target_of : (p : Setup) (t : ℕ) → IsAdmissible p → IsSettled p → p.target ≡ Some t → IsTarget p.men p.side t × HasPawnBeside p.men p.side (ahead (other_side p.side) t)
+pub target_of : (p : Setup) (t : ℕ) → IsAdmissible p → IsSettled p → p.target ≡ Some t → IsTarget p.men p.side t × HasPawnBeside p.men p.side (ahead (other_side p.side) t)
 target_of p t ok settled is = (
   subst (λ (o : Option ℕ). IfSome o (IsTarget p.men p.side)) is ok.target,
   subst (λ (o : Option ℕ). IfSome o (λ t. HasPawnBeside p.men p.side (ahead (other_side p.side) t))) is settled,
 )
 
-module _ (men : Placement) (mover : Side) where
-  -- a settled position with these men has this target or none
-  pub this_target : (s : ℕ) → IsTarget men mover s × HasPawnBeside men mover (ahead (other_side mover) s) → (p : Setup) → IsAdmissible p → IsSettled p → p.men ≡ men → p.side ≡ mover
-      → (p.target ≡ None) ⊎ (p.target ≡ Some s)
-  this_target s ready p ok settled e f = by_target p.target refl
-    where
-      here : IsTarget p.men p.side s × HasPawnBeside p.men p.side (ahead (other_side p.side) s)
-      here = subst (λ x. IsTarget x p.side s × HasPawnBeside x p.side (ahead (other_side p.side) s)) (sym e)
-          (subst (λ x. IsTarget men x s × HasPawnBeside men x (ahead (other_side x) s)) (sym f) ready)
+-- a target is ahead of its pawn for the other side
+rank_advanced : (side : Side) (t : ℕ) → rank_of t ≡ target_rank (other_side side) → rank_of (ahead side t) ≡ advanced_rank side
+rank_advanced White t e = omega arith
+rank_advanced Black t e = omega arith
 
-      by_target : (o : Option ℕ) → p.target ≡ o → (p.target ≡ None) ⊎ (p.target ≡ Some s)
+ahead_back : (side : Side) (t : ℕ) → rank_of t ≡ target_rank (other_side side) → ahead (other_side side) (ahead side t) ≡ t
+ahead_back White t e = omega arith
+ahead_back Black t e = omega arith
+
+module _ (b q : Setup) (m : Move) (comes : ComesBy b m q) where
+  x : Came b m q
+  x = came b m q comes
+
+  may : MayComeFrom q x.man m.to m.from
+  may = record { stands = x.stands; theirs = x.mine ∙ x.side; free = x.free_from }
+
+  mover : other_side b.side ≡ q.side
+  mover = ap other_side x.side ∙ side_twice q.side
+
+  not_moved : pawn_of q.side ≢ x.man
+  not_moved e = sides_differ q.side (ap (λ (y : Man). y.side) e ∙ may.theirs)
+
+  -- a pawn of the side to move now has not moved
+  pawn_then : (s : ℕ) → Stands q.men s (pawn_of q.side) → Stands b.men s (pawn_of q.side)
+  pawn_then s stands = ap (λ (men : Placement). map.get men s) x.men ∙ elsewhere q x.man m.to m.from may s
+      (λ e. not_free q.men m.from (pawn_of q.side) x.free_from (subst (λ u. Stands q.men u (pawn_of q.side)) e stands))
+      (λ e. not_moved (one_man q.men m.to (pawn_of q.side) x.man (subst (λ u. Stands q.men u (pawn_of q.side)) e stands) x.stands)) ∙ stands
+
+  pawn_now : (s : ℕ) → Stands b.men s (pawn_of q.side) → Stands q.men s (pawn_of q.side)
+  pawn_now s stands = elim (stood q x.man m.to m.from may s (pawn_of q.side) (ap (λ (men : Placement). map.get men s) (sym x.men) ∙ stands)) [
+    | inl h ↦ absurd (not_moved h.1)
+    | inr h ↦ h.2
+  ]
+
+  -- the pawn that had advanced to be passed
+  advanced : (t : ℕ) → b.target ≡ Some t → Stands q.men (ahead q.side t) (pawn_of q.side) × (rank_of t ≡ target_rank (other_side q.side))
+  advanced t is =
+      let ready = target_of b t comes.admissible comes.settled is in (
+        pawn_now (ahead q.side t) (subst (λ side. Stands b.men (ahead side t) (pawn_of side)) mover ready.0.advanced),
+        ready.0.rank ∙ ap target_rank x.side,
+      )
+
+  -- it is the one pawn of its side
+  pub target_found : (square : ℕ) → Stands q.men square (pawn_of q.side) → (b.target ≡ None) ⊎ (b.target ≡ Some (ahead (other_side q.side) square))
+  target_found square stands = by_target b.target refl
+    where
+      by_target : (o : Option ℕ) → b.target ≡ o → (b.target ≡ None) ⊎ (b.target ≡ Some (ahead (other_side q.side) square))
       by_target None is = inl is
-      by_target (Some t) is = inr (is ∙ ap Some (sym (one_target p s t ok here.0 here.1 (target_of p t ok settled is).0)))
-
-  -- where none of the eight squares is a target, it has none
-  pub no_target : ((f : ℕ) → f < 8 → ¬ (IsTarget men mover (8 * target_rank mover + f) × HasPawnBeside men mover (ahead (other_side mover) (8 * target_rank mover + f))))
-      → (p : Setup) → IsAdmissible p → IsSettled p → p.men ≡ men → p.side ≡ mover → p.target ≡ None
-  no_target none p ok settled e f = by_target p.target refl
-    where
-      by_target : (o : Option ℕ) → p.target ≡ o → p.target ≡ None
-      by_target None is = is
       by_target (Some t) is =
-          let h = target_of p t ok settled is in
-          let there = subst (λ x. IsTarget x mover t × HasPawnBeside x mover (ahead (other_side mover) t)) e
-          (subst (λ x. IsTarget p.men x t × HasPawnBeside p.men x (ahead (other_side x) t)) f h) in
-          let rank = there.0.rank in
-          let same : t ≡ 8 * target_rank mover + (t - 8 * target_rank mover) = omega arith in
-          absurd (none (t - 8 * target_rank mover) (omega arith) (subst (λ x. IsTarget men mover x × HasPawnBeside men mover (ahead (other_side mover) x)) same there))
+          let here = advanced t is in
+          let ready = target_of b t comes.admissible comes.settled is in
+          let same : ahead q.side t ≡ square = one_pawn b (ahead q.side t) square ready.1.square comes.admissible
+          (subst (λ side. Stands b.men (ahead q.side t) (pawn_of side)) (sym mover) (pawn_then (ahead q.side t) here.0))
+          (subst (λ side. Stands b.men square (pawn_of side)) (sym mover) (pawn_then square stands)) ready.1.stands in
+          inr (is ∙ ap Some (sym (ahead_back q.side t here.1) ∙ ap (ahead (other_side q.side)) same))
+
+  -- where no pawn has advanced, there was no target
+  pub no_target_before : ((s : ℕ) → Stands q.men s (pawn_of q.side) → rank_of s ≡ advanced_rank q.side → ⊥) → b.target ≡ None
+  no_target_before none = by_target b.target refl
+    where
+      by_target : (o : Option ℕ) → b.target ≡ o → b.target ≡ None
+      by_target None is = is
+      by_target (Some t) is = let here = advanced t is in absurd (none (ahead q.side t) here.0 (rank_advanced q.side t here.1))

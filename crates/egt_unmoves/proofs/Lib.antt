@@ -1,6 +1,8 @@
 pub mod Sides
 pub mod Came
 pub mod Ways
+pub mod Quiet
+pub mod Went
 pub mod InOrder
 pub mod Pushing
 pub mod Men

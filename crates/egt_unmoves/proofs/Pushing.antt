@@ -5,18 +5,23 @@ use Rattle.std.proofs.lemmas.Bool.{cases_eq, cases_lt, false≢true}
 use Rattle.egt_board.specs.declared.man.Kind.TheVariants.{P}
 use Rattle.egt_board.specs.declared.man.Man.{Man}
 use Rattle.egt_board.specs.declared.square_set.SquareSet.{SquareSet}
-use Rattle.egt_board.specs.Placement.{Placement, one_man}
+use Rattle.egt_board.specs.declared.man.Side.{Side}
+use Rattle.egt_board.specs.Man.{other_side}
+use Rattle.egt_board.specs.Pawn.{ahead, HasPawnBeside}
+use Rattle.egt_board.specs.Placement.{Placement, Stands, one_man}
+use Rattle.egt_board.specs.Target.{IsTarget}
 use Rattle.egt_board.specs.SquareSet.{Has, size_of}
-use Rattle.egt_board.specs.Setup.{Setup, IsAdmissible}
-use Rattle.egt_board.specs.Settled.{IsSettled}
+use Rattle.egt_board.specs.Setup.{Setup}
 use Rattle.egt_moves.specs.declared.chess_move.Move.{Move}
 use Rattle.egt_moves.specs.Chess.{IsPawnOn}
 use Rattle.egt_moves.specs.Legal.{plain}
 use Rattle.egt_moves.specs.Room.{most_goals}
 use Rattle.egt_unmoves.specs.declared.unmove.Unmove.{Unmove}
-use Rattle.egt_unmoves.specs.Unmoves.{ComesBy, TakesBack, MayComeFrom, men_before}
+use Rattle.egt_unmoves.specs.Unmoves.{ComesBy, TakesBack, MayComeFrom, Went, men_before}
 use Rattle.egt_unmoves.specs.Order.{place_of, target_place, ListsBelow}
 use Rattle.egt_unmoves.proofs.Came.{Came, came, before_is}
+use Rattle.egt_unmoves.proofs.FiveMen.{target_of}
+use Rattle.egt_unmoves.proofs.Went.{comes_went}
 use Rattle.egt_unmoves.proofs.InOrder.{squares_within, target_place_small, ListsBelow-push, ListsBelow-skip}
 
 -- a place tells the squares
@@ -50,13 +55,6 @@ told b q man from to flag may c is = (
     same : x.man ≡ man
     same = one_man q.men to x.man man x.stands may.stands
 
--- what its board tells of its target
-pub shown_before : (q : Setup) (man : Man) (from to : ℕ) (board : Placement) (Holds : Option ℕ → Type 0) → MayComeFrom q man to from → board ≡ men_before q.men man to from
-    → ((p : Setup) → IsAdmissible p → IsSettled p → p.men ≡ board → p.side ≡ man.side → Holds p.target) → (b : Setup) → ComesBy b (plain from to) q → Holds b.target
-shown_before q man from to board Holds may is shown b comes =
-    let e = before_is b q man from to b.target may refl comes in
-    shown b comes.admissible comes.settled (ap (λ (x : Setup). x.men) e ∙ sym is) (ap (λ (x : Setup). x.side) e ∙ sym may.theirs)
-
 module _ (q : Setup) (man : Man) (from to : ℕ) (target : Option ℕ) (may : MayComeFrom q man to from) (from_in : from < 64)
     (only : (b : Setup) → ComesBy b (plain from to) q → target_place b.target ≡ target_place target → b.target ≡ target) where
   -- the position of this place is this one
@@ -86,20 +84,35 @@ module _ (q : Setup) (man : Man) (from to : ℕ) (target : Option ℕ) (may : Ma
           let pawn : flag ≡ w.pawn = same_flag flag w.pawn (IsPawnOn b.men from) takes.pawn (subst (λ (x : Setup). IsTrue w.pawn ↔ IsPawnOn x.men from) (sym before) h.2) in
           (λ i. record { before = before i; pawn = pawn i })
 
-  -- or there is none
-  pub not_pushed : (us : List Unmove) → ListsBelow q ((to * 64 + from) * 2 + target_place target) us → ((b : Setup) → b.target ≡ target → ¬ ComesBy b (plain from to) q)
-      → ListsBelow q ((to * 64 + from) * 2 + target_place target + 1) us
-  not_pushed us lists none = ListsBelow-skip q _ _ us (omega arith) lists (λ w n takes low high.
-      let h = place_is w n takes (omega arith) in none w.before h.1 h.0)
-
--- a position before with a target has the one that its board shows
-pub this_one : (q : Setup) (man : Man) (from to t : ℕ) (board : Placement) → MayComeFrom q man to from → board ≡ men_before q.men man to from
-    → ((p : Setup) → IsAdmissible p → IsSettled p → p.men ≡ board → p.side ≡ man.side → (p.target ≡ None) ⊎ (p.target ≡ Some t))
-    → (b : Setup) → ComesBy b (plain from to) q → target_place b.target ≡ 1 → b.target ≡ Some t
-this_one q man from to t board may is shown b comes some = elim (shown_before q man from to board (λ o. (o ≡ None) ⊎ (o ≡ Some t)) may is shown b comes) [
-  | inl none ↦ let e : target_place b.target ≡ 0 = ap target_place none in absurd (omega arith)
-  | inr here ↦ here
+-- a position before with a target has the one that it may have
+pub this_one : (o : Option ℕ) (passed : Option ℕ) (t : ℕ) → (o ≡ None) ⊎ (o ≡ passed) → passed ≡ Some t → target_place o ≡ 1 → o ≡ Some t
+this_one o passed t may is some = elim may [
+  | inl none ↦ let e : target_place o ≡ 0 = ap target_place none in absurd (omega arith)
+  | inr here ↦ here ∙ is
 ]
+
+-- where it may have none, it has none
+pub none_of : (o passed : Option ℕ) → (o ≡ None) ⊎ (o ≡ passed) → passed ≡ None → o ≡ None
+none_of o passed may is = elim may [ inl none ↦ none | inr here ↦ here ∙ is ]
+
+-- where the man did not go so, no place counts
+pub not_pushed : (q : Setup) (man : Man) (from to : ℕ) (us : List Unmove) → from < 64 → Stands q.men to man → (¬ Went q man to from) → ListsBelow q ((to * 64 + from) * 2) us → ListsBelow q ((to * 64 + from + 1) * 2) us
+not_pushed q man from to us from_in stands none lists = ListsBelow-skip q _ _ us (omega arith) lists (λ w n takes low high.
+    let within = squares_within w.before n q takes.comes in
+    let n_in = within.0 in
+    let few = target_place_small w.before.target in
+    let here = placed w n q from to (target_place w.before.target) from_in few takes (omega arith) in
+    none (comes_went w.before q (plain from to) man stands (subst (λ x. ComesBy w.before x q) here.0 takes.comes)))
+
+-- where a pawn does not stand ready to take it, no place with a target counts
+pub not_ready : (b q : Setup) (man : Man) (from to t : ℕ) (board : Placement) (side : Side) → MayComeFrom q man to from → board ≡ men_before q.men man to from → side ≡ man.side
+    → (¬ (IsTarget board side t × HasPawnBeside board side (ahead (other_side side) t))) → ComesBy b (plain from to) q → b.target ≡ Some t → ⊥
+not_ready b q man from to t board side may is same none comes e =
+    let before = before_is b q man from to (Some t) may e comes in
+    let men : b.men ≡ board = ap (λ (x : Setup). x.men) before ∙ sym is in
+    let mover : b.side ≡ side = ap (λ (x : Setup). x.side) before ∙ sym may.theirs ∙ sym same in
+    none (subst (λ x. IsTarget x side t × HasPawnBeside x side (ahead (other_side side) t)) men
+    (subst (λ x. IsTarget b.men x t × HasPawnBeside b.men x (ahead (other_side x) t)) mover (target_of b t comes.admissible comes.settled e)))
 
 -- where no target is possible, only the place without one counts
 pub no_target : (q : Setup) (man : Man) (from to : ℕ) (us : List Unmove) → from < 64 → ListsBelow q ((to * 64 + from) * 2 + 1) us

@@ -3,7 +3,6 @@ use Rattle.std.proofs.Common.{◌≡◌, ℕ, ◌+◌, ◌-◌, ◌<◌, ◌≤�
 use Rattle.std.specs.Option.{is_some}
 use Rattle.std.specs.FinMap as map
 use Rattle.std.specs.Cmp.{nat_cmp_total}
-use Rattle.std.specs.Ordering.{nat_cmp}
 use Rattle.egt_board.specs.declared.man.Man.{Man}
 use Rattle.egt_board.specs.Placement.{Placement, Stands}
 use Rattle.egt_unmoves.specs.Unmoves.{men_before}
@@ -14,16 +13,6 @@ few_left men man to stands few =
     let gone : map.len (map.remove men to) ≡ map.len men - 1 =
     map.len-remove nat_cmp_total men to ∙ ap (λ (o : Option Man). cond (is_some o) (map.len men - 1) (map.len men)) stands in
     omega arith
-
-pub len_one : (s : ℕ) (man : Man) → map.len (map.insert {R = nat_cmp} map.empty s man) < 4
-len_one s man = by_key (map.contains_key {X = Man} {R = nat_cmp} map.empty s) (map.len-insert nat_cmp_total map.empty s man)
-  where
-    by_key : (b : Bool) → map.len (map.insert {R = nat_cmp} map.empty s man) ≡ cond b (map.len {K = ℕ} {X = Man} {R = nat_cmp} map.empty) (map.len {K = ℕ} {X = Man} {R = nat_cmp} map.empty + 1) → map.len (map.insert {R = nat_cmp} map.empty s man) < 4
-    by_key true e = let none = map.len-empty nat_cmp Man in omega arith
-    by_key false e = let none = map.len-empty nat_cmp Man in omega arith
-
-pub len_none : map.len {K = ℕ} {X = Man} {R = nat_cmp} map.empty < 4
-len_none = let none = map.len-empty nat_cmp Man in omega arith
 
 pub few_before : (men : Placement) (man : Man) (to from : ℕ) → Stands men to man → map.len men ≤ 4 → map.len (men_before men man to from) ≤ 4
 few_before men man to from stands few = by_key (is_some (map.get left from)) (map.len-insert nat_cmp_total left from man)

@@ -13,3 +13,7 @@ side_cases White White = inl refl
 side_cases White Black = inr refl
 side_cases Black White = inr refl
 side_cases Black Black = inl refl
+
+pub sides_differ : (side : Side) → side ≡ other_side side → ⊥
+sides_differ White e = cc
+sides_differ Black e = cc

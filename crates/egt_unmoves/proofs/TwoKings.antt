@@ -10,13 +10,10 @@ use Rattle.egt_board.specs.declared.man.Side.TheVariants.{White, Black}
 use Rattle.egt_board.specs.declared.man.Kind.TheVariants.{P, K}
 use Rattle.egt_board.specs.declared.man.Man.{Man}
 use Rattle.egt_board.specs.Attack.{king_of, IsInCheck}
+use Rattle.egt_board.specs.Corners.{corners}
 use Rattle.egt_board.specs.Gait.{Reaches}
 use Rattle.egt_board.specs.Placement.{Placement, Stands, IsFree, get-insert_same, get-insert_other}
 use Rattle.egt_board.specs.Setup.{IsAdmissible, IsKingOn}
-
--- white's king on a1 and black's on h8
-abbrev pub corners : Placement
-corners = map.insert (map.insert map.empty 0 (king_of White)) 63 (king_of Black)
 
 no_more : (m : Placement) (s : ℕ) (man : Man) → map.len (map.insert m s man) ≤ map.len m + 1
 no_more m s man = by_key (is_some (map.get m s)) (map.len-insert nat_cmp_total m s man)
@@ -50,13 +47,13 @@ two_men s man stands = elim (cases_eq s 63) [
   ]
 ]
 
-white_there : IsKingOn corners White 0
+pub white_there : IsKingOn corners White 0
 white_there = record { stands = on_white; only = only }
   where
     only : (t : ℕ) → Stands corners t (king_of White) → t ≡ 0
     only t stands = elim (two_men t (king_of White) stands) [ inl w ↦ w.0 | inr b ↦ absurd (kings_differ b.1) ]
 
-black_there : IsKingOn corners Black 63
+pub black_there : IsKingOn corners Black 63
 black_there = record { stands = on_black; only = only }
   where
     only : (t : ℕ) → Stands corners t (king_of Black) → t ≡ 63
@@ -109,10 +106,3 @@ corners-admissible = record {
 
     no_pawn : (man : Man) (side : Side) → man ≡ king_of side → man.kind ≡ P → ⊥
     no_pawn man side e pawn = let bad : K ≡ P = sym (ap (λ (x : Man). x.kind) e) ∙ pawn in cc
-
--- whatever the squares are called
-pub two_kings-admissible : (a b : ℕ) (v w : Man) → a ≡ 0 → b ≡ 63 → v ≡ king_of White → w ≡ king_of Black
-    → IsAdmissible (record { men = map.insert (map.insert map.empty a v) b w; side = White; target = None })
-two_kings-admissible a b v w on_a on_b is_white is_black =
-    subst (λ (men : Placement). IsAdmissible (record { men = men; side = White; target = None }))
-    (λ i. map.insert (map.insert map.empty (sym on_a i) (sym is_white i)) (sym on_b i) (sym is_black i)) corners-admissible

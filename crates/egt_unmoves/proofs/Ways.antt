@@ -1,6 +1,9 @@
 -- The ways back.
-use Rattle.std.proofs.Common.{◌≡◌, ◌≢◌, ℕ, zero, suc, ◌+◌, ◌-◌, ◌*◌, ◌<◌, ◌≤◌, ◌⊎◌, ◌++◌, arith, refl, sym, ap, ◌∙◌, inl, inr, if◌then◌else◌, ◌==◌, Bool, true, false}
+use Rattle.std.proofs.Common.{◌≡◌, ◌↔◌, ℕ, zero, suc, ◌+◌, ◌-◌, ◌*◌, ◌<◌, ◌≤◌, ◌⊎◌, ◌++◌, arith, refl, sym, ap, ◌∙◌, inl, inr, if◌then◌else◌, ◌==◌, Bool, true, false, subst, Some, None, ◌&&◌, ◌||◌, ◌/◌}
 use Rattle.std.proofs.Math.Nat.{add-mul}
+use Rattle.std.specs.FinMap as map
+use Rattle.std.proofs.lemmas.Bool.{false≢true}
+use Rattle.std.proofs.lemmas.Bool.Decides.{eqb_tells}
 use Rattle.egt_board.specs.declared.man.Side.{Side}
 use Rattle.egt_board.specs.declared.man.Side.TheVariants.{White, Black}
 use Rattle.egt_board.specs.declared.man.Kind.{Kind}
@@ -13,8 +16,14 @@ use Rattle.egt_board.specs.Man.{other_side}
 use Rattle.egt_board.specs.Square.{file_of, rank_of}
 use Rattle.egt_board.specs.Coordinate.{Further}
 use Rattle.egt_board.specs.Step.{Away}
-use Rattle.egt_board.specs.Gait.{OneOf, Rides, Reaches, straight_steps, diagonal_steps, knight_steps, steps_of, farthest}
-use Rattle.egt_board.specs.Pawn.{ahead, forward, home_rank, farthest_advance, Advances}
+use Rattle.egt_board.specs.Gait.{OneOf, Rides, Reaches, straight_steps, diagonal_steps, knight_steps, pawn_steps, steps_of, farthest}
+use Rattle.egt_board.specs.Pawn.{pawn_of, ahead, forward, home_rank, farthest_advance, Advances}
+use Rattle.egt_board.specs.Placement.{Placement, IsFree}
+use Rattle.egt_moves.specs.Legal.{passed, is_two_ranks}
+use Rattle.egt_moves.specs.Promotion.{is_pawn}
+use Rattle.egt_unmoves.specs.Unmoves.{facing}
+use Rattle.egt_unmoves.proofs.Came.{unput_free}
+use Rattle.egt_unmoves.proofs.Sides.{side_twice}
 
 abbrev opposite : Way → Way
 opposite Up = Down
@@ -94,17 +103,48 @@ module _ (A B : Step → Type 0) (turn : (d : Step) → A d → B (back d)) wher
   knight_back (inr (inr (inr (inr (inr (inr (inr (inl r)))))))) = inr (inr (inr (inr (inl (turn _ r)))))
   knight_back (inr (inr (inr (inr (inr (inr (inr (inr none)))))))) = absurd none
 
--- a piece reaches the squares from which it is reached
-pub Reaches-back : (F G : ℕ → Type 0) (man : Man) (s t : ℕ) → man.kind ≢ P → ((u : ℕ) → F u → G u) → s < 64 → Reaches F man s t → Reaches G man t s
-Reaches-back F G man s t piece free s_in = by_kind man.kind piece
+pawn_back : (X Y : Step → Type 0) → ((d : Step) → X d → Y (back d)) → (side : Side) → OneOf X (pawn_steps side) → OneOf Y (pawn_steps (other_side side))
+pawn_back X Y turn White (inl r) = inr (inl (turn _ r))
+pawn_back X Y turn White (inr (inl r)) = inl (turn _ r)
+pawn_back X Y turn White (inr (inr none)) = absurd none
+pawn_back X Y turn Black (inl r) = inr (inl (turn _ r))
+pawn_back X Y turn Black (inr (inl r)) = inl (turn _ r)
+pawn_back X Y turn Black (inr (inr none)) = absurd none
+
+-- a man reaches the squares from which it is reached, and a pawn those from which an enemy pawn reaches it
+pub Reaches-back : (F G : ℕ → Type 0) (man : Man) (s t : ℕ) → ((u : ℕ) → F u → G u) → s < 64 → Reaches F man s t → Reaches G (facing man) t s
+Reaches-back F G man s t free s_in = by_kind man.kind
   where
-    by_kind : (kind : Kind) → kind ≢ P → OneOf (Rides F (farthest kind) s t) (steps_of man.side kind) → OneOf (Rides G (farthest kind) t s) (steps_of man.side kind)
-    by_kind Q other = royal_back (Rides F 7 s t) (Rides G 7 t s) (λ d. Rides-back F G 7 s t d free s_in)
-    by_kind R other = straight_back (Rides F 7 s t) (Rides G 7 t s) (λ d. Rides-back F G 7 s t d free s_in)
-    by_kind B other = diagonal_back (Rides F 7 s t) (Rides G 7 t s) (λ d. Rides-back F G 7 s t d free s_in)
-    by_kind N other = knight_back (Rides F 1 s t) (Rides G 1 t s) (λ d. Rides-back F G 1 s t d free s_in)
-    by_kind P other = absurd (other refl)
-    by_kind K other = royal_back (Rides F 1 s t) (Rides G 1 t s) (λ d. Rides-back F G 1 s t d free s_in)
+    by_kind : (kind : Kind) → OneOf (Rides F (farthest kind) s t) (steps_of man.side kind)
+        → Reaches G (facing (record { side = man.side; kind = kind })) t s
+    by_kind Q = royal_back (Rides F 7 s t) (Rides G 7 t s) (λ d. Rides-back F G 7 s t d free s_in)
+    by_kind R = straight_back (Rides F 7 s t) (Rides G 7 t s) (λ d. Rides-back F G 7 s t d free s_in)
+    by_kind B = diagonal_back (Rides F 7 s t) (Rides G 7 t s) (λ d. Rides-back F G 7 s t d free s_in)
+    by_kind N = knight_back (Rides F 1 s t) (Rides G 1 t s) (λ d. Rides-back F G 1 s t d free s_in)
+    by_kind P = pawn_back (Rides F 1 s t) (Rides G 1 t s) (λ d. Rides-back F G 1 s t d free s_in) man.side
+    by_kind K = royal_back (Rides F 1 s t) (Rides G 1 t s) (λ d. Rides-back F G 1 s t d free s_in)
+
+pub facing_twice : (man : Man) → facing (facing man) ≡ man
+facing_twice man = by_kind man.kind
+  where
+    by_kind : (kind : Kind) → facing (facing (record { side = man.side; kind = kind })) ≡ record { side = man.side; kind = kind }
+    by_kind Q = refl
+    by_kind R = refl
+    by_kind B = refl
+    by_kind N = refl
+    by_kind P = ap pawn_of (side_twice man.side)
+    by_kind K = refl
+
+-- the squares from which a man attacks one are those that the man facing it attacks from there
+pub attacks_back : (left : Placement) (man : Man) (s square : ℕ) → ((men : Placement) (man occupant : Man) (s t : ℕ) → Reaches (IsFree (map.insert men t occupant)) man s t ↔ Reaches (IsFree men) man s t)
+    → s < 64 → square < 64 → Reaches (IsFree left) (facing man) square s ↔ Reaches (IsFree (map.insert left s man)) man s square
+attacks_back left man s square law s_in square_in = (
+  λ r.
+      let there = (law left (facing man) man square s).1 r in
+      let F : ℕ → Type 0 = IsFree (map.insert left s man) in
+      subst (λ x. Reaches F x s square) (facing_twice man) (Reaches-back F F (facing man) square s (λ u free. free) square_in there),
+  λ r. Reaches-back (IsFree (map.insert left s man)) (IsFree left) man s square (unput_free left s man) s_in r,
+)
 
 -- a pawn steps one square at least
 some_advance : (side : Side) (s : ℕ) → 1 ≤ farthest_advance side s
@@ -141,5 +181,51 @@ Advances-back F G side s t s_in low free a = by_count side a.rides.count a.rides
         inr (one_back G Black s (t - 8) free (record { on_board = s_in; across = omega arith; along = omega arith }))
     by_count Black (suc (suc zero)) some few away = let x = away.across in let y = away.along in
         inr (one_back G White s (t + 8) free (record { on_board = s_in; across = omega arith; along = omega arith }))
+    by_count side zero some few away = absurd (omega arith)
+    by_count side (suc (suc (suc n))) some few away = absurd (omega arith)
+
+-- a pawn that advances comes from the square behind its goal, or over it
+pub passed_over : (F : ℕ → Type 0) (side : Side) (s t : ℕ) → s < 64 → Advances F side s t → (s ≡ ahead (other_side side) t) ⊎ F (ahead (other_side side) t)
+passed_over F side s t s_in a = by_count side a.rides.count a.rides.moves (omega (arith, a.rides.within, few_advance side s)) a.rides.away a.rides.clear
+  where
+    by_count : (side : Side) (n : ℕ) → 0 < n → n ≤ 2 → Away (forward side) n s t → ((k u : ℕ) → 0 < k → k < n → Away (forward side) k s u → F u)
+        → (s ≡ ahead (other_side side) t) ⊎ F (ahead (other_side side) t)
+    by_count White (suc zero) some few away clear = let x = away.across in let y = away.along in inl (omega arith)
+    by_count Black (suc zero) some few away clear = let x = away.across in let y = away.along in inl (omega arith)
+    by_count White (suc (suc zero)) some few away clear = let x = away.across in let y = away.along in let z = away.on_board in
+        inr (clear 1 (t - 8) (omega arith) (omega arith) (record { on_board = omega arith; across = omega arith; along = omega arith }))
+    by_count Black (suc (suc zero)) some few away clear = let x = away.across in let y = away.along in let z = away.on_board in
+        inr (clear 1 (t + 8) (omega arith) (omega arith) (record { on_board = omega arith; across = omega arith; along = omega arith }))
+    by_count side zero some few away clear = absurd (omega arith)
+    by_count side (suc (suc (suc n))) some few away clear = absurd (omega arith)
+
+if_some : (b : Bool) (x t : ℕ) → (if b then Some x else None) ≡ Some t → (b ≡ true) × (x ≡ t)
+if_some true x t e = (refl, cc)
+if_some false x t e = absurd (cc)
+
+two_ranks : (s t : ℕ) → is_two_ranks s t ≡ true → (rank_of t ≡ rank_of s + 2) ⊎ (rank_of s ≡ rank_of t + 2)
+two_ranks s t e = elim (eqb_tells (rank_of t) (rank_of s + 2)) [
+  | inl up ↦ inl up.1
+  | inr not_up ↦ elim (eqb_tells (rank_of s) (rank_of t + 2)) [
+    | inl down ↦ inr down.1
+    | inr not_down ↦ absurd (false≢true (sym (ap (λ b. b || (rank_of s == rank_of t + 2)) not_up.0 ∙ not_down.0) ∙ e))
+  ]
+]
+
+-- the square that a pawn passes is the one behind its goal
+pub ahead_passed : (F : ℕ → Type 0) (man : Man) (s t u : ℕ) → man.kind ≡ P → Advances F man.side s t → passed man s t ≡ Some u → ahead man.side u ≡ t
+ahead_passed F man s t u pawn a e = by_count man.side a.rides.count a.rides.moves (omega (arith, a.rides.within, few_advance man.side s)) a.rides.away
+  where
+    found : (is_two_ranks s t ≡ true) × ((s + t) / 2 ≡ u)
+    found = if_some (is_two_ranks s t) ((s + t) / 2) u (ap (λ k. if is_pawn k && is_two_ranks s t then Some ((s + t) / 2) else None) (sym pawn) ∙ e)
+
+    apart : (rank_of t ≡ rank_of s + 2) ⊎ (rank_of s ≡ rank_of t + 2)
+    apart = two_ranks s t found.0
+
+    by_count : (side : Side) (n : ℕ) → 0 < n → n ≤ 2 → Away (forward side) n s t → ahead side u ≡ t
+    by_count White (suc zero) some few away = let y = away.along in elim apart [ inl up ↦ omega arith | inr down ↦ omega arith ]
+    by_count Black (suc zero) some few away = let y = away.along in elim apart [ inl up ↦ omega arith | inr down ↦ omega arith ]
+    by_count White (suc (suc zero)) some few away = let x = away.across in let y = away.along in let z = found.1 in omega arith
+    by_count Black (suc (suc zero)) some few away = let x = away.across in let y = away.along in let z = found.1 in omega arith
     by_count side zero some few away = absurd (omega arith)
     by_count side (suc (suc (suc n))) some few away = absurd (omega arith)

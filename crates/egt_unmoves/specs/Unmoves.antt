@@ -1,16 +1,21 @@
 -- Moves backwards: which positions a legal move, neither a capture nor a promotion, leads from (FIDE Laws of Chess 2023,
 -- articles 3.1 to 3.9).
-use Rattle.std.specs.Prelude.{◌≡◌, ℕ, ◌↔◌, None, IsTrue}
+use Rattle.std.specs.Prelude.{◌≡◌, ◌≢◌, ℕ, ◌<◌, ◌↔◌, ◌⊎◌, if◌then◌else◌, Option, None, IsTrue}
 use Rattle.std.specs.FinMap as map
+use Rattle.egt_board.specs.declared.man.Kind.TheVariants.{P}
 use Rattle.egt_board.specs.declared.man.Man.{Man}
+use Rattle.egt_board.specs.Attack.{IsInCheck}
+use Rattle.egt_board.specs.Gait.{Reaches}
 use Rattle.egt_board.specs.Man.{other_side}
+use Rattle.egt_board.specs.Pawn.{pawn_of, MayStand, Advances}
 use Rattle.egt_board.specs.Placement.{Placement, Stands, IsFree}
 use Rattle.egt_board.specs.Setup.{Setup, IsAdmissible}
 use Rattle.egt_board.specs.Settled.{IsSettled, SettlesTo}
 use Rattle.egt_moves.specs.declared.chess_move.Move.{Move}
 use Rattle.egt_moves.specs.Chess.{IsPawnOn}
 use Rattle.egt_moves.specs.Exchange.{Captures}
-use Rattle.egt_moves.specs.Legal.{Leads}
+use Rattle.egt_moves.specs.Legal.{Leads, passed}
+use Rattle.egt_moves.specs.Promotion.{is_pawn}
 use Rattle.egt_unmoves.specs.declared.unmove.Unmove.{Unmove}
 
 -- the legal move m, neither a capture nor a promotion, leads from the settled position b to one that settles to q
@@ -41,3 +46,35 @@ pub record MayComeFrom (q : Setup) (man : Man) (to from : ℕ) : Type 0 where
   pub stands : Stands q.men to man
   pub theirs : man.side ≡ other_side q.side
   pub free : IsFree q.men from
+
+-- the setup before, with this target
+abbrev pub setup_before : Setup → Man → ℕ → ℕ → Option ℕ → Setup
+setup_before q man to from target = record { men = men_before q.men man to from; side = other_side q.side; target = target }
+
+-- what the move led to
+abbrev pub led_to : Setup → Man → ℕ → ℕ → Setup
+led_to q man to from = record { men = q.men; side = q.side; target = passed man from to }
+
+-- a piece or the king reaches the square past free squares, or a pawn advances to it
+abbrev pub GoesOver : Placement → Man → ℕ → ℕ → Type 0
+GoesOver men man from to = ((man.kind ≢ P) × Reaches (IsFree men) man from to) ⊎ ((man.kind ≡ P) × Advances (IsFree men) man.side from to)
+
+-- the man went from a square to this one, where the side that waited then is not in check, and what that led to settles
+-- to this
+pub record Went (q : Setup) (man : Man) (to from : ℕ) : Type 0 where
+  pub within : from < 64
+  pub free : IsFree q.men from
+  pub fits : MayStand man from
+  pub goes : GoesOver (men_before q.men man to from) man from to
+  pub quiet : ¬ IsInCheck (men_before q.men man to from) q.side
+  pub settles : SettlesTo (led_to q man to from) q
+
+-- the man may have gone so, if it is a pawn that advances, or a piece or king and there is no target
+pub record MayHaveLeft (q : Setup) (man : Man) (to from : ℕ) : Type 0 where
+  pub free : IsFree q.men from
+  pub quiet : ¬ IsInCheck (men_before q.men man to from) q.side
+  pub reaches : man.kind ≢ P → Reaches (IsFree (men_before q.men man to from)) man from to
+
+-- the man that attacks the squares from which this one attacks its own
+abbrev pub facing : Man → Man
+facing man = if is_pawn man.kind then pawn_of (other_side man.side) else man

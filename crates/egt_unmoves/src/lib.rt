@@ -1,7 +1,6 @@
 //! Moves backwards: the positions from which a legal move that neither captures nor promotes leads to a position.
 #![tactic(auto)]
 
-pub mod admitting;
 pub mod laws;
 pub mod listing;
 pub mod sources;

@@ -1,5 +1,5 @@
 //! The list of moves backwards.
-ghost use Rattle.std.specs.Prelude.{◌≡◌, ◌+◌, ◌*◌, ◌<◌, ◌≤◌, ◌↔◌};
+ghost use Rattle.std.specs.Prelude.{◌≡◌, ◌+◌, ◌*◌, ◌<◌, ◌≤◌, ◌↔◌, ◌⊎◌, None};
 ghost use Rattle.std.specs.FinMap as map;
 ghost use Rattle.std.specs.List.{Contains};
 ghost use Rattle.arrayvec.specs.ArrayVec.{array_vec_len};
@@ -7,23 +7,24 @@ ghost use Rattle.egt_board.specs.Placement.{Stands};
 ghost use Rattle.egt_board.specs.Man.{other_side};
 ghost use Rattle.egt_board.specs.Setup.{Setup};
 ghost use Rattle.egt_board.specs.Settled.{IsSettled};
+ghost use Rattle.egt_moves.specs.declared.chess_move.Move.{Move};
 ghost use Rattle.egt_moves.specs.Legal.{plain};
 ghost use Rattle.egt_moves.specs.Room.{most_goals};
-ghost use Rattle.egt_unmoves.specs.Unmoves.{ComesBy, MayComeFrom, IsUnmove};
+ghost use Rattle.egt_unmoves.specs.Unmoves.{ComesBy, MayComeFrom, MayHaveLeft, IsUnmove, men_before, setup_before};
 ghost use Rattle.egt_unmoves.specs.Order.{IsInOrder, ListsBelow, target_place};
 ghost use Rattle.egt_unmoves.specs.declared.unmove.Unmove.{Unmove};
 
 use crate::sources::sources;
-use crate::taking_back::{is_pawn, put_back, take_back};
-use crate::targets::settled_target;
+use crate::taking_back::{before, is_pawn, went};
+use crate::targets::{is_settled_target, target_before};
 use crate::unmove::Unmove;
 use arrayvec::ArrayVec;
 use egt_board::{Board, Man, Position, Square};
 
-/// Adds the position with this target from which the man came, if there is one.
+/// Adds the position with this target from which the man came. On the board the man is back on `from`.
 fn push_before(
     position: &Position,
-    left: &Board,
+    board: &Board,
     man: Man,
     from: Square,
     to: Square,
@@ -31,19 +32,19 @@ fn push_before(
     list: &mut ArrayVec<Unmove, 128>,
 )
     requires may { MayComeFrom position.now man to from }
-    requires left { left.now ≡ map.remove position.now.men to }
+    requires board { board.now ≡ men_before position.now.men man to from }
+    requires comes { ComesBy (setup_before position.now man to from target) (plain from to) position.now }
     requires only { (b : Setup) → ComesBy b (plain from to) position.now → target_place b.target ≡ target_place target → b.target ≡ target }
     requires room { array_vec_len list.old < 128 }
     requires listed { ListsBelow position.now ((to * 64 + from) * 2 + target_place target) list.old.items }
     ensures listed { ListsBelow position.now ((to * 64 + from) * 2 + target_place target + 1) list.new.items }
-    ensures few { array_vec_len list.new ≤ array_vec_len list.old + 1 }
+    ensures few { array_vec_len list.new ≡ array_vec_len list.old + 1 }
 {
-    if let Some(before) = take_back(position, left, man, from, to, target) {
-        list.push(Unmove {
-            before,
-            pawn: is_pawn(man),
-        });
-    }
+    let before = before(position, board, man, from, to, target);
+    list.push(Unmove {
+        before,
+        pawn: is_pawn(man),
+    });
 }
 
 /// Adds the positions from which the man came from `from`: without a target, and with the one that it may have had.
@@ -53,27 +54,42 @@ fn push_from(
     man: Man,
     from: Square,
     to: Square,
+    target: &Option<Square>,
     list: &mut ArrayVec<Unmove, 128>,
 )
     requires may { MayComeFrom position.now man to from }
+    requires source { MayHaveLeft position.now man to from }
     requires left { left.now ≡ map.remove position.now.men to }
+    requires target { (b : Setup) (m : Move) → ComesBy b m position.now → (b.target ≡ None) ⊎ (b.target ≡ target.now) }
     requires room { array_vec_len list.old + 2 ≤ 128 }
     requires listed { ListsBelow position.now ((to * 64 + from) * 2) list.old.items }
     ensures listed { ListsBelow position.now ((to * 64 + from + 1) * 2) list.new.items }
     ensures few { array_vec_len list.new ≤ array_vec_len list.old + 2 }
 {
-    push_before(position, left, man, from, to, None, list);
     let _side = position.side();
-    let board = put_back(left, man, from);
-    if let Some(target) = settled_target(&board, man.side) {
-        push_before(position, left, man, from, to, Some(target), list);
+    let board = left.with_man(from, man);
+    if !went(position, &board, man, from, to) {
+        return;
+    }
+    push_before(position, &board, man, from, to, None, list);
+    if let Some(passed) = target {
+        if is_settled_target(&board, man.side, *passed) {
+            push_before(position, &board, man, from, to, Some(*passed), list);
+        }
     }
 }
 
 /// Adds the positions from which the man on `to` came, in order of its square before.
-fn push_to(position: &Position, man: Man, to: Square, list: &mut ArrayVec<Unmove, 128>)
+fn push_to(
+    position: &Position,
+    man: Man,
+    to: Square,
+    target: &Option<Square>,
+    list: &mut ArrayVec<Unmove, 128>,
+)
     requires stands { Stands position.now.men to man }
     requires theirs { man.side ≡ other_side position.now.side }
+    requires target { (b : Setup) (m : Move) → ComesBy b m position.now → (b.target ≡ None) ⊎ (b.target ≡ target.now) }
     requires room { array_vec_len list.old + 2 * most_goals man.kind ≤ 128 }
     requires listed { ListsBelow position.now (to * 128) list.old.items }
     ensures listed { ListsBelow position.now ((to + 1) * 128) list.new.items }
@@ -83,7 +99,7 @@ fn push_to(position: &Position, man: Man, to: Square, list: &mut ArrayVec<Unmove
     left.clear(to);
     let mut rest = sources(position, &left, man, to);
     while let Some(from) = rest.pop_first() {
-        push_from(position, &left, man, from, to, list);
+        push_from(position, &left, man, from, to, target, list);
     }
 }
 
@@ -98,11 +114,12 @@ pub fn unmoves(position: &Position) -> ArrayVec<Unmove, 128>
     ensures ordered { IsInOrder position.now result.items }
 {
     let waiting = position.side().other();
+    let target = target_before(position);
     let mut list = ArrayVec::new();
     let mut rest = position.of(waiting);
     while let Some(to) = rest.pop_first() {
         let man = position.at(to).unwrap();
-        push_to(position, man, to, &mut list);
+        push_to(position, man, to, &target, &mut list);
     }
     list
 }

@@ -1,27 +1,38 @@
 //! Where a man may have come from.
-ghost use Rattle.std.specs.Prelude.{◌≡◌, ◌≢◌, ℕ, ◌<◌, ◌≤◌};
+ghost use Rattle.std.specs.Prelude.{◌≡◌, ℕ, ◌<◌, ◌≤◌, ◌↔◌};
 ghost use Rattle.std.specs.FinMap as map;
+ghost use Rattle.egt_board.specs.Attack.{IsInCheck};
+ghost use Rattle.egt_board.specs.Man.{other_side};
 ghost use Rattle.egt_board.specs.Placement.{Stands, IsFree};
 ghost use Rattle.egt_board.specs.Gait.{Reaches};
 ghost use Rattle.egt_board.specs.Pawn.{Advances};
-ghost use Rattle.egt_board.specs.Setup.{Setup};
+ghost use Rattle.egt_board.specs.Setup.{IsKingOn};
 ghost use Rattle.egt_board.specs.Square.{rank_of};
 ghost use Rattle.egt_board.specs.SquareSet.{Has, size_of};
-ghost use Rattle.egt_board.specs.declared.man.Kind.TheVariants.{P};
 ghost use Rattle.egt_moves.specs.Room.{most_goals};
-ghost use Rattle.egt_moves.specs.declared.chess_move.Move.{Move};
-ghost use Rattle.egt_unmoves.specs.Unmoves.{ComesBy};
+ghost use Rattle.egt_unmoves.specs.Unmoves.{MayHaveLeft, Went, facing};
 
 use crate::taking_back::is_pawn;
-use egt_board::{Board, Man, Position, Square, SquareSet};
+use egt_board::safety::reach_passes_over_its_end;
+use egt_board::{Board, Kind, Man, Position, Square, SquareSet};
 
-/// The squares from which a piece or king may have come to `to`: those that it reaches from there.
-fn piece_sources(left: &Board, man: Man, to: Square) -> SquareSet
-    requires { man.kind ≢ P }
-    ensures sources { (s : ℕ) → s < 64 → Reaches (IsFree (map.insert left.now s man)) man s to → Has result s }
+/// The man that attacks the squares from which this one attacks its own: of a pawn the enemy's, of another man the same.
+fn facing(man: Man) -> Man
+    ensures { result ≡ facing man }
+{
+    match man.kind {
+        Kind::P => man.side.other().pawn(),
+        _ => man,
+    }
+}
+
+/// The squares from which the man, put there, attacks the square.
+fn attackers(left: &Board, man: Man, square: Square) -> SquareSet
+    ensures attackers { (s : ℕ) → s < 64 → Has result s ↔ Reaches (IsFree (map.insert left.now s man)) man s square }
     ensures few { size_of result ≤ most_goals man.kind }
 {
-    left.reach(man, to)
+    reach_passes_over_its_end();
+    left.reach(facing(man), square)
 }
 
 /// The squares from which a pawn may have advanced to `to`, and perhaps others.
@@ -36,20 +47,35 @@ fn pawn_sources(left: &Board, man: Man, to: Square) -> SquareSet
     left.advances(back, to).union(left.advances(back, behind))
 }
 
-/// The free squares from which the man on `to`, one of the side that waits, may have come there, and perhaps others.
-/// The board is the position's without the man.
+/// The free squares on which the man, one of the side that waits, leaves the king of the side to move unattacked, and
+/// perhaps squares that are not free. The board is the position's without the man.
+fn quiet(position: &Position, left: &Board, man: Man) -> SquareSet
+    requires theirs { man.side ≡ other_side position.now.side }
+    requires king { (k : ℕ) → IsKingOn position.now.men position.now.side k → IsKingOn left.now position.now.side k }
+    ensures { (s : ℕ) → s < 64 → IsFree left.now s → Has result s ↔ ¬ IsInCheck (map.insert left.now s man) position.now.side }
+{
+    let king = position.king(position.side());
+    left.shelter(king, man.side)
+        .without(attackers(left, man, king))
+}
+
+/// The squares that the man on `to`, one of the side that waits, may have left. The board is the position's without
+/// the man.
 pub(crate) fn sources(position: &Position, left: &Board, man: Man, to: Square) -> SquareSet
     requires stands { Stands position.now.men to man }
+    requires theirs { man.side ≡ other_side position.now.side }
     requires left { left.now ≡ map.remove position.now.men to }
-    ensures sources { (b : Setup) (m : Move) → m.to ≡ to → ComesBy b m position.now → Has result m.from }
-    ensures free { (s : ℕ) → Has result s → IsFree position.now.men s }
+    ensures complete { (s : ℕ) → Went position.now man to s → Has result s }
+    ensures sound { (s : ℕ) → s < 64 → Has result s → MayHaveLeft position.now man to s }
     ensures few { size_of result ≤ most_goals man.kind }
 {
     let _whole = position.side();
     let reached = if is_pawn(man) {
         pawn_sources(left, man, to)
     } else {
-        piece_sources(left, man, to)
+        attackers(left, man, to)
     };
-    reached.without(position.board().occupied())
+    reached
+        .without(position.board().occupied())
+        .common(quiet(position, left, man))
 }

@@ -1,15 +1,17 @@
 //! One man back on the square that it may have come from.
-ghost use Rattle.std.specs.Prelude.{◌≡◌, ℕ, ◌<◌, ◌↔◌, Some, IfSome, IfNone, IsTrue};
-ghost use Rattle.std.specs.FinMap as map;
+ghost use Rattle.std.specs.Prelude.{◌≡◌, ◌↔◌, IsTrue};
+ghost use Rattle.egt_board.specs.declared.man.Man.{Man};
 ghost use Rattle.egt_board.specs.Man.{other_side};
-ghost use Rattle.egt_board.specs.Setup.{Setup, IsAdmissible};
+ghost use Rattle.egt_board.specs.Pawn.{MayStand, Advances};
+ghost use Rattle.egt_board.specs.Placement.{IsFree};
+ghost use Rattle.egt_board.specs.Settled.{SettlesTo};
+ghost use Rattle.egt_board.specs.Setup.{IsKingOn};
 ghost use Rattle.egt_board.specs.declared.man.Kind.TheVariants.{P};
 ghost use Rattle.egt_moves.specs.Legal.{plain};
-ghost use Rattle.egt_unmoves.specs.Unmoves.{ComesBy, MayComeFrom, men_before};
+ghost use Rattle.egt_unmoves.specs.Unmoves.{ComesBy, MayComeFrom, MayHaveLeft, Went, led_to, men_before, setup_before};
 
-use crate::admitting::{admit, is_settled};
-use egt_board::{Board, Kind, Man, Position, Square};
-use egt_moves::{Move, play};
+use egt_board::{Board, Kind, Man, Position, Side, Square};
+use egt_moves::going::passed;
 
 /// Whether the man is a pawn.
 pub(crate) fn is_pawn(man: Man) -> bool
@@ -18,11 +20,27 @@ pub(crate) fn is_pawn(man: Man) -> bool
     man.kind == Kind::P
 }
 
-/// Whether the man is a pawn that takes one in passing when it arrives on the square.
-fn takes_in_passing(before: &Position, man: Man, to: Square) -> bool
-    ensures { IsTrue result ↔ ((man.kind ≡ P) × (before.now.target ≡ Some to)) }
+/// Whether a pawn may stand on the square: on none of the first rank or the last.
+fn may_have_pawn(square: Square) -> bool
+    ensures { (man : Man) → man.kind ≡ P → IsTrue result ↔ MayStand man square }
 {
-    is_pawn(man) && before.target() == Some(to)
+    let rank = square.rank();
+    0 < rank && rank < 7
+}
+
+/// The target that is left, once settled, by a pawn of the side that waits that has gone from `from` to `to`.
+fn target_left(position: &Position, man: Man, from: Square, to: Square) -> Option<Square>
+    requires pawn { man.kind ≡ P }
+    requires theirs { man.side ≡ other_side position.now.side }
+    requires advances { Advances (λ _. Unit {0}) man.side from to }
+    ensures { SettlesTo (led_to position.now man to from) (record { men = position.now.men; side = position.now.side; target = result }) }
+{
+    let target = passed(man, from, to)?;
+    if position.board().has_pawn_beside(position.side(), to) {
+        Some(target)
+    } else {
+        None
+    }
 }
 
 /// Whether both are the same target, or none.
@@ -32,64 +50,60 @@ fn is_same(target: Option<Square>, other: Option<Square>) -> bool
     target == other
 }
 
-/// Whether the move leads from the one position, with the man back on its square, to one that settles to the other,
-/// and neither captures nor promotes.
-fn comes_by(before: &Position, man: Man, from: Square, to: Square, position: &Position) -> bool
+/// Whether a pawn of the side that waits advanced from `from` to `to`, and left the target that the position has. On
+/// the board it is back on `from`.
+fn advanced(position: &Position, board: &Board, man: Man, from: Square, to: Square) -> bool
+    requires pawn { man.kind ≡ P }
+    requires theirs { man.side ≡ other_side position.now.side }
+    ensures { IsTrue result ↔ (MayStand man from × Advances (IsFree board.now) man.side from to × SettlesTo (led_to position.now man to from) position.now) }
+{
+    if !may_have_pawn(from) {
+        return false;
+    }
+    if !board.advances(man.side, from).contains(to) {
+        return false;
+    }
+    is_same(target_left(position, man, from, to), position.target())
+}
+
+/// Whether the man went from `from`, which it may have left, to `to`. On the board it is back on `from`.
+pub(crate) fn went(position: &Position, board: &Board, man: Man, from: Square, to: Square) -> bool
     requires may { MayComeFrom position.now man to from }
-    requires men { before.now.men ≡ men_before position.now.men man to from }
-    requires side { before.now.side ≡ other_side position.now.side }
-    requires admissible { IsAdmissible before.now }
-    ensures { IsTrue result ↔ ComesBy before.now (plain from to) position.now }
+    requires left { MayHaveLeft position.now man to from }
+    requires board { board.now ≡ men_before position.now.men man to from }
+    ensures { IsTrue result ↔ Went position.now man to from }
 {
-    if takes_in_passing(before, man, to) {
-        return false;
+    if is_pawn(man) {
+        advanced(position, board, man, from, to)
+    } else {
+        position.target().is_none()
     }
-    if !is_settled(before) {
-        return false;
-    }
-    let chess_move = Move {
-        from,
-        to,
-        promo: None,
-    };
-    let Some(led) = play(before, chess_move) else {
-        return false;
-    };
-    is_same(led.settle().target(), position.target())
 }
 
-/// The board with the man, which has been taken off the square that it stands on, on the square that it came from.
-pub(crate) fn put_back(left: &Board, man: Man, from: Square) -> Board
-    requires { map.len left.now < 4 }
-    ensures { result ≡ map.insert left.now from man }
+/// The square of that side's king once the man on `to` is back on `from`.
+fn king_before(position: &Position, from: Square, to: Square, side: Side) -> Square
+    ensures { (man : Man) → MayComeFrom position.now man to from → IsKingOn (men_before position.now.men man to from) side result }
 {
-    let mut board = left.copied();
-    board.put(from, man);
-    board
+    let king = position.king(side);
+    if king == to { from } else { king }
 }
 
-/// The position, with this target, from which the man's move from the one square to the other led to this; `None`
-/// where it is none. The board is this one's without the man.
-pub(crate) fn take_back(
+/// The position with this target from which the man's move from the one square to the other led to this. On the board
+/// it is back on `from`.
+pub(crate) fn before(
     position: &Position,
-    left: &Board,
+    board: &Board,
     man: Man,
     from: Square,
     to: Square,
     target: Option<Square>,
-) -> Option<Position>
+) -> Position
     requires may { MayComeFrom position.now man to from }
-    requires left { left.now ≡ map.remove position.now.men to }
-    ensures some { IfSome result (λ b. ComesBy b (plain from to) position.now) }
-    ensures target { IfSome result (λ b. b.target ≡ target) }
-    ensures none { IfNone result ((b : Setup) → b.target ≡ target → ¬ ComesBy b (plain from to) position.now) }
+    requires board { board.now ≡ men_before position.now.men man to from }
+    requires comes { ComesBy (setup_before position.now man to from target) (plain from to) position.now }
+    ensures { result ≡ setup_before position.now man to from target }
 {
-    let side = position.side().other();
-    let board = put_back(left, man, from);
-    let before = admit(board, side, target)?;
-    if comes_by(&before, man, from, to, position) {
-        Some(before)
-    } else {
-        None
-    }
+    let white_king = king_before(position, from, to, Side::White);
+    let black_king = king_before(position, from, to, Side::Black);
+    Position::with_kings(board.copied(), man.side, target, white_king, black_king)
 }

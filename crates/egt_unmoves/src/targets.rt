@@ -1,43 +1,52 @@
 //! The target that a position may have had before the last move.
-ghost use Rattle.std.specs.Prelude.{◌≡◌, ◌⊎◌, ◌*◌, ◌<◌, ◌↔◌, None, IsTrue};
+ghost use Rattle.std.specs.Prelude.{◌≡◌, ◌⊎◌, ◌↔◌, None, IsTrue};
 ghost use Rattle.egt_board.specs.Man.{other_side};
-ghost use Rattle.egt_board.specs.Pawn.{ahead, HasPawnBeside};
-ghost use Rattle.egt_board.specs.Setup.{Setup, IsAdmissible};
-ghost use Rattle.egt_board.specs.Settled.{IsSettled};
-ghost use Rattle.egt_board.specs.Target.{IsTarget, target_rank};
+ghost use Rattle.egt_board.specs.Pawn.{pawn_of, ahead, HasPawnBeside};
+ghost use Rattle.egt_board.specs.Placement.{Stands};
+ghost use Rattle.egt_board.specs.Setup.{Setup};
+ghost use Rattle.egt_board.specs.Square.{rank_of};
+ghost use Rattle.egt_board.specs.Target.{IsTarget};
+ghost use Rattle.egt_moves.specs.declared.chess_move.Move.{Move};
+ghost use Rattle.egt_unmoves.specs.Targets.{advanced_rank};
+ghost use Rattle.egt_unmoves.specs.Unmoves.{ComesBy};
 
-use egt_board::{Board, Side, Square};
+use egt_board::{Board, Position, Side, Square};
 
 /// Whether a pawn may have passed this square in the last move, with that side to move now, and a pawn stands ready
 /// to take it.
-fn is_settled_target(board: &Board, mover: Side, square: Square) -> bool
+pub(crate) fn is_settled_target(board: &Board, mover: Side, square: Square) -> bool
     ensures { IsTrue result ↔ (IsTarget board.now mover square × HasPawnBeside board.now mover (ahead (other_side mover) square)) }
 {
     board.is_target(mover, square) && board.has_pawn_beside(mover, square.ahead(mover.other()))
 }
 
-/// The square of the a-file on the rank of a target, with that side to move.
-fn first_of_rank(mover: Side) -> u8
-    ensures value { result ≡ 8 * target_rank mover }
-    ensures on_board { result < 57 }
+/// The rank, from 0, that a pawn of that side reaches by an advance of two squares.
+fn advanced_rank(side: Side) -> u8
+    ensures { result ≡ advanced_rank side }
 {
-    match mover {
-        Side::White => 40,
-        Side::Black => 16,
+    match side {
+        Side::White => 3,
+        Side::Black => 4,
     }
 }
 
-/// The target of a settled position with this board and side to move, where there is one with a target. Four men
-/// leave room for one.
-pub(crate) fn settled_target(board: &Board, mover: Side) -> Option<Square>
-    ensures { (p : Setup) → IsAdmissible p → IsSettled p → p.men ≡ board.now → p.side ≡ mover →
-        (p.target ≡ None) ⊎ (p.target ≡ result) }
+/// Whether a pawn of that side stands on the square, as after an advance of two squares.
+fn has_advanced(position: &Position, side: Side, square: Square) -> bool
+    ensures { IsTrue result ↔ ((rank_of square ≡ advanced_rank side) × Stands position.now.men square (pawn_of side)) }
 {
-    let first = first_of_rank(mover);
-    for file in 0..8 {
-        let square = Square::at(first + file);
-        if is_settled_target(board, mover, square) {
-            return Some(square);
+    square.rank() == advanced_rank(side) && position.at(square) == Some(side.pawn())
+}
+
+/// The target that the position before the last move had, where it had one: behind a pawn of the side that is to move
+/// now, which had just advanced two squares. Four men leave room for one.
+pub(crate) fn target_before(position: &Position) -> Option<Square>
+    ensures { (b : Setup) (m : Move) → ComesBy b m position.now → (b.target ≡ None) ⊎ (b.target ≡ result) }
+{
+    let mover = position.side();
+    let mut rest = position.of(mover);
+    while let Some(square) = rest.pop_first() {
+        if has_advanced(position, mover, square) {
+            return Some(square.ahead(mover.other()));
         }
     }
     None

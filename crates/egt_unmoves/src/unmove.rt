@@ -1,24 +1,12 @@
 //! A move backwards, as the position before it.
-ghost use Rattle.std.specs.Prelude.{◌≡◌};
-ghost use Rattle.egt_board.specs.Attack.{king_of};
 
-use egt_board::{Board, Kind, Man, Position, Side, Square};
+use egt_board::{Board, Position, Side, Square};
 
 /// A position from which a move led here, and whether a pawn made it.
-#[derive(Drop)]
+#[derive(Clone, Copy)]
 pub struct Unmove {
     pub before: Position,
     pub pawn: bool,
-}
-
-/// The king of that side.
-fn king(side: Side) -> Man
-    ensures { result ≡ king_of side }
-{
-    Man {
-        side,
-        kind: Kind::K,
-    }
 }
 
 impl Default for Unmove {
@@ -26,11 +14,11 @@ impl Default for Unmove {
 
     /// The two kings in the corners: what a list holds in the places that are not taken.
     fn default() -> Self {
-        let mut board = Board::new();
-        board.put(Square::at(0), king(Side::White));
-        board.put(Square::at(63), king(Side::Black));
+        let board = Board::of_kings_in_corners();
+        let white_king = Square::at(0);
+        let black_king = Square::at(63);
         Unmove {
-            before: Position::admitted(board, Side::White, None),
+            before: Position::with_kings(board, Side::White, None, white_king, black_king),
             pawn: false,
         }
     }

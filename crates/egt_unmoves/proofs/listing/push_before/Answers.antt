@@ -1,13 +1,10 @@
-use Rattle.std.proofs.Common.{arith}
-use Rattle.egt_unmoves.proofs.Pushing.{pushed, not_pushed}
+use Rattle.std.proofs.Common.{arith, ap}
+use Rattle.egt_board.specs.Setup.{Setup}
+use Rattle.egt_unmoves.proofs.Pushing.{pushed}
 use Rattle.egt_unmoves.proofs.listing.push_before.Goals as goal
 
-pub returns-in-Some-clause-listed : goal.returns-in-Some-clause-listed
-returns-in-Some-clause-listed c =
+pub returns-clause-listed : goal.returns-clause-listed
+returns-clause-listed c =
     rw c.push.ensures.items
-    (pushed c.args.position.now c.args.man c.args.from c.args.to c.args.target c.requires.may (omega arith) c.requires.only c.args.list.now.items c.in-Some.before _
-    c.requires.listed c.in-Some.ensures.some c.in-Some.ensures.target c.is_pawn.ensures)
-
-pub returns-in_default-clause-listed : goal.returns-in_default-clause-listed
-returns-in_default-clause-listed c =
-    not_pushed c.args.position.now c.args.man c.args.from c.args.to c.args.target c.requires.may (omega arith) c.requires.only c.args.list.now.items c.requires.listed c.in_default.ensures.none
+    (pushed c.args.position.now c.args.man c.args.from c.args.to c.args.target c.requires.may (omega arith) c.requires.only c.args.list.now.items c.before-before.result _
+    c.requires.listed (rw c.before-before.ensures c.requires.comes) (ap (λ (b : Setup). b.target) c.before-before.ensures) c.is_pawn.ensures)

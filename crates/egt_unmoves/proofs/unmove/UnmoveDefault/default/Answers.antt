@@ -1,14 +1,15 @@
-use Rattle.egt_unmoves.proofs.Room.{len_none, len_one}
-use Rattle.egt_unmoves.proofs.TwoKings.{two_kings-admissible}
+use Rattle.std.proofs.Common.{sym, subst}
+use Rattle.egt_board.specs.Corners.{corners}
+use Rattle.egt_board.specs.Setup.{IsKingOn}
+use Rattle.egt_board.specs.declared.man.Side.TheVariants.{White, Black}
+use Rattle.egt_unmoves.proofs.TwoKings.{corners-admissible, white_there, black_there}
 use Rattle.egt_unmoves.proofs.unmove.UnmoveDefault.default.Goals as goal
 
-pub admitted-requires : goal.admitted-requires
-admitted-requires c =
-    rw (c.put-2.ensures, c.put.ensures, c.new-board.ensures)
-    (two_kings-admissible c.at.result c.at-2.result c.king.result c.king-2.result c.at.ensures c.at-2.ensures c.king.ensures c.king-2.ensures)
+pub with_kings-requires-clause-admissible : goal.with_kings-requires-clause-admissible
+with_kings-requires-clause-admissible c = rw c.of_kings_in_corners-board.ensures corners-admissible
 
-pub put-requires : goal.put-requires
-put-requires c = rw c.new-board.ensures len_none
+pub with_kings-requires-clause-white : goal.with_kings-requires-clause-white
+with_kings-requires-clause-white c = rw c.of_kings_in_corners-board.ensures (subst (IsKingOn corners White) (sym c.at-white_king.ensures) white_there)
 
-pub put-requires-2 : goal.put-requires-2
-put-requires-2 c = rw (c.put.ensures, c.new-board.ensures) (len_one c.at.result c.king.result)
+pub with_kings-requires-clause-black : goal.with_kings-requires-clause-black
+with_kings-requires-clause-black c = rw c.of_kings_in_corners-board.ensures (subst (IsKingOn corners Black) (sym c.at-black_king.ensures) black_there)
