@@ -10,6 +10,7 @@ pub mod Sheltering
 pub mod Placed
 pub mod Slots
 pub mod Held
+pub mod Finding
 pub mod Attacks
 pub mod Kings
 pub mod Pawns

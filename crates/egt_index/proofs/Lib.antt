@@ -22,3 +22,5 @@ pub mod Standing
 pub mod Homing
 pub mod After
 pub mod LeastTurn
+pub mod Exchanged
+pub mod Flipped
