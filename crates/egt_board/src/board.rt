@@ -1,7 +1,8 @@
 //! A board with at most four men on it, and what they attack: FIDE Laws of Chess 2023, articles 3.1 to 3.9.
-ghost use Rattle.std.specs.Prelude.{◌≡◌, ℕ, ◌<◌, ◌≤◌, ◌↔◌, IfSome, IfNone, if◌then◌else◌};
+ghost use Rattle.std.specs.Prelude.{◌≡◌, ℕ, ◌<◌, ◌≤◌, ◌↔◌, ◌∷◌, ◌++◌, IfSome, IfNone, if◌then◌else◌};
 ghost use Rattle.std.specs.FinMap as map;
 ghost use Rattle.std.specs.Int.{bit_at};
+ghost use Rattle.std.specs.Option.{option_map};
 ghost use Rattle.egt_board.specs.Board.{place, man_on, marks, takes, lesser, greater};
 ghost use Rattle.egt_board.specs.SquareSet.{Has};
 
@@ -132,6 +133,8 @@ impl Board {
     ghost use Rattle.egt_board.specs.SquareSet.{Has, size_of};
     ghost use Rattle.egt_board.specs.Placement.{IsHeld};
     ghost use Rattle.egt_board.specs.Placement.{IsFree, Stands};
+    ghost use Rattle.egt_board.specs.Listed.{men_of};
+    ghost use Rattle.std.specs.Option.{option_to_list};
 
     /// The board with no man on it.
     pub fn new() -> Board
@@ -142,6 +145,37 @@ impl Board {
             second: None,
             third: None,
             fourth: None,
+        }
+    }
+
+    /// The board with two men on it, and with two more where they are there; of those on one square the first.
+    #[inline(always)]
+    pub fn of_stood(
+        first: (Man, Square),
+        second: (Man, Square),
+        third: Option<(Man, Square)>,
+        fourth: Option<(Man, Square)>,
+    ) -> Board
+        ensures men { result ≡ men_of (first ∷ second ∷ (option_to_list third ++ option_to_list fourth)) }
+        ensures few { map.len result ≤ 4 }
+    {
+        let (new, last) = (entered(third), entered(fourth));
+        let (one, two) = (lesser(&new, &last), greater(&new, &last));
+        let new = filled(second.1, second.0);
+        let behind = greater(&new, &one);
+        let (one, two, three) = (
+            lesser(&new, &one),
+            lesser(&behind, &two),
+            greater(&behind, &two),
+        );
+        let new = filled(first.1, first.0);
+        let behind_one = greater(&new, &one);
+        let behind_two = greater(&behind_one, &two);
+        Board {
+            first: lesser(&new, &one),
+            second: lesser(&behind_one, &two),
+            third: lesser(&behind_two, &three),
+            fourth: greater(&behind_two, &three),
         }
     }
 
@@ -232,6 +266,15 @@ fn filled(square: Square, man: Man) -> Slot
     ensures { result ≡ Some (record { 0 = square; 1 = man }) }
 {
     Some((square, man))
+}
+
+/// The slot of a man on his square, or of none.
+fn entered(entry: Option<(Man, Square)>) -> Slot
+    ensures value { result ≡ option_map (λ e. (e.1, e.0)) entry }
+    ensures in_place { IfSome result (λ e. e.0 < 64) }
+{
+    let (man, square) = entry?;
+    filled(square, man)
 }
 
 /// The one slot or the other.

@@ -101,7 +101,7 @@ few_men c = elim (cases_lt c 36) [
   | inr c_past ↦ let none = ap (λ m. length (men_in_order m)) (none_past c c_past) in omega arith
 ]
 
-placed_few : (pawns : Bool) (men : List Man) (digits : List ℕ) → length (placed pawns men digits) ≤ length men
+pub placed_few : (pawns : Bool) (men : List Man) (digits : List ℕ) → length (placed pawns men digits) ≤ length men
 placed_few pawns [] digits = omega arith
 placed_few pawns (man ∷ men) [] = omega arith
 placed_few pawns (man ∷ men) (d ∷ ds) = let rest = placed_few pawns men ds in omega arith

@@ -24,3 +24,4 @@ pub mod After
 pub mod LeastTurn
 pub mod Exchanged
 pub mod Flipped
+pub mod Setups

@@ -38,6 +38,11 @@ abbrev pub IsOff : List (Man × ℕ) → ℕ → Type 0
 IsOff [] q = Unit {0}
 IsOff (e ∷ list) q = (e.1 ≢ q) × IsOff list q
 
+-- no two of these stand on one square
+abbrev pub AllApart : List (Man × ℕ) → Type 0
+AllApart [] = Unit {0}
+AllApart (e ∷ list) = IsOff list e.1 × AllApart list
+
 -- all of these stand on their squares, in colours exchanged where `flips`, each on a square of its own
 abbrev pub AllStand : Bool → Placement → List (Man × ℕ) → Type 0
 AllStand flips men [] = Unit {0}

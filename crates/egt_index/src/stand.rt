@@ -1,5 +1,5 @@
 //! The men of a class on their squares.
-ghost use Rattle.std.specs.Prelude.{◌≡◌, ◌≢◌, ◌++◌, ◌<◌, ◌%◌, ◌/◌, ◌==◌, ℕ, Bool, true, false, List, IfSome, IfNone, if◌then◌else◌};
+ghost use Rattle.std.specs.Prelude.{◌≡◌, ◌≢◌, ◌++◌, ◌<◌, ◌%◌, ◌/◌, ◌==◌, ◌↔◌, IsTrue, ℕ, Bool, true, false, List, IfSome, IfNone, if◌then◌else◌};
 ghost use Rattle.std.specs.Option.{option_to_list};
 ghost use Rattle.egt_board.specs.Placement.{Stands};
 ghost use Rattle.egt_board.specs.SquareSet.{Has};
@@ -7,7 +7,7 @@ ghost use Rattle.egt_board.specs.Turned.{turned_man};
 ghost use Rattle.egt_board.specs.declared.man.Man.{Man};
 ghost use Rattle.egt_board.specs.declared.man.Side.TheVariants.{White, Black};
 ghost use Rattle.egt_class.specs.Membership.{IsOf};
-ghost use Rattle.egt_index.specs.Stood.{Stood, AreLeft, Found, list_of, entry_after, on_square_of, IsInOrder, AreExchanged, IsStandAfter};
+ghost use Rattle.egt_index.specs.Stood.{Stood, AreLeft, Found, list_of, IsOff, AllApart, entry_after, on_square_of, IsInOrder, AreExchanged, IsStandAfter};
 
 use crate::facts::facts;
 use crate::men::beside;
@@ -165,4 +165,27 @@ pub(crate) fn exchanged(stand: &Stand) -> Stand
         next: on_square_of(stand.next, stand.last),
         last: on_square_of(stand.last, stand.next),
     }
+}
+
+/// Whether the man of the entry, if there is one, stands off the square.
+fn is_off(entry: Option<(Man, Square)>, square: Square) -> bool
+    ensures { IsTrue result ↔ IsOff (option_to_list entry) square }
+{
+    match entry {
+        Some((_, other)) => other != square,
+        None => true,
+    }
+}
+
+/// Whether no two of the men stand on one square.
+pub(crate) fn are_apart(stand: &Stand) -> bool
+    ensures { IsTrue result ↔ AllApart (list_of stand.now) }
+{
+    let others = match stand.next {
+        Some((_, square)) => is_off(stand.last, square),
+        None => true,
+    };
+    let off_white = is_off(stand.next, stand.white) & is_off(stand.last, stand.white);
+    let off_black = is_off(stand.next, stand.black) & is_off(stand.last, stand.black);
+    others & off_white & off_black & (stand.white != stand.black)
 }
