@@ -17,6 +17,7 @@ use Rattle.egt_index.specs.Stood.{Entry, men_among, list_of, AllStand, Stood, on
 use Rattle.egt_index.specs.declared.stand.Stand.{Stand}
 use Rattle.egt_index.proofs.Counted.{man_told}
 use Rattle.egt_index.proofs.Standing.{turned_back}
+use Rattle.egt_index.proofs.Tested.{implied}
 
 -- no man, or a man and the same of the other side
 is_pair : List Man → Bool
@@ -30,11 +31,7 @@ unfolding all_below is_pair has_equal_sides material_of materials
 all_pairs = refl
 
 pair_there : (c : ℕ) → c < 36 → has_equal_sides c ≡ true → is_pair (men_beside (material_of c)) ≡ true
-pair_there c c_in equal = second (has_equal_sides c) _ equal (passes_below (λ c. not (has_equal_sides c) || is_pair (men_beside (material_of c))) 36 c all_pairs c_in)
-  where
-    second : (a b : Bool) → a ≡ true → (not a || b) ≡ true → b ≡ true
-    second true b h e = e
-    second false b h e = absurd (false≢true h)
+pair_there c c_in equal = implied (has_equal_sides c) _ equal (passes_below (λ c. not (has_equal_sides c) || is_pair (men_beside (material_of c))) 36 c all_pairs c_in)
 
 -- a man of the one colours is the other man of the others
 here_there : (flips : Bool) (x y : Man) → man_by Colours x ≡ y → turned_man flips x ≡ turned_man (not flips) y

@@ -1,5 +1,5 @@
 -- The first man of a class's name tells in what colours a position of the class is.
-use Rattle.std.proofs.Common.{◌≡◌, ℕ, ◌<◌, ◌⊎◌, ◌||◌, Bool, true, false, eqb, Option, Some, None, arith, refl, subst, inl, inr}
+use Rattle.std.proofs.Common.{◌≡◌, ℕ, ◌<◌, Bool, true, false, eqb, Option, Some, None, arith, refl, subst, inl, inr}
 use Rattle.std.specs.Prelude.{slice_index_or}
 use Rattle.std.proofs.lemmas.Bool.{and_parts, ltb-true, eqb-true}
 use Rattle.std.proofs.lemmas.List.{get_or_default}
@@ -14,6 +14,7 @@ use Rattle.egt_index.specs.Facts.{Facts}
 use Rattle.egt_index.specs.First.{tells_colours}
 use Rattle.egt_index.specs.declared.men.TheConstants.{BESIDE}
 use Rattle.egt_index.proofs.Counted.{counted_none, counted_some}
+use Rattle.egt_index.proofs.Tested.{one_of}
 
 all_tell : all_below (λ c. tells_colours c (slice_index_or BESIDE c (None, None)).0) 36 ≡ true
 unfolding all_below tells_colours has_equal_sides men_in material_of materials
@@ -37,10 +38,6 @@ found_first facts c true p man s c_in ok is_of tell stands = elim (one_of (has_e
       let are = is_of.men man in
       let zero : men_in c (other_side man.side) man.kind ≡ 0 = eqb-true _ _ none in absurd (omega arith)
 ]
-  where
-    one_of : (a b : Bool) → (a || b) ≡ true → (a ≡ true) ⊎ (b ≡ true)
-    one_of true b h = inl refl
-    one_of false b h = inr h
 
 -- where he does not
 pub missed_first : (c : ℕ) (flipped : Bool) (p : Setup) (man : Man) → IsOf c flipped p → tells_colours c (Some man) ≡ true → ((s : ℕ) → s < 64 → Stands p.men s man → ⊥) → IsOf c true p

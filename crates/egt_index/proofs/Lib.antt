@@ -25,3 +25,5 @@ pub mod LeastTurn
 pub mod Exchanged
 pub mod Flipped
 pub mod Setups
+pub mod Tested
+pub mod Past

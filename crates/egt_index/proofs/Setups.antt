@@ -31,6 +31,7 @@ use Rattle.egt_index.proofs.Coded.{few_men, placed_few}
 use Rattle.egt_index.proofs.Decoded.{decoded_spells}
 use Rattle.egt_index.proofs.Exists.{one_index}
 use Rattle.egt_index.proofs.Listing.{AreApart, apart_of, fits_of, get_here, get_later, get_none, listed}
+use Rattle.egt_index.proofs.Tested.{not_both}
 
 -- squares of their own, and squares on which nothing else stands
 free_of : (list : List (Man × ℕ)) (q : ℕ) → IsOff list q → IsFree (men_of list) q
@@ -109,10 +110,6 @@ no_king_listed : (list : List (Man × ℕ)) (side : Side) (s : ℕ) → are_no_k
 unfolding are_no_kings is_king
 no_king_listed [] side s none h = h
 no_king_listed (e ∷ list) side s none (inl h) = not_both (eqb (kind_number e.0.kind) 5) (eq-eqb _ _ (ap (λ (m : Man). kind_number m.kind) h.0)) (and_parts _ _ none).0
-  where
-    not_both : (b : Bool) → b ≡ true → not b ≡ true → ⊥
-    not_both true e h = false≢true h
-    not_both false e h = false≢true e
 no_king_listed (e ∷ list) side s none (inr h) = no_king_listed list side s (and_parts _ _ none).1 h
 
 -- the kings stand where the stand has them, and nowhere else

@@ -10,7 +10,7 @@ ghost use Rattle.egt_index.specs.Triangle.{place_in_triangle};
 use egt_board::{Kind, Man, Square};
 
 /// The places in the triangle a1 b1 c1 d1 b2 c2 d2 c3 d3 d4, by square.
-const TRIANGLE: [Option<u8>; 64] = [
+static TRIANGLE: [Option<u8>; 64] = [
     Some(0),
     Some(1),
     Some(2),

@@ -23,7 +23,7 @@ use egt_board::{Board, Kind, Man, Position, Side, Square};
 use egt_class::Class;
 
 /// The squares of the triangle, by their places.
-const TRIANGLE_SQUARES: [u8; 10] = [0, 1, 2, 3, 9, 10, 11, 18, 19, 27];
+static TRIANGLE_SQUARES: [u8; 10] = [0, 1, 2, 3, 9, 10, 11, 18, 19, 27];
 
 const WHITE_KING: Man = Man {
     side: Side::White,

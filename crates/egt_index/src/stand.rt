@@ -86,7 +86,7 @@ pub(crate) fn stand_of(class: Class, position: &Position, flips: bool) -> Stand
     let black = position.king(colour.other());
     let (first, second) = beside(class);
     let board = position.board();
-    let mut left = board.occupied().less(white).less(black);
+    let mut left = SquareSet::ALL.less(white).less(black);
     let next = take(board, &mut left, first, flips);
     let last = take(board, &mut left, second, flips);
     Stand {
