@@ -189,7 +189,7 @@ impl Board {
             .or(man_on(square, self.fourth))
     }
 
-    /// The first square of the set on which the man stands.
+    /// A square of the set on which the man stands.
     pub fn find(&self, man: Man, among: SquareSet) -> Option<Square>
         ensures stands { IfSome result (λ s. Stands self.now s man) }
         ensures had { IfSome result (Has among) }

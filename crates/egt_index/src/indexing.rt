@@ -27,6 +27,7 @@ fn side_after(side: Side, flips: bool) -> Side
 }
 
 /// The least code of what the turn makes of a settled position with these men of the class, if it has one.
+#[inline(always)]
 fn code_after(class: Class, stand: &Stand, side: Side, passed: bool, turn: u8) -> Option<u32>
     requires { turn < 16 }
     ensures { (p : Setup) → HasStand class (turn / 8 == 1) stand.now side passed p → KeepsPlay (turn % 8) p.men → CodeAfter class p turn result }
@@ -71,6 +72,7 @@ fn least_code(class: Class, stand: &Stand, side: Side, passed: bool, flips: bool
 }
 
 /// The least code of all images of a settled position of the class with these men, in colours flipped or not.
+#[inline(always)]
 pub(crate) fn least_of_images(
     class: Class,
     stand: &Stand,

@@ -241,12 +241,12 @@ fn bishop_and_knight_agree(kings: u32) -> Result<u32, Fail> {
     Ok(positions)
 }
 
-// Each eighth of the 640 pairs of kings, since a test has a minute.
+// All 5,242,880 codes, by the pairs of kings.
 #[test]
 fn bishop_and_knight_have_the_plain_positions(rt: HostRuntime) -> Result<(), Fail> {
     let mut positions: u32 = 0;
-    for eighth in 0..80 {
-        let more = bishop_and_knight_agree(8 * eighth)?;
+    for kings in 0..640 {
+        let more = bishop_and_knight_agree(kings)?;
         positions = positions.checked_add(more).ok_or("too many")?;
     }
     assert!(rt; positions > 0);
