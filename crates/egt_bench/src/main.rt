@@ -1,11 +1,15 @@
 //! Times the calls that no command of `egtb` shows: with the word `run`, the mean nanoseconds of each call over
-//! positions of a few classes drawn at random. Nothing here judges a figure.
+//! positions of a few classes drawn at random; with that word or the word `index`, those of indexes of the positions that
+//! moves lead to and of positions of consecutive codes. Nothing here judges a figure.
 #![tactic(auto)]
 
 mod calls;
+mod indexes;
 mod sample;
 
 use calls::{Call, made, moves_of};
+use egt_class::{Class, of};
+use indexes::{indexed, spelled, successors};
 use sample::sample;
 use std::time::Instant;
 use std::{env, io};
@@ -15,6 +19,12 @@ const POSITIONS: u32 = 2000;
 
 /// How often each is asked.
 const ROUNDS: u32 = 500;
+
+/// How often all successors, or all codes of a run, are asked: the quickest round is told.
+const LONG_ROUNDS: u32 = 40;
+
+/// Codes of a run.
+const CODES: u32 = 100_000;
 
 /// Prints the mean time of a call over the class.
 fn bench(rt: &HostRuntime, class: &str, call: Call) -> io::Result<()> {
@@ -36,17 +46,87 @@ fn bench(rt: &HostRuntime, class: &str, call: Call) -> io::Result<()> {
     )
 }
 
+/// Prints the time of a call, of so many that took so long.
+fn print_quickest(
+    rt: &HostRuntime,
+    class: &str,
+    call: &str,
+    nanos: u128,
+    calls: u128,
+    sum: u64,
+) -> io::Result<()> {
+    let tenths = nanos.saturating_mul(10) / calls.max(1);
+    println!(rt;
+        "{class} {call}: {}.{} ns, the quickest of {LONG_ROUNDS} rounds of {calls} (sum {sum})",
+        tenths / 10,
+        tenths % 10
+    )
+}
+
+/// Prints the time of an index, over all positions to which a legal move leads from those of the class.
+fn bench_index(rt: &HostRuntime, class: &str) -> io::Result<()> {
+    let positions = sample(rt.alloc(), class, POSITIONS)?;
+    let successors = successors(rt.alloc(), positions.as_slice())?;
+    let mut quickest = u128::MAX;
+    let mut sum = 0u64;
+    for _ in 0..LONG_ROUNDS {
+        let start = Instant::now(rt)?;
+        sum = indexed(successors.as_slice());
+        quickest = quickest.min(start.elapsed(rt)?.as_nanos());
+    }
+    print_quickest(
+        rt,
+        class,
+        "index of a successor",
+        quickest,
+        successors.len() as u128,
+        sum,
+    )
+}
+
+/// Prints the time of a position, over consecutive codes of the class from a code in its midst on.
+fn bench_position(rt: &HostRuntime, name: &str) -> io::Result<()> {
+    let positions = sample(rt.alloc(), name, 1)?;
+    let class = match positions.as_slice().first() {
+        Some(position) => of(position).0,
+        None => Class::at(0),
+    };
+    let first = egt_index::size(class) / 2;
+    let mut quickest = u128::MAX;
+    let mut sum = 0u64;
+    for _ in 0..LONG_ROUNDS {
+        let start = Instant::now(rt)?;
+        sum = spelled(class, first, first.saturating_add(CODES));
+        quickest = quickest.min(start.elapsed(rt)?.as_nanos());
+    }
+    print_quickest(
+        rt,
+        name,
+        "position of a code",
+        quickest,
+        u128::from(CODES),
+        sum,
+    )
+}
+
 fn main(rt: HostRuntime) -> io::Result<()> {
-    let mut asked = false;
+    let mut all = false;
+    let mut indexes = false;
     for word in env::args(&rt)? {
-        asked = asked || word.as_str() == "run";
+        all = all || word.as_str() == "run";
+        indexes = indexes || word.as_str() == "index";
     }
-    if !asked {
-        return Ok(());
+    if all {
+        for class in ["KQkr", "KPkp", "KBNk", "KRRk"] {
+            for call in Call::ALL {
+                bench(&rt, class, call)?;
+            }
+        }
     }
-    for class in ["KQkr", "KPkp", "KBNk", "KRRk"] {
-        for call in Call::ALL {
-            bench(&rt, class, call)?;
+    if all || indexes {
+        for class in ["KBNk", "KRRk", "KPkp"] {
+            bench_index(&rt, class)?;
+            bench_position(&rt, class)?;
         }
     }
     Ok(())

@@ -10,10 +10,12 @@ pub mod Sheltering
 pub mod Placed
 pub mod Slots
 pub mod Held
+pub mod Finding
 pub mod Attacks
 pub mod Kings
 pub mod Pawns
 pub mod Lists
+pub mod Stood
 pub mod Positions
 pub mod Gather
 pub mod Sizes

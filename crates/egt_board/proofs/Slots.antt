@@ -117,11 +117,11 @@ cmp_greater a b h =
     ap (λ l. cond l Less (cond (eqb a b) Equal Greater)) (le-ltb a b (omega arith)) ∙ ap (λ e. cond e Equal Greater) apart
 
 -- the slots once a man has come to them
-pub with_man : Slot → List Slot → List Slot
+unfoldable pub with_man : Slot → List Slot → List Slot
 with_man new [] = []
 with_man new (x ∷ xs) = lesser new x ∷ with_man (greater new x) xs
 
-with_none : (n : ℕ) (es : List (ℕ × Man)) → AreOnBoard es → with_man None (padded n es) ≡ padded n es
+pub with_none : (n : ℕ) (es : List (ℕ × Man)) → AreOnBoard es → with_man None (padded n es) ≡ padded n es
 unfolding with_man
 with_none zero es on = refl
 with_none (suc n) [] on = ap (λ xs. None ∷ xs) (with_none n [] tt)

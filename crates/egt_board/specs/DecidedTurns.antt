@@ -1,6 +1,5 @@
 -- Which turns the men allow, and whether one of them leads from one setup to another, can be told.
-use Rattle.std.specs.Prelude.{◌≡◌, ℕ, ◌<◌, ◌⊎◌, Bool, true, false}
-use Rattle.std.proofs.Common.{inl, inr}
+use Rattle.std.specs.Prelude.{◌≡◌, ℕ, ◌<◌, ◌⊎◌, true, false}
 use Rattle.egt_board.specs.declared.man.Kind.TheVariants.{P}
 use Rattle.egt_board.specs.Decided.{Decided, decided_as, decided_not, decided_both, decided_either, decided_lt, decided_some_below}
 use Rattle.egt_board.specs.DecidedMen.{decided_kind, decided_everywhere}

@@ -1,9 +1,11 @@
 //! A board with at most four men on it, and what they attack: FIDE Laws of Chess 2023, articles 3.1 to 3.9.
-ghost use Rattle.std.specs.Prelude.{◌≡◌, ℕ, ◌<◌, ◌≤◌, ◌↔◌, nat_lt, if◌then◌else◌};
+ghost use Rattle.std.specs.Prelude.{◌≡◌, ℕ, ◌<◌, ◌≤◌, ◌↔◌, ◌∷◌, ◌++◌, nat_lt, IfSome, IfNone, if◌then◌else◌};
 ghost use Rattle.std.specs.FinMap as map;
 ghost use Rattle.std.specs.Int.{bit_at};
+ghost use Rattle.std.specs.Option.{option_map};
 ghost use Rattle.egt_board.specs.Attack.{king_of};
 ghost use Rattle.egt_board.specs.Board.{place, man_on, marks, takes, lesser, greater};
+ghost use Rattle.egt_board.specs.SquareSet.{Has};
 
 use crate::man::{Kind, Man, Side};
 use crate::square::Square;
@@ -99,6 +101,18 @@ fn is_ahead(slot: &Slot, new: &Slot) -> bool
     place(slot) < place(new)
 }
 
+/// The number of the square of the slot's man, if it is this one on a square of the set, and else 64.
+fn place_of(slot: &Slot, man: Man, among: SquareSet) -> u8
+    ensures here { (s : ℕ) → slot.now ≡ Some (record { 0 = s; 1 = man }) → Has among s → result ≡ s }
+    ensures is { result < 64 → slot.now ≡ Some (record { 0 = result; 1 = man }) }
+    ensures had { result < 64 → Has among result }
+{
+    match slot {
+        Some(placed) if placed.1 == man && among.contains(placed.0) => placed.0.number(),
+        _ => 64,
+    }
+}
+
 /// What stands first of a new man and what is in a slot; on one square it is the new man.
 fn lesser(new: &Slot, slot: &Slot) -> Slot
     ensures { result ≡ lesser new.now slot.now }
@@ -128,6 +142,8 @@ impl Board {
     ghost use Rattle.egt_board.specs.Corners.{corners};
     ghost use Rattle.egt_board.specs.Placement.{IsHeld};
     ghost use Rattle.egt_board.specs.Placement.{IsFree, Stands};
+    ghost use Rattle.egt_board.specs.Listed.{men_of};
+    ghost use Rattle.std.specs.Option.{option_to_list};
 
     /// The board with no man on it.
     pub fn new() -> Board
@@ -153,6 +169,37 @@ impl Board {
         }
     }
 
+    /// The board with two men on it, and with two more where they are there; of those on one square the first.
+    #[inline(always)]
+    pub fn of_stood(
+        first: (Man, Square),
+        second: (Man, Square),
+        third: Option<(Man, Square)>,
+        fourth: Option<(Man, Square)>,
+    ) -> Board
+        ensures men { result ≡ men_of (first ∷ second ∷ (option_to_list third ++ option_to_list fourth)) }
+        ensures few { map.len result ≤ 4 }
+    {
+        let (new, last) = (entered(third), entered(fourth));
+        let (one, two) = (lesser(&new, &last), greater(&new, &last));
+        let new = filled(second.1, second.0);
+        let behind = greater(&new, &one);
+        let (one, two, three) = (
+            lesser(&new, &one),
+            lesser(&behind, &two),
+            greater(&behind, &two),
+        );
+        let new = filled(first.1, first.0);
+        let behind_one = greater(&new, &one);
+        let behind_two = greater(&behind_one, &two);
+        Board {
+            first: lesser(&new, &one),
+            second: lesser(&behind_one, &two),
+            third: lesser(&behind_two, &three),
+            fourth: greater(&behind_two, &three),
+        }
+    }
+
     /// The man on the square.
     pub fn at(&self, square: Square) -> Option<Man>
         ensures { result ≡ map.get self.now square }
@@ -161,6 +208,17 @@ impl Board {
             .or(man_on(square, self.second))
             .or(man_on(square, self.third))
             .or(man_on(square, self.fourth))
+    }
+
+    /// A square of the set on which the man stands.
+    pub fn find(&self, man: Man, among: SquareSet) -> Option<Square>
+        ensures stands { IfSome result (λ s. Stands self.now s man) }
+        ensures had { IfSome result (Has among) }
+        ensures none { IfNone result ((s : ℕ) → Has among s → ¬ Stands self.now s man) }
+    {
+        let front = place_of(&self.first, man, among).min(place_of(&self.second, man, among));
+        let back = place_of(&self.third, man, among).min(place_of(&self.fourth, man, among));
+        Square::new(front.min(back))
     }
 
     /// Puts a man on the square, in place of any that stands there, where there are fewer than four men.
@@ -258,6 +316,15 @@ fn filled(square: Square, man: Man) -> Slot
     ensures { result ≡ Some (record { 0 = square; 1 = man }) }
 {
     Some((square, man))
+}
+
+/// The slot of a man on his square, or of none.
+fn entered(entry: Option<(Man, Square)>) -> Slot
+    ensures value { result ≡ option_map (λ e. (e.1, e.0)) entry }
+    ensures in_place { IfSome result (λ e. e.0 < 64) }
+{
+    let (man, square) = entry?;
+    filled(square, man)
 }
 
 /// The one slot or the other.

@@ -26,7 +26,8 @@ use Rattle.egt_index.proofs.Counted.{counted_rest}
 use Rattle.egt_index.proofs.Coded.{digits_more, digits_exist, picks_code, stands_before}
 use Rattle.egt_index.specs.Facts.{Facts}
 use Rattle.egt_index.proofs.Turned.{differ, turned_class, counted_of, target_has_digit, no_pawns}
-use Rattle.egt_index.proofs.Kings.{king_turn, symmetries}
+use Rattle.egt_index.proofs.Kings.{king_turn}
+use Rattle.egt_index.specs.Home.{symmetries}
 
 -- the board without the white king
 pub fits_rest : (p : Setup) (s : ℕ) → IsAdmissible p → IsKingOn p.men White s → Fits (placement.remove p.men s)

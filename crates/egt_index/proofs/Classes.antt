@@ -1,8 +1,7 @@
 -- What a code spells is of its class, in its colours.
-use Rattle.std.proofs.Common.{eqb, ◌/◌, ◌%◌, ◌≡◌, ℕ, ◌<◌, ◌≤◌, ◌⊎◌, ◌||◌, not, Bool, true, false, cond, ltb, Some, List, [], ◌∷◌, map, arith, refl, sym, ap, ◌∙◌, inl, inr, subst}
+use Rattle.std.proofs.Common.{eqb, ◌/◌, ◌%◌, ◌≡◌, ℕ, ◌<◌, ◌||◌, not, Bool, true, false, cond, ltb, Some, List, [], ◌∷◌, map, arith, refl, sym, ap, ◌∙◌, inl, inr, subst}
 use Rattle.std.specs.FinMap as placement
 use Rattle.std.proofs.lemmas.Bool.{cases_eq, cases_lt, false≢true, ltb-true}
-use Rattle.std.proofs.lemmas.List.{get_or_past}
 use Rattle.egt_board.specs.declared.man.Side.{Side}
 use Rattle.egt_board.specs.declared.man.Side.TheVariants.{White, Black}
 use Rattle.egt_board.specs.declared.man.Kind.TheVariants.{P}
@@ -14,7 +13,7 @@ use Rattle.egt_board.specs.Pawn.{pawn_of, HasNoPawn}
 use Rattle.egt_board.specs.Placement.{Stands}
 use Rattle.egt_board.specs.Setup.{Setup, IsAdmissible}
 use Rattle.egt_class.specs.Below.{all_below, passes_below}
-use Rattle.egt_class.specs.Material.{Material, material_of, materials, beside, men_in}
+use Rattle.egt_class.specs.Material.{Material, material_of, materials, men_in}
 use Rattle.egt_class.specs.Membership.{IsOf}
 use Rattle.egt_index.specs.Digits.{AreDigits}
 use Rattle.egt_index.specs.Size.{base_of, men_in_order, has_pawns}
@@ -26,6 +25,8 @@ use Rattle.egt_index.specs.Facts.{Facts}
 use Rattle.egt_index.specs.Turns.{IsTurn, IsInColours}
 use Rattle.egt_index.proofs.Tallied.{in_class}
 use Rattle.egt_index.proofs.Turned.{differ, turned_class}
+use Rattle.egt_index.proofs.Tested.{implied, one_of}
+use Rattle.egt_index.proofs.Past.{past}
 
 no_man : (man : Man) (t : ℕ) → Stands (men_of []) t man → ⊥
 no_man man t stands = let none = sym (get_none t) ∙ stands in cc
@@ -64,21 +65,9 @@ all_have : all_below has_pawn_in 36 ≡ true
 unfolding all_below material_of materials men_in
 all_have = refl
 
-past : (c : ℕ) → 36 ≤ c → material_of c ≡ beside [] []
-unfolding material_of materials
-past c le = get_or_past materials c (beside [] []) le
-
-one_of : (a b : Bool) → (a || b) ≡ true → (a ≡ true) ⊎ (b ≡ true)
-one_of true b h = inl refl
-one_of false b h = inr h
-
-second : (a b : Bool) → a ≡ true → (not a || b) ≡ true → b ≡ true
-second true b h e = e
-second false b h e = absurd (false≢true h)
-
 some_side : (c : ℕ) → has_pawns (material_of c) ≡ true → (side : Side) × (0 < men_in c side P)
 some_side c has = elim (cases_lt c 36) [
-  | inl c_in ↦ elim (one_of _ _ (second (has_pawns (material_of c)) _ has (passes_below has_pawn_in 36 c all_have c_in))) [
+  | inl c_in ↦ elim (one_of _ _ (implied (has_pawns (material_of c)) _ has (passes_below has_pawn_in 36 c all_have c_in))) [
     | inl h ↦ (White, ltb-true 0 (men_in c White P) h)
     | inr h ↦ (Black, ltb-true 0 (men_in c Black P) h)
   ]

@@ -2,7 +2,6 @@
 use Rattle.std.proofs.Common.{◌≡◌, ℕ, ◌+◌, ◌-◌, ◌*◌, ◌<◌, ◌≤◌, ◌⊎◌, Bool, true, cond, leb, List, [], ◌∷◌, ◌++◌, map, length, arith, refl, sym, ap, ◌∙◌, inl, inr, subst}
 use Rattle.std.specs.FinMap as placement
 use Rattle.std.proofs.lemmas.Bool.{cases_eq, cases_lt, leb-true}
-use Rattle.std.proofs.lemmas.List.{get_or_past}
 use Rattle.egt_board.specs.declared.man.Side.{Side}
 use Rattle.egt_board.specs.declared.man.Side.TheVariants.{White, Black}
 use Rattle.egt_board.specs.declared.man.Kind.{Kind}
@@ -14,7 +13,7 @@ use Rattle.egt_board.specs.Pawn.{MayStand}
 use Rattle.egt_board.specs.Placement.{Placement, Stands, get-remove_same, get-remove_other}
 use Rattle.egt_board.specs.Setup.{Setup, IsAdmissible}
 use Rattle.egt_class.specs.Below.{all_below, passes_below}
-use Rattle.egt_class.specs.Material.{Material, material_of, materials, beside}
+use Rattle.egt_class.specs.Material.{Material, material_of, materials}
 use Rattle.egt_index.specs.Digits.{number_from, number_of, AreDigits}
 use Rattle.egt_index.specs.Size.{base_of, bases, men_bases, men_in_order, has_pawns, has_target}
 use Rattle.egt_index.specs.Code.{SpellsBy, HasTargetDigit, placed, men_at, target_digits}
@@ -24,6 +23,7 @@ use Rattle.egt_index.specs.Picked.{Least, AreCounted, Picks, DigitOf, Fits, IsLe
 use Rattle.egt_index.proofs.Counted.{counted_rest, first_is_there}
 use Rattle.egt_index.proofs.Coding.{last_digits}
 use Rattle.egt_index.proofs.Picking.{picks_all, picks_least}
+use Rattle.egt_index.proofs.Past.{past}
 
 pub stands_before : (men : Placement) (q s : ℕ) (man : Man) → Stands (placement.remove men q) s man → Stands men s man
 stands_before men q s man stands = elim (cases_eq s q) [
@@ -90,18 +90,14 @@ all_few : all_below is_few 36 ≡ true
 unfolding all_below is_few material_of materials
 all_few = refl
 
-none_past : (c : ℕ) → 36 ≤ c → material_of c ≡ beside [] []
-unfolding material_of materials
-none_past c le = get_or_past materials c (beside [] []) le
-
 pub few_men : (c : ℕ) → length (men_in_order (material_of c)) ≤ 4
 unfolding is_few
 few_men c = elim (cases_lt c 36) [
   | inl c_in ↦ leb-true _ _ (passes_below is_few 36 c all_few c_in)
-  | inr c_past ↦ let none = ap (λ m. length (men_in_order m)) (none_past c c_past) in omega arith
+  | inr c_past ↦ let none = ap (λ m. length (men_in_order m)) (past c c_past) in omega arith
 ]
 
-placed_few : (pawns : Bool) (men : List Man) (digits : List ℕ) → length (placed pawns men digits) ≤ length men
+pub placed_few : (pawns : Bool) (men : List Man) (digits : List ℕ) → length (placed pawns men digits) ≤ length men
 placed_few pawns [] digits = omega arith
 placed_few pawns (man ∷ men) [] = omega arith
 placed_few pawns (man ∷ men) (d ∷ ds) = let rest = placed_few pawns men ds in omega arith

@@ -1,5 +1,5 @@
 -- Men counted on the squares of a placement, and taken off one by one.
-use Rattle.std.proofs.Common.{◌≡◌, ◌≢◌, ℕ, zero, suc, ◌+◌, ◌<◌, ◌≤◌, ◌⊎◌, Bool, true, false, cond, eqb, List, [], ◌∷◌, Option, Some, None, arith, refl, sym, ap, ◌∙◌, inl, inr, subst}
+use Rattle.std.proofs.Common.{◌≡◌, ◌≢◌, ℕ, zero, suc, ◌+◌, ◌<◌, ◌≤◌, ◌⊎◌, cond, List, [], ◌∷◌, Option, Some, None, arith, refl, sym, ap, ◌∙◌, inl, inr, subst}
 use Rattle.std.specs.Prelude.{slice_index_or}
 use Rattle.std.specs.FinMap as placement
 use Rattle.std.proofs.lemmas.Bool.{cases_eq, eq-eqb}
@@ -68,14 +68,6 @@ here_zero (Some other) man not = elim (eqb_tells (man_number man) (man_number ot
   | inl h ↦ absurd (not (ap Some (sym (man_told man other h.1))))
   | inr h ↦ ap (λ b. cond b 1 0) h.0
 ]
-
-here_small : (o : Option Man) (man : Man) → stands_here man o ≤ 1
-here_small None man = omega arith
-here_small (Some other) man = small (eqb (man_number man) (man_number other))
-  where
-    small : (b : Bool) → cond b 1 0 ≤ 1
-    small true = omega arith
-    small false = omega arith
 
 pub told_here : (men : Placement) (s : ℕ) (man : Man) → Stands men s man ⊎ (Stands men s man → ⊥)
 told_here men s man = of_option (placement.get men s)

@@ -134,10 +134,11 @@ passed_square Black men list t u is target behind one =
     let same = one behind.0 (u + 8) behind.1 (listed list (pawn_of White) (u + 8) (subst (λ m. Stands m (u + 8) (pawn_of White)) is target.advanced)) in
     let rank = target.rank in let at = behind.2 in omega arith
 
+-- what the code spells is this setup
 pub spelled_setup : (c : ℕ) (code high : ℕ) (side : Side) (passed : Bool) (list : List (Man × ℕ)) (target : Option ℕ) (p : Setup) → Ends (material_of c) code high side passed → SpellsMen (material_of c) high list
-    → IsTold passed side list target → Spells c code p → FitsBoard list × IsAdmissible (setup_of list side target)
+    → IsTold passed side list target → Spells c code p → FitsBoard list × (p ≡ setup_of list side target)
 unfolding flag
-spelled_setup c code high side passed list target p ends spells told s = (subst FitsBoard (sym list_is) s.apart, subst IsAdmissible p_is s.admissible)
+spelled_setup c code high side passed list target p ends spells told s = (subst FitsBoard (sym list_is) s.apart, p_is)
   where
     m : Material
     m = material_of c

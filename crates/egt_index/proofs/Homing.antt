@@ -8,6 +8,7 @@ use Rattle.egt_index.specs.Code.{king_square}
 use Rattle.egt_index.specs.Home.{symmetries, IsTurnWith, AreHome}
 use Rattle.egt_index.specs.Size.{king_base}
 use Rattle.egt_index.specs.declared.home.TheConstants.{FIRST, LAST}
+use Rattle.egt_index.proofs.Tested.{implied, one_of, not_both}
 
 is_with : Bool → Bool → ℕ → Bool
 is_with pawns flips t = ltb t 16 && (same (eqb (t / 8) 1) flips && ltb (t % 8) (symmetries pawns))
@@ -61,19 +62,7 @@ told_with pawns flips t h = and_from _ _ (lt-ltb t 16 h.below) (and_from _ _ (sa
 
 away_told : (pawns flips : Bool) (king t d : ℕ) → is_away pawns flips king t ≡ true → d < king_base pawns → king_square pawns d ≢ turned_square (t % 8) flips king
 unfolding is_away
-away_told pawns flips king t d away d_in same = no (eqb (king_square pawns d) (turned_square (t % 8) flips king)) (eq-eqb _ _ same) (passes_below _ _ d away d_in)
-  where
-    no : (b : Bool) → b ≡ true → not b ≡ true → ⊥
-    no true e h = false≢true h
-    no false e h = false≢true e
-
-one_of : (a b : Bool) → (a || b) ≡ true → (a ≡ true) ⊎ (b ≡ true)
-one_of true b h = inl refl
-one_of false b h = inr h
-
-other_of : (a b : Bool) → (not a || b) ≡ true → a ≡ true → b ≡ true
-other_of true b h e = h
-other_of false b h e = absurd (false≢true e)
+away_told pawns flips king t d away d_in same = not_both (eqb (king_square pawns d) (turned_square (t % 8) flips king)) (eq-eqb _ _ same) (passes_below _ _ d away d_in)
 
 -- the one turn, or the two
 pub home_told : (pawns flips : Bool) (king at first last : ℕ) (second : Option ℕ) → king < 64 → at ≡ cond pawns 128 0 + cond flips 64 0 + king → first ≡ slice_index FIRST at → last ≡ slice_index LAST at
@@ -82,7 +71,7 @@ unfolding is_right is_right_at row
 home_told pawns flips king at first last second king_in at_is first_is last_is seconds = record {
   one = with_told pawns flips first both.0;
   other = of_second seconds;
-  none = λ t turn apart others d d_in. elim (one_of _ _ (other_of _ _ (passes_below _ 16 t more.1 turn.below) (told_with pawns flips t turn))) [
+  none = λ t turn apart others d d_in. elim (one_of _ _ (implied _ _ (told_with pawns flips t turn) (passes_below _ 16 t more.1 turn.below))) [
     | inl h ↦ absurd (apart (eqb-true t first h))
     | inr h ↦ elim (one_of _ _ h) [
       | inl e ↦ absurd (not_last seconds t apart others (eqb-true t last e))

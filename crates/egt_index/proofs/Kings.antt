@@ -1,10 +1,11 @@
 -- Some turn brings a king to a square of the white king's digit.
-use Rattle.std.proofs.Common.{◌≡◌, ℕ, zero, suc, ◌<◌, ◌||◌, Bool, true, false, cond, eqb, arith, refl}
+use Rattle.std.proofs.Common.{◌≡◌, ℕ, zero, suc, ◌<◌, ◌||◌, Bool, true, false, eqb, arith, refl}
 use Rattle.std.proofs.lemmas.Bool.{false≢true, eqb-true}
 use Rattle.egt_board.specs.Turned.{turned_square}
 use Rattle.egt_class.specs.Below.{all_below, passes_below}
 use Rattle.egt_index.specs.Size.{king_base}
 use Rattle.egt_index.specs.Code.{king_square}
+use Rattle.egt_index.specs.Home.{symmetries}
 
 -- some number below n passes
 unfoldable pub some_below : (ℕ → Bool) → ℕ → Bool
@@ -19,9 +20,6 @@ some_passes p (suc n) h = of_test (p n) refl h (λ h. some_passes p n h)
     of_test : (b : Bool) → p n ≡ b → (b || some_below p n) ≡ true → (some_below p n ≡ true → (k : ℕ) × (k < n) × (p k ≡ true)) → (k : ℕ) × (k < suc n) × (p k ≡ true)
     of_test true is h rest = (n, omega arith, is)
     of_test false is h rest = let found = rest h in let lt = found.1 in (found.0, omega arith, found.2)
-
-abbrev pub symmetries : Bool → ℕ
-symmetries pawns = cond pawns 2 8
 
 -- the square has a digit
 unfoldable pub has_digit : Bool → ℕ → Bool

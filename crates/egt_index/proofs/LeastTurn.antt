@@ -1,13 +1,13 @@
 -- The least code over the turns that bring the white king home, which is that over all.
-use Rattle.std.proofs.Common.{◌≡◌, ◌≢◌, ℕ, ◌/◌, ◌%◌, ◌<◌, ◌≤◌, ◌⊎◌, Bool, true, false, cond, eqb, min, Option, Some, None, IfSome, arith, refl, sym, ap, ◌∙◌, inl, inr, subst}
-use Rattle.std.proofs.lemmas.Bool.{cases_eq, cases_lt}
+use Rattle.std.proofs.Common.{◌≡◌, ◌≢◌, ℕ, ◌/◌, ◌%◌, ◌<◌, ◌≤◌, ◌⊎◌, not, Bool, true, false, cond, eqb, min, Option, Some, None, IfSome, arith, refl, sym, ap, ◌∙◌, inl, inr, subst}
+use Rattle.std.proofs.lemmas.Bool.{cases_eq, cases_lt, false≢true}
 use Rattle.egt_board.specs.declared.man.Side.TheVariants.{White, Black}
 use Rattle.egt_board.specs.Attack.{king_of}
 use Rattle.egt_board.specs.Placement.{Stands}
 use Rattle.egt_board.specs.Setup.{Setup, IsAdmissible}
 use Rattle.egt_board.specs.Symmetry.{KeepsPlay}
 use Rattle.egt_board.specs.Turned.{turned_man, turned_square}
-use Rattle.egt_class.specs.Material.{material_of}
+use Rattle.egt_class.specs.Material.{material_of, has_equal_sides}
 use Rattle.egt_class.specs.Membership.{IsOf}
 use Rattle.egt_index.specs.Code.{Spells}
 use Rattle.egt_index.specs.Facts.{Facts}
@@ -118,12 +118,6 @@ pub none_in_others : Facts → (c : ℕ) (flipped flips : Bool) (p : Setup) → 
 none_in_others facts c flipped flips p c_in ok is_of not = λ t q code flips_is t_in turn spells.
     image_in_others facts c flipped p q t code c_in ok is_of turn (λ colours. not (subst (IsInColours c flipped) flips_is colours)) spells
 
-pub of_colours : Facts → (c : ℕ) (flipped flips : Bool) (p : Setup) → c < 36 → IsOf c flipped p → IsInColours c flipped flips → IsOf c flips p
-of_colours facts c flipped flips p c_in is_of colours = elim colours [
-  | inl equal ↦ facts.both_flips p c flipped flips c_in equal is_of
-  | inr same ↦ subst (λ f. IsOf c f p) (sym same) is_of
-]
-
 -- the least of all sixteen turns
 pub best_of_both : (c : ℕ) (p : Setup) (a b : Option ℕ) → LeastWith c p false a → LeastWith c p true b → Best c p 16 (lesser a b)
 best_of_both c p a b straight exchanged = of_codes a b straight exchanged
@@ -164,3 +158,28 @@ best_of_both c p a b straight exchanged = of_codes a b straight exchanged
           | inl e ↦ let le = f.least t q other e t_in turn spells in omega arith
           | inr e ↦ let le = g.least t q other e t_in turn spells in omega arith
         ]
+
+lesser_either_way : (a b : Option ℕ) → lesser a b ≡ lesser b a
+lesser_either_way None None = refl
+lesser_either_way None (Some b) = refl
+lesser_either_way (Some a) None = refl
+lesser_either_way (Some a) (Some b) = ap Some (either a b)
+  where
+    either : (a b : ℕ) → min a b ≡ min b a
+    either a b = omega arith
+
+-- the colours in either order
+pub best_of_colours : (c : ℕ) (p : Setup) (flipped : Bool) (a b : Option ℕ) → LeastWith c p flipped a → LeastWith c p (not flipped) b → Best c p 16 (lesser a b)
+best_of_colours c p false a b own other = best_of_both c p a b own other
+best_of_colours c p true a b own other = subst (Best c p 16) (lesser_either_way b a) (best_of_both c p b a other own)
+
+-- where the sides differ the others have no code
+pub none_exchanged : Facts → (c : ℕ) (flipped : Bool) (p : Setup) → c < 36 → IsAdmissible p → IsOf c flipped p → has_equal_sides c ≡ false → LeastWith c p (not flipped) None
+none_exchanged facts c flipped p c_in ok is_of differ = none_in_others facts c flipped (not flipped) p c_in ok is_of (λ colours. elim colours [
+  | inl equal ↦ false≢true (sym differ ∙ equal)
+  | inr same ↦ other flipped same
+])
+  where
+    other : (flipped : Bool) → not flipped ≡ flipped → ⊥
+    other true e = false≢true e
+    other false e = false≢true (sym e)

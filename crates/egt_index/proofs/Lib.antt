@@ -22,3 +22,8 @@ pub mod Standing
 pub mod Homing
 pub mod After
 pub mod LeastTurn
+pub mod Exchanged
+pub mod Flipped
+pub mod Setups
+pub mod Tested
+pub mod Past

@@ -16,6 +16,7 @@ use Rattle.egt_class.specs.Below.{all_below, passes_below}
 use Rattle.egt_class.specs.Material.{material_of, materials, has_equal_sides}
 use Rattle.egt_index.specs.Size.{men_beside, has_pawns, has_target}
 use Rattle.egt_index.specs.declared.men.TheConstants.{BESIDE, EQUAL_SIDES}
+use Rattle.egt_index.proofs.Tested.{not_both}
 
 men_of_row : Option Man × Option Man → List Man
 men_of_row row = option_to_list row.0 ++ option_to_list row.1
@@ -81,10 +82,6 @@ no_king_told : (o : Option Man) → is_no_king o ≡ true → IfSome o (λ man. 
 unfolding is_no_king
 no_king_told None h = tt
 no_king_told (Some man) h = λ same. not_both _ (eq-eqb _ _ (ap man_number same)) h
-  where
-    not_both : (b : Bool) → b ≡ true → not b ≡ true → ⊥
-    not_both true e h = false≢true h
-    not_both false e h = false≢true e
 
 pub no_king : (c : ℕ) (d : Option Man × Option Man) → c < 36 → IfSome (slice_index_or BESIDE c d).0 (λ man. man ≢ king_of White) × IfSome (slice_index_or BESIDE c d).1 (λ man. man ≢ king_of White)
 no_king c d c_in =

@@ -1,7 +1,6 @@
 -- A code spells one position.
-use Rattle.std.proofs.Common.{◌≡◌, ℕ, ◌+◌, ◌-◌, ◌≤◌, ◌⊎◌, ◌||◌, ◌==◌, not, Bool, true, false, cond, IsTrue, List, [], ◌∷◌, Option, Some, None, arith, refl, sym, ap, ◌∙◌, inl, inr, subst}
+use Rattle.std.proofs.Common.{◌≡◌, ℕ, ◌+◌, ◌-◌, ◌⊎◌, ◌||◌, ◌==◌, not, Bool, true, false, cond, IsTrue, List, [], ◌∷◌, Option, Some, None, arith, refl, sym, ap, ◌∙◌, inl, inr, subst}
 use Rattle.std.proofs.lemmas.Bool.{false≢true, cases_lt, eqb-true}
-use Rattle.std.proofs.lemmas.List.{get_or_past}
 use Rattle.egt_board.specs.declared.man.Side.{Side}
 use Rattle.egt_board.specs.declared.man.Side.TheVariants.{White, Black}
 use Rattle.egt_board.specs.declared.man.Kind.TheVariants.{P}
@@ -21,6 +20,8 @@ use Rattle.egt_index.specs.Code.{Spells, HasTargetDigit, men_at, target_digit, t
 use Rattle.egt_index.proofs.Listing.{listed}
 use Rattle.egt_index.specs.Spelled.{IsListed}
 use Rattle.egt_index.proofs.Coding.{SameSpelling, spells_same}
+use Rattle.egt_index.proofs.Tested.{implied}
+use Rattle.egt_index.proofs.Past.{past}
 
 abbrev pub a_pawn_each : Material
 a_pawn_each = beside (P ∷ []) (P ∷ [])
@@ -36,20 +37,12 @@ unique : a_pawn_each ≡ material_of 35
 unfolding material_of materials
 unique = refl
 
-past : (c : ℕ) → 36 ≤ c → material_of c ≡ beside [] []
-unfolding material_of materials
-past c le = get_or_past materials c (beside [] []) le
-
 -- a class with targets has a pawn on each side and nothing else
 pub one_pawn_each : (c : ℕ) → has_target (material_of c) ≡ true → material_of c ≡ a_pawn_each
 one_pawn_each c has = elim (cases_lt c 36) [
-  | inl c_in ↦ ap material_of (eqb-true c 35 (second (has_target (material_of c)) (c == 35) has (passes_below is_only 36 c all_only c_in))) ∙ sym unique
+  | inl c_in ↦ ap material_of (eqb-true c 35 (implied (has_target (material_of c)) (c == 35) has (passes_below is_only 36 c all_only c_in))) ∙ sym unique
   | inr c_past ↦ absurd (false≢true (sym (ap has_target (past c c_past)) ∙ has))
 ]
-  where
-    second : (a b : Bool) → a ≡ true → (not a || b) ≡ true → b ≡ true
-    second true b h e = e
-    second false b h e = absurd (false≢true h)
 
 no_king : (side other : Side) → king_of side ≡ pawn_of other → ⊥
 no_king side other h = let kinds = ap (λ (man : Man). man.kind) h in cc

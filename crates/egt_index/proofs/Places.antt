@@ -1,9 +1,10 @@
 -- The table of places in the triangle is right at each square.
 use Rattle.std.proofs.Common.{◌≡◌, ◌≢◌, ℕ, ◌<◌, ◌&&◌, not, Bool, true, false, ltb, eqb, Option, Some, None, IfSome, IfNone, refl}
-use Rattle.std.proofs.lemmas.Bool.{false≢true, ltb-true, eqb-true, eq-eqb, and_parts}
+use Rattle.std.proofs.lemmas.Bool.{ltb-true, eqb-true, eq-eqb, and_parts}
 use Rattle.egt_class.specs.Below.{all_below, passes_below}
 use Rattle.egt_index.specs.Code.{king_square}
 use Rattle.egt_index.specs.Triangle.{place_in_triangle}
+use Rattle.egt_index.proofs.Tested.{not_both}
 
 is_place : ℕ → Option ℕ → Bool
 is_place s None = all_below (λ d. not (eqb (king_square false d) s)) 10
@@ -26,10 +27,6 @@ told s None h = record {
   is = tt;
   none = λ d d_in same. absurd (not_both (eqb (king_square false d) s) (eq-eqb _ _ same) (passes_below (λ d. not (eqb (king_square false d) s)) 10 d h d_in));
 }
-  where
-    not_both : (b : Bool) → b ≡ true → not b ≡ true → ⊥
-    not_both true e h = false≢true h
-    not_both false e h = false≢true e
 told s (Some d) h = let both = and_parts _ _ h in record { found = ltb-true d 10 both.0; is = eqb-true _ _ both.1; none = tt }
 
 pub place_told : (s : ℕ) → s < 64 → Place s (place_in_triangle s)

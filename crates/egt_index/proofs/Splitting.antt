@@ -51,9 +51,6 @@ tells_on pawns number high top men others list more low up = record {
       ∙ ap (λ bases. number_from top bases (up.digits ++ low.digits)) (sym (map-append (base_of pawns) men others));
 }
 
-pub tells_none : (pawns : Bool) (number : ℕ) → Tells pawns number [] number []
-tells_none pawns number = record { digits = []; are = tt; list_is = refl; number_is = refl }
-
 pub tells_one : (pawns : Bool) (number : ℕ) (man : Man) (high square : ℕ) → Splits number man high square → Tells pawns number (man ∷ []) high ((man, square) ∷ [])
 tells_one pawns number man high square s = record {
   digits = s.digit ∷ [];

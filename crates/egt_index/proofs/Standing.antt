@@ -1,9 +1,10 @@
 -- The men of a class found on their squares.
-use Rattle.std.proofs.Common.{◌≡◌, ◌≢◌, ℕ, ◌<◌, Bool, true, false, cond, List, [], ◌∷◌, ◌++◌, map, Option, Some, None, IfNone, arith, refl, sym, ap, ◌∙◌, inl, inr, subst}
+use Rattle.std.proofs.Common.{◌≡◌, ◌≢◌, ℕ, ◌^◌, ◌-◌, ◌<◌, Bool, true, false, cond, List, [], ◌∷◌, ◌++◌, map, Option, Some, None, IfNone, arith, refl, sym, ap, ◌∙◌, inl, inr, subst}
 use Rattle.std.specs.Option.{option_to_list, IsSome}
 use Rattle.std.specs.Int.{bit_at}
 use Rattle.std.specs.FinMap as placement
 use Rattle.std.proofs.lemmas.Bool.{cases_eq}
+use Rattle.std.proofs.lemmas.Nat.Bits.{bit_at_ones}
 use Rattle.egt_board.specs.declared.man.Side.{Side}
 use Rattle.egt_board.specs.declared.man.Side.TheVariants.{White, Black}
 use Rattle.egt_board.specs.declared.man.Kind.{Kind}
@@ -154,6 +155,14 @@ kings_off flips p board side other all less left w b ok side_is other_is white b
 
     apart : w ≢ b
     apart same = differ flips (one_man p.men w _ _ white_there (ap (placement.get p.men) same ∙ black_there))
+
+-- no man stands off the set of all squares
+pub none_off : (p : Setup) → IsAdmissible p → (t : ℕ) → bit_at (2 ^ 64 - 1) t ≡ 0 → IsFree p.men t
+none_off p ok t none = of_man (placement.get p.men t) refl
+  where
+    of_man : (o : Option Man) → placement.get p.men t ≡ o → IsFree p.men t
+    of_man None is = is
+    of_man (Some man) is = absurd (let one = bit_at_ones 64 t (ok.on_board t man is) in omega arith)
 
 pub last_alone : (o : Option Man) → option_to_list o ≡ option_to_list o ++ []
 last_alone None = refl

@@ -1,7 +1,6 @@
 -- The code of each image of a settled position, in the colours of the class.
-use Rattle.std.proofs.Common.{◌≡◌, ℕ, ◌<◌, ◌≤◌, ◌⊎◌, ◌&&◌, ◌||◌, not, Bool, true, false, cond, ltb, eqb, [], Option, Some, None, IfSome, arith, refl, sym, ap, ◌∙◌, inl, inr, subst}
+use Rattle.std.proofs.Common.{◌≡◌, ℕ, ◌<◌, ◌≤◌, ◌⊎◌, ◌&&◌, ◌||◌, not, Bool, true, false, cond, ltb, eqb, Option, Some, None, IfSome, arith, refl, sym, ap, ◌∙◌, inl, inr, subst}
 use Rattle.std.proofs.lemmas.Bool.{cases_lt, false≢true, lt-ltb, and_from, and_parts, eqb-true}
-use Rattle.std.proofs.lemmas.List.{get_or_past}
 use Rattle.egt_board.specs.declared.man.Side.{Side}
 use Rattle.egt_board.specs.declared.man.Side.TheVariants.{White, Black}
 use Rattle.egt_board.specs.declared.man.Kind.{Kind}
@@ -19,7 +18,7 @@ use Rattle.egt_board.specs.Symmetry.{KeepsPlay}
 use Rattle.egt_board.specs.Images.{SameMen, ExchangedMen, count_of}
 use Rattle.egt_board.specs.Turned.{IsTurnedBy, turned_side}
 use Rattle.egt_class.specs.Below.{all_below, passes_below}
-use Rattle.egt_class.specs.Material.{material_of, materials, beside, kinds_of, count_in, men_in}
+use Rattle.egt_class.specs.Material.{material_of, materials, kinds_of, count_in, men_in}
 use Rattle.egt_class.specs.Membership.{IsOf}
 use Rattle.egt_index.specs.Size.{men_in_order, has_pawns, has_target}
 use Rattle.egt_index.specs.Code.{HasTargetDigit}
@@ -27,6 +26,8 @@ use Rattle.egt_index.specs.Picked.{AreCounted}
 use Rattle.egt_index.specs.Facts.{Facts}
 use Rattle.egt_index.proofs.Counted.{counted_some}
 use Rattle.egt_index.proofs.Tallied.{in_class}
+use Rattle.egt_index.proofs.Tested.{implied}
+use Rattle.egt_index.proofs.Past.{past}
 
 -- one of the two, and not both
 abbrev pub differ : Bool → Bool → Bool
@@ -82,23 +83,15 @@ all_right_pawns : all_below has_right_pawns 36 ≡ true
 unfolding all_below material_of materials men_in
 all_right_pawns = refl
 
-past : (c : ℕ) → 36 ≤ c → material_of c ≡ beside [] []
-unfolding material_of materials
-past c le = get_or_past materials c (beside [] []) le
-
 none_past : (c : ℕ) (side : Side) → 36 ≤ c → men_in c side P ≡ 0
 unfolding men_in
 none_past c White le = ap (λ m. count_in (kinds_of m White) P) (past c le)
 none_past c Black le = ap (λ m. count_in (kinds_of m Black) P) (past c le)
 
-second : (a b : Bool) → a ≡ true → (not a || b) ≡ true → b ≡ true
-second true b h e = e
-second false b h e = absurd (false≢true h)
-
 -- where both sides have a pawn there may be a target
 target_there : (c : ℕ) → 1 ≤ men_in c White P → 1 ≤ men_in c Black P → has_target (material_of c) ≡ true
 target_there c white black = elim (cases_lt c 36) [
-  | inl c_in ↦ second (ltb 0 (men_in c White P) && ltb 0 (men_in c Black P)) _ (and_from _ _ (lt-ltb 0 (men_in c White P) (omega arith)) (lt-ltb 0 (men_in c Black P) (omega arith)))
+  | inl c_in ↦ implied (ltb 0 (men_in c White P) && ltb 0 (men_in c Black P)) _ (and_from _ _ (lt-ltb 0 (men_in c White P) (omega arith)) (lt-ltb 0 (men_in c Black P) (omega arith)))
       (passes_below has_right_target 36 c all_right_targets c_in)
   | inr c_past ↦ absurd (let none = none_past c White c_past in omega arith)
 ]

@@ -1,16 +1,20 @@
 -- The men of a class on their squares in a position, and after a turn.
 use Rattle.std.specs.Prelude.{◌≡◌, ◌≢◌, ℕ, ◌<◌, ◌≤◌, ◌⊎◌, Bool, List, [], ◌∷◌, ◌++◌, map, Option, Some, None, IfSome}
-use Rattle.std.specs.Option.{option_map, option_to_list}
+use Rattle.std.specs.Option.{option_map, option_to_list, is_some}
 use Rattle.std.specs.Int.{bit_at}
+use Rattle.egt_board.specs.declared.man.Side.{Side}
 use Rattle.egt_board.specs.declared.man.Side.TheVariants.{White, Black}
 use Rattle.egt_board.specs.declared.man.Man.{Man}
 use Rattle.egt_board.specs.declared.square_set.SquareSet.{SquareSet}
 use Rattle.egt_board.specs.Attack.{king_of}
 use Rattle.egt_board.specs.Pawn.{MayStand}
 use Rattle.egt_board.specs.Placement.{Placement, Stands}
+use Rattle.egt_board.specs.Settled.{IsSettled}
+use Rattle.egt_board.specs.Setup.{Setup, IsAdmissible}
 use Rattle.egt_board.specs.SquareSet.{Has}
 use Rattle.egt_board.specs.Turned.{turned_square, turned_man}
 use Rattle.egt_class.specs.Material.{material_of}
+use Rattle.egt_class.specs.Membership.{IsOf}
 use Rattle.egt_index.specs.Picked.{AreCounted}
 use Rattle.egt_index.specs.Size.{men_in_order}
 use Rattle.egt_index.specs.declared.stand.Stand.{Stand}
@@ -33,6 +37,11 @@ list_of s = (king_of White, s.white) ∷ rest_of s
 abbrev pub IsOff : List (Man × ℕ) → ℕ → Type 0
 IsOff [] q = Unit {0}
 IsOff (e ∷ list) q = (e.1 ≢ q) × IsOff list q
+
+-- no two of these stand on one square
+abbrev pub AllApart : List (Man × ℕ) → Type 0
+AllApart [] = Unit {0}
+AllApart (e ∷ list) = IsOff list e.1 × AllApart list
 
 -- all of these stand on their squares, in colours exchanged where `flips`, each on a square of its own
 abbrev pub AllStand : Bool → Placement → List (Man × ℕ) → Type 0
@@ -65,6 +74,22 @@ Found flips men old new None None = new ≡ old
 Found flips men old new None (Some e) = ⊥
 Found flips men old new (Some man) None = ⊥
 Found flips men old new (Some man) (Some e) = FoundOn flips men old new man e
+
+-- p is settled and of the class, in colours exchanged where `flips`, with these men on their squares, this side to move
+-- and a target where one was passed
+pub record HasStand (c : ℕ) (flips : Bool) (stand : Stand) (side : Side) (passed : Bool) (p : Setup) : Type 0 where
+  pub admissible : IsAdmissible p
+  pub settled : IsSettled p
+  pub is_of : IsOf c flips p
+  pub stood : Stood c flips p.men (list_of stand)
+  pub side_is : p.side ≡ side
+  pub target_is : is_some p.target ≡ passed
+
+-- the man of the one entry on the square of the other, if there are both
+abbrev pub on_square_of : Entry → Entry → Entry
+on_square_of None other = None
+on_square_of (Some e) None = Some e
+on_square_of (Some e) (Some d) = Some (e.0, d.1)
 
 -- where a turn takes a man
 abbrev pub entry_after : ℕ → Bool → Entry → Entry

@@ -6,7 +6,6 @@ ghost use Rattle.egt_board.specs.Images.{side_number};
 ghost use Rattle.egt_board.specs.Pawn.{MayStand};
 ghost use Rattle.egt_board.specs.declared.man.Side.TheVariants.{White, Black};
 ghost use Rattle.egt_class.specs.Material.{material_of};
-ghost use Rattle.egt_index.specs.Code.{target_digits};
 ghost use Rattle.egt_index.specs.Digits.{number_from};
 ghost use Rattle.egt_index.specs.Size.{has_target};
 ghost use Rattle.egt_index.specs.Spelled.{Splits, Tells};
@@ -25,10 +24,8 @@ const BLACK_KING: Man = Man {
 
 /// The number with the digit of a man other than the white king behind it.
 fn behind(number: u32, man: Man, square: Square) -> u32
-    requires other { man ≢ king_of White }
-    requires stands { MayStand man square }
-    requires small { number < 2 ^ 24 }
-    ensures splits { Splits result man number square }
+    requires { number < 2 ^ 24 }
+    ensures splits { man ≢ king_of White → MayStand man square → Splits result man number square }
     ensures few { result < (number + 1) * 64 }
 {
     number * base(man) + u32::from(digit(man, square))
@@ -36,9 +33,8 @@ fn behind(number: u32, man: Man, square: Square) -> u32
 
 /// The number with the digit of the man, if there is one, behind it.
 fn entry_behind(number: u32, entry: Option<(Man, Square)>) -> u32
-    requires digit { HasDigit entry }
-    requires small { number < 2 ^ 24 }
-    ensures tells { (pawns : Bool) → Tells pawns result (men_among (option_to_list entry)) number (option_to_list entry) }
+    requires { number < 2 ^ 24 }
+    ensures tells { HasDigit entry → (pawns : Bool) → Tells pawns result (men_among (option_to_list entry)) number (option_to_list entry) }
     ensures few { result < (number + 1) * 64 }
 {
     match entry {
@@ -49,10 +45,9 @@ fn entry_behind(number: u32, entry: Option<(Man, Square)>) -> u32
 
 /// The number of the digits of the men beside the white king behind those that made `high`.
 pub(crate) fn number_behind(high: u32, stand: &Stand) -> u32
-    requires small { high < 32 }
-    requires next { HasDigit stand.now.next }
-    requires last { HasDigit stand.now.last }
-    ensures tells { (pawns : Bool) → Tells pawns result (men_among (rest_of stand.now)) high (rest_of stand.now) }
+    requires { high < 32 }
+    ensures tells { HasDigit stand.now.next → HasDigit stand.now.last → (pawns : Bool) →
+        Tells pawns result (men_among (rest_of stand.now)) high (rest_of stand.now) }
     ensures small { result < 32 * 64 ^ 3 }
 {
     let king = behind(high, BLACK_KING, stand.black);
@@ -60,11 +55,11 @@ pub(crate) fn number_behind(high: u32, stand: &Stand) -> u32
     entry_behind(next, stand.last)
 }
 
-/// The number with the digits of the side to move and the target behind it.
-pub(crate) fn with_side(class: Class, side: Side, target: Option<Square>, number: u32) -> u32
+/// The number with the digits of the side to move and of the target behind it: whether a pawn has passed one.
+pub(crate) fn with_side(class: Class, side: Side, passed: bool, number: u32) -> u32
     requires { number < 32 * 64 ^ 3 }
     ensures { result ≡ number_from number (2 ∷ (if has_target (material_of class) then 2 ∷ [] else []))
-        (side_number side ∷ target_digits (material_of class) target) }
+        (side_number side ∷ (if has_target (material_of class) then (if passed then 1 else 0) ∷ [] else [])) }
 {
     let side = match side {
         Side::White => 0,
@@ -74,7 +69,7 @@ pub(crate) fn with_side(class: Class, side: Side, target: Option<Square>, number
     if !has_target(class) {
         return with_side;
     }
-    if target.is_some() {
+    if passed {
         with_side * 2 + 1
     } else {
         with_side * 2

@@ -10,7 +10,7 @@ ghost use Rattle.egt_index.specs.Triangle.{place_in_triangle};
 use egt_board::{Kind, Man, Square};
 
 /// The places in the triangle a1 b1 c1 d1 b2 c2 d2 c3 d3 d4, by square.
-const TRIANGLE: [Option<u8>; 64] = [
+static TRIANGLE: [Option<u8>; 64] = [
     Some(0),
     Some(1),
     Some(2),
@@ -103,8 +103,7 @@ pub(crate) fn king_digit(pawns: bool, king: Square) -> Option<u8>
 
 /// The base of the digit of a man other than the white king: how many squares it may stand on.
 pub(crate) fn base(man: Man) -> u32
-    requires { man ≢ king_of White }
-    ensures value { (pawns : Bool) → result ≡ base_of pawns man }
+    ensures value { man ≢ king_of White → (pawns : Bool) → result ≡ base_of pawns man }
     ensures few { result ≤ 64 }
 {
     match man.kind {
@@ -113,16 +112,14 @@ pub(crate) fn base(man: Man) -> u32
     }
 }
 
-/// The digit of a man other than the white king.
+/// The digit of a man other than the white king; of a pawn on the first rank it means nothing.
 pub(crate) fn digit(man: Man, square: Square) -> u8
-    requires other { man ≢ king_of White }
-    requires stands { MayStand man square }
-    ensures below { (pawns : Bool) → result < base_of pawns man }
+    ensures below { man ≢ king_of White → MayStand man square → (pawns : Bool) → result < base_of pawns man }
     ensures few { result < 64 }
-    ensures is { (pawns : Bool) → square_of pawns man result ≡ square }
+    ensures is { man ≢ king_of White → MayStand man square → (pawns : Bool) → square_of pawns man result ≡ square }
 {
     match man.kind {
-        Kind::P => square.number() - 8,
+        Kind::P => square.number().saturating_sub(8),
         _ => square.number(),
     }
 }

@@ -1,9 +1,10 @@
 //! The men of each class, in the order of its name.
-ghost use Rattle.std.specs.Prelude.{◌≡◌, ◌≢◌, ◌++◌, Option, IfSome};
+ghost use Rattle.std.specs.Prelude.{◌≡◌, ◌≢◌, ◌++◌, Option, true, IfSome};
 ghost use Rattle.std.specs.Option.{option_to_list};
 ghost use Rattle.egt_board.specs.Attack.{king_of};
 ghost use Rattle.egt_board.specs.declared.man.Side.TheVariants.{White};
 ghost use Rattle.egt_class.specs.Material.{material_of, has_equal_sides};
+ghost use Rattle.egt_index.specs.First.{tells_colours};
 ghost use Rattle.egt_index.specs.Size.{men_beside, has_pawns, has_target};
 
 use egt_board::{Kind, Man, Side};
@@ -111,6 +112,7 @@ pub(crate) fn beside(class: Class) -> (Option<Man>, Option<Man>)
     ensures men { option_to_list result.0 ++ option_to_list result.1 ≡ men_beside (material_of class) }
     ensures first { IfSome result.0 (λ man. man ≢ king_of White) }
     ensures second { IfSome result.1 (λ man. man ≢ king_of White) }
+    ensures colours { tells_colours class result.0 ≡ true }
 {
     BESIDE[usize::from(class.number())]
 }

@@ -171,12 +171,94 @@ fn agree(number: u8, step: u32) -> Result<u32, Fail> {
     Ok(positions)
 }
 
+/// The position of king, bishop and knight against king that the digits of the code spell, worked out plainly.
+fn bishop_and_knight(code: u32) -> Option<Position> {
+    use Kind::{B, K, N};
+    use Side::{Black, White};
+    let triangle = [0, 1, 2, 3, 9, 10, 11, 18, 19, 27];
+    let side = if code % 2 == 0 { White } else { Black };
+    let squares = code / 2;
+    let white = *triangle.get((squares / 262_144) as usize)?;
+    let mut men = ArrayVec::<(Man, Square), 4>::new();
+    for (side, kind, number) in [
+        (White, K, white),
+        (Black, K, squares / 4096 % 64),
+        (White, B, squares / 64 % 64),
+        (White, N, squares % 64),
+    ] {
+        let square = Square::new(u8::try_from(number).ok()?)?;
+        men.try_push((Man { side, kind }, square)).ok()?;
+    }
+    Position::new(men.as_slice(), side, None).ok()
+}
+
+/// The same, if the code is its plain index.
+fn bishop_and_knight_of_index(code: u32) -> Option<Position> {
+    let spelled = bishop_and_knight(code)?;
+    if plain(14, &spelled) == Some(code) {
+        Some(spelled)
+    } else {
+        None
+    }
+}
+
+/// Whether both have the same man on each square of the board.
+fn alike(one: &Position, other: &Position) -> bool {
+    for number in 0..64 {
+        let square = Square::at(number);
+        if one.at(square) != other.at(square) {
+            return false;
+        }
+    }
+    one.side() == other.side()
+}
+
+/// Whether both are the same position, or there is neither.
+fn agrees(spelled: &Option<Position>, wanted: &Option<Position>) -> bool {
+    match (spelled, wanted) {
+        (Some(one), Some(other)) => alike(one, other),
+        (None, None) => true,
+        _ => false,
+    }
+}
+
+/// How many of the codes of king, bishop and knight against king with this pair of kings spell a position: those, and no
+/// other, that are the plain index of what their digits spell.
+fn bishop_and_knight_agree(kings: u32) -> Result<u32, Fail> {
+    let class = Class::new(14).ok_or("no class")?;
+    let mut positions: u32 = 0;
+    let start = kings.checked_mul(8192).ok_or("too many")?;
+    for rest in 0..8192 {
+        let code = start.checked_add(rest).ok_or("too many")?;
+        let spelled = position(class, code);
+        if !agrees(&spelled, &bishop_and_knight_of_index(code)) {
+            return Err(Fail::from("another position"));
+        }
+        positions = positions
+            .checked_add(u32::from(spelled.is_some()))
+            .ok_or("too many")?;
+    }
+    Ok(positions)
+}
+
+// All 5,242,880 codes, by the pairs of kings.
+#[test]
+fn bishop_and_knight_have_the_plain_positions(rt: HostRuntime) -> Result<(), Fail> {
+    let mut positions: u32 = 0;
+    for kings in 0..640 {
+        let more = bishop_and_knight_agree(kings)?;
+        positions = positions.checked_add(more).ok_or("too many")?;
+    }
+    assert!(rt; positions > 0);
+    Ok(())
+}
+
 #[test]
 fn index_is_the_plain_index(rt: HostRuntime) -> Result<(), Fail> {
+    // Counted by an independent program, as the orbits of all admissible positions.
     assert!(rt; agree(0, 1)? == 462);
-    for number in [1, 5] {
-        assert!(rt; agree(number, 1)? > 0);
-    }
+    assert!(rt; agree(1, 1)? == 46_137);
+    assert!(rt; agree(5, 1)? == 165_676);
     for number in [10, 14, 16, 34, 35] {
         assert!(rt; agree(number, 997)? > 0);
     }

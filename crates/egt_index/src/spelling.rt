@@ -1,26 +1,29 @@
 //! The position that a code spells.
-ghost use Rattle.std.specs.Prelude.{◌≡◌, ◌≢◌, ◌<◌, ◌≤◌, ◌∷◌, ◌++◌, ◌↔◌, ℕ, Bool, true, List, IsTrue, IfSome, IfNone};
+ghost use Rattle.std.specs.Prelude.{◌≡◌, ◌≢◌, ◌<◌, ◌≤◌, ◌↔◌, Bool, true, IsTrue, IsSome, IfSome, IfNone};
+ghost use Rattle.std.specs.FinMap as map;
 ghost use Rattle.egt_board.specs.Attack.{king_of};
+ghost use Rattle.egt_board.specs.Listed.{men_of};
+ghost use Rattle.egt_board.specs.Pawn.{PawnsFit};
 ghost use Rattle.egt_board.specs.Settled.{IsSettled};
-ghost use Rattle.egt_board.specs.Setup.{Setup};
+ghost use Rattle.egt_board.specs.Setup.{IsAdmissible, IsKingOn};
 ghost use Rattle.egt_board.specs.declared.man.Side.TheVariants.{White, Black};
 ghost use Rattle.egt_class.specs.Material.{material_of};
 ghost use Rattle.egt_index.specs.Code.{Spells, king_square};
 ghost use Rattle.egt_index.specs.Index.{IsIndex, IsVoid};
 ghost use Rattle.egt_index.specs.Size.{king_base};
 ghost use Rattle.std.specs.Option.{option_to_list};
-ghost use Rattle.egt_index.specs.Spelled.{Splits, Tells, SpellsMen, SpellsNoMen, Ends, HasPawns, IsBehind, IsTold};
+ghost use Rattle.egt_index.specs.Spelled.{Splits, Tells, SpellsMen, SpellsNoMen, Ends, HasPawns, IsTold};
+ghost use Rattle.egt_index.specs.Stood.{list_of};
 
 use crate::facts::facts;
-use crate::indexing::index;
-use crate::laws::spelled_positions_are_of_the_class;
+use crate::indexing::least_of_images;
 use crate::men::{beside, has_pawns, has_target};
-use arrayvec::ArrayVec;
-use egt_board::{Kind, Man, Position, Side, Square};
+use crate::stand::{Stand, are_apart};
+use egt_board::{Board, Kind, Man, Position, Side, Square};
 use egt_class::Class;
 
 /// The squares of the triangle, by their places.
-const TRIANGLE_SQUARES: [u8; 10] = [0, 1, 2, 3, 9, 10, 11, 18, 19, 27];
+static TRIANGLE_SQUARES: [u8; 10] = [0, 1, 2, 3, 9, 10, 11, 18, 19, 27];
 
 const WHITE_KING: Man = Man {
     side: Side::White,
@@ -77,30 +80,9 @@ fn take(number: u32, man: Option<Man>) -> (u32, Option<(Man, Square)>)
     }
 }
 
-/// The men on their squares, as a list.
-fn listed(
-    white: Square,
-    black: Square,
-    next: Option<(Man, Square)>,
-    last: Option<(Man, Square)>,
-) -> ArrayVec<(Man, Square), 4>
-    ensures { result.items ≡ (king_of White, white) ∷ (king_of Black, black) ∷ (option_to_list next ++ option_to_list last) }
-{
-    let mut men = ArrayVec::new();
-    men.push((WHITE_KING, white));
-    men.push((BLACK_KING, black));
-    if let Some(placed) = next {
-        men.push(placed);
-    }
-    if let Some(placed) = last {
-        men.push(placed);
-    }
-    men
-}
-
-/// The men of the class that the number spells on their squares, if it spells any.
-fn men_on(class: Class, number: u32) -> Option<ArrayVec<(Man, Square), 4>>
-    ensures some { IfSome result (λ men. SpellsMen (material_of class) number men.items) }
+/// Where the men of the class stand that the number spells, if it spells any.
+fn stand_on(class: Class, number: u32) -> Option<Stand>
+    ensures some { IfSome result (λ stand. SpellsMen (material_of class) number (list_of stand)) }
     ensures none { IfNone result (SpellsNoMen (material_of class) number) }
 {
     let (first, second) = beside(class);
@@ -108,7 +90,12 @@ fn men_on(class: Class, number: u32) -> Option<ArrayVec<(Man, Square), 4>>
     let (before_next, next) = take(before_last, first);
     let (high, black) = split(before_next, BLACK_KING);
     let white = king_on(has_pawns(class), high)?;
-    Some(listed(white, black, next, last))
+    Some(Stand {
+        white,
+        black,
+        next,
+        last,
+    })
 }
 
 /// What stands before the digits of the side to move and the target, and what these are.
@@ -128,41 +115,66 @@ fn ends(class: Class, code: u32) -> (u32, Side, bool)
     (number / 2, side, passed)
 }
 
-/// The square that the last pawn of the list but one, or the last, has passed: that of the side that waits.
-fn target_behind(side: Side, men: &[(Man, Square)]) -> Square
-    requires { HasPawns men.now }
-    ensures { IsBehind side men.now result }
+/// The board with the men on it.
+fn board_of(stand: &Stand) -> Board
+    ensures men { result ≡ men_of (list_of stand.now) }
+    ensures few { map.len result ≤ 4 }
 {
-    match side {
-        Side::White => men[3].1.ahead(side),
-        Side::Black => men[2].1.ahead(side),
-    }
+    let (white, black) = (stand.white, stand.black);
+    Board::of_stood(
+        (WHITE_KING, white),
+        (BLACK_KING, black),
+        stand.next,
+        stand.last,
+    )
 }
 
-/// The target, if there is one.
-fn target_of(side: Side, passed: bool, men: &[(Man, Square)]) -> Option<Square>
-    requires { passed ≡ true → HasPawns men.now }
-    ensures { IsTold passed side men.now result }
+/// The target, if there is one: the square that the pawn of the side that waits has passed.
+fn target_of(side: Side, passed: bool, stand: &Stand) -> Option<Square>
+    requires { passed ≡ true → HasPawns (list_of stand.now) }
+    ensures { IsTold passed side (list_of stand.now) result }
 {
-    if passed {
-        Some(target_behind(side, men))
-    } else {
-        None
+    if !passed {
+        return None;
     }
+    let advanced = match side {
+        Side::White => stand.last,
+        Side::Black => stand.next,
+    };
+    let (_, square) = advanced?;
+    Some(square.ahead(side))
 }
 
-/// The position that the code spells, if it spells one.
-fn decoded(class: Class, code: u32) -> Option<Position>
-    ensures some { IfSome result (λ p. Spells class code p) }
-    ensures none { IfNone result ((p : Setup) → ¬ Spells class code p) }
+/// The position with this board, on which these are the kings, that side to move and that target; `None` where the rules of
+/// play do not admit it.
+fn admitted(
+    board: Board,
+    side: Side,
+    target: Option<Square>,
+    white: Square,
+    black: Square,
+) -> Option<Position>
+    requires few { map.len board ≤ 4 }
+    requires pawns { PawnsFit board }
+    requires white { IsKingOn board White white }
+    requires black { IsKingOn board Black black }
+    ensures setup { IfSome result (λ p. p ≡ record { men = board; side = side; target = target }) }
+    ensures admits { IsSome result ↔ IsAdmissible (record { men = board; side = side; target = target }) }
 {
-    let (high, side, passed) = ends(class, code);
-    let men = men_on(class, high)?;
-    let target = target_of(side, passed, men.as_slice());
-    match Position::new(men.as_slice(), side, target) {
-        Ok(position) => Some(position),
-        Err(_) => None,
+    if let Some(square) = target {
+        if !board.is_target(side, square) {
+            return None;
+        }
     }
+    let waiting = match side {
+        Side::White => black,
+        Side::Black => white,
+    };
+    if board.is_in_check(waiting, side.other()) {
+        return None;
+    }
+    let _occupied = board.occupied();
+    Some(Position::with_kings(board, side, target, white, black))
 }
 
 /// Whether the position has no target, or one that a pawn stands ready to take.
@@ -180,9 +192,20 @@ pub fn position(class: Class, code: u32) -> Option<Position>
     ensures void { IfNone result (IsVoid class code) }
 {
     facts();
-    spelled_positions_are_of_the_class();
-    let position = decoded(class, code)?;
-    if is_settled(&position) && index(class, &position) == code {
+    let _number = class.number();
+    let (number, side, passed) = ends(class, code);
+    let stand = stand_on(class, number)?;
+    let target = target_of(side, passed, &stand);
+    if !are_apart(&stand) {
+        return None;
+    }
+    let is_least = least_of_images(class, &stand, side, passed, false) == Some(code);
+    if !is_least {
+        return None;
+    }
+    let board = board_of(&stand);
+    let position = admitted(board, side, target, stand.white, stand.black)?;
+    if is_settled(&position) {
         Some(position)
     } else {
         None

@@ -1,5 +1,5 @@
 //! The men of a class on their squares.
-ghost use Rattle.std.specs.Prelude.{◌≡◌, ◌≢◌, ◌++◌, ◌<◌, ◌%◌, ◌/◌, ◌==◌, ℕ, Bool, true, false, List, IfSome, IfNone, if◌then◌else◌};
+ghost use Rattle.std.specs.Prelude.{◌≡◌, ◌≢◌, ◌++◌, ◌<◌, ◌%◌, ◌/◌, ◌==◌, ◌↔◌, IsTrue, ℕ, Bool, true, false, List, IfSome, IfNone, if◌then◌else◌};
 ghost use Rattle.std.specs.Option.{option_to_list};
 ghost use Rattle.egt_board.specs.Placement.{Stands};
 ghost use Rattle.egt_board.specs.SquareSet.{Has};
@@ -7,8 +7,9 @@ ghost use Rattle.egt_board.specs.Turned.{turned_man};
 ghost use Rattle.egt_board.specs.declared.man.Man.{Man};
 ghost use Rattle.egt_board.specs.declared.man.Side.TheVariants.{White, Black};
 ghost use Rattle.egt_class.specs.Membership.{IsOf};
-ghost use Rattle.egt_index.specs.Stood.{Stood, AreLeft, Found, list_of, entry_after, IsInOrder, AreExchanged, IsStandAfter};
+ghost use Rattle.egt_index.specs.Stood.{Stood, AreLeft, Found, list_of, IsOff, AllApart, entry_after, on_square_of, IsInOrder, AreExchanged, IsStandAfter};
 
+use crate::facts::facts;
 use crate::men::beside;
 use crate::turning::turned_square;
 use egt_board::{Board, Man, Position, Side, Square, SquareSet};
@@ -22,21 +23,6 @@ pub(crate) struct Stand {
     pub(crate) black: Square,
     pub(crate) next: Option<(Man, Square)>,
     pub(crate) last: Option<(Man, Square)>,
-}
-
-/// A square of the set on which the man stands.
-fn find(board: &Board, among: SquareSet, man: Man) -> Option<Square>
-    ensures stands { IfSome result (λ s. Stands board.now s man) }
-    ensures had { IfSome result (λ s. Has among s) }
-    ensures none { IfNone result ((s : ℕ) → Has among s → ¬ Stands board.now s man) }
-{
-    let mut rest = among;
-    while let Some(square) = rest.pop_first() {
-        if board.at(square) == Some(man) {
-            return Some(square);
-        }
-    }
-    None
 }
 
 /// The man, of the other side where colours are flipped.
@@ -61,7 +47,7 @@ fn take(board: &Board, left: &mut SquareSet, man: Option<Man>, flips: bool) -> O
 {
     let man = man?;
     let _taken = board.occupied();
-    let square = find(board, *left, coloured(man, flips)).unwrap();
+    let square = board.find(coloured(man, flips), *left).unwrap();
     *left = left.less(square);
     Some((man, square))
 }
@@ -71,6 +57,22 @@ fn named_first(flips: bool) -> Side
     ensures { result ≡ (if flips then Black else White) }
 {
     if flips { Side::Black } else { Side::White }
+}
+
+/// Whether the men of a position of the class are the class's with colours exchanged. The first man of the name beside the
+/// king tells it: no class whose sides differ has him on both.
+pub(crate) fn is_flipped(class: Class, position: &Position) -> bool
+    requires { (flipped : Bool) × IsOf class flipped position.now }
+    ensures { IsOf class result position.now }
+{
+    facts();
+    let _number = class.number();
+    let _side = position.side();
+    let (first, _) = beside(class);
+    match first {
+        Some(man) => position.board().find(man, SquareSet::ALL).is_none(),
+        None => false,
+    }
 }
 
 /// Where the men of a position of the class stand.
@@ -84,7 +86,7 @@ pub(crate) fn stand_of(class: Class, position: &Position, flips: bool) -> Stand
     let black = position.king(colour.other());
     let (first, second) = beside(class);
     let board = position.board();
-    let mut left = board.occupied().less(white).less(black);
+    let mut left = SquareSet::ALL.less(white).less(black);
     let next = take(board, &mut left, first, flips);
     let last = take(board, &mut left, second, flips);
     Stand {
@@ -138,4 +140,52 @@ pub(crate) fn stand_after(stand: &Stand, turn: u8) -> Stand
     } else {
         after
     }
+}
+
+/// The man of the one entry on the square of the other, if there are both.
+fn on_square_of(entry: Option<(Man, Square)>, other: Option<(Man, Square)>) -> Option<(Man, Square)>
+    ensures { result ≡ on_square_of entry other }
+{
+    match (entry, other) {
+        (Some((man, _)), Some((_, square))) => Some((man, square)),
+        _ => entry,
+    }
+}
+
+/// The men of a class whose sides have the same, seen with colours exchanged: each stands where the other side's does.
+pub(crate) fn exchanged(stand: &Stand) -> Stand
+    ensures white { result.white ≡ stand.now.black }
+    ensures black { result.black ≡ stand.now.white }
+    ensures next { result.next ≡ on_square_of stand.now.next stand.now.last }
+    ensures last { result.last ≡ on_square_of stand.now.last stand.now.next }
+{
+    Stand {
+        white: stand.black,
+        black: stand.white,
+        next: on_square_of(stand.next, stand.last),
+        last: on_square_of(stand.last, stand.next),
+    }
+}
+
+/// Whether the man of the entry, if there is one, stands off the square.
+fn is_off(entry: Option<(Man, Square)>, square: Square) -> bool
+    ensures { IsTrue result ↔ IsOff (option_to_list entry) square }
+{
+    match entry {
+        Some((_, other)) => other != square,
+        None => true,
+    }
+}
+
+/// Whether no two of the men stand on one square.
+pub(crate) fn are_apart(stand: &Stand) -> bool
+    ensures { IsTrue result ↔ AllApart (list_of stand.now) }
+{
+    let others = match stand.next {
+        Some((_, square)) => is_off(stand.last, square),
+        None => true,
+    };
+    let off_white = is_off(stand.next, stand.white) & is_off(stand.last, stand.white);
+    let off_black = is_off(stand.next, stand.black) & is_off(stand.last, stand.black);
+    others & off_white & off_black & (stand.white != stand.black)
 }

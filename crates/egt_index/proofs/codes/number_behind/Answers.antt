@@ -1,13 +1,23 @@
-use Rattle.std.proofs.Common.{sym, ◌++◌}
+use Rattle.std.proofs.Common.{sym, ap, arith, ◌++◌, ◌≢◌}
 use Rattle.std.proofs.lemmas.List.{map-append}
 use Rattle.std.specs.Option.{option_to_list}
+use Rattle.egt_board.specs.Attack.{king_of}
+use Rattle.egt_board.specs.Images.{side_number, kind_number}
+use Rattle.egt_board.specs.Pawn.{MayStand}
+use Rattle.egt_board.specs.declared.man.Side.TheVariants.{White, Black}
 use Rattle.egt_index.specs.Stood.{men_among}
 use Rattle.egt_index.proofs.Splitting.{all_told}
 use Rattle.egt_index.proofs.codes.number_behind.Goals as goal
 
 pub returns-clause-tells : goal.returns-clause-tells
-returns-clause-tells c = λ pawns.
+returns-clause-tells c = λ next last pawns.
     all_told pawns c.entry_behind.result c.behind-king.result c.entry_behind-next.result c.args.high c.args.stand.now.black (men_among (option_to_list c.args.stand.now.next ++ option_to_list c.args.stand.now.last))
     (men_among (option_to_list c.args.stand.now.next)) (men_among (option_to_list c.args.stand.now.last)) (option_to_list c.args.stand.now.next) (option_to_list c.args.stand.now.last)
     (sym (map-append (λ e. e.0) (option_to_list c.args.stand.now.next) (option_to_list c.args.stand.now.last)))
-    (c.entry_behind.ensures.tells pawns) (c.entry_behind-next.ensures.tells pawns) c.behind-king.ensures.splits
+    (c.entry_behind.ensures.tells last pawns) (c.entry_behind-next.ensures.tells next pawns) (c.behind-king.ensures.splits other stands)
+  where
+    other : king_of Black ≢ king_of White
+    other e = let sides = ap (λ m. side_number m.side) e in omega arith
+
+    stands : MayStand (king_of Black) c.args.stand.now.black
+    stands e = absurd (let kinds = ap kind_number e in omega arith)

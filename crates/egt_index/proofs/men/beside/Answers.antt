@@ -1,6 +1,10 @@
-use Rattle.std.proofs.Common.{ap, ◌∙◌, arith}
+use Rattle.std.proofs.Common.{◌≡◌, true, subst, ap, ◌∙◌, arith}
+use Rattle.std.specs.Prelude.{slice_index_or}
 use Rattle.egt_class.specs.Material.{material_of}
 use Rattle.egt_index.specs.Size.{men_beside}
+use Rattle.egt_index.specs.First.{tells_colours}
+use Rattle.egt_index.specs.declared.men.TheConstants.{BESIDE}
+use Rattle.egt_index.proofs.Flipped.{first_tells}
 use Rattle.egt_index.proofs.MenTable.{row_is, no_king}
 use Rattle.egt_index.proofs.men.beside.Goals as goal
 
@@ -12,3 +16,8 @@ returns-clause-first c = (no_king c.from.result _ (omega (arith, c.number.ensure
 
 pub returns-clause-second : goal.returns-clause-second
 returns-clause-second c = (no_king c.from.result _ (omega (arith, c.number.ensures.below, c.from.ensures))).1
+
+pub returns-clause-colours : goal.returns-clause-colours
+returns-clause-colours c =
+    subst (λ n. tells_colours n (slice_index_or BESIDE c.from.result _).0 ≡ true) (c.from.ensures ∙ c.number.ensures.value)
+    (first_tells c.from.result _ (omega (arith, c.number.ensures.below, c.from.ensures)))

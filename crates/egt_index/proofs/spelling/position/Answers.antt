@@ -1,20 +1,99 @@
-use Rattle.std.proofs.Common.{sym, subst, IfNone}
+use Rattle.std.proofs.Common.{◌≡◌, Bool, true, false, sym, ◌∙◌, refl, subst, arith, IfNone}
 use Rattle.std.proofs.lemmas.Bool.{false≢true}
+use Rattle.egt_board.specs.declared.man.Side.TheVariants.{White, Black}
+use Rattle.egt_board.specs.Listed.{setup_of}
+use Rattle.egt_board.specs.Pawn.{PawnsFit}
+use Rattle.egt_board.specs.Placement.{Placement}
+use Rattle.egt_board.specs.Settled.{IsSettled}
+use Rattle.egt_board.specs.Setup.{Setup, IsAdmissible, IsKingOn}
+use Rattle.egt_class.specs.Material.{material_of}
+use Rattle.egt_index.specs.Code.{Spells}
 use Rattle.egt_index.specs.Index.{IsVoid}
-use Rattle.egt_index.proofs.Exists.{index_settled, index_spelled, one_index}
+use Rattle.egt_index.specs.Size.{has_target}
+use Rattle.egt_index.specs.Stood.{list_of}
+use Rattle.egt_index.proofs.Decoded.{has_pawns_list, no_men, spelled_setup}
+use Rattle.egt_index.proofs.Exists.{index_settled, index_spelled}
+use Rattle.egt_index.proofs.Setups.{fits_apart, pawns_spelled, kings_spelled, stand_spelled, least_is_index, code_told, told_code, on_board_of, setup_spelled, setup_index}
 use Rattle.egt_index.proofs.spelling.position.Goals as goal
-use Rattle.egt_index.proofs.spelling.position.Goals.{else-is_settled-via-then-is_settled+else-index-code, else-is_settled-via-else-is_settled}
+use Rattle.egt_index.proofs.spelling.position.Goals.{After-is_settled}
+
+pub returns-in_err-stand-clause-void : goal.returns-in_err-stand-clause-void
+returns-in_err-stand-clause-void c =
+    subst (λ o. IfNone o (IsVoid c.args.class c.args.code)) (sym c.from_residual.ensures)
+    (λ p ok index. no_men (material_of c.args.class) c.args.code c.ends-number.result.0 c.ends-number.result.1 c.ends-number.result.2 index.image c.ends-number.ensures c.in_err-stand.ensures.none index.spells)
+
+pub target_of-target-requires : goal.target_of-target-requires
+target_of-target-requires c = λ passed. of_test (has_target (material_of c.args.class)) refl passed c.ends-number.ensures.never
+    (λ has. has_pawns_list c.args.class c.ends-number.result.0 (list_of c.in_ok-stand.stand) has c.in_ok-stand.ensures.some)
+  where
+    of_test : {P : Type 0} {passed : Bool} (b : Bool) → has_target (material_of c.args.class) ≡ b → passed ≡ true → (has_target (material_of c.args.class) ≡ false → passed ≡ false) → (has_target (material_of c.args.class) ≡ true → P) → P
+    of_test true is e never has = has is
+    of_test false is e never has = absurd (false≢true (sym (never is) ∙ e))
+
+pub returns-then-not-are_apart-clause-void : goal.returns-then-not-are_apart-clause-void
+returns-then-not-are_apart-clause-void c = λ p ok index.
+    let setup = spelled_setup c.args.class c.args.code c.ends-number.result.0 c.ends-number.result.1 c.ends-number.result.2 (list_of c.in_ok-stand.stand) c.target_of-target.result index.image c.ends-number.ensures c.in_ok-stand.ensures.some
+    c.target_of-target.ensures index.spells in
+    false≢true (sym c.if-not-are_apart.true ∙ c.are_apart.ensures.1 (fits_apart (list_of c.in_ok-stand.stand) setup.0))
+
+pub returns-then-not-is_least-clause-void : goal.returns-then-not-is_least-clause-void
+returns-then-not-is_least-clause-void c = λ p ok index.
+    let list = list_of c.in_ok-stand.stand in
+    let setup = spelled_setup c.args.class c.args.code c.ends-number.result.0 c.ends-number.result.1 c.ends-number.result.2 list c.target_of-target.result index.image c.ends-number.ensures c.in_ok-stand.ensures.some
+    c.target_of-target.ensures index.spells in
+    let here : Setup = setup_of list c.ends-number.result.1 c.target_of-target.result in
+    let spells : Spells c.args.class c.args.code here = subst (Spells c.args.class c.args.code) setup.1 index.spells in
+    let settled : IsSettled here = index_settled c.facts.ensures p here c.args.class c.args.code ok index spells in
+    let best = c.least_of_images.ensures here
+    (stand_spelled c.args.class c.args.code c.ends-number.result.0 c.in_ok-stand.stand c.ends-number.result.1 c.ends-number.result.2 c.target_of-target.result c.in_ok-stand.ensures.some (fits_apart list setup.0) c.target_of-target.ensures spells settled) in
+    false≢true (sym c.if-not-is_least.true ∙ c.eq-is_least.ensures ∙ told_code c.least_of_images.result c.args.code (least_is_index c.facts.ensures c.args.class here c.args.code c.least_of_images.result spells.admissible settled spells best
+    (index_spelled c.facts.ensures p here c.args.class c.args.code ok index spells)))
+
+pub admitted-requires-clause-few : goal.admitted-requires-clause-few
+admitted-requires-clause-few c = c.board_of-board.ensures.few
+
+pub admitted-requires-clause-pawns : goal.admitted-requires-clause-pawns
+admitted-requires-clause-pawns c =
+    subst (λ (men : Placement). PawnsFit men) (sym c.board_of-board.ensures.men) (pawns_spelled c.args.class c.ends-number.result.0 (list_of c.in_ok-stand.stand) c.in_ok-stand.ensures.some)
+
+pub admitted-requires-clause-white : goal.admitted-requires-clause-white
+admitted-requires-clause-white c =
+    subst (λ (men : Placement). IsKingOn men White c.in_ok-stand.stand.white) (sym c.board_of-board.ensures.men)
+    (kings_spelled c.args.class c.ends-number.result.0 c.in_ok-stand.stand (omega (arith, c.number-number.ensures.below, c.number-number.ensures.value)) c.in_ok-stand.ensures.some (c.are_apart.ensures.0 c.if-not-are_apart.false)).white
+
+pub admitted-requires-clause-black : goal.admitted-requires-clause-black
+admitted-requires-clause-black c =
+    subst (λ (men : Placement). IsKingOn men Black c.in_ok-stand.stand.black) (sym c.board_of-board.ensures.men)
+    (kings_spelled c.args.class c.ends-number.result.0 c.in_ok-stand.stand (omega (arith, c.number-number.ensures.below, c.number-number.ensures.value)) c.in_ok-stand.ensures.some (c.are_apart.ensures.0 c.if-not-are_apart.false)).black
 
 pub returns-in_err-position-clause-void : goal.returns-in_err-position-clause-void
 returns-in_err-position-clause-void c =
-    subst (λ o. IfNone o (IsVoid c.args.class c.args.code)) (sym c.from_residual.ensures)
-    (λ p ok index. c.in_err-position.ensures.none index.image index.spells)
+    subst (λ o. IfNone o (IsVoid c.args.class c.args.code)) (sym c.from_residual-in_err-position.ensures)
+    (λ p ok index.
+    let setup = spelled_setup c.args.class c.args.code c.ends-number.result.0 c.ends-number.result.1 c.ends-number.result.2 (list_of c.in_ok-stand.stand) c.target_of-target.result index.image c.ends-number.ensures c.in_ok-stand.ensures.some
+    c.target_of-target.ensures index.spells in
+    false≢true (c.in_err-position.ensures.admits.1 (subst (λ (men : Placement). IsAdmissible (record { men = men; side = c.ends-number.result.1; target = c.target_of-target.result })) (sym c.board_of-board.ensures.men)
+    (subst IsAdmissible setup.1 index.spells.admissible))))
+
+-- the position is the setup, which the code spells
+is_setup : (c : After-is_settled) → c.in_ok-position.position ≡ setup_of (list_of c.in_ok-stand.stand) c.ends-number.result.1 c.target_of-target.result
+is_setup c = on_board_of (list_of c.in_ok-stand.stand) c.ends-number.result.1 c.target_of-target.result c.board_of-board.result c.in_ok-position.position c.board_of-board.ensures.men c.in_ok-position.ensures.setup
+
+spelled : (c : After-is_settled) → Spells c.args.class c.args.code c.in_ok-position.position
+spelled c =
+    setup_spelled c.args.class c.args.code c.ends-number.result.0 c.ends-number.result.1 c.ends-number.result.2 (list_of c.in_ok-stand.stand) c.target_of-target.result c.in_ok-position.position
+    c.ends-number.ensures c.in_ok-stand.ensures.some c.target_of-target.ensures (c.are_apart.ensures.0 c.if-not-are_apart.false) (is_setup c)
+    (subst IsAdmissible (sym c.in_ok-position.ensures.setup) (c.in_ok-position.ensures.admits.0 refl))
+
+pub returns-then-is_settled-clause-spells : goal.returns-then-is_settled-clause-spells
+returns-then-is_settled-clause-spells c = spelled c.before
+
+pub returns-then-is_settled-clause-index : goal.returns-then-is_settled-clause-index
+returns-then-is_settled-clause-index c =
+    setup_index c.facts.ensures c.args.class c.args.code c.ends-number.result.0 c.ends-number.result.1 c.ends-number.result.2 c.in_ok-stand.stand c.target_of-target.result c.in_ok-position.position c.least_of_images.result
+    c.in_ok-stand.ensures.some c.target_of-target.ensures (c.are_apart.ensures.0 c.if-not-are_apart.false) (is_setup c.before) (spelled c.before) (c.is_settled.ensures.0 c.if-is_settled.true) c.least_of_images.ensures
+    (code_told c.least_of_images.result c.args.code (sym c.eq-is_least.ensures ∙ c.if-not-is_least.false))
 
 pub returns-else-is_settled-clause-void : goal.returns-else-is_settled-clause-void
-returns-else-is_settled-clause-void c = λ p ok index. elim c.else-is_settled.branch [
-  | else-is_settled-via-then-is_settled+else-index-code w ↦
-      w.if-index-code.false (one_index c.facts.ensures c.in_ok-position.position c.args.class w.index.result c.args.code c.in_ok-position.ensures.some.admissible w.index.ensures
-      (index_spelled c.facts.ensures p c.in_ok-position.position c.args.class c.args.code ok index c.in_ok-position.ensures.some))
-  | else-is_settled-via-else-is_settled w ↦
-      false≢true (w.if-is_settled.ensures.1 (index_settled c.facts.ensures p c.in_ok-position.position c.args.class c.args.code ok index c.in_ok-position.ensures.some))
-]
+returns-else-is_settled-clause-void c = λ p ok index.
+    false≢true (sym c.if-is_settled.false ∙ c.is_settled.ensures.1 (index_settled c.facts.ensures p c.in_ok-position.position c.args.class c.args.code ok index (spelled c.before)))

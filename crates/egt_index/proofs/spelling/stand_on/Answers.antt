@@ -2,9 +2,9 @@ use Rattle.std.proofs.Common.{◌<◌, ◌≤◌, ap, sym, ◌∙◌, subst, IfN
 use Rattle.egt_class.specs.Material.{material_of}
 use Rattle.egt_index.specs.Code.{king_square}
 use Rattle.egt_index.specs.Size.{king_base, has_pawns, men_beside}
-use Rattle.egt_index.specs.Spelled.{SpellsMen, SpellsNoMen}
+use Rattle.egt_index.specs.Spelled.{SpellsNoMen}
 use Rattle.egt_index.proofs.Splitting.{all_told, spells_men, spells_no_men}
-use Rattle.egt_index.proofs.spelling.men_on.Goals as goal
+use Rattle.egt_index.proofs.spelling.stand_on.Goals as goal
 
 pub returns-in_err-white-clause-none : goal.returns-in_err-white-clause-none
 returns-in_err-white-clause-none c =
@@ -15,9 +15,8 @@ returns-in_err-white-clause-none c =
 
 pub returns-clause-some : goal.returns-clause-some
 returns-clause-some c =
-    subst (SpellsMen (material_of c.args.class) c.args.number) (sym c.listed.ensures)
-    (spells_men (material_of c.args.class) c.args.number c.split-high.result.0 c.in_ok-white.white _
+    spells_men (material_of c.args.class) c.args.number c.split-high.result.0 c.in_ok-white.white _
     (subst (λ pawns. c.split-high.result.0 < king_base pawns) c.has_pawns.ensures c.in_ok-white.ensures.below)
     (c.in_ok-white.ensures.found ∙ ap (λ pawns. king_square pawns c.split-high.result.0) c.has_pawns.ensures)
     (all_told (has_pawns (material_of c.args.class)) c.args.number c.take-before_next.result.0 c.take-before_last.result.0 c.split-high.result.0 c.split-high.result.1 (men_beside (material_of c.args.class))
-    _ _ _ _ c.beside-first.ensures.men (c.take-before_last.ensures (has_pawns (material_of c.args.class))) (c.take-before_next.ensures (has_pawns (material_of c.args.class))) c.split-high.ensures))
+    _ _ _ _ c.beside-first.ensures.men (c.take-before_last.ensures (has_pawns (material_of c.args.class))) (c.take-before_next.ensures (has_pawns (material_of c.args.class))) c.split-high.ensures)

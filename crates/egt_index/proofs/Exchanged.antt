@@ -1,0 +1,97 @@
+-- The men of a class whose sides have the same, with colours exchanged.
+use Rattle.std.proofs.Common.{◌≡◌, ℕ, ◌<◌, ◌||◌, not, Bool, true, false, eqb, List, [], ◌∷◌, ◌++◌, Some, None, refl, sym, ap, ◌∙◌, subst}
+use Rattle.std.specs.Option.{option_to_list}
+use Rattle.std.proofs.lemmas.Bool.{false≢true, eqb-true}
+use Rattle.egt_board.specs.declared.man.Side.TheVariants.{White, Black}
+use Rattle.egt_board.specs.declared.man.Man.{Man}
+use Rattle.egt_board.specs.declared.mirror.Mirror.TheVariants.{Colours}
+use Rattle.egt_board.specs.Attack.{king_of}
+use Rattle.egt_board.specs.Images.{man_number}
+use Rattle.egt_board.specs.Mirror.{man_by}
+use Rattle.egt_board.specs.Placement.{Placement}
+use Rattle.egt_board.specs.Turned.{turned_man}
+use Rattle.egt_class.specs.Below.{all_below, passes_below}
+use Rattle.egt_class.specs.Material.{material_of, materials, has_equal_sides}
+use Rattle.egt_index.specs.Size.{men_beside}
+use Rattle.egt_index.specs.Stood.{Entry, men_among, list_of, AllStand, Stood, on_square_of}
+use Rattle.egt_index.specs.declared.stand.Stand.{Stand}
+use Rattle.egt_index.proofs.Counted.{man_told}
+use Rattle.egt_index.proofs.Standing.{turned_back}
+use Rattle.egt_index.proofs.Tested.{implied}
+
+-- no man, or a man and the same of the other side
+is_pair : List Man → Bool
+is_pair [] = true
+is_pair (a ∷ []) = false
+is_pair (a ∷ b ∷ []) = eqb (man_number (man_by Colours a)) (man_number b)
+is_pair (a ∷ b ∷ d ∷ list) = false
+
+all_pairs : all_below (λ c. not (has_equal_sides c) || is_pair (men_beside (material_of c))) 36 ≡ true
+unfolding all_below is_pair has_equal_sides material_of materials
+all_pairs = refl
+
+pair_there : (c : ℕ) → c < 36 → has_equal_sides c ≡ true → is_pair (men_beside (material_of c)) ≡ true
+pair_there c c_in equal = implied (has_equal_sides c) _ equal (passes_below (λ c. not (has_equal_sides c) || is_pair (men_beside (material_of c))) 36 c all_pairs c_in)
+
+-- a man of the one colours is the other man of the others
+here_there : (flips : Bool) (x y : Man) → man_by Colours x ≡ y → turned_man flips x ≡ turned_man (not flips) y
+here_there false x y same = sym (turned_back true x) ∙ ap (man_by Colours) same
+here_there true x y same = same
+
+there_here : (flips : Bool) (x y : Man) → man_by Colours x ≡ y → turned_man flips y ≡ turned_man (not flips) x
+there_here false x y same = sym same
+there_here true x y same = ap (man_by Colours) (sym same) ∙ turned_back true x
+
+all_exchanged : (flips : Bool) (men : Placement) (w b : ℕ) (x y : Entry) → is_pair (men_among (option_to_list x ++ option_to_list y)) ≡ true
+    → AllStand flips men ((king_of White, w) ∷ (king_of Black, b) ∷ (option_to_list x ++ option_to_list y))
+    → AllStand (not flips) men ((king_of White, b) ∷ (king_of Black, w) ∷ (option_to_list (on_square_of x y) ++ option_to_list (on_square_of y x)))
+unfolding is_pair
+all_exchanged flips men w b None None pair h = (
+  h.3.0,
+  h.3.1 ∙ ap Some (there_here flips (king_of White) (king_of Black) refl),
+  ((λ same. h.2.0 (sym same)), tt),
+  (h.0, h.1 ∙ ap Some (here_there flips (king_of White) (king_of Black) refl), tt, tt),
+)
+all_exchanged flips men w b None (Some d) pair h = absurd (false≢true pair)
+all_exchanged flips men w b (Some e) None pair h = absurd (false≢true pair)
+all_exchanged flips men w b (Some e) (Some d) pair h =
+    let same : man_by Colours e.0 ≡ d.0 = man_told (man_by Colours e.0) d.0 (eqb-true _ _ pair) in (
+      h.3.0,
+      h.3.1 ∙ ap Some (there_here flips (king_of White) (king_of Black) refl),
+      ((λ same. h.2.0 (sym same)), (h.3.2.1.0, (h.3.2.0, tt))),
+      (
+        h.0,
+        h.1 ∙ ap Some (here_there flips (king_of White) (king_of Black) refl),
+        (h.2.1.1.0, (h.2.1.0, tt)),
+        (
+          h.3.3.3.0,
+          h.3.3.3.1 ∙ ap Some (there_here flips e.0 d.0 same),
+          ((λ same. h.3.3.2.0 (sym same)), tt),
+          (h.3.3.0, h.3.3.1 ∙ ap Some (here_there flips e.0 d.0 same), tt, tt),
+        ),
+      ),
+    )
+
+men_exchanged : (x y : Entry) → men_among (option_to_list (on_square_of x y) ++ option_to_list (on_square_of y x)) ≡ men_among (option_to_list x ++ option_to_list y)
+men_exchanged None None = refl
+men_exchanged None (Some d) = refl
+men_exchanged (Some e) None = refl
+men_exchanged (Some e) (Some d) = refl
+
+pub stood_exchanged : (c : ℕ) (flips : Bool) (men : Placement) (stand other : Stand) → c < 36 → has_equal_sides c ≡ true → other.white ≡ stand.black → other.black ≡ stand.white
+    → other.next ≡ on_square_of stand.next stand.last → other.last ≡ on_square_of stand.last stand.next → Stood c flips men (list_of stand) → Stood c (not flips) men (list_of other)
+stood_exchanged c flips men stand other c_in equal white black next last stood = record {
+  are = ap (λ l. king_of White ∷ king_of Black ∷ l) (ap (λ (x : Entry). men_among (option_to_list x ++ option_to_list other.last)) next ∙ ap (λ (x : Entry). men_among (option_to_list (on_square_of stand.next stand.last) ++ option_to_list x)) last ∙ men_exchanged stand.next stand.last) ∙ stood.are;
+  all =
+      subst (λ w. AllStand (not flips) men ((king_of White, w) ∷ (king_of Black, other.black) ∷ (option_to_list other.next ++ option_to_list other.last))) (sym white)
+      (subst (λ b. AllStand (not flips) men ((king_of White, stand.black) ∷ (king_of Black, b) ∷ (option_to_list other.next ++ option_to_list other.last))) (sym black)
+      (subst (λ (x : Entry). AllStand (not flips) men ((king_of White, stand.black) ∷ (king_of Black, stand.white) ∷ (option_to_list x ++ option_to_list other.last))) (sym next)
+      (subst (λ (y : Entry). AllStand (not flips) men ((king_of White, stand.black) ∷ (king_of Black, stand.white) ∷ (option_to_list (on_square_of stand.next stand.last) ++ option_to_list y))) (sym last)
+      (all_exchanged flips men stand.white stand.black stand.next stand.last pair stood.all))));
+}
+  where
+    tails : {a b : Man} {x y : List Man} → a ∷ b ∷ x ≡ a ∷ b ∷ y → x ≡ y
+    tails e = cc
+
+    pair : is_pair (men_among (option_to_list stand.next ++ option_to_list stand.last)) ≡ true
+    pair = ap is_pair (tails stood.are) ∙ pair_there c c_in equal

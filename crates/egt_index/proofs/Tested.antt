@@ -1,0 +1,15 @@
+-- What tests tell.
+use Rattle.std.proofs.Common.{◌≡◌, ◌⊎◌, ◌||◌, not, Bool, true, false, refl, inl, inr}
+use Rattle.std.proofs.lemmas.Bool.{false≢true}
+
+pub implied : (a b : Bool) → a ≡ true → (not a || b) ≡ true → b ≡ true
+implied true b h e = e
+implied false b h e = absurd (false≢true h)
+
+pub one_of : (a b : Bool) → (a || b) ≡ true → (a ≡ true) ⊎ (b ≡ true)
+one_of true b h = inl refl
+one_of false b h = inr h
+
+pub not_both : (b : Bool) → b ≡ true → not b ≡ true → ⊥
+not_both true e h = false≢true h
+not_both false e h = false≢true e
