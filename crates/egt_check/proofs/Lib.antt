@@ -1,0 +1,5 @@
+pub mod Carry
+pub mod Reading
+pub mod Alike
+pub mod Told
+pub mod TrueTables
