@@ -22,3 +22,4 @@ pub mod Standing
 pub mod Homing
 pub mod After
 pub mod LeastTurn
+pub mod Telling
