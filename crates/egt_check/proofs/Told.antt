@@ -11,7 +11,7 @@ use Rattle.egt_table.specs.Table.{TableValue}
 use Rattle.egt_check.specs.Entry.{Shows}
 use Rattle.egt_check.specs.Facts.{Facts}
 use Rattle.egt_check.specs.Tables.{Tables, entry_at, HasEntry, ShowsOf}
-use Rattle.egt_check.proofs.Reading.{read, read_shown}
+use Rattle.egt_check.specs.Reading.{read, read_shown}
 
 module _ (facts : Facts) (tables : Tables) where
   value_in : Column → ℕ → Option TableValue → Value

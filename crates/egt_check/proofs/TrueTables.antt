@@ -28,7 +28,7 @@ use Rattle.egt_check.specs.Tables.{Tables, entry_at, HasEntry, ShowsOf}
 use Rattle.egt_check.specs.Truth.{Tells, IsTrueTable, HasTrueChildren}
 use Rattle.egt_check.proofs.Alike.{StepAlike, settled_image_alike, indexed_class, images_show_alike}
 use Rattle.egt_check.proofs.Carry.{ShownAlike, PlaysLike, carry}
-use Rattle.egt_check.proofs.Reading.{in_range, shown_range, shown_once}
+use Rattle.egt_check.specs.Reading.{in_range, shown_range, shown_once}
 use Rattle.egt_check.proofs.Told.{value_at, shown_told, told_shown}
 
 module _ (facts : Facts) (tables : Tables) (t : TableValue) (sized : IsTable t) (here : tables t.class ≡ Some t) (children : HasTrueChildren tables t.class) where

@@ -5,4 +5,5 @@ pub mod Rules
 pub mod Truth
 pub mod Library
 pub mod Names
+pub mod Reading
 pub mod Facts

@@ -64,9 +64,12 @@ pub passing_is_below : (n : ℕ) (p : ℕ → Bool) (k : ℕ) → Contains (pass
 unfolding passing_below
 passing_is_below n p k c = All-contains (λ x. x < n) _ k (kept_below p 0 n n (omega arith)) c
 
-pub passing_all : (P : ℕ → Type 0) (n : ℕ) (p : ℕ → Bool) → ((k : ℕ) → p k ≡ true → P k) → All P (passing_below n p)
-unfolding passing_below
-passing_all P n p h = passing P p h (range_with_len 0 n)
+all_members : (P : ℕ → Type 0) (xs : List ℕ) → ((k : ℕ) → Contains xs k → P k) → All P xs
+all_members P [] h = All-nil P
+all_members P (x ∷ xs) h = All-cons P x xs (h x (0, omega arith, refl)) (all_members P xs (λ k c. h k (suc c.0, omega (arith, c.1), c.2)))
+
+pub passing_all : (P : ℕ → Type 0) (n : ℕ) (p : ℕ → Bool) → ((k : ℕ) → k < n → p k ≡ true → P k) → All P (passing_below n p)
+passing_all P n p h = all_members P (passing_below n p) (λ k c. h k (passing_is_below n p k c) (passing_passes n p k c))
 
 pub passing_ascends : (n : ℕ) (p : ℕ → Bool) → IsStrictlyIncreasing (passing_below n p)
 unfolding passing_below

@@ -71,3 +71,13 @@ read_shown x v s = of_told (told x)
     of_told : (d : Decided ((w : Value) × Shows x w)) → value_told d ≡ v
     of_told (inl shown) = shown_once x shown.0 v shown.1 s
     of_told (inr nothing) = absurd (nothing (v, s))
+
+-- an entry has room for what is read of one
+told_short : (x : ℕ) (d : Decided ((v : Value) × Shows x v)) → IsShort (value_told d)
+unfolding value_told
+told_short x (inl shown) = shown.1.0
+told_short x (inr nothing) = tt
+
+pub read_short : (x : ℕ) → IsShort (read x)
+unfolding read
+read_short x = told_short x (told x)

@@ -1,0 +1,6 @@
+//! The builder of tables.
+#![tactic(auto)]
+
+pub mod mate_game;
+
+pub use mate_game::MateGame;
