@@ -17,7 +17,7 @@ use egt_moves::laws::{
 };
 
 /// What holds of play, images, classes and indexes.
-pub(crate) fn facts()
+pub fn facts()
     ensures { Facts }
 {
     images_form_classes();

@@ -141,3 +141,14 @@ passing_is n p xs ascends there back =
     (pairs_rise (passing_below n p) (AllPairs-from_increasing (passing_below n p) (passing_ascends n p)))
     (λ k c. let h = there k c in passing_has n p k h.0 h.1)
     (λ k c. back k (passing_is_below n p k c) (passing_passes n p k c))
+
+-- the first number of such a list is its least
+pub first_is_least : (n : ℕ) (p : ℕ → Bool) (x : ℕ) (xs : List ℕ) → x ∷ xs ≡ passing_below n p → (k : ℕ) → Contains (x ∷ xs) k → x ≤ k
+unfolding Rises
+first_is_least n p x xs e k c = elim (in_tail x k xs c) [
+  | inl same ↦ omega (arith, same)
+  | inr behind ↦ let lt = rises.0 k behind in omega (arith, lt)
+]
+  where
+    rises : Rises (x ∷ xs)
+    rises = subst Rises (sym e) (pairs_rise (passing_below n p) (AllPairs-from_increasing (passing_below n p) (passing_ascends n p)))

@@ -1,0 +1,15 @@
+use Rattle.std.proofs.Common.{refl}
+use Rattle.egt_board.specs.DecidedSetup.{settled_form}
+use Rattle.egt_sweep.proofs.laws.laws.Goals as goal
+
+pub returns : goal.returns
+returns c = record {
+  facts = c.facts.ensures;
+  settled = λ p. (c.positions_settle_once.ensures.made p (settled_form p)).1 refl;
+  settled_once = λ p q settles. (c.positions_settle_once.ensures.made p q).0 settles;
+  turns = c.images_are_turns.ensures.told;
+  one_spelled = c.codes_spell_one_position.ensures;
+  index_or_void = c.a_code_is_an_index_or_void.ensures;
+  listed = c.moves_are_listed.ensures.legal;
+  played = c.moves_lead_to_one.ensures.played;
+}

@@ -1,0 +1,30 @@
+-- The moves that go on in a class's game, as relations.
+use Rattle.std.specs.Prelude.{ℕ}
+use Rattle.egt_board.specs.Setup.{Setup}
+use Rattle.egt_index.specs.Code.{Spells}
+use Rattle.egt_index.specs.Index.{IsIndex}
+use Rattle.egt_moves.specs.Chess.{Zeroes}
+use Rattle.egt_moves.specs.Legal.{Leads}
+use Rattle.egt_moves.specs.declared.chess_move.Move.{Move}
+use Rattle.egt_table.specs.declared.column.Column.{Column}
+use Rattle.egt_table.specs.declared.column.Column.TheVariants.{Mate, Zeroing}
+
+-- the position that the index spells
+pub record IsAt (c i : ℕ) (p : Setup) : Type 0 where
+  pub spells : Spells c i p
+  pub index : IsIndex c p i
+
+-- the move from p to q goes on in the game: it stays in the class, or does not zero
+abbrev pub GoesOn : Column → ℕ → Setup → Move → Setup → Type 0
+GoesOn Mate c p m q = (i : ℕ) × IsIndex c q i
+GoesOn Zeroing c p m q = ¬ Zeroes p m
+
+-- a move that goes on leads from the position at i to one whose index is j
+pub record Connects (column : Column) (c i j : ℕ) : Type 0 where
+  pub from : Setup
+  pub at : IsAt c i from
+  pub move : Move
+  pub to : Setup
+  pub leads : Leads from move to
+  pub on : GoesOn column c from move to
+  pub index : IsIndex c to j

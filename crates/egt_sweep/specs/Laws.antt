@@ -1,0 +1,24 @@
+-- What holds of play, images, classes and indexes, by the laws of the crates below.
+use Rattle.std.specs.Prelude.{◌≡◌, ℕ, ◌<◌, ◌⊎◌, ◌↔◌, Some}
+use Rattle.std.specs.List.{Contains}
+use Rattle.egt_board.specs.DecidedSetup.{settled_form}
+use Rattle.egt_board.specs.DecidedTurns.{IsTurn}
+use Rattle.egt_board.specs.Images.{AreImages}
+use Rattle.egt_board.specs.Settled.{SettlesTo}
+use Rattle.egt_board.specs.Setup.{Setup, IsAdmissible}
+use Rattle.egt_index.specs.Code.{Spells}
+use Rattle.egt_index.specs.Index.{IsIndex, IsVoid}
+use Rattle.egt_moves.specs.Legal.{Leads, IsLegal}
+use Rattle.egt_moves.specs.Moves.{moves_of, played}
+use Rattle.egt_moves.specs.declared.chess_move.Move.{Move}
+use Rattle.egt_check.specs.Facts.{Facts}
+
+pub record Laws : Type 0 where
+  pub facts : Facts
+  pub settled : (p : Setup) → SettlesTo p (settled_form p)
+  pub settled_once : (p q : Setup) → SettlesTo p q → q ≡ settled_form p
+  pub turns : (p q : Setup) → IsAdmissible p → AreImages p q ↔ IsTurn p q
+  pub one_spelled : (c code : ℕ) (p q : Setup) → Spells c code p → Spells c code q → p ≡ q
+  pub index_or_void : (c code : ℕ) → c < 36 → ((p : Setup) × Spells c code p × IsIndex c p code) ⊎ IsVoid c code
+  pub listed : (p : Setup) (m : Move) → IsAdmissible p → Contains (moves_of p) m ↔ IsLegal p m
+  pub played : (p q : Setup) (m : Move) → Leads p m q ↔ (played p m ≡ Some q)

@@ -1,0 +1,20 @@
+//! The laws of the crates below that the games rest on.
+ghost use Rattle.egt_sweep.specs.Laws.{Laws};
+
+use egt_board::laws::{images_are_turns, positions_settle_once};
+use egt_check::facts::facts;
+use egt_index::laws::{a_code_is_an_index_or_void, codes_spell_one_position};
+use egt_moves::laws::{moves_are_listed, moves_lead_to_one};
+
+/// What holds of play, images, classes and indexes.
+pub(crate) fn laws()
+    ensures { Laws }
+{
+    facts();
+    positions_settle_once();
+    images_are_turns();
+    codes_spell_one_position();
+    a_code_is_an_index_or_void();
+    moves_are_listed();
+    moves_lead_to_one();
+}
