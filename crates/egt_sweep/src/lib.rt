@@ -1,6 +1,7 @@
 //! The builder of tables.
 #![tactic(auto)]
 
+pub mod ascending;
 pub mod laws;
 pub mod mate_game;
 
