@@ -9,17 +9,9 @@ use Rattle.egt_index.specs.Index.{IsIndex}
 use Rattle.egt_moves.specs.Arena.{Value}
 use Rattle.egt_moves.specs.Chess.{chess}
 use Rattle.egt_table.specs.declared.column.Column.{Column}
+use Rattle.egt_check.specs.Alike.{StepAlike}
 use Rattle.egt_check.specs.Facts.{Facts}
 use Rattle.egt_check.specs.Tables.{Tables, HasEntry, ShowsOf}
-
--- each step from p has its like from p', to an image
-abbrev pub HasImageSteps : Setup → Setup → Type 0
-HasImageSteps p p' = (q : Setup) (m : chess.Move p q) → (q' : Setup) × (m' : chess.Move p' q') × (chess.Zeroes p q m ↔ chess.Zeroes p' q' m') × AreImages q q'
-
-pub record StepAlike (p p' : Setup) : Type 0 where
-  pub checkmate : chess.Checkmate p ↔ chess.Checkmate p'
-  pub there : HasImageSteps p p'
-  pub back : HasImageSteps p' p
 
 module _ (facts : Facts) where
   -- an image of its settled form plays like a position
@@ -94,3 +86,8 @@ module _ (facts : Facts) where
   pub images_show_alike : (tables : Tables) (column : Column) (v : Value) (p q : Setup) → IsAdmissible p → AreImages p q → ShowsOf tables column p v ↔ ShowsOf tables column q v
   images_show_alike tables column v p q ok images =
       (image_shows tables column v p q ok images, image_shows tables column v q p (facts.image_admissible p q ok images) (facts.images_back p q ok images))
+
+  -- a position plays like the one that its index spells
+  pub spelled_alike : (one_spelled : (c code : ℕ) (p q : Setup) → Spells c code p → Spells c code q → p ≡ q) (c i : ℕ) (p q : Setup) → IsAdmissible p → IsIndex c p i → Spells c i q → StepAlike p q
+  spelled_alike one_spelled c i p q ok is spells =
+      subst (StepAlike p) (one_spelled c i is.image q is.spells spells) (settled_image_alike p is.settled is.image ok is.settles is.images)

@@ -20,13 +20,14 @@ use Rattle.egt_table.specs.declared.column.Column.TheVariants.{Mate, Zeroing}
 use Rattle.egt_table.specs.Table.{TableValue, IsTable}
 use Rattle.egt_check.specs.declared.rule.Rule.{Rule}
 use Rattle.egt_check.specs.declared.rule.Rule.TheVariants as rules
+use Rattle.egt_check.specs.Alike.{StepAlike}
 use Rattle.egt_check.specs.Entry.{Shows}
 use Rattle.egt_check.specs.Facts.{Facts}
 use Rattle.egt_check.specs.Fits.{Shown, FitsBeside}
 use Rattle.egt_check.specs.Rules.{Fits, Keeps, KeepsRules}
 use Rattle.egt_check.specs.Tables.{Tables, entry_at, HasEntry, ShowsOf}
 use Rattle.egt_check.specs.Truth.{Tells, IsTrueTable, HasTrueChildren}
-use Rattle.egt_check.proofs.Alike.{StepAlike, settled_image_alike, indexed_class, images_show_alike}
+use Rattle.egt_check.proofs.Alike.{settled_image_alike, indexed_class, images_show_alike}
 use Rattle.egt_check.proofs.Carry.{ShownAlike, PlaysLike, carry}
 use Rattle.egt_check.specs.Reading.{in_range, shown_range, shown_once}
 use Rattle.egt_check.proofs.Told.{value_at, shown_told, told_shown}

@@ -5,5 +5,6 @@ pub mod Rules
 pub mod Truth
 pub mod Library
 pub mod Names
+pub mod Alike
 pub mod Reading
 pub mod Facts
