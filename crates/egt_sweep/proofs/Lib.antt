@@ -1,2 +1,4 @@
 pub mod Linked
 pub mod Putting
+pub mod Staying
+pub mod Collecting

@@ -1,5 +1,6 @@
 -- The moves that go on in a class's game, as relations.
-use Rattle.std.specs.Prelude.{ℕ}
+use Rattle.std.specs.Prelude.{ℕ, List}
+use Rattle.std.specs.List.{Contains}
 use Rattle.egt_board.specs.Setup.{Setup}
 use Rattle.egt_index.specs.Code.{Spells}
 use Rattle.egt_index.specs.Index.{IsIndex}
@@ -28,3 +29,11 @@ pub record Connects (column : Column) (c i j : ℕ) : Type 0 where
   pub leads : Leads from move to
   pub on : GoesOn column c from move to
   pub index : IsIndex c to j
+
+-- the legal move goes on to a position whose index is k
+abbrev pub LeadsOn : Column → ℕ → Setup → Move → ℕ → Type 0
+LeadsOn column c p m k = (q : Setup) × Leads p m q × GoesOn column c p m q × IsIndex c q k
+
+-- so does one of these
+abbrev pub SomeLeadsOn : Column → ℕ → Setup → List Move → ℕ → Type 0
+SomeLeadsOn column c p ms k = (m : Move) × Contains ms m × LeadsOn column c p m k

@@ -2,6 +2,7 @@
 #![tactic(auto)]
 
 pub mod ascending;
+pub mod edges;
 pub mod laws;
 pub mod mate_game;
 

@@ -12,4 +12,8 @@ returns c = record {
   index_or_void = c.a_code_is_an_index_or_void.ensures;
   listed = c.moves_are_listed.ensures.legal;
   played = c.moves_lead_to_one.ensures.played;
+  indexed_class = c.an_indexed_position_is_of_the_class.ensures;
+  plays_alike = c.a_position_plays_as_its_index_spells.ensures;
+  quiet_class = c.moves_lead_into_the_class_or_a_child.ensures.quiet;
+  other_class = c.moves_lead_into_the_class_or_a_child.ensures.other;
 }
