@@ -2,3 +2,4 @@ pub mod Linked
 pub mod Putting
 pub mod Staying
 pub mod Collecting
+pub mod Standing

@@ -5,5 +5,6 @@ pub mod ascending;
 pub mod edges;
 pub mod laws;
 pub mod mate_game;
+pub mod nodes;
 
 pub use mate_game::MateGame;
