@@ -3,3 +3,4 @@ pub mod Putting
 pub mod Staying
 pub mod Collecting
 pub mod Standing
+pub mod Backward

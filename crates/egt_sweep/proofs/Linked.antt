@@ -55,7 +55,7 @@ module _ (laws : Laws) where
   told_turned s x o e turn = subst (λ y. is_turned s y ≡ true) (sym e) (tells_where (decided_turn s x) turn)
 
   settles : (q : Setup) → SettlesTo q (settled_form q)
-  settles q = laws.settled q
+  settles q = laws.settles q
 
   passes : ℕ → Setup → ℕ → Bool
   passes c q code = is_turned (settled_form q) (spelled c code)

@@ -38,7 +38,7 @@ promoting true kind fits = refl
 promoting false kind fits = absurd fits
 
 -- a move that no pawn makes promotes nothing
-no_promotion : (p q : Setup) (m : Move) → Leads p m q → ¬ IsPawnOn p.men m.from → (promo : Option Kind) → promo ≡ m.promo → m.promo ≡ None
+pub no_promotion : (p q : Setup) (m : Move) → Leads p m q → ¬ IsPawnOn p.men m.from → (promo : Option Kind) → promo ≡ m.promo → m.promo ≡ None
 no_promotion p q m leads none None e = sym e
 no_promotion p q m leads none (Some kind) e =
     let fits = subst (FitsPromotion (promotes leads.man m.to)) (sym e) leads.promotion in

@@ -1,5 +1,5 @@
 -- The moves that go on in a class's game, as relations.
-use Rattle.std.specs.Prelude.{ℕ, List}
+use Rattle.std.specs.Prelude.{ℕ, List, IsTrue}
 use Rattle.std.specs.List.{Contains}
 use Rattle.egt_board.specs.Setup.{Setup}
 use Rattle.egt_index.specs.Code.{Spells}
@@ -7,6 +7,7 @@ use Rattle.egt_index.specs.Index.{IsIndex}
 use Rattle.egt_moves.specs.Chess.{Zeroes}
 use Rattle.egt_moves.specs.Legal.{Leads}
 use Rattle.egt_moves.specs.declared.chess_move.Move.{Move}
+use Rattle.egt_unmoves.specs.declared.unmove.Unmove.{Unmove}
 use Rattle.egt_table.specs.declared.column.Column.{Column}
 use Rattle.egt_table.specs.declared.column.Column.TheVariants.{Mate, Zeroing}
 
@@ -37,3 +38,12 @@ LeadsOn column c p m k = (q : Setup) × Leads p m q × GoesOn column c p m q × 
 -- so does one of these
 abbrev pub SomeLeadsOn : Column → ℕ → Setup → List Move → ℕ → Type 0
 SomeLeadsOn column c p ms k = (m : Move) × Contains ms m × LeadsOn column c p m k
+
+-- moves of the game take the unmove back: in the game of zeroing moves a pawn's do not
+abbrev pub GoesBack : Column → Unmove → Type 0
+GoesBack Mate u = Unit {0}
+GoesBack Zeroing u = ¬ IsTrue u.pawn
+
+-- the position before has the index k, and its move goes on
+abbrev pub ComesFrom : Column → ℕ → Unmove → ℕ → Type 0
+ComesFrom column c u k = GoesBack column u × IsIndex c u.before k

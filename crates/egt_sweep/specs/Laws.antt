@@ -4,7 +4,7 @@ use Rattle.std.specs.List.{Contains}
 use Rattle.egt_board.specs.DecidedSetup.{settled_form}
 use Rattle.egt_board.specs.DecidedTurns.{IsTurn}
 use Rattle.egt_board.specs.Images.{AreImages}
-use Rattle.egt_board.specs.Settled.{SettlesTo}
+use Rattle.egt_board.specs.Settled.{IsSettled, SettlesTo}
 use Rattle.egt_board.specs.Setup.{Setup, IsAdmissible}
 use Rattle.egt_class.specs.Children.{children_of}
 use Rattle.egt_class.specs.Membership.{IsOf}
@@ -14,12 +14,14 @@ use Rattle.egt_moves.specs.Exchange.{Captures}
 use Rattle.egt_moves.specs.Legal.{Leads, IsLegal}
 use Rattle.egt_moves.specs.Moves.{moves_of, played}
 use Rattle.egt_moves.specs.declared.chess_move.Move.{Move}
+use Rattle.egt_unmoves.specs.Unmoves.{IsUnmove}
+use Rattle.egt_unmoves.specs.declared.unmove.Unmove.{Unmove}
 use Rattle.egt_check.specs.Alike.{StepAlike}
 use Rattle.egt_check.specs.Facts.{Facts}
 
 pub record Laws : Type 0 where
   pub facts : Facts
-  pub settled : (p : Setup) → SettlesTo p (settled_form p)
+  pub settles : (p : Setup) → SettlesTo p (settled_form p)
   pub settled_once : (p q : Setup) → SettlesTo p q → q ≡ settled_form p
   pub turns : (p q : Setup) → IsAdmissible p → AreImages p q ↔ IsTurn p q
   pub one_spelled : (c code : ℕ) (p q : Setup) → Spells c code p → Spells c code q → p ≡ q
@@ -31,3 +33,8 @@ pub record Laws : Type 0 where
   pub quiet_class : (p q : Setup) (m : Move) (c : ℕ) (flipped : Bool) → IsAdmissible p → IsOf c flipped p → Leads p m q → ¬ Captures p m → m.promo ≡ None → IsOf c flipped q
   pub other_class : (p q : Setup) (m : Move) (c : ℕ) (flipped : Bool) → c < 36 → IsAdmissible p → IsOf c flipped p → Leads p m q → Captures p m ⊎ IsSome m.promo →
       (d : ℕ) × (turned : Bool) × Contains (children_of c) d × IsOf d turned q
+  pub images_settled : (p q : Setup) → IsAdmissible p → AreImages p q → IsSettled p ↔ IsSettled q
+  pub settled : (p q : Setup) → SettlesTo p q → IsSettled q
+  pub like_unmoves : (q q' : Setup) (u : Unmove) → IsAdmissible q → AreImages q q' → IsUnmove q u →
+      (w : Unmove) × IsUnmove q' w × AreImages u.before w.before × (w.pawn ≡ u.pawn)
+  pub same_image : (p : Setup) → AreImages p p

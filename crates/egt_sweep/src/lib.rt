@@ -6,5 +6,6 @@ pub mod edges;
 pub mod laws;
 pub mod mate_game;
 pub mod nodes;
+pub mod sources;
 
 pub use mate_game::MateGame;
