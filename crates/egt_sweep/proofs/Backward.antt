@@ -1,5 +1,5 @@
 -- The moves that go on to a position are taken back by its unmoves.
-use Rattle.std.proofs.Common.{◌≡◌, ℕ, ◌<◌, ◌⊎◌, ◌↔◌, Bool, List, IsTrue, IsSome, Option, Some, None, refl, sym, subst, ◌∙◌, inl, inr, arith}
+use Rattle.std.proofs.Common.{◌≡◌, ℕ, ◌<◌, ◌⊎◌, ◌↔◌, Bool, List, IsTrue, IsSome, Option, Some, None, refl, sym, subst, inl, inr, arith}
 use Rattle.std.specs.List.{Contains}
 use Rattle.egt_board.specs.Decided.{Decided, tells, tells_so, tells_where, decided_as}
 use Rattle.egt_board.specs.DecidedMen.{decided_on, decided_kind}
@@ -12,14 +12,14 @@ use Rattle.egt_board.specs.declared.man.Kind.TheVariants.{P}
 use Rattle.egt_board.specs.declared.man.Man.{Man}
 use Rattle.egt_class.specs.Membership.{IsOf}
 use Rattle.egt_index.specs.Code.{Spells}
-use Rattle.egt_index.specs.Index.{IsIndex, IsVoid, SettleAlike}
+use Rattle.egt_index.specs.Index.{IsIndex, IsVoid}
 use Rattle.egt_moves.specs.Chess.{Zeroes, IsPawnOn}
 use Rattle.egt_moves.specs.Exchange.{Captures}
 use Rattle.egt_moves.specs.Legal.{Leads}
 use Rattle.egt_moves.specs.declared.chess_move.Move.{Move}
 use Rattle.egt_table.specs.declared.column.Column.{Column}
 use Rattle.egt_table.specs.declared.column.Column.TheVariants.{Mate, Zeroing}
-use Rattle.egt_unmoves.specs.Unmoves.{ComesBy, TakesBack, IsUnmove}
+use Rattle.egt_unmoves.specs.Unmoves.{TakesBack, IsUnmove}
 use Rattle.egt_unmoves.specs.declared.unmove.Unmove.{Unmove}
 use Rattle.egt_sweep.specs.Edges.{IsAt, GoesOn, Connects, GoesBack, ComesFrom}
 use Rattle.egt_sweep.specs.Laws.{Laws}
@@ -41,12 +41,17 @@ module _ (laws : Laws) (c : ℕ) (below : c < 36) where
       let other = laws.facts.some_index q c turned.0 below q_ok turned.1 in
       let here = laws.facts.settles p in
       let there = laws.facts.settles q in
-      let same = (laws.facts.like_index p q c i other.0 ok q_ok is other.1).1 (record { here = here.0; there = there.0; settles_here = here.1; settles_there = there.1;
-          images = laws.facts.images_settle p q here.0 there.0 ok images here.1 there.1 }) in
+      let same = (laws.facts.like_index p q c i other.0 ok q_ok is other.1).1 (record {
+        here = here.0;
+        there = there.0;
+        settles_here = here.1;
+        settles_there = there.1;
+        images = laws.facts.images_settle p q here.0 there.0 ok images here.1 there.1;
+      }) in
       subst (IsIndex c q) (sym same) other.1
 
   -- the position that an index spells is settled
-  at_settled : (i : ℕ) (p : Setup) → IsAt c i p → IsSettled p
+  pub at_settled : (i : ℕ) (p : Setup) → IsAt c i p → IsSettled p
   at_settled i p at =
       let is = at.index in
       let s_ok = laws.facts.settled_admissible p is.settled at.spells.admissible is.settles in
@@ -171,6 +176,7 @@ module _ (laws : Laws) (c : ℕ) (below : c < 36) where
   -- the unmoves of the position at an index come from exactly the nodes that lead to it
   pub sources_are : (column : Column) (q : Setup) (items listed : List Unmove) (j k : ℕ) → items ≡ listed → ((u : Unmove) → Contains listed u ↔ IsUnmove q u) → IsAt c j q →
       ((u : Unmove) × Contains items u × ComesFrom column c u k) ↔ Connects column c k j
-  sources_are column q items listed j k same exact at =
-      (λ h. leads_back column k j q h.0 at ((exact h.0).0 (subst (λ us. Contains us h.0) same h.1)) h.2,
-      λ edge. let w = taken_back column k j q at edge in (w.0, subst (λ us. Contains us w.0) (sym same) ((exact w.0).1 w.1), w.2))
+  sources_are column q items listed j k same exact at = (
+    λ h. leads_back column k j q h.0 at ((exact h.0).0 (subst (λ us. Contains us h.0) same h.1)) h.2,
+    λ edge. let w = taken_back column k j q at edge in (w.0, subst (λ us. Contains us w.0) (sym same) ((exact w.0).1 w.1), w.2),
+  )

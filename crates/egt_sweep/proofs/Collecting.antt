@@ -1,15 +1,14 @@
 -- The indexes to which the moves of a list lead, one move after the other.
-use Rattle.std.proofs.Common.{◌≡◌, ℕ, ◌+◌, ◌<◌, ◌≤◌, ◌⊎◌, ◌↔◌, inl, inr, Bool, true, false, IsTrue, List, [], get_or, length, Option, Some, None, refl, sym, subst, arith, ap, ◌∙◌}
+use Rattle.std.proofs.Common.{◌≡◌, ℕ, ◌+◌, ◌<◌, ◌≤◌, ◌⊎◌, ◌↔◌, inl, inr, Bool, true, false, IsTrue, List, [], get_or, length, Option, Some, None, refl, sym, subst, arith, ◌∙◌}
 use Rattle.std.specs.Option.{IsSome, IfNone}
 use Rattle.std.specs.List.{Contains}
 use Rattle.std.specs.List.Sorted.{IsStrictlyIncreasing}
-use Rattle.std.proofs.Math.Logic.{⊎_elim, ⊎_map}
+use Rattle.std.proofs.Math.Logic.{⊎_map}
 use Rattle.std.proofs.lemmas.Bool.{cases_lt, false≢true}
 use Rattle.std.proofs.lemmas.List.{get_or_default}
 use Rattle.egt_board.specs.Setup.{Setup, IsAdmissible}
 use Rattle.egt_index.specs.Index.{IsIndex}
 use Rattle.egt_moves.specs.Legal.{Leads, IsLegal}
-use Rattle.egt_moves.specs.Moves.{played}
 use Rattle.egt_moves.specs.declared.chess_move.Move.{Move}
 use Rattle.egt_table.specs.declared.column.Column.{Column}
 use Rattle.egt_unmoves.specs.declared.unmove.Unmove.{Unmove}
@@ -46,11 +45,13 @@ module _ {X : Type 0} (gives : X → ℕ → Type 0) (xs : List X) where
 
   pub collected_more : (n : ℕ) (x : X) (k : ℕ) → n < length xs → x ≡ get_or xs n x → Collected gives xs (n + 1) k ↔ (Collected gives xs n k ⊎ gives x k)
   unfolding Collected
-  collected_more n x k inside here =
-      (collected_last n x k inside here, λ h. elim h [
-        | inl found ↦ (found.0, found.1, omega (arith, found.2), found.3)
-        | inr given ↦ (x, (n, inside, sym here), omega arith, given)
-      ])
+  collected_more n x k inside here = (
+    collected_last n x k inside here,
+    λ h. elim h [
+      | inl found ↦ (found.0, found.1, omega (arith, found.2), found.3)
+      | inr given ↦ (x, (n, inside, sym here), omega arith, given)
+    ],
+  )
 
   -- all of them
   pub collected_all : (n k : ℕ) → length xs ≤ n → Collected gives xs n k ↔ ((x : X) × Contains xs x × gives x k)
@@ -63,10 +64,11 @@ module _ (laws : Laws) (column : Column) (c : ℕ) (p : Setup) where
 
   -- the move that goes on leads on to one index
   pub leads_on_once : (m : Move) (q : Setup) (i k : ℕ) → IsAdmissible p → Leads p m q → GoesOn column c p m q → IsIndex c q i → (k ≡ i) ↔ LeadsOn column c p m k
-  leads_on_once m q i k ok leads on is =
-      (λ e. (q, leads, on, subst (IsIndex c q) (sym e) is),
-      λ led. let same = one_next m led.0 q led.1 leads in
-          laws.facts.one_index q c k i (laws.facts.step_admissible p q m ok leads) (subst (λ x. IsIndex c x k) same led.3) is)
+  leads_on_once m q i k ok leads on is = (
+    λ e. (q, leads, on, subst (IsIndex c q) (sym e) is),
+    λ led. let same = one_next m led.0 q led.1 leads in
+        laws.facts.one_index q c k i (laws.facts.step_admissible p q m ok leads) (subst (λ x. IsIndex c x k) same led.3) is,
+  )
 
   -- one that does not go on leads on to none
   pub leads_on_never : (m : Move) (q : Setup) (k : ℕ) → Leads p m q → ¬ GoesOn column c p m q → LeadsOn column c p m k → ⊥

@@ -4,3 +4,4 @@ pub mod Staying
 pub mod Collecting
 pub mod Standing
 pub mod Backward
+pub mod OutOfClass

@@ -1,24 +1,23 @@
 -- Positions at nodes, as the graph's tests tell them.
-use Rattle.std.proofs.Common.{◌≡◌, ℕ, ◌<◌, ◌⊎◌, ◌↔◌, not, Bool, true, false, List, Option, Some, None, IfSome, IfNone, IsTrue, IsFalse, refl, sym, ap, ◌∙◌, subst, inl, inr}
+use Rattle.std.proofs.Common.{◌≡◌, ℕ, ◌<◌, ◌⊎◌, ◌↔◌, not, Bool, true, false, List, Option, Some, None, IfSome, IfNone, IsFalse, refl, sym, ap, ◌∙◌, subst, inl, inr}
 use Rattle.std.specs.Option.{is_some, IsSome}
 use Rattle.std.specs.List.{Contains}
 use Rattle.std.specs.List.Sorted.{IsStrictlyIncreasing}
-use Rattle.std.proofs.lemmas.Bool.{false≢true}
 use Rattle.egt_board.specs.Decided.{Decided, tells, tells_where}
 use Rattle.egt_board.specs.Setup.{Setup}
 use Rattle.egt_index.specs.Code.{Spells}
 use Rattle.egt_index.specs.Index.{IsIndex, IsVoid}
 use Rattle.egt_index.specs.Size.{size_of}
 use Rattle.egt_moves.specs.DecidedMoves.{decided_checkmate}
-use Rattle.egt_moves.specs.Standing.{IsCheckmate, IsStuck, CanMove, StandsAs}
+use Rattle.egt_moves.specs.Standing.{IsCheckmate, StandsAs}
 use Rattle.egt_moves.specs.declared.outcome.Standing.{Standing}
-use Rattle.egt_moves.specs.declared.outcome.Standing.TheVariants.{Checkmate, Stalemate, HasMove}
+use Rattle.egt_moves.specs.declared.outcome.Standing.TheVariants.{Stalemate, HasMove}
 use Rattle.egt_graph.specs.Passing.{passing_below, passing_is}
 use Rattle.egt_table.specs.declared.column.Column.{Column}
 use Rattle.egt_sweep.specs.Edges.{IsAt, Connects}
 use Rattle.egt_sweep.specs.Laws.{Laws}
 use Rattle.egt_sweep.specs.Nodes.{position_at, is_mated, connects}
-use Rattle.egt_sweep.proofs.Linked.{position_is, void_is, there_is, node_at, one_at, connects_is}
+use Rattle.egt_sweep.proofs.Linked.{position_is, void_is, there_is, node_at, connects_is}
 
 pub denied : (b x : Bool) → not b ≡ x → b ≡ not x
 denied true x e = ap not e
@@ -58,3 +57,9 @@ module _ (laws : Laws) (c i : ℕ) where
   edges_told column xs below ascends exact = passing_is (size_of c) (λ j. connects column c i j) xs ascends
       (λ k has. let edge = (exact k).0 has in (laws.facts.index_below edge.to c k edge.index, (connects_is laws column c i k below).1 edge))
       (λ k lt t. (exact k).1 ((connects_is laws column c i k below).0 t))
+
+  -- so is one of exactly the nodes that lead here
+  pub sources_told : (column : Column) (xs : List ℕ) → c < 36 → IsStrictlyIncreasing xs → ((k : ℕ) → Contains xs k ↔ Connects column c k i) → xs ≡ passing_below (size_of c) (λ k. connects column c k i)
+  sources_told column xs below ascends exact = passing_is (size_of c) (λ k. connects column c k i) xs ascends
+      (λ k has. let edge = (exact k).0 has in (laws.facts.index_below edge.from c k edge.at.index, (connects_is laws column c k i below).1 edge))
+      (λ k lt t. (exact k).1 ((connects_is laws column c k i below).0 t))

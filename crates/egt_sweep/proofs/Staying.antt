@@ -1,7 +1,6 @@
 -- Which moves stay in a class.
-use Rattle.std.proofs.Common.{◌≡◌, ◌≢◌, ℕ, ◌<◌, ◌⊎◌, ◌↔◌, not, Bool, true, false, Option, Some, None, IsTrue, IsSome, eqb, refl, sym, subst, ◌∙◌, inl, inr, arith}
+use Rattle.std.proofs.Common.{◌≡◌, ℕ, ◌<◌, ◌↔◌, not, Bool, true, false, Option, Some, None, IsTrue, eqb, refl, sym, subst, ◌∙◌, inl, inr}
 use Rattle.std.proofs.lemmas.Bool.{false≢true, and_parts, eqb-true, eq-eqb}
-use Rattle.std.proofs.Math.Logic.{⊎_elim}
 use Rattle.egt_board.specs.Setup.{Setup, IsAdmissible}
 use Rattle.egt_board.specs.declared.man.Kind.{Kind}
 use Rattle.egt_board.specs.declared.man.Kind.TheVariants.{Q, R, B, N, P, K}
@@ -48,9 +47,10 @@ no_promotion p q m leads none (Some kind) e =
 module _ (laws : Laws) (c : ℕ) where
   -- a position is of the class where it has an index there
   pub stays_in_class : (d : ℕ) (flipped : Bool) (q : Setup) → c < 36 → d < 36 → IsAdmissible q → IsOf d flipped q → (d ≡ c) ↔ ((i : ℕ) × IsIndex c q i)
-  stays_in_class d flipped q c_in d_in ok of =
-      (λ e. laws.facts.some_index q c flipped c_in ok (subst (λ k. IsOf k flipped q) e of),
-      λ index. let own = laws.indexed_class q c index.0 ok index.1 in laws.facts.one_class q d c flipped own.0 d_in c_in of own.1)
+  stays_in_class d flipped q c_in d_in ok of = (
+    λ e. laws.facts.some_index q c flipped c_in ok (subst (λ k. IsOf k flipped q) e of),
+    λ index. let own = laws.indexed_class q c index.0 ok index.1 in laws.facts.one_class q d c flipped own.0 d_in c_in of own.1,
+  )
 
   -- a move that does not zero neither captures nor promotes
   pub quiet_stays : (p q : Setup) (m : Move) → IsAdmissible p → (flipped : Bool) × IsOf c flipped p → Leads p m q → ¬ Zeroes p m → (flipped : Bool) × IsOf c flipped q

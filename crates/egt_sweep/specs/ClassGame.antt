@@ -1,21 +1,19 @@
 -- The graph of a class's game, and that it is lawful.
-use Rattle.std.specs.Prelude.{◌≡◌, ℕ, zero, suc, ◌<◌, ◌≤◌, ◌&&◌, not, cond, Bool, true, false, if◌then◌else◌, List, [], ◌∷◌, ◌++◌, Option, Some, None, All, filter}
-use Rattle.std.specs.List.{list_any, flat_map}
+use Rattle.std.specs.Prelude.{◌≡◌, ℕ, zero, suc, ◌<◌, ◌&&◌, not, Bool, true, false, if◌then◌else◌, List, [], ◌∷◌, Option, Some, None, All, filter}
+use Rattle.std.specs.List.{flat_map}
 use Rattle.std.specs.Option.{is_some, option_to_list}
-use Rattle.std.proofs.Common.{refl, sym, ◌∙◌, subst, inl, inr, ap, arith}
-use Rattle.std.proofs.lemmas.Bool.{false≢true, and_parts, not-true}
+use Rattle.std.proofs.Common.{refl, inl, inr, arith}
+use Rattle.std.proofs.lemmas.Bool.{false≢true, and_parts}
 use Rattle.std.proofs.lemmas.List.Elements.{All-cons, All-nil, All-append}
 use Rattle.egt_board.specs.Decided.{Decided, tells, tells_so}
 use Rattle.egt_board.specs.Setup.{Setup}
 use Rattle.egt_moves.specs.Arena.{Value, Win, Loss, Draw}
 use Rattle.egt_moves.specs.DecidedMoves.{decided_legal, decided_checkmate}
-use Rattle.egt_moves.specs.Legal.{IsLegal}
 use Rattle.egt_moves.specs.Moves.{moves_of, all_moves, is_legal, played}
-use Rattle.egt_moves.specs.Standing.{IsStuck, IsCheckmate}
+use Rattle.egt_moves.specs.Standing.{IsStuck}
 use Rattle.egt_moves.specs.declared.chess_move.Move.{Move}
-use Rattle.egt_graph.specs.declared.game.Exit.{Exit}
 use Rattle.egt_graph.specs.Graph.{Graph, IsNode, IsGame, HasShortDistance}
-use Rattle.egt_graph.specs.Passing.{passing_below, passing_has, passing_passes, passing_is_below, passing_all, passing_ascends, passing_none}
+use Rattle.egt_graph.specs.Passing.{passing_below, passing_has, passing_passes, passing_all, passing_ascends, passing_none}
 use Rattle.egt_index.specs.Size.{size_of}
 use Rattle.egt_table.specs.declared.column.Column.{Column}
 use Rattle.egt_table.specs.declared.column.Column.TheVariants.{Mate, Zeroing}

@@ -1,7 +1,7 @@
 -- A class as a game: its nodes are the indexes of the class's positions. In the game of mates the moves that stay in the class go on, and
 -- the others leave it with the mate value of where they lead. In the game of zeroing moves those that do not zero go on, and the others
 -- leave it at once: with a loss in 0, a win in 0 or a draw, as they reach a lost, a won or a drawn position.
-use Rattle.std.specs.Prelude.{◌≡◌, ℕ, zero, suc, ◌==◌, ◌&&◌, not, Bool, true, false, if◌then◌else◌, List, [], ◌∷◌, Option, Some, None}
+use Rattle.std.specs.Prelude.{ℕ, zero, suc, ◌==◌, ◌&&◌, not, Bool, true, false, if◌then◌else◌, List, [], ◌∷◌, Option, Some, None}
 use Rattle.std.specs.List.{list_any, flat_map}
 use Rattle.std.specs.Option.{is_some, option_to_list}
 use Rattle.std.proofs.Common.{inl, inr}

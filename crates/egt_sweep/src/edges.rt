@@ -18,7 +18,7 @@ use egt_table::Column;
 
 /// Whether the move, which leads from a position of the class to the next, goes on in the game: it stays in the class, or does not
 /// zero.
-fn goes_on(
+pub(crate) fn goes_on(
     column: Column,
     class: Class,
     position: &Position,

@@ -4,6 +4,7 @@
 pub mod ascending;
 pub mod edges;
 pub mod laws;
+pub mod leaving;
 pub mod mate_game;
 pub mod nodes;
 pub mod sources;

@@ -1,5 +1,4 @@
-use Rattle.std.proofs.Common.{ℕ, ◌↔◌, ◌⊎◌, ◌≡◌, Option, IfSome, inl, inr, refl, subst}
-use Rattle.std.proofs.Math.Logic.{⊎_map}
+use Rattle.std.proofs.Common.{Option, IfSome, subst}
 use Rattle.egt_board.specs.Setup.{Setup}
 use Rattle.egt_moves.specs.Legal.{Leads}
 use Rattle.egt_sweep.proofs.Collecting.{somewhere, leads_on_once, leads_on_never, members_on, members_off, untrue}

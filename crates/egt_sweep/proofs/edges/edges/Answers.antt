@@ -1,8 +1,6 @@
-use Rattle.std.proofs.Common.{ℕ, ◌≤◌, ◌<◌, ◌↔◌, ◌≡◌, List, length, arith, subst, sym}
-use Rattle.std.specs.List.{Contains}
-use Rattle.std.specs.List.Sorted.{IsStrictlyIncreasing}
+use Rattle.std.proofs.Common.{arith}
 use Rattle.egt_sweep.specs.Edges.{LeadsOn}
-use Rattle.egt_sweep.proofs.Collecting.{listed_is_legal, collected_start, collected_more, collected_all, edges_collected, members_then, Collected}
+use Rattle.egt_sweep.proofs.Collecting.{listed_is_legal, collected_start, collected_more, collected_all, edges_collected, members_then}
 use Rattle.egt_sweep.proofs.edges.edges.Goals as goal
 
 pub loop-chess_move-init : goal.loop-chess_move-init
@@ -13,9 +11,12 @@ add_edge-requires-clause-legal c =
     listed_is_legal c.args.position.now c.as_slice-chess_move-items.result.now c.legal_moves-moves.result.items c.loop-chess_move.chess_move-index c.chess_move-item.result c.loop-chess_move-test.true c.chess_move-item.is c.as_slice-chess_move-items.ensures.value c.legal_moves-moves.ensures.legal
 
 pub loop-chess_move-preserved : goal.loop-chess_move-preserved
-loop-chess_move-preserved c =
-    (c.add_edge.ensures.ascending, omega (arith, c.add_edge.ensures.few, c.loop-chess_move.invariant.1), λ k. members_then (c.add_edge.ensures.members k) (c.loop-chess_move.invariant.2 k)
-    (collected_more (LeadsOn c.args.column c.args.class c.args.position.now) c.as_slice-chess_move-items.result.now c.loop-chess_move.chess_move-index c.chess_move-item.result k c.loop-chess_move-test.true c.chess_move-item.is))
+loop-chess_move-preserved c = (
+  c.add_edge.ensures.ascending,
+  omega (arith, c.add_edge.ensures.few, c.loop-chess_move.invariant.1),
+  λ k. members_then (c.add_edge.ensures.members k) (c.loop-chess_move.invariant.2 k)
+      (collected_more (LeadsOn c.args.column c.args.class c.args.position.now) c.as_slice-chess_move-items.result.now c.loop-chess_move.chess_move-index c.chess_move-item.result k c.loop-chess_move-test.true c.chess_move-item.is),
+)
 
 pub returns-clause-exact : goal.returns-clause-exact
 returns-clause-exact c i at k =

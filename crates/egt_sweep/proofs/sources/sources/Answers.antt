@@ -1,4 +1,4 @@
-use Rattle.std.proofs.Common.{ℕ, ◌≤◌, ◌<◌, length, arith, subst, sym}
+use Rattle.std.proofs.Common.{ℕ, ◌<◌, arith, subst, sym}
 use Rattle.std.specs.List.{Contains}
 use Rattle.egt_unmoves.specs.declared.unmove.Unmove.{Unmove}
 use Rattle.std.proofs.Common.{List}
@@ -18,9 +18,12 @@ add_source-requires-clause-of c =
     before_class c.laws.ensures c.args.class (subst (λ (n : ℕ). n < 36) c.number-number.ensures.value c.number-number.ensures.below) c.args.position.now u c.side-side.ensures.admissible c.requires.of ((c.unmoves-unmoves.ensures.exact u).0 listed)
 
 pub loop-unmove-preserved : goal.loop-unmove-preserved
-loop-unmove-preserved c =
-    (c.add_source.ensures.ascending, omega (arith, c.add_source.ensures.few, c.loop-unmove.invariant.1), λ k. members_then (c.add_source.ensures.members k) (c.loop-unmove.invariant.2 k)
-    (collected_more (ComesFrom c.args.column c.args.class) c.as_slice-unmove-items.result.now c.loop-unmove.unmove-index c.unmove-item.result k c.loop-unmove-test.true c.unmove-item.is))
+loop-unmove-preserved c = (
+  c.add_source.ensures.ascending,
+  omega (arith, c.add_source.ensures.few, c.loop-unmove.invariant.1),
+  λ k. members_then (c.add_source.ensures.members k) (c.loop-unmove.invariant.2 k)
+      (collected_more (ComesFrom c.args.column c.args.class) c.as_slice-unmove-items.result.now c.loop-unmove.unmove-index c.unmove-item.result k c.loop-unmove-test.true c.unmove-item.is),
+)
 
 pub returns-clause-exact : goal.returns-clause-exact
 returns-clause-exact c j at k =
