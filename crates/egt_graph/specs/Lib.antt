@@ -9,4 +9,5 @@ pub mod Run
 pub mod Begin
 pub mod Fault
 pub mod Laws
+pub mod Passing
 pub mod Sample

@@ -1,13 +1,14 @@
 -- Games given by lists, as tests make them. Whatever the lists, the game is lawful: moves from or to what is no node, and
 -- moves on from a checkmate, do not count, and a move that is given twice counts once.
-use Rattle.std.specs.Prelude.{◌≡◌, ℕ, zero, suc, ◌+◌, ◌-◌, ◌<◌, ◌≤◌, ◌==◌, Bool, true, false, not, ◌&&◌, cond, List, [], ◌∷◌, map, filter, nat_lt, nat_le, if◌then◌else◌, refl, All, Contains}
+use Rattle.std.specs.Prelude.{◌≡◌, ℕ, zero, suc, ◌+◌, ◌-◌, ◌<◌, ◌==◌, Bool, true, false, not, ◌&&◌, cond, List, [], ◌∷◌, map, filter, nat_lt, nat_le, if◌then◌else◌, refl, All, Contains}
 use Rattle.std.specs.List.{list_any, range_with_len}
 use Rattle.std.specs.List.Sorted.{IsStrictlyIncreasing}
-use Rattle.std.proofs.Common.{arith, ap, ◌∙◌, inl, inr, ltb, get_or}
-use Rattle.std.proofs.lemmas.Bool.{and_parts, cases_eq, leb-true, lt-ltb, le-ltb, ltb-true, ltb-false, not-true, false≢true}
+use Rattle.std.proofs.Common.{arith, ap, ltb, get_or}
+use Rattle.std.proofs.lemmas.Bool.{and_parts, leb-true, lt-ltb, le-ltb, ltb-true, ltb-false, not-true, false≢true}
 use Rattle.std.proofs.lemmas.List.Elements.{All-cons, All-nil, All-contains}
 use Rattle.std.proofs.lemmas.List.Kept.{IsStrictlyIncreasing-filter}
 use Rattle.egt_graph.specs.Frontier.{range-ascends}
+use Rattle.egt_graph.specs.Passing.{passing, pass_contains, none_pass}
 use Rattle.egt_graph.specs.Graph.{Graph, IsNode, IsGame, HasShortDistance}
 use Rattle.egt_graph.specs.declared.game.Exit.{Exit}
 use Rattle.egt_graph.specs.declared.game.Exit.TheVariants.{Win, Loss, Draw}
@@ -43,38 +44,6 @@ sample size voids mates moves exits = record {
   into = λ j. filter (λ i. is_move size voids mates moves i j) (range_with_len 0 size);
   exits = λ i. if is_listed mates i then [] else map (λ (e : ℕ × Exit). e.1) (filter (is_exit_of i) exits);
 }
-
--- ---- lists of the numbers that pass a test
-
-passing_cond : (P : ℕ → Type 0) (b : Bool) (x : ℕ) (xs : List ℕ) → (b ≡ true → P x) → All P xs → All P (cond b (x ∷ xs) xs)
-passing_cond P true x xs p h = All-cons P x xs (p refl) h
-passing_cond P false x xs p h = h
-
-passing : (P : ℕ → Type 0) (p : ℕ → Bool) → ((x : ℕ) → p x ≡ true → P x) → (xs : List ℕ) → All P (filter p xs)
-passing P p h [] = All-nil P
-passing P p h (x ∷ xs) = passing_cond P (p x) x (filter p xs) (h x) (passing P p h xs)
-
-contains_cond : (b : Bool) (x y : ℕ) (xs : List ℕ) → Contains xs y → Contains (cond b (x ∷ xs) xs) y
-contains_cond true x y xs c = (suc c.0, omega (arith, c.1), c.2)
-contains_cond false x y xs c = c
-
-contains_here : (b : Bool) (x : ℕ) (xs : List ℕ) → b ≡ true → Contains (cond b (x ∷ xs) xs) x
-contains_here true x xs e = (0, omega arith, refl)
-contains_here false x xs e = absurd (false≢true e)
-
-pass_contains : (p : ℕ → Bool) (a n x : ℕ) → a ≤ x → x < a + n → p x ≡ true → Contains (filter p (range_with_len a n)) x
-pass_contains p a zero x low high h = absurd (omega arith)
-pass_contains p a (suc n) x low high h = elim (cases_eq a x) [
-  | inl e ↦ here e
-  | inr ne ↦ contains_cond (p a) a x (filter p (range_with_len (a + 1) n)) (pass_contains p (a + 1) n x (omega arith) (omega arith) h)
-]
-  where
-    here : a ≡ x → Contains (filter p (range_with_len a (suc n))) x
-    here e = rw (← e) (contains_here (p a) a (filter p (range_with_len (a + 1) n)) (ap p e ∙ h))
-
-none_pass : (p : ℕ → Bool) → ((x : ℕ) → p x ≡ false) → (xs : List ℕ) → filter p xs ≡ []
-none_pass p h [] = refl
-none_pass p h (x ∷ xs) = rw (h x) (none_pass p h xs)
 
 short_from_test : (e : Exit) → is_short e ≡ true → HasShortDistance e
 short_from_test (Win n) h = leb-true n 32000 h

@@ -27,3 +27,4 @@ pub mod Flipped
 pub mod Setups
 pub mod Tested
 pub mod Past
+pub mod Telling

@@ -1,9 +1,9 @@
 //! What holds of codes and indexes. These functions do nothing: a caller calls one to know what it ensures.
-ghost use Rattle.std.specs.Prelude.{◌≡◌, ◌↔◌, ℕ, ◌<◌, Bool, false};
+ghost use Rattle.std.specs.Prelude.{◌≡◌, ◌↔◌, ◌⊎◌, ℕ, ◌<◌, Bool, false};
 ghost use Rattle.egt_board.specs.Setup.{Setup, IsAdmissible};
 ghost use Rattle.egt_class.specs.Membership.{IsOf};
 ghost use Rattle.egt_index.specs.Code.{Spells};
-ghost use Rattle.egt_index.specs.Index.{IsIndex, SettleAlike};
+ghost use Rattle.egt_index.specs.Index.{IsIndex, IsVoid, SettleAlike};
 ghost use Rattle.egt_index.specs.Size.{size_of};
 
 use crate::facts::facts;
@@ -38,6 +38,13 @@ pub fn one_index_for_all_images()
 /// The position that an index spells has that index.
 pub fn an_index_spells_a_position_of_it()
     ensures { (p q : Setup) (c i : ℕ) → IsAdmissible p → IsIndex c p i → Spells c i q → IsIndex c q i }
+{
+    facts();
+}
+
+/// A code is the index of the position that it spells, or no position's.
+pub fn a_code_is_an_index_or_void()
+    ensures { (c code : ℕ) → c < 36 → ((p : Setup) × Spells c code p × IsIndex c p code) ⊎ IsVoid c code }
 {
     facts();
 }

@@ -1,0 +1,4 @@
+pub mod Carry
+pub mod Alike
+pub mod Told
+pub mod TrueTables

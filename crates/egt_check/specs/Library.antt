@@ -1,0 +1,63 @@
+-- Libraries: a place for each class, with a true table of the class or none.
+use Rattle.std.specs.Prelude.{◌≡◌, ℕ, ◌<◌, ◌≤◌, List, length, Option, None, IfSome, IsSome}
+use Rattle.std.specs.List.{Contains}
+use Rattle.egt_class.specs.Children.{children_of}
+use Rattle.egt_table.specs.declared.column.Column.{Column}
+use Rattle.egt_table.specs.declared.column.Column.TheVariants.{Mate, Zeroing}
+use Rattle.egt_table.specs.Table.{TableValue, IsTable}
+use Rattle.egt_check.specs.declared.reject.Reject.{Reject}
+use Rattle.egt_check.specs.declared.reject.Reject.TheVariants.{Missing, Rejected, AlreadyThere}
+use Rattle.egt_check.specs.declared.rule.Rule.{Rule}
+use Rattle.egt_check.specs.Tables.{Tables, table_at, beside, HasChildren}
+use Rattle.egt_check.specs.Rules.{Breaks, KeepsBelow, KeepsRules}
+use Rattle.egt_check.specs.Truth.{IsTrueTable}
+use Rattle.egt_index.specs.Size.{size_of}
+
+-- the table of a class is of that class and true, and its children have theirs
+pub record IsShelved (tables : Tables) (c : ℕ) (t : TableValue) : Type 0 where
+  pub class : t.class ≡ c
+  pub table : IsTable t
+  pub true : IsTrueTable t
+  pub children : HasChildren tables c
+
+-- each table at hand is such a one
+abbrev pub AreShelved : Tables → Type 0
+AreShelved tables = (c : ℕ) → c < 36 → IfSome (tables c) (IsShelved tables c)
+
+pub record IsLibrary (places : List (Option TableValue)) : Type 0 where
+  pub one_a_class : length places ≡ 36
+  pub shelved : AreShelved (table_at places)
+
+-- d is the least child of the class that has no table
+pub record IsFirstMissing (tables : Tables) (c d : ℕ) : Type 0 where
+  pub child : Contains (children_of c) d
+  pub absent : tables d ≡ None
+  pub first : (e : ℕ) → Contains (children_of c) e → tables e ≡ None → d ≤ e
+
+-- the columns before this one keep the rules
+abbrev pub KeepsBefore : Tables → TableValue → Column → Type 0
+KeepsBefore tables t Mate = Unit {0}
+KeepsBefore tables t Zeroing = KeepsBelow tables t Mate (size_of t.class)
+
+-- in the first column with a bad entry, the least index of one and the first rule that it breaks
+pub record IsFirstBreak (tables : Tables) (t : TableValue) (column : Column) (i : ℕ) (rule : Rule) : Type 0 where
+  pub below : i < size_of t.class
+  pub columns : KeepsBefore tables t column
+  pub entries : KeepsBelow tables t column i
+  pub breaks : Breaks tables t column i rule
+
+-- why the table is refused beside these
+abbrev pub IsRefused : Tables → TableValue → Reject → Type 0
+IsRefused tables t (Missing d) = IsFirstMissing tables t.class d
+IsRefused tables t (Rejected column i rule) = HasChildren tables t.class × IsFirstBreak (beside tables t) t column i rule
+IsRefused tables t AlreadyThere = ⊥
+
+-- nothing speaks against the table
+pub record IsAccepted (tables : Tables) (t : TableValue) : Type 0 where
+  pub children : HasChildren tables t.class
+  pub rules : KeepsRules (beside tables t) t
+
+-- why a library does not take the table
+abbrev pub IsTurnedAway : Tables → TableValue → Reject → Type 0
+IsTurnedAway tables t AlreadyThere = IsSome (tables t.class)
+IsTurnedAway tables t reject = (tables t.class ≡ None) × IsRefused tables t reject

@@ -1,0 +1,46 @@
+-- The tables at hand, by class, and what they show of positions.
+use Rattle.std.specs.Prelude.{◌≡◌, ℕ, ◌<◌, ◌==◌, Bool, if◌then◌else◌, List, slice_index, slice_index_or, Option, Some, None, IsSome}
+use Rattle.std.specs.List.{Contains}
+use Rattle.egt_board.specs.Setup.{Setup}
+use Rattle.egt_class.specs.Children.{children_of}
+use Rattle.egt_class.specs.Membership.{IsOf}
+use Rattle.egt_index.specs.Index.{IsIndex}
+use Rattle.egt_moves.specs.Arena.{Value}
+use Rattle.egt_table.specs.declared.column.Column.{Column}
+use Rattle.egt_table.specs.Table.{TableValue, entries_of}
+use Rattle.egt_check.specs.Entry.{Shows}
+
+-- of each class its table, if there is one
+abbrev pub Tables : Type 0
+Tables = ℕ → Option TableValue
+
+-- a place a class
+abbrev pub table_at : List (Option TableValue) → Tables
+table_at places c = slice_index_or places c None
+
+-- the same, and this table of its own class
+abbrev pub beside : Tables → TableValue → Tables
+beside tables t c = if c == t.class then Some t else tables c
+
+abbrev pub entry_at : TableValue → Column → ℕ → ℕ
+entry_at t column i = slice_index (entries_of column t) i
+
+-- the entry of the position's index in the table of its class
+pub record HasEntry (tables : Tables) (column : Column) (p : Setup) (x : ℕ) : Type 0 where
+  pub class : ℕ
+  pub below : class < 36
+  pub flipped : Bool
+  pub of : IsOf class flipped p
+  pub table : TableValue
+  pub found : tables class ≡ Some table
+  pub index : ℕ
+  pub is_index : IsIndex class p index
+  pub is : x ≡ entry_at table column index
+
+-- that entry shows the value
+abbrev pub ShowsOf : Tables → Column → Setup → Value → Type 0
+ShowsOf tables column p v = (x : ℕ) × HasEntry tables column p x × Shows x v
+
+-- each child of the class has its table
+abbrev pub HasChildren : Tables → ℕ → Type 0
+HasChildren tables c = (d : ℕ) → Contains (children_of c) d → IsSome (tables d)

@@ -1,0 +1,40 @@
+//! What holds of tables and their rules. These functions do nothing: a caller calls one to know what it ensures.
+ghost use Rattle.std.specs.Prelude.{◌≡◌, ◌↔◌, ℕ, Bool, Some};
+ghost use Rattle.std.specs.List.{Contains};
+ghost use Rattle.egt_class.specs.Children.{children_of};
+ghost use Rattle.egt_class.specs.Membership.{IsOf};
+ghost use Rattle.egt_index.specs.Code.{Spells};
+ghost use Rattle.egt_index.specs.Index.{IsIndex};
+ghost use Rattle.egt_board.specs.Setup.{Setup, IsAdmissible};
+ghost use Rattle.egt_table.specs.Table.{TableValue, IsTable};
+ghost use Rattle.egt_check.specs.Alike.{StepAlike};
+ghost use Rattle.egt_check.specs.Tables.{Tables};
+ghost use Rattle.egt_check.specs.Rules.{KeepsRules};
+ghost use Rattle.egt_check.specs.Truth.{IsTrueTable, HasTrueChildren};
+
+use crate::facts::facts;
+use egt_index::laws::codes_spell_one_position;
+
+/// Where the children's tables are true, the entries of a table keep all rules exactly where the table is true: each entry is
+/// the value or the zeroing distance of its position, void entries are 0, and no distance is above 32,000.
+pub fn rules_are_kept_by_true_tables_alone()
+    ensures { (tables : Tables) (t : TableValue) → IsTable t → tables t.class ≡ Some t → HasTrueChildren tables t.class →
+        KeepsRules tables t ↔ IsTrueTable t }
+{
+    facts();
+}
+
+/// A position with an index in a class is of the class.
+pub fn an_indexed_position_is_of_the_class()
+    ensures { (p : Setup) (c i : ℕ) → IsAdmissible p → IsIndex c p i → (flipped : Bool) × IsOf c flipped p }
+{
+    facts();
+}
+
+/// A position plays like the one that its index spells: each step of the one has its like from the other, to an image.
+pub fn a_position_plays_as_its_index_spells()
+    ensures { (p q : Setup) (c i : ℕ) → IsAdmissible p → IsIndex c p i → Spells c i q → StepAlike p q }
+{
+    facts();
+    codes_spell_one_position();
+}

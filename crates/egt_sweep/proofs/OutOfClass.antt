@@ -1,0 +1,154 @@
+-- What is told of where the moves that leave a class lead.
+use Rattle.std.proofs.Common.{◌≡◌, ◌≢◌, ℕ, zero, suc, ◌+◌, ◌-◌, ◌/◌, ◌%◌, ◌<◌, ◌≤◌, Bool, true, false, List, [], ◌∷◌, ◌++◌, if◌then◌else◌, Option, Some, None, IsSome, length, get_or, take, refl, sym, ap, ◌∙◌, subst, inl, inr, arith}
+use Rattle.std.proofs.Math.Logic.{⊎_elim}
+use Rattle.std.proofs.lemmas.Bool.{cases_eq}
+use Rattle.std.proofs.lemmas.Grind.{flat_map-append}
+use Rattle.std.proofs.lemmas.List.{take_more, take_all, append-nil}
+use Rattle.std.proofs.lemmas.List.Concat.{flat_map-cons}
+use Rattle.std.specs.List.{flat_map, Contains}
+use Rattle.std.specs.Option.{option_to_list, option_map}
+use Rattle.egt_board.specs.Setup.{Setup, IsAdmissible}
+use Rattle.egt_class.specs.Children.{children_of}
+use Rattle.egt_class.specs.Membership.{IsOf}
+use Rattle.egt_index.specs.Index.{IsIndex}
+use Rattle.egt_moves.specs.Arena.{Value, Win, Loss, Draw}
+use Rattle.egt_moves.specs.Legal.{Leads}
+use Rattle.egt_moves.specs.Moves.{played}
+use Rattle.egt_moves.specs.declared.chess_move.Move.{Move}
+use Rattle.egt_graph.specs.declared.game.Exit.{Exit}
+use Rattle.egt_graph.specs.declared.game.Exit.TheVariants as exits
+use Rattle.egt_table.specs.declared.column.Column.TheVariants.{Mate}
+use Rattle.egt_table.specs.Table.{TableValue}
+use Rattle.egt_check.specs.Entry.{Shows}
+use Rattle.egt_check.specs.Reading.{read, read_shown}
+use Rattle.egt_check.specs.Tables.{Tables, entry_at, HasChildren}
+use Rattle.egt_sweep.specs.Edges.{GoesOn}
+use Rattle.egt_sweep.specs.Laws.{Laws}
+use Rattle.egt_sweep.specs.Nodes.{index_in, exit_of, exit_by, shown_in, shown_below, or_else, goes_on}
+use Rattle.egt_sweep.proofs.Linked.{index_is, goes_is}
+
+-- the exit of the value that an entry shows
+draw_shown : (x : ℕ) (v : Value) → Shows x v → x ≡ 1 → v ≡ Draw
+draw_shown x (Win n) s e = absurd (omega (arith, s.1, e))
+draw_shown x (Loss n) s e = absurd (omega (arith, s.1, e))
+draw_shown x Draw s e = refl
+
+win_shown : (x : ℕ) (v : Value) → Shows x v → x % 2 ≡ 0 → v ≡ Win ((x - 2) / 2)
+win_shown x (Win n) s e = ap Win (omega (arith, s.1))
+win_shown x (Loss n) s e = absurd (omega (arith, s.1, e))
+win_shown x Draw s e = absurd (omega (arith, s.1, e))
+
+loss_shown : (x : ℕ) (v : Value) → Shows x v → x ≢ 1 → x % 2 ≢ 0 → v ≡ Loss ((x - 3) / 2)
+loss_shown x (Win n) s ne odd = absurd (odd (omega (arith, s.1)))
+loss_shown x (Loss n) s ne odd = ap Loss (omega (arith, s.1))
+loss_shown x Draw s ne odd = absurd (ne s.1)
+
+pub exit_draw : (x : ℕ) (v : Value) → Shows x v → x ≡ 1 → exits.Draw ≡ exit_of Mate (read x)
+exit_draw x v s e = sym (ap (exit_of Mate) (read_shown x v s ∙ draw_shown x v s e))
+
+pub exit_win : (x : ℕ) (v : Value) → Shows x v → x % 2 ≡ 0 → exits.Win ((x - 2) / 2) ≡ exit_of Mate (read x)
+exit_win x v s e = sym (ap (exit_of Mate) (read_shown x v s ∙ win_shown x v s e))
+
+pub exit_loss : (x : ℕ) (v : Value) → Shows x v → x ≢ 1 → x % 2 ≢ 0 → exits.Loss ((x - 3) / 2) ≡ exit_of Mate (read x)
+exit_loss x v s ne odd = sym (ap (exit_of Mate) (read_shown x v s ∙ loss_shown x v s ne odd))
+
+-- an entry that shows something is 1 or at least 3
+pub shown_least : (x : ℕ) (v : Value) → Shows x v → x ≢ 1 → 3 ≤ x
+shown_least x (Win n) s ne = omega (arith, s.0.0, s.1)
+shown_least x (Loss n) s ne = omega (arith, s.1)
+shown_least x Draw s ne = absurd (ne s.1)
+
+module _ (laws : Laws) (tables : Tables) where
+  none_in : (c n : ℕ) (q : Setup) (flipped : Bool) → c < 36 → n < 36 → IsAdmissible q → IsOf c flipped q → n ≢ c → (o : Option ℕ) → o ≡ index_in n q → o ≡ None
+  none_in c n q flipped c_in n_in ok of other None e = refl
+  none_in c n q flipped c_in n_in ok of other (Some i) e =
+      let own = laws.indexed_class q n i ok ((index_is laws n i q ok).0 (sym e)) in
+      absurd (other (laws.facts.one_class q n c own.0 flipped n_in c_in own.1 of))
+
+  skipped : (o : Option TableValue) (i : Option ℕ) (v : Value) → i ≡ None → or_else (shown_in o i) v ≡ v
+  skipped o None v e = of_table o
+    where
+      of_table : (o : Option TableValue) → or_else (shown_in o None) v ≡ v
+      of_table None = refl
+      of_table (Some t) = refl
+  skipped o (Some i) v e = absurd (let x : Some i ≡ None = e in cc)
+
+  -- what the table of the position's class shows of it
+  pub shown_is : (c i : ℕ) (t : TableValue) (q : Setup) (flipped : Bool) → c < 36 → IsAdmissible q → IsOf c flipped q → tables c ≡ Some t → IsIndex c q i →
+      (n : ℕ) → c < n → n ≤ 36 → shown_below tables n q ≡ read (entry_at t Mate i)
+  unfolding shown_below
+  shown_is c i t q flipped c_in ok of found is zero lt le = absurd (omega (arith, lt))
+  shown_is c i t q flipped c_in ok of found is (suc n) lt le = elim (cases_eq n c) [
+    | inl e ↦
+        let table : tables n ≡ Some t = ap tables e ∙ found in
+        let index : index_in n q ≡ Some i = ap (λ k. index_in k q) e ∙ (index_is laws c i q ok).1 is in
+        ap (λ o. or_else (shown_in o (index_in n q)) (shown_below tables n q)) table ∙ ap (λ k. or_else (shown_in (Some t) k) (shown_below tables n q)) index
+    | inr other ↦
+        skipped (tables n) (index_in n q) (shown_below tables n q) (none_in c n q flipped c_in (omega (arith, le)) ok of other (index_in n q) refl)
+        ∙ shown_is c i t q flipped c_in ok of found is n (omega (arith, lt, other)) (omega (arith, le))
+  ]
+
+  exit_by_test : Setup → Bool → Option Exit
+  exit_by_test q true = None
+  exit_by_test q false = Some (exit_of Mate (shown_below tables 36 q))
+
+  test_exit : (c : ℕ) (p q : Setup) (m : Move) (b : Bool) → goes_on Mate c p m q ≡ b → exit_by tables Mate c p m (Some q) ≡ exit_by_test q b
+  unfolding exit_by_test
+  test_exit c p q m true e = ap (λ x. if x then None else Some (exit_of Mate (shown_below tables 36 q))) e
+  test_exit c p q m false e = ap (λ x. if x then None else Some (exit_of Mate (shown_below tables 36 q))) e
+
+  played_is : (p q : Setup) (m : Move) → Leads p m q → played p m ≡ Some q
+  played_is p q m leads = (laws.played p q m).0 leads
+
+  -- a move that goes on has no exit
+  pub goes_no_exit : (c : ℕ) (p q : Setup) (m : Move) → IsAdmissible p → Leads p m q → GoesOn Mate c p m q → (es : List Exit) →
+      es ≡ es ++ option_to_list (exit_by tables Mate c p m (played p m))
+  unfolding exit_by_test
+  goes_no_exit c p q m ok leads on es =
+      let q_ok = laws.facts.step_admissible p q m ok leads in
+      let none = ap (exit_by tables Mate c p m) (played_is p q m leads) ∙ test_exit c p q m true ((goes_is laws Mate c p q m q_ok).1 on) in
+      sym (ap (λ (o : Option Exit). es ++ option_to_list o) none ∙ append-nil es)
+
+  goes_false : (c : ℕ) (p q : Setup) (m : Move) → IsAdmissible q → ¬ GoesOn Mate c p m q → (b : Bool) → goes_on Mate c p m q ≡ b → b ≡ false
+  goes_false c p q m ok off true e = absurd (off ((goes_is laws Mate c p q m ok).0 e))
+  goes_false c p q m ok off false e = refl
+
+  -- and any other has one
+  pub off_has_exit : (c : ℕ) (p q : Setup) (m : Move) (e : Exit) → IsAdmissible p → Leads p m q → ¬ GoesOn Mate c p m q → e ≡ exit_of Mate (shown_below tables 36 q) → (es : List Exit) →
+      es ++ e ∷ [] ≡ es ++ option_to_list (exit_by tables Mate c p m (played p m))
+  unfolding exit_by_test
+  off_has_exit c p q m e ok leads off is es =
+      let q_ok = laws.facts.step_admissible p q m ok leads in
+      let some = ap (exit_by tables Mate c p m) (played_is p q m leads) ∙ test_exit c p q m false (goes_false c p q m q_ok off (goes_on Mate c p m q) refl) in
+      ap (λ (x : Exit). es ++ x ∷ []) is ∙ sym (ap (λ (o : Option Exit). es ++ option_to_list o) some)
+
+-- one move more of a list
+pub one_more : {X : Type 0} (f : X → List Exit) (xs : List X) (n : ℕ) (x : X) (es fs : List Exit) → n < length xs → x ≡ get_or xs n x → es ≡ flat_map f (take n xs) → fs ≡ es ++ f x → fs ≡ flat_map f (take (n + 1) xs)
+one_more f xs n x es fs inside here so_far is =
+    let last : flat_map f (x ∷ []) ≡ f x = flat_map-cons f x [] ∙ append-nil (f x) in
+    let taken : take (n + 1) xs ≡ take n xs ++ x ∷ [] = take_more xs n x inside ∙ ap (λ y. take n xs ++ y ∷ []) (sym here) in
+    is ∙ ap (λ ys. ys ++ f x) so_far ∙ ap (λ ys. flat_map f (take n xs) ++ ys) (sym last) ∙ sym (flat_map-append f (take n xs) (x ∷ [])) ∙ ap (flat_map f) (sym taken)
+
+pub all_taken : {X : Type 0} (f : X → List Exit) (xs ys : List X) (n : ℕ) (es : List Exit) → length xs ≤ n → xs ≡ ys → es ≡ flat_map f (take n xs) → es ≡ flat_map f ys
+all_taken f xs ys n es all same is = is ∙ ap (flat_map f) (take_all n xs all ∙ same)
+
+pub mapped_some : {A B : Type 0} (f : A → B) (o : Option A) (x : Option B) → option_map f o ≡ x → IsSome x → IsSome o
+mapped_some f None x e some = subst IsSome (sym e) some
+mapped_some f (Some a) x e some = refl
+
+pub mapped_found : {A B : Type 0} (f : A → B) (o : Option A) (a : A) (x : Option B) → option_map f o ≡ x → o ≡ Some a → x ≡ Some (f a)
+mapped_found f o a x e is = sym e ∙ ap (option_map f) is
+
+-- where a move leaves the class, it leads to a child, which has its table
+pub child_there : (laws : Laws) (tables : Tables) (c : ℕ) (p q : Setup) (m : Move) → c < 36 → IsAdmissible p → (flipped : Bool) × IsOf c flipped p → HasChildren tables c → Leads p m q → ¬ GoesOn Mate c p m q →
+    (d : ℕ) (flipped : Bool) → d < 36 → IsOf d flipped q → IsSome (tables d)
+child_there laws tables c p q m c_in ok of children leads off d flipped d_in d_of = ⊎_elim
+    (λ (own : IsOf c of.0 q). absurd (off (laws.facts.some_index q c of.0 c_in q_ok own)))
+    (λ (child : (e : ℕ) × (turned : Bool) × Contains (children_of c) e × IsOf e turned q).
+    let below = laws.facts.child_below c child.0 c_in child.2 in
+    let same = laws.facts.one_class q child.0 d child.1 flipped (omega (arith, below, c_in)) d_in child.3 d_of in
+    subst (λ e. IsSome (tables e)) same (children child.0 child.2))
+    (laws.facts.step_class p q m c of.0 c_in ok of.1 leads)
+  where
+    q_ok : IsAdmissible q
+    q_ok = laws.facts.step_admissible p q m ok leads

@@ -1,0 +1,22 @@
+use Rattle.std.proofs.Common.{Option, IfSome, subst}
+use Rattle.egt_board.specs.Setup.{Setup}
+use Rattle.egt_moves.specs.Legal.{Leads}
+use Rattle.egt_sweep.proofs.Collecting.{somewhere, leads_on_once, leads_on_never, members_on, members_off, untrue}
+use Rattle.egt_sweep.proofs.edges.add_edge.Goals as goal
+
+pub unwrap-next-requires : goal.unwrap-next-requires
+unwrap-next-requires c = somewhere c.args.position.now c.args.chess_move.now c.play.result c.play.ensures.illegal c.requires.legal
+
+pub returns-then-goes_on-clause-members : goal.returns-then-goes_on-clause-members
+returns-then-goes_on-clause-members c k =
+    let p = c.args.position.now in
+    let m = c.args.chess_move.now in
+    let leads = subst (λ (o : Option Setup). IfSome o (λ q. Leads p m q)) c.unwrap-next.ensures c.play.ensures.leads in
+    members_on (c.put.ensures.members k) (leads_on_once c.laws.ensures c.args.column c.args.class p m c.unwrap-next.result c.index.result k c.side.ensures.admissible leads (c.goes_on.ensures.on.0 c.if-goes_on.true) c.index.ensures)
+
+pub returns-else-goes_on-clause-members : goal.returns-else-goes_on-clause-members
+returns-else-goes_on-clause-members c k =
+    let p = c.args.position.now in
+    let m = c.args.chess_move.now in
+    let leads = subst (λ (o : Option Setup). IfSome o (λ q. Leads p m q)) c.unwrap-next.ensures c.play.ensures.leads in
+    members_off (leads_on_never c.laws.ensures c.args.column c.args.class p m c.unwrap-next.result k leads (untrue c.goes_on.result c.if-goes_on.false c.goes_on.ensures.on))

@@ -1,0 +1,13 @@
+use Rattle.std.proofs.Common.{ℕ, ◌≤◌, ◌↔◌}
+use Rattle.std.specs.List.{Contains}
+use Rattle.std.specs.List.Sorted.{IsStrictlyIncreasing}
+use Rattle.arrayvec.specs.ArrayVec.{array_vec_len}
+use Rattle.egt_sweep.specs.Edges.{LeadsOn}
+use Rattle.egt_sweep.proofs.Collecting.{Collected}
+use Rattle.egt_sweep.proofs.edges.edges.Given as goal
+
+-- the list has, in order, where the moves so far lead
+abbrev pub invariant-loop-chess_move : goal.invariant-loop-chess_move
+invariant-loop-chess_move l =
+    IsStrictlyIncreasing l.list.items × (array_vec_len l.list ≤ l.chess_move-index)
+    × ((k : ℕ) → Contains l.list.items k ↔ Collected (LeadsOn l.column l.class l.position) l.chess_move-items l.chess_move-index k)

@@ -1,0 +1,13 @@
+use Rattle.std.proofs.Common.{ap, sym, ◌∙◌}
+use Rattle.egt_table.specs.declared.column.Column.TheVariants.{Mate}
+use Rattle.egt_check.specs.Tables.{table_at}
+use Rattle.egt_sweep.specs.Nodes.{exits_at, exits_from}
+use Rattle.egt_sweep.proofs.Linked.{position_is}
+use Rattle.egt_sweep.proofs.nodes.exits.Goals as goal
+
+pub exits-requires-clause-of : goal.exits-requires-clause-of
+exits-requires-clause-of c = c.laws.ensures.indexed_class c.node-position.result c.args.class c.args.index c.node-position.ensures.spells.admissible c.node-position.ensures.index
+
+pub returns : goal.returns
+unfolding exits_at
+returns c = c.exits.ensures ∙ ap (exits_from (table_at c.args.library.now) Mate c.args.class) (sym ((position_is c.laws.ensures c.args.class c.args.index c.node-position.result).1 c.node-position.ensures))

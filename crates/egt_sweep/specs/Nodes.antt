@@ -1,0 +1,127 @@
+-- A class as a game: its nodes are the indexes of the class's positions. In the game of mates the moves that stay in the class go on, and
+-- the others leave it with the mate value of where they lead. In the game of zeroing moves those that do not zero go on, and the others
+-- leave it at once: with a loss in 0, a win in 0 or a draw, as they reach a lost, a won or a drawn position.
+use Rattle.std.specs.Prelude.{ℕ, zero, suc, ◌==◌, ◌&&◌, not, Bool, true, false, if◌then◌else◌, List, [], ◌∷◌, Option, Some, None}
+use Rattle.std.specs.List.{list_any, flat_map}
+use Rattle.std.specs.Option.{is_some, option_to_list}
+use Rattle.std.proofs.Common.{inl, inr}
+use Rattle.egt_board.specs.Decided.{Decided, tells}
+use Rattle.egt_board.specs.DecidedSetup.{settled_form}
+use Rattle.egt_board.specs.DecidedTurns.{decided_turn}
+use Rattle.egt_board.specs.Setup.{Setup}
+use Rattle.egt_class.specs.Material.{Material, material_of}
+use Rattle.egt_index.specs.Code.{SpellsBy}
+use Rattle.egt_index.specs.DecidedSpelled.{decided_spelled}
+use Rattle.egt_index.specs.Size.{size_of}
+use Rattle.egt_moves.specs.Arena.{Value, Win, Loss, Draw}
+use Rattle.egt_moves.specs.DecidedMoves.{decided_zeroes, decided_checkmate}
+use Rattle.egt_moves.specs.Moves.{moves_of, played}
+use Rattle.egt_moves.specs.declared.chess_move.Move.{Move}
+use Rattle.egt_graph.specs.declared.game.Exit.{Exit}
+use Rattle.egt_graph.specs.declared.game.Exit.TheVariants as exits
+use Rattle.egt_graph.specs.Passing.{passing_below}
+use Rattle.egt_table.specs.declared.column.Column.{Column}
+use Rattle.egt_table.specs.declared.column.Column.TheVariants.{Mate, Zeroing}
+use Rattle.egt_table.specs.Table.{TableValue}
+use Rattle.egt_check.specs.Reading.{read}
+use Rattle.egt_check.specs.Tables.{Tables, entry_at}
+
+-- the first number of a list
+abbrev pub first_of : List ℕ → Option ℕ
+first_of [] = None
+first_of (n ∷ ns) = Some n
+
+-- the position that is told to be spelled
+abbrev pub spelled_by : {m : Material} {code : ℕ} → Decided ((p : Setup) × SpellsBy m code p) → Option Setup
+spelled_by (inl found) = Some found.0
+spelled_by (inr none) = None
+
+-- the position that the code spells
+unfoldable pub spelled : ℕ → ℕ → Option Setup
+spelled c code = spelled_by (decided_spelled (material_of c) code)
+
+-- it is what a turn makes of this one
+abbrev pub is_turned : Setup → Option Setup → Bool
+is_turned s None = false
+is_turned s (Some x) = tells (decided_turn s x)
+
+-- the least code that spells what a turn makes of the settled position: its index, where it is of the class
+unfoldable pub index_in : ℕ → Setup → Option ℕ
+index_in c q = first_of (passing_below (size_of c) (λ code. is_turned (settled_form q) (spelled c code)))
+
+abbrev pub is_number : ℕ → Option ℕ → Bool
+is_number i None = false
+is_number i (Some j) = i == j
+
+abbrev pub kept_if : Bool → Option Setup → Option Setup
+kept_if true found = found
+kept_if false found = None
+
+abbrev pub has_index : ℕ → ℕ → Option Setup → Bool
+has_index c i None = false
+has_index c i (Some p) = is_number i (index_in c p)
+
+-- the position at the index
+unfoldable pub position_at : ℕ → ℕ → Option Setup
+position_at c i = kept_if (has_index c i (spelled c i)) (spelled c i)
+
+-- the side to move is checkmated
+abbrev pub is_mated : Option Setup → Bool
+is_mated None = false
+is_mated (Some p) = tells (decided_checkmate p)
+
+abbrev pub moves_from : Option Setup → List Move
+moves_from None = []
+moves_from (Some p) = moves_of p
+
+-- the move goes on in the game
+abbrev pub goes_on : Column → ℕ → Setup → Move → Setup → Bool
+goes_on Mate c p m q = is_some (index_in c q)
+goes_on Zeroing c p m q = not (tells (decided_zeroes p m))
+
+-- the move leads on to a position whose index is j
+abbrev pub leads_on : Column → ℕ → ℕ → Setup → Move → Option Setup → Bool
+leads_on column c j p m None = false
+leads_on column c j p m (Some q) = goes_on column c p m q && is_number j (index_in c q)
+
+abbrev pub connects_from : Column → ℕ → ℕ → Option Setup → Bool
+connects_from column c j None = false
+connects_from column c j (Some p) = list_any (λ m. leads_on column c j p m (played p m)) (moves_of p)
+
+-- some move goes on from the position at i to one whose index is j
+unfoldable pub connects : Column → ℕ → ℕ → ℕ → Bool
+connects column c i j = is_some (position_at c j) && connects_from column c j (position_at c i)
+
+-- the value as it is told outside the game
+abbrev pub exit_of : Column → Value → Exit
+exit_of Mate (Win n) = exits.Win n
+exit_of Mate (Loss n) = exits.Loss n
+exit_of Mate Draw = exits.Draw
+exit_of Zeroing (Win n) = exits.Win 0
+exit_of Zeroing (Loss n) = exits.Loss 0
+exit_of Zeroing Draw = exits.Draw
+
+-- what the tables of the classes below n show of the position
+abbrev pub shown_in : Option TableValue → Option ℕ → Option Value
+shown_in (Some t) (Some i) = Some (read (entry_at t Mate i))
+shown_in _ _ = None
+
+abbrev pub or_else : Option Value → Value → Value
+or_else None v = v
+or_else (Some w) v = w
+
+unfoldable pub shown_below : Tables → ℕ → Setup → Value
+shown_below tables zero q = Draw
+shown_below tables (suc n) q = or_else (shown_in (tables n) (index_in n q)) (shown_below tables n q)
+
+abbrev pub exit_by : Tables → Column → ℕ → Setup → Move → Option Setup → Option Exit
+exit_by tables column c p m None = None
+exit_by tables column c p m (Some q) = if goes_on column c p m q then None else Some (exit_of column (shown_below tables 36 q))
+
+abbrev pub exits_from : Tables → Column → ℕ → Option Setup → List Exit
+exits_from tables column c None = []
+exits_from tables column c (Some p) = flat_map (λ m. option_to_list (exit_by tables column c p m (played p m))) (moves_of p)
+
+-- what is told of where the moves that leave the game lead, in the order of moves
+unfoldable pub exits_at : Tables → Column → ℕ → ℕ → List Exit
+exits_at tables column c i = exits_from tables column c (position_at c i)

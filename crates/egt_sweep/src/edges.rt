@@ -1,0 +1,84 @@
+//! The moves that go on in a class's game.
+ghost use Rattle.std.specs.Prelude.{◌≡◌, ◌↔◌, ◌+◌, ◌≤◌, ◌<◌, ◌⊎◌, ℕ, Bool, IsTrue};
+ghost use Rattle.std.specs.List.{Contains};
+ghost use Rattle.std.specs.List.Sorted.{IsStrictlyIncreasing};
+ghost use Rattle.egt_class.specs.Membership.{IsOf};
+ghost use Rattle.arrayvec.specs.ArrayVec.{array_vec_len};
+ghost use Rattle.egt_moves.specs.Legal.{Leads, IsLegal};
+ghost use Rattle.egt_sweep.specs.Edges.{IsAt, GoesOn, LeadsOn, Connects};
+
+use crate::ascending::put;
+use crate::laws::laws;
+use arrayvec::ArrayVec;
+use egt_board::Position;
+use egt_class::{Class, of};
+use egt_index::index;
+use egt_moves::{Move, legal_moves, play, zeroing};
+use egt_table::Column;
+
+/// Whether the move, which leads from a position of the class to the next, goes on in the game: it stays in the class, or does not
+/// zero.
+pub(crate) fn goes_on(
+    column: Column,
+    class: Class,
+    position: &Position,
+    chess_move: &Move,
+    next: &Position,
+) -> bool
+    requires of { (flipped : Bool) × IsOf class flipped position.now }
+    requires leads { Leads position.now chess_move.now next.now }
+    ensures on { IsTrue result ↔ GoesOn column class position.now chess_move.now next.now }
+    ensures class { IsTrue result → (flipped : Bool) × IsOf class flipped next.now }
+{
+    laws();
+    let _sides = (position.side(), next.side());
+    let _number = class.number();
+    match column {
+        Column::Mate => {
+            let (own, _flipped) = of(next);
+            let _own_number = own.number();
+            own == class
+        }
+        Column::Zeroing => !zeroing(position, *chess_move),
+    }
+}
+
+/// Adds the index to which the move leads, if it goes on.
+fn add_edge(
+    column: Column,
+    class: Class,
+    position: &Position,
+    chess_move: &Move,
+    list: &mut ArrayVec<u32, 64>,
+)
+    requires of { (flipped : Bool) × IsOf class flipped position.now }
+    requires legal { IsLegal position.now chess_move.now }
+    requires ascending { IsStrictlyIncreasing list.old.items }
+    requires room { array_vec_len list.old < 64 }
+    ensures ascending { IsStrictlyIncreasing list.new.items }
+    ensures members { (k : ℕ) → Contains list.new.items k ↔ (Contains list.old.items k ⊎ LeadsOn column class position.now chess_move.now k) }
+    ensures few { array_vec_len list.new ≤ array_vec_len list.old + 1 }
+{
+    laws();
+    let next = play(position, *chess_move).unwrap();
+    let _sides = (position.side(), next.side());
+    if goes_on(column, class, position, chess_move, &next) {
+        put(list, index(class, &next));
+    }
+}
+
+/// The indexes that moves which go on lead to from the position at the index.
+pub(crate) fn edges(column: Column, class: Class, position: &Position) -> ArrayVec<u32, 64>
+    requires { (flipped : Bool) × IsOf class flipped position.now }
+    ensures ascending { IsStrictlyIncreasing result.items }
+    ensures exact { (i : ℕ) → IsAt class i position.now → (k : ℕ) → Contains result.items k ↔ Connects column class i k }
+{
+    laws();
+    let _side = position.side();
+    let moves = legal_moves(position);
+    let mut list = ArrayVec::new();
+    for chess_move in moves.as_slice() {
+        add_edge(column, class, position, chess_move, &mut list);
+    }
+    list
+}

@@ -1,0 +1,12 @@
+//! The builder of tables.
+#![tactic(auto)]
+
+pub mod ascending;
+pub mod edges;
+pub mod laws;
+pub mod leaving;
+pub mod mate_game;
+pub mod nodes;
+pub mod sources;
+
+pub use mate_game::MateGame;

@@ -1,0 +1,54 @@
+//! The game of mates over a class.
+ghost use Rattle.egt_check.specs.Tables.{table_at, HasChildren};
+ghost use Rattle.egt_table.specs.declared.column.Column.TheVariants.{Mate};
+ghost use Rattle.egt_sweep.specs.ClassGame.{class_game, class_game_is_lawful};
+
+use crate::nodes::{exits, into, is_mated, is_void, out};
+use arrayvec::ArrayVec;
+use egt_check::Library;
+use egt_class::Class;
+use egt_graph::{Exit, Game};
+use egt_index::size;
+use egt_table::Column;
+
+/// The game whose nodes are the indexes of a class, whose edges are the moves that stay in it, and whose exits are the others, with the mate
+/// value of where they lead.
+pub struct MateGame<'l> {
+    class: Class,
+    library: &'l Library,
+    ghost children: { HasChildren (table_at library.now) class },
+}
+
+impl Game for MateGame<'_> {
+    ghost graph = { λ g. class_game (table_at g.library.now) Mate g.class };
+
+    ghost lawful = { λ g. class_game_is_lawful (table_at g.library.now) Mate g.class };
+
+    fn size(&self) -> u32 {
+        size(self.class)
+    }
+
+    fn void(&self, i: u32) -> bool {
+        is_void(self.class, i)
+    }
+
+    fn mated(&self, i: u32) -> bool {
+        is_mated(self.class, i)
+    }
+
+    fn out(&self, i: u32) -> ArrayVec<u32, 64> {
+        out(Column::Mate, self.class, i)
+    }
+
+    fn degree(&self, i: u32) -> usize {
+        out(Column::Mate, self.class, i).len()
+    }
+
+    fn into(&self, j: u32) -> ArrayVec<u32, 128> {
+        into(Column::Mate, self.class, j)
+    }
+
+    fn exits(&self, i: u32) -> ArrayVec<Exit, 64> {
+        exits(self.class, self.library, i)
+    }
+}

@@ -1,0 +1,88 @@
+//! The nodes of a class's game.
+ghost use Rattle.std.specs.Prelude.{◌≡◌, not, IsFalse};
+ghost use Rattle.std.specs.Option.{is_some};
+ghost use Rattle.egt_class.specs.Membership.{IsOf};
+ghost use Rattle.egt_index.specs.Size.{size_of};
+ghost use Rattle.egt_graph.specs.Passing.{passing_below};
+ghost use Rattle.egt_sweep.specs.Edges.{IsAt};
+ghost use Rattle.egt_table.specs.declared.column.Column.TheVariants.{Mate};
+ghost use Rattle.egt_check.specs.Tables.{table_at, HasChildren};
+ghost use Rattle.egt_sweep.specs.Nodes.{position_at, is_mated, connects, exits_at};
+
+use crate::edges::edges;
+use crate::laws::laws;
+use crate::leaving;
+use crate::sources::sources;
+use arrayvec::ArrayVec;
+use egt_board::Position;
+use egt_check::Library;
+use egt_class::Class;
+use egt_graph::Exit;
+use egt_index::position;
+use egt_moves::{Standing, standing};
+use egt_table::Column;
+
+/// Whether no position has the index.
+pub(crate) fn is_void(class: Class, index: u32) -> bool
+    ensures { result ≡ not (is_some (position_at class index)) }
+{
+    laws();
+    let _number = class.number();
+    position(class, index).is_none()
+}
+
+/// The position at a node.
+fn node(class: Class, index: u32) -> Position
+    requires { IsFalse (not (is_some (position_at class index))) }
+    ensures { IsAt class index result }
+{
+    laws();
+    let _number = class.number();
+    position(class, index).unwrap()
+}
+
+/// Whether the side to move at a node is checkmated.
+pub(crate) fn is_mated(class: Class, index: u32) -> bool
+    requires { IsFalse (not (is_some (position_at class index))) }
+    ensures { result ≡ is_mated (position_at class index) }
+{
+    laws();
+    let position = node(class, index);
+    match standing(&position) {
+        Standing::Checkmate => true,
+        Standing::Stalemate | Standing::HasMove => false,
+    }
+}
+
+/// The nodes that moves which go on lead to from a node.
+pub(crate) fn out(column: Column, class: Class, index: u32) -> ArrayVec<u32, 64>
+    requires { IsFalse (not (is_some (position_at class index))) }
+    ensures { result.items ≡ passing_below (size_of class) (λ j. connects column class index j) }
+{
+    laws();
+    let _number = class.number();
+    let position = node(class, index);
+    edges(column, class, &position)
+}
+
+/// The nodes from which moves that go on lead to a node.
+pub(crate) fn into(column: Column, class: Class, index: u32) -> ArrayVec<u32, 128>
+    requires { IsFalse (not (is_some (position_at class index))) }
+    ensures { result.items ≡ passing_below (size_of class) (λ i. connects column class i index) }
+{
+    laws();
+    let _number = class.number();
+    let position = node(class, index);
+    sources(column, class, &position)
+}
+
+/// The values of where the moves lead that leave the class from a node, in the order of moves.
+pub(crate) fn exits(class: Class, library: &Library, index: u32) -> ArrayVec<Exit, 64>
+    requires node { IsFalse (not (is_some (position_at class index))) }
+    requires children { HasChildren (table_at library.now) class }
+    ensures { result.items ≡ exits_at (table_at library.now) Mate class index }
+{
+    laws();
+    let position = node(class, index);
+    leaving::exits(class, library, &position)
+}
