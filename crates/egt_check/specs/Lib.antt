@@ -6,3 +6,6 @@ pub mod Truth
 pub mod Library
 pub mod Names
 pub mod Facts
+pub mod Score
+pub mod Steps
+pub mod Judged
