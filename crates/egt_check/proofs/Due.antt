@@ -38,6 +38,10 @@ is_counted (outcomes.Win k) short = short.1
 is_counted (outcomes.Loss k) short = short
 is_counted outcomes.Draw short = tt
 
+pub said_counted : (shows : Shown) (column : Column) (p q : Setup) (m : chess.Move p q) (said : Option Outcome) → IsSaid shows column p q m said → IfSome said IsCounted
+said_counted shows column p q m (Some outcome) h = h.1
+said_counted shows column p q m None h = tt
+
 module _ (shows : Shown) (p q : Setup) (m : chess.Move p q) (one : IsOne shows q) where
   -- the count of a step that zeroes, or else of its successor's entry
   abbrev CountsBy : (ℕ → Value) → ℕ → Type 0
@@ -189,12 +193,8 @@ module _ (shows : Shown) (column : Column) (p : Setup) (one : (q : Setup) → ch
   abbrev best_said : Option Outcome
   best_said = is.reached.said
 
-  counted : (q : Setup) (m : chess.Move p q) (said : Option Outcome) → IsSaid shows column p q m said → IfSome said IsCounted
-  counted q m (Some outcome) h = h.1
-  counted q m None h = tt
-
   best_counted : IfSome best_said IsCounted
-  best_counted = counted is.next is.step best_said is.reached.is_said
+  best_counted = said_counted shows column p is.next is.step best_said is.reached.is_said
 
   best_says : (outcome : Outcome) → best_said ≡ Some outcome → Says shows column p is.next is.step outcome
   best_says outcome e = (subst (IsSaid shows column p is.next is.step) e is.reached.is_said).0
@@ -205,7 +205,7 @@ module _ (shows : Shown) (column : Column) (p : Setup) (one : (q : Setup) → ch
       let s = is.passed q m in
       let e : s.1.said ≡ Some outcome = said_is shows p q m (one q m) column s.1.said outcome s.1.is_said says in
       let low : score_of s.1.said ≤ score_of best_said = omega (arith, s.2, s.1.is, is.reached.is) in
-      (subst (λ said. score_of said ≤ score_of best_said) e low, subst (λ said. IfSome said IsCounted) e (counted q m s.1.said s.1.is_said))
+      (subst (λ said. score_of said ≤ score_of best_said) e low, subst (λ said. IfSome said IsCounted) e (said_counted shows column p q m s.1.said s.1.is_said))
 
   -- where some step says a loss, the best says none that is later
   least_loss : (n : ℕ) (q : Setup) (m : chess.Move p q) → Says shows column p q m (outcomes.Loss n) → (k : ℕ) × (best_said ≡ Some (outcomes.Loss k)) × (k ≤ n)
@@ -243,7 +243,7 @@ module _ (shows : Shown) (column : Column) (p : Setup) (one : (q : Setup) → ch
       let counts : IsCounted (outcomes.Win n) = subst (λ said. IfSome said IsCounted) e best_counted in
       let high : score_of best_said ≡ n = ap score_of e in
       let low : score_of s.1.said ≤ n = omega (arith, s.2, s.1.is, is.reached.is) in
-      let w = below_draw s.1.said (counted q m s.1.said s.1.is_said) (omega (arith, counts)) in
+      let w = below_draw s.1.said (said_counted shows column p q m s.1.said s.1.is_said) (omega (arith, counts)) in
       (w.0, (subst (IsSaid shows column p q m) w.1 s.1.is_said).0, omega (arith, w.2))
 
   loss_due : Ends chess → (n : ℕ) → FitsBeside shows column p (Loss n) ↔ (entry_before best_said ≡ entry_of (Loss n))

@@ -1,3 +1,4 @@
 pub mod Due
 pub mod Showing
 pub mod Finding
+pub mod Stepping

@@ -68,8 +68,9 @@ fn scores_after(
     let next = play(position, *chess_move).unwrap();
     let entries = entries_of(table, library, &next);
     let mate = shown(entries.mate);
+    let zeroing_entry = shown(entries.zeroing);
     let zeroes = zeroing(position, *chess_move);
-    let said = zeroing_said(mate, shown(entries.zeroing), zeroes);
+    let said = zeroing_said(mate, zeroing_entry, zeroes);
     ByColumn {
         mate: score(mate),
         zeroing: score(said),
