@@ -2,3 +2,4 @@ pub mod Due
 pub mod Showing
 pub mod Finding
 pub mod Stepping
+pub mod Best
