@@ -4,13 +4,17 @@ use Rattle.std.proofs.lemmas.Bool.{cases_lt}
 use Rattle.egt_board.specs.Setup.{Setup}
 use Rattle.egt_moves.specs.Arena.{Value, Win, Loss, Draw, NoMove, SomeMove, IsStalemate, Ends}
 use Rattle.egt_moves.specs.Chess.{chess}
+use Rattle.egt_moves.specs.Standing.{StandsAs}
+use Rattle.egt_moves.specs.declared.outcome.Standing.{Standing}
+use Rattle.egt_moves.specs.declared.outcome.Standing.TheVariants.{Checkmate, Stalemate, HasMove}
 use Rattle.egt_table.specs.declared.column.Column.{Column}
 use Rattle.egt_table.specs.declared.column.Column.TheVariants.{Mate, Zeroing}
+use Rattle.egt_check.specs.declared.by_column.ByColumn.{ByColumn}
 use Rattle.egt_check.specs.declared.outcome.Outcome.{Outcome}
 use Rattle.egt_check.specs.declared.outcome.Outcome.TheVariants as outcomes
 use Rattle.egt_check.specs.Entry.{longest, IsShort, entry_of}
 use Rattle.egt_check.specs.Fits.{Shown, Counts, FitsBeside}
-use Rattle.egt_check.specs.Score.{value_of, SaysDraw, Says, IsCounted, IsSaid, score_of, Scores, IsBest, loss_in, win_in, zeroing_said, entry_before, IsDueDraw, IsDue}
+use Rattle.egt_check.specs.Score.{number_at, value_of, SaysDraw, Says, IsCounted, IsSaid, score_of, Scores, IsBest, loss_in, win_in, zeroing_said, IsAtEnd, entry_before, IsDueDraw, IsDue}
 
 -- what each column shows of a position is one thing, for which an entry has room
 pub record IsOne (shows : Shown) (q : Setup) : Type 0 where
@@ -348,3 +352,28 @@ stale_is_due shows column p stale = record { win = win; loss = loss; draw = draw
     draw : (column : Column) → IsDueDraw shows column p 1
     draw Mate = ((λ h. refl), (λ e. ((λ q m k. absurd (stale.0 q m)), inl stale)))
     draw Zeroing = tt
+
+pub end_is_due : (shows : Shown) (column : Column) (p : Setup) (x : ℕ) → NoMove chess p → IsAtEnd p x → IsDue shows column p x
+end_is_due shows column p x stuck (inl mate) = subst (IsDue shows column p) (sym mate.1) (mated_is_due shows column p stuck mate.0)
+end_is_due shows column p x stuck (inr stale) = subst (IsDue shows column p) (sym stale.1) (stale_is_due shows column p stale.0)
+
+-- who is not checkmated and has no legal move is stalemated
+pub stale_unless_mated : (p : Setup) (s : Standing) → StandsAs p s → (s ≡ Checkmate → ⊥) → NoMove chess p → IsStalemate chess p
+stale_unless_mated p Checkmate stands other stuck = absurd (other refl)
+stale_unless_mated p Stalemate stands other stuck = (stuck, λ mate. stands.quiet mate.check)
+stale_unless_mated p HasMove stands other stuck = absurd (stuck stands.legal.0 (stands.move, stands.legal.1))
+
+pub checkmate_ends : Ends chess
+checkmate_ends p mate q step = mate.stuck step.0 (q, step.1)
+
+-- x is the entry that comes of the score
+abbrev pub ComesOf : ℕ → ℕ → Type 0
+ComesOf best x = (said : Option Outcome) → IfSome said IsCounted → best ≡ score_of said → x ≡ entry_before said
+
+pub both_due : (shows : Shown) (p : Setup) → ((q : Setup) → chess.Move p q → IsOne shows q) → (best due : ByColumn) → ((column : Column) → IsBest shows column p (number_at best column)) → ComesOf best.mate due.mate → ComesOf best.zeroing due.zeroing → (column : Column) → IsDue shows column p (number_at due column)
+both_due shows p one best due is mate zeroing Mate = best_is_due shows Mate p one checkmate_ends best.mate due.mate (is Mate) mate
+both_due shows p one best due is mate zeroing Zeroing = best_is_due shows Zeroing p one checkmate_ends best.zeroing due.zeroing (is Zeroing) zeroing
+
+pub at_end_due : (shows : Shown) (p : Setup) (x : ℕ) → NoMove chess p → IsAtEnd p x → (column : Column) → IsDue shows column p (number_at (record { mate = x; zeroing = x }) column)
+at_end_due shows p x stuck end Mate = end_is_due shows Mate p x stuck end
+at_end_due shows p x stuck end Zeroing = end_is_due shows Zeroing p x stuck end

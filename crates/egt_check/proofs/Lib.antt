@@ -3,3 +3,4 @@ pub mod Showing
 pub mod Finding
 pub mod Stepping
 pub mod Best
+pub mod FirstRule

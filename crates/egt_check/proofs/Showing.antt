@@ -7,6 +7,7 @@ use Rattle.egt_class.specs.Children.{children_of}
 use Rattle.egt_class.specs.Membership.{IsOf}
 use Rattle.egt_index.specs.Index.{IsIndex}
 use Rattle.egt_moves.specs.Arena.{Value, Win, Loss, Draw}
+use Rattle.egt_moves.specs.Chess.{chess}
 use Rattle.egt_table.specs.declared.column.Column.{Column}
 use Rattle.egt_table.specs.Table.{TableValue}
 use Rattle.egt_check.specs.declared.outcome.Outcome.{Outcome}
@@ -49,3 +50,7 @@ module _ (facts : Facts) (tables : Tables) (p : Setup) (ok : IsAdmissible p) whe
   pub shown_of : (column : Column) (x : ℕ) (shown : Option Outcome) → HasEntry tables column p x → IsShownBy x shown → IsShownOf (ShowsOf tables) column p shown
   shown_of column x (Some outcome) has shows = (x, has, shows)
   shown_of column x None has none = λ v a. none v (subst (λ y. Shows y v) (one_entry column a.0 x a.1 has) a.2)
+
+-- and of each position after a step from one
+pub one_after : (facts : Facts) (tables : Tables) (p : Setup) → IsAdmissible p → (q : Setup) → chess.Move p q → IsOne (ShowsOf tables) q
+one_after facts tables p ok q step = one_shown facts tables q (facts.step_admissible p q step.0 ok step.1)

@@ -7,5 +7,6 @@ pub mod Library
 pub mod Names
 pub mod Facts
 pub mod Score
+pub mod FirstBad
 pub mod Steps
 pub mod Judged

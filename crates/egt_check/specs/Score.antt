@@ -1,7 +1,7 @@
 -- Scores of steps: one number a column, so that the greatest over all steps says which entry is due.
-use Rattle.std.specs.Prelude.{◌≡◌, ℕ, suc, ◌-◌, ◌≤◌, ◌↔◌, Bool, true, false, max, Option, Some, None}
+use Rattle.std.specs.Prelude.{◌≡◌, ℕ, suc, ◌-◌, ◌≤◌, ◌⊎◌, ◌↔◌, Bool, true, false, max, Option, Some, None}
 use Rattle.egt_board.specs.Setup.{Setup}
-use Rattle.egt_moves.specs.Arena.{Value, Win, Loss, Draw}
+use Rattle.egt_moves.specs.Arena.{Value, Win, Loss, Draw, IsStalemate}
 use Rattle.egt_moves.specs.Chess.{chess}
 use Rattle.egt_table.specs.declared.column.Column.{Column}
 use Rattle.egt_table.specs.declared.column.Column.TheVariants.{Mate, Zeroing}
@@ -87,6 +87,10 @@ zeroing_said (Some (outcomes.Win k)) zeroing true = Some (outcomes.Win 0)
 zeroing_said (Some (outcomes.Win k)) zeroing false = win_in zeroing
 zeroing_said (Some outcomes.Draw) zeroing zeroes = None
 zeroing_said None zeroing zeroes = None
+
+-- the entry of a position without a step: checkmate or stalemate
+abbrev pub IsAtEnd : Setup → ℕ → Type 0
+IsAtEnd p x = (chess.Checkmate p × (x ≡ entry_of (Loss 0))) ⊎ (IsStalemate chess p × (x ≡ entry_of Draw))
 
 -- the greater of two scores, if there are two
 abbrev pub greater : Option ℕ → ℕ → ℕ
