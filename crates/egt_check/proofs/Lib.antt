@@ -4,3 +4,5 @@ pub mod Finding
 pub mod Stepping
 pub mod Best
 pub mod FirstRule
+pub mod Judged
+pub mod Shelving
