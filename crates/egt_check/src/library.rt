@@ -41,7 +41,7 @@ impl Library {
         ensures empty { IfOk result (λ l. (c : ℕ) → table_at l c ≡ None) }
     {
         let mut places = Vec::with_capacity(alloc, 36)?;
-        for _ in 0..36 {
+        for _ in 0..36usize {
             places.push(None)?;
         }
         Ok(Library { places })
