@@ -7,7 +7,6 @@ use Rattle.std.proofs.lemmas.List.{get_or-set_other, get_or-set_same, length-set
 use Rattle.std.proofs.lemmas.Bool.Decides.{eqb_tells}
 use Rattle.egt_class.specs.Children.{children_of}
 use Rattle.egt_table.specs.Table.{TableValue, IsTable}
-use Rattle.egt_check.specs.Facts.{Facts}
 use Rattle.egt_check.specs.Library.{IsShelved, AreShelved, IsLibrary, IsAccepted}
 use Rattle.egt_check.specs.Rules.{KeepsRules}
 use Rattle.egt_check.specs.Tables.{Tables, table_at, beside, HasChildren}
@@ -53,10 +52,10 @@ true_child : (places : Places) (d : ℕ) (o : Option TableValue) → table_at pl
 true_child places d (Some u) e there shelved = (u, e, shelved.class, shelved.true)
 true_child places d None e there shelved = absurd (false≢true there)
 
-module _ (facts : Facts) (places : Places) (library : IsLibrary places) (t : TableValue) (table : IsTable t) where
+module _ (lower_child : (c d : ℕ) → c < 36 → Contains (children_of c) d → d < c) (places : Places) (library : IsLibrary places) (t : TableValue) (table : IsTable t) where
   pub true_children : HasChildren (table_at places) t.class → HasTrueChildren (beside (table_at places) t) t.class
   true_children children d child =
-      let less = facts.child_below t.class d table.class_in child in
+      let less = lower_child t.class d table.class_in child in
       let u = true_child places d (table_at places d) refl (children d child) (library.shelved d (lower t.class d table.class_in less)) in
       let other : beside (table_at places) t d ≡ table_at places d = beside_other (table_at places) t d (apart t.class d less) in
       (u.0, other ∙ u.1, u.2, u.3)
