@@ -82,8 +82,8 @@ module _ (shows : Shown) (column : Column) (p : Setup) where
     step = tried.step;
     reached = tried.reached;
     passed = λ q step.
-    let there = subst (λ ms. Contains ms step.0) (sym same) ((legal step.0).1 (q, step.1)) in
-    tried.passed there.0 step.0 (omega (arith, there.1)) there.2 q step.1;
+        let there = subst (λ ms. Contains ms step.0) (sym same) ((legal step.0).1 (q, step.1)) in
+        tried.passed there.0 step.0 (omega (arith, there.1)) there.2 q step.1;
   }
 
 pub no_move : (p : Setup) (moves listed : List Move) (n : ℕ) → length moves ≤ n → moves ≡ listed → ((m : Move) → Contains listed m ↔ IsLegal p m) → n ≡ 0 → NoMove chess p

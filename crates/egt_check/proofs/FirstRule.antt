@@ -37,9 +37,9 @@ something : (x : ℕ) → x ≢ 0 → ((v : Value) → ¬ Shows x v) → (x ≢ 
 something x some none range = elim (cases_lt (x % 2) 1) [
   | inl even ↦ none (Win (x / 2 - 1)) ((omega (arith, some, range.0, range.1), omega (arith, range.1)), omega (arith, some, range.0))
   | inr odd ↦ elim (cases_lt x 3) [
-      | inl low ↦ none Draw (tt, omega arith)
-      | inr high ↦ none (Loss (x / 2 - 1)) (omega (arith, range.1), omega arith)
-    ]
+    | inl low ↦ none Draw (tt, omega arith)
+    | inr high ↦ none (Loss (x / 2 - 1)) (omega (arith, range.1), omega arith)
+  ]
 ]
 
 module _ (tables : Tables) (t : TableValue) (i : ℕ) where
@@ -148,46 +148,46 @@ module _ (tables : Tables) (t : TableValue) (i : ℕ) (p : Setup) (spelled : Spe
   judged (Some rules.Range) found = record {
     broken = λ keeps. something here found.0 found.1 keeps;
     kept = kept_before tables t i column 1
-    (λ lt. kept_void found.0)
-    (λ lt. absurd (omega arith)) (λ lt. absurd (omega arith)) (λ lt. absurd (omega arith)) (λ lt. absurd (omega arith)) (λ lt. absurd (omega arith));
+        (λ lt. kept_void found.0)
+        (λ lt. absurd (omega arith)) (λ lt. absurd (omega arith)) (λ lt. absurd (omega arith)) (λ lt. absurd (omega arith)) (λ lt. absurd (omega arith));
   }
   judged (Some rules.Kind) found = record {
     broken = λ keeps. found.differs (agrees_by tables t i column keeps);
     kept = kept_before tables t i column 2
-    (λ lt. kept_void (not_zero here (value_of found.outcome) found.shows))
-    (λ lt. in_range here (value_of found.outcome) found.shows)
-    (λ lt. absurd (omega arith)) (λ lt. absurd (omega arith)) (λ lt. absurd (omega arith)) (λ lt. absurd (omega arith));
+        (λ lt. kept_void (not_zero here (value_of found.outcome) found.shows))
+        (λ lt. in_range here (value_of found.outcome) found.shows)
+        (λ lt. absurd (omega arith)) (λ lt. absurd (omega arith)) (λ lt. absurd (omega arith)) (λ lt. absurd (omega arith));
   }
   judged (Some rules.Win) found =
       let wrong = found.1 in
       record {
         broken = λ keeps. wrong.other (wrong.shows.1 ∙ sym ((is_due.win found.0).0 (keeps found.0 wrong.shows p spelled)));
         kept = kept_before tables t i column 3
-        (λ lt. kept_void (not_zero here (Win found.0) wrong.shows))
-        (λ lt. in_range here (Win found.0) wrong.shows)
-        (λ lt. agrees_in tables t i column wrong.agrees)
-        (λ lt. absurd (omega arith)) (λ lt. absurd (omega arith)) (λ lt. absurd (omega arith));
+            (λ lt. kept_void (not_zero here (Win found.0) wrong.shows))
+            (λ lt. in_range here (Win found.0) wrong.shows)
+            (λ lt. agrees_in tables t i column wrong.agrees)
+            (λ lt. absurd (omega arith)) (λ lt. absurd (omega arith)) (λ lt. absurd (omega arith));
       }
   judged (Some rules.Loss) found =
       let wrong = found.1 in
       record {
         broken = λ keeps. wrong.other (wrong.shows.1 ∙ sym ((is_due.loss found.0).0 (keeps found.0 wrong.shows p spelled)));
         kept = kept_before tables t i column 4
-        (λ lt. kept_void (not_zero here (Loss found.0) wrong.shows))
-        (λ lt. in_range here (Loss found.0) wrong.shows)
-        (λ lt. agrees_in tables t i column wrong.agrees)
-        (λ lt n. fits_other (Loss found.0) (Win n) wrong.shows (λ e. cc))
-        (λ lt. absurd (omega arith)) (λ lt. absurd (omega arith));
+            (λ lt. kept_void (not_zero here (Loss found.0) wrong.shows))
+            (λ lt. in_range here (Loss found.0) wrong.shows)
+            (λ lt. agrees_in tables t i column wrong.agrees)
+            (λ lt n. fits_other (Loss found.0) (Win n) wrong.shows (λ e. cc))
+            (λ lt. absurd (omega arith)) (λ lt. absurd (omega arith));
       }
   judged (Some rules.Draw) wrong = record {
     broken = λ keeps. undrawn column is_due.draw wrong.compared wrong.other wrong.shows.1 (keeps wrong.shows p spelled);
     kept = kept_before tables t i column 5
-    (λ lt. kept_void (not_zero here Draw wrong.shows))
-    (λ lt. in_range here Draw wrong.shows)
-    (λ lt. agrees_in tables t i column wrong.agrees)
-    (λ lt n. fits_other Draw (Win n) wrong.shows (λ e. cc))
-    (λ lt n. fits_other Draw (Loss n) wrong.shows (λ e. cc))
-    (λ lt. absurd (omega arith));
+        (λ lt. kept_void (not_zero here Draw wrong.shows))
+        (λ lt. in_range here Draw wrong.shows)
+        (λ lt. agrees_in tables t i column wrong.agrees)
+        (λ lt n. fits_other Draw (Win n) wrong.shows (λ e. cc))
+        (λ lt n. fits_other Draw (Loss n) wrong.shows (λ e. cc))
+        (λ lt. absurd (omega arith));
   }
     where
       undrawn : (column : Column) → IsDueDraw (ShowsOf tables) column p due → IsCompared column outcomes.Draw → here ≢ due → here ≡ entry_of Draw → FitsBeside (ShowsOf tables) column p Draw → ⊥

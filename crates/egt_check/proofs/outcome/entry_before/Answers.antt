@@ -1,1 +1,0 @@
-use Rattle.egt_check.proofs.FirstRule.{judged}
