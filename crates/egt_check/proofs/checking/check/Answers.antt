@@ -1,4 +1,4 @@
-use Rattle.std.proofs.Common.{◌≡◌, ℕ, subst}
+use Rattle.std.proofs.Common.{ℕ, subst}
 use Rattle.egt_check.specs.Tables.{table_at, HasChildren}
 use Rattle.egt_check.proofs.checking.check.Goals as goal
 

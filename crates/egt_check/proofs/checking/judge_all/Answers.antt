@@ -1,6 +1,6 @@
-use Rattle.std.proofs.Common.{◌≡◌, ℕ, ◌≤◌, ◌+◌, refl, sym, ap, subst, ◌∙◌}
+use Rattle.std.proofs.Common.{ℕ, ◌≤◌, ◌+◌, refl, sym, ap, subst, ◌∙◌}
 use Rattle.egt_index.specs.Size.{size_of}
-use Rattle.egt_table.specs.declared.column.Column.TheVariants.{Mate, Zeroing}
+use Rattle.egt_table.specs.declared.column.Column.TheVariants.{Mate}
 use Rattle.egt_check.specs.FirstBad.{IsFirstBad}
 use Rattle.egt_check.specs.Rules.{IsJudged}
 use Rattle.egt_check.specs.Tables.{table_at, beside}

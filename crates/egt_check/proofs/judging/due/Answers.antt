@@ -1,4 +1,3 @@
-use Rattle.egt_table.specs.declared.column.Column.TheVariants.{Mate, Zeroing}
 use Rattle.egt_check.specs.Steps.{shown_by}
 use Rattle.egt_check.specs.Tables.{table_at, beside}
 use Rattle.egt_check.proofs.Due.{both_due, at_end_due}

@@ -1,4 +1,4 @@
-use Rattle.std.proofs.Common.{◌≡◌, ◌+◌, refl, sym, subst}
+use Rattle.std.proofs.Common.{◌+◌, refl, sym, subst}
 use Rattle.std.specs.Option.{option_map}
 use Rattle.egt_check.specs.Score.{number_at}
 use Rattle.egt_check.specs.Steps.{shown_by}

@@ -1,4 +1,4 @@
-use Rattle.std.proofs.Common.{◌≡◌, ◌≤◌, arith, ◌∙◌}
+use Rattle.std.proofs.Common.{◌≡◌, arith, ◌∙◌}
 use Rattle.egt_check.proofs.Shelving.{no_places, free_library, free_more}
 use Rattle.egt_check.proofs.library.Library.new.Goals as goal
 
