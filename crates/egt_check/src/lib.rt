@@ -17,3 +17,6 @@ pub use checking::check;
 pub use library::Library;
 pub use reject::Reject;
 pub use rule::Rule;
+
+#[cfg(test)]
+mod tests;
