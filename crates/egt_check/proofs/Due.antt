@@ -1,5 +1,5 @@
 -- Which entry is due, by the best score of a step.
-use Rattle.std.proofs.Common.{◌≡◌, ℕ, zero, suc, IfSome, ◌*◌, ◌+◌, ◌-◌, ◌<◌, ◌≤◌, ◌⊎◌, ◌↔◌, inl, inr, Bool, true, false, IsTrue, Option, Some, None, refl, sym, ap, subst, ◌∙◌, arith}
+use Rattle.std.proofs.Common.{◌≡◌, ℕ, zero, suc, IfSome, ◌+◌, ◌<◌, ◌≤◌, ◌⊎◌, ◌↔◌, inl, inr, Bool, true, false, IsTrue, Option, Some, None, refl, sym, ap, subst, ◌∙◌, arith}
 use Rattle.std.proofs.lemmas.Bool.{cases_lt}
 use Rattle.egt_board.specs.Setup.{Setup}
 use Rattle.egt_moves.specs.Arena.{Value, Win, Loss, Draw, NoMove, SomeMove, IsStalemate, Ends}
@@ -14,7 +14,7 @@ use Rattle.egt_check.specs.declared.outcome.Outcome.{Outcome}
 use Rattle.egt_check.specs.declared.outcome.Outcome.TheVariants as outcomes
 use Rattle.egt_check.specs.Entry.{longest, IsShort, entry_of}
 use Rattle.egt_check.specs.Fits.{Shown, Counts, FitsBeside}
-use Rattle.egt_check.specs.Score.{number_at, value_of, SaysDraw, Says, IsCounted, IsSaid, score_of, Scores, IsBest, loss_in, win_in, zeroing_said, IsAtEnd, entry_before, IsDueDraw, IsDue}
+use Rattle.egt_check.specs.Score.{number_at, value_of, Says, IsCounted, IsSaid, score_of, IsBest, loss_in, win_in, zeroing_said, IsAtEnd, entry_before, IsDueDraw, IsDue}
 
 -- what each column shows of a position is one thing, for which an entry has room
 pub record IsOne (shows : Shown) (q : Setup) : Type 0 where

@@ -1,5 +1,5 @@
 -- In which table the entry of a position is found.
-use Rattle.std.proofs.Common.{◌≡◌, ℕ, ◌<◌, ◌⊎◌, inl, inr, Bool, true, false, eqb, List, Option, Some, None, refl, sym, subst, ◌∙◌, arith}
+use Rattle.std.proofs.Common.{◌≡◌, ℕ, ◌<◌, ◌⊎◌, inl, inr, Bool, false, eqb, Option, Some, None, refl, sym, subst, arith}
 use Rattle.std.specs.Option.{IsSome, option_map}
 use Rattle.std.specs.List.{Contains}
 use Rattle.std.proofs.lemmas.Bool.{eq-eqb}
@@ -49,7 +49,8 @@ entry_found tables p c i flipped t numbers below of found is_index are column = 
   is = are column;
 }
 
-lower : (c d : ℕ) → c < 36 → d < c → d < 36
+-- what comes before a class is one
+pub lower : (c d : ℕ) → c < 36 → d < c → d < 36
 lower c d below less = omega arith
 
 module _ (facts : Facts) (tables : Tables) where

@@ -1,11 +1,10 @@
 -- From what comparing finds to the first rule that an entry breaks.
-use Rattle.std.proofs.Common.{◌≡◌, ◌≢◌, ℕ, ◌+◌, ◌-◌, ◌*◌, ◌/◌, ◌%◌, ◌<◌, ◌≤◌, ◌⊎◌, ◌↔◌, inl, inr, Option, Some, None, refl, sym, subst, ◌∙◌, arith}
+use Rattle.std.proofs.Common.{◌≡◌, ◌≢◌, ℕ, ◌-◌, ◌/◌, ◌%◌, ◌<◌, ◌≤◌, inl, inr, Option, Some, None, sym, subst, ◌∙◌, arith}
 use Rattle.std.proofs.lemmas.Bool.{cases_lt}
-use Rattle.egt_board.specs.Setup.{Setup, IsAdmissible}
+use Rattle.egt_board.specs.Setup.{Setup}
 use Rattle.egt_index.specs.Code.{Spells}
 use Rattle.egt_index.specs.Index.{IsVoid}
 use Rattle.egt_moves.specs.Arena.{Value, Win, Loss, Draw}
-use Rattle.egt_moves.specs.Entries.{SameKind}
 use Rattle.egt_table.specs.declared.column.Column.{Column}
 use Rattle.egt_table.specs.declared.column.Column.TheVariants.{Mate, Zeroing}
 use Rattle.egt_table.specs.Table.{TableValue}
@@ -14,9 +13,9 @@ use Rattle.egt_check.specs.declared.outcome.Outcome.TheVariants as outcomes
 use Rattle.egt_check.specs.declared.rule.Rule.{Rule}
 use Rattle.egt_check.specs.declared.rule.Rule.TheVariants as rules
 use Rattle.egt_check.specs.Entry.{entry_of, Shows}
-use Rattle.egt_check.specs.Fits.{Shown, FitsBeside}
-use Rattle.egt_check.specs.Judged.{Agree, IsCompared, IsWrong, IsRight, Disagrees, Finds, FindsVoid}
-use Rattle.egt_check.specs.Rules.{Fits, AgreesInKind, Keeps, rule_place, Breaks, IsJudged}
+use Rattle.egt_check.specs.Fits.{FitsBeside}
+use Rattle.egt_check.specs.Judged.{Agree, IsCompared, Finds, FindsVoid}
+use Rattle.egt_check.specs.Rules.{Fits, AgreesInKind, Keeps, rule_place, IsJudged}
 use Rattle.egt_check.specs.Score.{value_of, IsDueDraw, IsDue}
 use Rattle.egt_check.specs.Tables.{Tables, entry_at, ShowsOf}
 use Rattle.egt_check.proofs.Showing.{shows_once}

@@ -1,5 +1,5 @@
 -- The places of a library.
-use Rattle.std.proofs.Common.{◌≡◌, ◌≢◌, ℕ, zero, suc, ◌+◌, ◌-◌, length-append, ◌<◌, ◌≤◌, ◌⊎◌, ◌↔◌, inl, inr, Bool, true, false, eqb, List, [], ◌∷◌, ◌++◌, length, get_or, set, Option, Some, None, refl, sym, ap, subst, ◌∙◌, arith}
+use Rattle.std.proofs.Common.{◌≡◌, ◌≢◌, ℕ, zero, suc, ◌+◌, ◌-◌, length-append, ◌<◌, ◌⊎◌, inl, inr, true, false, eqb, List, [], ◌∷◌, ◌++◌, length, get_or, set, Option, Some, None, refl, sym, ap, subst, ◌∙◌, arith}
 use Rattle.std.specs.Option.{IsSome, IfSome}
 use Rattle.std.specs.List.{Contains}
 use Rattle.std.proofs.lemmas.Bool.{cases_lt, ne_eqb, false≢true}
@@ -7,11 +7,10 @@ use Rattle.std.proofs.lemmas.List.{get_or-set_other, get_or-set_same, length-set
 use Rattle.std.proofs.lemmas.Bool.Decides.{eqb_tells}
 use Rattle.egt_class.specs.Children.{children_of}
 use Rattle.egt_table.specs.Table.{TableValue, IsTable}
-use Rattle.egt_check.specs.Library.{IsShelved, AreShelved, IsLibrary, IsAccepted}
-use Rattle.egt_check.specs.Rules.{KeepsRules}
+use Rattle.egt_check.specs.Library.{IsShelved, IsLibrary}
 use Rattle.egt_check.specs.Tables.{Tables, table_at, beside, HasChildren}
 use Rattle.egt_check.specs.Truth.{IsTrueTable, HasTrueChildren}
-use Rattle.egt_check.proofs.Finding.{beside_own, beside_other, beside_some}
+use Rattle.egt_check.proofs.Finding.{lower, beside_own, beside_other, beside_some}
 
 abbrev pub Places : Type 0
 Places = List (Option TableValue)
@@ -40,9 +39,6 @@ shelved_there tables more c t stays h = record { class = h.class; table = h.tabl
 if_shelved_there : (tables more : Tables) (c : ℕ) (o : Option TableValue) → ((d : ℕ) → IsSome (tables d) → IsSome (more d)) → IfSome o (IsShelved tables c) → IfSome o (IsShelved more c)
 if_shelved_there tables more c (Some t) stays h = shelved_there tables more c t stays h
 if_shelved_there tables more c None stays h = tt
-
-lower : (c d : ℕ) → c < 36 → d < c → d < 36
-lower c d below less = omega arith
 
 apart : (c d : ℕ) → d < c → eqb d c ≡ false
 apart c d less = ne_eqb d c (λ e. omega arith)

@@ -1,19 +1,14 @@
 -- What tables show of positions.
-use Rattle.std.proofs.Common.{◌≡◌, ℕ, ◌<◌, ◌⊎◌, inl, inr, Bool, Option, Some, None, refl, sym, ap, subst, ◌∙◌, arith}
-use Rattle.std.specs.Option.{IsSome}
-use Rattle.std.specs.List.{Contains}
+use Rattle.std.proofs.Common.{◌≡◌, ℕ, Option, Some, None, refl, sym, ap, subst, ◌∙◌, arith}
 use Rattle.egt_board.specs.Setup.{Setup, IsAdmissible}
-use Rattle.egt_class.specs.Children.{children_of}
-use Rattle.egt_class.specs.Membership.{IsOf}
 use Rattle.egt_index.specs.Index.{IsIndex}
 use Rattle.egt_moves.specs.Arena.{Value, Win, Loss, Draw}
 use Rattle.egt_moves.specs.Chess.{chess}
 use Rattle.egt_table.specs.declared.column.Column.{Column}
-use Rattle.egt_table.specs.Table.{TableValue}
 use Rattle.egt_check.specs.declared.outcome.Outcome.{Outcome}
-use Rattle.egt_check.specs.Entry.{IsShort, entry_of, Shows}
+use Rattle.egt_check.specs.Entry.{Shows}
 use Rattle.egt_check.specs.Facts.{Facts}
-use Rattle.egt_check.specs.Score.{value_of, IsShownBy}
+use Rattle.egt_check.specs.Score.{IsShownBy}
 use Rattle.egt_check.specs.Tables.{Tables, entry_at, HasEntry, ShowsOf}
 use Rattle.egt_check.proofs.Due.{IsOne, IsShownOf}
 

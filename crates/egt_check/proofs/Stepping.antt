@@ -1,5 +1,5 @@
 -- What a legal move says, by the entries of its successor.
-use Rattle.std.proofs.Common.{rules, ◌≡◌, ℕ, ◌<◌, ◌↔◌, Bool, IsTrue, IfSome, List, Option, Some, None, refl, subst}
+use Rattle.std.proofs.Common.{◌≡◌, ◌↔◌, Bool, IsTrue, IfSome, Option, Some, None, refl, subst}
 use Rattle.std.specs.Option.{IsSome, IfNone}
 use Rattle.egt_board.specs.Setup.{Setup, IsAdmissible}
 use Rattle.egt_moves.specs.declared.chess_move.Move.{Move}

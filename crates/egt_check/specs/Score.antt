@@ -8,7 +8,7 @@ use Rattle.egt_table.specs.declared.column.Column.TheVariants.{Mate, Zeroing}
 use Rattle.egt_check.specs.declared.by_column.ByColumn.{ByColumn}
 use Rattle.egt_check.specs.declared.outcome.Outcome.{Outcome}
 use Rattle.egt_check.specs.declared.outcome.Outcome.TheVariants as outcomes
-use Rattle.egt_check.specs.Entry.{longest, IsShort, entry_of, Shows}
+use Rattle.egt_check.specs.Entry.{longest, entry_of, Shows}
 use Rattle.egt_check.specs.Fits.{Shown, Counts, FitsBeside}
 
 abbrev pub number_at : ByColumn → Column → ℕ

@@ -1,5 +1,5 @@
 //! The judgement of one index's entries.
-ghost use Rattle.std.specs.Prelude.{◌≡◌, ◌↔◌, ◌<◌, IsTrue};
+ghost use Rattle.std.specs.Prelude.{◌≡◌, ◌↔◌, ◌<◌, ◌==◌, if◌then◌else◌, IsTrue};
 ghost use Rattle.egt_index.specs.Size.{size_of};
 ghost use Rattle.egt_moves.specs.Arena.{NoMove};
 ghost use Rattle.egt_moves.specs.Chess.{chess};
@@ -53,16 +53,10 @@ fn judge_void(entry: u16) -> Option<Rule>
     if entry == 0 { None } else { Some(Rule::Void) }
 }
 
-/// The first rule that the mate entry of a position breaks, if it breaks one.
-fn judge_mate(entry: u16, due: u16) -> Option<Rule>
-    ensures { Finds Mate entry entry due result }
+/// The rule that an entry which shows this breaks where it is not the one that is due.
+fn compared(outcome: Outcome, entry: u16, due: u16) -> Option<Rule>
+    ensures { result ≡ (if entry == due then None else Some (rule_of outcome)) }
 {
-    if entry == 0 {
-        return Some(Rule::Void);
-    }
-    let Some(outcome) = shown(entry) else {
-        return Some(Rule::Range);
-    };
     if entry == due {
         None
     } else {
@@ -70,14 +64,27 @@ fn judge_mate(entry: u16, due: u16) -> Option<Rule>
     }
 }
 
-/// The first rule that the zeroing entry of a position breaks beside its mate entry, if it breaks one.
-fn judge_zeroing(mate: u16, entry: u16, due: u16) -> Option<Rule>
-    ensures { Finds Zeroing mate entry due result }
+/// The first rule that the mate entry of a position breaks, if it breaks one.
+fn judge_mate(mate: u16, due: u16) -> Option<Rule>
+    ensures { Finds Mate mate mate due result }
 {
-    if entry == 0 {
+    if mate == 0 {
         return Some(Rule::Void);
     }
-    let Some(outcome) = shown(entry) else {
+    match shown(mate) {
+        Some(outcome) => compared(outcome, mate, due),
+        None => Some(Rule::Range),
+    }
+}
+
+/// The first rule that the zeroing entry of a position breaks beside its mate entry, if it breaks one.
+fn judge_zeroing(mate: u16, zeroing: u16, due: u16) -> Option<Rule>
+    ensures { Finds Zeroing mate zeroing due result }
+{
+    if zeroing == 0 {
+        return Some(Rule::Void);
+    }
+    let Some(outcome) = shown(zeroing) else {
         return Some(Rule::Range);
     };
     if !is_of_kind(shown(mate), outcome) {
@@ -85,13 +92,7 @@ fn judge_zeroing(mate: u16, entry: u16, due: u16) -> Option<Rule>
     }
     match outcome {
         Outcome::Draw => None,
-        _ => {
-            if entry == due {
-                None
-            } else {
-                Some(rule_of(outcome))
-            }
-        }
+        _ => compared(outcome, zeroing, due),
     }
 }
 

@@ -1,4 +1,4 @@
-use Rattle.std.proofs.Common.{◌≡◌, ℕ, Some, refl, sym, subst, ◌∙◌, set}
+use Rattle.std.proofs.Common.{ℕ, Some, refl, sym, subst, ◌∙◌, set}
 use Rattle.egt_check.specs.Library.{IsLibrary, IsAccepted}
 use Rattle.egt_check.specs.Tables.{table_at, beside}
 use Rattle.egt_check.proofs.Finding.{beside_own}
