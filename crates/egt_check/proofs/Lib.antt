@@ -2,3 +2,11 @@ pub mod Carry
 pub mod Alike
 pub mod Told
 pub mod TrueTables
+pub mod Due
+pub mod Showing
+pub mod Finding
+pub mod Stepping
+pub mod Best
+pub mod FirstRule
+pub mod Judged
+pub mod Shelving

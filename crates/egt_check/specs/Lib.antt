@@ -8,3 +8,7 @@ pub mod Names
 pub mod Alike
 pub mod Reading
 pub mod Facts
+pub mod Score
+pub mod FirstBad
+pub mod Steps
+pub mod Judged

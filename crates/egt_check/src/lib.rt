@@ -2,14 +2,21 @@
 //! that passed.
 #![tactic(auto)]
 
+pub mod by_column;
 pub mod checking;
 pub mod facts;
+pub mod judging;
 pub mod laws;
 pub mod library;
+pub mod outcome;
 pub mod reject;
 pub mod rule;
+pub mod successors;
 
 pub use checking::check;
 pub use library::Library;
 pub use reject::Reject;
 pub use rule::Rule;
+
+#[cfg(test)]
+mod tests;

@@ -5,6 +5,7 @@ use crate::checking::check;
 use crate::laws::rules_are_kept_by_true_tables_alone;
 use crate::reject::Reject;
 use egt_class::Class;
+use egt_class::laws::children_have_smaller_numbers;
 use egt_table::{NoMemory, Table};
 use std::alloc::Global;
 use std::marker::Model;
@@ -41,7 +42,7 @@ impl Library {
         ensures empty { IfOk result (λ l. (c : ℕ) → table_at l c ≡ None) }
     {
         let mut places = Vec::with_capacity(alloc, 36)?;
-        for _ in 0..36 {
+        for _ in 0..36usize {
             places.push(None)?;
         }
         Ok(Library { places })
@@ -61,6 +62,7 @@ impl Library {
         ensures reason { IfErr result (λ refused. IsTurnedAway (table_at self.old) table refused.1) }
     {
         rules_are_kept_by_true_tables_alone();
+        children_have_smaller_numbers();
         let place = usize::from(table.class().number());
         if self.places[place].is_some() {
             return Err((table, Reject::AlreadyThere));

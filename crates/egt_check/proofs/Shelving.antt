@@ -1,0 +1,114 @@
+-- The places of a library.
+use Rattle.std.proofs.Common.{◌≡◌, ◌≢◌, ℕ, zero, suc, ◌+◌, ◌-◌, length-append, ◌<◌, ◌⊎◌, inl, inr, true, false, eqb, List, [], ◌∷◌, ◌++◌, length, get_or, set, Option, Some, None, refl, sym, ap, subst, ◌∙◌, arith}
+use Rattle.std.specs.Option.{IsSome, IfSome}
+use Rattle.std.specs.List.{Contains}
+use Rattle.std.proofs.lemmas.Bool.{cases_lt, ne_eqb, false≢true}
+use Rattle.std.proofs.lemmas.List.{get_or-set_other, get_or-set_same, length-set, get_or_append_left, get_or-append_right}
+use Rattle.std.proofs.lemmas.Bool.Decides.{eqb_tells}
+use Rattle.egt_class.specs.Children.{children_of}
+use Rattle.egt_table.specs.Table.{TableValue, IsTable}
+use Rattle.egt_check.specs.Library.{IsShelved, IsLibrary}
+use Rattle.egt_check.specs.Tables.{Tables, table_at, beside, HasChildren}
+use Rattle.egt_check.specs.Truth.{IsTrueTable, HasTrueChildren}
+use Rattle.egt_check.proofs.Finding.{lower, beside_own, beside_other, beside_some}
+
+abbrev pub Places : Type 0
+Places = List (Option TableValue)
+
+-- no place has a table
+abbrev pub AreFree : Places → Type 0
+AreFree places = (c : ℕ) → table_at places c ≡ None
+
+-- so they are a library
+pub free_library : (places : Places) → length places ≡ 36 → AreFree places → IsLibrary places
+free_library places count free = record { one_a_class = count; shelved = λ c below. subst (λ o. IfSome o (IsShelved (table_at places) c)) (sym (free c)) tt }
+
+-- a table more in its place is a table more beside the others
+pub set_beside : (places : Places) (t : TableValue) → t.class < length places → (c : ℕ) → table_at (set places t.class (Some t)) c ≡ beside (table_at places) t c
+set_beside places t inside c = elim (eqb_tells c t.class) [
+  | inl own ↦
+      let here : get_or (set places t.class (Some t)) t.class None ≡ Some t = get_or-set_same places t.class (Some t) None inside in
+      subst (λ k. get_or (set places t.class (Some t)) k None ≡ Some t) (sym own.1) here ∙ sym (beside_own (table_at places) t c own.1)
+  | inr other ↦ get_or-set_other places t.class c (Some t) None other.1 ∙ sym (beside_other (table_at places) t c other.0)
+]
+
+-- a shelf stays one where no table goes
+shelved_there : (tables more : Tables) (c : ℕ) (t : TableValue) → ((d : ℕ) → IsSome (tables d) → IsSome (more d)) → IsShelved tables c t → IsShelved more c t
+shelved_there tables more c t stays h = record { class = h.class; table = h.table; true = h.true; children = λ d child. stays d (h.children d child) }
+
+if_shelved_there : (tables more : Tables) (c : ℕ) (o : Option TableValue) → ((d : ℕ) → IsSome (tables d) → IsSome (more d)) → IfSome o (IsShelved tables c) → IfSome o (IsShelved more c)
+if_shelved_there tables more c (Some t) stays h = shelved_there tables more c t stays h
+if_shelved_there tables more c None stays h = tt
+
+apart : (c d : ℕ) → d < c → eqb d c ≡ false
+apart c d less = ne_eqb d c (λ e. omega arith)
+
+-- the children of an accepted table are true
+true_child : (places : Places) (d : ℕ) (o : Option TableValue) → table_at places d ≡ o → IsSome o → IfSome o (IsShelved (table_at places) d) → (u : TableValue) × (table_at places d ≡ Some u) × (u.class ≡ d) × IsTrueTable u
+true_child places d (Some u) e there shelved = (u, e, shelved.class, shelved.true)
+true_child places d None e there shelved = absurd (false≢true there)
+
+module _ (lower_child : (c d : ℕ) → c < 36 → Contains (children_of c) d → d < c) (places : Places) (library : IsLibrary places) (t : TableValue) (table : IsTable t) where
+  pub true_children : HasChildren (table_at places) t.class → HasTrueChildren (beside (table_at places) t) t.class
+  true_children children d child =
+      let less = lower_child t.class d table.class_in child in
+      let u = true_child places d (table_at places d) refl (children d child) (library.shelved d (lower t.class d table.class_in less)) in
+      let other : beside (table_at places) t d ≡ table_at places d = beside_other (table_at places) t d (apart t.class d less) in
+      (u.0, other ∙ u.1, u.2, u.3)
+
+  abbrev more : Tables
+  more = table_at (set places t.class (Some t))
+
+  -- with an accepted table more it is a library again
+  pub one_more : IsTrueTable t → HasChildren (table_at places) t.class → IsLibrary (set places t.class (Some t))
+  one_more holds children = record { one_a_class = length-set places t.class (Some t) ∙ library.one_a_class; shelved = shelved }
+    where
+      inside : t.class < length places
+      inside = subst (λ n. t.class < n) (sym library.one_a_class) table.class_in
+
+      stays : (d : ℕ) → IsSome (table_at places d) → IsSome (more d)
+      stays d there = subst IsSome (sym (set_beside places t inside d)) (beside_some (table_at places) t d there)
+
+      own : (c : ℕ) → c ≡ t.class → IsShelved more c t
+      own c e = record {
+        class = sym e;
+        table = table;
+        true = holds;
+        children = subst (HasChildren more) (sym e) (λ d child. stays d (children d child));
+      }
+
+      shelved : (c : ℕ) → c < 36 → IfSome (more c) (IsShelved more c)
+      shelved c below = subst (λ o. IfSome o (IsShelved more c)) (sym (set_beside places t inside c)) (by (eqb_tells c t.class))
+        where
+          by : ((eqb c t.class ≡ true) × (c ≡ t.class)) ⊎ ((eqb c t.class ≡ false) × (c ≢ t.class)) → IfSome (beside (table_at places) t c) (IsShelved more c)
+          by (inl here) = subst (λ o. IfSome o (IsShelved more c)) (sym (beside_own (table_at places) t c here.1)) (own c here.1)
+          by (inr other) =
+              subst (λ o. IfSome o (IsShelved more c)) (sym (beside_other (table_at places) t c other.0))
+              (if_shelved_there (table_at places) more c (table_at places c) stays (library.shelved c below))
+
+-- all places are free so far
+pub record AreFreeSoFar (places : Places) (n : ℕ) : Type 0 where
+  pub count : length places ≡ n
+  pub free : AreFree places
+
+pub no_places : (places : Places) → places ≡ [] → AreFreeSoFar places 0
+no_places places e = record { count = ap length e; free = λ c. ap (λ xs. get_or xs c None) e }
+
+abbrev one_free : Places
+one_free = None ∷ []
+
+one_is_free : AreFree one_free
+one_is_free zero = refl
+one_is_free (suc k) = refl
+
+pub free_more : (places longer : Places) (n : ℕ) → AreFreeSoFar places n → longer ≡ places ++ None ∷ [] → AreFreeSoFar longer (n + 1)
+free_more places longer n so_far e = record { count = count; free = free }
+  where
+    count : length longer ≡ n + 1
+    count = ap length e ∙ length-append places one_free ∙ ap (λ k. k + 1) so_far.count
+
+    free : AreFree longer
+    free c = elim (cases_lt c (length places)) [
+      | inl below ↦ ap (λ xs. get_or xs c None) e ∙ get_or_append_left places one_free None c below ∙ so_far.free c
+      | inr high ↦ ap (λ xs. get_or xs c None) e ∙ get_or-append_right places one_free (length places) c None refl high ∙ one_is_free (c - length places)
+    ]

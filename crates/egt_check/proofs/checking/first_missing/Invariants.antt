@@ -1,0 +1,8 @@
+use Rattle.std.proofs.Common.{◌≡◌, ℕ, ◌<◌, get_or}
+use Rattle.std.specs.Option.{IsSome}
+use Rattle.egt_check.specs.Tables.{table_at}
+use Rattle.egt_check.proofs.checking.first_missing.Given as goal
+
+-- the children so far have their tables
+abbrev pub invariant-loop-child : goal.invariant-loop-child
+invariant-loop-child l = (k d : ℕ) → k < l.child-index → get_or l.child-items k d ≡ d → IsSome (table_at l.library d)

@@ -1,0 +1,11 @@
+use Rattle.egt_table.specs.declared.column.Column.TheVariants.{Mate}
+use Rattle.egt_check.specs.FirstBad.{IsFirstBad}
+use Rattle.egt_check.specs.Rules.{KeepsBelow}
+use Rattle.egt_check.specs.Tables.{table_at, beside}
+use Rattle.egt_check.proofs.checking.judge_all.Given as goal
+
+abbrev pub invariant-loop-index : goal.invariant-loop-index
+invariant-loop-index l = record {
+  mate : KeepsBelow (beside (table_at l.library) l.table) l.table Mate l.index;
+  zeroing : IsFirstBad (beside (table_at l.library) l.table) l.table l.index l.bad_zeroing;
+}

@@ -1,0 +1,153 @@
+//! The judgement of one index's entries.
+ghost use Rattle.std.specs.Prelude.{◌≡◌, ◌↔◌, ◌<◌, ◌==◌, if◌then◌else◌, IsTrue};
+ghost use Rattle.egt_index.specs.Size.{size_of};
+ghost use Rattle.egt_moves.specs.Arena.{NoMove};
+ghost use Rattle.egt_moves.specs.Chess.{chess};
+ghost use Rattle.egt_table.specs.declared.column.Column.{Column};
+ghost use Rattle.egt_table.specs.declared.column.Column.TheVariants.{Mate, Zeroing};
+ghost use Rattle.egt_check.specs.Judged.{rule_of, IsOfKind, Finds, FindsVoid};
+ghost use Rattle.egt_check.specs.Rules.{IsJudged};
+ghost use Rattle.egt_check.specs.Score.{number_at, IsAtEnd, IsDue};
+ghost use Rattle.egt_check.specs.Steps.{IsInClass, shown_by};
+ghost use Rattle.egt_check.specs.Tables.{table_at, beside, HasChildren};
+
+use crate::by_column::ByColumn;
+use crate::facts::facts;
+use crate::library::Library;
+use crate::outcome::{Outcome, entry_before, shown};
+use crate::rule::Rule;
+use crate::successors::{best, entries_at};
+use egt_board::Position;
+use egt_index::laws::{codes_spell_one_position, spelled_positions_are_of_the_class};
+use egt_index::position;
+use egt_moves::{Standing, standing};
+use egt_table::Table;
+
+/// The rule for entries that show this.
+fn rule_of(outcome: Outcome) -> Rule
+    ensures { result ≡ rule_of outcome }
+{
+    match outcome {
+        Outcome::Win(_) => Rule::Win,
+        Outcome::Loss(_) => Rule::Loss,
+        Outcome::Draw => Rule::Draw,
+    }
+}
+
+/// Whether the mate entry shows nothing, or a win, a loss or a draw as the other entry does.
+fn is_of_kind(mate: Option<Outcome>, outcome: Outcome) -> bool
+    ensures { IsTrue result ↔ IsOfKind mate outcome }
+{
+    match mate {
+        Some(Outcome::Win(_)) => matches!(outcome, Outcome::Win(_)),
+        Some(Outcome::Loss(_)) => matches!(outcome, Outcome::Loss(_)),
+        Some(Outcome::Draw) => matches!(outcome, Outcome::Draw),
+        None => true,
+    }
+}
+
+/// The first rule that an entry breaks where no position has the index, if it breaks one.
+fn judge_void(entry: u16) -> Option<Rule>
+    ensures { FindsVoid entry result }
+{
+    if entry == 0 { None } else { Some(Rule::Void) }
+}
+
+/// The rule that an entry which shows this breaks where it is not the one that is due.
+fn compared(outcome: Outcome, entry: u16, due: u16) -> Option<Rule>
+    ensures { result ≡ (if entry == due then None else Some (rule_of outcome)) }
+{
+    if entry == due {
+        None
+    } else {
+        Some(rule_of(outcome))
+    }
+}
+
+/// The first rule that the mate entry of a position breaks, if it breaks one.
+fn judge_mate(mate: u16, due: u16) -> Option<Rule>
+    ensures { Finds Mate mate mate due result }
+{
+    if mate == 0 {
+        return Some(Rule::Void);
+    }
+    match shown(mate) {
+        Some(outcome) => compared(outcome, mate, due),
+        None => Some(Rule::Range),
+    }
+}
+
+/// The first rule that the zeroing entry of a position breaks beside its mate entry, if it breaks one.
+fn judge_zeroing(mate: u16, zeroing: u16, due: u16) -> Option<Rule>
+    ensures { Finds Zeroing mate zeroing due result }
+{
+    if zeroing == 0 {
+        return Some(Rule::Void);
+    }
+    let Some(outcome) = shown(zeroing) else {
+        return Some(Rule::Range);
+    };
+    if !is_of_kind(shown(mate), outcome) {
+        return Some(Rule::Kind);
+    }
+    match outcome {
+        Outcome::Draw => None,
+        _ => compared(outcome, zeroing, due),
+    }
+}
+
+/// The entry of a position without a legal move.
+fn entry_at_end(position: &Position) -> u16
+    requires { NoMove chess position.now }
+    ensures { IsAtEnd position.now result }
+{
+    match standing(position) {
+        Standing::Checkmate => 3,
+        _ => 1,
+    }
+}
+
+/// The entries that are due to a position of the table's class.
+fn due(table: &Table, library: &Library, position: &Position) -> ByColumn
+    requires own { IsInClass table.now.class position.now }
+    requires children { HasChildren (table_at library.now) table.now.class }
+    ensures { (column : Column) → IsDue (shown_by library.now table.now) column position.now (number_at result column) }
+{
+    facts();
+    let _side = position.side();
+    match best(table, library, position) {
+        Some(best) => ByColumn {
+            mate: entry_before(best.mate),
+            zeroing: entry_before(best.zeroing),
+        },
+        None => {
+            let entry = entry_at_end(position);
+            ByColumn {
+                mate: entry,
+                zeroing: entry,
+            }
+        }
+    }
+}
+
+/// The first rules that the mate entry and the zeroing entry at an index break, if they break one.
+pub(crate) fn judge(table: &Table, library: &Library, index: u32) -> (Option<Rule>, Option<Rule>)
+    requires inside { index < size_of table.now.class }
+    requires children { HasChildren (table_at library.now) table.now.class }
+    ensures mate { IsJudged (beside (table_at library.now) table.now) table.now Mate index result.0 }
+    ensures zeroing { IsJudged (beside (table_at library.now) table.now) table.now Zeroing index result.1 }
+{
+    codes_spell_one_position();
+    spelled_positions_are_of_the_class();
+    let entries = entries_at(table, index);
+    match position(table.class(), index) {
+        None => (judge_void(entries.mate), judge_void(entries.zeroing)),
+        Some(position) => {
+            let due = due(table, library, &position);
+            (
+                judge_mate(entries.mate, due.mate),
+                judge_zeroing(entries.mate, entries.zeroing, due.zeroing),
+            )
+        }
+    }
+}
