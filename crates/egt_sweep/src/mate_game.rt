@@ -3,7 +3,7 @@ ghost use Rattle.egt_check.specs.Tables.{table_at, HasChildren};
 ghost use Rattle.egt_table.specs.declared.column.Column.TheVariants.{Mate};
 ghost use Rattle.egt_sweep.specs.ClassGame.{class_game, class_game_is_lawful};
 
-use crate::nodes::{exits, into, is_mated, is_void, out};
+use crate::nodes::{exits, is_mated, is_void, predecessors, successors};
 use arrayvec::ArrayVec;
 use egt_check::Library;
 use egt_class::Class;
@@ -37,15 +37,15 @@ impl Game for MateGame<'_> {
     }
 
     fn out(&self, i: u32) -> ArrayVec<u32, 64> {
-        out(Column::Mate, self.class, i)
+        successors(Column::Mate, self.class, i)
     }
 
     fn degree(&self, i: u32) -> usize {
-        out(Column::Mate, self.class, i).len()
+        successors(Column::Mate, self.class, i).len()
     }
 
     fn into(&self, j: u32) -> ArrayVec<u32, 128> {
-        into(Column::Mate, self.class, j)
+        predecessors(Column::Mate, self.class, j)
     }
 
     fn exits(&self, i: u32) -> ArrayVec<Exit, 64> {

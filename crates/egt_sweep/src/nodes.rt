@@ -55,7 +55,7 @@ pub(crate) fn is_mated(class: Class, index: u32) -> bool
 }
 
 /// The nodes that moves which go on lead to from a node.
-pub(crate) fn out(column: Column, class: Class, index: u32) -> ArrayVec<u32, 64>
+pub(crate) fn successors(column: Column, class: Class, index: u32) -> ArrayVec<u32, 64>
     requires { IsFalse (not (is_some (position_at class index))) }
     ensures { result.items ≡ passing_below (size_of class) (λ j. connects column class index j) }
 {
@@ -66,7 +66,7 @@ pub(crate) fn out(column: Column, class: Class, index: u32) -> ArrayVec<u32, 64>
 }
 
 /// The nodes from which moves that go on lead to a node.
-pub(crate) fn into(column: Column, class: Class, index: u32) -> ArrayVec<u32, 128>
+pub(crate) fn predecessors(column: Column, class: Class, index: u32) -> ArrayVec<u32, 128>
     requires { IsFalse (not (is_some (position_at class index))) }
     ensures { result.items ≡ passing_below (size_of class) (λ i. connects column class i index) }
 {

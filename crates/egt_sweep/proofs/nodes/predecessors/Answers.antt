@@ -1,7 +1,7 @@
 use Rattle.std.proofs.Common.{ℕ, ◌<◌, subst}
 use Rattle.egt_sweep.proofs.Backward.{at_settled}
 use Rattle.egt_sweep.proofs.Standing.{sources_told}
-use Rattle.egt_sweep.proofs.nodes.into.Goals as goal
+use Rattle.egt_sweep.proofs.nodes.predecessors.Goals as goal
 
 pub sources-requires-clause-of : goal.sources-requires-clause-of
 sources-requires-clause-of c = c.laws.ensures.indexed_class c.node-position.result c.args.class c.args.index c.node-position.ensures.spells.admissible c.node-position.ensures.index
