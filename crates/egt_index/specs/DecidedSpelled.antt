@@ -119,4 +119,3 @@ module _ (m : Material) (code : ℕ) where
           (subst (λ (men : Placement). IsAdmissible (record { men = men; side = p.side; target = p.target })) s.men s.admissible, (s.apart, (s.target, s.number))),
         ),
       )
-
