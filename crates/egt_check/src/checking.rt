@@ -15,7 +15,7 @@ use egt_index::size;
 use egt_table::{Column, Table};
 
 /// The least child of the class that the library has no table of, if there is one.
-fn first_missing(class: Class, library: &Library) -> Option<Class>
+pub fn first_missing(class: Class, library: &Library) -> Option<Class>
     ensures some { IfSome result (IsFirstMissing (table_at library.now) class) }
     ensures none { IfNone result (HasChildren (table_at library.now) class) }
 {

@@ -13,7 +13,7 @@ pub mod reject;
 pub mod rule;
 pub mod successors;
 
-pub use checking::check;
+pub use checking::{check, first_missing};
 pub use library::Library;
 pub use reject::Reject;
 pub use rule::Rule;

@@ -6,7 +6,12 @@ pub mod edges;
 pub mod laws;
 pub mod leaving;
 pub mod mate_game;
+pub mod missing;
 pub mod nodes;
 pub mod sources;
 
 pub use mate_game::MateGame;
+pub use missing::Missing;
+
+#[cfg(test)]
+mod tests;

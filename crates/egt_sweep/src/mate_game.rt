@@ -3,9 +3,10 @@ ghost use Rattle.egt_check.specs.Tables.{table_at, HasChildren};
 ghost use Rattle.egt_table.specs.declared.column.Column.TheVariants.{Mate};
 ghost use Rattle.egt_sweep.specs.ClassGame.{class_game, class_game_is_lawful};
 
+use crate::missing::Missing;
 use crate::nodes::{exits, is_mated, is_void, predecessors, successors};
 use arrayvec::ArrayVec;
-use egt_check::Library;
+use egt_check::{Library, first_missing};
 use egt_class::Class;
 use egt_graph::{Exit, Game};
 use egt_index::size;
@@ -13,10 +14,33 @@ use egt_table::Column;
 
 /// The game whose nodes are the indexes of a class, whose edges are the moves that stay in it, and whose exits are the others, with the mate
 /// value of where they lead.
+#[derive(Drop)]
 pub struct MateGame<'l> {
     class: Class,
     library: &'l Library,
     ghost children: { HasChildren (table_at library.now) class },
+}
+
+impl<'l> MateGame<'l> {
+    ghost use Rattle.std.specs.Prelude.{◌≡◌, ◌↔◌, IsOk, IfOk, IfErr};
+    ghost use Rattle.egt_check.specs.Library.{IsFirstMissing};
+
+    /// The game over a class whose children have their tables in the library.
+    ///
+    /// # Errors
+    ///
+    /// `Missing` with the least child that has none.
+    pub fn new(class: Class, library: &'l Library) -> Result<MateGame<'l>, Missing>
+        ensures exact { IsOk result ↔ HasChildren (table_at library.now) class }
+        ensures class { IfOk result (λ g. g.class ≡ class) }
+        ensures library { IfOk result (λ g. g.library.now ≡ library.now) }
+        ensures missing { IfErr result (λ missing. IsFirstMissing (table_at library.now) class missing.class) }
+    {
+        if let Some(child) = first_missing(class, library) {
+            return Err(Missing { class: child });
+        }
+        Ok(MateGame { class, library })
+    }
 }
 
 impl Game for MateGame<'_> {
