@@ -33,7 +33,7 @@ decided_pawn men s = decided_as
 
 module _ (laws : Laws) (c : ℕ) (below : c < 36) where
   -- an image has the same index
-  image_index : (i : ℕ) (p q : Setup) → IsAdmissible p → AreImages p q → IsIndex c p i → IsIndex c q i
+  pub image_index : (i : ℕ) (p q : Setup) → IsAdmissible p → AreImages p q → IsIndex c p i → IsIndex c q i
   image_index i p q ok images is =
       let own = laws.indexed_class p c i ok is in
       let q_ok = laws.facts.image_admissible p q ok images in

@@ -5,3 +5,5 @@ pub mod Collecting
 pub mod Standing
 pub mod Backward
 pub mod OutOfClass
+pub mod Members
+pub mod MateRanks

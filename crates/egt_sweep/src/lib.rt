@@ -8,6 +8,7 @@ pub mod leaving;
 pub mod mate_game;
 pub mod missing;
 pub mod nodes;
+pub mod ranks;
 pub mod sources;
 
 pub use mate_game::MateGame;
