@@ -1,4 +1,5 @@
 pub mod Stream
+pub mod Failing
 pub mod Fault
 pub mod Table
 pub mod File

@@ -3,14 +3,22 @@ ghost use Rattle.std.specs.Prelude.{◌≡◌};
 
 use crate::device::Device;
 use crate::stream::{Sink, Source};
+use std::marker::Model;
 
 /// A source whose k-th pull fails and takes nothing; all others are those of the source within.
 #[derive(Drop)]
 pub struct FailingSource<S> {
     inner: S,
-    // The calls up to the one that fails; 0 once it came.
     calls: u64,
     failures: u64,
+}
+
+impl<S> Model for FailingSource<S> {
+    ghost use Rattle.egt_table.specs.Failing.{Failing};
+
+    ghost Value = { Failing S };
+
+    ghost view = { λ s. record { inner = s.inner; calls_to_failure = s.calls; failures = s.failures } };
 }
 
 impl<S: Source> FailingSource<S> {
@@ -18,6 +26,8 @@ impl<S: Source> FailingSource<S> {
     pub fn new(inner: S, k: u64) -> Self
         ensures left { ⟦<FailingSource<S> as Source>⟧.left result ≡ S.left inner }
         ensures failures { ⟦<FailingSource<S> as Source>⟧.failures result ≡ 0 }
+        ensures inner { result.inner ≡ inner }
+        ensures calls_to_failure { result.calls_to_failure ≡ k }
     {
         FailingSource {
             inner,
@@ -25,19 +35,41 @@ impl<S: Source> FailingSource<S> {
             failures: 0,
         }
     }
+
+    /// Which pull from now on fails, counted from 1; 0 where none does.
+    pub fn calls_to_failure(&self) -> u64
+        ensures { result ≡ self.now.calls_to_failure }
+    {
+        self.calls
+    }
 }
 
 impl<S: Source> Source for FailingSource<S> {
+    ghost use Rattle.std.specs.Prelude.{◌≡◌, ◌≢◌, ◌-◌, ◌<◌, ◌≤◌, length, IfOk, IsErr};
+    ghost use Rattle.std.specs.Io.KnownBytes.{ReadConsumes};
+    ghost use Rattle.egt_table.specs.Stream.{CountsFailure};
+
     ghost left = { λ s. S.left s.inner };
 
     ghost failures = { λ s. s.failures };
 
     ghost turns = { λ s. S.turns s.inner };
 
-    fn pull(&mut self, buffer: &mut [u8]) -> Result<usize, Device> {
-        let fails = self.calls == 1;
+    fn pull(&mut self, buffer: &mut [u8]) -> Result<usize, Device>
+        ensures bound { IfOk result (λ n. n ≤ length buffer.new) }
+        ensures bytes { ReadConsumes (S.left self.old.inner) (S.left self.new.inner) result buffer.new }
+        ensures falls { IfOk result (λ n. 0 < n → S.turns self.new.inner < S.turns self.old.inner) }
+        ensures failures { CountsFailure result self.old.failures self.new.failures }
+
+        // The call whose turn it is fails and leaves the source within as it is; any other fails only where that one fails.
+        ensures turn { self.new.calls_to_failure ≡ self.old.calls_to_failure - 1 }
+        ensures fails { self.old.calls_to_failure ≡ 1 → IsErr result }
+        ensures apart { self.old.calls_to_failure ≡ 1 → self.new.inner ≡ self.old.inner }
+        ensures within { self.old.calls_to_failure ≢ 1 → CountsFailure result (S.failures self.old.inner) (S.failures self.new.inner) }
+    {
+        let pull_fails = self.calls == 1;
         self.calls = self.calls.saturating_sub(1);
-        if fails {
+        if pull_fails {
             self.failures = self.failures.saturating_add(1);
             return Err(Device);
         }
@@ -53,9 +85,16 @@ impl<S: Source> Source for FailingSource<S> {
 #[derive(Drop)]
 pub struct FailingSink<S> {
     inner: S,
-    // The calls up to the one that fails; 0 once it came.
     calls: u64,
     failures: u64,
+}
+
+impl<S> Model for FailingSink<S> {
+    ghost use Rattle.egt_table.specs.Failing.{Failing};
+
+    ghost Value = { Failing S };
+
+    ghost view = { λ s. record { inner = s.inner; calls_to_failure = s.calls; failures = s.failures } };
 }
 
 impl<S: Sink> FailingSink<S> {
@@ -63,12 +102,21 @@ impl<S: Sink> FailingSink<S> {
     pub fn new(inner: S, k: u64) -> Self
         ensures written { ⟦<FailingSink<S> as Sink>⟧.written result ≡ S.written inner }
         ensures failures { ⟦<FailingSink<S> as Sink>⟧.failures result ≡ 0 }
+        ensures inner { result.inner ≡ inner }
+        ensures calls_to_failure { result.calls_to_failure ≡ k }
     {
         FailingSink {
             inner,
             calls: k,
             failures: 0,
         }
+    }
+
+    /// Which push from now on fails, counted from 1; 0 where none does.
+    pub fn calls_to_failure(&self) -> u64
+        ensures { result ≡ self.now.calls_to_failure }
+    {
+        self.calls
     }
 
     /// The sink within, as it is now.
@@ -80,14 +128,29 @@ impl<S: Sink> FailingSink<S> {
 }
 
 impl<S: Sink> Sink for FailingSink<S> {
+    ghost use Rattle.std.specs.Prelude.{◌≡◌, ◌≢◌, ◌-◌, ◌<◌, ◌≤◌, length, IfOk, IsErr};
+    ghost use Rattle.std.specs.Io.KnownBytes.{WriteAppends};
+    ghost use Rattle.egt_table.specs.Stream.{CountsFailure};
+
     ghost written = { λ s. S.written s.inner };
 
     ghost failures = { λ s. s.failures };
 
-    fn push(&mut self, piece: &[u8]) -> Result<usize, Device> {
-        let fails = self.calls == 1;
+    fn push(&mut self, piece: &[u8]) -> Result<usize, Device>
+        ensures bound { IfOk result (λ n. n ≤ length piece.now) }
+        ensures some { IfOk result (λ n. 0 < length piece.now → 0 < n) }
+        ensures bytes { WriteAppends (S.written self.old.inner) (S.written self.new.inner) result piece.now }
+        ensures failures { CountsFailure result self.old.failures self.new.failures }
+
+        // The call whose turn it is fails and leaves the sink within as it is; any other fails only where that one fails.
+        ensures turn { self.new.calls_to_failure ≡ self.old.calls_to_failure - 1 }
+        ensures fails { self.old.calls_to_failure ≡ 1 → IsErr result }
+        ensures apart { self.old.calls_to_failure ≡ 1 → self.new.inner ≡ self.old.inner }
+        ensures within { self.old.calls_to_failure ≢ 1 → CountsFailure result (S.failures self.old.inner) (S.failures self.new.inner) }
+    {
+        let push_fails = self.calls == 1;
         self.calls = self.calls.saturating_sub(1);
-        if fails {
+        if push_fails {
             self.failures = self.failures.saturating_add(1);
             return Err(Device);
         }

@@ -117,5 +117,6 @@ fn each_pull_fails_in_turn(rt: HostRuntime) -> Result<(), Fail> {
     }
     let mut source = FailingSource::new(MemorySource::new(&bytes), 5);
     assert!(rt; Table::read(rt.alloc(), class(), &mut source).is_ok());
+    assert_eq!(rt; source.calls_to_failure(), 1);
     Ok(())
 }

@@ -52,7 +52,9 @@ fn each_push_fails_in_turn(rt: HostRuntime) -> Result<(), Fail> {
     }
     let mut sink = FailingSink::new(MemorySink::new(rt.alloc(), LENGTH)?, 4);
     assert!(rt; table.write(&mut sink).is_ok());
+    assert_eq!(rt; sink.calls_to_failure(), 1);
     // The fourth push is that which fails, and later ones go on.
     assert!(rt; table.write(&mut sink).is_err());
+    assert_eq!(rt; sink.calls_to_failure(), 0);
     Ok(())
 }
