@@ -132,7 +132,19 @@ fn a_double_check_moves_the_king(rt: HostRuntime) -> Result<(), Fail> {
     Ok(())
 }
 
-/// Whether the man goes from the one square to the other where its king is left aside, in a position without a target.
+/// The square of the enemy's pawn that the man takes in passing there, if it does (FIDE Laws of Chess 2023, article 3.7.3.1).
+fn passed(position: &Position, man: Man, from: Square, to: Square) -> Option<Square> {
+    if man.kind == Kind::P
+        && position.target() == Some(to)
+        && position.board().reach(man, from).contains(to)
+    {
+        Square::new(8 * (from.number() / 8) + to.number() % 8)
+    } else {
+        None
+    }
+}
+
+/// Whether the man goes from the one square to the other where its king is left aside.
 fn goes(position: &Position, man: Man, from: Square, to: Square) -> bool {
     let there = position.at(to);
     if man.kind != Kind::P {
@@ -140,7 +152,8 @@ fn goes(position: &Position, man: Man, from: Square, to: Square) -> bool {
             && there.map_or(true, |other| other.side != man.side);
     }
     if there.is_none() {
-        return position.board().advances(man.side, from).contains(to);
+        return position.board().advances(man.side, from).contains(to)
+            || passed(position, man, from, to).is_some();
     }
     position.board().reach(man, from).contains(to)
         && there.map_or(false, |other| other.side != man.side)
@@ -154,9 +167,10 @@ fn is_safe(
     from: Square,
     to: Square,
 ) -> Result<bool, AllocError> {
+    let taken = passed(position, man, from, to).unwrap_or(to);
     let mut men = Vec::new(alloc);
     for placed in position.men().as_slice() {
-        if placed.1 != from && placed.1 != to {
+        if placed.1 != from && placed.1 != taken {
             men.push((placed.0, placed.1))?;
         }
     }
@@ -249,5 +263,111 @@ fn samples_of_all_endings_agree(rt: HostRuntime) -> Result<(), Fail> {
         }
     }
     assert!(rt; sampled > 300);
+    Ok(())
+}
+
+#[test]
+fn samples_of_fewer_men_agree(rt: HostRuntime) -> Result<(), Fail> {
+    let man = |side, kind| Man { side, kind };
+    let kings = [man(Side::White, Kind::K), man(Side::Black, Kind::K)];
+    let others = [Kind::Q, Kind::R, Kind::B, Kind::N, Kind::P];
+    let mut state = 88172645463325252;
+    let mut sampled = 0u32;
+    for round in 0..240u32 {
+        let mut men = Vec::new(rt.alloc());
+        for king in kings {
+            state = drawn(state);
+            men.push((king, Square::at((state % 64) as u8)))?;
+        }
+        // Every sixth time the kings stand alone.
+        if let Some(kind) = others.get((round % 6) as usize) {
+            state = drawn(state);
+            let side = if round % 12 < 6 {
+                Side::White
+            } else {
+                Side::Black
+            };
+            men.push((man(side, *kind), Square::at((state % 64) as u8)))?;
+        }
+        for mover in [Side::White, Side::Black] {
+            if let Ok(position) = Position::new(men.as_slice(), mover, None) {
+                assert!(rt; is_right(rt.alloc(), &position)?);
+                sampled = sampled.wrapping_add(1);
+            }
+        }
+    }
+    assert!(rt; sampled > 200);
+    Ok(())
+}
+
+/// White, to move: a king and a pawn. Black: a king and a pawn that has just passed the target.
+fn passing(king: u8, pawn: u8, enemy: u8, advanced: u8, target: u8) -> Result<Position, Fail> {
+    let man = |side, kind| Man { side, kind };
+    let men = [
+        (man(Side::White, Kind::K), square(king)?),
+        (man(Side::White, Kind::P), square(pawn)?),
+        (man(Side::Black, Kind::K), square(enemy)?),
+        (man(Side::Black, Kind::P), square(advanced)?),
+    ];
+    Ok(Position::new(&men, Side::White, Some(square(target)?))?)
+}
+
+#[test]
+fn pawns_take_in_passing(rt: HostRuntime) -> Result<(), Fail> {
+    // Kings e1 and e8. The pawn on e5 takes the one on d5, on d6.
+    let open = passing(4, 36, 60, 35, 43)?;
+    assert_eq!(rt; legal_targets(&open, square(36)?), set(&[43, 44])?);
+    // The pawn on d5 checks the king on c4: the pawn on e5 takes it, and does not advance.
+    let checked = passing(26, 36, 63, 35, 43)?;
+    assert_eq!(rt; legal_targets(&checked, square(36)?), set(&[43])?);
+    assert_eq!(rt;
+        legal_targets(&checked, square(26)?),
+        set(&[17, 18, 19, 25, 27, 33, 34, 35])?
+    );
+    // Both pawns leave the rank between the kings on a5 and h5, which check nobody along it: that takes a fifth man.
+    let rank = passing(32, 33, 39, 34, 42)?;
+    assert_eq!(rt; legal_targets(&rank, square(33)?), set(&[41, 42])?);
+    // A pawn on f5 is not beside the one on d5, and a king goes to the target as to any square.
+    let apart = passing(50, 37, 63, 35, 43)?;
+    assert_eq!(rt; legal_targets(&apart, square(37)?), set(&[45])?);
+    assert!(rt; legal_targets(&apart, square(50)?).contains(square(43)?));
+    Ok(())
+}
+
+/// The square on a rank and a file, both from 0.
+fn on(rank: u8, file: u8) -> Result<Square, Fail> {
+    square(rank.wrapping_mul(8).wrapping_add(file))
+}
+
+#[test]
+fn samples_with_a_target_agree(rt: HostRuntime) -> Result<(), Fail> {
+    let man = |side, kind| Man { side, kind };
+    let mut state = 88172645463325252;
+    let mut sampled = 0u32;
+    for round in 0..120u32 {
+        state = drawn(state);
+        let file = (state % 8) as u8;
+        state = drawn(state);
+        let beside = (state % 8) as u8;
+        // The rank of both pawns and that of the target.
+        for (mover, rank, behind) in [(Side::White, 4, 5), (Side::Black, 3, 2)] {
+            let mut men = Vec::new(rt.alloc());
+            men.push((man(mover.other(), Kind::P), on(rank, file)?))?;
+            for side in [mover, mover.other()] {
+                state = drawn(state);
+                men.push((man(side, Kind::K), Square::at((state % 64) as u8)))?;
+            }
+            // Every fourth time there is no pawn that could take.
+            if round % 4 != 0 {
+                men.push((man(mover, Kind::P), on(rank, beside)?))?;
+            }
+            let target = on(behind, file)?;
+            if let Ok(position) = Position::new(men.as_slice(), mover, Some(target)) {
+                assert!(rt; is_right(rt.alloc(), &position)?);
+                sampled = sampled.wrapping_add(1);
+            }
+        }
+    }
+    assert!(rt; sampled > 100);
     Ok(())
 }
