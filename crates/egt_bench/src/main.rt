@@ -1,14 +1,17 @@
 //! Times the calls that no command of `egtb` shows: with the word `run`, the mean nanoseconds of each call over
 //! positions of a few classes drawn at random; with that word or the word `index`, those of indexes of the positions that
-//! moves lead to and of positions of consecutive codes. Nothing here judges a figure.
+//! moves lead to and of positions of consecutive codes; with it or the word `files`, how fast a table's file goes through
+//! memory. Nothing here judges a figure.
 #![tactic(auto)]
 
 mod calls;
+mod files;
 mod indexes;
 mod sample;
 
 use calls::{Call, made, moves_of};
 use egt_class::{Class, of};
+use files::bench_files;
 use indexes::{indexed, spelled, successors};
 use sample::sample;
 use std::time::Instant;
@@ -112,9 +115,11 @@ fn bench_position(rt: &HostRuntime, name: &str) -> io::Result<()> {
 fn main(rt: HostRuntime) -> io::Result<()> {
     let mut all = false;
     let mut indexes = false;
+    let mut files = false;
     for word in env::args(&rt)? {
         all = all || word.as_str() == "run";
         indexes = indexes || word.as_str() == "index";
+        files = files || word.as_str() == "files";
     }
     if all {
         for class in ["KQkr", "KPkp", "KBNk", "KRRk"] {
@@ -128,6 +133,9 @@ fn main(rt: HostRuntime) -> io::Result<()> {
             bench_index(&rt, class)?;
             bench_position(&rt, class)?;
         }
+    }
+    if all || files {
+        bench_files(&rt, Class::at(14))?;
     }
     Ok(())
 }
