@@ -1,4 +1,4 @@
-//! The builder of tables.
+//! Games over the classes of positions, on which the builder of tables is to stand.
 #![tactic(auto)]
 
 pub mod ascending;
