@@ -7,11 +7,10 @@ use Rattle.egt_class.specs.Membership.{IsOf}
 use Rattle.egt_index.specs.Code.{Spells}
 use Rattle.egt_index.specs.Index.{IsIndex}
 use Rattle.egt_moves.specs.Arena.{Value}
-use Rattle.egt_moves.specs.Chess.{chess}
 use Rattle.egt_table.specs.declared.column.Column.{Column}
 use Rattle.egt_check.specs.Alike.{StepAlike}
 use Rattle.egt_check.specs.Facts.{Facts}
-use Rattle.egt_check.specs.Tables.{Tables, HasEntry, ShowsOf}
+use Rattle.egt_check.specs.Tables.{Tables, ShowsOf}
 
 module _ (facts : Facts) where
   -- an image of its settled form plays like a position

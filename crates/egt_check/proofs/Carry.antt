@@ -1,5 +1,5 @@
 -- What fits beside the successors of one position fits beside those of another that plays like it.
-use Rattle.std.proofs.Common.{◌≡◌, ℕ, zero, suc, ◌≤◌, ◌⊎◌, ◌↔◌, inl, inr}
+use Rattle.std.proofs.Common.{ℕ, zero, suc, ◌≤◌, ◌↔◌}
 use Rattle.std.proofs.Math.Logic.{⊎_map}
 use Rattle.egt_board.specs.Setup.{Setup}
 use Rattle.egt_moves.specs.Arena.{Value, Win, Loss, Draw, SomeMove, IsStalemate}

@@ -10,3 +10,4 @@ pub mod Best
 pub mod FirstRule
 pub mod Judged
 pub mod Shelving
+pub mod Quiet

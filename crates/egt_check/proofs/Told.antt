@@ -1,14 +1,12 @@
 -- What tables show of positions, as a function.
-use Rattle.std.proofs.Common.{◌≡◌, ℕ, ◌<◌, ◌↔◌, Bool, Option, Some, None, refl, sym, ap, ◌∙◌, subst, inl, inr}
+use Rattle.std.proofs.Common.{◌≡◌, ℕ, Option, Some, None, sym, ap, ◌∙◌, subst, inl, inr}
 use Rattle.egt_board.specs.Decided.{Decided}
 use Rattle.egt_board.specs.DecidedSetup.{decided_admissible}
 use Rattle.egt_board.specs.Setup.{Setup, IsAdmissible}
-use Rattle.egt_class.specs.Membership.{IsOf}
 use Rattle.egt_index.specs.Index.{IsIndex}
 use Rattle.egt_moves.specs.Arena.{Value, Draw}
 use Rattle.egt_table.specs.declared.column.Column.{Column}
 use Rattle.egt_table.specs.Table.{TableValue}
-use Rattle.egt_check.specs.Entry.{Shows}
 use Rattle.egt_check.specs.Facts.{Facts}
 use Rattle.egt_check.specs.Tables.{Tables, entry_at, HasEntry, ShowsOf}
 use Rattle.egt_check.specs.Reading.{read, read_shown}

@@ -1,5 +1,5 @@
 -- Where the children's tables are true, a table keeps the rules exactly where it is true.
-use Rattle.std.proofs.Common.{◌≡◌, ◌≢◌, ℕ, zero, suc, ◌<◌, ◌≤◌, ◌⊎◌, ◌↔◌, Bool, IsTrue, Some, refl, sym, ◌∙◌, subst, inl, inr, arith}
+use Rattle.std.proofs.Common.{◌≡◌, ◌≢◌, ℕ, zero, suc, ◌<◌, ◌≤◌, ◌⊎◌, ◌↔◌, Bool, IsTrue, Some, refl, sym, subst, inl, inr, arith}
 use Rattle.std.proofs.lemmas.Bool.{cases_eq, cases_lt}
 use Rattle.std.proofs.Math.Logic.{⊎_elim, ⊎_map}
 use Rattle.std.specs.List.{Contains}
@@ -11,10 +11,9 @@ use Rattle.egt_class.specs.Membership.{IsOf}
 use Rattle.egt_index.specs.Code.{Spells}
 use Rattle.egt_index.specs.Index.{IsIndex, IsVoid}
 use Rattle.egt_index.specs.Size.{size_of}
-use Rattle.egt_moves.specs.Arena.{Value, Win, Loss, Draw, HasValue}
+use Rattle.egt_moves.specs.Arena.{Value, Win, Loss, Draw}
 use Rattle.egt_moves.specs.Chess.{chess}
 use Rattle.egt_moves.specs.Entries as entries
-use Rattle.egt_moves.specs.Zeroing.{HasZeroing}
 use Rattle.egt_table.specs.declared.column.Column.{Column}
 use Rattle.egt_table.specs.declared.column.Column.TheVariants.{Mate, Zeroing}
 use Rattle.egt_table.specs.Table.{TableValue, IsTable}
@@ -29,7 +28,7 @@ use Rattle.egt_check.specs.Tables.{Tables, entry_at, HasEntry, ShowsOf}
 use Rattle.egt_check.specs.Truth.{Tells, IsTrueTable, HasTrueChildren}
 use Rattle.egt_check.proofs.Alike.{settled_image_alike, indexed_class, images_show_alike}
 use Rattle.egt_check.proofs.Carry.{ShownAlike, PlaysLike, carry}
-use Rattle.egt_check.specs.Reading.{in_range, shown_range, shown_once}
+use Rattle.egt_check.specs.Reading.{in_range, shown_range}
 use Rattle.egt_check.proofs.Told.{value_at, shown_told, told_shown}
 
 module _ (facts : Facts) (tables : Tables) (t : TableValue) (sized : IsTable t) (here : tables t.class ≡ Some t) (children : HasTrueChildren tables t.class) where

@@ -1,5 +1,6 @@
 //! The judgement of one index's entries.
 ghost use Rattle.std.specs.Prelude.{◌≡◌, ◌↔◌, ◌<◌, ◌==◌, if◌then◌else◌, IsTrue};
+ghost use Rattle.egt_board.specs.Settled.{IsSettled};
 ghost use Rattle.egt_index.specs.Size.{size_of};
 ghost use Rattle.egt_moves.specs.Arena.{NoMove};
 ghost use Rattle.egt_moves.specs.Chess.{chess};
@@ -110,6 +111,7 @@ fn entry_at_end(position: &Position) -> u16
 /// The entries that are due to a position of the table's class.
 fn due(table: &Table, library: &Library, position: &Position) -> ByColumn
     requires own { IsInClass table.now.class position.now }
+    requires settled { IsSettled position.now }
     requires children { HasChildren (table_at library.now) table.now.class }
     ensures { (column : Column) → IsDue (shown_by library.now table.now) column position.now (number_at result column) }
 {

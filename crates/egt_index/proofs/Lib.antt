@@ -28,3 +28,4 @@ pub mod Setups
 pub mod Tested
 pub mod Past
 pub mod Telling
+pub mod Moved

@@ -1,5 +1,5 @@
 -- A code is the index of the position that it spells, or void.
-use Rattle.std.proofs.Common.{◌≡◌, ℕ, ◌<◌, ◌⊎◌, Bool, false, subst, inl, inr}
+use Rattle.std.proofs.Common.{ℕ, ◌<◌, ◌⊎◌, false, subst, inl, inr}
 use Rattle.std.proofs.lemmas.Bool.{cases_eq}
 use Rattle.egt_board.specs.Decided.{Decided}
 use Rattle.egt_board.specs.Setup.{Setup}

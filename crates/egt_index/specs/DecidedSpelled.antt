@@ -1,5 +1,5 @@
 -- Whether a code spells a position can be told.
-use Rattle.std.proofs.Common.{◌≡◌, ◌≢◌, ℕ, ◌<◌, ◌⊎◌, arith, List, [], ◌∷◌, ◌++◌, false, Option, Some, None, length, slice_index, refl, subst, inl, inr}
+use Rattle.std.proofs.Common.{◌≡◌, ◌≢◌, ℕ, ◌<◌, ◌⊎◌, arith, List, [], ◌∷◌, ◌++◌, Option, Some, None, length, slice_index, refl, subst, inl, inr}
 use Rattle.egt_board.specs.declared.man.Man.{Man}
 use Rattle.egt_board.specs.declared.man.Side.{Side}
 use Rattle.egt_board.specs.declared.man.Side.TheVariants.{White, Black}
@@ -9,8 +9,8 @@ use Rattle.egt_board.specs.Images.{side_number}
 use Rattle.egt_board.specs.Listed.{FitsBoard, squares_of, setup_of}
 use Rattle.egt_board.specs.Placement.{Placement}
 use Rattle.egt_board.specs.Setup.{Setup, IsAdmissible}
-use Rattle.egt_class.specs.Material.{Material, material_of}
-use Rattle.egt_index.specs.Code.{SpellsBy, Spells, men_at, target_digits, HasTargetDigit}
+use Rattle.egt_class.specs.Material.{Material}
+use Rattle.egt_index.specs.Code.{SpellsBy, men_at, target_digits, HasTargetDigit}
 use Rattle.egt_index.specs.Digits.{AreDigits, number_of}
 use Rattle.egt_index.specs.Size.{bases, men_bases, has_target}
 

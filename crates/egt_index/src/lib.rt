@@ -4,6 +4,7 @@
 pub mod codes;
 pub mod digits;
 pub mod facts;
+pub mod frame;
 pub mod home;
 pub mod indexing;
 pub mod laws;
@@ -13,6 +14,7 @@ pub mod spelling;
 pub mod stand;
 pub mod turning;
 
+pub use frame::Frame;
 pub use indexing::index;
 pub use sizes::size;
 pub use spelling::position;

@@ -13,6 +13,7 @@ due-due-requires c =
     let spelled = subst (λ (k : ℕ). Spells k c.args.index c.in-Some.position) c.class.ensures.class c.in-Some.ensures.spells in
     record {
       own = (false, c.spelled_positions_are_of_the_class.ensures c.args.table.now.class c.args.index c.in-Some.position spelled);
+      settled = c.in-Some.ensures.settled;
       children = c.requires.children;
     }
 

@@ -1,0 +1,133 @@
+-- The men of a class after one of them went to a free square.
+use Rattle.std.proofs.Common.{◌≡◌, ◌≢◌, ℕ, ◌<◌, Bool, false, cond, List, [], ◌∷◌, ◌++◌, map, Option, Some, None, IfSome, refl, sym, ap, ◌∙◌, inl, inr, subst}
+use Rattle.std.specs.Option.{option_to_list, is_some}
+use Rattle.std.specs.FinMap as placement
+use Rattle.std.proofs.lemmas.Bool.{cases_eq}
+use Rattle.std.proofs.lemmas.Bool.Decides.{eqb_tells}
+use Rattle.egt_board.specs.declared.man.Side.{Side}
+use Rattle.egt_board.specs.declared.man.Side.TheVariants.{White, Black}
+use Rattle.egt_board.specs.declared.man.Man.{Man}
+use Rattle.egt_board.specs.Attack.{king_of}
+use Rattle.egt_board.specs.Man.{other_side}
+use Rattle.egt_board.specs.Placement.{Placement, Stands, one_man, get-remove_other, get-insert_same, get-insert_other}
+use Rattle.egt_board.specs.Pawn.{ahead, HasPawnBeside}
+use Rattle.egt_board.specs.Settled.{IsSettled, SettlesTo}
+use Rattle.egt_board.specs.Setup.{Setup}
+use Rattle.egt_board.specs.Turned.{turned_man}
+use Rattle.egt_index.specs.Frame.{IsMoved, IsFrame, moved_square, moved_entry}
+use Rattle.egt_index.specs.Stood.{Entry, men_among, IsOff, AllStand, Stood, HasStand, list_of}
+use Rattle.egt_index.specs.declared.frame.Frame.{Frame}
+use Rattle.egt_index.specs.declared.stand.Stand.{Stand}
+
+module _ (c : ℕ) (p : Setup) (from to : ℕ) (q : Setup) (moved : IsMoved c p from to q) where
+  abbrev move_one : Man × ℕ → Man × ℕ
+  move_one e = (e.0, moved_square from to e.1)
+
+  went : (s : ℕ) → s ≡ from → moved_square from to s ≡ to
+  went s same = elim (eqb_tells s from) [ inl h ↦ ap (λ b. cond b to s) h.0 | inr h ↦ absurd (h.1 same) ]
+
+  stayed : (s : ℕ) → s ≢ from → moved_square from to s ≡ s
+  stayed s other = elim (eqb_tells s from) [ inl h ↦ absurd (other h.1) | inr h ↦ ap (λ b. cond b to s) h.0 ]
+
+  not_to : (s : ℕ) (man : Man) → Stands p.men s man → s ≢ to
+  not_to s man stands same = let h = sym stands ∙ ap (placement.get p.men) same ∙ moved.free in cc
+
+  at_to : Stands q.men to moved.man
+  at_to = ap (λ (m : Placement). placement.get m to) moved.men ∙ get-insert_same (placement.remove p.men from) to moved.man to refl
+
+  at_other : (s : ℕ) (man : Man) → s ≢ from → Stands p.men s man → Stands q.men s man
+  at_other s man other stands =
+      ap (λ (m : Placement). placement.get m s) moved.men
+      ∙ get-insert_other (placement.remove p.men from) to moved.man s (not_to s man stands)
+      ∙ get-remove_other p.men from s other
+      ∙ stands
+
+  -- a man off a square of the list is off it after the move
+  off_one : (e s : ℕ) (man other : Man) → Stands p.men e man → Stands p.men s other → e ≢ s → moved_square from to e ≢ moved_square from to s
+  off_one e s man other here there apart same = elim (cases_eq e from) [
+    | inl e_from ↦ elim (cases_eq s from) [
+      | inl s_from ↦ apart (e_from ∙ sym s_from)
+      | inr s_other ↦ not_to s other there (sym (stayed s s_other) ∙ sym same ∙ went e e_from)
+    ]
+    | inr e_other ↦ elim (cases_eq s from) [
+      | inl s_from ↦ not_to e man here (sym (stayed e e_other) ∙ same ∙ went s s_from)
+      | inr s_other ↦ apart (sym (stayed e e_other) ∙ same ∙ stayed s s_other)
+    ]
+  ]
+
+  off_moved : (flips : Bool) (list : List (Man × ℕ)) (s : ℕ) (man : Man) → AllStand flips p.men list → Stands p.men s man → IsOff list s → IsOff (map move_one list) (moved_square from to s)
+  off_moved flips [] s man all stands off = tt
+  off_moved flips (e ∷ list) s man all stands off = (off_one e.1 s _ man all.1 stands off.0, off_moved flips list s man all.3 stands off.1)
+
+  below : (s : ℕ) → s < 64 → moved_square from to s < 64
+  below s s_in = elim (cases_eq s from) [
+    | inl same ↦ subst (λ k. k < 64) (sym (went s same)) moved.on_board
+    | inr other ↦ subst (λ k. k < 64) (sym (stayed s other)) s_in
+  ]
+
+  stands_moved : (s : ℕ) (man : Man) → Stands p.men s man → Stands q.men (moved_square from to s) man
+  stands_moved s man stands = elim (cases_eq s from) [
+    | inl same ↦ ap (placement.get q.men) (went s same) ∙ at_to ∙ ap Some (one_man p.men from moved.man man moved.stands (ap (placement.get p.men) (sym same) ∙ stands))
+    | inr other ↦ ap (placement.get q.men) (stayed s other) ∙ at_other s man other stands
+  ]
+
+  all_moved : (flips : Bool) (list : List (Man × ℕ)) → AllStand flips p.men list → AllStand flips q.men (map move_one list)
+  all_moved flips [] all = tt
+  all_moved flips (e ∷ list) all = (
+    below e.1 all.0,
+    stands_moved e.1 (turned_man flips e.0) all.1,
+    off_moved flips list e.1 (turned_man flips e.0) all.3 all.1 all.2,
+    all_moved flips list all.3,
+  )
+
+  men_kept : (list : List (Man × ℕ)) → men_among (map move_one list) ≡ men_among list
+  men_kept [] = refl
+  men_kept (e ∷ list) = ap (λ l. e.0 ∷ l) (men_kept list)
+
+  entry_listed : (entry : Entry) → map move_one (option_to_list entry) ≡ option_to_list (moved_entry from to entry)
+  entry_listed None = refl
+  entry_listed (Some e) = refl
+
+  both_listed : (x y : Entry) → map move_one (option_to_list x ++ option_to_list y) ≡ option_to_list (moved_entry from to x) ++ option_to_list (moved_entry from to y)
+  both_listed None y = entry_listed y
+  both_listed (Some e) y = ap (λ l. move_one e ∷ l) (entry_listed y)
+
+  list_moved : (before after : Stand) → after.white ≡ moved_square from to before.white → after.black ≡ moved_square from to before.black
+      → after.next ≡ moved_entry from to before.next → after.last ≡ moved_entry from to before.last → map move_one (list_of before) ≡ list_of after
+  list_moved before after white black next last =
+      ap (λ w. (king_of White, w) ∷ map move_one ((king_of Black, before.black) ∷ (option_to_list before.next ++ option_to_list before.last))) (sym white)
+      ∙ ap (λ b. (king_of White, after.white) ∷ (king_of Black, b) ∷ map move_one (option_to_list before.next ++ option_to_list before.last)) (sym black)
+      ∙ ap (λ l. (king_of White, after.white) ∷ (king_of Black, after.black) ∷ l)
+      (both_listed before.next before.last
+      ∙ ap (λ (x : Entry). option_to_list x ++ option_to_list (moved_entry from to before.last)) (sym next)
+      ∙ ap (λ (y : Entry). option_to_list after.next ++ option_to_list y) (sym last))
+
+  stood_moved : (flips : Bool) (before after : Stand) → map move_one (list_of before) ≡ list_of after → Stood c flips p.men (list_of before) → Stood c flips q.men (list_of after)
+  stood_moved flips before after listed stood = record {
+    are = ap men_among (sym listed) ∙ men_kept (list_of before) ∙ stood.are;
+    all = subst (AllStand flips q.men) listed (all_moved flips (list_of before) stood.all);
+  }
+
+-- so they stand after the move
+pub stand_moved : (p q : Setup) (from to : ℕ) (frame : Frame) (after : Stand) (side : Side) → IsFrame p frame → IsMoved frame.class p from to q → IsSettled q → side ≡ other_side frame.side
+    → after.white ≡ moved_square from to frame.stand.white → after.black ≡ moved_square from to frame.stand.black
+    → after.next ≡ moved_entry from to frame.stand.next → after.last ≡ moved_entry from to frame.stand.last → HasStand frame.class frame.flipped after side false q
+stand_moved p q from to frame after side is moved settled side_is white black next last = record {
+  admissible = moved.admissible;
+  settled = settled;
+  is_of = moved.class frame.flipped is.stand.is_of;
+  stood = stood_moved frame.class p from to q moved frame.flipped frame.stand after (list_moved frame.class p from to q moved frame.stand after white black next last) is.stand.stood;
+  side_is = moved.side ∙ ap other_side is.stand.side_is ∙ sym side_is;
+  target_is = ap is_some moved.target;
+}
+
+pub untargeted_settled : (q : Setup) → q.target ≡ None → IsSettled q
+untargeted_settled q none = of_target q.target none
+  where
+    of_target : (t : Option ℕ) → t ≡ None → IfSome t (λ t. HasPawnBeside q.men q.side (ahead (other_side q.side) t))
+    of_target None e = tt
+    of_target (Some t) e = let same = e in cc
+
+-- an admissible position without a target is its own settled form
+pub settles_untargeted : (q : Setup) → q.target ≡ None → SettlesTo q q
+settles_untargeted q none = inl (untargeted_settled q none, refl)

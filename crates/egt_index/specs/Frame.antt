@@ -1,0 +1,36 @@
+-- Positions that differ by the square of one man.
+use Rattle.std.specs.Prelude.{◌≡◌, ℕ, ◌<◌, ◌==◌, Bool, if◌then◌else◌, None}
+use Rattle.std.specs.Option.{option_map}
+use Rattle.std.specs.FinMap as map
+use Rattle.egt_board.specs.declared.man.Man.{Man}
+use Rattle.egt_board.specs.Man.{other_side}
+use Rattle.egt_board.specs.Placement.{Stands, IsFree}
+use Rattle.egt_board.specs.Setup.{Setup, IsAdmissible}
+use Rattle.egt_class.specs.Membership.{IsOf}
+use Rattle.egt_index.specs.Stood.{Entry, HasStand}
+use Rattle.egt_index.specs.declared.frame.Frame.{Frame}
+
+-- the man on `from` went to `to`, where none stood, and nothing else on the board changed; it is the other side's turn, without a
+-- target
+pub record IsMoved (c : ℕ) (p : Setup) (from to : ℕ) (q : Setup) : Type 0 where
+  pub man : Man
+  pub stands : Stands p.men from man
+  pub free : IsFree p.men to
+  pub on_board : to < 64
+  pub men : q.men ≡ map.insert (map.remove p.men from) to man
+  pub side : q.side ≡ other_side p.side
+  pub target : q.target ≡ None
+  pub admissible : IsAdmissible q
+  pub class : (flipped : Bool) → IsOf c flipped p → IsOf c flipped q
+
+-- the frame tells where the men of p stand, which is settled and of the frame's class
+pub record IsFrame (p : Setup) (frame : Frame) : Type 0 where
+  pub passed : Bool
+  pub stand : HasStand frame.class frame.flipped frame.stand frame.side passed p
+
+-- the square of a man after the man on `from` went to `to`
+abbrev pub moved_square : (from to s : ℕ) → ℕ
+moved_square from to s = if s == from then to else s
+
+abbrev pub moved_entry : (from to : ℕ) → Entry → Entry
+moved_entry from to entry = option_map (λ e. (e.0, moved_square from to e.1)) entry
