@@ -57,7 +57,7 @@ went_back n flips s n_in s_in =
     let both = and_parts _ _ (passes_below (goes_back flips n) 64 s (passes_below (λ n. all_below (goes_back flips n) 64) 8 n (all_go_back flips) n_in) s_in) in
     (ltb-true _ _ both.0, eqb-true _ _ both.1)
 
-turned_apart : (n : ℕ) (flips : Bool) (s t : ℕ) → n < 8 → s < 64 → t < 64 → s ≢ t → turned_square n flips s ≢ turned_square n flips t
+pub turned_apart : (n : ℕ) (flips : Bool) (s t : ℕ) → n < 8 → s < 64 → t < 64 → s ≢ t → turned_square n flips s ≢ turned_square n flips t
 turned_apart n flips s t n_in s_in t_in apart same = apart (sym (went_back n flips s n_in s_in).1 ∙ ap (back n flips) same ∙ (went_back n flips t n_in t_in).1)
 
 abbrev turn_one : ℕ → Bool → Man × ℕ → Man × ℕ

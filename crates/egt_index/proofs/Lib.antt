@@ -28,4 +28,5 @@ pub mod Setups
 pub mod Tested
 pub mod Past
 pub mod Telling
+pub mod Carried
 pub mod Moved

@@ -1,5 +1,5 @@
 -- The men of a class after one of them went to a free square.
-use Rattle.std.proofs.Common.{◌≡◌, ◌≢◌, ℕ, ◌<◌, Bool, false, cond, List, [], ◌∷◌, ◌++◌, map, Option, Some, None, IfSome, refl, sym, ap, ◌∙◌, inl, inr, subst}
+use Rattle.std.proofs.Common.{◌≡◌, ◌≢◌, ℕ, ◌<◌, not, Bool, true, false, cond, List, [], ◌∷◌, ◌++◌, map, Option, Some, None, IfSome, refl, sym, ap, ◌∙◌, inl, inr, subst}
 use Rattle.std.specs.Option.{option_to_list, is_some}
 use Rattle.std.specs.FinMap as placement
 use Rattle.std.proofs.lemmas.Bool.{cases_eq}
@@ -12,12 +12,17 @@ use Rattle.egt_board.specs.Man.{other_side}
 use Rattle.egt_board.specs.Placement.{Placement, Stands, one_man, get-remove_other, get-insert_same, get-insert_other}
 use Rattle.egt_board.specs.Pawn.{ahead, HasPawnBeside}
 use Rattle.egt_board.specs.Settled.{IsSettled, SettlesTo}
-use Rattle.egt_board.specs.Setup.{Setup}
+use Rattle.egt_board.specs.Setup.{Setup, IsAdmissible}
 use Rattle.egt_board.specs.Turned.{turned_man}
-use Rattle.egt_index.specs.Frame.{IsMoved, IsFrame, moved_square, moved_entry}
-use Rattle.egt_index.specs.Stood.{Entry, men_among, IsOff, AllStand, Stood, HasStand, list_of}
+use Rattle.egt_class.specs.Material.{has_equal_sides}
+use Rattle.egt_index.specs.Facts.{Facts}
+use Rattle.egt_index.specs.Frame.{IsMoved, IsFrame, AreExchangedLanes}
+use Rattle.egt_index.specs.Lanes.{moved_square, moved_entry, IsMovedStand, AreOnBoard, IsWent}
+use Rattle.egt_index.specs.Stood.{Entry, men_among, IsOff, AllStand, Stood, HasStand, list_of, on_square_of}
 use Rattle.egt_index.specs.declared.frame.Frame.{Frame}
+use Rattle.egt_index.specs.declared.lanes.Lanes.{Lanes}
 use Rattle.egt_index.specs.declared.stand.Stand.{Stand}
+use Rattle.egt_index.proofs.Exchanged.{stood_exchanged}
 
 module _ (c : ℕ) (p : Setup) (from to : ℕ) (q : Setup) (moved : IsMoved c p from to q) where
   abbrev move_one : Man × ℕ → Man × ℕ
@@ -109,15 +114,14 @@ module _ (c : ℕ) (p : Setup) (from to : ℕ) (q : Setup) (moved : IsMoved c p 
   }
 
 -- so they stand after the move
-pub stand_moved : (p q : Setup) (from to : ℕ) (frame : Frame) (after : Stand) (side : Side) → IsFrame p frame → IsMoved frame.class p from to q → IsSettled q → side ≡ other_side frame.side
-    → after.white ≡ moved_square from to frame.stand.white → after.black ≡ moved_square from to frame.stand.black
-    → after.next ≡ moved_entry from to frame.stand.next → after.last ≡ moved_entry from to frame.stand.last → HasStand frame.class frame.flipped after side false q
-stand_moved p q from to frame after side is moved settled side_is white black next last = record {
+pub stand_moved : (c : ℕ) (flips passed : Bool) (p q : Setup) (from to : ℕ) (before after : Stand) (old side : Side) → HasStand c flips before old passed p → IsMoved c p from to q → IsSettled q
+    → side ≡ other_side old → IsMovedStand from to before after → HasStand c flips after side false q
+stand_moved c flips passed p q from to before after old side has moved settled side_is is = record {
   admissible = moved.admissible;
   settled = settled;
-  is_of = moved.class frame.flipped is.stand.is_of;
-  stood = stood_moved frame.class p from to q moved frame.flipped frame.stand after (list_moved frame.class p from to q moved frame.stand after white black next last) is.stand.stood;
-  side_is = moved.side ∙ ap other_side is.stand.side_is ∙ sym side_is;
+  is_of = moved.class flips has.is_of;
+  stood = stood_moved c p from to q moved flips before after (list_moved c p from to q moved before after is.white is.black is.next is.last) has.stood;
+  side_is = moved.side ∙ ap other_side has.side_is ∙ sym side_is;
   target_is = ap is_some moved.target;
 }
 
@@ -131,3 +135,100 @@ untargeted_settled q none = of_target q.target none
 -- an admissible position without a target is its own settled form
 pub settles_untargeted : (q : Setup) → q.target ≡ None → SettlesTo q q
 settles_untargeted q none = inl (untargeted_settled q none, refl)
+
+-- the men of a position are on the board
+pub on_board_of : (c : ℕ) (flips passed : Bool) (p : Setup) (stand : Stand) (side : Side) → HasStand c flips stand side passed p → AreOnBoard stand
+on_board_of c flips passed p stand side has = record {
+  white = has.stood.all.0;
+  black = has.stood.all.3.0;
+  next = (both stand.next stand.last has.stood.all.3.3).0;
+  last = (both stand.next stand.last has.stood.all.3.3).1;
+}
+  where
+    both : (x y : Entry) → AllStand flips p.men (option_to_list x ++ option_to_list y) → IfSome x (λ e. e.1 < 64) × IfSome y (λ e. e.1 < 64)
+    both None None all = (tt, tt)
+    both None (Some d) all = (tt, all.0)
+    both (Some e) None all = (all.0, tt)
+    both (Some e) (Some d) all = (all.0, all.3.0)
+
+-- a man goes where he is seen to go with colours exchanged
+entry_exchanged : (from to : ℕ) (x y : Entry) → on_square_of (moved_entry from to x) (moved_entry from to y) ≡ moved_entry from to (on_square_of x y)
+entry_exchanged from to None y = refl
+entry_exchanged from to (Some e) None = refl
+entry_exchanged from to (Some e) (Some d) = refl
+
+-- the stand with colours exchanged
+abbrev pub exchange : Stand → Stand
+exchange s = record { white = s.black; black = s.white; next = on_square_of s.next s.last; last = on_square_of s.last s.next }
+
+pub exchanged_moved : (from to : ℕ) (before after other : Stand) → IsMovedStand from to before after → other.white ≡ before.black → other.black ≡ before.white
+    → other.next ≡ on_square_of before.next before.last → other.last ≡ on_square_of before.last before.next → IsMovedStand from to other (exchange after)
+exchanged_moved from to before after other is white black next last = record {
+  white = is.black ∙ ap (moved_square from to) (sym white);
+  black = is.white ∙ ap (moved_square from to) (sym black);
+  next =
+      ap (λ (x : Entry). on_square_of x after.last) is.next
+      ∙ ap (λ (y : Entry). on_square_of (moved_entry from to before.next) y) is.last
+      ∙ entry_exchanged from to before.next before.last
+      ∙ ap (moved_entry from to) (sym next);
+  last =
+      ap (λ (x : Entry). on_square_of x after.next) is.last
+      ∙ ap (λ (y : Entry). on_square_of (moved_entry from to before.last) y) is.next
+      ∙ entry_exchanged from to before.last before.next
+      ∙ ap (moved_entry from to) (sym last);
+}
+
+-- where the men stand after the man on `from` went to `to`
+abbrev pub after_of : ℕ → ℕ → Stand → Stand
+after_of from to s = record {
+  white = moved_square from to s.white;
+  black = moved_square from to s.black;
+  next = moved_entry from to s.next;
+  last = moved_entry from to s.last;
+}
+
+pub is_after : (from to : ℕ) (s : Stand) → IsMovedStand from to s (after_of from to s)
+is_after from to s = record { white = refl; black = refl; next = refl; last = refl }
+
+module _ (facts : Facts) (p q : Setup) (from to : ℕ) (frame : Frame) (side : Side) (c_in : frame.class < 36) (is : IsFrame p frame) (moved : IsMoved frame.class p from to q) (side_is : side ≡ other_side frame.side) where
+  settled : IsSettled q
+  settled = untargeted_settled q moved.target
+
+  abbrev after : Stand
+  after = after_of from to frame.stand
+
+  has : HasStand frame.class frame.flipped after side false q
+  has = stand_moved frame.class frame.flipped is.passed p q from to frame.stand after frame.side side is.stand moved settled side_is (is_after from to frame.stand)
+
+  from_in : IsAdmissible p → from < 64
+  from_in ok = ok.on_board from moved.man moved.stands
+
+  pub went_own : IsWent frame.class frame.flipped frame.stand after from to side q
+  went_own = record {
+    from_in = from_in is.stand.admissible;
+    on_board = on_board_of frame.class frame.flipped is.passed p frame.stand frame.side is.stand;
+    moved = is_after from to frame.stand;
+    stand = has;
+  }
+
+  pub went_exchanged : (lanes : Lanes) → has_equal_sides frame.class ≡ true → (e : AreExchangedLanes frame.class frame.flipped frame.stand lanes) → IsWent frame.class (not frame.flipped) e.exchanged (exchange after) from to side q
+  went_exchanged lanes equal e = record {
+    from_in = from_in is.stand.admissible;
+    on_board = on_board_of frame.class (not frame.flipped) is.passed p e.exchanged frame.side (record {
+      admissible = is.stand.admissible;
+      settled = is.stand.settled;
+      is_of = facts.both_flips p frame.class frame.flipped (not frame.flipped) c_in equal is.stand.is_of;
+      stood = stood_exchanged frame.class frame.flipped p.men frame.stand e.exchanged c_in equal e.white e.black e.next e.last is.stand.stood;
+      side_is = is.stand.side_is;
+      target_is = is.stand.target_is;
+    });
+    moved = exchanged_moved from to frame.stand after e.exchanged (is_after from to frame.stand) e.white e.black e.next e.last;
+    stand = record {
+      admissible = has.admissible;
+      settled = has.settled;
+      is_of = facts.both_flips q frame.class frame.flipped (not frame.flipped) c_in equal has.is_of;
+      stood = stood_exchanged frame.class frame.flipped q.men after (exchange after) c_in equal refl refl refl refl has.stood;
+      side_is = has.side_is;
+      target_is = has.target_is;
+    };
+  }

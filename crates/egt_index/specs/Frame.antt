@@ -1,13 +1,17 @@
 -- Positions that differ by the square of one man.
-use Rattle.std.specs.Prelude.{◌≡◌, ℕ, ◌<◌, ◌==◌, Bool, if◌then◌else◌, None}
-use Rattle.std.specs.Option.{option_map}
+use Rattle.std.specs.Prelude.{◌≡◌, ℕ, ◌<◌, not, Bool, None, IfSome}
+use Rattle.std.specs.Option.{is_some}
 use Rattle.std.specs.FinMap as map
 use Rattle.egt_board.specs.declared.man.Man.{Man}
 use Rattle.egt_board.specs.Man.{other_side}
 use Rattle.egt_board.specs.Placement.{Stands, IsFree}
 use Rattle.egt_board.specs.Setup.{Setup, IsAdmissible}
+use Rattle.egt_class.specs.Material.{has_equal_sides}
 use Rattle.egt_class.specs.Membership.{IsOf}
-use Rattle.egt_index.specs.Stood.{Entry, HasStand}
+use Rattle.egt_index.specs.Lanes.{AreLanes}
+use Rattle.egt_index.specs.Stood.{HasStand, on_square_of}
+use Rattle.egt_index.specs.declared.lanes.Lanes.{Lanes}
+use Rattle.egt_index.specs.declared.stand.Stand.{Stand}
 use Rattle.egt_index.specs.declared.frame.Frame.{Frame}
 
 -- the man on `from` went to `to`, where none stood, and nothing else on the board changed; it is the other side's turn, without a
@@ -23,14 +27,19 @@ pub record IsMoved (c : ℕ) (p : Setup) (from to : ℕ) (q : Setup) : Type 0 wh
   pub admissible : IsAdmissible q
   pub class : (flipped : Bool) → IsOf c flipped p → IsOf c flipped q
 
--- the frame tells where the men of p stand, which is settled and of the frame's class
+-- the lanes of the men seen with colours exchanged
+pub record AreExchangedLanes (c : ℕ) (flipped : Bool) (stand : Stand) (exchanges : Lanes) : Type 0 where
+  pub exchanged : Stand
+  pub white : exchanged.white ≡ stand.black
+  pub black : exchanged.black ≡ stand.white
+  pub next : exchanged.next ≡ on_square_of stand.next stand.last
+  pub last : exchanged.last ≡ on_square_of stand.last stand.next
+  pub are : AreLanes c (not flipped) exchanged exchanges
+
+-- the frame tells where the men of p stand, which is settled and of the frame's class, and where turns take them
 pub record IsFrame (p : Setup) (frame : Frame) : Type 0 where
   pub passed : Bool
   pub stand : HasStand frame.class frame.flipped frame.stand frame.side passed p
-
--- the square of a man after the man on `from` went to `to`
-abbrev pub moved_square : (from to s : ℕ) → ℕ
-moved_square from to s = if s == from then to else s
-
-abbrev pub moved_entry : (from to : ℕ) → Entry → Entry
-moved_entry from to entry = option_map (λ e. (e.0, moved_square from to e.1)) entry
+  pub own : AreLanes frame.class frame.flipped frame.stand frame.own
+  pub equal : is_some frame.exchanged ≡ has_equal_sides frame.class
+  pub exchanged : IfSome frame.exchanged (AreExchangedLanes frame.class frame.flipped frame.stand)

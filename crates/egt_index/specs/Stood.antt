@@ -118,6 +118,13 @@ pub record IsStandAfter (n : ℕ) (flips : Bool) (before after : Stand) : Type 0
   pub both : IsOrdered (entry_after n flips before.next) (entry_after n flips before.last) after.next after.last
   pub in_order : IsInOrder after.next after.last
 
+-- the men where the turn takes them, in the order in which they were
+pub record IsTurned (n : ℕ) (flips : Bool) (before after : Stand) : Type 0 where
+  pub white : after.white ≡ turned_square n flips before.white
+  pub black : after.black ≡ turned_square n flips before.black
+  pub next : after.next ≡ entry_after n flips before.next
+  pub last : after.last ≡ entry_after n flips before.last
+
 -- the man has a digit on its square
 abbrev pub HasDigit : Entry → Type 0
 HasDigit entry = IfSome entry (λ e. (e.0 ≢ king_of White) × MayStand e.0 e.1)

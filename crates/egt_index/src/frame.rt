@@ -1,15 +1,18 @@
 //! Indexes of positions that differ from one position by the square of a man.
-ghost use Rattle.std.specs.Prelude.{◌≡◌, Bool};
+ghost use Rattle.std.specs.Prelude.{◌≡◌, ◌≢◌, Bool, IsSome, IsFalse};
 ghost use Rattle.egt_board.specs.Setup.{Setup};
 ghost use Rattle.egt_board.specs.Settled.{IsSettled};
 ghost use Rattle.egt_class.specs.Membership.{IsOf};
-ghost use Rattle.egt_index.specs.Frame.{IsFrame, IsMoved, moved_square, moved_entry};
+ghost use Rattle.egt_index.specs.Frame.{IsFrame, IsMoved};
 ghost use Rattle.egt_index.specs.Index.{IsIndex};
+ghost use Rattle.egt_index.specs.Turns.{Best};
 
 use crate::facts::facts;
-use crate::indexing::least_of_images;
-use crate::stand::{Stand, is_flipped, stand_of};
-use egt_board::{Man, Position, Side, Square};
+use crate::indexing::{least_of_images, lesser};
+use crate::lanes::{Lanes, home_lanes, least_along, moved};
+use crate::men::has_equal_sides;
+use crate::stand::{Stand, exchanged, is_flipped, stand_of};
+use egt_board::{Position, Side, Square};
 use egt_class::Class;
 
 /// Where the men of a settled position stand, so that the index of a position to which a quiet move leads is found without making
@@ -20,42 +23,9 @@ pub struct Frame {
     pub(crate) flipped: bool,
     pub(crate) side: Side,
     pub(crate) stand: Stand,
-}
-
-/// The square after the man on `from` went to `to`.
-fn moved_square(square: Square, from: Square, to: Square) -> Square
-    ensures { result ≡ moved_square from to square }
-{
-    if square.number() == from.number() {
-        to
-    } else {
-        square
-    }
-}
-
-/// The man, if there is one, after the man on `from` went to `to`.
-fn moved_entry(entry: Option<(Man, Square)>, from: Square, to: Square) -> Option<(Man, Square)>
-    ensures { result ≡ moved_entry from to entry }
-{
-    match entry {
-        Some((man, square)) => Some((man, moved_square(square, from, to))),
-        None => None,
-    }
-}
-
-/// Where the men stand after the man on `from` went to `to`.
-fn moved(stand: &Stand, from: Square, to: Square) -> Stand
-    ensures white { result.white ≡ moved_square from to stand.now.white }
-    ensures black { result.black ≡ moved_square from to stand.now.black }
-    ensures next { result.next ≡ moved_entry from to stand.now.next }
-    ensures last { result.last ≡ moved_entry from to stand.now.last }
-{
-    Stand {
-        white: moved_square(stand.white, from, to),
-        black: moved_square(stand.black, from, to),
-        next: moved_entry(stand.next, from, to),
-        last: moved_entry(stand.last, from, to),
-    }
+    pub(crate) own: Lanes,
+    /// Of a class whose sides have the same men, the turns with colours exchanged.
+    pub(crate) exchanged: Option<Lanes>,
 }
 
 impl Frame {
@@ -68,11 +38,73 @@ impl Frame {
     {
         let flipped = is_flipped(class, position);
         let _passed = position.target().is_some();
+        let stand = stand_of(class, position, flipped);
         Frame {
             class,
             flipped,
             side: position.side(),
-            stand: stand_of(class, position, flipped),
+            stand,
+            own: home_lanes(class, &stand, flipped),
+            exchanged: if has_equal_sides(class) {
+                Some(home_lanes(class, &exchanged(&stand), !flipped))
+            } else {
+                None
+            },
+        }
+    }
+
+    /// The least code after a king went who is brought home by the turns.
+    fn least_after_king(&self, from: Square, to: Square) -> Option<u32>
+        ensures { (p q : Setup) → IsFrame p self.now → IsMoved self.now.class p from to q → Best self.now.class q 16 result }
+    {
+        let stand = moved(&self.stand, from, to);
+        least_of_images(self.class, &stand, self.side.other(), false, self.flipped)
+    }
+
+    /// The least code after another man went.
+    #[inline(always)]
+    fn least_after_man(&self, from: Square, to: Square) -> Option<u32>
+        requires frame { (p : Setup) × IsFrame p self.now }
+        requires white { self.now.stand.white ≢ from }
+        requires black { IsSome self.now.exchanged → self.now.stand.black ≢ from }
+        ensures { (p q : Setup) → IsFrame p self.now → IsMoved self.now.class p from to q → Best self.now.class q 16 result }
+    {
+        facts();
+        let _number = self.class.number();
+        let side = self.side.other();
+        let code = least_along(self.class, &self.own, side, from, to);
+        match &self.exchanged {
+            Some(lanes) => {
+                let other = least_along(self.class, lanes, side, from, to);
+                lesser(code, other)
+            }
+            None => code,
+        }
+    }
+
+    /// Whether the man on the square is a king whom the turns bring home.
+    fn is_brought_home(&self, from: Square) -> bool
+        ensures white { IsFalse result → self.now.stand.white ≢ from }
+        ensures black { IsFalse result → IsSome self.now.exchanged → self.now.stand.black ≢ from }
+    {
+        if self.stand.white == from {
+            return true;
+        }
+        match &self.exchanged {
+            Some(_) => self.stand.black == from,
+            None => false,
+        }
+    }
+
+    /// The least code after the man on `from` went to `to`.
+    fn least_after(&self, from: Square, to: Square) -> Option<u32>
+        requires frame { (p : Setup) × IsFrame p self.now }
+        ensures { (p q : Setup) → IsFrame p self.now → IsMoved self.now.class p from to q → Best self.now.class q 16 result }
+    {
+        if self.is_brought_home(from) {
+            self.least_after_king(from, to)
+        } else {
+            self.least_after_man(from, to)
         }
     }
 
@@ -83,8 +115,6 @@ impl Frame {
         ensures { (p q : Setup) → IsFrame p self.now → IsMoved self.now.class p from to q → IsIndex self.now.class q result }
     {
         facts();
-        let _number = self.class.number();
-        let stand = moved(&self.stand, from, to);
-        least_of_images(self.class, &stand, self.side.other(), false, self.flipped).unwrap()
+        self.least_after(from, to).unwrap()
     }
 }

@@ -7,7 +7,8 @@ ghost use Rattle.egt_board.specs.Turned.{turned_side};
 ghost use Rattle.egt_class.specs.Membership.{IsOf};
 ghost use Rattle.egt_index.specs.Home.{LeastWith};
 ghost use Rattle.egt_index.specs.Index.{IsIndex};
-ghost use Rattle.egt_index.specs.Stood.{HasStand};
+ghost use Rattle.egt_index.specs.Stood.{HasStand, IsStandAfter};
+ghost use Rattle.egt_index.specs.declared.stand.Stand.{Stand};
 ghost use Rattle.egt_index.specs.Turns.{Best, CodeAfter, lesser};
 
 use crate::codes::{number_behind, with_side};
@@ -26,23 +27,39 @@ fn side_after(side: Side, flips: bool) -> Side
     if flips { side.other() } else { side }
 }
 
+/// The least code of what the turn makes of a settled position of the class, if it has one: the turn takes the men where they stand
+/// `after`.
+#[inline(always)]
+pub(crate) fn code_of(
+    class: Class,
+    after: &Stand,
+    side: Side,
+    passed: bool,
+    turn: u8,
+) -> Option<u32>
+    requires { turn < 16 }
+    ensures { (p : Setup) (before : Stand) → IsStandAfter (turn % 8) (turn / 8 == 1) before after.now →
+        HasStand class (turn / 8 == 1) before side passed p → KeepsPlay (turn % 8) p.men → CodeAfter class p turn result }
+{
+    facts();
+    let _number = class.number();
+    let side = side_after(side, turn / 8 == 1);
+    let high = king_digit(has_pawns(class), after.white)?;
+    let number = number_behind(u32::from(high), after);
+    Some(with_side(class, side, passed, number))
+}
+
 /// The least code of what the turn makes of a settled position with these men of the class, if it has one.
 #[inline(always)]
 fn code_after(class: Class, stand: &Stand, side: Side, passed: bool, turn: u8) -> Option<u32>
     requires { turn < 16 }
     ensures { (p : Setup) → HasStand class (turn / 8 == 1) stand.now side passed p → KeepsPlay (turn % 8) p.men → CodeAfter class p turn result }
 {
-    facts();
-    let _number = class.number();
-    let side = side_after(side, turn / 8 == 1);
-    let after = stand_after(stand, turn);
-    let high = king_digit(has_pawns(class), after.white)?;
-    let number = number_behind(u32::from(high), &after);
-    Some(with_side(class, side, passed, number))
+    code_of(class, &stand_after(stand, turn), side, passed, turn)
 }
 
 /// The lesser of two codes, if there are any.
-fn lesser(least: Option<u32>, code: Option<u32>) -> Option<u32>
+pub(crate) fn lesser(least: Option<u32>, code: Option<u32>) -> Option<u32>
     ensures { result ≡ lesser least code }
 {
     let Some(code) = code else {

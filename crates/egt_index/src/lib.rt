@@ -7,6 +7,7 @@ pub mod facts;
 pub mod frame;
 pub mod home;
 pub mod indexing;
+pub mod lanes;
 pub mod laws;
 pub mod men;
 pub mod sizes;

@@ -7,7 +7,7 @@ ghost use Rattle.egt_board.specs.Turned.{turned_man};
 ghost use Rattle.egt_board.specs.declared.man.Man.{Man};
 ghost use Rattle.egt_board.specs.declared.man.Side.TheVariants.{White, Black};
 ghost use Rattle.egt_class.specs.Membership.{IsOf};
-ghost use Rattle.egt_index.specs.Stood.{Stood, AreLeft, Found, list_of, IsOff, AllApart, entry_after, on_square_of, IsInOrder, AreExchanged, IsStandAfter};
+ghost use Rattle.egt_index.specs.Stood.{Stood, AreLeft, Found, list_of, IsOff, AllApart, entry_after, on_square_of, IsInOrder, IsOrdered, AreExchanged, IsTurned, IsStandAfter};
 
 use crate::facts::facts;
 use crate::men::beside;
@@ -119,27 +119,49 @@ fn is_behind(stand: &Stand) -> bool
     }
 }
 
+/// Where the turn takes the men.
+pub(crate) fn turned(stand: &Stand, turn: u8) -> Stand
+    requires { turn < 16 }
+    ensures { IsTurned (turn % 8) (turn / 8 == 1) stand.now result }
+{
+    Stand {
+        white: turned_square(turn, stand.white),
+        black: turned_square(turn, stand.black),
+        next: entry_after(stand.next, turn),
+        last: entry_after(stand.last, turn),
+    }
+}
+
+/// The men on their squares, of two equal men the one on the lesser square first.
+pub(crate) fn ordered(stand: &Stand) -> Stand
+    ensures white { result.white ≡ stand.now.white }
+    ensures black { result.black ≡ stand.now.black }
+    ensures both { IsOrdered stand.now.next stand.now.last result.next result.last }
+    ensures in_order { IsInOrder result.next result.last }
+{
+    if is_behind(stand) {
+        Stand {
+            white: stand.white,
+            black: stand.black,
+            next: stand.last,
+            last: stand.next,
+        }
+    } else {
+        Stand {
+            white: stand.white,
+            black: stand.black,
+            next: stand.next,
+            last: stand.last,
+        }
+    }
+}
+
 /// Where the turn takes the men, of two equal men the one on the lesser square first.
 pub(crate) fn stand_after(stand: &Stand, turn: u8) -> Stand
     requires { turn < 16 }
     ensures { IsStandAfter (turn % 8) (turn / 8 == 1) stand.now result }
 {
-    let after = Stand {
-        white: turned_square(turn, stand.white),
-        black: turned_square(turn, stand.black),
-        next: entry_after(stand.next, turn),
-        last: entry_after(stand.last, turn),
-    };
-    if is_behind(&after) {
-        Stand {
-            white: after.white,
-            black: after.black,
-            next: after.last,
-            last: after.next,
-        }
-    } else {
-        after
-    }
+    ordered(&turned(stand, turn))
 }
 
 /// The man of the one entry on the square of the other, if there are both.

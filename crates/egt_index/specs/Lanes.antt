@@ -1,0 +1,53 @@
+-- The men of a class where turns take them, as one man goes from square to square.
+use Rattle.std.specs.Prelude.{◌≡◌, ℕ, ◌<◌, ◌/◌, ◌%◌, ◌==◌, Bool, false, if◌then◌else◌, Option, IfSome}
+use Rattle.std.specs.Option.{option_map}
+use Rattle.egt_board.specs.Setup.{Setup}
+use Rattle.egt_board.specs.declared.man.Side.{Side}
+use Rattle.egt_class.specs.Material.{material_of}
+use Rattle.egt_index.specs.Home.{AreHome}
+use Rattle.egt_index.specs.Size.{has_pawns}
+use Rattle.egt_index.specs.Stood.{Entry, HasStand, IsTurned}
+use Rattle.egt_index.specs.declared.lanes.Lane.{Lane}
+use Rattle.egt_index.specs.declared.lanes.Lanes.{Lanes}
+use Rattle.egt_index.specs.declared.stand.Stand.{Stand}
+
+-- the square of a man after the man on `from` went to `to`
+abbrev pub moved_square : (from to s : ℕ) → ℕ
+moved_square from to s = if s == from then to else s
+
+abbrev pub moved_entry : (from to : ℕ) → Entry → Entry
+moved_entry from to entry = option_map (λ e. (e.0, moved_square from to e.1)) entry
+
+-- all men after the man on `from` went to `to`
+pub record IsMovedStand (from to : ℕ) (before after : Stand) : Type 0 where
+  pub white : after.white ≡ moved_square from to before.white
+  pub black : after.black ≡ moved_square from to before.black
+  pub next : after.next ≡ moved_entry from to before.next
+  pub last : after.last ≡ moved_entry from to before.last
+
+-- each man is on the board
+pub record AreOnBoard (stand : Stand) : Type 0 where
+  pub white : stand.white < 64
+  pub black : stand.black < 64
+  pub next : IfSome stand.next (λ e. e.1 < 64)
+  pub last : IfSome stand.last (λ e. e.1 < 64)
+
+-- q is the position after the man on `from` went to `to`
+pub record IsWent (c : ℕ) (flips : Bool) (before after : Stand) (from to : ℕ) (side : Side) (q : Setup) : Type 0 where
+  pub from_in : from < 64
+  pub on_board : AreOnBoard before
+  pub moved : IsMovedStand from to before after
+  pub stand : HasStand c flips after side false q
+
+-- where a turn takes the men
+abbrev pub IsLane : Stand → Lane → Type 0
+IsLane stand lane = IsTurned (lane.turn % 8) (lane.turn / 8 == 1) stand lane.after
+
+abbrev pub turn_of : Option Lane → Option ℕ
+turn_of lane = option_map (λ l. l.turn) lane
+
+-- the turns that bring the white king home, and where they take the men
+pub record AreLanes (c : ℕ) (flips : Bool) (stand : Stand) (lanes : Lanes) : Type 0 where
+  pub home : AreHome (has_pawns (material_of c)) flips stand.white lanes.first.turn (turn_of lanes.second)
+  pub first : IsLane stand lanes.first
+  pub second : IfSome lanes.second (IsLane stand)
