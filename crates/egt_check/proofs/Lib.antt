@@ -6,8 +6,8 @@ pub mod Due
 pub mod Showing
 pub mod Finding
 pub mod Stepping
-pub mod Best
 pub mod FirstRule
 pub mod Judged
 pub mod Shelving
 pub mod Quiet
+pub mod Raising

@@ -1,5 +1,5 @@
 -- A move that does not zero takes one man to a free square, and changes nothing else on the board.
-use Rattle.std.proofs.Common.{◌≡◌, ◌≢◌, ℕ, ◌+◌, ◌/◌, if◌then◌else◌, ◌==◌, ◌&&◌, Bool, true, false, Option, Some, None, refl, ap, ◌∙◌, inl, inr, ◌⊎◌}
+use Rattle.std.proofs.Common.{◌≡◌, ◌≢◌, ℕ, ◌+◌, ◌/◌, if◌then◌else◌, ◌==◌, ◌&&◌, Bool, true, false, Option, Some, None, refl, ap, ◌∙◌, inl, inr, ◌⊎◌, subst}
 use Rattle.std.specs.FinMap as map
 use Rattle.egt_board.specs.declared.man.Side.{Side}
 use Rattle.egt_board.specs.declared.man.Side.TheVariants.{White, Black}
@@ -7,7 +7,7 @@ use Rattle.egt_board.specs.declared.man.Kind.{Kind}
 use Rattle.egt_board.specs.declared.man.Kind.TheVariants.{Q, R, B, N, P, K}
 use Rattle.egt_board.specs.declared.man.Man.{Man}
 use Rattle.egt_board.specs.Man.{other_side}
-use Rattle.egt_board.specs.Placement.{Placement, Stands, IsFree, get-insert_same}
+use Rattle.egt_board.specs.Placement.{Placement, Stands, IsFree, get-insert_same, IsHeld, one_man}
 use Rattle.egt_board.specs.Setup.{Setup, IsAdmissible}
 use Rattle.egt_board.specs.Square.{rank_of}
 use Rattle.egt_board.specs.Pawn.{ahead, last_rank}
@@ -16,9 +16,11 @@ use Rattle.egt_index.specs.Frame.{IsMoved}
 use Rattle.egt_moves.specs.Chess.{Zeroes}
 use Rattle.egt_moves.specs.Exchange.{Captures}
 use Rattle.egt_moves.specs.Going.{Goes, PieceGoes}
-use Rattle.egt_moves.specs.Legal.{Leads, men_left, is_target, is_two_ranks}
+use Rattle.egt_moves.specs.Legal.{Leads, men_left, is_target, is_two_ranks, IsLegal, plain}
 use Rattle.egt_moves.specs.Promotion.{is_pawn, FitsPromotion, arriving}
 use Rattle.egt_moves.specs.declared.chess_move.Move.{Move}
+use Rattle.egt_moves.specs.Targets.{IsLegalTarget}
+use Rattle.egt_check.specs.Steps.{IsQuietTarget}
 
 -- the law on moves that keep the class
 abbrev pub KeepsClass : Type 0
@@ -44,6 +46,36 @@ one_or_other White Black = inr refl
 one_or_other Black White = inr refl
 one_or_other Black Black = inl refl
 
+-- no man but a pawn is promoted
+piece_promo : (p q : Setup) (m : Move) (leads : Leads p m q) → leads.man.kind ≢ P → m.promo ≡ None
+piece_promo p q m leads piece =
+    no_promotion (is_pawn leads.man.kind && (rank_of m.to == last_rank leads.man.side)) m.promo (ap (λ a. a && (rank_of m.to == last_rank leads.man.side)) (no_pawn leads.man.kind piece)) leads.promotion
+
+-- a move to a square is a legal target of it
+pub targeted : (p : Setup) (m : Move) (from : ℕ) → m.from ≡ from → IsLegal p m → IsLegalTarget p from m.to
+targeted p m from is legal = (m.promo, subst (IsLegal p) (λ i. record { from = is i; to = m.to; promo = m.promo }) legal)
+
+-- a piece's move to a square where no enemy stands
+pub quiet_target : (p : Setup) (from t : ℕ) (man : Man) → Stands p.men from man → man.kind ≢ P → ¬ IsHeld p.men t (other_side p.side) → IsLegalTarget p from t → IsQuietTarget p from t
+quiet_target p from t man stands piece free target = record {
+  legal = subst (λ (promo : Option Kind). IsLegal p (record { from = from; to = t; promo = promo })) (promo_none (record { from = from; to = t; promo = target.0 }) refl target.1) target.1;
+  quiet = λ m is to legal. (
+    same_move m is to (promo_none m is legal),
+    λ zeroes. elim zeroes [
+      | inl held ↦ free (subst (λ s. IsHeld p.men s (other_side p.side)) to held)
+      | inr pawn ↦ piece (ap (λ (x : Man). x.kind) (one_man p.men from man pawn.man stands (subst (λ s. Stands p.men s pawn.man) is pawn.stands)) ∙ pawn.pawn)
+    ],
+  );
+}
+  where
+    promo_none : (m : Move) → m.from ≡ from → IsLegal p m → m.promo ≡ None
+    promo_none m is legal =
+        let same = one_man p.men from man legal.1.man stands (subst (λ s. Stands p.men s legal.1.man) is legal.1.stands) in
+        piece_promo p legal.0 m legal.1 (λ pawn. piece (ap (λ (x : Man). x.kind) same ∙ pawn))
+
+    same_move : (m : Move) → m.from ≡ from → m.to ≡ t → m.promo ≡ None → m ≡ plain from t
+    same_move m f e n = λ i. record { from = f i; to = e i; promo = n i }
+
 module _ (keeps : KeepsClass) (c : ℕ) (p q : Setup) (m : Move) (ok : IsAdmissible p) (fine : IsAdmissible q) (leads : Leads p m q) (quiet : ¬ Zeroes p m) where
   piece : leads.man.kind ≢ P
   piece e = quiet (inr (record { man = leads.man; stands = leads.stands; pawn = e }))
@@ -52,7 +84,7 @@ module _ (keeps : KeepsClass) (c : ℕ) (p q : Setup) (m : Move) (ok : IsAdmissi
   no_and b = ap (λ a. a && b) (no_pawn leads.man.kind piece)
 
   no_promo : m.promo ≡ None
-  no_promo = no_promotion (is_pawn leads.man.kind && (rank_of m.to == last_rank leads.man.side)) m.promo (no_and (rank_of m.to == last_rank leads.man.side)) leads.promotion
+  no_promo = piece_promo p q m leads piece
 
   as_piece : Goes p leads.man m.from m.to → PieceGoes p leads.man m.from m.to
   as_piece (inl h) = h

@@ -11,4 +11,5 @@ pub mod Facts
 pub mod Score
 pub mod FirstBad
 pub mod Steps
+pub mod Raised
 pub mod Judged

@@ -1,27 +1,32 @@
 //! The best of a position's steps.
-ghost use Rattle.std.specs.Prelude.{◌≡◌, ◌↔◌, ◌<◌, IsTrue, IfSome, IfNone};
+ghost use Rattle.std.specs.Prelude.{◌≡◌, ◌≢◌, ◌↔◌, ℕ, ◌<◌, IsTrue, IfSome, IfNone};
 ghost use Rattle.std.specs.Option.{option_map};
+ghost use Rattle.egt_board.specs.Placement.{IsHeld};
 ghost use Rattle.egt_board.specs.Settled.{IsSettled};
+ghost use Rattle.egt_board.specs.SquareSet.{Has};
 ghost use Rattle.egt_board.specs.Setup.{Setup};
+ghost use Rattle.egt_board.specs.declared.man.Kind.TheVariants.{P};
 ghost use Rattle.egt_index.specs.Frame.{IsFrame};
 ghost use Rattle.egt_index.specs.Size.{size_of};
 ghost use Rattle.egt_moves.specs.Arena.{NoMove};
 ghost use Rattle.egt_moves.specs.Chess.{chess, Zeroes};
 ghost use Rattle.egt_moves.specs.Legal.{Leads, IsLegal};
+ghost use Rattle.egt_moves.specs.Targets.{IsLegalTarget};
 ghost use Rattle.egt_table.specs.declared.column.Column.{Column};
+ghost use Rattle.egt_check.specs.Raised.{AreRaised};
 ghost use Rattle.egt_check.specs.Score.{number_at, greater, Scores, IsBest};
-ghost use Rattle.egt_check.specs.Steps.{HasTable, IsInClass, shown_by};
+ghost use Rattle.egt_check.specs.Steps.{HasTable, IsInClass, IsQuietTarget, shown_by};
 ghost use Rattle.egt_check.specs.Tables.{table_at, beside, entry_at, HasEntry, HasChildren};
 
 use crate::by_column::ByColumn;
 use crate::facts::facts;
 use crate::library::Library;
 use crate::outcome::{score, shown, zeroing_said};
-use egt_board::Position;
+use egt_board::{Kind, Man, Position, Square, SquareSet};
 use egt_class::laws::moves_lead_into_the_class_or_a_child as quiet_moves_keep_the_class;
 use egt_class::of;
 use egt_index::{Frame, index};
-use egt_moves::{Move, legal_moves, play, zeroing};
+use egt_moves::{Move, legal_targets, play, promotions, zeroing};
 use egt_table::{Column, Table};
 
 /// A table's entries at an index.
@@ -52,57 +57,24 @@ fn entries_of(table: &Table, library: &Library, position: &Position) -> ByColumn
     }
 }
 
-/// The entries of the position after a legal move. A move that does not zero stays in the table's class, and only one man's
-/// square changes.
-fn entries_after(
+/// The scores of a legal move to a position with these entries.
+fn scores(
     table: &Table,
     library: &Library,
-    frame: &Frame,
     position: &Position,
     chess_move: &Move,
+    entries: ByColumn,
     zeroes: bool,
 ) -> ByColumn
     requires legal { IsLegal position.now chess_move.now }
-    requires own { IsInClass table.now.class position.now }
-    requires children { HasChildren (table_at library.now) table.now.class }
-    requires frame { IsFrame position.now frame.now }
-    requires class { frame.now.class ≡ table.now.class }
+    requires entries { (column : Column) (q : Setup) → Leads position.now chess_move.now q →
+        HasEntry (beside (table_at library.now) table.now) column q (number_at entries column) }
     requires zeroes { IsTrue zeroes ↔ Zeroes position.now chess_move.now }
-    ensures { (column : Column) (q : Setup) → Leads position.now chess_move.now q →
-        HasEntry (beside (table_at library.now) table.now) column q (number_at result column) }
-{
-    facts();
-    quiet_moves_keep_the_class();
-    let _side = position.side();
-    let _class = table.class();
-    if zeroes {
-        let next = play(position, *chess_move).unwrap();
-        entries_of(table, library, &next)
-    } else {
-        entries_at(table, frame.index_after(chess_move.from, chess_move.to))
-    }
-}
-
-/// The scores of a legal move.
-fn scores_after(
-    table: &Table,
-    library: &Library,
-    frame: &Frame,
-    position: &Position,
-    chess_move: &Move,
-) -> ByColumn
-    requires legal { IsLegal position.now chess_move.now }
-    requires own { IsInClass table.now.class position.now }
-    requires children { HasChildren (table_at library.now) table.now.class }
-    requires frame { IsFrame position.now frame.now }
-    requires class { frame.now.class ≡ table.now.class }
     ensures { (column : Column) (q : Setup) (leads : Leads position.now chess_move.now q) →
         Scores (shown_by library.now table.now) column position.now q (chess_move.now, leads) (number_at result column) }
 {
     facts();
     let _side = position.side();
-    let zeroes = zeroing(position, *chess_move);
-    let entries = entries_after(table, library, frame, position, chess_move, zeroes);
     let mate = shown(entries.mate);
     let zeroing_entry = shown(entries.zeroing);
     let said = zeroing_said(mate, zeroing_entry, zeroes);
@@ -126,6 +98,170 @@ fn raised(best: Option<ByColumn>, scores: ByColumn) -> ByColumn
     }
 }
 
+/// The best score so far, and of a legal move.
+fn best_after(
+    table: &Table,
+    library: &Library,
+    position: &Position,
+    chess_move: &Move,
+    best: Option<ByColumn>,
+) -> Option<ByColumn>
+    requires legal { IsLegal position.now chess_move.now }
+    requires own { IsInClass table.now.class position.now }
+    requires children { HasChildren (table_at library.now) table.now.class }
+    ensures { AreRaised (shown_by library.now table.now) position.now (λ m. m ≡ chess_move.now) best result }
+{
+    facts();
+    let _side = position.side();
+    let _class = table.class();
+    let next = play(position, *chess_move).unwrap();
+    let entries = entries_of(table, library, &next);
+    let zeroes = zeroing(position, *chess_move);
+    let scores = scores(table, library, position, chess_move, entries, zeroes);
+    Some(raised(best, scores))
+}
+
+/// The best score so far, and of a legal move that does not zero: it stays in the table's class, and only one man's square changes.
+#[inline(always)]
+fn best_after_quiet(
+    table: &Table,
+    library: &Library,
+    frame: &Frame,
+    position: &Position,
+    chess_move: &Move,
+    best: Option<ByColumn>,
+) -> Option<ByColumn>
+    requires legal { IsLegal position.now chess_move.now }
+    requires quiet { ¬ Zeroes position.now chess_move.now }
+    requires own { IsInClass table.now.class position.now }
+    requires frame { IsFrame position.now frame.now }
+    requires class { frame.now.class ≡ table.now.class }
+    ensures { AreRaised (shown_by library.now table.now) position.now (λ m. m ≡ chess_move.now) best result }
+{
+    facts();
+    quiet_moves_keep_the_class();
+    let _side = position.side();
+    let _class = table.class();
+    let entries = entries_at(table, frame.index_after(chess_move.from, chess_move.to));
+    let scores = scores(table, library, position, chess_move, entries, false);
+    Some(raised(best, scores))
+}
+
+/// The best score so far, and of the legal moves from the one square to the other.
+fn best_between(
+    table: &Table,
+    library: &Library,
+    position: &Position,
+    from: Square,
+    to: Square,
+    best: Option<ByColumn>,
+) -> Option<ByColumn>
+    requires target { IsLegalTarget position.now from to }
+    requires own { IsInClass table.now.class position.now }
+    requires children { HasChildren (table_at library.now) table.now.class }
+    ensures { AreRaised (shown_by library.now table.now) position.now (λ m. (m.from ≡ from) × (m.to ≡ to)) best result }
+{
+    let mut best = best;
+    for promo in promotions(position, from, to) {
+        let chess_move = Move {
+            from,
+            to,
+            promo: *promo,
+        };
+        best = best_after(table, library, position, &chess_move, best);
+    }
+    best
+}
+
+/// The best score so far, and of the legal moves from the square to these.
+fn best_to_each(
+    table: &Table,
+    library: &Library,
+    position: &Position,
+    from: Square,
+    targets: SquareSet,
+    best: Option<ByColumn>,
+) -> Option<ByColumn>
+    requires targets { (t : ℕ) → Has targets t → IsLegalTarget position.now from t }
+    requires own { IsInClass table.now.class position.now }
+    requires children { HasChildren (table_at library.now) table.now.class }
+    ensures { AreRaised (shown_by library.now table.now) position.now (λ m. (m.from ≡ from) × Has targets m.to) best result }
+{
+    let mut best = best;
+    let mut rest = targets;
+    while let Some(to) = rest.pop_first() {
+        best = best_between(table, library, position, from, to, best);
+    }
+    best
+}
+
+/// The best score so far, and of the moves from the square to these, which are legal and do not zero.
+fn best_to_each_quiet(
+    table: &Table,
+    library: &Library,
+    frame: &Frame,
+    position: &Position,
+    from: Square,
+    targets: SquareSet,
+    best: Option<ByColumn>,
+) -> Option<ByColumn>
+    requires targets { (t : ℕ) → Has targets t → IsQuietTarget position.now from t }
+    requires own { IsInClass table.now.class position.now }
+    requires frame { IsFrame position.now frame.now }
+    requires class { frame.now.class ≡ table.now.class }
+    ensures { AreRaised (shown_by library.now table.now) position.now (λ m. (m.from ≡ from) × Has targets m.to) best result }
+{
+    let mut best = best;
+    let mut rest = targets;
+    while let Some(to) = rest.pop_first() {
+        let chess_move = Move {
+            from,
+            to,
+            promo: None,
+        };
+        best = best_after_quiet(table, library, frame, position, &chess_move, best);
+    }
+    best
+}
+
+/// Whether the man is no pawn.
+fn is_piece(man: Man) -> bool
+    ensures { IsTrue result → man.kind ≢ P }
+{
+    match man.kind {
+        Kind::P => false,
+        _ => true,
+    }
+}
+
+/// The best score so far, and of the legal moves of the man on the square.
+fn best_of_man(
+    table: &Table,
+    library: &Library,
+    frame: &Frame,
+    position: &Position,
+    from: Square,
+    best: Option<ByColumn>,
+) -> Option<ByColumn>
+    requires held { IsHeld position.now.men from position.now.side }
+    requires own { IsInClass table.now.class position.now }
+    requires children { HasChildren (table_at library.now) table.now.class }
+    requires frame { IsFrame position.now frame.now }
+    requires class { frame.now.class ≡ table.now.class }
+    ensures { AreRaised (shown_by library.now table.now) position.now (λ m. m.from ≡ from) best result }
+{
+    let targets = legal_targets(position, from);
+    let man = position.at(from).unwrap();
+    if is_piece(man) {
+        let enemy = position.of(position.side().other());
+        let quiet = targets.without(enemy);
+        let best = best_to_each_quiet(table, library, frame, position, from, quiet, best);
+        best_to_each(table, library, position, from, targets.common(enemy), best)
+    } else {
+        best_to_each(table, library, position, from, targets, best)
+    }
+}
+
 /// In each column the best score of a legal move, if there is a move.
 pub(crate) fn best(table: &Table, library: &Library, position: &Position) -> Option<ByColumn>
     requires own { IsInClass table.now.class position.now }
@@ -135,12 +271,11 @@ pub(crate) fn best(table: &Table, library: &Library, position: &Position) -> Opt
         (λ best. (column : Column) → IsBest (shown_by library.now table.now) column position.now (number_at best column)) }
     ensures none { IfNone result (NoMove chess position.now) }
 {
-    let mut best = None;
     let frame = Frame::of(table.class(), position);
-    let moves = legal_moves(position);
-    for chess_move in moves.as_slice() {
-        let scores = scores_after(table, library, &frame, position, chess_move);
-        best = Some(raised(best, scores));
+    let mut best = None;
+    let mut rest = position.of(position.side());
+    while let Some(from) = rest.pop_first() {
+        best = best_of_man(table, library, &frame, position, from, best);
     }
     best
 }

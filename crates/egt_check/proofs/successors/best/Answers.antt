@@ -1,34 +1,33 @@
-use Rattle.std.proofs.Common.{◌+◌, refl, sym, subst}
-use Rattle.std.specs.Option.{option_map}
-use Rattle.egt_check.specs.Score.{number_at}
+use Rattle.std.proofs.Common.{◌≡◌, None, sym, subst}
+use Rattle.egt_board.specs.Placement.{IsHeld}
+use Rattle.egt_board.specs.declared.man.Side.{Side}
 use Rattle.egt_check.specs.Steps.{shown_by}
-use Rattle.egt_check.proofs.Best.{BestBelow, listed_is_legal, best_more, best_found, none_found}
+use Rattle.egt_check.proofs.Raising.{gone_none, gone_more, gone_all, still_there, best_found, none_found}
 use Rattle.egt_check.proofs.successors.best.Goals as goal
 
-pub loop-chess_move-init : goal.loop-chess_move-init
-loop-chess_move-init c = λ column. refl
+pub loop-from-init : goal.loop-from-init
+loop-from-init c = (
+  gone_none (shown_by c.args.library.now c.args.table.now) c.args.position.now (λ m. m.from) (λ m. Unit {0}) c.of-rest.result None
+      (λ m legal base. (c.of-rest.ensures.held m.from).1 (subst (λ (side : Side). IsHeld c.args.position.now.men m.from side) (sym c.side.ensures.side) (record { man = legal.1.man; stands = legal.1.stands; theirs = legal.1.mine }))),
+  λ t has. subst (λ (side : Side). IsHeld c.args.position.now.men t side) c.side.ensures.side ((c.of-rest.ensures.held t).0 has),
+)
 
-pub scores_after-scores-requires-clause-legal : goal.scores_after-scores-requires-clause-legal
-scores_after-scores-requires-clause-legal c = listed_is_legal c.args.position.now c.as_slice-chess_move-items.result.now c.legal_moves-moves.result.items c.loop-chess_move.chess_move-index c.chess_move-item.result c.loop-chess_move-test.true c.chess_move-item.is c.as_slice-chess_move-items.ensures.value c.legal_moves-moves.ensures.legal
+pub best_of_man-best-requires-clause-held : goal.best_of_man-best-requires-clause-held
+best_of_man-best-requires-clause-held c = c.loop-from.invariant.1 c.in-Some.from c.in-Some.ensures.had
 
-pub loop-chess_move-preserved : goal.loop-chess_move-preserved
-loop-chess_move-preserved c =
-    let p = c.args.position.now in
-    let moves = c.as_slice-chess_move-items.result.now in
-    let n = c.loop-chess_move.chess_move-index in
-    let m = c.chess_move-item.result in
-    let shows = shown_by c.args.library.now c.args.table.now in
-    let legal = listed_is_legal p moves c.legal_moves-moves.result.items n m c.loop-chess_move-test.true c.chess_move-item.is c.as_slice-chess_move-items.ensures.value c.legal_moves-moves.ensures.legal in
-    λ column.
-    subst (BestBelow shows column p moves (n + 1)) (sym (c.raised.ensures column))
-    (best_more shows column p moves n m (number_at c.scores_after-scores.result column) (option_map (λ numbers. number_at numbers column) c.loop-chess_move.best) c.loop-chess_move-test.true c.chess_move-item.is legal (c.scores_after-scores.ensures column) (c.loop-chess_move.invariant column))
+pub loop-from-preserved : goal.loop-from-preserved
+loop-from-preserved c = (
+  gone_more (shown_by c.args.library.now c.args.table.now) c.args.position.now (λ m. m.from) (λ m. Unit {0}) c.loop-from.rest c.pop_first.new.self c.in-Some.from
+      (λ m. m.from ≡ c.in-Some.from) None c.loop-from.best c.best_of_man-best.result c.in-Some.ensures.others c.loop-from.invariant.0 c.best_of_man-best.ensures (λ m legal base here. here),
+  λ t has. c.loop-from.invariant.1 t (still_there c.loop-from.rest c.pop_first.new.self c.in-Some.from c.in-Some.ensures.gone c.in-Some.ensures.others t has),
+)
 
-pub returns : goal.returns
-returns c =
-    let shows = shown_by c.args.library.now c.args.table.now in
-    let moves = c.as_slice-chess_move-items.result.now in
-    let listed = c.legal_moves-moves.result.items in
-    record {
-      some = best_found shows c.args.position.now moves listed c.loop-chess_move.chess_move-index c.loop-chess_move-test.false c.as_slice-chess_move-items.ensures.value c.legal_moves-moves.ensures.legal c.loop-chess_move.best c.loop-chess_move.invariant;
-      none = none_found shows c.args.position.now moves listed c.loop-chess_move.chess_move-index c.loop-chess_move-test.false c.as_slice-chess_move-items.ensures.value c.legal_moves-moves.ensures.legal c.loop-chess_move.best c.loop-chess_move.invariant;
-    }
+pub returns-clause-some : goal.returns-clause-some
+returns-clause-some c =
+    best_found (shown_by c.args.library.now c.args.table.now) c.args.position.now (λ m. Unit {0}) (λ m legal. tt) c.loop-from.best
+    (gone_all (shown_by c.args.library.now c.args.table.now) c.args.position.now (λ m. m.from) (λ m. Unit {0}) c.loop-from.rest None c.loop-from.best c.in_default.ensures.empty c.loop-from.invariant.0)
+
+pub returns-clause-none : goal.returns-clause-none
+returns-clause-none c =
+    none_found (shown_by c.args.library.now c.args.table.now) c.args.position.now (λ m. Unit {0}) (λ m legal. tt) c.loop-from.best
+    (gone_all (shown_by c.args.library.now c.args.table.now) c.args.position.now (λ m. m.from) (λ m. Unit {0}) c.loop-from.rest None c.loop-from.best c.in_default.ensures.empty c.loop-from.invariant.0)

@@ -1,0 +1,183 @@
+-- The best score grows move by move.
+use Rattle.std.proofs.Common.{◌≡◌, ◌≢◌, ℕ, ◌+◌, ◌<◌, ◌≤◌, ◌⊎◌, max, List, get_or, length, Option, Some, None, IfSome, refl, sym, ap, subst, ◌∙◌, inl, inr, arith}
+use Rattle.std.specs.Option.{IfNone}
+use Rattle.std.specs.Int.{bit_at}
+use Rattle.std.specs.List.{Contains}
+use Rattle.std.proofs.lemmas.Bool.{cases_eq, cases_lt}
+use Rattle.std.proofs.lemmas.List.{get_or_default}
+use Rattle.egt_board.specs.SquareSet.{Has}
+use Rattle.egt_board.specs.declared.man.Kind.{Kind}
+use Rattle.egt_board.specs.declared.square_set.SquareSet.{SquareSet}
+use Rattle.egt_board.specs.Setup.{Setup}
+use Rattle.egt_moves.specs.Arena.{NoMove}
+use Rattle.egt_moves.specs.Chess.{chess}
+use Rattle.egt_moves.specs.Legal.{Leads, IsLegal}
+use Rattle.egt_moves.specs.declared.chess_move.Move.{Move}
+use Rattle.egt_table.specs.declared.column.Column.{Column}
+use Rattle.egt_table.specs.declared.column.Column.TheVariants.{Mate}
+use Rattle.egt_check.specs.declared.by_column.ByColumn.{ByColumn}
+use Rattle.egt_check.specs.Fits.{Shown}
+use Rattle.egt_check.specs.Raised.{AtMost, IsReached, IsRaised, column_of, AreRaised}
+use Rattle.egt_check.specs.Score.{number_at, greater, Scores, IsBest}
+
+more : (low high : ℕ) (best : Option ℕ) → low ≤ high → AtMost high best → AtMost low best
+more low high None le h = absurd h
+more low high (Some best) le h = omega (arith, le, h)
+
+-- a best that holds for the one holds for the other
+carried : (score : ℕ) (mid new : Option ℕ) → ((s : ℕ) → mid ≡ Some s → AtMost s new) → AtMost score mid → AtMost score new
+carried score None new kept h = absurd h
+carried score (Some s) new kept h = more score s new h (kept s refl)
+
+at_itself : (score : ℕ) (o : Option ℕ) → o ≡ Some score → AtMost score o
+at_itself score o is = subst (AtMost score) (sym is) (omega arith)
+
+module _ (shows : Shown) (column : Column) (p : Setup) where
+  -- nothing is raised by no moves
+  pub raised_by_none : (Among : Move → Type 0) (old : Option ℕ) → ((m : Move) → IsLegal p m → ¬ Among m) → IsRaised shows column p Among old old
+  raised_by_none Among old never = record {
+    kept = λ score is. at_itself score old is;
+    from = inl refl;
+    passed = λ q m leads among. absurd (never m (q, leads) among);
+  }
+
+  -- one move
+  pub raised_by_one : (only : Move) (old : Option ℕ) (score : ℕ) → IsLegal p only → ((q : Setup) (leads : Leads p only q) → Scores shows column p q (only, leads) score)
+      → IsRaised shows column p (λ m. m ≡ only) old (Some (greater old score))
+  raised_by_one only None score legal scores = record {
+    kept = λ s is. let none = is in cc;
+    from = inr (record { score = score; is = refl; next = legal.0; step = (only, legal.1); reached = scores legal.0 legal.1 });
+    passed = λ q m leads same. (score, subst (λ m. (leads : Leads p m q) → Scores shows column p q (m, leads) score) (sym same) (scores q) leads, omega arith);
+  }
+  raised_by_one only (Some best) score legal scores = record {
+    kept = λ s is. let same = one_some is in omega arith;
+    from = elim (cases_lt best score) [
+      | inl less ↦ let is : max best score ≡ score = omega arith in inr (record { score = score; is = ap Some is; next = legal.0; step = (only, legal.1); reached = scores legal.0 legal.1 })
+      | inr ge ↦ let is : max best score ≡ best = omega arith in inl (ap Some is)
+    ];
+    passed = λ q m leads same. (score, subst (λ m. (leads : Leads p m q) → Scores shows column p q (m, leads) score) (sym same) (scores q) leads, omega arith);
+  }
+    where
+      one_some : {a b : ℕ} → Some a ≡ Some b → a ≡ b
+      one_some e = cc
+
+  -- some moves, and then others
+  pub raised_by_both : (A B Among : Move → Type 0) (old mid new : Option ℕ) → IsRaised shows column p A old mid → IsRaised shows column p B mid new
+      → ((m : Move) → IsLegal p m → Among m → A m ⊎ B m) → IsRaised shows column p Among old new
+  raised_by_both A B Among old mid new first then covers = record {
+    kept = λ score is. carried score mid new then.kept (first.kept score is);
+    from = elim then.from [
+      | inr reached ↦ inr reached
+      | inl same ↦ elim first.from [
+        | inl unchanged ↦ inl (same ∙ unchanged)
+        | inr reached ↦ inr (subst (IsReached shows column p) (sym same) reached)
+      ]
+    ];
+    passed = λ q m leads among. elim (covers m (q, leads) among) [
+      | inl a ↦ let seen = first.passed q m leads a in (seen.0, seen.1, carried seen.0 mid new then.kept seen.2)
+      | inr b ↦ then.passed q m leads b
+    ];
+  }
+
+  -- the same moves in other words
+  pub raised_alike : (A Among : Move → Type 0) (old new : Option ℕ) → IsRaised shows column p A old new → ((m : Move) → IsLegal p m → Among m → A m) → IsRaised shows column p Among old new
+  raised_alike A Among old new raised covers = record {
+    kept = raised.kept;
+    from = raised.from;
+    passed = λ q m leads among. raised.passed q m leads (covers m (q, leads) among);
+  }
+
+  -- once all moves are among them
+  pub best_raised : (Among : Move → Type 0) (best : ℕ) → IsRaised shows column p Among None (Some best) → ((m : Move) → IsLegal p m → Among m) → IsBest shows column p best
+  best_raised Among best raised all = elim raised.from [
+    | inl none ↦ absurd (cc none)
+    | inr h ↦ record {
+      next = h.next;
+      step = h.step;
+      reached = let same : h.score ≡ best = one_some (sym h.is) in subst (Scores shows column p h.next h.step) same h.reached;
+      passed = λ q step. raised.passed q step.0 step.1 (all step.0 (q, step.1));
+    }
+  ]
+    where
+      one_some : {a b : ℕ} → Some a ≡ Some b → a ≡ b
+      one_some e = cc
+
+  pub none_raised : (Among : Move → Type 0) → IsRaised shows column p Among None None → ((m : Move) → IsLegal p m → Among m) → NoMove chess p
+  none_raised Among raised all q step = let seen = raised.passed q step.0 step.1 (all step.0 (q, step.1)) in seen.2
+
+module _ (shows : Shown) (p : Setup) (Among : Move → Type 0) (all : (m : Move) → IsLegal p m → Among m) where
+  pub best_found : (best : Option ByColumn) → ((column : Column) → IsRaised shows column p Among None (column_of column best)) → IfSome best (λ found. (column : Column) → IsBest shows column p (number_at found column))
+  best_found (Some found) raised = λ column. best_raised shows column p Among (number_at found column) (raised column) all
+  best_found None raised = tt
+
+  pub none_found : (best : Option ByColumn) → ((column : Column) → IsRaised shows column p Among None (column_of column best)) → IfNone best (NoMove chess p)
+  none_found (Some found) raised = tt
+  none_found None raised = none_raised shows Mate p Among (raised Mate) all
+
+-- a square that is still left was left before
+pub still_there : (rest left : SquareSet) (s : ℕ) → bit_at left.bits s ≡ 0 → ((t : ℕ) → t ≢ s → bit_at left.bits t ≡ bit_at rest.bits t) → (t : ℕ) → Has left t → Has rest t
+still_there rest left s gone others t has = elim (cases_eq t s) [
+  | inl same ↦ absurd (let none = ap (bit_at left.bits) same ∙ gone in omega (arith, has, none))
+  | inr other ↦ sym (others t other) ∙ has
+]
+
+-- a column's best after a move with these scores
+pub raised_is : (shows : Shown) (column : Column) (p : Setup) (m : Move) (old : Option ByColumn) (scores result : ByColumn) → number_at result column ≡ greater (column_of column old) (number_at scores column) → IsLegal p m
+    → ((q : Setup) (leads : Leads p m q) → Scores shows column p q (m, leads) (number_at scores column)) → IsRaised shows column p (λ x. x ≡ m) (column_of column old) (column_of column (Some result))
+raised_is shows column p m old scores result is legal scored =
+    subst (IsRaised shows column p (λ x. x ≡ m) (column_of column old)) (ap Some (sym is)) (raised_by_one shows column p m (column_of column old) (number_at scores column) legal scored)
+
+-- moves whose squares are no longer left in a set
+module _ (shows : Shown) (p : Setup) (place : Move → ℕ) (Base : Move → Type 0) where
+  abbrev pub Gone : SquareSet → Move → Type 0
+  Gone rest m = Base m × (bit_at rest.bits (place m) ≡ 0)
+
+  pub gone_none : (rest : SquareSet) (old : Option ByColumn) → ((m : Move) → IsLegal p m → Base m → Has rest (place m)) → AreRaised shows p (Gone rest) old old
+  gone_none rest old there = λ column. raised_by_none shows column p (Gone rest) (column_of column old) (λ m legal gone. let has = there m legal gone.0 in omega (arith, has, gone.1))
+
+  pub gone_more : (rest left : SquareSet) (s : ℕ) (B : Move → Type 0) (old mid new : Option ByColumn) → ((t : ℕ) → t ≢ s → bit_at left.bits t ≡ bit_at rest.bits t)
+      → AreRaised shows p (Gone rest) old mid → AreRaised shows p B mid new → ((m : Move) → IsLegal p m → Base m → place m ≡ s → B m) → AreRaised shows p (Gone left) old new
+  gone_more rest left s B old mid new others first then covers = λ column.
+      raised_by_both shows column p (Gone rest) B (Gone left) (column_of column old) (column_of column mid) (column_of column new) (first column) (then column)
+      (λ m legal gone. elim (cases_eq (place m) s) [
+        | inl here ↦ inr (covers m legal gone.0 here)
+        | inr other ↦ inl (gone.0, sym (others (place m) other) ∙ gone.1)
+      ])
+
+  pub gone_all : (rest : SquareSet) (old new : Option ByColumn) → ((t : ℕ) → bit_at rest.bits t ≡ 0) → AreRaised shows p (Gone rest) old new → AreRaised shows p Base old new
+  gone_all rest old new empty raised = λ column.
+      raised_alike shows column p (Gone rest) Base (column_of column old) (column_of column new) (raised column) (λ m legal base. (base, empty (place m)))
+
+-- moves whose promotions are among the first of a list
+module _ (shows : Shown) (p : Setup) (from to : ℕ) (promos : List (Option Kind)) where
+  abbrev pub Tried : ℕ → Move → Type 0
+  Tried n m = (m.from ≡ from) × (m.to ≡ to) × ((k : ℕ) × (k < n) × (get_or promos k m.promo ≡ m.promo))
+
+  pub tried_none : (old : Option ByColumn) → AreRaised shows p (Tried 0) old old
+  tried_none old = λ column. raised_by_none shows column p (Tried 0) (column_of column old) (λ m legal tried. let lt = tried.2.1 in omega (arith, lt))
+
+  pub tried_more : (n : ℕ) (promo : Option Kind) (old mid new : Option ByColumn) → n < length promos → promo ≡ get_or promos n promo → AreRaised shows p (Tried n) old mid
+      → AreRaised shows p (λ m. m ≡ record { from = from; to = to; promo = promo }) mid new → AreRaised shows p (Tried (n + 1)) old new
+  tried_more n promo old mid new inside here first then = λ column.
+      raised_by_both shows column p (Tried n) (λ m. m ≡ record { from = from; to = to; promo = promo }) (Tried (n + 1)) (column_of column old) (column_of column mid) (column_of column new) (first column) (then column)
+      (λ m legal tried. let lt = tried.2.1 in elim (cases_lt tried.2.0 n) [
+        | inl below ↦ inl (tried.0, tried.1, (tried.2.0, below, tried.2.2))
+        | inr ge ↦
+            let last : tried.2.0 ≡ n = omega (arith, lt, ge) in
+            let same : promo ≡ m.promo = here ∙ get_or_default promos n promo m.promo inside ∙ subst (λ j. get_or promos j m.promo ≡ m.promo) last tried.2.2 in
+            inr (same_move m tried.0 tried.1 same)
+      ])
+    where
+      same_move : (m : Move) → m.from ≡ from → m.to ≡ to → promo ≡ m.promo → m ≡ record { from = from; to = to; promo = promo }
+      same_move m f t e = λ i. record { from = f i; to = t i; promo = sym e i }
+
+  pub tried_all : (n : ℕ) (old new : Option ByColumn) → length promos ≤ n → ((promo : Option Kind) → IsLegal p (record { from = from; to = to; promo = promo }) → Contains promos promo)
+      → AreRaised shows p (Tried n) old new → AreRaised shows p (λ m. (m.from ≡ from) × (m.to ≡ to)) old new
+  tried_all n old new all listed raised = λ column.
+      raised_alike shows column p (Tried n) (λ m. (m.from ≡ from) × (m.to ≡ to)) (column_of column old) (column_of column new) (raised column) (λ m legal at.
+      let there = listed m.promo (subst (IsLegal p) (λ i. record { from = at.0 i; to = at.1 i; promo = m.promo }) legal) in
+      (at.0, at.1, (there.0, omega (arith, there.1, all), there.2)))
+
+  -- each of the list is
+  pub listed_there : (n : ℕ) (promo : Option Kind) → n < length promos → promo ≡ get_or promos n None → Contains promos promo
+  listed_there n promo inside is = (n, inside, get_or_default promos n promo None inside ∙ sym is)
