@@ -241,7 +241,7 @@ module _ (laws : Laws) where
       (has.0, edge.move, has.1, has.2, told_leads column c j p edge.to edge.move (played p edge.move) ok ((laws.played p edge.to edge.move).0 edge.leads) edge.leads edge.on edge.index)
 
   -- an index that a position has spells a position
-  spelled_there : (c j : ℕ) (q : Setup) → c < 36 → IsAdmissible q → IsIndex c q j → is_some (position_at c j) ≡ true
+  pub spelled_there : (c j : ℕ) (q : Setup) → c < 36 → IsAdmissible q → IsIndex c q j → is_some (position_at c j) ≡ true
   spelled_there c j q below ok is = ⊎_elim
       (λ (h : (p : Setup) × Spells c j p × IsIndex c p j). there_is c j h.0 (record { spells = h.1; index = h.2 }))
       (λ (void : IsVoid c j). absurd (void q ok is)) (laws.index_or_void c j below)

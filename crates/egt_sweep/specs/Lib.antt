@@ -3,3 +3,5 @@ pub mod Nodes
 pub mod Edges
 pub mod ClassGame
 pub mod Plies
+pub mod MateColumn
+pub mod Aiming
