@@ -12,3 +12,5 @@ pub mod Stepping
 pub mod OwnColumn
 pub mod Shown
 pub mod ZeroRanks
+pub mod TrueChildren
+pub mod BuiltTables

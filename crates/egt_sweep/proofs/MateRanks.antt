@@ -1,16 +1,17 @@
 -- The ranks of the game of mates are the values of the positions.
-use Rattle.std.proofs.Common.{◌≡◌, ◌≢◌, ℕ, zero, suc, ◌<◌, ◌≤◌, ◌↔◌, ◌||◌, Bool, true, false, sym, ap, ◌∙◌, arith}
+use Rattle.std.proofs.Common.{◌≡◌, ◌≢◌, ℕ, zero, suc, ◌<◌, ◌≤◌, ◌↔◌, ◌||◌, Bool, true, false, sym, ap, ◌∙◌, inl, inr, arith}
 use Rattle.std.proofs.Math.Logic.{⊎_elim}
-use Rattle.std.proofs.lemmas.Bool.{false≢true, ltb-true, lt-ltb}
+use Rattle.std.proofs.lemmas.Bool.{false≢true, ltb-true, lt-ltb, cases_lt}
 use Rattle.egt_board.specs.Setup.{Setup, IsAdmissible}
 use Rattle.egt_index.specs.Index.{IsIndex}
 use Rattle.egt_moves.specs.Arena.{Value, Win, Loss, Draw, HasValue, IsMatedWithin, MatesWithin, AvoidsMateFor, CannotMateWithin}
 use Rattle.egt_moves.specs.Chess.{chess}
-use Rattle.egt_graph.specs.Value.{is_lost_before, is_won_before, mated_within, mates_within, IsWithin, HasRank, SomeAbove}
+use Rattle.egt_graph.specs.Value.{is_lost_before, is_won_before, mated_within, mates_within, HasRank, SomeAbove}
 use Rattle.egt_graph.specs.declared.game.Exit.{Exit}
 use Rattle.egt_table.specs.declared.column.Column.TheVariants.{Mate}
 use Rattle.egt_check.specs.Tables.{Tables}
 use Rattle.egt_check.specs.Truth.{HasTrueChildren}
+use Rattle.egt_sweep.specs.Built.{IsAboveLimit, SomeAboveLimit}
 use Rattle.egt_sweep.specs.ClassGame.{class_game}
 use Rattle.egt_sweep.specs.Edges.{IsAt}
 use Rattle.egt_sweep.specs.Laws.{Laws}
@@ -86,16 +87,15 @@ module _ (laws : Laws) (plies : Plies) (tables : Tables) (c : ℕ) (below : c < 
   neither true b e = absurd (false≢true (sym e))
   neither false b e = (λ t. false≢true t, λ t. false≢true (sym e ∙ t))
 
-  -- a node of a rank above the limit has a position of a value above it
-  pub above_limit : (limit : ℕ) → SomeAbove (class_game tables Mate c) limit →
-      (p : Setup) × (i : ℕ) × (v : Value) × IsAdmissible p × IsIndex c p i × HasValue chess p v × ¬ IsWithin limit (exit_of Mate v)
+  -- a node of a rank above the limit has a position of a mate distance above it
+  pub above_limit : (limit : ℕ) → SomeAbove (class_game tables Mate c) limit → SomeAboveLimit c limit
   above_limit limit (i, node, some, none) = ⊎_elim
       (λ (mates : mates_within (class_game tables Mate c) some.0 i ≡ true).
       let least = plies.least_win some.0 p ((agrees some.0 i p ok is).1.0 mates) in
-      (p, i, Win least.0, ok, is, least.1, λ le. not.0 ((agrees limit i p ok is).1.1 (reached_win least.0 le least.1))))
+      found (Win least.0) least.1 (elim (cases_lt limit least.0) [ inl lt ↦ lt | inr le ↦ absurd (not.0 ((agrees limit i p ok is).1.1 (reached_win least.0 le least.1))) ]))
       (λ (mated : mated_within (class_game tables Mate c) some.0 i ≡ true).
       let least = plies.least_loss some.0 p ((agrees some.0 i p ok is).0.0 mated) in
-      (p, i, Loss least.0, ok, is, least.1, λ le. not.1 ((agrees limit i p ok is).0.1 (reached_loss least.0 le least.1))))
+      found (Loss least.0) least.1 (elim (cases_lt limit least.0) [ inl lt ↦ lt | inr le ↦ absurd (not.1 ((agrees limit i p ok is).0.1 (reached_loss least.0 le least.1))) ]))
       (either (mates_within (class_game tables Mate c) some.0 i) (mated_within (class_game tables Mate c) some.0 i) some.1)
     where
       at : (q : Setup) × IsAt c i q
@@ -109,6 +109,9 @@ module _ (laws : Laws) (plies : Plies) (tables : Tables) (c : ℕ) (below : c < 
 
       is : IsIndex c p i
       is = at.1.index
+
+      found : (v : Value) → HasValue chess p v → IsAboveLimit limit v → SomeAboveLimit c limit
+      found v has above = let own = laws.indexed_class p c i ok is in record { position = p; admissible = ok; flipped = own.0; of = own.1; value = v; has_value = has; above = above }
 
       not : (mates_within (class_game tables Mate c) limit i ≢ true) × (mated_within (class_game tables Mate c) limit i ≢ true)
       not = neither (mates_within (class_game tables Mate c) limit i) (mated_within (class_game tables Mate c) limit i) none

@@ -11,12 +11,13 @@ use Rattle.egt_moves.specs.Chess.{chess, Zeroes}
 use Rattle.egt_moves.specs.DecidedMoves.{decided_zeroes}
 use Rattle.egt_moves.specs.Entries.{Fits, JudgedOver}
 use Rattle.egt_moves.specs.Zeroing.{HasZeroing, ZeroesLosingWithin, ZeroesWinningWithin}
-use Rattle.egt_graph.specs.Value.{is_lost_before, is_won_before, mated_within, mates_within, decided_within, IsWithin, HasRank}
+use Rattle.egt_graph.specs.Value.{is_lost_before, is_won_before, mated_within, mates_within, decided_within, HasRank}
 use Rattle.egt_graph.specs.declared.game.Exit.{Exit}
 use Rattle.egt_table.specs.declared.column.Column.TheVariants.{Mate, Zeroing}
 use Rattle.egt_table.specs.Table.{TableValue}
 use Rattle.egt_check.specs.Tables.{Tables}
 use Rattle.egt_check.specs.Truth.{HasTrueChildren}
+use Rattle.egt_sweep.specs.Built.{IsWithinLimit}
 use Rattle.egt_sweep.specs.ClassGame.{class_game}
 use Rattle.egt_sweep.specs.Edges.{GoesOn}
 use Rattle.egt_sweep.specs.Laws.{Laws}
@@ -181,17 +182,17 @@ module _ (laws : Laws) (plies : Plies) (tables : Tables) (c : ℕ) (below : c < 
   loss_within (suc k) limit p h le = plies.losing_in_time limit p (plies.more_mated (suc k) limit p le h.0)
 
   -- a node that is won or lost is so within the mate distance of its positions
-  pub rank_in_time : (n limit i : ℕ) (p : Setup) (v : Value) → IsAdmissible p → IsIndex c p i → HasValue chess p v → IsWithin limit (exit_of Mate v) →
+  pub rank_in_time : (n limit i : ℕ) (p : Setup) (v : Value) → IsAdmissible p → IsIndex c p i → HasValue chess p v → IsWithinLimit limit v →
       decided_within (class_game tables Zeroing c) n i ≡ true → decided_within (class_game tables Zeroing c) limit i ≡ true
   rank_in_time n limit i p v ok is has within t = ⊎_elim
       (λ (mates : mates_within (class_game tables Zeroing c) n i ≡ true).
       let won = winning_is_won n p ((agrees n i p ok is).1.0 mates) in
       let least = plies.least_win won.0 p won.1 in
-      let le = subst (λ w. IsWithin limit (exit_of Mate w)) (plies.one p v (Win least.0) has least.1) within in
+      let le = subst (IsWithinLimit limit) (plies.one p v (Win least.0) has least.1) within in
       or_left (mates_within (class_game tables Zeroing c) limit i) (mated_within (class_game tables Zeroing c) limit i) ((agrees limit i p ok is).1.1 (win_within least.0 limit p least.1 le)))
       (λ (mated : mated_within (class_game tables Zeroing c) n i ≡ true).
       let lost = losing_is_lost n i p ok is ((agrees n i p ok is).0.0 mated) in
       let least = plies.least_loss lost.0 p lost.1 in
-      let le = subst (λ w. IsWithin limit (exit_of Mate w)) (plies.one p v (Loss least.0) has least.1) within in
+      let le = subst (IsWithinLimit limit) (plies.one p v (Loss least.0) has least.1) within in
       or_right (mates_within (class_game tables Zeroing c) limit i) (mated_within (class_game tables Zeroing c) limit i) ((agrees limit i p ok is).0.1 (loss_within least.0 limit p least.1 le)))
       (either (mates_within (class_game tables Zeroing c) n i) (mated_within (class_game tables Zeroing c) n i) t)

@@ -5,3 +5,5 @@ pub mod ClassGame
 pub mod Plies
 pub mod MateColumn
 pub mod Aiming
+pub mod Built
+pub mod Fault

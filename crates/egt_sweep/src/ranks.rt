@@ -5,11 +5,12 @@ ghost use Rattle.egt_index.specs.Index.{IsIndex};
 ghost use Rattle.egt_moves.specs.Arena.{Value, HasValue};
 ghost use Rattle.egt_moves.specs.Chess.{chess};
 ghost use Rattle.egt_moves.specs.Zeroing.{HasZeroing};
-ghost use Rattle.egt_graph.specs.Value.{decided_within, HasRank, IsWithin, SomeAbove};
+ghost use Rattle.egt_graph.specs.Value.{decided_within, HasRank, SomeAbove};
 ghost use Rattle.egt_table.specs.declared.column.Column.TheVariants.{Mate, Zeroing};
 ghost use Rattle.egt_table.specs.Table.{TableValue};
 ghost use Rattle.egt_check.specs.Tables.{Tables, beside};
 ghost use Rattle.egt_check.specs.Truth.{HasTrueChildren};
+ghost use Rattle.egt_sweep.specs.Built.{IsWithinLimit, SomeAboveLimit};
 ghost use Rattle.egt_sweep.specs.ClassGame.{class_game};
 ghost use Rattle.egt_sweep.specs.MateColumn.{ShowsValues};
 ghost use Rattle.egt_sweep.specs.Nodes.{exit_of};
@@ -38,7 +39,7 @@ pub fn mate_ranks_are_values()
     ensures values { (tables : Tables) (c i : ℕ) (p : Setup) (v : Value) → c < 36 → HasTrueChildren tables c →
         IsAdmissible p → IsIndex c p i → HasRank (class_game tables Mate c) i (exit_of Mate v) → HasValue chess p v }
     ensures above { (tables : Tables) (c limit : ℕ) → c < 36 → HasTrueChildren tables c → SomeAbove (class_game tables Mate c) limit →
-        (p : Setup) × (i : ℕ) × (v : Value) × IsAdmissible p × IsIndex c p i × HasValue chess p v × ¬ IsWithin limit (exit_of Mate v) }
+        SomeAboveLimit c limit }
 {
     laws();
     plies();
@@ -50,7 +51,7 @@ pub fn zeroing_ranks_are_distances()
     ensures distances { (tables : Tables) (t : TableValue) (i : ℕ) (p : Setup) (v : Value) → t.class < 36 → HasTrueChildren tables t.class → ShowsValues t →
         IsAdmissible p → IsIndex t.class p i → HasRank (class_game (beside tables t) Zeroing t.class) i (exit_of Mate v) → HasZeroing chess p v }
     ensures in_time { (tables : Tables) (t : TableValue) (n limit i : ℕ) (p : Setup) (v : Value) → t.class < 36 → HasTrueChildren tables t.class → ShowsValues t →
-        IsAdmissible p → IsIndex t.class p i → HasValue chess p v → IsWithin limit (exit_of Mate v) →
+        IsAdmissible p → IsIndex t.class p i → HasValue chess p v → IsWithinLimit limit v →
         IsTrue (decided_within (class_game (beside tables t) Zeroing t.class) n i) → IsTrue (decided_within (class_game (beside tables t) Zeroing t.class) limit i) }
 {
     laws();
