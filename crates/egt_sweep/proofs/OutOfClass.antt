@@ -3,7 +3,7 @@ use Rattle.std.proofs.Common.{◌≡◌, ◌≢◌, ℕ, zero, suc, ◌+◌, ◌
 use Rattle.std.proofs.Math.Logic.{⊎_elim}
 use Rattle.std.proofs.lemmas.Bool.{cases_eq, eqb-true, eq-eqb}
 use Rattle.std.proofs.lemmas.Grind.{flat_map-append}
-use Rattle.std.proofs.lemmas.List.{take_more, take_all, append-nil}
+use Rattle.std.proofs.lemmas.List.{take_more, append-nil}
 use Rattle.std.proofs.lemmas.List.Concat.{flat_map-cons}
 use Rattle.std.specs.List.{flat_map, Contains}
 use Rattle.std.specs.Option.{is_some, option_to_list, option_map}
@@ -133,9 +133,6 @@ one_more f xs n x es fs inside here so_far is =
     let last : flat_map f (x ∷ []) ≡ f x = flat_map-cons f x [] ∙ append-nil (f x) in
     let taken : take (n + 1) xs ≡ take n xs ++ x ∷ [] = take_more xs n x inside ∙ ap (λ y. take n xs ++ y ∷ []) (sym here) in
     is ∙ ap (λ ys. ys ++ f x) so_far ∙ ap (λ ys. flat_map f (take n xs) ++ ys) (sym last) ∙ sym (flat_map-append f (take n xs) (x ∷ [])) ∙ ap (flat_map f) (sym taken)
-
-pub all_taken : {X : Type 0} (f : X → List Exit) (xs ys : List X) (n : ℕ) (es : List Exit) → length xs ≤ n → xs ≡ ys → es ≡ flat_map f (take n xs) → es ≡ flat_map f ys
-all_taken f xs ys n es all same is = is ∙ ap (flat_map f) (take_all n xs all ∙ same)
 
 pub mapped_some : {A B : Type 0} (f : A → B) (o : Option A) (x : Option B) → option_map f o ≡ x → IsSome x → IsSome o
 mapped_some f None x e some = subst IsSome (sym e) some

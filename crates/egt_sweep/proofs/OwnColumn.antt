@@ -1,25 +1,19 @@
 -- Mate entries that are known of a class before its table is made.
-use Rattle.std.proofs.Common.{◌≡◌, ◌≢◌, ℕ, zero, suc, ◌<◌, ◌≤◌, not, Bool, true, List, length, slice_index, Option, Some, None, IsSome, IfSome, sym, ap, ◌∙◌, subst, arith}
+use Rattle.std.proofs.Common.{◌≡◌, ℕ, ◌<◌, Bool, List, length, slice_index, Option, Some, None, IsSome, IfSome, sym, ap, ◌∙◌, subst, arith}
 use Rattle.std.proofs.lemmas.Bool.{false≢true}
-use Rattle.std.specs.Option.{is_some}
 use Rattle.egt_board.specs.Setup.{Setup, IsAdmissible}
 use Rattle.egt_class.specs.Membership.{IsOf}
 use Rattle.egt_index.specs.Index.{IsIndex}
 use Rattle.egt_index.specs.Size.{size_of}
 use Rattle.egt_moves.specs.Arena.{Value}
-use Rattle.egt_graph.specs.Graph.{IsNode}
-use Rattle.egt_graph.specs.Value.{HasRank, IsWithin, entry_of}
-use Rattle.egt_graph.specs.declared.game.Exit.{Exit}
-use Rattle.egt_graph.specs.declared.game.Exit.TheVariants as exits
 use Rattle.egt_table.specs.declared.column.Column.TheVariants.{Mate}
 use Rattle.egt_table.specs.Table.{TableValue}
 use Rattle.egt_check.specs.Entry.{Shows}
 use Rattle.egt_check.specs.Reading.{in_range, read}
 use Rattle.egt_check.specs.Tables.{Tables, entry_at}
-use Rattle.egt_sweep.specs.ClassGame.{class_game}
 use Rattle.egt_sweep.specs.Laws.{Laws}
-use Rattle.egt_sweep.specs.MateColumn.{IsIndexed, IsMateColumn, AreMateRanks}
-use Rattle.egt_sweep.specs.Nodes.{position_at, shown_below}
+use Rattle.egt_sweep.specs.MateColumn.{IsIndexed, IsMateColumn}
+use Rattle.egt_sweep.specs.Nodes.{shown_below}
 use Rattle.egt_sweep.proofs.Linked.{spelled_there}
 use Rattle.egt_sweep.proofs.OutOfClass.{shown_is}
 
@@ -42,19 +36,3 @@ module _ (laws : Laws) where
       (o : Option TableValue) → o ≡ tables d → IsSome o → IfSome o (λ t. x ≡ entry_at t Mate i) → shown_below tables 36 q ≡ read x
   shown_known tables d i x q flipped below ok of index None e some is = absurd (false≢true some)
   shown_known tables d i x q flipped below ok of index (Some t) e some is = shown_is laws tables d i t q flipped below ok of (sym e) index 36 below (omega arith) ∙ ap read (sym is)
-
-some_node : (c i : ℕ) (tables : Tables) → i < size_of c → is_some (position_at c i) ≡ true → IsNode (class_game tables Mate c) i
-some_node c i tables lt some = record { in_range = lt; not_void = ap not some }
-
-entry_in_range : (tables : Tables) (c i x limit : ℕ) (v : Exit) → limit ≤ 32000 → HasRank (class_game tables Mate c) i v → IsWithin limit v → x ≡ entry_of v → (x ≢ 0) × (x ≢ 2) × (x ≤ 64003)
-entry_in_range tables c i x limit (exits.Win zero) short rank within e = absurd (false≢true rank.0)
-entry_in_range tables c i x limit (exits.Win (suc n)) short rank within e = (λ f. omega (arith, e, f), λ f. omega (arith, e, f), omega (arith, e, within, short))
-entry_in_range tables c i x limit (exits.Loss n) short rank within e = (λ f. omega (arith, e, f), λ f. omega (arith, e, f), omega (arith, e, within, short))
-entry_in_range tables c i x limit exits.Draw short rank within e = (λ f. omega (arith, e, f), λ f. omega (arith, e, f), omega (arith, e))
-
--- the ranks of the game of mates are such a column
-pub ranks_are_mate_column : (tables : Tables) (c : ℕ) (entries : List ℕ) → AreMateRanks tables c entries → IsMateColumn c entries
-ranks_are_mate_column tables c entries are = (
-  are.2.all,
-  λ i lt some. let rank = are.2.ranks i (some_node c i tables lt some) in entry_in_range tables c i (slice_index entries i) are.0 rank.0 are.1 rank.1 rank.2 rank.3,
-)
