@@ -31,7 +31,7 @@ fn children_are_true(class: Class, library: &Library)
 }
 
 /// The ranks of the class's game of mates.
-fn mate_ranks(
+pub(crate) fn mate_ranks(
     alloc: Global,
     class: Class,
     library: &Library,
