@@ -1,3 +1,5 @@
 mod builds;
 mod games;
+mod orders;
+mod refused;
 mod shelf;
