@@ -6,4 +6,11 @@ pub mod Standing
 pub mod Backward
 pub mod OutOfClass
 pub mod Members
+pub mod Agreeing
 pub mod MateRanks
+pub mod Stepping
+pub mod OwnColumn
+pub mod Shown
+pub mod ZeroRanks
+pub mod TrueChildren
+pub mod BuiltTables

@@ -163,11 +163,6 @@ module _ (laws : Laws) where
   pub there_is : (c i : ℕ) (p : Setup) → IsAt c i p → is_some (position_at c i) ≡ true
   there_is c i p at = ap is_some ((position_is c i p).1 at)
 
-  none_void : (c i : ℕ) → c < 36 → is_some (position_at c i) ≡ false → IsVoid c i
-  none_void c i below none = ⊎_elim
-      (λ (h : (p : Setup) × Spells c i p × IsIndex c p i). absurd (false≢true (sym none ∙ there_is c i h.0 (record { spells = h.1; index = h.2 }))))
-      (λ (void : IsVoid c i). void) (laws.index_or_void c i below)
-
   some_told : (o : Option Setup) → is_some o ≡ true → (p : Setup) × (o ≡ Some p)
   some_told None t = absurd (false≢true t)
   some_told (Some p) t = (p, refl)
@@ -181,9 +176,6 @@ module _ (laws : Laws) where
       not_not : (b : Bool) → not b ≡ false → b ≡ true
       not_not true t = refl
       not_not false t = absurd (false≢true (sym t))
-
-  pub one_at : (c i : ℕ) (p q : Setup) → IsAt c i p → IsAt c i q → p ≡ q
-  one_at c i p q here there = laws.one_spelled c i p q here.spells there.spells
 
   -- ---- moves that go on
 
@@ -241,7 +233,7 @@ module _ (laws : Laws) where
       (has.0, edge.move, has.1, has.2, told_leads column c j p edge.to edge.move (played p edge.move) ok ((laws.played p edge.to edge.move).0 edge.leads) edge.leads edge.on edge.index)
 
   -- an index that a position has spells a position
-  spelled_there : (c j : ℕ) (q : Setup) → c < 36 → IsAdmissible q → IsIndex c q j → is_some (position_at c j) ≡ true
+  pub spelled_there : (c j : ℕ) (q : Setup) → c < 36 → IsAdmissible q → IsIndex c q j → is_some (position_at c j) ≡ true
   spelled_there c j q below ok is = ⊎_elim
       (λ (h : (p : Setup) × Spells c j p × IsIndex c p j). there_is c j h.0 (record { spells = h.1; index = h.2 }))
       (λ (void : IsVoid c j). absurd (void q ok is)) (laws.index_or_void c j below)

@@ -1,12 +1,12 @@
 -- What is told of where the moves that leave a class lead.
-use Rattle.std.proofs.Common.{◌≡◌, ◌≢◌, ℕ, zero, suc, ◌+◌, ◌-◌, ◌/◌, ◌%◌, ◌<◌, ◌≤◌, Bool, true, false, List, [], ◌∷◌, ◌++◌, if◌then◌else◌, Option, Some, None, IsSome, length, get_or, take, refl, sym, ap, ◌∙◌, subst, inl, inr, arith}
+use Rattle.std.proofs.Common.{◌≡◌, ◌≢◌, ℕ, zero, suc, ◌+◌, ◌-◌, ◌/◌, ◌%◌, ◌<◌, ◌≤◌, Bool, true, false, List, [], ◌∷◌, ◌++◌, if◌then◌else◌, Option, Some, None, IsSome, eqb, length, get_or, take, refl, sym, ap, ◌∙◌, subst, inl, inr, arith}
 use Rattle.std.proofs.Math.Logic.{⊎_elim}
-use Rattle.std.proofs.lemmas.Bool.{cases_eq}
+use Rattle.std.proofs.lemmas.Bool.{cases_eq, eqb-true, eq-eqb}
 use Rattle.std.proofs.lemmas.Grind.{flat_map-append}
-use Rattle.std.proofs.lemmas.List.{take_more, take_all, append-nil}
+use Rattle.std.proofs.lemmas.List.{take_more, append-nil}
 use Rattle.std.proofs.lemmas.List.Concat.{flat_map-cons}
 use Rattle.std.specs.List.{flat_map, Contains}
-use Rattle.std.specs.Option.{option_to_list, option_map}
+use Rattle.std.specs.Option.{is_some, option_to_list, option_map}
 use Rattle.egt_board.specs.Setup.{Setup, IsAdmissible}
 use Rattle.egt_class.specs.Children.{children_of}
 use Rattle.egt_class.specs.Membership.{IsOf}
@@ -17,14 +17,19 @@ use Rattle.egt_moves.specs.Moves.{played}
 use Rattle.egt_moves.specs.declared.chess_move.Move.{Move}
 use Rattle.egt_graph.specs.declared.game.Exit.{Exit}
 use Rattle.egt_graph.specs.declared.game.Exit.TheVariants as exits
+use Rattle.egt_table.specs.declared.column.Column.{Column}
 use Rattle.egt_table.specs.declared.column.Column.TheVariants.{Mate}
 use Rattle.egt_table.specs.Table.{TableValue}
 use Rattle.egt_check.specs.Entry.{Shows}
 use Rattle.egt_check.specs.Reading.{read, read_shown}
-use Rattle.egt_check.specs.Tables.{Tables, entry_at, HasChildren}
+use Rattle.egt_check.specs.Tables.{Tables, entry_at, beside, HasChildren}
+use Rattle.egt_sweep.specs.Aiming.{column_of, known}
 use Rattle.egt_sweep.specs.Edges.{GoesOn}
+use Rattle.egt_sweep.specs.MateColumn.{mate_table}
+use Rattle.egt_sweep.specs.declared.aim.Aim.{Aim}
+use Rattle.egt_sweep.specs.declared.aim.Aim.TheVariants as aims
 use Rattle.egt_sweep.specs.Laws.{Laws}
-use Rattle.egt_sweep.specs.Nodes.{index_in, exit_of, exit_by, shown_in, shown_below, or_else, goes_on}
+use Rattle.egt_sweep.specs.Nodes.{index_in, plies_told, exit_of, exit_by, shown_in, shown_below, or_else, goes_on}
 use Rattle.egt_sweep.proofs.Linked.{index_is, goes_is}
 
 -- the exit of the value that an entry shows
@@ -43,14 +48,14 @@ loss_shown x (Win n) s ne odd = absurd (odd (omega (arith, s.1)))
 loss_shown x (Loss n) s ne odd = ap Loss (omega (arith, s.1))
 loss_shown x Draw s ne odd = absurd (ne s.1)
 
-pub exit_draw : (x : ℕ) (v : Value) → Shows x v → x ≡ 1 → exits.Draw ≡ exit_of Mate (read x)
-exit_draw x v s e = sym (ap (exit_of Mate) (read_shown x v s ∙ draw_shown x v s e))
+pub exit_draw : (column : Column) (x : ℕ) (v : Value) → Shows x v → x ≡ 1 → exits.Draw ≡ exit_of column (read x)
+exit_draw column x v s e = sym (ap (exit_of column) (read_shown x v s ∙ draw_shown x v s e))
 
-pub exit_win : (x : ℕ) (v : Value) → Shows x v → x % 2 ≡ 0 → exits.Win ((x - 2) / 2) ≡ exit_of Mate (read x)
-exit_win x v s e = sym (ap (exit_of Mate) (read_shown x v s ∙ win_shown x v s e))
+pub exit_win : (column : Column) (x n : ℕ) (v : Value) → Shows x v → x % 2 ≡ 0 → n ≡ plies_told column ((x - 2) / 2) → exits.Win n ≡ exit_of column (read x)
+exit_win column x n v s e told = ap exits.Win told ∙ sym (ap (exit_of column) (read_shown x v s ∙ win_shown x v s e))
 
-pub exit_loss : (x : ℕ) (v : Value) → Shows x v → x ≢ 1 → x % 2 ≢ 0 → exits.Loss ((x - 3) / 2) ≡ exit_of Mate (read x)
-exit_loss x v s ne odd = sym (ap (exit_of Mate) (read_shown x v s ∙ loss_shown x v s ne odd))
+pub exit_loss : (column : Column) (x n : ℕ) (v : Value) → Shows x v → x ≢ 1 → x % 2 ≢ 0 → n ≡ plies_told column ((x - 3) / 2) → exits.Loss n ≡ exit_of column (read x)
+exit_loss column x n v s ne odd told = ap exits.Loss told ∙ sym (ap (exit_of column) (read_shown x v s ∙ loss_shown x v s ne odd))
 
 -- an entry that shows something is 1 or at least 3
 pub shown_least : (x : ℕ) (v : Value) → Shows x v → x ≢ 1 → 3 ≤ x
@@ -88,38 +93,38 @@ module _ (laws : Laws) (tables : Tables) where
         ∙ shown_is c i t q flipped c_in ok of found is n (omega (arith, lt, other)) (omega (arith, le))
   ]
 
-  exit_by_test : Setup → Bool → Option Exit
-  exit_by_test q true = None
-  exit_by_test q false = Some (exit_of Mate (shown_below tables 36 q))
+  exit_by_test : Column → Setup → Bool → Option Exit
+  exit_by_test column q true = None
+  exit_by_test column q false = Some (exit_of column (shown_below tables 36 q))
 
-  test_exit : (c : ℕ) (p q : Setup) (m : Move) (b : Bool) → goes_on Mate c p m q ≡ b → exit_by tables Mate c p m (Some q) ≡ exit_by_test q b
+  test_exit : (column : Column) (c : ℕ) (p q : Setup) (m : Move) (b : Bool) → goes_on column c p m q ≡ b → exit_by tables column c p m (Some q) ≡ exit_by_test column q b
   unfolding exit_by_test
-  test_exit c p q m true e = ap (λ x. if x then None else Some (exit_of Mate (shown_below tables 36 q))) e
-  test_exit c p q m false e = ap (λ x. if x then None else Some (exit_of Mate (shown_below tables 36 q))) e
+  test_exit column c p q m true e = ap (λ x. if x then None else Some (exit_of column (shown_below tables 36 q))) e
+  test_exit column c p q m false e = ap (λ x. if x then None else Some (exit_of column (shown_below tables 36 q))) e
 
   played_is : (p q : Setup) (m : Move) → Leads p m q → played p m ≡ Some q
   played_is p q m leads = (laws.played p q m).0 leads
 
   -- a move that goes on has no exit
-  pub goes_no_exit : (c : ℕ) (p q : Setup) (m : Move) → IsAdmissible p → Leads p m q → GoesOn Mate c p m q → (es : List Exit) →
-      es ≡ es ++ option_to_list (exit_by tables Mate c p m (played p m))
+  pub goes_no_exit : (column : Column) (c : ℕ) (p q : Setup) (m : Move) → IsAdmissible p → Leads p m q → GoesOn column c p m q → (es : List Exit) →
+      es ≡ es ++ option_to_list (exit_by tables column c p m (played p m))
   unfolding exit_by_test
-  goes_no_exit c p q m ok leads on es =
+  goes_no_exit column c p q m ok leads on es =
       let q_ok = laws.facts.step_admissible p q m ok leads in
-      let none = ap (exit_by tables Mate c p m) (played_is p q m leads) ∙ test_exit c p q m true ((goes_is laws Mate c p q m q_ok).1 on) in
+      let none = ap (exit_by tables column c p m) (played_is p q m leads) ∙ test_exit column c p q m true ((goes_is laws column c p q m q_ok).1 on) in
       sym (ap (λ (o : Option Exit). es ++ option_to_list o) none ∙ append-nil es)
 
-  goes_false : (c : ℕ) (p q : Setup) (m : Move) → IsAdmissible q → ¬ GoesOn Mate c p m q → (b : Bool) → goes_on Mate c p m q ≡ b → b ≡ false
-  goes_false c p q m ok off true e = absurd (off ((goes_is laws Mate c p q m ok).0 e))
-  goes_false c p q m ok off false e = refl
+  goes_false : (column : Column) (c : ℕ) (p q : Setup) (m : Move) → IsAdmissible q → ¬ GoesOn column c p m q → (b : Bool) → goes_on column c p m q ≡ b → b ≡ false
+  goes_false column c p q m ok off true e = absurd (off ((goes_is laws column c p q m ok).0 e))
+  goes_false column c p q m ok off false e = refl
 
   -- and any other has one
-  pub off_has_exit : (c : ℕ) (p q : Setup) (m : Move) (e : Exit) → IsAdmissible p → Leads p m q → ¬ GoesOn Mate c p m q → e ≡ exit_of Mate (shown_below tables 36 q) → (es : List Exit) →
-      es ++ e ∷ [] ≡ es ++ option_to_list (exit_by tables Mate c p m (played p m))
+  pub off_has_exit : (column : Column) (c : ℕ) (p q : Setup) (m : Move) (e : Exit) → IsAdmissible p → Leads p m q → ¬ GoesOn column c p m q → e ≡ exit_of column (shown_below tables 36 q) → (es : List Exit) →
+      es ++ e ∷ [] ≡ es ++ option_to_list (exit_by tables column c p m (played p m))
   unfolding exit_by_test
-  off_has_exit c p q m e ok leads off is es =
+  off_has_exit column c p q m e ok leads off is es =
       let q_ok = laws.facts.step_admissible p q m ok leads in
-      let some = ap (exit_by tables Mate c p m) (played_is p q m leads) ∙ test_exit c p q m false (goes_false c p q m q_ok off (goes_on Mate c p m q) refl) in
+      let some = ap (exit_by tables column c p m) (played_is p q m leads) ∙ test_exit column c p q m false (goes_false column c p q m q_ok off (goes_on column c p m q) refl) in
       ap (λ (x : Exit). es ++ x ∷ []) is ∙ sym (ap (λ (o : Option Exit). es ++ option_to_list o) some)
 
 -- one move more of a list
@@ -128,9 +133,6 @@ one_more f xs n x es fs inside here so_far is =
     let last : flat_map f (x ∷ []) ≡ f x = flat_map-cons f x [] ∙ append-nil (f x) in
     let taken : take (n + 1) xs ≡ take n xs ++ x ∷ [] = take_more xs n x inside ∙ ap (λ y. take n xs ++ y ∷ []) (sym here) in
     is ∙ ap (λ ys. ys ++ f x) so_far ∙ ap (λ ys. flat_map f (take n xs) ++ ys) (sym last) ∙ sym (flat_map-append f (take n xs) (x ∷ [])) ∙ ap (flat_map f) (sym taken)
-
-pub all_taken : {X : Type 0} (f : X → List Exit) (xs ys : List X) (n : ℕ) (es : List Exit) → length xs ≤ n → xs ≡ ys → es ≡ flat_map f (take n xs) → es ≡ flat_map f ys
-all_taken f xs ys n es all same is = is ∙ ap (flat_map f) (take_all n xs all ∙ same)
 
 pub mapped_some : {A B : Type 0} (f : A → B) (o : Option A) (x : Option B) → option_map f o ≡ x → IsSome x → IsSome o
 mapped_some f None x e some = subst IsSome (sym e) some
@@ -152,3 +154,33 @@ child_there laws tables c p q m c_in ok of children leads off d flipped d_in d_o
   where
     q_ok : IsAdmissible q
     q_ok = laws.facts.step_admissible p q m ok leads
+
+beside_some : (t : TableValue) (o : Option TableValue) (b : Bool) → IsSome o → IsSome (if b then Some t else o)
+beside_some t o true some = refl
+beside_some t o false some = some
+
+-- the table of its own class
+pub beside_own : (tables : Tables) (t : TableValue) → beside tables t t.class ≡ Some t
+beside_own tables t = ap (λ (b : Bool). if b then Some t else tables t.class) (eq-eqb t.class t.class refl)
+
+test_false : (m n : ℕ) → m ≢ n → (b : Bool) → eqb m n ≡ b → b ≡ false
+test_false m n other true e = absurd (other (eqb-true m n e))
+test_false m n other false e = refl
+
+-- those of other classes
+pub beside_other : (tables : Tables) (t : TableValue) (d : ℕ) → d ≢ t.class → beside tables t d ≡ tables d
+beside_other tables t d other = ap (λ (b : Bool). if b then Some t else tables d) (test_false d t.class other (eqb d t.class) refl)
+
+-- where a move leaves the game, it leads to where something is known
+pub known_there : (laws : Laws) (tables : Tables) (aim : Aim) (c : ℕ) (p q : Setup) (m : Move) → c < 36 → IsAdmissible p → (flipped : Bool) × IsOf c flipped p → HasChildren tables c → Leads p m q → ¬ GoesOn (column_of aim) c p m q →
+    (d : ℕ) (flipped : Bool) → d < 36 → IsOf d flipped q → IsSome (known tables c aim d)
+known_there laws tables aims.Mate c p q m c_in ok of children leads off d flipped d_in d_of = child_there laws tables c p q m c_in ok of children leads off d flipped d_in d_of
+known_there laws tables (aims.Zeroing ranks) c p q m c_in ok of children leads off d flipped d_in d_of = ⊎_elim
+    (λ (own : IsOf c of.0 q).
+    let same = laws.facts.one_class q c d of.0 flipped c_in d_in own d_of in
+    subst (λ e. IsSome (beside tables (mate_table c ranks.now) e)) same (ap is_some (beside_own tables (mate_table c ranks.now))))
+    (λ (child : (e : ℕ) × (turned : Bool) × Contains (children_of c) e × IsOf e turned q).
+    let below = laws.facts.child_below c child.0 c_in child.2 in
+    let same = laws.facts.one_class q child.0 d child.1 flipped (omega (arith, below, c_in)) d_in child.3 d_of in
+    beside_some (mate_table c ranks.now) (tables d) (eqb d c) (subst (λ e. IsSome (tables e)) same (children child.0 child.2)))
+    (laws.facts.step_class p q m c of.0 c_in ok of.1 leads)

@@ -3,3 +3,7 @@ pub mod Nodes
 pub mod Edges
 pub mod ClassGame
 pub mod Plies
+pub mod MateColumn
+pub mod Aiming
+pub mod Built
+pub mod Fault

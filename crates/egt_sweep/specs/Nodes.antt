@@ -92,14 +92,16 @@ connects_from column c j (Some p) = list_any (λ m. leads_on column c j p m (pla
 unfoldable pub connects : Column → ℕ → ℕ → ℕ → Bool
 connects column c i j = is_some (position_at c j) && connects_from column c j (position_at c i)
 
+-- the plies that are told of a value outside the game: in the game of zeroing moves the move itself has zeroed
+abbrev pub plies_told : Column → ℕ → ℕ
+plies_told Mate n = n
+plies_told Zeroing n = 0
+
 -- the value as it is told outside the game
 abbrev pub exit_of : Column → Value → Exit
-exit_of Mate (Win n) = exits.Win n
-exit_of Mate (Loss n) = exits.Loss n
-exit_of Mate Draw = exits.Draw
-exit_of Zeroing (Win n) = exits.Win 0
-exit_of Zeroing (Loss n) = exits.Loss 0
-exit_of Zeroing Draw = exits.Draw
+exit_of column (Win n) = exits.Win (plies_told column n)
+exit_of column (Loss n) = exits.Loss (plies_told column n)
+exit_of column Draw = exits.Draw
 
 -- what the tables of the classes below n show of the position
 abbrev pub shown_in : Option TableValue → Option ℕ → Option Value

@@ -1,5 +1,5 @@
-//! The moves that leave a class, and the values of where they lead.
-ghost use Rattle.std.specs.Prelude.{◌≡◌, ◌+◌, ◌++◌, ◌≤◌, ◌<◌, ℕ, Bool, Some, IsSome, IsFalse, not};
+//! The moves that leave a game, and the values of where they lead.
+ghost use Rattle.std.specs.Prelude.{◌≡◌, ◌+◌, ◌++◌, ◌≤◌, ◌<◌, ℕ, Bool, Some, IsSome, IfSome, IsFalse, not};
 ghost use Rattle.std.specs.Option.{is_some, option_to_list};
 ghost use Rattle.arrayvec.specs.ArrayVec.{array_vec_len};
 ghost use Rattle.egt_class.specs.Membership.{IsOf};
@@ -9,9 +9,12 @@ ghost use Rattle.egt_moves.specs.Moves.{played};
 ghost use Rattle.egt_table.specs.declared.column.Column.TheVariants.{Mate};
 ghost use Rattle.egt_check.specs.Entry.{Shows};
 ghost use Rattle.egt_check.specs.Reading.{read};
-ghost use Rattle.egt_check.specs.Tables.{table_at, HasChildren};
-ghost use Rattle.egt_sweep.specs.Nodes.{exit_of, shown_below, exit_by, exits_from};
+ghost use Rattle.egt_check.specs.Tables.{table_at, entry_at, HasChildren};
+ghost use Rattle.egt_sweep.specs.Aiming.{column_of, known, KnowsOwn};
+ghost use Rattle.egt_sweep.specs.MateColumn.{IsIndexed};
+ghost use Rattle.egt_sweep.specs.Nodes.{plies_told, exit_of, shown_below, exit_by, exits_from};
 
+use crate::aim::Aim;
 use crate::edges::goes_on;
 use crate::laws::laws;
 use arrayvec::ArrayVec;
@@ -23,67 +26,120 @@ use egt_index::index;
 use egt_moves::{Move, legal_moves, play};
 use egt_table::Column;
 
-/// The value that an entry shows, as an exit.
-fn exit_shown(entry: u16) -> Exit
+/// The plies of an exit: in the game of zeroing moves none are left.
+fn plies_told(column: Column, plies: u16) -> u16
+    ensures { result ≡ plies_told column plies }
+{
+    match column {
+        Column::Mate => plies,
+        Column::Zeroing => 0,
+    }
+}
+
+/// The value that a mate entry shows, as an exit.
+fn exit_shown(column: Column, entry: u16) -> Exit
     requires { (v : Value) × Shows entry v }
-    ensures { result ≡ exit_of Mate (read entry) }
+    ensures { result ≡ exit_of column (read entry) }
 {
     if entry == 1 {
         Exit::Draw
     } else if entry % 2 == 0 {
-        Exit::Win((entry - 2) / 2)
+        Exit::Win(plies_told(column, (entry - 2) / 2))
     } else {
-        Exit::Loss((entry - 3) / 2)
+        Exit::Loss(plies_told(column, (entry - 3) / 2))
+    }
+}
+
+/// The mate entry at the index of a position in the table of its class.
+fn table_entry(library: &Library, class: Class, index: u32) -> u16
+    requires there { IsSome (table_at library.now class) }
+    requires indexed { IsIndexed class index }
+    ensures shows { (v : Value) × Shows result v }
+    ensures is { IfSome (table_at library.now class) (λ t. result ≡ entry_at t Mate index) }
+{
+    laws();
+    let table = library.get(class).unwrap();
+    table.entry(Column::Mate, index)
+}
+
+/// The mate entry at the index of a position in a class, whose own ranks are read where they are known.
+fn mate_entry(aim: &Aim<'_>, own: Class, library: &Library, class: Class, index: u32) -> u16
+    requires knows { KnowsOwn own aim.now }
+    requires there { IsSome (known (table_at library.now) own aim.now class) }
+    requires indexed { IsIndexed class index }
+    ensures shows { (v : Value) × Shows result v }
+    ensures is { IfSome (known (table_at library.now) own aim.now class) (λ t. result ≡ entry_at t Mate index) }
+{
+    laws();
+    match aim {
+        Aim::Mate => table_entry(library, class, index),
+        Aim::Zeroing(ranks) => {
+            if class == own {
+                let _number = class.number();
+                ranks.entries()[index as usize]
+            } else {
+                table_entry(library, class, index)
+            }
+        }
     }
 }
 
 /// The value of a position whose class has its table.
-fn exit_at(library: &Library, next: &Position) -> Exit
-    requires { (c : ℕ) (flipped : Bool) → c < 36 → IsOf c flipped next.now → IsSome (table_at library.now c) }
-    ensures { result ≡ exit_of Mate (shown_below (table_at library.now) 36 next.now) }
+fn exit_at(aim: &Aim<'_>, own: Class, library: &Library, next: &Position) -> Exit
+    requires knows { KnowsOwn own aim.now }
+    requires there { (c : ℕ) (flipped : Bool) → c < 36 → IsOf c flipped next.now → IsSome (known (table_at library.now) own aim.now c) }
+    ensures { result ≡ exit_of (column_of aim.now) (shown_below (known (table_at library.now) own aim.now) 36 next.now) }
 {
     laws();
     let (class, _flipped) = of(next);
     let _side = next.side();
     let _number = class.number();
-    let table = library.get(class).unwrap();
-    exit_shown(table.entry(Column::Mate, index(class, next)))
+    let entry = mate_entry(aim, own, library, class, index(class, next));
+    exit_shown(aim.column(), entry)
 }
 
-/// Adds the value of where the move leads, if it leaves the class.
+/// Adds the value of where the move leads, if it leaves the game.
 fn add_exit(
+    aim: &Aim<'_>,
     class: Class,
     library: &Library,
     position: &Position,
     chess_move: &Move,
     list: &mut ArrayVec<Exit, 64>,
 )
+    requires knows { KnowsOwn class aim.now }
     requires of { (flipped : Bool) × IsOf class flipped position.now }
     requires children { HasChildren (table_at library.now) class }
     requires legal { IsLegal position.now chess_move.now }
     requires room { array_vec_len list.old < 64 }
-    ensures items { list.new.items ≡ list.old.items ++ option_to_list (exit_by (table_at library.now) Mate class position.now chess_move.now (played position.now chess_move.now)) }
+    ensures items { list.new.items ≡ list.old.items ++ option_to_list (exit_by (known (table_at library.now) class aim.now) (column_of aim.now) class position.now chess_move.now (played position.now chess_move.now)) }
     ensures few { array_vec_len list.new ≤ array_vec_len list.old + 1 }
 {
     laws();
     let next = play(position, *chess_move).unwrap();
     let _sides = (position.side(), next.side());
     let _number = class.number();
-    if !goes_on(Column::Mate, class, position, chess_move, &next) {
-        list.push(exit_at(library, &next));
+    if !goes_on(aim.column(), class, position, chess_move, &next) {
+        list.push(exit_at(aim, class, library, &next));
     }
 }
 
-/// The values of where the moves lead that leave the class, in the order of moves.
-pub(crate) fn exits(class: Class, library: &Library, position: &Position) -> ArrayVec<Exit, 64>
+/// The values of where the moves lead that leave the game, in the order of moves.
+pub(crate) fn exits(
+    aim: &Aim<'_>,
+    class: Class,
+    library: &Library,
+    position: &Position,
+) -> ArrayVec<Exit, 64>
+    requires knows { KnowsOwn class aim.now }
     requires of { (flipped : Bool) × IsOf class flipped position.now }
     requires children { HasChildren (table_at library.now) class }
-    ensures { result.items ≡ exits_from (table_at library.now) Mate class (Some position.now) }
+    ensures { result.items ≡ exits_from (known (table_at library.now) class aim.now) (column_of aim.now) class (Some position.now) }
 {
     let moves = legal_moves(position);
     let mut list = ArrayVec::new();
     for chess_move in moves.as_slice() {
-        add_exit(class, library, position, chess_move, &mut list);
+        add_exit(aim, class, library, position, chess_move, &mut list);
     }
     list
 }

@@ -1,18 +1,25 @@
-//! Games over the classes of positions, on which the builder of tables is to stand.
+//! The builder of tables by retrograde analysis, and the games over the classes of positions that it solves.
 #![tactic(auto)]
 
-pub mod ascending;
-pub mod edges;
-pub mod laws;
-pub mod leaving;
-pub mod mate_game;
-pub mod missing;
-pub mod nodes;
+mod aim;
+mod ascending;
+mod build_fault;
+mod building;
+mod edges;
+mod laws;
+mod leaving;
+mod mate_game;
+mod missing;
+mod nodes;
 pub mod ranks;
-pub mod sources;
+mod sources;
+mod zero_game;
 
+pub use build_fault::BuildFault;
+pub use building::build;
 pub use mate_game::MateGame;
 pub use missing::Missing;
+pub use zero_game::ZeroGame;
 
 #[cfg(test)]
 mod tests;

@@ -3,6 +3,7 @@ ghost use Rattle.egt_check.specs.Tables.{table_at, HasChildren};
 ghost use Rattle.egt_table.specs.declared.column.Column.TheVariants.{Mate};
 ghost use Rattle.egt_sweep.specs.ClassGame.{class_game, class_game_is_lawful};
 
+use crate::aim::Aim;
 use crate::missing::Missing;
 use crate::nodes::{exits, is_mated, is_void, predecessors, successors};
 use arrayvec::ArrayVec;
@@ -73,6 +74,6 @@ impl Game for MateGame<'_> {
     }
 
     fn exits(&self, i: u32) -> ArrayVec<Exit, 64> {
-        exits(self.class, self.library, i)
+        exits(&Aim::Mate, self.class, self.library, i)
     }
 }

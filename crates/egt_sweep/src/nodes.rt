@@ -5,10 +5,11 @@ ghost use Rattle.egt_class.specs.Membership.{IsOf};
 ghost use Rattle.egt_index.specs.Size.{size_of};
 ghost use Rattle.egt_graph.specs.Passing.{passing_below};
 ghost use Rattle.egt_sweep.specs.Edges.{IsAt};
-ghost use Rattle.egt_table.specs.declared.column.Column.TheVariants.{Mate};
 ghost use Rattle.egt_check.specs.Tables.{table_at, HasChildren};
+ghost use Rattle.egt_sweep.specs.Aiming.{column_of, known, KnowsOwn};
 ghost use Rattle.egt_sweep.specs.Nodes.{position_at, is_mated, connects, exits_at};
 
+use crate::aim::Aim;
 use crate::edges::edges;
 use crate::laws::laws;
 use crate::leaving;
@@ -76,13 +77,19 @@ pub(crate) fn predecessors(column: Column, class: Class, index: u32) -> ArrayVec
     sources(column, class, &position)
 }
 
-/// The values of where the moves lead that leave the class from a node, in the order of moves.
-pub(crate) fn exits(class: Class, library: &Library, index: u32) -> ArrayVec<Exit, 64>
+/// The values of where the moves lead that leave the game from a node, in the order of moves.
+pub(crate) fn exits(
+    aim: &Aim<'_>,
+    class: Class,
+    library: &Library,
+    index: u32,
+) -> ArrayVec<Exit, 64>
     requires node { IsFalse (not (is_some (position_at class index))) }
+    requires knows { KnowsOwn class aim.now }
     requires children { HasChildren (table_at library.now) class }
-    ensures { result.items ≡ exits_at (table_at library.now) Mate class index }
+    ensures { result.items ≡ exits_at (known (table_at library.now) class aim.now) (column_of aim.now) class index }
 {
     laws();
     let position = node(class, index);
-    leaving::exits(class, library, &position)
+    leaving::exits(aim, class, library, &position)
 }

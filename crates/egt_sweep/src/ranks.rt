@@ -1,28 +1,59 @@
 //! What the ranks of games mean. These functions do nothing: a caller calls one to know what it ensures.
-ghost use Rattle.std.specs.Prelude.{ℕ, ◌<◌};
+ghost use Rattle.std.specs.Prelude.{ℕ, ◌<◌, IsTrue};
 ghost use Rattle.egt_board.specs.Setup.{Setup, IsAdmissible};
 ghost use Rattle.egt_index.specs.Index.{IsIndex};
 ghost use Rattle.egt_moves.specs.Arena.{Value, HasValue};
 ghost use Rattle.egt_moves.specs.Chess.{chess};
-ghost use Rattle.egt_graph.specs.Value.{HasRank};
-ghost use Rattle.egt_table.specs.declared.column.Column.TheVariants.{Mate};
-ghost use Rattle.egt_check.specs.Library.{AreShelved};
-ghost use Rattle.egt_check.specs.Tables.{Tables, HasChildren};
+ghost use Rattle.egt_moves.specs.Zeroing.{HasZeroing};
+ghost use Rattle.egt_graph.specs.Value.{decided_within, HasRank, SomeAbove};
+ghost use Rattle.egt_table.specs.declared.column.Column.TheVariants.{Mate, Zeroing};
+ghost use Rattle.egt_table.specs.Table.{TableValue};
+ghost use Rattle.egt_check.specs.Tables.{Tables, beside};
+ghost use Rattle.egt_check.specs.Truth.{HasTrueChildren};
+ghost use Rattle.egt_sweep.specs.Built.{IsWithinLimit, SomeAboveLimit};
 ghost use Rattle.egt_sweep.specs.ClassGame.{class_game};
+ghost use Rattle.egt_sweep.specs.MateColumn.{ShowsValues};
 ghost use Rattle.egt_sweep.specs.Nodes.{exit_of};
+ghost use Rattle.egt_sweep.specs.Plies.{Plies};
 
 use crate::laws::laws;
-use egt_moves::laws::{all_images_are_alike, halves_meet, least_plies, more_plies, one_value};
+use egt_moves::laws::{
+    all_images_are_alike, halves_meet, least_plies, more_plies, one_value, zeroes_in_time,
+};
 
-/// Where the children's tables are true, the ranks of the game of mates over a class are the values of its positions.
-pub fn mate_ranks_are_values()
-    ensures { (tables : Tables) (c i : ℕ) (p : Setup) (v : Value) → c < 36 → AreShelved tables → HasChildren tables c →
-        IsAdmissible p → IsIndex c p i → HasRank (class_game tables Mate c) i (exit_of Mate v) → HasValue chess p v }
+/// What holds of forced mates, of zeroing moves and of images.
+fn plies()
+    ensures { Plies }
 {
-    laws();
     more_plies();
     halves_meet();
     least_plies();
     one_value();
+    zeroes_in_time();
     all_images_are_alike();
+}
+
+/// Where the children's tables are true, the ranks of the game of mates over a class are the values of its positions; and where
+/// some rank is above a limit, some position's mate distance is.
+pub fn mate_ranks_are_values()
+    ensures values { (tables : Tables) (c i : ℕ) (p : Setup) (v : Value) → c < 36 → HasTrueChildren tables c →
+        IsAdmissible p → IsIndex c p i → HasRank (class_game tables Mate c) i (exit_of Mate v) → HasValue chess p v }
+    ensures above { (tables : Tables) (c limit : ℕ) → c < 36 → HasTrueChildren tables c → SomeAbove (class_game tables Mate c) limit →
+        SomeAboveLimit c limit }
+{
+    laws();
+    plies();
+}
+
+/// Where the children's tables are true and mate entries show the values of the class's positions, the ranks of the game of zeroing
+/// moves over the class are the zeroing distances; and a node that is won or lost is so within the mate distance of its positions.
+pub fn zeroing_ranks_are_distances()
+    ensures distances { (tables : Tables) (t : TableValue) (i : ℕ) (p : Setup) (v : Value) → t.class < 36 → HasTrueChildren tables t.class → ShowsValues t →
+        IsAdmissible p → IsIndex t.class p i → HasRank (class_game (beside tables t) Zeroing t.class) i (exit_of Mate v) → HasZeroing chess p v }
+    ensures in_time { (tables : Tables) (t : TableValue) (n limit i : ℕ) (p : Setup) (v : Value) → t.class < 36 → HasTrueChildren tables t.class → ShowsValues t →
+        IsAdmissible p → IsIndex t.class p i → HasValue chess p v → IsWithinLimit limit v →
+        IsTrue (decided_within (class_game (beside tables t) Zeroing t.class) n i) → IsTrue (decided_within (class_game (beside tables t) Zeroing t.class) limit i) }
+{
+    laws();
+    plies();
 }

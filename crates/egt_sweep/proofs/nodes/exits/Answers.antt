@@ -1,6 +1,6 @@
 use Rattle.std.proofs.Common.{ap, sym, ◌∙◌}
-use Rattle.egt_table.specs.declared.column.Column.TheVariants.{Mate}
 use Rattle.egt_check.specs.Tables.{table_at}
+use Rattle.egt_sweep.specs.Aiming.{column_of, known}
 use Rattle.egt_sweep.specs.Nodes.{exits_at, exits_from}
 use Rattle.egt_sweep.proofs.Linked.{position_is}
 use Rattle.egt_sweep.proofs.nodes.exits.Goals as goal
@@ -10,4 +10,5 @@ exits-requires-clause-of c = c.laws.ensures.indexed_class c.node-position.result
 
 pub returns : goal.returns
 unfolding exits_at
-returns c = c.exits.ensures ∙ ap (exits_from (table_at c.args.library.now) Mate c.args.class) (sym ((position_is c.laws.ensures c.args.class c.args.index c.node-position.result).1 c.node-position.ensures))
+returns c = c.exits.ensures
+    ∙ ap (exits_from (known (table_at c.args.library.now) c.args.class c.args.aim.now) (column_of c.args.aim.now) c.args.class) (sym ((position_is c.laws.ensures c.args.class c.args.index c.node-position.result).1 c.node-position.ensures))

@@ -1,0 +1,34 @@
+use Rattle.std.proofs.Common.{ℕ, ◌<◌, refl, sym, subst}
+use Rattle.egt_moves.specs.Arena.{HasValue}
+use Rattle.egt_moves.specs.Chess.{chess}
+use Rattle.egt_moves.specs.Zeroing.{HasZeroing}
+use Rattle.egt_table.specs.declared.column.Column.TheVariants.{Mate, Zeroing}
+use Rattle.egt_check.specs.Tables.{Tables, table_at, beside}
+use Rattle.egt_sweep.specs.Built.{IsBuilt}
+use Rattle.egt_sweep.specs.ClassGame.{class_game}
+use Rattle.egt_sweep.specs.MateColumn.{mate_table}
+use Rattle.egt_sweep.proofs.BuiltTables.{RanksTell, mates_show_values, values_within, built_is_true, built_is_accepted}
+use Rattle.egt_sweep.proofs.TrueChildren.{true_children}
+use Rattle.egt_sweep.proofs.building.build.Goals as goal
+
+pub returns-clause-built : goal.returns-clause-built
+returns-clause-built c =
+    let tables : Tables = table_at c.args.library.now in
+    let class = c.args.class in
+    let limit = c.args.limit in
+    let mate = c.in_ok-mate.mate in
+    let zeroing = c.in_ok-zeroing.zeroing in
+    let other : Tables = beside tables (mate_table class mate) in
+    let below = subst (λ (n : ℕ). n < 36) c.number-number.ensures.value c.number-number.ensures.below in
+    let children = true_children tables class c.children_are_true.ensures c.in_ok-mate.ensures.children in
+    let told : RanksTell (class_game tables Mate class) class (HasValue chess) = λ i p v ok is rank. c.mate_ranks_are_values.ensures.values tables class i p v below children ok is rank in
+    let shows = mates_show_values c.laws.ensures class below tables limit c.requires mate c.in_ok-mate.ensures.ranks told in
+    let told_zeroing : RanksTell (class_game other Zeroing class) class (HasZeroing chess) =
+    λ i p v ok is rank. c.zeroing_ranks_are_distances.ensures.distances tables (mate_table class mate) i p v below children shows ok is rank in
+    subst (IsBuilt tables class limit) (sym c.in-Ok.ensures.table) (record {
+      class = refl;
+      true = built_is_true c.laws.ensures class below tables limit c.requires mate c.in_ok-mate.ensures.ranks told other zeroing c.in_ok-zeroing.ensures.ranks told_zeroing;
+      accepted = built_is_accepted c.laws.ensures class below tables limit c.requires mate c.in_ok-mate.ensures.ranks told other zeroing c.in_ok-zeroing.ensures.ranks told_zeroing
+          c.in_ok-mate.ensures.children children c.rules_are_kept_by_true_tables_alone.ensures;
+      within = values_within c.laws.ensures class below tables limit c.requires mate c.in_ok-mate.ensures.ranks told c.one_value.ensures.one;
+    })

@@ -1,0 +1,121 @@
+//! The builder of tables.
+ghost use Rattle.std.specs.Prelude.{◌≡◌, ◌≤◌, IfOk, IfErr};
+ghost use Rattle.egt_graph.specs.Value.{AreRanks};
+ghost use Rattle.egt_table.specs.declared.column.Column.TheVariants.{Mate, Zeroing};
+ghost use Rattle.egt_check.specs.Tables.{table_at, beside, HasChildren};
+ghost use Rattle.egt_sweep.specs.Built.{IsBuilt, IsNotBuilt, HasNoFalseChild};
+ghost use Rattle.egt_sweep.specs.ClassGame.{class_game};
+ghost use Rattle.egt_sweep.specs.MateColumn.{mate_table};
+
+use crate::build_fault::BuildFault;
+use crate::laws::laws;
+use crate::mate_game::MateGame;
+use crate::ranks::{mate_ranks_are_values, zeroing_ranks_are_distances};
+use crate::zero_game::ZeroGame;
+use egt_check::Library;
+use egt_check::laws::rules_are_kept_by_true_tables_alone;
+use egt_class::{Class, children};
+use egt_graph::{Ranks, SolveFault, solve};
+use egt_moves::laws::one_value;
+use egt_table::Table;
+use std::alloc::Global;
+
+/// What the children's tables show is true. This does nothing: a library says so of each table that it hands out.
+fn children_are_true(class: Class, library: &Library)
+    ensures { HasNoFalseChild (table_at library.now) class }
+{
+    let children = children(class);
+    for child in children.as_slice() {
+        let _table = library.get(*child);
+    }
+}
+
+/// The ranks of the class's game of mates.
+pub(crate) fn mate_ranks(
+    alloc: Global,
+    class: Class,
+    library: &Library,
+    limit: u16,
+) -> Result<Ranks, BuildFault>
+    requires { limit ≤ 32000 }
+    ensures children { IfOk result (λ _. HasChildren (table_at library.now) class) }
+    ensures ranks { IfOk result (AreRanks (class_game (table_at library.now) Mate class) limit) }
+    ensures refused { IfErr result (IsNotBuilt (table_at library.now) class limit) }
+{
+    laws();
+    mate_ranks_are_values();
+    children_are_true(class, library);
+    let _number = class.number();
+    let game = match MateGame::new(class, library) {
+        Ok(game) => game,
+        Err(missing) => return Err(BuildFault::from(missing)),
+    };
+    match solve(alloc, &game, limit) {
+        Ok(ranks) => Ok(ranks),
+        Err(SolveFault::NoMemory) => Err(BuildFault::NoMemory),
+        Err(SolveFault::TooDeep) => Err(BuildFault::TooDeep(limit)),
+    }
+}
+
+/// The ranks of its game of zeroing moves. None is above the limit, since none is above the mate rank.
+fn zeroing_ranks<'x>(
+    alloc: Global,
+    class: Class,
+    library: &'x Library,
+    mates: &'x Ranks,
+    limit: u16,
+) -> Result<Ranks, BuildFault>
+    requires limit { limit ≤ 32000 }
+    requires children { HasChildren (table_at library.now) class }
+    requires mates { AreRanks (class_game (table_at library.now) Mate class) limit mates.now }
+    ensures ranks { IfOk result (AreRanks (class_game (beside (table_at library.now) (mate_table class mates.now)) Zeroing class) limit) }
+    ensures refused { IfErr result (IsNotBuilt (table_at library.now) class limit) }
+{
+    laws();
+    mate_ranks_are_values();
+    zeroing_ranks_are_distances();
+    children_are_true(class, library);
+    let _number = class.number();
+    let game = match ZeroGame::new(class, library, mates) {
+        Ok(game) => game,
+        Err(missing) => return Err(BuildFault::from(missing)),
+    };
+    match solve(alloc, &game, limit) {
+        Ok(ranks) => Ok(ranks),
+        Err(SolveFault::NoMemory) => Err(BuildFault::NoMemory),
+        Err(SolveFault::TooDeep) => unreachable!(),
+    }
+}
+
+/// The table of a class whose children have their tables in the library, with no mate distance above `limit`, which is at most
+/// 32,000. It is made by retrograde analysis (Thompson 1986): first the mate column, then the zeroing column. No check is run, and none
+/// is needed: every entry is true, and the library takes the table unless it has one of the class.
+///
+/// # Errors
+///
+/// `Missing` with the least child that has no table; else `NoMemory` where a growth was refused, and `TooDeep` with the limit where
+/// some position of the class has a mate distance above it.
+pub fn build(
+    alloc: Global,
+    class: Class,
+    library: &Library,
+    limit: u16,
+) -> Result<Table, BuildFault>
+    requires { limit ≤ 32000 }
+    ensures built { IfOk result (IsBuilt (table_at library.now) class limit) }
+    ensures refused { IfErr result (IsNotBuilt (table_at library.now) class limit) }
+{
+    laws();
+    mate_ranks_are_values();
+    zeroing_ranks_are_distances();
+    rules_are_kept_by_true_tables_alone();
+    one_value();
+    children_are_true(class, library);
+    let _number = class.number();
+    let mate = mate_ranks(alloc, class, library, limit)?;
+    let zeroing = zeroing_ranks(alloc, class, library, &mate, limit)?;
+    match Table::from_ranks(class, mate, zeroing) {
+        Ok(table) => Ok(table),
+        Err(_columns) => unreachable!(),
+    }
+}
