@@ -9,5 +9,5 @@ pub mod Stepping
 pub mod FirstRule
 pub mod Judged
 pub mod Shelving
-pub mod Quiet
+pub mod Still
 pub mod Raising

@@ -1,16 +1,15 @@
 //! The best of a position's steps.
-ghost use Rattle.std.specs.Prelude.{◌≡◌, ◌≢◌, ◌↔◌, ℕ, ◌<◌, IsTrue, IfSome, IfNone};
+ghost use Rattle.std.specs.Prelude.{◌≡◌, ◌↔◌, ℕ, ◌<◌, IsTrue, IfSome, IfNone};
 ghost use Rattle.std.specs.Option.{option_map};
 ghost use Rattle.egt_board.specs.Placement.{IsHeld};
 ghost use Rattle.egt_board.specs.Settled.{IsSettled};
 ghost use Rattle.egt_board.specs.SquareSet.{Has};
 ghost use Rattle.egt_board.specs.Setup.{Setup};
-ghost use Rattle.egt_board.specs.declared.man.Kind.TheVariants.{P};
 ghost use Rattle.egt_index.specs.Frame.{IsFrame};
 ghost use Rattle.egt_index.specs.Size.{size_of};
 ghost use Rattle.egt_moves.specs.Arena.{NoMove};
 ghost use Rattle.egt_moves.specs.Chess.{chess, Zeroes};
-ghost use Rattle.egt_moves.specs.Legal.{Leads, IsLegal};
+ghost use Rattle.egt_moves.specs.Legal.{Leads, IsLegal, plain};
 ghost use Rattle.egt_moves.specs.Targets.{IsLegalTarget};
 ghost use Rattle.egt_table.specs.declared.column.Column.{Column};
 ghost use Rattle.egt_check.specs.Raised.{AreRaised};
@@ -22,7 +21,8 @@ use crate::by_column::ByColumn;
 use crate::facts::facts;
 use crate::library::Library;
 use crate::outcome::{score, shown, zeroing_said};
-use egt_board::{Kind, Man, Position, Square, SquareSet};
+use crate::quiet::{QuietStep, is_pawn, quiet_targets};
+use egt_board::{Position, Square, SquareSet};
 use egt_class::laws::moves_lead_into_the_class_or_a_child as quiet_moves_keep_the_class;
 use egt_class::of;
 use egt_index::{Frame, index};
@@ -121,29 +121,35 @@ fn best_after(
     Some(raised(best, scores))
 }
 
-/// The best score so far, and of a legal move that does not zero: it stays in the table's class, and only one man's square changes.
+/// The best score so far, and of the legal move from the one square to the other, which takes nothing: it stays in the table's class,
+/// and only one man's square changes. It zeroes where it is a pawn's.
 #[inline(always)]
 fn best_after_quiet(
     table: &Table,
     library: &Library,
     frame: &Frame,
     position: &Position,
-    chess_move: &Move,
+    step: QuietStep,
     best: Option<ByColumn>,
 ) -> Option<ByColumn>
-    requires legal { IsLegal position.now chess_move.now }
-    requires quiet { ¬ Zeroes position.now chess_move.now }
+    requires quiet { IsQuietTarget position.now step.pawn step.from step.to }
     requires own { IsInClass table.now.class position.now }
     requires frame { IsFrame position.now frame.now }
     requires class { frame.now.class ≡ table.now.class }
-    ensures { AreRaised (shown_by library.now table.now) position.now (λ m. m ≡ chess_move.now) best result }
+    ensures { AreRaised (shown_by library.now table.now) position.now (λ m. m ≡ plain step.from step.to) best result }
 {
     facts();
     quiet_moves_keep_the_class();
     let _side = position.side();
     let _class = table.class();
-    let entries = entries_at(table, frame.index_after(chess_move.from, chess_move.to));
-    let scores = scores(table, library, position, chess_move, entries, false);
+    let QuietStep { from, to, pawn } = step;
+    let entries = entries_at(table, frame.index_after(from, to));
+    let chess_move = Move {
+        from,
+        to,
+        promo: None,
+    };
+    let scores = scores(table, library, position, &chess_move, entries, pawn);
     Some(raised(best, scores))
 }
 
@@ -195,7 +201,7 @@ fn best_to_each(
     best
 }
 
-/// The best score so far, and of the moves from the square to these, which are legal and do not zero.
+/// The best score so far, and of the moves from the square to these, which take nothing.
 fn best_to_each_quiet(
     table: &Table,
     library: &Library,
@@ -203,9 +209,10 @@ fn best_to_each_quiet(
     position: &Position,
     from: Square,
     targets: SquareSet,
+    pawn: bool,
     best: Option<ByColumn>,
 ) -> Option<ByColumn>
-    requires targets { (t : ℕ) → Has targets t → IsQuietTarget position.now from t }
+    requires targets { (t : ℕ) → Has targets t → IsQuietTarget position.now pawn from t }
     requires own { IsInClass table.now.class position.now }
     requires frame { IsFrame position.now frame.now }
     requires class { frame.now.class ≡ table.now.class }
@@ -214,24 +221,10 @@ fn best_to_each_quiet(
     let mut best = best;
     let mut rest = targets;
     while let Some(to) = rest.pop_first() {
-        let chess_move = Move {
-            from,
-            to,
-            promo: None,
-        };
-        best = best_after_quiet(table, library, frame, position, &chess_move, best);
+        let step = QuietStep { from, to, pawn };
+        best = best_after_quiet(table, library, frame, position, step, best);
     }
     best
-}
-
-/// Whether the man is no pawn.
-fn is_piece(man: Man) -> bool
-    ensures { IsTrue result → man.kind ≢ P }
-{
-    match man.kind {
-        Kind::P => false,
-        _ => true,
-    }
 }
 
 /// The best score so far, and of the legal moves of the man on the square.
@@ -252,14 +245,10 @@ fn best_of_man(
 {
     let targets = legal_targets(position, from);
     let man = position.at(from).unwrap();
-    if is_piece(man) {
-        let enemy = position.of(position.side().other());
-        let quiet = targets.without(enemy);
-        let best = best_to_each_quiet(table, library, frame, position, from, quiet, best);
-        best_to_each(table, library, position, from, targets.common(enemy), best)
-    } else {
-        best_to_each(table, library, position, from, targets, best)
-    }
+    let quiet = quiet_targets(position, man, from, targets);
+    let pawn = is_pawn(man);
+    let best = best_to_each_quiet(table, library, frame, position, from, quiet, pawn, best);
+    best_to_each(table, library, position, from, targets.without(quiet), best)
 }
 
 /// In each column the best score of a legal move, if there is a move.

@@ -2,42 +2,49 @@ use Rattle.std.proofs.Common.{ℕ, ◌<◌, refl, sym, subst}
 use Rattle.egt_class.specs.Membership.{IsOf}
 use Rattle.egt_index.specs.Index.{IsIndex}
 use Rattle.egt_index.specs.Size.{size_of}
+use Rattle.egt_moves.specs.Legal.{plain}
 use Rattle.egt_check.specs.Steps.{shown_by}
 use Rattle.egt_check.specs.Tables.{table_at}
 use Rattle.egt_check.proofs.Finding.{entry_found, beside_own}
-use Rattle.egt_check.proofs.Quiet.{is_moved}
 use Rattle.egt_check.proofs.Raising.{raised_is}
+use Rattle.egt_check.proofs.Still.{is_moved}
 use Rattle.egt_check.proofs.successors.best_after_quiet.Goals as goal
 
 pub index_after-requires : goal.index_after-requires
 index_after-requires c =
-    let (q, leads) = c.requires.legal in
-    let fine = c.facts.ensures.step_admissible c.args.position.now q c.args.chess_move.now c.side-side.ensures.admissible leads in
-    (c.args.position.now, q, c.requires.frame, is_moved c.moves_lead_into_the_class_or_a_child.ensures.quiet c.args.frame.now.class c.args.position.now q c.args.chess_move.now c.side-side.ensures.admissible fine leads c.requires.quiet)
+    let (q, leads) = c.requires.quiet.legal in
+    let p = c.args.position.now in
+    let fine = c.facts.ensures.step_admissible p q (plain c.args.step.from c.args.step.to) c.side-side.ensures.admissible leads in
+    (p, q, c.requires.frame, is_moved c.moves_lead_into_the_class_or_a_child.ensures.quiet c.args.frame.now.class p q c.args.step.pawn c.args.step.from c.args.step.to c.side-side.ensures.admissible fine leads c.requires.quiet)
 
 pub entries_at-entries-requires : goal.entries_at-entries-requires
 entries_at-entries-requires c =
-    let (q, leads) = c.requires.legal in
-    let fine = c.facts.ensures.step_admissible c.args.position.now q c.args.chess_move.now c.side-side.ensures.admissible leads in
-    let index = c.index_after.ensures c.args.position.now q c.requires.frame
-    (is_moved c.moves_lead_into_the_class_or_a_child.ensures.quiet c.args.frame.now.class c.args.position.now q c.args.chess_move.now c.side-side.ensures.admissible fine leads c.requires.quiet) in
+    let (q, leads) = c.requires.quiet.legal in
+    let p = c.args.position.now in
+    let fine = c.facts.ensures.step_admissible p q (plain c.args.step.from c.args.step.to) c.side-side.ensures.admissible leads in
+    let index = c.index_after.ensures p q c.requires.frame
+    (is_moved c.moves_lead_into_the_class_or_a_child.ensures.quiet c.args.frame.now.class p q c.args.step.pawn c.args.step.from c.args.step.to c.side-side.ensures.admissible fine leads c.requires.quiet) in
     subst (λ (k : ℕ). c.index_after.result < size_of k) c.requires.class (c.facts.ensures.index_below _ _ _ index)
+
+pub scores-scores-requires-clause-legal : goal.scores-scores-requires-clause-legal
+scores-scores-requires-clause-legal c = c.requires.quiet.legal
 
 pub scores-scores-requires-clause-entries : goal.scores-scores-requires-clause-entries
 scores-scores-requires-clause-entries c = λ column q leads.
     let t = c.args.table.now in
-    let fine = c.facts.ensures.step_admissible c.args.position.now q c.args.chess_move.now c.side-side.ensures.admissible leads in
-    let moved = is_moved c.moves_lead_into_the_class_or_a_child.ensures.quiet c.args.frame.now.class c.args.position.now q c.args.chess_move.now c.side-side.ensures.admissible fine leads c.requires.quiet in
+    let p = c.args.position.now in
+    let fine = c.facts.ensures.step_admissible p q (plain c.args.step.from c.args.step.to) c.side-side.ensures.admissible leads in
+    let moved = is_moved c.moves_lead_into_the_class_or_a_child.ensures.quiet c.args.frame.now.class p q c.args.step.pawn c.args.step.from c.args.step.to c.side-side.ensures.admissible fine leads c.requires.quiet in
     let (flipped, is_of) = c.requires.own in
-    let index = subst (λ (k : ℕ). IsIndex k q c.index_after.result) c.requires.class (c.index_after.ensures c.args.position.now q c.requires.frame moved) in
-    let of = moved.class flipped (subst (λ (k : ℕ). IsOf k flipped c.args.position.now) (sym c.requires.class) is_of) in
+    let index = subst (λ (k : ℕ). IsIndex k q c.index_after.result) c.requires.class (c.index_after.ensures p q c.requires.frame moved) in
+    let of = moved.class flipped (subst (λ (k : ℕ). IsOf k flipped p) (sym c.requires.class) is_of) in
     entry_found _ _ t.class c.index_after.result flipped t c.entries_at-entries.result c.class-class.ensures.table.class_in (subst (λ (k : ℕ). IsOf k flipped q) c.requires.class of)
     (beside_own (table_at c.args.library.now) t _ refl) index c.entries_at-entries.ensures column
 
 pub scores-scores-requires-clause-zeroes : goal.scores-scores-requires-clause-zeroes
-scores-scores-requires-clause-zeroes c = (λ no. absurd (let false = no in cc), λ zeroes. absurd (c.requires.quiet zeroes))
+scores-scores-requires-clause-zeroes c = c.requires.quiet.zeroes
 
 pub returns : goal.returns
 returns c = λ column.
-    raised_is (shown_by c.args.library.now c.args.table.now) column c.args.position.now c.args.chess_move.now c.args.best c.scores-scores.result c.raised.result
-    (c.raised.ensures column) c.requires.legal (c.scores-scores.ensures column)
+    raised_is (shown_by c.args.library.now c.args.table.now) column c.args.position.now (plain c.args.step.from c.args.step.to) c.args.best c.scores-scores.result c.raised.result
+    (c.raised.ensures column) c.requires.quiet.legal (c.scores-scores.ensures column)

@@ -1,4 +1,4 @@
-use Rattle.std.proofs.Common.{◌≡◌, refl}
+use Rattle.std.proofs.Common.{◌≡◌}
 use Rattle.egt_board.specs.SquareSet.{Has}
 use Rattle.egt_moves.specs.Legal.{plain}
 use Rattle.egt_check.specs.Steps.{IsQuietTarget, shown_by}
@@ -11,20 +11,15 @@ loop-to-init c = (
   λ t has. has,
 )
 
-pub best_after_quiet-best-requires-clause-legal : goal.best_after_quiet-best-requires-clause-legal
-best_after_quiet-best-requires-clause-legal c = (c.requires.targets c.in-Some.to (c.loop-to.invariant.1 c.in-Some.to c.in-Some.ensures.had)).legal
-
 pub best_after_quiet-best-requires-clause-quiet : goal.best_after_quiet-best-requires-clause-quiet
-best_after_quiet-best-requires-clause-quiet c =
-    let target = c.requires.targets c.in-Some.to (c.loop-to.invariant.1 c.in-Some.to c.in-Some.ensures.had) in
-    (target.quiet (plain c.args.from c.in-Some.to) refl refl target.legal).1
+best_after_quiet-best-requires-clause-quiet c = c.requires.targets c.in-Some.to (c.loop-to.invariant.1 c.in-Some.to c.in-Some.ensures.had)
 
 pub loop-to-preserved : goal.loop-to-preserved
 loop-to-preserved c =
-    let target : IsQuietTarget c.args.position.now c.args.from c.in-Some.to = c.requires.targets c.in-Some.to (c.loop-to.invariant.1 c.in-Some.to c.in-Some.ensures.had) in (
+    let target : IsQuietTarget c.args.position.now c.args.pawn c.args.from c.in-Some.to = c.requires.targets c.in-Some.to (c.loop-to.invariant.1 c.in-Some.to c.in-Some.ensures.had) in (
       gone_more (shown_by c.args.library.now c.args.table.now) c.args.position.now (λ m. m.to) (λ m. (m.from ≡ c.args.from) × Has c.args.targets m.to) c.loop-to.rest c.pop_first.new.self c.in-Some.to
           (λ m. m ≡ plain c.args.from c.in-Some.to) c.args.best c.loop-to.best c.best_after_quiet-best.result c.in-Some.ensures.others c.loop-to.invariant.0 c.best_after_quiet-best.ensures
-          (λ m legal base here. (target.quiet m base.0 here legal).0),
+          (λ m legal base here. target.only m base.0 here legal),
       λ t has. c.loop-to.invariant.1 t (still_there c.loop-to.rest c.pop_first.new.self c.in-Some.to c.in-Some.ensures.gone c.in-Some.ensures.others t has),
     )
 

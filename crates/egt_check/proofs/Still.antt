@@ -1,0 +1,184 @@
+-- A move that does not zero takes one man to a free square, and changes nothing else on the board.
+use Rattle.std.proofs.Common.{◌≡◌, ◌≢◌, ℕ, ◌+◌, ◌/◌, if◌then◌else◌, ◌==◌, ◌&&◌, Bool, true, false, Option, Some, None, refl, ap, ◌∙◌, inl, inr, ◌⊎◌, subst, sym, ◌||◌, ◌<◌, arith}
+use Rattle.std.specs.FinMap as map
+use Rattle.egt_board.specs.declared.man.Side.{Side}
+use Rattle.egt_board.specs.declared.man.Side.TheVariants.{White, Black}
+use Rattle.egt_board.specs.declared.man.Kind.{Kind}
+use Rattle.egt_board.specs.declared.man.Kind.TheVariants.{Q, R, B, N, P, K}
+use Rattle.egt_board.specs.declared.man.Man.{Man}
+use Rattle.egt_board.specs.Man.{other_side}
+use Rattle.egt_board.specs.Placement.{Placement, Stands, IsFree, get-insert_same, IsHeld, one_man}
+use Rattle.egt_board.specs.Setup.{Setup, IsAdmissible}
+use Rattle.egt_board.specs.Square.{rank_of}
+use Rattle.egt_board.specs.Pawn.{ahead, last_rank}
+use Rattle.egt_class.specs.Membership.{IsOf}
+use Rattle.egt_index.specs.Frame.{IsMoved}
+use Rattle.egt_moves.specs.Chess.{IsPawnOn}
+use Rattle.egt_moves.specs.Exchange.{Captures}
+use Rattle.egt_moves.specs.Going.{Goes}
+use Rattle.egt_moves.specs.Legal.{Leads, men_left, is_target, is_two_ranks, IsLegal, plain, passed}
+use Rattle.egt_moves.specs.Promotion.{is_pawn, FitsPromotion}
+use Rattle.egt_moves.specs.declared.chess_move.Move.{Move}
+use Rattle.egt_moves.specs.Targets.{IsLegalTarget}
+use Rattle.egt_check.specs.Steps.{IsQuietTarget}
+use Rattle.std.proofs.lemmas.Bool.Decides.{eqb_tells}
+
+-- the law on moves that keep the class
+abbrev pub KeepsClass : Type 0
+KeepsClass = (p q : Setup) (m : Move) (c : ℕ) (flipped : Bool) → IsAdmissible p → IsOf c flipped p → Leads p m q → ¬ Captures p m → m.promo ≡ None → IsOf c flipped q
+
+no_pawn : (kind : Kind) → kind ≢ P → is_pawn kind ≡ false
+no_pawn Q not = refl
+no_pawn R not = refl
+no_pawn B not = refl
+no_pawn N not = refl
+no_pawn P not = absurd (not refl)
+no_pawn K not = refl
+
+pub no_pawn_is : (kind : Kind) → is_pawn kind ≡ false → kind ≢ P
+no_pawn_is kind not pawn = let told = ap is_pawn pawn in cc
+
+pub pawn_is : (kind : Kind) → is_pawn kind ≡ true → kind ≡ P
+pawn_is P e = refl
+pawn_is Q e = let not = e in cc
+pawn_is R e = let not = e in cc
+pawn_is B e = let not = e in cc
+pawn_is N e = let not = e in cc
+pawn_is K e = let not = e in cc
+
+-- numbers that differ are told apart
+untold : (a b : ℕ) → a ≢ b → (a == b) ≡ false
+untold a b apart = elim (eqb_tells a b) [ inl same ↦ absurd (apart same.1) | inr told ↦ told.0 ]
+
+neither : (a b : Bool) → a ≡ false → b ≡ false → (a || b) ≡ false
+neither true b e f = e
+neither false b e f = f
+
+-- the next square is one rank away
+pub next_rank : (side : Side) (from to : ℕ) → to ≡ ahead side from → 0 < rank_of from → is_two_ranks from to ≡ false
+next_rank White from to is up = neither _ _ (untold (rank_of to) (rank_of from + 2) (λ e. omega (arith, is, e))) (untold (rank_of from) (rank_of to + 2) (λ e. omega (arith, is, e)))
+next_rank Black from to is up = neither _ _ (untold (rank_of to) (rank_of from + 2) (λ e. omega (arith, is, e))) (untold (rank_of from) (rank_of to + 2) (λ e. omega (arith, is, e, up)))
+
+no_promotion : (b : Bool) (promo : Option Kind) → b ≡ false → FitsPromotion b promo → promo ≡ None
+no_promotion true promo e fits = let not = e in cc
+no_promotion false None e fits = refl
+no_promotion false (Some kind) e fits = absurd fits
+
+-- a man is of the one side or of the other
+one_or_other : (a b : Side) → (a ≡ b) ⊎ (a ≡ other_side b)
+one_or_other White White = inl refl
+one_or_other White Black = inr refl
+one_or_other Black White = inr refl
+one_or_other Black Black = inl refl
+
+-- no man but a pawn is promoted
+piece_promo : (p q : Setup) (m : Move) (leads : Leads p m q) → leads.man.kind ≢ P → m.promo ≡ None
+piece_promo p q m leads piece =
+    no_promotion (is_pawn leads.man.kind && (rank_of m.to == last_rank leads.man.side)) m.promo (ap (λ a. a && (rank_of m.to == last_rank leads.man.side)) (no_pawn leads.man.kind piece)) leads.promotion
+
+-- a move to a square is a legal target of it
+pub targeted : (p : Setup) (m : Move) (from : ℕ) → m.from ≡ from → IsLegal p m → IsLegalTarget p from m.to
+targeted p m from is legal = (m.promo, subst (IsLegal p) (λ i. record { from = is i; to = m.to; promo = m.promo }) legal)
+
+-- a man that is no pawn, or does not go to the target, takes nothing in passing
+not_passing : (kind : Kind) (target : Option ℕ) (t : ℕ) → (kind ≡ P → target ≡ Some t → ⊥) → (is_pawn kind && is_target target t) ≡ false
+not_passing P None t none = refl
+not_passing P (Some s) t none = elim (eqb_tells s t) [ inl here ↦ absurd (none refl (ap Some here.1)) | inr apart ↦ apart.0 ]
+not_passing Q target t none = refl
+not_passing R target t none = refl
+not_passing B target t none = refl
+not_passing N target t none = refl
+not_passing K target t none = refl
+
+-- no pawn passes a square
+piece_unpassed : (man : Man) (from t : ℕ) → man.kind ≢ P → passed man from t ≡ None
+piece_unpassed man from t piece = ap (λ b. if b then Some ((from + t) / 2) else None) (ap (λ a. a && is_two_ranks from t) (no_pawn man.kind piece))
+
+module _ (p : Setup) (from t : ℕ) (man : Man) (stands : Stands p.men from man) where
+  man_is : (q : Setup) (m : Move) → m.from ≡ from → (leads : Leads p m q) → man ≡ leads.man
+  man_is q m is leads = one_man p.men from man leads.man stands (subst (λ s. Stands p.men s leads.man) is leads.stands)
+
+  same_move : (m : Move) → m.from ≡ from → m.to ≡ t → m.promo ≡ None → m ≡ plain from t
+  same_move m f e n = λ i. record { from = f i; to = e i; promo = n i }
+
+  plain_legal : ((m : Move) → m.from ≡ from → m.to ≡ t → IsLegal p m → m.promo ≡ None) → IsLegalTarget p from t → IsLegal p (plain from t)
+  plain_legal none target = subst (λ (promo : Option Kind). IsLegal p (record { from = from; to = t; promo = promo })) (none (record { from = from; to = t; promo = target.0 }) refl refl target.1) target.1
+
+  -- a piece's move to a square where no enemy stands
+  pub quiet_piece : man.kind ≢ P → ¬ IsHeld p.men t (other_side p.side) → IsLegalTarget p from t → IsQuietTarget p false from t
+  quiet_piece piece free target = record {
+    legal = plain_legal promo_none target;
+    only = λ m is to legal. same_move m is to (promo_none m is to legal);
+    quiet = λ captures. elim captures [
+      | inl held ↦ free held
+      | inr passing ↦ piece (no_pawn_here passing.0)
+    ];
+    unpassed = λ other here. piece_unpassed other from t (λ pawn. piece (ap (λ (x : Man). x.kind) (one_man p.men from man other stands here) ∙ pawn));
+    zeroes = (λ no. absurd (let false = no in cc), λ zeroes. absurd (elim zeroes [ inl held ↦ free held | inr pawn ↦ piece (no_pawn_here pawn) ]));
+  }
+    where
+      promo_none : (m : Move) → m.from ≡ from → m.to ≡ t → IsLegal p m → m.promo ≡ None
+      promo_none m is to legal = piece_promo p legal.0 m legal.1 (λ pawn. piece (ap (λ (x : Man). x.kind) (man_is legal.0 m is legal.1) ∙ pawn))
+
+      no_pawn_here : IsPawnOn p.men from → man.kind ≡ P
+      no_pawn_here pawn = ap (λ (x : Man). x.kind) (one_man p.men from man pawn.man stands pawn.stands) ∙ pawn.pawn
+
+  -- a pawn's step to the next square, not its last, where no enemy stands and which is not the target
+  pub quiet_pawn : man.kind ≡ P → ¬ IsHeld p.men t (other_side p.side) → p.target ≢ Some t → rank_of t ≢ last_rank man.side → is_two_ranks from t ≡ false → IsLegalTarget p from t → IsQuietTarget p true from t
+  quiet_pawn pawn free other last near target = record {
+    legal = plain_legal promo_none target;
+    only = λ m is to legal. same_move m is to (promo_none m is to legal);
+    quiet = λ captures. elim captures [
+      | inl held ↦ free held
+      | inr passing ↦ other passing.1
+    ];
+    unpassed = λ man here. ap (λ b. if b then Some ((from + t) / 2) else None) (no_and (is_pawn man.kind) near);
+    zeroes = (λ yes. inr (record { man = man; stands = stands; pawn = pawn }), λ zeroes. refl);
+  }
+    where
+      no_and : (a : Bool) {b : Bool} → b ≡ false → (a && b) ≡ false
+      no_and true e = e
+      no_and false e = refl
+
+      promo_none : (m : Move) → m.from ≡ from → m.to ≡ t → IsLegal p m → m.promo ≡ None
+      promo_none m is to legal =
+          no_promotion (is_pawn legal.1.man.kind && (rank_of m.to == last_rank legal.1.man.side)) m.promo
+          (no_and (is_pawn legal.1.man.kind) (subst (λ (x : Man). (rank_of m.to == last_rank x.side) ≡ false) (man_is legal.0 m is legal.1)
+          (subst (λ s. (rank_of s == last_rank man.side) ≡ false) (sym to) (elim (eqb_tells (rank_of t) (last_rank man.side)) [ inl same ↦ absurd (last same.1) | inr apart ↦ apart.0 ]))))
+          legal.1.promotion
+
+module _ (keeps : KeepsClass) (c : ℕ) (p q : Setup) (pawn : Bool) (from t : ℕ) (ok : IsAdmissible p) (fine : IsAdmissible q) (leads : Leads p (plain from t) q) (quiet : IsQuietTarget p pawn from t) where
+  held : (man : Man) → Stands p.men t man → (man.side ≡ p.side) ⊎ (man.side ≡ other_side p.side) → Goes p leads.man from t → IsFree p.men t
+  held man stands (inr enemy) goes = absurd (quiet.quiet (inl (record { man = man; stands = stands; theirs = enemy })))
+  held man stands (inl own) (inl piece) = absurd (piece.not_own (record { man = man; stands = stands; theirs = own }))
+  held man stands (inl own) (inr (inl advances)) = advances.advances.free
+  held man stands (inl own) (inr (inr takes)) = elim takes.takes [
+    | inl enemy ↦ absurd (quiet.quiet (inl enemy))
+    | inr passing ↦ absurd (quiet.quiet (inr (record { man = leads.man; stands = leads.stands; pawn = takes.pawn }, passing)))
+  ]
+
+  free_to : (o : Option Man) → map.get p.men t ≡ o → IsFree p.men t
+  free_to None is = is
+  free_to (Some man) is = held man is (one_or_other man.side p.side) leads.goes
+
+  left : men_left p leads.man t ≡ p.men
+  left = ap (λ b. if b then map.remove p.men (ahead (other_side p.side) t) else p.men)
+      (not_passing leads.man.kind p.target t (λ is_pawn target. quiet.quiet (inr (record { man = leads.man; stands = leads.stands; pawn = is_pawn }, target))))
+
+  men : q.men ≡ map.insert (map.remove p.men from) t leads.man
+  men =
+      ap (λ (s : Setup). s.men) leads.becomes
+      ∙ ap (λ (placed : Placement). map.insert (map.remove placed from) t leads.man) left
+
+  pub is_moved : IsMoved c p from t q
+  is_moved = record {
+    man = leads.man;
+    stands = leads.stands;
+    free = free_to (map.get p.men t) refl;
+    on_board = fine.on_board t leads.man (ap (λ (placed : Placement). map.get placed t) men ∙ get-insert_same (map.remove p.men from) t leads.man t refl);
+    men = men;
+    side = ap (λ (s : Setup). s.side) leads.becomes;
+    target = ap (λ (s : Setup). s.target) leads.becomes ∙ quiet.unpassed leads.man leads.stands;
+    admissible = fine;
+    class = λ flipped is_of. keeps p q (plain from t) c flipped ok is_of leads quiet.quiet refl;
+  }
