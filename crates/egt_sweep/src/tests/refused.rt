@@ -38,3 +38,15 @@ fn build_again(rt: HostRuntime) -> Result<(), Fail> {
     assert!(rt; library.get(named("KQK")?).is_none());
     Ok(())
 }
+
+#[test]
+fn build_over_kings_again(rt: HostRuntime) -> Result<(), Fail> {
+    let mut library = library(rt.alloc())?;
+    let kings = built(rt.alloc(), named("KK")?, &library, 0)?;
+    assert!(rt; library.admit(kings).is_ok());
+    let queen = built(rt.alloc(), named("KQK")?, &library, 20)?;
+    assert_eq!(rt; entry_of(&queen, Column::Zeroing, 41_022), Some(4));
+    assert!(rt; library.get(named("KK")?).is_some());
+    assert!(rt; library.admit(queen).is_ok());
+    Ok(())
+}
