@@ -1,0 +1,5 @@
+pub mod Shelved
+pub mod SameKinds
+pub mod Ordered
+pub mod Best
+pub mod Drawn

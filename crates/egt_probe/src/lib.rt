@@ -1,0 +1,17 @@
+//! The prober: what checked tables tell of a position, its line of best play or its move that holds a draw, and reports of
+//! many positions.
+#![tactic(auto)]
+
+pub mod best_line;
+pub mod facts;
+pub mod fault;
+pub mod first_move;
+pub mod holding;
+pub mod looking;
+pub mod outcome;
+
+pub use best_line::line;
+pub use fault::{AnswerFault, HoldFault, LineFault};
+pub use holding::hold;
+pub use looking::verdict;
+pub use outcome::{Missing, Outcome, Verdict};
