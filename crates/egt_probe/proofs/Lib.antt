@@ -3,3 +3,5 @@ pub mod SameKinds
 pub mod Ordered
 pub mod Best
 pub mod Drawn
+pub mod Splitting
+pub mod Answered

@@ -6,3 +6,7 @@ pub mod Hold
 pub mod Fault
 pub mod Facts
 pub mod Search
+pub mod Text
+pub mod Report
+pub mod Lines
+pub mod Answer

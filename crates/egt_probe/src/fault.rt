@@ -116,3 +116,25 @@ impl AnswerFault {
         }
     }
 }
+
+impl From<Device> for AnswerFault {
+    ghost use Rattle.std.specs.Prelude.{◌≡◌};
+    ghost use Rattle.egt_probe.specs.declared.fault.AnswerFault.TheVariants as faults;
+
+    ghost from_gives = { λ _ fault. fault ≡ faults.Device };
+
+    fn from(_device: Device) -> AnswerFault {
+        AnswerFault::Device
+    }
+}
+
+impl From<AllocError> for AnswerFault {
+    ghost use Rattle.std.specs.Prelude.{◌≡◌};
+    ghost use Rattle.egt_probe.specs.declared.fault.AnswerFault.TheVariants as faults;
+
+    ghost from_gives = { λ _ fault. fault ≡ faults.NoMemory };
+
+    fn from(_error: AllocError) -> AnswerFault {
+        AnswerFault::NoMemory
+    }
+}

@@ -2,14 +2,20 @@
 //! many positions.
 #![tactic(auto)]
 
+pub mod answering;
 pub mod best_line;
 pub mod facts;
 pub mod fault;
 pub mod first_move;
 pub mod holding;
 pub mod looking;
+pub mod open_line;
 pub mod outcome;
+pub mod reporting;
+pub mod wording;
+pub mod writing;
 
+pub use answering::answer;
 pub use best_line::line;
 pub use fault::{AnswerFault, HoldFault, LineFault};
 pub use holding::hold;
