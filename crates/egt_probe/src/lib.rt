@@ -21,3 +21,6 @@ pub use fault::{AnswerFault, HoldFault, LineFault};
 pub use holding::hold;
 pub use looking::verdict;
 pub use outcome::{Missing, Outcome, Verdict};
+
+#[cfg(test)]
+mod tests;
