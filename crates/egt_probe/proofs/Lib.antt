@@ -5,3 +5,4 @@ pub mod Best
 pub mod Drawn
 pub mod Splitting
 pub mod Answered
+pub mod OneReport

@@ -1,5 +1,5 @@
 -- Best play: the line by which the winner mates as soon as can be, and the loser is mated as late as can be.
-use Rattle.std.specs.Prelude.{◌≡◌, zero, suc, ◌<◌, List, [], ◌∷◌, Option, Some, None}
+use Rattle.std.specs.Prelude.{◌≡◌, ℕ, zero, suc, ◌<◌, List, [], ◌∷◌, Option, Some, None}
 use Rattle.egt_board.specs.Setup.{Setup}
 use Rattle.egt_moves.specs.Arena.{Value, Win, Loss, Draw, HasValue}
 use Rattle.egt_moves.specs.Chess.{chess}
@@ -21,6 +21,11 @@ next_value (Loss (suc n)) = Some (Win n)
 next_value (Win zero) = None
 next_value (Loss zero) = None
 next_value Draw = None
+
+abbrev pub plies_of : Value → ℕ
+plies_of (Win n) = n
+plies_of (Loss n) = n
+plies_of Draw = 0
 
 -- the moves of best play from p, which has the value v, to checkmate
 abbrev pub IsLine : Setup → Value → List Move → Type 0

@@ -8,6 +8,7 @@ pub mod facts;
 pub mod fault;
 pub mod first_move;
 pub mod holding;
+pub mod laws;
 pub mod looking;
 pub mod open_line;
 pub mod outcome;
