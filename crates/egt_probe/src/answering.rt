@@ -39,13 +39,9 @@ fn push_report<K: Sink>(
         Stopped (loaded_in library.now) fault (line ∷ []) (K.written sink.old) (K.written sink.new)) }
     ensures failures { CountsSink result (K.failures sink.old) (K.failures sink.new) }
 {
-    let Ok(text) = ended_report(alloc, library, kept) else {
-        return Err(AnswerFault::NoMemory);
-    };
-    match push_all(sink, &text) {
-        Ok(()) => Ok(()),
-        Err(_) => Err(AnswerFault::Device),
-    }
+    let text = ended_report(alloc, library, kept)?;
+    push_all(sink, &text)?;
+    Ok(())
 }
 
 /// Takes a byte of the input: at a line feed the line is answered, else it goes on.
@@ -66,13 +62,9 @@ fn take_byte<K: Sink>(
         kept.add(byte);
         return Ok(());
     }
-    match push_report(alloc, library, kept, sink) {
-        Ok(()) => {
-            kept.clear();
-            Ok(())
-        }
-        Err(fault) => Err(fault),
-    }
+    push_report(alloc, library, kept, sink)?;
+    kept.clear();
+    Ok(())
 }
 
 /// Takes a piece of the input: the lines that end in it are answered, and the next one is kept as far as it goes.
@@ -90,10 +82,7 @@ fn take_piece<K: Sink>(
     ensures failures { CountsSink result (K.failures sink.old) (K.failures sink.new) }
 {
     for byte in piece {
-        match take_byte(alloc, library, kept, *byte, sink) {
-            Ok(()) => {}
-            Err(fault) => return Err(fault),
-        }
+        take_byte(alloc, library, kept, *byte, sink)?;
     }
     Ok(())
 }
@@ -137,15 +126,10 @@ pub fn answer<S: Source, K: Sink>(
     let mut kept = OpenLine::new();
     let mut buffer = [0; PIECE];
     loop {
-        let n = match source.pull(&mut buffer) {
-            Ok(n) => n,
-            Err(_) => return Err(AnswerFault::Device),
-        };
+        let n = source.pull(&mut buffer)?;
         if n == 0 {
             return answer_last(alloc, library, &kept, sink);
         }
-        if let Err(fault) = take_piece(alloc, library, &mut kept, &buffer[..n], sink) {
-            return Err(fault);
-        }
+        take_piece(alloc, library, &mut kept, &buffer[..n], sink)?;
     }
 }

@@ -1,7 +1,6 @@
 //! Why a call of the prober gives no answer.
 ghost use Rattle.std.specs.Prelude.{◌≡◌};
 
-use crate::outcome::Missing;
 use egt_class::Class;
 use egt_table::Device;
 use std::alloc::AllocError;
@@ -124,7 +123,7 @@ impl From<Device> for AnswerFault {
     ghost from_gives = { λ _ fault. fault ≡ faults.Device };
 
     fn from(_device: Device) -> AnswerFault {
-        AnswerFault::Device
+        Self::Device
     }
 }
 
@@ -135,6 +134,6 @@ impl From<AllocError> for AnswerFault {
     ghost from_gives = { λ _ fault. fault ≡ faults.NoMemory };
 
     fn from(_error: AllocError) -> AnswerFault {
-        AnswerFault::NoMemory
+        Self::NoMemory
     }
 }
