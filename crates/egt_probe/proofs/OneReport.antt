@@ -1,5 +1,5 @@
 -- A line has one report.
-use Rattle.std.proofs.Common.{◌≡◌, ℕ, zero, suc, ◌<◌, ◌≤◌, ◌⊎◌, true, false, IsTrue, List, [], ◌∷◌, length, Option, Some, None, refl, sym, ap, ◌∙◌, subst, inl, inr, arith}
+use Rattle.std.proofs.Common.{◌≡◌, ℕ, zero, suc, ◌<◌, ◌≤◌, ◌⊎◌, true, false, IsTrue, List, [], ◌∷◌, ◌++◌, length, Option, Some, None, refl, sym, ap, ◌∙◌, subst, inl, inr, arith}
 use Rattle.std.proofs.lemmas.Bool.{cases_lt}
 use Rattle.egt_board.specs.declared.man.Kind.{Kind}
 use Rattle.egt_board.specs.declared.man.Kind.TheVariants.{Q, R, B, N, P, K}
@@ -12,6 +12,7 @@ use Rattle.egt_moves.specs.Found.{mate_by}
 use Rattle.egt_moves.specs.Legal.{Leads}
 use Rattle.egt_moves.specs.Order.{place_of, promotion_place}
 use Rattle.egt_moves.specs.declared.chess_move.Move.{Move}
+use Rattle.egt_probe.specs.Answer.{Reports}
 use Rattle.egt_probe.specs.Facts.{Facts}
 use Rattle.egt_probe.specs.Hold.{IsHold}
 use Rattle.egt_probe.specs.Line.{IsFirstTo, next_value, plies_of, IsLine}
@@ -162,3 +163,13 @@ module _ (facts : Facts) where
   one_report loaded line one other (Answered fen short spells told) (Answered fen' short' spells' told') =
       let same : fen' ≡ fen = facts.one_meaning line fen' fen spells' spells in
       one_position_report loaded fen.position one other spells.admissible told (subst (λ (f : Fen). PositionReport loaded f.position other) same told')
+
+module _ (facts : Facts) (loaded others : Loaded) (same : (c : ℕ) → loaded c ≡ others c) where
+  -- the reports of some lines are the same wherever the same classes are loaded
+  pub one_answer : (lines : List (List ℕ)) (one other : List ℕ) → Reports loaded lines one → Reports others lines other → one ≡ other
+  one_answer [] one other here there = here ∙ sym there
+  one_answer (line ∷ lines) one other here there =
+      let alike : loaded ≡ others = λ i c. same c i in
+      let first : here.0 ≡ there.0 = one_report facts others line here.0 there.0 (subst (λ (l : Loaded). Report l line here.0) alike here.2) there.2 in
+      let rest : here.1 ≡ there.1 = one_answer lines here.1 there.1 here.3 there.3 in
+      here.4 ∙ ap (λ (t : List ℕ). t ++ 10 ∷ here.1) first ∙ ap (λ (t : List ℕ). there.0 ++ 10 ∷ t) rest ∙ sym there.4
