@@ -1,0 +1,175 @@
+-- A line has one report.
+use Rattle.std.proofs.Common.{◌≡◌, ℕ, zero, suc, ◌<◌, ◌≤◌, ◌⊎◌, true, false, IsTrue, List, [], ◌∷◌, ◌++◌, length, Option, Some, None, refl, sym, ap, ◌∙◌, subst, inl, inr, arith}
+use Rattle.std.proofs.lemmas.Bool.{cases_lt}
+use Rattle.egt_board.specs.declared.man.Kind.{Kind}
+use Rattle.egt_board.specs.declared.man.Kind.TheVariants.{Q, R, B, N, P, K}
+use Rattle.egt_board.specs.declared.man.Side.{Side}
+use Rattle.egt_board.specs.declared.man.Side.TheVariants.{White, Black}
+use Rattle.egt_board.specs.Setup.{Setup, IsAdmissible}
+use Rattle.egt_fen.specs.declared.fen.Fen.{Fen}
+use Rattle.egt_moves.specs.Arena.{Value, Win, Loss, Draw}
+use Rattle.egt_moves.specs.Found.{mate_by}
+use Rattle.egt_moves.specs.Legal.{Leads}
+use Rattle.egt_moves.specs.Order.{place_of, promotion_place}
+use Rattle.egt_moves.specs.declared.chess_move.Move.{Move}
+use Rattle.egt_probe.specs.Answer.{Reports}
+use Rattle.egt_probe.specs.Facts.{Facts}
+use Rattle.egt_probe.specs.Hold.{IsHold}
+use Rattle.egt_probe.specs.Line.{IsFirstTo, next_value, plies_of, IsLine}
+use Rattle.egt_probe.specs.Loaded.{Loaded, IsOfClass, IsMissing}
+use Rattle.egt_probe.specs.Report.{PositionReport, Unloaded, Decisive, Drawn, Report, Long, Refused, Answered}
+use Rattle.egt_probe.specs.Text.{decided_text, drawn_text, missing_text, refused_text}
+
+-- the next value is one ply nearer
+next_plies : (v w : Value) → next_value v ≡ Some w → plies_of v ≡ suc (plies_of w)
+next_plies (Win zero) w e = absurd (cc)
+next_plies (Win (suc n)) w e = let same : Loss n ≡ w = cc in ap (λ (u : Value). suc (plies_of u)) same
+next_plies (Loss zero) w e = absurd (cc)
+next_plies (Loss (suc n)) w e = let same : Win n ≡ w = cc in ap (λ (u : Value). suc (plies_of u)) same
+next_plies Draw w e = absurd (cc)
+
+-- a line has a move a ply
+pub as_long : (p : Setup) (v : Value) (ms : List Move) → IsLine p v ms → length ms ≡ plies_of v
+as_long p v [] line = sym (ap plies_of line.0)
+as_long p v (m ∷ ms) line = ap (λ (n : ℕ). suc n) (as_long line.1.1 line.1.0 ms line.1.4) ∙ sym (next_plies v line.1.0 line.1.2)
+
+promotion_at : ℕ → Option Kind
+promotion_at zero = None
+promotion_at (suc zero) = Some Q
+promotion_at (suc (suc zero)) = Some R
+promotion_at (suc (suc (suc zero))) = Some B
+promotion_at (suc (suc (suc (suc zero)))) = Some N
+promotion_at (suc (suc (suc (suc (suc zero))))) = Some P
+promotion_at (suc (suc (suc (suc (suc (suc n)))))) = Some K
+
+promotion_back : (o : Option Kind) → promotion_at (promotion_place o) ≡ o
+unfolding promotion_at
+promotion_back None = refl
+promotion_back (Some Q) = refl
+promotion_back (Some R) = refl
+promotion_back (Some B) = refl
+promotion_back (Some N) = refl
+promotion_back (Some P) = refl
+promotion_back (Some K) = refl
+
+promotion_below : (o : Option Kind) → promotion_place o < 8
+promotion_below None = omega arith
+promotion_below (Some Q) = omega arith
+promotion_below (Some R) = omega arith
+promotion_below (Some B) = omega arith
+promotion_below (Some N) = omega arith
+promotion_below (Some P) = omega arith
+promotion_below (Some K) = omega arith
+
+-- moves on the board with one place are one move
+same_place : (m n : Move) → m.to < 64 → n.to < 64 → place_of m ≡ place_of n → m ≡ n
+same_place m n m_in n_in e =
+    let low = promotion_below m.promo in
+    let high = promotion_below n.promo in
+    let from : m.from ≡ n.from = omega (arith, e, m_in, n_in, low, high) in
+    let to : m.to ≡ n.to = omega (arith, e, m_in, n_in, low, high) in
+    let place : promotion_place m.promo ≡ promotion_place n.promo = omega (arith, e, m_in, n_in, low, high) in
+    let promo : m.promo ≡ n.promo = sym (promotion_back m.promo) ∙ ap promotion_at place ∙ promotion_back n.promo in
+    λ i. record { from = from i; to = to i; promo = promo i }
+
+-- the winner and the plies of a value
+won_by : (s w x : Side) (n k : ℕ) → mate_by s w n ≡ mate_by s x k → (w ≡ x) × (n ≡ k)
+won_by White White White n k e = (refl, cc)
+won_by White White Black n k e = absurd (cc)
+won_by White Black White n k e = absurd (cc)
+won_by White Black Black n k e = (refl, cc)
+won_by Black White White n k e = (refl, cc)
+won_by Black White Black n k e = absurd (cc)
+won_by Black Black White n k e = absurd (cc)
+won_by Black Black Black n k e = (refl, cc)
+
+not_drawn : (s w : Side) (n : ℕ) → mate_by s w n ≡ Draw → ⊥
+not_drawn White White n e = absurd (cc)
+not_drawn White Black n e = absurd (cc)
+not_drawn Black White n e = absurd (cc)
+not_drawn Black Black n e = absurd (cc)
+
+module _ (facts : Facts) where
+  one_first : (p q r : Setup) (v : Value) (m n : Move) → IsAdmissible p → IsFirstTo v p m q → IsFirstTo v p n r → m ≡ n
+  one_first p q r v m n ok here there = same_place m n (facts.within p q m ok here.leads).1 (facts.within p r n ok there.leads).1 (of_order (cases_lt (place_of m) (place_of n)) (cases_lt (place_of n) (place_of m)))
+    where
+      of_order : (place_of m < place_of n) ⊎ (place_of n ≤ place_of m) → (place_of n < place_of m) ⊎ (place_of m ≤ place_of n) → place_of m ≡ place_of n
+      of_order (inl lt) behind = absurd (there.first m q lt here.leads here.value)
+      of_order (inr ge) (inl lt) = absurd (here.first n r lt there.leads there.value)
+      of_order (inr ge) (inr le) = omega (arith, ge, le)
+
+  one_line : (p : Setup) (v : Value) (ms ns : List Move) → IsAdmissible p → IsLine p v ms → IsLine p v ns → ms ≡ ns
+  one_line p v [] [] ok here there = refl
+  one_line p v [] (n ∷ ns) ok here there = let bad : None ≡ Some there.1.0 = sym (ap next_value here.0) ∙ there.1.2 in absurd (cc)
+  one_line p v (m ∷ ms) [] ok here there = let bad : None ≡ Some here.1.0 = sym (ap next_value there.0) ∙ here.1.2 in absurd (cc)
+  one_line p v (m ∷ ms) (n ∷ ns) ok here there =
+      let w = here.1.0 in
+      let q = here.1.1 in
+      let r = there.1.1 in
+      let next : Some there.1.0 ≡ Some w = sym there.1.2 ∙ here.1.2 in
+      let same : there.1.0 ≡ w = cc in
+      let first = subst (λ (u : Value). IsFirstTo u p n r) same there.1.3 in
+      let move : m ≡ n = one_first p q r w m n ok here.1.3 first in
+      let leads = subst (λ (k : Move). Leads p k r) (sym move) first.leads in
+      let to : r ≡ q = facts.one_next p r q m leads here.1.3.leads in
+      let rest = subst (λ (s : Setup). IsLine s w ns) to (subst (λ (u : Value). IsLine r u ns) same there.1.4) in
+      let tails : ms ≡ ns = one_line q w ms ns (facts.step_admissible p q m ok here.1.3.leads) here.1.4 rest in
+      ap (λ (k : Move). k ∷ ms) move ∙ ap (λ (ks : List Move). n ∷ ks) tails
+
+  one_hold : (p : Setup) (h k : Option Move) → IsAdmissible p → IsHold p h → IsHold p k → h ≡ k
+  one_hold p None None ok here there = refl
+  one_hold p None (Some n) ok here there = absurd (here.1.stuck n (there.1.0, there.1.1.leads))
+  one_hold p (Some m) None ok here there = absurd (there.1.stuck m (here.1.0, here.1.1.leads))
+  one_hold p (Some m) (Some n) ok here there = ap (λ (k : Move). Some k) (one_first p here.1.0 there.1.0 Draw m n ok here.1.1 there.1.1)
+
+  same_class : (p : Setup) (c d : ℕ) → IsOfClass c p → IsOfClass d p → c ≡ d
+  same_class p c d here there = facts.one_class p c d here.flipped there.flipped here.below there.below here.of there.of
+
+  not_both : (loaded : Loaded) (p : Setup) (c d : ℕ) → IsMissing loaded p c → IsOfClass d p → IsTrue (loaded d) → ⊥
+  not_both loaded p c d missing of there =
+      let same = same_class p c d missing.of of in
+      let bad : false ≡ true = sym missing.absent ∙ ap loaded same ∙ there in cc
+
+  one_position_report : (loaded : Loaded) (p : Setup) (one other : List ℕ) → IsAdmissible p → PositionReport loaded p one → PositionReport loaded p other → one ≡ other
+  one_position_report loaded p one other ok (Unloaded c miss e) (Unloaded d miss' e') = e ∙ ap missing_text (same_class p c d miss.of miss'.of) ∙ sym e'
+  one_position_report loaded p one other ok (Unloaded c miss e) (Decisive d w n z ms there v line e') = absurd (not_both loaded p c d miss v.class there)
+  one_position_report loaded p one other ok (Unloaded c miss e) (Drawn d held there v hold e') = absurd (not_both loaded p c d miss v.class there)
+  one_position_report loaded p one other ok (Decisive c w n z ms there v line e) (Unloaded d miss e') = absurd (not_both loaded p d c miss v.class there)
+  one_position_report loaded p one other ok (Decisive c w n z ms there v line e) (Decisive d x k y ns there' v' line' e') =
+      let mates = won_by p.side w x n k (facts.one_value p (mate_by p.side w n) (mate_by p.side x k) v.mate v'.mate) in
+      let zeroes = won_by p.side w x z y (facts.one_zeroing p (mate_by p.side w z) (mate_by p.side x y) v.zeroing v'.zeroing) in
+      let class = same_class p c d v.class v'.class in
+      let back = subst (λ (j : ℕ). IsLine p (mate_by p.side w j) ns) (sym mates.1) (subst (λ (s : Side). IsLine p (mate_by p.side s k) ns) (sym mates.0) line') in
+      let moves : ms ≡ ns = one_line p (mate_by p.side w n) ms ns ok line back in
+      e ∙ ap (λ (a : ℕ). decided_text a w n z ms) class ∙ ap (λ (s : Side). decided_text d s n z ms) mates.0 ∙ ap (λ (j : ℕ). decided_text d x j z ms) mates.1 ∙ ap (λ (j : ℕ). decided_text d x k j ms) zeroes.1
+      ∙ ap (decided_text d x k y) moves ∙ sym e'
+  one_position_report loaded p one other ok (Decisive c w n z ms there v line e) (Drawn d held there' v' hold e') =
+      absurd (not_drawn p.side w n (facts.one_value p (mate_by p.side w n) Draw v.mate v'.mate))
+  one_position_report loaded p one other ok (Drawn c held there v hold e) (Unloaded d miss e') = absurd (not_both loaded p d c miss v.class there)
+  one_position_report loaded p one other ok (Drawn c held there v hold e) (Decisive d x k y ns there' v' line' e') =
+      absurd (not_drawn p.side x k (facts.one_value p (mate_by p.side x k) Draw v'.mate v.mate))
+  one_position_report loaded p one other ok (Drawn c held there v hold e) (Drawn d held' there' v' hold' e') =
+      e ∙ ap (λ (a : ℕ). drawn_text a held) (same_class p c d v.class v'.class) ∙ ap (drawn_text d) (one_hold p held held' ok hold hold') ∙ sym e'
+
+  pub one_report : (loaded : Loaded) (line one other : List ℕ) → Report loaded line one → Report loaded line other → one ≡ other
+  one_report loaded line one other (Long long e) (Long long' e') = e ∙ sym e'
+  one_report loaded line one other (Long long e) (Refused fault short first e') = absurd (omega (arith, long, short))
+  one_report loaded line one other (Long long e) (Answered fen short spells told) = absurd (omega (arith, long, short))
+  one_report loaded line one other (Refused fault short first e) (Long long e') = absurd (omega (arith, long, short))
+  one_report loaded line one other (Refused fault short first e) (Refused fault' short' first' e') = e ∙ ap refused_text (facts.one_fault line fault fault' first first') ∙ sym e'
+  one_report loaded line one other (Refused fault short first e) (Answered fen short' spells told) = absurd (facts.no_fault line fen fault spells first)
+  one_report loaded line one other (Answered fen short spells told) (Long long e') = absurd (omega (arith, long, short))
+  one_report loaded line one other (Answered fen short spells told) (Refused fault short' first e') = absurd (facts.no_fault line fen fault spells first)
+  one_report loaded line one other (Answered fen short spells told) (Answered fen' short' spells' told') =
+      let same : fen' ≡ fen = facts.one_meaning line fen' fen spells' spells in
+      one_position_report loaded fen.position one other spells.admissible told (subst (λ (f : Fen). PositionReport loaded f.position other) same told')
+
+module _ (facts : Facts) (loaded others : Loaded) (same : (c : ℕ) → loaded c ≡ others c) where
+  -- the reports of some lines are the same wherever the same classes are loaded
+  pub one_answer : (lines : List (List ℕ)) (one other : List ℕ) → Reports loaded lines one → Reports others lines other → one ≡ other
+  one_answer [] one other here there = here ∙ sym there
+  one_answer (line ∷ lines) one other here there =
+      let alike : loaded ≡ others = λ i c. same c i in
+      let first : here.0 ≡ there.0 = one_report facts others line here.0 there.0 (subst (λ (l : Loaded). Report l line here.0) alike here.2) there.2 in
+      let rest : here.1 ≡ there.1 = one_answer lines here.1 there.1 here.3 there.3 in
+      here.4 ∙ ap (λ (t : List ℕ). t ++ 10 ∷ here.1) first ∙ ap (λ (t : List ℕ). there.0 ++ 10 ∷ t) rest ∙ sym there.4

@@ -1,0 +1,12 @@
+pub mod Loaded
+pub mod Shelves
+pub mod Verdict
+pub mod Line
+pub mod Hold
+pub mod Fault
+pub mod Facts
+pub mod Search
+pub mod Text
+pub mod Report
+pub mod Lines
+pub mod Answer

@@ -1,0 +1,25 @@
+-- What entries of tables tell of a position and of where its moves lead.
+use Rattle.std.specs.Prelude.{◌≢◌, ℕ, ◌<◌}
+use Rattle.egt_board.specs.Setup.{Setup}
+use Rattle.egt_moves.specs.Arena.{Value, HasValue}
+use Rattle.egt_moves.specs.Chess.{chess}
+use Rattle.egt_moves.specs.Legal.{Leads}
+use Rattle.egt_moves.specs.Order.{place_of}
+use Rattle.egt_moves.specs.declared.chess_move.Move.{Move}
+use Rattle.egt_check.specs.Entry.{Shows}
+
+-- the entry shows the position's value
+pub record ShowsValue (p : Setup) (x : ℕ) : Type 0 where
+  pub value : Value
+  pub has : HasValue chess p value
+  pub shows : Shows x value
+
+-- the move leads to no position whose entry is that
+abbrev pub Misses : Setup → ℕ → Move → Type 0
+Misses p x m = (q : Setup) → Leads p m q → (y : ℕ) × ShowsValue q y × (y ≢ x)
+
+-- the first move that leads to a position with that entry
+pub record IsFirstWith (p : Setup) (x : ℕ) (m : Move) (q : Setup) : Type 0 where
+  pub leads : Leads p m q
+  pub shows : ShowsValue q x
+  pub first : (n : Move) → place_of n < place_of m → Misses p x n

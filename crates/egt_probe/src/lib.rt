@@ -1,0 +1,27 @@
+//! The prober: what checked tables tell of a position, its line of best play or its move that holds a draw, and reports of
+//! many positions.
+#![tactic(auto)]
+
+pub mod answering;
+pub mod best_line;
+pub mod facts;
+pub mod fault;
+pub mod first_move;
+pub mod holding;
+pub mod laws;
+pub mod looking;
+pub mod open_line;
+pub mod outcome;
+pub mod reporting;
+pub mod wording;
+pub mod writing;
+
+pub use answering::answer;
+pub use best_line::line;
+pub use fault::{AnswerFault, HoldFault, LineFault};
+pub use holding::hold;
+pub use looking::verdict;
+pub use outcome::{Missing, Outcome, Verdict};
+
+#[cfg(test)]
+mod tests;
