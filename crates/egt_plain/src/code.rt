@@ -84,7 +84,7 @@ impl PlainPosition {
 
     /// Whether it is a position: the kings do not touch, the third man has a square to itself where it may stand, and the black
     /// king is not attacked with White to move.
-    pub(crate) fn is_position(self) -> bool {
+    pub fn is_position(self) -> bool {
         if touch(self.white_king, self.black_king) {
             return false;
         }

@@ -6,7 +6,7 @@ use egt_class::{Class, of};
 use egt_graph::Ranks;
 use egt_index::{index, size};
 use egt_table::{Column, Table};
-use std::alloc::{AllocError, Global};
+use std::alloc::{AllocError, AllocFailed, Global};
 use thiserror::Error;
 
 /// What keeps a table from being filled.
@@ -25,6 +25,12 @@ pub enum Unlike {
 
 impl From<AllocError> for Unlike {
     fn from(_error: AllocError) -> Unlike {
+        Unlike::NoMemory
+    }
+}
+
+impl<T: Drop> From<AllocFailed<T>> for Unlike {
+    fn from(_error: AllocFailed<T>) -> Unlike {
         Unlike::NoMemory
     }
 }
@@ -87,6 +93,43 @@ pub fn plain_code(position: &Position) -> Option<(usize, usize)> {
     Some((class, plain.code()))
 }
 
+/// For each plain code of a class, by number, the product's index of its position, or none where it is no position.
+///
+/// # Errors
+///
+/// `Position` where a code is a position here and not for the product, or the other way, and for a class from 6 on; `NoMemory` where
+/// a growth was refused.
+pub fn indexes(alloc: Global, class: u8) -> Result<Vec<Option<u32>>, Unlike> {
+    let Some(asked) = Class::new(class) else {
+        return Err(Unlike::Position);
+    };
+    let Some(third) = THIRD.get(usize::from(class)) else {
+        return Err(Unlike::Position);
+    };
+    let mut indexes = Vec::with_capacity(alloc, code_count(*third))?;
+    for code in 0..code_count(*third) {
+        let plain = PlainPosition::of_code(*third, code);
+        let position = position_of(plain);
+        if position.is_some() != plain.is_position() {
+            return Err(Unlike::Position);
+        }
+        indexes.push(match position {
+            Some(position) => Some(index_in(asked, &position)?),
+            None => None,
+        })?;
+    }
+    Ok(indexes)
+}
+
+/// The product's index of a position, which is to be of the class.
+fn index_in(asked: Class, position: &Position) -> Result<u32, Unlike> {
+    let (class, _) = of(position);
+    if class != asked {
+        return Err(Unlike::Position);
+    }
+    Ok(index(class, position))
+}
+
 /// Puts an entry where there is none yet, or the same.
 fn put(column: &mut [u16], index: u32, entry: u16) -> Result<(), Unlike> {
     match column.get_mut(index as usize) {
@@ -98,53 +141,62 @@ fn put(column: &mut [u16], index: u32, entry: u16) -> Result<(), Unlike> {
     }
 }
 
-/// A column of the product's table of a class, by number: the entry of each code that is a position, at its index.
-fn column_of(
+/// A column of a class as the product has it: the entry of each code that is a position, at its index.
+fn filled(
     alloc: Global,
-    tables: &PlainTables,
-    class: u8,
-    column: Column,
-) -> Result<Ranks, Unlike> {
-    let Some(asked) = Class::new(class) else {
-        return Err(Unlike::Position);
-    };
-    let Some(third) = THIRD.get(usize::from(class)) else {
-        return Err(Unlike::Position);
-    };
-    let entries = tables.entries(usize::from(class), column);
-    let mut filled = vec![in alloc; 0; size(asked) as usize]?;
-    for (code, entry) in entries.iter().enumerate() {
-        let position = position_of(PlainPosition::of_code(*third, code));
-        if position.is_some() != (*entry != 0) {
-            return Err(Unlike::Position);
-        }
-        if let Some(position) = position {
-            let (found, _) = of(&position);
-            if found != asked {
-                return Err(Unlike::Position);
-            }
-            put(&mut filled, index(found, &position), *entry)?;
-        }
-    }
-    if entries.len() != code_count(*third) {
+    class: Class,
+    indexes: &[Option<u32>],
+    entries: &[u16],
+) -> Result<Vec<u16>, Unlike> {
+    let mut column = vec![in alloc; 0; size(class) as usize]?;
+    if entries.len() != indexes.len() {
         return Err(Unlike::Position);
     }
-    Ok(Ranks::from_entries(filled))
+    for (index, entry) in indexes.iter().zip(entries) {
+        if let Some(index) = index {
+            put(&mut column, *index, *entry)?;
+        }
+    }
+    Ok(column)
 }
 
-/// The product's table of a class, by number, that was solved.
+/// The columns of a class that was solved, by number, as the product has them, with the mate column first.
 ///
 /// # Errors
 ///
-/// `Position` where a code is a position here and not for the product, or the other way; `Entry` where two codes have one index and
-/// different entries; `NoMemory` where a growth was refused.
+/// Those of `indexes`, and `Entry` where two codes have one index and different entries.
+pub fn columns_of(
+    alloc: Global,
+    tables: &PlainTables,
+    class: u8,
+) -> Result<(Vec<u16>, Vec<u16>), Unlike> {
+    let indexes = indexes(alloc, class)?;
+    let Some(asked) = Class::new(class) else {
+        return Err(Unlike::Position);
+    };
+    let mate = tables.entries(usize::from(class), Column::Mate);
+    let zeroing = tables.entries(usize::from(class), Column::Zeroing);
+    Ok((
+        filled(alloc, asked, &indexes, mate)?,
+        filled(alloc, asked, &indexes, zeroing)?,
+    ))
+}
+
+/// The product's table of a class that was solved, by number.
+///
+/// # Errors
+///
+/// Those of `columns_of`.
 pub fn table_of(alloc: Global, tables: &PlainTables, class: u8) -> Result<Table, Unlike> {
     let Some(asked) = Class::new(class) else {
         return Err(Unlike::Position);
     };
-    let mate = column_of(alloc, tables, class, Column::Mate)?;
-    let zeroing = column_of(alloc, tables, class, Column::Zeroing)?;
-    match Table::from_ranks(asked, mate, zeroing) {
+    let (mate, zeroing) = columns_of(alloc, tables, class)?;
+    match Table::from_ranks(
+        asked,
+        Ranks::from_entries(mate),
+        Ranks::from_entries(zeroing),
+    ) {
         Ok(table) => Ok(table),
         Err(_columns) => Err(Unlike::Position),
     }

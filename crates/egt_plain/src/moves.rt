@@ -35,13 +35,13 @@ const PROMOTIONS: [Kind; 4] = [Kind::Q, Kind::R, Kind::B, Kind::N];
 
 /// What a move leads to, if it leaves no king in check, and whether it captures or a pawn makes it.
 #[derive(Clone, Copy, Default)]
-pub(crate) struct Successor {
-    pub(crate) position: PlainPosition,
-    pub(crate) zeroes: bool,
+pub struct Successor {
+    pub position: PlainPosition,
+    pub zeroes: bool,
 }
 
 /// At most eight moves of a king and 27 of a queen.
-pub(crate) type Successors = ArrayVec<Successor, 40>;
+pub type Successors = ArrayVec<Successor, 40>;
 
 /// The square one step away, if there is one.
 fn stepped(square: u8, step: (u8, u8)) -> Option<u8> {
@@ -81,7 +81,7 @@ impl PlainPosition {
     }
 
     /// Whether the third man attacks the black king.
-    pub(crate) fn checks_black(self) -> bool {
+    pub fn checks_black(self) -> bool {
         match self.third {
             Some((Kind::P, square)) => {
                 stepped(square, (1, 1)) == Some(self.black_king)
@@ -97,8 +97,8 @@ impl PlainPosition {
         }
     }
 
-    /// All that a move leads to. Some of them leave a king in check or beside the other, and are no positions.
-    pub(crate) fn successors(self) -> Successors {
+    /// All that moves lead to, without asking whether they leave a king in check: those that do are no positions.
+    pub fn successors(self) -> Successors {
         let mut list = ArrayVec::new();
         if self.black_moves {
             self.move_black_king(&mut list);

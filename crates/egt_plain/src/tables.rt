@@ -2,14 +2,12 @@
 use crate::code::{PlainPosition, THIRD};
 use crate::mates::solve_mates;
 use crate::zeroing::solve_zeroing;
-use egt_board::Kind;
 use egt_table::Column;
 use std::alloc::{AllocError, Global};
 
 /// The columns of a class, by code.
 #[derive(Drop)]
 pub(crate) struct PlainTable {
-    pub(crate) third: Option<Kind>,
     pub(crate) mate: Vec<u16>,
     pub(crate) zeroing: Vec<u16>,
 }
@@ -30,11 +28,7 @@ impl PlainTables {
         for third in THIRD.iter().take(classes) {
             let mate = solve_mates(alloc, *third, &solved)?;
             let zeroing = solve_zeroing(alloc, *third, &mate, &solved)?;
-            solved.tables.push(PlainTable {
-                third: *third,
-                mate,
-                zeroing,
-            })?;
+            solved.tables.push(PlainTable { mate, zeroing })?;
         }
         Ok(solved)
     }
@@ -50,15 +44,20 @@ impl PlainTables {
         }
     }
 
-    /// The mate entry of a position of a class that was solved; 0 where it is none.
-    pub(crate) fn mate_of(&self, position: PlainPosition) -> u16 {
+    /// The entry of a position of a class that was solved; 0 where it is none.
+    pub fn entry_of(&self, column: Column, position: PlainPosition) -> u16 {
         let kind = position.third.map(|(kind, _)| kind);
-        for table in &self.tables {
-            if table.third == kind {
-                return entry_at(&table.mate, position.code());
+        for (class, third) in THIRD.iter().enumerate() {
+            if *third == kind {
+                return entry_at(self.entries(class, column), position.code());
             }
         }
         0
+    }
+
+    /// Its mate entry.
+    pub(crate) fn mate_of(&self, position: PlainPosition) -> u16 {
+        self.entry_of(Column::Mate, position)
     }
 }
 

@@ -6,12 +6,13 @@ use std::alloc::Global;
 use std::test::Fail;
 use std::{env, fs, process};
 
-/// A folder of this process for one test.
+/// A new folder of this process for one test; what a process of the same number left behind is removed.
 fn folder(rt: &HostRuntime, name: &str) -> Result<String, Fail> {
     let process = process::id(rt.process());
     let temp = env::temp_dir(rt)?;
     let temp = temp.as_path().as_str();
     let folder = format!(in rt.alloc(); "{temp}/egtb-{process}-{name}")?;
+    let _ = fs::remove_dir_all(rt, folder.as_str());
     fs::create_dir(rt, folder.as_str())?;
     Ok(folder)
 }
@@ -58,7 +59,8 @@ fn the_file_of_two_kings(rt: HostRuntime) -> Result<(), Fail> {
     let folder = folder(&rt, "kings")?;
     put(&rt, &folder, "KK.egt", &file)?;
     assert!(rt; run_words(&rt, &["check", &folder, "KK"])?.is(0, "ok KK\n", ""));
-    let lines = "class KK\nentries 1280\nvoid 818\ndraws 462\nwins 0\nlosses 0\nlongest win -\nlongest loss -\n";
+    let lines =
+        "class KK\nentries 1280\nvoid 818\ndraws 462\nwins 0\nlosses 0\nlongest win -\nlongest loss -\n";
     assert!(rt; run_words(&rt, &["stats", &folder, "KK"])?.is(0, lines, ""));
     for words in [["check", &folder, "KK"], ["stats", &folder, "KK"]] {
         let (status, err) = run_failing(&rt, &words, 1, 0)?;
@@ -113,10 +115,18 @@ fn damaged_files(rt: HostRuntime) -> Result<(), Fail> {
     let file = kings(rt.alloc())?;
     let folder = folder(&rt, "damaged")?;
     for (place, byte, line) in CHANGES {
-        put(&rt, &folder, "KK.egt", &changed(rt.alloc(), &file, place, byte)?)?;
+        put(
+            &rt,
+            &folder,
+            "KK.egt",
+            &changed(rt.alloc(), &file, place, byte)?,
+        )?;
         assert!(rt; both_print(&rt, &folder, "KK", 1, line)?, "{line}");
     }
-    put(&rt, &folder, "KK.egt", file.as_slice().split_at(5135).0)?;
+    let Some((_, shorter)) = file.as_slice().split_last() else {
+        return Err(Fail::new("an empty file"));
+    };
+    put(&rt, &folder, "KK.egt", shorter)?;
     assert!(rt; both_print(&rt, &folder, "KK", 1, "error KK file 2 Short\n")?);
     let mut longer = changed(rt.alloc(), &file, 0, b'E')?;
     longer.push(0)?;
@@ -158,9 +168,16 @@ fn a_folder_in_the_place_of_a_file(rt: HostRuntime) -> Result<(), Fail> {
 #[test]
 fn words_that_name_no_class(rt: HostRuntime) -> Result<(), Fail> {
     for class in ["K", "kk", "KKQ", "KPKPK", "", "KQK "] {
-        assert!(rt; both_print(&rt, "nowhere", class, 2, "error class\n")?, "{class}");
+        assert!(rt;
+            both_print(&rt, "nowhere", class, 2, "error class\n")?,
+            "{class}"
+        );
     }
-    let wrong: [&[&str]; 3] = [&["check", "nowhere"], &["stats"], &["check", ".", "KK", "KK"]];
+    let wrong: [&[&str]; 3] = [
+        &["check", "nowhere"],
+        &["stats"],
+        &["check", ".", "KK", "KK"],
+    ];
     for words in wrong {
         let ran = run_words(&rt, words)?;
         assert!(rt; ran.status == 2 && ran.out.bytes().is_empty() && !ran.err.bytes().is_empty());
@@ -173,27 +190,38 @@ fn has_line(text: &[u8], line: &[u8]) -> bool {
     text.split(|byte| *byte == b'\n').any(|found| found == line)
 }
 
+/// Whether the statistics of a class have these lines.
+fn tells(rt: &HostRuntime, folder: &str, class: &str, lines: &[&[u8]]) -> Result<bool, Fail> {
+    let ran = run_words(rt, &["stats", folder, class])?;
+    let all = lines.iter().all(|line| has_line(ran.out.bytes(), line));
+    Ok(all && ran.status == 0 && ran.err.bytes().is_empty())
+}
+
 // The longest wins of the literature: a queen mates in at most 10 moves and a rook in at most 16.
 #[test]
 fn a_queen_and_a_rook(rt: HostRuntime) -> Result<(), Fail> {
     let folder = folder(&rt, "pieces")?;
     let tables = PlainTables::solve(rt.alloc(), 3)?;
     let rook = file_of(rt.alloc(), &tables, 2, 327_696)?;
-    put(&rt, &folder, "KK.egt", &file_of(rt.alloc(), &tables, 0, 5136)?)?;
+    put(
+        &rt,
+        &folder,
+        "KK.egt",
+        &file_of(rt.alloc(), &tables, 0, 5136)?,
+    )?;
     put(&rt, &folder, "KQK.egt", &rook)?;
     assert!(rt; both_print(&rt, &folder, "KQK", 1, "error KQK file 6 Class\n")?);
-    put(&rt, &folder, "KQK.egt", &file_of(rt.alloc(), &tables, 1, 327_696)?)?;
+    put(
+        &rt,
+        &folder,
+        "KQK.egt",
+        &file_of(rt.alloc(), &tables, 1, 327_696)?,
+    )?;
     put(&rt, &folder, "KRK.egt", &rook)?;
-    for (class, name, longest) in [
-        ("KQK", b"class KQK".as_slice(), b"longest win 19".as_slice()),
-        ("KRK", b"class KRK".as_slice(), b"longest win 31".as_slice()),
-    ] {
-        let ran = run_words(&rt, &["stats", &folder, class])?;
-        assert!(rt; ran.status == 0 && ran.err.bytes().is_empty(), "{class}");
-        assert!(rt; has_line(ran.out.bytes(), name), "{class}");
-        assert!(rt; has_line(ran.out.bytes(), b"entries 81920"), "{class}");
-        assert!(rt; has_line(ran.out.bytes(), longest), "{class}");
-    }
+    let queen = [b"class KQK".as_slice(), b"entries 81920", b"longest win 19"];
+    assert!(rt; tells(&rt, &folder, "KQK", &queen)?);
+    let rook = [b"class KRK".as_slice(), b"entries 81920", b"longest win 31"];
+    assert!(rt; tells(&rt, &folder, "KRK", &rook)?);
     assert!(rt; run_words(&rt, &["check", &folder, "KQK"])?.is(0, "ok KQK\n", ""));
     fs::remove_dir_all(&rt, folder.as_str())?;
     Ok(())
