@@ -1,4 +1,3 @@
-use Rattle.std.proofs.Common.{◌≡◌, ◌≤◌, length}
 use Rattle.egt_tool.proofs.Marking.{IsMarkedFrom}
 use Rattle.egt_tool.proofs.descent.descendants.Given as goal
 

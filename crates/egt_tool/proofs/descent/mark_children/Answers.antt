@@ -1,4 +1,4 @@
-use Rattle.std.proofs.Common.{◌≡◌, ℕ, ◌<◌, ◌+◌, true, take, get_or, set, sym, subst, ◌∙◌, refl}
+use Rattle.std.proofs.Common.{◌≡◌, ℕ, ◌<◌, ◌+◌, true, take, set, sym, subst, ◌∙◌}
 use Rattle.egt_tool.proofs.Marking.{Adds, adds_more}
 use Rattle.egt_tool.proofs.descent.mark_children.Goals as goal
 

@@ -1,5 +1,4 @@
-use Rattle.std.proofs.Common.{◌≡◌, ℕ, take, length}
-use Rattle.std.specs.List.{Contains}
+use Rattle.std.proofs.Common.{take}
 use Rattle.egt_tool.proofs.Marking.{Adds}
 use Rattle.egt_tool.proofs.descent.mark_children.Given as goal
 

@@ -1,4 +1,4 @@
-use Rattle.std.proofs.Common.{◌≡◌, ℕ, ◌<◌, ◌≤◌, ◌+◌, length, Some, sym, ap, subst, ◌∙◌, refl, arith}
+use Rattle.std.proofs.Common.{◌≡◌, ℕ, ◌<◌, ◌+◌, length, sym, ap, subst, ◌∙◌, arith}
 use Rattle.egt_index.specs.Size.{size_of}
 use Rattle.egt_table.specs.Table.{entries_of}
 use Rattle.egt_table.specs.declared.column.Column.TheVariants.{Mate}
