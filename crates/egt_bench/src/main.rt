@@ -1,15 +1,17 @@
 //! Times the calls that no command of `egtb` shows: with the word `run`, the mean nanoseconds of each call over
 //! positions of a few classes drawn at random; with that word or the word `index`, those of indexes of the positions that
 //! moves lead to and of positions of consecutive codes; with it or the word `files`, how fast a table's file goes through
-//! memory. Nothing here judges a figure.
+//! memory; with it or the word `check`, how long whole tables are checked. Nothing here judges a figure.
 #![tactic(auto)]
 
 mod calls;
+mod checks;
 mod files;
 mod indexes;
 mod sample;
 
 use calls::{Call, made, moves_of};
+use checks::bench_checks;
 use egt_class::{Class, of};
 use files::bench_files;
 use indexes::{indexed, spelled, successors};
@@ -116,10 +118,12 @@ fn main(rt: HostRuntime) -> io::Result<()> {
     let mut all = false;
     let mut indexes = false;
     let mut files = false;
+    let mut checks = false;
     for word in env::args(&rt)? {
         all = all || word.as_str() == "run";
         indexes = indexes || word.as_str() == "index";
         files = files || word.as_str() == "files";
+        checks = checks || word.as_str() == "check";
     }
     if all {
         for class in ["KQkr", "KPkp", "KBNk", "KRRk"] {
@@ -136,6 +140,9 @@ fn main(rt: HostRuntime) -> io::Result<()> {
     }
     if all || files {
         bench_files(&rt, Class::at(14))?;
+    }
+    if all || checks {
+        bench_checks(&rt)?;
     }
     Ok(())
 }

@@ -1,4 +1,7 @@
-//! Tables of two kings, and why others are refused.
+//! Tables of the first six classes, and why others are refused.
+mod circle;
 mod kings;
+mod plain;
+mod reference;
 mod refused;
 mod shelved;

@@ -1,23 +1,39 @@
 //! What the program `egtb` does, as functions from its words and texts to its output.
 #![tactic(auto)]
 
+mod check;
+mod descent;
 mod fault;
 mod listing;
+mod loading;
 mod mate_text;
 mod moves;
+mod printer;
 mod program;
+mod run_fault;
+mod statistics;
+mod stats;
+mod status;
+mod tally;
+mod words;
 
 pub use fault::MovesFault;
 pub use listing::list_text;
 pub use mate_text::search_text;
 pub use moves::moves_text;
 pub use program::run;
+pub use statistics::Statistics;
+pub use stats::stats_text;
 
 #[cfg(test)]
 mod list_tests;
 #[cfg(test)]
 mod pawn_tests;
 #[cfg(test)]
+mod running;
+#[cfg(test)]
 mod search_tests;
+#[cfg(test)]
+mod table_tests;
 #[cfg(test)]
 mod tests;

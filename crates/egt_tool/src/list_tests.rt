@@ -1,5 +1,6 @@
 //! The list of classes.
-use crate::{list_text, run};
+use crate::list_text;
+use crate::running::run_words;
 use std::test::Fail;
 
 /// The lines of the list.
@@ -57,7 +58,18 @@ fn lists_the_classes(rt: HostRuntime) -> Result<(), Fail> {
 }
 
 #[test]
-fn ends_with_its_status(rt: HostRuntime) {
-    assert_eq!(rt; run(&rt, &["egtb", "list"]), 0);
-    assert_eq!(rt; run(&rt, &["egtb", "list", "KQK"]), 2);
+fn prints_the_list(rt: HostRuntime) -> Result<(), Fail> {
+    let text = list_text(rt.alloc())?;
+    let ran = run_words(&rt, &["list"])?;
+    assert!(rt;
+        ran.status == 0 && ran.out.bytes() == text.as_slice() && ran.err.bytes().is_empty()
+    );
+    Ok(())
+}
+
+#[test]
+fn takes_no_word_more(rt: HostRuntime) -> Result<(), Fail> {
+    let ran = run_words(&rt, &["list", "KQK"])?;
+    assert!(rt; ran.status == 2 && ran.out.bytes().is_empty() && !ran.err.bytes().is_empty());
+    Ok(())
 }

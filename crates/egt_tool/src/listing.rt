@@ -2,9 +2,12 @@
 ghost use Rattle.std.specs.Prelude.{◌≡◌, ◌++◌, IfOk, OnOk};
 ghost use Rattle.egt_tool.specs.Classes.{class_line, lines_below};
 
+use crate::printer::print;
+use crate::run_fault::RunFault;
 use egt_class::{Class, name};
 use egt_fen::NoMemory;
 use egt_index::size;
+use egt_table::Sink;
 use itoa::Buffer;
 use std::alloc::{AllocError, Global};
 
@@ -43,4 +46,9 @@ pub fn list_text(alloc: Global) -> Result<Vec<u8>, NoMemory>
     ensures { IfOk result (λ text. text.items ≡ lines_below 36) }
 {
     Ok(lines(alloc)?)
+}
+
+/// `egtb list`.
+pub(crate) fn print_classes<O: Sink>(alloc: Global, out: &mut O) -> Result<(), RunFault> {
+    print(out, &list_text(alloc)?)
 }

@@ -6,8 +6,11 @@ ghost use Rattle.egt_fen.specs.Fen.{Spells, IsFirstFault};
 ghost use Rattle.egt_tool.specs.Mates.{TellsMate, mate_line, no_mate_line, side_name};
 
 use crate::fault::MovesFault;
+use crate::printer::print;
+use crate::run_fault::RunFault;
 use egt_board::Side;
 use egt_moves::{Search, search};
+use egt_table::Sink;
 use std::alloc::{AllocError, Global};
 
 /// The name of a side.
@@ -73,4 +76,17 @@ pub fn search_text(alloc: Global, plies: u8, fen: &[u8]) -> Result<Vec<u8>, Move
         Ok(text) => Ok(text),
         Err(_) => Err(MovesFault::NoMemory),
     }
+}
+
+/// `egtb search N FEN`.
+pub(crate) fn print_mate<O: Sink>(
+    alloc: Global,
+    plies: u8,
+    fen: &str,
+    out: &mut O,
+) -> Result<(), RunFault>
+    requires some { 1 ≤ plies }
+    requires few { plies ≤ 6 }
+{
+    print(out, &search_text(alloc, plies, fen.as_bytes())?)
 }

@@ -6,7 +6,10 @@ ghost use Rattle.egt_fen.specs.Fen.{Spells, IsFirstFault};
 ghost use Rattle.egt_tool.specs.Moves.{ListsMoves, lines_of};
 
 use crate::fault::MovesFault;
+use crate::printer::print;
+use crate::run_fault::RunFault;
 use egt_moves::{Move, legal_moves};
+use egt_table::Sink;
 use std::alloc::{AllocError, Global};
 
 /// The texts of these moves, each followed by a line feed.
@@ -40,4 +43,9 @@ pub fn moves_text(alloc: Global, fen: &[u8]) -> Result<Vec<u8>, MovesFault>
         Ok(text) => Ok(text),
         Err(_) => Err(MovesFault::NoMemory),
     }
+}
+
+/// `egtb moves FEN`.
+pub(crate) fn print_moves<O: Sink>(alloc: Global, fen: &str, out: &mut O) -> Result<(), RunFault> {
+    print(out, &moves_text(alloc, fen.as_bytes())?)
 }

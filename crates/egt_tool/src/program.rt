@@ -1,140 +1,96 @@
-//! The program's words, and what each command prints.
-use crate::fault::MovesFault;
-use crate::listing::list_text;
-use crate::mate_text::search_text;
-use crate::moves::moves_text;
+//! A run of the program on its words.
+use crate::check::check_table;
+use crate::listing::print_classes;
+use crate::mate_text::print_mate;
+use crate::moves::print_moves;
+use crate::printer::Printer;
+use crate::run_fault::RunFault;
+use crate::stats::print_statistics;
+use crate::status::Status;
+use crate::words::command;
+use clap::ArgMatches;
 use clap::error::ErrorKind;
-use clap::{Arg, ArgMatches, Command, value_parser};
-use egt_fen::FenFault;
-use std::alloc::{AllocError, Global};
-use std::io::{self, Write};
+use egt_class::{Class, by_name};
+use egt_table::{Sink, Source};
+use std::io::Write;
+use std::rt::Files;
 
-/// The status of a run.
-#[derive(Clone, Copy, Debug, PartialEq, Eq)]
-enum Status {
-    /// All was done.
-    Done = 0,
-    /// The input or a table was refused.
-    Refused = 1,
-    /// The words are no use of the program.
-    Usage = 2,
-    /// A file or a stream failed.
-    Device = 3,
-    /// Memory was refused.
-    Memory = 4,
+/// A word of a command.
+fn word<'a>(given: &ArgMatches<'a>, name: &str) -> &'a str {
+    given.get_str(name).unwrap_or("")
 }
 
-/// The word that is a position.
-fn fen_word<'a>(alloc: Global) -> Arg<'a> {
-    Arg::new(alloc, "FEN")
-        .help("A position in Forsyth-Edwards notation, as one word")
-        .required(true)
-}
-
-/// The words of `search`.
-fn search_command<'a>(alloc: Global) -> Result<Command<'a>, AllocError> {
-    let plies = Arg::new(alloc, "N")
-        .help("How many plies to search, from 1 to 6")
-        .required(true)
-        .value_parser(value_parser!(u8).range(1..7));
-    Command::new(alloc, "search")
-        .about("Searches for a mate within so many plies")
-        .arg(plies)?
-        .arg(fen_word(alloc))
-}
-
-/// The words that the program understands.
-fn command<'a>(alloc: Global) -> Result<Command<'a>, AllocError> {
-    let moves = Command::new(alloc, "moves")
-        .about("Prints the legal moves, one a line")
-        .arg(fen_word(alloc))?;
-    let list = Command::new(alloc, "list").about("Prints the classes: number, name and size");
-    Command::new(alloc, "egtb")
-        .about("Chess endgame tables of two to four men")
-        .subcommand_required(true)
-        .subcommand(moves)?
-        .subcommand(search_command(alloc)?)?
-        .subcommand(list)
-}
-
-/// Prints `error fen NUMBER NAME`. What becomes of it changes no status.
-fn refuse(rt: &impl Eprint, fault: FenFault) -> Status {
-    let _ = eprintln!(rt; "error fen {} {}", fault.number(), fault.name());
-    Status::Refused
-}
-
-fn out_of_memory(rt: &impl Eprint) -> Status {
-    let _ = eprintln!(rt; "error memory");
-    Status::Memory
-}
-
-fn device_failed(rt: &impl Eprint) -> Status {
-    let _ = eprintln!(rt; "error device");
-    Status::Device
-}
-
-/// Prints the text that a command made.
-fn deliver<R: Print + Eprint>(rt: &R, made: Result<Vec<u8>, MovesFault>) -> Status {
-    match made {
-        Err(MovesFault::Fen(fault)) => refuse(rt, fault),
-        Err(MovesFault::NoMemory) => out_of_memory(rt),
-        Ok(text) => show(rt, text.as_slice()),
-    }
-}
-
-/// Writes a text to the standard output.
-fn show<R: Print + Eprint>(rt: &R, text: &[u8]) -> Status {
-    match io::writer(rt).write_all(text) {
-        Ok(()) => Status::Done,
-        Err(_) => device_failed(rt),
-    }
-}
-
-/// Prints what `clap` says of the words: help to the standard output, a mistake to the standard error.
-fn explain<R: Print + Eprint>(rt: &R, error: &clap::Error) -> Status {
-    if matches!(error.kind(), ErrorKind::OutOfMemory) {
-        return out_of_memory(rt);
-    }
-    match error.print(rt) {
-        Err(_) if !error.use_stderr() => device_failed(rt),
-        _ if error.use_stderr() => Status::Usage,
-        _ => Status::Done,
+/// The class that the word names.
+fn class_word(given: &ArgMatches<'_>) -> Result<Class, RunFault> {
+    match by_name(word(given, "CLASS")) {
+        Some(class) => Ok(class),
+        None => Err(RunFault::NoSuchClass),
     }
 }
 
 /// Runs the command that the words ask for.
-fn dispatch<R: Print + Eprint + AllocGlobal>(rt: &R, matches: &ArgMatches<'_>) -> Status {
-    match matches.subcommand() {
-        Some(("moves", given)) => {
-            let fen = given.get_str("FEN").unwrap_or("");
-            deliver(rt, moves_text(rt.alloc(), fen.as_bytes()))
-        }
-        Some(("search", given)) => {
-            let fen = given.get_str("FEN").unwrap_or("");
-            match given.get_one::<u8>("N") {
-                Some(plies) if 1 <= plies && plies <= 6 => {
-                    deliver(rt, search_text(rt.alloc(), plies, fen.as_bytes()))
-                }
-                _ => Status::Usage,
+fn dispatch<R: Files + AllocGlobal, O: Sink>(
+    rt: &R,
+    matches: &ArgMatches<'_>,
+    out: &mut O,
+) -> Result<(), RunFault> {
+    let (name, given) = matches.subcommand().ok_or(RunFault::Usage)?;
+    match name {
+        "moves" => print_moves(rt.alloc(), word(given, "FEN"), out),
+        "search" => match given.get_one::<u8>("N") {
+            Some(plies) if 1 <= plies && plies <= 6 => {
+                print_mate(rt.alloc(), plies, word(given, "FEN"), out)
             }
-        }
-        Some(("list", _)) => match list_text(rt.alloc()) {
-            Ok(text) => show(rt, text.as_slice()),
-            Err(_) => out_of_memory(rt),
+            _ => Err(RunFault::Usage),
         },
-        _ => Status::Usage,
+        "list" => print_classes(rt.alloc(), out),
+        "check" => check_table(rt, word(given, "DIR"), class_word(given)?, out),
+        "stats" => print_statistics(rt, word(given, "DIR"), class_word(given)?, out),
+        _ => Err(RunFault::Usage),
     }
 }
 
-/// Runs the program on its words, of which the first is its name, and answers its status: 0 where all was
-/// done, 1 where an input was refused, 2 for words that are no use of it, 3 where a stream failed, 4 for want
-/// of memory.
-pub fn run<R: Print + Eprint + AllocGlobal>(rt: &R, words: &[&str]) -> u8 {
+/// Prints why the run ends. What becomes of that text changes no status.
+fn report<E: Sink>(fault: RunFault, err: &mut E) -> Status {
+    let _ = writeln!(Printer::new(err), "{fault}");
+    fault.status()
+}
+
+/// Prints what `clap` says of the words: help to the standard output, a mistake to the standard error.
+fn explain<O: Sink, E: Sink>(said: &clap::Error, out: &mut O, err: &mut E) -> Status {
+    if matches!(said.kind(), ErrorKind::OutOfMemory) {
+        return report(RunFault::NoMemory, err);
+    }
+    if said.use_stderr() {
+        let _ = write!(Printer::new(err), "{said}");
+        return Status::Usage;
+    }
+    match write!(Printer::new(out), "{said}") {
+        Ok(()) => Status::Done,
+        Err(_) => report(RunFault::Device, err),
+    }
+}
+
+/// Runs the program on its words, of which the first is its name, and answers its status: 0 where all was done, 1 where an
+/// input or a table was refused, 2 for words that are no use of it, 3 where a file or a stream failed, 4 for want of memory.
+///
+/// `input` is the standard input, `out` the standard output and `err` the standard error, to which go the text of `clap` on
+/// wrong words and the line of an error. What becomes of a text on `err` changes no status.
+pub fn run<R: Files + AllocGlobal, I: Source, O: Sink, E: Sink>(
+    rt: &R,
+    words: &[&str],
+    _input: &mut I,
+    out: &mut O,
+    err: &mut E,
+) -> u8 {
     let status = match command(rt.alloc()) {
-        Err(_) => out_of_memory(rt),
+        Err(_) => report(RunFault::NoMemory, err),
         Ok(command) => match command.try_get_matches_from(words) {
-            Err(error) => explain(rt, &error),
-            Ok(matches) => dispatch(rt, &matches),
+            Err(said) => explain(&said, out, err),
+            Ok(matches) => match dispatch(rt, &matches, out) {
+                Ok(()) => Status::Done,
+                Err(fault) => report(fault, err),
+            },
         },
     };
     status as u8

@@ -1,5 +1,6 @@
 //! Worked texts of the search for mate.
-use crate::{run, search_text};
+use crate::running::run_words;
+use crate::search_text;
 use std::alloc::Global;
 use std::test::Fail;
 
@@ -160,22 +161,43 @@ fn finds_no_mate_sooner_than_an_engine(rt: HostRuntime) -> Result<(), Fail> {
     Ok(())
 }
 
+/// Words of so many plies.
+const NUMBERS: [&str; 7] = ["0", "1", "2", "3", "4", "5", "6"];
+
 #[test]
-fn searches_from_1_to_6_plies(rt: HostRuntime) {
+fn prints_what_it_tells(rt: HostRuntime) -> Result<(), Fail> {
+    for (plies, fen, line) in WORKED {
+        let number = NUMBERS[usize::from(plies) % NUMBERS.len()];
+        let ran = run_words(&rt, &["search", number, fen])?;
+        assert!(rt; ran.is(0, line, ""), "{fen}");
+    }
+    Ok(())
+}
+
+#[test]
+fn searches_from_1_to_6_plies(rt: HostRuntime) -> Result<(), Fail> {
     let fen = "k7/8/1K6/8/8/8/8/3Q4 b - - 0 1";
-    assert_eq!(rt; run(&rt, &["egtb", "search", "1", fen]), 0);
-    assert_eq!(rt; run(&rt, &["egtb", "search", "6", fen]), 0);
-    assert_eq!(rt; run(&rt, &["egtb", "search", "0", fen]), 2);
-    assert_eq!(rt; run(&rt, &["egtb", "search", "7", fen]), 2);
-    assert_eq!(rt; run(&rt, &["egtb", "search", "256", fen]), 2);
-    assert_eq!(rt; run(&rt, &["egtb", "search", "two", fen]), 2);
-    assert_eq!(rt; run(&rt, &["egtb", "search", "2"]), 2);
-    assert_eq!(rt;
-        run(&rt, &["egtb", "search", "2", "k7/8/8/8/8/8/8/K7 w - -"]),
-        0
+    for plies in ["0", "7", "256", "two", "-1"] {
+        let ran = run_words(&rt, &["search", plies, fen])?;
+        assert!(rt;
+            ran.status == 2 && ran.out.bytes().is_empty() && !ran.err.bytes().is_empty(),
+            "{plies}"
+        );
+    }
+    assert_eq!(rt; run_words(&rt, &["search", "2"])?.status, 2);
+    assert!(rt;
+        run_words(&rt, &["search", "2", "k7/8/8/8/8/8/8/K7 w - -"])?.is(
+            0,
+            "no mate within 2 plies\n",
+            ""
+        )
     );
-    assert_eq!(rt;
-        run(&rt, &["egtb", "search", "2", "k7/8/8/8/8/8/8/K7 w -"]),
-        1
+    assert!(rt;
+        run_words(&rt, &["search", "2", "k7/8/8/8/8/8/8/K7 w -"])?.is(
+            1,
+            "",
+            "error fen 1 FieldCount\n"
+        )
     );
+    Ok(())
 }

@@ -1,5 +1,6 @@
 //! Worked texts of the program.
-use crate::{MovesFault, moves_text, run};
+use crate::running::{run_failing, run_words};
+use crate::{MovesFault, moves_text};
 use egt_fen::FenFault;
 use std::alloc::Global;
 use std::test::Fail;
@@ -121,17 +122,85 @@ fn refuses_with_the_first_fault(rt: HostRuntime) {
 }
 
 #[test]
-fn ends_with_its_status(rt: HostRuntime) {
-    assert_eq!(rt;
-        run(&rt, &["egtb", "moves", "8/8/8/4k3/8/4K3/8/8 w - - 0 1"]),
-        0
+fn prints_the_moves(rt: HostRuntime) -> Result<(), Fail> {
+    for (fen, moves) in LEGAL_MOVES {
+        let ran = run_words(&rt, &["moves", fen])?;
+        assert!(rt;
+            ran.status == 0 && has_lines(ran.out.bytes(), moves),
+            "{fen}"
+        );
+        assert!(rt; ran.err.bytes().is_empty(), "{fen}");
+    }
+    Ok(())
+}
+
+#[test]
+fn prints_the_first_fault(rt: HostRuntime) -> Result<(), Fail> {
+    let lines = [
+        "error fen 1 FieldCount\n",
+        "error fen 1 FieldCount\n",
+        "error fen 2 Placement\n",
+        "error fen 3 Colour\n",
+        "error fen 4 Castling\n",
+        "error fen 5 EpField\n",
+        "error fen 6 Counter\n",
+        "error fen 7 MenCount\n",
+        "error fen 8 KingCount\n",
+        "error fen 9 PawnRank\n",
+        "error fen 10 EpMismatch\n",
+        "error fen 11 WaitingInCheck\n",
+    ];
+    for ((fen, _), line) in REFUSED.iter().zip(&lines) {
+        assert!(rt; run_words(&rt, &["moves", fen])?.is(1, "", line), "{fen}");
+        assert!(rt;
+            run_words(&rt, &["search", "1", fen])?.is(1, "", line),
+            "{fen}"
+        );
+    }
+    Ok(())
+}
+
+#[test]
+fn refuses_other_words(rt: HostRuntime) -> Result<(), Fail> {
+    let wrong: [&[&str]; 4] = [&[], &["moves"], &["castle"], &["moves", "k7", "w"]];
+    for words in wrong {
+        let ran = run_words(&rt, words)?;
+        assert!(rt; ran.status == 2 && ran.out.bytes().is_empty() && !ran.err.bytes().is_empty());
+    }
+    Ok(())
+}
+
+#[test]
+fn prints_its_help(rt: HostRuntime) -> Result<(), Fail> {
+    let ran = run_words(&rt, &["--help"])?;
+    assert!(rt; ran.status == 0 && ran.err.bytes().is_empty());
+    assert!(rt;
+        ran.out
+            .bytes()
+            .starts_with(b"Chess endgame tables of two to four men\n")
     );
-    assert_eq!(rt;
-        run(&rt, &["egtb", "moves", "8/8/8/4k3/8/4K3/8/8 w - - 0"]),
-        1
-    );
-    assert_eq!(rt; run(&rt, &["egtb", "moves"]), 2);
-    assert_eq!(rt; run(&rt, &["egtb", "castle"]), 2);
-    assert_eq!(rt; run(&rt, &["egtb"]), 2);
-    assert_eq!(rt; run(&rt, &["egtb", "--help"]), 0);
+    Ok(())
+}
+
+#[test]
+fn streams_that_fail(rt: HostRuntime) -> Result<(), Fail> {
+    let fen = "8/8/8/4k3/8/4K3/8/8 w - - 0 1";
+    let printing: [&[&str]; 4] = [
+        &["moves", fen],
+        &["search", "1", fen],
+        &["list"],
+        &["--help"],
+    ];
+    for words in printing {
+        let (status, err) = run_failing(&rt, words, 1, 0)?;
+        assert!(rt; status == 3 && err.bytes() == b"error device\n".as_slice());
+        // What becomes of the line changes no status.
+        let (status, err) = run_failing(&rt, words, 1, 1)?;
+        assert!(rt; status == 3 && err.bytes() != b"error device\n".as_slice());
+    }
+    let (status, _) = run_failing(&rt, &["moves", ""], 0, 1)?;
+    assert_eq!(rt; status, 1);
+    let (status, _) = run_failing(&rt, &["castle"], 0, 1)?;
+    assert_eq!(rt; status, 2);
+    Ok(())
 }

@@ -1,6 +1,7 @@
-//! The program `egtb`: hands its words to the library and ends with the status that it answers.
+//! The program `egtb`: hands its words and the standard streams to the library and ends with the status that it answers.
 #![tactic(auto)]
 
+use egt_table::{FromStd, ToStd};
 use std::io::ErrorKind;
 use std::process::ExitCode;
 use std::{env, io};
@@ -15,7 +16,13 @@ fn run(rt: &HostRuntime) -> io::Result<u8> {
     for word in &words {
         texts.push(word.as_str())?;
     }
-    Ok(egt_tool::run(rt, texts.as_slice()))
+    Ok(egt_tool::run(
+        rt,
+        texts.as_slice(),
+        &mut FromStd::new(rt.stdin()),
+        &mut ToStd::new(rt.stdout()),
+        &mut ToStd::new(rt.stderr()),
+    ))
 }
 
 fn main(rt: HostRuntime) -> io::Result<ExitCode> {

@@ -1,0 +1,70 @@
+//! The tables of the classes.
+use crate::code::{PlainPosition, THIRD};
+use crate::mates::solve_mates;
+use crate::zeroing::solve_zeroing;
+use egt_table::Column;
+use std::alloc::{AllocError, Global};
+
+/// The columns of a class, by code.
+#[derive(Drop)]
+pub(crate) struct PlainTable {
+    pub(crate) mate: Vec<u16>,
+    pub(crate) zeroing: Vec<u16>,
+}
+
+/// The tables of the classes 0 to some number of at most 5. An entry is 0 for a code that is no position, 1 for a draw, `2 + 2n` for a
+/// win in n plies and `3 + 2n` for a loss in n plies.
+#[derive(Drop)]
+pub struct PlainTables {
+    pub(crate) tables: Vec<PlainTable>,
+}
+
+impl PlainTables {
+    /// Solves the first classes, so many.
+    pub fn solve(alloc: Global, classes: usize) -> Result<PlainTables, AllocError> {
+        let mut solved = PlainTables {
+            tables: Vec::with_capacity(alloc, THIRD.len())?,
+        };
+        for third in THIRD.iter().take(classes) {
+            let mate = solve_mates(alloc, *third, &solved)?;
+            let zeroing = solve_zeroing(alloc, *third, &mate, &solved)?;
+            solved.tables.push(PlainTable { mate, zeroing })?;
+        }
+        Ok(solved)
+    }
+
+    /// The entries of a class, by number; none where it was not solved.
+    pub fn entries(&self, class: usize, column: Column) -> &[u16] {
+        match self.tables.get(class) {
+            Some(table) => match column {
+                Column::Mate => &table.mate,
+                Column::Zeroing => &table.zeroing,
+            },
+            None => &[],
+        }
+    }
+
+    /// The entry of a position of a class that was solved; 0 where it is none.
+    pub fn entry_of(&self, column: Column, position: PlainPosition) -> u16 {
+        let kind = position.third.map(|(kind, _)| kind);
+        for (class, third) in THIRD.iter().enumerate() {
+            if *third == kind {
+                return entry_at(self.entries(class, column), position.code());
+            }
+        }
+        0
+    }
+
+    /// Its mate entry.
+    pub(crate) fn mate_of(&self, position: PlainPosition) -> u16 {
+        self.entry_of(Column::Mate, position)
+    }
+}
+
+/// The entry of a code, and 0 from the end of the column on.
+pub(crate) fn entry_at(column: &[u16], code: usize) -> u16 {
+    match column.get(code) {
+        Some(entry) => *entry,
+        None => 0,
+    }
+}

@@ -1,0 +1,3 @@
+pub mod Loaded
+pub mod Marking
+pub mod Tallying
