@@ -1,6 +1,7 @@
 //! What the program `egtb` does, as functions from its words and texts to its output.
 #![tactic(auto)]
 
+mod build;
 mod check;
 mod descent;
 mod fault;
@@ -9,8 +10,10 @@ mod loading;
 mod mate_text;
 mod moves;
 mod printer;
+mod probe;
 mod program;
 mod run_fault;
+mod saving;
 mod statistics;
 mod stats;
 mod status;

@@ -16,7 +16,7 @@ use std::path::{Path, PathBuf};
 use std::rt::Files;
 
 /// The path of the class's file in the folder.
-fn path_of(alloc: Global, folder: &str, class: Class) -> Result<PathBuf, AllocError> {
+pub(crate) fn path_of(alloc: Global, folder: &str, class: Class) -> Result<PathBuf, AllocError> {
     let mut file = String::from_str(alloc, name(class).as_str())?;
     file.push_str(".egt")?;
     Path::new(folder).join(alloc, file.as_str())

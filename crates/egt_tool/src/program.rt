@@ -1,9 +1,11 @@
 //! A run of the program on its words.
+use crate::build::build_table;
 use crate::check::check_table;
 use crate::listing::print_classes;
 use crate::mate_text::print_mate;
 use crate::moves::print_moves;
 use crate::printer::Printer;
+use crate::probe::probe_lines;
 use crate::run_fault::RunFault;
 use crate::stats::print_statistics;
 use crate::status::Status;
@@ -14,6 +16,9 @@ use egt_class::{Class, by_name};
 use egt_table::{Sink, Source};
 use std::io::Write;
 use std::rt::Files;
+
+/// The most plies that a table has room for.
+const LONGEST: u16 = 32_000;
 
 /// A word of a command.
 fn word<'a>(given: &ArgMatches<'a>, name: &str) -> &'a str {
@@ -29,9 +34,10 @@ fn class_word(given: &ArgMatches<'_>) -> Result<Class, RunFault> {
 }
 
 /// Runs the command that the words ask for.
-fn dispatch<R: Files + AllocGlobal, O: Sink>(
+fn dispatch<R: Files + AllocGlobal, I: Source, O: Sink>(
     rt: &R,
     matches: &ArgMatches<'_>,
+    input: &mut I,
     out: &mut O,
 ) -> Result<(), RunFault> {
     let (name, given) = matches.subcommand().ok_or(RunFault::Usage)?;
@@ -44,6 +50,14 @@ fn dispatch<R: Files + AllocGlobal, O: Sink>(
             _ => Err(RunFault::Usage),
         },
         "list" => print_classes(rt.alloc(), out),
+        "build" => match given.get_one::<u16>("limit") {
+            None => build_table(rt, word(given, "DIR"), class_word(given)?, LONGEST, out),
+            Some(limit) if limit <= LONGEST => {
+                build_table(rt, word(given, "DIR"), class_word(given)?, limit, out)
+            }
+            Some(_) => Err(RunFault::Usage),
+        },
+        "probe" => probe_lines(rt, word(given, "DIR"), class_word(given)?, input, out),
         "check" => check_table(rt, word(given, "DIR"), class_word(given)?, out),
         "stats" => print_statistics(rt, word(given, "DIR"), class_word(given)?, out),
         _ => Err(RunFault::Usage),
@@ -79,7 +93,7 @@ fn explain<O: Sink, E: Sink>(said: &clap::Error, out: &mut O, err: &mut E) -> St
 pub fn run<R: Files + AllocGlobal, I: Source, O: Sink, E: Sink>(
     rt: &R,
     words: &[&str],
-    _input: &mut I,
+    input: &mut I,
     out: &mut O,
     err: &mut E,
 ) -> u8 {
@@ -87,7 +101,7 @@ pub fn run<R: Files + AllocGlobal, I: Source, O: Sink, E: Sink>(
         Err(_) => report(RunFault::NoMemory, err),
         Ok(command) => match command.try_get_matches_from(words) {
             Err(said) => explain(&said, out, err),
-            Ok(matches) => match dispatch(rt, &matches, out) {
+            Ok(matches) => match dispatch(rt, &matches, input, out) {
                 Ok(()) => Status::Done,
                 Err(fault) => report(fault, err),
             },

@@ -4,6 +4,7 @@ use crate::status::Status;
 use egt_check::Reject;
 use egt_class::{Class, name};
 use egt_fen::{FenFault, NoMemory};
+use egt_sweep::BuildFault;
 use egt_table::{Column, FileFault};
 use std::alloc::AllocError;
 use std::fmt;
@@ -23,6 +24,8 @@ pub(crate) enum RunFault {
     File(Class, FileFault),
     /// The class's table was refused.
     Check(Class, Reject),
+    /// The class's table was not built.
+    Build(BuildFault),
     /// A file or a stream failed.
     Device,
     /// A growth of memory was refused.
@@ -42,8 +45,11 @@ impl RunFault {
     /// The status of a run that it ends.
     pub(crate) fn status(&self) -> Status {
         match self {
-            RunFault::Fen(_) | RunFault::NoFile(_) | RunFault::File(_, _) | RunFault::Check(_, _) =>
-                Status::Refused,
+            RunFault::Fen(_)
+            | RunFault::NoFile(_)
+            | RunFault::File(_, _)
+            | RunFault::Check(_, _)
+            | RunFault::Build(_) => Status::Refused,
             RunFault::NoSuchClass | RunFault::Usage => Status::Usage,
             RunFault::Device => Status::Device,
             RunFault::NoMemory => Status::Memory,
@@ -82,6 +88,18 @@ fn write_reject<W: fmt::Write>(reject: &Reject, f: &mut fmt::Formatter<W>) -> fm
     }
 }
 
+/// Writes what a fault of the builder tells besides its number and name: the limit, or the child.
+fn write_built<W: fmt::Write>(fault: &BuildFault, f: &mut fmt::Formatter<W>) -> fmt::Result {
+    match fault {
+        BuildFault::TooDeep(limit) => write!(f, " {limit}"),
+        BuildFault::Missing(child) => {
+            let child = name(*child);
+            write!(f, " {child}")
+        }
+        BuildFault::NoMemory => Ok(()),
+    }
+}
+
 impl fmt::Display for RunFault {
     fn fmt<W: fmt::Write>(&self, f: &mut fmt::Formatter<W>) -> fmt::Result {
         match self {
@@ -104,6 +122,12 @@ impl fmt::Display for RunFault {
                 let class = name(*class);
                 write!(f, "error {class} ")?;
                 write_reject(reject, f)
+            }
+            RunFault::Build(fault) => {
+                let number = fault.number();
+                let told = fault.name();
+                write!(f, "error build {number} {told}")?;
+                write_built(fault, f)
             }
             RunFault::NoSuchClass => f.write_str("error class"),
             RunFault::Usage => f.write_str("error usage"),

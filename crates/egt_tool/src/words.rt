@@ -44,6 +44,26 @@ fn list_command<'a>(alloc: Global) -> Command<'a> {
     Command::new(alloc, "list").about("Prints the classes: number, name and size")
 }
 
+fn build_command<'a>(alloc: Global) -> Result<Command<'a>, AllocError> {
+    let limit = Arg::new(alloc, "limit")
+        .long("limit")
+        .value_name("N")
+        .help("The most plies that a mate may take, from 0 to 32000, which is the default")
+        .value_parser(value_parser!(u16).range(0..32001));
+    Command::new(alloc, "build")
+        .about("Builds the table of a class from those of its children")
+        .arg(folder_word(alloc))?
+        .arg(class_word(alloc))?
+        .arg(limit)
+}
+
+fn probe_command<'a>(alloc: Global) -> Result<Command<'a>, AllocError> {
+    Command::new(alloc, "probe")
+        .about("Reports of each FEN of the standard input, one a line")
+        .arg(folder_word(alloc))?
+        .arg(class_word(alloc))
+}
+
 fn check_command<'a>(alloc: Global) -> Result<Command<'a>, AllocError> {
     Command::new(alloc, "check")
         .about("Checks the table of a class and all that it rests on")
@@ -66,6 +86,8 @@ pub(crate) fn command<'a>(alloc: Global) -> Result<Command<'a>, AllocError> {
         .subcommand(moves_command(alloc)?)?
         .subcommand(search_command(alloc)?)?
         .subcommand(list_command(alloc))?
+        .subcommand(build_command(alloc)?)?
         .subcommand(check_command(alloc)?)?
+        .subcommand(probe_command(alloc)?)?
         .subcommand(stats_command(alloc)?)
 }

@@ -1,0 +1,23 @@
+//! Reports of positions by the tables in files.
+use crate::loading::load_whole;
+use crate::run_fault::RunFault;
+use egt_class::Class;
+use egt_probe::{AnswerFault, answer};
+use egt_table::{Sink, Source};
+use std::rt::Files;
+
+/// `egtb probe DIR CLASS`: a report for each line of the input. Lines that are refused have reports too.
+pub(crate) fn probe_lines<R: Files + AllocGlobal, I: Source, O: Sink>(
+    rt: &R,
+    folder: &str,
+    class: Class,
+    input: &mut I,
+    out: &mut O,
+) -> Result<(), RunFault> {
+    let library = load_whole(rt, folder, class)?;
+    match answer(rt.alloc(), &library, input, out) {
+        Ok(()) => Ok(()),
+        Err(AnswerFault::Device) => Err(RunFault::Device),
+        Err(AnswerFault::NoMemory) => Err(RunFault::NoMemory),
+    }
+}
