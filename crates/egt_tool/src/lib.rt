@@ -29,6 +29,8 @@ pub use statistics::Statistics;
 pub use stats::stats_text;
 
 #[cfg(test)]
+mod build_tests;
+#[cfg(test)]
 mod list_tests;
 #[cfg(test)]
 mod pawn_tests;

@@ -23,14 +23,19 @@ impl Ran {
     }
 }
 
-/// Runs the program on the words behind its name, with nothing on the standard input.
-pub(crate) fn run_words(rt: &HostRuntime, words: &[&str]) -> Result<Ran, Fail> {
+/// Runs the program on the words behind its name, with this on the standard input.
+pub(crate) fn run_on(rt: &HostRuntime, words: &[&str], input: &[u8]) -> Result<Ran, Fail> {
     let mut all = vec![in rt.alloc(); "egtb"]?;
     all.extend_from_slice(words)?;
     let mut out = MemorySink::new(rt.alloc(), ROOM)?;
     let mut err = MemorySink::new(rt.alloc(), ROOM)?;
-    let status = run(rt, &all, &mut MemorySource::new(b""), &mut out, &mut err);
+    let status = run(rt, &all, &mut MemorySource::new(input), &mut out, &mut err);
     Ok(Ran { status, out, err })
+}
+
+/// The same with nothing on the standard input.
+pub(crate) fn run_words(rt: &HostRuntime, words: &[&str]) -> Result<Ran, Fail> {
+    run_on(rt, words, b"")
 }
 
 /// Runs the program where the k-th push to the standard output and the j-th to the standard error fail, each counted from

@@ -7,7 +7,7 @@ use std::test::Fail;
 use std::{env, fs, process};
 
 /// A new folder of this process for one test; what a process of the same number left behind is removed.
-fn folder(rt: &HostRuntime, name: &str) -> Result<String, Fail> {
+pub(crate) fn folder(rt: &HostRuntime, name: &str) -> Result<String, Fail> {
     let process = process::id(rt.process());
     let temp = env::temp_dir(rt)?;
     let temp = temp.as_path().as_str();
