@@ -138,18 +138,33 @@ impl fmt::Display for RunFault {
 }
 
 impl From<AllocError> for RunFault {
+    ghost use Rattle.std.specs.Prelude.{◌≡◌};
+    ghost use Rattle.egt_tool.specs.declared.run_fault.RunFault.TheVariants as faults;
+
+    ghost from_gives = { λ _ fault. fault ≡ faults.NoMemory };
+
     fn from(_error: AllocError) -> RunFault {
         RunFault::NoMemory
     }
 }
 
 impl From<NoMemory> for RunFault {
+    ghost use Rattle.std.specs.Prelude.{◌≡◌};
+    ghost use Rattle.egt_tool.specs.declared.run_fault.RunFault.TheVariants as faults;
+
+    ghost from_gives = { λ _ fault. fault ≡ faults.NoMemory };
+
     fn from(_error: NoMemory) -> RunFault {
         RunFault::NoMemory
     }
 }
 
 impl From<MovesFault> for RunFault {
+    ghost use Rattle.std.specs.Prelude.{◌≡◌};
+    ghost use Rattle.egt_tool.specs.Ending.{ends_with};
+
+    ghost from_gives = { λ fault ending. ending ≡ ends_with fault };
+
     fn from(fault: MovesFault) -> RunFault {
         match fault {
             MovesFault::Fen(fault) => RunFault::Fen(fault),
