@@ -271,3 +271,37 @@ fn opposite_orders_give_one_file(rt: HostRuntime) -> Result<(), Fail> {
     assert_eq!(rt; up.bytes(), down.bytes());
     Ok(())
 }
+
+#[test]
+fn two_kings_take_one_round(rt: HostRuntime) -> Result<(), Fail> {
+    let library = Library::new(rt.alloc())?;
+    let Ok(game) = MateGame::new(named("KK")?, &library) else {
+        return Err(Fail::from("two kings have no children"));
+    };
+    let mut rounds = Rounds::new(rt.alloc(), &game, 0)?;
+    assert_eq!(rt; rounds.blocks(), 1);
+    assert_eq!(rt; rounds.close(), Close::NotAll);
+    assert_eq!(rt; post_block(rt.alloc(), &mut rounds, 0)?, Post::Posted);
+    assert_eq!(rt; rounds.close(), Close::Finished);
+    assert_eq!(rt; expand(rt.alloc(), &rounds, 0)?.nodes().len(), 0);
+    assert_eq!(rt; post_block(rt.alloc(), &mut rounds, 0)?, Post::Stale);
+    assert_eq!(rt; rounds.close(), Close::Finished);
+    Ok(())
+}
+
+#[test]
+fn past_the_limit_no_ranks_are_given(rt: HostRuntime) -> Result<(), Fail> {
+    let library = library_of(rt.alloc(), &["KK"])?;
+    let Ok(game) = MateGame::new(named("KQK")?, &library) else {
+        return Err(Fail::from("two kings are there"));
+    };
+    let mut rounds = Rounds::new(rt.alloc(), &game, 18)?;
+    for _round in 0..18 {
+        post_all(rt.alloc(), &mut rounds, &UP)?;
+        assert_eq!(rt; rounds.close(), Close::Next);
+    }
+    post_all(rt.alloc(), &mut rounds, &UP)?;
+    assert_eq!(rt; rounds.close(), Close::TooDeep);
+    assert!(rt; rounds.into_ranks().is_err());
+    Ok(())
+}
