@@ -6,3 +6,4 @@ pub mod Drawn
 pub mod Splitting
 pub mod Answered
 pub mod OneReport
+pub mod Meaning

@@ -1,5 +1,5 @@
 //! The first move to a position with an entry.
-ghost use Rattle.std.specs.Prelude.{◌≡◌, IfSome, IfNone};
+ghost use Rattle.std.specs.Prelude.{IfSome, IfNone};
 ghost use Rattle.egt_moves.specs.Legal.{Leads, IsLegal};
 ghost use Rattle.egt_moves.specs.declared.chess_move.Move.{Move};
 ghost use Rattle.egt_probe.specs.Loaded.{IsLoaded};

@@ -1,14 +1,28 @@
 //! What holds of lines of best play and of reports. These functions do nothing: a caller calls one to know what it ensures.
 ghost use Rattle.std.specs.Prelude.{◌≡◌, ℕ, List, length};
+ghost use Rattle.egt_board.specs.Man.{other_side};
 ghost use Rattle.egt_board.specs.Setup.{Setup};
-ghost use Rattle.egt_moves.specs.Arena.{Value};
+ghost use Rattle.egt_moves.specs.Arena.{Value, MatesWithin, IsMatedWithin, CannotMateBefore, AvoidsMateBefore, IsDraw};
+ghost use Rattle.egt_moves.specs.Chess.{chess};
 ghost use Rattle.egt_moves.specs.declared.chess_move.Move.{Move};
 ghost use Rattle.egt_probe.specs.Answer.{Reports};
 ghost use Rattle.egt_probe.specs.Line.{IsLine, plies_of};
 ghost use Rattle.egt_probe.specs.Loaded.{Loaded};
-ghost use Rattle.egt_probe.specs.Report.{Report};
+ghost use Rattle.egt_probe.specs.Report.{Report, verdict_of};
+ghost use Rattle.egt_probe.specs.Verdict.{IsVerdict};
+ghost use Rattle.egt_probe.specs.declared.outcome.Outcome.TheVariants as outcomes;
 
 use crate::facts::facts;
+
+/// "Mates in n plies" means that the winner forces checkmate within n plies against every defence and that the defender keeps from
+/// it for less than n, "draw" that neither side can ever force it.
+pub fn what_a_verdict_means()
+    ensures mover_mates { (p : Setup) (c n z : ℕ) → IsVerdict p (verdict_of c (outcomes.Decided p.side n z)) →
+        MatesWithin chess n p × CannotMateBefore chess n p }
+    ensures mover_is_mated { (p : Setup) (c n z : ℕ) → IsVerdict p (verdict_of c (outcomes.Decided (other_side p.side) n z)) →
+        IsMatedWithin chess n p × AvoidsMateBefore chess n p }
+    ensures draw { (p : Setup) (c : ℕ) → IsVerdict p (verdict_of c outcomes.Draw) → IsDraw chess p }
+{}
 
 /// A line of best play has as many moves as there are plies to mate.
 pub fn a_line_has_a_move_a_ply()

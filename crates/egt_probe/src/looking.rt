@@ -1,5 +1,5 @@
 //! Positions looked up in tables.
-ghost use Rattle.std.specs.Prelude.{◌≡◌, ◌↔◌, IsOk, IfOk, IfErr, IsTrue};
+ghost use Rattle.std.specs.Prelude.{◌↔◌, IsOk, IfOk, IfErr, IsTrue};
 ghost use Rattle.egt_board.specs.Setup.{Setup};
 ghost use Rattle.egt_moves.specs.Arena.{Value};
 ghost use Rattle.egt_moves.specs.Entries.{SameKind};

@@ -1,6 +1,9 @@
 //! What a table tells of a position.
+ghost use Rattle.std.specs.Prelude.{◌≡◌, codes};
+
 use egt_board::Side;
 use egt_class::Class;
+use thiserror::Error;
 
 /// How play from a position ends where both sides do their best. Distances are in plies, from 0 to 32,000.
 #[derive(Clone, Copy, Debug, PartialEq, Eq)]
@@ -24,7 +27,24 @@ pub struct Verdict {
 }
 
 /// The position's class has no table in the library.
-#[derive(Clone, Copy, Debug, PartialEq, Eq)]
+#[derive(Clone, Copy, Debug, PartialEq, Eq, Error)]
+#[error("the class of the position has no table")]
 pub struct Missing {
     pub class: Class,
+}
+
+impl Missing {
+    /// The fault's number among those of the prober.
+    pub fn number(&self) -> u8
+        ensures { result ≡ 11 }
+    {
+        11
+    }
+
+    /// The fault's name, as it is printed.
+    pub fn name(&self) -> &'static str
+        ensures { result.now ≡ codes "Missing" }
+    {
+        "Missing"
+    }
 }

@@ -68,6 +68,7 @@ fn a_position_of_no_table(rt: HostRuntime) -> Result<(), Fail> {
         return Err(Fail::from("there is no table"));
     };
     assert_eq!(rt; missing.class.number(), 1);
+    assert!(rt; missing.number() == 11 && missing.name() == "Missing");
     let Err(fault) = hold(&library, &here) else {
         return Err(Fail::from("there is no table"));
     };

@@ -11,7 +11,8 @@ use std::test::*;
 
 const INPUT: &[u8] = b"8/8/8/4k3/8/4K3/8/8 w - -\nx\n8/8/8/4k3/8/4K3/8/8 w - -\n";
 
-const OUTPUT: &[u8] = b"KK draw hold e3d2\nerror fen 1 FieldCount\nKK draw hold e3d2\n";
+const OUTPUT: &[u8] =
+    b"error probe 11 Missing KK\nerror fen 1 FieldCount\nerror probe 11 Missing KK\n";
 
 /// Whether the text is of whole lines.
 fn ends_with_a_line(text: &[u8]) -> bool {
@@ -24,7 +25,7 @@ fn ends_with_a_line(text: &[u8]) -> bool {
 #[test]
 fn answered_again(rt: HostRuntime) -> Result<(), Fail> {
     let alloc = rt.alloc();
-    let library = library_below(alloc, 1)?;
+    let library = Library::new(alloc)?;
     let mut sink = MemorySink::new(alloc, 1000)?;
     if let Err(fault) = answer(alloc, &library, &mut MemorySource::new(INPUT), &mut sink) {
         assert_eq!(rt; fault, AnswerFault::NoMemory);

@@ -1,0 +1,31 @@
+-- What a verdict means in the words of forced mate and of the defence against it.
+use Rattle.std.proofs.Common.{◌≡◌, ℕ, zero, suc, refl, subst}
+use Rattle.egt_board.specs.declared.man.Side.{Side}
+use Rattle.egt_board.specs.declared.man.Side.TheVariants.{White, Black}
+use Rattle.egt_board.specs.Man.{other_side}
+use Rattle.egt_board.specs.Setup.{Setup}
+use Rattle.egt_moves.specs.Arena.{Win, Loss, HasValue, MatesWithin, IsMatedWithin, CannotMateBefore, AvoidsMateBefore}
+use Rattle.egt_moves.specs.Chess.{chess}
+use Rattle.egt_moves.specs.Found.{mate_by}
+
+mover_wins : (s : Side) (n : ℕ) → mate_by s s n ≡ Win n
+mover_wins White n = refl
+mover_wins Black n = refl
+
+mover_loses : (s : Side) (n : ℕ) → mate_by s (other_side s) n ≡ Loss n
+mover_loses White n = refl
+mover_loses Black n = refl
+
+win_is : (n : ℕ) (p : Setup) → HasValue chess p (Win n) → MatesWithin chess n p × CannotMateBefore chess n p
+win_is zero p h = absurd h
+win_is (suc n) p h = h
+
+loss_is : (n : ℕ) (p : Setup) → HasValue chess p (Loss n) → IsMatedWithin chess n p × AvoidsMateBefore chess n p
+loss_is zero p h = (h, tt)
+loss_is (suc n) p h = h
+
+pub forced : (p : Setup) (n : ℕ) → HasValue chess p (mate_by p.side p.side n) → MatesWithin chess n p × CannotMateBefore chess n p
+forced p n h = win_is n p (subst (HasValue chess p) (mover_wins p.side n) h)
+
+pub suffered : (p : Setup) (n : ℕ) → HasValue chess p (mate_by p.side (other_side p.side) n) → IsMatedWithin chess n p × AvoidsMateBefore chess n p
+suffered p n h = loss_is n p (subst (HasValue chess p) (mover_loses p.side n) h)
