@@ -4,12 +4,13 @@ ghost use Rattle.std.specs.Prelude.{◌≡◌};
 use egt_graph::Ranks;
 use egt_table::Column;
 
-/// Moves that do not reach the aim go on in the game, and the others leave it.
+/// The end to which a game's ranks count the plies.
 #[derive(Clone, Copy)]
 pub(crate) enum Aim<'l> {
-    /// Checkmate, over the moves that stay in the class.
+    /// Checkmate. Moves that stay in the class go on, and the others leave the game.
     Mate,
-    /// A zeroing move or checkmate. Where a zeroing move stays in the class, these mate ranks of it tell what it reaches.
+    /// The next zeroing move or checkmate. Moves that do not zero go on, and the others leave the game; where one of them stays in the
+    /// class, these mate ranks of the class tell what it reaches.
     Zeroing(&'l Ranks),
 }
 
