@@ -50,7 +50,7 @@ fn side_of(plain: PlainPosition) -> Side {
 }
 
 /// The position as the product has it, if it takes it for one.
-fn position_of(plain: PlainPosition) -> Option<Position> {
+pub fn position_of(plain: PlainPosition) -> Option<Position> {
     let white = man_on(Side::White, Kind::K, plain.white_king)?;
     let black = man_on(Side::Black, Kind::K, plain.black_king)?;
     let made = match plain.third {

@@ -12,7 +12,7 @@ mod tables;
 mod zeroing;
 
 pub use code::{PlainPosition, THIRD, code_count};
-pub use filling::{Unlike, columns_of, indexes, plain_code, table_of};
+pub use filling::{Unlike, columns_of, indexes, plain_code, position_of, table_of};
 pub use moves::{Successor, Successors};
 pub use tables::PlainTables;
 
