@@ -2,7 +2,9 @@
 ghost use Rattle.std.specs.Prelude.{◌≡◌, ◌↔◌, ◌+◌, ◌≤◌, ◌<◌, ◌⊎◌, ℕ, Bool, IsTrue};
 ghost use Rattle.std.specs.List.{Contains};
 ghost use Rattle.std.specs.List.Sorted.{IsStrictlyIncreasing};
+ghost use Rattle.egt_board.specs.Setup.{Setup};
 ghost use Rattle.egt_class.specs.Membership.{IsOf};
+ghost use Rattle.egt_index.specs.Index.{IsIndex};
 ghost use Rattle.arrayvec.specs.ArrayVec.{array_vec_len};
 ghost use Rattle.egt_moves.specs.Legal.{Leads, IsLegal};
 ghost use Rattle.egt_sweep.specs.Edges.{IsAt, GoesOn, LeadsOn, Connects};
@@ -16,30 +18,38 @@ use egt_index::index;
 use egt_moves::{Move, legal_moves, play, zeroing};
 use egt_table::Column;
 
-/// Whether the move, which leads from a position of the class to the next, goes on in the game: it stays in the class, or does not
-/// zero.
-pub(crate) fn goes_on(
-    column: Column,
-    class: Class,
-    position: &Position,
-    chess_move: &Move,
-    next: &Position,
-) -> bool
-    requires of { (flipped : Bool) × IsOf class flipped position.now }
-    requires leads { Leads position.now chess_move.now next.now }
-    ensures on { IsTrue result ↔ GoesOn column class position.now chess_move.now next.now }
-    ensures class { IsTrue result → (flipped : Bool) × IsOf class flipped next.now }
+/// Whether the legal move leads to a position of the class.
+fn stays(class: Class, position: &Position, chess_move: &Move) -> bool
+    requires legal { IsLegal position.now chess_move.now }
+    ensures stays { (q : Setup) → Leads position.now chess_move.now q → IsTrue result ↔ ((i : ℕ) × IsIndex class q i) }
+    ensures class { (q : Setup) → Leads position.now chess_move.now q → IsTrue result → (flipped : Bool) × IsOf class flipped q }
 {
     laws();
+    let next = play(position, *chess_move).unwrap();
     let _sides = (position.side(), next.side());
     let _number = class.number();
+    let (own, _flipped) = of(&next);
+    let _own_number = own.number();
+    own == class
+}
+
+/// Whether the legal move from a position of the class goes on in the game: it stays in the class, or does not zero. One that does
+/// not zero stays in the class.
+pub(crate) fn goes_on(column: Column, class: Class, position: &Position, chess_move: &Move) -> bool
+    requires of { (flipped : Bool) × IsOf class flipped position.now }
+    requires legal { IsLegal position.now chess_move.now }
+    ensures on { (q : Setup) → Leads position.now chess_move.now q → IsTrue result ↔ GoesOn column class position.now chess_move.now q }
+    ensures class { (q : Setup) → Leads position.now chess_move.now q → IsTrue result → (flipped : Bool) × IsOf class flipped q }
+{
+    laws();
+    let _side = position.side();
+    let _number = class.number();
+    if !zeroing(position, *chess_move) {
+        return true;
+    }
     match column {
-        Column::Mate => {
-            let (own, _flipped) = of(next);
-            let _own_number = own.number();
-            own == class
-        }
-        Column::Zeroing => !zeroing(position, *chess_move),
+        Column::Mate => stays(class, position, chess_move),
+        Column::Zeroing => false,
     }
 }
 
@@ -60,9 +70,9 @@ fn add_edge(
     ensures few { array_vec_len list.new ≤ array_vec_len list.old + 1 }
 {
     laws();
-    let next = play(position, *chess_move).unwrap();
-    let _sides = (position.side(), next.side());
-    if goes_on(column, class, position, chess_move, &next) {
+    let _side = position.side();
+    if goes_on(column, class, position, chess_move) {
+        let next = play(position, *chess_move).unwrap();
         put(list, index(class, &next));
     }
 }

@@ -116,10 +116,10 @@ fn add_exit(
     ensures few { array_vec_len list.new ≤ array_vec_len list.old + 1 }
 {
     laws();
-    let next = play(position, *chess_move).unwrap();
-    let _sides = (position.side(), next.side());
+    let _side = position.side();
     let _number = class.number();
-    if !goes_on(aim.column(), class, position, chess_move, &next) {
+    if !goes_on(aim.column(), class, position, chess_move) {
+        let next = play(position, *chess_move).unwrap();
         list.push(exit_at(aim, class, library, &next));
     }
 }

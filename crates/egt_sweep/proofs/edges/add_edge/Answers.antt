@@ -7,16 +7,21 @@ use Rattle.egt_sweep.proofs.edges.add_edge.Goals as goal
 pub unwrap-next-requires : goal.unwrap-next-requires
 unwrap-next-requires c = somewhere c.args.position.now c.args.chess_move.now c.play.result c.play.ensures.illegal c.requires.legal
 
+pub index-requires : goal.index-requires
+index-requires c =
+    let leads = subst (λ (o : Option Setup). IfSome o (λ q. Leads c.args.position.now c.args.chess_move.now q)) c.unwrap-next.ensures c.play.ensures.leads in
+    c.goes_on.ensures.class c.unwrap-next.result leads c.if-goes_on.true
+
 pub returns-then-goes_on-clause-members : goal.returns-then-goes_on-clause-members
 returns-then-goes_on-clause-members c k =
     let p = c.args.position.now in
     let m = c.args.chess_move.now in
     let leads = subst (λ (o : Option Setup). IfSome o (λ q. Leads p m q)) c.unwrap-next.ensures c.play.ensures.leads in
-    members_on (c.put.ensures.members k) (leads_on_once c.laws.ensures c.args.column c.args.class p m c.unwrap-next.result c.index.result k c.side.ensures.admissible leads (c.goes_on.ensures.on.0 c.if-goes_on.true) c.index.ensures)
+    members_on (c.put.ensures.members k) (leads_on_once c.laws.ensures c.args.column c.args.class p m c.unwrap-next.result c.index.result k c.side-side.ensures.admissible leads ((c.goes_on.ensures.on c.unwrap-next.result leads).0 c.if-goes_on.true) c.index.ensures)
 
 pub returns-else-goes_on-clause-members : goal.returns-else-goes_on-clause-members
 returns-else-goes_on-clause-members c k =
     let p = c.args.position.now in
     let m = c.args.chess_move.now in
-    let leads = subst (λ (o : Option Setup). IfSome o (λ q. Leads p m q)) c.unwrap-next.ensures c.play.ensures.leads in
-    members_off (leads_on_never c.laws.ensures c.args.column c.args.class p m c.unwrap-next.result k leads (untrue c.goes_on.result c.if-goes_on.false c.goes_on.ensures.on))
+    let (q, leads) = c.requires.legal in
+    members_off (leads_on_never c.laws.ensures c.args.column c.args.class p m q k leads (untrue c.goes_on.result c.if-goes_on.false (c.goes_on.ensures.on q leads)))

@@ -1,23 +1,29 @@
-use Rattle.std.proofs.Common.{◌↔◌, ℕ, ◌<◌, IsTrue, not, sym, subst}
+use Rattle.std.proofs.Common.{◌↔◌, ℕ, ◌<◌, IsTrue, false, refl, sym, subst, ◌∙◌}
+use Rattle.std.proofs.lemmas.Bool.{false≢true}
 use Rattle.egt_table.specs.declared.column.Column.{Column}
+use Rattle.egt_moves.specs.Chess.{Zeroes}
 use Rattle.egt_sweep.specs.Edges.{GoesOn}
-use Rattle.egt_sweep.proofs.Staying.{stays_in_class, does_not_zero, tests_equal, quiet_stays}
+use Rattle.egt_sweep.proofs.Staying.{quiet_stays, quiet_goes_on}
 use Rattle.egt_sweep.proofs.edges.goes_on.Goals as goal
 
+pub returns-then-not-zeroing : goal.returns-then-not-zeroing
+returns-then-not-zeroing c =
+    let p = c.args.position.now in
+    let m = c.args.chess_move.now in
+    let quiet : ¬ Zeroes p m = λ z. false≢true (sym c.if-not-zeroing.true ∙ c.zeroing.ensures.1 z) in
+    record {
+      on = λ q leads. (
+        λ t. quiet_goes_on c.laws.ensures c.args.class c.args.column p q m (subst (λ (n : ℕ). n < 36) c.number-number.ensures.value c.number-number.ensures.below) c.side-side.ensures.admissible c.requires.of leads quiet,
+        λ on. refl,
+      );
+      class = λ q leads t. quiet_stays c.laws.ensures c.args.class p q m c.side-side.ensures.admissible c.requires.of leads quiet;
+    }
+
 pub returns-in-Mate-clause-on : goal.returns-in-Mate-clause-on
-returns-in-Mate-clause-on c =
-    let next = c.args.next.now in
-    let equal = tests_equal c.eq.result c.of-own.result.0 c.args.class c.eq.ensures in
-    let stays = stays_in_class c.laws.ensures c.args.class c.of-own.result.0 c.of-own.result.1 next (subst (λ (n : ℕ). n < 36) c.number-number.ensures.value c.number-number.ensures.below) (subst (λ (n : ℕ). n < 36) c.number-own_number.ensures.value c.number-own_number.ensures.below) c.side-2.ensures.admissible c.of-own.ensures.class in
-    subst (λ (column : Column). IsTrue c.eq.result ↔ GoesOn column c.args.class c.args.position.now c.args.chess_move.now next) (sym c.in-Mate.is)
-    (λ t. stays.0 (equal.0 t), λ on. equal.1 (stays.1 on))
+returns-in-Mate-clause-on c = λ q leads.
+    subst (λ (column : Column). IsTrue c.stays.result ↔ GoesOn column c.args.class c.args.position.now c.args.chess_move.now q) (sym c.in-Mate.is) (c.stays.ensures.stays q leads)
 
 pub returns-in-Zeroing-clause-on : goal.returns-in-Zeroing-clause-on
-returns-in-Zeroing-clause-on c =
-    subst (λ (column : Column). IsTrue (not c.zeroing.result) ↔ GoesOn column c.args.class c.args.position.now c.args.chess_move.now c.args.next.now) (sym c.in-Zeroing.is)
-    (does_not_zero c.zeroing.result c.zeroing.ensures)
-
-pub returns-in-Zeroing-clause-class : goal.returns-in-Zeroing-clause-class
-returns-in-Zeroing-clause-class c t =
-    let p = c.args.position.now in
-    quiet_stays c.laws.ensures c.args.class p c.args.next.now c.args.chess_move.now c.side.ensures.admissible c.requires.of c.requires.leads ((does_not_zero c.zeroing.result c.zeroing.ensures).0 t)
+returns-in-Zeroing-clause-on c = λ q leads.
+    subst (λ (column : Column). IsTrue false ↔ GoesOn column c.args.class c.args.position.now c.args.chess_move.now q) (sym c.in-Zeroing.is)
+    (λ t. absurd (false≢true t), λ on. absurd (on (c.zeroing.ensures.0 c.if-not-zeroing.false)))

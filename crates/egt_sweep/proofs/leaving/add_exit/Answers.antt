@@ -16,19 +16,21 @@ pub exit_at-requires-clause-there : goal.exit_at-requires-clause-there
 exit_at-requires-clause-there c =
     let p = c.args.position.now in
     let m = c.args.chess_move.now in
-    let leads = subst (λ (o : Option Setup). IfSome o (λ q. Leads p m q)) c.unwrap-next.ensures c.play.ensures.leads in
-    let on = subst (λ (column : Column). IsTrue c.goes_on.result ↔ GoesOn column c.args.class p m c.unwrap-next.result) c.column.ensures c.goes_on.ensures.on in
-    known_there c.laws.ensures (table_at c.args.library.now) c.args.aim.now c.args.class p c.unwrap-next.result m (subst (λ (n : ℕ). n < 36) c.number-number.ensures.value c.number-number.ensures.below)
-    c.side.ensures.admissible c.requires.of c.requires.children leads (untrue c.goes_on.result c.if-not-goes_on.true on)
+    let q = c.unwrap-next.result in
+    let leads = subst (λ (o : Option Setup). IfSome o (λ r. Leads p m r)) c.unwrap-next.ensures c.play.ensures.leads in
+    let on = subst (λ (column : Column). IsTrue c.goes_on.result ↔ GoesOn column c.args.class p m q) c.column.ensures (c.goes_on.ensures.on q leads) in
+    known_there c.laws.ensures (table_at c.args.library.now) c.args.aim.now c.args.class p q m (subst (λ (n : ℕ). n < 36) c.number-number.ensures.value c.number-number.ensures.below)
+    c.side-side.ensures.admissible c.requires.of c.requires.children leads (untrue c.goes_on.result c.if-not-goes_on.true on)
 
 pub returns-then-not-goes_on-clause-items : goal.returns-then-not-goes_on-clause-items
 returns-then-not-goes_on-clause-items c =
     let p = c.args.position.now in
     let m = c.args.chess_move.now in
+    let q = c.unwrap-next.result in
     let aim = c.args.aim.now in
-    let leads = subst (λ (o : Option Setup). IfSome o (λ q. Leads p m q)) c.unwrap-next.ensures c.play.ensures.leads in
-    let on = subst (λ (column : Column). IsTrue c.goes_on.result ↔ GoesOn column c.args.class p m c.unwrap-next.result) c.column.ensures c.goes_on.ensures.on in
-    c.push.ensures.items ∙ off_has_exit c.laws.ensures (known (table_at c.args.library.now) c.args.class aim) (column_of aim) c.args.class p c.unwrap-next.result m c.exit_at.result c.side.ensures.admissible leads
+    let leads = subst (λ (o : Option Setup). IfSome o (λ r. Leads p m r)) c.unwrap-next.ensures c.play.ensures.leads in
+    let on = subst (λ (column : Column). IsTrue c.goes_on.result ↔ GoesOn column c.args.class p m q) c.column.ensures (c.goes_on.ensures.on q leads) in
+    c.push.ensures.items ∙ off_has_exit c.laws.ensures (known (table_at c.args.library.now) c.args.class aim) (column_of aim) c.args.class p q m c.exit_at.result c.side-side.ensures.admissible leads
     (untrue c.goes_on.result c.if-not-goes_on.true on) c.exit_at.ensures c.args.list.now.items
 
 pub returns-else-not-goes_on-clause-items : goal.returns-else-not-goes_on-clause-items
@@ -36,6 +38,6 @@ returns-else-not-goes_on-clause-items c =
     let p = c.args.position.now in
     let m = c.args.chess_move.now in
     let aim = c.args.aim.now in
-    let leads = subst (λ (o : Option Setup). IfSome o (λ q. Leads p m q)) c.unwrap-next.ensures c.play.ensures.leads in
-    let on = subst (λ (column : Column). IsTrue c.goes_on.result ↔ GoesOn column c.args.class p m c.unwrap-next.result) c.column.ensures c.goes_on.ensures.on in
-    goes_no_exit c.laws.ensures (known (table_at c.args.library.now) c.args.class aim) (column_of aim) c.args.class p c.unwrap-next.result m c.side.ensures.admissible leads (on.0 c.if-not-goes_on.false) c.args.list.now.items
+    let (q, leads) = c.requires.legal in
+    let on = subst (λ (column : Column). IsTrue c.goes_on.result ↔ GoesOn column c.args.class p m q) c.column.ensures (c.goes_on.ensures.on q leads) in
+    goes_no_exit c.laws.ensures (known (table_at c.args.library.now) c.args.class aim) (column_of aim) c.args.class p q m c.side-side.ensures.admissible leads (on.0 c.if-not-goes_on.false) c.args.list.now.items
