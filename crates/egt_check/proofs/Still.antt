@@ -13,7 +13,7 @@ use Rattle.egt_board.specs.Square.{rank_of}
 use Rattle.egt_board.specs.Pawn.{ahead, last_rank}
 use Rattle.egt_class.specs.Membership.{IsOf}
 use Rattle.egt_index.specs.Frame.{IsMoved}
-use Rattle.egt_moves.specs.Chess.{IsPawnOn}
+use Rattle.egt_moves.specs.Chess.{Zeroes, IsPawnOn}
 use Rattle.egt_moves.specs.Exchange.{Captures}
 use Rattle.egt_moves.specs.Going.{Goes}
 use Rattle.egt_moves.specs.Legal.{Leads, men_left, is_target, is_two_ranks, IsLegal, plain, passed}
@@ -182,3 +182,10 @@ module _ (keeps : KeepsClass) (c : ℕ) (p q : Setup) (pawn : Bool) (from t : �
     admissible = fine;
     class = λ flipped is_of. keeps p q (plain from t) c flipped ok is_of leads quiet.quiet refl;
   }
+
+-- a move that does not zero takes one man to a free square, and changes nothing else
+pub quiet_moved : KeepsClass → (c : ℕ) (p q : Setup) (m : Move) → IsAdmissible p → IsAdmissible q → Leads p m q → ¬ Zeroes p m → IsMoved c p m.from m.to q
+quiet_moved keeps c p q m ok fine leads quiet =
+    let piece : leads.man.kind ≢ P = λ pawn. quiet (inr (record { man = leads.man; stands = leads.stands; pawn = pawn })) in
+    let still = quiet_piece p m.from m.to leads.man leads.stands piece (λ held. quiet (inl held)) (targeted p m m.from refl (q, leads)) in
+    is_moved keeps c p q false m.from m.to ok fine (subst (λ (x : Move). Leads p x q) (still.only m refl refl (q, leads)) leads) still

@@ -8,11 +8,16 @@ ghost use Rattle.egt_index.specs.Index.{IsIndex};
 ghost use Rattle.egt_board.specs.Setup.{Setup, IsAdmissible};
 ghost use Rattle.egt_table.specs.Table.{TableValue, IsTable};
 ghost use Rattle.egt_check.specs.Alike.{StepAlike};
+ghost use Rattle.egt_index.specs.Frame.{IsMoved};
+ghost use Rattle.egt_moves.specs.Chess.{Zeroes};
+ghost use Rattle.egt_moves.specs.Legal.{Leads};
+ghost use Rattle.egt_moves.specs.declared.chess_move.Move.{Move};
 ghost use Rattle.egt_check.specs.Tables.{Tables};
 ghost use Rattle.egt_check.specs.Rules.{KeepsRules};
 ghost use Rattle.egt_check.specs.Truth.{IsTrueTable, HasTrueChildren};
 
 use crate::facts::facts;
+use egt_class::laws::moves_lead_into_the_class_or_a_child;
 use egt_index::laws::codes_spell_one_position;
 
 /// Where the children's tables are true, the entries of a table keep all rules exactly where the table is true: each entry is
@@ -37,4 +42,13 @@ pub fn a_position_plays_as_its_index_spells()
 {
     facts();
     codes_spell_one_position();
+}
+
+/// A move that does not zero takes one man to a free square, and changes nothing else on the board: it keeps the class and sets no
+/// target.
+pub fn a_quiet_move_moves_one_man()
+    ensures { (c : ℕ) (p q : Setup) (m : Move) → IsAdmissible p → Leads p m q → ¬ Zeroes p m → IsMoved c p m.from m.to q }
+{
+    facts();
+    moves_lead_into_the_class_or_a_child();
 }

@@ -2,7 +2,9 @@
 ghost use Rattle.std.specs.Prelude.{◌≡◌, ◌↔◌, ◌+◌, ◌≤◌, ◌<◌, ◌⊎◌, ℕ, Bool, IsTrue};
 ghost use Rattle.std.specs.List.{Contains};
 ghost use Rattle.std.specs.List.Sorted.{IsStrictlyIncreasing};
+ghost use Rattle.egt_board.specs.Settled.{IsSettled};
 ghost use Rattle.egt_board.specs.Setup.{Setup};
+ghost use Rattle.egt_index.specs.Frame.{IsFrame};
 ghost use Rattle.egt_class.specs.Membership.{IsOf};
 ghost use Rattle.egt_index.specs.Index.{IsIndex};
 ghost use Rattle.arrayvec.specs.ArrayVec.{array_vec_len};
@@ -14,7 +16,7 @@ use crate::laws::laws;
 use arrayvec::ArrayVec;
 use egt_board::Position;
 use egt_class::{Class, of};
-use egt_index::index;
+use egt_index::{Frame, index};
 use egt_moves::{Move, legal_moves, play, zeroing};
 use egt_table::Column;
 
@@ -57,11 +59,14 @@ pub(crate) fn goes_on(column: Column, class: Class, position: &Position, chess_m
 fn add_edge(
     column: Column,
     class: Class,
+    frame: &Frame,
     position: &Position,
     chess_move: &Move,
     list: &mut ArrayVec<u32, 64>,
 )
     requires of { (flipped : Bool) × IsOf class flipped position.now }
+    requires frame { IsFrame position.now frame.now }
+    requires class { frame.now.class ≡ class }
     requires legal { IsLegal position.now chess_move.now }
     requires ascending { IsStrictlyIncreasing list.old.items }
     requires room { array_vec_len list.old < 64 }
@@ -71,7 +76,10 @@ fn add_edge(
 {
     laws();
     let _side = position.side();
-    if goes_on(column, class, position, chess_move) {
+    let _number = class.number();
+    if !zeroing(position, *chess_move) {
+        put(list, frame.index_after(chess_move.from, chess_move.to));
+    } else if goes_on(column, class, position, chess_move) {
         let next = play(position, *chess_move).unwrap();
         put(list, index(class, &next));
     }
@@ -79,16 +87,18 @@ fn add_edge(
 
 /// The indexes that moves which go on lead to from the position at the index.
 pub(crate) fn edges(column: Column, class: Class, position: &Position) -> ArrayVec<u32, 64>
-    requires { (flipped : Bool) × IsOf class flipped position.now }
+    requires of { (flipped : Bool) × IsOf class flipped position.now }
+    requires settled { IsSettled position.now }
     ensures ascending { IsStrictlyIncreasing result.items }
     ensures exact { (i : ℕ) → IsAt class i position.now → (k : ℕ) → Contains result.items k ↔ Connects column class i k }
 {
     laws();
     let _side = position.side();
+    let frame = Frame::of(class, position);
     let moves = legal_moves(position);
     let mut list = ArrayVec::new();
     for chess_move in moves.as_slice() {
-        add_edge(column, class, position, chess_move, &mut list);
+        add_edge(column, class, &frame, position, chess_move, &mut list);
     }
     list
 }

@@ -1,9 +1,14 @@
 use Rattle.std.proofs.Common.{ℕ, ◌<◌, subst}
+use Rattle.egt_sweep.proofs.Backward.{at_settled}
 use Rattle.egt_sweep.proofs.Standing.{edges_told}
 use Rattle.egt_sweep.proofs.nodes.successors.Goals as goal
 
-pub edges-requires : goal.edges-requires
-edges-requires c = c.laws.ensures.indexed_class c.node-position.result c.args.class c.args.index c.node-position.ensures.spells.admissible c.node-position.ensures.index
+pub edges-requires-clause-settled : goal.edges-requires-clause-settled
+edges-requires-clause-settled c =
+    at_settled c.laws.ensures c.args.class (subst (λ (n : ℕ). n < 36) c.number-number.ensures.value c.number-number.ensures.below) c.args.index c.node-position.result c.node-position.ensures
+
+pub edges-requires-clause-of : goal.edges-requires-clause-of
+edges-requires-clause-of c = c.laws.ensures.indexed_class c.node-position.result c.args.class c.args.index c.node-position.ensures.spells.admissible c.node-position.ensures.index
 
 pub returns : goal.returns
 returns c = edges_told c.laws.ensures c.args.class c.args.index c.args.column c.edges.result.items (subst (λ (n : ℕ). n < 36) c.number-number.ensures.value c.number-number.ensures.below)
