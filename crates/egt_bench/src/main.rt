@@ -1,7 +1,8 @@
 //! Times the calls that no command of `egtb` shows: with the word `run`, the mean nanoseconds of each call over
 //! positions of a few classes drawn at random; with that word or the word `index`, those of indexes of the positions that
 //! moves lead to and of positions of consecutive codes; with it or the word `files`, how fast a table's file goes through
-//! memory; with it or the word `check`, how long whole tables are checked. Nothing here judges a figure.
+//! memory; with it or the word `check`, how long tables of two and three men are checked; with the word `build` how long all 36
+//! tables are built and checked, which takes some ten minutes. Nothing here judges a figure.
 #![tactic(auto)]
 
 mod calls;
@@ -11,7 +12,7 @@ mod indexes;
 mod sample;
 
 use calls::{Call, made, moves_of};
-use checks::bench_checks;
+use checks::{bench_builds, bench_checks};
 use egt_class::{Class, of};
 use files::bench_files;
 use indexes::{indexed, spelled, successors};
@@ -119,11 +120,13 @@ fn main(rt: HostRuntime) -> io::Result<()> {
     let mut indexes = false;
     let mut files = false;
     let mut checks = false;
+    let mut builds = false;
     for word in env::args(&rt)? {
         all = all || word.as_str() == "run";
         indexes = indexes || word.as_str() == "index";
         files = files || word.as_str() == "files";
         checks = checks || word.as_str() == "check";
+        builds = builds || word.as_str() == "build";
     }
     if all {
         for class in ["KQkr", "KPkp", "KBNk", "KRRk"] {
@@ -143,6 +146,9 @@ fn main(rt: HostRuntime) -> io::Result<()> {
     }
     if all || checks {
         bench_checks(&rt)?;
+    }
+    if builds {
+        bench_builds(&rt)?;
     }
     Ok(())
 }
