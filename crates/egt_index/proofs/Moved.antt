@@ -1,9 +1,8 @@
 -- The men of a class after one of them went to a free square.
-use Rattle.std.proofs.Common.{◌≡◌, ◌≢◌, ℕ, ◌<◌, not, Bool, true, false, cond, List, [], ◌∷◌, ◌++◌, map, Option, Some, None, IfSome, refl, sym, ap, ◌∙◌, inl, inr, subst}
+use Rattle.std.proofs.Common.{◌≡◌, ◌≢◌, ℕ, ◌<◌, not, Bool, true, false, List, [], ◌∷◌, ◌++◌, map, Option, Some, None, IfSome, refl, sym, ap, ◌∙◌, inl, inr, subst}
 use Rattle.std.specs.Option.{option_to_list, is_some}
 use Rattle.std.specs.FinMap as placement
 use Rattle.std.proofs.lemmas.Bool.{cases_eq}
-use Rattle.std.proofs.lemmas.Bool.Decides.{eqb_tells}
 use Rattle.egt_board.specs.declared.man.Side.{Side}
 use Rattle.egt_board.specs.declared.man.Side.TheVariants.{White, Black}
 use Rattle.egt_board.specs.declared.man.Man.{Man}
@@ -22,17 +21,12 @@ use Rattle.egt_index.specs.Stood.{Entry, men_among, IsOff, AllStand, Stood, HasS
 use Rattle.egt_index.specs.declared.frame.Frame.{Frame}
 use Rattle.egt_index.specs.declared.lanes.Lanes.{Lanes}
 use Rattle.egt_index.specs.declared.stand.Stand.{Stand}
+use Rattle.egt_index.proofs.Carried.{went, stayed}
 use Rattle.egt_index.proofs.Exchanged.{stood_exchanged}
 
 module _ (c : ℕ) (p : Setup) (from to : ℕ) (q : Setup) (moved : IsMoved c p from to q) where
   abbrev move_one : Man × ℕ → Man × ℕ
   move_one e = (e.0, moved_square from to e.1)
-
-  went : (s : ℕ) → s ≡ from → moved_square from to s ≡ to
-  went s same = elim (eqb_tells s from) [ inl h ↦ ap (λ b. cond b to s) h.0 | inr h ↦ absurd (h.1 same) ]
-
-  stayed : (s : ℕ) → s ≢ from → moved_square from to s ≡ s
-  stayed s other = elim (eqb_tells s from) [ inl h ↦ absurd (other h.1) | inr h ↦ ap (λ b. cond b to s) h.0 ]
 
   not_to : (s : ℕ) (man : Man) → Stands p.men s man → s ≢ to
   not_to s man stands same = let h = sym stands ∙ ap (placement.get p.men) same ∙ moved.free in cc
@@ -52,11 +46,11 @@ module _ (c : ℕ) (p : Setup) (from to : ℕ) (q : Setup) (moved : IsMoved c p 
   off_one e s man other here there apart same = elim (cases_eq e from) [
     | inl e_from ↦ elim (cases_eq s from) [
       | inl s_from ↦ apart (e_from ∙ sym s_from)
-      | inr s_other ↦ not_to s other there (sym (stayed s s_other) ∙ sym same ∙ went e e_from)
+      | inr s_other ↦ not_to s other there (sym (stayed from to s s_other) ∙ sym same ∙ went from to e e_from)
     ]
     | inr e_other ↦ elim (cases_eq s from) [
-      | inl s_from ↦ not_to e man here (sym (stayed e e_other) ∙ same ∙ went s s_from)
-      | inr s_other ↦ apart (sym (stayed e e_other) ∙ same ∙ stayed s s_other)
+      | inl s_from ↦ not_to e man here (sym (stayed from to e e_other) ∙ same ∙ went from to s s_from)
+      | inr s_other ↦ apart (sym (stayed from to e e_other) ∙ same ∙ stayed from to s s_other)
     ]
   ]
 
@@ -66,14 +60,14 @@ module _ (c : ℕ) (p : Setup) (from to : ℕ) (q : Setup) (moved : IsMoved c p 
 
   below : (s : ℕ) → s < 64 → moved_square from to s < 64
   below s s_in = elim (cases_eq s from) [
-    | inl same ↦ subst (λ k. k < 64) (sym (went s same)) moved.on_board
-    | inr other ↦ subst (λ k. k < 64) (sym (stayed s other)) s_in
+    | inl same ↦ subst (λ k. k < 64) (sym (went from to s same)) moved.on_board
+    | inr other ↦ subst (λ k. k < 64) (sym (stayed from to s other)) s_in
   ]
 
   stands_moved : (s : ℕ) (man : Man) → Stands p.men s man → Stands q.men (moved_square from to s) man
   stands_moved s man stands = elim (cases_eq s from) [
-    | inl same ↦ ap (placement.get q.men) (went s same) ∙ at_to ∙ ap Some (one_man p.men from moved.man man moved.stands (ap (placement.get p.men) (sym same) ∙ stands))
-    | inr other ↦ ap (placement.get q.men) (stayed s other) ∙ at_other s man other stands
+    | inl same ↦ ap (placement.get q.men) (went from to s same) ∙ at_to ∙ ap Some (one_man p.men from moved.man man moved.stands (ap (placement.get p.men) (sym same) ∙ stands))
+    | inr other ↦ ap (placement.get q.men) (stayed from to s other) ∙ at_other s man other stands
   ]
 
   all_moved : (flips : Bool) (list : List (Man × ℕ)) → AllStand flips p.men list → AllStand flips q.men (map move_one list)
