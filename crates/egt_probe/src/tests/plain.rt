@@ -43,7 +43,8 @@ fn compared(library: &Library, tables: &PlainTables, class: u8) -> (u32, u32) {
             let turned = position.flip_colours();
             let here = outcome(position.side(), *mate, *zeroing);
             let there = outcome(turned.side(), *mate, *zeroing);
-            let alike = is_judged(library, &position, class, here) && is_judged(library, &turned, class, there);
+            let alike = is_judged(library, &position, class, here)
+                && is_judged(library, &turned, class, there);
             unlike = unlike.saturating_add(u32::from(!alike));
             positions = positions.saturating_add(1);
         }
