@@ -1,18 +1,19 @@
 -- Attacks by the men of a board's slots.
-use Rattle.std.proofs.Common.{◌≡◌, ◌↔◌, ◌⊎◌, ℕ, List, [], ◌∷◌, Some, None, refl, sym, ap, ◌∙◌, subst, inl, inr}
+use Rattle.std.proofs.Common.{◌≡◌, ◌≢◌, ◌↔◌, ◌⊎◌, ℕ, List, [], ◌∷◌, Some, None, refl, sym, ap, ◌∙◌, subst, inl, inr}
 use Rattle.std.specs.Int.{bit_at}
 use Rattle.std.specs.Ordering.{nat_cmp}
 use Rattle.std.specs.FinMap as map
 use Rattle.std.proofs.lemmas.Bool.{cases_eq}
 use Rattle.egt_board.specs.declared.man.Side.{Side}
 use Rattle.egt_board.specs.declared.man.Man.{Man}
-use Rattle.egt_board.specs.Placement.{Placement, IsFree}
+use Rattle.egt_board.specs.Placement.{Placement, Stands, IsFree, get-remove_same, get-remove_other}
 use Rattle.egt_board.specs.Gait.{Reaches, Reaches-free}
 use Rattle.egt_board.specs.Board.{Slot, listed, placed, InOrder, AreKept}
 use Rattle.egt_board.specs.Slots.{slots_of}
 use Rattle.egt_board.specs.declared.board.Board.TheInside.{Inside}
 use Rattle.egt_board.specs.Position.{find-below, first_half, second_half}
 use Rattle.egt_board.specs.Attack.{IsAttacked, AttacksFrom}
+use Rattle.egt_board.specs.Safety.{IsSeenAs}
 use Rattle.egt_board.proofs.Placed.{find-here, find-later}
 use Rattle.egt_board.proofs.Slots.{shown, listed-shown}
 
@@ -55,25 +56,59 @@ found_slots Free side t (Some e ∷ xs) h = elim (cases_eq h.0 e.0) [
   | inr other ↦ inr (found_slots Free side t xs (h.0, h.1, sym (find-later h.0 e.0 e.1 (listed xs) other) ∙ h.2, h.3, h.4))
 ]
 
--- one of the board's four men attacks the square exactly where a man of that side does
-pub attacked_by : (a : Inside) (men : Placement) (occupied : ℕ) (side : Side) (t : ℕ) → AreKept (slots_of a) → placed (slots_of a) ≡ men → ((u : ℕ) → (bit_at occupied u ≡ 0) ↔ IsFree men u)
+-- one of the board's four men attacks the square exactly where a man of that side does among the men as which the board is seen
+pub attacked_as : (a : Inside) (board men : Placement) (occupied : ℕ) (side : Side) (t : ℕ) → AreKept (slots_of a) → placed (slots_of a) ≡ board → IsSeenAs board side occupied men
     → (AttacksFrom (λ u. bit_at occupied u ≡ 0) side t a.first ⊎ (AttacksFrom (λ u. bit_at occupied u ≡ 0) side t a.second ⊎ (AttacksFrom (λ u. bit_at occupied u ≡ 0) side t a.third ⊎ AttacksFrom (λ u. bit_at occupied u ≡ 0) side t a.fourth)))
     ↔ IsAttacked men t side
 unfolding AnyAttacks FoundAttacks
-attacked_by a men occupied side t kept is free =
+attacked_as a board men occupied side t kept is seen =
     let Free : ℕ → Type 0 = λ u. bit_at occupied u ≡ 0 in
     let xs = slots_of a in
-    let same = listed-shown xs men (shown xs men kept is) in (
+    let same = listed-shown xs board (shown xs board kept is) in (
       λ some.
           let h = slots_found Free side t xs kept.in_order (elim some [ inl p ↦ inl p | inr r ↦ inr (elim r [ inl p ↦ inl p | inr q ↦ inr (elim q [ inl p ↦ inl p | inr o ↦ inr (inl o) ]) ]) ]) in
-          record { from = h.0; man = h.1; stands = map.get-entries men h.0 ∙ ap (map.find nat_cmp h.0) (sym same) ∙ h.2; theirs = h.3; reaches = Reaches-free Free (IsFree men) h.1 h.0 t (λ u u_in. (free u).0) h.4 },
+          let stands : Stands board h.0 h.1 = map.get-entries board h.0 ∙ ap (map.find nat_cmp h.0) (sym same) ∙ h.2 in
+          record { from = h.0; man = h.1; stands = (seen.stand h.0 h.1 h.3).1 stands; theirs = h.3; reaches = Reaches-free Free (IsFree men) h.1 h.0 t (λ u u_in. (seen.free u).0) h.4 },
       λ attacked.
           let some = found_slots Free side t xs (
             attacked.from,
             attacked.man,
-            ap (map.find nat_cmp attacked.from) same ∙ sym (map.get-entries men attacked.from) ∙ attacked.stands,
+            ap (map.find nat_cmp attacked.from) same ∙ sym (map.get-entries board attacked.from) ∙ (seen.stand attacked.from attacked.man attacked.theirs).0 attacked.stands,
             attacked.theirs,
-            Reaches-free (IsFree men) Free attacked.man attacked.from t (λ u u_in. (free u).1) attacked.reaches,
+            Reaches-free (IsFree men) Free attacked.man attacked.from t (λ u u_in. (seen.free u).1) attacked.reaches,
           ) in
           elim some [ inl p ↦ inl p | inr r ↦ inr (elim r [ inl p ↦ inl p | inr q ↦ inr (elim q [ inl p ↦ inl p | inr o ↦ inr (elim o [ inl p ↦ p | inr none ↦ absurd none ]) ]) ]) ],
     )
+
+-- a board is seen as it is
+pub seen_itself : (board : Placement) (side : Side) (occupied : ℕ) → ((u : ℕ) → (bit_at occupied u ≡ 0) ↔ IsFree board u) → IsSeenAs board side occupied board
+seen_itself board side occupied free = record { stand = λ s man own. (λ h. h, λ h. h); free = free }
+
+-- and, where none of that side's men stands on the square, as it is without the man there
+pub seen_without : (board : Placement) (side : Side) (all left lifted : ℕ) → ((man : Man) → Stands board lifted man → man.side ≢ side) → ((u : ℕ) → (bit_at all u ≡ 0) ↔ IsFree board u) →
+    bit_at left lifted ≡ 0 → ((u : ℕ) → u ≢ lifted → bit_at left u ≡ bit_at all u) → IsSeenAs board side left (map.remove board lifted)
+seen_without board side all left lifted foreign free gone others = record { stand = stand; free = free_of }
+  where
+    stand : (s : ℕ) (man : Man) → man.side ≡ side → Stands (map.remove board lifted) s man ↔ Stands board s man
+    stand s man own = elim (cases_eq s lifted) [
+      | inl e ↦ (
+        λ there. let bad : None ≡ Some man = sym (get-remove_same board lifted s e) ∙ there in absurd (cc),
+        λ there. absurd (foreign man (ap (map.get board) (sym e) ∙ there) own),
+      )
+      | inr other ↦ (λ there. sym (get-remove_other board lifted s other) ∙ there, λ there. get-remove_other board lifted s other ∙ there)
+    ]
+
+    free_of : (u : ℕ) → (bit_at left u ≡ 0) ↔ IsFree (map.remove board lifted) u
+    free_of u = elim (cases_eq u lifted) [
+      | inl e ↦ (λ _. get-remove_same board lifted u e, λ _. ap (bit_at left) e ∙ gone)
+      | inr other ↦ (
+        λ none. get-remove_other board lifted u other ∙ (free u).0 (sym (others u other) ∙ none),
+        λ none. others u other ∙ (free u).1 (sym (get-remove_other board lifted u other) ∙ none),
+      )
+    ]
+
+-- one of the board's four men attacks the square exactly where a man of that side does
+pub attacked_by : (a : Inside) (men : Placement) (occupied : ℕ) (side : Side) (t : ℕ) → AreKept (slots_of a) → placed (slots_of a) ≡ men → ((u : ℕ) → (bit_at occupied u ≡ 0) ↔ IsFree men u)
+    → (AttacksFrom (λ u. bit_at occupied u ≡ 0) side t a.first ⊎ (AttacksFrom (λ u. bit_at occupied u ≡ 0) side t a.second ⊎ (AttacksFrom (λ u. bit_at occupied u ≡ 0) side t a.third ⊎ AttacksFrom (λ u. bit_at occupied u ≡ 0) side t a.fourth)))
+    ↔ IsAttacked men t side
+attacked_by a men occupied side t kept is free = attacked_as a men men occupied side t kept is (seen_itself men side occupied free)

@@ -21,7 +21,7 @@ use Rattle.egt_board.specs.Board.{Slot, listed, placed, InOrder, AreKept}
 use Rattle.egt_board.specs.Slots.{slots_of}
 use Rattle.egt_board.specs.Position.{find-below, first_half, second_half}
 use Rattle.egt_board.specs.Attack.{IsAttacked}
-use Rattle.egt_board.specs.Safety.{IsKeptFrom, Stops, StopsSlot}
+use Rattle.egt_board.specs.Safety.{IsKeptFrom, IsSeenAs, Stops, StopsSlot}
 use Rattle.egt_board.proofs.Placed.{find-here, find-later}
 use Rattle.egt_board.proofs.Slots.{shown, listed-shown}
 use Rattle.egt_board.proofs.Hiding.{Reaches-target}
@@ -101,20 +101,20 @@ newcomer_stands men t newcomer man side foreign own s stands e =
 free_before : (men : Placement) (t u : ℕ) (newcomer : Man) → IsFree (map.insert men t newcomer) u → u ≢ t
 free_before men t u newcomer free e = let bad : Some newcomer ≡ None = sym (get-insert_same men t newcomer u e) ∙ free in cc
 
--- the slots' men are all stopped exactly where the side is kept from attacking the square
-pub kept_by : (a : Inside) (men : Placement) (occupied : ℕ) (side : Side) (square t : ℕ) (newcomer : Man) → AreKept (slots_of a) → placed (slots_of a) ≡ men → ((u : ℕ) → (bit_at occupied u ≡ 0) ↔ IsFree men u) → newcomer.side ≢ side
+-- the slots' men are all stopped exactly where the side is kept from attacking the square, among the men as which the board is seen
+pub kept_as : (a : Inside) (board men : Placement) (occupied : ℕ) (side : Side) (square t : ℕ) (newcomer : Man) → AreKept (slots_of a) → placed (slots_of a) ≡ board → IsSeenAs board side occupied men → newcomer.side ≢ side
     → (StopsSlot occupied side square t a.first × StopsSlot occupied side square t a.second × StopsSlot occupied side square t a.third × StopsSlot occupied side square t a.fourth) ↔ IsKeptFrom men t newcomer square side
 unfolding AllStop
-kept_by a men occupied side square t newcomer kept is free foreign =
+kept_as a board men occupied side square t newcomer kept is seen foreign =
     let xs = slots_of a in
-    let same = listed-shown xs men (shown xs men kept is) in (
+    let same = listed-shown xs board (shown xs board kept is) in (
       λ all attacked.
           let apart = newcomer_stands men t newcomer attacked.man side foreign attacked.theirs attacked.from attacked.stands in
-          let stands : Stands men attacked.from attacked.man = sym (get-insert_other men t newcomer attacked.from apart) ∙ attacked.stands in
-          elim (slots_stop occupied side square t xs (all.0, (all.1, (all.2, (all.3, tt)))) attacked.from attacked.man (ap (map.find nat_cmp attacked.from) same ∙ sym (map.get-entries men attacked.from) ∙ stands) attacked.theirs) [
+          let stands : Stands board attacked.from attacked.man = (seen.stand attacked.from attacked.man attacked.theirs).0 (sym (get-insert_other men t newcomer attacked.from apart) ∙ attacked.stands) in
+          elim (slots_stop occupied side square t xs (all.0, (all.1, (all.2, (all.3, tt)))) attacked.from attacked.man (ap (map.find nat_cmp attacked.from) same ∙ sym (map.get-entries board attacked.from) ∙ stands) attacked.theirs) [
             | inl e ↦ apart (sym e)
             | inr none ↦ none (Reaches-free (IsFree (map.insert men t newcomer)) (λ u. (bit_at occupied u ≡ 0) × (u ≢ t)) attacked.man attacked.from square
-                (λ u u_in clear. let other = free_before men t u newcomer clear in ((free u).1 (sym (get-insert_other men t newcomer u other) ∙ clear), other)) attacked.reaches)
+                (λ u u_in clear. let other = free_before men t u newcomer clear in ((seen.free u).1 (sym (get-insert_other men t newcomer u other) ∙ clear), other)) attacked.reaches)
           ],
       λ none.
           let all = found_stop occupied side square t xs kept.in_order (λ s man found own. elim (cases_eq t s) [
@@ -122,10 +122,10 @@ kept_by a men occupied side square t newcomer kept is free foreign =
             | inr other ↦ inr (λ r. none (record {
               from = s;
               man = man;
-              stands = get-insert_other men t newcomer s (λ e. other (sym e)) ∙ (map.get-entries men s ∙ ap (map.find nat_cmp s) (sym same) ∙ found);
+              stands = get-insert_other men t newcomer s (λ e. other (sym e)) ∙ (seen.stand s man own).1 (map.get-entries board s ∙ ap (map.find nat_cmp s) (sym same) ∙ found);
               theirs = own;
               reaches = Reaches-free (λ u. (bit_at occupied u ≡ 0) × (u ≢ t)) (IsFree (map.insert men t newcomer)) man s square
-                  (λ u u_in clear. get-insert_other men t newcomer u clear.1 ∙ (free u).0 clear.0) r;
+                  (λ u u_in clear. get-insert_other men t newcomer u clear.1 ∙ (seen.free u).0 clear.0) r;
             }))
           ]) in
           (all.0, all.1.0, all.1.1.0, all.1.1.1.0),

@@ -15,6 +15,8 @@ use Rattle.egt_board.specs.Placement.{Placement, same_men}
 use Rattle.egt_board.specs.declared.man.Side.TheVariants.{White, Black}
 use Rattle.egt_board.specs.Attack.{king_of}
 use Rattle.egt_board.specs.Corners.{corners}
+use Rattle.egt_board.specs.declared.board.Board.TheInside.{Inside}
+use Rattle.egt_board.specs.Slots.{slots_of}
 use Rattle.egt_board.specs.Board.{Slot, listed, padded, placed, InOrder, AreOnBoard, AreKept, man_on, place, lesser, greater}
 use Rattle.egt_board.specs.Position.{first_half, second_half}
 use Rattle.egt_board.proofs.Placed.{find-here, find-later}
@@ -396,14 +398,6 @@ shown_opened xs men k man is room k_in free =
       on_board = subst AreOnBoard (sym same) (on_board_put k man es is.on_board k_in);
     }
 
-pub opened_four : (new a b c d : Slot) →
-    cond (ltb (place a) (place new)) a new
-    ∷ cond (ltb (place b) (place new)) b (cond (ltb (place a) (place new)) new a)
-    ∷ cond (ltb (place c) (place new)) c (cond (ltb (place b) (place new)) new b)
-    ∷ cond (ltb (place d) (place new)) d (cond (ltb (place c) (place new)) new c) ∷ [] ≡ opened new true None (a ∷ b ∷ c ∷ d ∷ [])
-unfolding opened
-opened_four new a b c d = refl
-
 -- two kings alone
 one_more : (men : Placement) (s : ℕ) (man : Man) → map.len (map.insert men s man) ≤ map.len men + 1
 one_more men s man = by_key (map.contains_key men s) (map.len-insert nat_cmp_total men s man)
@@ -419,3 +413,84 @@ shown_corners =
     let one = one_more map.empty 0 (king_of White) in
     shown_with (Some (0, king_of White) ∷ None ∷ None ∷ None ∷ []) (map.insert map.empty 0 (king_of White)) 63 (king_of Black)
     (shown_with (None ∷ None ∷ None ∷ None ∷ []) map.empty 0 (king_of White) shown_empty (omega arith) (omega arith)) (omega arith) (omega arith)
+
+-- places rise from slot to slot
+AreRising : List Slot → Type 0
+AreRising [] = Unit {0}
+AreRising (x ∷ []) = Unit {0}
+AreRising (x ∷ y ∷ xs) = (place x ≤ place y) × AreRising (y ∷ xs)
+
+none_rise : (n : ℕ) → AreRising (padded n [])
+unfolding AreRising
+none_rise zero = tt
+none_rise (suc zero) = tt
+none_rise (suc (suc n)) = (omega arith, none_rise (suc n))
+
+padded_rise : (n : ℕ) (es : List (ℕ × Man)) → InOrder es → AreOnBoard es → AreRising (padded n es)
+unfolding AreRising
+padded_rise n [] sorted on_board = none_rise n
+padded_rise zero (e ∷ es) sorted on_board = tt
+padded_rise (suc zero) (e ∷ es) sorted on_board = tt
+padded_rise (suc (suc n)) (e ∷ []) sorted on_board = (let lt = on_board.0 in omega arith, none_rise (suc n))
+padded_rise (suc (suc n)) (e ∷ f ∷ es) sorted on_board =
+    let next : e.0 < f.0 = less_by e.0 f.0 (first_half _ _ (first_half _ _ sorted)) in
+    (omega arith, padded_rise (suc n) (f ∷ es) (second_half _ _ sorted) on_board.1)
+
+slots_rise : (a b c d : Slot) (men : Placement) → AreShown (a ∷ b ∷ c ∷ d ∷ []) men → (place a ≤ place b) × (place b ≤ place c) × (place c ≤ place d)
+unfolding AreRising
+slots_rise a b c d men is =
+    let rise = subst AreRising (sym is.full) (padded_rise 4 (map.entries men) (map.entries_sorted men) is.on_board) in (rise.0, rise.1.0, rise.1.1.0)
+
+last_empty : (a b c d : Slot) (es : List (ℕ × Man)) → a ∷ b ∷ c ∷ d ∷ [] ≡ padded 4 es → length es < 4 → place d ≡ 64
+last_empty a b c d [] is room = let none : d ≡ None = cc in ap place none
+last_empty a b c d (e ∷ []) is room = let none : d ≡ None = cc in ap place none
+last_empty a b c d (e ∷ f ∷ []) is room = let none : d ≡ None = cc in ap place none
+last_empty a b c d (e ∷ f ∷ g ∷ []) is room = let none : d ≡ None = cc in ap place none
+last_empty a b c d (e ∷ f ∷ g ∷ h ∷ es) is room = absurd (omega arith)
+
+by_tests : (new a b c d : Slot) (t u v w : Bool) → ltb (place a) (place new) ≡ t → ltb (place b) (place new) ≡ u → ltb (place c) (place new) ≡ v → ltb (place d) (place new) ≡ w
+    → opened new true None (a ∷ b ∷ c ∷ d ∷ []) ≡ cond t a new ∷ cond u b (cond t new a) ∷ cond v c (cond u new b) ∷ cond w d (cond v new c) ∷ []
+unfolding opened
+by_tests new a b c d t u v w e f g h =
+    ap (λ x. cond x a new ∷ cond (ltb (place b) (place new)) b (cond x new a) ∷ cond (ltb (place c) (place new)) c (cond (ltb (place b) (place new)) new b) ∷ cond (ltb (place d) (place new)) d (cond (ltb (place c) (place new)) new c) ∷ []) e
+    ∙ ap (λ x. cond t a new ∷ cond x b (cond t new a) ∷ cond (ltb (place c) (place new)) c (cond x new b) ∷ cond (ltb (place d) (place new)) d (cond (ltb (place c) (place new)) new c) ∷ []) f
+    ∙ ap (λ x. cond t a new ∷ cond u b (cond t new a) ∷ cond x c (cond u new b) ∷ cond (ltb (place d) (place new)) d (cond x new c) ∷ []) g
+    ∙ ap (λ x. cond t a new ∷ cond u b (cond t new a) ∷ cond v c (cond u new b) ∷ cond x d (cond v new c) ∷ []) h
+
+-- the slots with one man more, who stands ahead of the first, of the second, of the third or of none
+pub record Comes (a b c d : Slot) (men : Placement) (new : Slot) : Type 0 where
+  pub first : ltb (place a) (place new) ≡ false → AreShown (new ∷ a ∷ b ∷ c ∷ []) men
+  pub second : ltb (place a) (place new) ≡ true → ltb (place b) (place new) ≡ false → AreShown (a ∷ new ∷ b ∷ c ∷ []) men
+  pub third : ltb (place a) (place new) ≡ true → ltb (place b) (place new) ≡ true → ltb (place c) (place new) ≡ false → AreShown (a ∷ b ∷ new ∷ c ∷ []) men
+  pub fourth : ltb (place a) (place new) ≡ true → ltb (place b) (place new) ≡ true → ltb (place c) (place new) ≡ true → AreShown (a ∷ b ∷ c ∷ new ∷ []) men
+
+pub comes : (a b c d : Slot) (men : Placement) (k : ℕ) (man : Man) (new : Slot) → new ≡ Some (k, man) → AreShown (a ∷ b ∷ c ∷ d ∷ []) men → map.len men < 4 → k < 64 → map.get men k ≡ None → Comes a b c d (map.insert men k man) new
+comes a b c d men k man new new_is is room k_in free = record {
+  first = λ e.
+      let le = ltb-false (place a) (place new) e in
+      shown_by (by_tests new a b c d false false false false e (le-ltb (place b) (place new) (omega (arith, le, rise.0))) (le-ltb (place c) (place new) (omega (arith, le, rise.0, rise.1))) (le-ltb (place d) (place new) (omega (arith, le, rise.0, rise.1, rise.2))));
+  second = λ e f.
+      let le = ltb-false (place b) (place new) f in
+      shown_by (by_tests new a b c d true false false false e f (le-ltb (place c) (place new) (omega (arith, le, rise.1))) (le-ltb (place d) (place new) (omega (arith, le, rise.1, rise.2))));
+  third = λ e f g.
+      let le = ltb-false (place c) (place new) g in
+      shown_by (by_tests new a b c d true true false false e f g (le-ltb (place d) (place new) (omega (arith, le, rise.2))));
+  fourth = λ e f g. shown_by (by_tests new a b c d true true true false e f g (le-ltb (place d) (place new) (omega (arith, empty, place_is, k_in))));
+}
+  where
+    rise : (place a ≤ place b) × (place b ≤ place c) × (place c ≤ place d)
+    rise = slots_rise a b c d men is
+
+    place_is : place new ≡ k
+    place_is = ap place new_is
+
+    empty : place d ≡ 64
+    empty = last_empty a b c d (map.entries men) is.full (let size = map.len-entries men in omega arith)
+
+    shown_by : {xs : List Slot} → opened new true None (a ∷ b ∷ c ∷ d ∷ []) ≡ xs → AreShown xs (map.insert men k man)
+    shown_by e = subst (λ xs. AreShown xs (map.insert men k man)) e (subst (λ n. AreShown (opened n true None (a ∷ b ∷ c ∷ d ∷ [])) (map.insert men k man)) (sym new_is) (shown_opened (a ∷ b ∷ c ∷ d ∷ []) men k man is room k_in free))
+
+-- and those of a board
+pub comes_to : (a : Inside) (men : Placement) (k : ℕ) (man : Man) (new : Slot) → new ≡ Some (k, man) → AreKept (slots_of a) → placed (slots_of a) ≡ men → map.len men < 4 → k < 64 → map.get men k ≡ None
+    → Comes a.first a.second a.third a.fourth (map.insert men k man) new
+comes_to a men k man new new_is kept is room k_in free = comes a.first a.second a.third a.fourth men k man new new_is (shown (slots_of a) men kept is) room k_in free

@@ -1,10 +1,10 @@
 -- Where a man shields a square from attacks: FIDE Laws of Chess 2023, article 3.9.
-use Rattle.std.specs.Prelude.{◌≡◌, ◌≢◌, ℕ, ◌⊎◌, Some, None}
+use Rattle.std.specs.Prelude.{◌≡◌, ◌≢◌, ℕ, ◌⊎◌, ◌↔◌, Some, None}
 use Rattle.std.specs.Int.{bit_at}
 use Rattle.std.specs.FinMap as map
 use Rattle.egt_board.specs.declared.man.Side.{Side}
 use Rattle.egt_board.specs.declared.man.Man.{Man}
-use Rattle.egt_board.specs.Placement.{Placement}
+use Rattle.egt_board.specs.Placement.{Placement, Stands, IsFree}
 use Rattle.egt_board.specs.Attack.{IsAttacked}
 use Rattle.egt_board.specs.Board.{Slot}
 use Rattle.egt_board.specs.Gait.{Reaches}
@@ -21,3 +21,8 @@ Stops occupied man s square t = (t ≡ s) ⊎ (¬ Reaches (λ u. (bit_at occupie
 abbrev pub StopsSlot : ℕ → Side → ℕ → ℕ → Slot → Type 0
 StopsSlot occupied side square t None = Unit {0}
 StopsSlot occupied side square t (Some e) = e.1.side ≡ side → Stops occupied e.1 e.0 square t
+
+-- to that side's men the board, with these squares occupied, is as `men` are: they stand as there, and the other squares are free
+pub record IsSeenAs (board : Placement) (side : Side) (occupied : ℕ) (men : Placement) : Type 0 where
+  pub stand : (s : ℕ) (man : Man) → man.side ≡ side → Stands men s man ↔ Stands board s man
+  pub free : (u : ℕ) → (bit_at occupied u ≡ 0) ↔ IsFree men u

@@ -239,21 +239,42 @@ impl Board {
     }
 
     /// The board with the man on the square, which is free, where there are fewer than four men.
+    #[inline(always)]
     pub fn with_man(&self, square: Square, man: Man) -> Board
         requires free { IsFree self.now square }
         requires room { map.len self.now < 4 }
         ensures { result ≡ map.insert self.now square man }
     {
         let new = filled(square, man);
-        let by_first = is_ahead(&self.first, &new);
-        let by_second = is_ahead(&self.second, &new);
-        let by_third = is_ahead(&self.third, &new);
-        let by_fourth = is_ahead(&self.fourth, &new);
+        if !is_ahead(&self.first, &new) {
+            return Board {
+                first: new,
+                second: self.first,
+                third: self.second,
+                fourth: self.third,
+            };
+        }
+        if !is_ahead(&self.second, &new) {
+            return Board {
+                first: self.first,
+                second: new,
+                third: self.second,
+                fourth: self.third,
+            };
+        }
+        if !is_ahead(&self.third, &new) {
+            return Board {
+                first: self.first,
+                second: self.second,
+                third: new,
+                fourth: self.third,
+            };
+        }
         Board {
-            first: chosen(by_first, self.first, new),
-            second: chosen(by_second, self.second, chosen(by_first, new, self.first)),
-            third: chosen(by_third, self.third, chosen(by_second, new, self.second)),
-            fourth: chosen(by_fourth, self.fourth, chosen(by_third, new, self.third)),
+            first: self.first,
+            second: self.second,
+            third: self.third,
+            fourth: new,
         }
     }
 

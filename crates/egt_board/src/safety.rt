@@ -5,8 +5,8 @@ ghost use Rattle.std.specs.FinMap as map;
 ghost use Rattle.std.specs.Int.{bit_at};
 ghost use Rattle.egt_board.specs.Attack.{IsAttacked, AttacksFrom};
 ghost use Rattle.egt_board.specs.Gait.{Reaches};
-ghost use Rattle.egt_board.specs.Placement.{Placement, IsFree};
-ghost use Rattle.egt_board.specs.Safety.{IsKeptFrom, StopsSlot};
+ghost use Rattle.egt_board.specs.Placement.{Placement, Stands, IsFree};
+ghost use Rattle.egt_board.specs.Safety.{IsKeptFrom, IsSeenAs, StopsSlot};
 ghost use Rattle.egt_board.specs.SquareSet.{Has};
 ghost use Rattle.egt_board.specs.declared.man.Man.{Man};
 ghost use Rattle.egt_board.specs.declared.man.Side.{Side};
@@ -47,11 +47,13 @@ fn stops(slot: &Slot, side: Side, to: Square, occupied: SquareSet) -> SquareSet
 }
 
 impl Board {
-    /// The squares that men of that side attack.
-    pub fn danger(&self, side: Side) -> SquareSet
-        ensures { (t : ℕ) → t < 64 → Has result t ↔ IsAttacked self.now t side }
+    /// The squares that men of that side attack once the man on `lifted`, if there is one, is taken off: none of theirs.
+    pub fn danger_without(&self, side: Side, lifted: Square) -> SquareSet
+        requires { (man : Man) → Stands self.now lifted man → man.side ≢ side }
+        ensures { (t : ℕ) → t < 64 → Has result t ↔ IsAttacked (map.remove self.now lifted) t side }
     {
-        let occupied = self.occupied();
+        let all = self.occupied();
+        let occupied = all.less(lifted);
         let first = attacked_by(&self.first, side, occupied);
         let second = attacked_by(&self.second, side, occupied);
         let third = attacked_by(&self.third, side, occupied);
@@ -59,16 +61,34 @@ impl Board {
         first.union(second).union(third.union(fourth))
     }
 
-    /// The squares to which a man of the other side may come so that no man of that side attacks `to`.
-    pub fn shelter(&self, to: Square, side: Side) -> SquareSet
-        ensures { (t : ℕ) (newcomer : Man) → t < 64 → newcomer.side ≢ side → Has result t ↔ IsKeptFrom self.now t newcomer to side }
+    /// The squares to which a man of the other side may come so that no man of that side attacks `to`, where these squares are
+    /// occupied.
+    fn shelter_among(&self, to: Square, side: Side, occupied: SquareSet) -> SquareSet
+        ensures { (men : Placement) → IsSeenAs self.now side occupied.bits men →
+            (t : ℕ) (newcomer : Man) → t < 64 → newcomer.side ≢ side → Has result t ↔ IsKeptFrom men t newcomer to side }
     {
-        let occupied = self.occupied();
         let first = stops(&self.first, side, to, occupied);
         let second = stops(&self.second, side, to, occupied);
         let third = stops(&self.third, side, to, occupied);
         let fourth = stops(&self.fourth, side, to, occupied);
         first.common(second).common(third.common(fourth))
+    }
+
+    /// The squares to which a man of the other side may come so that no man of that side attacks `to`.
+    pub fn shelter(&self, to: Square, side: Side) -> SquareSet
+        ensures { (t : ℕ) (newcomer : Man) → t < 64 → newcomer.side ≢ side → Has result t ↔ IsKeptFrom self.now t newcomer to side }
+    {
+        let occupied = self.occupied();
+        self.shelter_among(to, side, occupied)
+    }
+
+    /// The same once the man on `lifted`, if there is one, is taken off: none of that side's.
+    pub fn shelter_without(&self, to: Square, side: Side, lifted: Square) -> SquareSet
+        requires { (man : Man) → Stands self.now lifted man → man.side ≢ side }
+        ensures { (t : ℕ) (newcomer : Man) → t < 64 → newcomer.side ≢ side → Has result t ↔ IsKeptFrom (map.remove self.now lifted) t newcomer to side }
+    {
+        let all = self.occupied();
+        self.shelter_among(to, side, all.less(lifted))
     }
 }
 

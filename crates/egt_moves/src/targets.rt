@@ -8,6 +8,7 @@ ghost use Rattle.egt_board.specs.Safety.{IsKeptFrom};
 ghost use Rattle.egt_board.specs.Setup.{IsAdmissible, IsKingOn};
 ghost use Rattle.egt_board.specs.SquareSet.{Has, size_of};
 ghost use Rattle.egt_board.specs.declared.man.Kind.TheVariants.{K, P};
+ghost use Rattle.egt_board.specs.declared.man.Man.{Man};
 ghost use Rattle.egt_moves.specs.Going.{Goes};
 ghost use Rattle.egt_moves.specs.Legal.{men_after, plain};
 ghost use Rattle.egt_moves.specs.Room.{most_goals};
@@ -17,27 +18,25 @@ use crate::going::{is_safe, targets};
 use egt_board::safety::attacks_pass_over_no_occupant;
 use egt_board::{Kind, Man, Position, Square, SquareSet};
 
-/// The squares that the enemy attacks once the man on `from` is lifted.
+/// The squares that the enemy attacks once the man on `from`, one of the side to move, is lifted.
 fn danger(position: &Position, from: Square) -> SquareSet
+    requires { (man : Man) → Stands position.now.men from man → man.side ≡ position.now.side }
     ensures attacked { (t : ℕ) → t < 64 → Has result t ↔ IsAttacked (map.remove position.now.men from) t (other_side position.now.side) }
     ensures admissible { IsAdmissible position.now }
 {
     let enemy = position.side().other();
-    let mut lifted = *position.board();
-    lifted.clear(from);
-    lifted.danger(enemy)
+    position.board().danger_without(enemy, from)
 }
 
 /// The squares to which this man, lifted from `from`, may come so that the enemy does not attack `king`.
 fn shelter(position: &Position, man: Man, from: Square, king: Square) -> SquareSet
-    requires { man.side ≡ position.now.side }
+    requires stands { Stands position.now.men from man }
+    requires mine { man.side ≡ position.now.side }
     ensures kept { (t : ℕ) → t < 64 → Has result t ↔ IsKeptFrom (map.remove position.now.men from) t man king (other_side position.now.side) }
     ensures admissible { IsAdmissible position.now }
 {
     let enemy = position.side().other();
-    let mut lifted = *position.board();
-    lifted.clear(from);
-    lifted.shelter(king, enemy)
+    position.board().shelter_without(king, enemy, from)
 }
 
 /// Those of the squares to which the king on `from` may go without being attacked there.
