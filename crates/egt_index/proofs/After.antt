@@ -101,7 +101,7 @@ kings_with : (f : Bool) (men : Placement) (w b : ℕ) (list other : List (Man ×
 kings_with f men w b list other off all h = (h.0, h.1, (h.2.0, off w h.2.1), (h.3.0, h.3.1, off b h.3.2, all h.3.3))
 
 -- two entries, in one order or, where the men are equal, the other
-ordered : (f : Bool) (men : Placement) (w b : ℕ) (x y first second : Entry) → IsOrdered x y first second
+pub ordered : (f : Bool) (men : Placement) (w b : ℕ) (x y first second : Entry) → IsOrdered x y first second
     → AllStand f men ((king_of White, w) ∷ (king_of Black, b) ∷ (option_to_list x ++ option_to_list y)) → AllStand f men ((king_of White, w) ∷ (king_of Black, b) ∷ (option_to_list first ++ option_to_list second))
 ordered f men w b x y first second (inl h) all =
     subst (λ (e : Entry). AllStand f men ((king_of White, w) ∷ (king_of Black, b) ∷ (option_to_list e ++ option_to_list second))) (sym h.0)
@@ -154,11 +154,11 @@ all_there men (e ∷ list) on_board counted all =
     ]
 
 -- no equal man behind stands on a lesser square
-abbrev AreSorted : List (Man × ℕ) → Type 0
+abbrev pub AreSorted : List (Man × ℕ) → Type 0
 AreSorted [] = Unit {0}
 AreSorted (e ∷ list) = (e.1 < 64) × ((s : ℕ) → IsListed list e.0 s → e.1 ≤ s) × AreSorted list
 
-picks_sorted : (pawns : Bool) (men : List Man) (digits : List ℕ) → AreDigits (map (base_of pawns) men) digits → AreApart (placed pawns men digits) → AreSorted (placed pawns men digits)
+pub picks_sorted : (pawns : Bool) (men : List Man) (digits : List ℕ) → AreDigits (map (base_of pawns) men) digits → AreApart (placed pawns men digits) → AreSorted (placed pawns men digits)
     → Picks pawns (men_of (placed pawns men digits)) men digits
 picks_sorted pawns [] digits are apart sorted = tt
 picks_sorted pawns (man ∷ men) [] are apart sorted = absurd are
@@ -184,12 +184,12 @@ sorted_two men (Some e) (Some d) all order = (all.0, (λ s h. of_one s h), (all.
     of_one s (inl h) = let le = order (sym h.0) in let is = h.1 in omega arith
     of_one s (inr h) = absurd h
 
-listed_there : (men : Placement) (list : List (Man × ℕ)) (man : Man) (s : ℕ) → AllStand false men list → IsListed list man s → Stands men s man
+pub listed_there : (men : Placement) (list : List (Man × ℕ)) (man : Man) (s : ℕ) → AllStand false men list → IsListed list man s → Stands men s man
 listed_there men [] man s all h = absurd h
 listed_there men (e ∷ list) man s all (inl h) = subst (λ m. Stands men s m) h.0 (subst (λ q. Stands men q e.0) h.1 all.1)
 listed_there men (e ∷ list) man s all (inr h) = listed_there men list man s all.3 h
 
-sorted_rest : (p : Setup) (stand : Stand) → IsAdmissible p → AllStand false p.men (list_of stand) → IsInOrder stand.next stand.last → AreSorted (rest_of stand)
+pub sorted_rest : (p : Setup) (stand : Stand) → IsAdmissible p → AllStand false p.men (list_of stand) → IsInOrder stand.next stand.last → AreSorted (rest_of stand)
 sorted_rest p stand ok all order = (
   all.3.0,
   (λ s h.

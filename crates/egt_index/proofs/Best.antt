@@ -143,14 +143,14 @@ best_more facts c p k o q code least best turn coded (inr h) = of_less (cases_lt
     }
 
 -- each turn has a number below sixteen
-turn_number : (n : ℕ) (flipped : Bool) → n < 8 → (t : ℕ) × (t < 16) × (t % 8 ≡ n) × (eqb (t / 8) 1 ≡ flipped)
+pub turn_number : (n : ℕ) (flipped : Bool) → n < 8 → (t : ℕ) × (t < 16) × (t % 8 ≡ n) × (eqb (t / 8) 1 ≡ flipped)
 turn_number n false n_in = (n, omega arith, omega arith, not_one)
   where
     not_one : eqb (n / 8) 1 ≡ false
     not_one = elim (eqb_tells (n / 8) 1) [ inl h ↦ absurd (let e = h.1 in omega arith) | inr h ↦ h.0 ]
 turn_number n true n_in = (n + 8, omega arith, omega arith, eq-eqb ((n + 8) / 8) 1 (omega arith))
 
-turn_of : (n : ℕ) (flipped : Bool) (p q : Setup) (t : ℕ) → t % 8 ≡ n → eqb (t / 8) 1 ≡ flipped → KeepsPlay n p.men → IsTurnedBy n flipped p q → IsTurn t p q
+pub turn_of : (n : ℕ) (flipped : Bool) (p q : Setup) (t : ℕ) → t % 8 ≡ n → eqb (t / 8) 1 ≡ flipped → KeepsPlay n p.men → IsTurnedBy n flipped p q → IsTurn t p q
 turn_of n flipped p q t number flips keeps turned =
     (subst (λ x. KeepsPlay x p.men) (sym number) keeps, subst (λ x. IsTurnedBy x (eqb (t / 8) 1) p q) (sym number) (subst (λ f. IsTurnedBy n f p q) (sym flips) turned))
 

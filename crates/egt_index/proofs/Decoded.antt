@@ -124,6 +124,12 @@ parts_told m code high side passed p ends s =
 pub no_men : (m : Material) (code high : ℕ) (side : Side) (passed : Bool) (p : Setup) → Ends m code high side passed → SpellsNoMen m high → SpellsBy m code p → ⊥
 no_men m code high side passed p ends none s = none s.digits s.are_digits (sym (parts_told m code high side passed p ends s).men_number)
 
+-- the men on their squares are those that any spelling of the code has
+pub list_spelled : (c code high : ℕ) (side : Side) (passed : Bool) (list : List (Man × ℕ)) (p : Setup) → Ends (material_of c) code high side passed → SpellsMen (material_of c) high list → (s : Spells c code p) → list ≡ men_at (material_of c) s.digits
+list_spelled c code high side passed list p ends spells s =
+    spells.list_is
+    ∙ ap (men_at (material_of c)) (number_from-same (men_bases (material_of c)) spells.digits s.digits 0 0 spells.are s.are_digits (sym spells.number_is ∙ sym (parts_told (material_of c) code high side passed p ends s).men_number)).1
+
 -- the target that the digits tell of is the position's
 passed_square : (mover : Side) (men : Placement) (list : List (Man × ℕ)) (t u : ℕ) → men ≡ men_of list → IsTarget men mover u → IsBehind mover list t
     → ((a b : ℕ) → IsListed list (pawn_of (other_side mover)) a → IsListed list (pawn_of (other_side mover)) b → a ≡ b) → t ≡ u
@@ -147,7 +153,7 @@ spelled_setup c code high side passed list target p ends spells told s = (subst 
     parts = parts_told m code high side passed p ends s
 
     list_is : list ≡ men_at m s.digits
-    list_is = spells.list_is ∙ ap (men_at m) (number_from-same (men_bases m) spells.digits s.digits 0 0 spells.are s.are_digits (sym spells.number_is ∙ sym parts.men_number)).1
+    list_is = list_spelled c code high side passed list p ends spells s
 
     men_is : p.men ≡ men_of list
     men_is = s.men ∙ ap men_of (sym list_is)

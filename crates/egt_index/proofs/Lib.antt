@@ -30,3 +30,9 @@ pub mod Past
 pub mod Telling
 pub mod Carried
 pub mod Moved
+mod Unmoving
+pub mod Beating
+pub mod Swapping
+pub mod Boarding
+pub mod Scaled
+pub mod Lined

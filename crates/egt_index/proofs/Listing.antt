@@ -1,12 +1,13 @@
 -- Placements given by a list of men.
-use Rattle.std.proofs.Common.{◌≡◌, ◌≢◌, ℕ, zero, suc, ◌<◌, List, [], ◌∷◌, length, map, cond, Some, None, arith, sym, ap, ◌∙◌, inl, inr, subst}
+use Rattle.std.proofs.Common.{◌≡◌, ◌≢◌, ℕ, zero, suc, ◌+◌, ◌<◌, ◌≤◌, true, false, List, [], ◌∷◌, ◌++◌, length, map, cond, Some, None, arith, sym, ap, ◌∙◌, inl, inr, subst}
 use Rattle.std.specs.Prelude.{slice_index}
 use Rattle.std.specs.Ordering.{nat_cmp}
 use Rattle.std.specs.Cmp.{nat_cmp_total}
 use Rattle.std.specs.FinMap as placement
 use Rattle.std.proofs.lemmas.Bool.{cases_eq}
+use Rattle.std.proofs.lemmas.List.{map-append}
 use Rattle.egt_board.specs.declared.man.Man.{Man}
-use Rattle.egt_board.specs.Placement.{Placement, Stands, IsFree, same_men, tied, untied, get-remove_same, get-remove_other}
+use Rattle.egt_board.specs.Placement.{Placement, Stands, IsFree, same_men, tied, untied, get-remove_same, get-remove_other, get-insert_same, get-insert_other}
 use Rattle.egt_board.specs.Listed.{men_of, entry_of, squares_of}
 use Rattle.egt_index.specs.Spelled.{IsListed}
 
@@ -88,3 +89,31 @@ fits_of [] apart i j lt j_in same = absurd (omega arith)
 fits_of (e ∷ list) apart i zero lt j_in same = absurd (omega arith)
 fits_of (e ∷ list) apart zero (suc j) lt j_in same = off_free list e.1 apart.0 j (omega arith) (sym same)
 fits_of (e ∷ list) apart (suc i) (suc j) lt j_in same = fits_of list apart.1 i j (omega arith) (omega arith) same
+
+-- a man put behind the others
+pub pushed : (list : List (Man × ℕ)) (e : Man × ℕ) → IsFree (men_of list) e.1 → men_of (list ++ e ∷ []) ≡ placement.insert (men_of list) e.1 e.0
+unfolding men_of
+pushed list e free =
+    ap placement.from_entries (map-append entry_of list (e ∷ []))
+    ∙ placement.from_entries_push nat_cmp_total placement.nat_cmp-IsAntisymmetric (map entry_of list) e.1 e.0 (sym (placement.get-from_entries nat_cmp_total (map entry_of list) e.1) ∙ free)
+
+-- or in front of them
+put_first : (e : Man × ℕ) (list : List (Man × ℕ)) → men_of (e ∷ list) ≡ placement.insert (men_of list) e.1 e.0
+put_first e list = same_men _ _ (λ q. elim (cases_eq q e.1) [
+  | inl same ↦ get_here e list q same ∙ sym (get-insert_same (men_of list) e.1 e.0 q same)
+  | inr other ↦ get_later e list q other ∙ sym (get-insert_other (men_of list) e.1 e.0 q other)
+])
+
+-- no more men than are listed
+pub few_listed : (list : List (Man × ℕ)) → placement.len (men_of list) ≤ length list
+few_listed [] = let none = ap placement.len (none_listed) ∙ placement.len-empty nat_cmp Man in omega arith
+  where
+    none_listed : men_of [] ≡ placement.empty
+    none_listed = same_men _ _ (λ q. get_none q ∙ sym (placement.get-empty nat_cmp q))
+few_listed (e ∷ list) =
+    let is = ap placement.len (put_first e list) ∙ placement.len-insert nat_cmp_total (men_of list) e.1 e.0 in
+    let rest = few_listed list in
+    elim (placement.contains_key (men_of list) e.1) as (λ b. placement.len (men_of (e ∷ list)) ≡ cond b (placement.len (men_of list)) (placement.len (men_of list) + 1) → placement.len (men_of (e ∷ list)) ≤ suc (length list)) [
+      | true ↦ λ is. omega arith
+      | false ↦ λ is. omega arith
+    ] is

@@ -1,7 +1,7 @@
 -- The men that a number spells, as a board and as a setup.
 use Rattle.std.proofs.Common.{◌≡◌, ◌≢◌, ℕ, ◌<◌, ◌&&◌, not, Bool, true, false, eqb, List, [], ◌∷◌, ◌++◌, length, map, Option, Some, None, arith, refl, sym, ap, ◌∙◌, inl, inr, subst}
-use Rattle.std.specs.Option.{option_to_list, option_eq, is_some}
-use Rattle.std.proofs.lemmas.Bool.{and_parts, eq-eqb, eqb-true, false≢true}
+use Rattle.std.specs.Option.{option_to_list, is_some}
+use Rattle.std.proofs.lemmas.Bool.{and_parts, eq-eqb}
 use Rattle.egt_board.specs.declared.man.Side.{Side}
 use Rattle.egt_board.specs.declared.man.Side.TheVariants.{White, Black}
 use Rattle.egt_board.specs.declared.man.Kind.{Kind}
@@ -18,23 +18,18 @@ use Rattle.egt_class.specs.Below.{all_below, passes_below}
 use Rattle.egt_class.specs.Material.{material_of, materials}
 use Rattle.egt_index.specs.Code.{Spells, square_by_digit, placed}
 use Rattle.egt_index.specs.Digits.{AreDigits}
-use Rattle.egt_index.specs.Facts.{Facts}
-use Rattle.egt_index.specs.Index.{IsIndex}
 use Rattle.egt_index.specs.Size.{base_by, base_of, men_beside, men_in_order, has_pawns}
 use Rattle.egt_index.specs.Spelled.{SpellsMen, Ends, IsListed, IsTold}
 use Rattle.egt_index.specs.Stood.{men_among, rest_of, list_of, IsOff, AllApart, AllStand, HasStand}
-use Rattle.egt_index.specs.Turns.{Best}
 use Rattle.egt_index.specs.declared.stand.Stand.{Stand}
-use Rattle.egt_index.proofs.Best.{best_at_last, index_found}
 use Rattle.egt_index.proofs.Classes.{spells_class}
 use Rattle.egt_index.proofs.Coded.{few_men, placed_few}
 use Rattle.egt_index.proofs.Decoded.{decoded_spells}
-use Rattle.egt_index.proofs.Exists.{one_index}
 use Rattle.egt_index.proofs.Listing.{AreApart, apart_of, fits_of, get_here, get_later, get_none, listed}
 use Rattle.egt_index.proofs.Tested.{not_both}
 
 -- squares of their own, and squares on which nothing else stands
-free_of : (list : List (Man × ℕ)) (q : ℕ) → IsOff list q → IsFree (men_of list) q
+pub free_of : (list : List (Man × ℕ)) (q : ℕ) → IsOff list q → IsFree (men_of list) q
 free_of [] q off = get_none q
 free_of (e ∷ list) q off = get_later e list q (λ same. off.0 (sym same)) ∙ free_of list q off.1
 
@@ -181,20 +176,6 @@ stand_spelled c code high stand side passed target men apart told spells settled
   target_is = target_there passed side (list_of stand) target told;
 }
 
--- the least code over the images of a settled position is its index
-pub least_is_index : Facts → (c : ℕ) (p : Setup) (code : ℕ) (o : Option ℕ) → IsAdmissible p → IsSettled p → Spells c code p → Best c p 16 o → IsIndex c p code → o ≡ Some code
-least_is_index facts c p code None ok settled spells best index = absurd (false≢true (best_at_last facts c false p None ok settled (spells_class c code p spells) best))
-least_is_index facts c p code (Some least) ok settled spells best index =
-    ap Some (one_index facts p c least code ok (index_found facts c p p least ok (inl (settled, refl)) best) index)
-
--- a code that is asked for
-pub code_told : (o : Option ℕ) (code : ℕ) → option_eq eqb o (Some code) ≡ true → o ≡ Some code
-code_told None code h = absurd (false≢true h)
-code_told (Some other) code h = ap Some (eqb-true other code h)
-
-pub told_code : (o : Option ℕ) (code : ℕ) → o ≡ Some code → option_eq eqb o (Some code) ≡ true
-told_code o code is = ap (λ o. option_eq eqb o (Some code)) is ∙ eq-eqb code code refl
-
 -- a position with the board is the setup
 pub on_board_of : (list : List (Man × ℕ)) (side : Side) (target : Option ℕ) (men : Placement) (p : Setup) → men ≡ men_of list → p ≡ record { men = men; side = side; target = target } → p ≡ setup_of list side target
 on_board_of list side target men p men_is is = is ∙ ap set men_is
@@ -206,9 +187,3 @@ pub setup_spelled : (c code high : ℕ) (side : Side) (passed : Bool) (list : Li
     → AllApart list → p ≡ setup_of list side target → IsAdmissible p → Spells c code p
 setup_spelled c code high side passed list target p ends men told apart is ok =
     subst (Spells c code) (sym is) (decoded_spells (material_of c) code high side passed list target ends men told (apart_fits c high list men apart) (subst IsAdmissible is ok))
-
-pub setup_index : Facts → (c code high : ℕ) (side : Side) (passed : Bool) (stand : Stand) (target : Option ℕ) (p : Setup) (o : Option ℕ) → SpellsMen (material_of c) high (list_of stand) → IsTold passed side (list_of stand) target
-    → AllApart (list_of stand) → p ≡ setup_of (list_of stand) side target → Spells c code p → IsSettled p → ((q : Setup) → HasStand c false stand side passed q → Best c q 16 o) → o ≡ Some code → IsIndex c p code
-setup_index facts c code high side passed stand target p o men told apart is spells settled best o_is =
-    index_found facts c p p code spells.admissible (inl (settled, refl))
-    (subst (Best c p 16) o_is (best p (subst (HasStand c false stand side passed) (sym is) (stand_spelled c code high stand side passed target men apart told (subst (Spells c code) is spells) (subst IsSettled is settled)))))

@@ -16,10 +16,16 @@ pub record IsTurnWith (pawns flips : Bool) (t : ℕ) : Type 0 where
   pub flips_is : (t / 8 == 1) ≡ flips
   pub keeps : t % 8 < symmetries pawns
 
+-- the turn brings the king home
+abbrev pub BringsHome : Bool → Bool → ℕ → ℕ → Type 0
+BringsHome pawns flips king t = (d : ℕ) × (d < king_base pawns) × (king_square pawns d ≡ turned_square (t % 8) flips king)
+
 -- these one or two turns do so, and no other
 pub record AreHome (pawns flips : Bool) (king first : ℕ) (second : Option ℕ) : Type 0 where
   pub one : IsTurnWith pawns flips first
   pub other : IfSome second (IsTurnWith pawns flips)
+  pub brings : BringsHome pawns flips king first
+  pub other_brings : IfSome second (BringsHome pawns flips king)
   pub none : (t : ℕ) → IsTurnWith pawns flips t → t ≢ first → IfSome second (λ u. t ≢ u) → (d : ℕ) → d < king_base pawns → king_square pawns d ≢ turned_square (t % 8) flips king
 
 -- the least code of what the turns that exchange colours so make of p

@@ -1,6 +1,7 @@
 -- The men of a class on their squares in a position, and after a turn.
 use Rattle.std.specs.Prelude.{◌≡◌, ◌≢◌, ℕ, ◌<◌, ◌≤◌, ◌⊎◌, Bool, List, [], ◌∷◌, ◌++◌, map, Option, Some, None, IfSome}
 use Rattle.std.specs.Option.{option_map, option_to_list, is_some}
+use Rattle.std.specs.FinMap as placement
 use Rattle.std.specs.Int.{bit_at}
 use Rattle.egt_board.specs.declared.man.Side.{Side}
 use Rattle.egt_board.specs.declared.man.Side.TheVariants.{White, Black}
@@ -128,3 +129,8 @@ pub record IsTurned (n : ℕ) (flips : Bool) (before after : Stand) : Type 0 whe
 -- the man has a digit on its square
 abbrev pub HasDigit : Entry → Type 0
 HasDigit entry = IfSome entry (λ e. (e.0 ≢ king_of White) × MayStand e.0 e.1)
+
+-- the placement with one man more, if there is one
+abbrev pub with_entry : Placement → Entry → Placement
+with_entry men None = men
+with_entry men (Some e) = placement.insert men e.1 e.0

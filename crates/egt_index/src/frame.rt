@@ -1,17 +1,25 @@
 //! Indexes of positions that differ from one position by the square of a man.
-ghost use Rattle.std.specs.Prelude.{◌≡◌, ◌≢◌, Bool, IsSome, IsFalse};
+ghost use Rattle.std.specs.Prelude.{◌≡◌, ◌≢◌, ℕ, not, Bool, false, IsSome, IsFalse};
 ghost use Rattle.egt_board.specs.Setup.{Setup};
+ghost use Rattle.egt_board.specs.declared.man.Man.{Man};
 ghost use Rattle.egt_board.specs.Settled.{IsSettled};
 ghost use Rattle.egt_class.specs.Membership.{IsOf};
+ghost use Rattle.egt_board.specs.Placement.{Stands};
 ghost use Rattle.egt_index.specs.Frame.{IsFrame, IsMoved};
 ghost use Rattle.egt_index.specs.Index.{IsIndex};
+ghost use Rattle.egt_index.specs.Steps.{AreSteps};
+ghost use Rattle.egt_index.specs.Stood.{HasStand};
 ghost use Rattle.egt_index.specs.Turns.{Best};
+ghost use Rattle.egt_index.specs.Ways.{WayFits, Leads};
+ghost use Rattle.egt_board.specs.Man.{other_side};
 
 use crate::facts::facts;
 use crate::indexing::{least_of_images, lesser};
 use crate::lanes::{Lanes, home_lanes, least_along, moved};
 use crate::men::has_equal_sides;
 use crate::stand::{Stand, exchanged, is_flipped, stand_of};
+use crate::steps::Steps;
+use crate::ways::{Way, way_of};
 use egt_board::{Position, Side, Square};
 use egt_class::Class;
 
@@ -116,5 +124,56 @@ impl Frame {
     {
         facts();
         self.least_after(from, to).unwrap()
+    }
+
+    /// The ways of the man on the square.
+    pub fn steps(&self, from: Square) -> Steps
+        ensures { (p : Setup) (man : Man) → IsFrame p self.now → Stands p.men from man → AreSteps p self.now.class from result }
+    {
+        facts();
+        let _number = self.class.number();
+        let side = self.side.other();
+        Steps {
+            own: way_of(self.class, &self.stand, &self.own, self.flipped, side, from),
+            exchanged: self.exchanged_way(side, from),
+        }
+    }
+
+    /// The codes after the man on the square went, of the turns that bring the position into other colours than the class's.
+    fn exchanged_way(&self, side: Side, from: Square) -> Way
+        ensures fits { (p : Setup) → IsFrame p self.now → WayFits result }
+        ensures leads { (p : Setup) → IsFrame p self.now → side ≡ other_side self.now.side → Leads self.now.class (not self.now.flipped) p from result }
+    {
+        facts();
+        let _number = self.class.number();
+        match &self.exchanged {
+            Some(lanes) => {
+                let stand = exchanged(&self.stand);
+                way_of(self.class, &stand, lanes, !self.flipped, side, from)
+            }
+            None => Way::Never,
+        }
+    }
+}
+
+impl Frame {
+    /// The frame of a settled position of the class, in its colours, of which it is known where the men stand.
+    #[inline(always)]
+    pub(crate) fn of_stand(class: Class, stand: &Stand, side: Side) -> Frame
+        ensures frame { (p : Setup) (passed : Bool) → HasStand class false stand.now side passed p → IsFrame p result }
+        ensures class { result.class ≡ class }
+    {
+        Frame {
+            class,
+            flipped: false,
+            side,
+            stand: *stand,
+            own: home_lanes(class, stand, false),
+            exchanged: if has_equal_sides(class) {
+                Some(home_lanes(class, &exchanged(stand), true))
+            } else {
+                None
+            },
+        }
     }
 }

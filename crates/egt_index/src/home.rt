@@ -1,6 +1,8 @@
 //! The turns that bring a king to a square of the white king's digit.
-ghost use Rattle.std.specs.Prelude.{◌≡◌, ◌<◌, ◌+◌, slice_index, if◌then◌else◌};
+ghost use Rattle.std.specs.Prelude.{◌≡◌, ℕ, ◌<◌, ◌+◌, false, slice_index, IfSome, if◌then◌else◌};
+ghost use Rattle.egt_index.specs.Code.{king_square};
 ghost use Rattle.egt_index.specs.Home.{AreHome};
+ghost use Rattle.egt_index.specs.Size.{king_base};
 
 use egt_board::Square;
 
@@ -58,5 +60,18 @@ pub(crate) fn home(pawns: bool, flips: bool, king: Square) -> (u8, Option<u8>)
         (first, None)
     } else {
         (first, Some(second))
+    }
+}
+
+/// The turn, beside the one that changes nothing, that leaves the king at home who is there, in the same colours: it exchanges files
+/// and ranks, where he stands on the long diagonal.
+pub(crate) fn still_home(pawns: bool, king: Square) -> Option<u8>
+    ensures home { (digit : ℕ) → digit < king_base pawns → king_square pawns digit ≡ king → AreHome pawns false king 0 result }
+    ensures below { IfSome result (λ turn. turn < 16) }
+{
+    if !pawns & (king.file() == king.rank()) {
+        Some(4)
+    } else {
+        None
     }
 }

@@ -1,6 +1,8 @@
 //! Codes of positions: one number for all images of a position, so that a table has one entry for them.
 #![tactic(auto)]
 
+pub mod axis;
+pub mod beaten;
 pub mod codes;
 pub mod digits;
 pub mod facts;
@@ -10,19 +12,26 @@ pub mod indexing;
 pub mod lanes;
 pub mod laws;
 pub mod men;
+pub mod scales;
 pub mod sizes;
 pub mod spelling;
 pub mod stand;
+pub mod steps;
 pub mod turning;
+pub mod ways;
 
+pub use axis::is_on_axis;
 pub use frame::Frame;
 pub use indexing::index;
 pub use sizes::size;
-pub use spelling::position;
+pub use spelling::{position, spelled};
+pub use steps::Steps;
 
 #[cfg(test)]
 mod index_tests;
 #[cfg(test)]
 mod plain_tests;
+#[cfg(test)]
+mod step_tests;
 #[cfg(test)]
 mod tests;

@@ -1,22 +1,25 @@
 //! The position that a code spells.
-ghost use Rattle.std.specs.Prelude.{◌≡◌, ◌≢◌, ◌<◌, ◌≤◌, ◌↔◌, Bool, true, IsTrue, IsSome, IfSome, IfNone};
+ghost use Rattle.std.specs.Prelude.{◌≡◌, ◌≢◌, ◌<◌, ◌≤◌, ◌↔◌, Bool, true, false, IsTrue, IsSome, IfSome, IfNone};
 ghost use Rattle.std.specs.FinMap as map;
 ghost use Rattle.egt_board.specs.Attack.{king_of};
 ghost use Rattle.egt_board.specs.Listed.{men_of};
 ghost use Rattle.egt_board.specs.Pawn.{PawnsFit};
+ghost use Rattle.egt_board.specs.Placement.{IsFree};
 ghost use Rattle.egt_board.specs.Settled.{IsSettled};
 ghost use Rattle.egt_board.specs.Setup.{IsAdmissible, IsKingOn};
 ghost use Rattle.egt_board.specs.declared.man.Side.TheVariants.{White, Black};
 ghost use Rattle.egt_class.specs.Material.{material_of};
 ghost use Rattle.egt_index.specs.Code.{Spells, king_square};
+ghost use Rattle.egt_index.specs.Frame.{IsFrame};
 ghost use Rattle.egt_index.specs.Index.{IsIndex, IsVoid};
 ghost use Rattle.egt_index.specs.Size.{king_base};
 ghost use Rattle.std.specs.Option.{option_to_list};
 ghost use Rattle.egt_index.specs.Spelled.{Splits, Tells, SpellsMen, SpellsNoMen, Ends, HasPawns, IsTold};
-ghost use Rattle.egt_index.specs.Stood.{list_of};
+ghost use Rattle.egt_index.specs.Stood.{AllApart, list_of, with_entry, HasStand};
 
+use crate::beaten::is_least;
 use crate::facts::facts;
-use crate::indexing::least_of_images;
+use crate::frame::Frame;
 use crate::men::{beside, has_pawns, has_target};
 use crate::stand::{Stand, are_apart};
 use egt_board::{Board, Kind, Man, Position, Side, Square};
@@ -115,18 +118,34 @@ fn ends(class: Class, code: u32) -> (u32, Side, bool)
     (number / 2, side, passed)
 }
 
+/// The board with one man more, if there is one.
+#[inline(always)]
+fn with_entry(board: Board, entry: Option<(Man, Square)>) -> Board
+    requires free { IfSome entry (λ e. IsFree board e.1) }
+    requires room { map.len board < 4 }
+    ensures { result ≡ with_entry board entry }
+{
+    match entry {
+        Some(placed) => board.with_man(placed.1, placed.0),
+        None => board,
+    }
+}
+
 /// The board with the men on it.
+#[inline(always)]
 fn board_of(stand: &Stand) -> Board
+    requires { AllApart (list_of stand.now) }
     ensures men { result ≡ men_of (list_of stand.now) }
     ensures few { map.len result ≤ 4 }
 {
-    let (white, black) = (stand.white, stand.black);
-    Board::of_stood(
-        (WHITE_KING, white),
-        (BLACK_KING, black),
-        stand.next,
-        stand.last,
-    )
+    let kings = Board::of_stood(
+        (WHITE_KING, stand.white),
+        (BLACK_KING, stand.black),
+        None,
+        None,
+    );
+    let board = with_entry(kings, stand.next);
+    with_entry(board, stand.last)
 }
 
 /// The target, if there is one: the square that the pawn of the side that waits has passed.
@@ -184,11 +203,13 @@ fn is_settled(position: &Position) -> bool
     position.target().is_none() || position.settle().target().is_some()
 }
 
-/// The settled position that the code spells; `None` where the code is no position's index, and so from the class's size on.
-pub fn position(class: Class, code: u32) -> Option<Position>
-    ensures spells { IfSome result (λ p. Spells class code p) }
-    ensures settled { IfSome result IsSettled }
-    ensures index { IfSome result (λ p. IsIndex class p code) }
+/// The settled position that the code spells, and where its men stand.
+#[inline(always)]
+fn found(class: Class, code: u32) -> Option<(Position, Stand)>
+    ensures spells { IfSome result (λ r. Spells class code r.0) }
+    ensures settled { IfSome result (λ r. IsSettled r.0) }
+    ensures index { IfSome result (λ r. IsIndex class r.0 code) }
+    ensures stand { IfSome result (λ r. (passed : Bool) × HasStand class false r.1 r.0.side passed r.0) }
     ensures void { IfNone result (IsVoid class code) }
 {
     facts();
@@ -199,15 +220,47 @@ pub fn position(class: Class, code: u32) -> Option<Position>
     if !are_apart(&stand) {
         return None;
     }
-    let is_least = least_of_images(class, &stand, side, passed, false) == Some(code);
+    let is_least = is_least(class, &stand, side, passed, code);
     if !is_least {
         return None;
     }
     let board = board_of(&stand);
     let position = admitted(board, side, target, stand.white, stand.black)?;
     if is_settled(&position) {
-        Some(position)
+        Some((position, stand))
     } else {
         None
+    }
+}
+
+/// The settled position that the code spells; `None` where the code is no position's index, and so from the class's size on.
+pub fn position(class: Class, code: u32) -> Option<Position>
+    ensures spells { IfSome result (λ p. Spells class code p) }
+    ensures settled { IfSome result IsSettled }
+    ensures index { IfSome result (λ p. IsIndex class p code) }
+    ensures void { IfNone result (IsVoid class code) }
+{
+    match found(class, code) {
+        Some((position, _)) => Some(position),
+        None => None,
+    }
+}
+
+/// The same, and the frame of the position. It is inlined so that neither is copied on its way to the caller.
+#[inline(always)]
+pub fn spelled(class: Class, code: u32) -> Option<(Position, Frame)>
+    ensures spells { IfSome result (λ r. Spells class code r.0) }
+    ensures settled { IfSome result (λ r. IsSettled r.0) }
+    ensures index { IfSome result (λ r. IsIndex class r.0 code) }
+    ensures frame { IfSome result (λ r. IsFrame r.0 r.1) }
+    ensures class { IfSome result (λ r. r.1.class ≡ class) }
+    ensures void { IfNone result (IsVoid class code) }
+{
+    match found(class, code) {
+        Some(both) => {
+            let frame = Frame::of_stand(class, &both.1, both.0.side());
+            Some((both.0, frame))
+        }
+        None => None,
     }
 }

@@ -7,6 +7,7 @@ ghost use Rattle.egt_board.specs.Turned.{turned_man};
 ghost use Rattle.egt_board.specs.declared.man.Man.{Man};
 ghost use Rattle.egt_board.specs.declared.man.Side.TheVariants.{White, Black};
 ghost use Rattle.egt_class.specs.Membership.{IsOf};
+ghost use Rattle.egt_index.specs.Beaten.{AreBehind};
 ghost use Rattle.egt_index.specs.Stood.{Stood, AreLeft, Found, list_of, IsOff, AllApart, entry_after, on_square_of, IsInOrder, IsOrdered, AreExchanged, IsTurned, IsStandAfter};
 
 use crate::facts::facts;
@@ -109,8 +110,9 @@ fn entry_after(entry: Option<(Man, Square)>, turn: u8) -> Option<(Man, Square)>
 }
 
 /// Whether the men beside the kings are equal and the last stands on the lesser square.
-fn is_behind(stand: &Stand) -> bool
+pub(crate) fn is_behind(stand: &Stand) -> bool
     ensures behind { result ≡ true → AreExchanged stand.now.next stand.now.last }
+    ensures strictly { result ≡ true → AreBehind stand.now.next stand.now.last }
     ensures in_order { result ≡ false → IsInOrder stand.now.next stand.now.last }
 {
     match (stand.next, stand.last) {

@@ -1,5 +1,6 @@
-//! The size of each class, from the squares that its men come to.
-use crate::size;
+//! The size of each class, from the squares that its men come to, and the squares on axes.
+use crate::{is_on_axis, size};
+use egt_board::Square;
 use egt_class::Class;
 use std::test::Fail;
 
@@ -22,6 +23,20 @@ fn sizes(rt: HostRuntime) -> Result<(), Fail> {
     for number in 0..36 {
         let class = Class::new(number).ok_or("no class")?;
         assert!(rt; size(class) == wanted(number));
+    }
+    Ok(())
+}
+
+/// KRRK and KPKP, with the squares of both long diagonals.
+#[test]
+fn axes(rt: HostRuntime) -> Result<(), Fail> {
+    let pieces = Class::new(10).ok_or("no class")?;
+    let pawns = Class::new(35).ok_or("no class")?;
+    let diagonals = [0, 9, 18, 27, 36, 45, 54, 63, 7, 14, 21, 28, 35, 42, 49, 56];
+    for number in 0..64 {
+        let square = Square::at(number);
+        assert!(rt; is_on_axis(pieces, square) == diagonals.contains(&number));
+        assert!(rt; !is_on_axis(pawns, square));
     }
     Ok(())
 }

@@ -10,12 +10,12 @@ use Rattle.egt_class.specs.Material.{material_of}
 use Rattle.egt_index.specs.Code.{Spells}
 use Rattle.egt_index.specs.Index.{IsVoid}
 use Rattle.egt_index.specs.Size.{has_target}
-use Rattle.egt_index.specs.Stood.{list_of}
-use Rattle.egt_index.proofs.Decoded.{has_pawns_list, no_men, spelled_setup}
+use Rattle.egt_index.specs.Stood.{list_of, HasStand}
+use Rattle.egt_index.proofs.Decoded.{has_pawns_list, list_spelled, no_men, spelled_setup}
 use Rattle.egt_index.proofs.Exists.{index_settled, index_spelled}
-use Rattle.egt_index.proofs.Setups.{fits_apart, pawns_spelled, kings_spelled, stand_spelled, least_is_index, code_told, told_code, on_board_of, setup_spelled, setup_index}
-use Rattle.egt_index.proofs.spelling.position.Goals as goal
-use Rattle.egt_index.proofs.spelling.position.Goals.{After-is_settled}
+use Rattle.egt_index.proofs.Setups.{fits_apart, pawns_spelled, kings_spelled, stand_spelled, on_board_of, setup_spelled}
+use Rattle.egt_index.proofs.spelling.found.Goals as goal
+use Rattle.egt_index.proofs.spelling.found.Goals.{After-is_settled}
 
 pub returns-in_err-stand-clause-void : goal.returns-in_err-stand-clause-void
 returns-in_err-stand-clause-void c =
@@ -44,10 +44,13 @@ returns-then-not-is_least-clause-void c = λ p ok index.
     let here : Setup = setup_of list c.ends-number.result.1 c.target_of-target.result in
     let spells : Spells c.args.class c.args.code here = subst (Spells c.args.class c.args.code) setup.1 index.spells in
     let settled : IsSettled here = index_settled c.facts.ensures p here c.args.class c.args.code ok index spells in
-    let best = c.least_of_images.ensures here
-    (stand_spelled c.args.class c.args.code c.ends-number.result.0 c.in_ok-stand.stand c.ends-number.result.1 c.ends-number.result.2 c.target_of-target.result c.in_ok-stand.ensures.some (fits_apart list setup.0) c.target_of-target.ensures spells settled) in
-    false≢true (sym c.if-not-is_least.true ∙ c.eq-is_least.ensures ∙ told_code c.least_of_images.result c.args.code (least_is_index c.facts.ensures c.args.class here c.args.code c.least_of_images.result spells.admissible settled spells best
-    (index_spelled c.facts.ensures p here c.args.class c.args.code ok index spells)))
+    c.is_least-is_least.ensures.beaten c.if-not-is_least.true here
+    (stand_spelled c.args.class c.args.code c.ends-number.result.0 c.in_ok-stand.stand c.ends-number.result.1 c.ends-number.result.2 c.target_of-target.result c.in_ok-stand.ensures.some (fits_apart list setup.0) c.target_of-target.ensures spells settled)
+    (record { spells = spells; list_is = list_spelled c.args.class c.args.code c.ends-number.result.0 c.ends-number.result.1 c.ends-number.result.2 list here c.ends-number.ensures c.in_ok-stand.ensures.some spells })
+    (index_spelled c.facts.ensures p here c.args.class c.args.code ok index spells)
+
+pub board_of-board-requires : goal.board_of-board-requires
+board_of-board-requires c = c.are_apart.ensures.0 c.if-not-are_apart.false
 
 pub admitted-requires-clause-few : goal.admitted-requires-clause-few
 admitted-requires-clause-few c = c.board_of-board.ensures.few
@@ -88,11 +91,22 @@ spelled c =
 pub returns-then-is_settled-clause-spells : goal.returns-then-is_settled-clause-spells
 returns-then-is_settled-clause-spells c = spelled c.before
 
+-- and has the stand
+stands : (c : After-is_settled) → IsSettled c.in_ok-position.position → HasStand c.args.class false c.in_ok-stand.stand c.ends-number.result.1 c.ends-number.result.2 c.in_ok-position.position
+stands c settled =
+    subst (HasStand c.args.class false c.in_ok-stand.stand c.ends-number.result.1 c.ends-number.result.2) (sym (is_setup c))
+    (stand_spelled c.args.class c.args.code c.ends-number.result.0 c.in_ok-stand.stand c.ends-number.result.1 c.ends-number.result.2 c.target_of-target.result c.in_ok-stand.ensures.some (c.are_apart.ensures.0 c.if-not-are_apart.false) c.target_of-target.ensures
+    (subst (Spells c.args.class c.args.code) (is_setup c) (spelled c)) (subst IsSettled (is_setup c) settled))
+
 pub returns-then-is_settled-clause-index : goal.returns-then-is_settled-clause-index
 returns-then-is_settled-clause-index c =
-    setup_index c.facts.ensures c.args.class c.args.code c.ends-number.result.0 c.ends-number.result.1 c.ends-number.result.2 c.in_ok-stand.stand c.target_of-target.result c.in_ok-position.position c.least_of_images.result
-    c.in_ok-stand.ensures.some c.target_of-target.ensures (c.are_apart.ensures.0 c.if-not-are_apart.false) (is_setup c.before) (spelled c.before) (c.is_settled.ensures.0 c.if-is_settled.true) c.least_of_images.ensures
-    (code_told c.least_of_images.result c.args.code (sym c.eq-is_least.ensures ∙ c.if-not-is_least.false))
+    c.is_least-is_least.ensures.least c.if-not-is_least.false c.in_ok-position.position (stands c.before (c.is_settled.ensures.0 c.if-is_settled.true))
+    (record { spells = spelled c.before; list_is = list_spelled c.args.class c.args.code c.ends-number.result.0 c.ends-number.result.1 c.ends-number.result.2 (list_of c.in_ok-stand.stand) c.in_ok-position.position c.ends-number.ensures c.in_ok-stand.ensures.some (spelled c.before) })
+
+pub returns-then-is_settled-clause-stand : goal.returns-then-is_settled-clause-stand
+returns-then-is_settled-clause-stand c =
+    let has = stands c.before (c.is_settled.ensures.0 c.if-is_settled.true) in
+    (c.ends-number.result.2, subst (λ side. HasStand c.args.class false c.in_ok-stand.stand side c.ends-number.result.2 c.in_ok-position.position) (sym has.side_is) has)
 
 pub returns-else-is_settled-clause-void : goal.returns-else-is_settled-clause-void
 returns-else-is_settled-clause-void c = λ p ok index.

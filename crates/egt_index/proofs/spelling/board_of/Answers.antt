@@ -1,0 +1,62 @@
+use Rattle.std.proofs.Common.{◌≡◌, ℕ, List, ◌∷◌, [], ◌++◌, IfSome, arith, sym, ap, ◌∙◌, subst}
+use Rattle.std.specs.FinMap as map
+use Rattle.std.specs.Option.{option_to_list}
+use Rattle.egt_board.specs.Attack.{king_of}
+use Rattle.egt_board.specs.Listed.{men_of}
+use Rattle.egt_board.specs.Placement.{Placement, IsFree}
+use Rattle.egt_board.specs.declared.man.Man.{Man}
+use Rattle.egt_board.specs.declared.man.Side.TheVariants.{White, Black}
+use Rattle.egt_index.specs.Stood.{list_of, with_entry}
+use Rattle.egt_index.specs.declared.stand.Stand.{Stand}
+use Rattle.egt_index.proofs.Boarding.{apart_before, entry_free, entry_put, one_at_most, two_at_most}
+use Rattle.egt_index.proofs.Listing.{few_listed}
+use Rattle.egt_index.proofs.spelling.board_of.Goals.{After-with_entry}
+use Rattle.egt_index.proofs.spelling.board_of.Goals as goal
+
+kings : Stand → List (Man × ℕ)
+kings stand = (king_of White, stand.white) ∷ (king_of Black, stand.black) ∷ []
+
+pub with_entry-board-requires-clause-free : goal.with_entry-board-requires-clause-free
+unfolding kings
+with_entry-board-requires-clause-free c =
+    let list = option_to_list c.args.stand.now.next in
+    subst (λ (men : Placement). IfSome c.args.stand.now.next (λ e. IsFree men e.1)) (sym c.of_stood-kings.ensures.men)
+    (entry_free (kings c.args.stand.now) c.args.stand.now.next (apart_before (kings c.args.stand.now ++ list) (option_to_list c.args.stand.now.last) c.requires))
+
+pub with_entry-board-requires-clause-room : goal.with_entry-board-requires-clause-room
+unfolding kings
+with_entry-board-requires-clause-room c =
+    let is = ap map.len c.of_stood-kings.ensures.men in let few = few_listed (kings c.args.stand.now) in omega arith
+
+-- the board with the first man beside the kings
+board_is : (c : goal.After-with_entry-arg-2-1) → c.with_entry-board.result ≡ men_of (kings c.args.stand.now ++ option_to_list c.args.stand.now.next)
+unfolding kings
+board_is c =
+    c.with_entry-board.ensures ∙ ap (λ (men : Placement). with_entry men c.args.stand.now.next) c.of_stood-kings.ensures.men
+    ∙ entry_put (kings c.args.stand.now) c.args.stand.now.next (apart_before (kings c.args.stand.now ++ option_to_list c.args.stand.now.next) (option_to_list c.args.stand.now.last) c.requires)
+
+pub with_entry-requires-clause-free : goal.with_entry-requires-clause-free
+unfolding kings
+with_entry-requires-clause-free c =
+    subst (λ (men : Placement). IfSome c.args.stand.now.last (λ e. IsFree men e.1)) (sym (board_is c))
+    (entry_free (kings c.args.stand.now ++ option_to_list c.args.stand.now.next) c.args.stand.now.last c.requires)
+
+pub with_entry-requires-clause-room : goal.with_entry-requires-clause-room
+unfolding kings
+with_entry-requires-clause-room c =
+    let is = ap map.len (board_is c) in
+    let few = few_listed (kings c.args.stand.now ++ option_to_list c.args.stand.now.next) in let one = one_at_most c.args.stand.now.next in omega arith
+
+all_is : (c : After-with_entry) → c.with_entry.result ≡ men_of (list_of c.args.stand.now)
+unfolding kings
+all_is c =
+    c.with_entry.ensures ∙ ap (λ (men : Placement). with_entry men c.args.stand.now.last) (board_is c.before)
+    ∙ entry_put (kings c.args.stand.now ++ option_to_list c.args.stand.now.next) c.args.stand.now.last c.requires
+
+pub returns-clause-men : goal.returns-clause-men
+returns-clause-men c = all_is c
+
+pub returns-clause-few : goal.returns-clause-few
+returns-clause-few c =
+    let is = ap map.len (all_is c) in
+    let few = few_listed (list_of c.args.stand.now) in let two = two_at_most c.args.stand.now.next c.args.stand.now.last in omega arith

@@ -1,0 +1,131 @@
+-- The codes after one man of a class went, by the square to which he went.
+use Rattle.std.specs.Prelude.{◌≡◌, ◌≢◌, ℕ, ◌+◌, ◌<◌, ◌≤◌, ◌/◌, ◌%◌, ◌==◌, min, max, Bool, Some, None, true, false}
+use Rattle.std.specs.Option.{option_to_list}
+use Rattle.egt_board.specs.Setup.{Setup}
+use Rattle.egt_board.specs.Turned.{turned_square, turned_side}
+use Rattle.egt_board.specs.declared.man.Side.{Side}
+use Rattle.egt_class.specs.Material.{material_of}
+use Rattle.egt_index.specs.Frame.{IsMoved}
+use Rattle.egt_index.specs.Home.{LeastWith}
+use Rattle.egt_index.specs.Lanes.{IsWent}
+use Rattle.egt_index.specs.Scales.{share, code_by, man_at, AreScales, ScalesFit, IsOn, AreEqual}
+use Rattle.egt_index.specs.Size.{has_pawns}
+use Rattle.egt_index.specs.Stood.{Entry, HasStand, IsOff, AllApart, list_of}
+use Rattle.egt_index.specs.declared.scales.Scales.{Scales}
+use Rattle.egt_index.specs.declared.stand.Stand.{Stand}
+use Rattle.egt_index.specs.declared.ways.Homing.{Homing}
+use Rattle.egt_index.specs.declared.ways.Line.{Line}
+use Rattle.egt_index.specs.declared.ways.Mover.{Mover}
+use Rattle.egt_index.specs.declared.ways.Mover.TheVariants.{Black, Next, Last, Nobody}
+use Rattle.egt_index.specs.declared.ways.Pair.{Pair}
+use Rattle.egt_index.specs.declared.ways.Way.{Way}
+use Rattle.egt_index.specs.declared.ways.Way.TheVariants.{One, Two, OnePair, TwoPairs, Home, Never}
+
+abbrev pub line_code : Line → ℕ → ℕ
+line_code line to = line.rest + share line.scale (turned_square (line.turn % 8) (line.turn / 8 == 1) to)
+
+abbrev pub pair_code : Pair → ℕ → ℕ
+pair_code pair to =
+    pair.rest + share pair.next (min (turned_square (pair.turn % 8) (pair.turn / 8 == 1) to) pair.other)
+    + share pair.last (max (turned_square (pair.turn % 8) (pair.turn / 8 == 1) to) pair.other)
+
+-- its sums are none past what a code holds
+pub record LineFits (line : Line) : Type 0 where
+  pub turn : line.turn < 16
+  pub stride : line.scale.stride ≤ 1048576
+  pub rest : line.rest ≤ 1073741824
+
+pub record PairFits (pair : Pair) : Type 0 where
+  pub turn : pair.turn < 16
+  pub next : pair.next.stride ≤ 1048576
+  pub last : pair.last.stride ≤ 1048576
+  pub rest : pair.rest ≤ 1073741824
+
+-- whether the men beside the kings are equal
+pub record IsPaired (stand : Stand) (pair : Bool) : Type 0 where
+  pub equal : pair ≡ true → AreEqual stand.next stand.last
+  pub apart : pair ≡ false → ¬ AreEqual stand.next stand.last
+
+-- q is the position after the king went to the square whom the turns bring home, and the others stand so
+pub record ComesHome (c : ℕ) (flips : Bool) (homing : Homing) (to : ℕ) (q : Setup) : Type 0 where
+  pub after : Stand
+  pub side : Side
+  pub stand : HasStand c flips after side false q
+  pub white : after.white ≡ to
+  pub black : after.black ≡ homing.squares.black
+  pub next : IsOn after.next homing.squares.next
+  pub last : IsOn after.last homing.squares.last
+  pub pawns : homing.pawns ≡ has_pawns (material_of c)
+  pub flips_is : homing.flips ≡ flips
+  pub scales : AreScales (material_of c) (man_at after.next) (man_at after.last) (turned_side flips side) homing.scales
+  pub paired : IsPaired after homing.pair
+
+abbrev pub WayFits : Way → Type 0
+WayFits (One line) = LineFits line
+WayFits (Two first second) = LineFits first × LineFits second
+WayFits (OnePair pair) = PairFits pair
+WayFits (TwoPairs first second) = PairFits first × PairFits second
+WayFits (Home homing) = ScalesFit homing.scales
+WayFits Never = Unit {0}
+
+-- wherever the man on `from` in p goes, the way tells the least code of what the turns make of the position then
+abbrev pub Leads : ℕ → Bool → Setup → ℕ → Way → Type 0
+Leads c flips p from (One line) = (to : ℕ) (q : Setup) → IsMoved c p from to q → LeastWith c q flips (Some (line_code line to))
+Leads c flips p from (Two first second) = (to : ℕ) (q : Setup) → IsMoved c p from to q → LeastWith c q flips (Some (min (line_code first to) (line_code second to)))
+Leads c flips p from (OnePair pair) = (to : ℕ) (q : Setup) → IsMoved c p from to q → LeastWith c q flips (Some (pair_code pair to))
+Leads c flips p from (TwoPairs first second) = (to : ℕ) (q : Setup) → IsMoved c p from to q → LeastWith c q flips (Some (min (pair_code first to) (pair_code second to)))
+Leads c flips p from (Home homing) = (to : ℕ) (q : Setup) → IsMoved c p from to q → ComesHome c flips homing to q
+Leads c flips p from Never = (to : ℕ) (q : Setup) → IsMoved c p from to q → LeastWith c q flips None
+
+-- the position in which the man on `from` went is that of these men, one of them on another square
+abbrev pub Goes : ℕ → Bool → Setup → Stand → ℕ → Side → Type 0
+Goes c flips p before from side = (to : ℕ) (q : Setup) → IsMoved c p from to q → (after : Stand) × IsWent c flips before after from to side q
+
+-- a man stands there
+abbrev pub IsThere : Entry → ℕ → Type 0
+IsThere None s = ⊥
+IsThere (Some e) s = e.1 ≡ s
+
+-- who stands on the square, but for the white king
+abbrev pub IsMover : Stand → ℕ → Mover → Type 0
+IsMover stand from Black = stand.black ≡ from
+IsMover stand from Next = (stand.black ≢ from) × IsThere stand.next from
+IsMover stand from Last = (stand.black ≢ from) × IsOff (option_to_list stand.next) from × IsThere stand.last from
+IsMover stand from Nobody = (stand.black ≢ from) × IsOff (option_to_list stand.next) from × IsOff (option_to_list stand.last) from
+
+-- the man on `from`, not the white king, goes, of men who count so
+pub record IsGoer (c : ℕ) (flips : Bool) (before : Stand) (from : ℕ) (side : Side) (scales : Scales) (pawns : Bool) (mover : Mover) : Type 0 where
+  pub class_in : c < 36
+  pub apart : AllApart (list_of before)
+  pub white : before.white ≢ from
+  pub mover_is : IsMover before from mover
+  pub scales_are : AreScales (material_of c) (man_at before.next) (man_at before.last) (turned_side flips side) scales
+  pub pawns_is : pawns ≡ has_pawns (material_of c)
+
+-- he is none of two equal men
+abbrev pub IsSingle : Stand → Mover → Type 0
+IsSingle stand Black = Unit {0}
+IsSingle stand Next = ¬ AreEqual stand.next stand.last
+IsSingle stand Last = ¬ AreEqual stand.next stand.last
+IsSingle stand Nobody = Unit {0}
+
+-- he is one
+abbrev pub IsOneOfTwo : Stand → Mover → Type 0
+IsOneOfTwo stand Black = ⊥
+IsOneOfTwo stand Next = AreEqual stand.next stand.last
+IsOneOfTwo stand Last = AreEqual stand.next stand.last
+IsOneOfTwo stand Nobody = ⊥
+
+-- the code of these squares where the man who goes stands on that one
+abbrev pub code_with : Mover → Scales → ℕ → ℕ → ℕ → ℕ → ℕ → ℕ
+code_with Black scales high black next last to = code_by scales high to next last
+code_with Next scales high black next last to = code_by scales high black to last
+code_with Last scales high black next last to = code_by scales high black next to
+code_with Nobody scales high black next last to = code_by scales high black next last
+
+-- the square on which the other of two equal men stands
+abbrev pub other_square : Mover → ℕ → ℕ → ℕ
+other_square Next next last = last
+other_square Last next last = next
+other_square Black next last = next
+other_square Nobody next last = next

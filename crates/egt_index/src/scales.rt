@@ -1,0 +1,246 @@
+//! What men on their squares add to a code.
+ghost use Rattle.std.specs.Prelude.{◌≡◌, ◌<◌, ◌≤◌, ◌/◌, ◌%◌, ◌==◌, ◌*◌, ◌≢◌, Bool, min, max, if◌then◌else◌, true, false};
+ghost use Rattle.egt_board.specs.Turned.{turned_square};
+ghost use Rattle.egt_class.specs.Material.{material_of};
+ghost use Rattle.egt_index.specs.Scales.{share, code_by, digits_at, less_at, stride_at, man_at, AreScales, ScalesFit, IsOn, AreEqual};
+
+use crate::men::has_target;
+use crate::stand::Stand;
+use crate::turning::turned_square;
+use egt_board::{Kind, Man, Side, Square};
+use egt_class::Class;
+
+/// How a man's square counts: its number, of a pawn 8 less, is his digit, and the stride is what one more of it adds to the code.
+#[derive(Clone, Copy)]
+pub(crate) struct Scale {
+    pub(crate) stride: u32,
+    pub(crate) less: u32,
+}
+
+/// No man.
+pub(crate) const NOBODY: Scale = Scale { stride: 0, less: 0 };
+
+impl Scale {
+    /// What the man adds to the code on the square.
+    #[inline(always)]
+    pub(crate) fn share(self, square: Square) -> u32
+        requires { self.stride ≤ 1048576 }
+        ensures value { result ≡ share self square }
+        ensures few { result ≤ 66060288 }
+    {
+        self.stride * u32::from(square.number()).saturating_sub(self.less)
+    }
+}
+
+/// How the men of a class count, and what the side to move adds.
+#[derive(Clone, Copy)]
+pub(crate) struct Scales {
+    pub(crate) king: u32,
+    pub(crate) black: Scale,
+    pub(crate) next: Scale,
+    pub(crate) last: Scale,
+    pub(crate) side: u32,
+}
+
+/// The squares of the men beside the white king; where there is no such man, any square.
+#[derive(Clone, Copy)]
+pub(crate) struct Squares {
+    pub(crate) black: Square,
+    pub(crate) next: Square,
+    pub(crate) last: Square,
+}
+
+/// How many digits the man has, if there is one, and how much less they are than his square.
+fn digits_of(entry: Option<(Man, Square)>) -> (u32, u32)
+    ensures digits { result.0 ≡ digits_at (man_at entry) }
+    ensures few { result.0 ≤ 64 }
+    ensures less { result.1 ≡ less_at (man_at entry) }
+{
+    match entry {
+        Some((man, _)) => match man.kind {
+            Kind::P => (48, 8),
+            _ => (64, 0),
+        },
+        None => (1, 0),
+    }
+}
+
+/// How the man counts, if there is one.
+fn scale_of(entry: Option<(Man, Square)>, stride: u32, less: u32) -> Scale
+    requires { less ≡ less_at (man_at entry) }
+    ensures stride { result.stride ≡ stride_at (man_at entry) stride }
+    ensures few { result.stride ≤ stride }
+    ensures less { result.less ≡ less_at (man_at entry) }
+{
+    match entry {
+        Some(_) => Scale { stride, less },
+        None => NOBODY,
+    }
+}
+
+/// How the men of the class count where that side is to move, without a target.
+#[inline(always)]
+pub(crate) fn scales_of(class: Class, stand: &Stand, side: Side) -> Scales
+    ensures are { AreScales (material_of class) (man_at stand.now.next) (man_at stand.now.last) side result }
+    ensures fit { ScalesFit result }
+{
+    let ends: u32 = if has_target(class) { 4 } else { 2 };
+    let (last_digits, last_less) = digits_of(stand.last);
+    let (next_digits, next_less) = digits_of(stand.next);
+    let behind_next = ends * last_digits;
+    let behind_black = behind_next * next_digits;
+    Scales {
+        king: behind_black * 64,
+        black: Scale {
+            stride: behind_black,
+            less: 0,
+        },
+        next: scale_of(stand.next, behind_next, next_less),
+        last: scale_of(stand.last, ends, last_less),
+        side: match side {
+            Side::White => 0,
+            Side::Black => ends / 2,
+        },
+    }
+}
+
+impl Scales {
+    /// The code of the white king's digit and the others' squares.
+    #[inline(always)]
+    pub(crate) fn code(&self, high: u32, squares: &Squares) -> u32
+        requires fit { ScalesFit self.now }
+        requires high { high < 32 }
+        ensures value { result ≡ code_by self.now high squares.now.black squares.now.next squares.now.last }
+        ensures few { result ≤ 1073741824 }
+    {
+        high * self.king
+            + self.black.share(squares.black)
+            + self.next.share(squares.next)
+            + self.last.share(squares.last)
+            + self.side
+    }
+
+    /// The same without the black king.
+    pub(crate) fn without_black(self) -> Scales
+        ensures king { result.king ≡ self.king }
+        ensures none { result.black.stride ≡ 0 }
+        ensures next { result.next ≡ self.next }
+        ensures last { result.last ≡ self.last }
+        ensures side { result.side ≡ self.side }
+    {
+        Scales {
+            black: NOBODY,
+            ..self
+        }
+    }
+
+    /// The same without the man who stands next in the name.
+    pub(crate) fn without_next(self) -> Scales
+        ensures king { result.king ≡ self.king }
+        ensures none { result.next.stride ≡ 0 }
+        ensures black { result.black ≡ self.black }
+        ensures last { result.last ≡ self.last }
+        ensures side { result.side ≡ self.side }
+    {
+        Scales {
+            next: NOBODY,
+            ..self
+        }
+    }
+
+    /// The same without the last man of the name.
+    pub(crate) fn without_last(self) -> Scales
+        ensures king { result.king ≡ self.king }
+        ensures none { result.last.stride ≡ 0 }
+        ensures black { result.black ≡ self.black }
+        ensures next { result.next ≡ self.next }
+        ensures side { result.side ≡ self.side }
+    {
+        Scales {
+            last: NOBODY,
+            ..self
+        }
+    }
+}
+
+/// The square of the man, if there is one.
+fn square_of(entry: Option<(Man, Square)>) -> Square
+    ensures { IsOn entry result }
+{
+    match entry {
+        Some((_, square)) => square,
+        None => Square::at(0),
+    }
+}
+
+/// The squares of the men beside the white king.
+pub(crate) fn squares_of(stand: &Stand) -> Squares
+    ensures black { result.black ≡ stand.now.black }
+    ensures next { IsOn stand.now.next result.next }
+    ensures last { IsOn stand.now.last result.last }
+{
+    Squares {
+        black: stand.black,
+        next: square_of(stand.next),
+        last: square_of(stand.last),
+    }
+}
+
+/// Whether the men beside the kings are equal.
+pub(crate) fn has_pair(stand: &Stand) -> bool
+    ensures equal { result ≡ true → AreEqual stand.now.next stand.now.last }
+    ensures apart { result ≡ false → ¬ AreEqual stand.now.next stand.now.last }
+{
+    match (stand.next, stand.last) {
+        (Some(first), Some(second)) => first.0 == second.0,
+        _ => false,
+    }
+}
+
+/// The two squares, the lesser first.
+pub(crate) fn in_order(one: Square, other: Square) -> (Square, Square)
+    ensures first { result.0 ≡ min one other }
+    ensures second { result.1 ≡ max one other }
+{
+    if other.number() < one.number() {
+        (other, one)
+    } else {
+        (one, other)
+    }
+}
+
+impl Squares {
+    /// Of two equal men the one on the lesser square first.
+    #[inline(always)]
+    pub(crate) fn ordered(&self, pair: bool) -> Squares
+        ensures black { result.black ≡ self.now.black }
+        ensures next { result.next ≡ (if pair then min self.now.next self.now.last else self.now.next) }
+        ensures last { result.last ≡ (if pair then max self.now.next self.now.last else self.now.last) }
+    {
+        if pair {
+            let (next, last) = in_order(self.next, self.last);
+            Squares {
+                black: self.black,
+                next,
+                last,
+            }
+        } else {
+            *self
+        }
+    }
+
+    /// Where the turn takes them.
+    #[inline(always)]
+    pub(crate) fn turned(&self, turn: u8) -> Squares
+        requires { turn < 16 }
+        ensures black { result.black ≡ turned_square (turn % 8) (turn / 8 == 1) self.now.black }
+        ensures next { result.next ≡ turned_square (turn % 8) (turn / 8 == 1) self.now.next }
+        ensures last { result.last ≡ turned_square (turn % 8) (turn / 8 == 1) self.now.last }
+    {
+        Squares {
+            black: turned_square(turn, self.black),
+            next: turned_square(turn, self.next),
+            last: turned_square(turn, self.last),
+        }
+    }
+}
