@@ -1,9 +1,10 @@
 -- The nodes of a block, by its places.
-use Rattle.std.proofs.Common.{◌≡◌, ℕ, zero, suc, ◌+◌, ◌-◌, ◌*◌, ◌<◌, ◌≤◌, min, Bool, true, false, cond, List, ◌∷◌, length, map, slice_index, get_or, drop, refl, sym, ap, ap₂, ◌∙◌, arith, filter, All}
+use Rattle.std.proofs.Common.{◌≡◌, ℕ, zero, suc, ◌+◌, ◌-◌, ◌*◌, ◌<◌, ◌≤◌, min, Bool, true, false, IsFalse, cond, List, [], ◌∷◌, length, map, slice_index, get_or, drop, refl, sym, ap, ap₂, ◌∙◌, arith, filter, All}
 use Rattle.std.specs.List.{range_with_len, slice_range}
 use Rattle.std.proofs.lemmas.List.Elements.{All-cons, All-nil}
 use Rattle.std.proofs.lemmas.List.{get_or-take, get_or-drop, length-take, length-drop}
 use Rattle.egt_graph.specs.Frontier.{frontier_of, frontier_below, is_entry_of_round, entry_front, block_len}
+use Rattle.egt_graph.proofs.Ranges.{filter_range_none}
 
 -- tests that agree on the numbers filter alike
 pub filter_range_same : (p q : ℕ → Bool) (a n : ℕ) → ((k : ℕ) → a ≤ k → k < a + n → p k ≡ q k) → filter p (range_with_len a n) ≡ filter q (range_with_len a n)
@@ -58,3 +59,9 @@ block_places_within entries n block end e le =
     let long = length-take (end - block * 4096) (drop (block * 4096) entries) in
     let rest = length-drop (block * 4096) entries in
     All_filter_range (λ k. 4096 * block + k < length entries) _ 0 (length (slice_range entries (block * 4096) end)) (λ k low high. omega arith)
+
+-- a block without an entry of the round has no node of it
+pub quiet_front : (entries : List ℕ) (n block end : ℕ) → end ≡ min (length entries) (block * 4096 + 4096) → 4096 * block ≤ length entries
+    → ((k : ℕ) → block * 4096 ≤ k → k < end → IsFalse (is_entry_of_round n (slice_index entries k))) → entry_front entries n block ≡ []
+quiet_front entries n block end e le quiet =
+    filter_range_none (λ i. is_entry_of_round n (slice_index entries i)) (4096 * block) (block_len (length entries) block) (λ k low high. quiet k (omega arith) (omega arith))

@@ -35,8 +35,9 @@ pub(crate) fn begin<G: Game>(alloc: Global, game: &G) -> Result<Columns, AllocEr
         lost_due: Schedule::new(alloc),
         won_due: Schedule::new(alloc),
     };
+    let mut exits = ArrayVec::new();
     for node in 0..size {
-        push_node(alloc, game, node, &mut columns)?;
+        push_node(alloc, game, node, &mut exits, &mut columns)?;
     }
     Ok(columns)
 }
@@ -45,6 +46,7 @@ fn push_node<G: Game>(
     alloc: Global,
     game: &G,
     node: u32,
+    exits: &mut ArrayVec<Exit, 64>,
     columns: &mut Columns,
 ) -> Result<(), AllocError>
     requires in_range { node < (G.graph game.now).size }
@@ -53,10 +55,10 @@ fn push_node<G: Game>(
     ensures { OnOk result (IsBegun (G.graph game.now) (node + 1) columns.new.entries.items columns.new.waits.items
         columns.new.later.items columns.new.lost.items columns.new.lost_due columns.new.won_due) }
 {
-    let start = start_of(game, node);
-    let exits = start.exits.as_slice();
-    columns.entries.push(start.entry)?;
-    columns.waits.push(start.moves + exits.len() as u8)?;
+    let row = row_of(game, node, exits);
+    let exits = exits.as_slice();
+    columns.entries.push(row.entry)?;
+    columns.waits.push(row.moves + exits.len() as u8)?;
     columns.later.push(count_wins(exits))?;
     columns.lost.push(any_loss(exits))?;
     schedule_exits(
@@ -70,31 +72,25 @@ fn push_node<G: Game>(
 }
 
 /// What the game says of a node, or of a number that is none.
-#[derive(Drop)]
-struct Start {
+#[derive(Clone, Copy)]
+struct Row {
     entry: u16,
     moves: u8,
-    exits: ArrayVec<Exit, 64>,
 }
 
-fn start_of<G: Game>(game: &G, node: u32) -> Start
+fn row_of<G: Game>(game: &G, node: u32, exits: &mut ArrayVec<Exit, 64>) -> Row
     requires { node < (G.graph game.now).size }
     ensures entry { result.entry ≡ entry_at (G.graph game.now) 0 node }
     ensures moves { result.moves ≡ length (outs (G.graph game.now) node) }
     ensures few_moves { result.moves ≤ 64 }
-    ensures exits { result.exits.items ≡ leaves (G.graph game.now) node }
+    ensures exits { exits.new.items ≡ leaves (G.graph game.now) node }
 {
-    if game.void(node) {
-        return Start {
-            entry: 0,
-            moves: 0,
-            exits: ArrayVec::new(),
-        };
-    }
-    Start {
-        entry: if game.mated(node) { 3 } else { DRAW },
-        moves: game.degree(node) as u8,
-        exits: game.exits(node),
+    match game.start(node, exits) {
+        Some(start) => Row {
+            entry: if start.mated { 3 } else { DRAW },
+            moves: start.degree,
+        },
+        None => Row { entry: 0, moves: 0 },
     }
 }
 

@@ -1,5 +1,5 @@
 //! A finite game: nodes, the moves between them, and the moves that leave it.
-ghost use Rattle.std.specs.Prelude.{◌≡◌, ◌<◌, ◌≤◌, length};
+ghost use Rattle.std.specs.Prelude.{◌≡◌, ◌<◌, ◌≤◌, length, [], true, IfSome, IfNone, IsFalse};
 ghost use Rattle.egt_graph.specs.Graph.{Graph, IsNode, IsGame};
 
 use arrayvec::ArrayVec;
@@ -13,6 +13,15 @@ pub enum Exit {
     Loss(u16),
     #[default]
     Draw,
+}
+
+/// What a node is before any rank is known.
+#[derive(Clone, Copy, PartialEq, Eq, Debug)]
+pub struct Start {
+    /// Is the mover checkmated?
+    pub mated: bool,
+    /// How many nodes moves lead to.
+    pub degree: u8,
 }
 
 /// A game over the nodes from 0 up to `size`. Some of the numbers may be void: they are no nodes.
@@ -54,6 +63,28 @@ pub trait Game {
     fn exits(&self, i: u32) -> ArrayVec<Exit, 64>
         requires { IsNode (graph self.now) i }
         ensures { result.items ≡ (graph self.now).exits i };
+
+    /// What `void`, `mated`, `degree` and `exits` answer of a number, at once; `None` where it is no node. The values of the positions
+    /// outside take the place of what `exits` had.
+    fn start(&self, i: u32, exits: &mut ArrayVec<Exit, 64>) -> Option<Start>
+        requires { i < (graph self.now).size }
+        ensures node { IfSome result (λ start. IsFalse ((graph self.now).void i)
+            × (start.mated ≡ (graph self.now).mated i)
+            × (start.degree ≡ length ((graph self.now).out i))
+            × (start.degree ≤ 64)
+            × (exits.new.items ≡ (graph self.now).exits i)) }
+        ensures void { IfNone result (((graph self.now).void i ≡ true) × (exits.new.items ≡ [])) }
+    {
+        if self.void(i) {
+            exits.clear();
+            return None;
+        }
+        *exits = self.exits(i);
+        Some(Start {
+            mated: self.mated(i),
+            degree: self.degree(i) as u8,
+        })
+    }
 
     ghost lawful: { (game : Self) → IsGame (graph game) };
 }

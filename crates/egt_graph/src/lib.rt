@@ -17,7 +17,7 @@ mod step;
 
 pub use answer::{Close, Post};
 pub use batch::Batch;
-pub use game::{Exit, Game};
+pub use game::{Exit, Game, Start};
 pub use ranks::Ranks;
 pub use rounds::Rounds;
 pub use scan::frontier;

@@ -1,5 +1,5 @@
 //! The scan for the nodes of a round.
-ghost use Rattle.std.specs.Prelude.{◌≡◌, ◌↔◌, ℕ, ◌+◌, ◌*◌, ◌^◌, ◌<◌, ◌≤◌, length, map, slice_index, All, IsTrue, IsFalse, IfOk};
+ghost use Rattle.std.specs.Prelude.{◌≡◌, ◌↔◌, ℕ, ◌+◌, ◌*◌, ◌^◌, ◌<◌, ◌≤◌, [], length, map, min, slice_index, All, IsTrue, IsFalse, IfOk};
 ghost use Rattle.std.specs.Bool.{OnTrue};
 ghost use Rattle.egt_graph.specs.Frontier.{frontier_of, frontier_below, is_entry_of_round, entry_front};
 
@@ -77,6 +77,14 @@ fn is_of_round(entry: u16, round: u16) -> bool
     entry == 2 + 2 * round || entry == 3 + 2 * round
 }
 
+/// Where the entries of a block end.
+fn block_end(entries: &[u16], block: u32) -> usize
+    ensures { result ≡ min (length entries.now) (block * 4096 + 4096) }
+{
+    let start = block as usize * BLOCK;
+    entries.len().min(start + BLOCK)
+}
+
 /// The places of the round's entries within a block.
 #[tactic(auto, using(crate::proofs::Fronts::block_places_front, crate::proofs::Fronts::block_places_within))]
 fn block_places(entries: &[u16], block: u32, round: u16) -> ArrayVec<u16, 4096>
@@ -86,8 +94,28 @@ fn block_places(entries: &[u16], block: u32, round: u16) -> ArrayVec<u16, 4096>
     ensures within { All (λ k. 4096 * block + k < length entries.now) result.items }
 {
     let start = block as usize * BLOCK;
-    let end = entries.len().min(start + BLOCK);
+    let end = block_end(entries, block);
     frontier(&entries[start..end], round)
+}
+
+/// Whether no entry of the block is of the round, as is so of most blocks. No place is listed. A block whose length is no multiple of a load is not
+/// looked at to its end, and told to have some.
+#[tactic(auto, using(crate::proofs::Fronts::quiet_front))]
+fn is_quiet_block(entries: &[u16], block: u32, round: u16) -> bool
+    requires short { round ≤ 32000 }
+    requires within { 4096 * block ≤ length entries.now }
+    ensures { OnTrue result (entry_front entries.now round block ≡ []) }
+{
+    let start = block as usize * BLOCK;
+    let end = block_end(entries, block);
+    let mut from = start;
+    while from + LANES <= end {
+        if !is_quiet(entries, from, round) {
+            return false;
+        }
+        from += LANES;
+    }
+    from == end
 }
 
 /// The nodes of a block whose entries are of the round.
@@ -102,6 +130,9 @@ pub(crate) fn block_nodes(
     requires few { length entries.now < 2 ^ 32 }
     ensures { IfOk result (λ nodes. nodes.items ≡ entry_front entries.now round block) }
 {
+    if is_quiet_block(entries, block, round) {
+        return Ok(Vec::new(alloc));
+    }
     let places = block_places(entries, block, round);
     let mut nodes = Vec::with_capacity(alloc, places.len())?;
     for place in places.as_slice() {
@@ -116,6 +147,9 @@ pub(crate) fn is_block_front(entries: &[u16], block: u32, round: u16, nodes: &[u
     requires within { 4096 * block ≤ length entries.now }
     ensures { IsTrue result ↔ (nodes.now ≡ entry_front entries.now round block) }
 {
+    if is_quiet_block(entries, block, round) {
+        return nodes.is_empty();
+    }
     let places = block_places(entries, block, round);
     let places = places.as_slice();
     if places.len() != nodes.len() {

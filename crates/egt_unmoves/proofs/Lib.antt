@@ -10,3 +10,4 @@ pub mod FiveMen
 pub mod Room
 pub mod TwoKings
 pub mod UnmoveImages
+pub mod Left

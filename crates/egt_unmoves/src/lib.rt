@@ -2,13 +2,16 @@
 #![tactic(auto)]
 
 pub mod laws;
+pub mod leaving;
 pub mod listing;
 pub mod sources;
 pub mod taking_back;
 pub mod targets;
 pub mod unmove;
 
+pub use leaving::quiet_sources;
 pub use listing::unmoves;
+pub use targets::target_before;
 pub use unmove::Unmove;
 
 #[cfg(test)]

@@ -39,7 +39,7 @@ fn has_advanced(position: &Position, side: Side, square: Square) -> bool
 
 /// The target that the position before the last move had, where it had one: behind a pawn of the side that is to move
 /// now, which had just advanced two squares. Four men leave room for one.
-pub(crate) fn target_before(position: &Position) -> Option<Square>
+pub fn target_before(position: &Position) -> Option<Square>
     ensures { (b : Setup) (m : Move) → ComesBy b m position.now → (b.target ≡ None) ⊎ (b.target ≡ result) }
 {
     let mover = position.side();

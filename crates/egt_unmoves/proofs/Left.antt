@@ -1,0 +1,66 @@
+-- The squares that a man left, where the position has no target.
+use Rattle.std.proofs.Common.{◌≡◌, ◌≢◌, ℕ, ◌<◌, ◌≤◌, ◌==◌, ◌&&◌, ◌/◌, ◌+◌, if◌then◌else◌, false, Option, Some, None, refl, sym, ap, ◌∙◌, subst, inl, inr, arith}
+use Rattle.egt_board.specs.declared.man.Kind.{Kind}
+use Rattle.egt_board.specs.declared.man.Kind.TheVariants.{Q, R, B, N, P, K}
+use Rattle.egt_board.specs.declared.man.Man.{Man}
+use Rattle.egt_board.specs.Man.{other_side}
+use Rattle.egt_board.specs.Placement.{Stands}
+use Rattle.egt_board.specs.Settled.{IsSettled, SettlesTo}
+use Rattle.egt_board.specs.Setup.{Setup, IsAdmissible}
+use Rattle.egt_moves.specs.Legal.{plain, passed, is_two_ranks}
+use Rattle.egt_moves.specs.Promotion.{is_pawn}
+use Rattle.egt_moves.specs.Room.{most_goals}
+use Rattle.egt_moves.specs.declared.chess_move.Move.{Move}
+use Rattle.egt_unmoves.specs.Unmoves.{ComesBy, MayComeFrom, MayHaveLeft, Went, led_to, men_before, setup_before}
+use Rattle.egt_unmoves.proofs.Came.{Came, came, came_man}
+use Rattle.egt_unmoves.proofs.Went.{went_comes}
+
+pub few_goals : (kind : Kind) → most_goals kind ≤ 28
+few_goals Q = omega arith
+few_goals R = omega arith
+few_goals B = omega arith
+few_goals N = omega arith
+few_goals P = omega arith
+few_goals K = omega arith
+
+no_pawn : (kind : Kind) → kind ≢ P → is_pawn kind ≡ false
+no_pawn Q not = refl
+no_pawn R not = refl
+no_pawn B not = refl
+no_pawn N not = refl
+no_pawn P not = absurd (not refl)
+no_pawn K not = refl
+
+module _ (q : Setup) (man : Man) (to : ℕ) (stands : Stands q.men to man) (theirs : man.side ≡ other_side q.side) (untargeted : q.target ≡ None) where
+  none_settled : (o : Option ℕ) → o ≡ None → IsSettled (record { men = q.men; side = q.side; target = o })
+  none_settled None e = tt
+  none_settled (Some t) e = absurd (let bad : Some t ≡ None = e in cc)
+
+  -- a piece went from wherever it may have come
+  pub piece_went : (s : ℕ) → s < 64 → man.kind ≢ P → MayHaveLeft q man to s → Went q man to s
+  piece_went s s_in piece left = record {
+    within = s_in;
+    free = left.free;
+    fits = λ pawn. absurd (piece pawn);
+    goes = inl (piece, left.reaches piece);
+    quiet = left.quiet;
+    settles = inl (none_settled (passed man s to) unpassed, λ i. record { men = q.men; side = q.side; target = (untargeted ∙ sym unpassed) i });
+  }
+    where
+      unpassed : passed man s to ≡ None
+      unpassed = ap (λ b. if b then Some ((s + to) / 2) else None) (ap (λ a. a && is_two_ranks s to) (no_pawn man.kind piece))
+
+  -- and so came by that move
+  pub went_came : (s : ℕ) → IsAdmissible q → Went q man to s → ComesBy (setup_before q man to s None) (plain s to) q
+  went_came s ok went = went_comes q man to s (record { stands = stands; theirs = theirs; free = went.free }) None ok went tt tt
+
+  -- nothing else is told of the position before
+  pub one_before : (b : Setup) (m : Move) → m.to ≡ to → ComesBy b m q → b.target ≡ None → b ≡ setup_before q man to m.from None
+  one_before b m there comes none =
+      let x = came b m q comes in
+      let same : x.man ≡ man = came_man b m q man x (subst (λ s. Stands q.men s man) (sym there) stands) in
+      λ i. record {
+        men = (x.men ∙ ap (λ y. men_before q.men y m.to m.from) same ∙ ap (λ t. men_before q.men man t m.from) there) i;
+        side = x.side i;
+        target = none i;
+      }
