@@ -11,3 +11,4 @@ pub mod Judged
 pub mod Shelving
 pub mod Still
 pub mod Raising
+mod Scoring

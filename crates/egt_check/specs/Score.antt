@@ -54,6 +54,13 @@ score_of (Some outcomes.Draw) = 32002
 score_of None = 32001
 score_of (Some (outcomes.Win k)) = k
 
+-- whether it is a win or a loss
+abbrev pub is_decisive : Option Outcome → Bool
+is_decisive (Some (outcomes.Win k)) = true
+is_decisive (Some (outcomes.Loss k)) = true
+is_decisive (Some outcomes.Draw) = false
+is_decisive None = false
+
 -- the step has this score
 pub record Scores (shows : Shown) (column : Column) (p q : Setup) (m : chess.Move p q) (score : ℕ) : Type 0 where
   pub said : Option Outcome

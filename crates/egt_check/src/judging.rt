@@ -1,6 +1,6 @@
 //! The judgement of one index's entries.
 ghost use Rattle.std.specs.Prelude.{◌≡◌, ◌↔◌, ◌<◌, ◌==◌, if◌then◌else◌, IsTrue};
-ghost use Rattle.egt_board.specs.Settled.{IsSettled};
+ghost use Rattle.egt_index.specs.Frame.{IsFrame};
 ghost use Rattle.egt_index.specs.Size.{size_of};
 ghost use Rattle.egt_moves.specs.Arena.{NoMove};
 ghost use Rattle.egt_moves.specs.Chess.{chess};
@@ -20,7 +20,7 @@ use crate::rule::Rule;
 use crate::successors::{best, entries_at};
 use egt_board::Position;
 use egt_index::laws::{codes_spell_one_position, spelled_positions_are_of_the_class};
-use egt_index::position;
+use egt_index::{Frame, spelled};
 use egt_moves::{Standing, standing};
 use egt_table::Table;
 
@@ -109,15 +109,16 @@ fn entry_at_end(position: &Position) -> u16
 }
 
 /// The entries that are due to a position of the table's class.
-fn due(table: &Table, library: &Library, position: &Position) -> ByColumn
+fn due(table: &Table, library: &Library, frame: &Frame, position: &Position) -> ByColumn
     requires own { IsInClass table.now.class position.now }
-    requires settled { IsSettled position.now }
     requires children { HasChildren (table_at library.now) table.now.class }
+    requires frame { IsFrame position.now frame.now }
+    requires class { frame.now.class ≡ table.now.class }
     ensures { (column : Column) → IsDue (shown_by library.now table.now) column position.now (number_at result column) }
 {
     facts();
     let _side = position.side();
-    match best(table, library, position) {
+    match best(table, library, frame, position) {
         Some(best) => ByColumn {
             mate: entry_before(best.mate),
             zeroing: entry_before(best.zeroing),
@@ -142,10 +143,10 @@ pub(crate) fn judge(table: &Table, library: &Library, index: u32) -> (Option<Rul
     codes_spell_one_position();
     spelled_positions_are_of_the_class();
     let entries = entries_at(table, index);
-    match position(table.class(), index) {
+    match spelled(table.class(), index) {
         None => (judge_void(entries.mate), judge_void(entries.zeroing)),
-        Some(position) => {
-            let due = due(table, library, &position);
+        Some(found) => {
+            let due = due(table, library, &found.1, &found.0);
             (
                 judge_mate(entries.mate, due.mate),
                 judge_zeroing(entries.mate, entries.zeroing, due.zeroing),

@@ -1,6 +1,6 @@
 //! What entries show, and the scores of steps by what they say.
-ghost use Rattle.std.specs.Prelude.{◌≡◌, Option, IfSome};
-ghost use Rattle.egt_check.specs.Score.{IsShownBy, IsCounted, zeroing_said, score_of, entry_before};
+ghost use Rattle.std.specs.Prelude.{◌≡◌, ◌<◌, ◌≤◌, true, Option, IfSome};
+ghost use Rattle.egt_check.specs.Score.{IsShownBy, IsCounted, is_decisive, zeroing_said, score_of, entry_before};
 ghost use Rattle.egt_check.specs.declared.outcome.Outcome.{Outcome};
 
 /// What an entry shows of a position, for the side to move: a win or a loss in so many plies, or a draw.
@@ -40,48 +40,53 @@ pub(crate) fn shown(entry: u16) -> Option<Outcome>
     }
 }
 
-/// What a step says in the zeroing column, where the entries of its successor show this.
-pub(crate) fn zeroing_said(
-    mate: Option<Outcome>,
-    zeroing: Option<Outcome>,
-    zeroes: bool,
-) -> Option<Outcome>
-    ensures { result ≡ zeroing_said mate zeroing zeroes }
+/// Whether the entry shows a win or a loss.
+fn is_decisive(entry: u16) -> bool
+    ensures said { (said : Option Outcome) → IsShownBy entry said → result ≡ is_decisive said }
+    ensures long { result ≡ true → 2 < entry }
+    ensures short { result ≡ true → entry ≤ 64003 }
 {
-    match mate {
-        Some(Outcome::Loss(_)) => {
-            if zeroes {
-                return Some(Outcome::Loss(0));
-            }
-            match zeroing {
-                Some(Outcome::Loss(plies)) => Some(Outcome::Loss(plies)),
-                _ => None,
-            }
-        }
-        Some(Outcome::Win(_)) => {
-            if zeroes {
-                return Some(Outcome::Win(0));
-            }
-            match zeroing {
-                Some(Outcome::Win(plies)) => Some(Outcome::Win(plies)),
-                _ => None,
-            }
-        }
-        _ => None,
+    2 < entry && entry <= 2 * LONGEST + 3
+}
+
+/// The score of a step that says what this entry shows, which is a win or a loss: the sooner a loss comes, the higher; wins come below,
+/// the later the higher.
+fn decisive_score(entry: u16) -> u16
+    requires long { 2 < entry }
+    requires short { entry ≤ 64003 }
+    ensures { (said : Option Outcome) → IsShownBy entry said → result ≡ score_of said }
+{
+    let plies = entry / 2 - 1;
+    if entry % 2 == 0 { plies } else { LOST - plies }
+}
+
+/// The score, in the mate column, of a step to a position with this mate entry. Draws come between wins and losses.
+pub(crate) fn mate_score(entry: u16) -> u16
+    ensures { (said : Option Outcome) → IsShownBy entry said → result ≡ score_of said }
+{
+    if is_decisive(entry) {
+        decisive_score(entry)
+    } else if entry == 1 {
+        DRAWN
+    } else {
+        UNKNOWN
     }
 }
 
-/// The score of a step that says this: the sooner a loss comes, the higher; then a draw; then nothing; then wins, the later
-/// the higher.
-pub(crate) fn score(said: Option<Outcome>) -> u16
-    requires { IfSome said IsCounted }
-    ensures { result ≡ score_of said }
+/// The score, in the zeroing column, of a step to a position with these entries.
+pub(crate) fn zeroing_score(mate: u16, zeroing: u16, zeroes: bool) -> u16
+    ensures { (said other : Option Outcome) → IsShownBy mate said → IsShownBy zeroing other → result ≡ score_of (zeroing_said said other zeroes) }
 {
-    match said {
-        Some(Outcome::Loss(plies)) => LOST - plies,
-        Some(Outcome::Draw) => DRAWN,
-        None => UNKNOWN,
-        Some(Outcome::Win(plies)) => plies,
+    if !is_decisive(mate) {
+        return UNKNOWN;
+    }
+    if zeroes {
+        return if mate % 2 == 0 { 0 } else { LOST };
+    }
+    if is_decisive(zeroing) && mate % 2 == zeroing % 2 {
+        decisive_score(zeroing)
+    } else {
+        UNKNOWN
     }
 }
 

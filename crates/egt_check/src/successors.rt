@@ -2,10 +2,10 @@
 ghost use Rattle.std.specs.Prelude.{◌≡◌, ◌↔◌, ℕ, ◌<◌, IsTrue, IfSome, IfNone};
 ghost use Rattle.std.specs.Option.{option_map};
 ghost use Rattle.egt_board.specs.Placement.{IsHeld};
-ghost use Rattle.egt_board.specs.Settled.{IsSettled};
 ghost use Rattle.egt_board.specs.SquareSet.{Has};
 ghost use Rattle.egt_board.specs.Setup.{Setup};
 ghost use Rattle.egt_index.specs.Frame.{IsFrame};
+ghost use Rattle.egt_index.specs.Steps.{AreSteps};
 ghost use Rattle.egt_index.specs.Size.{size_of};
 ghost use Rattle.egt_moves.specs.Arena.{NoMove};
 ghost use Rattle.egt_moves.specs.Chess.{chess, Zeroes};
@@ -20,12 +20,12 @@ ghost use Rattle.egt_check.specs.Tables.{table_at, beside, entry_at, HasEntry, H
 use crate::by_column::ByColumn;
 use crate::facts::facts;
 use crate::library::Library;
-use crate::outcome::{score, shown, zeroing_said};
+use crate::outcome::{mate_score, zeroing_score};
 use crate::quiet::{QuietStep, is_pawn, quiet_targets};
 use egt_board::{Position, Square, SquareSet};
 use egt_class::laws::moves_lead_into_the_class_or_a_child as quiet_moves_keep_the_class;
 use egt_class::of;
-use egt_index::{Frame, index};
+use egt_index::{Frame, Steps, index};
 use egt_moves::{Move, legal_targets, play, promotions, zeroing};
 use egt_table::{Column, Table};
 
@@ -75,12 +75,9 @@ fn scores(
 {
     facts();
     let _side = position.side();
-    let mate = shown(entries.mate);
-    let zeroing_entry = shown(entries.zeroing);
-    let said = zeroing_said(mate, zeroing_entry, zeroes);
     ByColumn {
-        mate: score(mate),
-        zeroing: score(said),
+        mate: mate_score(entries.mate),
+        zeroing: zeroing_score(entries.mate, entries.zeroing, zeroes),
     }
 }
 
@@ -127,15 +124,14 @@ fn best_after(
 fn best_after_quiet(
     table: &Table,
     library: &Library,
-    frame: &Frame,
+    steps: &Steps,
     position: &Position,
     step: QuietStep,
     best: Option<ByColumn>,
 ) -> Option<ByColumn>
     requires quiet { IsQuietTarget position.now step.pawn step.from step.to }
     requires own { IsInClass table.now.class position.now }
-    requires frame { IsFrame position.now frame.now }
-    requires class { frame.now.class ≡ table.now.class }
+    requires steps { AreSteps position.now table.now.class step.from steps.now }
     ensures { AreRaised (shown_by library.now table.now) position.now (λ m. m ≡ plain step.from step.to) best result }
 {
     facts();
@@ -143,7 +139,7 @@ fn best_after_quiet(
     let _side = position.side();
     let _class = table.class();
     let QuietStep { from, to, pawn } = step;
-    let entries = entries_at(table, frame.index_after(from, to));
+    let entries = entries_at(table, steps.index_to(to));
     let chess_move = Move {
         from,
         to,
@@ -212,17 +208,19 @@ fn best_to_each_quiet(
     pawn: bool,
     best: Option<ByColumn>,
 ) -> Option<ByColumn>
+    requires held { IsHeld position.now.men from position.now.side }
     requires targets { (t : ℕ) → Has targets t → IsQuietTarget position.now pawn from t }
     requires own { IsInClass table.now.class position.now }
     requires frame { IsFrame position.now frame.now }
     requires class { frame.now.class ≡ table.now.class }
     ensures { AreRaised (shown_by library.now table.now) position.now (λ m. (m.from ≡ from) × Has targets m.to) best result }
 {
+    let steps = frame.steps(from);
     let mut best = best;
     let mut rest = targets;
     while let Some(to) = rest.pop_first() {
         let step = QuietStep { from, to, pawn };
-        best = best_after_quiet(table, library, frame, position, step, best);
+        best = best_after_quiet(table, library, &steps, position, step, best);
     }
     best
 }
@@ -252,19 +250,24 @@ fn best_of_man(
 }
 
 /// In each column the best score of a legal move, if there is a move.
-pub(crate) fn best(table: &Table, library: &Library, position: &Position) -> Option<ByColumn>
+pub(crate) fn best(
+    table: &Table,
+    library: &Library,
+    frame: &Frame,
+    position: &Position,
+) -> Option<ByColumn>
     requires own { IsInClass table.now.class position.now }
-    requires settled { IsSettled position.now }
     requires children { HasChildren (table_at library.now) table.now.class }
+    requires frame { IsFrame position.now frame.now }
+    requires class { frame.now.class ≡ table.now.class }
     ensures some { IfSome result
         (λ best. (column : Column) → IsBest (shown_by library.now table.now) column position.now (number_at best column)) }
     ensures none { IfNone result (NoMove chess position.now) }
 {
-    let frame = Frame::of(table.class(), position);
     let mut best = None;
     let mut rest = position.of(position.side());
     while let Some(from) = rest.pop_first() {
-        best = best_of_man(table, library, &frame, position, from, best);
+        best = best_of_man(table, library, frame, position, from, best);
     }
     best
 }

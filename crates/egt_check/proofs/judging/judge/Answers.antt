@@ -1,4 +1,4 @@
-use Rattle.std.proofs.Common.{ℕ, false, sym, subst}
+use Rattle.std.proofs.Common.{ℕ, false, sym, subst, ◌∙◌}
 use Rattle.egt_board.specs.Setup.{Setup}
 use Rattle.egt_index.specs.Code.{Spells}
 use Rattle.egt_index.specs.Index.{IsVoid}
@@ -10,11 +10,12 @@ use Rattle.egt_check.proofs.judging.judge.Goals as goal
 
 pub due-due-requires : goal.due-due-requires
 due-due-requires c =
-    let spelled = subst (λ (k : ℕ). Spells k c.args.index c.in-Some.position) c.class.ensures.class c.in-Some.ensures.spells in
+    let spelled = subst (λ (k : ℕ). Spells k c.args.index c.in-Some.found.0) c.class.ensures.class c.in-Some.ensures.spells in
     record {
-      own = (false, c.spelled_positions_are_of_the_class.ensures c.args.table.now.class c.args.index c.in-Some.position spelled);
-      settled = c.in-Some.ensures.settled;
+      own = (false, c.spelled_positions_are_of_the_class.ensures c.args.table.now.class c.args.index c.in-Some.found.0 spelled);
       children = c.requires.children;
+      frame = c.in-Some.ensures.frame;
+      class = c.in-Some.ensures.class ∙ c.class.ensures.class;
     }
 
 pub returns-in-None : goal.returns-in-None
@@ -30,7 +31,7 @@ pub returns-in-Some : goal.returns-in-Some
 returns-in-Some c =
     let t = c.args.table.now in
     let i = c.args.index in
-    let p = c.in-Some.position in
+    let p = c.in-Some.found.0 in
     let tables = beside (table_at c.args.library.now) t in
     let spelled = subst (λ (k : ℕ). Spells k i p) c.class.ensures.class c.in-Some.ensures.spells in
     let index = λ (void : IsVoid t.class i). subst (λ (k : ℕ). IsVoid k i) (sym c.class.ensures.class) void p spelled.admissible c.in-Some.ensures.index in

@@ -1,7 +1,4 @@
-use Rattle.std.proofs.Common.{ℕ, ◌<◌, refl, sym, subst}
-use Rattle.egt_class.specs.Membership.{IsOf}
-use Rattle.egt_index.specs.Index.{IsIndex}
-use Rattle.egt_index.specs.Size.{size_of}
+use Rattle.std.proofs.Common.{refl}
 use Rattle.egt_moves.specs.Legal.{plain}
 use Rattle.egt_check.specs.Steps.{shown_by}
 use Rattle.egt_check.specs.Tables.{table_at}
@@ -10,21 +7,21 @@ use Rattle.egt_check.proofs.Raising.{raised_is}
 use Rattle.egt_check.proofs.Still.{is_moved}
 use Rattle.egt_check.proofs.successors.best_after_quiet.Goals as goal
 
-pub index_after-requires : goal.index_after-requires
-index_after-requires c =
+pub index_to-requires : goal.index_to-requires
+index_to-requires c =
     let (q, leads) = c.requires.quiet.legal in
     let p = c.args.position.now in
     let fine = c.facts.ensures.step_admissible p q (plain c.args.step.from c.args.step.to) c.side-side.ensures.admissible leads in
-    (p, q, c.requires.frame, is_moved c.moves_lead_into_the_class_or_a_child.ensures.quiet c.args.frame.now.class p q c.args.step.pawn c.args.step.from c.args.step.to c.side-side.ensures.admissible fine leads c.requires.quiet)
+    (c.args.table.now.class, c.args.step.from, p, q, c.requires.steps, is_moved c.moves_lead_into_the_class_or_a_child.ensures.quiet c.args.table.now.class p q c.args.step.pawn c.args.step.from c.args.step.to c.side-side.ensures.admissible fine leads c.requires.quiet)
 
 pub entries_at-entries-requires : goal.entries_at-entries-requires
 entries_at-entries-requires c =
     let (q, leads) = c.requires.quiet.legal in
     let p = c.args.position.now in
+    let t = c.args.table.now in
     let fine = c.facts.ensures.step_admissible p q (plain c.args.step.from c.args.step.to) c.side-side.ensures.admissible leads in
-    let index = c.index_after.ensures p q c.requires.frame
-    (is_moved c.moves_lead_into_the_class_or_a_child.ensures.quiet c.args.frame.now.class p q c.args.step.pawn c.args.step.from c.args.step.to c.side-side.ensures.admissible fine leads c.requires.quiet) in
-    subst (λ (k : ℕ). c.index_after.result < size_of k) c.requires.class (c.facts.ensures.index_below _ _ _ index)
+    c.facts.ensures.index_below _ _ _ (c.index_to.ensures t.class c.args.step.from p q c.requires.steps
+    (is_moved c.moves_lead_into_the_class_or_a_child.ensures.quiet t.class p q c.args.step.pawn c.args.step.from c.args.step.to c.side-side.ensures.admissible fine leads c.requires.quiet))
 
 pub scores-scores-requires-clause-legal : goal.scores-scores-requires-clause-legal
 scores-scores-requires-clause-legal c = c.requires.quiet.legal
@@ -34,12 +31,10 @@ scores-scores-requires-clause-entries c = λ column q leads.
     let t = c.args.table.now in
     let p = c.args.position.now in
     let fine = c.facts.ensures.step_admissible p q (plain c.args.step.from c.args.step.to) c.side-side.ensures.admissible leads in
-    let moved = is_moved c.moves_lead_into_the_class_or_a_child.ensures.quiet c.args.frame.now.class p q c.args.step.pawn c.args.step.from c.args.step.to c.side-side.ensures.admissible fine leads c.requires.quiet in
+    let moved = is_moved c.moves_lead_into_the_class_or_a_child.ensures.quiet t.class p q c.args.step.pawn c.args.step.from c.args.step.to c.side-side.ensures.admissible fine leads c.requires.quiet in
     let (flipped, is_of) = c.requires.own in
-    let index = subst (λ (k : ℕ). IsIndex k q c.index_after.result) c.requires.class (c.index_after.ensures p q c.requires.frame moved) in
-    let of = moved.class flipped (subst (λ (k : ℕ). IsOf k flipped p) (sym c.requires.class) is_of) in
-    entry_found _ _ t.class c.index_after.result flipped t c.entries_at-entries.result c.class-class.ensures.table.class_in (subst (λ (k : ℕ). IsOf k flipped q) c.requires.class of)
-    (beside_own (table_at c.args.library.now) t _ refl) index c.entries_at-entries.ensures column
+    entry_found _ _ t.class c.index_to.result flipped t c.entries_at-entries.result c.class-class.ensures.table.class_in (moved.class flipped is_of)
+    (beside_own (table_at c.args.library.now) t _ refl) (c.index_to.ensures t.class c.args.step.from p q c.requires.steps moved) c.entries_at-entries.ensures column
 
 pub scores-scores-requires-clause-zeroes : goal.scores-scores-requires-clause-zeroes
 scores-scores-requires-clause-zeroes c = c.requires.quiet.zeroes

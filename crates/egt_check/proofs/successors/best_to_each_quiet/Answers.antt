@@ -1,5 +1,6 @@
-use Rattle.std.proofs.Common.{◌≡◌}
+use Rattle.std.proofs.Common.{◌≡◌, ℕ, subst}
 use Rattle.egt_board.specs.SquareSet.{Has}
+use Rattle.egt_index.specs.Steps.{AreSteps}
 use Rattle.egt_moves.specs.Legal.{plain}
 use Rattle.egt_check.specs.Steps.{IsQuietTarget, shown_by}
 use Rattle.egt_check.proofs.Raising.{gone_none, gone_more, gone_all, still_there}
@@ -13,6 +14,11 @@ loop-to-init c = (
 
 pub best_after_quiet-best-requires-clause-quiet : goal.best_after_quiet-best-requires-clause-quiet
 best_after_quiet-best-requires-clause-quiet c = c.requires.targets c.in-Some.to (c.loop-to.invariant.1 c.in-Some.to c.in-Some.ensures.had)
+
+pub best_after_quiet-best-requires-clause-steps : goal.best_after_quiet-best-requires-clause-steps
+best_after_quiet-best-requires-clause-steps c =
+    subst (λ (k : ℕ). AreSteps c.args.position.now k c.args.from c.steps-steps.result) c.requires.class
+    (c.steps-steps.ensures c.args.position.now c.requires.held.man c.requires.frame c.requires.held.stands)
 
 pub loop-to-preserved : goal.loop-to-preserved
 loop-to-preserved c =
