@@ -25,7 +25,7 @@ use Rattle.egt_sweep.specs.Edges.{IsAt, GoesOn, Connects, GoesBack, ComesFrom}
 use Rattle.egt_sweep.specs.Laws.{Laws}
 use Rattle.egt_sweep.proofs.Staying.{no_promotion}
 
-decided_pawn : (men : Placement) (s : ℕ) → Decided (IsPawnOn men s)
+pub decided_pawn : (men : Placement) (s : ℕ) → Decided (IsPawnOn men s)
 decided_pawn men s = decided_as
     (λ (h : (man : Man) × Stands men s man × (man.kind ≡ P)). record { man = h.0; stands = h.1; pawn = h.2 })
     (λ (on : IsPawnOn men s). (on.man, on.stands, on.pawn))

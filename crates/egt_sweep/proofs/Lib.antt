@@ -1,6 +1,7 @@
 pub mod Linked
 pub mod Putting
 pub mod Staying
+pub mod SameSteps
 pub mod Collecting
 pub mod Standing
 pub mod Backward
@@ -14,3 +15,8 @@ pub mod Shown
 pub mod ZeroRanks
 pub mod TrueChildren
 pub mod BuiltTables
+pub mod Onward
+pub mod Counting
+pub mod Tallying
+pub mod Starting
+pub mod Returning

@@ -1,23 +1,21 @@
 -- Positions at nodes, as the graph's tests tell them.
-use Rattle.std.proofs.Common.{◌≡◌, ℕ, ◌<◌, ◌⊎◌, ◌↔◌, not, Bool, true, false, List, Option, Some, None, IfSome, IfNone, IsFalse, refl, sym, ap, ◌∙◌, subst, inl, inr}
+use Rattle.std.proofs.Common.{◌≡◌, ℕ, ◌<◌, ◌⊎◌, ◌↔◌, not, Bool, true, false, List, Option, Some, None, IfSome, IfNone, IsFalse, refl, sym, ap, subst, inl, inr}
 use Rattle.std.specs.Option.{is_some, IsSome}
 use Rattle.std.specs.List.{Contains}
 use Rattle.std.specs.List.Sorted.{IsStrictlyIncreasing}
-use Rattle.egt_board.specs.Decided.{Decided, tells, tells_where}
 use Rattle.egt_board.specs.Setup.{Setup}
 use Rattle.egt_index.specs.Code.{Spells}
 use Rattle.egt_index.specs.Index.{IsIndex, IsVoid}
 use Rattle.egt_index.specs.Size.{size_of}
-use Rattle.egt_moves.specs.DecidedMoves.{decided_checkmate}
 use Rattle.egt_moves.specs.Standing.{IsCheckmate, StandsAs}
 use Rattle.egt_moves.specs.declared.outcome.Standing.{Standing}
 use Rattle.egt_moves.specs.declared.outcome.Standing.TheVariants.{Stalemate, HasMove}
 use Rattle.egt_graph.specs.Passing.{passing_below, passing_is}
 use Rattle.egt_table.specs.declared.column.Column.{Column}
-use Rattle.egt_sweep.specs.Edges.{IsAt, Connects}
+use Rattle.egt_sweep.specs.Edges.{Connects}
 use Rattle.egt_sweep.specs.Laws.{Laws}
-use Rattle.egt_sweep.specs.Nodes.{position_at, is_mated, connects}
-use Rattle.egt_sweep.proofs.Linked.{position_is, void_is, there_is, node_at, connects_is}
+use Rattle.egt_sweep.specs.Nodes.{position_at, connects}
+use Rattle.egt_sweep.proofs.Linked.{void_is, there_is, node_at, connects_is}
 
 pub denied : (b x : Bool) → not b ≡ x → b ≡ not x
 denied true x e = ap not e
@@ -38,19 +36,9 @@ module _ (laws : Laws) (c i : ℕ) where
   node_found None void node = let at = node_at laws c i node in absurd (void at.0 at.1.spells.admissible at.1.index)
   node_found (Some p) void node = refl
 
-  told_false : {P : Type 0} (d : Decided P) → ¬ P → tells d ≡ false
-  told_false (inl h) never = absurd (never h)
-  told_false (inr h) never = refl
-
-  mated_at : (p : Setup) → IsAt c i p → (b : Bool) → b ≡ tells (decided_checkmate p) → b ≡ is_mated (position_at c i)
-  mated_at p at b is = is ∙ sym (ap is_mated ((position_is laws c i p).1 at))
-
-  -- checkmate is told
-  pub mated_told : (p : Setup) → IsAt c i p → IsCheckmate p → true ≡ is_mated (position_at c i)
-  mated_told p at mate = mated_at p at true (sym (tells_where (decided_checkmate p) mate))
-
-  pub not_mated_told : (p : Setup) → IsAt c i p → ¬ IsCheckmate p → false ≡ is_mated (position_at c i)
-  not_mated_told p at none = mated_at p at false (sym (told_false (decided_checkmate p) none))
+  -- at a node there is one
+  pub none_missing : IsVoid c i → IsFalse (not (is_some (position_at c i))) → ⊥
+  none_missing void node = let at = node_at laws c i node in void at.0 at.1.spells.admissible at.1.index
 
   -- an ascending list of exactly the edges is the graph's
   pub edges_told : (column : Column) (xs : List ℕ) → c < 36 → IsStrictlyIncreasing xs → ((k : ℕ) → Contains xs k ↔ Connects column c i k) → xs ≡ passing_below (size_of c) (λ j. connects column c i j)

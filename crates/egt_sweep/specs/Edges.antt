@@ -1,12 +1,15 @@
 -- The moves that go on in a class's game, as relations.
-use Rattle.std.specs.Prelude.{ℕ, List, IsTrue}
+use Rattle.std.specs.Prelude.{◌≡◌, ◌≢◌, ℕ, List, None, IsTrue}
 use Rattle.std.specs.List.{Contains}
 use Rattle.egt_board.specs.Setup.{Setup}
+use Rattle.egt_board.specs.declared.man.Kind.TheVariants.{P}
+use Rattle.egt_board.specs.declared.man.Man.{Man}
 use Rattle.egt_index.specs.Code.{Spells}
 use Rattle.egt_index.specs.Index.{IsIndex}
-use Rattle.egt_moves.specs.Chess.{Zeroes}
+use Rattle.egt_moves.specs.Chess.{Zeroes, IsPawnOn}
 use Rattle.egt_moves.specs.Legal.{Leads}
 use Rattle.egt_moves.specs.declared.chess_move.Move.{Move}
+use Rattle.egt_unmoves.specs.Unmoves.{ComesBy}
 use Rattle.egt_unmoves.specs.declared.unmove.Unmove.{Unmove}
 use Rattle.egt_table.specs.declared.column.Column.{Column}
 use Rattle.egt_table.specs.declared.column.Column.TheVariants.{Mate, Zeroing}
@@ -47,3 +50,26 @@ GoesBack Zeroing u = ¬ IsTrue u.pawn
 -- the position before has the index k, and its move goes on
 abbrev pub ComesFrom : Column → ℕ → Unmove → ℕ → Type 0
 ComesFrom column c u k = GoesBack column u × IsIndex c u.before k
+
+-- the game goes back by the move: in the game of zeroing moves by none of a pawn
+abbrev pub BackBy : Column → Setup → Move → Type 0
+BackBy Mate b m = Unit {0}
+BackBy Zeroing b m = ¬ IsPawnOn b.men m.from
+
+-- a move that goes on led from a position of the index k to the square
+pub record CameTo (column : Column) (c : ℕ) (q : Setup) (to k : ℕ) : Type 0 where
+  pub before : Setup
+  pub move : Move
+  pub here : move.to ≡ to
+  pub comes : ComesBy before move q
+  pub back : BackBy column before move
+  pub index : IsIndex c before k
+
+-- moves of the game are the man's
+abbrev pub IsTakenBack : Column → Man → Type 0
+IsTakenBack Mate man = Unit {0}
+IsTakenBack Zeroing man = man.kind ≢ P
+
+-- no position before had a target
+abbrev pub HadNoTarget : Setup → Type 0
+HadNoTarget q = (b : Setup) (m : Move) → ComesBy b m q → b.target ≡ None

@@ -7,3 +7,4 @@ pub mod MateColumn
 pub mod Aiming
 pub mod Built
 pub mod Fault
+pub mod Ways

@@ -1,10 +1,10 @@
 //! The moves that go on in a class's game.
-ghost use Rattle.std.specs.Prelude.{◌≡◌, ◌↔◌, ◌+◌, ◌≤◌, ◌<◌, ◌⊎◌, ℕ, Bool, IsTrue};
+ghost use Rattle.std.specs.Prelude.{◌≡◌, ◌↔◌, ◌+◌, ◌≤◌, ◌<◌, ◌⊎◌, ℕ, Bool, [], IsTrue};
 ghost use Rattle.std.specs.List.{Contains};
 ghost use Rattle.std.specs.List.Sorted.{IsStrictlyIncreasing};
-ghost use Rattle.egt_board.specs.Settled.{IsSettled};
 ghost use Rattle.egt_board.specs.Setup.{Setup};
 ghost use Rattle.egt_index.specs.Frame.{IsFrame};
+ghost use Rattle.egt_index.specs.Steps.{AreSteps};
 ghost use Rattle.egt_class.specs.Membership.{IsOf};
 ghost use Rattle.egt_index.specs.Index.{IsIndex};
 ghost use Rattle.arrayvec.specs.ArrayVec.{array_vec_len};
@@ -16,7 +16,7 @@ use crate::laws::laws;
 use arrayvec::ArrayVec;
 use egt_board::Position;
 use egt_class::{Class, of};
-use egt_index::{Frame, index};
+use egt_index::{Frame, Steps, index};
 use egt_moves::{Move, legal_moves, play, zeroing};
 use egt_table::Column;
 
@@ -55,18 +55,17 @@ pub(crate) fn goes_on(column: Column, class: Class, position: &Position, chess_m
     }
 }
 
-/// Adds the index to which the move leads, if it goes on.
+/// Adds the index to which the move leads, if it goes on. The steps are those of the man that moves.
 fn add_edge(
     column: Column,
     class: Class,
-    frame: &Frame,
+    steps: &Steps,
     position: &Position,
     chess_move: &Move,
     list: &mut ArrayVec<u32, 64>,
 )
     requires of { (flipped : Bool) × IsOf class flipped position.now }
-    requires frame { IsFrame position.now frame.now }
-    requires class { frame.now.class ≡ class }
+    requires steps { AreSteps position.now class chess_move.now.from steps.now }
     requires legal { IsLegal position.now chess_move.now }
     requires ascending { IsStrictlyIncreasing list.old.items }
     requires room { array_vec_len list.old < 64 }
@@ -78,27 +77,38 @@ fn add_edge(
     let _side = position.side();
     let _number = class.number();
     if !zeroing(position, *chess_move) {
-        put(list, frame.index_after(chess_move.from, chess_move.to));
+        put(list, steps.index_to(chess_move.to));
     } else if goes_on(column, class, position, chess_move) {
         let next = play(position, *chess_move).unwrap();
         put(list, index(class, &next));
     }
 }
 
-/// The indexes that moves which go on lead to from the position at the index.
-pub(crate) fn edges(column: Column, class: Class, position: &Position) -> ArrayVec<u32, 64>
+/// Fills the list with the indexes that moves which go on lead to from the position at the index.
+pub(crate) fn edges(
+    column: Column,
+    class: Class,
+    frame: &Frame,
+    position: &Position,
+    list: &mut ArrayVec<u32, 64>,
+)
+    requires empty { list.old.items ≡ [] }
     requires of { (flipped : Bool) × IsOf class flipped position.now }
-    requires settled { IsSettled position.now }
-    ensures ascending { IsStrictlyIncreasing result.items }
-    ensures exact { (i : ℕ) → IsAt class i position.now → (k : ℕ) → Contains result.items k ↔ Connects column class i k }
+    requires frame { IsFrame position.now frame.now }
+    requires class { frame.now.class ≡ class }
+    ensures ascending { IsStrictlyIncreasing list.new.items }
+    ensures exact { (i : ℕ) → IsAt class i position.now → (k : ℕ) → Contains list.new.items k ↔ Connects column class i k }
 {
     laws();
-    let _side = position.side();
-    let frame = Frame::of(class, position);
     let moves = legal_moves(position);
-    let mut list = ArrayVec::new();
+    let mut from = position.king(position.side());
+    let mut steps = frame.steps(from);
     for chess_move in moves.as_slice() {
-        add_edge(column, class, &frame, position, chess_move, &mut list);
+        // The moves of a man stand side by side.
+        if chess_move.from != from {
+            from = chess_move.from;
+            steps = frame.steps(from);
+        }
+        add_edge(column, class, &steps, position, chess_move, list);
     }
-    list
 }

@@ -1,5 +1,5 @@
 //! The moves that leave a game, and the values of where they lead.
-ghost use Rattle.std.specs.Prelude.{◌≡◌, ◌+◌, ◌++◌, ◌≤◌, ◌<◌, ℕ, Bool, Some, IsSome, IfSome, IsFalse, not};
+ghost use Rattle.std.specs.Prelude.{◌≡◌, ◌+◌, ◌++◌, ◌≤◌, ◌<◌, ℕ, Bool, [], Some, IsSome, IfSome, IsFalse, not};
 ghost use Rattle.std.specs.Option.{is_some, option_to_list};
 ghost use Rattle.arrayvec.specs.ArrayVec.{array_vec_len};
 ghost use Rattle.egt_class.specs.Membership.{IsOf};
@@ -124,6 +124,26 @@ fn add_exit(
     }
 }
 
+/// Adds the values of where the moves lead that leave the game, in the order of moves.
+pub(crate) fn add_exits(
+    aim: &Aim<'_>,
+    class: Class,
+    library: &Library,
+    position: &Position,
+    list: &mut ArrayVec<Exit, 64>,
+)
+    requires knows { KnowsOwn class aim.now }
+    requires of { (flipped : Bool) × IsOf class flipped position.now }
+    requires children { HasChildren (table_at library.now) class }
+    requires empty { list.old.items ≡ [] }
+    ensures { list.new.items ≡ exits_from (known (table_at library.now) class aim.now) (column_of aim.now) class (Some position.now) }
+{
+    let moves = legal_moves(position);
+    for chess_move in moves.as_slice() {
+        add_exit(aim, class, library, position, chess_move, list);
+    }
+}
+
 /// The values of where the moves lead that leave the game, in the order of moves.
 pub(crate) fn exits(
     aim: &Aim<'_>,
@@ -136,10 +156,7 @@ pub(crate) fn exits(
     requires children { HasChildren (table_at library.now) class }
     ensures { result.items ≡ exits_from (known (table_at library.now) class aim.now) (column_of aim.now) class (Some position.now) }
 {
-    let moves = legal_moves(position);
     let mut list = ArrayVec::new();
-    for chess_move in moves.as_slice() {
-        add_exit(aim, class, library, position, chess_move, &mut list);
-    }
+    add_exits(aim, class, library, position, &mut list);
     list
 }

@@ -13,6 +13,7 @@ mod missing;
 mod nodes;
 pub mod ranks;
 mod sources;
+mod ways;
 mod zero_game;
 
 pub use build_fault::BuildFault;

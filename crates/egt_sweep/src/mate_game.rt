@@ -5,11 +5,11 @@ ghost use Rattle.egt_sweep.specs.ClassGame.{class_game, class_game_is_lawful};
 
 use crate::aim::Aim;
 use crate::missing::Missing;
-use crate::nodes::{exits, is_mated, is_void, predecessors, successors};
+use crate::nodes::{exits, is_mated, is_void, predecessors, start, successors};
 use arrayvec::ArrayVec;
 use egt_check::{Library, first_missing};
 use egt_class::Class;
-use egt_graph::{Exit, Game};
+use egt_graph::{Exit, Game, Start};
 use egt_index::size;
 use egt_table::Column;
 
@@ -75,5 +75,9 @@ impl Game for MateGame<'_> {
 
     fn exits(&self, i: u32) -> ArrayVec<Exit, 64> {
         exits(&Aim::Mate, self.class, self.library, i)
+    }
+
+    fn start(&self, i: u32, exits: &mut ArrayVec<Exit, 64>) -> Option<Start> {
+        start(&Aim::Mate, self.class, self.library, i, exits)
     }
 }

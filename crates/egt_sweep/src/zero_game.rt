@@ -8,11 +8,11 @@ ghost use Rattle.egt_sweep.specs.MateColumn.{mate_table, IsMateColumn};
 
 use crate::aim::Aim;
 use crate::missing::Missing;
-use crate::nodes::{exits, is_mated, is_void, predecessors, successors};
+use crate::nodes::{exits, is_mated, is_void, predecessors, start, successors};
 use arrayvec::ArrayVec;
 use egt_check::{Library, first_missing};
 use egt_class::Class;
-use egt_graph::{Exit, Game, Ranks};
+use egt_graph::{Exit, Game, Ranks, Start};
 use egt_index::size;
 use egt_table::Column;
 
@@ -92,5 +92,15 @@ impl Game for ZeroGame<'_> {
 
     fn exits(&self, i: u32) -> ArrayVec<Exit, 64> {
         exits(&Aim::Zeroing(self.mates), self.class, self.library, i)
+    }
+
+    fn start(&self, i: u32, exits: &mut ArrayVec<Exit, 64>) -> Option<Start> {
+        start(
+            &Aim::Zeroing(self.mates),
+            self.class,
+            self.library,
+            i,
+            exits,
+        )
     }
 }

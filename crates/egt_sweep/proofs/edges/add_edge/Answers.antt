@@ -1,6 +1,5 @@
 use Rattle.std.proofs.Common.{ℕ, ◌<◌, Option, IfSome, sym, ◌∙◌, subst}
 use Rattle.std.proofs.lemmas.Bool.{false≢true}
-use Rattle.egt_index.specs.Index.{IsIndex}
 use Rattle.egt_moves.specs.Chess.{Zeroes}
 use Rattle.egt_sweep.proofs.Staying.{quiet_goes_on}
 use Rattle.egt_board.specs.Setup.{Setup}
@@ -8,13 +7,13 @@ use Rattle.egt_moves.specs.Legal.{Leads}
 use Rattle.egt_sweep.proofs.Collecting.{somewhere, leads_on_once, leads_on_never, members_on, members_off, untrue}
 use Rattle.egt_sweep.proofs.edges.add_edge.Goals as goal
 
-pub index_after-requires : goal.index_after-requires
-index_after-requires c =
+pub index_to-requires : goal.index_to-requires
+index_to-requires c =
     let p = c.args.position.now in
     let m = c.args.chess_move.now in
     let (q, leads) = c.requires.legal in
     let quiet : ¬ Zeroes p m = λ z. false≢true (sym c.if-not-zeroing.true ∙ c.zeroing.ensures.1 z) in
-    (p, q, c.requires.frame, c.laws.ensures.quiet_moved c.args.frame.now.class p q m c.side-side.ensures.admissible leads quiet)
+    (c.args.class, m.from, p, q, c.requires.steps, c.laws.ensures.quiet_moved c.args.class p q m c.side-side.ensures.admissible leads quiet)
 
 pub returns-then-not-zeroing-clause-members : goal.returns-then-not-zeroing-clause-members
 returns-then-not-zeroing-clause-members c k =
@@ -22,9 +21,8 @@ returns-then-not-zeroing-clause-members c k =
     let m = c.args.chess_move.now in
     let (q, leads) = c.requires.legal in
     let quiet : ¬ Zeroes p m = λ z. false≢true (sym c.if-not-zeroing.true ∙ c.zeroing.ensures.1 z) in
-    let index = subst (λ (d : ℕ). IsIndex d q c.index_after.result) c.requires.class
-    (c.index_after.ensures p q c.requires.frame (c.laws.ensures.quiet_moved c.args.frame.now.class p q m c.side-side.ensures.admissible leads quiet)) in
-    members_on (c.put.ensures.members k) (leads_on_once c.laws.ensures c.args.column c.args.class p m q c.index_after.result k c.side-side.ensures.admissible leads
+    let index = c.index_to.ensures c.args.class m.from p q c.requires.steps (c.laws.ensures.quiet_moved c.args.class p q m c.side-side.ensures.admissible leads quiet) in
+    members_on (c.put.ensures.members k) (leads_on_once c.laws.ensures c.args.column c.args.class p m q c.index_to.result k c.side-side.ensures.admissible leads
     (quiet_goes_on c.laws.ensures c.args.class c.args.column p q m (subst (λ (n : ℕ). n < 36) c.number-number.ensures.value c.number-number.ensures.below) c.side-side.ensures.admissible c.requires.of leads quiet) index)
 
 pub unwrap-next-requires : goal.unwrap-next-requires

@@ -2,12 +2,14 @@ use Rattle.std.proofs.Common.{ℕ, ◌≤◌, ◌↔◌}
 use Rattle.std.specs.List.{Contains}
 use Rattle.std.specs.List.Sorted.{IsStrictlyIncreasing}
 use Rattle.arrayvec.specs.ArrayVec.{array_vec_len}
+use Rattle.egt_index.specs.Steps.{AreSteps}
 use Rattle.egt_sweep.specs.Edges.{LeadsOn}
 use Rattle.egt_sweep.proofs.Collecting.{Collected}
 use Rattle.egt_sweep.proofs.edges.edges.Given as goal
 
--- the list has, in order, where the moves so far lead
+-- the list has, in order, where the moves so far lead, and the steps are those of a man
 abbrev pub invariant-loop-chess_move : goal.invariant-loop-chess_move
 invariant-loop-chess_move l =
     IsStrictlyIncreasing l.list.items × (array_vec_len l.list ≤ l.chess_move-index)
+    × AreSteps l.position l.class l.from l.steps
     × ((k : ℕ) → Contains l.list.items k ↔ Collected (LeadsOn l.column l.class l.position) l.chess_move-items l.chess_move-index k)

@@ -1,15 +1,13 @@
 use Rattle.std.proofs.Common.{ℕ, ◌<◌, subst}
-use Rattle.egt_sweep.proofs.Backward.{at_settled}
-use Rattle.egt_sweep.proofs.Standing.{edges_told}
+use Rattle.egt_sweep.proofs.Standing.{edges_told, none_missing}
 use Rattle.egt_sweep.proofs.nodes.successors.Goals as goal
 
-pub edges-requires-clause-settled : goal.edges-requires-clause-settled
-edges-requires-clause-settled c =
-    at_settled c.laws.ensures c.args.class (subst (λ (n : ℕ). n < 36) c.number-number.ensures.value c.number-number.ensures.below) c.args.index c.node-position.result c.node-position.ensures
+pub unreachable-requires : goal.unreachable-requires
+unreachable-requires c = none_missing c.laws.ensures c.args.class c.args.index c.in-None.ensures.void c.requires
 
 pub edges-requires-clause-of : goal.edges-requires-clause-of
-edges-requires-clause-of c = c.laws.ensures.indexed_class c.node-position.result c.args.class c.args.index c.node-position.ensures.spells.admissible c.node-position.ensures.index
+edges-requires-clause-of c = c.laws.ensures.indexed_class _ c.args.class c.args.index c.in-Some.ensures.spells.admissible c.in-Some.ensures.index
 
 pub returns : goal.returns
-returns c = edges_told c.laws.ensures c.args.class c.args.index c.args.column c.edges.result.items (subst (λ (n : ℕ). n < 36) c.number-number.ensures.value c.number-number.ensures.below)
-    c.edges.ensures.ascending (c.edges.ensures.exact c.args.index c.node-position.ensures)
+returns c = edges_told c.laws.ensures c.args.class c.args.index c.args.column c.edges.new.list.items (subst (λ (n : ℕ). n < 36) c.number-number.ensures.value c.number-number.ensures.below)
+    c.edges.ensures.ascending (c.edges.ensures.exact c.args.index (record { spells = c.in-Some.ensures.spells; index = c.in-Some.ensures.index }))

@@ -4,7 +4,7 @@ use Rattle.std.specs.List.Sorted.{IsStrictlyIncreasing}
 use Rattle.arrayvec.specs.ArrayVec.{array_vec_len}
 use Rattle.egt_sweep.specs.Edges.{ComesFrom}
 use Rattle.egt_sweep.proofs.Collecting.{Collected}
-use Rattle.egt_sweep.proofs.sources.sources.Given as goal
+use Rattle.egt_sweep.proofs.sources.sources_by_unmoves.Given as goal
 
 -- the list has, in order, where the unmoves so far came from
 abbrev pub invariant-loop-unmove : goal.invariant-loop-unmove

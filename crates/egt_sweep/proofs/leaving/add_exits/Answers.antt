@@ -1,7 +1,7 @@
 use Rattle.std.proofs.Common.{arith}
 use Rattle.egt_sweep.proofs.Collecting.{listed_is_legal}
 use Rattle.egt_sweep.proofs.OutOfClass.{one_more}
-use Rattle.egt_sweep.proofs.leaving.exits.Goals as goal
+use Rattle.egt_sweep.proofs.leaving.add_exits.Goals as goal
 
 pub add_exit-requires-clause-legal : goal.add_exit-requires-clause-legal
 add_exit-requires-clause-legal c =

@@ -6,7 +6,7 @@ use Rattle.egt_moves.specs.Moves.{played}
 use Rattle.egt_check.specs.Tables.{table_at}
 use Rattle.egt_sweep.specs.Aiming.{column_of, known}
 use Rattle.egt_sweep.specs.Nodes.{exit_by}
-use Rattle.egt_sweep.proofs.leaving.exits.Given as goal
+use Rattle.egt_sweep.proofs.leaving.add_exits.Given as goal
 
 -- the list has what is told of the moves so far
 abbrev pub invariant-loop-chess_move : goal.invariant-loop-chess_move

@@ -1,0 +1,32 @@
+-- The legal moves of a position that go on in the game.
+use Rattle.std.specs.Prelude.{◌≡◌, ◌≢◌, ℕ, ◌<◌, ◌↔◌, List, length, Some}
+use Rattle.std.specs.Int.{bit_at}
+use Rattle.std.specs.List.{Contains}
+use Rattle.std.specs.List.Sorted.{IsStrictlyIncreasing}
+use Rattle.egt_board.specs.Pawn.{last_rank}
+use Rattle.egt_board.specs.Setup.{Setup}
+use Rattle.egt_board.specs.Square.{rank_of}
+use Rattle.egt_board.specs.declared.man.Man.{Man}
+use Rattle.egt_board.specs.declared.square_set.SquareSet.{SquareSet}
+use Rattle.egt_moves.specs.Legal.{Leads, plain}
+use Rattle.egt_moves.specs.declared.chess_move.Move.{Move}
+use Rattle.egt_table.specs.declared.column.Column.{Column}
+use Rattle.egt_sweep.specs.Edges.{GoesOn, LeadsOn}
+
+-- a pawn that arrives there is not promoted, and takes nothing in passing
+abbrev pub Stays : Setup → Man → ℕ → Type 0
+Stays p man t = (rank_of t ≢ last_rank man.side) × (p.target ≢ Some t)
+
+-- the move to the square promotes nothing, and goes on
+pub record IsOnward (column : Column) (c : ℕ) (p : Setup) (from t : ℕ) : Type 0 where
+  pub within : t < 64
+  pub to : Setup
+  pub leads : Leads p (plain from t) to
+  pub on : GoesOn column c p (plain from t) to
+
+-- the moves from squares outside the set lead on to n indexes
+pub record Counts (column : Column) (c : ℕ) (p : Setup) (rest : SquareSet) (n : ℕ) : Type 0 where
+  pub list : List ℕ
+  pub ascends : IsStrictlyIncreasing list
+  pub length_is : length list ≡ n
+  pub members : (k : ℕ) → Contains list k ↔ ((m : Move) × (bit_at rest.bits m.from ≡ 0) × LeadsOn column c p m k)
