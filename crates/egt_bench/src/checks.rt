@@ -48,7 +48,7 @@ fn bench_check(
 }
 
 /// Prints the most memory that the process had, as Linux tells it; nothing where there is no such file.
-fn print_memory(rt: &HostRuntime) -> io::Result<()> {
+pub fn print_memory(rt: &HostRuntime) -> io::Result<()> {
     if let Ok(status) = fs::read_to_string(rt, "/proc/self/status") {
         for line in status.as_str().lines() {
             if line.starts_with("VmHWM") {

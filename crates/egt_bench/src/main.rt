@@ -2,7 +2,8 @@
 //! positions of a few classes drawn at random; with that word or the word `index`, those of indexes of the positions that
 //! moves lead to and of positions of consecutive codes; with it or the word `files`, how fast a table's file goes through
 //! memory; with it or the word `check`, how long tables of two and three men are checked; with the word `build` how long all 36
-//! tables are built and checked, which takes some ten minutes. Nothing here judges a figure.
+//! tables are built and checked, which takes some minutes. The words `table`, a folder and a class have that class's table built and
+//! checked beside those of the folder; the words `lines` and some men, as `KQkr`, print FENs of positions. Nothing here judges a figure.
 #![tactic(auto)]
 
 mod calls;
@@ -10,6 +11,7 @@ mod checks;
 mod files;
 mod indexes;
 mod sample;
+mod tables;
 
 use calls::{Call, made, moves_of};
 use checks::{bench_builds, bench_checks};
@@ -19,6 +21,7 @@ use indexes::{indexed, spelled, successors};
 use sample::sample;
 use std::time::Instant;
 use std::{env, io};
+use tables::{bench_table, print_lines};
 
 /// Positions of a class.
 const POSITIONS: u32 = 2000;
@@ -115,13 +118,27 @@ fn bench_position(rt: &HostRuntime, name: &str) -> io::Result<()> {
     )
 }
 
+/// How many lines are printed.
+const LINES: u32 = 20_000;
+
 fn main(rt: HostRuntime) -> io::Result<()> {
+    let mut words = Vec::new(rt.alloc());
+    for word in env::args(&rt)? {
+        words.push(word)?;
+    }
+    let words = words.as_slice();
+    if words.len() == 4 && words[1].as_str() == "table" {
+        return bench_table(&rt, words[2].as_str(), words[3].as_str());
+    }
+    if words.len() == 3 && words[1].as_str() == "lines" {
+        return print_lines(&rt, words[2].as_str(), LINES);
+    }
     let mut all = false;
     let mut indexes = false;
     let mut files = false;
     let mut checks = false;
     let mut builds = false;
-    for word in env::args(&rt)? {
+    for word in words {
         all = all || word.as_str() == "run";
         indexes = indexes || word.as_str() == "index";
         files = files || word.as_str() == "files";
