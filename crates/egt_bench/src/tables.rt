@@ -1,5 +1,7 @@
 //! One class a run: how long its table is built and checked, beside those that it rests on, which are read from the files of a
 //! folder, and how much memory was in use at most.
+use crate::checks::print_memory;
+use crate::sample::sample;
 use egt_check::{Library, check};
 use egt_class::{Class, by_name, children, name};
 use egt_fen::{Fen, write};
@@ -9,9 +11,6 @@ use egt_table::{FromStd, Table, ToStd};
 use std::path::{Path, PathBuf};
 use std::time::Instant;
 use std::{fs, io};
-
-use crate::checks::print_memory;
-use crate::sample::sample;
 
 /// How often the table is checked: the quickest time is told.
 const CHECKS: u32 = 3;
@@ -52,7 +51,80 @@ fn load(rt: &HostRuntime, folder: &str, class: Class, library: &mut Library) -> 
 fn print_time(rt: &HostRuntime, class: Class, done: &str, nanos: u128) -> io::Result<()> {
     let codes = u128::from(size(class)).max(1);
     let class = name(class);
-    println!(rt; "{class} {done}: {} ms, {} ns a code of {codes}", nanos / 1_000_000, nanos / codes)
+    println!(rt;
+        "{class} {done}: {} ms, {} ns a code of {codes}",
+        nanos / 1_000_000,
+        nanos / codes
+    )
+}
+
+/// Whether the tables below the class were read from their files and admitted.
+fn load_below(
+    rt: &HostRuntime,
+    folder: &str,
+    class: Class,
+    library: &mut Library,
+) -> io::Result<bool> {
+    let wanted = below(class);
+    for number in 0..36u8 {
+        if wanted[usize::from(number)] && !load(rt, folder, Class::at(number), library)? {
+            return Ok(false);
+        }
+    }
+    Ok(true)
+}
+
+/// Builds the class's table, and prints how long that took.
+fn time_build(rt: &HostRuntime, class: Class, library: &Library) -> io::Result<Option<Table>> {
+    let start = Instant::now(rt)?;
+    match build(rt.alloc(), class, library, 32_000) {
+        Ok(table) => {
+            print_time(rt, class, "build", start.elapsed(rt)?.as_nanos())?;
+            Ok(Some(table))
+        }
+        Err(_) => Ok(None),
+    }
+}
+
+/// The nanoseconds that one check of the table takes, if it passes.
+fn check_nanos(rt: &HostRuntime, table: &Table, library: &Library) -> io::Result<Option<u128>> {
+    let start = Instant::now(rt)?;
+    let passed = check(table, library).is_ok();
+    let nanos = start.elapsed(rt)?.as_nanos();
+    Ok(if passed { Some(nanos) } else { None })
+}
+
+/// Checks the table, and prints how long the quickest check took, if all pass.
+fn time_check(rt: &HostRuntime, table: &Table, library: &Library) -> io::Result<()> {
+    let mut quickest = u128::MAX;
+    for _ in 0..CHECKS {
+        match check_nanos(rt, table, library)? {
+            Some(nanos) => quickest = quickest.min(nanos),
+            None => return println!(rt; "a true table was refused"),
+        }
+    }
+    print_time(rt, table.class(), "check", quickest)
+}
+
+/// Writes the table into its file.
+fn save(rt: &HostRuntime, folder: &str, table: &Table) -> io::Result<()> {
+    let file = fs::create(rt, path_of(rt, folder, table.class())?.as_path())?;
+    match table.write(&mut ToStd::new(file)) {
+        Ok(()) => Ok(()),
+        Err(_) => println!(rt; "the file was not written"),
+    }
+}
+
+/// Builds and checks the class's table beside those of the library, and writes its file.
+fn bench_class(rt: &HostRuntime, folder: &str, class: Class, library: &Library) -> io::Result<()> {
+    match time_build(rt, class, library)? {
+        Some(table) => {
+            time_check(rt, &table, library)?;
+            print_memory(rt)?;
+            save(rt, folder, &table)
+        }
+        None => println!(rt; "no table"),
+    }
 }
 
 /// Builds the table of the class named beside those of the folder, checks it, and writes its file.
@@ -61,32 +133,10 @@ pub fn bench_table(rt: &HostRuntime, folder: &str, class: &str) -> io::Result<()
         return println!(rt; "no class");
     };
     let mut library = Library::new(rt.alloc())?;
-    let wanted = below(class);
-    for number in 0..36u8 {
-        if wanted[usize::from(number)] && !load(rt, folder, Class::at(number), &mut library)? {
-            return println!(rt; "a table was refused");
-        }
+    if !load_below(rt, folder, class, &mut library)? {
+        return println!(rt; "a table was refused");
     }
-    let start = Instant::now(rt)?;
-    let Ok(table) = build(rt.alloc(), class, &library, 32_000) else {
-        return println!(rt; "no table");
-    };
-    print_time(rt, class, "build", start.elapsed(rt)?.as_nanos())?;
-    let mut quickest = u128::MAX;
-    for _ in 0..CHECKS {
-        let start = Instant::now(rt)?;
-        if check(&table, &library).is_err() {
-            return println!(rt; "a true table was refused");
-        }
-        quickest = quickest.min(start.elapsed(rt)?.as_nanos());
-    }
-    print_time(rt, class, "check", quickest)?;
-    print_memory(rt)?;
-    let file = fs::create(rt, path_of(rt, folder, class)?.as_path())?;
-    match table.write(&mut ToStd::new(file)) {
-        Ok(()) => Ok(()),
-        Err(_) => println!(rt; "the file was not written"),
-    }
+    bench_class(rt, folder, class, &library)
 }
 
 /// Prints FENs of so many positions with these men, drawn at random, one a line.
