@@ -1,4 +1,4 @@
--- Positions with one index and a king on one square of no axis settle to one position.
+-- Positions with one index and a man alone of his kind on one square of no axis settle to one position.
 use Rattle.std.proofs.Common.{◌≡◌, ℕ, ◌<◌, ◌&&◌, ◌||◌, not, Bool, true, false, eqb, Option, Some, None, arith, refl, sym, ap, ◌∙◌, inl, inr, subst}
 use Rattle.std.proofs.lemmas.Bool.{cases_eq, eq-eqb, eqb-true, false≢true}
 use Rattle.std.specs.Option.{option_map}
@@ -6,16 +6,15 @@ use Rattle.std.specs.FinMap as map
 use Rattle.egt_board.specs.declared.man.Side.{Side}
 use Rattle.egt_board.specs.declared.man.Side.TheVariants.{White, Black}
 use Rattle.egt_board.specs.declared.man.Man.{Man}
-use Rattle.egt_board.specs.Attack.{king_of}
 use Rattle.egt_board.specs.Placement.{Stands}
-use Rattle.egt_board.specs.Setup.{Setup, IsAdmissible, IsKingOn}
+use Rattle.egt_board.specs.Setup.{Setup, IsAdmissible}
 use Rattle.egt_board.specs.Settled.{SettlesTo}
 use Rattle.egt_board.specs.Symmetry.{KeepsPlay}
 use Rattle.egt_board.specs.Turned.{IsTurnedBy, IsSetBy, turned_square, turned_side}
 use Rattle.egt_class.specs.Below.{all_below, passes_below}
 use Rattle.egt_class.specs.Material.{material_of}
 use Rattle.egt_class.specs.Membership.{IsOf}
-use Rattle.egt_index.specs.Axis.{is_on_axis, is_on_long_diagonal}
+use Rattle.egt_index.specs.Axis.{is_on_axis, is_on_long_diagonal, StandsAlone}
 use Rattle.egt_index.specs.Facts.{Facts}
 use Rattle.egt_index.specs.Index.{IsIndex, SettleAlike}
 use Rattle.egt_index.specs.Size.{has_pawns}
@@ -89,9 +88,9 @@ stays p ok = record {
     kept None = refl
     kept (Some t) = refl
 
-pub one_setup : Facts → (c i k : ℕ) (flipped : Bool) (side : Side) (p q : Setup) → IsAdmissible p → IsAdmissible q → IsOf c flipped p → IsIndex c p i → IsIndex c q i →
-    p.side ≡ q.side → IsKingOn p.men side k → IsKingOn q.men side k → is_on_axis c k ≡ false → (r : Setup) × SettlesTo p r × SettlesTo q r
-one_setup facts c i k flipped side p q ok ok' is_of index other sides king king' aside = (here, alike.settles_here, subst (SettlesTo q) same alike.settles_there)
+pub one_setup : Facts → (c i k : ℕ) (flipped : Bool) (man : Man) (p q : Setup) → IsAdmissible p → IsAdmissible q → IsOf c flipped p → IsIndex c p i → IsIndex c q i →
+    p.side ≡ q.side → StandsAlone p.men man k → StandsAlone q.men man k → is_on_axis c k ≡ false → (r : Setup) × SettlesTo p r × SettlesTo q r
+one_setup facts c i k flipped man p q ok ok' is_of index other sides alone alone' aside = (here, alike.settles_here, subst (SettlesTo q) same alike.settles_there)
   where
     alike : SettleAlike p q
     alike = same_alike facts p q c i i ok ok' index other refl
@@ -121,13 +120,13 @@ one_setup facts c i k flipped side p q ok ok' is_of index other sides king king'
     plain = facts.set turn.0 false here there admissible turned
 
     k_in : k < 64
-    k_in = ok.on_board k (king_of side) king.stands
+    k_in = ok.on_board k man alone.stands
 
-    stands : Stands there.men (turned_square turn.0 false k) (king_of side)
-    stands = plain.men k k_in ∙ ap (option_map (λ (m : Man). m)) (ap (λ men. map.get men k) (facts.settled_men p here alike.settles_here) ∙ king.stands)
+    stands : Stands there.men (turned_square turn.0 false k) man
+    stands = plain.men k k_in ∙ ap (option_map (λ (m : Man). m)) (ap (λ men. map.get men k) (facts.settled_men p here alike.settles_here) ∙ alone.stands)
 
     kept : turned_square turn.0 false k ≡ k
-    kept = king'.only (turned_square turn.0 false k) (subst (λ men. Stands men (turned_square turn.0 false k) (king_of side)) (facts.settled_men q there alike.settles_there) stands)
+    kept = alone'.only (turned_square turn.0 false k) (subst (λ men. Stands men (turned_square turn.0 false k) man) (facts.settled_men q there alike.settles_there) stands)
 
     identity : turn.0 ≡ 0
     identity = no_turn c flipped turn.0 k here turn.2 k_in (settled_class facts c flipped p here alike.settles_here is_of) turn.3 kept aside

@@ -1,10 +1,10 @@
 //! What holds of codes and indexes. These functions do nothing: a caller calls one to know what it ensures.
 ghost use Rattle.std.specs.Prelude.{◌≡◌, ◌↔◌, ◌⊎◌, ℕ, ◌<◌, Bool, false};
-ghost use Rattle.egt_board.specs.declared.man.Side.{Side};
+ghost use Rattle.egt_board.specs.declared.man.Man.{Man};
 ghost use Rattle.egt_board.specs.Settled.{SettlesTo};
-ghost use Rattle.egt_board.specs.Setup.{Setup, IsAdmissible, IsKingOn};
+ghost use Rattle.egt_board.specs.Setup.{Setup, IsAdmissible};
 ghost use Rattle.egt_class.specs.Membership.{IsOf};
-ghost use Rattle.egt_index.specs.Axis.{is_on_axis};
+ghost use Rattle.egt_index.specs.Axis.{is_on_axis, StandsAlone};
 ghost use Rattle.egt_index.specs.Code.{Spells};
 ghost use Rattle.egt_index.specs.Index.{IsIndex, IsVoid, SettleAlike};
 ghost use Rattle.egt_index.specs.Size.{size_of};
@@ -52,11 +52,11 @@ pub fn a_code_is_an_index_or_void()
     facts();
 }
 
-/// Two positions of a class with one index, the same side to move and a king on one square of no axis settle to one position: no turn
-/// but the identity keeps that king in place.
+/// Two positions of a class with one index, the same side to move and a man alone of his kind on one square of no axis settle to one
+/// position: no turn but the identity keeps that man in place.
 pub fn one_index_for_one_setup()
-    ensures { (c i k : ℕ) (flipped : Bool) (side : Side) (p q : Setup) → IsAdmissible p → IsAdmissible q → IsOf c flipped p → IsIndex c p i → IsIndex c q i →
-        p.side ≡ q.side → IsKingOn p.men side k → IsKingOn q.men side k → is_on_axis c k ≡ false → (r : Setup) × SettlesTo p r × SettlesTo q r }
+    ensures { (c i k : ℕ) (flipped : Bool) (man : Man) (p q : Setup) → IsAdmissible p → IsAdmissible q → IsOf c flipped p → IsIndex c p i → IsIndex c q i →
+        p.side ≡ q.side → StandsAlone p.men man k → StandsAlone q.men man k → is_on_axis c k ≡ false → (r : Setup) × SettlesTo p r × SettlesTo q r }
 {
     facts();
 }

@@ -1,4 +1,4 @@
--- Moves that go on: which they are, and that where no mirror keeps the waiting king in place, two of them have two indexes.
+-- Moves that go on: which they are, and that where no mirror keeps some waiting man in place, two of them have two indexes.
 use Rattle.std.proofs.Common.{◌≡◌, ◌≢◌, ℕ, ◌<◌, ◌⊎◌, ◌&&◌, ◌==◌, if◌then◌else◌, Bool, true, false, Option, Some, None, IsSome, refl, sym, ap, ◌∙◌, subst, inl, inr, arith}
 use Rattle.std.proofs.Math.Logic.{⊎_elim}
 use Rattle.std.proofs.lemmas.Bool.{cases_eq, false≢true, and_parts}
@@ -9,15 +9,14 @@ use Rattle.egt_board.specs.declared.man.Kind.TheVariants.{Q, R, B, N, P, K}
 use Rattle.egt_board.specs.declared.man.Man.{Man}
 use Rattle.egt_board.specs.declared.man.Side.{Side}
 use Rattle.egt_board.specs.declared.man.Side.TheVariants.{White, Black}
-use Rattle.egt_board.specs.Attack.{king_of}
 use Rattle.egt_board.specs.Man.{other_side}
 use Rattle.egt_board.specs.Pawn.{ahead, last_rank}
 use Rattle.egt_board.specs.Placement.{Placement, Stands, IsFree, IsHeld, one_man, get-insert_same, get-insert_other, get-remove_same, get-remove_other}
 use Rattle.egt_board.specs.Settled.{SettlesTo}
-use Rattle.egt_board.specs.Setup.{Setup, IsAdmissible, IsKingOn}
+use Rattle.egt_board.specs.Setup.{Setup, IsAdmissible}
 use Rattle.egt_board.specs.Square.{rank_of}
 use Rattle.egt_class.specs.Membership.{IsOf}
-use Rattle.egt_index.specs.Axis.{is_on_axis}
+use Rattle.egt_index.specs.Axis.{is_on_axis, StandsAlone}
 use Rattle.egt_index.specs.Index.{IsIndex}
 use Rattle.egt_moves.specs.Exchange.{Captures}
 use Rattle.egt_moves.specs.Legal.{Leads, IsLegal, plain, is_target, men_left, men_after, takes_in_passing}
@@ -29,7 +28,7 @@ use Rattle.egt_table.specs.declared.column.Column.{Column}
 use Rattle.egt_table.specs.declared.column.Column.TheVariants.{Mate, Zeroing}
 use Rattle.egt_sweep.specs.Edges.{GoesOn, LeadsOn}
 use Rattle.egt_sweep.specs.Laws.{Laws}
-use Rattle.egt_sweep.specs.Ways.{Stays, IsOnward}
+use Rattle.egt_sweep.specs.Ways.{Stays, IsOnward, HasAnchor}
 use Rattle.egt_sweep.proofs.Staying.{quiet_goes_on, no_promotion}
 
 -- ---- what is promoted
@@ -168,15 +167,15 @@ module _ (men : Placement) (from to : ℕ) (man : Man) (stands : Stands men from
   pub still_free : (s : ℕ) → s ≢ to → IsFree men s → map.get (map.insert (map.remove men from) to man) s ≡ None
   still_free s away none = elsewhere s (λ e. stands_apart from s man stands none (sym e)) away ∙ none
 
-  -- the other side's king stays
-  pub king_stays : (side : Side) (k : ℕ) → man.side ≢ side → IsKingOn men side k → IsKingOn (map.insert (map.remove men from) to man) side k
-  king_stays side k theirs king = record {
-    stands = elsewhere k (λ e. theirs (ap (λ (x : Man). x.side) (one_man men from man (king_of side) stands (subst (λ s. Stands men s (king_of side)) e king.stands)))) (stands_apart k to (king_of side) king.stands free) ∙ king.stands;
+  -- a man of the other side stays alone of his kind
+  pub stays_alone : (other : Man) (k : ℕ) → man.side ≢ other.side → StandsAlone men other k → StandsAlone (map.insert (map.remove men from) to man) other k
+  stays_alone other k theirs alone = record {
+    stands = elsewhere k (λ e. theirs (ap (λ (x : Man). x.side) (one_man men from man other stands (subst (λ s. Stands men s other) e alone.stands)))) (stands_apart k to other alone.stands free) ∙ alone.stands;
     only = λ t there. elim (cases_eq t to) [
-      | inl e ↦ absurd (theirs (ap (λ (x : Man). x.side) (let both : Some man ≡ Some (king_of side) = sym (ap (map.get (map.insert (map.remove men from) to man)) e ∙ come_to) ∙ there in (let same : man ≡ king_of side = cc in same))))
+      | inl e ↦ absurd (theirs (ap (λ (x : Man). x.side) (let both : Some man ≡ Some other = sym (ap (map.get (map.insert (map.remove men from) to man)) e ∙ come_to) ∙ there in (let same : man ≡ other = cc in same))))
       | inr away ↦ elim (cases_eq t from) [
-        | inl e ↦ absurd (let both : None ≡ Some (king_of side) = sym (ap (map.get (map.insert (map.remove men from) to man)) e ∙ gone_from) ∙ there in cc)
-        | inr off ↦ king.only t (sym (elsewhere t off away) ∙ there)
+        | inl e ↦ absurd (let both : None ≡ Some other = sym (ap (map.get (map.insert (map.remove men from) to man)) e ∙ gone_from) ∙ there in cc)
+        | inr off ↦ alone.only t (sym (elsewhere t off away) ∙ there)
       ]
     ];
   }
@@ -264,24 +263,24 @@ module _ (laws : Laws) (c : ℕ) (p : Setup) (c_in : c < 36) (ok : IsAdmissible 
 
   -- ---- two moves, two indexes
 
-  module _ (column : Column) (k : ℕ) (king : IsKingOn p.men (other_side p.side) k) (axis : is_on_axis c k ≡ false)
-      (one : (c i k : ℕ) (flipped : Bool) (side : Side) (p q : Setup) → IsAdmissible p → IsAdmissible q → IsOf c flipped p → IsIndex c p i → IsIndex c q i →
-      p.side ≡ q.side → IsKingOn p.men side k → IsKingOn q.men side k → is_on_axis c k ≡ false → (r : Setup) × SettlesTo p r × SettlesTo q r) where
+  module _ (column : Column) (anchor : HasAnchor c p)
+      (one : (c i k : ℕ) (flipped : Bool) (man : Man) (p q : Setup) → IsAdmissible p → IsAdmissible q → IsOf c flipped p → IsIndex c p i → IsIndex c q i →
+      p.side ≡ q.side → StandsAlone p.men man k → StandsAlone q.men man k → is_on_axis c k ≡ false → (r : Setup) × SettlesTo p r × SettlesTo q r) where
     settled_men : (q r : Setup) → SettlesTo q r → r.men ≡ q.men
     settled_men q r (inl settled) = ap (λ (x : Setup). x.men) settled.1
     settled_men q r (inr other) = ap (λ (x : Setup). x.men) other.1
 
-    king_there : (q : Setup) (m : Move) → (leads : Leads p m q) → GoesOn column c p m q → IsKingOn q.men (other_side p.side) k
-    king_there q m leads on = subst (λ (men : Placement). IsKingOn men (other_side p.side) k) (sym (men_moved p q m leads (on_quiet column q m leads on) (on_plain column q m leads on)))
-        (king_stays p.men m.from m.to leads.man leads.stands (arrives_free p q m leads (on_quiet column q m leads on)) (other_side p.side) k (λ e. others_differ p.side (sym leads.mine ∙ e)) king)
+    anchor_there : (q : Setup) (m : Move) → (leads : Leads p m q) → GoesOn column c p m q → StandsAlone q.men anchor.man anchor.square
+    anchor_there q m leads on = subst (λ (men : Placement). StandsAlone men anchor.man anchor.square) (sym (men_moved p q m leads (on_quiet column q m leads on) (on_plain column q m leads on)))
+        (stays_alone p.men m.from m.to leads.man leads.stands (arrives_free p q m leads (on_quiet column q m leads on)) anchor.man anchor.square (λ e. others_differ p.side (sym leads.mine ∙ e ∙ anchor.waits)) anchor.alone)
 
     same_men : (q r : Setup) (m n : Move) (i : ℕ) → (leads : Leads p m q) → GoesOn column c p m q → IsIndex c q i → (leads' : Leads p n r) → GoesOn column c p n r → IsIndex c r i → q.men ≡ r.men
     same_men q r m n i leads on is leads' on' is' =
         let q_ok = laws.facts.step_admissible p q m ok leads in
         let r_ok = laws.facts.step_admissible p r n ok leads' in
         let own = laws.indexed_class q c i q_ok is in
-        let settled = one c i k own.0 (other_side p.side) q r q_ok r_ok own.1 is is' (ap (λ (x : Setup). x.side) leads.becomes ∙ sym (ap (λ (x : Setup). x.side) leads'.becomes))
-        (king_there q m leads on) (king_there r n leads' on') axis in
+        let settled = one c i anchor.square own.0 anchor.man q r q_ok r_ok own.1 is is' (ap (λ (x : Setup). x.side) leads.becomes ∙ sym (ap (λ (x : Setup). x.side) leads'.becomes))
+        (anchor_there q m leads on) (anchor_there r n leads' on') anchor.aside in
         sym (settled_men q settled.0 settled.1) ∙ settled_men r settled.0 settled.2
 
     -- moves that lead on to one index leave one square

@@ -2,15 +2,14 @@
 use Rattle.std.proofs.Common.{◌≡◌, ◌≢◌, ℕ, ◌+◌, ◌<◌, ◌↔◌, not, Bool, true, false, eqb, refl, sym, ◌∙◌, subst, [], arith}
 use Rattle.std.proofs.lemmas.Bool.{eqb-true}
 use Rattle.std.specs.Int.{bit_at}
-use Rattle.egt_board.specs.declared.man.Side.{Side}
+use Rattle.egt_board.specs.declared.man.Man.{Man}
 use Rattle.egt_board.specs.declared.square_set.SquareSet.{SquareSet}
-use Rattle.egt_board.specs.Man.{other_side}
 use Rattle.egt_board.specs.Placement.{IsHeld}
 use Rattle.egt_board.specs.Settled.{SettlesTo}
-use Rattle.egt_board.specs.Setup.{Setup, IsAdmissible, IsKingOn}
+use Rattle.egt_board.specs.Setup.{Setup, IsAdmissible}
 use Rattle.egt_board.specs.SquareSet.{Has, size_of}
 use Rattle.egt_class.specs.Membership.{IsOf}
-use Rattle.egt_index.specs.Axis.{is_on_axis}
+use Rattle.egt_index.specs.Axis.{is_on_axis, StandsAlone}
 use Rattle.egt_index.specs.Index.{IsIndex}
 use Rattle.egt_moves.specs.Legal.{Leads, plain}
 use Rattle.egt_moves.specs.Targets.{IsLegalTarget}
@@ -18,7 +17,7 @@ use Rattle.egt_moves.specs.declared.chess_move.Move.{Move}
 use Rattle.egt_table.specs.declared.column.Column.{Column}
 use Rattle.egt_sweep.specs.Edges.{GoesOn}
 use Rattle.egt_sweep.specs.Laws.{Laws}
-use Rattle.egt_sweep.specs.Ways.{IsOnward, Counts}
+use Rattle.egt_sweep.specs.Ways.{IsOnward, Counts, HasAnchor}
 use Rattle.egt_sweep.proofs.Collecting.{leads_on_once, none_ascend}
 use Rattle.egt_sweep.proofs.Counting.{counts_more}
 use Rattle.egt_sweep.proofs.Onward.{on_index, one_plain, one_from, one_to, targeted}
@@ -36,19 +35,19 @@ pub same_squares : (a b : SquareSet) → not (eqb a.bits b.bits) ≡ false → a
 same_squares a b told = λ i. record { bits = same_numbers a.bits b.bits told i }
 
 module _ (laws : Laws) (c : ℕ) (p : Setup) (c_in : c < 36) (ok : IsAdmissible p) (of : (flipped : Bool) × IsOf c flipped p) (column : Column) where
-  pub man_counted : (k : ℕ) → IsKingOn p.men (other_side p.side) k → is_on_axis c k ≡ false →
-      ((c i k : ℕ) (flipped : Bool) (side : Side) (p q : Setup) → IsAdmissible p → IsAdmissible q → IsOf c flipped p → IsIndex c p i → IsIndex c q i →
-      p.side ≡ q.side → IsKingOn p.men side k → IsKingOn q.men side k → is_on_axis c k ≡ false → (r : Setup) × SettlesTo p r × SettlesTo q r) →
+  pub man_counted : HasAnchor c p →
+      ((c i k : ℕ) (flipped : Bool) (man : Man) (p q : Setup) → IsAdmissible p → IsAdmissible q → IsOf c flipped p → IsIndex c p i → IsIndex c q i →
+      p.side ≡ q.side → StandsAlone p.men man k → StandsAlone q.men man k → is_on_axis c k ≡ false → (r : Setup) × SettlesTo p r × SettlesTo q r) →
       (from : ℕ) (set before after : SquareSet) → ((t : ℕ) → Has set t → IsOnward column c p from t) →
       ((m : Move) (q : Setup) → m.from ≡ from → Leads p m q → GoesOn column c p m q → Has set m.to) →
       Has before from → bit_at after.bits from ≡ 0 → ((s : ℕ) → s ≢ from → bit_at after.bits s ≡ bit_at before.bits s) →
       (count more : ℕ) → more ≡ size_of set → Counts column c p before count → Counts column c p after (count + more)
-  man_counted k king axis one from set before after sound complete had gone others count more is so_far =
+  man_counted anchor one from set before after sound complete had gone others count more is so_far =
       subst (λ n. Counts column c p after (count + n)) (sym is)
       (counts_more column c p from set before
       (λ m q i x leads on led. leads_on_once laws column c p m led.0 i x ok led.1 led.2 led.3)
       (λ m q leads on. let i = on_index laws c p c_in ok of column q m leads on in (i.0, (q, leads, on, i.1)))
-      (one_from laws c p c_in ok of column k king axis one) (one_to laws c p c_in ok of column k king axis one)
+      (one_from laws c p c_in ok of column anchor one) (one_to laws c p c_in ok of column anchor one)
       sound had after gone others
       (λ m x here led. let has = complete m led.0 here led.1 led.2 in (has, one_plain p led.0 (sound m.to has).to m from here led.1 (sound m.to has).leads))
       count so_far)

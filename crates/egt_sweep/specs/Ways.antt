@@ -1,13 +1,15 @@
 -- The legal moves of a position that go on in the game.
-use Rattle.std.specs.Prelude.{◌≡◌, ◌≢◌, ℕ, ◌<◌, ◌↔◌, List, length, Some}
+use Rattle.std.specs.Prelude.{◌≡◌, ◌≢◌, ℕ, ◌<◌, ◌↔◌, List, length, Some, false}
 use Rattle.std.specs.Int.{bit_at}
 use Rattle.std.specs.List.{Contains}
 use Rattle.std.specs.List.Sorted.{IsStrictlyIncreasing}
+use Rattle.egt_board.specs.Man.{other_side}
 use Rattle.egt_board.specs.Pawn.{last_rank}
 use Rattle.egt_board.specs.Setup.{Setup}
 use Rattle.egt_board.specs.Square.{rank_of}
 use Rattle.egt_board.specs.declared.man.Man.{Man}
 use Rattle.egt_board.specs.declared.square_set.SquareSet.{SquareSet}
+use Rattle.egt_index.specs.Axis.{is_on_axis, StandsAlone}
 use Rattle.egt_moves.specs.Legal.{Leads, plain}
 use Rattle.egt_moves.specs.declared.chess_move.Move.{Move}
 use Rattle.egt_table.specs.declared.column.Column.{Column}
@@ -30,3 +32,11 @@ pub record Counts (column : Column) (c : ℕ) (p : Setup) (rest : SquareSet) (n 
   pub ascends : IsStrictlyIncreasing list
   pub length_is : length list ≡ n
   pub members : (k : ℕ) → Contains list k ↔ ((m : Move) × (bit_at rest.bits m.from ≡ 0) × LeadsOn column c p m k)
+
+-- a man of the side that waits whom no mirror keeps in place: he is alone of his kind, and on no axis
+pub record HasAnchor (c : ℕ) (p : Setup) : Type 0 where
+  pub man : Man
+  pub square : ℕ
+  pub waits : man.side ≡ other_side p.side
+  pub alone : StandsAlone p.men man square
+  pub aside : is_on_axis c square ≡ false

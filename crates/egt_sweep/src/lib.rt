@@ -2,6 +2,7 @@
 #![tactic(auto)]
 
 mod aim;
+mod anchor;
 mod ascending;
 mod build_fault;
 mod building;

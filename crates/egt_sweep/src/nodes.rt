@@ -3,11 +3,9 @@ ghost use Rattle.std.specs.Prelude.{◌≡◌, ◌≤◌, ℕ, Bool, Some, [], l
 ghost use Rattle.std.specs.Int.{bit_at};
 ghost use Rattle.std.specs.Option.{is_some};
 ghost use Rattle.egt_board.specs.Decided.{tells};
-ghost use Rattle.egt_board.specs.Man.{other_side};
-ghost use Rattle.egt_board.specs.Setup.{Setup, IsKingOn};
+ghost use Rattle.egt_board.specs.Setup.{Setup};
 ghost use Rattle.egt_board.specs.declared.square_set.SquareSet.{SquareSet};
 ghost use Rattle.egt_class.specs.Membership.{IsOf};
-ghost use Rattle.egt_index.specs.Axis.{is_on_axis};
 ghost use Rattle.egt_index.specs.Frame.{IsFrame};
 ghost use Rattle.egt_index.specs.Size.{size_of};
 ghost use Rattle.egt_moves.specs.DecidedMoves.{decided_checkmate};
@@ -16,12 +14,13 @@ ghost use Rattle.egt_moves.specs.Standing.{CanMove};
 ghost use Rattle.egt_moves.specs.declared.chess_move.Move.{Move};
 ghost use Rattle.egt_graph.specs.Passing.{passing_below};
 ghost use Rattle.egt_sweep.specs.Edges.{IsAt, GoesOn};
-ghost use Rattle.egt_sweep.specs.Ways.{Counts};
+ghost use Rattle.egt_sweep.specs.Ways.{Counts, HasAnchor};
 ghost use Rattle.egt_check.specs.Tables.{table_at, HasChildren};
 ghost use Rattle.egt_sweep.specs.Aiming.{column_of, known, KnowsOwn};
 ghost use Rattle.egt_sweep.specs.Nodes.{position_at, is_mated, connects, exits_at, exits_from};
 
 use crate::aim::Aim;
+use crate::anchor::has_anchor;
 use crate::edges::edges;
 use crate::laws::laws;
 use crate::leaving;
@@ -32,7 +31,7 @@ use egt_board::Position;
 use egt_check::Library;
 use egt_class::Class;
 use egt_graph::{Exit, Start};
-use egt_index::{Frame, is_on_axis, position, spelled};
+use egt_index::{Frame, position, spelled};
 use egt_moves::{Standing, standing};
 use egt_table::Column;
 
@@ -137,15 +136,13 @@ fn degree(column: Column, class: Class, frame: &Frame, position: &Position, ways
     requires of { (flipped : Bool) × IsOf class flipped position.now }
     requires frame { IsFrame position.now frame.now }
     requires class { frame.now.class ≡ class }
-    requires counts { (k : ℕ) → IsKingOn position.now.men (other_side position.now.side) k → is_on_axis class k ≡ false →
-        (none : SquareSet) × ((s : ℕ) → bit_at none.bits s ≡ 0) × Counts column class position.now none ways.now.onward }
+    requires counts { HasAnchor class position.now → (none : SquareSet) × ((s : ℕ) → bit_at none.bits s ≡ 0) × Counts column class position.now none ways.now.onward }
     ensures value { (i : ℕ) → IsAt class i position.now → result ≡ length (passing_below (size_of class) (λ j. connects column class i j)) }
     ensures few { result ≤ 64 }
 {
     laws();
     let _number = class.number();
-    let king = position.king(position.side().other());
-    if ways.onward <= 64 && !is_on_axis(class, king) {
+    if ways.onward <= 64 && has_anchor(class, position) {
         return ways.onward as usize;
     }
     let mut list = ArrayVec::new();

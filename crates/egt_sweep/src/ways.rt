@@ -1,19 +1,17 @@
 //! How many legal moves a position has, and whether they go on in the game.
 ghost use Rattle.std.specs.Prelude.{◌≡◌, ◌≢◌, ℕ, ◌+◌, ◌<◌, ◌≤◌, ◌↔◌, ◌^◌, Bool, IsTrue, IsFalse, false};
 ghost use Rattle.std.specs.Int.{bit_at};
-ghost use Rattle.egt_board.specs.Man.{other_side};
 ghost use Rattle.egt_board.specs.Placement.{IsHeld};
-ghost use Rattle.egt_board.specs.Setup.{Setup, IsKingOn};
+ghost use Rattle.egt_board.specs.Setup.{Setup};
 ghost use Rattle.egt_board.specs.SquareSet.{Has, size_of};
 ghost use Rattle.egt_board.specs.declared.square_set.SquareSet.{SquareSet};
 ghost use Rattle.egt_class.specs.Membership.{IsOf};
-ghost use Rattle.egt_index.specs.Axis.{is_on_axis};
 ghost use Rattle.egt_moves.specs.Legal.{Leads};
 ghost use Rattle.egt_moves.specs.Standing.{CanMove};
 ghost use Rattle.egt_moves.specs.Targets.{IsLegalTarget};
 ghost use Rattle.egt_moves.specs.declared.chess_move.Move.{Move};
 ghost use Rattle.egt_sweep.specs.Edges.{GoesOn};
-ghost use Rattle.egt_sweep.specs.Ways.{Stays, IsOnward, Counts};
+ghost use Rattle.egt_sweep.specs.Ways.{Stays, IsOnward, Counts, HasAnchor};
 
 use crate::laws::laws;
 use egt_board::{Kind, Man, Position, Square, SquareSet};
@@ -106,9 +104,8 @@ fn with_man(column: Column, class: Class, position: &Position, from: Square, way
     requires few { ways.onward + 64 < 2 ^ 32 }
     ensures any { IsTrue result.any → (IsTrue ways.any → CanMove position.now) → CanMove position.now }
     ensures few { result.onward ≤ ways.onward + 64 }
-    ensures counts { (k : ℕ) (before after : SquareSet) → IsKingOn position.now.men (other_side position.now.side) k → is_on_axis class k ≡ false →
-        Has before from → bit_at after.bits from ≡ 0 → ((s : ℕ) → s ≢ from → bit_at after.bits s ≡ bit_at before.bits s) →
-        Counts column class position.now before ways.onward → Counts column class position.now after result.onward }
+    ensures counts { (before after : SquareSet) → HasAnchor class position.now → Has before from → bit_at after.bits from ≡ 0 →
+        ((s : ℕ) → s ≢ from → bit_at after.bits s ≡ bit_at before.bits s) → Counts column class position.now before ways.onward → Counts column class position.now after result.onward }
     ensures leaves { IsFalse result.leaves → IsFalse ways.leaves × ((m : Move) (q : Setup) → m.from ≡ from → Leads position.now m q → GoesOn column class position.now m q) }
 {
     laws();
@@ -128,8 +125,7 @@ fn with_man(column: Column, class: Class, position: &Position, from: Square, way
 pub(crate) fn ways_of(column: Column, class: Class, position: &Position) -> Ways
     requires of { (flipped : Bool) × IsOf class flipped position.now }
     ensures any { IsTrue result.any → CanMove position.now }
-    ensures counts { (k : ℕ) → IsKingOn position.now.men (other_side position.now.side) k → is_on_axis class k ≡ false →
-        (none : SquareSet) × ((s : ℕ) → bit_at none.bits s ≡ 0) × Counts column class position.now none result.onward }
+    ensures counts { HasAnchor class position.now → (none : SquareSet) × ((s : ℕ) → bit_at none.bits s ≡ 0) × Counts column class position.now none result.onward }
     ensures leaves { IsFalse result.leaves → (m : Move) (q : Setup) → Leads position.now m q → GoesOn column class position.now m q }
 {
     let mut ways = Ways {

@@ -13,7 +13,7 @@ loop-from-init c =
       held,
       let few = c.of-rest.ensures.few in omega (arith, few),
       λ no. absurd (false≢true no),
-      λ k king axis. none_counted c.args.column c.args.class c.args.position.now c.of-rest.result has,
+      λ anchor. none_counted c.args.column c.args.class c.args.position.now c.of-rest.result has,
       λ no m q gone leads. absurd (not_held c.args.position.now c.of-rest.result has m q gone leads),
     )
 
@@ -26,7 +26,7 @@ loop-from-preserved c =
       ],
       let few = c.with_man-ways.ensures.few in let size = c.in-Some.ensures.size in let so_far = inv.1 in omega (arith, few, size, so_far),
       λ any. c.with_man-ways.ensures.any any inv.2,
-      λ k king axis. c.with_man-ways.ensures.counts k c.loop-from.rest c.pop_first.new.self king axis c.in-Some.ensures.had c.in-Some.ensures.gone c.in-Some.ensures.others (inv.3 k king axis),
+      λ anchor. c.with_man-ways.ensures.counts c.loop-from.rest c.pop_first.new.self anchor c.in-Some.ensures.had c.in-Some.ensures.gone c.in-Some.ensures.others (inv.3 anchor),
       λ none m q gone leads. let off = c.with_man-ways.ensures.leaves none in elim (cases_eq m.from c.in-Some.from) [
         | inl e ↦ off.1 m q e leads
         | inr apart ↦ inv.4 off.0 m q (sym (c.in-Some.ensures.others m.from apart) ∙ gone) leads

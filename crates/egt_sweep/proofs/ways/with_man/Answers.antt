@@ -17,13 +17,13 @@ returns-else-ways-2-clause-any c any so_far = elim c.if-ways.branch [
 ]
 
 pub returns-then-ways-2-clause-counts : goal.returns-then-ways-2-clause-counts
-returns-then-ways-2-clause-counts c k before after king axis had gone others so_far =
-    man_counted c.laws.ensures c.args.class c.args.position.now (subst (λ (n : ℕ). n < 36) c.number-number.ensures.value c.number-number.ensures.below) c.side-side.ensures.admissible c.requires.of c.args.column k king axis c.one_index_for_one_setup.ensures
+returns-then-ways-2-clause-counts c before after anchor had gone others so_far =
+    man_counted c.laws.ensures c.args.class c.args.position.now (subst (λ (n : ℕ). n < 36) c.number-number.ensures.value c.number-number.ensures.below) c.side-side.ensures.admissible c.requires.of c.args.column anchor c.one_index_for_one_setup.ensures
     c.args.from c.onward-onward.result before after c.onward-onward.ensures.sound c.onward-onward.ensures.complete had gone others c.args.ways.onward c.count.result c.count.ensures.size so_far
 
 pub returns-else-ways-2-clause-counts : goal.returns-else-ways-2-clause-counts
-returns-else-ways-2-clause-counts c k before after king axis had gone others so_far =
-    man_counted c.laws.ensures c.args.class c.args.position.now (subst (λ (n : ℕ). n < 36) c.number-number.ensures.value c.number-number.ensures.below) c.side-side.ensures.admissible c.requires.of c.args.column k king axis c.one_index_for_one_setup.ensures
+returns-else-ways-2-clause-counts c before after anchor had gone others so_far =
+    man_counted c.laws.ensures c.args.class c.args.position.now (subst (λ (n : ℕ). n < 36) c.number-number.ensures.value c.number-number.ensures.below) c.side-side.ensures.admissible c.requires.of c.args.column anchor c.one_index_for_one_setup.ensures
     c.args.from c.onward-onward.result before after c.onward-onward.ensures.sound c.onward-onward.ensures.complete had gone others c.args.ways.onward c.count.result c.count.ensures.size so_far
 
 pub returns-else-ways-2-clause-leaves : goal.returns-else-ways-2-clause-leaves
