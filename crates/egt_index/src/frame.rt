@@ -17,7 +17,7 @@ use crate::facts::facts;
 use crate::indexing::{least_of_images, lesser};
 use crate::lanes::{Lanes, home_lanes, least_along, moved};
 use crate::men::has_equal_sides;
-use crate::stand::{Stand, exchanged, is_flipped, stand_of};
+use crate::stand::{Stand, exchanged, standing_of};
 use crate::steps::Steps;
 use crate::ways::{Way, way_of};
 use egt_board::{Position, Side, Square};
@@ -44,21 +44,8 @@ impl Frame {
         ensures frame { IsFrame position.now result }
         ensures class { result.class ≡ class }
     {
-        let flipped = is_flipped(class, position);
-        let _passed = position.target().is_some();
-        let stand = stand_of(class, position, flipped);
-        Frame {
-            class,
-            flipped,
-            side: position.side(),
-            stand,
-            own: home_lanes(class, &stand, flipped),
-            exchanged: if has_equal_sides(class) {
-                Some(home_lanes(class, &exchanged(&stand), !flipped))
-            } else {
-                None
-            },
-        }
+        let standing = standing_of(class, position);
+        Frame::of_stand(class, standing.flipped, &standing.stand, position.side())
     }
 
     /// The least code after a king went who is brought home by the turns.
@@ -157,20 +144,20 @@ impl Frame {
 }
 
 impl Frame {
-    /// The frame of a settled position of the class, in its colours, of which it is known where the men stand.
+    /// The frame of a settled position of the class, of which it is known where the men stand.
     #[inline(always)]
-    pub(crate) fn of_stand(class: Class, stand: &Stand, side: Side) -> Frame
-        ensures frame { (p : Setup) (passed : Bool) → HasStand class false stand.now side passed p → IsFrame p result }
+    pub(crate) fn of_stand(class: Class, flipped: bool, stand: &Stand, side: Side) -> Frame
+        ensures frame { (p : Setup) (passed : Bool) → HasStand class flipped stand.now side passed p → IsFrame p result }
         ensures class { result.class ≡ class }
     {
         Frame {
             class,
-            flipped: false,
+            flipped,
             side,
             stand: *stand,
-            own: home_lanes(class, stand, false),
+            own: home_lanes(class, stand, flipped),
             exchanged: if has_equal_sides(class) {
-                Some(home_lanes(class, &exchanged(stand), true))
+                Some(home_lanes(class, &exchanged(stand), !flipped))
             } else {
                 None
             },

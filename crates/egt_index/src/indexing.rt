@@ -1,7 +1,8 @@
 //! The index of a position.
 ghost use Rattle.std.specs.Prelude.{◌≡◌, ◌<◌, ◌%◌, ◌/◌, ◌==◌, Bool};
+ghost use Rattle.std.specs.Option.{is_some};
 ghost use Rattle.egt_board.specs.Setup.{Setup};
-ghost use Rattle.egt_board.specs.Settled.{IsSettled};
+ghost use Rattle.egt_board.specs.Settled.{SettlesTo};
 ghost use Rattle.egt_board.specs.Symmetry.{KeepsPlay};
 ghost use Rattle.egt_board.specs.Turned.{turned_side};
 ghost use Rattle.egt_class.specs.Membership.{IsOf};
@@ -16,7 +17,7 @@ use crate::digits::king_digit;
 use crate::facts::facts;
 use crate::home::home;
 use crate::men::{has_equal_sides, has_pawns};
-use crate::stand::{Stand, exchanged, is_flipped, stand_after, stand_of};
+use crate::stand::{Stand, exchanged, stand_after, standing_of};
 use egt_board::{Position, Side};
 use egt_class::Class;
 
@@ -117,17 +118,28 @@ pub(crate) fn least_of_images(
     }
 }
 
-/// The same of a position, where its men stand.
-fn least_of(class: Class, settled: &Position) -> Option<u32>
-    requires settled { IsSettled settled.now }
-    requires of { (flipped : Bool) × IsOf class flipped settled.now }
-    ensures { Best class settled.now 16 result }
+/// Whether the position has a target that a pawn stands ready to take.
+#[inline(always)]
+fn keeps_target(position: &Position) -> bool
+    ensures { (q : Setup) → SettlesTo position.now q → is_some q.target ≡ result }
 {
-    let side = settled.side();
-    let passed = settled.target().is_some();
-    let flipped = is_flipped(class, settled);
-    let stand = stand_of(class, settled, flipped);
-    least_of_images(class, &stand, side, passed, flipped)
+    match position.target() {
+        Some(_) => position.is_settled(),
+        None => false,
+    }
+}
+
+/// The same of what a position settles to.
+#[inline(always)]
+fn least_of(class: Class, position: &Position) -> Option<u32>
+    requires { (flipped : Bool) × IsOf class flipped position.now }
+    ensures { (q : Setup) → SettlesTo position.now q → Best class q 16 result }
+{
+    facts();
+    let side = position.side();
+    let passed = keeps_target(position);
+    let standing = standing_of(class, position);
+    least_of_images(class, &standing.stand, side, passed, standing.flipped)
 }
 
 /// The index of a position of the class, in whatever colours: the least code that spells an image of its settled form.
@@ -136,7 +148,6 @@ pub fn index(class: Class, position: &Position) -> u32
     ensures { IsIndex class position.now result }
 {
     facts();
-    let settled = position.settle();
-    let _side = settled.side();
-    least_of(class, &settled).unwrap()
+    let _side = position.side();
+    least_of(class, position).unwrap()
 }
