@@ -287,3 +287,11 @@ stood_by c flips p w b (Some first) (Some second) one other next last ok is_of a
         (kings.black_in, kings.black, (off.1, (away.1, tt)), (f.on_board, f.stands, (apart, tt), (t_in, stands, tt, tt))),
       );
     }))
+
+-- and the last of them not alone
+pub filled_by : (c : ℕ) (flips : Bool) (p : Setup) (w b : ℕ) (first second : Option Man) (one other next last : Entry) → IsAdmissible p → IsOf c flips p → option_to_list first ++ option_to_list second ≡ men_beside (material_of c) → (first ≡ None → second ≡ None)
+    → KingsOn flips p.men w b → AreBeside p.men one other → IsInNameOrder first flips one other next last → named first next ≡ None → named second last ≡ None
+filled_by c flips p w b None second one other next last ok is_of are from_first kings beside order none = ap (λ m. named m last) (from_first refl)
+filled_by c flips p w b (Some first) second one other next last ok is_of are from_first kings beside order none =
+    let f = first_of flips p first (option_to_list second) one other next last ok (others_of c flips p w b (first ∷ option_to_list second) are is_of kings) beside order in
+    absurd (let some = sym (ap (named (Some first)) f.is) ∙ none in cc)

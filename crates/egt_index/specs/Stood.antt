@@ -30,6 +30,10 @@ rest_of s = (king_of Black, s.black) ∷ (option_to_list s.next ++ option_to_lis
 abbrev pub list_of : Stand → List (Man × ℕ)
 list_of s = (king_of White, s.white) ∷ rest_of s
 
+-- the last man of the name is not there alone
+abbrev pub IsFilled : Stand → Type 0
+IsFilled s = s.next ≡ None → s.last ≡ None
+
 -- none of these stands on the square
 abbrev pub IsOff : List (Man × ℕ) → ℕ → Type 0
 IsOff [] q = Unit {0}

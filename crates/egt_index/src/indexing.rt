@@ -1,5 +1,5 @@
 //! The index of a position.
-ghost use Rattle.std.specs.Prelude.{◌≡◌, ◌<◌, ◌%◌, ◌/◌, ◌==◌, Bool};
+ghost use Rattle.std.specs.Prelude.{◌≡◌, ◌<◌, ◌%◌, ◌/◌, ◌==◌, Bool, true, false};
 ghost use Rattle.std.specs.Option.{is_some};
 ghost use Rattle.egt_board.specs.Setup.{Setup};
 ghost use Rattle.egt_board.specs.Settled.{SettlesTo};
@@ -8,7 +8,7 @@ ghost use Rattle.egt_board.specs.Turned.{turned_side};
 ghost use Rattle.egt_class.specs.Membership.{IsOf};
 ghost use Rattle.egt_index.specs.Home.{LeastWith};
 ghost use Rattle.egt_index.specs.Index.{IsIndex};
-ghost use Rattle.egt_index.specs.Stood.{HasStand, IsStandAfter};
+ghost use Rattle.egt_index.specs.Stood.{HasStand, IsFilled, IsStandAfter};
 ghost use Rattle.egt_index.specs.declared.stand.Stand.{Stand};
 ghost use Rattle.egt_index.specs.Turns.{Best, CodeAfter, lesser};
 
@@ -17,7 +17,9 @@ use crate::digits::king_digit;
 use crate::facts::facts;
 use crate::home::home;
 use crate::men::{has_equal_sides, has_pawns};
+use crate::scales::{class_scales, has_pair, squares_of};
 use crate::stand::{Stand, exchanged, stand_after, standing_of};
+use crate::ways::Homing;
 use egt_board::{Position, Side};
 use egt_class::Class;
 
@@ -31,13 +33,7 @@ fn side_after(side: Side, flips: bool) -> Side
 /// The least code of what the turn makes of a settled position of the class, if it has one: the turn takes the men where they stand
 /// `after`.
 #[inline(always)]
-pub(crate) fn code_of(
-    class: Class,
-    after: &Stand,
-    side: Side,
-    passed: bool,
-    turn: u8,
-) -> Option<u32>
+fn code_of(class: Class, after: &Stand, side: Side, passed: bool, turn: u8) -> Option<u32>
     requires { turn < 16 }
     ensures { (p : Setup) (before : Stand) → IsStandAfter (turn % 8) (turn / 8 == 1) before after.now →
         HasStand class (turn / 8 == 1) before side passed p → KeepsPlay (turn % 8) p.men → CodeAfter class p turn result }
@@ -78,32 +74,65 @@ pub(crate) fn lesser(least: Option<u32>, code: Option<u32>) -> Option<u32>
     }
 }
 
-/// The least code of what the turns that exchange colours, or those that do not, make of a settled position of the class.
-/// Only one or two of them bring the white king to a square of his digit.
-fn least_code(class: Class, stand: &Stand, side: Side, passed: bool, flips: bool) -> Option<u32>
-    ensures { (p : Setup) → HasStand class flips stand.now side passed p → LeastWith class p flips result }
+/// The least code of what the turns that exchange colours, or those that do not, make of a settled position of the class with a
+/// target. Only one or two of them bring the white king to a square of his digit.
+#[inline(never)]
+fn least_with_target(class: Class, stand: &Stand, side: Side, flips: bool) -> Option<u32>
+    ensures { (p : Setup) → HasStand class flips stand.now side true p → LeastWith class p flips result }
 {
     facts();
     let (first, second) = home(has_pawns(class), flips, stand.white);
-    let code = code_after(class, stand, side, passed, first);
+    let code = code_after(class, stand, side, true, first);
     match second {
         Some(second) => {
-            let other = code_after(class, stand, side, passed, second);
+            let other = code_after(class, stand, side, true, second);
             lesser(code, other)
         }
         None => code,
     }
 }
 
+/// The same of a position without a target.
+#[inline(always)]
+fn least_without_target(class: Class, stand: &Stand, side: Side, flips: bool) -> Option<u32>
+    requires { IsFilled stand.now }
+    ensures { (p : Setup) → HasStand class flips stand.now side false p → LeastWith class p flips result }
+{
+    let _number = class.number();
+    let homing = Homing {
+        pawns: has_pawns(class),
+        flips,
+        pair: has_pair(stand),
+        scales: class_scales(class, side_after(side, flips)),
+        squares: squares_of(stand),
+    };
+    homing.code_to(stand.white)
+}
+
+/// The same of either.
+#[inline(always)]
+fn least_code(class: Class, stand: &Stand, side: Side, passed: bool, flips: bool) -> Option<u32>
+    requires { IsFilled stand.now }
+    ensures { (p : Setup) → HasStand class flips stand.now side passed p → LeastWith class p flips result }
+{
+    if passed {
+        let copy = *stand;
+        least_with_target(class, &copy, side, flips)
+    } else {
+        least_without_target(class, stand, side, flips)
+    }
+}
+
 /// The least code of all images of a settled position of the class with these men, in colours flipped or not.
 #[inline(always)]
-pub(crate) fn least_of_images(
+fn least_of_images(
     class: Class,
     stand: &Stand,
     side: Side,
     passed: bool,
     flipped: bool,
 ) -> Option<u32>
+    requires { IsFilled stand.now }
     ensures { (p : Setup) → HasStand class flipped stand.now side passed p → Best class p 16 result }
 {
     facts();

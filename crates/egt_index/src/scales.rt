@@ -1,7 +1,11 @@
 //! What men on their squares add to a code.
-ghost use Rattle.std.specs.Prelude.{◌≡◌, ◌<◌, ◌≤◌, ◌/◌, ◌%◌, ◌==◌, ◌*◌, ◌≢◌, Bool, min, max, if◌then◌else◌, true, false};
+ghost use Rattle.std.specs.Prelude.{◌≡◌, ◌<◌, ◌≤◌, ◌/◌, ◌%◌, ◌==◌, ◌*◌, ◌≢◌, Bool, min, max, slice_index_or, if◌then◌else◌, true, false};
 ghost use Rattle.egt_board.specs.Turned.{turned_square};
 ghost use Rattle.egt_class.specs.Material.{material_of};
+ghost use Rattle.egt_index.specs.Size.{men_in_order};
+ghost use Rattle.egt_index.specs.Stood.{men_among, list_of, IsFilled};
+ghost use Rattle.egt_index.specs.declared.scales.Scales.{Scales};
+ghost use Rattle.egt_index.specs.declared.stand.Stand.{Stand};
 ghost use Rattle.egt_index.specs.Scales.{share, code_by, digits_at, less_at, stride_at, man_at, AreScales, ScalesFit, IsOn, AreEqual};
 
 use crate::men::has_target;
@@ -49,6 +53,132 @@ pub(crate) struct Squares {
     pub(crate) next: Square,
     pub(crate) last: Square,
 }
+
+const NO_MEN: Scales = Scales {
+    king: 128,
+    black: Scale { stride: 2, less: 0 },
+    next: NOBODY,
+    last: NOBODY,
+    side: 1,
+};
+
+const PIECE: Scales = Scales {
+    king: 8_192,
+    black: Scale {
+        stride: 128,
+        less: 0,
+    },
+    next: Scale { stride: 2, less: 0 },
+    last: NOBODY,
+    side: 1,
+};
+
+const PAWN: Scales = Scales {
+    king: 6_144,
+    black: Scale {
+        stride: 96,
+        less: 0,
+    },
+    next: Scale { stride: 2, less: 8 },
+    last: NOBODY,
+    side: 1,
+};
+
+const PIECES: Scales = Scales {
+    king: 524_288,
+    black: Scale {
+        stride: 8_192,
+        less: 0,
+    },
+    next: Scale {
+        stride: 128,
+        less: 0,
+    },
+    last: Scale { stride: 2, less: 0 },
+    side: 1,
+};
+
+const PIECE_AND_PAWN: Scales = Scales {
+    king: 393_216,
+    black: Scale {
+        stride: 6_144,
+        less: 0,
+    },
+    next: Scale {
+        stride: 96,
+        less: 0,
+    },
+    last: Scale { stride: 2, less: 8 },
+    side: 1,
+};
+
+const PAWNS: Scales = Scales {
+    king: 294_912,
+    black: Scale {
+        stride: 4_608,
+        less: 0,
+    },
+    next: Scale {
+        stride: 96,
+        less: 8,
+    },
+    last: Scale { stride: 2, less: 8 },
+    side: 1,
+};
+
+const PAWN_AND_PAWN: Scales = Scales {
+    king: 589_824,
+    black: Scale {
+        stride: 9_216,
+        less: 0,
+    },
+    next: Scale {
+        stride: 192,
+        less: 8,
+    },
+    last: Scale { stride: 4, less: 8 },
+    side: 2,
+};
+
+/// How the men of the classes count where Black is to move, without a target, in order of the classes' numbers.
+static SCALES: [Scales; 36] = [
+    NO_MEN,
+    PIECE,
+    PIECE,
+    PIECE,
+    PIECE,
+    PAWN,
+    PIECES,
+    PIECES,
+    PIECES,
+    PIECES,
+    PIECES,
+    PIECES,
+    PIECES,
+    PIECES,
+    PIECES,
+    PIECES,
+    PIECES,
+    PIECES,
+    PIECES,
+    PIECES,
+    PIECES,
+    PIECES,
+    PIECES,
+    PIECES,
+    PIECES,
+    PIECES,
+    PIECE_AND_PAWN,
+    PIECE_AND_PAWN,
+    PIECE_AND_PAWN,
+    PIECE_AND_PAWN,
+    PIECE_AND_PAWN,
+    PIECE_AND_PAWN,
+    PIECE_AND_PAWN,
+    PIECE_AND_PAWN,
+    PAWNS,
+    PAWN_AND_PAWN,
+];
 
 /// How many digits the man has, if there is one, and how much less they are than his square.
 fn digits_of(entry: Option<(Man, Square)>) -> (u32, u32)
@@ -101,6 +231,31 @@ pub(crate) fn scales_of(class: Class, stand: &Stand, side: Side) -> Scales
             Side::White => 0,
             Side::Black => ends / 2,
         },
+    }
+}
+
+/// The table's entry.
+fn row(at: usize) -> Scales
+    requires { at < 36 }
+    ensures { (other : Scales) → result ≡ slice_index_or SCALES at other }
+{
+    SCALES[at]
+}
+
+/// The same, where the men beside the kings are none, the first alone or both.
+#[inline(always)]
+pub(crate) fn class_scales(class: Class, side: Side) -> Scales
+    ensures are { (stand : Stand) → men_among (list_of stand) ≡ men_in_order (material_of class) → IsFilled stand →
+        AreScales (material_of class) (man_at stand.next) (man_at stand.last) side result }
+    ensures fit { ScalesFit result }
+{
+    let scales = row(usize::from(class.number()));
+    Scales {
+        side: match side {
+            Side::White => 0,
+            Side::Black => scales.side,
+        },
+        ..scales
     }
 }
 

@@ -5,7 +5,7 @@ ghost use Rattle.egt_board.specs.Turned.{turned_man};
 ghost use Rattle.egt_board.specs.declared.man.Side.TheVariants.{White, Black};
 ghost use Rattle.egt_class.specs.Membership.{IsOf};
 ghost use Rattle.egt_index.specs.Beaten.{AreBehind};
-ghost use Rattle.egt_index.specs.Stood.{Stood, Holds, IsAmong, IsFirst, named, list_of, IsOff, AllApart, entry_after, on_square_of, IsInOrder, IsOrdered, AreExchanged, IsTurned, IsStandAfter};
+ghost use Rattle.egt_index.specs.Stood.{Stood, Holds, IsAmong, IsFirst, named, list_of, IsFilled, IsOff, AllApart, entry_after, on_square_of, IsInOrder, IsOrdered, AreExchanged, IsTurned, IsStandAfter};
 
 use crate::facts::facts;
 use crate::men::beside;
@@ -108,6 +108,7 @@ pub(crate) fn standing_of(class: Class, position: &Position) -> Standing
     requires { (flipped : Bool) × IsOf class flipped position.now }
     ensures is_of { IsOf class result.flipped position.now }
     ensures stood { Stood class result.flipped position.now.men (list_of result.stand) }
+    ensures filled { IsFilled result.stand }
 {
     facts();
     let _number = class.number();
