@@ -28,15 +28,17 @@ fn entry(slot: &Slot) -> Option<(Man, Square)>
     }
 }
 
-/// Of the three slots, of which the others' men are kings where their turn comes, the first one without a king.
+/// The first of these slots without a king, and the last where both others have one. All is asked first, so that no jump hangs on
+/// where the kings stand.
 #[inline(always)]
 fn without_king<'a>(one: &'a Slot, two: &'a Slot, three: &'a Slot) -> &'a Slot
     ensures { result.now ≡ without_king one.now two.now three.now }
 {
-    if !is_king(one) {
+    let (first, second) = (is_king(one), is_king(two));
+    if !first {
         return one;
     }
-    if is_king(two) { three } else { two }
+    if second { three } else { two }
 }
 
 impl Board {

@@ -1,5 +1,6 @@
 //! What men on their squares add to a code.
 ghost use Rattle.std.specs.Prelude.{◌≡◌, ◌<◌, ◌≤◌, ◌/◌, ◌%◌, ◌==◌, ◌*◌, ◌≢◌, Bool, min, max, slice_index_or, if◌then◌else◌, true, false};
+ghost use Rattle.egt_board.specs.declared.man.Side.TheVariants.{White, Black};
 ghost use Rattle.egt_board.specs.Turned.{turned_square};
 ghost use Rattle.egt_class.specs.Material.{material_of};
 ghost use Rattle.egt_index.specs.Size.{men_in_order};
@@ -242,6 +243,27 @@ fn row(at: usize) -> Scales
     SCALES[at]
 }
 
+/// A copy, number by number.
+fn copied(scale: Scale) -> Scale
+    ensures { result ≡ scale }
+{
+    Scale {
+        stride: scale.stride,
+        less: scale.less,
+    }
+}
+
+/// What the side to move adds.
+fn if_black(side: Side, adds: u32) -> u32
+    ensures white { side ≡ White → result ≡ 0 }
+    ensures black { side ≡ Black → result ≡ adds }
+{
+    match side {
+        Side::White => 0,
+        Side::Black => adds,
+    }
+}
+
 /// The same, where the men beside the kings are none, the first alone or both.
 #[inline(always)]
 pub(crate) fn class_scales(class: Class, side: Side) -> Scales
@@ -251,11 +273,11 @@ pub(crate) fn class_scales(class: Class, side: Side) -> Scales
 {
     let scales = row(usize::from(class.number()));
     Scales {
-        side: match side {
-            Side::White => 0,
-            Side::Black => scales.side,
-        },
-        ..scales
+        king: scales.king,
+        black: copied(scales.black),
+        next: copied(scales.next),
+        last: copied(scales.last),
+        side: if_black(side, scales.side),
     }
 }
 

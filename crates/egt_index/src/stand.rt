@@ -44,12 +44,19 @@ fn named_first(flips: bool) -> Side
     if flips { Side::Black } else { Side::White }
 }
 
+/// Whether the men are the same.
+fn is_same(one: Man, other: Man) -> bool
+    ensures { IsTrue result ↔ (one ≡ other) }
+{
+    (one.side == other.side) & (one.kind == other.kind)
+}
+
 /// Whether the entry is of this man.
 fn is_of(entry: &Option<(Man, Square)>, man: Man) -> bool
     ensures { IsTrue result ↔ Holds entry.now man }
 {
     match entry {
-        Some(placed) => placed.0 == man,
+        Some(placed) => is_same(placed.0, man),
         None => false,
     }
 }
