@@ -1,6 +1,6 @@
 -- The men of a class found on their squares.
 use Rattle.std.proofs.Common.{◌≡◌, ◌≢◌, ◌⊎◌, ℕ, ◌<◌, Bool, true, false, cond, List, [], ◌∷◌, ◌++◌, map, Option, Some, None, arith, refl, sym, ap, ◌∙◌, inl, inr, subst}
-use Rattle.std.specs.Option.{option_to_list}
+use Rattle.std.specs.Option.{option_to_list, option_map}
 use Rattle.std.specs.Prelude.{◌↔◌, IsTrue}
 use Rattle.std.specs.FinMap as placement
 use Rattle.std.proofs.lemmas.Bool.{cases_eq, false≢true}
@@ -20,8 +20,9 @@ use Rattle.egt_board.specs.Turned.{turned_man}
 use Rattle.egt_class.specs.Material.{material_of, men_in}
 use Rattle.egt_class.specs.Membership.{IsOf}
 use Rattle.egt_index.specs.Picked.{tally, AreCounted}
+use Rattle.egt_index.specs.Scales.{IsOn}
 use Rattle.egt_index.specs.Size.{men_in_order, men_beside}
-use Rattle.egt_index.specs.Stood.{Entry, Stood, Holds, IsAmong, IsFirst, IsInNameOrder, named}
+use Rattle.egt_index.specs.Stood.{Entry, Stood, Holds, IsAmong, IsFirst, IsInNameOrder}
 use Rattle.egt_index.proofs.Counted.{man_told, count_cons, counted_rest, first_is_there}
 use Rattle.egt_index.proofs.Tallied.{tests_alike, in_class}
 
@@ -251,47 +252,62 @@ last_of flips men first second one other next last f h beside order =
     same_square e = ap square_in e
 
 -- the order by the test of the one
-pub name_order : (first : Option Man) (flips : Bool) (one other next last : Entry) (b : Bool) → IsTrue b ↔ IsFirst first flips one → next ≡ cond b one other → last ≡ cond b other one → IsInNameOrder first flips one other next last
-name_order first flips one other next last true test next_is last_is = inl (test.0 refl, next_is, last_is)
-name_order first flips one other next last false test next_is last_is = inr ((λ h. false≢true (test.1 h)), next_is, last_is)
+name_order : (first : Option Man) (flips : Bool) (one other : Entry) (b : Bool) → IsTrue b ↔ IsFirst first flips one → IsInNameOrder first flips one other (cond b one other) (cond b other one)
+name_order first flips one other true test = inl (test.0 refl, refl, refl)
+name_order first flips one other false test = inr ((λ h. false≢true (test.1 h)), refl, refl)
+
+on_either : (b : Bool) (one other : Entry) (s t : ℕ) → IsOn one s → IsOn other t → IsOn (cond b one other) (cond b s t)
+on_either true one other s t on on' = on
+on_either false one other s t on on' = on'
+
+on_square : (entry : Entry) (man : Man) (s t : ℕ) → IsOn entry t → entry ≡ Some (man, s) → t ≡ s
+on_square entry man s t on is = sym (subst (λ e. IsOn e t) is on)
+
+-- the man of the class on a square
+abbrev placed : Option Man → ℕ → Entry
+placed man s = option_map (λ m. (m, s)) man
 
 -- so the men stand as the class's name has them
-pub stood_by : (c : ℕ) (flips : Bool) (p : Setup) (w b : ℕ) (first second : Option Man) (one other next last : Entry) → IsAdmissible p → IsOf c flips p → option_to_list first ++ option_to_list second ≡ men_beside (material_of c) → (first ≡ None → second ≡ None)
-    → KingsOn flips p.men w b → AreBeside p.men one other → IsInNameOrder first flips one other next last
-    → Stood c flips p.men ((king_of White, w) ∷ (king_of Black, b) ∷ (option_to_list (named first next) ++ option_to_list (named second last)))
-stood_by c flips p w b None None one other next last ok is_of are from_first kings beside order = record {
+stood_on : (c : ℕ) (flips : Bool) (p : Setup) (w b : ℕ) (first second : Option Man) (one other next last : Entry) (s t : ℕ) → IsAdmissible p → IsOf c flips p → option_to_list first ++ option_to_list second ≡ men_beside (material_of c) → (first ≡ None → second ≡ None)
+    → KingsOn flips p.men w b → AreBeside p.men one other → IsInNameOrder first flips one other next last → IsOn next s → IsOn last t
+    → Stood c flips p.men ((king_of White, w) ∷ (king_of Black, b) ∷ (option_to_list (placed first s) ++ option_to_list (placed second t)))
+stood_on c flips p w b None None one other next last s t ok is_of are from_first kings beside order on on' = record {
   are = ap (λ l. king_of White ∷ king_of Black ∷ l) are;
   all = (kings.white_in, kings.white, ((λ e. kings.apart (sym e)), tt), (kings.black_in, kings.black, tt, tt));
 }
-stood_by c flips p w b None (Some man) one other next last ok is_of are from_first kings beside order = absurd (let none = from_first refl in cc)
-stood_by c flips p w b (Some first) None one other next last ok is_of are from_first kings beside order =
+stood_on c flips p w b None (Some man) one other next last s t ok is_of are from_first kings beside order on on' = absurd (let none = from_first refl in cc)
+stood_on c flips p w b (Some first) None one other next last s t ok is_of are from_first kings beside order on on' =
     let f = first_of flips p first [] one other next last ok (others_of c flips p w b (first ∷ []) are is_of kings) beside order in
     let off = off_kings flips p.men w b f.square (turned_man flips first) kings f.stands f.beside in
-    subst (λ x. Stood c flips p.men ((king_of White, w) ∷ (king_of Black, b) ∷ (option_to_list (named (Some first) x) ++ []))) (sym f.is) (record {
+    subst (λ x. Stood c flips p.men ((king_of White, w) ∷ (king_of Black, b) ∷ (first, x) ∷ [])) (sym (on_square next (turned_man flips first) f.square s on f.is)) (record {
       are = ap (λ l. king_of White ∷ king_of Black ∷ l) are;
       all = (kings.white_in, kings.white, ((λ e. kings.apart (sym e)), (off.0, tt)), (kings.black_in, kings.black, (off.1, tt), (f.on_board, f.stands, tt, tt)));
     })
-stood_by c flips p w b (Some first) (Some second) one other next last ok is_of are from_first kings beside order =
+stood_on c flips p w b (Some first) (Some second) one other next last s t ok is_of are from_first kings beside order on on' =
     let all = others_of c flips p w b (first ∷ second ∷ []) are is_of kings in
     let f = first_of flips p first (second ∷ []) one other next last ok all beside order in
-    let (t, t_in, apart, stands, none, is) = last_of flips p.men first second one other next last f all beside order in
+    let (u, u_in, apart, stands, none, is) = last_of flips p.men first second one other next last f all beside order in
     let off = off_kings flips p.men w b f.square (turned_man flips first) kings f.stands f.beside in
-    let away = off_kings flips p.men w b t (turned_man flips second) kings stands none in
-    subst (λ y. Stood c flips p.men ((king_of White, w) ∷ (king_of Black, b) ∷ (option_to_list (named (Some first) next) ++ option_to_list (named (Some second) y)))) (sym is)
-    (subst (λ x. Stood c flips p.men ((king_of White, w) ∷ (king_of Black, b) ∷ (option_to_list (named (Some first) x) ++ (second, t) ∷ []))) (sym f.is) (record {
+    let away = off_kings flips p.men w b u (turned_man flips second) kings stands none in
+    subst (λ y. Stood c flips p.men ((king_of White, w) ∷ (king_of Black, b) ∷ (first, s) ∷ (second, y) ∷ [])) (sym (on_square last (turned_man flips second) u t on' is))
+    (subst (λ x. Stood c flips p.men ((king_of White, w) ∷ (king_of Black, b) ∷ (first, x) ∷ (second, u) ∷ [])) (sym (on_square next (turned_man flips first) f.square s on f.is)) (record {
       are = ap (λ l. king_of White ∷ king_of Black ∷ l) are;
       all = (
         kings.white_in,
         kings.white,
         ((λ e. kings.apart (sym e)), (off.0, (away.0, tt))),
-        (kings.black_in, kings.black, (off.1, (away.1, tt)), (f.on_board, f.stands, (apart, tt), (t_in, stands, tt, tt))),
+        (kings.black_in, kings.black, (off.1, (away.1, tt)), (f.on_board, f.stands, (apart, tt), (u_in, stands, tt, tt))),
       );
     }))
 
+pub stood_by : (c : ℕ) (flips : Bool) (p : Setup) (w b : ℕ) (first second : Option Man) (one other : Entry) (in_order : Bool) (s t : ℕ) → IsAdmissible p → IsOf c flips p → option_to_list first ++ option_to_list second ≡ men_beside (material_of c) → (first ≡ None → second ≡ None)
+    → KingsOn flips p.men w b → AreBeside p.men one other → IsTrue in_order ↔ IsFirst first flips one → IsOn one s → IsOn other t
+    → Stood c flips p.men ((king_of White, w) ∷ (king_of Black, b) ∷ (option_to_list (placed first (cond in_order s t)) ++ option_to_list (placed second (cond in_order t s))))
+stood_by c flips p w b first second one other in_order s t ok is_of are from_first kings beside test on on' =
+    stood_on c flips p w b first second one other (cond in_order one other) (cond in_order other one) (cond in_order s t) (cond in_order t s) ok is_of are from_first kings beside (name_order first flips one other in_order test)
+    (on_either in_order one other s t on on') (on_either in_order other one t s on' on)
+
 -- and the last of them not alone
-pub filled_by : (c : ℕ) (flips : Bool) (p : Setup) (w b : ℕ) (first second : Option Man) (one other next last : Entry) → IsAdmissible p → IsOf c flips p → option_to_list first ++ option_to_list second ≡ men_beside (material_of c) → (first ≡ None → second ≡ None)
-    → KingsOn flips p.men w b → AreBeside p.men one other → IsInNameOrder first flips one other next last → named first next ≡ None → named second last ≡ None
-filled_by c flips p w b None second one other next last ok is_of are from_first kings beside order none = ap (λ m. named m last) (from_first refl)
-filled_by c flips p w b (Some first) second one other next last ok is_of are from_first kings beside order none =
-    let f = first_of flips p first (option_to_list second) one other next last ok (others_of c flips p w b (first ∷ option_to_list second) are is_of kings) beside order in
-    absurd (let some = sym (ap (named (Some first)) f.is) ∙ none in cc)
+pub filled_by : (first second : Option Man) (s t : ℕ) → (first ≡ None → second ≡ None) → placed first s ≡ None → placed second t ≡ None
+filled_by None second s t from_first none = ap (λ m. placed m t) (from_first refl)
+filled_by (Some first) second s t from_first none = absurd (cc)

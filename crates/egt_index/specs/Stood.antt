@@ -73,12 +73,6 @@ abbrev pub IsInNameOrder : Option Man → Bool → Entry → Entry → Entry →
 IsInNameOrder first flips one other next last =
     (IsFirst first flips one × (next ≡ one) × (last ≡ other)) ⊎ (¬ IsFirst first flips one × (next ≡ other) × (last ≡ one))
 
--- the man of the class on the square of the one found
-abbrev pub named : Option Man → Entry → Entry
-named None found = None
-named (Some man) None = None
-named (Some man) (Some e) = Some (man, e.1)
-
 -- p is settled and of the class, in colours exchanged where `flips`, with these men on their squares, this side to move
 -- and a target where one was passed
 pub record HasStand (c : ℕ) (flips : Bool) (stand : Stand) (side : Side) (passed : Bool) (p : Setup) : Type 0 where

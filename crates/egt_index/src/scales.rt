@@ -10,7 +10,7 @@ ghost use Rattle.egt_index.specs.declared.stand.Stand.{Stand};
 ghost use Rattle.egt_index.specs.Scales.{share, code_by, digits_at, less_at, stride_at, man_at, AreScales, ScalesFit, IsOn, AreEqual};
 
 use crate::men::has_target;
-use crate::stand::Stand;
+use crate::stand::{Stand, square_of};
 use crate::turning::turned_square;
 use egt_board::{Kind, Man, Side, Square};
 use egt_class::Class;
@@ -340,16 +340,6 @@ impl Scales {
     }
 }
 
-/// The square of the man, if there is one.
-fn square_of(entry: Option<(Man, Square)>) -> Square
-    ensures { IsOn entry result }
-{
-    match entry {
-        Some((_, square)) => square,
-        None => Square::at(0),
-    }
-}
-
 /// The squares of the men beside the white king.
 pub(crate) fn squares_of(stand: &Stand) -> Squares
     ensures black { result.black ≡ stand.now.black }
@@ -358,8 +348,8 @@ pub(crate) fn squares_of(stand: &Stand) -> Squares
 {
     Squares {
         black: stand.black,
-        next: square_of(stand.next),
-        last: square_of(stand.last),
+        next: square_of(&stand.next),
+        last: square_of(&stand.last),
     }
 }
 

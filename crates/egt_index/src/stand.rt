@@ -1,11 +1,12 @@
 //! The men of a class on their squares.
 ghost use Rattle.std.specs.Prelude.{◌≡◌, ◌<◌, ◌%◌, ◌/◌, ◌==◌, ◌↔◌, IsTrue, Bool, true, false, if◌then◌else◌};
-ghost use Rattle.std.specs.Option.{option_to_list};
+ghost use Rattle.std.specs.Option.{option_to_list, option_map};
 ghost use Rattle.egt_board.specs.Turned.{turned_man};
 ghost use Rattle.egt_board.specs.declared.man.Side.TheVariants.{White, Black};
 ghost use Rattle.egt_class.specs.Membership.{IsOf};
 ghost use Rattle.egt_index.specs.Beaten.{AreBehind};
-ghost use Rattle.egt_index.specs.Stood.{Stood, Holds, IsAmong, IsFirst, named, list_of, IsFilled, IsOff, AllApart, entry_after, on_square_of, IsInOrder, IsOrdered, AreExchanged, IsTurned, IsStandAfter};
+ghost use Rattle.egt_index.specs.Scales.{IsOn};
+ghost use Rattle.egt_index.specs.Stood.{Stood, Holds, IsAmong, IsFirst, list_of, IsFilled, IsOff, AllApart, entry_after, on_square_of, IsInOrder, IsOrdered, AreExchanged, IsTurned, IsStandAfter};
 
 use crate::facts::facts;
 use crate::men::beside;
@@ -81,23 +82,28 @@ fn is_first(man: &Option<Man>, flips: bool, one: &Option<(Man, Square)>) -> bool
     }
 }
 
-/// The one entry or the other.
-fn either(
-    first: bool,
-    one: &Option<(Man, Square)>,
-    other: &Option<(Man, Square)>,
-) -> Option<(Man, Square)>
-    ensures { result ≡ (if first then one.now else other.now) }
+/// The square of the one found; any square where there is none.
+pub(crate) fn square_of(found: &Option<(Man, Square)>) -> Square
+    ensures { IsOn found.now result }
 {
-    if first { *one } else { *other }
+    match found {
+        Some((_, square)) => *square,
+        None => Square::at(0),
+    }
 }
 
-/// The man of the class on the square of the one found, if there is one.
-fn named(man: Option<Man>, found: Option<(Man, Square)>) -> Option<(Man, Square)>
-    ensures { result ≡ named man found }
+/// The one square or the other.
+fn either(first: bool, one: Square, other: Square) -> Square
+    ensures { result ≡ (if first then one else other) }
+{
+    if first { one } else { other }
+}
+
+/// The man of the class, if there is one, on the square.
+fn placed(man: Option<Man>, square: Square) -> Option<(Man, Square)>
+    ensures { result ≡ option_map (λ m. (m, square)) man }
 {
     let man = man?;
-    let (_, square) = found?;
     Some((man, square))
 }
 
@@ -124,16 +130,15 @@ pub(crate) fn standing_of(class: Class, position: &Position) -> Standing
     let (one, other) = position.board().beside_kings();
     let flipped = !is_among(&first, &one, &other);
     let in_order = is_first(&first, flipped, &one);
-    let next = either(in_order, &one, &other);
-    let last = either(in_order, &other, &one);
+    let (one, other) = (square_of(&one), square_of(&other));
     let colour = named_first(flipped);
     Standing {
         flipped,
         stand: Stand {
             white: position.king(colour),
             black: position.king(colour.other()),
-            next: named(first, next),
-            last: named(second, last),
+            next: placed(first, either(in_order, one, other)),
+            last: placed(second, either(in_order, other, one)),
         },
     }
 }
