@@ -16,11 +16,11 @@ use Rattle.egt_board.proofs.Placed.{find-here, find-later}
 use Rattle.egt_board.proofs.Slots.{shown, listed-shown}
 
 -- one of the slots has the man on the square
-AnyHolds : List Slot → ℕ → Man → Type 0
+unfoldable pub AnyHolds : List Slot → ℕ → Man → Type 0
 AnyHolds [] s man = ⊥
 AnyHolds (x ∷ xs) s man = (x ≡ Some (s, man)) ⊎ AnyHolds xs s man
 
-holds_found : (xs : List Slot) (s : ℕ) (man : Man) → InOrder (listed xs) → AnyHolds xs s man → map.find nat_cmp s (listed xs) ≡ Some man
+pub holds_found : (xs : List Slot) (s : ℕ) (man : Man) → InOrder (listed xs) → AnyHolds xs s man → map.find nat_cmp s (listed xs) ≡ Some man
 unfolding AnyHolds
 holds_found [] s man sorted h = absurd h
 holds_found (None ∷ xs) s man sorted (inl e) = absurd (cc)
@@ -38,7 +38,7 @@ holds_found (Some e ∷ xs) s man sorted (inr rest) =
       | inr other ↦ find-later s e.0 e.1 (listed xs) other ∙ found
     ]
 
-found_holds : (xs : List Slot) (s : ℕ) (man : Man) → map.find nat_cmp s (listed xs) ≡ Some man → AnyHolds xs s man
+pub found_holds : (xs : List Slot) (s : ℕ) (man : Man) → map.find nat_cmp s (listed xs) ≡ Some man → AnyHolds xs s man
 unfolding AnyHolds
 found_holds [] s man found = let bad : None ≡ Some man = found in absurd (cc)
 found_holds (None ∷ xs) s man found = inr (found_holds xs s man found)

@@ -11,6 +11,7 @@ pub mod Placed
 pub mod Slots
 pub mod Held
 pub mod Finding
+pub mod KingsAside
 pub mod Attacks
 pub mod Kings
 pub mod Pawns

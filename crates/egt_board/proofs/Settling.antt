@@ -1,5 +1,5 @@
 -- Settled positions.
-use Rattle.std.proofs.Common.{◌≡◌, ℕ, ◌<◌, Option, Some, None, IfSome, arith, refl, subst, inl, inr}
+use Rattle.std.proofs.Common.{ℕ, ◌<◌, Option, Some, None, IfSome, arith, refl, subst, inl, inr}
 use Rattle.std.specs.Option.{option_map}
 use Rattle.egt_board.specs.declared.mirror.Mirror.{Mirror}
 use Rattle.egt_board.specs.declared.mirror.Mirror.TheVariants.{Files, Ranks, Diagonal, Colours}
@@ -8,15 +8,9 @@ use Rattle.egt_board.specs.Man.{other_side}
 use Rattle.egt_board.specs.Placement.{Placement}
 use Rattle.egt_board.specs.Pawn.{pawn_of, ahead, IsBeside, HasPawnBeside}
 use Rattle.egt_board.specs.Target.{FitsTarget}
-use Rattle.egt_board.specs.Setup.{Setup}
-use Rattle.egt_board.specs.Settled.{IsSettled}
 use Rattle.egt_board.specs.Mirror.{square_by, side_by, Allows}
 use Rattle.egt_board.specs.MirrorLaws.{ahead_by, target_between, ShowsMen, OnBoard}
 use Rattle.egt_board.proofs.Turning.{ahead_within, stands_by}
-
--- a target with no pawn beside the one that advanced
-pub unsettled : (p : Setup) (t : ℕ) → p.target ≡ Some t → ¬ HasPawnBeside p.men p.side (ahead (other_side p.side) t) → ¬ IsSettled p
-unsettled p t is none settled = none (subst (λ (o : Option ℕ). IfSome o (λ s. HasPawnBeside p.men p.side (ahead (other_side p.side) s))) is settled)
 
 beside_files : (s t : ℕ) → IsBeside s t → IsBeside (square_by Files s) (square_by Files t)
 beside_files s t h = (let same = h.0 in omega arith, elim h.1 [ inl e ↦ inr (omega arith) | inr e ↦ inl (omega arith) ])

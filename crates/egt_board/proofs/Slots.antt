@@ -339,7 +339,7 @@ opened_none zero k man k_in = refl
 opened_none (suc n) k man k_in =
     ap (λ b. cond b None None ∷ opened (Some (k, man)) b None (padded n [])) (le-ltb 64 k (omega arith)) ∙ ap (λ xs. None ∷ xs) (opened_none n k man k_in)
 
-less_by : (a b : ℕ) → T (is_lt (nat_cmp a b)) → a < b
+pub less_by : (a b : ℕ) → T (is_lt (nat_cmp a b)) → a < b
 less_by a b h = elim (ltb a b) as (λ l. ltb a b ≡ l → a < b) [
   | true ↦ λ e. ltb-true a b e
   | false ↦ λ e. absurd (not_less (ltb a b) (eqb a b) e h)

@@ -31,3 +31,4 @@ pub mod DecidedSetup
 pub mod DecidedTurns
 pub mod Counting
 pub mod Corners
+pub mod Beside

@@ -4,6 +4,7 @@
 #![tactic(auto)]
 
 pub mod attack;
+pub mod beside;
 pub mod board;
 pub mod counting;
 pub mod fault;

@@ -1,6 +1,6 @@
 //! Positions without a target that no pawn stands ready to take.
-ghost use Rattle.std.specs.Prelude.{◌≡◌, ℕ, ◌<◌};
-ghost use Rattle.egt_board.specs.Settled.{SettlesTo, untargeted};
+ghost use Rattle.std.specs.Prelude.{◌≡◌, ℕ, ◌<◌, ◌↔◌, IsTrue};
+ghost use Rattle.egt_board.specs.Settled.{IsSettled, SettlesTo, untargeted};
 
 use crate::position::Position;
 
@@ -12,16 +12,25 @@ impl Position {
         Position::admitted(self.board().copied(), self.side(), None)
     }
 
+    /// Whether the position has no target, or a pawn of the side to move stands beside the pawn that advanced.
+    pub fn is_settled(&self) -> bool
+        ensures { IsTrue result ↔ IsSettled self.now }
+    {
+        match self.target() {
+            Some(target) => {
+                let mover = self.side();
+                let advanced = target.ahead(mover.other());
+                self.board().has_pawn_beside(mover, advanced)
+            }
+            None => true,
+        }
+    }
+
     /// The position, without its target where no pawn of the side to move stands beside the pawn that advanced.
     pub fn settle(&self) -> Position
         ensures { SettlesTo self.now result }
     {
-        let Some(target) = self.target() else {
-            return self.copied();
-        };
-        let mover = self.side();
-        let advanced = target.ahead(mover.other());
-        if self.board().has_pawn_beside(mover, advanced) {
+        if self.is_settled() {
             self.copied()
         } else {
             self.untargeted()

@@ -126,6 +126,22 @@ fn boards_take_and_give_men(rt: HostRuntime) -> Result<(), Fail> {
 }
 
 #[test]
+fn boards_give_the_men_beside_the_kings(rt: HostRuntime) -> Result<(), Fail> {
+    let position = double_advance(square(36)?, square(43)?)?;
+    let (black, white) = (
+        (Side::Black.pawn(), square(35)?),
+        (Side::White.pawn(), square(36)?),
+    );
+    let _side = position.side();
+    assert_eq!(rt; position.board().beside_kings(), (Some(black), Some(white)));
+    let position = queen_ending(Side::White)?;
+    let _side = position.side();
+    let queen = (man(Side::White, Kind::Q), square(3)?);
+    assert_eq!(rt; position.board().beside_kings(), (Some(queen), None));
+    Ok(())
+}
+
+#[test]
 fn setups_are_refused_with_the_first_fault(rt: HostRuntime) -> Result<(), Fail> {
     let white = (man(Side::White, Kind::K), square(0)?);
     let black = (man(Side::Black, Kind::K), square(56)?);
@@ -227,6 +243,7 @@ fn targets_are_squares_just_passed(rt: HostRuntime) -> Result<(), Fail> {
     assert!(rt; position.board().has_pawn_beside(Side::Black, square(36)?));
     let far = double_advance(square(39)?, square(43)?)?;
     assert!(rt; !far.board().has_pawn_beside(Side::White, square(40)?));
+    assert!(rt; position.is_settled() && !far.is_settled());
     assert_eq!(rt; position.settle().target(), Some(square(43)?));
     assert_eq!(rt; far.settle().target(), None);
     Ok(())

@@ -1,9 +1,12 @@
 -- The first man of a class's name tells in what colours a position of the class is.
-use Rattle.std.proofs.Common.{◌≡◌, ℕ, ◌<◌, Bool, true, false, eqb, Option, Some, None, arith, refl, subst, inl, inr}
-use Rattle.std.specs.Prelude.{slice_index_or}
-use Rattle.std.proofs.lemmas.Bool.{and_parts, ltb-true, eqb-true}
+use Rattle.std.proofs.Common.{◌≡◌, ℕ, ◌<◌, ◌++◌, not, Bool, true, false, eqb, List, Option, Some, None, arith, refl, ap, ◌∙◌, subst, inl, inr}
+use Rattle.std.specs.Option.{option_to_list}
+use Rattle.std.specs.Prelude.{◌↔◌, IsTrue, slice_index_or}
+use Rattle.std.proofs.lemmas.Bool.{and_parts, eqb-true, false≢true}
 use Rattle.std.proofs.lemmas.List.{get_or_default}
 use Rattle.egt_board.specs.declared.man.Man.{Man}
+use Rattle.egt_board.specs.declared.man.Side.TheVariants.{White, Black}
+use Rattle.egt_board.specs.Beside.{AreBeside, StandsBeside}
 use Rattle.egt_board.specs.Man.{other_side}
 use Rattle.egt_board.specs.Placement.{Stands}
 use Rattle.egt_board.specs.Setup.{Setup, IsAdmissible}
@@ -12,8 +15,11 @@ use Rattle.egt_class.specs.Material.{materials, material_of, men_in, has_equal_s
 use Rattle.egt_class.specs.Membership.{IsOf}
 use Rattle.egt_index.specs.Facts.{Facts}
 use Rattle.egt_index.specs.First.{tells_colours}
+use Rattle.egt_index.specs.Size.{men_beside}
+use Rattle.egt_index.specs.Stood.{Entry, Holds, IsAmong}
 use Rattle.egt_index.specs.declared.men.TheConstants.{BESIDE}
-use Rattle.egt_index.proofs.Counted.{counted_none, counted_some}
+use Rattle.egt_index.proofs.Counted.{counted_some}
+use Rattle.egt_index.proofs.Standing.{kings_on, among_own}
 use Rattle.egt_index.proofs.Tested.{one_of}
 
 all_tell : all_below (λ c. tells_colours c (slice_index_or BESIDE c (None, None)).0) 36 ≡ true
@@ -23,12 +29,12 @@ all_tell = refl
 pub first_tells : (c : ℕ) (d : Option Man × Option Man) → c < 36 → tells_colours c (slice_index_or BESIDE c d).0 ≡ true
 first_tells c d c_in = subst (λ row. tells_colours c row.0 ≡ true) (get_or_default BESIDE c (None, None) d c_in) (passes_below (λ c. tells_colours c (slice_index_or BESIDE c (None, None)).0) 36 c all_tell c_in)
 
-pub unflipped : Facts → (c : ℕ) (flipped : Bool) (p : Setup) → c < 36 → IsOf c flipped p → tells_colours c None ≡ true → IsOf c false p
+unflipped : Facts → (c : ℕ) (flipped : Bool) (p : Setup) → c < 36 → IsOf c flipped p → tells_colours c None ≡ true → IsOf c false p
 unfolding tells_colours
 unflipped facts c flipped p c_in is_of equal = facts.both_flips p c flipped false c_in equal is_of
 
 -- where he stands
-pub found_first : Facts → (c : ℕ) (flipped : Bool) (p : Setup) (man : Man) (s : ℕ) → c < 36 → IsAdmissible p → IsOf c flipped p → tells_colours c (Some man) ≡ true → Stands p.men s man → IsOf c false p
+found_first : Facts → (c : ℕ) (flipped : Bool) (p : Setup) (man : Man) (s : ℕ) → c < 36 → IsAdmissible p → IsOf c flipped p → tells_colours c (Some man) ≡ true → Stands p.men s man → IsOf c false p
 unfolding tells_colours
 found_first facts c false p man s c_in ok is_of tell stands = is_of
 found_first facts c true p man s c_in ok is_of tell stands = elim (one_of (has_equal_sides c) (eqb (men_in c (other_side man.side) man.kind) 0) (and_parts _ _ tell).1) [
@@ -39,11 +45,18 @@ found_first facts c true p man s c_in ok is_of tell stands = elim (one_of (has_e
       let zero : men_in c (other_side man.side) man.kind ≡ 0 = eqb-true _ _ none in absurd (omega arith)
 ]
 
--- where he does not
-pub missed_first : (c : ℕ) (flipped : Bool) (p : Setup) (man : Man) → IsOf c flipped p → tells_colours c (Some man) ≡ true → ((s : ℕ) → s < 64 → Stands p.men s man → ⊥) → IsOf c true p
-unfolding tells_colours
-missed_first c true p man is_of tell none = is_of
-missed_first c false p man is_of tell none =
-    let zero = counted_none p.men man none in
-    let are = is_of.men man in
-    let some : 0 < men_in c man.side man.kind = ltb-true _ _ (and_parts _ _ tell).0 in absurd (omega arith)
+-- by the two men beside the kings
+pub colours_told : Facts → (c : ℕ) (flipped : Bool) (p : Setup) (first : Option Man) (rest : List Man) (one other : Entry) (among : Bool) → c < 36 → IsAdmissible p → IsOf c flipped p → tells_colours c first ≡ true
+    → option_to_list first ++ rest ≡ men_beside (material_of c) → AreBeside p.men one other → IsTrue among ↔ IsAmong first one other → IsOf c (not among) p
+colours_told facts c flipped p None rest one other true c_in ok is_of tell are beside test = unflipped facts c flipped p c_in is_of tell
+colours_told facts c flipped p (Some man) rest one other true c_in ok is_of tell are beside test = elim (test.0 refl) [
+  | inl holds ↦ of_entry one beside.one holds
+  | inr holds ↦ of_entry other beside.other holds
+]
+  where
+    of_entry : (entry : Entry) → StandsBeside p.men entry → Holds entry man → IsOf c false p
+    of_entry None stands holds = absurd holds
+    of_entry (Some e) stands holds = found_first facts c flipped p man e.1 c_in ok is_of tell (stands.0 ∙ ap Some holds)
+colours_told facts c true p first rest one other false c_in ok is_of tell are beside test = is_of
+colours_told facts c false p first rest one other false c_in ok is_of tell are beside test =
+    absurd (false≢true (test.1 (among_own c p ok.kings.white ok.kings.black first rest one other are is_of (kings_on false p White Black ok.kings.white ok.kings.black ok refl refl ok.kings.white_there ok.kings.black_there) beside)))

@@ -11,6 +11,7 @@ pub mod Kings
 pub mod Turned
 pub mod Best
 pub mod MenTable
+pub mod ScaleTable
 pub mod Places
 pub mod Found
 pub mod Classes

@@ -89,6 +89,26 @@ no_king c d c_in =
     let same : slice_index_or BESIDE c (None, None) ≡ slice_index_or BESIDE c d = get_or_default BESIDE c (None, None) d c_in in
     subst (λ row. IfSome row.0 (λ man. man ≢ king_of White) × IfSome row.1 (λ man. man ≢ king_of White)) same (no_king_told _ both.0, no_king_told _ both.1)
 
+-- no row has the second man alone
+is_filled : Option Man × Option Man → Bool
+is_filled (None, None) = true
+is_filled (None, Some man) = false
+is_filled (Some man, second) = true
+
+all_filled : all_below (λ c. is_filled (slice_index_or BESIDE c (None, None))) 36 ≡ true
+unfolding all_below is_filled
+all_filled = refl
+
+filled_told : (row : Option Man × Option Man) → is_filled row ≡ true → row.0 ≡ None → row.1 ≡ None
+unfolding is_filled
+filled_told (None, None) h none = refl
+filled_told (None, Some man) h none = absurd (false≢true h)
+filled_told (Some man, second) h none = absurd (cc)
+
+pub from_first : (c : ℕ) (d : Option Man × Option Man) → c < 36 → (slice_index_or BESIDE c d).0 ≡ None → (slice_index_or BESIDE c d).1 ≡ None
+from_first c d c_in =
+    filled_told (slice_index_or BESIDE c d) (subst (λ row. is_filled row ≡ true) (get_or_default BESIDE c (None, None) d c_in) (passes_below (λ k. is_filled (slice_index_or BESIDE k (None, None))) 36 c all_filled c_in))
+
 sides_agree : all_below (λ c. agree (slice_index_or EQUAL_SIDES c false) (has_equal_sides c)) 36 ≡ true
 unfolding all_below agree has_equal_sides material_of materials
 sides_agree = refl

@@ -1,28 +1,28 @@
 -- The men of a class found on their squares.
-use Rattle.std.proofs.Common.{◌≡◌, ◌≢◌, ℕ, ◌^◌, ◌-◌, ◌<◌, Bool, true, false, cond, List, [], ◌∷◌, ◌++◌, map, Option, Some, None, IfNone, arith, refl, sym, ap, ◌∙◌, inl, inr, subst}
-use Rattle.std.specs.Option.{option_to_list, IsSome}
-use Rattle.std.specs.Int.{bit_at}
+use Rattle.std.proofs.Common.{◌≡◌, ◌≢◌, ◌⊎◌, ℕ, ◌<◌, Bool, true, false, cond, List, [], ◌∷◌, ◌++◌, map, Option, Some, None, arith, refl, sym, ap, ◌∙◌, inl, inr, subst}
+use Rattle.std.specs.Option.{option_to_list, option_map}
+use Rattle.std.specs.Prelude.{◌↔◌, IsTrue}
 use Rattle.std.specs.FinMap as placement
-use Rattle.std.proofs.lemmas.Bool.{cases_eq}
-use Rattle.std.proofs.lemmas.Nat.Bits.{bit_at_ones}
+use Rattle.std.proofs.lemmas.Bool.{cases_eq, false≢true}
 use Rattle.egt_board.specs.declared.man.Side.{Side}
 use Rattle.egt_board.specs.declared.man.Side.TheVariants.{White, Black}
 use Rattle.egt_board.specs.declared.man.Kind.{Kind}
+use Rattle.egt_board.specs.declared.man.Kind.TheVariants.{K}
 use Rattle.egt_board.specs.declared.man.Man.{Man}
-use Rattle.egt_board.specs.declared.square_set.SquareSet.{SquareSet}
 use Rattle.egt_board.specs.Attack.{king_of}
+use Rattle.egt_board.specs.Beside.{AreBeside, StandsBeside}
 use Rattle.egt_board.specs.Counting.{is_man}
 use Rattle.egt_board.specs.Images.{man_number, side_number}
 use Rattle.egt_board.specs.Man.{other_side}
-use Rattle.egt_board.specs.Placement.{Placement, Stands, IsFree, one_man, get-remove_same, get-remove_other}
-use Rattle.egt_board.specs.Setup.{Setup, IsAdmissible}
-use Rattle.egt_board.specs.SquareSet.{Has}
+use Rattle.egt_board.specs.Placement.{Placement, Stands, one_man, get-remove_same, get-remove_other}
+use Rattle.egt_board.specs.Setup.{Setup, IsAdmissible, IsKingOn}
 use Rattle.egt_board.specs.Turned.{turned_man}
 use Rattle.egt_class.specs.Material.{material_of, men_in}
 use Rattle.egt_class.specs.Membership.{IsOf}
 use Rattle.egt_index.specs.Picked.{tally, AreCounted}
+use Rattle.egt_index.specs.Scales.{IsOn}
 use Rattle.egt_index.specs.Size.{men_in_order, men_beside}
-use Rattle.egt_index.specs.Stood.{Entry, men_among, IsOff, AllStand, Stood, AreLeft, Found}
+use Rattle.egt_index.specs.Stood.{Entry, Stood, Holds, IsAmong, IsFirst, IsInNameOrder}
 use Rattle.egt_index.proofs.Counted.{man_told, count_cons, counted_rest, first_is_there}
 use Rattle.egt_index.proofs.Tallied.{tests_alike, in_class}
 
@@ -56,83 +56,40 @@ counted_turned c flips p is_of man = is_of.men man ∙ of_flips flips ∙ sym (i
     of_flips true = refl
     of_flips false = refl
 
-found_there : (flips : Bool) (men : Placement) (left : SquareSet) (man : Man) (rest : List Man) → AreLeft flips men left (man ∷ rest) → (s : ℕ) × Has left s × Stands men s (turned_man flips man)
-found_there flips men left man rest h =
-    let first = first_is_there h.placement (turned_man flips man) (map (turned_man flips) rest) h.counted in
-    let here = h.here first.0 (turned_man flips man) first.2.stands in
-    (first.0, here.0, here.1)
-
-pub is_found : (flips : Bool) (men : Placement) (left : SquareSet) (man : Man) (rest : List Man) (o : Option ℕ) → AreLeft flips men left (man ∷ rest)
-    → IfNone o ((s : ℕ) → Has left s → Stands men s (turned_man flips man) → ⊥) → IsSome o
-is_found flips men left man rest None h none = let there = found_there flips men left man rest h in absurd (none there.0 there.1 there.2)
-is_found flips men left man rest (Some s) h none = refl
-
--- the others are left
-pub left_on : (flips : Bool) (men : Placement) (left new : SquareSet) (man : Man) (rest : List Man) (s : ℕ) → s < 64 → Has left s → Stands men s (turned_man flips man) → bit_at new.bits s ≡ 0
-    → ((t : ℕ) → t ≢ s → bit_at new.bits t ≡ bit_at left.bits t) → AreLeft flips men left (man ∷ rest) → AreLeft flips men new rest
-left_on flips men left new man rest s s_in had stands gone others h = record {
-  placement = placement.remove h.placement s;
-  counted = counted_rest h.placement (turned_man flips man) (map (turned_man flips) rest) s s_in (h.there s (turned_man flips man) had stands) h.counted;
-  here = λ t other stands. elim (cases_eq t s) [
-    | inl same ↦ absurd (let none = sym (get-remove_same h.placement s t same) ∙ stands in cc)
-    | inr apart ↦ let here = h.here t other (sym (get-remove_other h.placement s t apart) ∙ stands) in (others t apart ∙ here.0, here.1)
-  ];
-  there = λ t other has stands. elim (cases_eq t s) [
-    | inl same ↦ absurd (let none = ap (bit_at new.bits) same ∙ gone in omega arith)
-    | inr apart ↦ get-remove_other h.placement s t apart ∙ h.there t other (sym (others t apart) ∙ has) stands
-  ];
-}
-
--- beside the kings all other men are left
-pub left_first : (c : ℕ) (flips : Bool) (p : Setup) (left : SquareSet) (w b : ℕ) (list : List Man) → list ≡ men_beside (material_of c) → IsOf c flips p → w < 64 → b < 64 → w ≢ b
-    → Stands p.men w (turned_man flips (king_of White)) → Stands p.men b (turned_man flips (king_of Black)) → bit_at left.bits w ≡ 0 → bit_at left.bits b ≡ 0
-    → ((t : ℕ) (man : Man) → t ≢ w → t ≢ b → Stands p.men t man → Has left t) → AreLeft flips p.men left list
-left_first c flips p left w b list are is_of w_in b_in apart white black w_off b_off others = record {
-  placement = placement.remove (placement.remove p.men w) b;
-  counted = subst (λ l. AreCounted (placement.remove (placement.remove p.men w) b) (map (turned_man flips) l)) (sym are)
-      (counted_rest (placement.remove p.men w) (turned_man flips (king_of Black)) (map (turned_man flips) (men_beside (material_of c))) b b_in (get-remove_other p.men w b (λ e. apart (sym e)) ∙ black)
-      (counted_rest p.men (turned_man flips (king_of White)) (turned_man flips (king_of Black) ∷ map (turned_man flips) (men_beside (material_of c))) w w_in white (counted_turned c flips p is_of)));
-  here = λ t man stands. elim (cases_eq t b) [
-    | inl same ↦ absurd (let none = sym (get-remove_same (placement.remove p.men w) b t same) ∙ stands in cc)
-    | inr t_b ↦
-        let before = sym (get-remove_other (placement.remove p.men w) b t t_b) ∙ stands in
-        elim (cases_eq t w) [
-          | inl same ↦ absurd (let none = sym (get-remove_same p.men w t same) ∙ before in cc)
-          | inr t_w ↦ let here = sym (get-remove_other p.men w t t_w) ∙ before in (others t man t_w t_b here, here)
-        ]
-  ];
-  there = λ t man has stands.
-      get-remove_other (placement.remove p.men w) b t (λ same. let none = ap (bit_at left.bits) same ∙ b_off in omega arith)
-      ∙ get-remove_other p.men w t (λ same. let none = ap (bit_at left.bits) same ∙ w_off in omega arith)
-      ∙ stands;
-}
-
-bit_one : (n t : ℕ) → bit_at n t ≢ 0 → bit_at n t ≡ 1
-bit_one n t some = elim (cases_eq (bit_at n t) 0) [ inl none ↦ absurd (some none) | inr other ↦ omega arith ]
-
--- where the kings stand, and what is left without them
-pub record KingsOff (flips : Bool) (men : Placement) (left : SquareSet) (w b : ℕ) : Type 0 where
+-- where the kings stand, in colours exchanged where `flips`
+pub record KingsOn (flips : Bool) (men : Placement) (w b : ℕ) : Type 0 where
   pub white_in : w < 64
   pub black_in : b < 64
   pub apart : w ≢ b
   pub white : Stands men w (turned_man flips (king_of White))
   pub black : Stands men b (turned_man flips (king_of Black))
-  pub white_off : bit_at left.bits w ≡ 0
-  pub black_off : bit_at left.bits b ≡ 0
-  pub others : (t : ℕ) (man : Man) → t ≢ w → t ≢ b → Stands men t man → Has left t
+  pub only : (s : ℕ) (man : Man) → man.kind ≡ K → Stands men s man → (s ≡ w) ⊎ (s ≡ b)
 
-pub kings_off : (flips : Bool) (p : Setup) (board : Placement) (side other : Side) (all less left : SquareSet) (w b : ℕ) → IsAdmissible p → side ≡ cond flips Black White → other ≡ other_side side
-    → Stands p.men w (king_of side) → Stands p.men b (king_of other) → board ≡ p.men → ((t : ℕ) → bit_at all.bits t ≡ 0 → IsFree board t) → bit_at less.bits w ≡ 0 → ((t : ℕ) → t ≢ w → bit_at less.bits t ≡ bit_at all.bits t)
-    → bit_at left.bits b ≡ 0 → ((t : ℕ) → t ≢ b → bit_at left.bits t ≡ bit_at less.bits t) → KingsOff flips p.men left w b
-kings_off flips p board side other all less left w b ok side_is other_is white black board_is free less_w less_others left_b left_others = record {
-  white_in = ok.on_board w _ white;
-  black_in = ok.on_board b _ black;
+king_kind : (flips : Bool) (side : Side) → (turned_man flips (king_of side)).kind ≡ K
+king_kind true side = refl
+king_kind false side = refl
+
+king_told : (man : Man) → man.kind ≡ K → (man ≡ king_of White) ⊎ (man ≡ king_of Black)
+king_told man e = of_side man.side refl
+  where
+    of : Side → Kind → Man
+    of side kind = record { side = side; kind = kind }
+
+    of_side : (side : Side) → man.side ≡ side → (man ≡ king_of White) ⊎ (man ≡ king_of Black)
+    of_side White is = inl (ap (λ z. of z man.kind) is ∙ ap (of White) e)
+    of_side Black is = inr (ap (λ z. of z man.kind) is ∙ ap (of Black) e)
+
+pub kings_on : (flips : Bool) (p : Setup) (side other : Side) (w b : ℕ) → IsAdmissible p → side ≡ cond flips Black White → other ≡ other_side side → IsKingOn p.men side w → IsKingOn p.men other b → KingsOn flips p.men w b
+kings_on flips p side other w b ok side_is other_is white black = record {
+  white_in = ok.on_board w _ white.stands;
+  black_in = ok.on_board b _ black.stands;
   apart = apart;
   white = white_there;
   black = black_there;
-  white_off = left_others w apart ∙ less_w;
-  black_off = left_b;
-  others = λ t man t_w t_b stands. left_others t t_b ∙ less_others t t_w ∙ bit_one all.bits t (λ none. let empty = sym (subst (λ m. IsFree m t) board_is (free t none)) ∙ stands in cc);
+  only = λ s man king stands. elim (king_told man king) [
+    | inl e ↦ of_side White flips s side_is (stands ∙ ap Some e)
+    | inr e ↦ of_side Black flips s side_is (stands ∙ ap Some e)
+  ];
 }
   where
     first : (flips : Bool) → king_of (cond flips Black White) ≡ turned_man flips (king_of White)
@@ -144,10 +101,10 @@ kings_off flips p board side other all less left w b ok side_is other_is white b
     last false = refl
 
     white_there : Stands p.men w (turned_man flips (king_of White))
-    white_there = white ∙ ap (λ s. Some (king_of s)) side_is ∙ ap Some (first flips)
+    white_there = white.stands ∙ ap (λ s. Some (king_of s)) side_is ∙ ap Some (first flips)
 
     black_there : Stands p.men b (turned_man flips (king_of Black))
-    black_there = black ∙ ap (λ s. Some (king_of s)) (other_is ∙ ap other_side side_is) ∙ ap Some (last flips)
+    black_there = black.stands ∙ ap (λ s. Some (king_of s)) (other_is ∙ ap other_side side_is) ∙ ap Some (last flips)
 
     differ : (flips : Bool) → turned_man flips (king_of White) ≡ turned_man flips (king_of Black) → ⊥
     differ true e = let sides = ap (λ m. side_number m.side) e in omega arith
@@ -156,73 +113,201 @@ kings_off flips p board side other all less left w b ok side_is other_is white b
     apart : w ≢ b
     apart same = differ flips (one_man p.men w _ _ white_there (ap (placement.get p.men) same ∙ black_there))
 
--- no man stands off the set of all squares
-pub none_off : (p : Setup) → IsAdmissible p → (t : ℕ) → bit_at (2 ^ 64 - 1) t ≡ 0 → IsFree p.men t
-none_off p ok t none = of_man (placement.get p.men t) refl
+    of_white : (s : ℕ) → Stands p.men s (king_of side) → (s ≡ w) ⊎ (s ≡ b)
+    of_white s stands = inl (white.only s stands)
+
+    of_black : (s : ℕ) → Stands p.men s (king_of other) → (s ≡ w) ⊎ (s ≡ b)
+    of_black s stands = inr (black.only s stands)
+
+    of_side : (king : Side) (flips : Bool) (s : ℕ) → side ≡ cond flips Black White → Stands p.men s (king_of king) → (s ≡ w) ⊎ (s ≡ b)
+    of_side White false s is stands = of_white s (stands ∙ ap (λ z. Some (king_of z)) (sym is))
+    of_side White true s is stands = of_black s (stands ∙ ap (λ z. Some (king_of z)) (sym (other_is ∙ ap other_side is)))
+    of_side Black false s is stands = of_black s (stands ∙ ap (λ z. Some (king_of z)) (sym (other_is ∙ ap other_side is)))
+    of_side Black true s is stands = of_white s (stands ∙ ap (λ z. Some (king_of z)) (sym is))
+
+-- no other man stands where the kings do
+off_kings : (flips : Bool) (men : Placement) (w b s : ℕ) (man : Man) → KingsOn flips men w b → Stands men s man → man.kind ≢ K → (s ≢ w) × (s ≢ b)
+off_kings flips men w b s man kings stands beside = (
+  λ same. beside (ap (λ m. m.kind) (one_man men w _ _ (subst (λ t. Stands men t man) same stands) kings.white) ∙ king_kind flips White),
+  λ same. beside (ap (λ m. m.kind) (one_man men b _ _ (subst (λ t. Stands men t man) same stands) kings.black) ∙ king_kind flips Black),
+)
+
+-- the men beside the kings are those of the list
+record Others (flips : Bool) (men : Placement) (list : List Man) : Type 0 where
+  placement : Placement
+  counted : AreCounted placement (map (turned_man flips) list)
+  here : (s : ℕ) (man : Man) → Stands placement s man → Stands men s man × (man.kind ≢ K)
+  there : (s : ℕ) (man : Man) → Stands men s man → man.kind ≢ K → Stands placement s man
+
+others_of : (c : ℕ) (flips : Bool) (p : Setup) (w b : ℕ) (list : List Man) → list ≡ men_beside (material_of c) → IsOf c flips p → KingsOn flips p.men w b → Others flips p.men list
+others_of c flips p w b list are is_of kings = record {
+  placement = placement.remove (placement.remove p.men w) b;
+  counted = subst (λ l. AreCounted (placement.remove (placement.remove p.men w) b) (map (turned_man flips) l)) (sym are)
+      (counted_rest (placement.remove p.men w) (turned_man flips (king_of Black)) (map (turned_man flips) (men_beside (material_of c))) b kings.black_in (get-remove_other p.men w b (λ e. kings.apart (sym e)) ∙ kings.black)
+      (counted_rest p.men (turned_man flips (king_of White)) (turned_man flips (king_of Black) ∷ map (turned_man flips) (men_beside (material_of c))) w kings.white_in kings.white (counted_turned c flips p is_of)));
+  here = λ s man stands. elim (cases_eq s b) [
+    | inl same ↦ absurd (let none = sym (get-remove_same (placement.remove p.men w) b s same) ∙ stands in cc)
+    | inr s_b ↦
+        let before = sym (get-remove_other (placement.remove p.men w) b s s_b) ∙ stands in
+        elim (cases_eq s w) [
+          | inl same ↦ absurd (let none = sym (get-remove_same p.men w s same) ∙ before in cc)
+          | inr s_w ↦
+              let here = sym (get-remove_other p.men w s s_w) ∙ before in
+              (here, λ king. elim (kings.only s man king here) [ inl e ↦ s_w e | inr e ↦ s_b e ])
+        ]
+  ];
+  there = λ s man stands beside.
+      let off = off_kings flips p.men w b s man kings stands beside in
+      get-remove_other (placement.remove p.men w) b s off.1 ∙ get-remove_other p.men w s off.0 ∙ stands;
+}
+
+-- the first of them stands on some square
+record Next (flips : Bool) (men : Placement) (man : Man) (one other : Entry) : Type 0 where
+  square : ℕ
+  on_board : square < 64
+  stands : Stands men square (turned_man flips man)
+  beside : (turned_man flips man).kind ≢ K
+  is : (one ≡ Some (turned_man flips man, square)) ⊎ (other ≡ Some (turned_man flips man, square))
+
+next_of : (flips : Bool) (men : Placement) (man : Man) (list : List Man) (one other : Entry) → Others flips men (man ∷ list) → AreBeside men one other → Next flips men man one other
+next_of flips men man list one other h beside =
+    let first = first_is_there h.placement (turned_man flips man) (map (turned_man flips) list) h.counted in
+    let here = h.here first.0 (turned_man flips man) first.2.stands in
+    record { square = first.0; on_board = first.1; stands = here.0; beside = here.1; is = beside.all first.0 (turned_man flips man) here.0 here.1 }
+
+-- in colours that are the class's the first man of the name is among them
+pub among_own : (c : ℕ) (p : Setup) (w b : ℕ) (first : Option Man) (rest : List Man) (one other : Entry) → option_to_list first ++ rest ≡ men_beside (material_of c) → IsOf c false p → KingsOn false p.men w b → AreBeside p.men one other
+    → IsAmong first one other
+among_own c p w b None rest one other are is_of kings beside = tt
+among_own c p w b (Some man) rest one other are is_of kings beside =
+    let next = next_of false p.men man rest one other (others_of c false p w b (man ∷ rest) are is_of kings) beside in
+    elim next.is [ inl e ↦ inl (held one next.square e) | inr e ↦ inr (held other next.square e) ]
   where
-    of_man : (o : Option Man) → placement.get p.men t ≡ o → IsFree p.men t
-    of_man None is = is
-    of_man (Some man) is = absurd (let one = bit_at_ones 64 t (ok.on_board t man is) in omega arith)
+    held : (entry : Entry) (s : ℕ) → entry ≡ Some (man, s) → Holds entry man
+    held entry s e = subst (λ x. Holds x man) (sym e) refl
 
-pub last_alone : (o : Option Man) → option_to_list o ≡ option_to_list o ++ []
-last_alone None = refl
-last_alone (Some man) = refl
+-- he is the one that is next in the name
+record First (flips : Bool) (men : Placement) (man : Man) (next : Entry) : Type 0 where
+  square : ℕ
+  on_board : square < 64
+  stands : Stands men square (turned_man flips man)
+  beside : (turned_man flips man).kind ≢ K
+  is : next ≡ Some (turned_man flips man, square)
 
--- the entries found stand on squares of their own, off those of the kings
-pub record Entries (flips : Bool) (men : Placement) (first second : Option Man) (w b : ℕ) (list : List (Man × ℕ)) : Type 0 where
-  pub are : men_among list ≡ option_to_list first ++ option_to_list second
-  pub off_white : IsOff list w
-  pub off_black : IsOff list b
-  pub all : AllStand flips men list
+first_of : (flips : Bool) (p : Setup) (man : Man) (list : List Man) (one other next last : Entry) → IsAdmissible p → Others flips p.men (man ∷ list) → AreBeside p.men one other → IsInNameOrder (Some man) flips one other next last → First flips p.men man next
+first_of flips p man list one other next last ok h beside (inl order) = of_one one beside.one order.0 order.1
+  where
+    of_one : (one : Entry) → StandsBeside p.men one → Holds one (turned_man flips man) → next ≡ one → First flips p.men man next
+    of_one None stands holds is = absurd holds
+    of_one (Some e) stands holds is = record {
+      square = e.1;
+      on_board = ok.on_board e.1 e.0 stands.0;
+      stands = stands.0 ∙ ap Some holds;
+      beside = subst (λ m. m.kind ≢ K) holds stands.1;
+      is = is ∙ ap (λ m. Some (m, e.1)) holds;
+    }
+first_of flips p man list one other next last ok h beside (inr order) =
+    let found = next_of flips p.men man list one other h beside in
+    elim found.is [
+      | inl e ↦ absurd (order.0 (subst (λ x. Holds x (turned_man flips man)) (sym e) refl))
+      | inr e ↦ record { square = found.square; on_board = found.on_board; stands = found.stands; beside = found.beside; is = order.1 ∙ e }
+    ]
 
-off : (left : SquareSet) (s w : ℕ) → Has left s → bit_at left.bits w ≡ 0 → s ≢ w
-off left s w has none same = let is = ap (bit_at left.bits) same in omega arith
+-- without him the rest are left
+without_first : (flips : Bool) (men : Placement) (man : Man) (list : List Man) (s : ℕ) → s < 64 → Stands men s (turned_man flips man) → (turned_man flips man).kind ≢ K → Others flips men (man ∷ list)
+    → (rest : Placement) × AreCounted rest (map (turned_man flips) list) × ((t : ℕ) (other : Man) → Stands rest t other → (t ≢ s) × Stands men t other × (other.kind ≢ K))
+without_first flips men man list s s_in stands beside h = (
+  placement.remove h.placement s,
+  counted_rest h.placement (turned_man flips man) (map (turned_man flips) list) s s_in (h.there s (turned_man flips man) stands beside) h.counted,
+  λ t other stands. elim (cases_eq t s) [
+    | inl same ↦ absurd (let none = sym (get-remove_same h.placement s t same) ∙ stands in cc)
+    | inr apart ↦ let here = h.here t other (sym (get-remove_other h.placement s t apart) ∙ stands) in (apart, here.0, here.1)
+  ],
+)
 
-same_men : (a b x y : Man) → a ≡ x → b ≡ y → a ∷ b ∷ [] ≡ x ∷ y ∷ []
-same_men a b x y e f = cc
+-- and the other man, if there is one, is the last of the name
+last_of : (flips : Bool) (men : Placement) (first second : Man) (one other next last : Entry) (f : First flips men first next) → Others flips men (first ∷ second ∷ []) → AreBeside men one other → IsInNameOrder (Some first) flips one other next last
+    → (t : ℕ) × (t < 64) × (t ≢ f.square) × Stands men t (turned_man flips second) × ((turned_man flips second).kind ≢ K) × (last ≡ Some (turned_man flips second, t))
+last_of flips men first second one other next last f h beside order =
+    let rest = without_first flips men first (second ∷ []) f.square f.on_board f.stands f.beside h in
+    let found = first_is_there rest.0 (turned_man flips second) [] rest.1 in
+    let here = rest.2 found.0 (turned_man flips second) found.2.stands in
+    let either : (next ≡ Some (turned_man flips second, found.0)) ⊎ (last ≡ Some (turned_man flips second, found.0)) = ordered order (beside.all found.0 (turned_man flips second) here.1 here.2) in
+    elim either [
+      | inl e ↦ absurd (here.0 (sym (same_square (sym f.is ∙ e))))
+      | inr e ↦ (found.0, found.1, here.0, here.1, here.2, e)
+    ]
+  where
+    ordered : {x : Option (Man × ℕ)} → IsInNameOrder (Some first) flips one other next last → (one ≡ x) ⊎ (other ≡ x) → (next ≡ x) ⊎ (last ≡ x)
+    ordered (inl order) (inl e) = inl (order.1 ∙ e)
+    ordered (inl order) (inr e) = inr (order.2 ∙ e)
+    ordered (inr order) (inl e) = inr (order.2 ∙ e)
+    ordered (inr order) (inr e) = inl (order.1 ∙ e)
 
-found_both : (flips : Bool) (men : Placement) (left mid new : SquareSet) (first second : Option Man) (next last : Entry) (w b : ℕ) → bit_at left.bits w ≡ 0 → bit_at left.bits b ≡ 0
-    → Found flips men left mid first next → Found flips men mid new second last → Entries flips men first second w b (option_to_list next ++ option_to_list last)
-found_both flips men left mid new None None None None w b w_off b_off f g = record { are = refl; off_white = tt; off_black = tt; all = tt }
-found_both flips men left mid new None None None (Some e) w b w_off b_off f g = absurd g
-found_both flips men left mid new None (Some man) None None w b w_off b_off f g = absurd g
-found_both flips men left mid new None (Some man) None (Some e) w b w_off b_off f g = record {
-  are = ap (λ m. m ∷ []) g.man_is;
-  off_white = (off left e.1 w (sym (ap (λ (s : SquareSet). bit_at s.bits e.1) f) ∙ g.had) w_off, tt);
-  off_black = (off left e.1 b (sym (ap (λ (s : SquareSet). bit_at s.bits e.1) f) ∙ g.had) b_off, tt);
-  all = (g.on_board, subst (λ m. Stands men e.1 (turned_man flips m)) (sym g.man_is) g.stands, tt, tt);
+    square_in : Entry → ℕ
+    square_in None = 0
+    square_in (Some e) = e.1
+
+    same_square : {m n : Man} {s t : ℕ} → ◌≡◌ {A = Entry} (Some (m, s)) (Some (n, t)) → s ≡ t
+    same_square e = ap square_in e
+
+-- the order by the test of the one
+name_order : (first : Option Man) (flips : Bool) (one other : Entry) (b : Bool) → IsTrue b ↔ IsFirst first flips one → IsInNameOrder first flips one other (cond b one other) (cond b other one)
+name_order first flips one other true test = inl (test.0 refl, refl, refl)
+name_order first flips one other false test = inr ((λ h. false≢true (test.1 h)), refl, refl)
+
+on_either : (b : Bool) (one other : Entry) (s t : ℕ) → IsOn one s → IsOn other t → IsOn (cond b one other) (cond b s t)
+on_either true one other s t on on' = on
+on_either false one other s t on on' = on'
+
+on_square : (entry : Entry) (man : Man) (s t : ℕ) → IsOn entry t → entry ≡ Some (man, s) → t ≡ s
+on_square entry man s t on is = sym (subst (λ e. IsOn e t) is on)
+
+-- the man of the class on a square
+abbrev placed : Option Man → ℕ → Entry
+placed man s = option_map (λ m. (m, s)) man
+
+-- so the men stand as the class's name has them
+stood_on : (c : ℕ) (flips : Bool) (p : Setup) (w b : ℕ) (first second : Option Man) (one other next last : Entry) (s t : ℕ) → IsAdmissible p → IsOf c flips p → option_to_list first ++ option_to_list second ≡ men_beside (material_of c) → (first ≡ None → second ≡ None)
+    → KingsOn flips p.men w b → AreBeside p.men one other → IsInNameOrder first flips one other next last → IsOn next s → IsOn last t
+    → Stood c flips p.men ((king_of White, w) ∷ (king_of Black, b) ∷ (option_to_list (placed first s) ++ option_to_list (placed second t)))
+stood_on c flips p w b None None one other next last s t ok is_of are from_first kings beside order on on' = record {
+  are = ap (λ l. king_of White ∷ king_of Black ∷ l) are;
+  all = (kings.white_in, kings.white, ((λ e. kings.apart (sym e)), tt), (kings.black_in, kings.black, tt, tt));
 }
-found_both flips men left mid new None second (Some e) last w b w_off b_off f g = absurd f
-found_both flips men left mid new (Some man) second None last w b w_off b_off f g = absurd f
-found_both flips men left mid new (Some man) None (Some e) None w b w_off b_off f g = record {
-  are = ap (λ m. m ∷ []) f.man_is;
-  off_white = (off left e.1 w f.had w_off, tt);
-  off_black = (off left e.1 b f.had b_off, tt);
-  all = (f.on_board, subst (λ m. Stands men e.1 (turned_man flips m)) (sym f.man_is) f.stands, tt, tt);
-}
-found_both flips men left mid new (Some man) None (Some e) (Some d) w b w_off b_off f g = absurd g
-found_both flips men left mid new (Some man) (Some other) (Some e) None w b w_off b_off f g = absurd g
-found_both flips men left mid new (Some man) (Some other) (Some e) (Some d) w b w_off b_off f g =
-    let apart : d.1 ≢ e.1 = off mid d.1 e.1 g.had f.gone in
-    let had : Has left d.1 = sym (f.others d.1 apart) ∙ g.had in
-    record {
-      are = same_men e.0 d.0 man other f.man_is g.man_is;
-      off_white = (off left e.1 w f.had w_off, (off left d.1 w had w_off, tt));
-      off_black = (off left e.1 b f.had b_off, (off left d.1 b had b_off, tt));
+stood_on c flips p w b None (Some man) one other next last s t ok is_of are from_first kings beside order on on' = absurd (let none = from_first refl in cc)
+stood_on c flips p w b (Some first) None one other next last s t ok is_of are from_first kings beside order on on' =
+    let f = first_of flips p first [] one other next last ok (others_of c flips p w b (first ∷ []) are is_of kings) beside order in
+    let off = off_kings flips p.men w b f.square (turned_man flips first) kings f.stands f.beside in
+    subst (λ x. Stood c flips p.men ((king_of White, w) ∷ (king_of Black, b) ∷ (first, x) ∷ [])) (sym (on_square next (turned_man flips first) f.square s on f.is)) (record {
+      are = ap (λ l. king_of White ∷ king_of Black ∷ l) are;
+      all = (kings.white_in, kings.white, ((λ e. kings.apart (sym e)), (off.0, tt)), (kings.black_in, kings.black, (off.1, tt), (f.on_board, f.stands, tt, tt)));
+    })
+stood_on c flips p w b (Some first) (Some second) one other next last s t ok is_of are from_first kings beside order on on' =
+    let all = others_of c flips p w b (first ∷ second ∷ []) are is_of kings in
+    let f = first_of flips p first (second ∷ []) one other next last ok all beside order in
+    let (u, u_in, apart, stands, none, is) = last_of flips p.men first second one other next last f all beside order in
+    let off = off_kings flips p.men w b f.square (turned_man flips first) kings f.stands f.beside in
+    let away = off_kings flips p.men w b u (turned_man flips second) kings stands none in
+    subst (λ y. Stood c flips p.men ((king_of White, w) ∷ (king_of Black, b) ∷ (first, s) ∷ (second, y) ∷ [])) (sym (on_square last (turned_man flips second) u t on' is))
+    (subst (λ x. Stood c flips p.men ((king_of White, w) ∷ (king_of Black, b) ∷ (first, x) ∷ (second, u) ∷ [])) (sym (on_square next (turned_man flips first) f.square s on f.is)) (record {
+      are = ap (λ l. king_of White ∷ king_of Black ∷ l) are;
       all = (
-        f.on_board,
-        subst (λ m. Stands men e.1 (turned_man flips m)) (sym f.man_is) f.stands,
-        (apart, tt),
-        (g.on_board, subst (λ m. Stands men d.1 (turned_man flips m)) (sym g.man_is) g.stands, tt, tt),
+        kings.white_in,
+        kings.white,
+        ((λ e. kings.apart (sym e)), (off.0, (away.0, tt))),
+        (kings.black_in, kings.black, (off.1, (away.1, tt)), (f.on_board, f.stands, (apart, tt), (u_in, stands, tt, tt))),
       );
-    }
+    }))
 
-pub stood_of : (c : ℕ) (flips : Bool) (men : Placement) (left mid new : SquareSet) (first second : Option Man) (next last : Entry) (w b : ℕ) → option_to_list first ++ option_to_list second ≡ men_beside (material_of c)
-    → w < 64 → b < 64 → w ≢ b → Stands men w (turned_man flips (king_of White)) → Stands men b (turned_man flips (king_of Black)) → bit_at left.bits w ≡ 0 → bit_at left.bits b ≡ 0
-    → Found flips men left mid first next → Found flips men mid new second last → Stood c flips men ((king_of White, w) ∷ (king_of Black, b) ∷ (option_to_list next ++ option_to_list last))
-stood_of c flips men left mid new first second next last w b are w_in b_in apart white black w_off b_off f g =
-    let both = found_both flips men left mid new first second next last w b w_off b_off f g in
-    record {
-      are = ap (λ l. king_of White ∷ king_of Black ∷ l) (both.are ∙ are);
-      all = (w_in, white, ((λ e. apart (sym e)), both.off_white), (b_in, black, both.off_black, both.all));
-    }
+pub stood_by : (c : ℕ) (flips : Bool) (p : Setup) (w b : ℕ) (first second : Option Man) (one other : Entry) (in_order : Bool) (s t : ℕ) → IsAdmissible p → IsOf c flips p → option_to_list first ++ option_to_list second ≡ men_beside (material_of c) → (first ≡ None → second ≡ None)
+    → KingsOn flips p.men w b → AreBeside p.men one other → IsTrue in_order ↔ IsFirst first flips one → IsOn one s → IsOn other t
+    → Stood c flips p.men ((king_of White, w) ∷ (king_of Black, b) ∷ (option_to_list (placed first (cond in_order s t)) ++ option_to_list (placed second (cond in_order t s))))
+stood_by c flips p w b first second one other in_order s t ok is_of are from_first kings beside test on on' =
+    stood_on c flips p w b first second one other (cond in_order one other) (cond in_order other one) (cond in_order s t) (cond in_order t s) ok is_of are from_first kings beside (name_order first flips one other in_order test)
+    (on_either in_order one other s t on on') (on_either in_order other one t s on' on)
+
+-- and the last of them not alone
+pub filled_by : (first second : Option Man) (s t : ℕ) → (first ≡ None → second ≡ None) → placed first s ≡ None → placed second t ≡ None
+filled_by None second s t from_first none = ap (λ m. placed m t) (from_first refl)
+filled_by (Some first) second s t from_first none = absurd (cc)

@@ -145,3 +145,7 @@ no_pawns c flipped p ok is_of none s man stands pawn =
 -- a settled form is of the position's class
 pub settled_class : Facts → (c : ℕ) (flipped : Bool) (p q : Setup) → SettlesTo p q → IsOf c flipped p → IsOf c flipped q
 settled_class facts c flipped p q settles is_of = record { men = λ man. ap (λ m. count_of m man) (facts.settled_men p q settles) ∙ is_of.men man }
+
+pub settled_side : (p q : Setup) → SettlesTo p q → q.side ≡ p.side
+settled_side p q (inl settled) = ap (λ (s : Setup). s.side) settled.1
+settled_side p q (inr other) = ap (λ (s : Setup). s.side) other.1

@@ -2,21 +2,17 @@
 use Rattle.std.specs.Prelude.{◌≡◌, ◌≢◌, ℕ, ◌<◌, ◌≤◌, ◌⊎◌, Bool, List, [], ◌∷◌, ◌++◌, map, Option, Some, None, IfSome}
 use Rattle.std.specs.Option.{option_map, option_to_list, is_some}
 use Rattle.std.specs.FinMap as placement
-use Rattle.std.specs.Int.{bit_at}
 use Rattle.egt_board.specs.declared.man.Side.{Side}
 use Rattle.egt_board.specs.declared.man.Side.TheVariants.{White, Black}
 use Rattle.egt_board.specs.declared.man.Man.{Man}
-use Rattle.egt_board.specs.declared.square_set.SquareSet.{SquareSet}
 use Rattle.egt_board.specs.Attack.{king_of}
 use Rattle.egt_board.specs.Pawn.{MayStand}
 use Rattle.egt_board.specs.Placement.{Placement, Stands}
 use Rattle.egt_board.specs.Settled.{IsSettled}
 use Rattle.egt_board.specs.Setup.{Setup, IsAdmissible}
-use Rattle.egt_board.specs.SquareSet.{Has}
 use Rattle.egt_board.specs.Turned.{turned_square, turned_man}
 use Rattle.egt_class.specs.Material.{material_of}
 use Rattle.egt_class.specs.Membership.{IsOf}
-use Rattle.egt_index.specs.Picked.{AreCounted}
 use Rattle.egt_index.specs.Size.{men_in_order}
 use Rattle.egt_index.specs.declared.stand.Stand.{Stand}
 
@@ -33,6 +29,10 @@ rest_of s = (king_of Black, s.black) ∷ (option_to_list s.next ++ option_to_lis
 
 abbrev pub list_of : Stand → List (Man × ℕ)
 list_of s = (king_of White, s.white) ∷ rest_of s
+
+-- the last man of the name is not there alone
+abbrev pub IsFilled : Stand → Type 0
+IsFilled s = s.next ≡ None → s.last ≡ None
 
 -- none of these stands on the square
 abbrev pub IsOff : List (Man × ℕ) → ℕ → Type 0
@@ -54,27 +54,24 @@ pub record Stood (c : ℕ) (flips : Bool) (men : Placement) (list : List (Man ×
   pub are : men_among list ≡ men_in_order (material_of c)
   pub all : AllStand flips men list
 
--- the men on the squares of the set are those of the list
-pub record AreLeft (flips : Bool) (men : Placement) (left : SquareSet) (list : List Man) : Type 0 where
-  pub placement : Placement
-  pub counted : AreCounted placement (map (turned_man flips) list)
-  pub here : (s : ℕ) (man : Man) → Stands placement s man → Has left s × Stands men s man
-  pub there : (s : ℕ) (man : Man) → Has left s → Stands men s man → Stands placement s man
+-- the entry is of this man
+abbrev pub Holds : Entry → Man → Type 0
+Holds None man = ⊥
+Holds (Some e) man = e.0 ≡ man
 
--- the man was found on a square of the set and taken off it
-pub record FoundOn (flips : Bool) (men : Placement) (old new : SquareSet) (man : Man) (e : Man × ℕ) : Type 0 where
-  pub man_is : e.0 ≡ man
-  pub on_board : e.1 < 64
-  pub stands : Stands men e.1 (turned_man flips man)
-  pub had : Has old e.1
-  pub gone : bit_at new.bits e.1 ≡ 0
-  pub others : (t : ℕ) → t ≢ e.1 → bit_at new.bits t ≡ bit_at old.bits t
+-- the man, if there is one, is one of these two
+abbrev pub IsAmong : Option Man → Entry → Entry → Type 0
+IsAmong None one other = Unit {0}
+IsAmong (Some man) one other = Holds one man ⊎ Holds other man
 
-abbrev pub Found : Bool → Placement → SquareSet → SquareSet → Option Man → Entry → Type 0
-Found flips men old new None None = new ≡ old
-Found flips men old new None (Some e) = ⊥
-Found flips men old new (Some man) None = ⊥
-Found flips men old new (Some man) (Some e) = FoundOn flips men old new man e
+-- the man of the class, if there is one, is this one
+abbrev pub IsFirst : Option Man → Bool → Entry → Type 0
+IsFirst first flips one = IfSome first (λ man. Holds one (turned_man flips man))
+
+-- the two men, of which this one is the first, if there is one
+abbrev pub IsInNameOrder : Option Man → Bool → Entry → Entry → Entry → Entry → Type 0
+IsInNameOrder first flips one other next last =
+    (IsFirst first flips one × (next ≡ one) × (last ≡ other)) ⊎ (¬ IsFirst first flips one × (next ≡ other) × (last ≡ one))
 
 -- p is settled and of the class, in colours exchanged where `flips`, with these men on their squares, this side to move
 -- and a target where one was passed

@@ -1,23 +1,20 @@
 //! Indexes of positions that differ from one position by the square of a man.
-ghost use Rattle.std.specs.Prelude.{◌≡◌, ◌≢◌, ℕ, not, Bool, false, IsSome, IsFalse};
+ghost use Rattle.std.specs.Prelude.{◌≡◌, not, Bool};
 ghost use Rattle.egt_board.specs.Setup.{Setup};
 ghost use Rattle.egt_board.specs.declared.man.Man.{Man};
 ghost use Rattle.egt_board.specs.Settled.{IsSettled};
 ghost use Rattle.egt_class.specs.Membership.{IsOf};
 ghost use Rattle.egt_board.specs.Placement.{Stands};
-ghost use Rattle.egt_index.specs.Frame.{IsFrame, IsMoved};
-ghost use Rattle.egt_index.specs.Index.{IsIndex};
+ghost use Rattle.egt_index.specs.Frame.{IsFrame};
 ghost use Rattle.egt_index.specs.Steps.{AreSteps};
 ghost use Rattle.egt_index.specs.Stood.{HasStand};
-ghost use Rattle.egt_index.specs.Turns.{Best};
 ghost use Rattle.egt_index.specs.Ways.{WayFits, Leads};
 ghost use Rattle.egt_board.specs.Man.{other_side};
 
 use crate::facts::facts;
-use crate::indexing::{least_of_images, lesser};
-use crate::lanes::{Lanes, home_lanes, least_along, moved};
+use crate::lanes::{Lanes, home_lanes};
 use crate::men::has_equal_sides;
-use crate::stand::{Stand, exchanged, is_flipped, stand_of};
+use crate::stand::{Stand, exchanged, standing_of};
 use crate::steps::Steps;
 use crate::ways::{Way, way_of};
 use egt_board::{Position, Side, Square};
@@ -44,86 +41,8 @@ impl Frame {
         ensures frame { IsFrame position.now result }
         ensures class { result.class ≡ class }
     {
-        let flipped = is_flipped(class, position);
-        let _passed = position.target().is_some();
-        let stand = stand_of(class, position, flipped);
-        Frame {
-            class,
-            flipped,
-            side: position.side(),
-            stand,
-            own: home_lanes(class, &stand, flipped),
-            exchanged: if has_equal_sides(class) {
-                Some(home_lanes(class, &exchanged(&stand), !flipped))
-            } else {
-                None
-            },
-        }
-    }
-
-    /// The least code after a king went who is brought home by the turns.
-    fn least_after_king(&self, from: Square, to: Square) -> Option<u32>
-        ensures { (p q : Setup) → IsFrame p self.now → IsMoved self.now.class p from to q → Best self.now.class q 16 result }
-    {
-        let stand = moved(&self.stand, from, to);
-        least_of_images(self.class, &stand, self.side.other(), false, self.flipped)
-    }
-
-    /// The least code after another man went.
-    #[inline(always)]
-    fn least_after_man(&self, from: Square, to: Square) -> Option<u32>
-        requires frame { (p : Setup) × IsFrame p self.now }
-        requires white { self.now.stand.white ≢ from }
-        requires black { IsSome self.now.exchanged → self.now.stand.black ≢ from }
-        ensures { (p q : Setup) → IsFrame p self.now → IsMoved self.now.class p from to q → Best self.now.class q 16 result }
-    {
-        facts();
-        let _number = self.class.number();
-        let side = self.side.other();
-        let code = least_along(self.class, &self.own, side, from, to);
-        match &self.exchanged {
-            Some(lanes) => {
-                let other = least_along(self.class, lanes, side, from, to);
-                lesser(code, other)
-            }
-            None => code,
-        }
-    }
-
-    /// Whether the man on the square is a king whom the turns bring home.
-    fn is_brought_home(&self, from: Square) -> bool
-        ensures white { IsFalse result → self.now.stand.white ≢ from }
-        ensures black { IsFalse result → IsSome self.now.exchanged → self.now.stand.black ≢ from }
-    {
-        if self.stand.white == from {
-            return true;
-        }
-        match &self.exchanged {
-            Some(_) => self.stand.black == from,
-            None => false,
-        }
-    }
-
-    /// The least code after the man on `from` went to `to`.
-    fn least_after(&self, from: Square, to: Square) -> Option<u32>
-        requires frame { (p : Setup) × IsFrame p self.now }
-        ensures { (p q : Setup) → IsFrame p self.now → IsMoved self.now.class p from to q → Best self.now.class q 16 result }
-    {
-        if self.is_brought_home(from) {
-            self.least_after_king(from, to)
-        } else {
-            self.least_after_man(from, to)
-        }
-    }
-
-    /// The index, in the frame's class, of the position after the man on `from` went to `to`, where none stood; no pawn by two
-    /// squares that sets a target.
-    pub fn index_after(&self, from: Square, to: Square) -> u32
-        requires { (p q : Setup) × IsFrame p self.now × IsMoved self.now.class p from to q }
-        ensures { (p q : Setup) → IsFrame p self.now → IsMoved self.now.class p from to q → IsIndex self.now.class q result }
-    {
-        facts();
-        self.least_after(from, to).unwrap()
+        let standing = standing_of(class, position);
+        Frame::of_stand(class, standing.flipped, &standing.stand, position.side())
     }
 
     /// The ways of the man on the square.
@@ -157,20 +76,20 @@ impl Frame {
 }
 
 impl Frame {
-    /// The frame of a settled position of the class, in its colours, of which it is known where the men stand.
+    /// The frame of a settled position of the class, of which it is known where the men stand.
     #[inline(always)]
-    pub(crate) fn of_stand(class: Class, stand: &Stand, side: Side) -> Frame
-        ensures frame { (p : Setup) (passed : Bool) → HasStand class false stand.now side passed p → IsFrame p result }
+    pub(crate) fn of_stand(class: Class, flipped: bool, stand: &Stand, side: Side) -> Frame
+        ensures frame { (p : Setup) (passed : Bool) → HasStand class flipped stand.now side passed p → IsFrame p result }
         ensures class { result.class ≡ class }
     {
         Frame {
             class,
-            flipped: false,
+            flipped,
             side,
             stand: *stand,
-            own: home_lanes(class, stand, false),
+            own: home_lanes(class, stand, flipped),
             exchanged: if has_equal_sides(class) {
-                Some(home_lanes(class, &exchanged(stand), true))
+                Some(home_lanes(class, &exchanged(stand), !flipped))
             } else {
                 None
             },

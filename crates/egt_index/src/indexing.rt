@@ -1,13 +1,14 @@
 //! The index of a position.
-ghost use Rattle.std.specs.Prelude.{◌≡◌, ◌<◌, ◌%◌, ◌/◌, ◌==◌, Bool};
+ghost use Rattle.std.specs.Prelude.{◌≡◌, ◌<◌, ◌%◌, ◌/◌, ◌==◌, Bool, true, false};
+ghost use Rattle.std.specs.Option.{is_some};
 ghost use Rattle.egt_board.specs.Setup.{Setup};
-ghost use Rattle.egt_board.specs.Settled.{IsSettled};
+ghost use Rattle.egt_board.specs.Settled.{SettlesTo};
 ghost use Rattle.egt_board.specs.Symmetry.{KeepsPlay};
 ghost use Rattle.egt_board.specs.Turned.{turned_side};
 ghost use Rattle.egt_class.specs.Membership.{IsOf};
 ghost use Rattle.egt_index.specs.Home.{LeastWith};
 ghost use Rattle.egt_index.specs.Index.{IsIndex};
-ghost use Rattle.egt_index.specs.Stood.{HasStand, IsStandAfter};
+ghost use Rattle.egt_index.specs.Stood.{HasStand, IsFilled, IsStandAfter};
 ghost use Rattle.egt_index.specs.declared.stand.Stand.{Stand};
 ghost use Rattle.egt_index.specs.Turns.{Best, CodeAfter, lesser};
 
@@ -16,7 +17,9 @@ use crate::digits::king_digit;
 use crate::facts::facts;
 use crate::home::home;
 use crate::men::{has_equal_sides, has_pawns};
-use crate::stand::{Stand, exchanged, is_flipped, stand_after, stand_of};
+use crate::scales::{class_scales, has_pair, squares_of};
+use crate::stand::{Stand, exchanged, stand_after, standing_of};
+use crate::ways::Homing;
 use egt_board::{Position, Side};
 use egt_class::Class;
 
@@ -30,13 +33,7 @@ fn side_after(side: Side, flips: bool) -> Side
 /// The least code of what the turn makes of a settled position of the class, if it has one: the turn takes the men where they stand
 /// `after`.
 #[inline(always)]
-pub(crate) fn code_of(
-    class: Class,
-    after: &Stand,
-    side: Side,
-    passed: bool,
-    turn: u8,
-) -> Option<u32>
+fn code_of(class: Class, after: &Stand, side: Side, passed: bool, turn: u8) -> Option<u32>
     requires { turn < 16 }
     ensures { (p : Setup) (before : Stand) → IsStandAfter (turn % 8) (turn / 8 == 1) before after.now →
         HasStand class (turn / 8 == 1) before side passed p → KeepsPlay (turn % 8) p.men → CodeAfter class p turn result }
@@ -77,32 +74,65 @@ pub(crate) fn lesser(least: Option<u32>, code: Option<u32>) -> Option<u32>
     }
 }
 
-/// The least code of what the turns that exchange colours, or those that do not, make of a settled position of the class.
-/// Only one or two of them bring the white king to a square of his digit.
-fn least_code(class: Class, stand: &Stand, side: Side, passed: bool, flips: bool) -> Option<u32>
-    ensures { (p : Setup) → HasStand class flips stand.now side passed p → LeastWith class p flips result }
+/// The least code of what the turns that exchange colours, or those that do not, make of a settled position of the class with a
+/// target. Only one or two of them bring the white king to a square of his digit.
+#[inline(never)]
+fn least_with_target(class: Class, stand: &Stand, side: Side, flips: bool) -> Option<u32>
+    ensures { (p : Setup) → HasStand class flips stand.now side true p → LeastWith class p flips result }
 {
     facts();
     let (first, second) = home(has_pawns(class), flips, stand.white);
-    let code = code_after(class, stand, side, passed, first);
+    let code = code_after(class, stand, side, true, first);
     match second {
         Some(second) => {
-            let other = code_after(class, stand, side, passed, second);
+            let other = code_after(class, stand, side, true, second);
             lesser(code, other)
         }
         None => code,
     }
 }
 
+/// The same of a position without a target.
+#[inline(always)]
+fn least_without_target(class: Class, stand: &Stand, side: Side, flips: bool) -> Option<u32>
+    requires { IsFilled stand.now }
+    ensures { (p : Setup) → HasStand class flips stand.now side false p → LeastWith class p flips result }
+{
+    let _number = class.number();
+    let homing = Homing {
+        pawns: has_pawns(class),
+        flips,
+        pair: has_pair(stand),
+        scales: class_scales(class, side_after(side, flips)),
+        squares: squares_of(stand),
+    };
+    homing.code_to(stand.white)
+}
+
+/// The same of either.
+#[inline(always)]
+fn least_code(class: Class, stand: &Stand, side: Side, passed: bool, flips: bool) -> Option<u32>
+    requires { IsFilled stand.now }
+    ensures { (p : Setup) → HasStand class flips stand.now side passed p → LeastWith class p flips result }
+{
+    if passed {
+        let copy = *stand;
+        least_with_target(class, &copy, side, flips)
+    } else {
+        least_without_target(class, stand, side, flips)
+    }
+}
+
 /// The least code of all images of a settled position of the class with these men, in colours flipped or not.
 #[inline(always)]
-pub(crate) fn least_of_images(
+fn least_of_images(
     class: Class,
     stand: &Stand,
     side: Side,
     passed: bool,
     flipped: bool,
 ) -> Option<u32>
+    requires { IsFilled stand.now }
     ensures { (p : Setup) → HasStand class flipped stand.now side passed p → Best class p 16 result }
 {
     facts();
@@ -117,17 +147,28 @@ pub(crate) fn least_of_images(
     }
 }
 
-/// The same of a position, where its men stand.
-fn least_of(class: Class, settled: &Position) -> Option<u32>
-    requires settled { IsSettled settled.now }
-    requires of { (flipped : Bool) × IsOf class flipped settled.now }
-    ensures { Best class settled.now 16 result }
+/// Whether the position has a target that a pawn stands ready to take.
+#[inline(always)]
+fn keeps_target(position: &Position) -> bool
+    ensures { (q : Setup) → SettlesTo position.now q → is_some q.target ≡ result }
 {
-    let side = settled.side();
-    let passed = settled.target().is_some();
-    let flipped = is_flipped(class, settled);
-    let stand = stand_of(class, settled, flipped);
-    least_of_images(class, &stand, side, passed, flipped)
+    match position.target() {
+        Some(_) => position.is_settled(),
+        None => false,
+    }
+}
+
+/// The same of what a position settles to.
+#[inline(always)]
+fn least_of(class: Class, position: &Position) -> Option<u32>
+    requires { (flipped : Bool) × IsOf class flipped position.now }
+    ensures { (q : Setup) → SettlesTo position.now q → Best class q 16 result }
+{
+    facts();
+    let side = position.side();
+    let passed = keeps_target(position);
+    let standing = standing_of(class, position);
+    least_of_images(class, &standing.stand, side, passed, standing.flipped)
 }
 
 /// The index of a position of the class, in whatever colours: the least code that spells an image of its settled form.
@@ -136,7 +177,6 @@ pub fn index(class: Class, position: &Position) -> u32
     ensures { IsIndex class position.now result }
 {
     facts();
-    let settled = position.settle();
-    let _side = settled.side();
-    least_of(class, &settled).unwrap()
+    let _side = position.side();
+    least_of(class, position).unwrap()
 }

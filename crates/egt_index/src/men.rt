@@ -1,5 +1,5 @@
 //! The men of each class, in the order of its name.
-ghost use Rattle.std.specs.Prelude.{◌≡◌, ◌≢◌, ◌++◌, Option, true, IfSome};
+ghost use Rattle.std.specs.Prelude.{◌≡◌, ◌≢◌, ◌++◌, Option, None, true, IfSome};
 ghost use Rattle.std.specs.Option.{option_to_list};
 ghost use Rattle.egt_board.specs.Attack.{king_of};
 ghost use Rattle.egt_board.specs.declared.man.Side.TheVariants.{White};
@@ -113,6 +113,7 @@ pub(crate) fn beside(class: Class) -> (Option<Man>, Option<Man>)
     ensures first { IfSome result.0 (λ man. man ≢ king_of White) }
     ensures second { IfSome result.1 (λ man. man ≢ king_of White) }
     ensures colours { tells_colours class result.0 ≡ true }
+    ensures from_first { result.0 ≡ None → result.1 ≡ None }
 {
     BESIDE[usize::from(class.number())]
 }

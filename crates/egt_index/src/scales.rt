@@ -1,11 +1,16 @@
 //! What men on their squares add to a code.
-ghost use Rattle.std.specs.Prelude.{◌≡◌, ◌<◌, ◌≤◌, ◌/◌, ◌%◌, ◌==◌, ◌*◌, ◌≢◌, Bool, min, max, if◌then◌else◌, true, false};
+ghost use Rattle.std.specs.Prelude.{◌≡◌, ◌<◌, ◌≤◌, ◌/◌, ◌%◌, ◌==◌, ◌*◌, ◌≢◌, Bool, min, max, slice_index_or, if◌then◌else◌, true, false};
+ghost use Rattle.egt_board.specs.declared.man.Side.TheVariants.{White, Black};
 ghost use Rattle.egt_board.specs.Turned.{turned_square};
 ghost use Rattle.egt_class.specs.Material.{material_of};
+ghost use Rattle.egt_index.specs.Size.{men_in_order};
+ghost use Rattle.egt_index.specs.Stood.{men_among, list_of, IsFilled};
+ghost use Rattle.egt_index.specs.declared.scales.Scales.{Scales};
+ghost use Rattle.egt_index.specs.declared.stand.Stand.{Stand};
 ghost use Rattle.egt_index.specs.Scales.{share, code_by, digits_at, less_at, stride_at, man_at, AreScales, ScalesFit, IsOn, AreEqual};
 
 use crate::men::has_target;
-use crate::stand::Stand;
+use crate::stand::{Stand, square_of};
 use crate::turning::turned_square;
 use egt_board::{Kind, Man, Side, Square};
 use egt_class::Class;
@@ -49,6 +54,132 @@ pub(crate) struct Squares {
     pub(crate) next: Square,
     pub(crate) last: Square,
 }
+
+const NO_MEN: Scales = Scales {
+    king: 128,
+    black: Scale { stride: 2, less: 0 },
+    next: NOBODY,
+    last: NOBODY,
+    side: 1,
+};
+
+const PIECE: Scales = Scales {
+    king: 8_192,
+    black: Scale {
+        stride: 128,
+        less: 0,
+    },
+    next: Scale { stride: 2, less: 0 },
+    last: NOBODY,
+    side: 1,
+};
+
+const PAWN: Scales = Scales {
+    king: 6_144,
+    black: Scale {
+        stride: 96,
+        less: 0,
+    },
+    next: Scale { stride: 2, less: 8 },
+    last: NOBODY,
+    side: 1,
+};
+
+const PIECES: Scales = Scales {
+    king: 524_288,
+    black: Scale {
+        stride: 8_192,
+        less: 0,
+    },
+    next: Scale {
+        stride: 128,
+        less: 0,
+    },
+    last: Scale { stride: 2, less: 0 },
+    side: 1,
+};
+
+const PIECE_AND_PAWN: Scales = Scales {
+    king: 393_216,
+    black: Scale {
+        stride: 6_144,
+        less: 0,
+    },
+    next: Scale {
+        stride: 96,
+        less: 0,
+    },
+    last: Scale { stride: 2, less: 8 },
+    side: 1,
+};
+
+const PAWNS: Scales = Scales {
+    king: 294_912,
+    black: Scale {
+        stride: 4_608,
+        less: 0,
+    },
+    next: Scale {
+        stride: 96,
+        less: 8,
+    },
+    last: Scale { stride: 2, less: 8 },
+    side: 1,
+};
+
+const PAWN_AND_PAWN: Scales = Scales {
+    king: 589_824,
+    black: Scale {
+        stride: 9_216,
+        less: 0,
+    },
+    next: Scale {
+        stride: 192,
+        less: 8,
+    },
+    last: Scale { stride: 4, less: 8 },
+    side: 2,
+};
+
+/// How the men of the classes count where Black is to move, without a target, in order of the classes' numbers.
+static SCALES: [Scales; 36] = [
+    NO_MEN,
+    PIECE,
+    PIECE,
+    PIECE,
+    PIECE,
+    PAWN,
+    PIECES,
+    PIECES,
+    PIECES,
+    PIECES,
+    PIECES,
+    PIECES,
+    PIECES,
+    PIECES,
+    PIECES,
+    PIECES,
+    PIECES,
+    PIECES,
+    PIECES,
+    PIECES,
+    PIECES,
+    PIECES,
+    PIECES,
+    PIECES,
+    PIECES,
+    PIECES,
+    PIECE_AND_PAWN,
+    PIECE_AND_PAWN,
+    PIECE_AND_PAWN,
+    PIECE_AND_PAWN,
+    PIECE_AND_PAWN,
+    PIECE_AND_PAWN,
+    PIECE_AND_PAWN,
+    PIECE_AND_PAWN,
+    PAWNS,
+    PAWN_AND_PAWN,
+];
 
 /// How many digits the man has, if there is one, and how much less they are than his square.
 fn digits_of(entry: Option<(Man, Square)>) -> (u32, u32)
@@ -101,6 +232,52 @@ pub(crate) fn scales_of(class: Class, stand: &Stand, side: Side) -> Scales
             Side::White => 0,
             Side::Black => ends / 2,
         },
+    }
+}
+
+/// The table's entry.
+fn row(at: usize) -> Scales
+    requires { at < 36 }
+    ensures { (other : Scales) → result ≡ slice_index_or SCALES at other }
+{
+    SCALES[at]
+}
+
+/// A copy, number by number.
+fn copied(scale: Scale) -> Scale
+    ensures { result ≡ scale }
+{
+    Scale {
+        stride: scale.stride,
+        less: scale.less,
+    }
+}
+
+/// What the side to move adds.
+fn if_black(side: Side, adds: u32) -> u32
+    ensures white { side ≡ White → result ≡ 0 }
+    ensures black { side ≡ Black → result ≡ adds }
+{
+    match side {
+        Side::White => 0,
+        Side::Black => adds,
+    }
+}
+
+/// The same, where the men beside the kings are none, the first alone or both.
+#[inline(always)]
+pub(crate) fn class_scales(class: Class, side: Side) -> Scales
+    ensures are { (stand : Stand) → men_among (list_of stand) ≡ men_in_order (material_of class) → IsFilled stand →
+        AreScales (material_of class) (man_at stand.next) (man_at stand.last) side result }
+    ensures fit { ScalesFit result }
+{
+    let scales = row(usize::from(class.number()));
+    Scales {
+        king: scales.king,
+        black: copied(scales.black),
+        next: copied(scales.next),
+        last: copied(scales.last),
+        side: if_black(side, scales.side),
     }
 }
 
@@ -163,16 +340,6 @@ impl Scales {
     }
 }
 
-/// The square of the man, if there is one.
-fn square_of(entry: Option<(Man, Square)>) -> Square
-    ensures { IsOn entry result }
-{
-    match entry {
-        Some((_, square)) => square,
-        None => Square::at(0),
-    }
-}
-
 /// The squares of the men beside the white king.
 pub(crate) fn squares_of(stand: &Stand) -> Squares
     ensures black { result.black ≡ stand.now.black }
@@ -181,8 +348,8 @@ pub(crate) fn squares_of(stand: &Stand) -> Squares
 {
     Squares {
         black: stand.black,
-        next: square_of(stand.next),
-        last: square_of(stand.last),
+        next: square_of(&stand.next),
+        last: square_of(&stand.last),
     }
 }
 

@@ -258,7 +258,7 @@ pub fn spelled(class: Class, code: u32) -> Option<(Position, Frame)>
 {
     match found(class, code) {
         Some(both) => {
-            let frame = Frame::of_stand(class, &both.1, both.0.side());
+            let frame = Frame::of_stand(class, false, &both.1, both.0.side());
             Some((both.0, frame))
         }
         None => None,

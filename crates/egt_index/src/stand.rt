@@ -1,19 +1,17 @@
 //! The men of a class on their squares.
-ghost use Rattle.std.specs.Prelude.{◌≡◌, ◌≢◌, ◌++◌, ◌<◌, ◌%◌, ◌/◌, ◌==◌, ◌↔◌, IsTrue, ℕ, Bool, true, false, List, IfSome, IfNone, if◌then◌else◌};
-ghost use Rattle.std.specs.Option.{option_to_list};
-ghost use Rattle.egt_board.specs.Placement.{Stands};
-ghost use Rattle.egt_board.specs.SquareSet.{Has};
+ghost use Rattle.std.specs.Prelude.{◌≡◌, ◌<◌, ◌%◌, ◌/◌, ◌==◌, ◌↔◌, IsTrue, Bool, true, false, if◌then◌else◌};
+ghost use Rattle.std.specs.Option.{option_to_list, option_map};
 ghost use Rattle.egt_board.specs.Turned.{turned_man};
-ghost use Rattle.egt_board.specs.declared.man.Man.{Man};
 ghost use Rattle.egt_board.specs.declared.man.Side.TheVariants.{White, Black};
 ghost use Rattle.egt_class.specs.Membership.{IsOf};
 ghost use Rattle.egt_index.specs.Beaten.{AreBehind};
-ghost use Rattle.egt_index.specs.Stood.{Stood, AreLeft, Found, list_of, IsOff, AllApart, entry_after, on_square_of, IsInOrder, IsOrdered, AreExchanged, IsTurned, IsStandAfter};
+ghost use Rattle.egt_index.specs.Scales.{IsOn};
+ghost use Rattle.egt_index.specs.Stood.{Stood, Holds, IsAmong, IsFirst, list_of, IsFilled, IsOff, AllApart, entry_after, on_square_of, IsInOrder, IsOrdered, AreExchanged, IsTurned, IsStandAfter};
 
 use crate::facts::facts;
 use crate::men::beside;
 use crate::turning::turned_square;
-use egt_board::{Board, Man, Position, Side, Square, SquareSet};
+use egt_board::{Man, Position, Side, Square};
 use egt_class::Class;
 
 /// The squares of a class's men: of the white king, the black king and the other men in the order of the name. Where
@@ -40,19 +38,6 @@ fn coloured(man: Man, flips: bool) -> Man
     }
 }
 
-/// Takes the square of the man, if there is one, out of the set.
-fn take(board: &Board, left: &mut SquareSet, man: Option<Man>, flips: bool) -> Option<(Man, Square)>
-    requires { (rest : List Man) × AreLeft flips board.now left.old (option_to_list man ++ rest) }
-    ensures found { Found flips board.now left.old left.new man result }
-    ensures left { (rest : List Man) → AreLeft flips board.now left.old (option_to_list man ++ rest) → AreLeft flips board.now left.new rest }
-{
-    let man = man?;
-    let _taken = board.occupied();
-    let square = board.find(coloured(man, flips), *left).unwrap();
-    *left = left.less(square);
-    Some((man, square))
-}
-
 /// The side of the position that the class's name tells first.
 fn named_first(flips: bool) -> Side
     ensures { result ≡ (if flips then Black else White) }
@@ -60,41 +45,101 @@ fn named_first(flips: bool) -> Side
     if flips { Side::Black } else { Side::White }
 }
 
-/// Whether the men of a position of the class are the class's with colours exchanged. The first man of the name beside the
-/// king tells it: no class whose sides differ has him on both.
-pub(crate) fn is_flipped(class: Class, position: &Position) -> bool
-    requires { (flipped : Bool) × IsOf class flipped position.now }
-    ensures { IsOf class result position.now }
+/// Whether the men are the same.
+fn is_same(one: Man, other: Man) -> bool
+    ensures { IsTrue result ↔ (one ≡ other) }
 {
-    facts();
-    let _number = class.number();
-    let _side = position.side();
-    let (first, _) = beside(class);
-    match first {
-        Some(man) => position.board().find(man, SquareSet::ALL).is_none(),
+    (one.side == other.side) & (one.kind == other.kind)
+}
+
+/// Whether the entry is of this man.
+fn is_of(entry: &Option<(Man, Square)>, man: Man) -> bool
+    ensures { IsTrue result ↔ Holds entry.now man }
+{
+    match entry {
+        Some(placed) => is_same(placed.0, man),
         None => false,
     }
 }
 
-/// Where the men of a position of the class stand.
-pub(crate) fn stand_of(class: Class, position: &Position, flips: bool) -> Stand
-    requires { IsOf class flips position.now }
-    ensures { Stood class flips position.now.men (list_of result) }
+/// Whether the man, if there is one, is one of the two.
+fn is_among(man: &Option<Man>, one: &Option<(Man, Square)>, other: &Option<(Man, Square)>) -> bool
+    ensures { IsTrue result ↔ IsAmong man.now one.now other.now }
 {
+    match man {
+        Some(man) => is_of(one, *man) | is_of(other, *man),
+        None => true,
+    }
+}
+
+/// Whether the man, of the other side where colours are flipped, is the one found, if there is a man.
+fn is_first(man: &Option<Man>, flips: bool, one: &Option<(Man, Square)>) -> bool
+    ensures { IsTrue result ↔ IsFirst man.now flips one.now }
+{
+    match man {
+        Some(man) => is_of(one, coloured(*man, flips)),
+        None => true,
+    }
+}
+
+/// The square of the one found; any square where there is none.
+pub(crate) fn square_of(found: &Option<(Man, Square)>) -> Square
+    ensures { IsOn found.now result }
+{
+    match found {
+        Some((_, square)) => *square,
+        None => Square::at(0),
+    }
+}
+
+/// The one square or the other.
+fn either(first: bool, one: Square, other: Square) -> Square
+    ensures { result ≡ (if first then one else other) }
+{
+    if first { one } else { other }
+}
+
+/// The man of the class, if there is one, on the square.
+fn placed(man: Option<Man>, square: Square) -> Option<(Man, Square)>
+    ensures { result ≡ option_map (λ m. (m, square)) man }
+{
+    let man = man?;
+    Some((man, square))
+}
+
+/// Where the men of a class stand in a position, and whether there its colours are exchanged.
+#[derive(Clone, Copy)]
+pub(crate) struct Standing {
+    pub(crate) flipped: bool,
+    pub(crate) stand: Stand,
+}
+
+/// Where the men of a position of the class stand. The first man of the name beside the king tells the colours: no class whose
+/// sides differ has him on both.
+#[inline(always)]
+pub(crate) fn standing_of(class: Class, position: &Position) -> Standing
+    requires { (flipped : Bool) × IsOf class flipped position.now }
+    ensures is_of { IsOf class result.flipped position.now }
+    ensures stood { Stood class result.flipped position.now.men (list_of result.stand) }
+    ensures filled { IsFilled result.stand }
+{
+    facts();
+    let _number = class.number();
     let _side = position.side();
-    let colour = named_first(flips);
-    let white = position.king(colour);
-    let black = position.king(colour.other());
     let (first, second) = beside(class);
-    let board = position.board();
-    let mut left = SquareSet::ALL.less(white).less(black);
-    let next = take(board, &mut left, first, flips);
-    let last = take(board, &mut left, second, flips);
-    Stand {
-        white,
-        black,
-        next,
-        last,
+    let (one, other) = position.board().beside_kings();
+    let flipped = !is_among(&first, &one, &other);
+    let in_order = is_first(&first, flipped, &one);
+    let (one, other) = (square_of(&one), square_of(&other));
+    let colour = named_first(flipped);
+    Standing {
+        flipped,
+        stand: Stand {
+            white: position.king(colour),
+            black: position.king(colour.other()),
+            next: placed(first, either(in_order, one, other)),
+            last: placed(second, either(in_order, other, one)),
+        },
     }
 }
 

@@ -5,6 +5,7 @@ ghost use Rattle.egt_class.specs.Membership.{IsOf};
 ghost use Rattle.egt_index.specs.Frame.{IsFrame};
 ghost use Rattle.egt_index.specs.Ways.{WayFits};
 
+use crate::facts::facts;
 use crate::{Frame, Steps, index, position, size};
 use arrayvec::ArrayVec;
 use egt_board::{Man, Position, Square};
@@ -56,18 +57,31 @@ fn count_from(frame: &Frame, position: &Position, from: Square) -> Result<u32, F
     }
 }
 
-/// The same of all men of the position of that code, if it spells one.
-fn count_of_code(class: Class, code: u32) -> Result<u32, Fail> {
+/// The same of all men of a settled position.
+fn count_of_position(position: &Position) -> Result<u32, Fail>
+    requires { IsSettled position.now }
+{
+    let (class, _) = of(position);
+    let frame = Frame::of(class, position);
     let mut count: u32 = 0;
-    if let Some(spelled) = position(class, code) {
-        let (own, _) = of(&spelled);
-        let frame = Frame::of(own, &spelled);
-        for number in 0..64 {
-            let more = count_from(&frame, &spelled, Square::at(number))?;
-            count = count.checked_add(more).ok_or("too many")?;
-        }
+    for number in 0..64 {
+        let more = count_from(&frame, position, Square::at(number))?;
+        count = count.checked_add(more).ok_or("too many")?;
     }
     Ok(count)
+}
+
+/// The same of the position of that code, if it spells one, and of the same with colours exchanged.
+fn count_of_code(class: Class, code: u32) -> Result<u32, Fail> {
+    facts();
+    if let Some(spelled) = position(class, code) {
+        let flipped = spelled.flip_colours().settle();
+        let count = count_of_position(&spelled)?;
+        let more = count_of_position(&flipped)?;
+        Ok(count.checked_add(more).ok_or("too many")?)
+    } else {
+        Ok(0)
+    }
 }
 
 /// How many steps lead on from so many of the class's codes.

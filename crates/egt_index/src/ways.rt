@@ -93,7 +93,7 @@ impl Homing {
 
     /// The least code after he went to the square.
     #[inline(always)]
-    fn code_to(&self, to: Square) -> Option<u32>
+    pub(crate) fn code_to(&self, to: Square) -> Option<u32>
         requires { ScalesFit self.now.scales }
         ensures { (c : ℕ) (flips : Bool) (q : Setup) → c < 36 → ComesHome c flips self.now to q → LeastWith c q flips result }
     {

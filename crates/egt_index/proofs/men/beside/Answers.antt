@@ -5,7 +5,7 @@ use Rattle.egt_index.specs.Size.{men_beside}
 use Rattle.egt_index.specs.First.{tells_colours}
 use Rattle.egt_index.specs.declared.men.TheConstants.{BESIDE}
 use Rattle.egt_index.proofs.Flipped.{first_tells}
-use Rattle.egt_index.proofs.MenTable.{row_is, no_king}
+use Rattle.egt_index.proofs.MenTable.{row_is, no_king, from_first}
 use Rattle.egt_index.proofs.men.beside.Goals as goal
 
 pub returns-clause-men : goal.returns-clause-men
@@ -21,3 +21,6 @@ pub returns-clause-colours : goal.returns-clause-colours
 returns-clause-colours c =
     subst (λ n. tells_colours n (slice_index_or BESIDE c.from.result _).0 ≡ true) (c.from.ensures ∙ c.number.ensures.value)
     (first_tells c.from.result _ (omega (arith, c.number.ensures.below, c.from.ensures)))
+
+pub returns-clause-from_first : goal.returns-clause-from_first
+returns-clause-from_first c = from_first c.from.result _ (omega (arith, c.number.ensures.below, c.from.ensures))

@@ -1,36 +1,13 @@
-use Rattle.std.proofs.Common.{sym, ap, ◌∙◌, refl, subst}
+use Rattle.std.proofs.Common.{sym, refl}
 use Rattle.std.specs.Option.{is_some}
-use Rattle.std.specs.Prelude.{Option, IfSome}
-use Rattle.egt_index.specs.Frame.{AreExchangedLanes}
-use Rattle.egt_index.specs.declared.lanes.Lanes.{Lanes}
-use Rattle.egt_index.proofs.frame.Frame.of.Goals.{then-has_equal_sides, else-has_equal_sides}
 use Rattle.egt_index.proofs.frame.Frame.of.Goals as goal
 
 pub returns-clause-frame : goal.returns-clause-frame
-returns-clause-frame c = record {
-  passed = is_some c.args.position.now.target;
-  stand = record {
-    admissible = c.side.ensures.admissible;
-    settled = c.requires.settled;
-    is_of = c.is_flipped-flipped.ensures;
-    stood = c.stand_of-stand.ensures;
-    side_is = sym c.side.ensures.side;
-    target_is = refl;
-  };
-  own = c.home_lanes.ensures;
-  equal = elim c.if-has_equal_sides.branch [
-    | then-has_equal_sides w ↦ ap (λ (o : Option Lanes). is_some o) w.result-is ∙ sym (sym c.has_equal_sides.ensures ∙ w.if-has_equal_sides.true)
-    | else-has_equal_sides w ↦ ap (λ (o : Option Lanes). is_some o) w.result-is ∙ sym (sym c.has_equal_sides.ensures ∙ w.if-has_equal_sides.false)
-  ];
-  exchanged = elim c.if-has_equal_sides.branch [
-    | then-has_equal_sides w ↦ subst (λ (o : Option Lanes). IfSome o (AreExchangedLanes c.args.class c.is_flipped-flipped.result c.stand_of-stand.result)) (sym w.result-is) (record {
-      exchanged = w.exchanged.result;
-      white = w.exchanged.ensures.white;
-      black = w.exchanged.ensures.black;
-      next = w.exchanged.ensures.next;
-      last = w.exchanged.ensures.last;
-      are = w.home_lanes-then-has_equal_sides.ensures;
-    })
-    | else-has_equal_sides w ↦ subst (λ (o : Option Lanes). IfSome o (AreExchangedLanes c.args.class c.is_flipped-flipped.result c.stand_of-stand.result)) (sym w.result-is) tt
-  ];
-}
+returns-clause-frame c = c.of_stand.ensures.frame c.args.position.now (is_some c.args.position.now.target) (record {
+  admissible = c.side.ensures.admissible;
+  settled = c.requires.settled;
+  is_of = c.standing_of-standing.ensures.is_of;
+  stood = c.standing_of-standing.ensures.stood;
+  side_is = sym c.side.ensures.side;
+  target_is = refl;
+})

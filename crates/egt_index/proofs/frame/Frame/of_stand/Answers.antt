@@ -1,6 +1,6 @@
 use Rattle.std.proofs.Common.{sym, ap, ◌∙◌, subst}
 use Rattle.std.specs.Option.{is_some}
-use Rattle.std.specs.Prelude.{Option, IfSome, false}
+use Rattle.std.specs.Prelude.{Option, IfSome}
 use Rattle.egt_index.specs.Frame.{AreExchangedLanes}
 use Rattle.egt_index.specs.declared.lanes.Lanes.{Lanes}
 use Rattle.egt_index.proofs.frame.Frame.of_stand.Goals.{then-has_equal_sides, else-has_equal_sides}
@@ -16,7 +16,7 @@ returns-clause-frame c = λ p passed has. record {
     | else-has_equal_sides w ↦ ap (λ (o : Option Lanes). is_some o) w.result-is ∙ sym (sym c.has_equal_sides.ensures ∙ w.if-has_equal_sides.false)
   ];
   exchanged = elim c.if-has_equal_sides.branch [
-    | then-has_equal_sides w ↦ subst (λ (o : Option Lanes). IfSome o (AreExchangedLanes c.args.class false c.args.stand.now)) (sym w.result-is) (record {
+    | then-has_equal_sides w ↦ subst (λ (o : Option Lanes). IfSome o (AreExchangedLanes c.args.class c.args.flipped c.args.stand.now)) (sym w.result-is) (record {
       exchanged = w.exchanged.result;
       white = w.exchanged.ensures.white;
       black = w.exchanged.ensures.black;
@@ -24,6 +24,6 @@ returns-clause-frame c = λ p passed has. record {
       last = w.exchanged.ensures.last;
       are = w.home_lanes-then-has_equal_sides.ensures;
     })
-    | else-has_equal_sides w ↦ subst (λ (o : Option Lanes). IfSome o (AreExchangedLanes c.args.class false c.args.stand.now)) (sym w.result-is) tt
+    | else-has_equal_sides w ↦ subst (λ (o : Option Lanes). IfSome o (AreExchangedLanes c.args.class c.args.flipped c.args.stand.now)) (sym w.result-is) tt
   ];
 }

@@ -1,4 +1,4 @@
-use Rattle.std.proofs.Common.{ℕ, not, Option, Some, None, sym, subst}
+use Rattle.std.proofs.Common.{ℕ, not, Some, None, sym, subst}
 use Rattle.egt_index.specs.Home.{LeastWith}
 use Rattle.egt_index.specs.Turns.{Best}
 use Rattle.egt_index.specs.Ways.{Leads}
