@@ -5,6 +5,7 @@ ghost use Rattle.egt_graph.specs.Graph.{IsNode};
 ghost use Rattle.egt_graph.specs.Frontier.{blocks_of};
 
 use crate::game::Game;
+use arrayvec::ArrayVec;
 use std::alloc::{AllocError, Global};
 use std::marker::Model;
 
@@ -48,8 +49,9 @@ impl<'g, G: Game> Batch<'g, G> {
         let mut targets = Vec::new(alloc);
         let mut starts = Vec::with_capacity(alloc, nodes.len() + 1)?;
         starts.push(0)?;
+        let mut sources = ArrayVec::new();
         for node in &nodes {
-            let sources = game.into(*node);
+            game.list_into(*node, &mut sources);
             targets.extend_from_slice(sources.as_slice())?;
             starts.push(targets.len())?;
         }

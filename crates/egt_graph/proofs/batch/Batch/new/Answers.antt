@@ -8,7 +8,7 @@ loop-node-preserved g c =
     let h = c.loop-node.invariant in
     let more : c.extend_from_slice.new.self.items ≡ c.loop-node.targets.items ++ c.as_slice.result.now = search rules in
     let one : c.push-in-loop-node.new.self.items ≡ c.loop-node.starts.items ++ length c.extend_from_slice.new.self.items ∷ [] = search rules in
-    let is = c.as_slice.ensures.value ∙ c.into-sources.ensures in
+    let is = c.as_slice.ensures.value ∙ c.list_into.ensures in
     record {
       kept = rw (one, more) (Targets_more (g.G.Game.graph c.args.game.now) c.deref-node-items.result.now c.loop-node.targets.items c.loop-node.starts.items
           c.as_slice.result.now c.loop-node.node-index h.kept h.long h.last is);
