@@ -61,10 +61,10 @@ fn skip_loads(entries: &[u16], from: usize, end: usize, round: u16) -> usize
     let mut place = from;
     while place + LANES <= end {
         let quiet = quiet_lanes(entries, place, round);
-        place += quiet;
         if quiet < LANES {
-            return place;
+            return place + quiet;
         }
+        place += LANES;
     }
     place
 }
