@@ -48,7 +48,7 @@ fn quiet_lanes(entries: &[u16], from: usize, round: u16) -> usize
     }
 }
 
-/// Goes on from `from` by whole loads, to an entry of the round or to where `end` is nearer than a load.
+/// Goes on from `from` by whole loads, to the first entry of the round or to where less than a load is left.
 #[inline(always)]
 fn skip_loads(entries: &[u16], from: usize, end: usize, round: u16) -> usize
     requires short { round ≤ 32000 }
@@ -57,6 +57,7 @@ fn skip_loads(entries: &[u16], from: usize, end: usize, round: u16) -> usize
     ensures ordered { from ≤ result }
     ensures within { result ≤ end }
     ensures quiet { (k : ℕ) → from ≤ k → k < result → IsFalse (is_entry_of_round round (slice_index entries.now k)) }
+    ensures found { result + LANES ≤ end → IsTrue (is_entry_of_round round (slice_index entries.now result)) }
 {
     let mut place = from;
     while place + LANES <= end {
