@@ -1,4 +1,5 @@
 pub mod Ranges
+pub mod Lanes
 pub mod Fronts
 pub mod Lists
 pub mod Values

@@ -44,12 +44,12 @@ front-ascends g n block = IsStrictlyIncreasing-filter (is_ranked g n) (range_wit
 abbrev pub is_entry_of_round : ℕ → ℕ → Bool
 is_entry_of_round n entry = (entry == 2 + 2 * n) || (entry == 3 + 2 * n)
 
--- the places of such entries among the first m, ascending; all such places
-abbrev pub frontier_below : List ℕ → ℕ → ℕ → List ℕ
-frontier_below entries n m = filter (λ k. is_entry_of_round n (slice_index entries k)) (range_with_len 0 m)
+-- the places of such entries from a up to b, ascending; all such places
+abbrev pub places_from : List ℕ → ℕ → ℕ → ℕ → List ℕ
+places_from entries n a b = filter (λ k. is_entry_of_round n (slice_index entries k)) (range_with_len a (b - a))
 
 abbrev pub frontier_of : List ℕ → ℕ → List ℕ
-frontier_of entries n = frontier_below entries n (length entries)
+frontier_of entries n = filter (λ k. is_entry_of_round n (slice_index entries k)) (range_with_len 0 (length entries))
 
 -- the numbers of a block whose entries are of the round, ascending
 abbrev pub entry_front : List ℕ → ℕ → ℕ → List ℕ

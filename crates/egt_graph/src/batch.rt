@@ -1,10 +1,11 @@
 //! The work of one block in one round.
-ghost use Rattle.std.specs.Prelude.{◌≡◌, ◌<◌, length, slice_index, All, IfOk};
+ghost use Rattle.std.specs.Prelude.{◌≡◌, ◌<◌, ◌≤◌, ◌∷◌, length, slice_index, All, IfOk};
 ghost use Rattle.std.specs.List.Sorted.{IsStrictlyIncreasing};
 ghost use Rattle.egt_graph.specs.Graph.{IsNode};
 ghost use Rattle.egt_graph.specs.Frontier.{blocks_of};
 
 use crate::game::Game;
+use arrayvec::ArrayVec;
 use std::alloc::{AllocError, Global};
 use std::marker::Model;
 
@@ -17,7 +18,8 @@ pub struct Batch<'g, G: Game> {
     block: u32,
     nodes: Vec<u32>,
     targets: Vec<u32>,
-    starts: Vec<usize>,
+    /// Where the targets of each node end, and those of the next begin.
+    ends: Vec<usize>,
 }
 
 impl<'g, G: Game> Model for Batch<'g, G> {
@@ -27,7 +29,7 @@ impl<'g, G: Game> Model for Batch<'g, G> {
 
     ghost view = { λ b. record { game = b.game.now; round = b.round; block = b.block; nodes = b.nodes.items } };
 
-    ghost invariant = { λ b. IsBatch (G.graph b.game.now) b.block b.nodes.items b.targets.items b.starts.items };
+    ghost invariant = { λ b. IsBatch (G.graph b.game.now) b.block b.nodes.items b.targets.items b.ends.items };
 }
 
 impl<'g, G: Game> Batch<'g, G> {
@@ -46,12 +48,12 @@ impl<'g, G: Game> Batch<'g, G> {
             (λ batch. (batch.game ≡ game.now) × (batch.round ≡ round) × (batch.block ≡ block) × (batch.nodes ≡ nodes.items)) }
     {
         let mut targets = Vec::new(alloc);
-        let mut starts = Vec::with_capacity(alloc, nodes.len() + 1)?;
-        starts.push(0)?;
+        let mut ends = Vec::with_capacity(alloc, nodes.len())?;
+        let mut sources = ArrayVec::new();
         for node in &nodes {
-            let sources = game.into(*node);
+            game.list_into(*node, &mut sources);
             targets.extend_from_slice(sources.as_slice())?;
-            starts.push(targets.len())?;
+            ends.push(targets.len())?;
         }
         Ok(Batch {
             game,
@@ -59,7 +61,7 @@ impl<'g, G: Game> Batch<'g, G> {
             block,
             nodes,
             targets,
-            starts,
+            ends,
         })
     }
 
@@ -92,6 +94,16 @@ impl<'g, G: Game> Batch<'g, G> {
         requires { k < length self.now.nodes }
         ensures { result.now ≡ (G.graph self.now.game).into (slice_index self.now.nodes k) }
     {
-        &self.targets[self.starts[k]..self.starts[k + 1]]
+        let start = start_of(&self.ends, k);
+        &self.targets[start..self.ends[k]]
     }
+}
+
+/// Where the targets of the node at place `k` begin.
+#[inline(always)]
+fn start_of(ends: &[usize], k: usize) -> usize
+    requires { k ≤ length ends.now }
+    ensures { result ≡ slice_index (0 ∷ ends.now) k }
+{
+    if k == 0 { 0 } else { ends[k - 1] }
 }

@@ -86,5 +86,13 @@ pub trait Game {
         })
     }
 
+    /// Fills the list with what `into` answers, in the place of what it had.
+    fn list_into(&self, j: u32, list: &mut ArrayVec<u32, 128>)
+        requires { IsNode (graph self.now) j }
+        ensures { list.new.items ≡ (graph self.now).into j }
+    {
+        *list = self.into(j);
+    }
+
     ghost lawful: { (game : Self) → IsGame (graph game) };
 }

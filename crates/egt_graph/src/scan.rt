@@ -1,7 +1,6 @@
 //! The scan for the nodes of a round.
-ghost use Rattle.std.specs.Prelude.{◌≡◌, ◌↔◌, ℕ, ◌+◌, ◌*◌, ◌^◌, ◌<◌, ◌≤◌, [], length, map, min, slice_index, All, IsTrue, IsFalse, IfOk};
-ghost use Rattle.std.specs.Bool.{OnTrue};
-ghost use Rattle.egt_graph.specs.Frontier.{frontier_of, frontier_below, is_entry_of_round, entry_front};
+ghost use Rattle.std.specs.Prelude.{◌≡◌, ◌↔◌, ℕ, ◌+◌, ◌*◌, ◌^◌, ◌<◌, ◌≤◌, [], ◌∷◌, length, min, slice_index, IsTrue, IsFalse, IfOk};
+ghost use Rattle.egt_graph.specs.Frontier.{frontier_of, places_from, is_entry_of_round, entry_front};
 
 use arrayvec::ArrayVec;
 use std::alloc::{AllocError, Global};
@@ -14,59 +13,80 @@ pub(crate) const BLOCK: usize = 4096;
 const LANES: usize = 16;
 
 /// The places of the entries that spell a win or a loss in `round` plies, ascending.
-#[tactic(auto, using(crate::proofs::Ranges::frontier_quiet))]
 pub fn frontier(entries: &[u16], round: u16) -> ArrayVec<u16, 4096>
     requires few { length entries.now ≤ 4096 }
     requires short { round ≤ 32000 }
     ensures { result.items ≡ frontier_of entries.now round }
 {
+    let end = entries.len();
     let mut places = ArrayVec::new();
-    let mut from = 0;
-    while from + LANES <= entries.len() {
-        if !is_quiet(entries, from, round) {
-            push_places(entries, from, from + LANES, round, &mut places);
-        }
-        from += LANES;
+    let mut place = next_place(entries, 0, end, round);
+    while place < end {
+        places.push(place as u16);
+        place = next_place(entries, place + 1, end, round);
     }
-    push_places(entries, from, entries.len(), round, &mut places);
     places
 }
 
-/// No entry of the load is one of the round. Most loads are quiet, so a load's places are looked for one by one only
-/// where it is not.
+/// How many entries of the load come before the first of the round: all of them where it has none.
 #[inline(always)]
-fn is_quiet(entries: &[u16], from: usize, round: u16) -> bool
+fn quiet_lanes(entries: &[u16], from: usize, round: u16) -> usize
     requires within { from + LANES ≤ length entries.now }
     requires short { round ≤ 32000 }
-    ensures { OnTrue result
-        ((k : ℕ) → from ≤ k → k < from + LANES → IsFalse (is_entry_of_round round (slice_index entries.now k))) }
+    ensures within { result ≤ LANES }
+    ensures quiet { (k : ℕ) → from ≤ k → k < from + result → IsFalse (is_entry_of_round round (slice_index entries.now k)) }
+    ensures found { result < LANES → IsTrue (is_entry_of_round round (slice_index entries.now (from + result))) }
 {
     let load = u16x16::from_slice(&entries[from..]);
-    let wins = load.simd_eq(u16x16::splat(2 + 2 * round)).to_bitmask();
-    let losses = load.simd_eq(u16x16::splat(3 + 2 * round)).to_bitmask();
-    wins == 0 && losses == 0
+    // A win and a loss in as many plies differ in the lowest bit alone.
+    let halves = load >> u16x16::splat(1);
+    let found = halves.simd_eq(u16x16::splat(1 + round)).to_bitmask();
+    if found == 0 {
+        LANES
+    } else {
+        found.trailing_zeros() as usize
+    }
 }
 
-#[tactic(auto, using(crate::proofs::Ranges::length_frontier_below))]
-fn push_places(
-    entries: &[u16],
-    from: usize,
-    end: usize,
-    round: u16,
-    places: &mut ArrayVec<u16, 4096>,
-)
-    requires few { length entries.now ≤ 4096 }
+/// Goes on from `from` by whole loads, to the first entry of the round or to where less than a load is left.
+#[inline(always)]
+fn skip_loads(entries: &[u16], from: usize, end: usize, round: u16) -> usize
     requires short { round ≤ 32000 }
     requires ordered { from ≤ end }
     requires within { end ≤ length entries.now }
-    requires begun { places.old.items ≡ frontier_below entries.now round from }
-    ensures { places.new.items ≡ frontier_below entries.now round end }
+    ensures ordered { from ≤ result }
+    ensures within { result ≤ end }
+    ensures quiet { (k : ℕ) → from ≤ k → k < result → IsFalse (is_entry_of_round round (slice_index entries.now k)) }
+    ensures found { result + LANES ≤ end → IsTrue (is_entry_of_round round (slice_index entries.now result)) }
 {
-    for place in from..end {
+    let mut place = from;
+    while place + LANES <= end {
+        let quiet = quiet_lanes(entries, place, round);
+        if quiet < LANES {
+            return place + quiet;
+        }
+        place += LANES;
+    }
+    place
+}
+
+/// The first place from `from` up to `end` whose entry is of the round, or `end` where there is none.
+fn next_place(entries: &[u16], from: usize, end: usize, round: u16) -> usize
+    requires short { round ≤ 32000 }
+    requires ordered { from ≤ end }
+    requires within { end ≤ length entries.now }
+    ensures ordered { from ≤ result }
+    ensures within { result ≤ end }
+    ensures found { result < end → places_from entries.now round from end ≡ result ∷ places_from entries.now round (result + 1) end }
+    ensures none { result ≡ end → places_from entries.now round from end ≡ [] }
+{
+    let unseen = skip_loads(entries, from, end, round);
+    for place in unseen..end {
         if is_of_round(entries[place], round) {
-            places.push(place as u16);
+            return place;
         }
     }
+    end
 }
 
 #[inline(always)]
@@ -85,40 +105,7 @@ fn block_end(entries: &[u16], block: u32) -> usize
     entries.len().min(start + BLOCK)
 }
 
-/// The places of the round's entries within a block.
-#[tactic(auto, using(crate::proofs::Fronts::block_places_front, crate::proofs::Fronts::block_places_within))]
-fn block_places(entries: &[u16], block: u32, round: u16) -> ArrayVec<u16, 4096>
-    requires short { round ≤ 32000 }
-    requires within { 4096 * block ≤ length entries.now }
-    ensures nodes { map (λ k. 4096 * block + k) result.items ≡ entry_front entries.now round block }
-    ensures within { All (λ k. 4096 * block + k < length entries.now) result.items }
-{
-    let start = block as usize * BLOCK;
-    let end = block_end(entries, block);
-    frontier(&entries[start..end], round)
-}
-
-/// Whether no entry of the block is of the round, as is so of most blocks. No place is listed. A block whose length is no multiple of a load is not
-/// looked at to its end, and told to have some.
-#[tactic(auto, using(crate::proofs::Fronts::quiet_front))]
-fn is_quiet_block(entries: &[u16], block: u32, round: u16) -> bool
-    requires short { round ≤ 32000 }
-    requires within { 4096 * block ≤ length entries.now }
-    ensures { OnTrue result (entry_front entries.now round block ≡ []) }
-{
-    let start = block as usize * BLOCK;
-    let end = block_end(entries, block);
-    let mut from = start;
-    while from + LANES <= end {
-        if !is_quiet(entries, from, round) {
-            return false;
-        }
-        from += LANES;
-    }
-    from == end
-}
-
-/// The nodes of a block whose entries are of the round.
+/// The nodes of a block whose entries are of the round. Where there are none nothing grows.
 pub(crate) fn block_nodes(
     alloc: Global,
     entries: &[u16],
@@ -130,13 +117,12 @@ pub(crate) fn block_nodes(
     requires few { length entries.now < 2 ^ 32 }
     ensures { IfOk result (λ nodes. nodes.items ≡ entry_front entries.now round block) }
 {
-    if is_quiet_block(entries, block, round) {
-        return Ok(Vec::new(alloc));
-    }
-    let places = block_places(entries, block, round);
-    let mut nodes = Vec::with_capacity(alloc, places.len())?;
-    for place in places.as_slice() {
-        nodes.push(block * BLOCK as u32 + u32::from(*place))?;
+    let end = block_end(entries, block);
+    let mut nodes = Vec::new(alloc);
+    let mut place = next_place(entries, block as usize * BLOCK, end, round);
+    while place < end {
+        nodes.push(place as u32)?;
+        place = next_place(entries, place + 1, end, round);
     }
     Ok(nodes)
 }
@@ -147,19 +133,14 @@ pub(crate) fn is_block_front(entries: &[u16], block: u32, round: u16, nodes: &[u
     requires within { 4096 * block ≤ length entries.now }
     ensures { IsTrue result ↔ (nodes.now ≡ entry_front entries.now round block) }
 {
-    if is_quiet_block(entries, block, round) {
-        return nodes.is_empty();
-    }
-    let places = block_places(entries, block, round);
-    let places = places.as_slice();
-    if places.len() != nodes.len() {
-        return false;
-    }
-    let start = block as usize * BLOCK;
-    for k in 0..nodes.len() {
-        if nodes[k] as usize != start + places[k] as usize {
+    let end = block_end(entries, block);
+    let mut from = block as usize * BLOCK;
+    for node in nodes {
+        let place = next_place(entries, from, end, round);
+        if place == end || *node as usize != place {
             return false;
         }
+        from = place + 1;
     }
-    true
+    next_place(entries, from, end, round) == end
 }

@@ -88,19 +88,23 @@ pub(crate) fn successors(column: Column, class: Class, index: u32) -> ArrayVec<u
     list
 }
 
-/// The nodes from which moves that go on lead to a node.
-pub(crate) fn predecessors(column: Column, class: Class, index: u32) -> ArrayVec<u32, 128>
+/// Fills the list with the nodes from which moves that go on lead to a node, in the place of what it had.
+pub(crate) fn predecessors(
+    column: Column,
+    class: Class,
+    index: u32,
+    list: &mut ArrayVec<u32, 128>,
+)
     requires { IsFalse (not (is_some (position_at class index))) }
-    ensures { result.items ≡ passing_below (size_of class) (λ i. connects column class i index) }
+    ensures { list.new.items ≡ passing_below (size_of class) (λ i. connects column class i index) }
 {
     laws();
     let _number = class.number();
-    let mut list = ArrayVec::new();
+    list.clear();
     match spelled(class, index) {
-        Some((position, frame)) => sources(column, class, &frame, &position, &mut list),
+        Some((position, frame)) => sources(column, class, &frame, &position, list),
         None => unreachable!(),
     }
-    list
 }
 
 /// The values of where the moves lead that leave the game from a node, in the order of moves.

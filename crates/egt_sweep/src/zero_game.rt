@@ -87,7 +87,13 @@ impl Game for ZeroGame<'_> {
     }
 
     fn into(&self, j: u32) -> ArrayVec<u32, 128> {
-        predecessors(Column::Zeroing, self.class, j)
+        let mut list = ArrayVec::new();
+        self.list_into(j, &mut list);
+        list
+    }
+
+    fn list_into(&self, j: u32, list: &mut ArrayVec<u32, 128>) {
+        predecessors(Column::Zeroing, self.class, j, list);
     }
 
     fn exits(&self, i: u32) -> ArrayVec<Exit, 64> {
