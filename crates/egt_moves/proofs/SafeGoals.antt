@@ -21,7 +21,7 @@ use Rattle.egt_moves.specs.Legal.{men_after, plain, is_target, takes_in_passing}
 use Rattle.egt_moves.specs.Targets.{IsLegalTarget, IsSafeGoal}
 use Rattle.egt_moves.proofs.After.{goes_on_board, sides_differ, king_moves, king_stays}
 use Rattle.egt_moves.proofs.Growing.{legal_of, goes_of, fits_of, safe_of, same_safety}
-use Rattle.egt_moves.proofs.Walking.{king_square}
+use Rattle.egt_moves.specs.Room.{king_square}
 
 -- nothing is taken in passing by another man than a pawn, or on another square than the target
 pub not_passing : (p : Setup) (man : Man) (t : ℕ) → (man.kind ≡ P → p.target ≡ Some t → ⊥) → takes_in_passing p man t ≡ false

@@ -6,6 +6,7 @@ pub mod Collecting
 pub mod Standing
 pub mod Backward
 pub mod OutOfClass
+pub mod Walked
 pub mod Members
 pub mod Agreeing
 pub mod MateRanks

@@ -1,11 +1,9 @@
 -- What is told of where the moves that leave a class lead.
-use Rattle.std.proofs.Common.{◌≡◌, ◌≢◌, ℕ, zero, suc, ◌+◌, ◌-◌, ◌/◌, ◌%◌, ◌<◌, ◌≤◌, Bool, true, false, List, [], ◌∷◌, ◌++◌, if◌then◌else◌, Option, Some, None, IsSome, eqb, length, get_or, take, refl, sym, ap, ◌∙◌, subst, inl, inr, arith}
+use Rattle.std.proofs.Common.{◌≡◌, ◌≢◌, ℕ, zero, suc, ◌-◌, ◌/◌, ◌%◌, ◌<◌, ◌≤◌, Bool, true, false, List, [], ◌∷◌, ◌++◌, if◌then◌else◌, Option, Some, None, IsSome, eqb, refl, sym, ap, ◌∙◌, subst, inl, inr, arith}
 use Rattle.std.proofs.Math.Logic.{⊎_elim}
 use Rattle.std.proofs.lemmas.Bool.{cases_eq, eqb-true, eq-eqb}
-use Rattle.std.proofs.lemmas.Grind.{flat_map-append}
-use Rattle.std.proofs.lemmas.List.{take_more, append-nil}
-use Rattle.std.proofs.lemmas.List.Concat.{flat_map-cons}
-use Rattle.std.specs.List.{flat_map, Contains}
+use Rattle.std.proofs.lemmas.List.{append-nil}
+use Rattle.std.specs.List.{Contains}
 use Rattle.std.specs.Option.{is_some, option_to_list, option_map}
 use Rattle.egt_board.specs.Setup.{Setup, IsAdmissible}
 use Rattle.egt_class.specs.Children.{children_of}
@@ -106,13 +104,21 @@ module _ (laws : Laws) (tables : Tables) where
   played_is p q m leads = (laws.played p q m).0 leads
 
   -- a move that goes on has no exit
-  pub goes_no_exit : (column : Column) (c : ℕ) (p q : Setup) (m : Move) → IsAdmissible p → Leads p m q → GoesOn column c p m q → (es : List Exit) →
+  goes_no_exit : (column : Column) (c : ℕ) (p q : Setup) (m : Move) → IsAdmissible p → Leads p m q → GoesOn column c p m q → (es : List Exit) →
       es ≡ es ++ option_to_list (exit_by tables column c p m (played p m))
   unfolding exit_by_test
   goes_no_exit column c p q m ok leads on es =
       let q_ok = laws.facts.step_admissible p q m ok leads in
       let none = ap (exit_by tables column c p m) (played_is p q m leads) ∙ test_exit column c p q m true ((goes_is laws column c p q m q_ok).1 on) in
       sym (ap (λ (o : Option Exit). es ++ option_to_list o) none ∙ append-nil es)
+
+  -- so nothing is told of a move that is illegal or goes on
+  pub nothing_told : (column : Column) (c : ℕ) (p : Setup) (m : Move) → IsAdmissible p → ((q : Setup) → Leads p m q → GoesOn column c p m q) → option_to_list (exit_by tables column c p m (played p m)) ≡ []
+  nothing_told column c p m ok on = of_played (played p m) refl
+    where
+      of_played : (o : Option Setup) → played p m ≡ o → option_to_list (exit_by tables column c p m (played p m)) ≡ []
+      of_played None e = ap (λ (x : Option Setup). option_to_list (exit_by tables column c p m x)) e
+      of_played (Some q) e = let leads = (laws.played p q m).1 e in sym (goes_no_exit column c p q m ok leads (on q leads) [])
 
   goes_false : (column : Column) (c : ℕ) (p q : Setup) (m : Move) → IsAdmissible q → ¬ GoesOn column c p m q → (b : Bool) → goes_on column c p m q ≡ b → b ≡ false
   goes_false column c p q m ok off true e = absurd (off ((goes_is laws column c p q m ok).0 e))
@@ -126,13 +132,6 @@ module _ (laws : Laws) (tables : Tables) where
       let q_ok = laws.facts.step_admissible p q m ok leads in
       let some = ap (exit_by tables column c p m) (played_is p q m leads) ∙ test_exit column c p q m false (goes_false column c p q m q_ok off (goes_on column c p m q) refl) in
       ap (λ (x : Exit). es ++ x ∷ []) is ∙ sym (ap (λ (o : Option Exit). es ++ option_to_list o) some)
-
--- one move more of a list
-pub one_more : {X : Type 0} (f : X → List Exit) (xs : List X) (n : ℕ) (x : X) (es fs : List Exit) → n < length xs → x ≡ get_or xs n x → es ≡ flat_map f (take n xs) → fs ≡ es ++ f x → fs ≡ flat_map f (take (n + 1) xs)
-one_more f xs n x es fs inside here so_far is =
-    let last : flat_map f (x ∷ []) ≡ f x = flat_map-cons f x [] ∙ append-nil (f x) in
-    let taken : take (n + 1) xs ≡ take n xs ++ x ∷ [] = take_more xs n x inside ∙ ap (λ y. take n xs ++ y ∷ []) (sym here) in
-    is ∙ ap (λ ys. ys ++ f x) so_far ∙ ap (λ ys. flat_map f (take n xs) ++ ys) (sym last) ∙ sym (flat_map-append f (take n xs) (x ∷ [])) ∙ ap (flat_map f) (sym taken)
 
 pub mapped_some : {A B : Type 0} (f : A → B) (o : Option A) (x : Option B) → option_map f o ≡ x → IsSome x → IsSome o
 mapped_some f None x e some = subst IsSome (sym e) some

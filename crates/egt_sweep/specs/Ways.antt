@@ -1,4 +1,4 @@
--- The legal moves of a position that go on in the game.
+-- The legal moves of a position that go on in the game, and those that leave it.
 use Rattle.std.specs.Prelude.{◌≡◌, ◌≢◌, ℕ, ◌<◌, ◌↔◌, List, length, Some}
 use Rattle.std.specs.Int.{bit_at}
 use Rattle.std.specs.List.{Contains}
@@ -6,6 +6,7 @@ use Rattle.std.specs.List.Sorted.{IsStrictlyIncreasing}
 use Rattle.egt_board.specs.Pawn.{last_rank}
 use Rattle.egt_board.specs.Setup.{Setup}
 use Rattle.egt_board.specs.Square.{rank_of}
+use Rattle.egt_board.specs.SquareSet.{Has}
 use Rattle.egt_board.specs.declared.man.Man.{Man}
 use Rattle.egt_board.specs.declared.square_set.SquareSet.{SquareSet}
 use Rattle.egt_moves.specs.Legal.{Leads, plain}
@@ -30,3 +31,11 @@ pub record Counts (column : Column) (c : ℕ) (p : Setup) (rest : SquareSet) (n 
   pub ascends : IsStrictlyIncreasing list
   pub length_is : length list ≡ n
   pub members : (k : ℕ) → Contains list k ↔ ((m : Move) × (bit_at rest.bits m.from ≡ 0) × LeadsOn column c p m k)
+
+-- the legal moves from the square to these leave the game
+abbrev pub AllLeave : Column → ℕ → Setup → ℕ → SquareSet → Type 0
+AllLeave column c p from set = (m : Move) (q : Setup) → m.from ≡ from → Has set m.to → Leads p m q → ¬ GoesOn column c p m q
+
+-- and those to others go on
+abbrev pub OthersGoOn : Column → ℕ → Setup → ℕ → SquareSet → Type 0
+OthersGoOn column c p from set = (m : Move) (q : Setup) → m.from ≡ from → bit_at set.bits m.to ≡ 0 → Leads p m q → GoesOn column c p m q

@@ -24,7 +24,6 @@ ghost use Rattle.egt_sweep.specs.Nodes.{position_at, is_mated, connects, exits_a
 use crate::aim::Aim;
 use crate::edges::edges;
 use crate::laws::laws;
-use crate::leaving;
 use crate::sources::sources;
 use crate::ways::{Ways, ways_of};
 use arrayvec::ArrayVec;
@@ -118,7 +117,9 @@ pub(crate) fn exits(
 {
     laws();
     let position = node(class, index);
-    leaving::exits(aim, class, library, &position)
+    let mut list = ArrayVec::new();
+    let _ways = ways_of(aim, class, library, &position, &mut list);
+    list
 }
 
 /// Whether the side to move, whose moves are known, is checkmated.
@@ -153,29 +154,6 @@ fn degree(column: Column, class: Class, frame: &Frame, position: &Position, ways
     list.len()
 }
 
-/// The exits of a position: none where no move leaves the game.
-fn fill_exits(
-    aim: &Aim<'_>,
-    class: Class,
-    library: &Library,
-    position: &Position,
-    ways: &Ways,
-    exits: &mut ArrayVec<Exit, 64>,
-)
-    requires knows { KnowsOwn class aim.now }
-    requires of { (flipped : Bool) × IsOf class flipped position.now }
-    requires children { HasChildren (table_at library.now) class }
-    requires leaves { IsFalse ways.now.leaves → (m : Move) (q : Setup) → Leads position.now m q → GoesOn (column_of aim.now) class position.now m q }
-    ensures { exits.new.items ≡ exits_from (known (table_at library.now) class aim.now) (column_of aim.now) class (Some position.now) }
-{
-    laws();
-    let _side = position.side();
-    exits.clear();
-    if ways.leaves {
-        leaving::add_exits(aim, class, library, position, exits);
-    }
-}
-
 /// What a run begins with at the node of the position.
 fn start_at(
     aim: &Aim<'_>,
@@ -195,12 +173,11 @@ fn start_at(
     ensures few { result.degree ≤ 64 }
     ensures exits { exits.new.items ≡ exits_from (known (table_at library.now) class aim.now) (column_of aim.now) class (Some position.now) }
 {
-    let column = aim.column();
-    let ways = ways_of(column, class, position);
-    fill_exits(aim, class, library, position, &ways, exits);
+    exits.clear();
+    let ways = ways_of(aim, class, library, position, exits);
     Start {
         mated: is_checkmate_by(position, &ways),
-        degree: degree(column, class, frame, position, &ways) as u8,
+        degree: degree(aim.column(), class, frame, position, &ways) as u8,
     }
 }
 

@@ -5,10 +5,10 @@ use Rattle.egt_sweep.specs.Nodes.{exits_at, exits_from}
 use Rattle.egt_sweep.proofs.Linked.{position_is}
 use Rattle.egt_sweep.proofs.nodes.exits.Goals as goal
 
-pub exits-requires-clause-of : goal.exits-requires-clause-of
-exits-requires-clause-of c = c.laws.ensures.indexed_class c.node-position.result c.args.class c.args.index c.node-position.ensures.spells.admissible c.node-position.ensures.index
+pub ways_of-ways-requires-clause-of : goal.ways_of-ways-requires-clause-of
+ways_of-ways-requires-clause-of c = c.laws.ensures.indexed_class c.node-position.result c.args.class c.args.index c.node-position.ensures.spells.admissible c.node-position.ensures.index
 
 pub returns : goal.returns
 unfolding exits_at
-returns c = c.exits.ensures
+returns c = c.ways_of-ways.ensures.exits
     ∙ ap (exits_from (known (table_at c.args.library.now) c.args.class c.args.aim.now) (column_of c.args.aim.now) c.args.class) (sym ((position_is c.laws.ensures c.args.class c.args.index c.node-position.result).1 c.node-position.ensures))
