@@ -151,6 +151,14 @@ few_choices man to = of_kind man.kind (rank_of to == last_rank man.side)
     of_kind P false = omega arith
     of_kind K last = omega arith
 
+pub some_choice : (kind : Kind) → 1 ≤ most_choices kind
+some_choice Q = omega arith
+some_choice R = omega arith
+some_choice B = omega arith
+some_choice N = omega arith
+some_choice P = omega arith
+some_choice K = omega arith
+
 pub few_moves : (kind : Kind) (n : ℕ) → n ≤ most_goals kind → most_choices kind * n ≤ most_moves kind
 few_moves Q n few = omega (arith, few)
 few_moves R n few = omega (arith, few)

@@ -1,15 +1,17 @@
 -- The legal moves of a position that go on in the game, and those that leave it.
-use Rattle.std.specs.Prelude.{◌≡◌, ◌≢◌, ℕ, ◌<◌, ◌↔◌, List, length, Some}
+use Rattle.std.specs.Prelude.{◌≡◌, ◌≢◌, ℕ, ◌<◌, ◌↔◌, List, length, None, Some}
 use Rattle.std.specs.Int.{bit_at}
 use Rattle.std.specs.List.{Contains}
 use Rattle.std.specs.List.Sorted.{IsStrictlyIncreasing}
+use Rattle.egt_board.specs.Man.{other_side}
 use Rattle.egt_board.specs.Pawn.{last_rank}
+use Rattle.egt_board.specs.Placement.{Stands, IsHeld}
 use Rattle.egt_board.specs.Setup.{Setup}
 use Rattle.egt_board.specs.Square.{rank_of}
 use Rattle.egt_board.specs.SquareSet.{Has}
 use Rattle.egt_board.specs.declared.man.Man.{Man}
 use Rattle.egt_board.specs.declared.square_set.SquareSet.{SquareSet}
-use Rattle.egt_moves.specs.Legal.{Leads, plain}
+use Rattle.egt_moves.specs.Legal.{Leads, plain, passed}
 use Rattle.egt_moves.specs.declared.chess_move.Move.{Move}
 use Rattle.egt_table.specs.declared.column.Column.{Column}
 use Rattle.egt_sweep.specs.Edges.{GoesOn, LeadsOn}
@@ -17,6 +19,14 @@ use Rattle.egt_sweep.specs.Edges.{GoesOn, LeadsOn}
 -- a pawn that arrives there is not promoted, and takes nothing in passing
 abbrev pub Stays : Setup → Man → ℕ → Type 0
 Stays p man t = (rank_of t ≢ last_rank man.side) × (p.target ≢ Some t)
+
+-- the man's way to the square takes nothing, promotes nothing and passes no square
+pub record IsStep (p : Setup) (from t : ℕ) : Type 0 where
+  pub man : Man
+  pub stands : Stands p.men from man
+  pub free : ¬ IsHeld p.men t (other_side p.side)
+  pub stays : Stays p man t
+  pub unpassed : passed man from t ≡ None
 
 -- the move to the square promotes nothing, and goes on
 pub record IsOnward (column : Column) (c : ℕ) (p : Setup) (from t : ℕ) : Type 0 where

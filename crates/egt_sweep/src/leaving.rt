@@ -3,10 +3,12 @@ ghost use Rattle.std.specs.Prelude.{◌≡◌, ◌+◌, ◌*◌, ◌++◌, ◌�
 ghost use Rattle.std.specs.Option.{option_to_list};
 ghost use Rattle.arrayvec.specs.ArrayVec.{array_vec_len};
 ghost use Rattle.egt_board.specs.Placement.{Stands};
-ghost use Rattle.egt_board.specs.Setup.{Setup};
+ghost use Rattle.egt_board.specs.Setup.{Setup, IsAdmissible};
 ghost use Rattle.egt_board.specs.SquareSet.{Has, size_of};
 ghost use Rattle.egt_board.specs.declared.man.Man.{Man};
 ghost use Rattle.egt_class.specs.Membership.{IsOf};
+ghost use Rattle.egt_index.specs.Frame.{IsFrame};
+ghost use Rattle.egt_index.specs.Index.{IsIndex};
 ghost use Rattle.egt_moves.specs.Arena.{Value};
 ghost use Rattle.egt_moves.specs.Legal.{Leads, IsLegal};
 ghost use Rattle.egt_moves.specs.Moves.{played, moves_between, moves_from};
@@ -21,16 +23,17 @@ ghost use Rattle.egt_sweep.specs.Aiming.{column_of, known, KnowsOwn};
 ghost use Rattle.egt_sweep.specs.Edges.{GoesOn};
 ghost use Rattle.egt_sweep.specs.MateColumn.{IsIndexed};
 ghost use Rattle.egt_sweep.specs.Nodes.{plies_told, exit_of, shown_below, exit_by, exits_by};
-ghost use Rattle.egt_sweep.specs.Ways.{AllLeave, OthersGoOn};
+ghost use Rattle.egt_sweep.specs.Ways.{IsStep, AllLeave, OthersGoOn};
 
 use crate::aim::Aim;
 use crate::laws::laws;
+use crate::quiet::is_step;
 use arrayvec::ArrayVec;
 use egt_board::{Position, Square, SquareSet};
 use egt_check::Library;
 use egt_class::{Class, of};
 use egt_graph::Exit;
-use egt_index::index;
+use egt_index::{Frame, index};
 use egt_moves::{Move, play, promotions};
 use egt_table::Column;
 
@@ -92,6 +95,19 @@ fn mate_entry(aim: &Aim<'_>, own: Class, library: &Library, class: Class, index:
     }
 }
 
+/// The value of a position with the index in a class that has its table.
+fn exit_in(aim: &Aim<'_>, own: Class, library: &Library, class: Class, index: u32) -> Exit
+    requires knows { KnowsOwn own aim.now }
+    requires there { IsSome (known (table_at library.now) own aim.now class) }
+    requires indexed { IsIndexed class index }
+    ensures { (q : Setup) → IsAdmissible q → IsIndex class q index → result ≡ exit_of (column_of aim.now) (shown_below (known (table_at library.now) own aim.now) 36 q) }
+{
+    laws();
+    let _number = class.number();
+    let entry = mate_entry(aim, own, library, class, index);
+    exit_shown(aim.column(), entry)
+}
+
 /// The value of a position whose class has its table.
 fn exit_at(aim: &Aim<'_>, own: Class, library: &Library, next: &Position) -> Exit
     requires knows { KnowsOwn own aim.now }
@@ -102,8 +118,7 @@ fn exit_at(aim: &Aim<'_>, own: Class, library: &Library, next: &Position) -> Exi
     let (class, _flipped) = of(next);
     let _side = next.side();
     let _number = class.number();
-    let entry = mate_entry(aim, own, library, class, index(class, next));
-    exit_shown(aim.column(), entry)
+    exit_in(aim, own, library, class, index(class, next))
 }
 
 /// Adds the value of where the move, which leaves the game, leads.
@@ -162,11 +177,71 @@ fn add_exits_between(
     }
 }
 
+/// Adds the value of where the man's step to the square, which leaves the game, leads. The position there is not made.
+fn add_exit_of_step(
+    aim: &Aim<'_>,
+    class: Class,
+    library: &Library,
+    frame: &Frame,
+    position: &Position,
+    from: Square,
+    to: Square,
+    list: &mut ArrayVec<Exit, 64>,
+)
+    requires knows { KnowsOwn class aim.now }
+    requires of { (flipped : Bool) × IsOf class flipped position.now }
+    requires children { HasChildren (table_at library.now) class }
+    requires frame { IsFrame position.now frame.now }
+    requires class { frame.now.class ≡ class }
+    requires target { IsLegalTarget position.now from to }
+    requires step { IsStep position.now from to }
+    requires leaves { (m : Move) (q : Setup) → m.from ≡ from → m.to ≡ to → Leads position.now m q → ¬ GoesOn (column_of aim.now) class position.now m q }
+    requires room { array_vec_len list.old < 64 }
+    ensures items { list.new.items ≡ list.old.items ++ exits_by (known (table_at library.now) class aim.now) (column_of aim.now) class position.now (moves_between from to) }
+    ensures few { array_vec_len list.new ≤ array_vec_len list.old + 1 }
+{
+    laws();
+    let _side = position.side();
+    let _number = class.number();
+    let index = frame.index_after(from, to);
+    list.push(exit_in(aim, class, library, class, index));
+}
+
+/// Adds the values of where the man's moves to the square, which leave the game, lead, in the order of moves.
+fn add_exits_to(
+    aim: &Aim<'_>,
+    class: Class,
+    library: &Library,
+    frame: &Frame,
+    position: &Position,
+    from: Square,
+    to: Square,
+    list: &mut ArrayVec<Exit, 64>,
+)
+    requires knows { KnowsOwn class aim.now }
+    requires of { (flipped : Bool) × IsOf class flipped position.now }
+    requires children { HasChildren (table_at library.now) class }
+    requires frame { IsFrame position.now frame.now }
+    requires class { frame.now.class ≡ class }
+    requires target { IsLegalTarget position.now from to }
+    requires leaves { (m : Move) (q : Setup) → m.from ≡ from → m.to ≡ to → Leads position.now m q → ¬ GoesOn (column_of aim.now) class position.now m q }
+    requires room { (man : Man) → Stands position.now.men from man → array_vec_len list.old + most_choices man.kind ≤ 64 }
+    ensures items { list.new.items ≡ list.old.items ++ exits_by (known (table_at library.now) class aim.now) (column_of aim.now) class position.now (moves_between from to) }
+    ensures few { (man : Man) → Stands position.now.men from man → array_vec_len list.new ≤ array_vec_len list.old + most_choices man.kind }
+{
+    if is_step(position, from, to) {
+        add_exit_of_step(aim, class, library, frame, position, from, to, list);
+    } else {
+        add_exits_between(aim, class, library, position, from, to, list);
+    }
+}
+
 /// Adds the values of where the man's moves that leave the game lead, in the order of moves: those to these squares.
 pub(crate) fn add_exits(
     aim: &Aim<'_>,
     class: Class,
     library: &Library,
+    frame: &Frame,
     position: &Position,
     from: Square,
     targets: SquareSet,
@@ -175,6 +250,8 @@ pub(crate) fn add_exits(
     requires knows { KnowsOwn class aim.now }
     requires of { (flipped : Bool) × IsOf class flipped position.now }
     requires children { HasChildren (table_at library.now) class }
+    requires frame { IsFrame position.now frame.now }
+    requires class { frame.now.class ≡ class }
     requires targets { (t : ℕ) → Has targets t → IsLegalTarget position.now from t }
     requires leaves { AllLeave (column_of aim.now) class position.now from targets }
     requires others { OthersGoOn (column_of aim.now) class position.now from targets }
@@ -186,6 +263,6 @@ pub(crate) fn add_exits(
     let _side = position.side();
     let mut rest = targets;
     while let Some(to) = rest.pop_first() {
-        add_exits_between(aim, class, library, position, from, to, list);
+        add_exits_to(aim, class, library, frame, position, from, to, list);
     }
 }

@@ -11,6 +11,7 @@ mod leaving;
 mod mate_game;
 mod missing;
 mod nodes;
+mod quiet;
 pub mod ranks;
 mod sources;
 mod ways;

@@ -116,9 +116,14 @@ pub(crate) fn exits(
     ensures { result.items ≡ exits_at (known (table_at library.now) class aim.now) (column_of aim.now) class index }
 {
     laws();
-    let position = node(class, index);
+    let _number = class.number();
     let mut list = ArrayVec::new();
-    let _ways = ways_of(aim, class, library, &position, &mut list);
+    match spelled(class, index) {
+        Some((position, frame)) => {
+            let _ways = ways_of(aim, class, library, &frame, &position, &mut list);
+        }
+        None => unreachable!(),
+    }
     list
 }
 
@@ -174,7 +179,7 @@ fn start_at(
     ensures exits { exits.new.items ≡ exits_from (known (table_at library.now) class aim.now) (column_of aim.now) class (Some position.now) }
 {
     exits.clear();
-    let ways = ways_of(aim, class, library, position, exits);
+    let ways = ways_of(aim, class, library, frame, position, exits);
     Start {
         mated: is_checkmate_by(position, &ways),
         degree: degree(aim.column(), class, frame, position, &ways) as u8,

@@ -10,6 +10,7 @@ ghost use Rattle.egt_board.specs.declared.man.Man.{Man};
 ghost use Rattle.egt_board.specs.declared.square_set.SquareSet.{SquareSet};
 ghost use Rattle.egt_class.specs.Membership.{IsOf};
 ghost use Rattle.egt_index.specs.Axis.{is_on_axis};
+ghost use Rattle.egt_index.specs.Frame.{IsFrame};
 ghost use Rattle.egt_moves.specs.Legal.{Leads};
 ghost use Rattle.egt_moves.specs.Moves.{moves_from};
 ghost use Rattle.egt_moves.specs.Room.{most_moves};
@@ -25,11 +26,13 @@ ghost use Rattle.egt_sweep.specs.Ways.{Stays, IsOnward, Counts};
 use crate::aim::Aim;
 use crate::laws::laws;
 use crate::leaving::add_exits;
+use crate::quiet::stays;
 use arrayvec::ArrayVec;
 use egt_board::{Kind, Man, Position, Square, SquareSet};
 use egt_check::Library;
 use egt_class::Class;
 use egt_graph::Exit;
+use egt_index::Frame;
 use egt_index::laws::one_index_for_one_setup;
 use egt_moves::legal_targets;
 use egt_table::Column;
@@ -50,13 +53,6 @@ fn count(set: SquareSet) -> u32
     ensures few { result ≤ 64 }
 {
     set.bits.count_ones()
-}
-
-/// Whether a pawn that goes to the free square takes nothing in passing and promotes nothing.
-fn stays(position: &Position, man: Man, to: Square) -> bool
-    ensures { IsTrue result ↔ Stays position.now man to }
-{
-    to.rank() != man.side.last_rank() && position.target() != Some(to)
 }
 
 /// Those of the pawn's targets, which are free squares, to which it goes and takes nothing in passing and promotes nothing.
@@ -121,6 +117,7 @@ fn with_man(
     aim: &Aim<'_>,
     class: Class,
     library: &Library,
+    frame: &Frame,
     position: &Position,
     from: Square,
     ways: Ways,
@@ -129,6 +126,8 @@ fn with_man(
     requires knows { KnowsOwn class aim.now }
     requires of { (flipped : Bool) × IsOf class flipped position.now }
     requires children { HasChildren (table_at library.now) class }
+    requires frame { IsFrame position.now frame.now }
+    requires class { frame.now.class ≡ class }
     requires held { IsHeld position.now.men from position.now.side }
     requires few { ways.onward + 64 < 2 ^ 32 }
     requires room { (man : Man) → Stands position.now.men from man → array_vec_len exits.old + most_moves man.kind ≤ 64 }
@@ -146,15 +145,8 @@ fn with_man(
     let _side = position.side();
     let targets = legal_targets(position, from);
     let onward = onward(aim.column(), class, position, from, targets);
-    add_exits(
-        aim,
-        class,
-        library,
-        position,
-        from,
-        targets.without(onward),
-        exits,
-    );
+    let leaving = targets.without(onward);
+    add_exits(aim, class, library, frame, position, from, leaving, exits);
     Ways {
         any: or_has_some(ways.any, targets),
         onward: ways.onward + count(onward),
@@ -166,12 +158,15 @@ pub(crate) fn ways_of(
     aim: &Aim<'_>,
     class: Class,
     library: &Library,
+    frame: &Frame,
     position: &Position,
     exits: &mut ArrayVec<Exit, 64>,
 ) -> Ways
     requires knows { KnowsOwn class aim.now }
     requires of { (flipped : Bool) × IsOf class flipped position.now }
     requires children { HasChildren (table_at library.now) class }
+    requires frame { IsFrame position.now frame.now }
+    requires class { frame.now.class ≡ class }
     requires empty { exits.old.items ≡ [] }
     ensures any { IsTrue result.any → CanMove position.now }
     ensures counts { (k : ℕ) → IsKingOn position.now.men (other_side position.now.side) k → is_on_axis class k ≡ false →
@@ -185,7 +180,7 @@ pub(crate) fn ways_of(
     };
     let mut rest = position.of(position.side());
     while let Some(from) = rest.pop_first() {
-        ways = with_man(aim, class, library, position, from, ways, exits);
+        ways = with_man(aim, class, library, frame, position, from, ways, exits);
     }
     ways
 }

@@ -23,15 +23,15 @@ loop-to-init c =
       (λ man stands. omega arith),
     )
 
-pub add_exits_between-requires-clause-target : goal.add_exits_between-requires-clause-target
-add_exits_between-requires-clause-target c = c.requires.targets c.in-Some.to (c.loop-to.invariant.1 c.in-Some.to c.in-Some.ensures.had)
+pub add_exits_to-requires-clause-target : goal.add_exits_to-requires-clause-target
+add_exits_to-requires-clause-target c = c.requires.targets c.in-Some.to (c.loop-to.invariant.1 c.in-Some.to c.in-Some.ensures.had)
 
-pub add_exits_between-requires-clause-leaves : goal.add_exits_between-requires-clause-leaves
-add_exits_between-requires-clause-leaves c m q here there leads =
+pub add_exits_to-requires-clause-leaves : goal.add_exits_to-requires-clause-leaves
+add_exits_to-requires-clause-leaves c m q here there leads =
     c.requires.leaves m q here (subst (Has c.args.targets) (sym there) (c.loop-to.invariant.1 c.in-Some.to c.in-Some.ensures.had)) leads
 
-pub add_exits_between-requires-clause-room : goal.add_exits_between-requires-clause-room
-add_exits_between-requires-clause-room c man stands =
+pub add_exits_to-requires-clause-room : goal.add_exits_to-requires-clause-room
+add_exits_to-requires-clause-room c man stands =
     let room = c.requires.room man stands in
     let step = room_step man.kind _ _ _ _ c.in-Some.ensures.size (c.loop-to.invariant.2 man stands) in
     omega (arith, step, room)
@@ -39,14 +39,14 @@ add_exits_between-requires-clause-room c man stands =
 pub loop-to-preserved : goal.loop-to-preserved
 loop-to-preserved c =
     let s = c.in-Some.ensures in (
-      walked_more _ c.loop-to.rest c.pop_first.new.self c.args.list.now.items c.loop-to.list.items c.add_exits_between.new.list.items c.in-Some.to (omega arith) s.had s.least s.gone s.others c.add_exits_between.ensures.items c.loop-to.invariant.0,
+      walked_more _ c.loop-to.rest c.pop_first.new.self c.args.list.now.items c.loop-to.list.items c.add_exits_to.new.list.items c.in-Some.to (omega arith) s.had s.least s.gone s.others c.add_exits_to.ensures.items c.loop-to.invariant.0,
       (λ t has. elim (cases_eq t c.in-Some.to) [
         | inl e ↦ absurd (let none = ap (bit_at c.pop_first.new.self.bits) e ∙ s.gone in omega (arith, has, none))
         | inr apart ↦ c.loop-to.invariant.1 t (sym (s.others t apart) ∙ has)
       ]),
       (λ man stands.
           let step = room_step man.kind _ _ _ _ s.size (c.loop-to.invariant.2 man stands) in
-          let few = c.add_exits_between.ensures.few man stands in
+          let few = c.add_exits_to.ensures.few man stands in
           omega (arith, step, few)),
     )
 

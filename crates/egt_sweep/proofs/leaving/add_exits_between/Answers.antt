@@ -1,17 +1,15 @@
-use Rattle.std.proofs.Common.{None, length, sym, ap, ◌∙◌, ◌++◌, subst, arith}
+use Rattle.std.proofs.Common.{None, length, refl, sym, ap, ◌∙◌, ◌++◌, arith}
 use Rattle.std.specs.Prelude.{slice_index_or}
 use Rattle.std.specs.List.{flat_map}
 use Rattle.std.specs.Option.{option_to_list}
 use Rattle.std.proofs.lemmas.List.{get_or_default, take_all}
-use Rattle.egt_board.specs.Placement.{one_man}
-use Rattle.egt_board.specs.declared.man.Man.{Man}
 use Rattle.egt_moves.specs.Moves.{played}
-use Rattle.egt_moves.specs.Promotion.{promotes, FitsPromotion}
+use Rattle.egt_moves.specs.Promotion.{promotes}
 use Rattle.egt_check.specs.Tables.{table_at}
 use Rattle.egt_sweep.specs.Aiming.{column_of, known}
 use Rattle.egt_sweep.specs.Nodes.{exit_by}
-use Rattle.egt_sweep.proofs.Walked.{told_of, choices_told, few_choices}
-use Rattle.egt_sweep.proofs.OutOfClass.{nothing_told}
+use Rattle.egt_sweep.proofs.Walked.{told_of, few_choices}
+use Rattle.egt_sweep.proofs.OutOfClass.{between_told}
 use Rattle.egt_sweep.proofs.leaving.add_exits_between.Goals as goal
 
 pub add_exit-requires-clause-legal : goal.add_exit-requires-clause-legal
@@ -40,9 +38,7 @@ returns-clause-items c =
     let told = told_of (λ m. option_to_list (exit_by tables column c.args.class p m (played p m))) c.args.from c.args.to in
     c.loop-promo.invariant.0
     ∙ ap (λ xs. before ++ flat_map told xs) (take_all c.loop-promo.promo-index items (omega (arith, c.loop-promo-test.false)) ∙ c.promotions-promo-items.ensures.listed leads.man leads.stands)
-    ∙ ap (λ ys. before ++ ys) (choices_told (λ m. option_to_list (exit_by tables column c.args.class p m (played p m))) c.args.from c.args.to (promotes leads.man c.args.to)
-    (λ promo unfit. nothing_told c.laws.ensures tables column c.args.class p (record { from = c.args.from; to = c.args.to; promo = promo }) c.side-side.ensures.admissible
-    (λ q there. absurd (unfit (subst (λ (man : Man). FitsPromotion (promotes man c.args.to) promo) (one_man p.men c.args.from there.man leads.man there.stands leads.stands) there.promotion)))))
+    ∙ ap (λ ys. before ++ ys) (between_told c.laws.ensures tables column c.args.class p leads.man c.args.from c.args.to (promotes leads.man c.args.to) c.side-side.ensures.admissible leads.stands refl)
 
 pub returns-clause-few : goal.returns-clause-few
 returns-clause-few c man stands =

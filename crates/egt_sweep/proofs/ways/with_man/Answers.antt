@@ -11,20 +11,20 @@ use Rattle.egt_sweep.proofs.ways.with_man.Goals as goal
 
 pub add_exits-requires-clause-targets : goal.add_exits-requires-clause-targets
 add_exits-requires-clause-targets c t has =
-    let squares = c.without.ensures.squares t in
+    let squares = c.without-leaving.ensures.squares t in
     let there : Has c.legal_targets-targets.result t = omega (arith, has, squares) in
     (c.legal_targets-targets.ensures.legal t).0 there
 
 -- what is no square to which the man goes on leaves the game
 pub add_exits-requires-clause-leaves : goal.add_exits-requires-clause-leaves
 add_exits-requires-clause-leaves c m q here has leads on =
-    let squares = c.without.ensures.squares m.to in
+    let squares = c.without-leaving.ensures.squares m.to in
     let onward = c.onward-onward.ensures.complete m q here leads (subst (λ (column : Column). GoesOn column c.args.class c.args.position.now m q) (sym c.column.ensures) on) in
     omega (arith, has, squares, onward)
 
 pub add_exits-requires-clause-others : goal.add_exits-requires-clause-others
 add_exits-requires-clause-others c m q here off leads =
-    let squares = c.without.ensures.squares m.to in
+    let squares = c.without-leaving.ensures.squares m.to in
     let target : Has c.legal_targets-targets.result m.to = (c.legal_targets-targets.ensures.legal m.to).1 (targeted c.args.position.now m c.args.from here (q, leads)) in
     let small = bit_at-lt c.onward-onward.result.bits m.to in
     let onward : Has c.onward-onward.result m.to = omega (arith, off, squares, target, small) in
@@ -34,8 +34,8 @@ add_exits-requires-clause-others c m q here off leads =
 pub add_exits-requires-clause-room : goal.add_exits-requires-clause-room
 add_exits-requires-clause-room c man stands =
     let targets = c.legal_targets-targets.ensures.few man stands in
-    let leaving = c.without.ensures.few in
-    let few = few_moves man.kind (size_of c.without.result) (omega (arith, targets, leaving)) in
+    let leaving = c.without-leaving.ensures.few in
+    let few = few_moves man.kind (size_of c.without-leaving.result) (omega (arith, targets, leaving)) in
     let room = c.requires.room man stands in
     omega (arith, few, room)
 
@@ -55,7 +55,7 @@ returns-clause-counts c k before after king axis had gone others so_far =
 pub returns-clause-room : goal.returns-clause-room
 returns-clause-room c man stands =
     let targets = c.legal_targets-targets.ensures.few man stands in
-    let leaving = c.without.ensures.few in
-    let few = few_moves man.kind (size_of c.without.result) (omega (arith, targets, leaving)) in
+    let leaving = c.without-leaving.ensures.few in
+    let few = few_moves man.kind (size_of c.without-leaving.result) (omega (arith, targets, leaving)) in
     let added = c.add_exits.ensures.few man stands in
     omega (arith, few, added)
