@@ -1,7 +1,6 @@
 pub mod Linked
 pub mod Putting
 pub mod Staying
-pub mod SameSteps
 pub mod Collecting
 pub mod Standing
 pub mod Backward
@@ -19,5 +18,6 @@ pub mod BuiltTables
 pub mod Onward
 pub mod Counting
 pub mod Tallying
+pub mod Led
 pub mod Starting
 pub mod Returning

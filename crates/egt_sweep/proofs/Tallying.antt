@@ -1,6 +1,5 @@
 -- One man's moves, counted beside those of the men before.
-use Rattle.std.proofs.Common.{◌≡◌, ◌≢◌, ℕ, ◌+◌, ◌<◌, not, Bool, true, false, eqb, refl, sym, ◌∙◌, subst, [], arith}
-use Rattle.std.proofs.lemmas.Bool.{eqb-true}
+use Rattle.std.proofs.Common.{◌≡◌, ◌≢◌, ℕ, ◌+◌, ◌<◌, Bool, false, refl, sym, ◌∙◌, subst, [], arith}
 use Rattle.std.specs.Int.{bit_at}
 use Rattle.egt_board.specs.declared.man.Side.{Side}
 use Rattle.egt_board.specs.declared.square_set.SquareSet.{SquareSet}
@@ -21,14 +20,6 @@ use Rattle.egt_sweep.specs.Ways.{IsOnward, Counts}
 use Rattle.egt_sweep.proofs.Collecting.{leads_on_once, none_ascend}
 use Rattle.egt_sweep.proofs.Counting.{counts_more}
 use Rattle.egt_sweep.proofs.Onward.{on_index, one_plain, one_from, one_to}
-
--- numbers that are told to be equal
-pub same_numbers : (a b : ℕ) → not (eqb a b) ≡ false → a ≡ b
-same_numbers a b told = eqb-true a b (not_not (eqb a b) told)
-  where
-    not_not : (x : Bool) → not x ≡ false → x ≡ true
-    not_not true e = refl
-    not_not false e = sym e
 
 module _ (laws : Laws) (c : ℕ) (p : Setup) (c_in : c < 36) (ok : IsAdmissible p) (of : (flipped : Bool) × IsOf c flipped p) (column : Column) where
   pub man_counted : (k : ℕ) → IsKingOn p.men (other_side p.side) k → is_on_axis c k ≡ false →

@@ -1,10 +1,10 @@
 -- What is told of the moves of a side, man by man and square by square, in the order of moves.
-use Rattle.std.proofs.Common.{◌≡◌, ◌≢◌, ℕ, zero, suc, ◌+◌, ◌*◌, ◌<◌, ◌≤◌, ◌==◌, ◌&&◌, Bool, true, false, List, [], ◌∷◌, ◌++◌, length, get_or, take, Option, Some, None, refl, sym, ap, ◌∙◌, inl, inr, arith}
+use Rattle.std.proofs.Common.{◌≡◌, ◌≢◌, ℕ, zero, suc, ◌+◌, ◌*◌, ◌<◌, ◌≤◌, ◌==◌, ◌&&◌, Bool, true, false, List, [], ◌∷◌, ◌++◌, length, Option, Some, None, refl, sym, ap, ◌∙◌, inl, inr, arith}
 use Rattle.std.specs.Int.{bit_at}
 use Rattle.std.specs.List.{flat_map, filter}
 use Rattle.std.proofs.lemmas.Bool.{cases_eq, cases_lt}
 use Rattle.std.proofs.lemmas.Grind.{flat_map-append}
-use Rattle.std.proofs.lemmas.List.{append-nil, append_assoc, take_more}
+use Rattle.std.proofs.lemmas.List.{append-nil, append_assoc}
 use Rattle.egt_board.specs.declared.man.Kind.{Kind}
 use Rattle.egt_board.specs.declared.man.Kind.TheVariants.{Q, R, B, N, P, K}
 use Rattle.egt_board.specs.declared.man.Man.{Man}
@@ -35,11 +35,6 @@ told_past g m (suc n) le none = elim (cases_eq (suc n) m) [
 pub told_none : {Y : Type 0} (g : ℕ → List Y) (n : ℕ) → ((k : ℕ) → g k ≡ []) → told_below g n ≡ []
 unfolding told_below
 told_none g n none = told_past g 0 n (omega arith) (λ k low high. none k)
-
-pub told_same : {Y : Type 0} (g h : ℕ → List Y) (n : ℕ) → ((k : ℕ) → g k ≡ h k) → told_below g n ≡ told_below h n
-unfolding told_below
-told_same g h zero same = refl
-told_same g h (suc n) same = ap (λ ys. ys ++ g n) (told_same g h n same) ∙ ap (λ ys. told_below h n ++ ys) (same n)
 
 -- the list has what g tells of the squares that are no longer left; of those that are not, and were not at first, it tells nothing
 pub record Walked {Y : Type 0} (g : ℕ → List Y) (rest : SquareSet) (before list : List Y) : Type 0 where
@@ -130,13 +125,6 @@ module _ {Y : Type 0} (f : Move → List Y) where
   pub from_none : (from : ℕ) → ((to : ℕ) (promo : Option Kind) → told_of from to promo ≡ []) → flat_map f (moves_from from 64) ≡ []
   from_none from none = from_told from 64 ∙ told_none (λ t. flat_map f (moves_between from t)) 64 (λ t. between_none from t (none t))
 
--- one more of a list
-pub one_more : {X Y : Type 0} (f : X → List Y) (xs : List X) (n : ℕ) (x : X) (before ys zs : List Y) → n < length xs → x ≡ get_or xs n x → ys ≡ before ++ flat_map f (take n xs) → zs ≡ ys ++ f x → zs ≡ before ++ flat_map f (take (n + 1) xs)
-one_more f xs n x before ys zs inside here so_far is =
-    let taken : take (n + 1) xs ≡ take n xs ++ x ∷ [] = take_more xs n x inside ∙ ap (λ y. take n xs ++ y ∷ []) (sym here) in
-    is ∙ ap (λ ws. ws ++ f x) so_far ∙ append_assoc before (flat_map f (take n xs)) (f x)
-    ∙ ap (λ ws. before ++ ws) (ap (λ ws. flat_map f (take n xs) ++ ws) (sym (append-nil (f x))) ∙ sym (flat_map-append f (take n xs) (x ∷ [])) ∙ ap (flat_map f) (sym taken))
-
 -- ---- room
 
 pub few_choices : (man : Man) (to : ℕ) → length (choices_of (promotes man to)) ≤ most_choices man.kind
@@ -166,6 +154,14 @@ few_moves B n few = omega (arith, few)
 few_moves N n few = omega (arith, few)
 few_moves P n few = omega (arith, few)
 few_moves K n few = omega (arith, few)
+
+pub goals_few : (kind : Kind) → most_goals kind ≤ most_moves kind
+goals_few Q = omega arith
+goals_few R = omega arith
+goals_few B = omega arith
+goals_few N = omega arith
+goals_few P = omega arith
+goals_few K = omega arith
 
 -- one square fewer is left
 pub room_step : (kind : Kind) (length n n' bound : ℕ) → n' + 1 ≡ n → length + most_choices kind * n ≤ bound → (length + most_choices kind) + most_choices kind * n' ≤ bound

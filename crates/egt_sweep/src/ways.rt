@@ -85,7 +85,7 @@ fn or_has_some(known: bool, set: SquareSet) -> bool
 }
 
 /// Those of the man's legal targets to which it goes on in the game.
-fn onward(
+pub(crate) fn onward(
     column: Column,
     class: Class,
     position: &Position,
@@ -98,6 +98,7 @@ fn onward(
     ensures sound { (t : ℕ) → Has result t → IsOnward column class position.now from t }
     ensures complete { (m : Move) (q : Setup) → m.from ≡ from → Leads position.now m q → GoesOn column class position.now m q → Has result m.to }
     ensures others { (t : ℕ) → Has result t → Has targets t }
+    ensures few { size_of result ≤ size_of targets }
 {
     laws();
     let _number = class.number();
