@@ -3,11 +3,11 @@ ghost use Rattle.std.specs.Prelude.{◌≡◌, ◌+◌, ◌*◌, ◌++◌, ◌�
 ghost use Rattle.std.specs.Option.{option_to_list};
 ghost use Rattle.arrayvec.specs.ArrayVec.{array_vec_len};
 ghost use Rattle.egt_board.specs.Placement.{Stands};
+ghost use Rattle.egt_board.specs.Settled.{IsSettled};
 ghost use Rattle.egt_board.specs.Setup.{Setup, IsAdmissible};
 ghost use Rattle.egt_board.specs.SquareSet.{Has, size_of};
 ghost use Rattle.egt_board.specs.declared.man.Man.{Man};
 ghost use Rattle.egt_class.specs.Membership.{IsOf};
-ghost use Rattle.egt_index.specs.Frame.{IsFrame};
 ghost use Rattle.egt_index.specs.Index.{IsIndex};
 ghost use Rattle.egt_moves.specs.Arena.{Value};
 ghost use Rattle.egt_moves.specs.Legal.{Leads, IsLegal};
@@ -178,11 +178,11 @@ fn add_exits_between(
 }
 
 /// Adds the value of where the man's step to the square, which leaves the game, leads. The position there is not made.
+#[inline(never)]
 fn add_exit_of_step(
     aim: &Aim<'_>,
     class: Class,
     library: &Library,
-    frame: &Frame,
     position: &Position,
     from: Square,
     to: Square,
@@ -191,8 +191,7 @@ fn add_exit_of_step(
     requires knows { KnowsOwn class aim.now }
     requires of { (flipped : Bool) × IsOf class flipped position.now }
     requires children { HasChildren (table_at library.now) class }
-    requires frame { IsFrame position.now frame.now }
-    requires class { frame.now.class ≡ class }
+    requires settled { IsSettled position.now }
     requires target { IsLegalTarget position.now from to }
     requires step { IsStep position.now from to }
     requires leaves { (m : Move) (q : Setup) → m.from ≡ from → m.to ≡ to → Leads position.now m q → ¬ GoesOn (column_of aim.now) class position.now m q }
@@ -203,7 +202,8 @@ fn add_exit_of_step(
     laws();
     let _side = position.side();
     let _number = class.number();
-    let index = frame.index_after(from, to);
+    let frame = Frame::of(class, position);
+    let index = frame.steps(from).index_to(to);
     list.push(exit_in(aim, class, library, class, index));
 }
 
@@ -212,7 +212,6 @@ fn add_exits_to(
     aim: &Aim<'_>,
     class: Class,
     library: &Library,
-    frame: &Frame,
     position: &Position,
     from: Square,
     to: Square,
@@ -221,8 +220,7 @@ fn add_exits_to(
     requires knows { KnowsOwn class aim.now }
     requires of { (flipped : Bool) × IsOf class flipped position.now }
     requires children { HasChildren (table_at library.now) class }
-    requires frame { IsFrame position.now frame.now }
-    requires class { frame.now.class ≡ class }
+    requires settled { IsSettled position.now }
     requires target { IsLegalTarget position.now from to }
     requires leaves { (m : Move) (q : Setup) → m.from ≡ from → m.to ≡ to → Leads position.now m q → ¬ GoesOn (column_of aim.now) class position.now m q }
     requires room { (man : Man) → Stands position.now.men from man → array_vec_len list.old + most_choices man.kind ≤ 64 }
@@ -230,7 +228,7 @@ fn add_exits_to(
     ensures few { (man : Man) → Stands position.now.men from man → array_vec_len list.new ≤ array_vec_len list.old + most_choices man.kind }
 {
     if is_step(position, from, to) {
-        add_exit_of_step(aim, class, library, frame, position, from, to, list);
+        add_exit_of_step(aim, class, library, position, from, to, list);
     } else {
         add_exits_between(aim, class, library, position, from, to, list);
     }
@@ -241,7 +239,6 @@ pub(crate) fn add_exits(
     aim: &Aim<'_>,
     class: Class,
     library: &Library,
-    frame: &Frame,
     position: &Position,
     from: Square,
     targets: SquareSet,
@@ -250,8 +247,7 @@ pub(crate) fn add_exits(
     requires knows { KnowsOwn class aim.now }
     requires of { (flipped : Bool) × IsOf class flipped position.now }
     requires children { HasChildren (table_at library.now) class }
-    requires frame { IsFrame position.now frame.now }
-    requires class { frame.now.class ≡ class }
+    requires settled { IsSettled position.now }
     requires targets { (t : ℕ) → Has targets t → IsLegalTarget position.now from t }
     requires leaves { AllLeave (column_of aim.now) class position.now from targets }
     requires others { OthersGoOn (column_of aim.now) class position.now from targets }
@@ -263,6 +259,6 @@ pub(crate) fn add_exits(
     let _side = position.side();
     let mut rest = targets;
     while let Some(to) = rest.pop_first() {
-        add_exits_to(aim, class, library, frame, position, from, to, list);
+        add_exits_to(aim, class, library, position, from, to, list);
     }
 }

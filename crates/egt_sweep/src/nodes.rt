@@ -4,6 +4,7 @@ ghost use Rattle.std.specs.Int.{bit_at};
 ghost use Rattle.std.specs.Option.{is_some};
 ghost use Rattle.egt_board.specs.Decided.{tells};
 ghost use Rattle.egt_board.specs.Man.{other_side};
+ghost use Rattle.egt_board.specs.Settled.{IsSettled};
 ghost use Rattle.egt_board.specs.Setup.{Setup, IsKingOn};
 ghost use Rattle.egt_board.specs.declared.square_set.SquareSet.{SquareSet};
 ghost use Rattle.egt_class.specs.Membership.{IsOf};
@@ -119,8 +120,8 @@ pub(crate) fn exits(
     let _number = class.number();
     let mut list = ArrayVec::new();
     match spelled(class, index) {
-        Some((position, frame)) => {
-            let _ways = ways_of(aim, class, library, &frame, &position, &mut list);
+        Some((position, _frame)) => {
+            let _ways = ways_of(aim, class, library, &position, &mut list);
         }
         None => unreachable!(),
     }
@@ -171,6 +172,7 @@ fn start_at(
     requires knows { KnowsOwn class aim.now }
     requires children { HasChildren (table_at library.now) class }
     requires of { (flipped : Bool) × IsOf class flipped position.now }
+    requires settled { IsSettled position.now }
     requires frame { IsFrame position.now frame.now }
     requires class { frame.now.class ≡ class }
     ensures mated { result.mated ≡ tells (decided_checkmate position.now) }
@@ -179,7 +181,7 @@ fn start_at(
     ensures exits { exits.new.items ≡ exits_from (known (table_at library.now) class aim.now) (column_of aim.now) class (Some position.now) }
 {
     exits.clear();
-    let ways = ways_of(aim, class, library, frame, position, exits);
+    let ways = ways_of(aim, class, library, position, exits);
     Start {
         mated: is_checkmate_by(position, &ways),
         degree: degree(aim.column(), class, frame, position, &ways) as u8,

@@ -4,13 +4,13 @@ ghost use Rattle.std.specs.Int.{bit_at};
 ghost use Rattle.arrayvec.specs.ArrayVec.{array_vec_len};
 ghost use Rattle.egt_board.specs.Man.{other_side};
 ghost use Rattle.egt_board.specs.Placement.{Stands, IsHeld};
+ghost use Rattle.egt_board.specs.Settled.{IsSettled};
 ghost use Rattle.egt_board.specs.Setup.{Setup, IsKingOn};
 ghost use Rattle.egt_board.specs.SquareSet.{Has, size_of};
 ghost use Rattle.egt_board.specs.declared.man.Man.{Man};
 ghost use Rattle.egt_board.specs.declared.square_set.SquareSet.{SquareSet};
 ghost use Rattle.egt_class.specs.Membership.{IsOf};
 ghost use Rattle.egt_index.specs.Axis.{is_on_axis};
-ghost use Rattle.egt_index.specs.Frame.{IsFrame};
 ghost use Rattle.egt_moves.specs.Legal.{Leads};
 ghost use Rattle.egt_moves.specs.Moves.{moves_from};
 ghost use Rattle.egt_moves.specs.Room.{most_moves};
@@ -32,7 +32,6 @@ use egt_board::{Kind, Man, Position, Square, SquareSet};
 use egt_check::Library;
 use egt_class::Class;
 use egt_graph::Exit;
-use egt_index::Frame;
 use egt_index::laws::one_index_for_one_setup;
 use egt_moves::legal_targets;
 use egt_table::Column;
@@ -118,7 +117,6 @@ fn with_man(
     aim: &Aim<'_>,
     class: Class,
     library: &Library,
-    frame: &Frame,
     position: &Position,
     from: Square,
     ways: Ways,
@@ -127,8 +125,7 @@ fn with_man(
     requires knows { KnowsOwn class aim.now }
     requires of { (flipped : Bool) × IsOf class flipped position.now }
     requires children { HasChildren (table_at library.now) class }
-    requires frame { IsFrame position.now frame.now }
-    requires class { frame.now.class ≡ class }
+    requires settled { IsSettled position.now }
     requires held { IsHeld position.now.men from position.now.side }
     requires few { ways.onward + 64 < 2 ^ 32 }
     requires room { (man : Man) → Stands position.now.men from man → array_vec_len exits.old + most_moves man.kind ≤ 64 }
@@ -147,7 +144,7 @@ fn with_man(
     let targets = legal_targets(position, from);
     let onward = onward(aim.column(), class, position, from, targets);
     let leaving = targets.without(onward);
-    add_exits(aim, class, library, frame, position, from, leaving, exits);
+    add_exits(aim, class, library, position, from, leaving, exits);
     Ways {
         any: or_has_some(ways.any, targets),
         onward: ways.onward + count(onward),
@@ -159,15 +156,13 @@ pub(crate) fn ways_of(
     aim: &Aim<'_>,
     class: Class,
     library: &Library,
-    frame: &Frame,
     position: &Position,
     exits: &mut ArrayVec<Exit, 64>,
 ) -> Ways
     requires knows { KnowsOwn class aim.now }
     requires of { (flipped : Bool) × IsOf class flipped position.now }
     requires children { HasChildren (table_at library.now) class }
-    requires frame { IsFrame position.now frame.now }
-    requires class { frame.now.class ≡ class }
+    requires settled { IsSettled position.now }
     requires empty { exits.old.items ≡ [] }
     ensures any { IsTrue result.any → CanMove position.now }
     ensures counts { (k : ℕ) → IsKingOn position.now.men (other_side position.now.side) k → is_on_axis class k ≡ false →
@@ -181,7 +176,7 @@ pub(crate) fn ways_of(
     };
     let mut rest = position.of(position.side());
     while let Some(from) = rest.pop_first() {
-        ways = with_man(aim, class, library, frame, position, from, ways, exits);
+        ways = with_man(aim, class, library, position, from, ways, exits);
     }
     ways
 }
