@@ -83,7 +83,8 @@ fn or_has_some(known: bool, set: SquareSet) -> bool
     known || has_some(set)
 }
 
-/// Those of the man's legal targets to which it goes on in the game.
+/// Those of the man's legal targets to which it goes on in the game. It is inlined so that what it asks of the position is asked once.
+#[inline(always)]
 pub(crate) fn onward(
     column: Column,
     class: Class,
