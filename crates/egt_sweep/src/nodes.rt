@@ -9,7 +9,6 @@ ghost use Rattle.egt_board.specs.Setup.{Setup, IsKingOn};
 ghost use Rattle.egt_board.specs.declared.square_set.SquareSet.{SquareSet};
 ghost use Rattle.egt_class.specs.Membership.{IsOf};
 ghost use Rattle.egt_index.specs.Axis.{is_on_axis};
-ghost use Rattle.egt_index.specs.Frame.{IsFrame};
 ghost use Rattle.egt_index.specs.Size.{size_of};
 ghost use Rattle.egt_moves.specs.DecidedMoves.{decided_checkmate};
 ghost use Rattle.egt_moves.specs.Legal.{Leads};
@@ -119,8 +118,8 @@ pub(crate) fn exits(
     laws();
     let _number = class.number();
     let mut list = ArrayVec::new();
-    match spelled(class, index) {
-        Some((position, _frame)) => {
+    match position(class, index) {
+        Some(position) => {
             let _ways = ways_of(aim, class, library, &position, &mut list);
         }
         None => unreachable!(),
@@ -139,11 +138,26 @@ fn is_checkmate_by(position: &Position, ways: &Ways) -> bool
     is_checkmate(position)
 }
 
-/// To how many nodes the moves that go on lead. Where a mirror may take two of them to one index, they are listed; else each has its own.
-fn degree(column: Column, class: Class, frame: &Frame, position: &Position, ways: &Ways) -> usize
+/// To how many nodes the moves that go on lead: they are listed, since a mirror may take two of them to one index.
+#[inline(never)]
+fn listed_degree(column: Column, class: Class, position: &Position) -> usize
     requires of { (flipped : Bool) × IsOf class flipped position.now }
-    requires frame { IsFrame position.now frame.now }
-    requires class { frame.now.class ≡ class }
+    requires settled { IsSettled position.now }
+    ensures value { (i : ℕ) → IsAt class i position.now → result ≡ length (passing_below (size_of class) (λ j. connects column class i j)) }
+    ensures few { result ≤ 64 }
+{
+    laws();
+    let _number = class.number();
+    let frame = Frame::of(class, position);
+    let mut list = ArrayVec::new();
+    edges(column, class, &frame, position, &mut list);
+    list.len()
+}
+
+/// To how many nodes the moves that go on lead. Where no mirror can take two of them to one index, each has its own.
+fn degree(column: Column, class: Class, position: &Position, ways: &Ways) -> usize
+    requires of { (flipped : Bool) × IsOf class flipped position.now }
+    requires settled { IsSettled position.now }
     requires counts { (k : ℕ) → IsKingOn position.now.men (other_side position.now.side) k → is_on_axis class k ≡ false →
         (none : SquareSet) × ((s : ℕ) → bit_at none.bits s ≡ 0) × Counts column class position.now none ways.now.onward }
     ensures value { (i : ℕ) → IsAt class i position.now → result ≡ length (passing_below (size_of class) (λ j. connects column class i j)) }
@@ -155,9 +169,7 @@ fn degree(column: Column, class: Class, frame: &Frame, position: &Position, ways
     if ways.onward <= 64 && !is_on_axis(class, king) {
         return ways.onward as usize;
     }
-    let mut list = ArrayVec::new();
-    edges(column, class, frame, position, &mut list);
-    list.len()
+    listed_degree(column, class, position)
 }
 
 /// What a run begins with at the node of the position.
@@ -166,15 +178,12 @@ fn start_at(
     class: Class,
     library: &Library,
     position: &Position,
-    frame: &Frame,
     exits: &mut ArrayVec<Exit, 64>,
 ) -> Start
     requires knows { KnowsOwn class aim.now }
     requires children { HasChildren (table_at library.now) class }
     requires of { (flipped : Bool) × IsOf class flipped position.now }
     requires settled { IsSettled position.now }
-    requires frame { IsFrame position.now frame.now }
-    requires class { frame.now.class ≡ class }
     ensures mated { result.mated ≡ tells (decided_checkmate position.now) }
     ensures degree { (i : ℕ) → IsAt class i position.now → result.degree ≡ length (passing_below (size_of class) (λ j. connects (column_of aim.now) class i j)) }
     ensures few { result.degree ≤ 64 }
@@ -184,7 +193,7 @@ fn start_at(
     let ways = ways_of(aim, class, library, position, exits);
     Start {
         mated: is_checkmate_by(position, &ways),
-        degree: degree(aim.column(), class, frame, position, &ways) as u8,
+        degree: degree(aim.column(), class, position, &ways) as u8,
     }
 }
 
@@ -208,8 +217,8 @@ pub(crate) fn start(
 {
     laws();
     let _number = class.number();
-    match spelled(class, index) {
-        Some((position, frame)) => { Some(start_at(aim, class, library, &position, &frame, exits)) }
+    match position(class, index) {
+        Some(position) => Some(start_at(aim, class, library, &position, exits)),
         None => {
             exits.clear();
             None
