@@ -1,5 +1,5 @@
 -- The squares to which legal moves go.
-use Rattle.std.proofs.Common.{◌≡◌, ◌≢◌, ◌↔◌, ℕ, ◌-◌, ◌<◌, Bool, true, false, cond, ◌&&◌, min, arith, Option, Some, None, refl, sym, ap, ◌∙◌, subst, inl, inr}
+use Rattle.std.proofs.Common.{◌≡◌, ◌≢◌, ◌↔◌, ℕ, ◌-◌, ◌<◌, ◌≤◌, Bool, true, false, cond, ◌&&◌, min, arith, Option, Some, None, refl, sym, ap, ◌∙◌, subst, inl, inr}
 use Rattle.std.specs.Int.{bit_at}
 use Rattle.std.specs.FinMap as map
 use Rattle.std.proofs.lemmas.Bool.Decides.{eqb_tells}
@@ -13,6 +13,7 @@ use Rattle.egt_board.specs.Pawn.{ahead}
 use Rattle.egt_board.specs.Attack.{IsAttacked, IsInCheck}
 use Rattle.egt_board.specs.Safety.{IsKeptFrom}
 use Rattle.egt_board.specs.Setup.{Setup, IsAdmissible, IsKingOn}
+use Rattle.egt_board.specs.SquareSet.{size_of}
 use Rattle.egt_moves.specs.declared.chess_move.Move.{Move}
 use Rattle.egt_moves.specs.Going.{Goes}
 use Rattle.egt_moves.specs.Promotion.{is_pawn, promotes, FitsPromotion}
@@ -20,7 +21,7 @@ use Rattle.egt_moves.specs.Legal.{men_after, plain, is_target, takes_in_passing}
 use Rattle.egt_moves.specs.Targets.{IsLegalTarget, IsSafeGoal}
 use Rattle.egt_moves.proofs.After.{goes_on_board, sides_differ, king_moves, king_stays}
 use Rattle.egt_moves.proofs.Growing.{legal_of, goes_of, fits_of, safe_of, same_safety}
-use Rattle.egt_moves.proofs.Walking.{king_square}
+use Rattle.egt_moves.specs.Room.{king_square}
 
 -- nothing is taken in passing by another man than a pawn, or on another square than the target
 pub not_passing : (p : Setup) (man : Man) (t : ℕ) → (man.kind ≡ P → p.target ≡ Some t → ⊥) → takes_in_passing p man t ≡ false
@@ -130,3 +131,8 @@ changed_bit p man from t target safe set e is tried =
 
 pub same_target : (t s : ℕ) → Some t ≡ Some s → t ≡ s
 same_target t s e = cc
+
+-- no squares are few
+pub none_few : (n : ℕ) → size_of (record { bits = 0 }) ≤ n
+unfolding size_of
+none_few n = omega arith

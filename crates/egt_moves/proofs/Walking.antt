@@ -1,43 +1,27 @@
 -- The list of moves over all men of the side to move.
-use Rattle.std.proofs.Common.{◌≡◌, ◌≢◌, ℕ, ◌+◌, ◌*◌, ◌<◌, ◌≤◌, ◌↔◌, ◌⊎◌, List, [], length, arith, refl, sym, ap, ◌∙◌, inl, inr, subst}
+use Rattle.std.proofs.Common.{◌≡◌, ◌≢◌, ℕ, ◌+◌, ◌*◌, ◌<◌, ◌≤◌, ◌↔◌, ◌⊎◌, List, [], length, arith, sym, ap, ◌∙◌, inl, inr, subst}
 use Rattle.std.specs.Int.{bit_at}
 use Rattle.std.specs.List.{Contains}
 use Rattle.std.proofs.lemmas.Bool.{cases_eq, cases_lt}
-use Rattle.std.proofs.lemmas.Nat.Bits.{bit_at-lt}
-use Rattle.egt_board.specs.declared.man.Side.{Side}
-use Rattle.egt_board.specs.declared.man.Side.TheVariants.{White, Black}
-use Rattle.egt_board.specs.declared.man.Kind.{Kind}
-use Rattle.egt_board.specs.declared.man.Kind.TheVariants.{Q, R, B, N, P, K}
 use Rattle.egt_board.specs.declared.man.Man.{Man}
 use Rattle.egt_board.specs.declared.square_set.SquareSet.{SquareSet}
 use Rattle.egt_board.specs.Placement.{Stands, IsHeld}
-use Rattle.egt_board.specs.SquareSet.{Has, size_of, size_of-some}
-use Rattle.egt_board.specs.Attack.{king_of}
-use Rattle.egt_board.specs.Setup.{Setup, IsAdmissible, IsKingOn}
+use Rattle.egt_board.specs.SquareSet.{Has, size_of}
+use Rattle.egt_board.specs.Setup.{Setup, IsAdmissible}
 use Rattle.egt_moves.specs.declared.chess_move.Move.{Move}
 use Rattle.egt_moves.specs.Legal.{IsLegal}
-use Rattle.egt_moves.specs.Room.{most_moves}
+use Rattle.egt_moves.specs.Room.{most_moves, HasRoom, room_at_first, room_for_man, room_for_others}
 use Rattle.egt_moves.specs.Order.{place_of, IsInOrder}
-use Rattle.egt_board.specs.Placement.{one_man}
 use Rattle.egt_moves.specs.DecidedMoves.{goes_on_board}
 use Rattle.egt_moves.proofs.Growing.{promotion_small}
 
--- the king of the side to move stands somewhere
-pub king_square : (p : Setup) → IsAdmissible p → (k : ℕ) × IsKingOn p.men p.side k
-king_square p ok = by_side p.side
-  where
-    by_side : (side : Side) → (k : ℕ) × IsKingOn p.men side k
-    by_side White = (ok.kings.white, ok.kings.white_there)
-    by_side Black = (ok.kings.black, ok.kings.black_there)
-
--- the legal moves from the squares that are no longer left are listed, and there is room for the others:
--- 28 for a man, 8 for the king
+-- the legal moves from the squares that are no longer left are listed, and there is room for the others
 pub record Walks (p : Setup) (moves : List Move) (rest : SquareSet) : Type 0 where
   pub ordered : IsInOrder moves
   pub legal : (m : Move) → Contains moves m ↔ (IsLegal p m × (bit_at rest.bits m.from ≡ 0))
   pub later : (m : Move) → Contains moves m → (t : ℕ) → Has rest t → m.from < t
   pub held : (t : ℕ) → Has rest t → IsHeld p.men t p.side
-  pub room : (k : ℕ) → IsKingOn p.men p.side k → length moves + 28 * size_of rest ≤ 64 + 20 * bit_at rest.bits k
+  pub room : HasRoom p (length moves) rest
 
 mover_held : (p : Setup) (m : Move) → IsLegal p m → IsHeld p.men m.from p.side
 mover_held p m legal = record { man = legal.1.man; stands = legal.1.stands; theirs = legal.1.mine }
@@ -54,49 +38,12 @@ Walks-none p rest held few = record {
   );
   later = λ m none. let lt = none.1 in absurd (omega arith);
   held = λ t has. (held t).0 has;
-  room = λ k king.
-      let one : bit_at rest.bits k ≡ 1 = (held k).1 (record { man = king_of p.side; stands = king.stands; theirs = refl }) in
-      rw one (omega arith);
+  room = room_at_first p rest (λ t. (held t).1) few;
 }
-
-few_moves : (kind : Kind) → most_moves kind ≤ 28
-few_moves Q = omega arith
-few_moves R = omega arith
-few_moves B = omega arith
-few_moves N = omega arith
-few_moves P = omega arith
-few_moves K = omega arith
-
-king_moves_few : (p : Setup) (man : Man) (k : ℕ) → Stands p.men k man → IsKingOn p.men p.side k → most_moves man.kind ≡ 8
-king_moves_few p man k stands king = ap (λ (x : Man). most_moves x.kind) (one_man p.men k man (king_of p.side) stands king.stands)
-
-room_for : (p : Setup) (moves : List Move) (rest rest' : SquareSet) (s : ℕ) (man : Man) (k : ℕ) → IsAdmissible p → Has rest s → bit_at rest'.bits s ≡ 0 → ((t : ℕ) → t ≢ s → bit_at rest'.bits t ≡ bit_at rest.bits t)
-    → size_of rest' + 1 ≡ size_of rest → Stands p.men s man → IsKingOn p.men p.side k → length moves + 28 * size_of rest ≤ 64 + 20 * bit_at rest.bits k
-    → ((length moves + most_moves man.kind) + 28 * size_of rest' ≤ 64 + 20 * bit_at rest'.bits k) × (length moves + most_moves man.kind ≤ 64)
-room_for p moves rest rest' s man k ok has gone others size stands king room = elim (cases_eq s k) [
-  | inl e ↦
-      let eight : most_moves man.kind ≡ 8 = king_moves_few p man k (subst (λ x. Stands p.men x man) e stands) king in
-      let one : bit_at rest.bits k ≡ 1 = ap (bit_at rest.bits) (sym e) ∙ has in
-      let none : bit_at rest'.bits k ≡ 0 = ap (bit_at rest'.bits) (sym e) ∙ gone in
-      (omega arith, omega arith)
-  | inr other ↦
-      let few : most_moves man.kind ≤ 28 = few_moves man.kind in
-      let same : bit_at rest'.bits k ≡ bit_at rest.bits k = others k (λ e. other (sym e)) in
-      elim (cases_eq (bit_at rest.bits k) 1) [
-        | inl one ↦
-            let some : 1 ≤ size_of rest' = size_of-some rest' k (ok.on_board k _ king.stands) (same ∙ one) in
-            (omega arith, omega arith)
-        | inr not_one ↦
-            let small : bit_at rest.bits k < 2 = bit_at-lt rest.bits k in
-            (omega arith, omega arith)
-      ]
-]
 
 pub Walks-room : (p : Setup) (moves : List Move) (rest rest' : SquareSet) (s : ℕ) (man : Man) → IsAdmissible p → Has rest s → bit_at rest'.bits s ≡ 0 → ((t : ℕ) → t ≢ s → bit_at rest'.bits t ≡ bit_at rest.bits t)
     → size_of rest' + 1 ≡ size_of rest → Stands p.men s man → Walks p moves rest → length moves + most_moves man.kind ≤ 64
-Walks-room p moves rest rest' s man ok has gone others size stands walks =
-    let k = king_square p ok in
-    (room_for p moves rest rest' s man k.0 ok has gone others size stands k.1 (walks.room k.0 k.1)).1
+Walks-room p moves rest rest' s man ok has gone others size stands walks = room_for_man p (length moves) rest rest' s man ok has gone others size stands walks.room
 
 -- a legal move from a lesser square comes before all moves from a greater one
 pub place-before : (p : Setup) (m : Move) (s : ℕ) → IsLegal p m → m.from < s → place_of m < s * 512
@@ -130,8 +77,7 @@ Walks-more p moves moves' rest rest' s man ok has least gone others size stands 
     | inr w ↦ subst (λ x. x < t) (sym w.0) (above t left)
   ];
   held = λ t left. walks.held t (was_left t left);
-  room = λ k king.
-      let all = (room_for p moves rest rest' s man k ok has gone others size stands king (walks.room k king)).0 in omega arith;
+  room = room_for_others p (length moves) (length moves') rest rest' s man ok has gone others size stands few walks.room;
 }
   where
     still : (t : ℕ) → bit_at rest.bits t ≡ 0 → bit_at rest'.bits t ≡ 0

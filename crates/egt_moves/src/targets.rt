@@ -103,7 +103,8 @@ pub(crate) fn legal_goals(position: &Position, man: Man, from: Square) -> Square
 
 /// The squares to which a legal move goes from this one; none where no man of the side to move stands.
 pub fn legal_targets(position: &Position, from: Square) -> SquareSet
-    ensures { (t : ℕ) → Has result t ↔ IsLegalTarget position.now from t }
+    ensures legal { (t : ℕ) → Has result t ↔ IsLegalTarget position.now from t }
+    ensures few { (man : Man) → Stands position.now.men from man → size_of result ≤ most_goals man.kind }
 {
     let Some(man) = position.at(from) else {
         return SquareSet::EMPTY;

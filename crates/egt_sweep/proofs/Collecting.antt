@@ -12,17 +12,13 @@ use Rattle.egt_moves.specs.Legal.{Leads, IsLegal}
 use Rattle.egt_moves.specs.declared.chess_move.Move.{Move}
 use Rattle.egt_table.specs.declared.column.Column.{Column}
 use Rattle.egt_unmoves.specs.declared.unmove.Unmove.{Unmove}
-use Rattle.egt_sweep.specs.Edges.{IsAt, GoesOn, LeadsOn, Connects, GoesBack, ComesFrom}
+use Rattle.egt_sweep.specs.Edges.{GoesOn, LeadsOn, GoesBack, ComesFrom}
 use Rattle.egt_sweep.specs.Laws.{Laws}
 
 -- a legal move leads somewhere
 pub somewhere : (p : Setup) (m : Move) (o : Option Setup) → IfNone o ((q : Setup) → ¬ Leads p m q) → IsLegal p m → IsSome o
 somewhere p m None none legal = absurd (none legal.0 legal.1)
 somewhere p m (Some q) none legal = refl
-
--- a listed move is legal
-pub listed_is_legal : (p : Setup) (moves listed : List Move) (n : ℕ) (m : Move) → n < length moves → m ≡ get_or moves n m → moves ≡ listed → ((x : Move) → Contains listed x ↔ IsLegal p x) → IsLegal p m
-listed_is_legal p moves listed n m inside here same legal = (legal m).0 (subst (λ ms. Contains ms m) same (n, inside, sym here))
 
 -- one of the first n elements gives k
 unfoldable pub Collected : {X : Type 0} → (X → ℕ → Type 0) → List X → ℕ → ℕ → Type 0
@@ -69,22 +65,6 @@ module _ (laws : Laws) (column : Column) (c : ℕ) (p : Setup) where
     λ led. let same = one_next m led.0 q led.1 leads in
         laws.facts.one_index q c k i (laws.facts.step_admissible p q m ok leads) (subst (λ x. IsIndex c x k) same led.3) is,
   )
-
-  -- one that does not go on leads on to none
-  pub leads_on_never : (m : Move) (q : Setup) (k : ℕ) → Leads p m q → ¬ GoesOn column c p m q → LeadsOn column c p m k → ⊥
-  leads_on_never m q k leads off led = off (subst (GoesOn column c p m) (one_next m led.0 q led.1 leads) led.2)
-
-  -- the edges of the index are where the legal moves lead on to
-  pub edges_collected : (moves listed : List Move) (i k : ℕ) → moves ≡ listed → ((m : Move) → Contains listed m ↔ IsLegal p m) → IsAt c i p → ((m : Move) × Contains moves m × LeadsOn column c p m k) ↔ Connects column c i k
-  edges_collected moves listed i k same legal at = (λ found. record { from = p; at = at; move = found.0; to = found.2.0; leads = found.2.1; on = found.2.2; index = found.2.3 }, found_back)
-    where
-      found_back : Connects column c i k → (m : Move) × Contains moves m × LeadsOn column c p m k
-      found_back edge =
-          let e : edge.from ≡ p = laws.one_spelled c i edge.from p edge.at.spells at.spells in
-          let leads = subst (λ x. Leads x edge.move edge.to) e edge.leads in
-          let on = subst (λ x. GoesOn column c x edge.move edge.to) e edge.on in
-          let has = subst (λ ms. Contains ms edge.move) (sym same) ((legal edge.move).1 (edge.to, leads)) in
-          (edge.move, has, (edge.to, leads, on, edge.index))
 
 -- a member more, or none
 pub members_on : {A B P Q : Type 0} → (A ↔ (B ⊎ P)) → (P ↔ Q) → A ↔ (B ⊎ Q)

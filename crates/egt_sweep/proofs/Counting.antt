@@ -59,6 +59,23 @@ pub ones_size : (set : SquareSet) → set.bits < 2 ^ 64 → count_ones set.bits 
 unfolding size_of
 ones_size set lt = ones_total 64 set.bits lt
 
+total_within : (f g : ℕ → ℕ) → ((i : ℕ) → f i ≤ g i) → (n : ℕ) → total f n ≤ total g n
+total_within f g within zero = omega arith
+total_within f g within (suc n) = let e = total_within f g within n in let h = within n in omega (arith, e, h)
+
+-- a set within another is no larger
+pub size_within : (a b : SquareSet) → ((t : ℕ) → Has a t → Has b t) → size_of a ≤ size_of b
+unfolding size_of
+size_within a b within = total_within (bit_at a.bits) (bit_at b.bits) (λ t. elim (cases_eq (bit_at a.bits t) 1) [
+  | inl has ↦ let there = within t has in omega (arith, has, there)
+  | inr none ↦ let small = bit_at-lt a.bits t in omega (arith, none, small)
+]) 64
+
+-- no squares are few
+pub none_few : (n : ℕ) → size_of (record { bits = 0 }) ≤ n
+unfolding size_of
+none_few n = omega arith
+
 -- ---- a number more in an ascending list
 
 record Longer (xs : List ℕ) (x : ℕ) : Type 0 where

@@ -1,11 +1,11 @@
 pub mod Linked
 pub mod Putting
 pub mod Staying
-pub mod SameSteps
 pub mod Collecting
 pub mod Standing
 pub mod Backward
 pub mod OutOfClass
+pub mod Walked
 pub mod Members
 pub mod Agreeing
 pub mod MateRanks
@@ -18,5 +18,6 @@ pub mod BuiltTables
 pub mod Onward
 pub mod Counting
 pub mod Tallying
+pub mod Led
 pub mod Starting
 pub mod Returning

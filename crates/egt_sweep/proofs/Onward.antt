@@ -1,5 +1,5 @@
 -- Moves that go on: which they are, and that where no mirror keeps some waiting man in place, two of them have two indexes.
-use Rattle.std.proofs.Common.{◌≡◌, ◌≢◌, ℕ, ◌<◌, ◌⊎◌, ◌&&◌, ◌==◌, if◌then◌else◌, Bool, true, false, Option, Some, None, IsSome, refl, sym, ap, ◌∙◌, subst, inl, inr, arith}
+use Rattle.std.proofs.Common.{◌≡◌, ◌≢◌, ℕ, ◌+◌, ◌/◌, ◌<◌, ◌⊎◌, ◌&&◌, ◌==◌, if◌then◌else◌, Bool, true, false, Option, Some, None, IsSome, refl, sym, ap, ◌∙◌, subst, inl, inr, arith}
 use Rattle.std.proofs.Math.Logic.{⊎_elim}
 use Rattle.std.proofs.lemmas.Bool.{cases_eq, false≢true, and_parts}
 use Rattle.std.proofs.lemmas.Bool.Decides.{eqb_tells}
@@ -17,9 +17,10 @@ use Rattle.egt_board.specs.Setup.{Setup, IsAdmissible}
 use Rattle.egt_board.specs.Square.{rank_of}
 use Rattle.egt_class.specs.Membership.{IsOf}
 use Rattle.egt_index.specs.Axis.{is_on_axis, StandsAlone}
+use Rattle.egt_index.specs.Frame.{IsMoved}
 use Rattle.egt_index.specs.Index.{IsIndex}
 use Rattle.egt_moves.specs.Exchange.{Captures}
-use Rattle.egt_moves.specs.Legal.{Leads, IsLegal, plain, is_target, men_left, men_after, takes_in_passing}
+use Rattle.egt_moves.specs.Legal.{Leads, IsLegal, plain, is_target, men_left, men_after, takes_in_passing, is_two_ranks, passed}
 use Rattle.egt_moves.specs.Promotion.{FitsPromotion, promotes, is_pawn, arriving}
 use Rattle.egt_moves.specs.Standing.{CanMove}
 use Rattle.egt_moves.specs.Targets.{IsLegalTarget}
@@ -28,7 +29,7 @@ use Rattle.egt_table.specs.declared.column.Column.{Column}
 use Rattle.egt_table.specs.declared.column.Column.TheVariants.{Mate, Zeroing}
 use Rattle.egt_sweep.specs.Edges.{GoesOn, LeadsOn}
 use Rattle.egt_sweep.specs.Laws.{Laws}
-use Rattle.egt_sweep.specs.Ways.{Stays, IsOnward, HasAnchor}
+use Rattle.egt_sweep.specs.Ways.{Stays, IsStep, IsOnward, HasAnchor}
 use Rattle.egt_sweep.proofs.Staying.{quiet_goes_on, no_promotion}
 
 -- ---- what is promoted
@@ -72,7 +73,7 @@ pub pawn_stays : (man : Man) (t : ℕ) → rank_of t ≢ last_rank man.side → 
 pawn_stays man t apart = no_second (is_pawn man.kind) (rank_of t == last_rank man.side) (untold (rank_of t) (last_rank man.side) apart)
 
 -- a legal target of a man who is not promoted there
-plain_legal : (p : Setup) (man : Man) (from t : ℕ) → Stands p.men from man → promotes man t ≡ false → IsLegalTarget p from t → IsLegal p (plain from t)
+pub plain_legal : (p : Setup) (man : Man) (from t : ℕ) → Stands p.men from man → promotes man t ≡ false → IsLegalTarget p from t → IsLegal p (plain from t)
 plain_legal p man from t stands stays (promo, (q, leads)) =
     let same : man ≡ leads.man = one_man p.men from man leads.man stands leads.stands in
     let none = unpromoted (promotes leads.man t) promo (subst (λ (x : Man). promotes x t ≡ false) same stays) leads.promotion in
@@ -179,6 +180,37 @@ module _ (men : Placement) (from to : ℕ) (man : Man) (stands : Stands men from
       ]
     ];
   }
+
+-- a move that takes nothing, promotes nothing and passes no square changes the square of one man alone
+pub moved_by : (laws : Laws) (c : ℕ) (p q : Setup) (from t : ℕ) → IsAdmissible p → (leads : Leads p (plain from t) q) → ¬ Captures p (plain from t) → passed leads.man from t ≡ None → IsMoved c p from t q
+moved_by laws c p q from t ok leads quiet unpassed = record {
+  man = leads.man;
+  stands = leads.stands;
+  free = arrives_free p q (plain from t) leads quiet;
+  on_board = arrives_within laws p q (plain from t) ok leads;
+  men = men_moved p q (plain from t) leads quiet refl;
+  side = ap (λ (x : Setup). x.side) leads.becomes;
+  target = ap (λ (x : Setup). x.target) leads.becomes ∙ unpassed;
+  admissible = laws.facts.step_admissible p q (plain from t) ok leads;
+  class = λ flipped of. laws.quiet_class p q (plain from t) c flipped ok of leads quiet refl;
+}
+
+-- no square is passed where none is told to be
+pub none_passed : (man : Man) (from t : ℕ) → (is_pawn man.kind && is_two_ranks from t) ≡ false → passed man from t ≡ None
+none_passed man from t told = ap (λ b. if b then Some ((from + t) / 2) else None) told
+
+-- a step takes nothing
+pub step_quiet : (p : Setup) (from t : ℕ) → IsStep p from t → ¬ Captures p (plain from t)
+step_quiet p from t step (inl held) = step.free held
+step_quiet p from t step (inr passing) = step.stays.1 passing.1
+
+-- its one move promotes nothing
+pub step_legal : (p : Setup) (from t : ℕ) → IsStep p from t → IsLegalTarget p from t → IsLegal p (plain from t)
+step_legal p from t step target = plain_legal p step.man from t step.stands (pawn_stays step.man t step.stays.0) target
+
+pub step_moved : (laws : Laws) (c : ℕ) (p q : Setup) (from t : ℕ) → IsAdmissible p → IsStep p from t → Leads p (plain from t) q → IsMoved c p from t q
+step_moved laws c p q from t ok step leads =
+    moved_by laws c p q from t ok leads (step_quiet p from t step) (subst (λ (man : Man). passed man from t ≡ None) (one_man p.men from step.man leads.man step.stands leads.stands) step.unpassed)
 
 -- ---- which moves go on
 

@@ -1,19 +1,20 @@
 -- What is told of where the moves that leave a class lead.
-use Rattle.std.proofs.Common.{◌≡◌, ◌≢◌, ℕ, zero, suc, ◌+◌, ◌-◌, ◌/◌, ◌%◌, ◌<◌, ◌≤◌, Bool, true, false, List, [], ◌∷◌, ◌++◌, if◌then◌else◌, Option, Some, None, IsSome, eqb, length, get_or, take, refl, sym, ap, ◌∙◌, subst, inl, inr, arith}
+use Rattle.std.proofs.Common.{◌≡◌, ◌≢◌, ℕ, zero, suc, ◌-◌, ◌/◌, ◌%◌, ◌<◌, ◌≤◌, Bool, true, false, List, [], ◌∷◌, ◌++◌, if◌then◌else◌, Option, Some, None, IsSome, eqb, refl, sym, ap, ◌∙◌, subst, inl, inr, arith}
 use Rattle.std.proofs.Math.Logic.{⊎_elim}
 use Rattle.std.proofs.lemmas.Bool.{cases_eq, eqb-true, eq-eqb}
-use Rattle.std.proofs.lemmas.Grind.{flat_map-append}
-use Rattle.std.proofs.lemmas.List.{take_more, append-nil}
-use Rattle.std.proofs.lemmas.List.Concat.{flat_map-cons}
+use Rattle.std.proofs.lemmas.List.{append-nil}
 use Rattle.std.specs.List.{flat_map, Contains}
 use Rattle.std.specs.Option.{is_some, option_to_list, option_map}
+use Rattle.egt_board.specs.declared.man.Man.{Man}
+use Rattle.egt_board.specs.Placement.{Stands, one_man}
 use Rattle.egt_board.specs.Setup.{Setup, IsAdmissible}
 use Rattle.egt_class.specs.Children.{children_of}
 use Rattle.egt_class.specs.Membership.{IsOf}
 use Rattle.egt_index.specs.Index.{IsIndex}
 use Rattle.egt_moves.specs.Arena.{Value, Win, Loss, Draw}
-use Rattle.egt_moves.specs.Legal.{Leads}
-use Rattle.egt_moves.specs.Moves.{played}
+use Rattle.egt_moves.specs.Legal.{Leads, plain}
+use Rattle.egt_moves.specs.Moves.{played, moves_between}
+use Rattle.egt_moves.specs.Promotion.{FitsPromotion, promotes, choices_of}
 use Rattle.egt_moves.specs.declared.chess_move.Move.{Move}
 use Rattle.egt_graph.specs.declared.game.Exit.{Exit}
 use Rattle.egt_graph.specs.declared.game.Exit.TheVariants as exits
@@ -29,8 +30,11 @@ use Rattle.egt_sweep.specs.MateColumn.{mate_table}
 use Rattle.egt_sweep.specs.declared.aim.Aim.{Aim}
 use Rattle.egt_sweep.specs.declared.aim.Aim.TheVariants as aims
 use Rattle.egt_sweep.specs.Laws.{Laws}
-use Rattle.egt_sweep.specs.Nodes.{index_in, plies_told, exit_of, exit_by, shown_in, shown_below, or_else, goes_on}
+use Rattle.egt_sweep.specs.Nodes.{index_in, plies_told, exit_of, exit_by, exits_by, shown_in, shown_below, or_else, goes_on}
+use Rattle.egt_sweep.specs.Ways.{IsStep}
 use Rattle.egt_sweep.proofs.Linked.{index_is, goes_is}
+use Rattle.egt_sweep.proofs.Onward.{pawn_stays}
+use Rattle.egt_sweep.proofs.Walked.{told_of, choices_told}
 
 -- the exit of the value that an entry shows
 draw_shown : (x : ℕ) (v : Value) → Shows x v → x ≡ 1 → v ≡ Draw
@@ -106,13 +110,21 @@ module _ (laws : Laws) (tables : Tables) where
   played_is p q m leads = (laws.played p q m).0 leads
 
   -- a move that goes on has no exit
-  pub goes_no_exit : (column : Column) (c : ℕ) (p q : Setup) (m : Move) → IsAdmissible p → Leads p m q → GoesOn column c p m q → (es : List Exit) →
+  goes_no_exit : (column : Column) (c : ℕ) (p q : Setup) (m : Move) → IsAdmissible p → Leads p m q → GoesOn column c p m q → (es : List Exit) →
       es ≡ es ++ option_to_list (exit_by tables column c p m (played p m))
   unfolding exit_by_test
   goes_no_exit column c p q m ok leads on es =
       let q_ok = laws.facts.step_admissible p q m ok leads in
       let none = ap (exit_by tables column c p m) (played_is p q m leads) ∙ test_exit column c p q m true ((goes_is laws column c p q m q_ok).1 on) in
       sym (ap (λ (o : Option Exit). es ++ option_to_list o) none ∙ append-nil es)
+
+  -- so nothing is told of a move that is illegal or goes on
+  pub nothing_told : (column : Column) (c : ℕ) (p : Setup) (m : Move) → IsAdmissible p → ((q : Setup) → Leads p m q → GoesOn column c p m q) → option_to_list (exit_by tables column c p m (played p m)) ≡ []
+  nothing_told column c p m ok on = of_played (played p m) refl
+    where
+      of_played : (o : Option Setup) → played p m ≡ o → option_to_list (exit_by tables column c p m (played p m)) ≡ []
+      of_played None e = ap (λ (x : Option Setup). option_to_list (exit_by tables column c p m x)) e
+      of_played (Some q) e = let leads = (laws.played p q m).1 e in sym (goes_no_exit column c p q m ok leads (on q leads) [])
 
   goes_false : (column : Column) (c : ℕ) (p q : Setup) (m : Move) → IsAdmissible q → ¬ GoesOn column c p m q → (b : Bool) → goes_on column c p m q ≡ b → b ≡ false
   goes_false column c p q m ok off true e = absurd (off ((goes_is laws column c p q m ok).0 e))
@@ -127,12 +139,21 @@ module _ (laws : Laws) (tables : Tables) where
       let some = ap (exit_by tables column c p m) (played_is p q m leads) ∙ test_exit column c p q m false (goes_false column c p q m q_ok off (goes_on column c p m q) refl) in
       ap (λ (x : Exit). es ++ x ∷ []) is ∙ sym (ap (λ (o : Option Exit). es ++ option_to_list o) some)
 
--- one move more of a list
-pub one_more : {X : Type 0} (f : X → List Exit) (xs : List X) (n : ℕ) (x : X) (es fs : List Exit) → n < length xs → x ≡ get_or xs n x → es ≡ flat_map f (take n xs) → fs ≡ es ++ f x → fs ≡ flat_map f (take (n + 1) xs)
-one_more f xs n x es fs inside here so_far is =
-    let last : flat_map f (x ∷ []) ≡ f x = flat_map-cons f x [] ∙ append-nil (f x) in
-    let taken : take (n + 1) xs ≡ take n xs ++ x ∷ [] = take_more xs n x inside ∙ ap (λ y. take n xs ++ y ∷ []) (sym here) in
-    is ∙ ap (λ ys. ys ++ f x) so_far ∙ ap (λ ys. flat_map f (take n xs) ++ ys) (sym last) ∙ sym (flat_map-append f (take n xs) (x ∷ [])) ∙ ap (flat_map f) (sym taken)
+-- of the moves between two squares those that promote as they must are told
+pub between_told : (laws : Laws) (tables : Tables) (column : Column) (c : ℕ) (p : Setup) (man : Man) (from to : ℕ) (b : Bool) → IsAdmissible p → Stands p.men from man → promotes man to ≡ b →
+    flat_map (told_of (λ m. option_to_list (exit_by tables column c p m (played p m))) from to) (choices_of b) ≡ exits_by tables column c p (moves_between from to)
+between_told laws tables column c p man from to b ok stands told =
+    choices_told (λ m. option_to_list (exit_by tables column c p m (played p m))) from to b
+    (λ promo unfit. nothing_told laws tables column c p (record { from = from; to = to; promo = promo }) ok
+    (λ q there. absurd (unfit (subst (λ (x : Bool). FitsPromotion x promo) (ap (λ (x : Man). promotes x to) (one_man p.men from there.man man there.stands stands) ∙ told) there.promotion))))
+
+-- a step has one exit
+pub step_told : (laws : Laws) (tables : Tables) (column : Column) (c : ℕ) (p q : Setup) (from to : ℕ) (e : Exit) → IsAdmissible p → IsStep p from to → Leads p (plain from to) q → ¬ GoesOn column c p (plain from to) q →
+    e ≡ exit_of column (shown_below tables 36 q) → (es : List Exit) → es ++ e ∷ [] ≡ es ++ exits_by tables column c p (moves_between from to)
+step_told laws tables column c p q from to e ok step leads off is es =
+    off_has_exit laws tables column c p q (plain from to) e ok leads off is es
+    ∙ ap (λ xs. es ++ xs) (sym (append-nil (option_to_list (exit_by tables column c p (plain from to) (played p (plain from to)))))
+    ∙ between_told laws tables column c p step.man from to false ok step.stands (pawn_stays step.man to step.stays.0))
 
 pub mapped_some : {A B : Type 0} (f : A → B) (o : Option A) (x : Option B) → option_map f o ≡ x → IsSome x → IsSome o
 mapped_some f None x e some = subst IsSome (sym e) some

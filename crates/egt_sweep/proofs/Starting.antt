@@ -1,18 +1,15 @@
 -- What a run begins with at a node.
-use Rattle.std.proofs.Common.{◌≡◌, ℕ, ◌<◌, ◌≤◌, ◌++◌, not, Bool, true, false, List, [], ◌∷◌, length, Some, refl, sym, ap, ◌∙◌, subst, inl, inr}
-use Rattle.std.proofs.lemmas.List.Concat.{flat_map-cons}
+use Rattle.std.proofs.Common.{◌≡◌, ℕ, ◌<◌, ◌≤◌, not, Bool, true, false, List, length, Some, refl, sym, ap, ◌∙◌, subst, inl, inr}
 use Rattle.std.specs.Int.{bit_at}
-use Rattle.std.specs.List.{flat_map}
-use Rattle.std.specs.Option.{is_some, option_to_list}
+use Rattle.std.specs.Option.{is_some}
 use Rattle.egt_board.specs.Decided.{Decided, tells}
-use Rattle.egt_board.specs.Setup.{Setup, IsAdmissible}
+use Rattle.egt_board.specs.Setup.{Setup}
 use Rattle.egt_board.specs.declared.square_set.SquareSet.{SquareSet}
 use Rattle.egt_index.specs.Code.{Spells}
 use Rattle.egt_index.specs.Index.{IsIndex, IsVoid}
 use Rattle.egt_index.specs.Size.{size_of}
 use Rattle.egt_moves.specs.DecidedMoves.{decided_checkmate}
 use Rattle.egt_moves.specs.Legal.{Leads}
-use Rattle.egt_moves.specs.Moves.{moves_of, played}
 use Rattle.egt_moves.specs.Standing.{IsCheckmate, CanMove}
 use Rattle.egt_moves.specs.declared.chess_move.Move.{Move}
 use Rattle.egt_graph.specs.Passing.{passing_below}
@@ -21,11 +18,9 @@ use Rattle.egt_table.specs.declared.column.Column.{Column}
 use Rattle.egt_check.specs.Tables.{Tables}
 use Rattle.egt_sweep.specs.Edges.{IsAt, GoesOn, LeadsOn, Connects}
 use Rattle.egt_sweep.specs.Laws.{Laws}
-use Rattle.egt_sweep.specs.Nodes.{position_at, is_mated, connects, exit_by, exits_at, exits_from}
+use Rattle.egt_sweep.specs.Nodes.{position_at, is_mated, connects, exits_at, exits_from}
 use Rattle.egt_sweep.specs.Ways.{Counts}
 use Rattle.egt_sweep.proofs.Linked.{position_is, there_is, void_is}
-use Rattle.egt_sweep.proofs.Members.{In, in_contains}
-use Rattle.egt_sweep.proofs.OutOfClass.{goes_no_exit}
 use Rattle.egt_sweep.proofs.Standing.{edges_told}
 
 pub not_told : {P : Type 0} (d : Decided P) → (P → ⊥) → false ≡ tells d
@@ -54,17 +49,6 @@ module _ (laws : Laws) (c i : ℕ) (p : Setup) (at : IsAt c i p) where
 
   pub no_void : not (is_some (position_at c i)) ≡ false
   no_void = ap not (there_is laws c i p at)
-
-flat_none : {X Y : Type 0} (f : X → List Y) (xs : List X) → ((x : X) → In x xs → f x ≡ []) → flat_map f xs ≡ []
-flat_none f [] none = refl
-flat_none f (x ∷ xs) none = flat_map-cons f x xs ∙ ap (λ ys. ys ++ flat_map f xs) (none x (inl refl)) ∙ flat_none f xs (λ y h. none y (inr h))
-
--- where every move goes on, none is told of outside
-pub none_outside : (laws : Laws) (tables : Tables) (column : Column) (c : ℕ) (p : Setup) → IsAdmissible p → ((m : Move) (q : Setup) → Leads p m q → GoesOn column c p m q) →
-    [] ≡ flat_map (λ m. option_to_list (exit_by tables column c p m (played p m))) (moves_of p)
-none_outside laws tables column c p ok on = sym (flat_none (λ m. option_to_list (exit_by tables column c p m (played p m))) (moves_of p) (λ m has.
-    let legal = (laws.listed p m ok).0 (in_contains m (moves_of p) has) in
-    sym (goes_no_exit laws tables column c p legal.0 m ok legal.1 (on m legal.0 legal.1) [])))
 
 -- what is told of the position at a node is what the graph tells of the node
 pub started : (laws : Laws) (tables : Tables) (column : Column) (c i : ℕ) (p : Setup) → Spells c i p → IsIndex c p i → (mated : Bool) (degree : ℕ) (exits : List Exit) →

@@ -1,6 +1,5 @@
 -- One man's moves, counted beside those of the men before.
-use Rattle.std.proofs.Common.{◌≡◌, ◌≢◌, ℕ, ◌+◌, ◌<◌, ◌↔◌, not, Bool, true, false, eqb, refl, sym, ◌∙◌, subst, [], arith}
-use Rattle.std.proofs.lemmas.Bool.{eqb-true}
+use Rattle.std.proofs.Common.{◌≡◌, ◌≢◌, ℕ, ◌+◌, ◌<◌, Bool, false, refl, sym, ◌∙◌, subst, [], arith}
 use Rattle.std.specs.Int.{bit_at}
 use Rattle.egt_board.specs.declared.man.Man.{Man}
 use Rattle.egt_board.specs.declared.square_set.SquareSet.{SquareSet}
@@ -12,7 +11,6 @@ use Rattle.egt_class.specs.Membership.{IsOf}
 use Rattle.egt_index.specs.Axis.{is_on_axis, StandsAlone}
 use Rattle.egt_index.specs.Index.{IsIndex}
 use Rattle.egt_moves.specs.Legal.{Leads, plain}
-use Rattle.egt_moves.specs.Targets.{IsLegalTarget}
 use Rattle.egt_moves.specs.declared.chess_move.Move.{Move}
 use Rattle.egt_table.specs.declared.column.Column.{Column}
 use Rattle.egt_sweep.specs.Edges.{GoesOn}
@@ -20,19 +18,7 @@ use Rattle.egt_sweep.specs.Laws.{Laws}
 use Rattle.egt_sweep.specs.Ways.{IsOnward, Counts, HasAnchor}
 use Rattle.egt_sweep.proofs.Collecting.{leads_on_once, none_ascend}
 use Rattle.egt_sweep.proofs.Counting.{counts_more}
-use Rattle.egt_sweep.proofs.Onward.{on_index, one_plain, one_from, one_to, targeted}
-
--- numbers that are told to be equal
-pub same_numbers : (a b : ℕ) → not (eqb a b) ≡ false → a ≡ b
-same_numbers a b told = eqb-true a b (not_not (eqb a b) told)
-  where
-    not_not : (x : Bool) → not x ≡ false → x ≡ true
-    not_not true e = refl
-    not_not false e = sym e
-
--- and sets whose bits are
-pub same_squares : (a b : SquareSet) → not (eqb a.bits b.bits) ≡ false → a ≡ b
-same_squares a b told = λ i. record { bits = same_numbers a.bits b.bits told i }
+use Rattle.egt_sweep.proofs.Onward.{on_index, one_plain, one_from, one_to}
 
 module _ (laws : Laws) (c : ℕ) (p : Setup) (c_in : c < 36) (ok : IsAdmissible p) (of : (flipped : Bool) × IsOf c flipped p) (column : Column) where
   pub man_counted : HasAnchor c p →
@@ -52,16 +38,15 @@ module _ (laws : Laws) (c : ℕ) (p : Setup) (c_in : c < 36) (ok : IsAdmissible 
       (λ m x here led. let has = complete m led.0 here led.1 led.2 in (has, one_plain p led.0 (sound m.to has).to m from here led.1 (sound m.to has).leads))
       count so_far)
 
-  -- where each legal target is one to which the man goes on, no move of his leaves the game
-  pub man_leaves : (from : ℕ) (set targets : SquareSet) → set ≡ targets → ((t : ℕ) → Has targets t ↔ IsLegalTarget p from t) → ((t : ℕ) → Has set t → IsOnward column c p from t) →
-      (m : Move) (q : Setup) → m.from ≡ from → Leads p m q → GoesOn column c p m q
-  man_leaves from set targets same legal sound m q here leads =
-      let has : Has set m.to = subst (λ (s : SquareSet). Has s m.to) (sym same) ((legal m.to).1 (targeted p m from here (q, leads))) in
-      let onward = sound m.to has in
-      let plain_is = one_plain p q onward.to m from here leads onward.leads in
-      let there : Leads p (plain from m.to) q = subst (λ (n : Move). Leads p n q) plain_is leads in
-      let one : onward.to ≡ q = (let e = sym ((laws.played p onward.to (plain from m.to)).0 onward.leads) ∙ (laws.played p q (plain from m.to)).0 there in cc) in
-      subst (λ (n : Move). GoesOn column c p n q) (sym plain_is) (subst (GoesOn column c p (plain from m.to)) one onward.on)
+-- a legal move to one of the squares to which the man goes on goes on
+pub man_goes_on : (laws : Laws) (c : ℕ) (p : Setup) (column : Column) (from : ℕ) (set : SquareSet) → ((t : ℕ) → Has set t → IsOnward column c p from t) →
+    (m : Move) (q : Setup) → m.from ≡ from → Has set m.to → Leads p m q → GoesOn column c p m q
+man_goes_on laws c p column from set sound m q here has leads =
+    let onward = sound m.to has in
+    let plain_is = one_plain p q onward.to m from here leads onward.leads in
+    let there : Leads p (plain from m.to) q = subst (λ (n : Move). Leads p n q) plain_is leads in
+    let one : onward.to ≡ q = (let e = sym ((laws.played p onward.to (plain from m.to)).0 onward.leads) ∙ (laws.played p q (plain from m.to)).0 there in cc) in
+    subst (λ (n : Move). GoesOn column c p n q) (sym plain_is) (subst (GoesOn column c p (plain from m.to)) one onward.on)
 
 -- no man of the side to move stands outside the set
 pub not_held : (p : Setup) (set : SquareSet) → ((s : ℕ) → IsHeld p.men s p.side → Has set s) → (m : Move) (q : Setup) → bit_at set.bits m.from ≡ 0 → Leads p m q → ⊥

@@ -120,9 +120,13 @@ abbrev pub exit_by : Tables → Column → ℕ → Setup → Move → Option Set
 exit_by tables column c p m None = None
 exit_by tables column c p m (Some q) = if goes_on column c p m q then None else Some (exit_of column (shown_below tables 36 q))
 
+-- what is told of where those of these moves lead that leave the game
+abbrev pub exits_by : Tables → Column → ℕ → Setup → List Move → List Exit
+exits_by tables column c p moves = flat_map (λ m. option_to_list (exit_by tables column c p m (played p m))) moves
+
 abbrev pub exits_from : Tables → Column → ℕ → Option Setup → List Exit
 exits_from tables column c None = []
-exits_from tables column c (Some p) = flat_map (λ m. option_to_list (exit_by tables column c p m (played p m))) (moves_of p)
+exits_from tables column c (Some p) = exits_by tables column c p (moves_of p)
 
 -- what is told of where the moves that leave the game lead, in the order of moves
 unfoldable pub exits_at : Tables → Column → ℕ → ℕ → List Exit

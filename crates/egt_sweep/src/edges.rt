@@ -1,86 +1,83 @@
 //! The moves that go on in a class's game.
-ghost use Rattle.std.specs.Prelude.{◌≡◌, ◌↔◌, ◌+◌, ◌≤◌, ◌<◌, ◌⊎◌, ℕ, Bool, [], IsTrue};
+ghost use Rattle.std.specs.Prelude.{◌≡◌, ◌↔◌, ◌+◌, ◌≤◌, ◌⊎◌, ℕ, Bool, []};
 ghost use Rattle.std.specs.List.{Contains};
 ghost use Rattle.std.specs.List.Sorted.{IsStrictlyIncreasing};
-ghost use Rattle.egt_board.specs.Setup.{Setup};
-ghost use Rattle.egt_index.specs.Frame.{IsFrame};
-ghost use Rattle.egt_index.specs.Steps.{AreSteps};
-ghost use Rattle.egt_class.specs.Membership.{IsOf};
-ghost use Rattle.egt_index.specs.Index.{IsIndex};
 ghost use Rattle.arrayvec.specs.ArrayVec.{array_vec_len};
-ghost use Rattle.egt_moves.specs.Legal.{Leads, IsLegal};
-ghost use Rattle.egt_sweep.specs.Edges.{IsAt, GoesOn, LeadsOn, Connects};
+ghost use Rattle.egt_board.specs.Placement.{Stands, IsHeld};
+ghost use Rattle.egt_board.specs.Setup.{Setup};
+ghost use Rattle.egt_board.specs.declared.man.Man.{Man};
+ghost use Rattle.egt_class.specs.Membership.{IsOf};
+ghost use Rattle.egt_index.specs.Frame.{IsFrame};
+ghost use Rattle.egt_index.specs.Index.{IsIndex};
+ghost use Rattle.egt_index.specs.Steps.{AreSteps};
+ghost use Rattle.egt_moves.specs.Exchange.{Captures};
+ghost use Rattle.egt_moves.specs.Legal.{Leads, IsLegal, plain};
+ghost use Rattle.egt_moves.specs.Room.{most_moves};
+ghost use Rattle.egt_moves.specs.declared.chess_move.Move.{Move};
+ghost use Rattle.egt_sweep.specs.Edges.{IsAt, LeadsOn, Connects};
 
 use crate::ascending::put;
 use crate::laws::laws;
+use crate::quiet::passes;
+use crate::ways::onward;
 use arrayvec::ArrayVec;
-use egt_board::Position;
-use egt_class::{Class, of};
+use egt_board::{Position, Square};
+use egt_class::Class;
 use egt_index::{Frame, Steps, index};
-use egt_moves::{Move, legal_moves, play, zeroing};
+use egt_moves::{Move, legal_targets, play};
 use egt_table::Column;
 
-/// Whether the legal move leads to a position of the class.
-fn stays(class: Class, position: &Position, chess_move: &Move) -> bool
-    requires legal { IsLegal position.now chess_move.now }
-    ensures stays { (q : Setup) → Leads position.now chess_move.now q → IsTrue result ↔ ((i : ℕ) × IsIndex class q i) }
-    ensures class { (q : Setup) → Leads position.now chess_move.now q → IsTrue result → (flipped : Bool) × IsOf class flipped q }
-{
-    laws();
-    let next = play(position, *chess_move).unwrap();
-    let _sides = (position.side(), next.side());
-    let _number = class.number();
-    let (own, _flipped) = of(&next);
-    let _own_number = own.number();
-    own == class
-}
-
-/// Whether the legal move from a position of the class goes on in the game: it stays in the class, or does not zero. One that does
-/// not zero stays in the class.
-pub(crate) fn goes_on(column: Column, class: Class, position: &Position, chess_move: &Move) -> bool
+/// The index of the position after the man went to a square where he takes nothing and is not promoted. The steps are his.
+fn index_after(class: Class, steps: &Steps, position: &Position, from: Square, to: Square) -> u32
     requires of { (flipped : Bool) × IsOf class flipped position.now }
-    requires legal { IsLegal position.now chess_move.now }
-    ensures on { (q : Setup) → Leads position.now chess_move.now q → IsTrue result ↔ GoesOn column class position.now chess_move.now q }
-    ensures class { (q : Setup) → Leads position.now chess_move.now q → IsTrue result → (flipped : Bool) × IsOf class flipped q }
+    requires steps { AreSteps position.now class from steps.now }
+    requires legal { IsLegal position.now (plain from to) }
+    requires quiet { ¬ Captures position.now (plain from to) }
+    ensures { (q : Setup) → Leads position.now (plain from to) q → IsIndex class q result }
 {
     laws();
     let _side = position.side();
     let _number = class.number();
-    if !zeroing(position, *chess_move) {
-        return true;
+    let man = position.at(from).unwrap();
+    if !passes(man, from, to) {
+        return steps.index_to(to);
     }
-    match column {
-        Column::Mate => stays(class, position, chess_move),
-        Column::Zeroing => false,
-    }
+    let chess_move = Move {
+        from,
+        to,
+        promo: None,
+    };
+    let next = play(position, chess_move).unwrap();
+    index(class, &next)
 }
 
-/// Adds the index to which the move leads, if it goes on. The steps are those of the man that moves.
-fn add_edge(
+/// Adds the indexes to which the man's moves lead that go on.
+fn add_edges(
     column: Column,
     class: Class,
-    steps: &Steps,
+    frame: &Frame,
     position: &Position,
-    chess_move: &Move,
+    from: Square,
     list: &mut ArrayVec<u32, 64>,
 )
     requires of { (flipped : Bool) × IsOf class flipped position.now }
-    requires steps { AreSteps position.now class chess_move.now.from steps.now }
-    requires legal { IsLegal position.now chess_move.now }
+    requires frame { IsFrame position.now frame.now }
+    requires class { frame.now.class ≡ class }
+    requires held { IsHeld position.now.men from position.now.side }
     requires ascending { IsStrictlyIncreasing list.old.items }
-    requires room { array_vec_len list.old < 64 }
+    requires room { (man : Man) → Stands position.now.men from man → array_vec_len list.old + most_moves man.kind ≤ 64 }
     ensures ascending { IsStrictlyIncreasing list.new.items }
-    ensures members { (k : ℕ) → Contains list.new.items k ↔ (Contains list.old.items k ⊎ LeadsOn column class position.now chess_move.now k) }
-    ensures few { array_vec_len list.new ≤ array_vec_len list.old + 1 }
+    ensures members { (k : ℕ) → Contains list.new.items k ↔ (Contains list.old.items k ⊎ ((m : Move) × (m.from ≡ from) × LeadsOn column class position.now m k)) }
+    ensures few { (man : Man) → Stands position.now.men from man → array_vec_len list.new ≤ array_vec_len list.old + most_moves man.kind }
 {
     laws();
     let _side = position.side();
     let _number = class.number();
-    if !zeroing(position, *chess_move) {
-        put(list, steps.index_to(chess_move.to));
-    } else if goes_on(column, class, position, chess_move) {
-        let next = play(position, *chess_move).unwrap();
-        put(list, index(class, &next));
+    let targets = legal_targets(position, from);
+    let steps = frame.steps(from);
+    let mut rest = onward(column, class, position, from, targets);
+    while let Some(to) = rest.pop_first() {
+        put(list, index_after(class, &steps, position, from, to));
     }
 }
 
@@ -100,15 +97,8 @@ pub(crate) fn edges(
     ensures exact { (i : ℕ) → IsAt class i position.now → (k : ℕ) → Contains list.new.items k ↔ Connects column class i k }
 {
     laws();
-    let moves = legal_moves(position);
-    let mut from = position.king(position.side());
-    let mut steps = frame.steps(from);
-    for chess_move in moves.as_slice() {
-        // The moves of a man stand side by side.
-        if chess_move.from != from {
-            from = chess_move.from;
-            steps = frame.steps(from);
-        }
-        add_edge(column, class, &steps, position, chess_move, list);
+    let mut rest = position.of(position.side());
+    while let Some(from) = rest.pop_first() {
+        add_edges(column, class, frame, position, from, list);
     }
 }

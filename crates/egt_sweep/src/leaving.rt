@@ -1,29 +1,40 @@
 //! The moves that leave a game, and the values of where they lead.
-ghost use Rattle.std.specs.Prelude.{◌≡◌, ◌+◌, ◌++◌, ◌≤◌, ◌<◌, ℕ, Bool, [], Some, IsSome, IfSome, IsFalse, not};
-ghost use Rattle.std.specs.Option.{is_some, option_to_list};
+ghost use Rattle.std.specs.Prelude.{◌≡◌, ◌+◌, ◌*◌, ◌++◌, ◌≤◌, ◌<◌, ℕ, Bool, IsSome, IfSome};
+ghost use Rattle.std.specs.Option.{option_to_list};
 ghost use Rattle.arrayvec.specs.ArrayVec.{array_vec_len};
+ghost use Rattle.egt_board.specs.Placement.{Stands};
+ghost use Rattle.egt_board.specs.Settled.{IsSettled};
+ghost use Rattle.egt_board.specs.Setup.{Setup, IsAdmissible};
+ghost use Rattle.egt_board.specs.SquareSet.{Has, size_of};
+ghost use Rattle.egt_board.specs.declared.man.Man.{Man};
 ghost use Rattle.egt_class.specs.Membership.{IsOf};
+ghost use Rattle.egt_index.specs.Index.{IsIndex};
 ghost use Rattle.egt_moves.specs.Arena.{Value};
-ghost use Rattle.egt_moves.specs.Legal.{IsLegal};
-ghost use Rattle.egt_moves.specs.Moves.{played};
+ghost use Rattle.egt_moves.specs.Legal.{Leads, IsLegal};
+ghost use Rattle.egt_moves.specs.Moves.{played, moves_between, moves_from};
+ghost use Rattle.egt_moves.specs.Room.{most_choices};
+ghost use Rattle.egt_moves.specs.Targets.{IsLegalTarget};
+ghost use Rattle.egt_moves.specs.declared.chess_move.Move.{Move};
 ghost use Rattle.egt_table.specs.declared.column.Column.TheVariants.{Mate};
 ghost use Rattle.egt_check.specs.Entry.{Shows};
 ghost use Rattle.egt_check.specs.Reading.{read};
 ghost use Rattle.egt_check.specs.Tables.{table_at, entry_at, HasChildren};
 ghost use Rattle.egt_sweep.specs.Aiming.{column_of, known, KnowsOwn};
+ghost use Rattle.egt_sweep.specs.Edges.{GoesOn};
 ghost use Rattle.egt_sweep.specs.MateColumn.{IsIndexed};
-ghost use Rattle.egt_sweep.specs.Nodes.{plies_told, exit_of, shown_below, exit_by, exits_from};
+ghost use Rattle.egt_sweep.specs.Nodes.{plies_told, exit_of, shown_below, exit_by, exits_by};
+ghost use Rattle.egt_sweep.specs.Ways.{IsStep, AllLeave, OthersGoOn};
 
 use crate::aim::Aim;
-use crate::edges::goes_on;
 use crate::laws::laws;
+use crate::quiet::is_step;
 use arrayvec::ArrayVec;
-use egt_board::Position;
+use egt_board::{Position, Square, SquareSet};
 use egt_check::Library;
 use egt_class::{Class, of};
 use egt_graph::Exit;
-use egt_index::index;
-use egt_moves::{Move, legal_moves, play};
+use egt_index::{Frame, index};
+use egt_moves::{Move, play, promotions};
 use egt_table::Column;
 
 /// The plies of an exit: in the game of zeroing moves none are left.
@@ -84,6 +95,19 @@ fn mate_entry(aim: &Aim<'_>, own: Class, library: &Library, class: Class, index:
     }
 }
 
+/// The value of a position with the index in a class that has its table.
+fn exit_in(aim: &Aim<'_>, own: Class, library: &Library, class: Class, index: u32) -> Exit
+    requires knows { KnowsOwn own aim.now }
+    requires there { IsSome (known (table_at library.now) own aim.now class) }
+    requires indexed { IsIndexed class index }
+    ensures { (q : Setup) → IsAdmissible q → IsIndex class q index → result ≡ exit_of (column_of aim.now) (shown_below (known (table_at library.now) own aim.now) 36 q) }
+{
+    laws();
+    let _number = class.number();
+    let entry = mate_entry(aim, own, library, class, index);
+    exit_shown(aim.column(), entry)
+}
+
 /// The value of a position whose class has its table.
 fn exit_at(aim: &Aim<'_>, own: Class, library: &Library, next: &Position) -> Exit
     requires knows { KnowsOwn own aim.now }
@@ -94,11 +118,10 @@ fn exit_at(aim: &Aim<'_>, own: Class, library: &Library, next: &Position) -> Exi
     let (class, _flipped) = of(next);
     let _side = next.side();
     let _number = class.number();
-    let entry = mate_entry(aim, own, library, class, index(class, next));
-    exit_shown(aim.column(), entry)
+    exit_in(aim, own, library, class, index(class, next))
 }
 
-/// Adds the value of where the move leads, if it leaves the game.
+/// Adds the value of where the move, which leaves the game, leads.
 fn add_exit(
     aim: &Aim<'_>,
     class: Class,
@@ -111,6 +134,7 @@ fn add_exit(
     requires of { (flipped : Bool) × IsOf class flipped position.now }
     requires children { HasChildren (table_at library.now) class }
     requires legal { IsLegal position.now chess_move.now }
+    requires leaves { (q : Setup) → Leads position.now chess_move.now q → ¬ GoesOn (column_of aim.now) class position.now chess_move.now q }
     requires room { array_vec_len list.old < 64 }
     ensures items { list.new.items ≡ list.old.items ++ option_to_list (exit_by (known (table_at library.now) class aim.now) (column_of aim.now) class position.now chess_move.now (played position.now chess_move.now)) }
     ensures few { array_vec_len list.new ≤ array_vec_len list.old + 1 }
@@ -118,45 +142,123 @@ fn add_exit(
     laws();
     let _side = position.side();
     let _number = class.number();
-    if !goes_on(aim.column(), class, position, chess_move) {
-        let next = play(position, *chess_move).unwrap();
-        list.push(exit_at(aim, class, library, &next));
-    }
+    let next = play(position, *chess_move).unwrap();
+    list.push(exit_at(aim, class, library, &next));
 }
 
-/// Adds the values of where the moves lead that leave the game, in the order of moves.
-pub(crate) fn add_exits(
+/// Adds the values of where the moves between the two squares, which leave the game, lead, in the order of moves.
+fn add_exits_between(
     aim: &Aim<'_>,
     class: Class,
     library: &Library,
     position: &Position,
+    from: Square,
+    to: Square,
     list: &mut ArrayVec<Exit, 64>,
 )
     requires knows { KnowsOwn class aim.now }
     requires of { (flipped : Bool) × IsOf class flipped position.now }
     requires children { HasChildren (table_at library.now) class }
-    requires empty { list.old.items ≡ [] }
-    ensures { list.new.items ≡ exits_from (known (table_at library.now) class aim.now) (column_of aim.now) class (Some position.now) }
+    requires target { IsLegalTarget position.now from to }
+    requires leaves { (m : Move) (q : Setup) → m.from ≡ from → m.to ≡ to → Leads position.now m q → ¬ GoesOn (column_of aim.now) class position.now m q }
+    requires room { (man : Man) → Stands position.now.men from man → array_vec_len list.old + most_choices man.kind ≤ 64 }
+    ensures items { list.new.items ≡ list.old.items ++ exits_by (known (table_at library.now) class aim.now) (column_of aim.now) class position.now (moves_between from to) }
+    ensures few { (man : Man) → Stands position.now.men from man → array_vec_len list.new ≤ array_vec_len list.old + most_choices man.kind }
 {
-    let moves = legal_moves(position);
-    for chess_move in moves.as_slice() {
-        add_exit(aim, class, library, position, chess_move, list);
+    laws();
+    let _side = position.side();
+    for promo in promotions(position, from, to) {
+        let chess_move = Move {
+            from,
+            to,
+            promo: *promo,
+        };
+        add_exit(aim, class, library, position, &chess_move, list);
     }
 }
 
-/// The values of where the moves lead that leave the game, in the order of moves.
-pub(crate) fn exits(
+/// Adds the value of where the man's step to the square, which leaves the game, leads. The position there is not made.
+#[inline(never)]
+fn add_exit_of_step(
     aim: &Aim<'_>,
     class: Class,
     library: &Library,
     position: &Position,
-) -> ArrayVec<Exit, 64>
+    from: Square,
+    to: Square,
+    list: &mut ArrayVec<Exit, 64>,
+)
     requires knows { KnowsOwn class aim.now }
     requires of { (flipped : Bool) × IsOf class flipped position.now }
     requires children { HasChildren (table_at library.now) class }
-    ensures { result.items ≡ exits_from (known (table_at library.now) class aim.now) (column_of aim.now) class (Some position.now) }
+    requires settled { IsSettled position.now }
+    requires target { IsLegalTarget position.now from to }
+    requires step { IsStep position.now from to }
+    requires leaves { (m : Move) (q : Setup) → m.from ≡ from → m.to ≡ to → Leads position.now m q → ¬ GoesOn (column_of aim.now) class position.now m q }
+    requires room { array_vec_len list.old < 64 }
+    ensures items { list.new.items ≡ list.old.items ++ exits_by (known (table_at library.now) class aim.now) (column_of aim.now) class position.now (moves_between from to) }
+    ensures few { array_vec_len list.new ≤ array_vec_len list.old + 1 }
 {
-    let mut list = ArrayVec::new();
-    add_exits(aim, class, library, position, &mut list);
-    list
+    laws();
+    let _side = position.side();
+    let _number = class.number();
+    let frame = Frame::of(class, position);
+    let index = frame.steps(from).index_to(to);
+    list.push(exit_in(aim, class, library, class, index));
+}
+
+/// Adds the values of where the man's moves to the square, which leave the game, lead, in the order of moves.
+fn add_exits_to(
+    aim: &Aim<'_>,
+    class: Class,
+    library: &Library,
+    position: &Position,
+    from: Square,
+    to: Square,
+    list: &mut ArrayVec<Exit, 64>,
+)
+    requires knows { KnowsOwn class aim.now }
+    requires of { (flipped : Bool) × IsOf class flipped position.now }
+    requires children { HasChildren (table_at library.now) class }
+    requires settled { IsSettled position.now }
+    requires target { IsLegalTarget position.now from to }
+    requires leaves { (m : Move) (q : Setup) → m.from ≡ from → m.to ≡ to → Leads position.now m q → ¬ GoesOn (column_of aim.now) class position.now m q }
+    requires room { (man : Man) → Stands position.now.men from man → array_vec_len list.old + most_choices man.kind ≤ 64 }
+    ensures items { list.new.items ≡ list.old.items ++ exits_by (known (table_at library.now) class aim.now) (column_of aim.now) class position.now (moves_between from to) }
+    ensures few { (man : Man) → Stands position.now.men from man → array_vec_len list.new ≤ array_vec_len list.old + most_choices man.kind }
+{
+    if is_step(position, from, to) {
+        add_exit_of_step(aim, class, library, position, from, to, list);
+    } else {
+        add_exits_between(aim, class, library, position, from, to, list);
+    }
+}
+
+/// Adds the values of where the man's moves that leave the game lead, in the order of moves: those to these squares.
+pub(crate) fn add_exits(
+    aim: &Aim<'_>,
+    class: Class,
+    library: &Library,
+    position: &Position,
+    from: Square,
+    targets: SquareSet,
+    list: &mut ArrayVec<Exit, 64>,
+)
+    requires knows { KnowsOwn class aim.now }
+    requires of { (flipped : Bool) × IsOf class flipped position.now }
+    requires children { HasChildren (table_at library.now) class }
+    requires settled { IsSettled position.now }
+    requires targets { (t : ℕ) → Has targets t → IsLegalTarget position.now from t }
+    requires leaves { AllLeave (column_of aim.now) class position.now from targets }
+    requires others { OthersGoOn (column_of aim.now) class position.now from targets }
+    requires room { (man : Man) → Stands position.now.men from man → array_vec_len list.old + most_choices man.kind * size_of targets ≤ 64 }
+    ensures items { list.new.items ≡ list.old.items ++ exits_by (known (table_at library.now) class aim.now) (column_of aim.now) class position.now (moves_from from 64) }
+    ensures few { (man : Man) → Stands position.now.men from man → array_vec_len list.new ≤ array_vec_len list.old + most_choices man.kind * size_of targets }
+{
+    laws();
+    let _side = position.side();
+    let mut rest = targets;
+    while let Some(to) = rest.pop_first() {
+        add_exits_to(aim, class, library, position, from, to, list);
+    }
 }

@@ -12,6 +12,7 @@ mod leaving;
 mod mate_game;
 mod missing;
 mod nodes;
+mod quiet;
 pub mod ranks;
 mod sources;
 mod ways;

@@ -3,10 +3,10 @@ ghost use Rattle.std.specs.Prelude.{◌≡◌, ◌≤◌, ℕ, Bool, Some, [], l
 ghost use Rattle.std.specs.Int.{bit_at};
 ghost use Rattle.std.specs.Option.{is_some};
 ghost use Rattle.egt_board.specs.Decided.{tells};
+ghost use Rattle.egt_board.specs.Settled.{IsSettled};
 ghost use Rattle.egt_board.specs.Setup.{Setup};
 ghost use Rattle.egt_board.specs.declared.square_set.SquareSet.{SquareSet};
 ghost use Rattle.egt_class.specs.Membership.{IsOf};
-ghost use Rattle.egt_index.specs.Frame.{IsFrame};
 ghost use Rattle.egt_index.specs.Size.{size_of};
 ghost use Rattle.egt_moves.specs.DecidedMoves.{decided_checkmate};
 ghost use Rattle.egt_moves.specs.Legal.{Leads};
@@ -23,7 +23,6 @@ use crate::aim::Aim;
 use crate::anchor::has_anchor;
 use crate::edges::edges;
 use crate::laws::laws;
-use crate::leaving;
 use crate::sources::sources;
 use crate::ways::{Ways, ways_of};
 use arrayvec::ArrayVec;
@@ -89,12 +88,7 @@ pub(crate) fn successors(column: Column, class: Class, index: u32) -> ArrayVec<u
 }
 
 /// Fills the list with the nodes from which moves that go on lead to a node, in the place of what it had.
-pub(crate) fn predecessors(
-    column: Column,
-    class: Class,
-    index: u32,
-    list: &mut ArrayVec<u32, 128>,
-)
+pub(crate) fn predecessors(column: Column, class: Class, index: u32, list: &mut ArrayVec<u32, 128>)
     requires { IsFalse (not (is_some (position_at class index))) }
     ensures { list.new.items ≡ passing_below (size_of class) (λ i. connects column class i index) }
 {
@@ -120,8 +114,15 @@ pub(crate) fn exits(
     ensures { result.items ≡ exits_at (known (table_at library.now) class aim.now) (column_of aim.now) class index }
 {
     laws();
-    let position = node(class, index);
-    leaving::exits(aim, class, library, &position)
+    let _number = class.number();
+    let mut list = ArrayVec::new();
+    match position(class, index) {
+        Some(position) => {
+            let _ways = ways_of(aim, class, library, &position, &mut list);
+        }
+        None => unreachable!(),
+    }
+    list
 }
 
 /// Whether the side to move, whose moves are known, is checkmated.
@@ -135,11 +136,26 @@ fn is_checkmate_by(position: &Position, ways: &Ways) -> bool
     is_checkmate(position)
 }
 
-/// To how many nodes the moves that go on lead. Where a mirror may take two of them to one index, they are listed; else each has its own.
-fn degree(column: Column, class: Class, frame: &Frame, position: &Position, ways: &Ways) -> usize
+/// To how many nodes the moves that go on lead: they are listed, since a mirror may take two of them to one index.
+#[inline(never)]
+fn listed_degree(column: Column, class: Class, position: &Position) -> usize
     requires of { (flipped : Bool) × IsOf class flipped position.now }
-    requires frame { IsFrame position.now frame.now }
-    requires class { frame.now.class ≡ class }
+    requires settled { IsSettled position.now }
+    ensures value { (i : ℕ) → IsAt class i position.now → result ≡ length (passing_below (size_of class) (λ j. connects column class i j)) }
+    ensures few { result ≤ 64 }
+{
+    laws();
+    let _number = class.number();
+    let frame = Frame::of(class, position);
+    let mut list = ArrayVec::new();
+    edges(column, class, &frame, position, &mut list);
+    list.len()
+}
+
+/// To how many nodes the moves that go on lead. Where no mirror can take two of them to one index, each has its own.
+fn degree(column: Column, class: Class, position: &Position, ways: &Ways) -> usize
+    requires of { (flipped : Bool) × IsOf class flipped position.now }
+    requires settled { IsSettled position.now }
     requires counts { HasAnchor class position.now → (none : SquareSet) × ((s : ℕ) → bit_at none.bits s ≡ 0) × Counts column class position.now none ways.now.onward }
     ensures value { (i : ℕ) → IsAt class i position.now → result ≡ length (passing_below (size_of class) (λ j. connects column class i j)) }
     ensures few { result ≤ 64 }
@@ -149,32 +165,7 @@ fn degree(column: Column, class: Class, frame: &Frame, position: &Position, ways
     if ways.onward <= 64 && has_anchor(class, position) {
         return ways.onward as usize;
     }
-    let mut list = ArrayVec::new();
-    edges(column, class, frame, position, &mut list);
-    list.len()
-}
-
-/// The exits of a position: none where no move leaves the game.
-fn fill_exits(
-    aim: &Aim<'_>,
-    class: Class,
-    library: &Library,
-    position: &Position,
-    ways: &Ways,
-    exits: &mut ArrayVec<Exit, 64>,
-)
-    requires knows { KnowsOwn class aim.now }
-    requires of { (flipped : Bool) × IsOf class flipped position.now }
-    requires children { HasChildren (table_at library.now) class }
-    requires leaves { IsFalse ways.now.leaves → (m : Move) (q : Setup) → Leads position.now m q → GoesOn (column_of aim.now) class position.now m q }
-    ensures { exits.new.items ≡ exits_from (known (table_at library.now) class aim.now) (column_of aim.now) class (Some position.now) }
-{
-    laws();
-    let _side = position.side();
-    exits.clear();
-    if ways.leaves {
-        leaving::add_exits(aim, class, library, position, exits);
-    }
+    listed_degree(column, class, position)
 }
 
 /// What a run begins with at the node of the position.
@@ -183,25 +174,22 @@ fn start_at(
     class: Class,
     library: &Library,
     position: &Position,
-    frame: &Frame,
     exits: &mut ArrayVec<Exit, 64>,
 ) -> Start
     requires knows { KnowsOwn class aim.now }
     requires children { HasChildren (table_at library.now) class }
     requires of { (flipped : Bool) × IsOf class flipped position.now }
-    requires frame { IsFrame position.now frame.now }
-    requires class { frame.now.class ≡ class }
+    requires settled { IsSettled position.now }
     ensures mated { result.mated ≡ tells (decided_checkmate position.now) }
     ensures degree { (i : ℕ) → IsAt class i position.now → result.degree ≡ length (passing_below (size_of class) (λ j. connects (column_of aim.now) class i j)) }
     ensures few { result.degree ≤ 64 }
     ensures exits { exits.new.items ≡ exits_from (known (table_at library.now) class aim.now) (column_of aim.now) class (Some position.now) }
 {
-    let column = aim.column();
-    let ways = ways_of(column, class, position);
-    fill_exits(aim, class, library, position, &ways, exits);
+    exits.clear();
+    let ways = ways_of(aim, class, library, position, exits);
     Start {
         mated: is_checkmate_by(position, &ways),
-        degree: degree(column, class, frame, position, &ways) as u8,
+        degree: degree(aim.column(), class, position, &ways) as u8,
     }
 }
 
@@ -225,8 +213,8 @@ pub(crate) fn start(
 {
     laws();
     let _number = class.number();
-    match spelled(class, index) {
-        Some((position, frame)) => { Some(start_at(aim, class, library, &position, &frame, exits)) }
+    match position(class, index) {
+        Some(position) => Some(start_at(aim, class, library, &position, exits)),
         None => {
             exits.clear();
             None

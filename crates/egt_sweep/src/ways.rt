@@ -1,21 +1,35 @@
-//! How many legal moves a position has, and whether they go on in the game.
-ghost use Rattle.std.specs.Prelude.{◌≡◌, ◌≢◌, ℕ, ◌+◌, ◌<◌, ◌≤◌, ◌↔◌, ◌^◌, Bool, IsTrue, IsFalse, false};
+//! How many legal moves of a position go on in the game, and the values of where the others lead.
+ghost use Rattle.std.specs.Prelude.{◌≡◌, ◌≢◌, ℕ, ◌+◌, ◌++◌, ◌<◌, ◌≤◌, ◌↔◌, ◌⊎◌, ◌^◌, Bool, IsTrue, false, [], Some};
 ghost use Rattle.std.specs.Int.{bit_at};
-ghost use Rattle.egt_board.specs.Placement.{IsHeld};
+ghost use Rattle.arrayvec.specs.ArrayVec.{array_vec_len};
+ghost use Rattle.egt_board.specs.Placement.{Stands, IsHeld};
+ghost use Rattle.egt_board.specs.Settled.{IsSettled};
 ghost use Rattle.egt_board.specs.Setup.{Setup};
 ghost use Rattle.egt_board.specs.SquareSet.{Has, size_of};
+ghost use Rattle.egt_board.specs.declared.man.Man.{Man};
 ghost use Rattle.egt_board.specs.declared.square_set.SquareSet.{SquareSet};
 ghost use Rattle.egt_class.specs.Membership.{IsOf};
 ghost use Rattle.egt_moves.specs.Legal.{Leads};
+ghost use Rattle.egt_moves.specs.Moves.{moves_from};
+ghost use Rattle.egt_moves.specs.Room.{most_moves};
 ghost use Rattle.egt_moves.specs.Standing.{CanMove};
 ghost use Rattle.egt_moves.specs.Targets.{IsLegalTarget};
 ghost use Rattle.egt_moves.specs.declared.chess_move.Move.{Move};
+ghost use Rattle.egt_check.specs.Tables.{table_at, HasChildren};
+ghost use Rattle.egt_sweep.specs.Aiming.{column_of, known, KnowsOwn};
 ghost use Rattle.egt_sweep.specs.Edges.{GoesOn};
+ghost use Rattle.egt_sweep.specs.Nodes.{exits_by, exits_from};
 ghost use Rattle.egt_sweep.specs.Ways.{Stays, IsOnward, Counts, HasAnchor};
 
+use crate::aim::Aim;
 use crate::laws::laws;
+use crate::leaving::add_exits;
+use crate::quiet::stays;
+use arrayvec::ArrayVec;
 use egt_board::{Kind, Man, Position, Square, SquareSet};
+use egt_check::Library;
 use egt_class::Class;
+use egt_graph::Exit;
 use egt_index::laws::one_index_for_one_setup;
 use egt_moves::legal_targets;
 use egt_table::Column;
@@ -27,8 +41,6 @@ pub(crate) struct Ways {
     pub(crate) any: bool,
     /// How many moves go on.
     pub(crate) onward: u32,
-    /// Does some move leave the game?
-    pub(crate) leaves: bool,
 }
 
 /// How many squares the set has.
@@ -38,13 +50,6 @@ fn count(set: SquareSet) -> u32
     ensures few { result ≤ 64 }
 {
     set.bits.count_ones()
-}
-
-/// Whether a pawn that goes to the free square takes nothing in passing and promotes nothing.
-fn stays(position: &Position, man: Man, to: Square) -> bool
-    ensures { IsTrue result ↔ Stays position.now man to }
-{
-    to.rank() != man.side.last_rank() && position.target() != Some(to)
 }
 
 /// Those of the pawn's targets, which are free squares, to which it goes and takes nothing in passing and promotes nothing.
@@ -69,8 +74,16 @@ fn has_some(set: SquareSet) -> bool
     rest.pop_first().is_some()
 }
 
-/// Those of the man's legal targets to which it goes on in the game.
-fn onward(
+/// Whether this is known, or the set has a square.
+fn or_has_some(known: bool, set: SquareSet) -> bool
+    ensures { IsTrue result → IsTrue known ⊎ ((t : ℕ) × Has set t) }
+{
+    known || has_some(set)
+}
+
+/// Those of the man's legal targets to which it goes on in the game. It is inlined so that what it asks of the position is asked once.
+#[inline(always)]
+pub(crate) fn onward(
     column: Column,
     class: Class,
     position: &Position,
@@ -83,6 +96,7 @@ fn onward(
     ensures sound { (t : ℕ) → Has result t → IsOnward column class position.now from t }
     ensures complete { (m : Move) (q : Setup) → m.from ≡ from → Leads position.now m q → GoesOn column class position.now m q → Has result m.to }
     ensures others { (t : ℕ) → Has result t → Has targets t }
+    ensures few { size_of result ≤ size_of targets }
 {
     laws();
     let _number = class.number();
@@ -97,45 +111,69 @@ fn onward(
     }
 }
 
-/// The legal moves, with those of the man on the square.
-fn with_man(column: Column, class: Class, position: &Position, from: Square, ways: Ways) -> Ways
+/// The legal moves, with those of the man on the square. The values of where his moves that leave the game lead are added to `exits`.
+fn with_man(
+    aim: &Aim<'_>,
+    class: Class,
+    library: &Library,
+    position: &Position,
+    from: Square,
+    ways: Ways,
+    exits: &mut ArrayVec<Exit, 64>,
+) -> Ways
+    requires knows { KnowsOwn class aim.now }
     requires of { (flipped : Bool) × IsOf class flipped position.now }
+    requires children { HasChildren (table_at library.now) class }
+    requires settled { IsSettled position.now }
     requires held { IsHeld position.now.men from position.now.side }
     requires few { ways.onward + 64 < 2 ^ 32 }
+    requires room { (man : Man) → Stands position.now.men from man → array_vec_len exits.old + most_moves man.kind ≤ 64 }
     ensures any { IsTrue result.any → (IsTrue ways.any → CanMove position.now) → CanMove position.now }
     ensures few { result.onward ≤ ways.onward + 64 }
-    ensures counts { (before after : SquareSet) → HasAnchor class position.now → Has before from → bit_at after.bits from ≡ 0 →
-        ((s : ℕ) → s ≢ from → bit_at after.bits s ≡ bit_at before.bits s) → Counts column class position.now before ways.onward → Counts column class position.now after result.onward }
-    ensures leaves { IsFalse result.leaves → IsFalse ways.leaves × ((m : Move) (q : Setup) → m.from ≡ from → Leads position.now m q → GoesOn column class position.now m q) }
+    ensures counts { (before after : SquareSet) → HasAnchor class position.now → Has before from → bit_at after.bits from ≡ 0 → ((s : ℕ) → s ≢ from → bit_at after.bits s ≡ bit_at before.bits s) →
+        Counts (column_of aim.now) class position.now before ways.onward → Counts (column_of aim.now) class position.now after result.onward }
+    ensures exits { exits.new.items ≡ exits.old.items ++ exits_by (known (table_at library.now) class aim.now) (column_of aim.now) class position.now (moves_from from 64) }
+    ensures room { (man : Man) → Stands position.now.men from man → array_vec_len exits.new ≤ array_vec_len exits.old + most_moves man.kind }
 {
     laws();
     one_index_for_one_setup();
     let _number = class.number();
     let _side = position.side();
     let targets = legal_targets(position, from);
-    let onward = onward(column, class, position, from, targets);
+    let onward = onward(aim.column(), class, position, from, targets);
+    let leaving = targets.without(onward);
+    add_exits(aim, class, library, position, from, leaving, exits);
     Ways {
-        any: ways.any || has_some(targets),
+        any: or_has_some(ways.any, targets),
         onward: ways.onward + count(onward),
-        leaves: ways.leaves || onward != targets,
     }
 }
 
-/// The legal moves of the position.
-pub(crate) fn ways_of(column: Column, class: Class, position: &Position) -> Ways
+/// The legal moves of the position. The values of where those lead that leave the game are added to `exits`, in the order of moves.
+pub(crate) fn ways_of(
+    aim: &Aim<'_>,
+    class: Class,
+    library: &Library,
+    position: &Position,
+    exits: &mut ArrayVec<Exit, 64>,
+) -> Ways
+    requires knows { KnowsOwn class aim.now }
     requires of { (flipped : Bool) × IsOf class flipped position.now }
+    requires children { HasChildren (table_at library.now) class }
+    requires settled { IsSettled position.now }
+    requires empty { exits.old.items ≡ [] }
     ensures any { IsTrue result.any → CanMove position.now }
-    ensures counts { HasAnchor class position.now → (none : SquareSet) × ((s : ℕ) → bit_at none.bits s ≡ 0) × Counts column class position.now none result.onward }
-    ensures leaves { IsFalse result.leaves → (m : Move) (q : Setup) → Leads position.now m q → GoesOn column class position.now m q }
+    ensures counts { HasAnchor class position.now → (none : SquareSet) × ((s : ℕ) → bit_at none.bits s ≡ 0) × Counts (column_of aim.now) class position.now none result.onward }
+    ensures exits { exits.new.items ≡ exits_from (known (table_at library.now) class aim.now) (column_of aim.now) class (Some position.now) }
 {
+    laws();
     let mut ways = Ways {
         any: false,
         onward: 0,
-        leaves: false,
     };
     let mut rest = position.of(position.side());
     while let Some(from) = rest.pop_first() {
-        ways = with_man(column, class, position, from, ways);
+        ways = with_man(aim, class, library, position, from, ways, exits);
     }
     ways
 }

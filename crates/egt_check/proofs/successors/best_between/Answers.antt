@@ -12,7 +12,7 @@ pub best_after-best-requires-clause-legal : goal.best_after-best-requires-clause
 best_after-best-requires-clause-legal c =
     let items = c.promotions-promo-items.result.now in
     let n = c.loop-promo.promo-index in
-    (c.promotions-promo-items.ensures (slice_index_or items n None)).0
+    (c.promotions-promo-items.ensures.legal (slice_index_or items n None)).0
     (listed_there (shown_by c.args.library.now c.args.table.now) c.args.position.now c.args.from c.args.to items n (slice_index_or items n None) c.loop-promo-test.true refl)
 
 pub loop-promo-preserved : goal.loop-promo-preserved
@@ -27,4 +27,4 @@ pub returns : goal.returns
 returns c =
     let items = c.promotions-promo-items.result.now in
     tried_all (shown_by c.args.library.now c.args.table.now) c.args.position.now c.args.from c.args.to items c.loop-promo.promo-index c.args.best c.loop-promo.best c.loop-promo-test.false
-    (λ promo. (c.promotions-promo-items.ensures promo).1) c.loop-promo.invariant
+    (λ promo. (c.promotions-promo-items.ensures.legal promo).1) c.loop-promo.invariant

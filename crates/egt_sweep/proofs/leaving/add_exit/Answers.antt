@@ -1,12 +1,10 @@
-use Rattle.std.proofs.Common.{◌↔◌, ℕ, ◌<◌, IsTrue, Option, IfSome, ◌∙◌, subst}
+use Rattle.std.proofs.Common.{ℕ, ◌<◌, Option, IfSome, ◌∙◌, subst}
 use Rattle.egt_board.specs.Setup.{Setup}
 use Rattle.egt_moves.specs.Legal.{Leads}
-use Rattle.egt_table.specs.declared.column.Column.{Column}
 use Rattle.egt_check.specs.Tables.{table_at}
 use Rattle.egt_sweep.specs.Aiming.{column_of, known}
-use Rattle.egt_sweep.specs.Edges.{GoesOn}
-use Rattle.egt_sweep.proofs.Collecting.{somewhere, untrue}
-use Rattle.egt_sweep.proofs.OutOfClass.{known_there, goes_no_exit, off_has_exit}
+use Rattle.egt_sweep.proofs.Collecting.{somewhere}
+use Rattle.egt_sweep.proofs.OutOfClass.{known_there, off_has_exit}
 use Rattle.egt_sweep.proofs.leaving.add_exit.Goals as goal
 
 pub unwrap-next-requires : goal.unwrap-next-requires
@@ -18,26 +16,15 @@ exit_at-requires-clause-there c =
     let m = c.args.chess_move.now in
     let q = c.unwrap-next.result in
     let leads = subst (λ (o : Option Setup). IfSome o (λ r. Leads p m r)) c.unwrap-next.ensures c.play.ensures.leads in
-    let on = subst (λ (column : Column). IsTrue c.goes_on.result ↔ GoesOn column c.args.class p m q) c.column.ensures (c.goes_on.ensures.on q leads) in
     known_there c.laws.ensures (table_at c.args.library.now) c.args.aim.now c.args.class p q m (subst (λ (n : ℕ). n < 36) c.number-number.ensures.value c.number-number.ensures.below)
-    c.side-side.ensures.admissible c.requires.of c.requires.children leads (untrue c.goes_on.result c.if-not-goes_on.true on)
+    c.side-side.ensures.admissible c.requires.of c.requires.children leads (c.requires.leaves q leads)
 
-pub returns-then-not-goes_on-clause-items : goal.returns-then-not-goes_on-clause-items
-returns-then-not-goes_on-clause-items c =
+pub returns-clause-items : goal.returns-clause-items
+returns-clause-items c =
     let p = c.args.position.now in
     let m = c.args.chess_move.now in
     let q = c.unwrap-next.result in
     let aim = c.args.aim.now in
     let leads = subst (λ (o : Option Setup). IfSome o (λ r. Leads p m r)) c.unwrap-next.ensures c.play.ensures.leads in
-    let on = subst (λ (column : Column). IsTrue c.goes_on.result ↔ GoesOn column c.args.class p m q) c.column.ensures (c.goes_on.ensures.on q leads) in
     c.push.ensures.items ∙ off_has_exit c.laws.ensures (known (table_at c.args.library.now) c.args.class aim) (column_of aim) c.args.class p q m c.exit_at.result c.side-side.ensures.admissible leads
-    (untrue c.goes_on.result c.if-not-goes_on.true on) c.exit_at.ensures c.args.list.now.items
-
-pub returns-else-not-goes_on-clause-items : goal.returns-else-not-goes_on-clause-items
-returns-else-not-goes_on-clause-items c =
-    let p = c.args.position.now in
-    let m = c.args.chess_move.now in
-    let aim = c.args.aim.now in
-    let (q, leads) = c.requires.legal in
-    let on = subst (λ (column : Column). IsTrue c.goes_on.result ↔ GoesOn column c.args.class p m q) c.column.ensures (c.goes_on.ensures.on q leads) in
-    goes_no_exit c.laws.ensures (known (table_at c.args.library.now) c.args.class aim) (column_of aim) c.args.class p q m c.side-side.ensures.admissible leads (on.0 c.if-not-goes_on.false) c.args.list.now.items
+    (c.requires.leaves q leads) c.exit_at.ensures c.args.list.now.items

@@ -1,15 +1,63 @@
-use Rattle.std.proofs.Common.{arith}
-use Rattle.egt_sweep.proofs.Collecting.{listed_is_legal}
-use Rattle.egt_sweep.proofs.OutOfClass.{one_more}
+use Rattle.std.proofs.Common.{◌++◌, refl, sym, ap, ◌∙◌, subst, inl, inr, arith}
+use Rattle.std.specs.Int.{bit_at}
+use Rattle.std.specs.Option.{option_to_list}
+use Rattle.std.proofs.lemmas.Bool.{cases_eq}
+use Rattle.egt_board.specs.SquareSet.{Has}
+use Rattle.egt_moves.specs.Moves.{played}
+use Rattle.egt_check.specs.Tables.{table_at}
+use Rattle.egt_sweep.specs.Aiming.{column_of, known}
+use Rattle.egt_sweep.specs.Nodes.{exit_by}
+use Rattle.egt_sweep.proofs.Walked.{walked_none, walked_more, walked_all, between_none, from_told, room_step}
+use Rattle.egt_sweep.proofs.OutOfClass.{nothing_told}
 use Rattle.egt_sweep.proofs.leaving.add_exits.Goals as goal
 
-pub add_exit-requires-clause-legal : goal.add_exit-requires-clause-legal
-add_exit-requires-clause-legal c =
-    listed_is_legal c.args.position.now c.as_slice-chess_move-items.result.now c.legal_moves-moves.result.items c.loop-chess_move.chess_move-index c.chess_move-item.result c.loop-chess_move-test.true c.chess_move-item.is c.as_slice-chess_move-items.ensures.value c.legal_moves-moves.ensures.legal
+pub loop-to-init : goal.loop-to-init
+loop-to-init c =
+    let p = c.args.position.now in
+    let tables = known (table_at c.args.library.now) c.args.class c.args.aim.now in
+    let column = column_of c.args.aim.now in (
+      walked_none _ c.args.targets c.args.targets c.args.list.now.items c.args.list.now.items c.args.list.now.items refl
+          (λ t off. between_none (λ m. option_to_list (exit_by tables column c.args.class p m (played p m))) c.args.from t
+          (λ promo. nothing_told c.laws.ensures tables column c.args.class p (record { from = c.args.from; to = t; promo = promo }) c.side-side.ensures.admissible (λ q leads. c.requires.others _ q refl off leads))),
+      (λ t has. has),
+      (λ man stands. omega arith),
+    )
 
-pub loop-chess_move-preserved : goal.loop-chess_move-preserved
-loop-chess_move-preserved c = (
-  one_more _ c.as_slice-chess_move-items.result.now c.loop-chess_move.chess_move-index c.chess_move-item.result c.loop-chess_move.list.items c.add_exit.new.list.items c.loop-chess_move-test.true c.chess_move-item.is
-      c.loop-chess_move.invariant.0 c.add_exit.ensures.items,
-  omega (arith, c.add_exit.ensures.few, c.loop-chess_move.invariant.1),
-)
+pub add_exits_to-requires-clause-target : goal.add_exits_to-requires-clause-target
+add_exits_to-requires-clause-target c = c.requires.targets c.in-Some.to (c.loop-to.invariant.1 c.in-Some.to c.in-Some.ensures.had)
+
+pub add_exits_to-requires-clause-leaves : goal.add_exits_to-requires-clause-leaves
+add_exits_to-requires-clause-leaves c m q here there leads =
+    c.requires.leaves m q here (subst (Has c.args.targets) (sym there) (c.loop-to.invariant.1 c.in-Some.to c.in-Some.ensures.had)) leads
+
+pub add_exits_to-requires-clause-room : goal.add_exits_to-requires-clause-room
+add_exits_to-requires-clause-room c man stands =
+    let room = c.requires.room man stands in
+    let step = room_step man.kind _ _ _ _ c.in-Some.ensures.size (c.loop-to.invariant.2 man stands) in
+    omega (arith, step, room)
+
+pub loop-to-preserved : goal.loop-to-preserved
+loop-to-preserved c =
+    let s = c.in-Some.ensures in (
+      walked_more _ c.loop-to.rest c.pop_first.new.self c.args.list.now.items c.loop-to.list.items c.add_exits_to.new.list.items c.in-Some.to (omega arith) s.had s.least s.gone s.others c.add_exits_to.ensures.items c.loop-to.invariant.0,
+      (λ t has. elim (cases_eq t c.in-Some.to) [
+        | inl e ↦ absurd (let none = ap (bit_at c.pop_first.new.self.bits) e ∙ s.gone in omega (arith, has, none))
+        | inr apart ↦ c.loop-to.invariant.1 t (sym (s.others t apart) ∙ has)
+      ]),
+      (λ man stands.
+          let step = room_step man.kind _ _ _ _ s.size (c.loop-to.invariant.2 man stands) in
+          let few = c.add_exits_to.ensures.few man stands in
+          omega (arith, step, few)),
+    )
+
+pub returns-clause-items : goal.returns-clause-items
+returns-clause-items c =
+    let p = c.args.position.now in
+    let tables = known (table_at c.args.library.now) c.args.class c.args.aim.now in
+    let column = column_of c.args.aim.now in
+    let before = c.args.list.now.items in
+    walked_all _ c.loop-to.rest c.loop-to.rest before c.loop-to.list.items c.loop-to.list.items c.in_default.ensures.empty c.loop-to.invariant.0
+    ∙ ap (λ ys. before ++ ys) (sym (from_told (λ m. option_to_list (exit_by tables column c.args.class p m (played p m))) c.args.from 64))
+
+pub returns-clause-few : goal.returns-clause-few
+returns-clause-few c man stands = let room = c.loop-to.invariant.2 man stands in omega (arith, room)

@@ -1,15 +1,22 @@
-use Rattle.std.proofs.Common.{◌≡◌, ◌≤◌, take}
-use Rattle.std.specs.List.{flat_map}
-use Rattle.std.specs.Option.{option_to_list}
+use Rattle.std.proofs.Common.{ℕ, ◌+◌, ◌*◌, ◌≤◌}
 use Rattle.arrayvec.specs.ArrayVec.{array_vec_len}
-use Rattle.egt_moves.specs.Moves.{played}
+use Rattle.egt_board.specs.Placement.{Stands}
+use Rattle.egt_board.specs.SquareSet.{Has, size_of}
+use Rattle.egt_board.specs.declared.man.Man.{Man}
+use Rattle.egt_moves.specs.Moves.{moves_between}
+use Rattle.egt_moves.specs.Room.{most_choices}
 use Rattle.egt_check.specs.Tables.{table_at}
 use Rattle.egt_sweep.specs.Aiming.{column_of, known}
-use Rattle.egt_sweep.specs.Nodes.{exit_by}
+use Rattle.egt_sweep.specs.Nodes.{exits_by}
+use Rattle.egt_sweep.proofs.Walked.{Walked}
 use Rattle.egt_sweep.proofs.leaving.add_exits.Given as goal
 
--- the list has what is told of the moves so far
-abbrev pub invariant-loop-chess_move : goal.invariant-loop-chess_move
-invariant-loop-chess_move l =
-    (l.list.items ≡ flat_map (λ m. option_to_list (exit_by (known (table_at l.library) l.class l.aim) (column_of l.aim) l.class l.position m (played l.position m))) (take l.chess_move-index l.chess_move-items))
-    × (array_vec_len l.list ≤ l.chess_move-index)
+-- the moves to the squares that are no longer left are told, and there is room for the others
+abbrev pub invariant-loop-to : goal.invariant-loop-to
+invariant-loop-to l =
+    Walked (λ t. exits_by (known (table_at l.library) l.class l.aim) (column_of l.aim) l.class l.position (moves_between l.from t)) l.rest l.fn.list.items l.list.items
+    × ((t : ℕ) → Has l.rest t → Has l.fn.targets t)
+    × ((man : Man) → Stands l.position.men l.from man → array_vec_len l.list + most_choices man.kind * size_of l.rest ≤ array_vec_len l.fn.list + most_choices man.kind * size_of l.fn.targets)
+
+abbrev pub decreases-loop-to : goal.decreases-loop-to
+decreases-loop-to l = l.rest.bits

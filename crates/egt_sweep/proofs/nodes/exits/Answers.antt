@@ -3,12 +3,17 @@ use Rattle.egt_check.specs.Tables.{table_at}
 use Rattle.egt_sweep.specs.Aiming.{column_of, known}
 use Rattle.egt_sweep.specs.Nodes.{exits_at, exits_from}
 use Rattle.egt_sweep.proofs.Linked.{position_is}
+use Rattle.egt_sweep.proofs.Standing.{none_missing}
 use Rattle.egt_sweep.proofs.nodes.exits.Goals as goal
 
-pub exits-requires-clause-of : goal.exits-requires-clause-of
-exits-requires-clause-of c = c.laws.ensures.indexed_class c.node-position.result c.args.class c.args.index c.node-position.ensures.spells.admissible c.node-position.ensures.index
+pub unreachable-requires : goal.unreachable-requires
+unreachable-requires c = none_missing c.laws.ensures c.args.class c.args.index c.in-None.ensures.void c.requires.node
+
+pub ways_of-ways-requires-clause-of : goal.ways_of-ways-requires-clause-of
+ways_of-ways-requires-clause-of c = c.laws.ensures.indexed_class _ c.args.class c.args.index c.in-Some.ensures.spells.admissible c.in-Some.ensures.index
 
 pub returns : goal.returns
 unfolding exits_at
-returns c = c.exits.ensures
-    ∙ ap (exits_from (known (table_at c.args.library.now) c.args.class c.args.aim.now) (column_of c.args.aim.now) c.args.class) (sym ((position_is c.laws.ensures c.args.class c.args.index c.node-position.result).1 c.node-position.ensures))
+returns c = c.ways_of-ways.ensures.exits
+    ∙ ap (exits_from (known (table_at c.args.library.now) c.args.class c.args.aim.now) (column_of c.args.aim.now) c.args.class)
+    (sym ((position_is c.laws.ensures c.args.class c.args.index _).1 (record { spells = c.in-Some.ensures.spells; index = c.in-Some.ensures.index })))

@@ -10,3 +10,6 @@ returns-in-Some-clause-node c =
 
 pub returns-in-None-clause-void : goal.returns-in-None-clause-void
 returns-in-None-clause-void c = (no_node c.laws.ensures c.args.class c.args.index c.in-None.ensures.void, c.clear.ensures)
+
+pub start_at-requires-clause-of : goal.start_at-requires-clause-of
+start_at-requires-clause-of c = c.laws.ensures.indexed_class c.in-Some.position c.args.class c.args.index c.in-Some.ensures.spells.admissible c.in-Some.ensures.index
