@@ -4,9 +4,10 @@ ghost use Rattle.std.specs.FinMap as map;
 ghost use Rattle.egt_board.specs.Attack.{king_of};
 ghost use Rattle.egt_board.specs.Listed.{men_of};
 ghost use Rattle.egt_board.specs.Pawn.{PawnsFit};
-ghost use Rattle.egt_board.specs.Placement.{IsFree};
+ghost use Rattle.egt_board.specs.Placement.{Placement, IsFree};
 ghost use Rattle.egt_board.specs.Settled.{IsSettled};
 ghost use Rattle.egt_board.specs.Setup.{IsAdmissible, IsKingOn};
+ghost use Rattle.egt_board.specs.Target.{FitsTarget};
 ghost use Rattle.egt_board.specs.declared.man.Side.TheVariants.{White, Black};
 ghost use Rattle.egt_class.specs.Material.{material_of};
 ghost use Rattle.egt_index.specs.Code.{Spells, king_square};
@@ -164,6 +165,20 @@ fn target_of(side: Side, passed: bool, stand: &Stand) -> Option<Square>
     Some(square.ahead(side))
 }
 
+/// Whether the target, if there is one, is on the rank over which the other side's pawns advance.
+fn is_passed(side: Side, target: &Option<Square>) -> bool
+    ensures { result ≡ false → (men : Placement) → ¬ FitsTarget men side target.now }
+{
+    let rank = match side {
+        Side::White => 5,
+        Side::Black => 2,
+    };
+    match target {
+        Some(square) => square.rank() == rank,
+        None => true,
+    }
+}
+
 /// The position with this board, on which these are the kings, that side to move and that target; `None` where the rules of
 /// play do not admit it.
 fn admitted(
@@ -217,6 +232,10 @@ fn found(class: Class, code: u32) -> Option<(Position, Stand)>
     let (number, side, passed) = ends(class, code);
     let stand = stand_on(class, number)?;
     let target = target_of(side, passed, &stand);
+    // Most codes with a target end here.
+    if !is_passed(side, &target) {
+        return None;
+    }
     if !are_apart(&stand) {
         return None;
     }

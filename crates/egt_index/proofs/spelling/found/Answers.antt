@@ -30,6 +30,12 @@ target_of-target-requires c = λ passed. of_test (has_target (material_of c.args
     of_test true is e never has = has is
     of_test false is e never has = absurd (false≢true (sym (never is) ∙ e))
 
+pub returns-then-not-is_passed-clause-void : goal.returns-then-not-is_passed-clause-void
+returns-then-not-is_passed-clause-void c = λ p ok index.
+    let setup = spelled_setup c.args.class c.args.code c.ends-number.result.0 c.ends-number.result.1 c.ends-number.result.2 (list_of c.in_ok-stand.stand) c.target_of-target.result index.image c.ends-number.ensures c.in_ok-stand.ensures.some
+    c.target_of-target.ensures index.spells in
+    c.is_passed.ensures c.if-not-is_passed.true _ (subst IsAdmissible setup.1 index.spells.admissible).target
+
 pub returns-then-not-are_apart-clause-void : goal.returns-then-not-are_apart-clause-void
 returns-then-not-are_apart-clause-void c = λ p ok index.
     let setup = spelled_setup c.args.class c.args.code c.ends-number.result.0 c.ends-number.result.1 c.ends-number.result.2 (list_of c.in_ok-stand.stand) c.target_of-target.result index.image c.ends-number.ensures c.in_ok-stand.ensures.some
