@@ -24,7 +24,7 @@ use crate::scales::{class_scales, has_pair, squares_of};
 use crate::stand::{Stand, exchanged, stand_after, standing_of};
 use crate::turning::turned_square;
 use crate::ways::Homing;
-use egt_board::{Position, Side};
+use egt_board::{Position, Side, Square};
 use egt_class::Class;
 
 /// The side, or the other one where colours are exchanged.
@@ -127,15 +127,23 @@ fn least_code(class: Class, stand: &Stand, side: Side, passed: bool, flips: bool
     }
 }
 
+/// Two squares as a number, in order of the first.
+pub(crate) fn pair(first: Square, second: Square) -> u16
+    ensures { result ≡ 64 * first + second }
+{
+    64 * u16::from(first.number()) + u16::from(second.number())
+}
+
 /// The squares of the kings after the turn, as a number.
 #[inline(always)]
-fn kings_after(stand: &Stand, turn: u8) -> u16
+pub(crate) fn kings_after(stand: &Stand, turn: u8) -> u16
     requires { turn < 16 }
     ensures { result ≡ 64 * turned_square (turn % 8) (turn / 8 == 1) stand.now.white + turned_square (turn % 8) (turn / 8 == 1) stand.now.black }
 {
-    let white = turned_square(turn, stand.white);
-    let black = turned_square(turn, stand.black);
-    64 * u16::from(white.number()) + u16::from(black.number())
+    pair(
+        turned_square(turn, stand.white),
+        turned_square(turn, stand.black),
+    )
 }
 
 /// The same after the turns that exchange colours, or those that do not, and bring the white king home: the lesser of two.
