@@ -126,12 +126,18 @@ kept_by_kings facts c code t stand p own image ok all s own_is image_is lt q oth
     let less = kings_less c code other p q _ _ _ _ s spells kings.0 kings.1 (stands_after facts p q t stand.white (king_of White) ok turn all.1) (stands_after facts p q t stand.black (king_of Black) ok turn all.3.1)
     (subst (λ n. n < 64 * turned_square (t % 8) (eqb (t / 8) 1) stand.white + turned_square (t % 8) (eqb (t / 8) 1) stand.black) (own_is ∙ pair_of (eqb (t / 8) 1) stand.white stand.black) (subst (λ n. own < n) image_is lt)) in omega arith
 
--- or on lesser ones
-pub beaten_by_kings : Facts → (c code t : ℕ) (stand : Stand) (p : Setup) (own image : ℕ) → c < 36 → t < 16 → IsAdmissible p → IsSettled p → IsOf c (eqb (t / 8) 1) p → KeepsPlay (t % 8) p.men → AllStand (eqb (t / 8) 1) p.men (list_of stand)
-    → Spells c code p → BringsHome (has_pawns (material_of c)) (eqb (t / 8) 1) stand.white t
-    → own ≡ cond (eqb (t / 8) 1) (64 * stand.black + stand.white) (64 * stand.white + stand.black)
-    → image ≡ 64 * turned_square (t % 8) (eqb (t / 8) 1) stand.white + turned_square (t % 8) (eqb (t / 8) 1) stand.black → image < own → Beats c p t code
-beaten_by_kings facts c code t stand p own image c_in t_in ok settled is_of keeps all s brings own_is image_is lt =
+-- what a turn that brings the king home makes is spelled by a code, and where its kings stand
+pub record SpelledHome (c t : ℕ) (stand : Stand) (p : Setup) : Type 0 where
+  pub image : Setup
+  pub turned : IsTurn t p image
+  pub code : ℕ
+  pub spells : Spells c code image
+  pub white : Stands image.men (turned_square (t % 8) (eqb (t / 8) 1) stand.white) (king_of White)
+  pub black : Stands image.men (turned_square (t % 8) (eqb (t / 8) 1) stand.black) (king_of Black)
+
+pub spelled_home : Facts → (c t : ℕ) (stand : Stand) (p : Setup) → c < 36 → IsAdmissible p → IsSettled p → IsOf c (eqb (t / 8) 1) p → KeepsPlay (t % 8) p.men → AllStand (eqb (t / 8) 1) p.men (list_of stand)
+    → BringsHome (has_pawns (material_of c)) (eqb (t / 8) 1) stand.white t → SpelledHome c t stand p
+spelled_home facts c t stand p c_in ok settled is_of keeps all brings =
     let made = facts.made (t % 8) (eqb (t / 8) 1) p ok in
     let images = facts.images p made.0 (t % 8) (eqb (t / 8) 1) ok (omega arith) keeps made.1 in
     let admissible = facts.admissible p made.0 ok images in
@@ -139,15 +145,24 @@ beaten_by_kings facts c code t stand p own image c_in t_in ok settled is_of keep
     let white = stands_after facts p made.0 t stand.white (king_of White) ok (keeps, made.1) all.1 in
     let black = stands_after facts p made.0 t stand.black (king_of Black) ok (keeps, made.1) all.3.1 in
     let is_class = image_in_colours facts c (eqb (t / 8) 1) p made.0 t c_in ok is_of (keeps, made.1) (inr refl) in
-    let code' = code_found c made.0 admissible.kings.white admissible ((facts.settled p made.0 ok images).0 settled) is_class there
+    let code = code_found c made.0 admissible.kings.white admissible ((facts.settled p made.0 ok images).0 settled) is_class there
     (record { digit = brings.0; below = brings.1; is = brings.2 ∙ there.only _ white }) in
+    record { image = made.0; turned = (keeps, made.1); code = code.0; spells = code.1.spells; white = white; black = black }
+
+-- or on lesser ones
+pub beaten_by_kings : Facts → (c code t : ℕ) (stand : Stand) (p : Setup) (own image : ℕ) → c < 36 → t < 16 → IsAdmissible p → IsSettled p → IsOf c (eqb (t / 8) 1) p → KeepsPlay (t % 8) p.men → AllStand (eqb (t / 8) 1) p.men (list_of stand)
+    → Spells c code p → BringsHome (has_pawns (material_of c)) (eqb (t / 8) 1) stand.white t
+    → own ≡ cond (eqb (t / 8) 1) (64 * stand.black + stand.white) (64 * stand.white + stand.black)
+    → image ≡ 64 * turned_square (t % 8) (eqb (t / 8) 1) stand.white + turned_square (t % 8) (eqb (t / 8) 1) stand.black → image < own → Beats c p t code
+beaten_by_kings facts c code t stand p own image c_in t_in ok settled is_of keeps all s brings own_is image_is lt =
+    let made = spelled_home facts c t stand p c_in ok settled is_of keeps all brings in
     let kings = own_kings c (eqb (t / 8) 1) stand p all in
     record {
-      image = made.0;
-      turned = (keeps, made.1);
-      other = code'.0;
-      spells = code'.1.spells;
-      less = kings_less c code'.0 code made.0 p _ _ _ _ code'.1.spells s white black kings.0 kings.1
+      image = made.image;
+      turned = made.turned;
+      other = made.code;
+      spells = made.spells;
+      less = kings_less c made.code code made.image p _ _ _ _ made.spells s made.white made.black kings.0 kings.1
           (subst (λ n. 64 * turned_square (t % 8) (eqb (t / 8) 1) stand.white + turned_square (t % 8) (eqb (t / 8) 1) stand.black < n) (own_is ∙ pair_of (eqb (t / 8) 1) stand.white stand.black) (subst (λ n. n < own) image_is lt));
     }
 
@@ -211,13 +226,13 @@ no_index facts c code p ok settled (t, t_in, beats) index =
     let lt = beats.less in omega arith
 
 -- a position of a class whose sides have the same men, seen with colours exchanged
-pub has_exchanged : Facts → (c : ℕ) (stand other : Stand) (side : Side) (passed : Bool) (p : Setup) → c < 36 → has_equal_sides c ≡ true → other.white ≡ stand.black → other.black ≡ stand.white
-    → other.next ≡ on_square_of stand.next stand.last → other.last ≡ on_square_of stand.last stand.next → HasStand c false stand side passed p → HasStand c true other side passed p
-has_exchanged facts c stand other side passed p c_in equal white black next last has = record {
+pub has_exchanged : Facts → (c : ℕ) (flipped : Bool) (stand other : Stand) (side : Side) (passed : Bool) (p : Setup) → c < 36 → has_equal_sides c ≡ true → other.white ≡ stand.black → other.black ≡ stand.white
+    → other.next ≡ on_square_of stand.next stand.last → other.last ≡ on_square_of stand.last stand.next → HasStand c flipped stand side passed p → HasStand c (not flipped) other side passed p
+has_exchanged facts c flipped stand other side passed p c_in equal white black next last has = record {
   admissible = has.admissible;
   settled = has.settled;
-  is_of = facts.both_flips p c false true c_in equal has.is_of;
-  stood = stood_exchanged c false p.men stand other c_in equal white black next last has.stood;
+  is_of = facts.both_flips p c flipped (not flipped) c_in equal has.is_of;
+  stood = stood_exchanged c flipped p.men stand other c_in equal white black next last has.stood;
   side_is = has.side_is;
   target_is = has.target_is;
 }

@@ -33,6 +33,7 @@ pub mod Carried
 pub mod Moved
 mod Unmoving
 pub mod Beating
+pub mod Nearing
 pub mod Swapping
 pub mod Boarding
 pub mod Scaled

@@ -13,19 +13,11 @@ ghost use Rattle.egt_index.specs.Stood.{HasStand};
 
 use crate::facts::facts;
 use crate::home::{home, still_home};
-use crate::indexing::code_after;
+use crate::indexing::{code_after, kings_after, pair};
 use crate::men::{has_equal_sides, has_pawns};
 use crate::stand::{Stand, exchanged, is_behind};
-use crate::turning::turned_square;
-use egt_board::{Side, Square};
+use egt_board::Side;
 use egt_class::Class;
-
-/// Two squares as a number, in order of the first.
-fn pair(first: Square, second: Square) -> u16
-    ensures { result ≡ 64 * first + second }
-{
-    64 * u16::from(first.number()) + u16::from(second.number())
-}
 
 /// The squares of White's king and of Black's, where the men stand in colours exchanged or not.
 fn kings(stand: &Stand, flips: bool) -> u16
@@ -61,10 +53,7 @@ fn is_beaten_by(class: Class, stand: &Stand, side: Side, passed: bool, turn: u8,
     facts();
     let _number = class.number();
     let own = kings(stand, turn / 8 == 1);
-    let image = pair(
-        turned_square(turn, stand.white),
-        turned_square(turn, stand.black),
-    );
+    let image = kings_after(stand, turn);
     if image == own {
         is_less(code_after(class, stand, side, passed, turn), code)
     } else {

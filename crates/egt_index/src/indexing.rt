@@ -1,13 +1,16 @@
 //! The index of a position.
-ghost use Rattle.std.specs.Prelude.{◌≡◌, ◌<◌, ◌%◌, ◌/◌, ◌==◌, Bool, true, false};
+ghost use Rattle.std.specs.Prelude.{◌≡◌, ◌+◌, ◌*◌, ◌<◌, ◌%◌, ◌/◌, ◌==◌, Bool, true, false};
 ghost use Rattle.std.specs.Option.{is_some};
 ghost use Rattle.egt_board.specs.Setup.{Setup};
 ghost use Rattle.egt_board.specs.Settled.{SettlesTo};
 ghost use Rattle.egt_board.specs.Symmetry.{KeepsPlay};
-ghost use Rattle.egt_board.specs.Turned.{turned_side};
+ghost use Rattle.egt_board.specs.Turned.{turned_side, turned_square};
+ghost use Rattle.egt_board.specs.declared.man.Side.{Side};
+ghost use Rattle.egt_class.specs.Material.{has_equal_sides};
 ghost use Rattle.egt_class.specs.Membership.{IsOf};
 ghost use Rattle.egt_index.specs.Home.{LeastWith};
 ghost use Rattle.egt_index.specs.Index.{IsIndex};
+ghost use Rattle.egt_index.specs.Nearer.{KingsHome};
 ghost use Rattle.egt_index.specs.Stood.{HasStand, IsFilled, IsStandAfter};
 ghost use Rattle.egt_index.specs.declared.stand.Stand.{Stand};
 ghost use Rattle.egt_index.specs.Turns.{Best, CodeAfter, lesser};
@@ -19,8 +22,9 @@ use crate::home::home;
 use crate::men::{has_equal_sides, has_pawns};
 use crate::scales::{class_scales, has_pair, squares_of};
 use crate::stand::{Stand, exchanged, stand_after, standing_of};
+use crate::turning::turned_square;
 use crate::ways::Homing;
-use egt_board::{Position, Side};
+use egt_board::{Position, Side, Square};
 use egt_class::Class;
 
 /// The side, or the other one where colours are exchanged.
@@ -123,7 +127,71 @@ fn least_code(class: Class, stand: &Stand, side: Side, passed: bool, flips: bool
     }
 }
 
-/// The least code of all images of a settled position of the class with these men, in colours flipped or not.
+/// Two squares as a number, in order of the first.
+pub(crate) fn pair(first: Square, second: Square) -> u16
+    ensures { result ≡ 64 * first + second }
+{
+    64 * u16::from(first.number()) + u16::from(second.number())
+}
+
+/// The squares of the kings after the turn, as a number.
+#[inline(always)]
+pub(crate) fn kings_after(stand: &Stand, turn: u8) -> u16
+    requires { turn < 16 }
+    ensures { result ≡ 64 * turned_square (turn % 8) (turn / 8 == 1) stand.now.white + turned_square (turn % 8) (turn / 8 == 1) stand.now.black }
+{
+    pair(
+        turned_square(turn, stand.white),
+        turned_square(turn, stand.black),
+    )
+}
+
+/// The same after the turns that exchange colours, or those that do not, and bring the white king home: the lesser of two.
+#[inline(always)]
+fn kings_home(class: Class, stand: &Stand, flips: bool) -> u16
+    ensures { (side : Side) (passed : Bool) (p : Setup) → HasStand class flips stand.now side passed p → KingsHome class p flips result }
+{
+    facts();
+    let _number = class.number();
+    let (first, second) = home(has_pawns(class), flips, stand.white);
+    let kings = kings_after(stand, first);
+    match second {
+        Some(second) => kings.min(kings_after(stand, second)),
+        None => kings,
+    }
+}
+
+/// The least code of all images of a settled position of a class whose sides have the same men, with these men, in colours flipped
+/// or not. The kings' digits are the highest, so other squares of theirs tell in which colours it is.
+#[inline(always)]
+fn least_of_colours(
+    class: Class,
+    stand: &Stand,
+    side: Side,
+    passed: bool,
+    flipped: bool,
+) -> Option<u32>
+    requires filled { IsFilled stand.now }
+    requires equal { has_equal_sides class ≡ true }
+    ensures { (p : Setup) → HasStand class flipped stand.now side passed p → Best class p 16 result }
+{
+    facts();
+    let _number = class.number();
+    let others = exchanged(stand);
+    let own_kings = kings_home(class, stand, flipped);
+    let other_kings = kings_home(class, &others, !flipped);
+    if own_kings < other_kings {
+        return least_code(class, stand, side, passed, flipped);
+    }
+    let other = least_code(class, &others, side, passed, !flipped);
+    if other_kings < own_kings {
+        return other;
+    }
+    let own = least_code(class, stand, side, passed, flipped);
+    lesser(own, other)
+}
+
+/// The same in any class.
 #[inline(always)]
 fn least_of_images(
     class: Class,
@@ -137,13 +205,10 @@ fn least_of_images(
 {
     facts();
     let _number = class.number();
-    let code = least_code(class, stand, side, passed, flipped);
     if has_equal_sides(class) {
-        let exchanged = exchanged(stand);
-        let other = least_code(class, &exchanged, side, passed, !flipped);
-        lesser(code, other)
+        least_of_colours(class, stand, side, passed, flipped)
     } else {
-        code
+        least_code(class, stand, side, passed, flipped)
     }
 }
 

@@ -24,20 +24,6 @@ pub(crate) struct Stand {
     pub(crate) last: Option<(Man, Square)>,
 }
 
-/// The man, of the other side where colours are flipped.
-fn coloured(man: Man, flips: bool) -> Man
-    ensures { result ≡ turned_man flips man }
-{
-    if flips {
-        Man {
-            side: man.side.other(),
-            kind: man.kind,
-        }
-    } else {
-        man
-    }
-}
-
 /// The side of the position that the class's name tells first.
 fn named_first(flips: bool) -> Side
     ensures { result ≡ (if flips then Black else White) }
@@ -72,13 +58,24 @@ fn is_among(man: &Option<Man>, one: &Option<(Man, Square)>, other: &Option<(Man,
     }
 }
 
+/// Whether the one man is the other, of the other side where colours are flipped.
+fn is_turned(one: Man, other: Man, flips: bool) -> bool
+    ensures { IsTrue result ↔ (one ≡ turned_man flips other) }
+{
+    let same_side = one.side == other.side;
+    (one.kind == other.kind) & (same_side != flips)
+}
+
 /// Whether the man, of the other side where colours are flipped, is the one found, if there is a man.
 fn is_first(man: &Option<Man>, flips: bool, one: &Option<(Man, Square)>) -> bool
     ensures { IsTrue result ↔ IsFirst man.now flips one.now }
 {
-    match man {
-        Some(man) => is_of(one, coloured(*man, flips)),
-        None => true,
+    let Some(man) = man else {
+        return true;
+    };
+    match one {
+        Some(placed) => is_turned(placed.0, *man, flips),
+        None => false,
     }
 }
 

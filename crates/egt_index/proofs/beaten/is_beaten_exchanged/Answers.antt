@@ -16,7 +16,7 @@ home c = subst (λ pawns. AreHome pawns true c.exchanged-stand.result.white c.ho
 
 other : (c : After-is_beaten_by) (p : Setup) → HasStand c.args.class false c.args.stand.now c.args.side c.args.passed p → HasStand c.args.class true c.exchanged-stand.result c.args.side c.args.passed p
 other c p has =
-    has_exchanged c.facts.ensures c.args.class c.args.stand.now c.exchanged-stand.result c.args.side c.args.passed p (omega (arith, c.number-number.ensures.below, c.number-number.ensures.value)) c.requires
+    has_exchanged c.facts.ensures c.args.class false c.args.stand.now c.exchanged-stand.result c.args.side c.args.passed p (omega (arith, c.number-number.ensures.below, c.number-number.ensures.value)) c.requires
     c.exchanged-stand.ensures.white c.exchanged-stand.ensures.black c.exchanged-stand.ensures.next c.exchanged-stand.ensures.last has
 
 pub returns-then-is_beaten_by-clause-beats : goal.returns-then-is_beaten_by-clause-beats

@@ -1,0 +1,123 @@
+-- The least code by the kings' squares, which are its highest digits.
+use Rattle.std.proofs.Common.{◌≡◌, ◌≢◌, ◌⊎◌, ℕ, ◌+◌, ◌*◌, ◌/◌, ◌%◌, ◌<◌, ◌≤◌, not, Bool, true, false, eqb, min, Option, Some, None, IfSome, arith, refl, sym, ap, ◌∙◌, subst, inl, inr}
+use Rattle.std.proofs.lemmas.Bool.{cases_eq}
+use Rattle.egt_board.specs.declared.man.Side.{Side}
+use Rattle.egt_board.specs.declared.man.Side.TheVariants.{White, Black}
+use Rattle.egt_board.specs.Attack.{king_of}
+use Rattle.egt_board.specs.Placement.{Stands}
+use Rattle.egt_board.specs.Setup.{Setup}
+use Rattle.egt_board.specs.Turned.{turned_square}
+use Rattle.egt_class.specs.Material.{material_of}
+use Rattle.egt_index.specs.Code.{Spells}
+use Rattle.egt_index.specs.Facts.{Facts}
+use Rattle.egt_index.specs.Home.{IsTurnWith, BringsHome, AreHome, LeastWith}
+use Rattle.egt_index.specs.Nearer.{KingsHome}
+use Rattle.egt_index.specs.Size.{has_pawns}
+use Rattle.egt_index.specs.Stood.{HasStand}
+use Rattle.egt_index.specs.Turns.{IsTurn, Best}
+use Rattle.egt_index.specs.declared.stand.Stand.{Stand}
+use Rattle.egt_index.proofs.Beating.{spelled_home, stands_after, kings_less}
+use Rattle.egt_index.proofs.LeastTurn.{keeps_play, none_away}
+
+-- the kings after a turn, as a number
+abbrev pub kings_after : Stand → ℕ → ℕ
+kings_after stand t = 64 * turned_square (t % 8) (eqb (t / 8) 1) stand.white + turned_square (t % 8) (eqb (t / 8) 1) stand.black
+
+-- the kings of what the turn makes are there
+kings_there : Facts → (c : ℕ) (flips : Bool) (stand : Stand) (side : Side) (passed : Bool) (p q : Setup) (t other x y : ℕ) → HasStand c flips stand side passed p → eqb (t / 8) 1 ≡ flips → IsTurn t p q → Spells c other q
+    → Stands q.men x (king_of White) → Stands q.men y (king_of Black) → kings_after stand t ≡ 64 * x + y
+kings_there facts c flips stand side passed p q t other x y has flips_is turn spells white black =
+    let stood = subst (λ f. HasStand c f stand side passed p) (sym flips_is) has in
+    let kings = spells.admissible.kings in
+    let w = stands_after facts p q t stand.white (king_of White) has.admissible turn stood.stood.all.1 in
+    let b = stands_after facts p q t stand.black (king_of Black) has.admissible turn stood.stood.all.3.1 in
+    let x_is = kings.white_there.only _ w ∙ sym (kings.white_there.only x white) in
+    let y_is = kings.black_there.only _ b ∙ sym (kings.black_there.only y black) in
+    ap (λ n. 64 * n + turned_square (t % 8) (eqb (t / 8) 1) stand.black) x_is ∙ ap (λ n. 64 * x + n) y_is
+
+-- a turn whose kings stand on squares as little as those after the turns that bring the king home
+least_home : Facts → (c : ℕ) (flips : Bool) (stand : Stand) (side : Side) (passed : Bool) (p : Setup) (first : ℕ) (second : Option ℕ) (kings u : ℕ) → c < 36 → HasStand c flips stand side passed p
+    → AreHome (has_pawns (material_of c)) flips stand.white first second → IsTurnWith (has_pawns (material_of c)) flips u → BringsHome (has_pawns (material_of c)) flips stand.white u
+    → kings ≡ kings_after stand u → kings ≤ kings_after stand first → IfSome second (λ v. kings ≤ kings_after stand v) → KingsHome c p flips kings
+least_home facts c flips stand side passed p first second kings u c_in has home turn brings kings_is le le' =
+    let stood = subst (λ f. HasStand c f stand side passed p) (sym turn.flips_is) has in
+    let made = spelled_home facts c u stand p c_in has.admissible has.settled stood.is_of (keeps_play c flips p (u % 8) has.admissible has.is_of turn.keeps) stood.stood.all
+    (subst (λ f. BringsHome (has_pawns (material_of c)) f stand.white u) (sym turn.flips_is) brings) in
+    record {
+      turn = u;
+      below = turn.below;
+      flips_is = turn.flips_is;
+      image = made.image;
+      turned = made.turned;
+      code = made.code;
+      spells = made.spells;
+      white = turned_square (u % 8) (eqb (u / 8) 1) stand.white;
+      black = turned_square (u % 8) (eqb (u / 8) 1) stand.black;
+      white_there = made.white;
+      black_there = made.black;
+      is = kings_is;
+      least = λ t q other x y t_in flips_is turned spells white black.
+          let there = kings_there facts c flips stand side passed p q t other x y has flips_is turned spells white black in
+          elim (cases_eq t first) [
+            | inl e ↦ subst (λ n. kings ≤ n) there (subst (λ v. kings ≤ kings_after stand v) (sym e) le)
+            | inr apart ↦ subst (λ n. kings ≤ n) there (of_second second refl t q other t_in flips_is turned spells apart)
+          ];
+    }
+  where
+    of_second : (o : Option ℕ) → second ≡ o → (t : ℕ) (q : Setup) (other : ℕ) → t < 16 → eqb (t / 8) 1 ≡ flips → IsTurn t p q → Spells c other q → t ≢ first → kings ≤ kings_after stand t
+    of_second None is t q other t_in flips_is turned spells apart =
+        absurd (none_away facts c p flips stand.white first second has.admissible has.is_of has.stood.all.1 home t t_in flips_is apart (subst (λ o. IfSome o (λ u. t ≢ u)) (sym is) tt) q other turned spells)
+    of_second (Some v) is t q other t_in flips_is turned spells apart = elim (cases_eq t v) [
+      | inl e ↦ subst (λ n. kings ≤ kings_after stand n) (sym e) (subst (λ o. IfSome o (λ v. kings ≤ kings_after stand v)) is le')
+      | inr not ↦ absurd (none_away facts c p flips stand.white first second has.admissible has.is_of has.stood.all.1 home t t_in flips_is apart (subst (λ o. IfSome o (λ u. t ≢ u)) (sym is) not) q other turned spells)
+    ]
+
+-- of one such turn, or of two
+pub kings_of_one : Facts → (c : ℕ) (flips : Bool) (stand : Stand) (side : Side) (passed : Bool) (p : Setup) (first : ℕ) → c < 36 → HasStand c flips stand side passed p → AreHome (has_pawns (material_of c)) flips stand.white first None
+    → KingsHome c p flips (kings_after stand first)
+kings_of_one facts c flips stand side passed p first c_in has home = least_home facts c flips stand side passed p first None (kings_after stand first) first c_in has home home.one home.brings refl (omega arith) tt
+
+pub kings_of_two : Facts → (c : ℕ) (flips : Bool) (stand : Stand) (side : Side) (passed : Bool) (p : Setup) (first second : ℕ) → c < 36 → HasStand c flips stand side passed p → AreHome (has_pawns (material_of c)) flips stand.white first (Some second)
+    → KingsHome c p flips (min (kings_after stand first) (kings_after stand second))
+kings_of_two facts c flips stand side passed p first second c_in has home = elim (either (kings_after stand first) (kings_after stand second)) [
+  | inl e ↦ least_home facts c flips stand side passed p first (Some second) _ first c_in has home home.one home.brings e (few (kings_after stand first) (kings_after stand second)).0 (few (kings_after stand first) (kings_after stand second)).1
+  | inr e ↦ least_home facts c flips stand side passed p first (Some second) _ second c_in has home home.other home.other_brings e (few (kings_after stand first) (kings_after stand second)).0 (few (kings_after stand first) (kings_after stand second)).1
+]
+  where
+    either : (a b : ℕ) → (min a b ≡ a) ⊎ (min a b ≡ b)
+    either a b = elim (cases_eq (min a b) a) [ inl e ↦ inl e | inr not ↦ inr (omega arith) ]
+
+    few : (a b : ℕ) → (min a b ≤ a) × (min a b ≤ b)
+    few a b = (omega arith, omega arith)
+
+-- in the colours whose kings come to lesser squares the least code is the least of all
+pub nearer : (c : ℕ) (p : Setup) (flips others : Bool) (k l : ℕ) (o : Option ℕ) → ((b : Bool) → (b ≡ flips) ⊎ (b ≡ others)) → KingsHome c p flips k → KingsHome c p others l → k < l → LeastWith c p flips o → Best c p 16 o
+nearer c p flips others k l None either own other less none = absurd (none own.turn own.image own.code own.flips_is own.below own.turned own.spells)
+nearer c p flips others k l (Some code) either own other less least = record {
+  turn = least.turn;
+  below = least.below;
+  image = least.image;
+  turned = least.turned;
+  spells = least.spells;
+  least = λ t q n t_in turn spells. elim (either (eqb (t / 8) 1)) [
+    | inl e ↦ least.least t q n e t_in turn spells
+    | inr e ↦
+        let kings = spells.admissible.kings in
+        let far = other.least t q n kings.white kings.black t_in e turn spells kings.white_there.stands kings.black_there.stands in
+        let own_is = own.is in
+        let lt = kings_less c own.code n own.image q own.white own.black kings.white kings.black own.spells spells own.white_there own.black_there kings.white_there.stands kings.black_there.stands (omega arith) in
+        let le = least.least own.turn own.image own.code own.flips_is own.below own.turned own.spells in omega arith
+  ];
+}
+
+pub told : (flips b : Bool) → (b ≡ flips) ⊎ (b ≡ not flips)
+told true true = inl refl
+told true false = inr refl
+told false true = inr refl
+told false false = inl refl
+
+pub told_other : (flips b : Bool) → (b ≡ not flips) ⊎ (b ≡ flips)
+told_other true true = inr refl
+told_other true false = inl refl
+told_other false true = inl refl
+told_other false false = inr refl

@@ -1,0 +1,25 @@
+-- The kings of what turns make of a position, which tell between the colours.
+use Rattle.std.specs.Prelude.{◌≡◌, ℕ, ◌+◌, ◌*◌, ◌/◌, ◌<◌, ◌≤◌, ◌==◌, Bool}
+use Rattle.egt_board.specs.declared.man.Side.TheVariants.{White, Black}
+use Rattle.egt_board.specs.Attack.{king_of}
+use Rattle.egt_board.specs.Placement.{Stands}
+use Rattle.egt_board.specs.Setup.{Setup}
+use Rattle.egt_index.specs.Code.{Spells}
+use Rattle.egt_index.specs.Turns.{IsTurn}
+
+-- some turn that exchanges colours so makes what a code spells, with its kings on these squares, and none makes any with its kings on
+-- lesser ones
+pub record KingsHome (c : ℕ) (p : Setup) (flips : Bool) (kings : ℕ) : Type 0 where
+  pub turn : ℕ
+  pub below : turn < 16
+  pub flips_is : (turn / 8 == 1) ≡ flips
+  pub image : Setup
+  pub turned : IsTurn turn p image
+  pub code : ℕ
+  pub spells : Spells c code image
+  pub white : ℕ
+  pub black : ℕ
+  pub white_there : Stands image.men white (king_of White)
+  pub black_there : Stands image.men black (king_of Black)
+  pub is : kings ≡ 64 * white + black
+  pub least : (t : ℕ) (q : Setup) (other x y : ℕ) → t < 16 → (t / 8 == 1) ≡ flips → IsTurn t p q → Spells c other q → Stands q.men x (king_of White) → Stands q.men y (king_of Black) → kings ≤ 64 * x + y
