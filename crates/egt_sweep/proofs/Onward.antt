@@ -73,7 +73,7 @@ pub pawn_stays : (man : Man) (t : ℕ) → rank_of t ≢ last_rank man.side → 
 pawn_stays man t apart = no_second (is_pawn man.kind) (rank_of t == last_rank man.side) (untold (rank_of t) (last_rank man.side) apart)
 
 -- a legal target of a man who is not promoted there
-pub plain_legal : (p : Setup) (man : Man) (from t : ℕ) → Stands p.men from man → promotes man t ≡ false → IsLegalTarget p from t → IsLegal p (plain from t)
+plain_legal : (p : Setup) (man : Man) (from t : ℕ) → Stands p.men from man → promotes man t ≡ false → IsLegalTarget p from t → IsLegal p (plain from t)
 plain_legal p man from t stands stays (promo, (q, leads)) =
     let same : man ≡ leads.man = one_man p.men from man leads.man stands leads.stands in
     let none = unpromoted (promotes leads.man t) promo (subst (λ (x : Man). promotes x t ≡ false) same stays) leads.promotion in
@@ -200,7 +200,7 @@ pub none_passed : (man : Man) (from t : ℕ) → (is_pawn man.kind && is_two_ran
 none_passed man from t told = ap (λ b. if b then Some ((from + t) / 2) else None) told
 
 -- a step takes nothing
-pub step_quiet : (p : Setup) (from t : ℕ) → IsStep p from t → ¬ Captures p (plain from t)
+step_quiet : (p : Setup) (from t : ℕ) → IsStep p from t → ¬ Captures p (plain from t)
 step_quiet p from t step (inl held) = step.free held
 step_quiet p from t step (inr passing) = step.stays.1 passing.1
 

@@ -32,7 +32,7 @@ told_past g m (suc n) le none = elim (cases_eq (suc n) m) [
   | inr other ↦ ap (λ ys. told_below g n ++ ys) (none n (omega (arith, le, other)) (omega arith)) ∙ append-nil (told_below g n) ∙ told_past g m n (omega (arith, le, other)) (λ k low high. none k low (omega (arith, high)))
 ]
 
-pub told_none : {Y : Type 0} (g : ℕ → List Y) (n : ℕ) → ((k : ℕ) → g k ≡ []) → told_below g n ≡ []
+told_none : {Y : Type 0} (g : ℕ → List Y) (n : ℕ) → ((k : ℕ) → g k ≡ []) → told_below g n ≡ []
 unfolding told_below
 told_none g n none = told_past g 0 n (omega arith) (λ k low high. none k)
 
@@ -92,7 +92,7 @@ module _ {Y : Type 0} (f : Move → List Y) where
   from_told from zero = refl
   from_told from (suc n) = flat_map-append f (moves_from from n) (moves_between from n) ∙ ap (λ ys. ys ++ flat_map f (moves_between from n)) (from_told from n)
 
-  pub below_told : (n : ℕ) → flat_map f (moves_below n) ≡ told_below (λ s. flat_map f (moves_from s 64)) n
+  below_told : (n : ℕ) → flat_map f (moves_below n) ≡ told_below (λ s. flat_map f (moves_from s 64)) n
   unfolding moves_below told_below
   below_told zero = refl
   below_told (suc n) = flat_map-append f (moves_below n) (moves_from n 64) ∙ ap (λ ys. ys ++ flat_map f (moves_from n 64)) (below_told n)

@@ -177,7 +177,8 @@ fn add_exits_between(
     }
 }
 
-/// Adds the value of where the man's step to the square, which leaves the game, leads. The position there is not made.
+/// Adds the value of where the man's step to the square, which leaves the game, leads. The position there is not made. Few moves are
+/// such steps, so it stays out of the loop over all moves.
 #[inline(never)]
 fn add_exit_of_step(
     aim: &Aim<'_>,

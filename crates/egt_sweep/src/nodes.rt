@@ -136,7 +136,8 @@ fn is_checkmate_by(position: &Position, ways: &Ways) -> bool
     is_checkmate(position)
 }
 
-/// To how many nodes the moves that go on lead: they are listed, since a mirror may take two of them to one index.
+/// To how many nodes the moves that go on lead: they are listed, since a mirror may take two of them to one index. Few nodes are such,
+/// so it stays out of what is done at all nodes.
 #[inline(never)]
 fn listed_degree(column: Column, class: Class, position: &Position) -> usize
     requires of { (flipped : Bool) × IsOf class flipped position.now }
