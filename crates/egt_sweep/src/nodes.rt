@@ -90,12 +90,7 @@ pub(crate) fn successors(column: Column, class: Class, index: u32) -> ArrayVec<u
 }
 
 /// Fills the list with the nodes from which moves that go on lead to a node, in the place of what it had.
-pub(crate) fn predecessors(
-    column: Column,
-    class: Class,
-    index: u32,
-    list: &mut ArrayVec<u32, 128>,
-)
+pub(crate) fn predecessors(column: Column, class: Class, index: u32, list: &mut ArrayVec<u32, 128>)
     requires { IsFalse (not (is_some (position_at class index))) }
     ensures { list.new.items ≡ passing_below (size_of class) (λ i. connects column class i index) }
 {
