@@ -3,11 +3,13 @@
 //! moves lead to and of positions of consecutive codes; with it or the word `files`, how fast a table's file goes through
 //! memory; with it or the word `check`, how long tables of two and three men are checked; with the word `build` how long all 36
 //! tables are built and checked, which takes some minutes. The words `table`, a folder and a class have that class's table built and
-//! checked beside those of the folder; the words `lines` and some men, as `KQkr`, print FENs of positions. Nothing here judges a figure.
+//! checked beside those of the folder; the word `codes` has the indexes of all successors and the positions of all codes of a few classes
+//! asked, which takes a minute; the words `lines` and some men, as `KQkr`, print FENs of positions. Nothing here judges a figure.
 #![tactic(auto)]
 
 mod calls;
 mod checks;
+mod every;
 mod files;
 mod indexes;
 mod sample;
@@ -16,6 +18,7 @@ mod tables;
 use calls::{Call, made, moves_of};
 use checks::{bench_builds, bench_checks};
 use egt_class::{Class, of};
+use every::bench_every;
 use files::bench_files;
 use indexes::{indexed, spelled, successors};
 use sample::sample;
@@ -129,6 +132,9 @@ fn main(rt: HostRuntime) -> io::Result<()> {
     let words = words.as_slice();
     if words.len() == 4 && words[1].as_str() == "table" {
         return bench_table(&rt, words[2].as_str(), words[3].as_str());
+    }
+    if words.len() == 2 && words[1].as_str() == "codes" {
+        return bench_every(&rt);
     }
     if words.len() == 3 && words[1].as_str() == "lines" {
         return print_lines(&rt, words[2].as_str(), LINES);
