@@ -1,12 +1,11 @@
 -- The table of the men beside the kings, and what the classes' numbers tell of pawns.
-use Rattle.std.proofs.Common.{◌≡◌, ℕ, ◌<◌, ◌++◌, ◌||◌, Bool, true, false, eqb, leb, List, map, Option, Some, None, IfSome, ◌≢◌, ◌&&◌, not, arith, ◌+◌, inl, inr, refl, sym, ap, ◌∙◌, subst}
+use Rattle.std.proofs.Common.{◌≡◌, ℕ, ◌<◌, ◌++◌, Bool, true, false, eqb, List, map, Option, Some, None, IfSome, ◌≢◌, ◌&&◌, not, arith, ◌+◌, refl, sym, ap, ◌∙◌, subst}
 use Rattle.std.specs.Prelude.{slice_index_or}
 use Rattle.std.specs.List.{range_with_len}
 use Rattle.std.specs.Option.{option_to_list}
 use Rattle.std.proofs.Math.ListN.{get_or-map}
 use Rattle.std.proofs.lemmas.List.{get_or_default}
 use Rattle.std.proofs.lemmas.Bool.{false≢true, eq-eqb, and_parts}
-use Rattle.std.proofs.lemmas.Bool.Decides.{eqb_tells}
 use Rattle.std.proofs.lemmas.List.FromFn.{get_or-map-range_with_len}
 use Rattle.egt_board.specs.declared.man.Man.{Man}
 use Rattle.egt_board.specs.Images.{man_number}
@@ -15,7 +14,7 @@ use Rattle.egt_board.specs.declared.man.Side.TheVariants.{White}
 use Rattle.egt_class.specs.Below.{all_below, passes_below}
 use Rattle.egt_class.specs.Material.{material_of, materials, has_equal_sides}
 use Rattle.egt_index.specs.Size.{men_beside, has_pawns, has_target}
-use Rattle.egt_index.specs.declared.men.TheConstants.{BESIDE, EQUAL_SIDES}
+use Rattle.egt_index.specs.declared.men.TheConstants.{BESIDE, PAWNS, EQUAL_SIDES}
 use Rattle.egt_index.proofs.Tested.{not_both}
 
 men_of_row : Option Man × Option Man → List Man
@@ -33,23 +32,23 @@ row_is c d c_in =
     add_none : (c : ℕ) → 0 + c ≡ c
     add_none c = omega arith
 
-agree : Bool → Bool → Bool
+unfoldable pub agree : Bool → Bool → Bool
 agree true b = b
 agree false true = false
 agree false false = true
 
-agreed : (a b : Bool) → agree a b ≡ true → a ≡ b
+pub agreed : (a b : Bool) → agree a b ≡ true → a ≡ b
 unfolding agree
 agreed true b h = sym h
 agreed false true h = absurd (false≢true h)
 agreed false false h = refl
 
-pawns_agree : all_below (λ c. agree (eqb c 5 || leb 26 c) (has_pawns (material_of c))) 36 ≡ true
+pawns_agree : all_below (λ c. agree (slice_index_or PAWNS c false) (has_pawns (material_of c))) 36 ≡ true
 unfolding all_below agree material_of materials
 pawns_agree = refl
 
-pub pawns_are : (c : ℕ) → c < 36 → (eqb c 5 || leb 26 c) ≡ has_pawns (material_of c)
-pawns_are c c_in = agreed _ _ (passes_below (λ c. agree (eqb c 5 || leb 26 c) (has_pawns (material_of c))) 36 c pawns_agree c_in)
+pub pawns_are : (c : ℕ) (d : Bool) → c < 36 → slice_index_or PAWNS c d ≡ has_pawns (material_of c)
+pawns_are c d c_in = get_or_default PAWNS c d false c_in ∙ agreed _ _ (passes_below (λ c. agree (slice_index_or PAWNS c false) (has_pawns (material_of c))) 36 c pawns_agree c_in)
 
 targets_agree : all_below (λ c. agree (eqb c 35) (has_target (material_of c))) 36 ≡ true
 unfolding all_below agree material_of materials
@@ -57,18 +56,6 @@ targets_agree = refl
 
 pub targets_are : (c : ℕ) → c < 36 → eqb c 35 ≡ has_target (material_of c)
 targets_are c c_in = agreed _ _ (passes_below (λ c. agree (eqb c 35) (has_target (material_of c))) 36 c targets_agree c_in)
-
-pub pawns_at : (c : ℕ) → c < 36 → c ≡ 5 → eqb c 5 ≡ has_pawns (material_of c)
-pawns_at c c_in is = elim (eqb_tells c 5) [
-  | inl h ↦ h.0 ∙ sym (ap (λ b. b || leb 26 c) h.0) ∙ pawns_are c c_in
-  | inr h ↦ absurd (h.1 is)
-]
-
-pub pawns_else : (c : ℕ) → c < 36 → (c ≡ 5 → ⊥) → leb 26 c ≡ has_pawns (material_of c)
-pawns_else c c_in not = elim (eqb_tells c 5) [
-  | inl h ↦ absurd (not h.1)
-  | inr h ↦ sym (ap (λ b. b || leb 26 c) h.0) ∙ pawns_are c c_in
-]
 
 is_no_king : Option Man → Bool
 is_no_king None = true

@@ -1,24 +1,27 @@
 -- The table of how the men of each class count.
-use Rattle.std.proofs.Common.{◌≡◌, ◌⊎◌, ℕ, ◌+◌, ◌*◌, ◌/◌, ◌<◌, ◌≤◌, ◌++◌, ◌&&◌, Bool, true, leb, List, ◌∷◌, length, map, Option, Some, None, arith, refl, sym, ap, ◌∙◌, subst, inl, inr}
+use Rattle.std.proofs.Common.{◌≡◌, ◌⊎◌, ℕ, ◌+◌, ◌*◌, ◌/◌, ◌<◌, ◌≤◌, ◌++◌, ◌&&◌, Bool, true, false, eqb, leb, List, ◌∷◌, length, map, Option, Some, None, arith, refl, sym, ap, ◌∙◌, subst, inl, inr}
 use Rattle.std.specs.Prelude.{slice_index_or}
 use Rattle.std.specs.List.{range_with_len}
 use Rattle.std.specs.Option.{option_to_list}
 use Rattle.std.proofs.lemmas.List.FromFn.{get_or-map-range_with_len}
-use Rattle.std.proofs.lemmas.Bool.{and_parts, leb-true}
+use Rattle.std.proofs.lemmas.Bool.{and_parts, leb-true, false≢true}
+use Rattle.std.proofs.lemmas.Bool.Decides.{eqb_tells}
 use Rattle.egt_board.specs.declared.man.Man.{Man}
 use Rattle.egt_board.specs.declared.man.Side.{Side}
 use Rattle.egt_board.specs.declared.man.Side.TheVariants.{White, Black}
-use Rattle.egt_board.specs.Images.{side_number}
+use Rattle.egt_board.specs.Images.{man_number, side_number}
 use Rattle.egt_class.specs.Below.{all_below, passes_below}
 use Rattle.egt_class.specs.Material.{Material, material_of, materials}
-use Rattle.egt_index.specs.Scales.{digits_at, less_at, stride_at, man_at, ends_of, AreScales, ScalesFit}
+use Rattle.egt_index.specs.Scales.{digits_at, less_at, stride_at, man_at, ends_of, AreScales, ScalesFit, AreEqual}
 use Rattle.egt_index.specs.Size.{men_in_order}
 use Rattle.egt_index.specs.Stood.{Entry, men_among, list_of, IsFilled}
-use Rattle.egt_index.specs.declared.men.TheConstants.{BESIDE}
+use Rattle.egt_index.specs.Ways.{IsPaired}
+use Rattle.egt_index.specs.declared.men.TheConstants.{BESIDE, PAIRS}
 use Rattle.egt_index.specs.declared.scales.Scales.{Scales}
 use Rattle.egt_index.specs.declared.scales.TheConstants.{SCALES}
 use Rattle.egt_index.specs.declared.stand.Stand.{Stand}
-use Rattle.egt_index.proofs.MenTable.{row_is, from_first}
+use Rattle.egt_index.proofs.Counted.{man_told}
+use Rattle.egt_index.proofs.MenTable.{row_is, from_first, agree, agreed}
 
 -- the men of a class
 men_at : ℕ → Option Man × Option Man
@@ -122,3 +125,38 @@ row_fits at row k at_in is k_is = record { king = it.king; black = it.black; nex
     of_side : (k ≡ 0) ⊎ (k ≡ row.side) → k ≤ 2
     of_side (inl e) = omega arith
     of_side (inr e) = let few = it.side in omega arith
+
+-- whether the men are equal
+are_equal : Option Man → Option Man → Bool
+are_equal (Some man) (Some other) = eqb (man_number man) (man_number other)
+are_equal (Some man) None = false
+are_equal None other = false
+
+pairs_agree : all_below (λ c. agree (slice_index_or PAIRS c false) (are_equal (men_at c).0 (men_at c).1)) 36 ≡ true
+unfolding all_below agree are_equal men_at
+pairs_agree = refl
+
+equal_told : (x y : Entry) (pair : Bool) → pair ≡ are_equal (man_at x) (man_at y) → (pair ≡ true → AreEqual x y) × (pair ≡ false → ¬ AreEqual x y)
+unfolding are_equal
+equal_told None y pair is = (λ h. absurd (false≢true (sym is ∙ h)), λ h same. same)
+equal_told (Some a) None pair is = (λ h. absurd (false≢true (sym is ∙ h)), λ h same. same)
+equal_told (Some a) (Some b) pair is = elim (eqb_tells (man_number a.0) (man_number b.0)) [
+  | inl h ↦ (λ t. man_told a.0 b.0 h.1, λ f. absurd (false≢true (sym f ∙ is ∙ h.0)))
+  | inr h ↦ (λ t. absurd (false≢true (sym h.0 ∙ sym is ∙ t)), λ f same. h.1 (ap man_number same))
+]
+
+-- whether the men of the class are equal, by the table
+pub class_paired : (c at : ℕ) (stand : Stand) → c < 36 → at ≡ c → men_among (list_of stand) ≡ men_in_order (material_of c) → IsFilled stand → IsPaired stand (slice_index_or PAIRS at false)
+unfolding men_at
+class_paired c at stand c_in at_is are filled = record { equal = told.0; apart = told.1 }
+  where
+    same : (man_at stand.next ≡ (men_at c).0) × (man_at stand.last ≡ (men_at c).1)
+    same = same_men stand.next stand.last (men_at c).0 (men_at c).1 (tails are ∙ sym (row_is c (None, None) c_in)) filled (from_first c (None, None) c_in)
+
+    is : slice_index_or PAIRS at false ≡ are_equal (man_at stand.next) (man_at stand.last)
+    is = ap (λ n. slice_index_or PAIRS n false) at_is
+        ∙ agreed _ _ (passes_below (λ c. agree (slice_index_or PAIRS c false) (are_equal (men_at c).0 (men_at c).1)) 36 c pairs_agree c_in)
+        ∙ sym (ap (λ m. are_equal m (man_at stand.last)) same.0 ∙ ap (λ m. are_equal (men_at c).0 m) same.1)
+
+    told : (slice_index_or PAIRS at false ≡ true → AreEqual stand.next stand.last) × (slice_index_or PAIRS at false ≡ false → ¬ AreEqual stand.next stand.last)
+    told = equal_told stand.next stand.last _ is

@@ -6,21 +6,24 @@ ghost use Rattle.egt_board.specs.Settled.{SettlesTo};
 ghost use Rattle.egt_board.specs.Symmetry.{KeepsPlay};
 ghost use Rattle.egt_board.specs.Turned.{turned_side, turned_square};
 ghost use Rattle.egt_board.specs.declared.man.Side.{Side};
-ghost use Rattle.egt_class.specs.Material.{has_equal_sides};
+ghost use Rattle.egt_class.specs.Material.{material_of, has_equal_sides};
 ghost use Rattle.egt_class.specs.Membership.{IsOf};
-ghost use Rattle.egt_index.specs.Home.{LeastWith};
+ghost use Rattle.egt_index.specs.Home.{AreHome, LeastWith};
 ghost use Rattle.egt_index.specs.Index.{IsIndex};
 ghost use Rattle.egt_index.specs.Nearer.{KingsHome};
+ghost use Rattle.egt_index.specs.Scales.{ScalesFit};
+ghost use Rattle.egt_index.specs.Size.{has_pawns};
 ghost use Rattle.egt_index.specs.Stood.{HasStand, IsFilled, IsStandAfter};
 ghost use Rattle.egt_index.specs.declared.stand.Stand.{Stand};
 ghost use Rattle.egt_index.specs.Turns.{Best, CodeAfter, lesser};
+ghost use Rattle.egt_index.specs.Ways.{ComesHome};
 
 use crate::codes::{number_behind, with_side};
 use crate::digits::king_digit;
 use crate::facts::facts;
 use crate::home::home;
-use crate::men::{has_equal_sides, has_pawns};
-use crate::scales::{class_scales, has_pair, squares_of};
+use crate::men::{has_equal_sides, has_pawns, is_paired};
+use crate::scales::{class_scales, squares_of};
 use crate::stand::{Stand, exchanged, stand_after, standing_of};
 use crate::turning::turned_square;
 use crate::ways::Homing;
@@ -96,21 +99,23 @@ fn least_with_target(class: Class, stand: &Stand, side: Side, flips: bool) -> Op
     }
 }
 
-/// The same of a position without a target.
+/// The white king, whom the turns bring home, and where the others stand.
 #[inline(always)]
-fn least_without_target(class: Class, stand: &Stand, side: Side, flips: bool) -> Option<u32>
+fn homing(class: Class, stand: &Stand, side: Side, flips: bool) -> Homing
     requires { IsFilled stand.now }
-    ensures { (p : Setup) → HasStand class flips stand.now side false p → LeastWith class p flips result }
+    ensures fit { ScalesFit result.scales }
+    ensures pawns { result.pawns ≡ has_pawns (material_of class) }
+    ensures flips { result.flips ≡ flips }
+    ensures comes { (p : Setup) → HasStand class flips stand.now side false p → ComesHome class flips result stand.now.white p }
 {
     let _number = class.number();
-    let homing = Homing {
+    Homing {
         pawns: has_pawns(class),
         flips,
-        pair: has_pair(stand),
+        pair: is_paired(class),
         scales: class_scales(class, side_after(side, flips)),
         squares: squares_of(stand),
-    };
-    homing.code_to(stand.white)
+    }
 }
 
 /// The same of either.
@@ -119,11 +124,31 @@ fn least_code(class: Class, stand: &Stand, side: Side, passed: bool, flips: bool
     requires { IsFilled stand.now }
     ensures { (p : Setup) → HasStand class flips stand.now side passed p → LeastWith class p flips result }
 {
+    let (first, second) = home(has_pawns(class), flips, stand.white);
+    least_code_by(class, stand, side, passed, flips, first, second)
+}
+
+/// The same, where these turns bring the white king home.
+#[inline(always)]
+fn least_code_by(
+    class: Class,
+    stand: &Stand,
+    side: Side,
+    passed: bool,
+    flips: bool,
+    first: u8,
+    second: Option<u8>,
+) -> Option<u32>
+    requires filled { IsFilled stand.now }
+    requires home { AreHome (has_pawns (material_of class)) flips stand.now.white first second }
+    ensures { (p : Setup) → HasStand class flips stand.now side passed p → LeastWith class p flips result }
+{
+    let _number = class.number();
     if passed {
         let copy = *stand;
         least_with_target(class, &copy, side, flips)
     } else {
-        least_without_target(class, stand, side, flips)
+        homing(class, stand, side, flips).code_by(first, second, stand.white)
     }
 }
 
@@ -146,23 +171,58 @@ pub(crate) fn kings_after(stand: &Stand, turn: u8) -> u16
     )
 }
 
-/// The same after the turns that exchange colours, or those that do not, and bring the white king home: the lesser of two.
+/// The turns that bring the white king home.
+#[derive(Clone, Copy)]
+struct Home {
+    first: u8,
+    second: Option<u8>,
+    /// The squares of the kings after them, as a number: the lesser of two.
+    kings: u16,
+}
+
+/// The turns that exchange colours, or those that do not, and bring the white king home.
 #[inline(always)]
-fn kings_home(class: Class, stand: &Stand, flips: bool) -> u16
-    ensures { (side : Side) (passed : Bool) (p : Setup) → HasStand class flips stand.now side passed p → KingsHome class p flips result }
+fn homeward(class: Class, stand: &Stand, flips: bool) -> Home
+    ensures home { AreHome (has_pawns (material_of class)) flips stand.now.white result.first result.second }
+    ensures kings { (side : Side) (passed : Bool) (p : Setup) → HasStand class flips stand.now side passed p → KingsHome class p flips result.kings }
 {
     facts();
     let _number = class.number();
     let (first, second) = home(has_pawns(class), flips, stand.white);
     let kings = kings_after(stand, first);
-    match second {
-        Some(second) => kings.min(kings_after(stand, second)),
-        None => kings,
+    Home {
+        first,
+        second,
+        kings: match second {
+            Some(second) => kings.min(kings_after(stand, second)),
+            None => kings,
+        },
     }
 }
 
 /// The least code of all images of a settled position of a class whose sides have the same men, with these men, in colours flipped
-/// or not. The kings' digits are the highest, so other squares of theirs tell in which colours it is.
+/// or not. Few positions need it.
+#[inline(never)]
+fn least_of_both(
+    class: Class,
+    stand: &Stand,
+    side: Side,
+    passed: bool,
+    flipped: bool,
+) -> Option<u32>
+    requires filled { IsFilled stand.now }
+    requires equal { has_equal_sides class ≡ true }
+    ensures { (p : Setup) → HasStand class flipped stand.now side passed p → Best class p 16 result }
+{
+    facts();
+    let _number = class.number();
+    let others = exchanged(stand);
+    let other = least_code(class, &others, side, passed, !flipped);
+    let own = least_code(class, stand, side, passed, flipped);
+    lesser(own, other)
+}
+
+/// The same. The kings' digits are the highest, so other squares of theirs tell in which colours it is.
 #[inline(always)]
 fn least_of_colours(
     class: Class,
@@ -178,17 +238,24 @@ fn least_of_colours(
     facts();
     let _number = class.number();
     let others = exchanged(stand);
-    let own_kings = kings_home(class, stand, flipped);
-    let other_kings = kings_home(class, &others, !flipped);
-    if own_kings < other_kings {
-        return least_code(class, stand, side, passed, flipped);
+    let own = homeward(class, stand, flipped);
+    let other = homeward(class, &others, !flipped);
+    if own.kings < other.kings {
+        return least_code_by(class, stand, side, passed, flipped, own.first, own.second);
     }
-    let other = least_code(class, &others, side, passed, !flipped);
-    if other_kings < own_kings {
-        return other;
+    if other.kings < own.kings {
+        return least_code_by(
+            class,
+            &others,
+            side,
+            passed,
+            !flipped,
+            other.first,
+            other.second,
+        );
     }
-    let own = least_code(class, stand, side, passed, flipped);
-    lesser(own, other)
+    let copy = *stand;
+    least_of_both(class, &copy, side, passed, flipped)
 }
 
 /// The same in any class.

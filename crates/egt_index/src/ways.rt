@@ -6,7 +6,7 @@ ghost use Rattle.egt_board.specs.Symmetry.{KeepsPlay};
 ghost use Rattle.egt_board.specs.Turned.{turned_side};
 ghost use Rattle.egt_board.specs.declared.man.Side.{Side};
 ghost use Rattle.egt_index.specs.Frame.{IsMoved};
-ghost use Rattle.egt_index.specs.Home.{LeastWith};
+ghost use Rattle.egt_index.specs.Home.{AreHome, LeastWith};
 ghost use Rattle.egt_index.specs.Lanes.{AreLanes, IsLane, IsWent};
 ghost use Rattle.egt_index.specs.Scales.{ScalesFit, share, code_by};
 ghost use Rattle.egt_index.specs.Stood.{AllApart, list_of};
@@ -91,14 +91,14 @@ impl Homing {
         Some(self.scales.code(u32::from(high), &after))
     }
 
-    /// The least code after he went to the square.
+    /// The least code after he went to the square, whom these turns bring home from there.
     #[inline(always)]
-    pub(crate) fn code_to(&self, to: Square) -> Option<u32>
-        requires { ScalesFit self.now.scales }
+    pub(crate) fn code_by(&self, first: u8, second: Option<u8>, to: Square) -> Option<u32>
+        requires fit { ScalesFit self.now.scales }
+        requires home { AreHome self.now.pawns self.now.flips to first second }
         ensures { (c : ℕ) (flips : Bool) (q : Setup) → c < 36 → ComesHome c flips self.now to q → LeastWith c q flips result }
     {
         facts();
-        let (first, second) = home(self.pawns, self.flips, to);
         let code = self.code_after(first, to);
         match second {
             Some(second) => {
@@ -107,6 +107,16 @@ impl Homing {
             }
             None => code,
         }
+    }
+
+    /// The least code after he went to the square.
+    #[inline(always)]
+    pub(crate) fn code_to(&self, to: Square) -> Option<u32>
+        requires { ScalesFit self.now.scales }
+        ensures { (c : ℕ) (flips : Bool) (q : Setup) → c < 36 → ComesHome c flips self.now to q → LeastWith c q flips result }
+    {
+        let (first, second) = home(self.pawns, self.flips, to);
+        self.code_by(first, second, to)
     }
 }
 

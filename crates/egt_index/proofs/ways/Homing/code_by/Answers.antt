@@ -6,7 +6,7 @@ use Rattle.egt_index.specs.Size.{has_pawns}
 use Rattle.egt_index.specs.Ways.{ComesHome}
 use Rattle.egt_index.specs.declared.ways.Homing.{Homing}
 use Rattle.egt_index.proofs.Lined.{least_home}
-use Rattle.egt_index.proofs.ways.Homing.code_to.Goals as goal
+use Rattle.egt_index.proofs.ways.Homing.code_by.Goals as goal
 
 home_after : (k : ℕ) (flips : Bool) (homing : Homing) (to : ℕ) (q : Setup) (comes : ComesHome k flips homing to q) (first : ℕ) (second : Option ℕ) → AreHome homing.pawns homing.flips to first second → AreHome (has_pawns (material_of k)) flips comes.after.white first second
 home_after k flips homing to q comes first second home =
@@ -16,19 +16,19 @@ home_after k flips homing to q comes first second home =
 
 pub returns-in-Some : goal.returns-in-Some
 returns-in-Some c = λ k flips q c_in comes.
-    let home : AreHome c.args.self.now.pawns c.args.self.now.flips c.args.to c.home-first.result.0 (Some c.in-Some.second) =
-    subst (AreHome c.args.self.now.pawns c.args.self.now.flips c.args.to c.home-first.result.0) c.in-Some.is c.home-first.ensures in
+    let home : AreHome c.args.self.now.pawns c.args.self.now.flips c.args.to c.args.first (Some c.in-Some.second) =
+    subst (AreHome c.args.self.now.pawns c.args.self.now.flips c.args.to c.args.first) c.in-Some.is c.requires.home in
     subst (LeastWith k q flips) (sym c.lesser.ensures)
-    (least_home c.facts.ensures k flips q comes.after comes.side c.home-first.result.0 (Some c.in-Some.second) c.code_after-code.result c.code_after-other.result comes.stand
-    (home_after k flips c.args.self.now c.args.to q comes c.home-first.result.0 (Some c.in-Some.second) home)
+    (least_home c.facts.ensures k flips q comes.after comes.side c.args.first (Some c.in-Some.second) c.code_after-code.result c.code_after-other.result comes.stand
+    (home_after k flips c.args.self.now c.args.to q comes c.args.first (Some c.in-Some.second) home)
     (λ t_in flips_is keeps. c.code_after-code.ensures k q c_in (subst (λ f. ComesHome k f c.args.self.now c.args.to q) (sym flips_is) comes) keeps)
     (λ t_in flips_is keeps. c.code_after-other.ensures k q c_in (subst (λ f. ComesHome k f c.args.self.now c.args.to q) (sym flips_is) comes) keeps))
 
 pub returns-in-None : goal.returns-in-None
 returns-in-None c = λ k flips q c_in comes.
-    let home : AreHome c.args.self.now.pawns c.args.self.now.flips c.args.to c.home-first.result.0 None =
-    subst (AreHome c.args.self.now.pawns c.args.self.now.flips c.args.to c.home-first.result.0) c.in-None.is c.home-first.ensures in
-    least_home c.facts.ensures k flips q comes.after comes.side c.home-first.result.0 None c.code_after-code.result None comes.stand
-    (home_after k flips c.args.self.now c.args.to q comes c.home-first.result.0 None home)
+    let home : AreHome c.args.self.now.pawns c.args.self.now.flips c.args.to c.args.first None =
+    subst (AreHome c.args.self.now.pawns c.args.self.now.flips c.args.to c.args.first) c.in-None.is c.requires.home in
+    least_home c.facts.ensures k flips q comes.after comes.side c.args.first None c.code_after-code.result None comes.stand
+    (home_after k flips c.args.self.now c.args.to q comes c.args.first None home)
     (λ t_in flips_is keeps. c.code_after-code.ensures k q c_in (subst (λ f. ComesHome k f c.args.self.now c.args.to q) (sym flips_is) comes) keeps)
     refl
