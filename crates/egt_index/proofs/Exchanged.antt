@@ -13,7 +13,7 @@ use Rattle.egt_board.specs.Turned.{turned_man}
 use Rattle.egt_class.specs.Below.{all_below, passes_below}
 use Rattle.egt_class.specs.Material.{material_of, materials, has_equal_sides}
 use Rattle.egt_index.specs.Size.{men_beside}
-use Rattle.egt_index.specs.Stood.{Entry, men_among, list_of, AllStand, Stood, on_square_of}
+use Rattle.egt_index.specs.Stood.{Entry, men_among, list_of, AllStand, IsFilled, Stood, on_square_of}
 use Rattle.egt_index.specs.declared.stand.Stand.{Stand}
 use Rattle.egt_index.proofs.Counted.{man_told}
 use Rattle.egt_index.proofs.Standing.{turned_back}
@@ -95,3 +95,12 @@ stood_exchanged c flips men stand other c_in equal white black next last stood =
 
     pair : is_pair (men_among (option_to_list stand.next ++ option_to_list stand.last)) ≡ true
     pair = ap is_pair (tails stood.are) ∙ pair_there c c_in equal
+
+filled_both : (x y : Entry) → (x ≡ None → y ≡ None) → on_square_of x y ≡ None → on_square_of y x ≡ None
+filled_both None None filled none = refl
+filled_both None (Some d) filled none = absurd (let missing = filled refl in cc)
+filled_both (Some e) None filled none = refl
+filled_both (Some e) (Some d) filled none = absurd cc
+
+pub filled_exchanged : (stand other : Stand) → other.next ≡ on_square_of stand.next stand.last → other.last ≡ on_square_of stand.last stand.next → IsFilled stand → IsFilled other
+filled_exchanged stand other next last filled = λ none. last ∙ filled_both stand.next stand.last filled (sym next ∙ none)

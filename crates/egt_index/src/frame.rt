@@ -7,7 +7,7 @@ ghost use Rattle.egt_class.specs.Membership.{IsOf};
 ghost use Rattle.egt_board.specs.Placement.{Stands};
 ghost use Rattle.egt_index.specs.Frame.{IsFrame};
 ghost use Rattle.egt_index.specs.Steps.{AreSteps};
-ghost use Rattle.egt_index.specs.Stood.{HasStand};
+ghost use Rattle.egt_index.specs.Stood.{HasStand, IsFilled};
 ghost use Rattle.egt_index.specs.Ways.{WayFits, Leads};
 ghost use Rattle.egt_board.specs.Man.{other_side};
 
@@ -79,6 +79,7 @@ impl Frame {
     /// The frame of a settled position of the class, of which it is known where the men stand.
     #[inline(always)]
     pub(crate) fn of_stand(class: Class, flipped: bool, stand: &Stand, side: Side) -> Frame
+        requires { IsFilled stand.now }
         ensures frame { (p : Setup) (passed : Bool) → HasStand class flipped stand.now side passed p → IsFrame p result }
         ensures class { result.class ≡ class }
     {

@@ -9,10 +9,9 @@ ghost use Rattle.egt_index.specs.declared.scales.Scales.{Scales};
 ghost use Rattle.egt_index.specs.declared.stand.Stand.{Stand};
 ghost use Rattle.egt_index.specs.Scales.{share, code_by, digits_at, less_at, stride_at, man_at, AreScales, ScalesFit, IsOn, AreEqual};
 
-use crate::men::has_target;
 use crate::stand::{Stand, square_of};
 use crate::turning::turned_square;
-use egt_board::{Kind, Man, Side, Square};
+use egt_board::{Man, Side, Square};
 use egt_class::Class;
 
 /// How a man's square counts: its number, of a pawn 8 less, is his digit, and the stride is what one more of it adds to the code.
@@ -181,60 +180,6 @@ static SCALES: [Scales; 36] = [
     PAWN_AND_PAWN,
 ];
 
-/// How many digits the man has, if there is one, and how much less they are than his square.
-fn digits_of(entry: Option<(Man, Square)>) -> (u32, u32)
-    ensures digits { result.0 ≡ digits_at (man_at entry) }
-    ensures few { result.0 ≤ 64 }
-    ensures less { result.1 ≡ less_at (man_at entry) }
-{
-    match entry {
-        Some((man, _)) => match man.kind {
-            Kind::P => (48, 8),
-            _ => (64, 0),
-        },
-        None => (1, 0),
-    }
-}
-
-/// How the man counts, if there is one.
-fn scale_of(entry: Option<(Man, Square)>, stride: u32, less: u32) -> Scale
-    requires { less ≡ less_at (man_at entry) }
-    ensures stride { result.stride ≡ stride_at (man_at entry) stride }
-    ensures few { result.stride ≤ stride }
-    ensures less { result.less ≡ less_at (man_at entry) }
-{
-    match entry {
-        Some(_) => Scale { stride, less },
-        None => NOBODY,
-    }
-}
-
-/// How the men of the class count where that side is to move, without a target.
-#[inline(always)]
-pub(crate) fn scales_of(class: Class, stand: &Stand, side: Side) -> Scales
-    ensures are { AreScales (material_of class) (man_at stand.now.next) (man_at stand.now.last) side result }
-    ensures fit { ScalesFit result }
-{
-    let ends: u32 = if has_target(class) { 4 } else { 2 };
-    let (last_digits, last_less) = digits_of(stand.last);
-    let (next_digits, next_less) = digits_of(stand.next);
-    let behind_next = ends * last_digits;
-    let behind_black = behind_next * next_digits;
-    Scales {
-        king: behind_black * 64,
-        black: Scale {
-            stride: behind_black,
-            less: 0,
-        },
-        next: scale_of(stand.next, behind_next, next_less),
-        last: scale_of(stand.last, ends, last_less),
-        side: match side {
-            Side::White => 0,
-            Side::Black => ends / 2,
-        },
-    }
-}
-
 /// The table's entry.
 fn row(at: usize) -> Scales
     requires { at < 36 }
@@ -264,7 +209,7 @@ fn if_black(side: Side, adds: u32) -> u32
     }
 }
 
-/// The same, where the men beside the kings are none, the first alone or both.
+/// How the men of the class count where that side is to move, without a target: those beside the kings are none, the first alone or both.
 #[inline(always)]
 pub(crate) fn class_scales(class: Class, side: Side) -> Scales
     ensures are { (stand : Stand) → men_among (list_of stand) ≡ men_in_order (material_of class) → IsFilled stand →

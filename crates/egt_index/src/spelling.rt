@@ -1,5 +1,5 @@
 //! The position that a code spells.
-ghost use Rattle.std.specs.Prelude.{◌≡◌, ◌≢◌, ◌<◌, ◌≤◌, ◌↔◌, Bool, true, false, IsTrue, IsSome, IfSome, IfNone};
+ghost use Rattle.std.specs.Prelude.{◌≡◌, ◌≢◌, ◌<◌, ◌≤◌, ◌↔◌, Bool, true, false, IsTrue, IsSome, IfSome, IfNone, None};
 ghost use Rattle.std.specs.FinMap as map;
 ghost use Rattle.egt_board.specs.Attack.{king_of};
 ghost use Rattle.egt_board.specs.Listed.{men_of};
@@ -16,7 +16,7 @@ ghost use Rattle.egt_index.specs.Index.{IsIndex, IsVoid};
 ghost use Rattle.egt_index.specs.Size.{king_base};
 ghost use Rattle.std.specs.Option.{option_to_list};
 ghost use Rattle.egt_index.specs.Spelled.{Splits, Tells, SpellsMen, SpellsNoMen, Ends, HasPawns, IsTold};
-ghost use Rattle.egt_index.specs.Stood.{AllApart, list_of, with_entry, HasStand};
+ghost use Rattle.egt_index.specs.Stood.{AllApart, IsFilled, list_of, with_entry, HasStand};
 
 use crate::beaten::is_least;
 use crate::facts::facts;
@@ -73,7 +73,8 @@ fn king_on(pawns: bool, digit: u32) -> Option<Square>
 /// Takes the digit of a man, if there is one, off the number.
 fn take(number: u32, man: Option<Man>) -> (u32, Option<(Man, Square)>)
     requires { IfSome man (λ man. man ≢ king_of White) }
-    ensures { (pawns : Bool) → Tells pawns number (option_to_list man) result.0 (option_to_list result.1) }
+    ensures tells { (pawns : Bool) → Tells pawns number (option_to_list man) result.0 (option_to_list result.1) }
+    ensures none { result.1 ≡ None ↔ man ≡ None }
 {
     match man {
         Some(man) => {
@@ -87,6 +88,7 @@ fn take(number: u32, man: Option<Man>) -> (u32, Option<(Man, Square)>)
 /// Where the men of the class stand that the number spells, if it spells any.
 fn stand_on(class: Class, number: u32) -> Option<Stand>
     ensures some { IfSome result (λ stand. SpellsMen (material_of class) number (list_of stand)) }
+    ensures filled { IfSome result IsFilled }
     ensures none { IfNone result (SpellsNoMen (material_of class) number) }
 {
     let (first, second) = beside(class);
@@ -225,6 +227,7 @@ fn found(class: Class, code: u32) -> Option<(Position, Stand)>
     ensures settled { IfSome result (λ r. IsSettled r.0) }
     ensures index { IfSome result (λ r. IsIndex class r.0 code) }
     ensures stand { IfSome result (λ r. (passed : Bool) × HasStand class false r.1 r.0.side passed r.0) }
+    ensures filled { IfSome result (λ r. IsFilled r.1) }
     ensures void { IfNone result (IsVoid class code) }
 {
     facts();

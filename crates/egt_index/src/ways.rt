@@ -5,11 +5,13 @@ ghost use Rattle.egt_board.specs.Setup.{Setup};
 ghost use Rattle.egt_board.specs.Symmetry.{KeepsPlay};
 ghost use Rattle.egt_board.specs.Turned.{turned_side};
 ghost use Rattle.egt_board.specs.declared.man.Side.{Side};
+ghost use Rattle.egt_class.specs.Material.{material_of};
 ghost use Rattle.egt_index.specs.Frame.{IsMoved};
 ghost use Rattle.egt_index.specs.Home.{AreHome, LeastWith};
 ghost use Rattle.egt_index.specs.Lanes.{AreLanes, IsLane, IsWent};
 ghost use Rattle.egt_index.specs.Scales.{ScalesFit, share, code_by};
-ghost use Rattle.egt_index.specs.Stood.{AllApart, list_of};
+ghost use Rattle.egt_index.specs.Size.{men_in_order};
+ghost use Rattle.egt_index.specs.Stood.{AllApart, IsFilled, list_of, men_among};
 ghost use Rattle.egt_index.specs.Turns.{CodeAfter, lesser};
 ghost use Rattle.egt_index.specs.Ways.{line_code, pair_code, code_with, LineFits, PairFits, ComesHome, WayFits, Leads, Goes, IsMover, IsGoer, IsSingle, IsOneOfTwo, IsPaired, other_square};
 ghost use Rattle.egt_index.specs.declared.stand.Stand.{Stand};
@@ -20,7 +22,7 @@ use crate::home::home;
 use crate::indexing::lesser;
 use crate::lanes::{Lane, Lanes};
 use crate::men::has_pawns;
-use crate::scales::{NOBODY, Scale, Scales, Squares, has_pair, in_order, scales_of, squares_of};
+use crate::scales::{NOBODY, Scale, Scales, Squares, class_scales, has_pair, in_order, squares_of};
 use crate::stand::Stand;
 use crate::turning::turned_square;
 use egt_board::{Side, Square};
@@ -357,10 +359,11 @@ pub(crate) fn way_of(
     from: Square,
 ) -> Way
     ensures fits { AreLanes class flips stand.now lanes.now → WayFits result }
-    ensures leads { (p : Setup) → AreLanes class flips stand.now lanes.now → AllApart (list_of stand.now) → Goes class flips p stand.now from side → Leads class flips p from result }
+    ensures leads { (p : Setup) → AreLanes class flips stand.now lanes.now → men_among (list_of stand.now) ≡ men_in_order (material_of class) → IsFilled stand.now →
+        AllApart (list_of stand.now) → Goes class flips p stand.now from side → Leads class flips p from result }
 {
     let _number = class.number();
-    let scales = scales_of(class, stand, side_after(side, flips));
+    let scales = class_scales(class, side_after(side, flips));
     let pawns = has_pawns(class);
     let pair = has_pair(stand);
     if stand.white == from {

@@ -7,7 +7,7 @@ use Rattle.egt_index.proofs.Lined.{comes_home}
 use Rattle.egt_index.proofs.ways.way_of.Goals as goal
 
 pub returns-clause-leads : goal.returns-clause-leads
-returns-clause-leads c = λ p are apart goes.
+returns-clause-leads c = λ p are men filled apart goes.
     let c_in : c.args.class < 36 = omega (arith, c.number-number.ensures.below, c.number-number.ensures.value) in
     c.way_of_other.ensures.leads c.args.class c.args.from c.args.flips p c.args.stand.now c.args.side are
     (record {
@@ -15,15 +15,15 @@ returns-clause-leads c = λ p are apart goes.
       apart = apart;
       white = λ same. false≢true (sym c.if-eq.false ∙ c.eq.ensures ∙ eq-eqb _ _ same);
       mover_is = c.mover_on-mover.ensures;
-      scales_are = subst (λ (s : Side). AreScales (material_of c.args.class) (man_at c.args.stand.now.next) (man_at c.args.stand.now.last) s c.scales_of-scales.result) c.side_after.ensures c.scales_of-scales.ensures.are;
+      scales_are = subst (λ (s : Side). AreScales (material_of c.args.class) (man_at c.args.stand.now.next) (man_at c.args.stand.now.last) s c.class_scales-scales.result) c.side_after.ensures (c.class_scales-scales.ensures.are c.args.stand.now men filled);
       pawns_is = c.has_pawns-pawns.ensures;
     })
     (record { equal = c.has_pair-pair.ensures.equal; apart = c.has_pair-pair.ensures.apart }) goes
 
 pub returns-then-eq-clause-leads : goal.returns-then-eq-clause-leads
-returns-then-eq-clause-leads c = λ p are apart goes to q moved.
+returns-then-eq-clause-leads c = λ p are men filled apart goes to q moved.
     let (after, gone) = goes to q moved in
     comes_home c.args.class c.args.from to c.args.flips q c.args.stand.now after c.args.side _ (eqb-true _ _ (sym c.eq.ensures ∙ c.if-eq.true)) apart gone c.squares_of.ensures.black c.squares_of.ensures.next c.squares_of.ensures.last
     c.has_pawns-pawns.ensures refl
-    (subst (λ (s : Side). AreScales (material_of c.args.class) (man_at c.args.stand.now.next) (man_at c.args.stand.now.last) s c.scales_of-scales.result) c.side_after.ensures c.scales_of-scales.ensures.are)
+    (subst (λ (s : Side). AreScales (material_of c.args.class) (man_at c.args.stand.now.next) (man_at c.args.stand.now.last) s c.class_scales-scales.result) c.side_after.ensures (c.class_scales-scales.ensures.are c.args.stand.now men filled))
     c.has_pair-pair.ensures.equal c.has_pair-pair.ensures.apart

@@ -5,7 +5,7 @@ use Rattle.egt_index.specs.Lanes.{AreLanes, IsWent}
 use Rattle.egt_index.specs.Stood.{list_of, on_square_of}
 use Rattle.egt_index.specs.declared.lanes.Lanes.{Lanes}
 use Rattle.egt_index.specs.declared.stand.Stand.{Stand}
-use Rattle.egt_index.proofs.Exchanged.{stood_exchanged}
+use Rattle.egt_index.proofs.Exchanged.{filled_exchanged, stood_exchanged}
 use Rattle.egt_index.proofs.LeastTurn.{none_exchanged}
 use Rattle.egt_index.proofs.Lined.{all_apart, stand_same}
 use Rattle.egt_index.proofs.Moved.{went_exchanged, exchange, after_of}
@@ -31,7 +31,8 @@ returns-in-Some-clause-leads c = λ p is side.
     let here = same frame.class frame.flipped frame.stand c.exchanged-stand.result c.in-Some.lanes e c.exchanged-stand.ensures.white c.exchanged-stand.ensures.black c.exchanged-stand.ensures.next c.exchanged-stand.ensures.last in
     let equal = sym is.equal ∙ ap (λ (o : Option Lanes). is_some o) c.in-Some.is in
     let stood = stood_exchanged frame.class frame.flipped p.men frame.stand c.exchanged-stand.result c_in equal c.exchanged-stand.ensures.white c.exchanged-stand.ensures.black c.exchanged-stand.ensures.next c.exchanged-stand.ensures.last is.stand.stood in
-    c.way_of.ensures.leads p (subst (λ (s : Stand). AreLanes frame.class (not frame.flipped) s c.in-Some.lanes) here e.are) (all_apart (not frame.flipped) p.men (list_of c.exchanged-stand.result) stood.all)
+    c.way_of.ensures.leads p (subst (λ (s : Stand). AreLanes frame.class (not frame.flipped) s c.in-Some.lanes) here e.are) stood.are
+    (filled_exchanged frame.stand c.exchanged-stand.result c.exchanged-stand.ensures.next c.exchanged-stand.ensures.last is.filled) (all_apart (not frame.flipped) p.men (list_of c.exchanged-stand.result) stood.all)
     (λ to q moved. (_, subst (λ (s : Stand). IsWent frame.class (not frame.flipped) s (exchange (after_of c.args.from to frame.stand)) c.args.from to c.args.side q) here (went_exchanged c.facts.ensures p q c.args.from to frame c.args.side c_in is moved side c.in-Some.lanes equal e)))
 
 pub returns-in-None-clause-leads : goal.returns-in-None-clause-leads

@@ -10,6 +10,7 @@ pub returns-clause-frame : goal.returns-clause-frame
 returns-clause-frame c = λ p passed has. record {
   passed = passed;
   stand = has;
+  filled = c.requires;
   own = c.home_lanes.ensures;
   equal = elim c.if-has_equal_sides.branch [
     | then-has_equal_sides w ↦ ap (λ (o : Option Lanes). is_some o) w.result-is ∙ sym (sym c.has_equal_sides.ensures ∙ w.if-has_equal_sides.true)

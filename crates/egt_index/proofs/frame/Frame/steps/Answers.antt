@@ -14,7 +14,7 @@ returns c = λ p man is stands.
       is_of = is.stand.is_of;
       own_fits = c.way_of.ensures.fits is.own;
       exchanged_fits = c.exchanged_way.ensures.fits p is;
-      own = c.way_of.ensures.leads p is.own (all_apart frame.flipped p.men (list_of frame.stand) is.stand.stood.all)
+      own = c.way_of.ensures.leads p is.own is.stand.stood.are is.filled (all_apart frame.flipped p.men (list_of frame.stand) is.stand.stood.all)
           (λ to q moved. (_, went_own c.facts.ensures p q c.args.from to frame c.other-side.result c_in is moved c.other-side.ensures));
       exchanged = c.exchanged_way.ensures.leads p is c.other-side.ensures;
     }
