@@ -38,3 +38,4 @@ pub mod Swapping
 pub mod Boarding
 pub mod Scaled
 pub mod Lined
+pub mod AtIndex

@@ -286,3 +286,25 @@ pub fn spelled(class: Class, code: u32) -> Option<(Position, Frame)>
         None => None,
     }
 }
+
+/// The settled position whose index this is, and its frame: what `spelled` answers, where the caller knows that there is one. No test
+/// is needed then.
+#[inline(always)]
+pub fn indexed(class: Class, index: u32) -> (Position, Frame)
+    requires { ¬ IsVoid class index }
+    ensures spells { Spells class index result.0 }
+    ensures settled { IsSettled result.0 }
+    ensures index { IsIndex class result.0 index }
+    ensures frame { IsFrame result.0 result.1 }
+    ensures class { result.1.class ≡ class }
+{
+    facts();
+    let _number = class.number();
+    let (number, side, passed) = ends(class, index);
+    let stand = stand_on(class, number).unwrap();
+    let target = target_of(side, passed, &stand);
+    let board = board_of(&stand);
+    let position = Position::with_kings(board, side, target, stand.white, stand.black);
+    let frame = Frame::of_stand(class, false, &stand, side);
+    (position, frame)
+}

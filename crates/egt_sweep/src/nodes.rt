@@ -30,7 +30,7 @@ use egt_board::Position;
 use egt_check::Library;
 use egt_class::Class;
 use egt_graph::{Exit, Start};
-use egt_index::{Frame, position, spelled};
+use egt_index::{Frame, indexed, position};
 use egt_moves::{Standing, standing};
 use egt_table::Column;
 
@@ -80,10 +80,8 @@ pub(crate) fn successors(column: Column, class: Class, index: u32) -> ArrayVec<u
     laws();
     let _number = class.number();
     let mut list = ArrayVec::new();
-    match spelled(class, index) {
-        Some((position, frame)) => edges(column, class, &frame, &position, &mut list),
-        None => unreachable!(),
-    }
+    let (position, frame) = indexed(class, index);
+    edges(column, class, &frame, &position, &mut list);
     list
 }
 
@@ -95,10 +93,8 @@ pub(crate) fn predecessors(column: Column, class: Class, index: u32, list: &mut 
     laws();
     let _number = class.number();
     list.clear();
-    match spelled(class, index) {
-        Some((position, frame)) => sources(column, class, &frame, &position, list),
-        None => unreachable!(),
-    }
+    let (position, frame) = indexed(class, index);
+    sources(column, class, &frame, &position, list);
 }
 
 /// The values of where the moves lead that leave the game from a node, in the order of moves.

@@ -2,12 +2,12 @@ use Rattle.std.proofs.Common.{ℕ, ◌<◌, subst}
 use Rattle.egt_sweep.proofs.Standing.{sources_told, none_missing}
 use Rattle.egt_sweep.proofs.nodes.predecessors.Goals as goal
 
-pub unreachable-requires : goal.unreachable-requires
-unreachable-requires c = none_missing c.laws.ensures c.args.class c.args.index c.in-None.ensures.void c.requires
+pub indexed-position-requires : goal.indexed-position-requires
+indexed-position-requires c = λ void. none_missing c.laws.ensures c.args.class c.args.index void c.requires
 
 pub sources-requires-clause-of : goal.sources-requires-clause-of
-sources-requires-clause-of c = c.laws.ensures.indexed_class _ c.args.class c.args.index c.in-Some.ensures.spells.admissible c.in-Some.ensures.index
+sources-requires-clause-of c = c.laws.ensures.indexed_class _ c.args.class c.args.index c.indexed-position.ensures.spells.admissible c.indexed-position.ensures.index
 
 pub returns : goal.returns
 returns c = sources_told c.laws.ensures c.args.class c.args.index c.args.column c.sources.new.list.items (subst (λ (n : ℕ). n < 36) c.number-number.ensures.value c.number-number.ensures.below)
-    c.sources.ensures.ascending (c.sources.ensures.exact c.args.index (record { spells = c.in-Some.ensures.spells; index = c.in-Some.ensures.index }))
+    c.sources.ensures.ascending (c.sources.ensures.exact c.args.index (record { spells = c.indexed-position.ensures.spells; index = c.indexed-position.ensures.index }))

@@ -1,0 +1,48 @@
+-- What the digits of an index say: a settled position that has it.
+use Rattle.std.proofs.Common.{◌≡◌, ℕ, ◌<◌, false, Bool, Option, Some, IfSome, subst, inl, inr}
+use Rattle.egt_board.specs.declared.man.Side.{Side}
+use Rattle.egt_board.specs.Listed.{setup_of}
+use Rattle.egt_board.specs.Settled.{IsSettled}
+use Rattle.egt_board.specs.Setup.{Setup}
+use Rattle.egt_class.specs.Material.{Material, material_of}
+use Rattle.egt_index.specs.Code.{Spells}
+use Rattle.egt_index.specs.Facts.{Facts}
+use Rattle.egt_index.specs.Index.{IsIndex, IsVoid}
+use Rattle.egt_index.specs.Spelled.{Ends, SpellsMen, IsTold}
+use Rattle.egt_index.specs.Stood.{AllApart, HasStand, list_of}
+use Rattle.egt_index.specs.declared.stand.Stand.{Stand}
+use Rattle.egt_index.proofs.Decoded.{spelled_setup}
+use Rattle.egt_index.proofs.Exists.{index_settled}
+use Rattle.egt_index.proofs.Setups.{fits_apart, stand_spelled}
+use Rattle.egt_index.proofs.Telling.{index_or_void}
+
+-- some position is spelled by a code that is not void, and has it as its index
+pub indexed_by : Facts → (c code : ℕ) → c < 36 → ¬ IsVoid c code → (p : Setup) × Spells c code p × IsIndex c p code
+indexed_by facts c code c_in some = elim (index_or_void facts c code c_in) [
+  | inl found ↦ found
+  | inr void ↦ absurd (some void)
+]
+
+-- what is known of the position that the digits of an index tell
+pub record IsAtIndex (c code : ℕ) (stand : Stand) (side : Side) (passed : Bool) (target : Option ℕ) : Type 0 where
+  pub apart : AllApart (list_of stand)
+  pub spells : Spells c code (setup_of (list_of stand) side target)
+  pub is : IsIndex c (setup_of (list_of stand) side target) code
+  pub settled : IsSettled (setup_of (list_of stand) side target)
+  pub stands : HasStand c false stand side passed (setup_of (list_of stand) side target)
+
+pub at_index : Facts → (c code high : ℕ) (stand : Stand) (side : Side) (passed : Bool) (target : Option ℕ) → c < 36 → ¬ IsVoid c code → Ends (material_of c) code high side passed
+    → SpellsMen (material_of c) high (list_of stand) → IsTold passed side (list_of stand) target → IsAtIndex c code stand side passed target
+at_index facts c code high stand side passed target c_in some ends men told =
+    let found = indexed_by facts c code c_in some in
+    let setup = spelled_setup c code high side passed (list_of stand) target found.0 ends men told found.1 in
+    let here : Setup = setup_of (list_of stand) side target in
+    let apart = fits_apart (list_of stand) setup.0 in
+    let spells : Spells c code here = subst (Spells c code) setup.1 found.1 in
+    let is : IsIndex c here code = subst (λ p. IsIndex c p code) setup.1 found.2 in
+    let settled : IsSettled here = index_settled facts here here c code spells.admissible is spells in
+    record { apart = apart; spells = spells; is = is; settled = settled; stands = stand_spelled c code high stand side passed target men apart told spells settled }
+
+-- the stand that is found
+pub taken : (m : Material) (number : ℕ) (o : Option Stand) (stand : Stand) → IfSome o (λ s. SpellsMen m number (list_of s)) → o ≡ Some stand → SpellsMen m number (list_of stand)
+taken m number o stand some is = subst (λ (o : Option Stand). IfSome o (λ s. SpellsMen m number (list_of s))) is some
