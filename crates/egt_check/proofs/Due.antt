@@ -26,7 +26,7 @@ abbrev pub IsShownOf : Shown → Column → Setup → Option Outcome → Type 0
 IsShownOf shows column q (Some outcome) = shows column q (value_of outcome)
 IsShownOf shows column q None = (v : Value) → ¬ shows column q v
 
-same_value : (a b : Outcome) → value_of a ≡ value_of b → a ≡ b
+pub same_value : (a b : Outcome) → value_of a ≡ value_of b → a ≡ b
 same_value (outcomes.Win i) (outcomes.Win j) e = cc
 same_value (outcomes.Win i) (outcomes.Loss j) e = cc
 same_value (outcomes.Win i) outcomes.Draw e = cc

@@ -12,3 +12,4 @@ pub mod Shelving
 pub mod Still
 pub mod Raising
 mod Scoring
+mod ScoreTable

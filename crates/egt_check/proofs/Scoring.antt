@@ -42,7 +42,7 @@ draw_score x is (Some outcomes.Draw) shown = refl
 draw_score x is (Some (outcomes.Win k)) shown = absurd (omega (arith, is, shown.1))
 draw_score x is (Some (outcomes.Loss k)) shown = absurd (omega (arith, is, shown.1))
 
-low_none : (x : ℕ) → x ≢ 1 → x ≤ 2 → IsShownBy x None
+pub low_none : (x : ℕ) → x ≢ 1 → x ≤ 2 → IsShownBy x None
 low_none x other low (Win n) shown = absurd (omega (arith, low, shown.0.0, shown.1))
 low_none x other low (Loss n) shown = absurd (omega (arith, low, shown.1))
 low_none x other low Draw shown = other shown.1

@@ -12,6 +12,7 @@ pub mod outcome;
 pub mod quiet;
 pub mod reject;
 pub mod rule;
+pub mod score_table;
 pub mod successors;
 
 pub use checking::{check, first_missing};

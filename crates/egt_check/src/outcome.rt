@@ -18,7 +18,7 @@ const LOST: u16 = 65_000;
 const DRAWN: u16 = 32_002;
 
 /// The score of a step that says nothing.
-const UNKNOWN: u16 = 32_001;
+pub(crate) const UNKNOWN: u16 = 32_001;
 
 /// The most plies that an entry shows.
 const LONGEST: u16 = 32_000;

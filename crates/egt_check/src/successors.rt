@@ -1,5 +1,5 @@
 //! The best of a position's steps.
-ghost use Rattle.std.specs.Prelude.{◌≡◌, ◌↔◌, ℕ, ◌<◌, IsTrue, IfSome, IfNone};
+ghost use Rattle.std.specs.Prelude.{◌≡◌, ◌↔◌, ℕ, ◌<◌, max, IsTrue, IfSome, IfNone};
 ghost use Rattle.std.specs.Option.{option_map};
 ghost use Rattle.egt_board.specs.Placement.{IsHeld};
 ghost use Rattle.egt_board.specs.SquareSet.{Has};
@@ -20,8 +20,8 @@ ghost use Rattle.egt_check.specs.Tables.{table_at, beside, entry_at, HasEntry, H
 use crate::by_column::ByColumn;
 use crate::facts::facts;
 use crate::library::Library;
-use crate::outcome::{mate_score, zeroing_score};
 use crate::quiet::{QuietStep, is_pawn, quiet_targets};
+use crate::score_table::scores_by;
 use egt_board::{Position, Square, SquareSet};
 use egt_class::laws::moves_lead_into_the_class_or_a_child as quiet_moves_keep_the_class;
 use egt_class::of;
@@ -75,22 +75,28 @@ fn scores(
 {
     facts();
     let _side = position.side();
+    scores_by(entries, zeroes)
+}
+
+/// In each column the greater of two scores.
+#[inline(always)]
+fn higher(best: ByColumn, scores: ByColumn) -> ByColumn
+    ensures { (column : Column) → number_at result column ≡ max (number_at best column) (number_at scores column) }
+{
     ByColumn {
-        mate: mate_score(entries.mate),
-        zeroing: zeroing_score(entries.mate, entries.zeroing, zeroes),
+        mate: best.mate.max(scores.mate),
+        zeroing: best.zeroing.max(scores.zeroing),
     }
 }
 
 /// In each column the greater of two scores, if there are two.
+#[inline(always)]
 fn raised(best: Option<ByColumn>, scores: ByColumn) -> ByColumn
     ensures { (column : Column) →
         number_at result column ≡ greater (option_map (λ numbers. number_at numbers column) best) (number_at scores column) }
 {
     match best {
-        Some(best) => ByColumn {
-            mate: best.mate.max(scores.mate),
-            zeroing: best.zeroing.max(scores.zeroing),
-        },
+        Some(best) => higher(best, scores),
         None => scores,
     }
 }
@@ -118,21 +124,21 @@ fn best_after(
     Some(raised(best, scores))
 }
 
-/// The best score so far, and of the legal move from the one square to the other, which takes nothing: it stays in the table's class,
-/// and only one man's square changes. It zeroes where it is a pawn's.
+/// The scores of the legal move from the one square to the other, which takes nothing: it stays in the table's class, and only one man's
+/// square changes. It zeroes where it is a pawn's.
 #[inline(always)]
-fn best_after_quiet(
+fn quiet_scores(
     table: &Table,
     library: &Library,
     steps: &Steps,
     position: &Position,
     step: QuietStep,
-    best: Option<ByColumn>,
-) -> Option<ByColumn>
+) -> ByColumn
     requires quiet { IsQuietTarget position.now step.pawn step.from step.to }
     requires own { IsInClass table.now.class position.now }
     requires steps { AreSteps position.now table.now.class step.from steps.now }
-    ensures { AreRaised (shown_by library.now table.now) position.now (λ m. m ≡ plain step.from step.to) best result }
+    ensures { (column : Column) (q : Setup) (leads : Leads position.now (plain step.from step.to) q) →
+        Scores (shown_by library.now table.now) column position.now q (plain step.from step.to, leads) (number_at result column) }
 {
     facts();
     quiet_moves_keep_the_class();
@@ -145,8 +151,7 @@ fn best_after_quiet(
         to,
         promo: None,
     };
-    let scores = scores(table, library, position, &chess_move, entries, pawn);
-    Some(raised(best, scores))
+    scores(table, library, position, &chess_move, entries, pawn)
 }
 
 /// The best score so far, and of the legal moves from the one square to the other.
@@ -215,14 +220,26 @@ fn best_to_each_quiet(
     requires class { frame.now.class ≡ table.now.class }
     ensures { AreRaised (shown_by library.now table.now) position.now (λ m. (m.from ≡ from) × Has targets m.to) best result }
 {
-    let steps = frame.steps(from);
-    let mut best = best;
     let mut rest = targets;
-    while let Some(to) = rest.pop_first() {
-        let step = QuietStep { from, to, pawn };
-        best = best_after_quiet(table, library, &steps, position, step, best);
+    match rest.pop_first() {
+        Some(first) => {
+            let steps = frame.steps(from);
+            let step = QuietStep {
+                from,
+                to: first,
+                pawn,
+            };
+            let scores = quiet_scores(table, library, &steps, position, step);
+            let mut highest = raised(best, scores);
+            while let Some(to) = rest.pop_first() {
+                let step = QuietStep { from, to, pawn };
+                let scores = quiet_scores(table, library, &steps, position, step);
+                highest = higher(highest, scores);
+            }
+            Some(highest)
+        }
+        None => best,
     }
-    best
 }
 
 /// The best score so far, and of the legal moves of the man on the square.

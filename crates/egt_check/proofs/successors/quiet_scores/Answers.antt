@@ -1,11 +1,9 @@
 use Rattle.std.proofs.Common.{refl}
 use Rattle.egt_moves.specs.Legal.{plain}
-use Rattle.egt_check.specs.Steps.{shown_by}
 use Rattle.egt_check.specs.Tables.{table_at}
 use Rattle.egt_check.proofs.Finding.{entry_found, beside_own}
-use Rattle.egt_check.proofs.Raising.{raised_is}
 use Rattle.egt_check.proofs.Still.{is_moved}
-use Rattle.egt_check.proofs.successors.best_after_quiet.Goals as goal
+use Rattle.egt_check.proofs.successors.quiet_scores.Goals as goal
 
 pub index_to-requires : goal.index_to-requires
 index_to-requires c =
@@ -23,11 +21,11 @@ entries_at-entries-requires c =
     c.facts.ensures.index_below _ _ _ (c.index_to.ensures t.class c.args.step.from p q c.requires.steps
     (is_moved c.moves_lead_into_the_class_or_a_child.ensures.quiet t.class p q c.args.step.pawn c.args.step.from c.args.step.to c.side-side.ensures.admissible fine leads c.requires.quiet))
 
-pub scores-scores-requires-clause-legal : goal.scores-scores-requires-clause-legal
-scores-scores-requires-clause-legal c = c.requires.quiet.legal
+pub scores-requires-clause-legal : goal.scores-requires-clause-legal
+scores-requires-clause-legal c = c.requires.quiet.legal
 
-pub scores-scores-requires-clause-entries : goal.scores-scores-requires-clause-entries
-scores-scores-requires-clause-entries c = λ column q leads.
+pub scores-requires-clause-entries : goal.scores-requires-clause-entries
+scores-requires-clause-entries c = λ column q leads.
     let t = c.args.table.now in
     let p = c.args.position.now in
     let fine = c.facts.ensures.step_admissible p q (plain c.args.step.from c.args.step.to) c.side-side.ensures.admissible leads in
@@ -36,10 +34,8 @@ scores-scores-requires-clause-entries c = λ column q leads.
     entry_found _ _ t.class c.index_to.result flipped t c.entries_at-entries.result c.class-class.ensures.table.class_in (moved.class flipped is_of)
     (beside_own (table_at c.args.library.now) t _ refl) (c.index_to.ensures t.class c.args.step.from p q c.requires.steps moved) c.entries_at-entries.ensures column
 
-pub scores-scores-requires-clause-zeroes : goal.scores-scores-requires-clause-zeroes
-scores-scores-requires-clause-zeroes c = c.requires.quiet.zeroes
+pub scores-requires-clause-zeroes : goal.scores-requires-clause-zeroes
+scores-requires-clause-zeroes c = c.requires.quiet.zeroes
 
 pub returns : goal.returns
-returns c = λ column.
-    raised_is (shown_by c.args.library.now c.args.table.now) column c.args.position.now (plain c.args.step.from c.args.step.to) c.args.best c.scores-scores.result c.raised.result
-    (c.raised.ensures column) c.requires.quiet.legal (c.scores-scores.ensures column)
+returns c = c.scores.ensures
