@@ -24,7 +24,7 @@ pub use axis::is_on_axis;
 pub use frame::Frame;
 pub use indexing::index;
 pub use sizes::size;
-pub use spelling::{indexed, position, spelled};
+pub use spelling::{indexed, position, position_of, spelled};
 pub use steps::Steps;
 
 #[cfg(test)]

@@ -287,8 +287,38 @@ pub fn spelled(class: Class, code: u32) -> Option<(Position, Frame)>
     }
 }
 
-/// The settled position whose index this is, and its frame: what `spelled` answers, where the caller knows that there is one. No test
-/// is needed then.
+/// The settled position whose index this is, and where its men stand: what `found` answers, where the caller knows that there is one.
+/// No test is needed then.
+#[inline(always)]
+fn at_index(class: Class, index: u32) -> (Position, Stand)
+    requires { ¬ IsVoid class index }
+    ensures spells { Spells class index result.0 }
+    ensures settled { IsSettled result.0 }
+    ensures index { IsIndex class result.0 index }
+    ensures stand { (passed : Bool) × HasStand class false result.1 result.0.side passed result.0 }
+{
+    facts();
+    let _number = class.number();
+    let (number, side, passed) = ends(class, index);
+    let stand = stand_on(class, number).unwrap();
+    let target = target_of(side, passed, &stand);
+    let board = board_of(&stand);
+    let position = Position::with_kings(board, side, target, stand.white, stand.black);
+    (position, stand)
+}
+
+/// The settled position whose index this is: what `position` answers, where the caller knows that there is one.
+#[inline(always)]
+pub fn position_of(class: Class, index: u32) -> Position
+    requires { ¬ IsVoid class index }
+    ensures spells { Spells class index result }
+    ensures settled { IsSettled result }
+    ensures index { IsIndex class result index }
+{
+    at_index(class, index).0
+}
+
+/// The same, and the frame of the position: what `spelled` answers.
 #[inline(always)]
 pub fn indexed(class: Class, index: u32) -> (Position, Frame)
     requires { ¬ IsVoid class index }
@@ -298,13 +328,7 @@ pub fn indexed(class: Class, index: u32) -> (Position, Frame)
     ensures frame { IsFrame result.0 result.1 }
     ensures class { result.1.class ≡ class }
 {
-    facts();
-    let _number = class.number();
-    let (number, side, passed) = ends(class, index);
-    let stand = stand_on(class, number).unwrap();
-    let target = target_of(side, passed, &stand);
-    let board = board_of(&stand);
-    let position = Position::with_kings(board, side, target, stand.white, stand.black);
-    let frame = Frame::of_stand(class, false, &stand, side);
+    let (position, stand) = at_index(class, index);
+    let frame = Frame::of_stand(class, false, &stand, position.side());
     (position, frame)
 }

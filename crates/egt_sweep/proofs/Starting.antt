@@ -1,5 +1,5 @@
 -- What a run begins with at a node.
-use Rattle.std.proofs.Common.{◌≡◌, ℕ, ◌<◌, ◌≤◌, not, Bool, true, false, List, length, Some, refl, sym, ap, ◌∙◌, subst, inl, inr}
+use Rattle.std.proofs.Common.{◌≡◌, ◌≢◌, ℕ, ◌<◌, ◌≤◌, not, Bool, true, false, List, length, slice_index, Some, refl, sym, ap, ◌∙◌, subst, inl, inr}
 use Rattle.std.specs.Int.{bit_at}
 use Rattle.std.specs.Option.{is_some}
 use Rattle.egt_board.specs.Decided.{Decided, tells}
@@ -18,6 +18,7 @@ use Rattle.egt_table.specs.declared.column.Column.{Column}
 use Rattle.egt_check.specs.Tables.{Tables}
 use Rattle.egt_sweep.specs.Edges.{IsAt, GoesOn, LeadsOn, Connects}
 use Rattle.egt_sweep.specs.Laws.{Laws}
+use Rattle.egt_sweep.specs.MateColumn.{IsMateColumn}
 use Rattle.egt_sweep.specs.Nodes.{position_at, is_mated, connects, exits_at, exits_from}
 use Rattle.egt_sweep.specs.Ways.{Counts}
 use Rattle.egt_sweep.proofs.Linked.{position_is, there_is, void_is}
@@ -67,3 +68,18 @@ started laws tables column c i p spells index mated degree exits mate counted fe
 
 pub no_node : (laws : Laws) (c i : ℕ) → IsVoid c i → not (is_some (position_at c i)) ≡ true
 no_node laws c i void = ap not (void_is laws c i void)
+
+-- the entry of a mate column is 0 exactly where no position is
+pub void_told : (c i : ℕ) (entries : List ℕ) → IsMateColumn c entries → i < size_of c → slice_index entries i ≡ 0 → not (is_some (position_at c i)) ≡ true
+void_told c i entries column lt e = of (is_some (position_at c i)) refl
+  where
+    of : (b : Bool) → is_some (position_at c i) ≡ b → not (is_some (position_at c i)) ≡ true
+    of true is = let shown = column.1 i lt is in absurd (shown.0 e)
+    of false is = ap not is
+
+pub node_told : (c i : ℕ) (entries : List ℕ) → IsMateColumn c entries → i < size_of c → slice_index entries i ≢ 0 → not (is_some (position_at c i)) ≡ false
+node_told c i entries column lt some = of (is_some (position_at c i)) refl
+  where
+    of : (b : Bool) → is_some (position_at c i) ≡ b → not (is_some (position_at c i)) ≡ false
+    of true is = ap not is
+    of false is = absurd (some (column.2 i lt is))

@@ -1,5 +1,5 @@
 //! The nodes of a class's game.
-ghost use Rattle.std.specs.Prelude.{◌≡◌, ◌≤◌, ℕ, Bool, Some, [], length, not, false, true, IsTrue, IsFalse, IfSome, IfNone};
+ghost use Rattle.std.specs.Prelude.{◌≡◌, ◌<◌, ◌≤◌, ℕ, Bool, Some, [], length, not, false, true, IsTrue, IsFalse, IfSome, IfNone};
 ghost use Rattle.std.specs.Int.{bit_at};
 ghost use Rattle.std.specs.Option.{is_some};
 ghost use Rattle.egt_board.specs.Decided.{tells};
@@ -15,7 +15,9 @@ ghost use Rattle.egt_moves.specs.declared.chess_move.Move.{Move};
 ghost use Rattle.egt_graph.specs.Passing.{passing_below};
 ghost use Rattle.egt_sweep.specs.Edges.{IsAt, GoesOn};
 ghost use Rattle.egt_sweep.specs.Ways.{Counts, HasAnchor};
-ghost use Rattle.egt_check.specs.Tables.{table_at, HasChildren};
+ghost use Rattle.egt_check.specs.Tables.{table_at, beside, HasChildren};
+ghost use Rattle.egt_table.specs.declared.column.Column.TheVariants.{Zeroing};
+ghost use Rattle.egt_sweep.specs.MateColumn.{mate_table, IsMateColumn};
 ghost use Rattle.egt_sweep.specs.Aiming.{column_of, known, KnowsOwn};
 ghost use Rattle.egt_sweep.specs.Nodes.{position_at, is_mated, connects, exits_at, exits_from};
 
@@ -29,8 +31,8 @@ use arrayvec::ArrayVec;
 use egt_board::Position;
 use egt_check::Library;
 use egt_class::Class;
-use egt_graph::{Exit, Start};
-use egt_index::{Frame, indexed, position};
+use egt_graph::{Exit, Ranks, Start};
+use egt_index::{Frame, indexed, position, position_of};
 use egt_moves::{Standing, standing};
 use egt_table::Column;
 
@@ -49,8 +51,7 @@ fn node(class: Class, index: u32) -> Position
     ensures { IsAt class index result }
 {
     laws();
-    let _number = class.number();
-    position(class, index).unwrap()
+    position_of(class, index)
 }
 
 /// Whether the side to move is checkmated.
@@ -112,12 +113,8 @@ pub(crate) fn exits(
     laws();
     let _number = class.number();
     let mut list = ArrayVec::new();
-    match position(class, index) {
-        Some(position) => {
-            let _ways = ways_of(aim, class, library, &position, &mut list);
-        }
-        None => unreachable!(),
-    }
+    let position = position_of(class, index);
+    let _ways = ways_of(aim, class, library, &position, &mut list);
     list
 }
 
@@ -217,4 +214,34 @@ pub(crate) fn start(
             None
         }
     }
+}
+
+/// The same in the game of zeroing moves, where the mate ranks of the class tell which numbers are nodes. So nothing is asked of a number
+/// that no position has, and nothing is tested of the others.
+pub(crate) fn start_by_ranks(
+    mates: &Ranks,
+    class: Class,
+    library: &Library,
+    index: u32,
+    exits: &mut ArrayVec<Exit, 64>,
+) -> Option<Start>
+    requires below { index < size_of class }
+    requires knows { IsMateColumn class mates.now }
+    requires children { HasChildren (table_at library.now) class }
+    ensures node { IfSome result (λ start. IsFalse (not (is_some (position_at class index)))
+        × (start.mated ≡ is_mated (position_at class index))
+        × (start.degree ≡ length (passing_below (size_of class) (λ j. connects Zeroing class index j)))
+        × (start.degree ≤ 64)
+        × (exits.new.items ≡ exits_at (beside (table_at library.now) (mate_table class mates.now)) Zeroing class index)) }
+    ensures void { IfNone result ((not (is_some (position_at class index)) ≡ true) × (exits.new.items ≡ [])) }
+{
+    laws();
+    let _number = class.number();
+    if mates.entries()[index as usize] == 0 {
+        exits.clear();
+        return None;
+    }
+    let position = position_of(class, index);
+    let aim = Aim::Zeroing(mates);
+    Some(start_at(&aim, class, library, &position, exits))
 }

@@ -1,5 +1,5 @@
 //! The game of zeroing moves over a class.
-ghost use Rattle.std.specs.Prelude.{◌≡◌, ◌≢◌, ◌<◌, ◌≤◌, ℕ, true, length, slice_index};
+ghost use Rattle.std.specs.Prelude.{◌≡◌, ◌≢◌, ◌<◌, ◌≤◌, ℕ, false, true, length, slice_index};
 ghost use Rattle.std.specs.Option.{is_some};
 ghost use Rattle.egt_check.specs.Tables.{table_at, beside, HasChildren};
 ghost use Rattle.egt_table.specs.declared.column.Column.TheVariants.{Zeroing};
@@ -8,7 +8,7 @@ ghost use Rattle.egt_sweep.specs.MateColumn.{mate_table, IsMateColumn};
 
 use crate::aim::Aim;
 use crate::missing::Missing;
-use crate::nodes::{exits, is_mated, is_void, predecessors, start, successors};
+use crate::nodes::{exits, is_mated, is_void, predecessors, start_by_ranks, successors};
 use arrayvec::ArrayVec;
 use egt_check::{Library, first_missing};
 use egt_class::Class;
@@ -101,12 +101,6 @@ impl Game for ZeroGame<'_> {
     }
 
     fn start(&self, i: u32, exits: &mut ArrayVec<Exit, 64>) -> Option<Start> {
-        start(
-            &Aim::Zeroing(self.mates),
-            self.class,
-            self.library,
-            i,
-            exits,
-        )
+        start_by_ranks(self.mates, self.class, self.library, i, exits)
     }
 }

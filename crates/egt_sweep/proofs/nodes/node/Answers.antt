@@ -1,5 +1,5 @@
-use Rattle.egt_sweep.proofs.Standing.{node_found}
+use Rattle.egt_sweep.proofs.Standing.{none_missing}
 use Rattle.egt_sweep.proofs.nodes.node.Goals as goal
 
-pub unwrap-requires : goal.unwrap-requires
-unwrap-requires c = node_found c.laws.ensures c.args.class c.args.index c.position.result c.position.ensures.void c.requires
+pub position_of-requires : goal.position_of-requires
+position_of-requires c = λ void. none_missing c.laws.ensures c.args.class c.args.index void c.requires
