@@ -296,6 +296,7 @@ fn at_index(class: Class, index: u32) -> (Position, Stand)
     ensures settled { IsSettled result.0 }
     ensures index { IsIndex class result.0 index }
     ensures stand { (passed : Bool) × HasStand class false result.1 result.0.side passed result.0 }
+    ensures filled { IsFilled result.1 }
 {
     facts();
     let _number = class.number();
