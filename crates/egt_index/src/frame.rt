@@ -1,22 +1,23 @@
 //! Indexes of positions that differ from one position by the square of a man.
-ghost use Rattle.std.specs.Prelude.{◌≡◌, not, Bool};
+ghost use Rattle.std.specs.Prelude.{◌≡◌, not, Bool, IfSome};
 ghost use Rattle.egt_board.specs.Setup.{Setup};
 ghost use Rattle.egt_board.specs.declared.man.Man.{Man};
 ghost use Rattle.egt_board.specs.Settled.{IsSettled};
 ghost use Rattle.egt_class.specs.Membership.{IsOf};
 ghost use Rattle.egt_board.specs.Placement.{Stands};
 ghost use Rattle.egt_index.specs.Frame.{IsFrame};
-ghost use Rattle.egt_index.specs.Steps.{AreSteps};
+ghost use Rattle.egt_index.specs.Steps.{AllLead, AreSteps};
 ghost use Rattle.egt_index.specs.Stood.{HasStand, IsFilled};
-ghost use Rattle.egt_index.specs.Ways.{WayFits, Leads};
+ghost use Rattle.egt_index.specs.declared.steps.Ways.TheVariants.{Single};
+ghost use Rattle.egt_index.specs.Ways.{LineFits, WayFits, Leads};
 ghost use Rattle.egt_board.specs.Man.{other_side};
 
 use crate::facts::facts;
 use crate::lanes::{Lanes, home_lanes};
 use crate::men::has_equal_sides;
 use crate::stand::{Stand, exchanged, standing_of};
-use crate::steps::Steps;
-use crate::ways::{Way, way_of};
+use crate::steps::{Steps, Ways};
+use crate::ways::{Line, Way, line_of, way_of};
 use egt_board::{Position, Side, Square};
 use egt_class::Class;
 
@@ -45,16 +46,49 @@ impl Frame {
         Frame::of_stand(class, standing.flipped, &standing.stand, position.side())
     }
 
-    /// The ways of the man on the square.
+    /// The ways of the man on the square. The most common case is inlined, and stays in registers.
+    #[inline(always)]
     pub fn steps(&self, from: Square) -> Steps
         ensures { (p : Setup) (man : Man) → IsFrame p self.now → Stands p.men from man → AreSteps p self.now.class from result }
     {
         facts();
         let _number = self.class.number();
+        match self.single_line(from) {
+            Some(line) => Steps {
+                ways: Ways::Single(line),
+            },
+            None => self.both_ways(from),
+        }
+    }
+
+    /// The codes after the man on the square went, where one turn alone makes what has a code, and he is none of two equal men.
+    #[inline(always)]
+    fn single_line(&self, from: Square) -> Option<Line>
+        ensures fits { (p : Setup) → IsFrame p self.now → IfSome result LineFits }
+        ensures leads { (p : Setup) → IsFrame p self.now → IfSome result (λ line. AllLead self.now.class self.now.flipped p from (Single line)) }
+    {
+        facts();
+        let _number = self.class.number();
+        let side = self.side.other();
+        match &self.exchanged {
+            Some(_) => None,
+            None => line_of(self.class, &self.stand, &self.own, self.flipped, side, from),
+        }
+    }
+
+    /// The ways of the man on the square, in the class's colours and in others.
+    #[inline(never)]
+    fn both_ways(&self, from: Square) -> Steps
+        ensures { (p : Setup) → IsFrame p self.now → AreSteps p self.now.class from result }
+    {
+        facts();
+        let _number = self.class.number();
         let side = self.side.other();
         Steps {
-            own: way_of(self.class, &self.stand, &self.own, self.flipped, side, from),
-            exchanged: self.exchanged_way(side, from),
+            ways: Ways::Both(
+                way_of(self.class, &self.stand, &self.own, self.flipped, side, from),
+                self.exchanged_way(side, from),
+            ),
         }
     }
 

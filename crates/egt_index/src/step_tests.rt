@@ -3,7 +3,7 @@ ghost use Rattle.std.specs.Prelude.{ℕ, Bool};
 ghost use Rattle.egt_board.specs.Settled.{IsSettled};
 ghost use Rattle.egt_class.specs.Membership.{IsOf};
 ghost use Rattle.egt_index.specs.Frame.{IsFrame};
-ghost use Rattle.egt_index.specs.Ways.{WayFits};
+ghost use Rattle.egt_index.specs.Steps.{WaysFit};
 
 use crate::facts::facts;
 use crate::{Frame, Steps, index, position, size};
@@ -27,8 +27,7 @@ fn moved(position: &Position, from: Square, to: Square) -> Option<Position> {
 
 /// How many steps of the man lead to an admissible position; all of them have its index.
 fn count_of_man(steps: &Steps, position: &Position, from: Square) -> Result<u32, Fail>
-    requires own { WayFits steps.now.own }
-    requires exchanged { WayFits steps.now.exchanged }
+    requires { WaysFit steps.now.ways }
 {
     let mut count: u32 = 0;
     for number in 0..64 {

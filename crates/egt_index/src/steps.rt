@@ -1,22 +1,45 @@
 //! The ways of one man of a frame.
-ghost use Rattle.std.specs.Prelude.{ℕ};
+ghost use Rattle.std.specs.Prelude.{ℕ, ◌<◌, not, Bool};
 ghost use Rattle.egt_board.specs.Setup.{Setup};
 ghost use Rattle.egt_index.specs.Frame.{IsMoved};
 ghost use Rattle.egt_index.specs.Index.{IsIndex};
-ghost use Rattle.egt_index.specs.Steps.{AreSteps};
+ghost use Rattle.egt_index.specs.Steps.{AreSteps, WaysFit};
 ghost use Rattle.egt_index.specs.Turns.{Best};
-ghost use Rattle.egt_index.specs.Ways.{WayFits};
+ghost use Rattle.egt_index.specs.Ways.{WayFits, Leads};
 
 use crate::facts::facts;
 use crate::indexing::lesser;
-use crate::ways::Way;
+use crate::ways::{Line, Way};
 use egt_board::Square;
+
+/// The codes after one man went, of all turns.
+#[derive(Clone, Copy)]
+pub(crate) enum Ways {
+    /// The most common case by itself: one turn of the class's colours alone makes what has a code.
+    Single(Line),
+    Both(Way, Way),
+}
+
+/// The least code after he went to the square, if there is one.
+fn least_of(own: &Way, exchanged: &Way, to: Square) -> Option<u32>
+    requires own { WayFits own.now }
+    requires exchanged { WayFits exchanged.now }
+    ensures { (c from : ℕ) (flipped : Bool) (p q : Setup) → c < 36 → Leads c flipped p from own.now → Leads c (not flipped) p from exchanged.now → IsMoved c p from to q → Best c q 16 result }
+{
+    match exchanged {
+        Way::Never => own.code_to(to),
+        _ => {
+            let own = own.code_to(to);
+            let other = exchanged.code_to(to);
+            lesser(own, other)
+        }
+    }
+}
 
 /// Where one man of a frame's position may go, so that the index after he went is found by little more than an addition.
 #[derive(Clone, Copy)]
 pub struct Steps {
-    pub(crate) own: Way,
-    pub(crate) exchanged: Way,
+    pub(crate) ways: Ways,
 }
 
 impl Steps {
@@ -28,25 +51,21 @@ impl Steps {
         ensures { (c from : ℕ) (p q : Setup) → AreSteps p c from self.now → IsMoved c p from to q → IsIndex c q result }
     {
         facts();
-        match (&self.own, &self.exchanged) {
-            (Way::One(line), Way::Never) => line.code_to(to),
+        match &self.ways {
+            Ways::Single(line) => line.code_to(to),
             _ => self.least_to(to).unwrap(),
         }
     }
 
     /// The least code of all turns.
+    #[inline(never)]
     pub(crate) fn least_to(&self, to: Square) -> Option<u32>
-        requires own { WayFits self.now.own }
-        requires exchanged { WayFits self.now.exchanged }
+        requires { WaysFit self.now.ways }
         ensures { (c from : ℕ) (p q : Setup) → AreSteps p c from self.now → IsMoved c p from to q → Best c q 16 result }
     {
-        match &self.exchanged {
-            Way::Never => self.own.code_to(to),
-            exchanged => {
-                let own = self.own.code_to(to);
-                let other = exchanged.code_to(to);
-                lesser(own, other)
-            }
+        match &self.ways {
+            Ways::Single(line) => Some(line.code_to(to)),
+            Ways::Both(own, exchanged) => least_of(own, exchanged, to),
         }
     }
 }

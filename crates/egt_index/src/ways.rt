@@ -15,6 +15,7 @@ ghost use Rattle.egt_index.specs.Stood.{AllApart, IsFilled, list_of, men_among};
 ghost use Rattle.egt_index.specs.Turns.{CodeAfter, lesser};
 ghost use Rattle.egt_index.specs.Ways.{line_code, pair_code, code_with, LineFits, PairFits, ComesHome, WayFits, Leads, Goes, IsMover, IsGoer, IsSingle, IsOneOfTwo, IsPaired, other_square};
 ghost use Rattle.egt_index.specs.declared.stand.Stand.{Stand};
+ghost use Rattle.egt_index.specs.declared.ways.Way.TheVariants.{One};
 
 use crate::digits::king_digit;
 use crate::facts::facts;
@@ -206,6 +207,7 @@ fn parted(scales: &Scales, mover: Mover) -> (Scale, Scales)
 }
 
 /// The code along the lane, if it has one.
+#[inline(always)]
 fn line_along(scales: &Scales, pawns: bool, lane: &Lane, mover: Mover) -> Option<Line>
     requires { ScalesFit scales.now }
     ensures fits { lane.now.turn < 16 → IfSome result LineFits }
@@ -377,4 +379,38 @@ pub(crate) fn way_of(
     }
     let mover = mover_on(stand, from);
     way_of_other(&scales, pawns, pair, lanes, mover)
+}
+
+/// The codes after the man on `from` went, where he is neither the white king nor one of two equal men, and one turn alone makes
+/// what has a code.
+#[inline(always)]
+pub(crate) fn line_of(
+    class: Class,
+    stand: &Stand,
+    lanes: &Lanes,
+    flips: bool,
+    side: Side,
+    from: Square,
+) -> Option<Line>
+    ensures fits { AreLanes class flips stand.now lanes.now → IfSome result LineFits }
+    ensures leads { (p : Setup) → AreLanes class flips stand.now lanes.now → men_among (list_of stand.now) ≡ men_in_order (material_of class) → IsFilled stand.now →
+        AllApart (list_of stand.now) → Goes class flips p stand.now from side → IfSome result (λ line. Leads class flips p from (One line)) }
+{
+    facts();
+    let _number = class.number();
+    let is_king = stand.white == from;
+    if is_king {
+        return None;
+    }
+    let pair = has_pair(stand);
+    let mover = mover_on(stand, from);
+    if is_one_of_two(pair, mover) {
+        return None;
+    }
+    let scales = class_scales(class, side_after(side, flips));
+    let pawns = has_pawns(class);
+    match &lanes.second {
+        Some(_) => None,
+        None => line_along(&scales, pawns, &lanes.first, mover),
+    }
 }

@@ -1,20 +1,15 @@
-use Rattle.std.proofs.Common.{◌<◌, arith}
-use Rattle.egt_index.specs.Stood.{list_of}
-use Rattle.egt_index.proofs.Lined.{all_apart}
-use Rattle.egt_index.proofs.Moved.{went_own}
+use Rattle.std.proofs.Common.{arith}
 use Rattle.egt_index.proofs.frame.Frame.steps.Goals as goal
 
-pub returns : goal.returns
-returns c = λ p man is stands.
-    let frame = c.args.self.now in
-    let c_in : frame.class < 36 = omega (arith, c.number-number.ensures.below, c.number-number.ensures.value) in
+pub returns-in-Some : goal.returns-in-Some
+returns-in-Some c = λ p man is stands.
     record {
-      class_in = c_in;
-      flipped = frame.flipped;
+      class_in = omega (arith, c.number-number.ensures.below, c.number-number.ensures.value);
+      flipped = c.args.self.now.flipped;
       is_of = is.stand.is_of;
-      own_fits = c.way_of.ensures.fits is.own;
-      exchanged_fits = c.exchanged_way.ensures.fits p is;
-      own = c.way_of.ensures.leads p is.own is.stand.stood.are is.filled (all_apart frame.flipped p.men (list_of frame.stand) is.stand.stood.all)
-          (λ to q moved. (_, went_own c.facts.ensures p q c.args.from to frame c.other-side.result c_in is moved c.other-side.ensures));
-      exchanged = c.exchanged_way.ensures.leads p is c.other-side.ensures;
+      fit = c.in-Some.ensures.fits p is;
+      lead = c.in-Some.ensures.leads p is;
     }
+
+pub returns-in-None : goal.returns-in-None
+returns-in-None c = λ p man is stands. c.both_ways.ensures p is

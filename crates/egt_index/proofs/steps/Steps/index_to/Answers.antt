@@ -1,8 +1,8 @@
-use Rattle.std.proofs.Common.{ℕ, not, Some, None, sym, subst}
+use Rattle.std.proofs.Common.{ℕ, Some, None, sym, subst}
 use Rattle.egt_index.specs.Home.{LeastWith}
+use Rattle.egt_index.specs.Steps.{AllLead}
 use Rattle.egt_index.specs.Turns.{Best}
-use Rattle.egt_index.specs.Ways.{Leads}
-use Rattle.egt_index.specs.declared.ways.Way.{Way}
+use Rattle.egt_index.specs.declared.steps.Ways.{Ways}
 use Rattle.egt_index.proofs.Best.{best_at_last, index_found}
 use Rattle.egt_index.proofs.LeastTurn.{best_of_colours}
 use Rattle.egt_index.proofs.Moved.{untargeted_settled, settles_untargeted}
@@ -13,12 +13,12 @@ unwrap-requires k =
     let (c, from, p, q, are, moved) = k.requires in
     best_at_last k.facts.ensures c are.flipped q k.least_to.result moved.admissible (untargeted_settled q moved.target) (moved.class are.flipped are.is_of) (k.least_to.ensures c from p q are moved)
 
-pub returns-in-One-Never : goal.returns-in-One-Never
-returns-in-One-Never k = λ c from p q are moved.
+pub returns-in-Single : goal.returns-in-Single
+returns-in-Single k = λ c from p q are moved.
+    let lead = subst (λ (w : Ways). AllLead c are.flipped p from w) k.in-Single.is are.lead in
     index_found k.facts.ensures c q q k.code_to.result moved.admissible (settles_untargeted q moved.target)
     (best_of_colours c q are.flipped (Some k.code_to.result) None
-    (subst (λ (code : ℕ). LeastWith c q are.flipped (Some code)) (sym k.code_to.ensures) (subst (λ (w : Way). Leads c are.flipped p from w) k.in-One-Never.is-0 are.own k.args.to q moved))
-    (subst (λ (w : Way). Leads c (not are.flipped) p from w) k.in-One-Never.is-1 are.exchanged k.args.to q moved))
+    (subst (λ (code : ℕ). LeastWith c q are.flipped (Some code)) (sym k.code_to.ensures) (lead.0 k.args.to q moved)) (lead.1 k.args.to q moved))
 
 pub returns-in_default : goal.returns-in_default
 returns-in_default k = λ c from p q are moved.

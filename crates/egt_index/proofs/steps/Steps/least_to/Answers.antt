@@ -1,16 +1,17 @@
-use Rattle.std.proofs.Common.{not, None, sym, subst}
-use Rattle.egt_index.specs.Turns.{Best}
-use Rattle.egt_index.specs.Ways.{Leads}
-use Rattle.egt_index.specs.declared.ways.Way.{Way}
+use Rattle.std.proofs.Common.{ℕ, Some, None, sym, subst}
+use Rattle.egt_index.specs.Home.{LeastWith}
+use Rattle.egt_index.specs.Steps.{AllLead}
+use Rattle.egt_index.specs.declared.steps.Ways.{Ways}
 use Rattle.egt_index.proofs.LeastTurn.{best_of_colours}
 use Rattle.egt_index.proofs.steps.Steps.least_to.Goals as goal
 
-pub returns-in-Never : goal.returns-in-Never
-returns-in-Never k = λ c from p q are moved.
-    best_of_colours c q are.flipped k.code_to.result None (k.code_to.ensures c from are.flipped p q are.class_in are.own moved)
-    (subst (λ (w : Way). Leads c (not are.flipped) p from w) k.in-Never.is are.exchanged k.args.to q moved)
+pub returns-in-Single : goal.returns-in-Single
+returns-in-Single k = λ c from p q are moved.
+    let lead = subst (λ (w : Ways). AllLead c are.flipped p from w) k.in-Single.is are.lead in
+    best_of_colours c q are.flipped (Some k.code_to.result) None
+    (subst (λ (code : ℕ). LeastWith c q are.flipped (Some code)) (sym k.code_to.ensures) (lead.0 k.args.to q moved)) (lead.1 k.args.to q moved)
 
-pub returns-in_default : goal.returns-in_default
-returns-in_default k = λ c from p q are moved.
-    subst (Best c q 16) (sym k.lesser.ensures)
-    (best_of_colours c q are.flipped k.code_to-own.result k.code_to-other.result (k.code_to-own.ensures c from are.flipped p q are.class_in are.own moved) (k.code_to-other.ensures c from _ p q are.class_in are.exchanged moved))
+pub returns-in-Both : goal.returns-in-Both
+returns-in-Both k = λ c from p q are moved.
+    let lead = subst (λ (w : Ways). AllLead c are.flipped p from w) k.in-Both.is are.lead in
+    k.least_of.ensures c from are.flipped p q are.class_in lead.0 lead.1 moved
