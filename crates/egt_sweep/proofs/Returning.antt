@@ -1,5 +1,5 @@
 -- Positions before, told by the square that a man left.
-use Rattle.std.proofs.Common.{◌≡◌, ◌≢◌, ℕ, ◌<◌, ◌⊎◌, ◌↔◌, false, List, [], Option, Some, None, refl, sym, ap, ◌∙◌, subst, inl, inr, arith}
+use Rattle.std.proofs.Common.{◌≡◌, ◌≢◌, ℕ, ◌<◌, ◌⊎◌, ◌↔◌, false, List, [], Option, Some, None, IfSome, refl, sym, ap, ◌∙◌, subst, inl, inr, arith}
 use Rattle.std.proofs.Math.Logic.{⊎_map}
 use Rattle.std.proofs.lemmas.Bool.{cases_eq, false≢true}
 use Rattle.std.specs.Option.{is_some}
@@ -13,6 +13,7 @@ use Rattle.egt_board.specs.declared.man.Side.TheVariants.{White, Black}
 use Rattle.egt_board.specs.declared.square_set.SquareSet.{SquareSet}
 use Rattle.egt_board.specs.Decided.{tells, tells_so, tells_where}
 use Rattle.egt_board.specs.Man.{other_side}
+use Rattle.egt_board.specs.Pawn.{pawn_of, ahead, HasPawnBeside}
 use Rattle.egt_board.specs.Placement.{Placement, Stands, IsFree, IsHeld, one_man, get-insert_same}
 use Rattle.egt_board.specs.Settled.{SettlesTo}
 use Rattle.egt_board.specs.Setup.{Setup}
@@ -29,7 +30,7 @@ use Rattle.egt_unmoves.specs.declared.unmove.Unmove.{Unmove}
 use Rattle.egt_sweep.specs.Edges.{IsAt, Connects, GoesBack, BackBy, CameTo, HadNoTarget, IsTakenBack}
 use Rattle.egt_sweep.specs.Laws.{Laws}
 use Rattle.egt_sweep.proofs.Backward.{decided_pawn, taken_back, leads_back}
-use Rattle.egt_sweep.proofs.Onward.{men_moved, gone_from, come_to, arrives_free}
+use Rattle.egt_sweep.proofs.Onward.{men_moved, gone_from, come_to, elsewhere, arrives_free}
 
 settles_men : (p q : Setup) → SettlesTo p q → q.men ≡ p.men
 settles_men p q (inl h) = ap (λ (x : Setup). x.men) h.1
@@ -52,6 +53,30 @@ module _ (b q : Setup) (m : Move) (comes : ComesBy b m q) where
 
   pub came_stands : Stands q.men m.to comes.leads.man
   came_stands = ap (λ (men : Placement). map.get men m.to) now_men ∙ come_to b.men m.from m.to comes.leads.man comes.leads.stands free_there
+
+  -- a pawn of the side that moved, which stood there before, stands somewhere now
+  had_pawn : (s : ℕ) → Stands b.men s (pawn_of b.side) → (t : ℕ) × Stands q.men t (pawn_of b.side)
+  had_pawn s there = elim (cases_eq s m.from) [
+    | inl e ↦ (m.to, came_stands ∙ sym comes.leads.stands ∙ ap (map.get b.men) (sym e) ∙ there)
+    | inr off ↦ elim (cases_eq s m.to) [
+      | inl e ↦ absurd (let both : Some (pawn_of b.side) ≡ None = sym there ∙ ap (map.get b.men) e ∙ free_there in cc)
+      | inr away ↦ (s, ap (λ (men : Placement). map.get men s) now_men ∙ elsewhere b.men m.from m.to comes.leads.man comes.leads.stands free_there s off away ∙ there)
+    ]
+  ]
+
+  waits : b.side ≡ other_side q.side
+  waits = sym (side_twice b.side) ∙ ap other_side (sym (settles_side comes.led q comes.settles ∙ ap (λ (x : Setup). x.side) comes.leads.becomes))
+
+  -- the side that moved has no pawn, so that none stood ready to take in passing
+  pub no_taker : ((s : ℕ) → ¬ Stands q.men s (pawn_of (other_side q.side))) → b.target ≡ None
+  no_taker none = by_target b.target refl
+    where
+      by_target : (o : Option ℕ) → b.target ≡ o → b.target ≡ None
+      by_target None is = is
+      by_target (Some t) is = absurd
+          (let beside : HasPawnBeside b.men b.side (ahead (other_side b.side) t) = subst (λ (o : Option ℕ). IfSome o (λ t. HasPawnBeside b.men b.side (ahead (other_side b.side) t))) is comes.settled in
+          let now = had_pawn beside.square beside.stands in
+          none now.0 (subst (λ (side : Side). Stands q.men now.0 (pawn_of side)) waits now.1))
 
   -- the man stands where it came to
   pub came_held : IsHeld q.men m.to (other_side q.side)

@@ -5,7 +5,8 @@ ghost use Rattle.std.specs.List.Sorted.{IsStrictlyIncreasing};
 ghost use Rattle.arrayvec.specs.ArrayVec.{array_vec_len};
 ghost use Rattle.egt_class.specs.Membership.{IsOf};
 ghost use Rattle.egt_board.specs.Man.{other_side};
-ghost use Rattle.egt_board.specs.Placement.{IsHeld};
+ghost use Rattle.egt_board.specs.Pawn.{pawn_of};
+ghost use Rattle.egt_board.specs.Placement.{IsHeld, Stands};
 ghost use Rattle.egt_board.specs.Settled.{IsSettled};
 ghost use Rattle.egt_index.specs.Frame.{IsFrame};
 ghost use Rattle.egt_sweep.specs.Edges.{IsAt, GoesBack, ComesFrom, Connects, CameTo, HadNoTarget, IsTakenBack};
@@ -13,7 +14,7 @@ ghost use Rattle.egt_sweep.specs.Edges.{IsAt, GoesBack, ComesFrom, Connects, Cam
 use crate::ascending::put;
 use crate::laws::laws;
 use arrayvec::ArrayVec;
-use egt_board::{Kind, Man, Position, Square};
+use egt_board::{Kind, Man, Position, Side, Square, SquareSet};
 use egt_class::Class;
 use egt_index::{Frame, index};
 use egt_table::Column;
@@ -137,13 +138,28 @@ fn sources_by_squares(
     }
 }
 
-/// Whether the position has a target, or may have had one before.
+/// Whether that side has a pawn.
+fn has_pawn(position: &Position, side: Side) -> bool
+    ensures some { IsTrue result → (s : ℕ) × Stands position.now.men s (pawn_of side) }
+    ensures none { IsFalse result → (s : ℕ) → ¬ Stands position.now.men s (pawn_of side) }
+{
+    let _side = position.side();
+    match position.board().find(side.pawn(), SquareSet::ALL) {
+        Some(_square) => true,
+        None => false,
+    }
+}
+
+/// Whether the position has a target, or may have had one before, which a pawn of the side that moved stood ready to take.
 fn may_have_target(position: &Position) -> bool
     ensures now { IsFalse result → position.now.target ≡ None }
     ensures before { IsFalse result → HadNoTarget position.now }
 {
     if position.target().is_some() {
         return true;
+    }
+    if !has_pawn(position, position.side().other()) {
+        return false;
     }
     target_before(position).is_some()
 }
