@@ -71,7 +71,7 @@ three_parts (x ∷ xs) =
     let c = sum_by-cons (λ (x : Man × ℕ). stands_here (king_of Black) (Some x.0)) x xs in
     omega arith
 
-king_told : (kind : Kind) → is_king kind ≡ true → kind ≡ K
+pub king_told : (kind : Kind) → is_king kind ≡ true → kind ≡ K
 king_told Q e = absurd (false≢true e)
 king_told R e = absurd (false≢true e)
 king_told B e = absurd (false≢true e)
@@ -79,7 +79,7 @@ king_told N e = absurd (false≢true e)
 king_told P e = absurd (false≢true e)
 king_told K e = refl
 
-other_told : (kind : Kind) → is_king kind ≡ false → kind ≢ K
+pub other_told : (kind : Kind) → is_king kind ≡ false → kind ≢ K
 other_told kind e is = false≢true (sym e ∙ ap is_king is)
 
 kind_few : (kind : Kind) → kind ≢ K → kind_number kind < 5
@@ -120,7 +120,7 @@ unfolding number_of
 none_stands man None e = refl
 none_stands man (Some other) e = absurd (omega arith)
 
-king_stands : (man : Man) (side : Side) (kind : Kind) → man.kind ≢ K → kind ≡ K → let other : Man = record { side = side; kind = kind } in stands_here man (Some other) ≡ 0
+pub king_stands : (man : Man) (side : Side) (kind : Kind) → man.kind ≢ K → kind ≡ K → let other : Man = record { side = side; kind = kind } in stands_here man (Some other) ≡ 0
 king_stands man side kind not_king is = ap (λ k. let other : Man = record { side = side; kind = k } in stands_here man (Some other)) is ∙ not_a_king man side not_king
 
 -- both of these are beside the kings

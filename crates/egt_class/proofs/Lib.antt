@@ -4,6 +4,7 @@ pub mod ChildTable
 pub mod Agreeing
 pub mod PairTable
 pub mod Beside
+pub mod TwoBeside
 pub mod ClassTests
 pub mod OneClass
 pub mod ChildMoves

@@ -1,12 +1,13 @@
 //! Of what class a position is.
 ghost use Rattle.std.specs.Prelude.{◌≡◌, ◌<◌, ◌+◌, ◌*◌, IsTrue, false};
+ghost use Rattle.std.specs.Option.{option_map};
 ghost use Rattle.egt_class.specs.Material.{has_equal_sides};
 ghost use Rattle.egt_class.specs.Membership.{IsOf};
 ghost use Rattle.egt_class.specs.Pair.{slot_of, class_at, flip_at, IsBeside};
 
 use crate::class::Class;
-use egt_board::counting::{listed_men_are_counted, one_king_is_counted};
-use egt_board::{Kind, Man, Position, Side};
+use egt_board::counting::{one_king_is_counted, one_square_changes};
+use egt_board::{Kind, Man, Position, Side, Square};
 
 /// The class by the two men beside the kings: eleven rows for the one man, of eleven for the other: for no man, for White's
 /// queen, rook, bishop, knight and pawn, and for Black's.
@@ -53,22 +54,23 @@ fn slot(man: Option<Man>) -> usize
     }
 }
 
-/// The men beside the kings, the last in order of square first.
+/// The man of the entry, if there is one.
+fn man_of(entry: Option<(Man, Square)>) -> Option<Man>
+    ensures { result ≡ option_map (λ e. e.0) entry }
+{
+    let (man, _) = entry?;
+    Some(man)
+}
+
+/// The men beside the kings, in order of square.
 fn beside(position: &Position) -> (Option<Man>, Option<Man>)
     ensures { IsBeside position.now result.0 result.1 }
 {
-    listed_men_are_counted();
+    one_square_changes();
     one_king_is_counted();
     let _side = position.side();
-    let (mut first, mut second) = (None, None);
-    let men = position.men();
-    for &(man, _) in men.as_slice() {
-        if man.kind != Kind::K {
-            second = first;
-            first = Some(man);
-        }
-    }
-    (first, second)
+    let (first, second) = position.board().beside_kings();
+    (man_of(first), man_of(second))
 }
 
 /// The table's class and flip for a pair of rows.

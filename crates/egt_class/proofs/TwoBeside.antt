@@ -1,0 +1,100 @@
+-- The men beside the kings, counted by taking them off the board.
+use Rattle.std.proofs.Common.{◌≡◌, ◌≢◌, ℕ, zero, suc, ◌+◌, ◌<◌, Bool, true, false, Option, Some, None, IfSome, arith, refl, sym, ap, ◌∙◌, inl, inr}
+use Rattle.std.specs.Option.{option_map}
+use Rattle.std.specs.FinMap as placement
+use Rattle.egt_board.specs.declared.man.Kind.TheVariants.{K}
+use Rattle.egt_board.specs.declared.man.Man.{Man}
+use Rattle.egt_board.specs.Beside.{AreBeside}
+use Rattle.egt_board.specs.Images.{stands_here, count_of}
+use Rattle.egt_board.specs.Placement.{Placement, Stands, get-remove_same, get-remove_other}
+use Rattle.egt_board.specs.SquareSet.{total}
+use Rattle.egt_board.specs.Setup.{Setup}
+use Rattle.egt_class.specs.Pair.{IsBeside}
+use Rattle.egt_class.proofs.Beside.{OneKing, is_king, king_told, other_told, king_stands}
+
+total_none : (f : ℕ → ℕ) (n : ℕ) → ((t : ℕ) → f t ≡ 0) → total f n ≡ 0
+total_none f zero none = refl
+total_none f (suc n) none = let rest = total_none f n none in let last = none n in omega arith
+
+-- no man like him stands on the board
+counted_none : (men : Placement) (man : Man) → ((t : ℕ) (other : Man) → Stands men t other → stands_here man (Some other) ≡ 0) → count_of men man ≡ 0
+unfolding count_of
+counted_none men man none = total_none (λ s. stands_here man (placement.get men s)) 64 (λ t. of_option (placement.get men t) (none t))
+  where
+    of_option : (o : Option Man) → ((other : Man) → o ≡ Some other → stands_here man (Some other) ≡ 0) → stands_here man o ≡ 0
+    of_option None not = refl
+    of_option (Some other) not = not other refl
+
+-- what the board has when the man is taken off a square
+abbrev Clears : Type 0
+Clears = (men : Placement) (s : ℕ) (man : Man) → s < 64 → count_of (placement.remove men s) man + stands_here man (placement.get men s) ≡ count_of men man
+
+taken_off : Clears → (men : Placement) (s : ℕ) (there man : Man) → s < 64 → Stands men s there → count_of (placement.remove men s) man + stands_here man (Some there) ≡ count_of men man
+taken_off clears men s there man s_in stands = ap (λ o. count_of (placement.remove men s) man + stands_here man o) (sym stands) ∙ clears men s man s_in
+
+-- who stands on the board still stood there, on another square
+still : (men : Placement) (s t : ℕ) (man : Man) → Stands (placement.remove men s) t man → Stands men t man × (t ≢ s)
+still men s t man stands =
+    let apart : t ≢ s = λ e. let gone = get-remove_same men s t e in let both : None ≡ Some man = sym gone ∙ stands in absurd cc in
+    (sym (get-remove_other men s t apart) ∙ stands, apart)
+
+-- where nobody stands but kings there is no man like one who is no king
+kings_alone : (men : Placement) (man : Man) → man.kind ≢ K → ((t : ℕ) (other : Man) → Stands men t other → other.kind ≢ K → ⊥) → count_of men man ≡ 0
+kings_alone men man not_king none = counted_none men man (λ t other stands. of_kind t other stands (is_king other.kind) refl)
+  where
+    of_kind : (t : ℕ) (other : Man) → Stands men t other → (b : Bool) → is_king other.kind ≡ b → stands_here man (Some other) ≡ 0
+    of_kind t other stands true e = king_stands man other.side other.kind not_king (king_told other.kind e)
+    of_kind t other stands false e = absurd (none t other stands (other_told other.kind e))
+
+square_in : Option (Man × ℕ) → ℕ
+square_in None = 0
+square_in (Some e) = e.1
+
+man_in : Option (Man × ℕ) → Option Man
+man_in o = option_map (λ e. e.0) o
+
+nobody : {e : Man × ℕ} → None ≡ Some e → ⊥
+nobody is = cc
+
+abbrev OnBoard : Placement → Type 0
+OnBoard men = (s : ℕ) (man : Man) → Stands men s man → s < 64
+
+counted : Clears → (men : Placement) (first second : Option (Man × ℕ)) → OnBoard men → AreBeside men first second → (man : Man) → man.kind ≢ K
+    → count_of men man ≡ stands_here man (man_in first) + stands_here man (man_in second)
+unfolding man_in square_in
+counted clears men None None on_board are man not_king =
+    let none = kings_alone men man not_king (λ t other stands not. elim (are.all t other stands not) [ inl e ↦ nobody e | inr e ↦ nobody e ]) in omega arith
+counted clears men None (Some (b, t)) on_board are man not_king = absurd (nobody (sym (are.from_first refl)))
+counted clears men (Some (a, s)) None on_board are man not_king =
+    let one = taken_off clears men s a man (on_board s a are.one.0) are.one.0 in
+    let none = kings_alone (placement.remove men s) man not_king (λ u other stands not.
+    let there = still men s u other stands in
+    elim (are.all u other there.0 not) [ inl e ↦ there.1 (sym (ap square_in e)) | inr e ↦ nobody e ]) in omega arith
+counted clears men (Some (a, s)) (Some (b, t)) on_board are man not_king =
+    let order : s < t = are.in_order in
+    let apart : t ≢ s = λ e. omega arith in
+    let one = taken_off clears men s a man (on_board s a are.one.0) are.one.0 in
+    let there = get-remove_other men s t apart ∙ are.other.0 in
+    let two = taken_off clears (placement.remove men s) t b man (on_board t b are.other.0) there in
+    let none = kings_alone (placement.remove (placement.remove men s) t) man not_king (λ u other stands not.
+    let later = still (placement.remove men s) t u other stands in
+    let first = still men s u other later.0 in
+    elim (are.all u other first.0 not) [
+      | inl e ↦ first.1 (sym (ap square_in e))
+      | inr e ↦ later.1 (sym (ap square_in e))
+    ]) in omega arith
+
+no_king : (men : Placement) (o : Option (Man × ℕ)) → IfSome o (λ e. Stands men e.1 e.0 × (e.0.kind ≢ K)) → IfSome (man_in o) (λ man. man.kind ≢ K)
+unfolding man_in
+no_king men None there = tt
+no_king men (Some e) there = there.1
+
+-- the men beside the kings of an admissible position
+pub are_beside : Clears → (p : Setup) (first second : Option (Man × ℕ)) → OnBoard p.men → OneKing p.men → AreBeside p.men first second → IsBeside p (option_map (λ e. e.0) first) (option_map (λ e. e.0) second)
+unfolding man_in
+are_beside clears p first second on_board kings are = record {
+  kings = kings;
+  others = λ man not_king. counted clears p.men first second on_board are man not_king;
+  first_other = no_king p.men first are.one;
+  second_other = no_king p.men second are.other;
+}
