@@ -9,6 +9,7 @@ use Rattle.egt_board.specs.Setup.{Setup, IsAdmissible}
 use Rattle.egt_class.specs.Material.{has_equal_sides}
 use Rattle.egt_class.specs.Membership.{IsOf}
 use Rattle.egt_index.specs.Lanes.{AreLanes}
+use Rattle.egt_index.specs.Nearer.{IsNearer}
 use Rattle.egt_index.specs.Stood.{HasStand, IsFilled, on_square_of}
 use Rattle.egt_index.specs.declared.lanes.Lanes.{Lanes}
 use Rattle.egt_index.specs.declared.stand.Stand.{Stand}
@@ -44,3 +45,4 @@ pub record IsFrame (p : Setup) (frame : Frame) : Type 0 where
   pub own : AreLanes frame.class frame.flipped frame.stand frame.own
   pub equal : is_some frame.exchanged ≡ has_equal_sides frame.class
   pub exchanged : IfSome frame.exchanged (AreExchangedLanes frame.class frame.flipped frame.stand)
+  pub nearer : IsNearer frame.class frame.flipped frame.stand frame.nearer

@@ -1,20 +1,27 @@
 -- The ways of one man of a frame's position.
-use Rattle.std.specs.Prelude.{ℕ, ◌<◌, not, Bool}
+use Rattle.std.specs.Prelude.{ℕ, ◌<◌, not, Bool, Some}
 use Rattle.egt_board.specs.Setup.{Setup}
 use Rattle.egt_class.specs.Membership.{IsOf}
-use Rattle.egt_index.specs.Ways.{LineFits, WayFits, Leads}
+use Rattle.egt_index.specs.Frame.{IsMoved}
+use Rattle.egt_index.specs.Home.{LeastWith}
+use Rattle.egt_index.specs.Turns.{Best}
+use Rattle.egt_index.specs.Ways.{line_code, LineFits, WayFits, Leads}
 use Rattle.egt_index.specs.declared.steps.Steps.{Steps}
 use Rattle.egt_index.specs.declared.steps.Ways.{Ways}
 use Rattle.egt_index.specs.declared.steps.Ways.TheVariants.{Single, Both}
-use Rattle.egt_index.specs.declared.ways.Way.TheVariants.{One, Never}
 
 abbrev pub WaysFit : Ways → Type 0
 WaysFit (Single line) = LineFits line
 WaysFit (Both own exchanged) = WayFits own × WayFits exchanged
 
--- by the turns that do not bring p into other colours than the class's, and by those that do, the codes after the man on `from` went
+-- wherever the man on `from` in p goes, the least code of the turns that exchange colours so is that of all turns
+abbrev pub LeadsAll : ℕ → Bool → Setup → ℕ → Type 0
+LeadsAll c flips p from = (to : ℕ) (q : Setup) (code : ℕ) → IsMoved c p from to q → LeastWith c q flips (Some code) → Best c q 16 (Some code)
+
+-- the least code of all turns after the man on `from` went, or the codes of the turns that do not bring p into other colours than the
+-- class's, and of those that do
 abbrev pub AllLead : ℕ → Bool → Setup → ℕ → Ways → Type 0
-AllLead c flipped p from (Single line) = Leads c flipped p from (One line) × Leads c (not flipped) p from Never
+AllLead c flipped p from (Single line) = (to : ℕ) (q : Setup) → IsMoved c p from to q → Best c q 16 (Some (line_code line to))
 AllLead c flipped p from (Both own exchanged) = Leads c flipped p from own × Leads c (not flipped) p from exchanged
 
 -- these are the ways of the man on `from` in p

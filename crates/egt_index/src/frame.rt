@@ -1,12 +1,13 @@
 //! Indexes of positions that differ from one position by the square of a man.
-ghost use Rattle.std.specs.Prelude.{◌≡◌, not, Bool, IfSome};
+ghost use Rattle.std.specs.Prelude.{◌≡◌, ◌≢◌, not, Bool, IfSome, true};
 ghost use Rattle.egt_board.specs.Setup.{Setup};
 ghost use Rattle.egt_board.specs.declared.man.Man.{Man};
 ghost use Rattle.egt_board.specs.Settled.{IsSettled};
 ghost use Rattle.egt_class.specs.Membership.{IsOf};
 ghost use Rattle.egt_board.specs.Placement.{Stands};
 ghost use Rattle.egt_index.specs.Frame.{IsFrame};
-ghost use Rattle.egt_index.specs.Steps.{AllLead, AreSteps};
+ghost use Rattle.egt_index.specs.Nearer.{KingsTell};
+ghost use Rattle.egt_index.specs.Steps.{AllLead, AreSteps, LeadsAll};
 ghost use Rattle.egt_index.specs.Stood.{HasStand, IsFilled};
 ghost use Rattle.egt_index.specs.declared.steps.Ways.TheVariants.{Single};
 ghost use Rattle.egt_index.specs.Ways.{LineFits, WayFits, Leads};
@@ -15,6 +16,7 @@ ghost use Rattle.egt_board.specs.Man.{other_side};
 use crate::facts::facts;
 use crate::lanes::{Lanes, home_lanes};
 use crate::men::has_equal_sides;
+use crate::nearer::{Nearer, nearer_colours};
 use crate::stand::{Stand, exchanged, standing_of};
 use crate::steps::{Steps, Ways};
 use crate::ways::{Line, Way, line_of, way_of};
@@ -32,6 +34,8 @@ pub struct Frame {
     pub(crate) own: Lanes,
     /// Of a class whose sides have the same men, the turns with colours exchanged.
     pub(crate) exchanged: Option<Lanes>,
+    /// The colours in which the least code is once a man went who is no king.
+    pub(crate) nearer: Nearer,
 }
 
 impl Frame {
@@ -61,7 +65,23 @@ impl Frame {
         }
     }
 
-    /// The codes after the man on the square went, where one turn alone makes what has a code, and he is none of two equal men.
+    /// Whether the least code is in the class's colours once the man on the square went, who is not the white king.
+    #[inline(always)]
+    fn leads_own(&self, from: Square) -> bool
+        ensures { (p : Setup) → IsFrame p self.now → self.now.stand.white ≢ from → result ≡ true → LeadsAll self.now.class self.now.flipped p from }
+    {
+        facts();
+        let _number = self.class.number();
+        match self.nearer {
+            Nearer::Alone => true,
+            Nearer::Own => self.stand.black != from,
+            Nearer::Exchanged => false,
+            Nearer::Both => false,
+        }
+    }
+
+    /// The codes after the man on the square went, where the kings tell in which colours the least is, one turn of those alone makes
+    /// what has a code, and he is none of two equal men.
     #[inline(always)]
     fn single_line(&self, from: Square) -> Option<Line>
         ensures fits { (p : Setup) → IsFrame p self.now → IfSome result LineFits }
@@ -70,9 +90,34 @@ impl Frame {
         facts();
         let _number = self.class.number();
         let side = self.side.other();
+        if self.leads_own(from) {
+            return line_of(self.class, &self.stand, &self.own, self.flipped, side, from);
+        }
+        match self.nearer {
+            Nearer::Exchanged => self.exchanged_line(side, from),
+            _ => None,
+        }
+    }
+
+    /// The same of the turns that bring the position into other colours than the class's, where the least code is in those. Few
+    /// positions need it: the one that an index spells has it in its own.
+    #[inline(never)]
+    fn exchanged_line(&self, side: Side, from: Square) -> Option<Line>
+        ensures fits { (p : Setup) → IsFrame p self.now → IfSome result LineFits }
+        ensures leads { (p : Setup) → IsFrame p self.now → side ≡ other_side self.now.side → KingsTell self.now.class (not self.now.flipped) self.now.stand.black self.now.stand.white →
+            IfSome result (λ line. AllLead self.now.class self.now.flipped p from (Single line)) }
+    {
+        facts();
+        let _number = self.class.number();
+        if self.stand.white == from {
+            return None;
+        }
         match &self.exchanged {
-            Some(_) => None,
-            None => line_of(self.class, &self.stand, &self.own, self.flipped, side, from),
+            Some(lanes) => {
+                let stand = exchanged(&self.stand);
+                line_of(self.class, &stand, lanes, !self.flipped, side, from)
+            }
+            None => None,
         }
     }
 
@@ -117,17 +162,25 @@ impl Frame {
         ensures frame { (p : Setup) (passed : Bool) → HasStand class flipped stand.now side passed p → IsFrame p result }
         ensures class { result.class ≡ class }
     {
+        let _number = class.number();
+        let own = home_lanes(class, stand, flipped);
+        let exchanged = if has_equal_sides(class) {
+            Some(home_lanes(class, &exchanged(stand), !flipped))
+        } else {
+            None
+        };
+        let nearer = match &exchanged {
+            Some(lanes) => nearer_colours(&own, lanes),
+            None => Nearer::Alone,
+        };
         Frame {
             class,
             flipped,
             side,
             stand: *stand,
-            own: home_lanes(class, stand, flipped),
-            exchanged: if has_equal_sides(class) {
-                Some(home_lanes(class, &exchanged(stand), !flipped))
-            } else {
-                None
-            },
+            own,
+            exchanged,
+            nearer,
         }
     }
 }

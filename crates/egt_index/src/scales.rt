@@ -298,17 +298,6 @@ pub(crate) fn squares_of(stand: &Stand) -> Squares
     }
 }
 
-/// Whether the men beside the kings are equal.
-pub(crate) fn has_pair(stand: &Stand) -> bool
-    ensures equal { result ≡ true → AreEqual stand.now.next stand.now.last }
-    ensures apart { result ≡ false → ¬ AreEqual stand.now.next stand.now.last }
-{
-    match (stand.next, stand.last) {
-        (Some(first), Some(second)) => first.0 == second.0,
-        _ => false,
-    }
-}
-
 /// The two squares, the lesser first.
 pub(crate) fn in_order(one: Square, other: Square) -> (Square, Square)
     ensures first { result.0 ≡ min one other }
