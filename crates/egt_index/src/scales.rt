@@ -7,7 +7,7 @@ ghost use Rattle.egt_index.specs.Size.{men_in_order};
 ghost use Rattle.egt_index.specs.Stood.{men_among, list_of, IsFilled};
 ghost use Rattle.egt_index.specs.declared.scales.Scales.{Scales};
 ghost use Rattle.egt_index.specs.declared.stand.Stand.{Stand};
-ghost use Rattle.egt_index.specs.Scales.{share, code_by, digits_at, less_at, stride_at, man_at, AreScales, ScalesFit, IsOn, AreEqual};
+ghost use Rattle.egt_index.specs.Scales.{share, code_by, digits_at, less_at, stride_at, man_at, AreScales, ScalesFit, IsOn};
 
 use crate::stand::{Stand, square_of};
 use crate::turning::turned_square;
