@@ -8,13 +8,15 @@ use Rattle.egt_class.specs.Material.{material_of, has_equal_sides}
 use Rattle.egt_index.specs.Facts.{Facts}
 use Rattle.egt_index.specs.Frame.{IsFrame, AreExchangedLanes}
 use Rattle.egt_index.specs.Lanes.{AreLanes, IsWent}
-use Rattle.egt_index.specs.Nearer.{KingsTell}
+use Rattle.egt_index.specs.Nearer.{IsNearer}
 use Rattle.egt_index.specs.Size.{men_in_order}
 use Rattle.egt_index.specs.Steps.{AllLead, LeadsAll}
 use Rattle.egt_index.specs.Stood.{IsFilled, AllApart, list_of, men_among, on_square_of}
 use Rattle.egt_index.specs.Ways.{Goes, Leads}
 use Rattle.egt_index.specs.declared.frame.Frame.{Frame}
 use Rattle.egt_index.specs.declared.lanes.Lanes.{Lanes}
+use Rattle.egt_index.specs.declared.nearer.Nearer.{Nearer}
+use Rattle.egt_index.specs.declared.nearer.Nearer.TheVariants.{Own, Exchanged}
 use Rattle.egt_index.specs.declared.stand.Stand.{Stand}
 use Rattle.egt_index.specs.declared.steps.Ways.TheVariants.{Single}
 use Rattle.egt_index.specs.declared.ways.Line.{Line}
@@ -74,18 +76,22 @@ module _ (facts : Facts) (p : Setup) (from : ℕ) (frame : Frame) (c_in : frame.
   leads_alone differ to q code moved least =
       best_of_colours frame.class q frame.flipped (Some code) None least (none_exchanged facts frame.class frame.flipped q c_in moved.admissible (moved.class frame.flipped is.stand.is_of) differ)
 
-  -- where the kings tell, and stay
-  pub leads_own : KingsTell frame.class frame.flipped frame.stand.white frame.stand.black → frame.stand.white ≢ from → frame.stand.black ≢ from → LeadsAll frame.class frame.flipped p from
-  leads_own tell white black to q code moved least =
-      let gone = went_own facts p q from to frame (other_side frame.side) c_in is moved refl in
-      tell (after_of from to frame.stand) (other_side frame.side) false q code (stayed from to frame.stand.white white) (stayed from to frame.stand.black black) gone.stand least
+  nearer_is : (lanes : Lanes) (nearer : Nearer) → frame.exchanged ≡ Some lanes → frame.nearer ≡ nearer → IsNearer frame.class frame.flipped frame.stand nearer
+  nearer_is lanes nearer some same =
+      subst (λ (n : Nearer). IsNearer frame.class frame.flipped frame.stand n) same (subst (λ (o : Option Lanes). IfSome o (λ l. IsNearer frame.class frame.flipped frame.stand frame.nearer)) some is.nearer)
 
-  pub leads_exchanged : (lanes : Lanes) → frame.exchanged ≡ Some lanes → KingsTell frame.class (not frame.flipped) frame.stand.black frame.stand.white → frame.stand.white ≢ from → frame.stand.black ≢ from
+  -- where the kings tell, and stay
+  pub leads_own : (lanes : Lanes) → frame.exchanged ≡ Some lanes → frame.nearer ≡ Own → frame.stand.white ≢ from → frame.stand.black ≢ from → LeadsAll frame.class frame.flipped p from
+  leads_own lanes some own white black to q code moved least =
+      let gone = went_own facts p q from to frame (other_side frame.side) c_in is moved refl in
+      nearer_is lanes Own some own (after_of from to frame.stand) (other_side frame.side) false q code (stayed from to frame.stand.white white) (stayed from to frame.stand.black black) gone.stand least
+
+  pub leads_exchanged : (lanes : Lanes) → frame.exchanged ≡ Some lanes → frame.nearer ≡ Exchanged → frame.stand.white ≢ from → frame.stand.black ≢ from
       → LeadsAll frame.class (not frame.flipped) p from
-  leads_exchanged lanes some tell white black to q code moved least =
+  leads_exchanged lanes some exchanged white black to q code moved least =
       let after = after_of from to frame.stand in
       let gone = went_own facts p q from to frame (other_side frame.side) c_in is moved refl in
-      tell (exchange after) (other_side frame.side) false q code (stayed from to frame.stand.black black) (stayed from to frame.stand.white white)
+      nearer_is lanes Exchanged some exchanged (exchange after) (other_side frame.side) false q code (stayed from to frame.stand.black black) (stayed from to frame.stand.white white)
       (has_exchanged facts frame.class frame.flipped after (exchange after) (other_side frame.side) false q c_in (has_others lanes some) refl refl refl refl gone.stand) least
 
 -- a line along which the king does not go, whose codes are the least of all where he does not

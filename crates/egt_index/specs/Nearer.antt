@@ -1,17 +1,16 @@
 -- The kings of what turns make of a position, which tell between the colours.
-use Rattle.std.specs.Prelude.{◌≡◌, ℕ, ◌+◌, ◌*◌, ◌/◌, ◌<◌, ◌≤◌, ◌==◌, not, Bool, Some, false}
+use Rattle.std.specs.Prelude.{◌≡◌, ℕ, ◌+◌, ◌*◌, ◌/◌, ◌<◌, ◌≤◌, ◌==◌, not, Bool, Some}
 use Rattle.egt_board.specs.declared.man.Side.{Side}
 use Rattle.egt_board.specs.declared.man.Side.TheVariants.{White, Black}
 use Rattle.egt_board.specs.Attack.{king_of}
 use Rattle.egt_board.specs.Placement.{Stands}
 use Rattle.egt_board.specs.Setup.{Setup}
-use Rattle.egt_class.specs.Material.{has_equal_sides}
 use Rattle.egt_index.specs.Code.{Spells}
 use Rattle.egt_index.specs.Home.{LeastWith}
 use Rattle.egt_index.specs.Stood.{HasStand}
 use Rattle.egt_index.specs.Turns.{IsTurn, Best}
 use Rattle.egt_index.specs.declared.nearer.Nearer.{Nearer}
-use Rattle.egt_index.specs.declared.nearer.Nearer.TheVariants.{Alone, Own, Exchanged, Both}
+use Rattle.egt_index.specs.declared.nearer.Nearer.TheVariants.{Own, Exchanged, Both}
 use Rattle.egt_index.specs.declared.stand.Stand.{Stand}
 
 -- some turn that exchanges colours so makes what a code spells, with its kings on these squares, and none makes any with its kings on
@@ -44,7 +43,6 @@ KingsTell c flips white black =
 
 -- the least code is in these colours, wherever the men beside the kings stand
 abbrev pub IsNearer : ℕ → Bool → Stand → Nearer → Type 0
-IsNearer c flipped stand Alone = has_equal_sides c ≡ false
 IsNearer c flipped stand Own = KingsTell c flipped stand.white stand.black
 IsNearer c flipped stand Exchanged = KingsTell c (not flipped) stand.black stand.white
 IsNearer c flipped stand Both = Unit {0}

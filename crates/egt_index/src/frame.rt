@@ -6,9 +6,9 @@ ghost use Rattle.egt_board.specs.Settled.{IsSettled};
 ghost use Rattle.egt_class.specs.Membership.{IsOf};
 ghost use Rattle.egt_board.specs.Placement.{Stands};
 ghost use Rattle.egt_index.specs.Frame.{IsFrame};
-ghost use Rattle.egt_index.specs.Nearer.{KingsTell};
 ghost use Rattle.egt_index.specs.Steps.{AllLead, AreSteps, LeadsAll};
 ghost use Rattle.egt_index.specs.Stood.{HasStand, IsFilled};
+ghost use Rattle.egt_index.specs.declared.nearer.Nearer.TheVariants.{Exchanged};
 ghost use Rattle.egt_index.specs.declared.steps.Ways.TheVariants.{Single};
 ghost use Rattle.egt_index.specs.Ways.{LineFits, WayFits, Leads};
 ghost use Rattle.egt_board.specs.Man.{other_side};
@@ -34,7 +34,7 @@ pub struct Frame {
     pub(crate) own: Lanes,
     /// Of a class whose sides have the same men, the turns with colours exchanged.
     pub(crate) exchanged: Option<Lanes>,
-    /// The colours in which the least code is once a man went who is no king.
+    /// Of such a class, the colours in which the least code is once a man went who is no king.
     pub(crate) nearer: Nearer,
 }
 
@@ -72,11 +72,13 @@ impl Frame {
     {
         facts();
         let _number = self.class.number();
-        match self.nearer {
-            Nearer::Alone => true,
-            Nearer::Own => self.stand.black != from,
-            Nearer::Exchanged => false,
-            Nearer::Both => false,
+        match &self.exchanged {
+            None => true,
+            Some(_) => match self.nearer {
+                Nearer::Own => self.stand.black != from,
+                Nearer::Exchanged => false,
+                Nearer::Both => false,
+            },
         }
     }
 
@@ -99,12 +101,12 @@ impl Frame {
         }
     }
 
-    /// The same of the turns that bring the position into other colours than the class's, where the least code is in those. Few
-    /// positions need it: the one that an index spells has it in its own.
+    /// The same by the turns that bring the position into other colours than the class's. No position that an index spells needs it:
+    /// its least code is in its own.
     #[inline(never)]
     fn exchanged_line(&self, side: Side, from: Square) -> Option<Line>
         ensures fits { (p : Setup) → IsFrame p self.now → IfSome result LineFits }
-        ensures leads { (p : Setup) → IsFrame p self.now → side ≡ other_side self.now.side → KingsTell self.now.class (not self.now.flipped) self.now.stand.black self.now.stand.white →
+        ensures leads { (p : Setup) → IsFrame p self.now → side ≡ other_side self.now.side → self.now.nearer ≡ Exchanged →
             IfSome result (λ line. AllLead self.now.class self.now.flipped p from (Single line)) }
     {
         facts();
@@ -171,7 +173,7 @@ impl Frame {
         };
         let nearer = match &exchanged {
             Some(lanes) => nearer_colours(&own, lanes),
-            None => Nearer::Alone,
+            None => Nearer::Own,
         };
         Frame {
             class,

@@ -10,12 +10,10 @@ use crate::facts::facts;
 use crate::indexing::pair;
 use crate::lanes::Lanes;
 
-/// The colours in which the least code is, wherever the men beside the kings stand.
+/// The colours in which the least code is, wherever the men beside the kings stand, in a class whose sides have the same men.
 #[derive(Clone, Copy)]
 pub(crate) enum Nearer {
-    /// The class's: its sides differ, and no others have a code.
-    Alone,
-    /// The class's: there the kings come to lesser squares.
+    /// The class's, where the kings come to lesser squares.
     Own,
     /// The others, where they do so.
     Exchanged,

@@ -40,9 +40,10 @@ returns-clause-frame c = λ p passed has.
       equal = equal;
       exchanged = others;
       nearer = elim c.match-exchanged.branch [
-        | in-Some w ↦ subst (λ (n : Nearer). IsNearer k flipped stand n) (sym w.nearer-is)
+        | in-Some w ↦ subst (λ (o : Option Lanes). IfSome o (λ lanes. IsNearer k flipped stand c.match-exchanged.nearer)) (sym w.in-Some.is)
+            (subst (λ (n : Nearer). IsNearer k flipped stand n) (sym w.nearer-is)
             (w.nearer_colours-nearer.ensures k flipped stand k_in (sym equal ∙ ap (λ (o : Option Lanes). is_some o) w.in-Some.is) c.home_lanes-own.ensures
-            (subst (λ (o : Option Lanes). IfSome o (AreExchangedLanes k flipped stand)) w.in-Some.is others))
-        | in-None w ↦ subst (λ (n : Nearer). IsNearer k flipped stand n) (sym w.nearer-is) (sym equal ∙ ap (λ (o : Option Lanes). is_some o) w.in-None.is)
+            (subst (λ (o : Option Lanes). IfSome o (AreExchangedLanes k flipped stand)) w.in-Some.is others)))
+        | in-None w ↦ subst (λ (o : Option Lanes). IfSome o (λ lanes. IsNearer k flipped stand c.match-exchanged.nearer)) (sym w.in-None.is) tt
       ];
     }

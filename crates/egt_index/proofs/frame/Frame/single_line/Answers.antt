@@ -1,6 +1,4 @@
-use Rattle.std.proofs.Common.{◌<◌, subst, arith}
-use Rattle.egt_index.specs.Nearer.{IsNearer}
-use Rattle.egt_index.specs.declared.nearer.Nearer.{Nearer}
+use Rattle.std.proofs.Common.{◌<◌, arith}
 use Rattle.egt_index.proofs.Framed.{own_seen, all_lead}
 use Rattle.egt_index.proofs.frame.Frame.single_line.Goals as goal
 
@@ -16,6 +14,4 @@ returns-then-leads_own-clause-leads c = λ p is.
     (λ white. c.leads_own.ensures p is white c.if-leads_own.true)
 
 pub returns-in-Exchanged-clause-leads : goal.returns-in-Exchanged-clause-leads
-returns-in-Exchanged-clause-leads c = λ p is.
-    let frame = c.args.self.now in
-    c.exchanged_line.ensures.leads p is c.other-side.ensures (subst (λ (n : Nearer). IsNearer frame.class frame.flipped frame.stand n) c.in-Exchanged.is is.nearer)
+returns-in-Exchanged-clause-leads c = λ p is. c.exchanged_line.ensures.leads p is c.other-side.ensures c.in-Exchanged.is
