@@ -8,7 +8,6 @@ ghost use Rattle.egt_board.specs.Placement.{Stands};
 ghost use Rattle.egt_index.specs.Frame.{IsFrame};
 ghost use Rattle.egt_index.specs.Steps.{AllLead, AreSteps, LeadsAll};
 ghost use Rattle.egt_index.specs.Stood.{HasStand, IsFilled};
-ghost use Rattle.egt_index.specs.declared.nearer.Nearer.TheVariants.{Exchanged};
 ghost use Rattle.egt_index.specs.declared.steps.Ways.TheVariants.{Single};
 ghost use Rattle.egt_index.specs.Ways.{LineFits, WayFits, Leads};
 ghost use Rattle.egt_board.specs.Man.{other_side};
@@ -61,7 +60,7 @@ impl Frame {
             Some(line) => Steps {
                 ways: Ways::Single(line),
             },
-            None => self.both_ways(from),
+            None => self.other_ways(from),
         }
     }
 
@@ -82,8 +81,8 @@ impl Frame {
         }
     }
 
-    /// The codes after the man on the square went, where the kings tell in which colours the least is, one turn of those alone makes
-    /// what has a code, and he is none of two equal men.
+    /// The codes after the man on the square went, where the least is in the class's colours, one turn of those alone makes what has a
+    /// code, and he is none of two equal men.
     #[inline(always)]
     fn single_line(&self, from: Square) -> Option<Line>
         ensures fits { (p : Setup) → IsFrame p self.now → IfSome result LineFits }
@@ -93,38 +92,51 @@ impl Frame {
         let _number = self.class.number();
         let side = self.side.other();
         if self.leads_own(from) {
-            return line_of(self.class, &self.stand, &self.own, self.flipped, side, from);
-        }
-        match self.nearer {
-            Nearer::Exchanged => self.exchanged_line(side, from),
-            _ => None,
+            line_of(self.class, &self.stand, &self.own, self.flipped, side, from)
+        } else {
+            None
         }
     }
 
-    /// The same by the turns that bring the position into other colours than the class's. No position that an index spells needs it:
-    /// its least code is in its own.
-    #[inline(never)]
-    fn exchanged_line(&self, side: Side, from: Square) -> Option<Line>
+    /// The same where the least code is in other colours than the class's. No position that an index spells needs it: its least code
+    /// is in its own.
+    fn exchanged_line(&self, from: Square) -> Option<Line>
         ensures fits { (p : Setup) → IsFrame p self.now → IfSome result LineFits }
-        ensures leads { (p : Setup) → IsFrame p self.now → side ≡ other_side self.now.side → self.now.nearer ≡ Exchanged →
-            IfSome result (λ line. AllLead self.now.class self.now.flipped p from (Single line)) }
+        ensures leads { (p : Setup) → IsFrame p self.now → IfSome result (λ line. AllLead self.now.class self.now.flipped p from (Single line)) }
     {
         facts();
         let _number = self.class.number();
+        let side = self.side.other();
         if self.stand.white == from {
             return None;
         }
         match &self.exchanged {
-            Some(lanes) => {
-                let stand = exchanged(&self.stand);
-                line_of(self.class, &stand, lanes, !self.flipped, side, from)
-            }
+            Some(lanes) => match self.nearer {
+                Nearer::Exchanged => {
+                    let stand = exchanged(&self.stand);
+                    line_of(self.class, &stand, lanes, !self.flipped, side, from)
+                }
+                _ => None,
+            },
             None => None,
         }
     }
 
-    /// The ways of the man on the square, in the class's colours and in others.
+    /// The ways of the man on the square that are not found in the caller.
     #[inline(never)]
+    fn other_ways(&self, from: Square) -> Steps
+        ensures { (p : Setup) → IsFrame p self.now → AreSteps p self.now.class from result }
+    {
+        let _number = self.class.number();
+        match self.exchanged_line(from) {
+            Some(line) => Steps {
+                ways: Ways::Single(line),
+            },
+            None => self.both_ways(from),
+        }
+    }
+
+    /// The ways of the man on the square, in the class's colours and in others.
     fn both_ways(&self, from: Square) -> Steps
         ensures { (p : Setup) → IsFrame p self.now → AreSteps p self.now.class from result }
     {

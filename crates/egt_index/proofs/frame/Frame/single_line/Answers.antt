@@ -12,6 +12,3 @@ returns-then-leads_own-clause-leads c = λ p is.
     let seen = own_seen c.facts.ensures p c.args.from frame c_in is c.other-side.result c.other-side.ensures in
     all_lead frame.class c.args.from frame.stand.white frame.flipped frame.flipped p c.line_of.result (c.line_of.ensures.leads p seen.are seen.men seen.filled seen.apart seen.goes) c.line_of.ensures.other
     (λ white. c.leads_own.ensures p is white c.if-leads_own.true)
-
-pub returns-in-Exchanged-clause-leads : goal.returns-in-Exchanged-clause-leads
-returns-in-Exchanged-clause-leads c = λ p is. c.exchanged_line.ensures.leads p is c.other-side.ensures c.in-Exchanged.is
