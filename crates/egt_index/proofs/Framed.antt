@@ -6,17 +6,18 @@ use Rattle.egt_board.specs.Man.{other_side}
 use Rattle.egt_board.specs.Setup.{Setup}
 use Rattle.egt_class.specs.Material.{material_of, has_equal_sides}
 use Rattle.egt_index.specs.Facts.{Facts}
-use Rattle.egt_index.specs.Frame.{IsFrame, AreExchangedLanes}
+use Rattle.egt_index.specs.Frame.{IsFrame, IsMoved, AreExchangedLanes}
 use Rattle.egt_index.specs.Lanes.{AreLanes, IsWent}
 use Rattle.egt_index.specs.Nearer.{IsNearer}
 use Rattle.egt_index.specs.Size.{men_in_order}
-use Rattle.egt_index.specs.Steps.{AllLead, LeadsAll}
-use Rattle.egt_index.specs.Stood.{IsFilled, AllApart, list_of, men_among, on_square_of}
-use Rattle.egt_index.specs.Ways.{Goes, Leads}
+use Rattle.egt_index.specs.Steps.{AllLead, LeadsAll, IsLeastIn}
+use Rattle.egt_index.specs.Stood.{HasStand, IsFilled, AllApart, list_of, men_among, on_square_of}
+use Rattle.egt_index.specs.Turns.{Best, lesser}
+use Rattle.egt_index.specs.Ways.{line_code, Goes, Leads}
 use Rattle.egt_index.specs.declared.frame.Frame.{Frame}
 use Rattle.egt_index.specs.declared.lanes.Lanes.{Lanes}
 use Rattle.egt_index.specs.declared.nearer.Nearer.{Nearer}
-use Rattle.egt_index.specs.declared.nearer.Nearer.TheVariants.{Own, Exchanged}
+use Rattle.egt_index.specs.declared.nearer.Nearer.TheVariants.{Own, Exchanged, Both}
 use Rattle.egt_index.specs.declared.stand.Stand.{Stand}
 use Rattle.egt_index.specs.declared.steps.Ways.TheVariants.{Single}
 use Rattle.egt_index.specs.declared.ways.Line.{Line}
@@ -73,29 +74,30 @@ module _ (facts : Facts) (p : Setup) (from : ℕ) (frame : Frame) (c_in : frame.
 
   -- where no other colours have a code
   pub leads_alone : has_equal_sides frame.class ≡ false → LeadsAll frame.class frame.flipped p from
-  leads_alone differ to q code moved least =
-      best_of_colours frame.class q frame.flipped (Some code) None least (none_exchanged facts frame.class frame.flipped q c_in moved.admissible (moved.class frame.flipped is.stand.is_of) differ)
-
-  nearer_is : (lanes : Lanes) (nearer : Nearer) → frame.exchanged ≡ Some lanes → frame.nearer ≡ nearer → IsNearer frame.class frame.flipped frame.stand nearer
-  nearer_is lanes nearer some same =
-      subst (λ (n : Nearer). IsNearer frame.class frame.flipped frame.stand n) same (subst (λ (o : Option Lanes). IfSome o (λ l. IsNearer frame.class frame.flipped frame.stand frame.nearer)) some is.nearer)
+  leads_alone differ to q code moved least = subst (Best frame.class q 16) (unlessened code)
+      (best_of_colours frame.class q frame.flipped code None least (none_exchanged facts frame.class frame.flipped q c_in moved.admissible (moved.class frame.flipped is.stand.is_of) differ))
+    where
+      unlessened : (o : Option ℕ) → lesser o None ≡ o
+      unlessened None = refl
+      unlessened (Some n) = refl
 
   -- where the kings tell, and stay
-  pub leads_own : (lanes : Lanes) → frame.exchanged ≡ Some lanes → frame.nearer ≡ Own → frame.stand.white ≢ from → frame.stand.black ≢ from → LeadsAll frame.class frame.flipped p from
-  leads_own lanes some own white black to q code moved least =
-      let gone = went_own facts p q from to frame (other_side frame.side) c_in is moved refl in
-      nearer_is lanes Own some own (after_of from to frame.stand) (other_side frame.side) false q code (stayed from to frame.stand.white white) (stayed from to frame.stand.black black) gone.stand least
+  pub leads_nearer : (lanes : Lanes) → frame.exchanged ≡ Some lanes → frame.stand.white ≢ from → frame.stand.black ≢ from → IsLeastIn frame.class frame.flipped p from frame.nearer
+  leads_nearer lanes some white black = told frame.nearer (subst (λ (o : Option Lanes). IfSome o (λ l. IsNearer frame.class frame.flipped frame.stand frame.nearer)) some is.nearer)
+    where
+      gone : (to : ℕ) (q : Setup) → IsMoved frame.class p from to q → HasStand frame.class frame.flipped (after_of from to frame.stand) (other_side frame.side) false q
+      gone to q moved = let went = went_own facts p q from to frame (other_side frame.side) c_in is moved refl in went.stand
 
-  pub leads_exchanged : (lanes : Lanes) → frame.exchanged ≡ Some lanes → frame.nearer ≡ Exchanged → frame.stand.white ≢ from → frame.stand.black ≢ from
-      → LeadsAll frame.class (not frame.flipped) p from
-  leads_exchanged lanes some exchanged white black to q code moved least =
-      let after = after_of from to frame.stand in
-      let gone = went_own facts p q from to frame (other_side frame.side) c_in is moved refl in
-      nearer_is lanes Exchanged some exchanged (exchange after) (other_side frame.side) false q code (stayed from to frame.stand.black black) (stayed from to frame.stand.white white)
-      (has_exchanged facts frame.class frame.flipped after (exchange after) (other_side frame.side) false q c_in (has_others lanes some) refl refl refl refl gone.stand) least
+      told : (nearer : Nearer) → IsNearer frame.class frame.flipped frame.stand nearer → IsLeastIn frame.class frame.flipped p from nearer
+      told Own tell = λ to q code moved least.
+          tell (after_of from to frame.stand) (other_side frame.side) false q code (stayed from to frame.stand.white white) (stayed from to frame.stand.black black) (gone to q moved) least
+      told Exchanged tell = λ to q code moved least.
+          let after = after_of from to frame.stand in
+          tell (exchange after) (other_side frame.side) false q code (stayed from to frame.stand.black black) (stayed from to frame.stand.white white)
+          (has_exchanged facts frame.class frame.flipped after (exchange after) (other_side frame.side) false q c_in (has_others lanes some) refl refl refl refl (gone to q moved)) least
+      told Both tell = tt
 
--- a line along which the king does not go, whose codes are the least of all where he does not
-pub all_lead : (c from white : ℕ) (flips flipped : Bool) (p : Setup) (o : Option Line) → IfSome o (λ line. Leads c flips p from (One line)) → IfSome o (λ line. white ≢ from) → (white ≢ from → LeadsAll c flips p from)
-    → IfSome o (λ line. AllLead c flipped p from (Single line))
-all_lead c from white flips flipped p None leads other all = tt
-all_lead c from white flips flipped p (Some line) leads other all = λ to q moved. all other to q _ moved (leads to q moved)
+-- a line of the colours in which the least code is
+pub all_lead : (c from : ℕ) (flips flipped : Bool) (p : Setup) (o : Option Line) → IfSome o (λ line. Leads c flips p from (One line)) → LeadsAll c flips p from → IfSome o (λ line. AllLead c flipped p from (Single line))
+all_lead c from flips flipped p None leads all = tt
+all_lead c from flips flipped p (Some line) leads all = λ to q moved. all to q (Some (line_code line to)) moved (leads to q moved)

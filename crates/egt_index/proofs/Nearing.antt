@@ -152,6 +152,6 @@ nearest_of_two facts c flips before lanes second c_in are some stand side passed
 -- kings that come to lesser squares in the one colours than in the others tell in which the least code is
 pub nearer_tell : Facts → (c : ℕ) (flips others : Bool) (white black k l : ℕ) → c < 36 → has_equal_sides c ≡ true → not flips ≡ others → AreNearest c flips white black k → AreNearest c others black white l → k < l → KingsTell c flips white black
 nearer_tell facts c flips others white black k l c_in equal others_is own other less stand side passed p code white_is black_is has least =
-    nearer c p flips others k l (Some code) (subst (λ o. (b : Bool) → (b ≡ flips) ⊎ (b ≡ o)) others_is (told flips)) (own stand side passed p white_is black_is has)
+    nearer c p flips others k l code (subst (λ o. (b : Bool) → (b ≡ flips) ⊎ (b ≡ o)) others_is (told flips)) (own stand side passed p white_is black_is has)
     (other (exchange stand) side passed p black_is white_is
     (subst (λ o. HasStand c o (exchange stand) side passed p) others_is (has_exchanged facts c flips stand (exchange stand) side passed p c_in equal refl refl refl refl has))) less least

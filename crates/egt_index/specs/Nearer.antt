@@ -1,5 +1,5 @@
 -- The kings of what turns make of a position, which tell between the colours.
-use Rattle.std.specs.Prelude.{◌≡◌, ℕ, ◌+◌, ◌*◌, ◌/◌, ◌<◌, ◌≤◌, ◌==◌, not, Bool, Some}
+use Rattle.std.specs.Prelude.{◌≡◌, ℕ, ◌+◌, ◌*◌, ◌/◌, ◌<◌, ◌≤◌, ◌==◌, not, Bool, Option}
 use Rattle.egt_board.specs.declared.man.Side.{Side}
 use Rattle.egt_board.specs.declared.man.Side.TheVariants.{White, Black}
 use Rattle.egt_board.specs.Attack.{king_of}
@@ -36,10 +36,11 @@ abbrev pub AreNearest : ℕ → Bool → (white black kings : ℕ) → Type 0
 AreNearest c flips white black kings =
     (stand : Stand) (side : Side) (passed : Bool) (p : Setup) → stand.white ≡ white → stand.black ≡ black → HasStand c flips stand side passed p → KingsHome c p flips kings
 
--- in whatever position the kings stand on these squares, the least code of the turns that exchange colours so is that of all turns
+-- in whatever position the kings stand on these squares, the least code of the turns that exchange colours so is that of all turns, if
+-- there is one
 abbrev pub KingsTell : ℕ → Bool → (white black : ℕ) → Type 0
 KingsTell c flips white black =
-    (stand : Stand) (side : Side) (passed : Bool) (p : Setup) (code : ℕ) → stand.white ≡ white → stand.black ≡ black → HasStand c flips stand side passed p → LeastWith c p flips (Some code) → Best c p 16 (Some code)
+    (stand : Stand) (side : Side) (passed : Bool) (p : Setup) (code : Option ℕ) → stand.white ≡ white → stand.black ≡ black → HasStand c flips stand side passed p → LeastWith c p flips code → Best c p 16 code
 
 -- the least code is in these colours, wherever the men beside the kings stand
 abbrev pub IsNearer : ℕ → Bool → Stand → Nearer → Type 0

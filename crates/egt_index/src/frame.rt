@@ -1,12 +1,12 @@
 //! Indexes of positions that differ from one position by the square of a man.
-ghost use Rattle.std.specs.Prelude.{◌≡◌, ◌≢◌, not, Bool, IfSome, true};
+ghost use Rattle.std.specs.Prelude.{◌≡◌, not, Bool, IfSome};
 ghost use Rattle.egt_board.specs.Setup.{Setup};
 ghost use Rattle.egt_board.specs.declared.man.Man.{Man};
 ghost use Rattle.egt_board.specs.Settled.{IsSettled};
 ghost use Rattle.egt_class.specs.Membership.{IsOf};
 ghost use Rattle.egt_board.specs.Placement.{Stands};
 ghost use Rattle.egt_index.specs.Frame.{IsFrame};
-ghost use Rattle.egt_index.specs.Steps.{AllLead, AreSteps, LeadsAll};
+ghost use Rattle.egt_index.specs.Steps.{AllLead, AreSteps, IsLeastIn};
 ghost use Rattle.egt_index.specs.Stood.{HasStand, IsFilled};
 ghost use Rattle.egt_index.specs.declared.steps.Ways.TheVariants.{Single};
 ghost use Rattle.egt_index.specs.Ways.{LineFits, WayFits, Leads};
@@ -64,20 +64,24 @@ impl Frame {
         }
     }
 
-    /// Whether the least code is in the class's colours once the man on the square went, who is not the white king.
+    /// The colours in which the least code is once the man on the square went.
     #[inline(always)]
-    fn leads_own(&self, from: Square) -> bool
-        ensures { (p : Setup) → IsFrame p self.now → self.now.stand.white ≢ from → result ≡ true → LeadsAll self.now.class self.now.flipped p from }
+    fn nearer_after(&self, from: Square) -> Nearer
+        ensures { (p : Setup) → IsFrame p self.now → IsLeastIn self.now.class self.now.flipped p from result }
     {
         facts();
         let _number = self.class.number();
         match &self.exchanged {
-            None => true,
-            Some(_) => match self.nearer {
-                Nearer::Own => self.stand.black != from,
-                Nearer::Exchanged => false,
-                Nearer::Both => false,
-            },
+            Some(_) => {
+                if self.stand.white == from {
+                    return Nearer::Both;
+                }
+                if self.stand.black == from {
+                    return Nearer::Both;
+                }
+                self.nearer
+            }
+            None => Nearer::Own,
         }
     }
 
@@ -91,67 +95,43 @@ impl Frame {
         facts();
         let _number = self.class.number();
         let side = self.side.other();
-        if self.leads_own(from) {
-            line_of(self.class, &self.stand, &self.own, self.flipped, side, from)
-        } else {
-            None
+        match self.nearer_after(from) {
+            Nearer::Own => line_of(self.class, &self.stand, &self.own, self.flipped, side, from),
+            _ => None,
         }
     }
 
-    /// The same where the least code is in other colours than the class's. No position that an index spells needs it: its least code
-    /// is in its own.
-    fn exchanged_line(&self, from: Square) -> Option<Line>
-        ensures fits { (p : Setup) → IsFrame p self.now → IfSome result LineFits }
-        ensures leads { (p : Setup) → IsFrame p self.now → IfSome result (λ line. AllLead self.now.class self.now.flipped p from (Single line)) }
-    {
-        facts();
-        let _number = self.class.number();
-        let side = self.side.other();
-        if self.stand.white == from {
-            return None;
-        }
-        match &self.exchanged {
-            Some(lanes) => match self.nearer {
-                Nearer::Exchanged => {
-                    let stand = exchanged(&self.stand);
-                    line_of(self.class, &stand, lanes, !self.flipped, side, from)
-                }
-                _ => None,
-            },
-            None => None,
-        }
-    }
-
-    /// The ways of the man on the square that are not found in the caller.
+    /// The ways of the man on the square, of the colours in which the least code may be.
     #[inline(never)]
     fn other_ways(&self, from: Square) -> Steps
         ensures { (p : Setup) → IsFrame p self.now → AreSteps p self.now.class from result }
     {
         let _number = self.class.number();
-        match self.exchanged_line(from) {
-            Some(line) => Steps {
-                ways: Ways::Single(line),
+        let side = self.side.other();
+        match self.nearer_after(from) {
+            Nearer::Own => Steps {
+                ways: Ways::Alone(self.own_way(side, from)),
             },
-            None => self.both_ways(from),
+            Nearer::Exchanged => Steps {
+                ways: Ways::Alone(self.exchanged_way(side, from)),
+            },
+            Nearer::Both => Steps {
+                ways: Ways::Both(self.own_way(side, from), self.exchanged_way(side, from)),
+            },
         }
     }
 
-    /// The ways of the man on the square, in the class's colours and in others.
-    fn both_ways(&self, from: Square) -> Steps
-        ensures { (p : Setup) → IsFrame p self.now → AreSteps p self.now.class from result }
+    /// The codes after the man on the square went, of the turns that do not bring the position into other colours than the class's.
+    fn own_way(&self, side: Side, from: Square) -> Way
+        ensures fits { (p : Setup) → IsFrame p self.now → WayFits result }
+        ensures leads { (p : Setup) → IsFrame p self.now → side ≡ other_side self.now.side → Leads self.now.class self.now.flipped p from result }
     {
         facts();
         let _number = self.class.number();
-        let side = self.side.other();
-        Steps {
-            ways: Ways::Both(
-                way_of(self.class, &self.stand, &self.own, self.flipped, side, from),
-                self.exchanged_way(side, from),
-            ),
-        }
+        way_of(self.class, &self.stand, &self.own, self.flipped, side, from)
     }
 
-    /// The codes after the man on the square went, of the turns that bring the position into other colours than the class's.
+    /// The same of the turns that do.
     fn exchanged_way(&self, side: Side, from: Square) -> Way
         ensures fits { (p : Setup) → IsFrame p self.now → WayFits result }
         ensures leads { (p : Setup) → IsFrame p self.now → side ≡ other_side self.now.side → Leads self.now.class (not self.now.flipped) p from result }

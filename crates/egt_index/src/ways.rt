@@ -1,5 +1,5 @@
 //! The codes after one man of a class went, by the square to which he went.
-ghost use Rattle.std.specs.Prelude.{◌≡◌, ◌≢◌, ℕ, ◌+◌, ◌<◌, ◌≤◌, ◌/◌, ◌%◌, ◌==◌, Bool, IfSome, true, false};
+ghost use Rattle.std.specs.Prelude.{◌≡◌, ℕ, ◌+◌, ◌<◌, ◌≤◌, ◌/◌, ◌%◌, ◌==◌, Bool, IfSome, true, false};
 ghost use Rattle.std.specs.Option.{option_map};
 ghost use Rattle.egt_board.specs.Setup.{Setup};
 ghost use Rattle.egt_board.specs.Symmetry.{KeepsPlay};
@@ -394,7 +394,6 @@ pub(crate) fn line_of(
     ensures fits { AreLanes class flips stand.now lanes.now → IfSome result LineFits }
     ensures leads { (p : Setup) → AreLanes class flips stand.now lanes.now → men_among (list_of stand.now) ≡ men_in_order (material_of class) → IsFilled stand.now →
         AllApart (list_of stand.now) → Goes class flips p stand.now from side → IfSome result (λ line. Leads class flips p from (One line)) }
-    ensures other { IfSome result (λ line. stand.now.white ≢ from) }
 {
     facts();
     let _number = class.number();

@@ -1,4 +1,4 @@
-use Rattle.std.proofs.Common.{ℕ, ◌≢◌, ◌<◌, Bool, Option, Some, None, IfSome, arith, refl, sym, ◌∙◌, subst}
+use Rattle.std.proofs.Common.{ℕ, ◌<◌, Bool, Option, Some, None, IfSome, arith, refl, sym, ◌∙◌, subst}
 use Rattle.std.specs.Option.{option_map}
 use Rattle.std.proofs.lemmas.Bool.{false≢true, eq-eqb}
 use Rattle.egt_board.proofs.Positions.{none_of}
@@ -19,10 +19,6 @@ only : (k from : ℕ) (flips : Bool) (p : Setup) (o : Option Line) → ((to : �
     → IfSome o (λ line. Leads k flips p from (One line))
 only k from flips p None least = tt
 only k from flips p (Some line) least = least
-
-anyhow : (a b : ℕ) (o : Option Line) → a ≢ b → IfSome o (λ line. a ≢ b)
-anyhow a b None apart = tt
-anyhow a b (Some line) apart = apart
 
 pub returns-clause-leads : goal.returns-clause-leads
 returns-clause-leads c = λ p are men filled apart goes.
@@ -47,6 +43,3 @@ returns-clause-leads c = λ p are men filled apart goes.
 
 pub returns-clause-fits : goal.returns-clause-fits
 returns-clause-fits c = λ are. c.line_along.ensures.fits are.home.one.below
-
-pub returns-clause-other : goal.returns-clause-other
-returns-clause-other c = anyhow c.args.stand.now.white c.args.from c.line_along.result (λ same. false≢true (sym c.if-is_king.false ∙ c.eq-is_king.ensures ∙ eq-eqb _ _ same))

@@ -9,6 +9,11 @@ returns-in-Single k = λ c from p q are moved.
     let lead = subst (λ (w : Ways). AllLead c are.flipped p from w) k.in-Single.is are.lead in
     subst (λ (code : ℕ). Best c q 16 (Some code)) (sym k.code_to.ensures) (lead k.args.to q moved)
 
+pub returns-in-Alone : goal.returns-in-Alone
+returns-in-Alone k = λ c from p q are moved.
+    let (flips, leads, all) = subst (λ (w : Ways). AllLead c are.flipped p from w) k.in-Alone.is are.lead in
+    all k.args.to q k.code_to-in-Alone.result moved (k.code_to-in-Alone.ensures c from flips p q are.class_in leads moved)
+
 pub returns-in-Both : goal.returns-in-Both
 returns-in-Both k = λ c from p q are moved.
     let lead = subst (λ (w : Ways). AllLead c are.flipped p from w) k.in-Both.is are.lead in
