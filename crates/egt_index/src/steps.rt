@@ -17,9 +17,9 @@ use egt_board::Square;
 pub(crate) enum Ways {
     /// The most common case by itself: one turn of the class's colours alone makes what has a code.
     Single(Line),
-    /// The least code is in the one colours.
+    /// The codes in the only colours in which the least can be.
     Alone(Way),
-    /// It may be in either.
+    /// Those in the class's colours, and those in the others.
     Both(Way, Way),
 }
 
