@@ -100,7 +100,7 @@ equal_after n flips None y equal = equal
 equal_after n flips (Some e) None equal = equal
 equal_after n flips (Some e) (Some d) equal = equal
 
-pub equal_before : (n : ℕ) (flips : Bool) (x y : Entry) → AreEqual (entry_after n flips x) (entry_after n flips y) → AreEqual x y
+equal_before : (n : ℕ) (flips : Bool) (x y : Entry) → AreEqual (entry_after n flips x) (entry_after n flips y) → AreEqual x y
 equal_before n flips None y equal = equal
 equal_before n flips (Some e) None equal = equal
 equal_before n flips (Some e) (Some d) equal = equal
@@ -296,15 +296,6 @@ pair_sum scales others king black next last side high b n l x y =
 
     zero_out : (k s : ℕ) → k ≡ 0 → k * s ≡ 0
     zero_out k s is = ap (λ j. j * s) is ∙ none s
-
--- equal men are equal before a turn and after it
-pub equal_turned : (n : ℕ) (flips : Bool) (before lane : Stand) → IsTurned n flips before lane → AreEqual before.next before.last → AreEqual lane.next lane.last
-equal_turned n flips before lane is equal =
-    subst (λ (x : Entry). AreEqual x lane.last) (sym is.next) (subst (λ (y : Entry). AreEqual (entry_after n flips before.next) y) (sym is.last) (equal_after n flips before.next before.last equal))
-
-pub equal_unturned : (n : ℕ) (flips : Bool) (before lane : Stand) → IsTurned n flips before lane → AreEqual lane.next lane.last → AreEqual before.next before.last
-equal_unturned n flips before lane is equal =
-    equal_before n flips before.next before.last (subst (λ (y : Entry). AreEqual (entry_after n flips before.next) y) is.last (subst (λ (x : Entry). AreEqual x lane.last) is.next equal))
 
 pub code_with_same : (mover : Mover) (scales : Scales) (h i b d n m l k to : ℕ) → h ≡ i → b ≡ d → n ≡ m → l ≡ k → code_with mover scales h b n l to ≡ code_with mover scales i d m k to
 code_with_same mover scales h i b d n m l k to hi bd nm lk =

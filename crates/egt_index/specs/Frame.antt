@@ -9,6 +9,7 @@ use Rattle.egt_board.specs.Setup.{Setup, IsAdmissible}
 use Rattle.egt_class.specs.Material.{has_equal_sides}
 use Rattle.egt_class.specs.Membership.{IsOf}
 use Rattle.egt_index.specs.Lanes.{AreLanes}
+use Rattle.egt_index.specs.Nearer.{IsNearer}
 use Rattle.egt_index.specs.Stood.{HasStand, IsFilled, on_square_of}
 use Rattle.egt_index.specs.declared.lanes.Lanes.{Lanes}
 use Rattle.egt_index.specs.declared.stand.Stand.{Stand}
@@ -36,7 +37,8 @@ pub record AreExchangedLanes (c : ℕ) (flipped : Bool) (stand : Stand) (exchang
   pub last : exchanged.last ≡ on_square_of stand.last stand.next
   pub are : AreLanes c (not flipped) exchanged exchanges
 
--- the frame tells where the men of p stand, which is settled and of the frame's class, and where turns take them
+-- the frame tells where the men of p stand, which is settled and of the frame's class, where turns take them, and in which colours the
+-- least code is wherever they stand beside the kings
 pub record IsFrame (p : Setup) (frame : Frame) : Type 0 where
   pub passed : Bool
   pub stand : HasStand frame.class frame.flipped frame.stand frame.side passed p
@@ -44,3 +46,4 @@ pub record IsFrame (p : Setup) (frame : Frame) : Type 0 where
   pub own : AreLanes frame.class frame.flipped frame.stand frame.own
   pub equal : is_some frame.exchanged ≡ has_equal_sides frame.class
   pub exchanged : IfSome frame.exchanged (AreExchangedLanes frame.class frame.flipped frame.stand)
+  pub nearer : IfSome frame.exchanged (λ lanes. IsNearer frame.class frame.flipped frame.stand frame.nearer)

@@ -1,11 +1,17 @@
 -- The kings of what turns make of a position, which tell between the colours.
-use Rattle.std.specs.Prelude.{◌≡◌, ℕ, ◌+◌, ◌*◌, ◌/◌, ◌<◌, ◌≤◌, ◌==◌, Bool}
+use Rattle.std.specs.Prelude.{◌≡◌, ℕ, ◌+◌, ◌*◌, ◌/◌, ◌<◌, ◌≤◌, ◌==◌, not, Bool, Option}
+use Rattle.egt_board.specs.declared.man.Side.{Side}
 use Rattle.egt_board.specs.declared.man.Side.TheVariants.{White, Black}
 use Rattle.egt_board.specs.Attack.{king_of}
 use Rattle.egt_board.specs.Placement.{Stands}
 use Rattle.egt_board.specs.Setup.{Setup}
 use Rattle.egt_index.specs.Code.{Spells}
-use Rattle.egt_index.specs.Turns.{IsTurn}
+use Rattle.egt_index.specs.Home.{LeastWith}
+use Rattle.egt_index.specs.Stood.{HasStand}
+use Rattle.egt_index.specs.Turns.{IsTurn, Best}
+use Rattle.egt_index.specs.declared.nearer.Nearer.{Nearer}
+use Rattle.egt_index.specs.declared.nearer.Nearer.TheVariants.{Own, Exchanged, Both}
+use Rattle.egt_index.specs.declared.stand.Stand.{Stand}
 
 -- some turn that exchanges colours so makes what a code spells, with its kings on these squares, and none makes any with its kings on
 -- lesser ones
@@ -23,3 +29,21 @@ pub record KingsHome (c : ℕ) (p : Setup) (flips : Bool) (kings : ℕ) : Type 0
   pub black_there : Stands image.men black (king_of Black)
   pub is : kings ≡ 64 * white + black
   pub least : (t : ℕ) (q : Setup) (other x y : ℕ) → t < 16 → (t / 8 == 1) ≡ flips → IsTurn t p q → Spells c other q → Stands q.men x (king_of White) → Stands q.men y (king_of Black) → kings ≤ 64 * x + y
+
+-- in whatever position the kings stand on these squares, those are the least to which the turns take them that exchange colours so and
+-- bring the white king home
+abbrev pub AreNearest : ℕ → Bool → (white black kings : ℕ) → Type 0
+AreNearest c flips white black kings =
+    (stand : Stand) (side : Side) (passed : Bool) (p : Setup) → stand.white ≡ white → stand.black ≡ black → HasStand c flips stand side passed p → KingsHome c p flips kings
+
+-- in whatever position the kings stand on these squares, the least code of the turns that exchange colours so is that of all turns, if
+-- there is one
+abbrev pub KingsTell : ℕ → Bool → (white black : ℕ) → Type 0
+KingsTell c flips white black =
+    (stand : Stand) (side : Side) (passed : Bool) (p : Setup) (code : Option ℕ) → stand.white ≡ white → stand.black ≡ black → HasStand c flips stand side passed p → LeastWith c p flips code → Best c p 16 code
+
+-- the least code is in these colours, wherever the men beside the kings stand
+abbrev pub IsNearer : ℕ → Bool → Stand → Nearer → Type 0
+IsNearer c flipped stand Own = KingsTell c flipped stand.white stand.black
+IsNearer c flipped stand Exchanged = KingsTell c (not flipped) stand.black stand.white
+IsNearer c flipped stand Both = Unit {0}

@@ -6,7 +6,7 @@ ghost use Rattle.egt_board.specs.Settled.{IsSettled};
 ghost use Rattle.egt_class.specs.Membership.{IsOf};
 ghost use Rattle.egt_board.specs.Placement.{Stands};
 ghost use Rattle.egt_index.specs.Frame.{IsFrame};
-ghost use Rattle.egt_index.specs.Steps.{AllLead, AreSteps};
+ghost use Rattle.egt_index.specs.Steps.{AllLead, AreSteps, IsLeastIn};
 ghost use Rattle.egt_index.specs.Stood.{HasStand, IsFilled};
 ghost use Rattle.egt_index.specs.declared.steps.Ways.TheVariants.{Single};
 ghost use Rattle.egt_index.specs.Ways.{LineFits, WayFits, Leads};
@@ -15,6 +15,7 @@ ghost use Rattle.egt_board.specs.Man.{other_side};
 use crate::facts::facts;
 use crate::lanes::{Lanes, home_lanes};
 use crate::men::has_equal_sides;
+use crate::nearer::{Nearer, nearer_colours};
 use crate::stand::{Stand, exchanged, standing_of};
 use crate::steps::{Steps, Ways};
 use crate::ways::{Line, Way, line_of, way_of};
@@ -32,6 +33,8 @@ pub struct Frame {
     pub(crate) own: Lanes,
     /// Of a class whose sides have the same men, the turns with colours exchanged.
     pub(crate) exchanged: Option<Lanes>,
+    /// Of such a class, the colours in which the least code is once a man went who is no king.
+    pub(crate) nearer: Nearer,
 }
 
 impl Frame {
@@ -57,11 +60,33 @@ impl Frame {
             Some(line) => Steps {
                 ways: Ways::Single(line),
             },
-            None => self.both_ways(from),
+            None => self.other_ways(from),
         }
     }
 
-    /// The codes after the man on the square went, where one turn alone makes what has a code, and he is none of two equal men.
+    /// The colours in which the least code is once the man on the square went.
+    #[inline(always)]
+    fn nearer_after(&self, from: Square) -> Nearer
+        ensures { (p : Setup) → IsFrame p self.now → IsLeastIn self.now.class self.now.flipped p from result }
+    {
+        facts();
+        let _number = self.class.number();
+        match &self.exchanged {
+            Some(_) => {
+                if self.stand.white == from {
+                    return Nearer::Both;
+                }
+                if self.stand.black == from {
+                    return Nearer::Both;
+                }
+                self.nearer
+            }
+            None => Nearer::Own,
+        }
+    }
+
+    /// The codes after the man on the square went, where the least is in the class's colours, one turn of those alone makes what has a
+    /// code, and he is none of two equal men.
     #[inline(always)]
     fn single_line(&self, from: Square) -> Option<Line>
         ensures fits { (p : Setup) → IsFrame p self.now → IfSome result LineFits }
@@ -70,29 +95,43 @@ impl Frame {
         facts();
         let _number = self.class.number();
         let side = self.side.other();
-        match &self.exchanged {
-            Some(_) => None,
-            None => line_of(self.class, &self.stand, &self.own, self.flipped, side, from),
+        match self.nearer_after(from) {
+            Nearer::Own => line_of(self.class, &self.stand, &self.own, self.flipped, side, from),
+            _ => None,
         }
     }
 
-    /// The ways of the man on the square, in the class's colours and in others.
+    /// The ways of the man on the square, of the colours in which the least code may be.
     #[inline(never)]
-    fn both_ways(&self, from: Square) -> Steps
+    fn other_ways(&self, from: Square) -> Steps
         ensures { (p : Setup) → IsFrame p self.now → AreSteps p self.now.class from result }
+    {
+        let _number = self.class.number();
+        let side = self.side.other();
+        match self.nearer_after(from) {
+            Nearer::Own => Steps {
+                ways: Ways::Alone(self.own_way(side, from)),
+            },
+            Nearer::Exchanged => Steps {
+                ways: Ways::Alone(self.exchanged_way(side, from)),
+            },
+            Nearer::Both => Steps {
+                ways: Ways::Both(self.own_way(side, from), self.exchanged_way(side, from)),
+            },
+        }
+    }
+
+    /// The codes after the man on the square went, of the turns that do not bring the position into other colours than the class's.
+    fn own_way(&self, side: Side, from: Square) -> Way
+        ensures fits { (p : Setup) → IsFrame p self.now → WayFits result }
+        ensures leads { (p : Setup) → IsFrame p self.now → side ≡ other_side self.now.side → Leads self.now.class self.now.flipped p from result }
     {
         facts();
         let _number = self.class.number();
-        let side = self.side.other();
-        Steps {
-            ways: Ways::Both(
-                way_of(self.class, &self.stand, &self.own, self.flipped, side, from),
-                self.exchanged_way(side, from),
-            ),
-        }
+        way_of(self.class, &self.stand, &self.own, self.flipped, side, from)
     }
 
-    /// The codes after the man on the square went, of the turns that bring the position into other colours than the class's.
+    /// The same of the turns that do.
     fn exchanged_way(&self, side: Side, from: Square) -> Way
         ensures fits { (p : Setup) → IsFrame p self.now → WayFits result }
         ensures leads { (p : Setup) → IsFrame p self.now → side ≡ other_side self.now.side → Leads self.now.class (not self.now.flipped) p from result }
@@ -117,17 +156,25 @@ impl Frame {
         ensures frame { (p : Setup) (passed : Bool) → HasStand class flipped stand.now side passed p → IsFrame p result }
         ensures class { result.class ≡ class }
     {
+        let _number = class.number();
+        let own = home_lanes(class, stand, flipped);
+        let exchanged = if has_equal_sides(class) {
+            Some(home_lanes(class, &exchanged(stand), !flipped))
+        } else {
+            None
+        };
+        let nearer = match &exchanged {
+            Some(lanes) => nearer_colours(&own, lanes),
+            None => Nearer::Own,
+        };
         Frame {
             class,
             flipped,
             side,
             stand: *stand,
-            own: home_lanes(class, stand, flipped),
-            exchanged: if has_equal_sides(class) {
-                Some(home_lanes(class, &exchanged(stand), !flipped))
-            } else {
-                None
-            },
+            own,
+            exchanged,
+            nearer,
         }
     }
 }

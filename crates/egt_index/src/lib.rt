@@ -12,6 +12,7 @@ pub mod indexing;
 pub mod lanes;
 pub mod laws;
 pub mod men;
+pub mod nearer;
 pub mod scales;
 pub mod sizes;
 pub mod spelling;

@@ -7,7 +7,7 @@ ghost use Rattle.egt_index.specs.Size.{men_in_order};
 ghost use Rattle.egt_index.specs.Stood.{men_among, list_of, IsFilled};
 ghost use Rattle.egt_index.specs.declared.scales.Scales.{Scales};
 ghost use Rattle.egt_index.specs.declared.stand.Stand.{Stand};
-ghost use Rattle.egt_index.specs.Scales.{share, code_by, digits_at, less_at, stride_at, man_at, AreScales, ScalesFit, IsOn, AreEqual};
+ghost use Rattle.egt_index.specs.Scales.{share, code_by, digits_at, less_at, stride_at, man_at, AreScales, ScalesFit, IsOn};
 
 use crate::stand::{Stand, square_of};
 use crate::turning::turned_square;
@@ -295,17 +295,6 @@ pub(crate) fn squares_of(stand: &Stand) -> Squares
         black: stand.black,
         next: square_of(&stand.next),
         last: square_of(&stand.last),
-    }
-}
-
-/// Whether the men beside the kings are equal.
-pub(crate) fn has_pair(stand: &Stand) -> bool
-    ensures equal { result ≡ true → AreEqual stand.now.next stand.now.last }
-    ensures apart { result ≡ false → ¬ AreEqual stand.now.next stand.now.last }
-{
-    match (stand.next, stand.last) {
-        (Some(first), Some(second)) => first.0 == second.0,
-        _ => false,
     }
 }
 

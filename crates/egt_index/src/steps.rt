@@ -17,6 +17,9 @@ use egt_board::Square;
 pub(crate) enum Ways {
     /// The most common case by itself: one turn of the class's colours alone makes what has a code.
     Single(Line),
+    /// The codes in the only colours in which the least can be.
+    Alone(Way),
+    /// Those in the class's colours, and those in the others.
     Both(Way, Way),
 }
 
@@ -26,14 +29,9 @@ fn least_of(own: &Way, exchanged: &Way, to: Square) -> Option<u32>
     requires exchanged { WayFits exchanged.now }
     ensures { (c from : ℕ) (flipped : Bool) (p q : Setup) → c < 36 → Leads c flipped p from own.now → Leads c (not flipped) p from exchanged.now → IsMoved c p from to q → Best c q 16 result }
 {
-    match exchanged {
-        Way::Never => own.code_to(to),
-        _ => {
-            let own = own.code_to(to);
-            let other = exchanged.code_to(to);
-            lesser(own, other)
-        }
-    }
+    let own = own.code_to(to);
+    let other = exchanged.code_to(to);
+    lesser(own, other)
 }
 
 /// Where one man of a frame's position may go, so that the index after he went is found by little more than an addition.
@@ -65,6 +63,7 @@ impl Steps {
     {
         match &self.ways {
             Ways::Single(line) => Some(line.code_to(to)),
+            Ways::Alone(way) => way.code_to(to),
             Ways::Both(own, exchanged) => least_of(own, exchanged, to),
         }
     }

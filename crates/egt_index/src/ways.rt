@@ -22,8 +22,8 @@ use crate::facts::facts;
 use crate::home::home;
 use crate::indexing::lesser;
 use crate::lanes::{Lane, Lanes};
-use crate::men::has_pawns;
-use crate::scales::{NOBODY, Scale, Scales, Squares, class_scales, has_pair, in_order, squares_of};
+use crate::men::{has_pawns, is_paired};
+use crate::scales::{NOBODY, Scale, Scales, Squares, class_scales, in_order, squares_of};
 use crate::stand::Stand;
 use crate::turning::turned_square;
 use egt_board::{Side, Square};
@@ -208,16 +208,15 @@ fn parted(scales: &Scales, mover: Mover) -> (Scale, Scales)
 
 /// The code along the lane, if it has one.
 #[inline(always)]
-fn line_along(scales: &Scales, pawns: bool, lane: &Lane, mover: Mover) -> Option<Line>
+fn line_along(scales: &Scales, pawns: bool, pair: bool, lane: &Lane, mover: Mover) -> Option<Line>
     requires { ScalesFit scales.now }
     ensures fits { lane.now.turn < 16 → IfSome result LineFits }
     ensures code { (c from to : ℕ) (before after : Stand) (side : Side) (q : Setup) → lane.now.turn < 16 → IsGoer c (lane.now.turn / 8 == 1) before from side scales.now pawns mover →
-        IsSingle before mover → IsLane before lane.now → IsWent c (lane.now.turn / 8 == 1) before after from to side q → KeepsPlay (lane.now.turn % 8) q.men →
+        IsSingle before mover → IsPaired before pair → IsLane before lane.now → IsWent c (lane.now.turn / 8 == 1) before after from to side q → KeepsPlay (lane.now.turn % 8) q.men →
         CodeAfter c q lane.now.turn (option_map (λ line. line_code line to) result) }
 {
     facts();
     let high = king_digit(pawns, lane.after.white)?;
-    let pair = has_pair(&lane.after);
     let squares = squares_of(&lane.after).ordered(pair);
     let (scale, others) = parted(scales, mover);
     Some(Line {
@@ -289,17 +288,17 @@ fn least_pair(first: Option<Pair>, second: Option<Pair>) -> Way
 }
 
 /// The codes along the lanes.
-fn lines(scales: &Scales, pawns: bool, lanes: &Lanes, mover: Mover) -> Way
+fn lines(scales: &Scales, pawns: bool, pair: bool, lanes: &Lanes, mover: Mover) -> Way
     requires { ScalesFit scales.now }
     ensures fits { (c : ℕ) (flips : Bool) (before : Stand) → AreLanes c flips before lanes.now → WayFits result }
     ensures leads { (c from : ℕ) (flips : Bool) (p : Setup) (before : Stand) (side : Side) → AreLanes c flips before lanes.now → IsGoer c flips before from side scales.now pawns mover →
-        IsSingle before mover → Goes c flips p before from side → Leads c flips p from result }
+        IsSingle before mover → IsPaired before pair → Goes c flips p before from side → Leads c flips p from result }
 {
     facts();
-    let first = line_along(scales, pawns, &lanes.first, mover);
+    let first = line_along(scales, pawns, pair, &lanes.first, mover);
     match &lanes.second {
         Some(lane) => {
-            let second = line_along(scales, pawns, lane, mover);
+            let second = line_along(scales, pawns, pair, lane, mover);
             least_line(first, second)
         }
         None => least_line(first, None),
@@ -347,7 +346,7 @@ fn way_of_other(scales: &Scales, pawns: bool, pair: bool, lanes: &Lanes, mover: 
     if is_one_of_two(pair, mover) {
         pairs(scales, pawns, lanes, mover)
     } else {
-        lines(scales, pawns, lanes, mover)
+        lines(scales, pawns, pair, lanes, mover)
     }
 }
 
@@ -367,7 +366,7 @@ pub(crate) fn way_of(
     let _number = class.number();
     let scales = class_scales(class, side_after(side, flips));
     let pawns = has_pawns(class);
-    let pair = has_pair(stand);
+    let pair = is_paired(class);
     if stand.white == from {
         return Way::Home(Homing {
             pawns,
@@ -398,19 +397,18 @@ pub(crate) fn line_of(
 {
     facts();
     let _number = class.number();
+    if lanes.second.is_some() {
+        return None;
+    }
     let is_king = stand.white == from;
     if is_king {
         return None;
     }
-    let pair = has_pair(stand);
+    let pair = is_paired(class);
     let mover = mover_on(stand, from);
     if is_one_of_two(pair, mover) {
         return None;
     }
     let scales = class_scales(class, side_after(side, flips));
-    let pawns = has_pawns(class);
-    match &lanes.second {
-        Some(_) => None,
-        None => line_along(&scales, pawns, &lanes.first, mover),
-    }
+    line_along(&scales, has_pawns(class), pair, &lanes.first, mover)
 }

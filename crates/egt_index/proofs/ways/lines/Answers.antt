@@ -17,19 +17,19 @@ returns-in-Some-clause-fits c = λ k flips before are.
     c.least_line.ensures.fits (c.line_along-first.ensures.fits are.home.one.below) (c.line_along-second.ensures.fits (second k flips before c.args.lanes.now c.in-Some.lane c.in-Some.is are).below)
 
 pub returns-in-Some-clause-leads : goal.returns-in-Some-clause-leads
-returns-in-Some-clause-leads c = λ k from flips p before side are goer single goes.
+returns-in-Some-clause-leads c = λ k from flips p before side are goer single paired goes.
     c.least_line.ensures.leads k from flips p (λ to q moved.
     let (after, gone) = goes to q moved in
     least_lanes c.facts.ensures k from to flips q before after side c.args.scales.now c.args.pawns c.args.mover c.args.lanes.now (Some c.in-Some.lane) _ _ are c.in-Some.is goer gone
-    (λ t_in here is there keeps. c.line_along-first.ensures.code k from to before after side q t_in here single is there keeps)
-    (λ t_in here is there keeps. c.line_along-second.ensures.code k from to before after side q t_in here single is there keeps))
+    (λ t_in here is there keeps. c.line_along-first.ensures.code k from to before after side q t_in here single paired is there keeps)
+    (λ t_in here is there keeps. c.line_along-second.ensures.code k from to before after side q t_in here single paired is there keeps))
 
 pub returns-in-None-clause-fits : goal.returns-in-None-clause-fits
 returns-in-None-clause-fits c = λ k flips before are. c.least_line-in-None.ensures.fits (c.line_along-first.ensures.fits are.home.one.below) tt
 
 pub returns-in-None-clause-leads : goal.returns-in-None-clause-leads
-returns-in-None-clause-leads c = λ k from flips p before side are goer single goes.
+returns-in-None-clause-leads c = λ k from flips p before side are goer single paired goes.
     c.least_line-in-None.ensures.leads k from flips p (λ to q moved.
     let (after, gone) = goes to q moved in
     least_lanes c.facts.ensures k from to flips q before after side c.args.scales.now c.args.pawns c.args.mover c.args.lanes.now None _ None are c.in-None.is goer gone
-    (λ t_in here is there keeps. c.line_along-first.ensures.code k from to before after side q t_in here single is there keeps) refl)
+    (λ t_in here is there keeps. c.line_along-first.ensures.code k from to before after side q t_in here single paired is there keeps) refl)

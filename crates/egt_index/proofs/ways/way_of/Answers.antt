@@ -18,7 +18,7 @@ returns-clause-leads c = λ p are men filled apart goes.
       scales_are = subst (λ (s : Side). AreScales (material_of c.args.class) (man_at c.args.stand.now.next) (man_at c.args.stand.now.last) s c.class_scales-scales.result) c.side_after.ensures (c.class_scales-scales.ensures.are c.args.stand.now men filled);
       pawns_is = c.has_pawns-pawns.ensures;
     })
-    (record { equal = c.has_pair-pair.ensures.equal; apart = c.has_pair-pair.ensures.apart }) goes
+    (c.is_paired-pair.ensures c.args.stand.now men filled) goes
 
 pub returns-then-eq-clause-leads : goal.returns-then-eq-clause-leads
 returns-then-eq-clause-leads c = λ p are men filled apart goes to q moved.
@@ -26,4 +26,4 @@ returns-then-eq-clause-leads c = λ p are men filled apart goes to q moved.
     comes_home c.args.class c.args.from to c.args.flips q c.args.stand.now after c.args.side _ (eqb-true _ _ (sym c.eq.ensures ∙ c.if-eq.true)) apart gone c.squares_of.ensures.black c.squares_of.ensures.next c.squares_of.ensures.last
     c.has_pawns-pawns.ensures refl
     (subst (λ (s : Side). AreScales (material_of c.args.class) (man_at c.args.stand.now.next) (man_at c.args.stand.now.last) s c.class_scales-scales.result) c.side_after.ensures (c.class_scales-scales.ensures.are c.args.stand.now men filled))
-    c.has_pair-pair.ensures.equal c.has_pair-pair.ensures.apart
+    (c.is_paired-pair.ensures c.args.stand.now men filled).equal (c.is_paired-pair.ensures c.args.stand.now men filled).apart

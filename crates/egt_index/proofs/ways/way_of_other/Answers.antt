@@ -6,4 +6,4 @@ returns-then-is_one_of_two-clause-leads c = λ k from flips p before side are go
 
 pub returns-else-is_one_of_two-clause-leads : goal.returns-else-is_one_of_two-clause-leads
 returns-else-is_one_of_two-clause-leads c = λ k from flips p before side are goer paired goes.
-    c.lines.ensures.leads k from flips p before side are goer (c.is_one_of_two.ensures.one before paired c.if-is_one_of_two.false) goes
+    c.lines.ensures.leads k from flips p before side are goer (c.is_one_of_two.ensures.one before paired c.if-is_one_of_two.false) paired goes

@@ -12,4 +12,4 @@ returns-in-Some c = λ p man is stands.
     }
 
 pub returns-in-None : goal.returns-in-None
-returns-in-None c = λ p man is stands. c.both_ways.ensures p is
+returns-in-None c = λ p man is stands. c.other_ways.ensures p is

@@ -1,10 +1,8 @@
-use Rattle.std.proofs.Common.{ℕ, Some, None, sym, subst}
-use Rattle.egt_index.specs.Home.{LeastWith}
+use Rattle.std.proofs.Common.{ℕ, Some, sym, subst}
 use Rattle.egt_index.specs.Steps.{AllLead}
 use Rattle.egt_index.specs.Turns.{Best}
 use Rattle.egt_index.specs.declared.steps.Ways.{Ways}
 use Rattle.egt_index.proofs.Best.{best_at_last, index_found}
-use Rattle.egt_index.proofs.LeastTurn.{best_of_colours}
 use Rattle.egt_index.proofs.Moved.{untargeted_settled, settles_untargeted}
 use Rattle.egt_index.proofs.steps.Steps.index_to.Goals as goal
 
@@ -17,8 +15,7 @@ pub returns-in-Single : goal.returns-in-Single
 returns-in-Single k = λ c from p q are moved.
     let lead = subst (λ (w : Ways). AllLead c are.flipped p from w) k.in-Single.is are.lead in
     index_found k.facts.ensures c q q k.code_to.result moved.admissible (settles_untargeted q moved.target)
-    (best_of_colours c q are.flipped (Some k.code_to.result) None
-    (subst (λ (code : ℕ). LeastWith c q are.flipped (Some code)) (sym k.code_to.ensures) (lead.0 k.args.to q moved)) (lead.1 k.args.to q moved))
+    (subst (λ (code : ℕ). Best c q 16 (Some code)) (sym k.code_to.ensures) (lead k.args.to q moved))
 
 pub returns-in_default : goal.returns-in_default
 returns-in_default k = λ c from p q are moved.
