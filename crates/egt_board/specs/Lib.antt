@@ -14,6 +14,7 @@ pub mod Safety
 pub mod Pawn
 pub mod Target
 pub mod Setup
+pub mod Camps
 pub mod Settled
 pub mod Fault
 pub mod Listed

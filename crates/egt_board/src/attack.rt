@@ -2,6 +2,7 @@
 ghost use Rattle.std.specs.Prelude.{◌≡◌, ℕ, ◌≤◌, ◌↔◌, IsTrue};
 ghost use Rattle.std.specs.Int.{bit_at};
 ghost use Rattle.egt_board.specs.Attack.{IsAttacked, IsInCheck, AttacksFrom};
+ghost use Rattle.egt_board.specs.Camps.{IsOccupied};
 ghost use Rattle.egt_board.specs.Gait.{Reaches};
 ghost use Rattle.egt_board.specs.Placement.{IsFree};
 ghost use Rattle.egt_board.specs.Setup.{IsKingOn};
@@ -32,7 +33,16 @@ impl Board {
         ensures reached { (t : ℕ) → Has result t ↔ Reaches (IsFree self.now) man from t }
         ensures few { size_of result ≤ most_reached man.kind }
     {
-        gait::reach(man, from, self.occupied())
+        self.reach_past(man, from, self.occupied())
+    }
+
+    /// The same, where the caller knows on which squares all men stand.
+    pub fn reach_past(&self, man: Man, from: Square, all: SquareSet) -> SquareSet
+        requires { IsOccupied self.now all }
+        ensures reached { (t : ℕ) → Has result t ↔ Reaches (IsFree self.now) man from t }
+        ensures few { size_of result ≤ most_reached man.kind }
+    {
+        gait::reach(man, from, all)
     }
 
     /// Whether a man of that side attacks the square, even if it may not move itself.

@@ -4,6 +4,7 @@ ghost use Rattle.std.specs.Prelude.{◌≡◌, ◌≢◌, ℕ, ◌<◌, ◌↔�
 ghost use Rattle.std.specs.FinMap as map;
 ghost use Rattle.std.specs.Int.{bit_at};
 ghost use Rattle.egt_board.specs.Attack.{IsAttacked, AttacksFrom};
+ghost use Rattle.egt_board.specs.Camps.{IsOccupied};
 ghost use Rattle.egt_board.specs.Gait.{Reaches};
 ghost use Rattle.egt_board.specs.Placement.{Placement, Stands, IsFree};
 ghost use Rattle.egt_board.specs.Safety.{IsKeptFrom, IsSeenAs, StopsSlot};
@@ -47,12 +48,13 @@ fn stops(slot: &Slot, side: Side, to: Square, occupied: SquareSet) -> SquareSet
 }
 
 impl Board {
-    /// The squares that men of that side attack once the man on `lifted`, if there is one, is taken off: none of theirs.
-    pub fn danger_without(&self, side: Side, lifted: Square) -> SquareSet
-        requires { (man : Man) → Stands self.now lifted man → man.side ≢ side }
+    /// The squares that men of that side attack once the man on `lifted`, if there is one, is taken off: none of theirs. All men stand on
+    /// the squares of `all`.
+    pub fn danger_without(&self, side: Side, lifted: Square, all: SquareSet) -> SquareSet
+        requires lifted { (man : Man) → Stands self.now lifted man → man.side ≢ side }
+        requires all { IsOccupied self.now all }
         ensures { (t : ℕ) → t < 64 → Has result t ↔ IsAttacked (map.remove self.now lifted) t side }
     {
-        let all = self.occupied();
         let occupied = all.less(lifted);
         let first = attacked_by(&self.first, side, occupied);
         let second = attacked_by(&self.second, side, occupied);
@@ -82,12 +84,18 @@ impl Board {
         self.shelter_among(to, side, occupied)
     }
 
-    /// The same once the man on `lifted`, if there is one, is taken off: none of that side's.
-    pub fn shelter_without(&self, to: Square, side: Side, lifted: Square) -> SquareSet
-        requires { (man : Man) → Stands self.now lifted man → man.side ≢ side }
+    /// The same once the man on `lifted`, if there is one, is taken off: none of that side's. All men stand on the squares of `all`.
+    pub fn shelter_without(
+        &self,
+        to: Square,
+        side: Side,
+        lifted: Square,
+        all: SquareSet,
+    ) -> SquareSet
+        requires lifted { (man : Man) → Stands self.now lifted man → man.side ≢ side }
+        requires all { IsOccupied self.now all }
         ensures { (t : ℕ) (newcomer : Man) → t < 64 → newcomer.side ≢ side → Has result t ↔ IsKeptFrom (map.remove self.now lifted) t newcomer to side }
     {
-        let all = self.occupied();
         self.shelter_among(to, side, all.less(lifted))
     }
 }

@@ -1,5 +1,6 @@
 //! Moves that take nothing and let nothing be taken in passing.
 ghost use Rattle.std.specs.Prelude.{◌≡◌, ◌≢◌, ℕ, Some, true, IsFalse};
+ghost use Rattle.egt_board.specs.Camps.{AreCamps};
 ghost use Rattle.egt_board.specs.Pawn.{last_rank};
 ghost use Rattle.egt_board.specs.Placement.{Stands};
 ghost use Rattle.egt_board.specs.Square.{rank_of};
@@ -8,7 +9,7 @@ ghost use Rattle.egt_board.specs.declared.man.Kind.TheVariants.{P};
 ghost use Rattle.egt_check.specs.Steps.{IsQuietTarget, is_pawn_of};
 ghost use Rattle.egt_moves.specs.Targets.{IsLegalTarget};
 
-use egt_board::{Kind, Man, Position, Square, SquareSet};
+use egt_board::{Camps, Kind, Man, Position, Square, SquareSet};
 
 /// A man's way to a free square. A pawn's zeroes.
 #[derive(Clone, Copy)]
@@ -46,15 +47,22 @@ fn is_last(man: Man, square: Square) -> bool
 }
 
 /// Those of the pawn's legal targets that take nothing, promote nothing and let nothing be taken in passing: the next square at most.
-fn quiet_step(position: &Position, man: Man, from: Square, targets: SquareSet) -> SquareSet
+fn quiet_step(
+    position: &Position,
+    camps: Camps,
+    man: Man,
+    from: Square,
+    targets: SquareSet,
+) -> SquareSet
+    requires camps { AreCamps position.now camps }
     requires stands { Stands position.now.men from man }
     requires pawn { man.kind ≡ P }
     requires targets { (t : ℕ) → Has targets t → IsLegalTarget position.now from t }
     ensures quiet { (t : ℕ) → Has result t → Has targets t × IsQuietTarget position.now true from t }
 {
-    let enemy = position.of(position.side().other());
+    let _side = position.side();
     let to = from.ahead(man.side);
-    if !targets.without(enemy).contains(to) {
+    if !targets.without(camps.enemy).contains(to) {
         return SquareSet::EMPTY;
     }
     if is_last(man, to) {
@@ -69,17 +77,19 @@ fn quiet_step(position: &Position, man: Man, from: Square, targets: SquareSet) -
 /// Those of the man's legal targets that take nothing, promote nothing and let nothing be taken in passing.
 pub(crate) fn quiet_targets(
     position: &Position,
+    camps: Camps,
     man: Man,
     from: Square,
     targets: SquareSet,
 ) -> SquareSet
+    requires camps { AreCamps position.now camps }
     requires stands { Stands position.now.men from man }
     requires targets { (t : ℕ) → Has targets t → IsLegalTarget position.now from t }
     ensures quiet { (t : ℕ) → Has result t → Has targets t × IsQuietTarget position.now (is_pawn_of man) from t }
 {
     if is_pawn(man) {
-        quiet_step(position, man, from, targets)
+        quiet_step(position, camps, man, from, targets)
     } else {
-        targets.without(position.of(position.side().other()))
+        targets.without(camps.enemy)
     }
 }

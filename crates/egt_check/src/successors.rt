@@ -1,6 +1,7 @@
 //! The best of a position's steps.
 ghost use Rattle.std.specs.Prelude.{◌≡◌, ◌↔◌, ℕ, ◌<◌, max, IsTrue, IfSome, IfNone};
 ghost use Rattle.std.specs.Option.{option_map};
+ghost use Rattle.egt_board.specs.Camps.{AreCamps};
 ghost use Rattle.egt_board.specs.Placement.{IsHeld};
 ghost use Rattle.egt_board.specs.SquareSet.{Has};
 ghost use Rattle.egt_board.specs.Setup.{Setup};
@@ -22,11 +23,11 @@ use crate::facts::facts;
 use crate::library::Library;
 use crate::quiet::{QuietStep, is_pawn, quiet_targets};
 use crate::score_table::scores_by;
-use egt_board::{Position, Square, SquareSet};
+use egt_board::{Camps, Position, Square, SquareSet};
 use egt_class::laws::moves_lead_into_the_class_or_a_child as quiet_moves_keep_the_class;
 use egt_class::of;
 use egt_index::{Frame, Steps, index};
-use egt_moves::{Move, legal_targets, play, promotions, zeroing};
+use egt_moves::{Move, legal_targets_of, play, promotions, zeroing};
 use egt_table::{Column, Table};
 
 /// A table's entries at an index.
@@ -248,9 +249,11 @@ fn best_of_man(
     library: &Library,
     frame: &Frame,
     position: &Position,
+    camps: Camps,
     from: Square,
     best: Option<ByColumn>,
 ) -> Option<ByColumn>
+    requires camps { AreCamps position.now camps }
     requires held { IsHeld position.now.men from position.now.side }
     requires own { IsInClass table.now.class position.now }
     requires children { HasChildren (table_at library.now) table.now.class }
@@ -258,9 +261,9 @@ fn best_of_man(
     requires class { frame.now.class ≡ table.now.class }
     ensures { AreRaised (shown_by library.now table.now) position.now (λ m. m.from ≡ from) best result }
 {
-    let targets = legal_targets(position, from);
     let man = position.at(from).unwrap();
-    let quiet = quiet_targets(position, man, from, targets);
+    let targets = legal_targets_of(position, camps, man, from);
+    let quiet = quiet_targets(position, camps, man, from, targets);
     let pawn = is_pawn(man);
     let best = best_to_each_quiet(table, library, frame, position, from, quiet, pawn, best);
     best_to_each(table, library, position, from, targets.without(quiet), best)
@@ -281,10 +284,11 @@ pub(crate) fn best(
         (λ best. (column : Column) → IsBest (shown_by library.now table.now) column position.now (number_at best column)) }
     ensures none { IfNone result (NoMove chess position.now) }
 {
+    let camps = position.camps();
     let mut best = None;
-    let mut rest = position.of(position.side());
+    let mut rest = camps.own;
     while let Some(from) = rest.pop_first() {
-        best = best_of_man(table, library, frame, position, from, best);
+        best = best_of_man(table, library, frame, position, camps, from, best);
     }
     best
 }

@@ -1,6 +1,7 @@
 //! Where a man may go, and the board after it has gone there.
 ghost use Rattle.std.specs.Prelude.{◌≡◌, ℕ, ◌≤◌, ◌↔◌, ◌⊎◌, IsTrue, Some};
 ghost use Rattle.egt_board.specs.Attack.{IsInCheck};
+ghost use Rattle.egt_board.specs.Camps.{AreCamps};
 ghost use Rattle.egt_board.specs.Placement.{Stands, IsHeld};
 ghost use Rattle.egt_board.specs.Setup.{IsAdmissible, IsKingOn};
 ghost use Rattle.egt_board.specs.SquareSet.{Has, size_of};
@@ -12,10 +13,11 @@ ghost use Rattle.egt_moves.specs.Room.{most_goals};
 
 use crate::chess_move::Move;
 use crate::promotion::arriving;
-use egt_board::{Board, Kind, Man, Position, Square, SquareSet};
+use egt_board::{Board, Camps, Kind, Man, Position, Square, SquareSet};
 
 /// The squares that a piece or king on `from` may go to where its king is left aside.
-fn piece_targets(position: &Position, man: Man, from: Square) -> SquareSet
+fn piece_targets(position: &Position, camps: Camps, man: Man, from: Square) -> SquareSet
+    requires camps { AreCamps position.now camps }
     requires mine { man.side ≡ position.now.side }
     requires piece { man.kind ≡ P → ⊥ }
     ensures goes { (t : ℕ) → Has result t ↔ PieceGoes position.now man from t }
@@ -23,24 +25,24 @@ fn piece_targets(position: &Position, man: Man, from: Square) -> SquareSet
 {
     position
         .board()
-        .reach(man, from)
-        .without(position.of(man.side))
+        .reach_past(man, from, camps.occupied())
+        .without(camps.own)
 }
 
 /// The squares that an enemy man holds or a pawn has just passed.
-fn takeable(position: &Position, man: Man) -> SquareSet
-    requires { man.side ≡ position.now.side }
+fn takeable(position: &Position, camps: Camps) -> SquareSet
+    requires { AreCamps position.now camps }
     ensures { (t : ℕ) → Has result t ↔ (IsHeld position.now.men t (other_side position.now.side) ⊎ (position.now.target ≡ Some t)) }
 {
-    let enemies = position.of(man.side.other());
     match position.target() {
-        Some(target) => enemies.with(target),
-        None => enemies,
+        Some(target) => camps.enemy.with(target),
+        None => camps.enemy,
     }
 }
 
 /// The squares that a pawn on `from` may go to where its king is left aside.
-fn pawn_targets(position: &Position, man: Man, from: Square) -> SquareSet
+fn pawn_targets(position: &Position, camps: Camps, man: Man, from: Square) -> SquareSet
+    requires camps { AreCamps position.now camps }
     requires mine { man.side ≡ position.now.side }
     requires pawn { man.kind ≡ P }
     ensures goes { (t : ℕ) → Has result t ↔ Goes position.now man from t }
@@ -49,21 +51,22 @@ fn pawn_targets(position: &Position, man: Man, from: Square) -> SquareSet
     let advances = position.board().advances(man.side, from);
     let takes = position
         .board()
-        .reach(man, from)
-        .common(takeable(position, man));
+        .reach_past(man, from, camps.occupied())
+        .common(takeable(position, camps));
     advances.union(takes)
 }
 
 /// The squares that the man on `from`, one of the side to move, may go to where its king is left aside.
-pub(crate) fn targets(position: &Position, man: Man, from: Square) -> SquareSet
-    requires { man.side ≡ position.now.side }
+pub(crate) fn targets(position: &Position, camps: Camps, man: Man, from: Square) -> SquareSet
+    requires camps { AreCamps position.now camps }
+    requires mine { man.side ≡ position.now.side }
     ensures goes { (t : ℕ) → Has result t ↔ Goes position.now man from t }
     ensures few { size_of result ≤ most_goals man.kind }
 {
     if man.kind == Kind::P {
-        pawn_targets(position, man, from)
+        pawn_targets(position, camps, man, from)
     } else {
-        piece_targets(position, man, from)
+        piece_targets(position, camps, man, from)
     }
 }
 

@@ -26,7 +26,7 @@ pub use mate_search::search;
 pub use outcome::Standing;
 pub use playing::play;
 pub use standings::standing;
-pub use targets::legal_targets;
+pub use targets::{legal_targets, legal_targets_of};
 pub use zeroing_moves::zeroing;
 
 #[cfg(test)]

@@ -1,5 +1,5 @@
 -- What is told of the moves of a side, man by man and square by square, in the order of moves.
-use Rattle.std.proofs.Common.{◌≡◌, ◌≢◌, ℕ, zero, suc, ◌+◌, ◌*◌, ◌<◌, ◌≤◌, ◌==◌, ◌&&◌, Bool, true, false, List, [], ◌∷◌, ◌++◌, length, Option, Some, None, refl, sym, ap, ◌∙◌, inl, inr, arith}
+use Rattle.std.proofs.Common.{◌≡◌, ◌≢◌, ℕ, zero, suc, ◌+◌, ◌*◌, ◌<◌, ◌≤◌, ◌==◌, ◌&&◌, Bool, true, false, List, [], ◌∷◌, ◌++◌, length, Option, Some, None, refl, sym, ap, ◌∙◌, inl, inr, arith, subst}
 use Rattle.std.specs.Int.{bit_at}
 use Rattle.std.specs.List.{flat_map, filter}
 use Rattle.std.proofs.lemmas.Bool.{cases_eq, cases_lt}
@@ -9,7 +9,8 @@ use Rattle.egt_board.specs.declared.man.Kind.{Kind}
 use Rattle.egt_board.specs.declared.man.Kind.TheVariants.{Q, R, B, N, P, K}
 use Rattle.egt_board.specs.declared.man.Man.{Man}
 use Rattle.egt_board.specs.declared.square_set.SquareSet.{SquareSet}
-use Rattle.egt_board.specs.SquareSet.{Has}
+use Rattle.egt_board.specs.Placement.{Placement, Stands, one_man}
+use Rattle.egt_board.specs.SquareSet.{Has, size_of}
 use Rattle.egt_board.specs.Pawn.{last_rank}
 use Rattle.egt_board.specs.Setup.{Setup}
 use Rattle.egt_board.specs.Square.{rank_of}
@@ -154,6 +155,10 @@ few_moves B n few = omega (arith, few)
 few_moves N n few = omega (arith, few)
 few_moves P n few = omega (arith, few)
 few_moves K n few = omega (arith, few)
+
+-- who stands there is one man, who goes to so many squares
+pub goals_of : (men : Placement) (s : ℕ) (man other : Man) (set : SquareSet) → Stands men s man → Stands men s other → size_of set ≤ most_goals man.kind → size_of set ≤ most_goals other.kind
+goals_of men s man other set there stands few = subst (λ (m : Man). size_of set ≤ most_goals m.kind) (one_man men s man other there stands) few
 
 pub goals_few : (kind : Kind) → most_goals kind ≤ most_moves kind
 goals_few Q = omega arith

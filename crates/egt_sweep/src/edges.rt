@@ -3,6 +3,7 @@ ghost use Rattle.std.specs.Prelude.{◌≡◌, ◌↔◌, ◌+◌, ◌≤◌, �
 ghost use Rattle.std.specs.List.{Contains};
 ghost use Rattle.std.specs.List.Sorted.{IsStrictlyIncreasing};
 ghost use Rattle.arrayvec.specs.ArrayVec.{array_vec_len};
+ghost use Rattle.egt_board.specs.Camps.{AreCamps};
 ghost use Rattle.egt_board.specs.Placement.{Stands, IsHeld};
 ghost use Rattle.egt_board.specs.Setup.{Setup};
 ghost use Rattle.egt_board.specs.declared.man.Man.{Man};
@@ -21,10 +22,10 @@ use crate::laws::laws;
 use crate::quiet::passes;
 use crate::ways::onward;
 use arrayvec::ArrayVec;
-use egt_board::{Position, Square};
+use egt_board::{Camps, Position, Square};
 use egt_class::Class;
 use egt_index::{Frame, Steps, index};
-use egt_moves::{Move, legal_targets, play};
+use egt_moves::{Move, legal_targets_of, play};
 use egt_table::Column;
 
 /// The index of the position after the man went to a square where he takes nothing and is not promoted. The steps are his.
@@ -57,9 +58,11 @@ fn add_edges(
     class: Class,
     frame: &Frame,
     position: &Position,
+    camps: Camps,
     from: Square,
     list: &mut ArrayVec<u32, 64>,
 )
+    requires camps { AreCamps position.now camps }
     requires of { (flipped : Bool) × IsOf class flipped position.now }
     requires frame { IsFrame position.now frame.now }
     requires class { frame.now.class ≡ class }
@@ -73,9 +76,10 @@ fn add_edges(
     laws();
     let _side = position.side();
     let _number = class.number();
-    let targets = legal_targets(position, from);
+    let man = position.at(from).unwrap();
+    let targets = legal_targets_of(position, camps, man, from);
     let steps = frame.steps(from);
-    let mut rest = onward(column, class, position, from, targets);
+    let mut rest = onward(column, class, position, camps, from, targets);
     while let Some(to) = rest.pop_first() {
         put(list, index_after(class, &steps, position, from, to));
     }
@@ -97,8 +101,9 @@ pub(crate) fn edges(
     ensures exact { (i : ℕ) → IsAt class i position.now → (k : ℕ) → Contains list.new.items k ↔ Connects column class i k }
 {
     laws();
+    let camps = position.camps();
     let mut rest = position.of(position.side());
     while let Some(from) = rest.pop_first() {
-        add_edges(column, class, frame, position, from, list);
+        add_edges(column, class, frame, position, camps, from, list);
     }
 }

@@ -2,6 +2,7 @@
 ghost use Rattle.std.specs.Prelude.{◌≡◌, ◌≢◌, ℕ, ◌+◌, ◌++◌, ◌<◌, ◌≤◌, ◌↔◌, ◌⊎◌, ◌^◌, Bool, IsTrue, false, [], Some};
 ghost use Rattle.std.specs.Int.{bit_at};
 ghost use Rattle.arrayvec.specs.ArrayVec.{array_vec_len};
+ghost use Rattle.egt_board.specs.Camps.{AreCamps};
 ghost use Rattle.egt_board.specs.Placement.{Stands, IsHeld};
 ghost use Rattle.egt_board.specs.Settled.{IsSettled};
 ghost use Rattle.egt_board.specs.Setup.{Setup};
@@ -26,12 +27,12 @@ use crate::laws::laws;
 use crate::leaving::add_exits;
 use crate::quiet::stays;
 use arrayvec::ArrayVec;
-use egt_board::{Kind, Man, Position, Square, SquareSet};
+use egt_board::{Camps, Kind, Man, Position, Square, SquareSet};
 use egt_check::Library;
 use egt_class::Class;
 use egt_graph::Exit;
 use egt_index::laws::one_index_for_one_setup;
-use egt_moves::legal_targets;
+use egt_moves::legal_targets_of;
 use egt_table::Column;
 
 /// The legal moves of a position.
@@ -87,9 +88,11 @@ pub(crate) fn onward(
     column: Column,
     class: Class,
     position: &Position,
+    camps: Camps,
     from: Square,
     targets: SquareSet,
 ) -> SquareSet
+    requires camps { AreCamps position.now camps }
     requires of { (flipped : Bool) × IsOf class flipped position.now }
     requires held { IsHeld position.now.men from position.now.side }
     requires targets { (t : ℕ) → Has targets t ↔ IsLegalTarget position.now from t }
@@ -101,7 +104,8 @@ pub(crate) fn onward(
     laws();
     let _number = class.number();
     let man = position.at(from).unwrap();
-    let free = targets.without(position.of(position.side().other()));
+    let _side = position.side();
+    let free = targets.without(camps.enemy);
     match man.kind {
         Kind::P => match column {
             Column::Mate => staying(position, man, free),
@@ -117,6 +121,7 @@ fn with_man(
     class: Class,
     library: &Library,
     position: &Position,
+    camps: Camps,
     from: Square,
     ways: Ways,
     exits: &mut ArrayVec<Exit, 64>,
@@ -125,6 +130,7 @@ fn with_man(
     requires of { (flipped : Bool) × IsOf class flipped position.now }
     requires children { HasChildren (table_at library.now) class }
     requires settled { IsSettled position.now }
+    requires camps { AreCamps position.now camps }
     requires held { IsHeld position.now.men from position.now.side }
     requires few { ways.onward + 64 < 2 ^ 32 }
     requires room { (man : Man) → Stands position.now.men from man → array_vec_len exits.old + most_moves man.kind ≤ 64 }
@@ -139,8 +145,9 @@ fn with_man(
     one_index_for_one_setup();
     let _number = class.number();
     let _side = position.side();
-    let targets = legal_targets(position, from);
-    let onward = onward(aim.column(), class, position, from, targets);
+    let man = position.at(from).unwrap();
+    let targets = legal_targets_of(position, camps, man, from);
+    let onward = onward(aim.column(), class, position, camps, from, targets);
     let leaving = targets.without(onward);
     add_exits(aim, class, library, position, from, leaving, exits);
     Ways {
@@ -171,9 +178,10 @@ pub(crate) fn ways_of(
         any: false,
         onward: 0,
     };
+    let camps = position.camps();
     let mut rest = position.of(position.side());
     while let Some(from) = rest.pop_first() {
-        ways = with_man(aim, class, library, position, from, ways, exits);
+        ways = with_man(aim, class, library, position, camps, from, ways, exits);
     }
     ways
 }

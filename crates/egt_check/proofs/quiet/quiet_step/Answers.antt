@@ -1,10 +1,7 @@
-use Rattle.std.proofs.Common.{◌≡◌, true, sym, ap, ◌∙◌, subst, inl, inr, arith}
+use Rattle.std.proofs.Common.{◌≡◌, true, sym, subst, inl, inr, arith}
 use Rattle.std.specs.Int.{bit_at}
 use Rattle.std.proofs.lemmas.Bool.{cases_eq}
-use Rattle.egt_board.specs.Man.{other_side}
-use Rattle.egt_board.specs.Placement.{IsHeld}
 use Rattle.egt_board.specs.SquareSet.{Has}
-use Rattle.egt_board.specs.declared.man.Side.{Side}
 use Rattle.egt_check.specs.Steps.{IsQuietTarget}
 use Rattle.egt_check.proofs.Still.{quiet_pawn, next_rank}
 use Rattle.egt_check.proofs.quiet.quiet_step.Goals as goal
@@ -18,13 +15,13 @@ returns c = record {
         let squares = c.without.ensures.squares to in
         let both : Has c.without.result to = c.contains.ensures.0 c.if-not-contains.false in
         let there : bit_at c.args.targets.bits to ≡ 1 = omega (arith, both, squares) in
-        let gone : bit_at c.of-enemy.result.bits to ≡ 0 = omega (arith, both, squares) in
+        let gone : bit_at c.args.camps.enemy.bits to ≡ 0 = omega (arith, both, squares) in
         subst (λ s. Has c.args.targets s × IsQuietTarget c.args.position.now true c.args.from s) (sym here) (
           there,
           quiet_pawn c.args.position.now c.args.from to c.args.man c.requires.stands c.requires.pawn
-              (λ held. let enemy : Has c.of-enemy.result to = (c.of-enemy.ensures.held to).1 (subst (λ (side : Side). IsHeld c.args.position.now.men to side) (sym (c.other.ensures ∙ ap other_side c.side.ensures.side)) held) in omega (arith, gone, enemy))
+              (λ held. let enemy : Has c.args.camps.enemy to = (c.requires.camps.enemy to).1 held in omega (arith, gone, enemy))
               (c.is_passed.ensures c.if-is_passed.false) (c.is_last.ensures c.if-is_last.false)
-              (next_rank c.args.man.side c.args.from to c.ahead-to.ensures (c.side.ensures.admissible.pawns c.args.from c.args.man c.requires.stands c.requires.pawn).0)
+              (next_rank c.args.man.side c.args.from to c.ahead-to.ensures (c.side-side.ensures.admissible.pawns c.args.from c.args.man c.requires.stands c.requires.pawn).0)
               (c.requires.targets to there),
         )
   ];

@@ -1,9 +1,6 @@
-use Rattle.std.proofs.Common.{◌≡◌, Bool, sym, ap, ◌∙◌, subst, arith}
+use Rattle.std.proofs.Common.{◌≡◌, Bool, sym, ◌∙◌, subst, arith}
 use Rattle.std.specs.Int.{bit_at}
-use Rattle.egt_board.specs.Man.{other_side}
-use Rattle.egt_board.specs.Placement.{IsHeld}
 use Rattle.egt_board.specs.SquareSet.{Has}
-use Rattle.egt_board.specs.declared.man.Side.{Side}
 use Rattle.egt_check.specs.Steps.{IsQuietTarget}
 use Rattle.egt_check.proofs.Still.{quiet_piece, no_pawn_is, pawn_is}
 use Rattle.egt_check.proofs.quiet.quiet_targets.Goals as goal
@@ -16,12 +13,12 @@ returns-else-is_pawn c = record {
   quiet = λ t has.
       let squares = c.without.ensures.squares t in
       let there : bit_at c.args.targets.bits t ≡ 1 = omega (arith, has, squares) in
-      let gone : bit_at c.of.result.bits t ≡ 0 = omega (arith, has, squares) in
+      let gone : bit_at c.args.camps.enemy.bits t ≡ 0 = omega (arith, has, squares) in
       let not = sym c.is_pawn.ensures ∙ c.if-is_pawn.false in (
         there,
         subst (λ (b : Bool). IsQuietTarget c.args.position.now b c.args.from t) (sym not)
             (quiet_piece c.args.position.now c.args.from t c.args.man c.requires.stands (no_pawn_is c.args.man.kind not)
-            (λ held. let enemy : Has c.of.result t = (c.of.ensures.held t).1 (subst (λ (side : Side). IsHeld c.args.position.now.men t side) (sym (c.other.ensures ∙ ap other_side c.side.ensures.side)) held) in omega (arith, gone, enemy))
+            (λ held. let enemy : Has c.args.camps.enemy t = (c.requires.camps.enemy t).1 held in omega (arith, gone, enemy))
             (c.requires.targets t there)),
       );
 }

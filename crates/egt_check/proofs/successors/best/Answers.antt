@@ -1,15 +1,13 @@
-use Rattle.std.proofs.Common.{◌≡◌, None, sym, subst}
-use Rattle.egt_board.specs.Placement.{IsHeld}
-use Rattle.egt_board.specs.declared.man.Side.{Side}
+use Rattle.std.proofs.Common.{◌≡◌, None}
 use Rattle.egt_check.specs.Steps.{shown_by}
 use Rattle.egt_check.proofs.Raising.{gone_none, gone_more, gone_all, still_there, best_found, none_found}
 use Rattle.egt_check.proofs.successors.best.Goals as goal
 
 pub loop-from-init : goal.loop-from-init
 loop-from-init c = (
-  gone_none (shown_by c.args.library.now c.args.table.now) c.args.position.now (λ m. m.from) (λ m. Unit {0}) c.of-rest.result None
-      (λ m legal base. (c.of-rest.ensures.held m.from).1 (subst (λ (side : Side). IsHeld c.args.position.now.men m.from side) (sym c.side.ensures.side) (record { man = legal.1.man; stands = legal.1.stands; theirs = legal.1.mine }))),
-  λ t has. subst (λ (side : Side). IsHeld c.args.position.now.men t side) c.side.ensures.side ((c.of-rest.ensures.held t).0 has),
+  gone_none (shown_by c.args.library.now c.args.table.now) c.args.position.now (λ m. m.from) (λ m. Unit {0}) c.camps-camps.result.own None
+      (λ m legal base. (c.camps-camps.ensures.own m.from).1 (record { man = legal.1.man; stands = legal.1.stands; theirs = legal.1.mine })),
+  λ t has. (c.camps-camps.ensures.own t).0 has,
 )
 
 pub best_of_man-best-requires-clause-held : goal.best_of_man-best-requires-clause-held

@@ -12,7 +12,7 @@ pub quiet_targets-quiet-requires-clause-stands : goal.quiet_targets-quiet-requir
 quiet_targets-quiet-requires-clause-stands c = sym c.at.ensures ∙ c.unwrap-man.ensures
 
 pub quiet_targets-quiet-requires-clause-targets : goal.quiet_targets-quiet-requires-clause-targets
-quiet_targets-quiet-requires-clause-targets c = λ t has. (c.legal_targets-targets.ensures.legal t).0 has
+quiet_targets-quiet-requires-clause-targets c = λ t has. (c.legal_targets_of-targets.ensures.legal t).0 has
 
 pub best_to_each_quiet-best-requires-clause-targets : goal.best_to_each_quiet-best-requires-clause-targets
 best_to_each_quiet-best-requires-clause-targets c = λ t has.
@@ -21,15 +21,15 @@ best_to_each_quiet-best-requires-clause-targets c = λ t has.
 pub best_to_each-requires-clause-targets : goal.best_to_each-requires-clause-targets
 best_to_each-requires-clause-targets c = λ t has.
     let squares = c.without.ensures.squares t in
-    let there : bit_at c.legal_targets-targets.result.bits t ≡ 1 = omega (arith, has, squares) in
-    (c.legal_targets-targets.ensures.legal t).0 there
+    let there : bit_at c.legal_targets_of-targets.result.bits t ≡ 1 = omega (arith, has, squares) in
+    (c.legal_targets_of-targets.ensures.legal t).0 there
 
 pub returns : goal.returns
 returns c = λ column.
     raised_by_both (shown_by c.args.library.now c.args.table.now) column c.args.position.now (λ m. (m.from ≡ c.args.from) × Has c.quiet_targets-quiet.result m.to) (λ m. (m.from ≡ c.args.from) × Has c.without.result m.to) (λ m. m.from ≡ c.args.from)
     (column_of column c.args.best) (column_of column c.best_to_each_quiet-best.result) (column_of column c.best_to_each.result) (c.best_to_each_quiet-best.ensures column) (c.best_to_each.ensures column)
     (λ m legal is.
-    let there : Has c.legal_targets-targets.result m.to = (c.legal_targets-targets.ensures.legal m.to).1 (targeted c.args.position.now m c.args.from is legal) in
+    let there : Has c.legal_targets_of-targets.result m.to = (c.legal_targets_of-targets.ensures.legal m.to).1 (targeted c.args.position.now m c.args.from is legal) in
     let without = c.without.ensures.squares m.to in
     elim (cases_eq (bit_at c.quiet_targets-quiet.result.bits m.to) 0) [
       | inl none ↦ inr (is, omega (arith, there, without, none))

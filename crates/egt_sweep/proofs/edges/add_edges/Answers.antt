@@ -6,7 +6,7 @@ use Rattle.egt_index.specs.Steps.{AreSteps}
 use Rattle.egt_moves.specs.Legal.{plain}
 use Rattle.egt_sweep.proofs.Led.{led_to_none, led_to_more, led_to_all}
 use Rattle.egt_sweep.proofs.Onward.{on_quiet}
-use Rattle.egt_sweep.proofs.Walked.{goals_few}
+use Rattle.egt_sweep.proofs.Walked.{goals_few, goals_of}
 use Rattle.egt_sweep.proofs.edges.add_edges.Goals as goal
 
 pub loop-to-init : goal.loop-to-init
@@ -42,7 +42,7 @@ put-requires c =
     let size = c.in-Some.ensures.size in
     let room = c.requires.room held.man held.stands in
     let onward = c.onward-rest.ensures.few in
-    let targets = c.legal_targets-targets.ensures.few held.man held.stands in
+    let targets = goals_of c.args.position.now.men c.args.from c.unwrap-man.result held.man c.legal_targets_of-targets.result (sym c.at.ensures ∙ c.unwrap-man.ensures) held.stands c.legal_targets_of-targets.ensures.few in
     let few = goals_few held.man.kind in
     let short : array_vec_len c.loop-to.list < 64 = omega (arith, so_far, size, room, onward, targets, few) in
     (omega arith, (c.loop-to.invariant.0, short))
@@ -76,6 +76,6 @@ pub returns-clause-few : goal.returns-clause-few
 returns-clause-few c man stands =
     let so_far = c.loop-to.invariant.1 in
     let onward = c.onward-rest.ensures.few in
-    let targets = c.legal_targets-targets.ensures.few man stands in
+    let targets = goals_of c.args.position.now.men c.args.from c.unwrap-man.result man c.legal_targets_of-targets.result (sym c.at.ensures ∙ c.unwrap-man.ensures) stands c.legal_targets_of-targets.ensures.few in
     let few = goals_few man.kind in
     omega (arith, so_far, onward, targets, few)

@@ -1,11 +1,9 @@
-use Rattle.std.proofs.Common.{◌≡◌, ℕ, ◌<◌, sym, ap, ◌∙◌, subst, inl, inr, arith}
+use Rattle.std.proofs.Common.{◌≡◌, ℕ, ◌<◌, sym, ◌∙◌, subst, inl, inr, arith}
 use Rattle.std.proofs.lemmas.Bool.{cases_eq}
 use Rattle.std.proofs.lemmas.Nat.Bits.{bit_at-lt}
 use Rattle.std.specs.Int.{bit_at}
-use Rattle.egt_board.specs.Man.{other_side}
-use Rattle.egt_board.specs.Placement.{Stands, IsHeld}
+use Rattle.egt_board.specs.Placement.{Stands}
 use Rattle.egt_board.specs.SquareSet.{Has, size_of}
-use Rattle.egt_board.specs.declared.man.Side.{Side}
 use Rattle.egt_moves.specs.Exchange.{Captures}
 use Rattle.egt_table.specs.declared.column.Column.{Column}
 use Rattle.egt_sweep.specs.Edges.{GoesOn}
@@ -20,24 +18,24 @@ returns-in-Mate-clause-sound c t has =
     let stays = (c.staying.ensures t).0 has in
     let squares = c.without-free.ensures.squares t in
     let there : Has c.args.targets t = omega (arith, stays.0, squares) in
-    let gone : bit_at c.of.result.bits t ≡ 0 = omega (arith, stays.0, squares) in
+    let gone : bit_at c.args.camps.enemy.bits t ≡ 0 = omega (arith, stays.0, squares) in
     subst (λ (column : Column). IsOnward column c.args.class p c.args.from t) (sym c.in-Mate.is)
-    (pawn_onward c.laws.ensures c.args.class p (subst (λ (n : ℕ). n < 36) c.number-number.ensures.value c.number-number.ensures.below) c.side.ensures.admissible c.requires.of c.unwrap-man.result c.args.from t (sym c.at.ensures ∙ c.unwrap-man.ensures)
-    (λ held. let enemy : Has c.of.result t = (c.of.ensures.held t).1 (subst (λ (side : Side). IsHeld p.men t side) (sym (c.other.ensures ∙ ap other_side c.side.ensures.side)) held) in omega (arith, gone, enemy))
+    (pawn_onward c.laws.ensures c.args.class p (subst (λ (n : ℕ). n < 36) c.number-number.ensures.value c.number-number.ensures.below) c.side-side.ensures.admissible c.requires.of c.unwrap-man.result c.args.from t (sym c.at.ensures ∙ c.unwrap-man.ensures)
+    (λ held. let enemy : Has c.args.camps.enemy t = (c.requires.camps.enemy t).1 held in omega (arith, gone, enemy))
     stays.1 ((c.requires.targets t).0 there))
 
 pub returns-in-Mate-clause-complete : goal.returns-in-Mate-clause-complete
 returns-in-Mate-clause-complete c m q is leads on =
     let p = c.args.position.now in
     let c_in = subst (λ (n : ℕ). n < 36) c.number-number.ensures.value c.number-number.ensures.below in
-    let ok = c.side.ensures.admissible in
+    let ok = c.side-side.ensures.admissible in
     let stands : Stands p.men m.from c.unwrap-man.result = subst (λ s. Stands p.men s c.unwrap-man.result) (sym is) (sym c.at.ensures ∙ c.unwrap-man.ensures) in
     let there : Has c.args.targets m.to = (c.requires.targets m.to).1 (targeted p m c.args.from is (q, leads)) in
     let squares = c.without-free.ensures.squares m.to in
     let quiet : Captures p m → _ = on_quiet c.laws.ensures c.args.class p c_in ok c.requires.of c.args.column q m leads on in
-    let bit = bit_at-lt c.of.result.bits m.to in
-    let free : Has c.without-free.result m.to = elim (cases_eq (bit_at c.of.result.bits m.to) 1) [
-      | inl enemy ↦ absurd (quiet (inl (subst (λ (side : Side). IsHeld p.men m.to side) (c.other.ensures ∙ ap other_side c.side.ensures.side) ((c.of.ensures.held m.to).0 enemy))))
+    let bit = bit_at-lt c.args.camps.enemy.bits m.to in
+    let free : Has c.without-free.result m.to = elim (cases_eq (bit_at c.args.camps.enemy.bits m.to) 1) [
+      | inl enemy ↦ absurd (quiet (inl ((c.requires.camps.enemy m.to).0 enemy)))
       | inr none ↦ omega (arith, there, squares, bit, none)
     ] in
     (c.staying.ensures m.to).1 (free, on_stays c.laws.ensures c.args.class p c_in ok c.requires.of c.args.column q m c.unwrap-man.result stands c.in-P.is leads on)
@@ -47,28 +45,28 @@ returns-in-Zeroing-clause-complete c m q is leads on =
     let p = c.args.position.now in
     let c_in = subst (λ (n : ℕ). n < 36) c.number-number.ensures.value c.number-number.ensures.below in
     let stands : Stands p.men m.from c.unwrap-man.result = subst (λ s. Stands p.men s c.unwrap-man.result) (sym is) (sym c.at.ensures ∙ c.unwrap-man.ensures) in
-    absurd (no_pawn_on c.laws.ensures c.args.class p c_in c.side.ensures.admissible c.requires.of q m c.unwrap-man.result stands c.in-P.is
+    absurd (no_pawn_on c.laws.ensures c.args.class p c_in c.side-side.ensures.admissible c.requires.of q m c.unwrap-man.result stands c.in-P.is
     (subst (λ (column : Column). GoesOn column c.args.class p m q) c.in-Zeroing.is on))
 
 pub returns-in_default : goal.returns-in_default
 returns-in_default c =
     let p = c.args.position.now in
     let c_in = subst (λ (n : ℕ). n < 36) c.number-number.ensures.value c.number-number.ensures.below in
-    let ok = c.side.ensures.admissible in record {
+    let ok = c.side-side.ensures.admissible in record {
       sound = λ t has.
           let squares = c.without-free.ensures.squares t in
           let there : Has c.args.targets t = omega (arith, has, squares) in
-          let gone : bit_at c.of.result.bits t ≡ 0 = omega (arith, has, squares) in
+          let gone : bit_at c.args.camps.enemy.bits t ≡ 0 = omega (arith, has, squares) in
           piece_onward c.laws.ensures c.args.class p c_in ok c.requires.of c.args.column c.unwrap-man.result c.args.from t (sym c.at.ensures ∙ c.unwrap-man.ensures) c.in_default.not-P
-          (λ held. let enemy : Has c.of.result t = (c.of.ensures.held t).1 (subst (λ (side : Side). IsHeld p.men t side) (sym (c.other.ensures ∙ ap other_side c.side.ensures.side)) held) in omega (arith, gone, enemy))
+          (λ held. let enemy : Has c.args.camps.enemy t = (c.requires.camps.enemy t).1 held in omega (arith, gone, enemy))
           ((c.requires.targets t).0 there);
       complete = λ m q is leads on.
           let there : Has c.args.targets m.to = (c.requires.targets m.to).1 (targeted p m c.args.from is (q, leads)) in
           let squares = c.without-free.ensures.squares m.to in
           let quiet : Captures p m → _ = on_quiet c.laws.ensures c.args.class p c_in ok c.requires.of c.args.column q m leads on in
-          let bit = bit_at-lt c.of.result.bits m.to in
-          elim (cases_eq (bit_at c.of.result.bits m.to) 1) [
-            | inl enemy ↦ absurd (quiet (inl (subst (λ (side : Side). IsHeld p.men m.to side) (c.other.ensures ∙ ap other_side c.side.ensures.side) ((c.of.ensures.held m.to).0 enemy))))
+          let bit = bit_at-lt c.args.camps.enemy.bits m.to in
+          elim (cases_eq (bit_at c.args.camps.enemy.bits m.to) 1) [
+            | inl enemy ↦ absurd (quiet (inl ((c.requires.camps.enemy m.to).0 enemy)))
             | inr none ↦ omega (arith, there, squares, bit, none)
           ];
       others = λ t has. let squares = c.without-free.ensures.squares t in omega (arith, has, squares);
