@@ -71,6 +71,21 @@ size_within a b within = total_within (bit_at a.bits) (bit_at b.bits) (λ t. eli
   | inr none ↦ let small = bit_at-lt a.bits t in omega (arith, none, small)
 ]) 64
 
+total_less : (f g : ℕ → ℕ) (s n : ℕ) → s < n → f s < g s → ((i : ℕ) → f i ≤ g i) → total f n < total g n
+total_less f g s zero in_n less within = absurd (omega (arith, in_n))
+total_less f g s (suc n) in_n less within = elim (cases_eq s n) [
+  | inl e ↦ let rest = total_within f g within n in let here : f n < g n = subst (λ i. f i < g i) e less in omega (arith, rest, here)
+  | inr apart ↦ let rest = total_less f g s n (omega (arith, in_n, apart)) less within in let last = within n in omega (arith, rest, last)
+]
+
+-- a set that lacks a square of another, and is the same elsewhere, is smaller
+pub size_less : (a b : SquareSet) (s : ℕ) → s < 64 → Has b s → bit_at a.bits s ≡ 0 → ((t : ℕ) → t ≢ s → bit_at a.bits t ≡ bit_at b.bits t) → size_of a < size_of b
+unfolding size_of
+size_less a b s in_board has none same = total_less (bit_at a.bits) (bit_at b.bits) s 64 in_board (omega (arith, has, none)) (λ t. elim (cases_eq t s) [
+  | inl e ↦ let gone : bit_at a.bits t ≡ 0 = subst (λ i. bit_at a.bits i ≡ 0) (sym e) none in omega (arith, gone)
+  | inr apart ↦ let e = same t apart in omega (arith, e)
+])
+
 -- no squares are few
 pub none_few : (n : ℕ) → size_of (record { bits = 0 }) ≤ n
 unfolding size_of

@@ -17,7 +17,7 @@ use Rattle.egt_sweep.proofs.Collecting.{leads_on_once}
 use Rattle.egt_sweep.proofs.Onward.{one_plain}
 use Rattle.egt_sweep.proofs.Tallying.{not_held}
 
-not_both : {A : Type 0} (set : SquareSet) (s t : ℕ) → s ≡ t → Has set t → bit_at set.bits s ≡ 0 → A
+pub not_both : {A : Type 0} (set : SquareSet) (s t : ℕ) → s ≡ t → Has set t → bit_at set.bits s ≡ 0 → A
 not_both set s t e has none = let there : Has set s = subst (Has set) (sym e) has in absurd (omega (arith, there, none))
 
 module _ (column : Column) (c : ℕ) (p : Setup) where

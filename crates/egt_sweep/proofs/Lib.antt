@@ -21,3 +21,4 @@ pub mod Tallying
 pub mod Led
 pub mod Starting
 pub mod Returning
+pub mod Gathering

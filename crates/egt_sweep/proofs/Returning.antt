@@ -1,16 +1,17 @@
 -- Positions before, told by the square that a man left.
-use Rattle.std.proofs.Common.{◌≡◌, ◌≢◌, ℕ, ◌<◌, ◌⊎◌, ◌↔◌, false, List, [], Option, Some, None, IfSome, refl, sym, ap, ◌∙◌, subst, inl, inr, arith}
-use Rattle.std.proofs.Math.Logic.{⊎_map}
+use Rattle.std.proofs.Common.{◌≡◌, ◌≢◌, ℕ, ◌-◌, ◌<◌, ◌⊎◌, ◌↔◌, min, false, List, [], Option, Some, None, IfSome, refl, sym, ap, ◌∙◌, subst, inl, inr, arith}
 use Rattle.std.proofs.lemmas.Bool.{cases_eq, false≢true}
+use Rattle.std.proofs.lemmas.Nat.Bits.{bit_at-lt}
 use Rattle.std.specs.Option.{is_some}
 use Rattle.std.specs.FinMap as map
 use Rattle.std.specs.Int.{bit_at}
 use Rattle.std.specs.List.{Contains}
-use Rattle.egt_board.specs.declared.man.Kind.TheVariants.{P}
+use Rattle.egt_board.specs.declared.man.Kind.TheVariants.{P, K}
 use Rattle.egt_board.specs.declared.man.Man.{Man}
 use Rattle.egt_board.specs.declared.man.Side.{Side}
 use Rattle.egt_board.specs.declared.man.Side.TheVariants.{White, Black}
 use Rattle.egt_board.specs.declared.square_set.SquareSet.{SquareSet}
+use Rattle.egt_board.specs.Attack.{king_of}
 use Rattle.egt_board.specs.Decided.{tells, tells_so, tells_where}
 use Rattle.egt_board.specs.Man.{other_side}
 use Rattle.egt_board.specs.Pawn.{pawn_of, ahead, HasPawnBeside}
@@ -27,7 +28,7 @@ use Rattle.egt_table.specs.declared.column.Column.{Column}
 use Rattle.egt_table.specs.declared.column.Column.TheVariants.{Mate, Zeroing}
 use Rattle.egt_unmoves.specs.Unmoves.{ComesBy, setup_before}
 use Rattle.egt_unmoves.specs.declared.unmove.Unmove.{Unmove}
-use Rattle.egt_sweep.specs.Edges.{IsAt, Connects, GoesBack, BackBy, CameTo, HadNoTarget, IsTakenBack}
+use Rattle.egt_sweep.specs.Edges.{AtSome, IsAt, Connects, GoesBack, BackBy, CameTo, HadNoTarget, IsTakenBack, WasOn}
 use Rattle.egt_sweep.specs.Laws.{Laws}
 use Rattle.egt_sweep.proofs.Backward.{decided_pawn, taken_back, leads_back}
 use Rattle.egt_sweep.proofs.Onward.{men_moved, gone_from, come_to, elsewhere, arrives_free}
@@ -133,70 +134,37 @@ module _ (laws : Laws) (c : ℕ) (q : Setup) (man : Man) (to : ℕ) (stands : St
       (sound : (s : ℕ) → s < 64 → Has set s → ComesBy (setup_before q man to s None) (plain s to) q)
       (complete : (b : Setup) (m : Move) → m.to ≡ to → ComesBy b m q → Has set m.from)
       (one_before : (b : Setup) (m : Move) → m.to ≡ to → ComesBy b m q → b.target ≡ None → b ≡ setup_before q man to m.from None) where
-    pub gone_none : (old : List ℕ) (k : ℕ) → Contains old k ↔ (Contains old k ⊎ ((came : CameTo column c q to k) × (bit_at set.bits came.move.from ≡ 0)))
-    gone_none old k = (
-      λ has. inl has,
-      λ h. elim h [
-        | inl has ↦ has
-        | inr gone ↦ let has = complete gone.0.before gone.0.move gone.0.here gone.0.comes in let none = gone.1 in absurd (omega (arith, has, none))
-      ],
+    -- the positions with the man on those squares are those from which moves that go on led to his own
+    pub was_came : IsTakenBack column man → (k : ℕ) → AtSome set (WasOn c q man to) k ↔ CameTo column c q to k
+    was_came taken k = (
+      λ was. let from = was.0 in record { before = setup_before q man to from None; move = plain from to; here = refl; comes = sound from was.2.0 was.1; back = back_by column from taken; index = was.2.1 },
+      λ came.
+          let b = one_before came.before came.move came.here came.comes (none_had came.before came.move came.comes) in
+          (came.move.from, complete came.before came.move came.here came.comes, (came.comes.admissible.on_board came.move.from came.comes.leads.man came.comes.leads.stands, subst (λ (x : Setup). IsIndex c x k) b came.index)),
     )
 
-    pub gone_more : (old list new : List ℕ) (rest after : SquareSet) (from i : ℕ) → from < 64 → Has set from → IsTakenBack column man →
-        bit_at after.bits from ≡ 0 → ((t : ℕ) → t ≢ from → bit_at after.bits t ≡ bit_at rest.bits t) →
-        IsIndex c (setup_before q man to from None) i → ((k : ℕ) → Contains new k ↔ (Contains list k ⊎ (k ≡ i))) →
-        ((k : ℕ) → Contains list k ↔ (Contains old k ⊎ ((came : CameTo column c q to k) × (bit_at rest.bits came.move.from ≡ 0)))) →
-        (Has rest from) →
-        (k : ℕ) → Contains new k ↔ (Contains old k ⊎ ((came : CameTo column c q to k) × (bit_at after.bits came.move.from ≡ 0)))
-    gone_more old list new rest after from i from_in has taken gone others is grown so_far had k = (
-      λ there. elim ((grown k).0 there) [
-        | inl listed ↦ ⊎_map (λ o. o) (λ (g : (came : CameTo column c q to k) × (bit_at rest.bits came.move.from ≡ 0)). (g.0, others g.0.move.from (λ e. let one : bit_at rest.bits g.0.move.from ≡ 1 = subst (λ s. Has rest s) (sym e) had in let none = g.1 in omega (arith, one, none)) ∙ g.1)) ((so_far k).0 listed)
-        | inr e ↦ inr (record { before = setup_before q man to from None; move = plain from to; here = refl; comes = sound from from_in has; back = back_by column from taken; index = subst (IsIndex c (setup_before q man to from None)) (sym e) is }, gone)
-      ],
-      λ h. (grown k).1 (elim h [
-        | inl o ↦ inl ((so_far k).1 (inl o))
-        | inr g ↦ elim (cases_eq g.0.move.from from) [
-          | inr apart ↦ inl ((so_far k).1 (inr (g.0, sym (others g.0.move.from apart) ∙ g.1)))
-          | inl e ↦
-              let came = g.0 in
-              let b = one_before came.before came.move came.here came.comes (none_had came.before came.move came.comes) ∙ ap (λ s. setup_before q man to s None) e in
-              inr (laws.facts.one_index (setup_before q man to from None) c k i (sound from from_in has).admissible (subst (λ (x : Setup). IsIndex c x k) b came.index) is)
-        ]
-      ]),
-    )
-
-    pub gone_all : (old list : List ℕ) (rest : SquareSet) → ((s : ℕ) → bit_at rest.bits s ≡ 0) →
-        ((k : ℕ) → Contains list k ↔ (Contains old k ⊎ ((came : CameTo column c q to k) × (bit_at rest.bits came.move.from ≡ 0)))) →
-        (k : ℕ) → Contains list k ↔ (Contains old k ⊎ CameTo column c q to k)
-    gone_all old list rest empty so_far k = (
-      λ has. ⊎_map (λ o. o) (λ (g : (came : CameTo column c q to k) × (bit_at rest.bits came.move.from ≡ 0)). g.0) ((so_far k).0 has),
-      λ h. (so_far k).1 (⊎_map (λ o. o) (λ (came : CameTo column c q to k). (came, empty came.move.from)) h),
-    )
+-- moves of the game are the king's
+pub king_back : (column : Column) (side : Side) → IsTakenBack column (king_of side)
+king_back Mate side = tt
+king_back Zeroing side = λ e. cc
 
 -- ---- all men of the side that waits
 
+-- a square of a set is in one of its two parts
+pub in_part : (all under low high : SquareSet) → ((t : ℕ) → bit_at low.bits t ≡ min (bit_at all.bits t) (bit_at under.bits t)) → ((t : ℕ) → bit_at high.bits t ≡ min (bit_at all.bits t) (1 - bit_at low.bits t)) →
+    (s : ℕ) → Has all s ↔ (Has low s ⊎ Has high s)
+in_part all under low high lower higher s = (
+  λ has. elim (cases_eq (bit_at low.bits s) 1) [
+    | inl here ↦ inl here
+    | inr off ↦ inr (let small = bit_at-lt low.bits s in let e = higher s in omega (arith, has, off, small, e))
+  ],
+  λ h. elim h [
+    | inl here ↦ let small = bit_at-lt all.bits s in let e = lower s in omega (arith, here, small, e)
+    | inr there ↦ let small = bit_at-lt all.bits s in let e = higher s in omega (arith, there, small, e)
+  ],
+)
+
 module _ (laws : Laws) (c : ℕ) (below : c < 36) (column : Column) (q : Setup) where
-  -- the moves to squares outside the set come from the listed
-  pub came_none : (set : SquareSet) → ((s : ℕ) → IsHeld q.men s (other_side q.side) → Has set s) → (list : List ℕ) → list ≡ [] → (k : ℕ) → Contains list k ↔ ((to : ℕ) × (bit_at set.bits to ≡ 0) × CameTo column c q to k)
-  came_none set held list empty k = (
-    λ has. absurd (let c = subst (λ (xs : List ℕ). Contains xs k) empty has in omega (arith, c.1)),
-    λ h. absurd (let has = held h.0 (subst (λ s. IsHeld q.men s (other_side q.side)) h.2.here (came_held h.2.before q h.2.move h.2.comes)) in let none = h.1 in omega (arith, has, none)),
-  )
-
-  pub came_more : (list new : List ℕ) (rest after : SquareSet) (to : ℕ) → bit_at after.bits to ≡ 0 → ((t : ℕ) → t ≢ to → bit_at after.bits t ≡ bit_at rest.bits t) → Has rest to →
-      ((k : ℕ) → Contains new k ↔ (Contains list k ⊎ CameTo column c q to k)) → ((k : ℕ) → Contains list k ↔ ((to : ℕ) × (bit_at rest.bits to ≡ 0) × CameTo column c q to k)) →
-      (k : ℕ) → Contains new k ↔ ((to : ℕ) × (bit_at after.bits to ≡ 0) × CameTo column c q to k)
-  came_more list new rest after to gone others had grown so_far k = (
-    λ has. elim ((grown k).0 has) [
-      | inl listed ↦ let g = (so_far k).0 listed in (g.0, others g.0 (λ e. let one : bit_at rest.bits g.0 ≡ 1 = subst (λ s. Has rest s) (sym e) had in let none = g.1 in omega (arith, one, none)) ∙ g.1, g.2)
-      | inr came ↦ (to, gone, came)
-    ],
-    λ h. (grown k).1 (elim (cases_eq h.0 to) [
-      | inl e ↦ inr (subst (λ s. CameTo column c q s k) e h.2)
-      | inr apart ↦ inl ((so_far k).1 (h.0, sym (others h.0 apart) ∙ h.1, h.2))
-    ]),
-  )
-
   came_connects : (j k to : ℕ) → IsAt c j q → CameTo column c q to k → Connects column c k j
   came_connects j k to at came =
       let d = decided_pawn came.before.men came.move.from in
@@ -222,12 +190,29 @@ module _ (laws : Laws) (c : ℕ) (below : c < 36) (column : Column) (q : Setup) 
       goes Mate is = tt
       goes Zeroing is = λ pawn. is ((taken_back laws c below column k j q at edge).1.1.pawn.1 pawn)
 
-  -- they are the edges to the index
-  pub came_edges : (j : ℕ) → IsAt c j q → (list : List ℕ) (rest : SquareSet) → ((s : ℕ) → bit_at rest.bits s ≡ 0) →
-      ((k : ℕ) → Contains list k ↔ ((to : ℕ) × (bit_at rest.bits to ≡ 0) × CameTo column c q to k)) → (k : ℕ) → Contains list k ↔ Connects column c k j
-  came_edges j at list rest empty so_far k = (
-    λ has. let g = (so_far k).0 has in came_connects j k g.0 at g.2,
-    λ edge. let came = connects_came j k at edge in (so_far k).1 (came.0, empty came.0, came.1),
+  -- the king came from squares of two sets, the other men stand on those of a third: together the edges to the index
+  pub came_edges : (j : ℕ) → IsAt c j q → (man : Man) (king : ℕ) (all low high others : SquareSet) → ((s : ℕ) → IsHeld q.men s (other_side q.side) → s ≢ king → Has others s) →
+      ((s : ℕ) → Has all s ↔ (Has low s ⊎ Has high s)) → ((k : ℕ) → AtSome all (WasOn c q man king) k ↔ CameTo column c q king k) → (old first second third : List ℕ) → old ≡ [] →
+      ((k : ℕ) → Contains first k ↔ (Contains old k ⊎ AtSome low (WasOn c q man king) k)) → ((k : ℕ) → Contains second k ↔ (Contains first k ⊎ AtSome others (CameTo column c q) k)) →
+      ((k : ℕ) → Contains third k ↔ (Contains second k ⊎ AtSome high (WasOn c q man king) k)) → (k : ℕ) → Contains third k ↔ Connects column c k j
+  came_edges j at man king all low high others held parts was old first second third empty with_low with_others with_high k = (
+    λ has. elim ((with_high k).0 has) [
+      | inr h ↦ came_connects j k king at ((was k).0 (h.0, (parts h.0).1 (inr h.1), h.2))
+      | inl before ↦ elim ((with_others k).0 before) [
+        | inr o ↦ came_connects j k o.0 at o.2
+        | inl start ↦ elim ((with_low k).0 start) [
+          | inr l ↦ came_connects j k king at ((was k).0 (l.0, (parts l.0).1 (inl l.1), l.2))
+          | inl none ↦ absurd (let c = subst (λ (xs : List ℕ). Contains xs k) empty none in omega (arith, c.1))
+        ]
+      ]
+    ],
+    λ edge. let came = connects_came j k at edge in elim (cases_eq came.0 king) [
+      | inr apart ↦ (with_high k).1 (inl ((with_others k).1 (inr (came.0, held came.0 (subst (λ s. IsHeld q.men s (other_side q.side)) came.1.here (came_held came.1.before q came.1.move came.1.comes)) apart, came.1))))
+      | inl e ↦ let on = (was k).1 (subst (λ s. CameTo column c q s k) e came.1) in elim ((parts on.0).0 on.1) [
+        | inl l ↦ (with_high k).1 (inl ((with_others k).1 (inl ((with_low k).1 (inr (on.0, l, on.2))))))
+        | inr h ↦ (with_high k).1 (inr (on.0, h, on.2))
+      ]
+    ],
   )
 
 -- what is none or what is not there is none

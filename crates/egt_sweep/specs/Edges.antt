@@ -1,15 +1,17 @@
 -- The moves that go on in a class's game, as relations.
-use Rattle.std.specs.Prelude.{◌≡◌, ◌≢◌, ℕ, List, None, IsTrue}
+use Rattle.std.specs.Prelude.{◌≡◌, ◌≢◌, ◌<◌, ℕ, List, None, IsTrue}
 use Rattle.std.specs.List.{Contains}
 use Rattle.egt_board.specs.Setup.{Setup}
 use Rattle.egt_board.specs.declared.man.Kind.TheVariants.{P}
 use Rattle.egt_board.specs.declared.man.Man.{Man}
+use Rattle.egt_board.specs.declared.square_set.SquareSet.{SquareSet}
+use Rattle.egt_board.specs.SquareSet.{Has}
 use Rattle.egt_index.specs.Code.{Spells}
 use Rattle.egt_index.specs.Index.{IsIndex}
 use Rattle.egt_moves.specs.Chess.{Zeroes, IsPawnOn}
 use Rattle.egt_moves.specs.Legal.{Leads}
 use Rattle.egt_moves.specs.declared.chess_move.Move.{Move}
-use Rattle.egt_unmoves.specs.Unmoves.{ComesBy}
+use Rattle.egt_unmoves.specs.Unmoves.{ComesBy, setup_before}
 use Rattle.egt_unmoves.specs.declared.unmove.Unmove.{Unmove}
 use Rattle.egt_table.specs.declared.column.Column.{Column}
 use Rattle.egt_table.specs.declared.column.Column.TheVariants.{Mate, Zeroing}
@@ -73,3 +75,11 @@ IsTakenBack Zeroing man = man.kind ≢ P
 -- no position before had a target
 abbrev pub HadNoTarget : Setup → Type 0
 HadNoTarget q = (b : Setup) (m : Move) → ComesBy b m q → b.target ≡ None
+
+-- the index k goes with some square of the set
+abbrev pub AtSome : SquareSet → (ℕ → ℕ → Type 0) → ℕ → Type 0
+AtSome set goes k = (s : ℕ) × Has set s × goes s k
+
+-- with the man of the one square back on the other, the position before has the index k
+abbrev pub WasOn : ℕ → Setup → Man → ℕ → ℕ → ℕ → Type 0
+WasOn c q man to s k = (s < 64) × IsIndex c (setup_before q man to s None) k

@@ -6,6 +6,7 @@ mod anchor;
 mod ascending;
 mod build_fault;
 mod building;
+mod by_squares;
 mod edges;
 mod laws;
 mod leaving;

@@ -4,21 +4,21 @@ ghost use Rattle.std.specs.List.{Contains};
 ghost use Rattle.std.specs.List.Sorted.{IsStrictlyIncreasing};
 ghost use Rattle.arrayvec.specs.ArrayVec.{array_vec_len};
 ghost use Rattle.egt_class.specs.Membership.{IsOf};
-ghost use Rattle.egt_board.specs.Man.{other_side};
 ghost use Rattle.egt_board.specs.Pawn.{pawn_of};
-ghost use Rattle.egt_board.specs.Placement.{IsHeld, Stands};
+ghost use Rattle.egt_board.specs.Placement.{Stands};
 ghost use Rattle.egt_board.specs.Settled.{IsSettled};
 ghost use Rattle.egt_index.specs.Frame.{IsFrame};
-ghost use Rattle.egt_sweep.specs.Edges.{IsAt, GoesBack, ComesFrom, Connects, CameTo, HadNoTarget, IsTakenBack};
+ghost use Rattle.egt_sweep.specs.Edges.{IsAt, GoesBack, ComesFrom, Connects, HadNoTarget};
 
 use crate::ascending::put;
+use crate::by_squares::sources_by_squares;
 use crate::laws::laws;
 use arrayvec::ArrayVec;
-use egt_board::{Kind, Man, Position, Side, Square, SquareSet};
+use egt_board::{Position, Side, SquareSet};
 use egt_class::Class;
 use egt_index::{Frame, index};
 use egt_table::Column;
-use egt_unmoves::{Unmove, quiet_sources, target_before, unmoves};
+use egt_unmoves::{Unmove, target_before, unmoves};
 
 /// Whether the move that the unmove takes back goes on in the game.
 fn goes_back(column: Column, unmove: &Unmove) -> bool
@@ -65,76 +65,6 @@ fn sources_by_unmoves(
     let unmoves = unmoves(position);
     for unmove in unmoves.as_slice() {
         add_source(column, class, unmove, list);
-    }
-}
-
-/// Whether the game goes back by the man's moves.
-fn goes_back_by(column: Column, man: Man) -> bool
-    ensures { IsTrue result ↔ IsTakenBack column man }
-{
-    match column {
-        Column::Mate => true,
-        Column::Zeroing => man.kind != Kind::P,
-    }
-}
-
-/// Adds the indexes from which the man on `to` came, if its moves go on. Neither has the position a target, nor had one before.
-fn add_sources_of(
-    column: Column,
-    class: Class,
-    frame: &Frame,
-    position: &Position,
-    to: Square,
-    list: &mut ArrayVec<u32, 128>,
-)
-    requires of { (flipped : Bool) × IsOf class flipped position.now }
-    requires held { IsHeld position.now.men to (other_side position.now.side) }
-    requires frame { IsFrame position.now frame.now }
-    requires class { frame.now.class ≡ class }
-    requires untargeted { position.now.target ≡ None }
-    requires before { HadNoTarget position.now }
-    requires ascending { IsStrictlyIncreasing list.old.items }
-    requires room { array_vec_len list.old + 28 ≤ 128 }
-    ensures ascending { IsStrictlyIncreasing list.new.items }
-    ensures members { (k : ℕ) → Contains list.new.items k ↔ (Contains list.old.items k ⊎ CameTo column class position.now to k) }
-    ensures few { array_vec_len list.new ≤ array_vec_len list.old + 28 }
-{
-    laws();
-    let _number = class.number();
-    let _side = position.side();
-    let man = position.at(to).unwrap();
-    if !goes_back_by(column, man) {
-        return;
-    }
-    let steps = frame.steps(to);
-    let mut rest = quiet_sources(position, man, to);
-    while let Some(from) = rest.pop_first() {
-        put(list, steps.index_to(from));
-    }
-}
-
-/// The same, where neither the position has a target nor had one before: no position before is made.
-fn sources_by_squares(
-    column: Column,
-    class: Class,
-    frame: &Frame,
-    position: &Position,
-    list: &mut ArrayVec<u32, 128>,
-)
-    requires empty { list.old.items ≡ [] }
-    requires of { (flipped : Bool) × IsOf class flipped position.now }
-    requires frame { IsFrame position.now frame.now }
-    requires class { frame.now.class ≡ class }
-    requires untargeted { position.now.target ≡ None }
-    requires before { HadNoTarget position.now }
-    ensures ascending { IsStrictlyIncreasing list.new.items }
-    ensures exact { (j : ℕ) → IsAt class j position.now → (k : ℕ) → Contains list.new.items k ↔ Connects column class k j }
-{
-    laws();
-    let _number = class.number();
-    let mut rest = position.of(position.side().other());
-    while let Some(to) = rest.pop_first() {
-        add_sources_of(column, class, frame, position, to, list);
     }
 }
 

@@ -1,0 +1,174 @@
+//! The moves that go on, backwards, by the squares that men left: no position before is made.
+ghost use Rattle.std.specs.Prelude.{◌≡◌, ◌≢◌, ◌↔◌, ◌+◌, ◌*◌, ◌≤◌, ◌<◌, ◌⊎◌, ℕ, Bool, None, [], IsTrue};
+ghost use Rattle.std.specs.List.{Contains};
+ghost use Rattle.std.specs.List.Sorted.{IsStrictlyIncreasing};
+ghost use Rattle.arrayvec.specs.ArrayVec.{array_vec_len};
+ghost use Rattle.egt_class.specs.Membership.{IsOf};
+ghost use Rattle.egt_board.specs.Attack.{king_of};
+ghost use Rattle.egt_board.specs.Man.{other_side};
+ghost use Rattle.egt_board.specs.Placement.{IsHeld, Stands};
+ghost use Rattle.egt_board.specs.SquareSet.{Has, size_of};
+ghost use Rattle.egt_index.specs.Frame.{IsFrame, IsMoved};
+ghost use Rattle.egt_index.specs.Steps.{AreSteps};
+ghost use Rattle.egt_unmoves.specs.Unmoves.{setup_before};
+ghost use Rattle.egt_sweep.specs.Edges.{AtSome, IsAt, Connects, CameTo, HadNoTarget, IsTakenBack, WasOn};
+
+use crate::ascending::put;
+use crate::laws::laws;
+use arrayvec::ArrayVec;
+use egt_board::{Kind, Man, Position, Side, Square, SquareSet};
+use egt_class::Class;
+use egt_index::{Frame, Steps};
+use egt_table::Column;
+use egt_unmoves::quiet_sources;
+
+/// The squares of lesser numbers.
+fn below(square: Square) -> SquareSet
+    ensures { (t : ℕ) → Has result t ↔ t < square }
+{
+    SquareSet {
+        bits: (1 << square.number()) - 1,
+    }
+}
+
+/// The squares of that side's men other than the king.
+fn beside_king(position: &Position, side: Side, king: Square) -> SquareSet
+    requires { Stands position.now.men king (king_of side) }
+    ensures held { (s : ℕ) → Has result s ↔ (IsHeld position.now.men s side × (s ≢ king)) }
+    ensures few { size_of result ≤ 2 }
+{
+    position.of(side).less(king)
+}
+
+/// Whether the game goes back by the man's moves.
+fn goes_back_by(column: Column, man: Man) -> bool
+    ensures { IsTrue result ↔ IsTakenBack column man }
+{
+    match column {
+        Column::Mate => true,
+        Column::Zeroing => man.kind != Kind::P,
+    }
+}
+
+/// Adds the indexes of the positions in which the man on `to` stands on one of these squares and nothing else differs. The steps are
+/// his. It is inlined so that they stay in registers.
+#[inline(always)]
+fn add_left(
+    class: Class,
+    steps: &Steps,
+    position: &Position,
+    man: Man,
+    to: Square,
+    squares: SquareSet,
+    list: &mut ArrayVec<u32, 128>,
+)
+    requires steps { AreSteps position.now class to steps.now }
+    requires moved { (s : ℕ) → s < 64 → Has squares s → IsMoved class position.now to s (setup_before position.now man to s None) }
+    requires ascending { IsStrictlyIncreasing list.old.items }
+    requires room { array_vec_len list.old + size_of squares ≤ 128 }
+    ensures ascending { IsStrictlyIncreasing list.new.items }
+    ensures members { (k : ℕ) → Contains list.new.items k ↔ (Contains list.old.items k ⊎ AtSome squares (WasOn class position.now man to) k) }
+    ensures few { array_vec_len list.new ≤ array_vec_len list.old + size_of squares }
+{
+    laws();
+    let mut rest = squares;
+    while let Some(from) = rest.pop_first() {
+        put(list, steps.index_to(from));
+    }
+}
+
+/// Adds the indexes from which the man on `to` came, if its moves go on. Neither has the position a target, nor had one before.
+fn add_sources_of(
+    column: Column,
+    class: Class,
+    frame: &Frame,
+    position: &Position,
+    to: Square,
+    list: &mut ArrayVec<u32, 128>,
+)
+    requires of { (flipped : Bool) × IsOf class flipped position.now }
+    requires held { IsHeld position.now.men to (other_side position.now.side) }
+    requires frame { IsFrame position.now frame.now }
+    requires class { frame.now.class ≡ class }
+    requires untargeted { position.now.target ≡ None }
+    requires before { HadNoTarget position.now }
+    requires ascending { IsStrictlyIncreasing list.old.items }
+    requires room { array_vec_len list.old + 28 ≤ 128 }
+    ensures ascending { IsStrictlyIncreasing list.new.items }
+    ensures members { (k : ℕ) → Contains list.new.items k ↔ (Contains list.old.items k ⊎ CameTo column class position.now to k) }
+    ensures few { array_vec_len list.new ≤ array_vec_len list.old + 28 }
+{
+    laws();
+    let _side = position.side();
+    let man = position.at(to).unwrap();
+    if !goes_back_by(column, man) {
+        return;
+    }
+    let steps = frame.steps(to);
+    let sources = quiet_sources(position, man, to);
+    add_left(class, &steps, position, man, to, sources, list);
+}
+
+/// Adds the indexes from which the men on these squares came, if their moves go on.
+fn add_others(
+    column: Column,
+    class: Class,
+    frame: &Frame,
+    position: &Position,
+    men: SquareSet,
+    list: &mut ArrayVec<u32, 128>,
+)
+    requires of { (flipped : Bool) × IsOf class flipped position.now }
+    requires held { (s : ℕ) → Has men s → IsHeld position.now.men s (other_side position.now.side) }
+    requires frame { IsFrame position.now frame.now }
+    requires class { frame.now.class ≡ class }
+    requires untargeted { position.now.target ≡ None }
+    requires before { HadNoTarget position.now }
+    requires ascending { IsStrictlyIncreasing list.old.items }
+    requires room { array_vec_len list.old + 28 * size_of men ≤ 128 }
+    ensures ascending { IsStrictlyIncreasing list.new.items }
+    ensures members { (k : ℕ) → Contains list.new.items k ↔ (Contains list.old.items k ⊎ AtSome men (CameTo column class position.now) k) }
+    ensures few { array_vec_len list.new ≤ array_vec_len list.old + 28 * size_of men }
+{
+    let mut rest = men;
+    while let Some(to) = rest.pop_first() {
+        add_sources_of(column, class, frame, position, to, list);
+    }
+}
+
+/// Fills the list with the indexes from which moves that go on lead to the settled position, where neither it has a target nor had one
+/// before. The king's squares weigh most in an index, so those below his own come first and those above it last: then most indexes
+/// are the greatest so far, and few numbers are shifted.
+pub(crate) fn sources_by_squares(
+    column: Column,
+    class: Class,
+    frame: &Frame,
+    position: &Position,
+    list: &mut ArrayVec<u32, 128>,
+)
+    requires empty { list.old.items ≡ [] }
+    requires of { (flipped : Bool) × IsOf class flipped position.now }
+    requires frame { IsFrame position.now frame.now }
+    requires class { frame.now.class ≡ class }
+    requires untargeted { position.now.target ≡ None }
+    requires before { HadNoTarget position.now }
+    ensures ascending { IsStrictlyIncreasing list.new.items }
+    ensures exact { (j : ℕ) → IsAt class j position.now → (k : ℕ) → Contains list.new.items k ↔ Connects column class k j }
+{
+    laws();
+    let _number = class.number();
+    let side = position.side().other();
+    let man = Man {
+        side,
+        kind: Kind::K,
+    };
+    let king = position.king(side);
+    let steps = frame.steps(king);
+    let sources = quiet_sources(position, man, king);
+    let low = sources.common(below(king));
+    let high = sources.without(low);
+    let others = beside_king(position, side, king);
+    add_left(class, &steps, position, man, king, low, list);
+    add_others(column, class, frame, position, others, list);
+    add_left(class, &steps, position, man, king, high, list);
+}
