@@ -39,3 +39,4 @@ pub mod Boarding
 pub mod Scaled
 pub mod Lined
 pub mod AtIndex
+pub mod Rows
