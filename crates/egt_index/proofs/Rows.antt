@@ -5,19 +5,22 @@ use Rattle.std.proofs.lemmas.Bool.{cases_eq, false≢true}
 use Rattle.egt_board.specs.declared.man.Side.{Side}
 use Rattle.egt_board.specs.declared.man.Side.TheVariants.{White, Black}
 use Rattle.egt_board.specs.declared.man.Man.{Man}
-use Rattle.egt_board.specs.Images.{side_number}
+use Rattle.egt_board.specs.Images.{count_of, side_number}
 use Rattle.egt_board.specs.Listed.{men_of, FitsBoard}
+use Rattle.egt_board.specs.Placement.{Placement}
 use Rattle.egt_board.specs.Settled.{IsSettled}
 use Rattle.egt_board.specs.Setup.{Setup}
 use Rattle.egt_class.specs.Material.{Material, material_of}
 use Rattle.egt_index.specs.Beaten.{SpellsAt}
 use Rattle.egt_index.specs.Code.{Spells}
 use Rattle.egt_index.specs.Digits.{number_from}
-use Rattle.egt_index.specs.Row.{row_len, IsVoidRow}
+use Rattle.egt_index.specs.Frame.{IsFrame}
+use Rattle.egt_index.specs.Row.{row_len, IsInRow, IsRowFrame, IsVoidRow}
 use Rattle.egt_index.specs.Scales.{ends_of}
 use Rattle.egt_index.specs.Size.{has_target}
 use Rattle.egt_index.specs.Spelled.{Ends, SpellsMen, SpellsNoMen}
-use Rattle.egt_index.specs.Stood.{AllApart, HasStand, list_of}
+use Rattle.egt_index.specs.Stood.{AllApart, HasStand, Stood, list_of}
+use Rattle.egt_index.specs.declared.frame.Frame.{Frame}
 use Rattle.egt_index.specs.declared.stand.Stand.{Stand}
 use Rattle.egt_index.proofs.Classes.{spells_class}
 use Rattle.egt_index.proofs.Decoded.{list_spelled, no_men}
@@ -100,3 +103,30 @@ module _ (c n code : ℕ) (stand : Stand) (p : Setup) (row : code / row_len c �
     side_is = refl;
     target_is = refl;
   }
+
+-- the frame of one position of a row, with the other's side to move
+abbrev pub turned_to : Side → Frame → Frame
+turned_to side frame = record { class = frame.class; flipped = frame.flipped; side = side; stand = frame.stand; own = frame.own; exchanged = frame.exchanged }
+
+pub frame_turned : (c : ℕ) (stand : Stand) (p : Setup) (frame : Frame) → IsRowFrame c stand frame → IsInRow c stand p → IsFrame p (turned_to p.side frame)
+frame_turned c stand p frame row here = record {
+  passed = here.passed;
+  stand = record {
+    admissible = here.stands.admissible;
+    settled = here.stands.settled;
+    is_of = record { men = λ man. ap (λ (men : Placement). count_of men man) same ∙ there.is_of.men man };
+    stood = subst (λ (men : Placement). Stood frame.class frame.flipped men (list_of frame.stand)) (sym same) there.stood;
+    side_is = refl;
+    target_is = here.stands.target_is;
+  };
+  filled = row.is_frame.filled;
+  own = row.is_frame.own;
+  equal = row.is_frame.equal;
+  exchanged = row.is_frame.exchanged;
+}
+  where
+    there : HasStand frame.class frame.flipped frame.stand frame.side row.is_frame.passed row.position
+    there = row.is_frame.stand
+
+    same : p.men ≡ row.position.men
+    same = here.men ∙ sym row.in_row.men

@@ -1,13 +1,13 @@
 //! The positions that codes spell, row by row: the codes of a row differ in no more than the side to move and the target, so the same
 //! men stand on the same squares.
-ghost use Rattle.std.specs.Prelude.{◌≡◌, ◌/◌, ◌%◌, ◌↔◌, true, false, IsTrue, IfSome, IfNone};
+ghost use Rattle.std.specs.Prelude.{◌≡◌, ◌/◌, ◌%◌, ◌↔◌, ℕ, true, false, IsTrue, IsSome, IfSome, IfNone};
 ghost use Rattle.egt_board.specs.Settled.{IsSettled};
 ghost use Rattle.egt_board.specs.Setup.{Setup};
 ghost use Rattle.egt_index.specs.Beaten.{SpellsAt};
 ghost use Rattle.egt_index.specs.Code.{Spells};
 ghost use Rattle.egt_index.specs.Frame.{IsFrame};
 ghost use Rattle.egt_index.specs.Index.{IsIndex, IsVoid};
-ghost use Rattle.egt_index.specs.Row.{row_len, IsInRow, IsRow, IsRowOf};
+ghost use Rattle.egt_index.specs.Row.{row_len, IsInRow, IsRow, IsTurnedTo, IsRowOf};
 ghost use Rattle.egt_index.specs.Stood.{HasStand};
 
 use crate::beaten::{Told, is_least, told_of_images};
@@ -27,6 +27,8 @@ pub struct Row {
     board: Board,
     /// Whether each code is to be compared with those of images.
     tied: bool,
+    /// The frame of the last position that was found, if there was one: those of others have another side to move at most.
+    frame: Option<Frame>,
 }
 
 /// Whether the code is the first of its row.
@@ -64,6 +66,7 @@ pub fn row_of(class: Class, code: u32) -> Option<Row>
         stand,
         board,
         tied,
+        frame: None,
     })
 }
 
@@ -91,7 +94,7 @@ impl Row {
         ensures spells { IfSome result (λ p. Spells self.now.class code p) }
         ensures settled { IfSome result IsSettled }
         ensures index { IfSome result (λ p. IsIndex self.now.class p code) }
-        ensures row { IfSome result (IsInRow self.now) }
+        ensures row { IfSome result (IsInRow self.now.class self.now.stand) }
         ensures void { IfNone result (IsVoid self.now.class code) }
     {
         facts();
@@ -114,14 +117,30 @@ impl Row {
         }
     }
 
-    /// The frame of a position that a code of the row spells.
+    /// Turns the frame to a position that a code of the row spells. It is made for the first one alone.
     #[inline(always)]
-    pub fn frame_of(&self, position: &Position) -> Frame
-        requires { IsInRow self.now position.now }
-        ensures frame { IsFrame position.now result }
-        ensures class { result.class ≡ self.now.class }
+    pub fn turn_to(&mut self, position: &Position)
+        requires row { (n : ℕ) × IsRow n self.old }
+        requires of { IsInRow self.old.class self.old.stand position.now }
+        ensures row { (n : ℕ) → IsRow n self.old → IsRow n self.new }
+        ensures class { self.new.class ≡ self.old.class }
+        ensures frame { IsTurnedTo position.now self.new }
     {
-        Frame::of_stand(self.class, false, &self.stand, position.side())
+        let side = position.side();
+        match &mut self.frame {
+            Some(frame) => frame.side = side,
+            None => self.frame = Some(Frame::of_stand(self.class, false, &self.stand, side)),
+        }
+    }
+
+    /// The frame of the position to which the row was turned.
+    #[inline(always)]
+    pub fn frame(&self) -> &Frame
+        requires { IsSome self.now.frame }
+        ensures frame { (p : Setup) → IsTurnedTo p self.now → IsFrame p result.now }
+        ensures class { (p : Setup) → IsTurnedTo p self.now → result.now.class ≡ self.now.class }
+    {
+        self.frame.as_ref().unwrap()
     }
 }
 

@@ -50,5 +50,6 @@ returns c = (
     board = c.board_of-board.ensures.men;
     few = c.board_of-board.ensures.few;
     least = all_least c;
+    frame = tt;
   },
 )

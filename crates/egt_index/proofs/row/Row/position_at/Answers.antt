@@ -1,4 +1,4 @@
-use Rattle.std.proofs.Common.{◌≡◌, ◌/◌, Bool, true, false, sym, ◌∙◌, refl, subst, arith, IfNone}
+use Rattle.std.proofs.Common.{◌≡◌, ◌/◌, Bool, true, false, sym, ◌∙◌, refl, ap, subst, arith, IfNone}
 use Rattle.std.proofs.lemmas.Bool.{false≢true}
 use Rattle.egt_board.specs.declared.man.Side.TheVariants.{White, Black}
 use Rattle.egt_board.specs.Listed.{setup_of}
@@ -101,7 +101,8 @@ pub returns-then-is_settled-clause-row : goal.returns-then-is_settled-clause-row
 returns-then-is_settled-clause-row c =
     let has = stands c.before (c.is_settled.ensures.0 c.if-is_settled.true) in record {
       passed = c.ends-side.result.2;
-      stand = subst (λ side. HasStand c.args.self.now.class false c.args.self.now.stand side c.ends-side.result.2 c.in_ok-position.position) (sym has.side_is) has;
+      stands = subst (λ side. HasStand c.args.self.now.class false c.args.self.now.stand side c.ends-side.result.2 c.in_ok-position.position) (sym has.side_is) has;
+      men = ap (λ (p : Setup). p.men) (is_setup c.before);
       filled = c.requires.filled;
     }
 
