@@ -55,7 +55,7 @@ fn judge_all(table: &Table, library: &Library) -> Result<(), Reject>
         if begins_row(table.class(), index) {
             row = row_of(table.class(), index);
         }
-        let (mate, zeroing) = judge(table, library, &row, index);
+        let (mate, zeroing) = judge(table, library, &mut row, index);
         if let Some(rule) = mate {
             return Err(Reject::Rejected {
                 column: Column::Mate,

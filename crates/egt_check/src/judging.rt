@@ -146,12 +146,13 @@ fn judge_voids(entries: &ByColumn) -> (Option<Rule>, Option<Rule>)
 pub(crate) fn judge(
     table: &Table,
     library: &Library,
-    row: &Option<Row>,
+    row: &mut Option<Row>,
     index: u32,
 ) -> (Option<Rule>, Option<Rule>)
     requires inside { index < size_of table.now.class }
     requires children { HasChildren (table_at library.now) table.now.class }
-    requires row { IsRowOf table.now.class (index / row_len table.now.class) row.now }
+    requires row { IsRowOf table.now.class (index / row_len table.now.class) row.old }
+    ensures row { IsRowOf table.now.class (index / row_len table.now.class) row.new }
     ensures mate { IsJudged (beside (table_at library.now) table.now) table.now Mate index result.0 }
     ensures zeroing { IsJudged (beside (table_at library.now) table.now) table.now Zeroing index result.1 }
 {
@@ -164,8 +165,8 @@ pub(crate) fn judge(
     match row.position_at(index) {
         None => judge_voids(&entries),
         Some(position) => {
-            let frame = row.frame_of(&position);
-            let due = due(table, library, &frame, &position);
+            row.turn_to(&position);
+            let due = due(table, library, row.frame(), &position);
             (
                 judge_mate(entries.mate, due.mate),
                 judge_zeroing(entries.mate, entries.zeroing, due.zeroing),

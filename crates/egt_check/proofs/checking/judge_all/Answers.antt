@@ -7,12 +7,12 @@ use Rattle.egt_check.specs.FirstBad.{IsFirstBad}
 use Rattle.egt_check.specs.Rules.{IsJudged}
 use Rattle.egt_check.specs.Tables.{table_at, beside}
 use Rattle.egt_check.proofs.Judged.{same_row, keeps_more, first_bad_more, keeps_all}
-use Rattle.egt_check.proofs.checking.judge_all.Goals.{After-row-1, then-begins_row, else-begins_row}
+use Rattle.egt_check.proofs.checking.judge_all.Goals.{then-begins_row, else-begins_row}
 use Rattle.egt_check.proofs.checking.judge_all.Goals as goal
 
--- the row of the index: a new one, or that of the index before
-row_there : (c : After-row-1) → IsRowOf c.args.table.now.class (c.loop-index.index / row_len c.args.table.now.class) c.if-begins_row.row
-row_there c =
+-- a new row, or that of the index before
+pub judge-mate-requires-clause-row : goal.judge-mate-requires-clause-row
+judge-mate-requires-clause-row c =
     let class = c.args.table.now.class in
     let n = c.loop-index.index in
     elim c.if-begins_row.branch [
@@ -21,9 +21,6 @@ row_there c =
           (λ first. false≢true (sym w.if-begins_row.false ∙ c.begins_row.ensures.1 (ap (λ (k : ℕ). n % row_len k) c.class-in-loop-index.ensures.class ∙ first))))
     ]
 
-pub judge-mate-requires-clause-row : goal.judge-mate-requires-clause-row
-judge-mate-requires-clause-row c = row_there c
-
 pub loop-index-preserved : goal.loop-index-preserved
 loop-index-preserved c =
     let tables = beside (table_at c.args.library.now) c.args.table.now in
@@ -31,7 +28,7 @@ loop-index-preserved c =
     record {
       mate = keeps_more tables c.args.table.now Mate c.loop-index.index c.loop-index.invariant.mate kept;
       zeroing = subst (IsFirstBad tables c.args.table.now (c.loop-index.index + 1)) (sym c.earlier-bad_zeroing.ensures) (first_bad_more tables c.args.table.now c.loop-index.index c.loop-index.bad_zeroing _ c.loop-index.invariant.zeroing c.judge-mate.ensures.zeroing);
-      row = λ more. subst (λ (k : ℕ). IsRowOf c.args.table.now.class k c.if-begins_row.row) (same_row c.args.table.now.class c.loop-index.index more) (row_there c.before.before.before);
+      row = λ more. subst (λ (k : ℕ). IsRowOf c.args.table.now.class k c.judge-mate.new.row) (same_row c.args.table.now.class c.loop-index.index more) c.judge-mate.ensures.row;
     }
 
 pub returns-in-None-clause-exact : goal.returns-in-None-clause-exact
