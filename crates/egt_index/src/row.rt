@@ -19,7 +19,7 @@ use crate::stand::{Stand, are_apart};
 use egt_board::{Board, Position, Side};
 use egt_class::Class;
 
-/// A row of codes, and where the men stand in each of them.
+/// The codes of a class that differ in no more than the side to move and the target, and where the men stand in all of them.
 #[derive(Clone, Copy)]
 pub struct Row {
     class: Class,
@@ -27,7 +27,7 @@ pub struct Row {
     board: Board,
     /// Whether each code is to be compared with those of images.
     tied: bool,
-    /// The frame of the last position that was found, if there was one: those of others have another side to move at most.
+    /// The frame of the position to which the row was turned, if it was. Its others differ in no more than the side to move.
     frame: Option<Frame>,
 }
 

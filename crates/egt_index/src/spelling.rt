@@ -1,4 +1,4 @@
-//! The position that a code spells.
+//! What the digits of a code spell, and the position of a code that is known to be an index.
 ghost use Rattle.std.specs.Prelude.{◌≡◌, ◌≢◌, ◌<◌, ◌≤◌, ◌↔◌, Bool, true, false, IsTrue, IsSome, IfSome, IfNone, None};
 ghost use Rattle.std.specs.FinMap as map;
 ghost use Rattle.egt_board.specs.Attack.{king_of};
@@ -219,8 +219,8 @@ pub(crate) fn is_settled(position: &Position) -> bool
     position.target().is_none() || position.settle().target().is_some()
 }
 
-/// The settled position whose index this is, and where its men stand: what `found` answers, where the caller knows that there is one.
-/// No test is needed then.
+/// The settled position whose index this is, and where its men stand: what a row answers of its code, where the caller knows that
+/// there is one. No test is needed then.
 #[inline(always)]
 fn at_index(class: Class, index: u32) -> (Position, Stand)
     requires { ¬ IsVoid class index }
@@ -251,7 +251,7 @@ pub fn position_of(class: Class, index: u32) -> Position
     at_index(class, index).0
 }
 
-/// The same, and the frame of the position: what `spelled` answers.
+/// The same, and the frame of the position.
 #[inline(always)]
 pub fn indexed(class: Class, index: u32) -> (Position, Frame)
     requires { ¬ IsVoid class index }
