@@ -1,7 +1,9 @@
 -- One index more is judged.
-use Rattle.std.proofs.Common.{◌≡◌, ℕ, ◌+◌, ◌<◌, ◌≤◌, inl, inr, Option, Some, None, subst, arith}
+use Rattle.std.proofs.Common.{◌≡◌, ◌≢◌, ℕ, ◌+◌, ◌/◌, ◌%◌, Bool, true, false, cond, ◌<◌, ◌≤◌, inl, inr, Option, Some, None, subst, arith}
 use Rattle.std.proofs.lemmas.Bool.{cases_lt}
-use Rattle.egt_index.specs.Size.{size_of}
+use Rattle.egt_class.specs.Material.{material_of}
+use Rattle.egt_index.specs.Row.{row_len}
+use Rattle.egt_index.specs.Size.{has_target, size_of}
 use Rattle.egt_table.specs.declared.column.Column.{Column}
 use Rattle.egt_table.specs.declared.column.Column.TheVariants.{Mate, Zeroing}
 use Rattle.egt_table.specs.Table.{TableValue}
@@ -9,6 +11,14 @@ use Rattle.egt_check.specs.declared.rule.Rule.{Rule}
 use Rattle.egt_check.specs.FirstBad.{earlier, IsFirstBad}
 use Rattle.egt_check.specs.Rules.{Keeps, IsJudged, KeepsBelow, KeepsRules}
 use Rattle.egt_check.specs.Tables.{Tables}
+
+-- the row of the index before
+pub same_row : (c n : ℕ) → (n + 1) % row_len c ≢ 0 → n / row_len c ≡ (n + 1) / row_len c
+same_row c n more = of_targets (has_target (material_of c)) more
+  where
+    of_targets : (targets : Bool) → (n + 1) % cond {A = ℕ} targets 4 2 ≢ 0 → n / cond {A = ℕ} targets 4 2 ≡ (n + 1) / cond {A = ℕ} targets 4 2
+    of_targets true more = omega (arith, more)
+    of_targets false more = omega (arith, more)
 
 module _ (tables : Tables) (t : TableValue) where
   pub keeps_more : (column : Column) (n : ℕ) → KeepsBelow tables t column n → IsJudged tables t column n None → KeepsBelow tables t column (n + 1)

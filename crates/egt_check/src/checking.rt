@@ -11,7 +11,7 @@ use crate::reject::Reject;
 use crate::rule::Rule;
 use egt_class::laws::children_have_smaller_numbers;
 use egt_class::{Class, children};
-use egt_index::size;
+use egt_index::{begins_row, row_of, size};
 use egt_table::{Column, Table};
 
 /// The least child of the class that the library has no table of, if there is one.
@@ -50,8 +50,12 @@ fn judge_all(table: &Table, library: &Library) -> Result<(), Reject>
     ensures reason { IfErr result (IsRefused (table_at library.now) table.now) }
 {
     let mut bad_zeroing = None;
+    let mut row = None;
     for index in 0..size(table.class()) {
-        let (mate, zeroing) = judge(table, library, index);
+        if begins_row(table.class(), index) {
+            row = row_of(table.class(), index);
+        }
+        let (mate, zeroing) = judge(table, library, &mut row, index);
         if let Some(rule) = mate {
             return Err(Reject::Rejected {
                 column: Column::Mate,

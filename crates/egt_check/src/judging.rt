@@ -1,6 +1,7 @@
 //! The judgement of one index's entries.
-ghost use Rattle.std.specs.Prelude.{◌≡◌, ◌↔◌, ◌<◌, ◌==◌, if◌then◌else◌, IsTrue};
+ghost use Rattle.std.specs.Prelude.{◌≡◌, ◌↔◌, ◌<◌, ◌/◌, ◌==◌, if◌then◌else◌, IsTrue};
 ghost use Rattle.egt_index.specs.Frame.{IsFrame};
+ghost use Rattle.egt_index.specs.Row.{row_len, IsRowOf};
 ghost use Rattle.egt_index.specs.Size.{size_of};
 ghost use Rattle.egt_moves.specs.Arena.{NoMove};
 ghost use Rattle.egt_moves.specs.Chess.{chess};
@@ -20,7 +21,7 @@ use crate::rule::Rule;
 use crate::successors::{best, entries_at};
 use egt_board::Position;
 use egt_index::laws::{codes_spell_one_position, spelled_positions_are_of_the_class};
-use egt_index::{Frame, spelled};
+use egt_index::{Frame, Row};
 use egt_moves::{Standing, standing};
 use egt_table::Table;
 
@@ -133,20 +134,39 @@ fn due(table: &Table, library: &Library, frame: &Frame, position: &Position) -> 
     }
 }
 
-/// The first rules that the mate entry and the zeroing entry at an index break, if they break one.
-pub(crate) fn judge(table: &Table, library: &Library, index: u32) -> (Option<Rule>, Option<Rule>)
+/// The first rules that the mate entry and the zeroing entry break where no position has the index, if they break one.
+fn judge_voids(entries: &ByColumn) -> (Option<Rule>, Option<Rule>)
+    ensures mate { FindsVoid entries.now.mate result.0 }
+    ensures zeroing { FindsVoid entries.now.zeroing result.1 }
+{
+    (judge_void(entries.mate), judge_void(entries.zeroing))
+}
+
+/// The first rules that the mate entry and the zeroing entry at an index of the row break, if they break one.
+pub(crate) fn judge(
+    table: &Table,
+    library: &Library,
+    row: &mut Option<Row>,
+    index: u32,
+) -> (Option<Rule>, Option<Rule>)
     requires inside { index < size_of table.now.class }
     requires children { HasChildren (table_at library.now) table.now.class }
+    requires row { IsRowOf table.now.class (index / row_len table.now.class) row.old }
+    ensures row { IsRowOf table.now.class (index / row_len table.now.class) row.new }
     ensures mate { IsJudged (beside (table_at library.now) table.now) table.now Mate index result.0 }
     ensures zeroing { IsJudged (beside (table_at library.now) table.now) table.now Zeroing index result.1 }
 {
     codes_spell_one_position();
     spelled_positions_are_of_the_class();
     let entries = entries_at(table, index);
-    match spelled(table.class(), index) {
-        None => (judge_void(entries.mate), judge_void(entries.zeroing)),
-        Some(found) => {
-            let due = due(table, library, &found.1, &found.0);
+    let Some(row) = row else {
+        return judge_voids(&entries);
+    };
+    match row.position_at(index) {
+        None => judge_voids(&entries),
+        Some(position) => {
+            row.turn_to(&position);
+            let due = due(table, library, row.frame(), &position);
             (
                 judge_mate(entries.mate, due.mate),
                 judge_zeroing(entries.mate, entries.zeroing, due.zeroing),

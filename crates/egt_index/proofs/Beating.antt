@@ -16,21 +16,22 @@ use Rattle.egt_board.specs.Symmetry.{KeepsPlay}
 use Rattle.egt_board.specs.Turned.{turned_square, turned_man}
 use Rattle.egt_class.specs.Material.{Material, material_of, has_equal_sides}
 use Rattle.egt_class.specs.Membership.{IsOf}
-use Rattle.egt_index.specs.Beaten.{Beats, Keeps, KeepsWith, IsBeaten, is_less}
+use Rattle.egt_index.specs.Beaten.{Beats, Keeps, KeepsWith, IsBeaten, IsAsked, TurnBeats, TurnKeeps, is_less}
 use Rattle.egt_index.specs.Code.{Spells, king_square, men_at, target_digits}
 use Rattle.egt_index.specs.Digits.{number_from, number_of, AreDigits}
 use Rattle.egt_index.specs.Facts.{Facts}
-use Rattle.egt_index.specs.Home.{BringsHome, AreHome}
+use Rattle.egt_index.specs.Home.{BringsHome, AreHome, IsTurnWith}
 use Rattle.egt_index.specs.Index.{IsIndex}
 use Rattle.egt_index.specs.Size.{base_of, bases, king_base, men_bases, men_beside, has_pawns, has_target}
 use Rattle.egt_index.specs.Stood.{HasStand, list_of, AllStand, on_square_of}
 use Rattle.egt_index.specs.Turns.{IsTurn, CodeAfter}
+use Rattle.egt_index.specs.declared.beaten.Coded.{Coded}
 use Rattle.egt_index.specs.declared.stand.Stand.{Stand}
 use Rattle.egt_index.proofs.Best.{code_found, turn_number, turn_of}
 use Rattle.egt_index.proofs.Classes.{image_in_colours}
 use Rattle.egt_index.proofs.Coding.{all_digits}
 use Rattle.egt_index.proofs.Exchanged.{stood_exchanged}
-use Rattle.egt_index.proofs.LeastTurn.{none_away, none_exchanged}
+use Rattle.egt_index.proofs.LeastTurn.{keeps_play, none_away, none_exchanged}
 use Rattle.egt_index.proofs.Listing.{AreApart, apart_of, get_here, listed_stands}
 use Rattle.egt_index.proofs.Numbers.{number_from-lt}
 use Rattle.egt_index.proofs.Picking.{lesser_digit, same_digit}
@@ -236,3 +237,22 @@ has_exchanged facts c flipped stand other side passed p c_in equal white black n
   side_is = has.side_is;
   target_is = has.target_is;
 }
+
+-- what a turn tells that exchanges colours so and brings the king home
+module _ (c : ℕ) (flips : Bool) (stand : Stand) (asked : Option Coded) (t : ℕ) (p : Setup) (side : Side) (passed : Bool) (code : ℕ) where
+  in_colours : IsTurnWith (has_pawns (material_of c)) flips t → HasStand c flips stand side passed p → HasStand c (eqb (t / 8) 1) stand side passed p
+  in_colours turn has = subst (λ f. HasStand c f stand side passed p) (sym turn.flips_is) has
+
+  plays : IsTurnWith (has_pawns (material_of c)) flips t → HasStand c flips stand side passed p → KeepsPlay (t % 8) p.men
+  plays turn has = keeps_play c flips p (t % 8) has.admissible has.is_of turn.keeps
+
+  pub turn_beaten : IsTurnWith (has_pawns (material_of c)) flips t → BringsHome (has_pawns (material_of c)) flips stand.white t → TurnBeats c stand asked t → IsAsked asked side passed code
+      → HasStand c flips stand side passed p → Spells c code p → IsBeaten c p code
+  turn_beaten turn brings beats asks has s = (
+    t,
+    turn.below,
+    beats p side passed code asks (in_colours turn has) (plays turn has) (subst (λ f. BringsHome (has_pawns (material_of c)) f stand.white t) (sym turn.flips_is) brings) s,
+  )
+
+  pub turn_kept : IsTurnWith (has_pawns (material_of c)) flips t → TurnKeeps c stand asked t → IsAsked asked side passed code → HasStand c flips stand side passed p → Spells c code p → Keeps c p t code
+  turn_kept turn keeps asks has s = keeps p side passed code asks (in_colours turn has) (plays turn has) s

@@ -40,3 +40,4 @@ pub mod Scaled
 pub mod Lined
 pub mod AtIndex
 pub mod Framed
+pub mod Rows

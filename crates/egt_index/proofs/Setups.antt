@@ -20,7 +20,7 @@ use Rattle.egt_index.specs.Code.{Spells, square_by_digit, placed}
 use Rattle.egt_index.specs.Digits.{AreDigits}
 use Rattle.egt_index.specs.Size.{base_by, base_of, men_beside, men_in_order, has_pawns}
 use Rattle.egt_index.specs.Spelled.{SpellsMen, Ends, IsListed, IsTold}
-use Rattle.egt_index.specs.Stood.{men_among, rest_of, list_of, IsOff, AllApart, AllStand, HasStand}
+use Rattle.egt_index.specs.Stood.{men_among, rest_of, list_of, IsOff, AllApart, AllStand, Stood, HasStand}
 use Rattle.egt_index.specs.declared.stand.Stand.{Stand}
 use Rattle.egt_index.proofs.Classes.{spells_class}
 use Rattle.egt_index.proofs.Coded.{few_men, placed_few}
@@ -164,6 +164,13 @@ target_there false side list target told = ap is_some told
 target_there true side list None told = absurd told
 target_there true side list (Some t) told = refl
 
+-- a position with these men has them in their places
+pub stood_spelled : (c high : ℕ) (stand : Stand) (p : Setup) → SpellsMen (material_of c) high (list_of stand) → AllApart (list_of stand) → IsAdmissible p → p.men ≡ men_of (list_of stand) → Stood c false p.men (list_of stand)
+stood_spelled c high stand p men apart ok is = record {
+  are = men_spelled c high (list_of stand) men;
+  all = subst (λ (m : Placement). AllStand false m (list_of stand)) (sym is) (all_stand (list_of stand) apart (λ s man stands. ok.on_board s man (subst (λ (m : Placement). Stands m s man) (sym is) stands)));
+}
+
 -- the setup has the stand
 pub stand_spelled : (c code high : ℕ) (stand : Stand) (side : Side) (passed : Bool) (target : Option ℕ) → SpellsMen (material_of c) high (list_of stand) → AllApart (list_of stand) → IsTold passed side (list_of stand) target
     → Spells c code (setup_of (list_of stand) side target) → IsSettled (setup_of (list_of stand) side target) → HasStand c false stand side passed (setup_of (list_of stand) side target)
@@ -171,7 +178,7 @@ stand_spelled c code high stand side passed target men apart told spells settled
   admissible = spells.admissible;
   settled = settled;
   is_of = spells_class c code (setup_of (list_of stand) side target) spells;
-  stood = record { are = men_spelled c high (list_of stand) men; all = all_stand (list_of stand) apart spells.admissible.on_board };
+  stood = stood_spelled c high stand (setup_of (list_of stand) side target) men apart spells.admissible refl;
   side_is = refl;
   target_is = target_there passed side (list_of stand) target told;
 }

@@ -1,15 +1,12 @@
-//! Whether a code is the least of all images of the position that it spells, without making the codes of these where their kings
+//! Whether codes are the least of all images of the positions that they spell, without making the codes of these where their kings
 //! tell it.
-ghost use Rattle.std.specs.Prelude.{◌≡◌, ℕ, ◌+◌, ◌*◌, ◌/◌, ◌%◌, ◌<◌, ◌==◌, Bool, true, false, if◌then◌else◌};
+ghost use Rattle.std.specs.Prelude.{◌≡◌, ◌⊎◌, ◌+◌, ◌*◌, ◌<◌, true, false, None, if◌then◌else◌};
 ghost use Rattle.egt_board.specs.Setup.{Setup};
-ghost use Rattle.egt_board.specs.Symmetry.{KeepsPlay};
-ghost use Rattle.egt_class.specs.Material.{material_of, has_equal_sides};
-ghost use Rattle.egt_index.specs.Beaten.{SpellsAt, Beats, Keeps, KeepsWith, IsBeaten, is_less};
-ghost use Rattle.egt_index.specs.Code.{Spells};
-ghost use Rattle.egt_index.specs.Home.{BringsHome};
+ghost use Rattle.egt_class.specs.Material.{has_equal_sides};
+ghost use Rattle.egt_index.specs.Beaten.{SpellsAt, KeepsWith, IsBeaten, AllAsked, TurnBeats, TurnKeeps, is_less};
 ghost use Rattle.egt_index.specs.Index.{IsIndex};
-ghost use Rattle.egt_index.specs.Size.{has_pawns};
 ghost use Rattle.egt_index.specs.Stood.{HasStand};
+ghost use Rattle.egt_index.specs.declared.beaten.Told.TheVariants.{Beaten, Least, Tied};
 
 use crate::facts::facts;
 use crate::home::{home, still_home};
@@ -18,6 +15,25 @@ use crate::men::{has_equal_sides, has_pawns};
 use crate::stand::{Stand, exchanged, is_behind};
 use egt_board::Side;
 use egt_class::Class;
+
+/// A code, and the side to move and whether there is a target in the position that it spells.
+#[derive(Clone, Copy)]
+pub(crate) struct Coded {
+    pub(crate) side: Side,
+    pub(crate) passed: bool,
+    pub(crate) code: u32,
+}
+
+/// What images tell of one code, or of all codes that spell a position with the same men on the same squares.
+#[derive(Clone, Copy)]
+pub(crate) enum Told {
+    /// Some image has a lesser code.
+    Beaten,
+    /// No image has one.
+    Least,
+    /// Images have their kings on the same squares, and so each code is to be asked about alone.
+    Tied,
+}
 
 /// The squares of White's king and of Black's, where the men stand in colours exchanged or not.
 fn kings(stand: &Stand, flips: bool) -> u16
@@ -40,60 +56,110 @@ fn is_less(other: Option<u32>, code: u32) -> bool
     }
 }
 
-/// Whether what the turn, which brings a king home, makes of a settled position has a code less than one that spells the
-/// position. The kings' digits are the highest, so other squares of theirs decide.
+/// What the code tells of one that is less, or not.
+fn told_by_code(is_less: bool) -> Told
+    ensures beaten { result ≡ Beaten → is_less ≡ true }
+    ensures least { result ≡ Least → is_less ≡ false }
+    ensures sure { result ≡ Tied → ⊥ }
+{
+    if is_less { Told::Beaten } else { Told::Least }
+}
+
+/// What two images tell together.
+fn both(one: Told, other: Told) -> Told
+    ensures beaten { result ≡ Beaten → (one ≡ Beaten) ⊎ (other ≡ Beaten) }
+    ensures least { result ≡ Least → (one ≡ Least) × (other ≡ Least) }
+    ensures tied { result ≡ Tied → (one ≡ Tied) ⊎ (other ≡ Tied) }
+{
+    match one {
+        Told::Beaten => Told::Beaten,
+        Told::Least => other,
+        Told::Tied => match other {
+            Told::Beaten => Told::Beaten,
+            _ => Told::Tied,
+        },
+    }
+}
+
+/// What the image tells that the turn, which brings a king home, makes of a settled position. The kings' digits are the highest,
+/// so other squares of theirs decide.
 #[inline(always)]
-fn is_beaten_by(class: Class, stand: &Stand, side: Side, passed: bool, turn: u8, code: u32) -> bool
+fn told_by(class: Class, stand: &Stand, turn: u8, asked: Option<Coded>) -> Told
     requires { turn < 16 }
-    ensures beats { result ≡ true → (p : Setup) → HasStand class (turn / 8 == 1) stand.now side passed p → KeepsPlay (turn % 8) p.men →
-        BringsHome (has_pawns (material_of class)) (turn / 8 == 1) stand.now.white turn → Spells class code p → Beats class p turn code }
-    ensures keeps { result ≡ false → (p : Setup) → HasStand class (turn / 8 == 1) stand.now side passed p → KeepsPlay (turn % 8) p.men →
-        Spells class code p → Keeps class p turn code }
+    ensures beats { result ≡ Beaten → TurnBeats class stand.now asked turn }
+    ensures keeps { result ≡ Least → TurnKeeps class stand.now asked turn }
+    ensures sure { result ≡ Tied → asked ≡ None }
 {
     facts();
     let _number = class.number();
     let own = kings(stand, turn / 8 == 1);
     let image = kings_after(stand, turn);
-    if image == own {
-        is_less(code_after(class, stand, side, passed, turn), code)
-    } else {
-        image < own
+    if image < own {
+        return Told::Beaten;
+    }
+    if own < image {
+        return Told::Least;
+    }
+    match asked {
+        Some(coded) => {
+            let other = code_after(class, stand, coded.side, coded.passed, turn);
+            told_by_code(is_less(other, coded.code))
+        }
+        None => Told::Tied,
     }
 }
 
-/// Whether the position, or an image in the same colours, has a lesser code.
+/// What the order of equal men tells, and the images in the same colours.
 #[inline(always)]
-fn is_beaten_straight(class: Class, stand: &Stand, side: Side, passed: bool, code: u32) -> bool
-    ensures beats { result ≡ true → (p : Setup) → HasStand class false stand.now side passed p → SpellsAt class code stand.now p → IsBeaten class p code }
-    ensures keeps { result ≡ false → (p : Setup) → HasStand class false stand.now side passed p → SpellsAt class code stand.now p → KeepsWith class p false code }
+fn told_straight(class: Class, stand: &Stand, asked: Option<Coded>) -> Told
+    ensures beats { result ≡ Beaten → AllAsked class stand.now asked (IsBeaten class) }
+    ensures keeps { result ≡ Least → AllAsked class stand.now asked (λ p code. KeepsWith class p false code) }
+    ensures sure { result ≡ Tied → asked ≡ None }
 {
     facts();
     let _number = class.number();
     if is_behind(stand) {
-        return true;
+        return Told::Beaten;
     }
     match still_home(has_pawns(class), stand.white) {
-        Some(turn) => is_beaten_by(class, stand, side, passed, turn, code),
-        None => false,
+        Some(turn) => told_by(class, stand, turn, asked),
+        None => Told::Least,
     }
 }
 
-/// Whether an image in exchanged colours has a lesser code, of a class whose sides have the same men.
-fn is_beaten_exchanged(class: Class, stand: &Stand, side: Side, passed: bool, code: u32) -> bool
+/// What the images in exchanged colours tell, of a class whose sides have the same men.
+fn told_exchanged(class: Class, stand: &Stand, asked: Option<Coded>) -> Told
     requires { has_equal_sides class ≡ true }
-    ensures beats { result ≡ true → (p : Setup) → HasStand class false stand.now side passed p → Spells class code p → IsBeaten class p code }
-    ensures keeps { result ≡ false → (p : Setup) → HasStand class false stand.now side passed p → Spells class code p → KeepsWith class p true code }
+    ensures beats { result ≡ Beaten → AllAsked class stand.now asked (IsBeaten class) }
+    ensures keeps { result ≡ Least → AllAsked class stand.now asked (λ p code. KeepsWith class p true code) }
+    ensures sure { result ≡ Tied → asked ≡ None }
 {
     facts();
     let _number = class.number();
     let stand = exchanged(stand);
     let (first, second) = home(has_pawns(class), true, stand.white);
-    if is_beaten_by(class, &stand, side, passed, first, code) {
-        return true;
-    }
+    let one = told_by(class, &stand, first, asked);
     match second {
-        Some(second) => is_beaten_by(class, &stand, side, passed, second, code),
-        None => false,
+        Some(second) => both(one, told_by(class, &stand, second, asked)),
+        None => one,
+    }
+}
+
+/// Whether the codes that spell settled positions with these men on their squares are their indexes: the one that is asked about, or
+/// all of them.
+#[inline(always)]
+pub(crate) fn told_of_images(class: Class, stand: &Stand, asked: Option<Coded>) -> Told
+    ensures beaten { result ≡ Beaten → AllAsked class stand.now asked (λ p code. ¬ IsIndex class p code) }
+    ensures least { result ≡ Least → AllAsked class stand.now asked (IsIndex class) }
+    ensures sure { result ≡ Tied → asked ≡ None }
+{
+    facts();
+    let _number = class.number();
+    let straight = told_straight(class, stand, asked);
+    if has_equal_sides(class) {
+        both(straight, told_exchanged(class, stand, asked))
+    } else {
+        straight
     }
 }
 
@@ -103,14 +169,9 @@ pub(crate) fn is_least(class: Class, stand: &Stand, side: Side, passed: bool, co
     ensures least { result ≡ true → (p : Setup) → HasStand class false stand.now side passed p → SpellsAt class code stand.now p → IsIndex class p code }
     ensures beaten { result ≡ false → (p : Setup) → HasStand class false stand.now side passed p → SpellsAt class code stand.now p → ¬ IsIndex class p code }
 {
-    facts();
-    let _number = class.number();
-    if is_beaten_straight(class, stand, side, passed, code) {
-        return false;
-    }
-    if has_equal_sides(class) {
-        !is_beaten_exchanged(class, stand, side, passed, code)
-    } else {
-        true
+    let asked = Coded { side, passed, code };
+    match told_of_images(class, stand, Some(asked)) {
+        Told::Least => true,
+        _ => false,
     }
 }

@@ -13,6 +13,7 @@ pub mod lanes;
 pub mod laws;
 pub mod men;
 pub mod nearer;
+pub mod row;
 pub mod scales;
 pub mod sizes;
 pub mod spelling;
@@ -24,8 +25,9 @@ pub mod ways;
 pub use axis::is_on_axis;
 pub use frame::Frame;
 pub use indexing::index;
+pub use row::{Row, begins_row, position, row_of};
 pub use sizes::size;
-pub use spelling::{indexed, position, position_of, spelled};
+pub use spelling::{indexed, position_of};
 pub use steps::Steps;
 
 #[cfg(test)]

@@ -1,4 +1,4 @@
-//! The position that a code spells.
+//! What the digits of a code spell, and the position of a code that is known to be an index.
 ghost use Rattle.std.specs.Prelude.{◌≡◌, ◌≢◌, ◌<◌, ◌≤◌, ◌↔◌, Bool, true, false, IsTrue, IsSome, IfSome, IfNone, None};
 ghost use Rattle.std.specs.FinMap as map;
 ghost use Rattle.egt_board.specs.Attack.{king_of};
@@ -18,11 +18,10 @@ ghost use Rattle.std.specs.Option.{option_to_list};
 ghost use Rattle.egt_index.specs.Spelled.{Splits, Tells, SpellsMen, SpellsNoMen, Ends, HasPawns, IsTold};
 ghost use Rattle.egt_index.specs.Stood.{AllApart, IsFilled, list_of, with_entry, HasStand};
 
-use crate::beaten::is_least;
 use crate::facts::facts;
 use crate::frame::Frame;
 use crate::men::{beside, has_pawns, has_target};
-use crate::stand::{Stand, are_apart};
+use crate::stand::Stand;
 use egt_board::{Board, Kind, Man, Position, Side, Square};
 use egt_class::Class;
 
@@ -86,7 +85,7 @@ fn take(number: u32, man: Option<Man>) -> (u32, Option<(Man, Square)>)
 }
 
 /// Where the men of the class stand that the number spells, if it spells any.
-fn stand_on(class: Class, number: u32) -> Option<Stand>
+pub(crate) fn stand_on(class: Class, number: u32) -> Option<Stand>
     ensures some { IfSome result (λ stand. SpellsMen (material_of class) number (list_of stand)) }
     ensures filled { IfSome result IsFilled }
     ensures none { IfNone result (SpellsNoMen (material_of class) number) }
@@ -105,7 +104,7 @@ fn stand_on(class: Class, number: u32) -> Option<Stand>
 }
 
 /// What stands before the digits of the side to move and the target, and what these are.
-fn ends(class: Class, code: u32) -> (u32, Side, bool)
+pub(crate) fn ends(class: Class, code: u32) -> (u32, Side, bool)
     ensures { Ends (material_of class) code result.0 result.1 result.2 }
 {
     let (number, passed) = if has_target(class) {
@@ -136,7 +135,7 @@ fn with_entry(board: Board, entry: Option<(Man, Square)>) -> Board
 
 /// The board with the men on it.
 #[inline(always)]
-fn board_of(stand: &Stand) -> Board
+pub(crate) fn board_of(stand: &Stand) -> Board
     requires { AllApart (list_of stand.now) }
     ensures men { result ≡ men_of (list_of stand.now) }
     ensures few { map.len result ≤ 4 }
@@ -152,7 +151,7 @@ fn board_of(stand: &Stand) -> Board
 }
 
 /// The target, if there is one: the square that the pawn of the side that waits has passed.
-fn target_of(side: Side, passed: bool, stand: &Stand) -> Option<Square>
+pub(crate) fn target_of(side: Side, passed: bool, stand: &Stand) -> Option<Square>
     requires { passed ≡ true → HasPawns (list_of stand.now) }
     ensures { IsTold passed side (list_of stand.now) result }
 {
@@ -168,7 +167,7 @@ fn target_of(side: Side, passed: bool, stand: &Stand) -> Option<Square>
 }
 
 /// Whether the target, if there is one, is on the rank over which the other side's pawns advance.
-fn is_passed(side: Side, target: &Option<Square>) -> bool
+pub(crate) fn is_passed(side: Side, target: &Option<Square>) -> bool
     ensures { result ≡ false → (men : Placement) → ¬ FitsTarget men side target.now }
 {
     let rank = match side {
@@ -183,7 +182,7 @@ fn is_passed(side: Side, target: &Option<Square>) -> bool
 
 /// The position with this board, on which these are the kings, that side to move and that target; `None` where the rules of
 /// play do not admit it.
-fn admitted(
+pub(crate) fn admitted(
     board: Board,
     side: Side,
     target: Option<Square>,
@@ -214,81 +213,14 @@ fn admitted(
 }
 
 /// Whether the position has no target, or one that a pawn stands ready to take.
-fn is_settled(position: &Position) -> bool
+pub(crate) fn is_settled(position: &Position) -> bool
     ensures { IsTrue result ↔ IsSettled position.now }
 {
     position.target().is_none() || position.settle().target().is_some()
 }
 
-/// The settled position that the code spells, and where its men stand.
-#[inline(always)]
-fn found(class: Class, code: u32) -> Option<(Position, Stand)>
-    ensures spells { IfSome result (λ r. Spells class code r.0) }
-    ensures settled { IfSome result (λ r. IsSettled r.0) }
-    ensures index { IfSome result (λ r. IsIndex class r.0 code) }
-    ensures stand { IfSome result (λ r. (passed : Bool) × HasStand class false r.1 r.0.side passed r.0) }
-    ensures filled { IfSome result (λ r. IsFilled r.1) }
-    ensures void { IfNone result (IsVoid class code) }
-{
-    facts();
-    let _number = class.number();
-    let (number, side, passed) = ends(class, code);
-    let stand = stand_on(class, number)?;
-    let target = target_of(side, passed, &stand);
-    // Most codes with a target end here.
-    if !is_passed(side, &target) {
-        return None;
-    }
-    if !are_apart(&stand) {
-        return None;
-    }
-    let is_least = is_least(class, &stand, side, passed, code);
-    if !is_least {
-        return None;
-    }
-    let board = board_of(&stand);
-    let position = admitted(board, side, target, stand.white, stand.black)?;
-    if is_settled(&position) {
-        Some((position, stand))
-    } else {
-        None
-    }
-}
-
-/// The settled position that the code spells; `None` where the code is no position's index, and so from the class's size on.
-pub fn position(class: Class, code: u32) -> Option<Position>
-    ensures spells { IfSome result (λ p. Spells class code p) }
-    ensures settled { IfSome result IsSettled }
-    ensures index { IfSome result (λ p. IsIndex class p code) }
-    ensures void { IfNone result (IsVoid class code) }
-{
-    match found(class, code) {
-        Some((position, _)) => Some(position),
-        None => None,
-    }
-}
-
-/// The same, and the frame of the position. It is inlined so that neither is copied on its way to the caller.
-#[inline(always)]
-pub fn spelled(class: Class, code: u32) -> Option<(Position, Frame)>
-    ensures spells { IfSome result (λ r. Spells class code r.0) }
-    ensures settled { IfSome result (λ r. IsSettled r.0) }
-    ensures index { IfSome result (λ r. IsIndex class r.0 code) }
-    ensures frame { IfSome result (λ r. IsFrame r.0 r.1) }
-    ensures class { IfSome result (λ r. r.1.class ≡ class) }
-    ensures void { IfNone result (IsVoid class code) }
-{
-    match found(class, code) {
-        Some(both) => {
-            let frame = Frame::of_stand(class, false, &both.1, both.0.side());
-            Some((both.0, frame))
-        }
-        None => None,
-    }
-}
-
-/// The settled position whose index this is, and where its men stand: what `found` answers, where the caller knows that there is one.
-/// No test is needed then.
+/// The settled position whose index this is, and where its men stand: what a row answers of its code, where the caller knows that
+/// there is one. No test is needed then.
 #[inline(always)]
 fn at_index(class: Class, index: u32) -> (Position, Stand)
     requires { ¬ IsVoid class index }
@@ -319,7 +251,7 @@ pub fn position_of(class: Class, index: u32) -> Position
     at_index(class, index).0
 }
 
-/// The same, and the frame of the position: what `spelled` answers.
+/// The same, and the frame of the position.
 #[inline(always)]
 pub fn indexed(class: Class, index: u32) -> (Position, Frame)
     requires { ¬ IsVoid class index }

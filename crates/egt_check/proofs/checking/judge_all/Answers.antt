@@ -1,11 +1,25 @@
-use Rattle.std.proofs.Common.{ℕ, ◌≤◌, ◌+◌, refl, sym, ap, subst, ◌∙◌}
+use Rattle.std.proofs.Common.{ℕ, ◌≤◌, ◌+◌, ◌/◌, ◌%◌, refl, sym, ap, subst, ◌∙◌}
+use Rattle.std.proofs.lemmas.Bool.{false≢true}
+use Rattle.egt_index.specs.Row.{row_len, IsRowOf}
 use Rattle.egt_index.specs.Size.{size_of}
 use Rattle.egt_table.specs.declared.column.Column.TheVariants.{Mate}
 use Rattle.egt_check.specs.FirstBad.{IsFirstBad}
 use Rattle.egt_check.specs.Rules.{IsJudged}
 use Rattle.egt_check.specs.Tables.{table_at, beside}
-use Rattle.egt_check.proofs.Judged.{keeps_more, first_bad_more, keeps_all}
+use Rattle.egt_check.proofs.Judged.{same_row, keeps_more, first_bad_more, keeps_all}
+use Rattle.egt_check.proofs.checking.judge_all.Goals.{then-begins_row, else-begins_row}
 use Rattle.egt_check.proofs.checking.judge_all.Goals as goal
+
+-- a new row, or that of the index before
+pub judge-mate-requires-clause-row : goal.judge-mate-requires-clause-row
+judge-mate-requires-clause-row c =
+    let class = c.args.table.now.class in
+    let n = c.loop-index.index in
+    elim c.if-begins_row.branch [
+      | then-begins_row w ↦ subst (IsRowOf class (n / row_len class)) (sym w.row-is) (subst (λ (k : ℕ). IsRowOf k (n / row_len k) w.row_of-row.result) w.class-then-begins_row.ensures.class w.row_of-row.ensures)
+      | else-begins_row w ↦ subst (IsRowOf class (n / row_len class)) (sym w.row-is) (c.loop-index.invariant.row
+          (λ first. false≢true (sym w.if-begins_row.false ∙ c.begins_row.ensures.1 (ap (λ (k : ℕ). n % row_len k) c.class-in-loop-index.ensures.class ∙ first))))
+    ]
 
 pub loop-index-preserved : goal.loop-index-preserved
 loop-index-preserved c =
@@ -14,6 +28,7 @@ loop-index-preserved c =
     record {
       mate = keeps_more tables c.args.table.now Mate c.loop-index.index c.loop-index.invariant.mate kept;
       zeroing = subst (IsFirstBad tables c.args.table.now (c.loop-index.index + 1)) (sym c.earlier-bad_zeroing.ensures) (first_bad_more tables c.args.table.now c.loop-index.index c.loop-index.bad_zeroing _ c.loop-index.invariant.zeroing c.judge-mate.ensures.zeroing);
+      row = λ more. subst (λ (k : ℕ). IsRowOf c.args.table.now.class k c.judge-mate.new.row) (same_row c.args.table.now.class c.loop-index.index more) c.judge-mate.ensures.row;
     }
 
 pub returns-in-None-clause-exact : goal.returns-in-None-clause-exact

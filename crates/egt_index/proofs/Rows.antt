@@ -1,0 +1,132 @@
+-- The codes of a row spell the same men.
+use Rattle.std.proofs.Common.{◌≡◌, ℕ, ◌/◌, ◌%◌, ◌<◌, Bool, true, false, cond, List, [], ◌∷◌, arith, refl, sym, ap, ◌∙◌, inl, inr, subst}
+use Rattle.std.specs.Option.{is_some}
+use Rattle.std.proofs.lemmas.Bool.{cases_eq, false≢true}
+use Rattle.egt_board.specs.declared.man.Side.{Side}
+use Rattle.egt_board.specs.declared.man.Side.TheVariants.{White, Black}
+use Rattle.egt_board.specs.declared.man.Man.{Man}
+use Rattle.egt_board.specs.Images.{count_of, side_number}
+use Rattle.egt_board.specs.Listed.{men_of, FitsBoard}
+use Rattle.egt_board.specs.Placement.{Placement}
+use Rattle.egt_board.specs.Settled.{IsSettled}
+use Rattle.egt_board.specs.Setup.{Setup}
+use Rattle.egt_class.specs.Material.{Material, material_of}
+use Rattle.egt_index.specs.Beaten.{SpellsAt}
+use Rattle.egt_index.specs.Code.{Spells}
+use Rattle.egt_index.specs.Digits.{number_from}
+use Rattle.egt_index.specs.Frame.{IsFrame}
+use Rattle.egt_index.specs.Row.{row_len, IsInRow, IsRowFrame, IsVoidRow}
+use Rattle.egt_index.specs.Scales.{ends_of}
+use Rattle.egt_index.specs.Size.{has_target}
+use Rattle.egt_index.specs.Spelled.{Ends, SpellsMen, SpellsNoMen}
+use Rattle.egt_index.specs.Stood.{AllApart, HasStand, Stood, list_of}
+use Rattle.egt_index.specs.declared.frame.Frame.{Frame}
+use Rattle.egt_index.specs.declared.stand.Stand.{Stand}
+use Rattle.egt_index.proofs.Classes.{spells_class}
+use Rattle.egt_index.proofs.Decoded.{list_spelled, no_men}
+use Rattle.egt_index.proofs.Setups.{fits_apart, stood_spelled}
+
+-- the ends of a code, in a class with targets or without
+record EndsWith (targets : Bool) (code high : ℕ) (side : Side) (passed : Bool) : Type 0 where
+  is : code ≡ number_from high (2 ∷ cond targets (2 ∷ []) []) (side_number side ∷ cond targets (cond passed 1 0 ∷ []) [])
+  never : targets ≡ false → passed ≡ false
+
+-- what stands before the ends is the number of the row
+number_with : (targets : Bool) (code high : ℕ) (side : Side) (passed : Bool) → EndsWith targets code high side passed → code / cond {A = ℕ} targets 4 2 ≡ high
+number_with true code high White true ends = let is = ends.is in omega arith
+number_with true code high White false ends = let is = ends.is in omega arith
+number_with true code high Black true ends = let is = ends.is in omega arith
+number_with true code high Black false ends = let is = ends.is in omega arith
+number_with false code high White passed ends = let is = ends.is in omega arith
+number_with false code high Black passed ends = let is = ends.is in omega arith
+
+row_number : (m : Material) (code high : ℕ) (side : Side) (passed : Bool) → Ends m code high side passed → code / ends_of m ≡ high
+row_number m code high side passed ends = number_with (has_target m) code high side passed (record { is = ends.number_is; never = ends.never })
+
+pub ends_in_row : (m : Material) (code high : ℕ) (side : Side) (passed : Bool) → Ends m code high side passed → Ends m code (code / ends_of m) side passed
+ends_in_row m code high side passed ends = subst (λ h. Ends m code h side passed) (sym (row_number m code high side passed ends)) ends
+
+pub men_in_row : (m : Material) (code high : ℕ) (side : Side) (passed : Bool) (list : List (Man × ℕ)) → Ends m code high side passed → SpellsMen m high list → SpellsMen m (code / ends_of m) list
+men_in_row m code high side passed list ends men = subst (λ (n : ℕ). SpellsMen m n list) (sym (row_number m code high side passed ends)) men
+
+side_of : (k : ℕ) → k < 2 → (side : Side) × (side_number side ≡ k)
+side_of k lt = elim (cases_eq k 0) [
+  | inl e ↦ (White, sym e)
+  | inr not ↦ (Black, omega arith)
+]
+
+flag_of : (k : ℕ) → k < 2 → (passed : Bool) × (cond {A = ℕ} passed 1 0 ≡ k)
+flag_of k lt = elim (cases_eq k 0) [
+  | inl e ↦ (false, sym e)
+  | inr not ↦ (true, omega arith)
+]
+
+-- each code has its ends
+ends_with : (targets : Bool) (code : ℕ) → (side : Side) × (passed : Bool) × EndsWith targets code (code / cond {A = ℕ} targets 4 2) side passed
+ends_with true code =
+    let side = side_of (code / 2 % 2) (omega arith) in
+    let flag = flag_of (code % 2) (omega arith) in
+    let s = side.1 in
+    let f = flag.1 in (side.0, flag.0, record { is = omega arith; never = λ e. absurd (false≢true (sym e)) })
+ends_with false code =
+    let side = side_of (code % 2) (omega arith) in
+    let s = side.1 in (side.0, false, record { is = omega arith; never = λ e. refl })
+
+ends_there : (m : Material) (code : ℕ) → (side : Side) × (passed : Bool) × Ends m code (code / ends_of m) side passed
+ends_there m code = let ends = ends_with (has_target m) code in (ends.0, ends.1, record { number_is = ends.2.is; never = ends.2.never })
+
+-- where what stands before the ends spells no men, no code of the row is an index
+pub void_without_men : (c code high : ℕ) (side : Side) (passed : Bool) → Ends (material_of c) code high side passed → SpellsNoMen (material_of c) high → IsVoidRow c (code / row_len c)
+void_without_men c code high side passed ends none = λ other same p ok index.
+    let there = ends_there (material_of c) other in
+    let row = same ∙ row_number (material_of c) code high side passed ends in
+    no_men (material_of c) other (other / row_len c) there.0 there.1 index.image there.2 (subst (SpellsNoMen (material_of c)) (sym row) none) index.spells
+
+-- what a position has that a code of the row spells
+module _ (c n code : ℕ) (stand : Stand) (p : Setup) (row : code / row_len c ≡ n) (men : SpellsMen (material_of c) n (list_of stand)) (s : Spells c code p) where
+  pub list_in_row : SpellsAt c code stand p
+  list_in_row =
+      let ends = ends_there (material_of c) code in
+      record { spells = s; list_is = list_spelled c code n ends.0 ends.1 (list_of stand) p (subst (λ h. Ends (material_of c) code h ends.0 ends.1) row ends.2) men s }
+
+  pub apart_in_row : AllApart (list_of stand)
+  unfolding list_in_row
+  apart_in_row = fits_apart (list_of stand) (subst FitsBoard (sym list_in_row.list_is) s.apart)
+
+  pub stand_in_row : IsSettled p → HasStand c false stand p.side (is_some p.target) p
+  unfolding list_in_row
+  stand_in_row settled = record {
+    admissible = s.admissible;
+    settled = settled;
+    is_of = spells_class c code p s;
+    stood = stood_spelled c n stand p men apart_in_row s.admissible (s.men ∙ ap men_of (sym list_in_row.list_is));
+    side_is = refl;
+    target_is = refl;
+  }
+
+-- the frame of one position of a row, with the other's side to move
+abbrev pub turned_to : Side → Frame → Frame
+turned_to side frame = record { class = frame.class; flipped = frame.flipped; side = side; stand = frame.stand; own = frame.own; exchanged = frame.exchanged }
+
+pub frame_turned : (c : ℕ) (stand : Stand) (p : Setup) (frame : Frame) → IsRowFrame c stand frame → IsInRow c stand p → IsFrame p (turned_to p.side frame)
+frame_turned c stand p frame row here = record {
+  passed = here.passed;
+  stand = record {
+    admissible = here.stands.admissible;
+    settled = here.stands.settled;
+    is_of = record { men = λ man. ap (λ (men : Placement). count_of men man) same ∙ there.is_of.men man };
+    stood = subst (λ (men : Placement). Stood frame.class frame.flipped men (list_of frame.stand)) (sym same) there.stood;
+    side_is = refl;
+    target_is = here.stands.target_is;
+  };
+  filled = row.is_frame.filled;
+  own = row.is_frame.own;
+  equal = row.is_frame.equal;
+  exchanged = row.is_frame.exchanged;
+}
+  where
+    there : HasStand frame.class frame.flipped frame.stand frame.side row.is_frame.passed row.position
+    there = row.is_frame.stand
+
+    same : p.men ≡ row.position.men
+    same = here.men ∙ sym row.in_row.men

@@ -1,0 +1,158 @@
+//! The positions that codes spell, row by row: the codes of a row differ in no more than the side to move and the target, so the same
+//! men stand on the same squares.
+ghost use Rattle.std.specs.Prelude.{◌≡◌, ◌/◌, ◌%◌, ◌↔◌, ℕ, true, false, IsTrue, IsSome, IfSome, IfNone};
+ghost use Rattle.egt_board.specs.Settled.{IsSettled};
+ghost use Rattle.egt_board.specs.Setup.{Setup};
+ghost use Rattle.egt_index.specs.Beaten.{SpellsAt};
+ghost use Rattle.egt_index.specs.Code.{Spells};
+ghost use Rattle.egt_index.specs.Frame.{IsFrame};
+ghost use Rattle.egt_index.specs.Index.{IsIndex, IsVoid};
+ghost use Rattle.egt_index.specs.Row.{row_len, IsInRow, IsRow, IsTurnedTo, IsRowOf};
+ghost use Rattle.egt_index.specs.Stood.{HasStand};
+
+use crate::beaten::{Told, is_least, told_of_images};
+use crate::facts::facts;
+use crate::frame::Frame;
+use crate::men::has_target;
+use crate::spelling::{admitted, board_of, ends, is_passed, is_settled, stand_on, target_of};
+use crate::stand::{Stand, are_apart};
+use egt_board::{Board, Position, Side};
+use egt_class::Class;
+
+/// The codes of a class that differ in no more than the side to move and the target, and where the men stand in all of them.
+#[derive(Clone, Copy)]
+pub struct Row {
+    class: Class,
+    stand: Stand,
+    board: Board,
+    /// Whether each code is to be compared with those of images.
+    tied: bool,
+    /// The frame of the position to which the row was turned, if it was. Its others differ in no more than the side to move.
+    frame: Option<Frame>,
+}
+
+/// Whether the code is the first of its row.
+#[inline(always)]
+pub fn begins_row(class: Class, code: u32) -> bool
+    ensures { IsTrue result ↔ (code % row_len class ≡ 0) }
+{
+    if has_target(class) {
+        code % 4 == 0
+    } else {
+        code % 2 == 0
+    }
+}
+
+/// The row of the code; `None` where the men or their images tell that none of its codes is a position's index.
+#[inline(always)]
+pub fn row_of(class: Class, code: u32) -> Option<Row>
+    ensures { IsRowOf class (code / row_len class) result }
+{
+    facts();
+    let _number = class.number();
+    let (number, _, _) = ends(class, code);
+    let stand = stand_on(class, number)?;
+    if !are_apart(&stand) {
+        return None;
+    }
+    let tied = match told_of_images(class, &stand, None) {
+        Told::Beaten => return None,
+        Told::Least => false,
+        Told::Tied => true,
+    };
+    let board = board_of(&stand);
+    Some(Row {
+        class,
+        stand,
+        board,
+        tied,
+        frame: None,
+    })
+}
+
+impl Row {
+    /// Whether the code, if it spells a settled position, is its index.
+    #[inline(always)]
+    fn is_least(&self, side: Side, passed: bool, code: u32) -> bool
+        requires { IsRow (code / row_len self.now.class) self.now }
+        ensures least { result ≡ true → (p : Setup) → HasStand self.now.class false self.now.stand side passed p → SpellsAt self.now.class code self.now.stand p →
+            IsIndex self.now.class p code }
+        ensures beaten { result ≡ false → (p : Setup) → HasStand self.now.class false self.now.stand side passed p → SpellsAt self.now.class code self.now.stand p →
+            ¬ IsIndex self.now.class p code }
+    {
+        if self.tied {
+            is_least(self.class, &self.stand, side, passed, code)
+        } else {
+            true
+        }
+    }
+
+    /// The settled position that the code of the row spells; `None` where the code is no position's index.
+    #[inline(always)]
+    pub fn position_at(&self, code: u32) -> Option<Position>
+        requires { IsRow (code / row_len self.now.class) self.now }
+        ensures spells { IfSome result (λ p. Spells self.now.class code p) }
+        ensures settled { IfSome result IsSettled }
+        ensures index { IfSome result (λ p. IsIndex self.now.class p code) }
+        ensures row { IfSome result (IsInRow self.now.class self.now.stand) }
+        ensures void { IfNone result (IsVoid self.now.class code) }
+    {
+        facts();
+        let _number = self.class.number();
+        let (_, side, passed) = ends(self.class, code);
+        let target = target_of(side, passed, &self.stand);
+        // Most codes with a target end here.
+        if !is_passed(side, &target) {
+            return None;
+        }
+        let is_least = self.is_least(side, passed, code);
+        if !is_least {
+            return None;
+        }
+        let position = admitted(self.board, side, target, self.stand.white, self.stand.black)?;
+        if is_settled(&position) {
+            Some(position)
+        } else {
+            None
+        }
+    }
+
+    /// Turns the frame to a position that a code of the row spells. It is made for the first one alone.
+    #[inline(always)]
+    pub fn turn_to(&mut self, position: &Position)
+        requires row { (n : ℕ) × IsRow n self.old }
+        requires of { IsInRow self.old.class self.old.stand position.now }
+        ensures row { (n : ℕ) → IsRow n self.old → IsRow n self.new }
+        ensures class { self.new.class ≡ self.old.class }
+        ensures frame { IsTurnedTo position.now self.new }
+    {
+        let side = position.side();
+        match &mut self.frame {
+            Some(frame) => frame.side = side,
+            None => self.frame = Some(Frame::of_stand(self.class, false, &self.stand, side)),
+        }
+    }
+
+    /// The frame of the position to which the row was turned.
+    #[inline(always)]
+    pub fn frame(&self) -> &Frame
+        requires { IsSome self.now.frame }
+        ensures frame { (p : Setup) → IsTurnedTo p self.now → IsFrame p result.now }
+        ensures class { (p : Setup) → IsTurnedTo p self.now → result.now.class ≡ self.now.class }
+    {
+        self.frame.as_ref().unwrap()
+    }
+}
+
+/// The settled position that the code spells; `None` where the code is no position's index, and so from the class's size on.
+pub fn position(class: Class, code: u32) -> Option<Position>
+    ensures spells { IfSome result (λ p. Spells class code p) }
+    ensures settled { IfSome result IsSettled }
+    ensures index { IfSome result (λ p. IsIndex class p code) }
+    ensures void { IfNone result (IsVoid class code) }
+{
+    match row_of(class, code) {
+        Some(row) => row.position_at(code),
+        None => None,
+    }
+}
