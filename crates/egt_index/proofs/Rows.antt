@@ -106,7 +106,7 @@ module _ (c n code : ℕ) (stand : Stand) (p : Setup) (row : code / row_len c �
 
 -- the frame of one position of a row, with the other's side to move
 abbrev pub turned_to : Side → Frame → Frame
-turned_to side frame = record { class = frame.class; flipped = frame.flipped; side = side; stand = frame.stand; own = frame.own; exchanged = frame.exchanged }
+turned_to side frame = record { class = frame.class; flipped = frame.flipped; side = side; stand = frame.stand; own = frame.own; exchanged = frame.exchanged; nearer = frame.nearer }
 
 pub frame_turned : (c : ℕ) (stand : Stand) (p : Setup) (frame : Frame) → IsRowFrame c stand frame → IsInRow c stand p → IsFrame p (turned_to p.side frame)
 frame_turned c stand p frame row here = record {
@@ -123,6 +123,7 @@ frame_turned c stand p frame row here = record {
   own = row.is_frame.own;
   equal = row.is_frame.equal;
   exchanged = row.is_frame.exchanged;
+  nearer = row.is_frame.nearer;
 }
   where
     there : HasStand frame.class frame.flipped frame.stand frame.side row.is_frame.passed row.position
