@@ -92,6 +92,28 @@ found_on s a b c d men is =
     ∙ ap (map.find nat_cmp s) (listed-shown (a ∷ b ∷ c ∷ d ∷ []) men is)
     ∙ sym (map.get-entries men s)
 
+-- the slot of the four that is chosen by whether a man of it stands there
+abbrev pub chosen_slot : ℕ → Slot → Slot → Slot → Slot → Slot
+chosen_slot s a b c d = cond (is_some (man_on s a) || is_some (man_on s b)) (cond (is_some (man_on s a)) a b) (cond (is_some (man_on s c)) c d)
+
+on_either : (s : ℕ) (first : Bool) (x y : Slot) → man_on s (cond first x y) ≡ cond first (man_on s x) (man_on s y)
+on_either s true x y = refl
+on_either s false x y = refl
+
+chosen_or : (x y z w : Option Man) → cond (is_some x || is_some y) (cond (is_some x) x y) (cond (is_some z) z w) ≡ option_or (option_or (option_or x y) z) w
+chosen_or (Some x) y z w = refl
+chosen_or None (Some y) z w = refl
+chosen_or None None (Some z) w = refl
+chosen_or None None None w = refl
+
+pub chosen_on : (s : ℕ) (a b c d : Slot) (men : Placement) → AreShown (a ∷ b ∷ c ∷ d ∷ []) men → man_on s (chosen_slot s a b c d) ≡ map.get men s
+chosen_on s a b c d men is =
+    on_either s (is_some (man_on s a) || is_some (man_on s b)) _ _
+    ∙ ap (λ o. cond (is_some (man_on s a) || is_some (man_on s b)) o (man_on s (cond (is_some (man_on s c)) c d))) (on_either s (is_some (man_on s a)) a b)
+    ∙ ap (λ o. cond (is_some (man_on s a) || is_some (man_on s b)) (cond (is_some (man_on s a)) (man_on s a) (man_on s b)) o) (on_either s (is_some (man_on s c)) c d)
+    ∙ chosen_or (man_on s a) (man_on s b) (man_on s c) (man_on s d)
+    ∙ found_on s a b c d men is
+
 -- a board without men
 no_entries : (es : List (ℕ × Man)) → length es ≡ 0 → es ≡ []
 no_entries [] e = refl

@@ -2,7 +2,7 @@
 ghost use Rattle.std.specs.Prelude.{◌≡◌, ℕ, ◌<◌, ◌≤◌, ◌↔◌, ◌∷◌, ◌++◌, nat_lt, IfSome, IfNone, if◌then◌else◌};
 ghost use Rattle.std.specs.FinMap as map;
 ghost use Rattle.std.specs.Int.{bit_at};
-ghost use Rattle.std.specs.Option.{option_map};
+ghost use Rattle.std.specs.Option.{option_map, is_some};
 ghost use Rattle.egt_board.specs.Attack.{king_of};
 ghost use Rattle.egt_board.specs.Board.{place, man_on, marks, takes, lesser, greater};
 ghost use Rattle.egt_board.specs.SquareSet.{Has};
@@ -58,6 +58,23 @@ fn man_on(square: Square, slot: Slot) -> Option<Man>
     } else {
         None
     }
+}
+
+/// Whether the slot's man stands on the square.
+fn is_on(square: Square, slot: &Slot) -> bool
+    ensures { result ≡ is_some (man_on square slot.now) }
+{
+    match slot {
+        Some(placed) => square.number() == placed.0.number(),
+        None => false,
+    }
+}
+
+/// The one slot or the other.
+fn either<'a>(first: bool, one: &'a Slot, other: &'a Slot) -> &'a Slot
+    ensures { result.now ≡ (if first then one.now else other.now) }
+{
+    if first { one } else { other }
 }
 
 /// The square of the slot's man, if it is that side's.
@@ -200,14 +217,16 @@ impl Board {
         }
     }
 
-    /// The man on the square.
+    /// The man on the square. His slot is chosen without a jump: which it is cannot be guessed.
     pub fn at(&self, square: Square) -> Option<Man>
         ensures { result ≡ map.get self.now square }
     {
-        man_on(square, self.first)
-            .or(man_on(square, self.second))
-            .or(man_on(square, self.third))
-            .or(man_on(square, self.fourth))
+        let by_first = is_on(square, &self.first);
+        let by_second = is_on(square, &self.second);
+        let by_third = is_on(square, &self.third);
+        let front = either(by_first, &self.first, &self.second);
+        let back = either(by_third, &self.third, &self.fourth);
+        man_on(square, *either(by_first | by_second, front, back))
     }
 
     /// A square of the set on which the man stands.
