@@ -6,7 +6,7 @@ use Rattle.std.specs.Option.{is_some}
 use Rattle.std.specs.FinMap as map
 use Rattle.std.specs.Int.{bit_at}
 use Rattle.std.specs.List.{Contains}
-use Rattle.egt_board.specs.declared.man.Kind.TheVariants.{P, K}
+use Rattle.egt_board.specs.declared.man.Kind.TheVariants.{P}
 use Rattle.egt_board.specs.declared.man.Man.{Man}
 use Rattle.egt_board.specs.declared.man.Side.{Side}
 use Rattle.egt_board.specs.declared.man.Side.TheVariants.{White, Black}
@@ -30,6 +30,7 @@ use Rattle.egt_unmoves.specs.Unmoves.{ComesBy, setup_before}
 use Rattle.egt_unmoves.specs.declared.unmove.Unmove.{Unmove}
 use Rattle.egt_sweep.specs.Edges.{AtSome, IsAt, Connects, GoesBack, BackBy, CameTo, HadNoTarget, IsTakenBack, WasOn}
 use Rattle.egt_sweep.specs.Laws.{Laws}
+use Rattle.egt_sweep.proofs.Collecting.{members_off}
 use Rattle.egt_sweep.proofs.Backward.{decided_pawn, taken_back, leads_back}
 use Rattle.egt_sweep.proofs.Onward.{men_moved, gone_from, come_to, elsewhere, arrives_free}
 
@@ -128,7 +129,7 @@ module _ (laws : Laws) (c : ℕ) (q : Setup) (man : Man) (to : ℕ) (stands : St
   })
 
   pub none_came : (column : Column) → (IsTakenBack column man → ⊥) → (old : List ℕ) (k : ℕ) → Contains old k ↔ (Contains old k ⊎ CameTo column c q to k)
-  none_came column never old k = (λ has. inl has, λ h. elim h [ inl has ↦ has | inr came ↦ absurd (never (taken column k came)) ])
+  none_came column never old k = members_off (λ came. never (taken column k came))
 
   module _ (column : Column) (set : SquareSet) (none_had : HadNoTarget q)
       (sound : (s : ℕ) → s < 64 → Has set s → ComesBy (setup_before q man to s None) (plain s to) q)
