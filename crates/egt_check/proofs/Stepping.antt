@@ -16,11 +16,6 @@ use Rattle.egt_check.specs.Tables.{Tables, HasEntry, ShowsOf}
 use Rattle.egt_check.proofs.Due.{mate_said, zeroing_is_said, said_counted}
 use Rattle.egt_check.proofs.Showing.{one_shown, shown_of}
 
--- a legal move leads somewhere
-pub somewhere : (p : Setup) (m : Move) (o : Option Setup) → IfNone o ((q : Setup) → ¬ Leads p m q) → IsLegal p m → IsSome o
-somewhere p m None none legal = absurd (none legal.0 legal.1)
-somewhere p m (Some q) none legal = refl
-
 -- the entries of the position that the move leads to, what they show, and whether the move zeroes
 pub record Seen (tables : Tables) (p : Setup) (m : Move) (entries : ByColumn) (mate zeroing : Option Outcome) (zeroes : Bool) : Type 0 where
   pub next : Setup

@@ -27,7 +27,7 @@ use egt_board::{Camps, Position, Square, SquareSet};
 use egt_class::laws::moves_lead_into_the_class_or_a_child as quiet_moves_keep_the_class;
 use egt_class::of;
 use egt_index::{Frame, Steps, index};
-use egt_moves::{Move, legal_targets_of, play, promotions, zeroing};
+use egt_moves::{Move, legal_targets_of, play_legal, promotions, zeroing};
 use egt_table::{Column, Table};
 
 /// A table's entries at an index.
@@ -118,7 +118,7 @@ fn best_after(
     facts();
     let _side = position.side();
     let _class = table.class();
-    let next = play(position, *chess_move).unwrap();
+    let next = play_legal(position, *chess_move);
     let entries = entries_of(table, library, &next);
     let zeroes = zeroing(position, *chess_move);
     let scores = scores(table, library, position, chess_move, entries, zeroes);

@@ -1,6 +1,5 @@
 -- Trying the legal moves one after the other.
-use Rattle.std.proofs.Common.{rules, ◌≡◌, ℕ, suc, ◌+◌, ◌-◌, ◌<◌, ◌≤◌, ◌↔◌, inl, inr, List, get_or, length, sym, subst, arith, ◌∙◌, Option, Some, None}
-use Rattle.std.specs.Option.{IsSome, IfNone}
+use Rattle.std.proofs.Common.{◌≡◌, ℕ, suc, ◌+◌, ◌-◌, ◌<◌, ◌≤◌, ◌↔◌, inl, inr, List, get_or, length, sym, subst, arith, ◌∙◌}
 use Rattle.std.specs.List.{Contains}
 use Rattle.std.proofs.lemmas.Bool.{cases_lt}
 use Rattle.std.proofs.lemmas.List.{get_or_default}
@@ -36,11 +35,6 @@ pub tried_all : (P : Setup → Type 0) (p : Setup) (moves listed : List Move) (n
 tried_all P p moves listed n all same legal tried q step =
     let there = subst (λ ms. Contains ms step.0) (sym same) ((legal step.0).1 (q, step.1)) in
     tried.each there.0 step.0 (omega (arith, there.1)) there.2 q step.1
-
--- a legal move leads somewhere
-pub somewhere : (p : Setup) (m : Move) (o : Option Setup) → IfNone o ((q : Setup) → ¬ Leads p m q) → IsLegal p m → IsSome o
-somewhere p m None none legal = absurd (none legal.0 legal.1)
-somewhere p m (Some q) none legal = search rules
 
 -- a listed move is legal
 pub listed_is_legal : (p : Setup) (moves listed : List Move) (n : ℕ) (m : Move) → n < length moves → m ≡ get_or moves n m → moves ≡ listed → ((x : Move) → Contains listed x ↔ IsLegal p x) → IsLegal p m

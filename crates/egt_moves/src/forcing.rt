@@ -4,20 +4,11 @@ ghost use Rattle.egt_moves.specs.Arena.{IsMatedWithin, MatesWithin, AvoidsMateFo
 ghost use Rattle.egt_moves.specs.Chess.{chess};
 ghost use Rattle.egt_moves.specs.Legal.{IsLegal, Leads};
 
-use crate::chess_move::Move;
 use crate::listing::legal_moves;
 use crate::outcome::Standing;
-use crate::playing::play;
+use crate::playing::play_legal;
 use crate::standings::standing;
 use egt_board::Position;
-
-/// The position after a legal move.
-fn after(position: &Position, chess_move: Move) -> Position
-    requires { IsLegal position.now chess_move }
-    ensures { Leads position.now chess_move result }
-{
-    play(position, chess_move).unwrap()
-}
 
 /// Whether the side to move forces checkmate within so many plies: one move that does is enough.
 #[cycle(forcing)]
@@ -30,7 +21,7 @@ pub(crate) fn mates_within(position: &Position, plies: u8) -> bool
     }
     let moves = legal_moves(position);
     for chess_move in moves.as_slice() {
-        if is_mated_within(&after(position, *chess_move), plies - 1) {
+        if is_mated_within(&play_legal(position, *chess_move), plies - 1) {
             return true;
         }
     }
@@ -54,7 +45,7 @@ pub(crate) fn is_mated_within(position: &Position, plies: u8) -> bool
     }
     let moves = legal_moves(position);
     for chess_move in moves.as_slice() {
-        if !mates_within(&after(position, *chess_move), plies - 1) {
+        if !mates_within(&play_legal(position, *chess_move), plies - 1) {
             return false;
         }
     }

@@ -24,7 +24,7 @@ pub use found::Search;
 pub use listing::legal_moves;
 pub use mate_search::search;
 pub use outcome::Standing;
-pub use playing::play;
+pub use playing::{play, play_legal};
 pub use standings::standing;
 pub use targets::{legal_targets, legal_targets_of};
 pub use zeroing_moves::zeroing;

@@ -4,7 +4,7 @@ ghost use Rattle.egt_board.specs.Attack.{IsInCheck};
 ghost use Rattle.egt_board.specs.Placement.{Stands};
 ghost use Rattle.egt_board.specs.Setup.{Setup, IsAdmissible, IsKingOn};
 ghost use Rattle.egt_moves.specs.Going.{Goes};
-ghost use Rattle.egt_moves.specs.Legal.{Leads, men_after, after};
+ghost use Rattle.egt_moves.specs.Legal.{Leads, IsLegal, men_after, after};
 ghost use Rattle.egt_moves.specs.Promotion.{FitsPromotion, promotes};
 
 use crate::chess_move::Move;
@@ -67,4 +67,14 @@ pub fn play(position: &Position, chess_move: Move) -> Option<Position>
         return None;
     }
     Some(played(position, man, &chess_move))
+}
+
+/// The position that the move leads to, which the caller knows to be legal: what `play` answers, without a test.
+pub fn play_legal(position: &Position, chess_move: Move) -> Position
+    requires { IsLegal position.now chess_move }
+    ensures { Leads position.now chess_move result }
+{
+    let _side = position.side();
+    let man = position.at(chess_move.from).unwrap();
+    played(position, man, &chess_move)
 }

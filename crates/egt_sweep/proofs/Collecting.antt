@@ -15,11 +15,6 @@ use Rattle.egt_unmoves.specs.declared.unmove.Unmove.{Unmove}
 use Rattle.egt_sweep.specs.Edges.{GoesOn, LeadsOn, GoesBack, ComesFrom}
 use Rattle.egt_sweep.specs.Laws.{Laws}
 
--- a legal move leads somewhere
-pub somewhere : (p : Setup) (m : Move) (o : Option Setup) → IfNone o ((q : Setup) → ¬ Leads p m q) → IsLegal p m → IsSome o
-somewhere p m None none legal = absurd (none legal.0 legal.1)
-somewhere p m (Some q) none legal = refl
-
 -- one of the first n elements gives k
 unfoldable pub Collected : {X : Type 0} → (X → ℕ → Type 0) → List X → ℕ → ℕ → Type 0
 Collected {X} gives xs n k = (x : X) × (has : Contains xs x) × (has.0 < n) × gives x k

@@ -25,7 +25,7 @@ use arrayvec::ArrayVec;
 use egt_board::{Camps, Position, Square};
 use egt_class::Class;
 use egt_index::{Frame, Steps, index};
-use egt_moves::{Move, legal_targets_of, play};
+use egt_moves::{Move, legal_targets_of, play_legal};
 use egt_table::Column;
 
 /// The index of the position after the man went to a square where he takes nothing and is not promoted. The steps are his.
@@ -48,7 +48,7 @@ fn index_after(class: Class, steps: &Steps, position: &Position, from: Square, t
         to,
         promo: None,
     };
-    let next = play(position, chess_move).unwrap();
+    let next = play_legal(position, chess_move);
     index(class, &next)
 }
 

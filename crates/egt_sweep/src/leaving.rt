@@ -34,7 +34,7 @@ use egt_check::Library;
 use egt_class::{Class, of};
 use egt_graph::Exit;
 use egt_index::{Frame, index};
-use egt_moves::{Move, play, promotions};
+use egt_moves::{Move, play_legal, promotions};
 use egt_table::Column;
 
 /// The plies of an exit: in the game of zeroing moves none are left.
@@ -142,7 +142,7 @@ fn add_exit(
     laws();
     let _side = position.side();
     let _number = class.number();
-    let next = play(position, *chess_move).unwrap();
+    let next = play_legal(position, *chess_move);
     list.push(exit_at(aim, class, library, &next));
 }
 

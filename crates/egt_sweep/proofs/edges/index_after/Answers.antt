@@ -5,7 +5,6 @@ use Rattle.egt_board.specs.declared.man.Man.{Man}
 use Rattle.egt_index.specs.Index.{IsIndex}
 use Rattle.egt_moves.specs.DecidedMoves.{leads_to_one}
 use Rattle.egt_moves.specs.Legal.{Leads, plain, passed}
-use Rattle.egt_sweep.proofs.Collecting.{somewhere}
 use Rattle.egt_sweep.proofs.Onward.{moved_by, none_passed}
 use Rattle.egt_sweep.proofs.edges.index_after.Goals as goal
 
@@ -34,19 +33,16 @@ returns-then-not-passes c q leads =
     c.index_to.ensures c.args.class c.args.from p q c.requires.steps
     (moved_by c.laws.ensures c.args.class p q c.args.from c.args.to c.side-side.ensures.admissible leads c.requires.quiet (subst (λ (x : Man). passed x c.args.from c.args.to ≡ None) man none))
 
-pub unwrap-next-requires : goal.unwrap-next-requires
-unwrap-next-requires c = somewhere c.args.position.now (plain c.args.from c.args.to) c.play.result c.play.ensures.illegal c.requires.legal
-
 pub index-requires : goal.index-requires
 index-requires c =
     let p = c.args.position.now in
     let m = plain c.args.from c.args.to in
-    let there = subst (λ (o : Option Setup). IfSome o (λ r. Leads p m r)) c.unwrap-next.ensures c.play.ensures.leads in
-    (c.requires.of.0, c.laws.ensures.quiet_class p c.unwrap-next.result m c.args.class c.requires.of.0 c.side-side.ensures.admissible c.requires.of.1 there c.requires.quiet refl)
+    let there = c.play_legal-next.ensures in
+    (c.requires.of.0, c.laws.ensures.quiet_class p c.play_legal-next.result m c.args.class c.requires.of.0 c.side-side.ensures.admissible c.requires.of.1 there c.requires.quiet refl)
 
 pub returns : goal.returns
 returns c q leads =
     let p = c.args.position.now in
     let m = plain c.args.from c.args.to in
-    let there = subst (λ (o : Option Setup). IfSome o (λ r. Leads p m r)) c.unwrap-next.ensures c.play.ensures.leads in
-    subst (λ (r : Setup). IsIndex c.args.class r c.index.result) (leads_to_one p c.unwrap-next.result q m there leads) c.index.ensures
+    let there = c.play_legal-next.ensures in
+    subst (λ (r : Setup). IsIndex c.args.class r c.index.result) (leads_to_one p c.play_legal-next.result q m there leads) c.index.ensures
