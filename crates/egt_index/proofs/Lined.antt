@@ -151,6 +151,13 @@ least_home facts c flips q after side first (Some second) a b has home one two =
     (two home.other.below home.other.flips_is (keeps_play c flips q (second % 8) has.admissible has.is_of home.other.keeps))
     (λ t t_in flips_is apart other. none_away facts c q flips after.white first (Some second) has.admissible has.is_of has.stood.all.1 home t t_in flips_is apart other)
 
+-- the turns that bring the king home from there bring home the one who stands there
+pub home_after : (k : ℕ) (flips : Bool) (homing : Homing) (to : ℕ) (q : Setup) (comes : ComesHome k flips homing to q) (first : ℕ) (second : Option ℕ) → AreHome homing.pawns homing.flips to first second → AreHome (has_pawns (material_of k)) flips comes.after.white first second
+home_after k flips homing to q comes first second home =
+    subst (λ pawns. AreHome pawns flips comes.after.white first second) comes.pawns
+    (subst (λ f. AreHome homing.pawns f comes.after.white first second) comes.flips_is
+    (subst (λ s. AreHome homing.pawns homing.flips s first second) (sym comes.white) home))
+
 pub on_after : (n : ℕ) (flips : Bool) (e : Entry) (s k : ℕ) → IsOn e s → k ≡ turned_square n flips s → IsOn (entry_after n flips e) k
 on_after n flips None s k on is = tt
 on_after n flips (Some e) s k on is = ap (turned_square n flips) on ∙ sym is
@@ -296,6 +303,10 @@ pair_sum scales others king black next last side high b n l x y =
 
     zero_out : (k s : ℕ) → k ≡ 0 → k * s ≡ 0
     zero_out k s is = ap (λ j. j * s) is ∙ none s
+
+-- the king's digit adds by itself
+pub king_apart : (scales : Scales) (high b n l : ℕ) → high * scales.king + code_by scales 0 b n l ≡ code_by scales high b n l
+king_apart scales high b n l = omega arith
 
 pub code_with_same : (mover : Mover) (scales : Scales) (h i b d n m l k to : ℕ) → h ≡ i → b ≡ d → n ≡ m → l ≡ k → code_with mover scales h b n l to ≡ code_with mover scales i d m k to
 code_with_same mover scales h i b d n m l k to hi bd nm lk =

@@ -1,5 +1,5 @@
 -- The codes after one man of a class went, by the square to which he went.
-use Rattle.std.specs.Prelude.{◌≡◌, ◌≢◌, ℕ, ◌+◌, ◌<◌, ◌≤◌, ◌/◌, ◌%◌, ◌==◌, min, max, Bool, Some, None, true, false}
+use Rattle.std.specs.Prelude.{◌≡◌, ◌≢◌, ℕ, ◌+◌, ◌<◌, ◌≤◌, ◌/◌, ◌%◌, ◌==◌, min, max, Bool, if◌then◌else◌, Some, None, true, false}
 use Rattle.std.specs.Option.{option_to_list}
 use Rattle.egt_board.specs.Setup.{Setup}
 use Rattle.egt_board.specs.Turned.{turned_square, turned_side}
@@ -12,14 +12,16 @@ use Rattle.egt_index.specs.Scales.{share, code_by, man_at, AreScales, ScalesFit,
 use Rattle.egt_index.specs.Size.{has_pawns}
 use Rattle.egt_index.specs.Stood.{Entry, HasStand, IsOff, AllApart, list_of}
 use Rattle.egt_index.specs.declared.scales.Scales.{Scales}
+use Rattle.egt_index.specs.declared.scales.Squares.{Squares}
 use Rattle.egt_index.specs.declared.stand.Stand.{Stand}
 use Rattle.egt_index.specs.declared.ways.Homing.{Homing}
+use Rattle.egt_index.specs.declared.ways.KingWay.{KingWay}
 use Rattle.egt_index.specs.declared.ways.Line.{Line}
 use Rattle.egt_index.specs.declared.ways.Mover.{Mover}
 use Rattle.egt_index.specs.declared.ways.Mover.TheVariants.{Black, Next, Last, Nobody}
 use Rattle.egt_index.specs.declared.ways.Pair.{Pair}
 use Rattle.egt_index.specs.declared.ways.Way.{Way}
-use Rattle.egt_index.specs.declared.ways.Way.TheVariants.{One, Two, OnePair, TwoPairs, Home, Never}
+use Rattle.egt_index.specs.declared.ways.Way.TheVariants.{One, Two, OnePair, TwoPairs, King, Never}
 
 abbrev pub line_code : Line → ℕ → ℕ
 line_code line to = line.rest + share line.scale (turned_square (line.turn % 8) (line.turn / 8 == 1) to)
@@ -60,12 +62,23 @@ pub record ComesHome (c : ℕ) (flips : Bool) (homing : Homing) (to : ℕ) (q : 
   pub scales : AreScales (material_of c) (man_at after.next) (man_at after.last) (turned_side flips side) homing.scales
   pub paired : IsPaired after homing.pair
 
+-- the code of these squares, of two equal men the one on the lesser first
+abbrev pub code_in_order : Scales → ℕ → Squares → Bool → ℕ
+code_in_order scales high squares pair =
+    code_by scales high squares.black (if pair then min squares.next squares.last else squares.next) (if pair then max squares.next squares.last else squares.last)
+
+-- the rest is what the others add where they stand
+pub record KingWayFits (way : KingWay) : Type 0 where
+  pub scales : ScalesFit way.homing.scales
+  pub rest : way.rest ≡ code_in_order way.homing.scales 0 way.homing.squares way.homing.pair
+  pub few : way.rest ≤ 1073741824
+
 abbrev pub WayFits : Way → Type 0
 WayFits (One line) = LineFits line
 WayFits (Two first second) = LineFits first × LineFits second
 WayFits (OnePair pair) = PairFits pair
 WayFits (TwoPairs first second) = PairFits first × PairFits second
-WayFits (Home homing) = ScalesFit homing.scales
+WayFits (King way) = KingWayFits way
 WayFits Never = Unit {0}
 
 -- wherever the man on `from` in p goes, the way tells the least code of what the turns make of the position then
@@ -74,7 +87,7 @@ Leads c flips p from (One line) = (to : ℕ) (q : Setup) → IsMoved c p from to
 Leads c flips p from (Two first second) = (to : ℕ) (q : Setup) → IsMoved c p from to q → LeastWith c q flips (Some (min (line_code first to) (line_code second to)))
 Leads c flips p from (OnePair pair) = (to : ℕ) (q : Setup) → IsMoved c p from to q → LeastWith c q flips (Some (pair_code pair to))
 Leads c flips p from (TwoPairs first second) = (to : ℕ) (q : Setup) → IsMoved c p from to q → LeastWith c q flips (Some (min (pair_code first to) (pair_code second to)))
-Leads c flips p from (Home homing) = (to : ℕ) (q : Setup) → IsMoved c p from to q → ComesHome c flips homing to q
+Leads c flips p from (King way) = (to : ℕ) (q : Setup) → IsMoved c p from to q → ComesHome c flips way.homing to q
 Leads c flips p from Never = (to : ℕ) (q : Setup) → IsMoved c p from to q → LeastWith c q flips None
 
 -- the position in which the man on `from` went is that of these men, one of them on another square

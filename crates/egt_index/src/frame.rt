@@ -110,10 +110,10 @@ impl Frame {
         let side = self.side.other();
         match self.nearer_after(from) {
             Nearer::Own => Steps {
-                ways: Ways::Alone(self.own_way(side, from)),
+                ways: Ways::alone(self.own_way(side, from)),
             },
             Nearer::Exchanged => Steps {
-                ways: Ways::Alone(self.exchanged_way(side, from)),
+                ways: Ways::alone(self.exchanged_way(side, from)),
             },
             Nearer::Both => Steps {
                 ways: Ways::Both(self.own_way(side, from), self.exchanged_way(side, from)),

@@ -3,13 +3,13 @@ ghost use Rattle.std.specs.Prelude.{ℕ, ◌<◌, not, Bool};
 ghost use Rattle.egt_board.specs.Setup.{Setup};
 ghost use Rattle.egt_index.specs.Frame.{IsMoved};
 ghost use Rattle.egt_index.specs.Index.{IsIndex};
-ghost use Rattle.egt_index.specs.Steps.{AreSteps, WaysFit};
+ghost use Rattle.egt_index.specs.Steps.{AllLead, AreSteps, LeadsAll, WaysFit};
 ghost use Rattle.egt_index.specs.Turns.{Best};
 ghost use Rattle.egt_index.specs.Ways.{WayFits, Leads};
 
 use crate::facts::facts;
 use crate::indexing::lesser;
-use crate::ways::{Line, Way};
+use crate::ways::{KingWay, Line, Way};
 use egt_board::Square;
 
 /// The codes after one man went, of all turns.
@@ -17,10 +17,26 @@ use egt_board::Square;
 pub(crate) enum Ways {
     /// The most common case by itself: one turn of the class's colours alone makes what has a code.
     Single(Line),
+    /// The white king's in the only colours in which the least can be.
+    King(KingWay),
     /// The codes in the only colours in which the least can be.
     Alone(Way),
     /// Those in the class's colours, and those in the others.
     Both(Way, Way),
+}
+
+impl Ways {
+    /// The codes in the only colours in which the least can be.
+    #[inline(always)]
+    pub(crate) fn alone(way: Way) -> Ways
+        ensures fits { WayFits way → WaysFit result }
+        ensures leads { (c from : ℕ) (flipped flips : Bool) (p : Setup) → Leads c flips p from way → LeadsAll c flips p from → AllLead c flipped p from result }
+    {
+        match way {
+            Way::King(way) => Ways::King(way),
+            _ => Ways::Alone(way),
+        }
+    }
 }
 
 /// The least code after he went to the square, if there is one.
@@ -51,6 +67,7 @@ impl Steps {
         facts();
         match &self.ways {
             Ways::Single(line) => line.code_to(to),
+            Ways::King(way) => way.code_to(to).unwrap(),
             _ => self.least_to(to).unwrap(),
         }
     }
@@ -63,6 +80,7 @@ impl Steps {
     {
         match &self.ways {
             Ways::Single(line) => Some(line.code_to(to)),
+            Ways::King(way) => way.code_to(to),
             Ways::Alone(way) => way.code_to(to),
             Ways::Both(own, exchanged) => least_of(own, exchanged, to),
         }

@@ -1,5 +1,5 @@
 //! The codes after one man of a class went, by the square to which he went.
-ghost use Rattle.std.specs.Prelude.{◌≡◌, ℕ, ◌+◌, ◌<◌, ◌≤◌, ◌/◌, ◌%◌, ◌==◌, Bool, IfSome, true, false};
+ghost use Rattle.std.specs.Prelude.{◌≡◌, ℕ, ◌+◌, ◌<◌, ◌≤◌, ◌/◌, ◌%◌, ◌==◌, Bool, IfSome, Some, true, false};
 ghost use Rattle.std.specs.Option.{option_map};
 ghost use Rattle.egt_board.specs.Setup.{Setup};
 ghost use Rattle.egt_board.specs.Symmetry.{KeepsPlay};
@@ -13,13 +13,13 @@ ghost use Rattle.egt_index.specs.Scales.{ScalesFit, share, code_by};
 ghost use Rattle.egt_index.specs.Size.{men_in_order};
 ghost use Rattle.egt_index.specs.Stood.{AllApart, IsFilled, list_of, men_among};
 ghost use Rattle.egt_index.specs.Turns.{CodeAfter, lesser};
-ghost use Rattle.egt_index.specs.Ways.{line_code, pair_code, code_with, LineFits, PairFits, ComesHome, WayFits, Leads, Goes, IsMover, IsGoer, IsSingle, IsOneOfTwo, IsPaired, other_square};
+ghost use Rattle.egt_index.specs.Ways.{line_code, pair_code, code_with, LineFits, PairFits, ComesHome, KingWayFits, WayFits, Leads, Goes, IsMover, IsGoer, IsSingle, IsOneOfTwo, IsPaired, other_square};
 ghost use Rattle.egt_index.specs.declared.stand.Stand.{Stand};
 ghost use Rattle.egt_index.specs.declared.ways.Way.TheVariants.{One};
 
 use crate::digits::king_digit;
 use crate::facts::facts;
-use crate::home::home;
+use crate::home::{home, still_home};
 use crate::indexing::lesser;
 use crate::lanes::{Lane, Lanes};
 use crate::men::{has_pawns, is_paired};
@@ -113,13 +113,65 @@ impl Homing {
     }
 
     /// The least code after he went to the square.
-    #[inline(always)]
-    pub(crate) fn code_to(&self, to: Square) -> Option<u32>
+    #[inline(never)]
+    fn code_to(&self, to: Square) -> Option<u32>
         requires { ScalesFit self.now.scales }
         ensures { (c : ℕ) (flips : Bool) (q : Setup) → c < 36 → ComesHome c flips self.now to q → LeastWith c q flips result }
     {
         let (first, second) = home(self.pawns, self.flips, to);
         self.code_by(first, second, to)
+    }
+}
+
+/// The codes after the white king went, and what the others add to one where no turn moves them: in most of his steps the only turn that
+/// brings him home changes nothing.
+#[derive(Clone, Copy)]
+pub(crate) struct KingWay {
+    pub(crate) homing: Homing,
+    pub(crate) rest: u32,
+}
+
+impl KingWay {
+    /// The way of the king whom the turns bring home.
+    fn of(homing: Homing) -> KingWay
+        requires { ScalesFit homing.scales }
+        ensures homing { result.homing ≡ homing }
+        ensures fits { KingWayFits result }
+    {
+        let squares = homing.squares.ordered(homing.pair);
+        KingWay {
+            homing,
+            rest: homing.scales.code(0, &squares),
+        }
+    }
+
+    /// The code after he went to the square, if he is at home there and no other turn leaves him so.
+    #[inline(always)]
+    fn unturned_code(&self, to: Square) -> Option<u32>
+        requires { KingWayFits self.now }
+        ensures { (c : ℕ) (flips : Bool) (q : Setup) → c < 36 → ComesHome c flips self.now.homing to q → IfSome result (λ code. LeastWith c q flips (Some code)) }
+    {
+        facts();
+        if self.homing.flips {
+            return None;
+        }
+        let high = king_digit(self.homing.pawns, to)?;
+        match still_home(self.homing.pawns, to) {
+            Some(_) => None,
+            None => Some(u32::from(high) * self.homing.scales.king + self.rest),
+        }
+    }
+
+    /// The least code after he went to the square.
+    #[inline(always)]
+    pub(crate) fn code_to(&self, to: Square) -> Option<u32>
+        requires { KingWayFits self.now }
+        ensures { (c : ℕ) (flips : Bool) (q : Setup) → c < 36 → ComesHome c flips self.now.homing to q → LeastWith c q flips result }
+    {
+        match self.unturned_code(to) {
+            Some(code) => Some(code),
+            None => self.homing.code_to(to),
+        }
     }
 }
 
@@ -130,7 +182,7 @@ pub(crate) enum Way {
     Two(Line, Line),
     OnePair(Pair),
     TwoPairs(Pair, Pair),
-    Home(Homing),
+    King(KingWay),
     /// No turn makes anything that has a code.
     Never,
 }
@@ -147,7 +199,7 @@ impl Way {
             Way::Two(first, second) => Some(first.code_to(to).min(second.code_to(to))),
             Way::OnePair(pair) => Some(pair.code_to(to)),
             Way::TwoPairs(first, second) => Some(first.code_to(to).min(second.code_to(to))),
-            Way::Home(homing) => homing.code_to(to),
+            Way::King(way) => way.code_to(to),
             Way::Never => None,
         }
     }
@@ -368,13 +420,13 @@ pub(crate) fn way_of(
     let pawns = has_pawns(class);
     let pair = is_paired(class);
     if stand.white == from {
-        return Way::Home(Homing {
+        return Way::King(KingWay::of(Homing {
             pawns,
             flips,
             pair,
             scales,
             squares: squares_of(stand),
-        });
+        }));
     }
     let mover = mover_on(stand, from);
     way_of_other(&scales, pawns, pair, lanes, mover)

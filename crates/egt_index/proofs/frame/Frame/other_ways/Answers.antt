@@ -10,8 +10,9 @@ returns-in-Own c = λ p is.
       class_in = omega (arith, c.number-number.ensures.below, c.number-number.ensures.value);
       flipped = frame.flipped;
       is_of = is.stand.is_of;
-      fit = c.own_way.ensures.fits p is;
-      lead = (frame.flipped, c.own_way.ensures.leads p is c.other-side.ensures, subst (λ (n : Nearer). IsLeastIn frame.class frame.flipped p c.args.from n) c.in-Own.is (c.nearer_after.ensures p is));
+      fit = c.alone.ensures.fits (c.own_way.ensures.fits p is);
+      lead = c.alone.ensures.leads frame.class c.args.from frame.flipped frame.flipped p (c.own_way.ensures.leads p is c.other-side.ensures)
+          (subst (λ (n : Nearer). IsLeastIn frame.class frame.flipped p c.args.from n) c.in-Own.is (c.nearer_after.ensures p is));
     }
 
 pub returns-in-Exchanged : goal.returns-in-Exchanged
@@ -21,8 +22,9 @@ returns-in-Exchanged c = λ p is.
       class_in = omega (arith, c.number-number.ensures.below, c.number-number.ensures.value);
       flipped = frame.flipped;
       is_of = is.stand.is_of;
-      fit = c.exchanged_way.ensures.fits p is;
-      lead = (not frame.flipped, c.exchanged_way.ensures.leads p is c.other-side.ensures, subst (λ (n : Nearer). IsLeastIn frame.class frame.flipped p c.args.from n) c.in-Exchanged.is (c.nearer_after.ensures p is));
+      fit = c.alone-in-Exchanged.ensures.fits (c.exchanged_way.ensures.fits p is);
+      lead = c.alone-in-Exchanged.ensures.leads frame.class c.args.from frame.flipped (not frame.flipped) p (c.exchanged_way.ensures.leads p is c.other-side.ensures)
+          (subst (λ (n : Nearer). IsLeastIn frame.class frame.flipped p c.args.from n) c.in-Exchanged.is (c.nearer_after.ensures p is));
     }
 
 pub returns-in-Both : goal.returns-in-Both
