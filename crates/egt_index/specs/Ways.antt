@@ -8,9 +8,9 @@ use Rattle.egt_class.specs.Material.{material_of}
 use Rattle.egt_index.specs.Frame.{IsMoved}
 use Rattle.egt_index.specs.Home.{LeastWith}
 use Rattle.egt_index.specs.Lanes.{IsWent}
-use Rattle.egt_index.specs.Scales.{share, code_by, man_at, AreScales, ScalesFit, IsOn, AreEqual}
-use Rattle.egt_index.specs.Size.{has_pawns}
-use Rattle.egt_index.specs.Stood.{Entry, HasStand, IsOff, AllApart, list_of}
+use Rattle.egt_index.specs.Scales.{share, code_by, man_at, AreScales, IsOn, AreEqual}
+use Rattle.egt_index.specs.Size.{has_pawns, men_in_order}
+use Rattle.egt_index.specs.Stood.{Entry, HasStand, IsFilled, IsOff, AllApart, list_of, men_among}
 use Rattle.egt_index.specs.declared.scales.Scales.{Scales}
 use Rattle.egt_index.specs.declared.scales.Squares.{Squares}
 use Rattle.egt_index.specs.declared.stand.Stand.{Stand}
@@ -67,11 +67,38 @@ abbrev pub code_in_order : Scales → ℕ → Squares → Bool → ℕ
 code_in_order scales high squares pair =
     code_by scales high squares.black (if pair then min squares.next squares.last else squares.next) (if pair then max squares.next squares.last else squares.last)
 
--- the rest is what the others add where they stand
+-- what the turns bring home is the king of the class, and how its men count, where the others stand on these squares and that side, in the
+-- class's colours, is to move
+pub record IsHoming (c : ℕ) (squares : Squares) (side : Side) (flips : Bool) (homing : Homing) : Type 0 where
+  pub squares_are : homing.squares ≡ squares
+  pub pawns : homing.pawns ≡ has_pawns (material_of c)
+  pub flips_is : homing.flips ≡ flips
+  pub scales : (stand : Stand) → men_among (list_of stand) ≡ men_in_order (material_of c) → IsFilled stand → AreScales (material_of c) (man_at stand.next) (man_at stand.last) side homing.scales
+  pub paired : (stand : Stand) → men_among (list_of stand) ≡ men_in_order (material_of c) → IsFilled stand → IsPaired stand homing.pair
+
+-- how the king counts, and what the others add where they stand
 pub record KingWayFits (way : KingWay) : Type 0 where
-  pub scales : ScalesFit way.homing.scales
-  pub rest : way.rest ≡ code_in_order way.homing.scales 0 way.homing.squares way.homing.pair
-  pub few : way.rest ≤ 1073741824
+  pub homing : Homing
+  pub is : IsHoming way.class way.squares way.side way.flips homing
+  pub pawns : way.pawns ≡ homing.pawns
+  pub king : way.king ≡ homing.scales.king
+  pub rest : way.rest ≡ code_in_order homing.scales 0 way.squares homing.pair
+  pub king_few : way.king ≤ 1048576
+  pub rest_few : way.rest ≤ 1073741824
+
+-- q is the position after the king went to the square, and the others stand so
+pub record IsKingOn (c : ℕ) (flips : Bool) (way : KingWay) (to : ℕ) (q : Setup) : Type 0 where
+  pub after : Stand
+  pub side : Side
+  pub stand : HasStand c flips after side false q
+  pub filled : IsFilled after
+  pub white : after.white ≡ to
+  pub black : after.black ≡ way.squares.black
+  pub next : IsOn after.next way.squares.next
+  pub last : IsOn after.last way.squares.last
+  pub class_is : way.class ≡ c
+  pub side_is : way.side ≡ turned_side flips side
+  pub flips_is : way.flips ≡ flips
 
 abbrev pub WayFits : Way → Type 0
 WayFits (One line) = LineFits line
@@ -87,7 +114,7 @@ Leads c flips p from (One line) = (to : ℕ) (q : Setup) → IsMoved c p from to
 Leads c flips p from (Two first second) = (to : ℕ) (q : Setup) → IsMoved c p from to q → LeastWith c q flips (Some (min (line_code first to) (line_code second to)))
 Leads c flips p from (OnePair pair) = (to : ℕ) (q : Setup) → IsMoved c p from to q → LeastWith c q flips (Some (pair_code pair to))
 Leads c flips p from (TwoPairs first second) = (to : ℕ) (q : Setup) → IsMoved c p from to q → LeastWith c q flips (Some (min (pair_code first to) (pair_code second to)))
-Leads c flips p from (King way) = (to : ℕ) (q : Setup) → IsMoved c p from to q → ComesHome c flips way.homing to q
+Leads c flips p from (King way) = (to : ℕ) (q : Setup) → IsMoved c p from to q → IsKingOn c flips way to q
 Leads c flips p from Never = (to : ℕ) (q : Setup) → IsMoved c p from to q → LeastWith c q flips None
 
 -- the position in which the man on `from` went is that of these men, one of them on another square

@@ -6,7 +6,7 @@ ghost use Rattle.egt_board.specs.Settled.{IsSettled};
 ghost use Rattle.egt_class.specs.Membership.{IsOf};
 ghost use Rattle.egt_board.specs.Placement.{Stands};
 ghost use Rattle.egt_index.specs.Frame.{IsFrame};
-ghost use Rattle.egt_index.specs.Steps.{AllLead, AreSteps, IsLeastIn};
+ghost use Rattle.egt_index.specs.Steps.{AllLead, AreSteps, IsLeastIn, LeadsAll, WaysFit};
 ghost use Rattle.egt_index.specs.Stood.{HasStand, IsFilled};
 ghost use Rattle.egt_index.specs.declared.steps.Ways.TheVariants.{Single};
 ghost use Rattle.egt_index.specs.Ways.{LineFits, WayFits, Leads};
@@ -18,7 +18,7 @@ use crate::men::has_equal_sides;
 use crate::nearer::{Nearer, nearer_colours};
 use crate::stand::{Stand, exchanged, standing_of};
 use crate::steps::{Steps, Ways};
-use crate::ways::{Line, Way, line_of, way_of};
+use crate::ways::{KingWay, Line, Way, line_of, way_of};
 use egt_board::{Position, Side, Square};
 use egt_class::Class;
 
@@ -110,14 +110,28 @@ impl Frame {
         let side = self.side.other();
         match self.nearer_after(from) {
             Nearer::Own => Steps {
-                ways: Ways::alone(self.own_way(side, from)),
+                ways: self.own_ways(side, from),
             },
             Nearer::Exchanged => Steps {
-                ways: Ways::alone(self.exchanged_way(side, from)),
+                ways: Ways::Alone(self.exchanged_way(side, from)),
             },
             Nearer::Both => Steps {
                 ways: Ways::Both(self.own_way(side, from), self.exchanged_way(side, from)),
             },
+        }
+    }
+
+    /// The same where the least code is in the class's colours.
+    fn own_ways(&self, side: Side, from: Square) -> Ways
+        ensures fits { (p : Setup) → IsFrame p self.now → WaysFit result }
+        ensures leads { (p : Setup) → IsFrame p self.now → side ≡ other_side self.now.side → LeadsAll self.now.class self.now.flipped p from → AllLead self.now.class self.now.flipped p from result }
+    {
+        facts();
+        let _number = self.class.number();
+        if self.stand.white == from {
+            Ways::King(KingWay::of(self.class, &self.stand, self.flipped, side))
+        } else {
+            Ways::Alone(self.own_way(side, from))
         }
     }
 

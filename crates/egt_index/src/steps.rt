@@ -3,7 +3,7 @@ ghost use Rattle.std.specs.Prelude.{ℕ, ◌<◌, not, Bool};
 ghost use Rattle.egt_board.specs.Setup.{Setup};
 ghost use Rattle.egt_index.specs.Frame.{IsMoved};
 ghost use Rattle.egt_index.specs.Index.{IsIndex};
-ghost use Rattle.egt_index.specs.Steps.{AllLead, AreSteps, LeadsAll, WaysFit};
+ghost use Rattle.egt_index.specs.Steps.{AreSteps, WaysFit};
 ghost use Rattle.egt_index.specs.Turns.{Best};
 ghost use Rattle.egt_index.specs.Ways.{WayFits, Leads};
 
@@ -23,20 +23,6 @@ pub(crate) enum Ways {
     Alone(Way),
     /// Those in the class's colours, and those in the others.
     Both(Way, Way),
-}
-
-impl Ways {
-    /// The codes in the only colours in which the least can be.
-    #[inline(always)]
-    pub(crate) fn alone(way: Way) -> Ways
-        ensures fits { WayFits way → WaysFit result }
-        ensures leads { (c from : ℕ) (flipped flips : Bool) (p : Setup) → Leads c flips p from way → LeadsAll c flips p from → AllLead c flipped p from result }
-    {
-        match way {
-            Way::King(way) => Ways::King(way),
-            _ => Ways::Alone(way),
-        }
-    }
 }
 
 /// The least code after he went to the square, if there is one.
