@@ -6,10 +6,10 @@ ghost use Rattle.egt_board.specs.Settled.{IsSettled};
 ghost use Rattle.egt_class.specs.Membership.{IsOf};
 ghost use Rattle.egt_board.specs.Placement.{Stands};
 ghost use Rattle.egt_index.specs.Frame.{IsFrame};
-ghost use Rattle.egt_index.specs.Steps.{AllLead, AreSteps, IsLeastIn, LeadsAll, WaysFit};
+ghost use Rattle.egt_index.specs.Steps.{AllLead, AreSteps, IsLeastIn};
 ghost use Rattle.egt_index.specs.Stood.{HasStand, IsFilled};
-ghost use Rattle.egt_index.specs.declared.steps.Ways.TheVariants.{Single};
-ghost use Rattle.egt_index.specs.Ways.{LineFits, WayFits, Leads};
+ghost use Rattle.egt_index.specs.declared.steps.Ways.TheVariants.{Single, King};
+ghost use Rattle.egt_index.specs.Ways.{LineFits, KingWayFits, WayFits, Leads};
 ghost use Rattle.egt_board.specs.Man.{other_side};
 
 use crate::facts::facts;
@@ -60,7 +60,12 @@ impl Frame {
             Some(line) => Steps {
                 ways: Ways::Single(line),
             },
-            None => self.other_ways(from),
+            None => match self.king_way(from) {
+                Some(way) => Steps {
+                    ways: Ways::King(way),
+                },
+                None => self.other_ways(from),
+            },
         }
     }
 
@@ -101,6 +106,25 @@ impl Frame {
         }
     }
 
+    /// The codes after the man on the square went, where the least is in the class's colours and he is the white king in these.
+    #[inline(always)]
+    fn king_way(&self, from: Square) -> Option<KingWay>
+        ensures fits { (p : Setup) → IsFrame p self.now → IfSome result KingWayFits }
+        ensures leads { (p : Setup) → IsFrame p self.now → IfSome result (λ way. AllLead self.now.class self.now.flipped p from (King way)) }
+    {
+        facts();
+        let _number = self.class.number();
+        let side = self.side.other();
+        if self.stand.white == from {
+            match self.nearer_after(from) {
+                Nearer::Own => Some(KingWay::of(self.class, &self.stand, self.flipped, side)),
+                Nearer::Exchanged | Nearer::Both => None,
+            }
+        } else {
+            None
+        }
+    }
+
     /// The ways of the man on the square, of the colours in which the least code may be.
     #[inline(never)]
     fn other_ways(&self, from: Square) -> Steps
@@ -110,7 +134,7 @@ impl Frame {
         let side = self.side.other();
         match self.nearer_after(from) {
             Nearer::Own => Steps {
-                ways: self.own_ways(side, from),
+                ways: Ways::Alone(self.own_way(side, from)),
             },
             Nearer::Exchanged => Steps {
                 ways: Ways::Alone(self.exchanged_way(side, from)),
@@ -118,20 +142,6 @@ impl Frame {
             Nearer::Both => Steps {
                 ways: Ways::Both(self.own_way(side, from), self.exchanged_way(side, from)),
             },
-        }
-    }
-
-    /// The same where the least code is in the class's colours.
-    fn own_ways(&self, side: Side, from: Square) -> Ways
-        ensures fits { (p : Setup) → IsFrame p self.now → WaysFit result }
-        ensures leads { (p : Setup) → IsFrame p self.now → side ≡ other_side self.now.side → LeadsAll self.now.class self.now.flipped p from → AllLead self.now.class self.now.flipped p from result }
-    {
-        facts();
-        let _number = self.class.number();
-        if self.stand.white == from {
-            Ways::King(KingWay::of(self.class, &self.stand, self.flipped, side))
-        } else {
-            Ways::Alone(self.own_way(side, from))
         }
     }
 

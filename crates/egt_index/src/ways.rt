@@ -153,7 +153,7 @@ pub(crate) struct KingWay {
 
 impl KingWay {
     /// The way of the white king of these men.
-    #[inline(always)]
+    #[inline(never)]
     pub(crate) fn of(class: Class, stand: &Stand, flips: bool, side: Side) -> KingWay
         ensures fits { KingWayFits result }
         ensures leads { (from : ℕ) (p : Setup) → stand.now.white ≡ from → IsFilled stand.now → AllApart (list_of stand.now) → Goes class flips p stand.now from side →

@@ -10,8 +10,8 @@ returns-in-Own c = λ p is.
       class_in = omega (arith, c.number-number.ensures.below, c.number-number.ensures.value);
       flipped = frame.flipped;
       is_of = is.stand.is_of;
-      fit = c.own_ways.ensures.fits p is;
-      lead = c.own_ways.ensures.leads p is c.other-side.ensures (subst (λ (n : Nearer). IsLeastIn frame.class frame.flipped p c.args.from n) c.in-Own.is (c.nearer_after.ensures p is));
+      fit = c.own_way.ensures.fits p is;
+      lead = (frame.flipped, c.own_way.ensures.leads p is c.other-side.ensures, subst (λ (n : Nearer). IsLeastIn frame.class frame.flipped p c.args.from n) c.in-Own.is (c.nearer_after.ensures p is));
     }
 
 pub returns-in-Exchanged : goal.returns-in-Exchanged
@@ -31,6 +31,6 @@ returns-in-Both c = λ p is.
       class_in = omega (arith, c.number-number.ensures.below, c.number-number.ensures.value);
       flipped = c.args.self.now.flipped;
       is_of = is.stand.is_of;
-      fit = (c.own_way.ensures.fits p is, c.exchanged_way-in-Both.ensures.fits p is);
-      lead = (c.own_way.ensures.leads p is c.other-side.ensures, c.exchanged_way-in-Both.ensures.leads p is c.other-side.ensures);
+      fit = (c.own_way-in-Both.ensures.fits p is, c.exchanged_way-in-Both.ensures.fits p is);
+      lead = (c.own_way-in-Both.ensures.leads p is c.other-side.ensures, c.exchanged_way-in-Both.ensures.leads p is c.other-side.ensures);
     }
