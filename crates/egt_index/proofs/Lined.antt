@@ -15,15 +15,17 @@ use Rattle.egt_index.specs.Home.{AreHome, LeastWith}
 use Rattle.egt_index.specs.Lanes.{moved_square, moved_entry, IsWent, IsLane, AreLanes, turn_of}
 use Rattle.egt_index.specs.Scales.{share, code_by, man_at, AreScales, IsOn, AreEqual}
 use Rattle.egt_index.specs.Size.{king_base, has_pawns}
-use Rattle.egt_index.specs.Stood.{Entry, HasStand, IsOrdered, IsInOrder, IsTurned, entry_after, IsOff, AllStand, AllApart, list_of}
+use Rattle.egt_index.specs.Stood.{Entry, HasStand, IsFilled, IsOrdered, IsInOrder, IsTurned, entry_after, IsOff, AllStand, AllApart, list_of}
 use Rattle.egt_index.specs.Turns.{CodeAfter, lesser}
-use Rattle.egt_index.specs.Ways.{code_with, other_square, IsThere, IsMover, IsGoer, IsSingle, IsOneOfTwo, IsPaired, ComesHome}
+use Rattle.egt_index.specs.Ways.{code_with, other_square, IsThere, IsMover, IsGoer, IsSingle, IsOneOfTwo, IsPaired, ComesHome, IsHoming, IsKingOn}
 use Rattle.egt_index.specs.declared.lanes.Lane.{Lane}
 use Rattle.egt_index.specs.declared.lanes.Lanes.{Lanes}
 use Rattle.egt_index.specs.declared.scales.Scale.{Scale}
 use Rattle.egt_index.specs.declared.scales.Scales.{Scales}
+use Rattle.egt_index.specs.declared.scales.Squares.{Squares}
 use Rattle.egt_index.specs.declared.stand.Stand.{Stand}
 use Rattle.egt_index.specs.declared.ways.Homing.{Homing}
+use Rattle.egt_index.specs.declared.ways.KingWay.{KingWay}
 use Rattle.egt_index.specs.declared.ways.Mover.{Mover}
 use Rattle.egt_index.specs.declared.ways.Mover.TheVariants.{Black, Next, Last, Nobody}
 use Rattle.egt_index.proofs.Best.{king_after, none_after}
@@ -150,6 +152,13 @@ least_home facts c flips q after side first (Some second) a b has home one two =
     (one home.one.below home.one.flips_is (keeps_play c flips q (first % 8) has.admissible has.is_of home.one.keeps))
     (two home.other.below home.other.flips_is (keeps_play c flips q (second % 8) has.admissible has.is_of home.other.keeps))
     (λ t t_in flips_is apart other. none_away facts c q flips after.white first (Some second) has.admissible has.is_of has.stood.all.1 home t t_in flips_is apart other)
+
+-- the turns that bring the king home from there bring home the one who stands there
+pub home_after : (k : ℕ) (flips : Bool) (homing : Homing) (to : ℕ) (q : Setup) (comes : ComesHome k flips homing to q) (first : ℕ) (second : Option ℕ) → AreHome homing.pawns homing.flips to first second → AreHome (has_pawns (material_of k)) flips comes.after.white first second
+home_after k flips homing to q comes first second home =
+    subst (λ pawns. AreHome pawns flips comes.after.white first second) comes.pawns
+    (subst (λ f. AreHome homing.pawns f comes.after.white first second) comes.flips_is
+    (subst (λ s. AreHome homing.pawns homing.flips s first second) (sym comes.white) home))
 
 pub on_after : (n : ℕ) (flips : Bool) (e : Entry) (s k : ℕ) → IsOn e s → k ≡ turned_square n flips s → IsOn (entry_after n flips e) k
 on_after n flips None s k on is = tt
@@ -297,6 +306,10 @@ pair_sum scales others king black next last side high b n l x y =
     zero_out : (k s : ℕ) → k ≡ 0 → k * s ≡ 0
     zero_out k s is = ap (λ j. j * s) is ∙ none s
 
+-- the king's digit adds by itself
+pub king_apart : (scales : Scales) (high b n l : ℕ) → high * scales.king + code_by scales 0 b n l ≡ code_by scales high b n l
+king_apart scales high b n l = omega arith
+
 pub code_with_same : (mover : Mover) (scales : Scales) (h i b d n m l k to : ℕ) → h ≡ i → b ≡ d → n ≡ m → l ≡ k → code_with mover scales h b n l to ≡ code_with mover scales i d m k to
 code_with_same mover scales h i b d n m l k to hi bd nm lk =
     ap (λ x. code_with mover scales x b n l to) hi ∙ ap (λ x. code_with mover scales i x n l to) bd ∙ ap (λ x. code_with mover scales i d x l to) nm ∙ ap (λ x. code_with mover scales i d m x to) lk
@@ -341,32 +354,55 @@ least_lanes facts c from to flips q before after side scales pawns mover lanes s
     too None lane none = none
     too (Some l) lane along = λ t_in flips_is keeps. along t_in (as_goer l.turn flips_is) lane (as_gone l.turn flips_is) keeps
 
--- the king whom the turns bring home went, and the others stand where they stood
-pub comes_home : (c from to : ℕ) (flips : Bool) (q : Setup) (before after : Stand) (side : Side) (homing : Homing) → before.white ≡ from → AllApart (list_of before) → IsWent c flips before after from to side q
-    → homing.squares.black ≡ before.black → IsOn before.next homing.squares.next → IsOn before.last homing.squares.last → homing.pawns ≡ has_pawns (material_of c) → homing.flips ≡ flips
-    → AreScales (material_of c) (man_at before.next) (man_at before.last) (turned_side flips side) homing.scales → (homing.pair ≡ true → AreEqual before.next before.last) → (homing.pair ≡ false → AreEqual before.next before.last → ⊥)
-    → ComesHome c flips homing to q
-comes_home c from to flips q before after side homing king apart gone black next last pawns flips_is scales equal unequal = record {
+-- the king went, and the others stand where they stood
+pub king_on : (c from to : ℕ) (flips : Bool) (q : Setup) (before after : Stand) (side : Side) (way : KingWay) → before.white ≡ from → IsFilled before → AllApart (list_of before) → IsWent c flips before after from to side q
+    → way.squares.black ≡ before.black → IsOn before.next way.squares.next → IsOn before.last way.squares.last → way.class ≡ c → way.side ≡ turned_side flips side → way.flips ≡ flips → IsKingOn c flips way to q
+king_on c from to flips q before after side way king filled apart gone black next last class_is side_is flips_is = record {
   after = after;
   side = side;
   stand = gone.stand;
+  filled = λ none. last_kept ∙ filled (sym next_kept ∙ none);
   white = gone.moved.white ∙ went from to before.white king;
   black = gone.moved.black ∙ stayed from to before.black (λ same. apart.0.0 (same ∙ sym king)) ∙ sym black;
-  next = subst (λ (e : Entry). IsOn e homing.squares.next) (sym (gone.moved.next ∙ entry_off from to before.next offs.0)) next;
-  last = subst (λ (e : Entry). IsOn e homing.squares.last) (sym (gone.moved.last ∙ entry_off from to before.last offs.1)) last;
-  pawns = pawns;
+  next = subst (λ (e : Entry). IsOn e way.squares.next) (sym next_kept) next;
+  last = subst (λ (e : Entry). IsOn e way.squares.last) (sym last_kept) last;
+  class_is = class_is;
+  side_is = side_is;
   flips_is = flips_is;
-  scales =
-      subst (λ (man : Option Man). AreScales (material_of c) man (man_at after.last) (turned_side flips side) homing.scales) (sym (ap man_at gone.moved.next ∙ man_moved from to before.next))
-      (subst (λ (man : Option Man). AreScales (material_of c) (man_at before.next) man (turned_side flips side) homing.scales) (sym (ap man_at gone.moved.last ∙ man_moved from to before.last)) scales);
-  paired = record {
-    equal = λ so. subst (λ (x : Entry). AreEqual x after.last) (sym gone.moved.next) (subst (λ (y : Entry). AreEqual (moved_entry from to before.next) y) (sym gone.moved.last) (equal_moved from to before.next before.last (equal so)));
-    apart = λ so same. unequal so (equal_unmoved from to before.next before.last (subst (λ (y : Entry). AreEqual (moved_entry from to before.next) y) gone.moved.last (subst (λ (x : Entry). AreEqual x after.last) gone.moved.next same)));
-  };
 }
   where
     offs : IsOff (option_to_list before.next) from × IsOff (option_to_list before.last) from
     offs = off_both before.next before.last from (subst (IsOff (option_to_list before.next ++ option_to_list before.last)) king apart.0.1)
+
+    next_kept : after.next ≡ before.next
+    next_kept = gone.moved.next ∙ entry_off from to before.next offs.0
+
+    last_kept : after.last ≡ before.last
+    last_kept = gone.moved.last ∙ entry_off from to before.last offs.1
+
+-- whom the turns bring home
+pub comes_home : (c to : ℕ) (flips : Bool) (q : Setup) (after : Stand) (side : Side) (squares : Squares) (homing : Homing) → HasStand c flips after side false q → IsFilled after → after.white ≡ to
+    → after.black ≡ squares.black → IsOn after.next squares.next → IsOn after.last squares.last → IsHoming c squares (turned_side flips side) flips homing → ComesHome c flips homing to q
+comes_home c to flips q after side squares homing has filled white black next last is = record {
+  after = after;
+  side = side;
+  stand = has;
+  white = white;
+  black = black ∙ ap (λ (s : Squares). s.black) (sym is.squares_are);
+  next = subst (λ (s : Squares). IsOn after.next s.next) (sym is.squares_are) next;
+  last = subst (λ (s : Squares). IsOn after.last s.last) (sym is.squares_are) last;
+  pawns = is.pawns;
+  flips_is = is.flips_is;
+  scales = is.scales after has.stood.are filled;
+  paired = is.paired after has.stood.are filled;
+}
+
+pub king_comes_home : (c to : ℕ) (flips : Bool) (q : Setup) (way : KingWay) (homing : Homing) → IsKingOn c flips way to q → IsHoming way.class way.squares way.side way.flips homing → ComesHome c flips homing to q
+king_comes_home c to flips q way homing on is =
+    comes_home c to flips q on.after on.side way.squares homing on.stand on.filled on.white on.black on.next on.last
+    (subst (λ k. IsHoming k way.squares (turned_side flips on.side) flips homing) on.class_is
+    (subst (λ (s : Side). IsHoming way.class way.squares s flips homing) on.side_is
+    (subst (λ f. IsHoming way.class way.squares way.side f homing) on.flips_is is)))
 
 -- men who stand, each on a square of his own
 pub all_apart : (flips : Bool) (men : Placement) (list : List (Man × ℕ)) → AllStand flips men list → AllApart list

@@ -5,16 +5,18 @@ use Rattle.egt_class.specs.Membership.{IsOf}
 use Rattle.egt_index.specs.Frame.{IsMoved}
 use Rattle.egt_index.specs.Home.{LeastWith}
 use Rattle.egt_index.specs.Turns.{Best}
-use Rattle.egt_index.specs.Ways.{line_code, LineFits, WayFits, Leads}
+use Rattle.egt_index.specs.Ways.{line_code, LineFits, KingWayFits, WayFits, Leads}
 use Rattle.egt_index.specs.declared.nearer.Nearer.{Nearer}
 use Rattle.egt_index.specs.declared.nearer.Nearer.TheVariants.{Own, Exchanged}
 use Rattle.egt_index.specs.declared.nearer.Nearer.TheVariants as nearer
 use Rattle.egt_index.specs.declared.steps.Steps.{Steps}
 use Rattle.egt_index.specs.declared.steps.Ways.{Ways}
-use Rattle.egt_index.specs.declared.steps.Ways.TheVariants.{Single, Alone, Both}
+use Rattle.egt_index.specs.declared.steps.Ways.TheVariants.{Single, King, Alone, Both}
+use Rattle.egt_index.specs.declared.ways.Way.TheVariants as ways
 
 abbrev pub WaysFit : Ways → Type 0
 WaysFit (Single line) = LineFits line
+WaysFit (King way) = KingWayFits way
 WaysFit (Alone way) = WayFits way
 WaysFit (Both own exchanged) = WayFits own × WayFits exchanged
 
@@ -32,6 +34,7 @@ IsLeastIn c flipped p from nearer.Both = Unit {0}
 -- colours, or those that do not bring it into other colours than the class's, and those that do
 abbrev pub AllLead : ℕ → Bool → Setup → ℕ → Ways → Type 0
 AllLead c flipped p from (Single line) = (to : ℕ) (q : Setup) → IsMoved c p from to q → Best c q 16 (Some (line_code line to))
+AllLead c flipped p from (King way) = (flips : Bool) × Leads c flips p from (ways.King way) × LeadsAll c flips p from
 AllLead c flipped p from (Alone way) = (flips : Bool) × Leads c flips p from way × LeadsAll c flips p from
 AllLead c flipped p from (Both own exchanged) = Leads c flipped p from own × Leads c (not flipped) p from exchanged
 

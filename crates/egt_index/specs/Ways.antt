@@ -1,5 +1,5 @@
 -- The codes after one man of a class went, by the square to which he went.
-use Rattle.std.specs.Prelude.{◌≡◌, ◌≢◌, ℕ, ◌+◌, ◌<◌, ◌≤◌, ◌/◌, ◌%◌, ◌==◌, min, max, Bool, Some, None, true, false}
+use Rattle.std.specs.Prelude.{◌≡◌, ◌≢◌, ℕ, ◌+◌, ◌<◌, ◌≤◌, ◌/◌, ◌%◌, ◌==◌, min, max, Bool, if◌then◌else◌, Some, None, true, false}
 use Rattle.std.specs.Option.{option_to_list}
 use Rattle.egt_board.specs.Setup.{Setup}
 use Rattle.egt_board.specs.Turned.{turned_square, turned_side}
@@ -8,18 +8,20 @@ use Rattle.egt_class.specs.Material.{material_of}
 use Rattle.egt_index.specs.Frame.{IsMoved}
 use Rattle.egt_index.specs.Home.{LeastWith}
 use Rattle.egt_index.specs.Lanes.{IsWent}
-use Rattle.egt_index.specs.Scales.{share, code_by, man_at, AreScales, ScalesFit, IsOn, AreEqual}
-use Rattle.egt_index.specs.Size.{has_pawns}
-use Rattle.egt_index.specs.Stood.{Entry, HasStand, IsOff, AllApart, list_of}
+use Rattle.egt_index.specs.Scales.{share, code_by, man_at, AreScales, IsOn, AreEqual}
+use Rattle.egt_index.specs.Size.{has_pawns, men_in_order}
+use Rattle.egt_index.specs.Stood.{Entry, HasStand, IsFilled, IsOff, AllApart, list_of, men_among}
 use Rattle.egt_index.specs.declared.scales.Scales.{Scales}
+use Rattle.egt_index.specs.declared.scales.Squares.{Squares}
 use Rattle.egt_index.specs.declared.stand.Stand.{Stand}
 use Rattle.egt_index.specs.declared.ways.Homing.{Homing}
+use Rattle.egt_index.specs.declared.ways.KingWay.{KingWay}
 use Rattle.egt_index.specs.declared.ways.Line.{Line}
 use Rattle.egt_index.specs.declared.ways.Mover.{Mover}
 use Rattle.egt_index.specs.declared.ways.Mover.TheVariants.{Black, Next, Last, Nobody}
 use Rattle.egt_index.specs.declared.ways.Pair.{Pair}
 use Rattle.egt_index.specs.declared.ways.Way.{Way}
-use Rattle.egt_index.specs.declared.ways.Way.TheVariants.{One, Two, OnePair, TwoPairs, Home, Never}
+use Rattle.egt_index.specs.declared.ways.Way.TheVariants.{One, Two, OnePair, TwoPairs, King, Never}
 
 abbrev pub line_code : Line → ℕ → ℕ
 line_code line to = line.rest + share line.scale (turned_square (line.turn % 8) (line.turn / 8 == 1) to)
@@ -60,12 +62,50 @@ pub record ComesHome (c : ℕ) (flips : Bool) (homing : Homing) (to : ℕ) (q : 
   pub scales : AreScales (material_of c) (man_at after.next) (man_at after.last) (turned_side flips side) homing.scales
   pub paired : IsPaired after homing.pair
 
+-- the code of these squares, of two equal men the one on the lesser first
+abbrev pub code_in_order : Scales → ℕ → Squares → Bool → ℕ
+code_in_order scales high squares pair =
+    code_by scales high squares.black (if pair then min squares.next squares.last else squares.next) (if pair then max squares.next squares.last else squares.last)
+
+-- what the turns bring home is the king of the class, and how its men count, where the others stand on these squares and that side, in the
+-- class's colours, is to move
+pub record IsHoming (c : ℕ) (squares : Squares) (side : Side) (flips : Bool) (homing : Homing) : Type 0 where
+  pub squares_are : homing.squares ≡ squares
+  pub pawns : homing.pawns ≡ has_pawns (material_of c)
+  pub flips_is : homing.flips ≡ flips
+  pub scales : (stand : Stand) → men_among (list_of stand) ≡ men_in_order (material_of c) → IsFilled stand → AreScales (material_of c) (man_at stand.next) (man_at stand.last) side homing.scales
+  pub paired : (stand : Stand) → men_among (list_of stand) ≡ men_in_order (material_of c) → IsFilled stand → IsPaired stand homing.pair
+
+-- how the king counts, and what the others add where they stand
+pub record KingWayFits (way : KingWay) : Type 0 where
+  pub homing : Homing
+  pub is : IsHoming way.class way.squares way.side way.flips homing
+  pub pawns : way.pawns ≡ homing.pawns
+  pub king : way.king ≡ homing.scales.king
+  pub rest : way.rest ≡ code_in_order homing.scales 0 way.squares homing.pair
+  pub king_few : way.king ≤ 1048576
+  pub rest_few : way.rest ≤ 1073741824
+
+-- q is the position after the king went to the square, and the others stand so
+pub record IsKingOn (c : ℕ) (flips : Bool) (way : KingWay) (to : ℕ) (q : Setup) : Type 0 where
+  pub after : Stand
+  pub side : Side
+  pub stand : HasStand c flips after side false q
+  pub filled : IsFilled after
+  pub white : after.white ≡ to
+  pub black : after.black ≡ way.squares.black
+  pub next : IsOn after.next way.squares.next
+  pub last : IsOn after.last way.squares.last
+  pub class_is : way.class ≡ c
+  pub side_is : way.side ≡ turned_side flips side
+  pub flips_is : way.flips ≡ flips
+
 abbrev pub WayFits : Way → Type 0
 WayFits (One line) = LineFits line
 WayFits (Two first second) = LineFits first × LineFits second
 WayFits (OnePair pair) = PairFits pair
 WayFits (TwoPairs first second) = PairFits first × PairFits second
-WayFits (Home homing) = ScalesFit homing.scales
+WayFits (King way) = KingWayFits way
 WayFits Never = Unit {0}
 
 -- wherever the man on `from` in p goes, the way tells the least code of what the turns make of the position then
@@ -74,7 +114,7 @@ Leads c flips p from (One line) = (to : ℕ) (q : Setup) → IsMoved c p from to
 Leads c flips p from (Two first second) = (to : ℕ) (q : Setup) → IsMoved c p from to q → LeastWith c q flips (Some (min (line_code first to) (line_code second to)))
 Leads c flips p from (OnePair pair) = (to : ℕ) (q : Setup) → IsMoved c p from to q → LeastWith c q flips (Some (pair_code pair to))
 Leads c flips p from (TwoPairs first second) = (to : ℕ) (q : Setup) → IsMoved c p from to q → LeastWith c q flips (Some (min (pair_code first to) (pair_code second to)))
-Leads c flips p from (Home homing) = (to : ℕ) (q : Setup) → IsMoved c p from to q → ComesHome c flips homing to q
+Leads c flips p from (King way) = (to : ℕ) (q : Setup) → IsMoved c p from to q → IsKingOn c flips way to q
 Leads c flips p from Never = (to : ℕ) (q : Setup) → IsMoved c p from to q → LeastWith c q flips None
 
 -- the position in which the man on `from` went is that of these men, one of them on another square

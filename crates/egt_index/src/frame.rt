@@ -8,8 +8,8 @@ ghost use Rattle.egt_board.specs.Placement.{Stands};
 ghost use Rattle.egt_index.specs.Frame.{IsFrame};
 ghost use Rattle.egt_index.specs.Steps.{AllLead, AreSteps, IsLeastIn};
 ghost use Rattle.egt_index.specs.Stood.{HasStand, IsFilled};
-ghost use Rattle.egt_index.specs.declared.steps.Ways.TheVariants.{Single};
-ghost use Rattle.egt_index.specs.Ways.{LineFits, WayFits, Leads};
+ghost use Rattle.egt_index.specs.declared.steps.Ways.TheVariants.{Single, King};
+ghost use Rattle.egt_index.specs.Ways.{LineFits, KingWayFits, WayFits, Leads};
 ghost use Rattle.egt_board.specs.Man.{other_side};
 
 use crate::facts::facts;
@@ -18,7 +18,7 @@ use crate::men::has_equal_sides;
 use crate::nearer::{Nearer, nearer_colours};
 use crate::stand::{Stand, exchanged, standing_of};
 use crate::steps::{Steps, Ways};
-use crate::ways::{Line, Way, line_of, way_of};
+use crate::ways::{KingWay, Line, Way, line_of, way_of};
 use egt_board::{Position, Side, Square};
 use egt_class::Class;
 
@@ -60,7 +60,12 @@ impl Frame {
             Some(line) => Steps {
                 ways: Ways::Single(line),
             },
-            None => self.other_ways(from),
+            None => match self.king_way(from) {
+                Some(way) => Steps {
+                    ways: Ways::King(way),
+                },
+                None => self.other_ways(from),
+            },
         }
     }
 
@@ -98,6 +103,25 @@ impl Frame {
         match self.nearer_after(from) {
             Nearer::Own => line_of(self.class, &self.stand, &self.own, self.flipped, side, from),
             _ => None,
+        }
+    }
+
+    /// The codes after the man on the square went, where the least is in the class's colours and he is the white king in these.
+    #[inline(always)]
+    fn king_way(&self, from: Square) -> Option<KingWay>
+        ensures fits { (p : Setup) → IsFrame p self.now → IfSome result KingWayFits }
+        ensures leads { (p : Setup) → IsFrame p self.now → IfSome result (λ way. AllLead self.now.class self.now.flipped p from (King way)) }
+    {
+        facts();
+        let _number = self.class.number();
+        let side = self.side.other();
+        if self.stand.white == from {
+            match self.nearer_after(from) {
+                Nearer::Own => Some(KingWay::of(self.class, &self.stand, self.flipped, side)),
+                Nearer::Exchanged | Nearer::Both => None,
+            }
+        } else {
+            None
         }
     }
 

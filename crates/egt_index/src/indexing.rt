@@ -22,8 +22,8 @@ use crate::codes::{number_behind, with_side};
 use crate::digits::king_digit;
 use crate::facts::facts;
 use crate::home::home;
-use crate::men::{has_equal_sides, has_pawns, is_paired};
-use crate::scales::{class_scales, squares_of};
+use crate::men::{has_equal_sides, has_pawns};
+use crate::scales::squares_of;
 use crate::stand::{Stand, exchanged, stand_after, standing_of};
 use crate::turning::turned_square;
 use crate::ways::Homing;
@@ -109,13 +109,7 @@ fn homing(class: Class, stand: &Stand, side: Side, flips: bool) -> Homing
     ensures comes { (p : Setup) → HasStand class flips stand.now side false p → ComesHome class flips result stand.now.white p }
 {
     let _number = class.number();
-    Homing {
-        pawns: has_pawns(class),
-        flips,
-        pair: is_paired(class),
-        scales: class_scales(class, side_after(side, flips)),
-        squares: squares_of(stand),
-    }
+    Homing::of(class, squares_of(stand), side_after(side, flips), flips)
 }
 
 /// The same of either.

@@ -9,7 +9,7 @@ ghost use Rattle.egt_index.specs.Ways.{WayFits, Leads};
 
 use crate::facts::facts;
 use crate::indexing::lesser;
-use crate::ways::{Line, Way};
+use crate::ways::{KingWay, Line, Way};
 use egt_board::Square;
 
 /// The codes after one man went, of all turns.
@@ -17,6 +17,8 @@ use egt_board::Square;
 pub(crate) enum Ways {
     /// The most common case by itself: one turn of the class's colours alone makes what has a code.
     Single(Line),
+    /// The white king's in the only colours in which the least can be.
+    King(KingWay),
     /// The codes in the only colours in which the least can be.
     Alone(Way),
     /// Those in the class's colours, and those in the others.
@@ -51,6 +53,7 @@ impl Steps {
         facts();
         match &self.ways {
             Ways::Single(line) => line.code_to(to),
+            Ways::King(way) => way.code_to(to).unwrap(),
             _ => self.least_to(to).unwrap(),
         }
     }
@@ -63,6 +66,7 @@ impl Steps {
     {
         match &self.ways {
             Ways::Single(line) => Some(line.code_to(to)),
+            Ways::King(way) => way.code_to(to),
             Ways::Alone(way) => way.code_to(to),
             Ways::Both(own, exchanged) => least_of(own, exchanged, to),
         }

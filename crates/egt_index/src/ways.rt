@@ -1,5 +1,5 @@
 //! The codes after one man of a class went, by the square to which he went.
-ghost use Rattle.std.specs.Prelude.{◌≡◌, ℕ, ◌+◌, ◌<◌, ◌≤◌, ◌/◌, ◌%◌, ◌==◌, Bool, IfSome, true, false};
+ghost use Rattle.std.specs.Prelude.{◌≡◌, ℕ, ◌+◌, ◌<◌, ◌≤◌, ◌/◌, ◌%◌, ◌==◌, Bool, IfSome, Some, true, false};
 ghost use Rattle.std.specs.Option.{option_map};
 ghost use Rattle.egt_board.specs.Setup.{Setup};
 ghost use Rattle.egt_board.specs.Symmetry.{KeepsPlay};
@@ -13,13 +13,13 @@ ghost use Rattle.egt_index.specs.Scales.{ScalesFit, share, code_by};
 ghost use Rattle.egt_index.specs.Size.{men_in_order};
 ghost use Rattle.egt_index.specs.Stood.{AllApart, IsFilled, list_of, men_among};
 ghost use Rattle.egt_index.specs.Turns.{CodeAfter, lesser};
-ghost use Rattle.egt_index.specs.Ways.{line_code, pair_code, code_with, LineFits, PairFits, ComesHome, WayFits, Leads, Goes, IsMover, IsGoer, IsSingle, IsOneOfTwo, IsPaired, other_square};
+ghost use Rattle.egt_index.specs.Ways.{line_code, pair_code, code_with, LineFits, PairFits, ComesHome, IsHoming, IsKingOn, KingWayFits, WayFits, Leads, Goes, IsMover, IsGoer, IsSingle, IsOneOfTwo, IsPaired, other_square};
 ghost use Rattle.egt_index.specs.declared.stand.Stand.{Stand};
-ghost use Rattle.egt_index.specs.declared.ways.Way.TheVariants.{One};
+ghost use Rattle.egt_index.specs.declared.ways.Way.TheVariants.{One, King};
 
 use crate::digits::king_digit;
 use crate::facts::facts;
-use crate::home::home;
+use crate::home::{home, still_home};
 use crate::indexing::lesser;
 use crate::lanes::{Lane, Lanes};
 use crate::men::{has_pawns, is_paired};
@@ -81,6 +81,21 @@ pub(crate) struct Homing {
 }
 
 impl Homing {
+    /// Of a class whose men beside the white king stand on these squares, where that side, in the class's colours, is to move.
+    #[inline(always)]
+    pub(crate) fn of(class: Class, squares: Squares, side: Side, flips: bool) -> Homing
+        ensures fit { ScalesFit result.scales }
+        ensures is { IsHoming class squares side flips result }
+    {
+        Homing {
+            pawns: has_pawns(class),
+            flips,
+            pair: is_paired(class),
+            scales: class_scales(class, side),
+            squares,
+        }
+    }
+
     /// The code after the turn, if it has one.
     #[inline(always)]
     fn code_after(&self, turn: u8, to: Square) -> Option<u32>
@@ -113,13 +128,86 @@ impl Homing {
     }
 
     /// The least code after he went to the square.
-    #[inline(always)]
-    pub(crate) fn code_to(&self, to: Square) -> Option<u32>
+    fn code_to(&self, to: Square) -> Option<u32>
         requires { ScalesFit self.now.scales }
         ensures { (c : ℕ) (flips : Bool) (q : Setup) → c < 36 → ComesHome c flips self.now to q → LeastWith c q flips result }
     {
         let (first, second) = home(self.pawns, self.flips, to);
         self.code_by(first, second, to)
+    }
+}
+
+/// The codes after the white king went. In most of his steps the only turn that brings him home changes nothing: then the code is what his
+/// digit adds to what the others add.
+#[derive(Clone, Copy)]
+pub(crate) struct KingWay {
+    pub(crate) class: Class,
+    /// Who is to move then, in the class's colours.
+    pub(crate) side: Side,
+    pub(crate) flips: bool,
+    pub(crate) pawns: bool,
+    pub(crate) squares: Squares,
+    pub(crate) king: u32,
+    pub(crate) rest: u32,
+}
+
+impl KingWay {
+    /// The way of the white king of these men.
+    #[inline(never)]
+    pub(crate) fn of(class: Class, stand: &Stand, flips: bool, side: Side) -> KingWay
+        ensures fits { KingWayFits result }
+        ensures leads { (from : ℕ) (p : Setup) → stand.now.white ≡ from → IsFilled stand.now → AllApart (list_of stand.now) → Goes class flips p stand.now from side →
+            Leads class flips p from (King result) }
+    {
+        let side = side_after(side, flips);
+        let squares = squares_of(stand);
+        let homing = Homing::of(class, squares, side, flips);
+        KingWay {
+            class,
+            side,
+            flips,
+            pawns: homing.pawns,
+            squares,
+            king: homing.scales.king,
+            rest: homing.scales.code(0, &squares.ordered(homing.pair)),
+        }
+    }
+
+    /// The code after he went to the square, if he is at home there and no other turn leaves him so.
+    #[inline(always)]
+    fn unturned_code(&self, to: Square) -> Option<u32>
+        requires { KingWayFits self.now }
+        ensures { (c : ℕ) (flips : Bool) (q : Setup) → c < 36 → IsKingOn c flips self.now to q → IfSome result (λ code. LeastWith c q flips (Some code)) }
+    {
+        facts();
+        if self.flips {
+            return None;
+        }
+        let high = king_digit(self.pawns, to)?;
+        match still_home(self.pawns, to) {
+            Some(_) => None,
+            None => Some(u32::from(high) * self.king + self.rest),
+        }
+    }
+
+    /// The least code after he went to the square, by the turns that bring him home.
+    #[inline(never)]
+    fn turned_code(&self, to: Square) -> Option<u32>
+        ensures { (c : ℕ) (flips : Bool) (q : Setup) → c < 36 → IsKingOn c flips self.now to q → LeastWith c q flips result }
+    {
+        Homing::of(self.class, self.squares, self.side, self.flips).code_to(to)
+    }
+
+    /// The least code after he went to the square.
+    #[inline(always)]
+    pub(crate) fn code_to(&self, to: Square) -> Option<u32>
+        requires { KingWayFits self.now }
+        ensures { (c : ℕ) (flips : Bool) (q : Setup) → c < 36 → IsKingOn c flips self.now to q → LeastWith c q flips result }
+    {
+        match self.unturned_code(to) {
+            Some(code) => Some(code),
+            None => self.turned_code(to),
+        }
     }
 }
 
@@ -130,7 +218,7 @@ pub(crate) enum Way {
     Two(Line, Line),
     OnePair(Pair),
     TwoPairs(Pair, Pair),
-    Home(Homing),
+    King(KingWay),
     /// No turn makes anything that has a code.
     Never,
 }
@@ -147,7 +235,7 @@ impl Way {
             Way::Two(first, second) => Some(first.code_to(to).min(second.code_to(to))),
             Way::OnePair(pair) => Some(pair.code_to(to)),
             Way::TwoPairs(first, second) => Some(first.code_to(to).min(second.code_to(to))),
-            Way::Home(homing) => homing.code_to(to),
+            Way::King(way) => way.code_to(to),
             Way::Never => None,
         }
     }
@@ -364,18 +452,12 @@ pub(crate) fn way_of(
         AllApart (list_of stand.now) → Goes class flips p stand.now from side → Leads class flips p from result }
 {
     let _number = class.number();
+    if stand.white == from {
+        return Way::King(KingWay::of(class, stand, flips, side));
+    }
     let scales = class_scales(class, side_after(side, flips));
     let pawns = has_pawns(class);
     let pair = is_paired(class);
-    if stand.white == from {
-        return Way::Home(Homing {
-            pawns,
-            flips,
-            pair,
-            scales,
-            squares: squares_of(stand),
-        });
-    }
     let mover = mover_on(stand, from);
     way_of_other(&scales, pawns, pair, lanes, mover)
 }

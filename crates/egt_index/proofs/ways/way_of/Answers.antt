@@ -1,9 +1,8 @@
-use Rattle.std.proofs.Common.{◌<◌, arith, sym, ◌∙◌, subst, refl}
+use Rattle.std.proofs.Common.{◌<◌, arith, sym, ◌∙◌, subst}
 use Rattle.std.proofs.lemmas.Bool.{false≢true, eqb-true, eq-eqb}
 use Rattle.egt_board.specs.declared.man.Side.{Side}
 use Rattle.egt_class.specs.Material.{material_of}
 use Rattle.egt_index.specs.Scales.{man_at, AreScales}
-use Rattle.egt_index.proofs.Lined.{comes_home}
 use Rattle.egt_index.proofs.ways.way_of.Goals as goal
 
 pub returns-clause-leads : goal.returns-clause-leads
@@ -21,9 +20,4 @@ returns-clause-leads c = λ p are men filled apart goes.
     (c.is_paired-pair.ensures c.args.stand.now men filled) goes
 
 pub returns-then-eq-clause-leads : goal.returns-then-eq-clause-leads
-returns-then-eq-clause-leads c = λ p are men filled apart goes to q moved.
-    let (after, gone) = goes to q moved in
-    comes_home c.args.class c.args.from to c.args.flips q c.args.stand.now after c.args.side _ (eqb-true _ _ (sym c.eq.ensures ∙ c.if-eq.true)) apart gone c.squares_of.ensures.black c.squares_of.ensures.next c.squares_of.ensures.last
-    c.has_pawns-pawns.ensures refl
-    (subst (λ (s : Side). AreScales (material_of c.args.class) (man_at c.args.stand.now.next) (man_at c.args.stand.now.last) s c.class_scales-scales.result) c.side_after.ensures (c.class_scales-scales.ensures.are c.args.stand.now men filled))
-    (c.is_paired-pair.ensures c.args.stand.now men filled).equal (c.is_paired-pair.ensures c.args.stand.now men filled).apart
+returns-then-eq-clause-leads c = λ p are men filled apart goes. c.of.ensures.leads c.args.from p (eqb-true _ _ (sym c.eq.ensures ∙ c.if-eq.true)) filled apart goes

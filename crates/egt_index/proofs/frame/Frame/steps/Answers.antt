@@ -11,5 +11,15 @@ returns-in-Some c = λ p man is stands.
       lead = c.in-Some.ensures.leads p is;
     }
 
-pub returns-in-None : goal.returns-in-None
-returns-in-None c = λ p man is stands. c.other_ways.ensures p is
+pub returns-in-Some-king_way : goal.returns-in-Some-king_way
+returns-in-Some-king_way c = λ p man is stands.
+    record {
+      class_in = omega (arith, c.number-number.ensures.below, c.number-number.ensures.value);
+      flipped = c.args.self.now.flipped;
+      is_of = is.stand.is_of;
+      fit = c.in-Some-king_way.ensures.fits p is;
+      lead = c.in-Some-king_way.ensures.leads p is;
+    }
+
+pub returns-in-None-king_way : goal.returns-in-None-king_way
+returns-in-None-king_way c = λ p man is stands. c.other_ways.ensures p is

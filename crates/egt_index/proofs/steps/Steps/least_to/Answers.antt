@@ -9,6 +9,11 @@ returns-in-Single k = λ c from p q are moved.
     let lead = subst (λ (w : Ways). AllLead c are.flipped p from w) k.in-Single.is are.lead in
     subst (λ (code : ℕ). Best c q 16 (Some code)) (sym k.code_to.ensures) (lead k.args.to q moved)
 
+pub returns-in-King : goal.returns-in-King
+returns-in-King k = λ c from p q are moved.
+    let (flips, leads, all) = subst (λ (w : Ways). AllLead c are.flipped p from w) k.in-King.is are.lead in
+    all k.args.to q k.code_to-in-King.result moved (k.code_to-in-King.ensures c flips q are.class_in (leads k.args.to q moved))
+
 pub returns-in-Alone : goal.returns-in-Alone
 returns-in-Alone k = λ c from p q are moved.
     let (flips, leads, all) = subst (λ (w : Ways). AllLead c are.flipped p from w) k.in-Alone.is are.lead in

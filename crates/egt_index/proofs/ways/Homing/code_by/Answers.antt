@@ -1,18 +1,8 @@
-use Rattle.std.proofs.Common.{ℕ, Bool, Option, Some, None, refl, sym, subst}
-use Rattle.egt_board.specs.Setup.{Setup}
-use Rattle.egt_class.specs.Material.{material_of}
+use Rattle.std.proofs.Common.{Some, None, refl, sym, subst}
 use Rattle.egt_index.specs.Home.{AreHome, LeastWith}
-use Rattle.egt_index.specs.Size.{has_pawns}
 use Rattle.egt_index.specs.Ways.{ComesHome}
-use Rattle.egt_index.specs.declared.ways.Homing.{Homing}
-use Rattle.egt_index.proofs.Lined.{least_home}
+use Rattle.egt_index.proofs.Lined.{home_after, least_home}
 use Rattle.egt_index.proofs.ways.Homing.code_by.Goals as goal
-
-home_after : (k : ℕ) (flips : Bool) (homing : Homing) (to : ℕ) (q : Setup) (comes : ComesHome k flips homing to q) (first : ℕ) (second : Option ℕ) → AreHome homing.pawns homing.flips to first second → AreHome (has_pawns (material_of k)) flips comes.after.white first second
-home_after k flips homing to q comes first second home =
-    subst (λ pawns. AreHome pawns flips comes.after.white first second) comes.pawns
-    (subst (λ f. AreHome homing.pawns f comes.after.white first second) comes.flips_is
-    (subst (λ s. AreHome homing.pawns homing.flips s first second) (sym comes.white) home))
 
 pub returns-in-Some : goal.returns-in-Some
 returns-in-Some c = λ k flips q c_in comes.
