@@ -1,10 +1,10 @@
-use Rattle.std.proofs.Common.{◌≡◌, Option, None, IsSome, IfSome, refl, sym, ◌∙◌, subst}
+use Rattle.std.proofs.Common.{◌≡◌, Option, None, IsSome, refl, sym, ◌∙◌, subst}
 use Rattle.egt_board.specs.Placement.{one_man}
 use Rattle.egt_board.specs.Setup.{Setup}
 use Rattle.egt_board.specs.declared.man.Man.{Man}
 use Rattle.egt_index.specs.Index.{IsIndex}
 use Rattle.egt_moves.specs.DecidedMoves.{leads_to_one}
-use Rattle.egt_moves.specs.Legal.{Leads, plain, passed}
+use Rattle.egt_moves.specs.Legal.{plain, passed}
 use Rattle.egt_sweep.proofs.Onward.{moved_by, none_passed}
 use Rattle.egt_sweep.proofs.edges.index_after.Goals as goal
 

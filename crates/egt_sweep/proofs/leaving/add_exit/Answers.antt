@@ -1,6 +1,4 @@
-use Rattle.std.proofs.Common.{ℕ, ◌<◌, Option, IfSome, ◌∙◌, subst}
-use Rattle.egt_board.specs.Setup.{Setup}
-use Rattle.egt_moves.specs.Legal.{Leads}
+use Rattle.std.proofs.Common.{ℕ, ◌<◌, ◌∙◌, subst}
 use Rattle.egt_check.specs.Tables.{table_at}
 use Rattle.egt_sweep.specs.Aiming.{column_of, known}
 use Rattle.egt_sweep.proofs.OutOfClass.{known_there, off_has_exit}
