@@ -6,7 +6,7 @@ use Rattle.egt_board.specs.Turned.{turned_square, turned_side}
 use Rattle.egt_board.specs.declared.man.Side.{Side}
 use Rattle.egt_class.specs.Material.{material_of}
 use Rattle.egt_index.specs.Frame.{IsMoved}
-use Rattle.egt_index.specs.Home.{LeastWith}
+use Rattle.egt_index.specs.Home.{IsTurnWith, LeastWith}
 use Rattle.egt_index.specs.Lanes.{IsWent}
 use Rattle.egt_index.specs.Scales.{share, code_by, man_at, AreScales, IsOn, AreEqual}
 use Rattle.egt_index.specs.Size.{has_pawns, men_in_order}
@@ -89,6 +89,7 @@ pub record KingWayFits (way : KingWay) : Type 0 where
   pub homing : Homing
   pub is : IsHoming way.class way.squares way.side way.flips homing
   pub pawns : way.pawns ≡ homing.pawns
+  pub base : IsTurnWith way.pawns way.flips way.base
   pub king : way.king ≡ homing.scales.king
   pub rest : way.rest ≡ code_in_order homing.scales 0 (squares_after way.base way.squares) homing.pair
   pub king_few : way.king ≤ 1048576

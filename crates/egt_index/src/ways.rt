@@ -19,7 +19,7 @@ ghost use Rattle.egt_index.specs.declared.ways.Way.TheVariants.{One, King};
 
 use crate::digits::king_digit;
 use crate::facts::facts;
-use crate::home::home;
+use crate::home::{home, still_home};
 use crate::indexing::lesser;
 use crate::lanes::{Lane, Lanes};
 use crate::men::{has_pawns, is_paired};
@@ -178,22 +178,20 @@ impl KingWay {
         }
     }
 
-    /// The code after he went to the square, if the turn from before the step brings him home from there and no other does.
+    /// The code after he went to the square, if the base brings him home from there too and no other turn does.
     #[inline(always)]
     fn code_by_base(&self, to: Square) -> Option<u32>
         requires { KingWayFits self.now }
         ensures { (c : ℕ) (flips : Bool) (q : Setup) → c < 36 → IsKingOn c flips self.now to q → IfSome result (λ code. LeastWith c q flips (Some code)) }
     {
         facts();
-        let (first, second) = home(self.pawns, self.flips, to);
-        match second {
+        let _number = to.number();
+        let king = turned_square(self.base, to);
+        let high = king_digit(self.pawns, king)?;
+        let code = u32::from(high) * self.king + self.rest;
+        match still_home(self.pawns, king) {
             Some(_) => None,
-            None => if first == self.base {
-                let high = king_digit(self.pawns, turned_square(first, to))?;
-                Some(u32::from(high) * self.king + self.rest)
-            } else {
-                None
-            },
+            None => Some(code),
         }
     }
 
