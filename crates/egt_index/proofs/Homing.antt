@@ -43,9 +43,16 @@ all_right true false = refl
 all_right false true = refl
 all_right false false = refl
 
+-- whether a king stands where files and ranks may be exchanged with no change
+abbrev pub is_tied : Bool → ℕ → Bool
+is_tied pawns king = not pawns && eqb (king % 8) (king / 8)
+
+pub tied_is : (pawns : Bool) (king file rank : ℕ) (b : Bool) → file ≡ king % 8 → rank ≡ king / 8 → (not pawns && eqb file rank) ≡ b → is_tied pawns king ≡ b
+tied_is pawns king file rank b file_is rank_is is = ap (λ f. not pawns && eqb f (king / 8)) (sym file_is) ∙ ap (λ r. not pawns && eqb file r) (sym rank_is) ∙ is
+
 -- the other turn that leaves a king at home
-abbrev still : Bool → ℕ → ℕ
-still pawns king = cond (not pawns && eqb (king % 8) (king / 8)) 4 0
+abbrev pub still : Bool → ℕ → ℕ
+still pawns king = cond (is_tied pawns king) 4 0
 
 all_still : (pawns : Bool) → all_below (λ d. is_right_at pawns false (king_square pawns d) 0 (still pawns (king_square pawns d))) (king_base pawns) ≡ true
 unfolding all_below is_right_at is_with is_away is_brought has_digit some_below
@@ -82,6 +89,17 @@ away_told pawns flips king t d away d_in same = not_both (eqb (king_square pawns
 brought_told : (pawns flips : Bool) (king t : ℕ) → is_brought pawns flips king t ≡ true → BringsHome pawns flips king t
 unfolding is_brought has_digit
 brought_told pawns flips king t h = let some = some_passes _ _ h in (some.0, some.1, eqb-true _ _ some.2)
+
+-- the turn that brings a king home, not to such a square, is the only one
+is_alone : Bool → Bool → ℕ → ℕ → Bool
+is_alone pawns flips t from = not (is_with pawns flips t) || (is_away pawns flips from t || (is_tied pawns (turned_square (t % 8) flips from) || is_right_at pawns flips from t t))
+
+all_alone : (pawns flips : Bool) → all_below (λ t. all_below (is_alone pawns flips t) 64) 16 ≡ true
+unfolding all_below is_alone is_right_at is_with is_away is_brought has_digit some_below
+all_alone true true = refl
+all_alone true false = refl
+all_alone false true = refl
+all_alone false false = refl
 
 -- the one turn, or the two
 turns_told : (pawns flips : Bool) (king first last : ℕ) (second : Option ℕ) → is_right_at pawns flips king first last ≡ true → ((first ≡ last) × (second ≡ None)) ⊎ (second ≡ Some last) → AreHome pawns flips king first second
@@ -136,10 +154,25 @@ home_told pawns flips king at first last second king_in at_is first_is last_is s
         (subst (λ n. is_right_at pawns flips king (slice_index FIRST (row pawns flips king)) n ≡ true) (sym (last_is ∙ ap (slice_index LAST) at_is)) (passes_below (is_right pawns flips) 64 king (all_right pawns flips) king_in))
 
 -- those that leave a king at home
-pub still_told : (pawns : Bool) (king last digit : ℕ) (second : Option ℕ) → last ≡ cond (not pawns && eqb (king % 8) (king / 8)) 4 0 → ((0 ≡ last) × (second ≡ None)) ⊎ (second ≡ Some last)
+pub still_told : (pawns : Bool) (king last digit : ℕ) (second : Option ℕ) → last ≡ still pawns king → ((0 ≡ last) × (second ≡ None)) ⊎ (second ≡ Some last)
     → digit < king_base pawns → king_square pawns digit ≡ king → AreHome pawns false king 0 second
 still_told pawns king last digit second last_is seconds below is = turns_told pawns false king 0 last second right seconds
   where
     right : is_right_at pawns false king 0 last ≡ true
     right = subst (λ n. is_right_at pawns false king 0 n ≡ true) (sym last_is)
         (subst (λ k. is_right_at pawns false k 0 (still pawns k) ≡ true) is (passes_below (λ d. is_right_at pawns false (king_square pawns d) 0 (still pawns (king_square pawns d))) (king_base pawns) digit (all_still pawns) below))
+
+-- the only one that brings him there
+pub alone_told : (pawns flips : Bool) (king t from digit : ℕ) → is_tied pawns king ≡ false → IsTurnWith pawns flips t → from < 64 → king ≡ turned_square (t % 8) flips from
+    → digit < king_base pawns → king_square pawns digit ≡ king → AreHome pawns flips from t None
+unfolding is_alone
+alone_told pawns flips king t from digit tied turn from_in king_is below is = turns_told pawns flips from t t None right (inl (refl, refl))
+  where
+    right : is_right_at pawns flips from t t ≡ true
+    right = elim (one_of _ _ (implied _ _ (told_with pawns flips t turn) (passes_below (is_alone pawns flips t) 64 from (passes_below _ 16 t (all_alone pawns flips) turn.below) from_in))) [
+      | inl away ↦ absurd (away_told pawns flips from t digit away below (is ∙ king_is))
+      | inr there ↦ elim (one_of _ _ there) [
+        | inl on ↦ absurd (false≢true (sym tied ∙ ap (is_tied pawns) king_is ∙ on))
+        | inr all ↦ all
+      ]
+    ]

@@ -6,7 +6,7 @@ use Rattle.egt_board.specs.Turned.{turned_square, turned_side}
 use Rattle.egt_board.specs.declared.man.Side.{Side}
 use Rattle.egt_class.specs.Material.{material_of}
 use Rattle.egt_index.specs.Frame.{IsMoved}
-use Rattle.egt_index.specs.Home.{LeastWith}
+use Rattle.egt_index.specs.Home.{IsTurnWith, LeastWith}
 use Rattle.egt_index.specs.Lanes.{IsWent}
 use Rattle.egt_index.specs.Scales.{share, code_by, man_at, AreScales, IsOn, AreEqual}
 use Rattle.egt_index.specs.Size.{has_pawns, men_in_order}
@@ -76,13 +76,22 @@ pub record IsHoming (c : ℕ) (squares : Squares) (side : Side) (flips : Bool) (
   pub scales : (stand : Stand) → men_among (list_of stand) ≡ men_in_order (material_of c) → IsFilled stand → AreScales (material_of c) (man_at stand.next) (man_at stand.last) side homing.scales
   pub paired : (stand : Stand) → men_among (list_of stand) ≡ men_in_order (material_of c) → IsFilled stand → IsPaired stand homing.pair
 
--- how the king counts, and what the others add where they stand
+-- the squares after the turn
+abbrev pub squares_after : ℕ → Squares → Squares
+squares_after t squares = record {
+  black = turned_square (t % 8) (t / 8 == 1) squares.black;
+  next = turned_square (t % 8) (t / 8 == 1) squares.next;
+  last = turned_square (t % 8) (t / 8 == 1) squares.last;
+}
+
+-- how the king counts, and what the others add after that turn
 pub record KingWayFits (way : KingWay) : Type 0 where
   pub homing : Homing
   pub is : IsHoming way.class way.squares way.side way.flips homing
   pub pawns : way.pawns ≡ homing.pawns
+  pub base : IsTurnWith way.pawns way.flips way.base
   pub king : way.king ≡ homing.scales.king
-  pub rest : way.rest ≡ code_in_order homing.scales 0 way.squares homing.pair
+  pub rest : way.rest ≡ code_in_order homing.scales 0 (squares_after way.base way.squares) homing.pair
   pub king_few : way.king ≤ 1048576
   pub rest_few : way.rest ≤ 1073741824
 

@@ -1,7 +1,8 @@
 //! The turns that bring a king to a square of the white king's digit.
-ghost use Rattle.std.specs.Prelude.{◌≡◌, ℕ, ◌<◌, ◌+◌, false, slice_index, IfSome, if◌then◌else◌};
+ghost use Rattle.std.specs.Prelude.{◌≡◌, ℕ, ◌<◌, ◌+◌, ◌%◌, Bool, false, slice_index, None, IfSome, if◌then◌else◌};
+ghost use Rattle.egt_board.specs.Turned.{turned_square};
 ghost use Rattle.egt_index.specs.Code.{king_square};
-ghost use Rattle.egt_index.specs.Home.{AreHome};
+ghost use Rattle.egt_index.specs.Home.{AreHome, IsTurnWith};
 ghost use Rattle.egt_index.specs.Size.{king_base};
 
 use egt_board::Square;
@@ -64,9 +65,12 @@ pub(crate) fn home(pawns: bool, flips: bool, king: Square) -> (u8, Option<u8>)
 }
 
 /// The turn, beside the one that changes nothing, that leaves the king at home who is there, in the same colours: it exchanges files
-/// and ranks, where he stands on the long diagonal.
+/// and ranks, where he stands on the long diagonal. Where there is none and a turn brought him there from some square, no other turn of
+/// the same colours brings him home from that square.
 pub(crate) fn still_home(pawns: bool, king: Square) -> Option<u8>
     ensures home { (digit : ℕ) → digit < king_base pawns → king_square pawns digit ≡ king → AreHome pawns false king 0 result }
+    ensures alone { (flips : Bool) (turn from digit : ℕ) → result ≡ None → IsTurnWith pawns flips turn → from < 64 → king ≡ turned_square (turn % 8) flips from → digit < king_base pawns → king_square pawns digit ≡ king →
+        AreHome pawns flips from turn None }
     ensures below { IfSome result (λ turn. turn < 16) }
 {
     if !pawns & (king.file() == king.rank()) {

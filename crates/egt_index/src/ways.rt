@@ -137,8 +137,8 @@ impl Homing {
     }
 }
 
-/// The codes after the white king went. In most of his steps the only turn that brings him home changes nothing: then the code is what his
-/// digit adds to what the others add.
+/// The codes after the white king went. In most of his steps the only turn that brings him home is the first one that did so before the
+/// step: then the code is what his digit adds to what the others add after that turn.
 #[derive(Clone, Copy)]
 pub(crate) struct KingWay {
     pub(crate) class: Class,
@@ -146,6 +146,8 @@ pub(crate) struct KingWay {
     pub(crate) side: Side,
     pub(crate) flips: bool,
     pub(crate) pawns: bool,
+    /// The first turn that brings him home from where he stands.
+    pub(crate) base: u8,
     pub(crate) squares: Squares,
     pub(crate) king: u32,
     pub(crate) rest: u32,
@@ -162,31 +164,34 @@ impl KingWay {
         let side = side_after(side, flips);
         let squares = squares_of(stand);
         let homing = Homing::of(class, squares, side, flips);
+        let (base, _) = home(homing.pawns, flips, stand.white);
+        let after = squares.turned(base).ordered(homing.pair);
         KingWay {
             class,
             side,
             flips,
             pawns: homing.pawns,
+            base,
             squares,
             king: homing.scales.king,
-            rest: homing.scales.code(0, &squares.ordered(homing.pair)),
+            rest: homing.scales.code(0, &after),
         }
     }
 
-    /// The code after he went to the square, if he is at home there and no other turn leaves him so.
+    /// The code after he went to the square, if the base brings him home from there too and no other turn does.
     #[inline(always)]
-    fn unturned_code(&self, to: Square) -> Option<u32>
+    fn code_by_base(&self, to: Square) -> Option<u32>
         requires { KingWayFits self.now }
         ensures { (c : ℕ) (flips : Bool) (q : Setup) → c < 36 → IsKingOn c flips self.now to q → IfSome result (λ code. LeastWith c q flips (Some code)) }
     {
         facts();
-        if self.flips {
-            return None;
-        }
-        let high = king_digit(self.pawns, to)?;
-        match still_home(self.pawns, to) {
+        let _number = to.number();
+        let king = turned_square(self.base, to);
+        let high = king_digit(self.pawns, king)?;
+        let code = u32::from(high) * self.king + self.rest;
+        match still_home(self.pawns, king) {
             Some(_) => None,
-            None => Some(u32::from(high) * self.king + self.rest),
+            None => Some(code),
         }
     }
 
@@ -204,7 +209,7 @@ impl KingWay {
         requires { KingWayFits self.now }
         ensures { (c : ℕ) (flips : Bool) (q : Setup) → c < 36 → IsKingOn c flips self.now to q → LeastWith c q flips result }
     {
-        match self.unturned_code(to) {
+        match self.code_by_base(to) {
             Some(code) => Some(code),
             None => self.turned_code(to),
         }
