@@ -4,7 +4,7 @@
 //! memory; with it or the word `check`, how long tables of two and three men are checked; with the word `build` how long all 36
 //! tables are built and checked, which takes some minutes. The words `table`, a folder and a class have that class's table built and
 //! checked beside those of the folder; the word `codes` has the indexes of all successors and the positions of all codes of a few classes
-//! asked, which takes a minute; the words `lines` and some men, as `KQkr`, print FENs of positions. Nothing here judges a figure.
+//! asked, which takes a minute; the words `refusals` and a class have its table built where a growth may be refused; the words `lines` and some men, as `KQkr`, print FENs of positions. Nothing here judges a figure.
 #![tactic(auto)]
 
 mod calls;
@@ -12,6 +12,7 @@ mod checks;
 mod every;
 mod files;
 mod indexes;
+mod refusals;
 mod sample;
 mod tables;
 
@@ -21,6 +22,7 @@ use egt_class::{Class, of};
 use every::bench_every;
 use files::bench_files;
 use indexes::{indexed, spelled, successors};
+use refusals::build_once_more;
 use sample::sample;
 use std::time::Instant;
 use std::{env, io};
@@ -132,6 +134,9 @@ fn main(rt: HostRuntime) -> io::Result<()> {
     let words = words.as_slice();
     if words.len() == 4 && words[1].as_str() == "table" {
         return bench_table(&rt, words[2].as_str(), words[3].as_str());
+    }
+    if words.len() == 3 && words[1].as_str() == "refusals" {
+        return build_once_more(&rt, words[2].as_str());
     }
     if words.len() == 2 && words[1].as_str() == "codes" {
         return bench_every(&rt);

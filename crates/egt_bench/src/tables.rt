@@ -16,7 +16,7 @@ use std::{fs, io};
 const CHECKS: u32 = 3;
 
 /// The classes that the class rests on.
-fn below(class: Class) -> [bool; 36] {
+pub fn below(class: Class) -> [bool; 36] {
     let mut wanted = [false; 36];
     for child in children(class).as_slice() {
         wanted[usize::from(child.number())] = true;
