@@ -143,9 +143,20 @@ impl<'g, G: Game> Rounds<'g, G> {
         ensures same_game { self.new.game ≡ self.old.game }
         ensures posts { Posts (G.graph self.old.game) self.old.state batch.entry.round batch.entry.block batch.entry.nodes result self.new.state }
     {
-        if !self.is_current(&batch) {
-            return Post::Stale;
+        if self.is_current(&batch) {
+            self.take(&batch)
+        } else {
+            Post::Stale
         }
+    }
+
+    /// Takes in a batch that lists the block's nodes of this round, unless the block was posted.
+    pub(crate) fn take(&mut self, batch: &Batch<'_, G>) -> Post
+        requires alike { IsAlike (G.graph self.old.game) (G.graph batch.now.game) }
+        requires current { IsCurrent (G.graph self.old.game) self.old.state batch.now.round batch.now.block batch.now.nodes }
+        ensures same_game { self.new.game ≡ self.old.game }
+        ensures posts { Posts (G.graph self.old.game) self.old.state batch.now.round batch.now.block batch.now.nodes result self.new.state }
+    {
         if self.posted[batch.block() as usize] {
             return Post::Repeat;
         }
@@ -154,7 +165,7 @@ impl<'g, G: Game> Rounds<'g, G> {
             &mut self.entries,
             &mut self.waits,
             &mut self.posted,
-            &batch,
+            batch,
             self.round,
         );
         Post::Posted
