@@ -12,6 +12,7 @@ pub mod Ending
 pub mod Steps
 pub mod Growing
 pub mod Blocks
+pub mod Noting
 pub mod Taking
 pub mod Running
 pub mod Beginning

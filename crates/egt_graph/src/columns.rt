@@ -1,59 +1,78 @@
-//! One step of retrograde analysis over plain columns: an entry and a counter a node.
-ghost use Rattle.std.specs.Prelude.{◌≡◌, ◌==◌, true, false, ℕ, ◌+◌, ◌-◌, ◌<◌, ◌≤◌, length, slice_index, slice_set, All, MatchBool, IsTrue, IsFalse};
+//! One step of retrograde analysis over plain columns: an entry and a counter a node. Where an entry is decided is noted.
+ghost use Rattle.std.specs.Prelude.{◌≡◌, ◌==◌, true, false, ℕ, ◌+◌, ◌-◌, ◌*◌, ◌<◌, ◌≤◌, length, slice_index, slice_set, All, MatchBool, IsTrue, IsFalse};
 ghost use Rattle.egt_graph.specs.Columns.{decided, Marks, TakesBack, count_of, is_open, is_open_at};
+ghost use Rattle.egt_graph.specs.News.{Notes};
+
+use crate::scan::PART;
 
 /// The entry of a node that is not decided.
 pub(crate) const DRAW: u16 = 1;
 
 /// The nodes win in `plies` plies, where they were not decided.
 #[tactic(auto, using(crate::proofs::Steps::Marks_none))]
-pub(crate) fn mark_wins(entries: &mut [u16], nodes: &[u32], plies: u16)
+pub(crate) fn mark_wins(entries: &mut [u16], news: &mut [bool], nodes: &[u32], plies: u16)
     requires short { plies ≤ 32001 }
     requires within { All (λ i. i < length entries.old) nodes.now }
-    ensures { Marks entries.old nodes.now plies entries.new }
+    requires room { length entries.old ≤ 64 * length news.old }
+    ensures marks { Marks entries.old nodes.now plies entries.new }
+    ensures news { Notes plies entries.old news.old → Notes plies entries.new news.new }
 {
     for node in nodes {
-        mark_win(entries, *node as usize, plies);
+        mark_win(entries, news, *node as usize, plies);
     }
 }
 
 #[inline(always)]
-fn mark_win(entries: &mut [u16], i: usize, plies: u16)
+fn mark_win(entries: &mut [u16], news: &mut [bool], i: usize, plies: u16)
     requires short { plies ≤ 32001 }
     requires within { i < length entries.old }
-    ensures { entries.new ≡ slice_set entries.old i (decided (slice_index entries.old i) true false plies) }
+    requires room { length entries.old ≤ 64 * length news.old }
+    ensures entries { entries.new ≡ slice_set entries.old i (decided (slice_index entries.old i) true false plies) }
+    ensures news { Notes plies entries.old news.old → Notes plies entries.new news.new }
 {
     if entries[i] == DRAW {
         entries[i] = 2 + 2 * plies;
+        news[i / PART] = true;
     }
 }
 
 /// Each of the nodes waits for one move less. It loses in `plies` plies where it waits for none and was not decided.
-pub(crate) fn take_back(entries: &mut [u16], waits: &mut [u8], nodes: &[u32], plies: u16)
+pub(crate) fn take_back(
+    entries: &mut [u16],
+    waits: &mut [u8],
+    news: &mut [bool],
+    nodes: &[u32],
+    plies: u16,
+)
     requires short { plies ≤ 32001 }
     requires within { All (λ i. i < length entries.old) nodes.now }
     requires matched { length waits.old ≡ length entries.old }
     requires waited { (i : ℕ) → count_of i nodes.now ≤ slice_index waits.old i }
-    ensures { TakesBack entries.old waits.old nodes.now plies entries.new waits.new }
+    requires room { length entries.old ≤ 64 * length news.old }
+    ensures takes { TakesBack entries.old waits.old nodes.now plies entries.new waits.new }
+    ensures news { Notes plies entries.old news.old → Notes plies entries.new news.new }
 {
     for node in nodes {
-        take_back_move(entries, waits, *node as usize, plies);
+        take_back_move(entries, waits, news, *node as usize, plies);
     }
 }
 
 #[inline(always)]
-fn take_back_move(entries: &mut [u16], waits: &mut [u8], i: usize, plies: u16)
+fn take_back_move(entries: &mut [u16], waits: &mut [u8], news: &mut [bool], i: usize, plies: u16)
     requires short { plies ≤ 32001 }
     requires within { i < length entries.old }
     requires within_waits { i < length waits.old }
     requires waited { 0 < slice_index waits.old i }
+    requires room { length entries.old ≤ 64 * length news.old }
     ensures waits { waits.new ≡ slice_set waits.old i (slice_index waits.old i - 1) }
     ensures entries { entries.new
         ≡ slice_set entries.old i (decided (slice_index entries.old i) false (slice_index waits.old i - 1 == 0) plies) }
+    ensures news { Notes plies entries.old news.old → Notes plies entries.new news.new }
 {
     waits[i] -= 1;
     if waits[i] == 0 && entries[i] == DRAW {
         entries[i] = 3 + 2 * plies;
+        news[i / PART] = true;
     }
 }
 

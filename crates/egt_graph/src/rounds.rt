@@ -12,9 +12,9 @@ use crate::batch::Batch;
 use crate::begin::{Columns, begin};
 use crate::game::Game;
 use crate::ranks::Ranks;
-use crate::scan::{BLOCK, block_nodes, is_block_front};
+use crate::scan::{BLOCK, PART, block_nodes, is_block_front};
 use crate::schedule::Schedule;
-use crate::step::{all_set, clear, fall_due, take_in};
+use crate::step::{all_set, clear, fall_due, take_in, turn_over};
 use std::alloc::{AllocError, Global};
 use std::marker::Model;
 
@@ -29,6 +29,10 @@ pub struct Rounds<'g, G: Game> {
     /// Which blocks were posted in this round.
     posted: Vec<bool>,
     entries: Vec<u16>,
+    /// For each part of the nodes, whether some entry there may be of this round.
+    news: Vec<bool>,
+    /// The same of the next round.
+    coming: Vec<bool>,
     /// For each node the moves and exits that it waits for: at first all, and one less for each that is found won.
     waits: Vec<u8>,
     /// For each node the exits into positions won for the opponent that have not fallen due.
@@ -40,6 +44,7 @@ pub struct Rounds<'g, G: Game> {
 }
 
 impl<'g, G: Game> Model for Rounds<'g, G> {
+    ghost use Rattle.egt_graph.specs.News.{HasNews};
     ghost use Rattle.egt_graph.specs.Run.{Run, IsRun};
 
     ghost Value = { Run G };
@@ -51,7 +56,8 @@ impl<'g, G: Game> Model for Rounds<'g, G> {
 
     ghost invariant = { λ s. IsRun (G.graph s.game.now)
         (record { limit = s.limit; round = s.round; phase = s.phase; posted = s.posted.items })
-        s.entries.items s.waits.items s.later.items s.lost.items s.lost_due s.won_due };
+        s.entries.items s.waits.items s.later.items s.lost.items s.lost_due s.won_due
+        × HasNews (G.graph s.game.now).size s.phase s.round s.entries.items s.news.items s.coming.items };
 }
 
 impl<'g, G: Game> Rounds<'g, G> {
@@ -71,6 +77,9 @@ impl<'g, G: Game> Rounds<'g, G> {
         } = begin(alloc, game)?;
         let blocks = (game.size() as usize + (BLOCK - 1)) / BLOCK;
         let posted = vec![in alloc; false; blocks]?;
+        let parts = (game.size() as usize + (PART - 1)) / PART;
+        let news = vec![in alloc; true; parts]?;
+        let coming = vec![in alloc; false; parts]?;
         Ok(Rounds {
             game,
             limit,
@@ -78,6 +87,8 @@ impl<'g, G: Game> Rounds<'g, G> {
             phase: Phase::Running,
             posted,
             entries,
+            news,
+            coming,
             waits,
             later,
             lost,
@@ -130,7 +141,7 @@ impl<'g, G: Game> Rounds<'g, G> {
         ensures ascending { IfOk result (λ nodes. IsStrictlyIncreasing nodes.items) }
     {
         match self.phase {
-            Phase::Running => block_nodes(alloc, &self.entries, block, self.round),
+            Phase::Running => block_nodes(alloc, &self.entries, &self.news, block, self.round),
             Phase::Finished | Phase::TooDeep => Ok(Vec::new(alloc)),
         }
     }
@@ -164,6 +175,7 @@ impl<'g, G: Game> Rounds<'g, G> {
             self.game,
             &mut self.entries,
             &mut self.waits,
+            &mut self.coming,
             &mut self.posted,
             batch,
             self.round,
@@ -206,6 +218,7 @@ impl<'g, G: Game> Rounds<'g, G> {
         let unsettled = fall_due(
             &mut self.entries,
             &mut self.waits,
+            &mut self.coming,
             &mut self.later,
             &self.lost,
             self.lost_due.due(self.round),
@@ -221,6 +234,7 @@ impl<'g, G: Game> Rounds<'g, G> {
             return Close::TooDeep;
         }
         self.round += 1;
+        turn_over(&mut self.news, &mut self.coming);
         clear(&mut self.posted);
         Close::Next
     }

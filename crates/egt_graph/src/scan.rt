@@ -1,6 +1,7 @@
 //! The scan for the nodes of a round.
-ghost use Rattle.std.specs.Prelude.{◌≡◌, ◌↔◌, ℕ, ◌+◌, ◌*◌, ◌^◌, ◌<◌, ◌≤◌, [], ◌∷◌, length, min, slice_index, IsTrue, IsFalse, IfOk};
+ghost use Rattle.std.specs.Prelude.{◌≡◌, ◌↔◌, ℕ, ◌+◌, ◌*◌, ◌^◌, ◌<◌, ◌≤◌, [], ◌∷◌, ◌++◌, length, min, slice_index, IsTrue, IsFalse, IfOk, OnOk};
 ghost use Rattle.egt_graph.specs.Frontier.{frontier_of, places_from, is_entry_of_round, entry_front};
+ghost use Rattle.egt_graph.specs.News.{Notes};
 
 use arrayvec::ArrayVec;
 use std::alloc::{AllocError, Global};
@@ -8,6 +9,12 @@ use std::simd::prelude::*;
 
 /// The nodes of a block. The last block of a game may have fewer.
 pub(crate) const BLOCK: usize = 4096;
+
+/// The nodes of a part: of each it is noted whether some entry changed.
+pub(crate) const PART: usize = 64;
+
+/// The parts of a block.
+const PARTS: usize = BLOCK / PART;
 
 /// The entries that are compared at once.
 const LANES: usize = 16;
@@ -105,24 +112,51 @@ fn block_end(entries: &[u16], block: u32) -> usize
     entries.len().min(start + BLOCK)
 }
 
-/// The nodes of a block whose entries are of the round. Where there are none nothing grows.
+/// Adds the places from `from` up to `end` whose entries are of the round.
+fn push_places(
+    entries: &[u16],
+    from: usize,
+    end: usize,
+    round: u16,
+    nodes: &mut Vec<u32>,
+) -> Result<(), AllocError>
+    requires short { round ≤ 32000 }
+    requires ordered { from ≤ end }
+    requires within { end ≤ length entries.now }
+    requires few { length entries.now < 2 ^ 32 }
+    ensures { OnOk result (nodes.new.items ≡ nodes.old.items ++ places_from entries.now round from end) }
+{
+    let mut place = next_place(entries, from, end, round);
+    while place < end {
+        nodes.push(place as u32)?;
+        place = next_place(entries, place + 1, end, round);
+    }
+    Ok(())
+}
+
+/// The nodes of a block whose entries are of the round, of which each is noted. Where there are none nothing grows.
 pub(crate) fn block_nodes(
     alloc: Global,
     entries: &[u16],
+    news: &[bool],
     block: u32,
     round: u16,
 ) -> Result<Vec<u32>, AllocError>
     requires short { round ≤ 32000 }
     requires within { 4096 * block ≤ length entries.now }
     requires few { length entries.now < 2 ^ 32 }
+    requires room { length entries.now ≤ 64 * length news.now }
+    requires news { Notes round entries.now news.now }
     ensures { IfOk result (λ nodes. nodes.items ≡ entry_front entries.now round block) }
 {
     let end = block_end(entries, block);
+    let first = block as usize * PARTS;
     let mut nodes = Vec::new(alloc);
-    let mut place = next_place(entries, block as usize * BLOCK, end, round);
-    while place < end {
-        nodes.push(place as u32)?;
-        place = next_place(entries, place + 1, end, round);
+    for part in first..news.len().min(first + PARTS) {
+        if news[part] {
+            let from = end.min(part * PART);
+            push_places(entries, from, end.min(from + PART), round, &mut nodes)?;
+        }
     }
     Ok(nodes)
 }

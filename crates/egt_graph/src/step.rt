@@ -1,8 +1,9 @@
 //! What a post and a close do to the columns.
-ghost use Rattle.std.specs.Prelude.{◌≡◌, ℕ, ◌+◌, ◌<◌, ◌≤◌, true, false, List, length, slice_index, slice_index_or, slice_set, replicate, All, IsTrue, IsFalse, MatchBool};
+ghost use Rattle.std.specs.Prelude.{◌≡◌, ℕ, ◌+◌, ◌*◌, ◌<◌, ◌≤◌, true, false, List, length, slice_index, slice_index_or, slice_set, replicate, All, IsTrue, IsFalse, MatchBool};
 ghost use Rattle.egt_graph.specs.Graph.{IsAlike};
 ghost use Rattle.egt_graph.specs.Frontier.{front};
 ghost use Rattle.egt_graph.specs.Columns.{Amid, Marks, TakesBack, count_of, done_of, is_open_at};
+ghost use Rattle.egt_graph.specs.News.{Notes};
 
 use crate::batch::Batch;
 use crate::columns::{any_open, count_down, mark_wins, take_back};
@@ -14,6 +15,7 @@ pub(crate) fn take_in<G: Game>(
     _game: &G,
     entries: &mut [u16],
     waits: &mut [u8],
+    coming: &mut [bool],
     posted: &mut [bool],
     batch: &Batch<'_, G>,
     round: u16,
@@ -26,16 +28,18 @@ pub(crate) fn take_in<G: Game>(
     requires entries_long { length entries.old ≡ (G.graph _game.now).size }
     requires waits_long { length waits.old ≡ (G.graph _game.now).size }
     requires amid { Amid (G.graph _game.now) round (done_of posted.old) round round entries.old waits.old }
+    requires room { length entries.old ≤ 64 * length coming.old }
     ensures ticked { posted.new ≡ slice_set posted.old batch.now.block true }
     ensures amid { Amid (G.graph _game.now) round (done_of posted.new) round round entries.new waits.new }
+    ensures coming { Notes (round + 1) entries.old coming.old → Notes (round + 1) entries.new coming.new }
 {
     let nodes = batch.nodes();
     for k in 0..nodes.len() {
         let sources = batch.targets(k);
         if entries[nodes[k] as usize] == 2 + 2 * round {
-            take_back(entries, waits, sources, round + 1);
+            take_back(entries, waits, coming, sources, round + 1);
         } else {
-            mark_wins(entries, sources, round + 1);
+            mark_wins(entries, coming, sources, round + 1);
         }
     }
     posted[batch.block() as usize] = true;
@@ -45,6 +49,7 @@ pub(crate) fn take_in<G: Game>(
 pub(crate) fn fall_due(
     entries: &mut [u16],
     waits: &mut [u8],
+    coming: &mut [bool],
     later: &mut [u8],
     lost: &[bool],
     losses: &[u32],
@@ -59,16 +64,18 @@ pub(crate) fn fall_due(
     requires lost_long { length lost.now ≡ length entries.old }
     requires waited { (i : ℕ) → count_of i wins.now ≤ slice_index waits.old i }
     requires counted { (i : ℕ) → count_of i wins.now ≤ slice_index later.old i }
+    requires room { length entries.old ≤ 64 * length coming.old }
     ensures columns { (middle : List ℕ)
         × Marks entries.old losses.now (round + 1) middle
         × TakesBack middle waits.old wins.now (round + 1) entries.new waits.new }
     ensures later { (i : ℕ) → slice_index later.new i + count_of i wins.now ≡ slice_index later.old i }
+    ensures coming { Notes (round + 1) entries.old coming.old → Notes (round + 1) entries.new coming.new }
     ensures still_open { MatchBool result
         ((i : ℕ) × IsTrue (is_open_at (round + 1) entries.new waits.new later.new lost.now i))
         ((i : ℕ) → i < length entries.new → IsFalse (is_open_at (round + 1) entries.new waits.new later.new lost.now i)) }
 {
-    mark_wins(entries, losses, round + 1);
-    take_back(entries, waits, wins, round + 1);
+    mark_wins(entries, coming, losses, round + 1);
+    take_back(entries, waits, coming, wins, round + 1);
     count_down(later, wins);
     any_open(entries, waits, later, lost, round + 1)
 }
@@ -93,4 +100,14 @@ pub(crate) fn clear(flags: &mut [bool])
     for k in 0..flags.len() {
         flags[k] = false;
     }
+}
+
+/// What was noted of the next round is now of this one, and of the next nothing.
+pub(crate) fn turn_over(news: &mut [bool], coming: &mut [bool])
+    requires { length news.old ≡ length coming.old }
+    ensures news { news.new ≡ coming.old }
+    ensures coming { coming.new ≡ replicate (length coming.old) false }
+{
+    news.copy_from_slice(coming);
+    clear(coming);
 }

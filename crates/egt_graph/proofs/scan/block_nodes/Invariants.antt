@@ -1,13 +1,6 @@
-use Rattle.std.proofs.Common.{◌≡◌, ◌∷◌, ◌++◌, ◌+◌, ◌-◌, ◌<◌, ◌≤◌}
-use Rattle.egt_graph.specs.Frontier.{entry_front, places_from}
+use Rattle.std.proofs.Common.{◌≡◌, ◌*◌, min}
+use Rattle.egt_graph.specs.Frontier.{places_from}
 use Rattle.egt_graph.proofs.scan.block_nodes.Given as goal
 
-abbrev pub invariant-loop-place : goal.invariant-loop-place
-invariant-loop-place l = record {
-  within : l.place ≤ l.end;
-  more : l.place < l.end → entry_front l.entries l.round l.block ≡ l.nodes.items ++ l.place ∷ places_from l.entries l.round (l.place + 1) l.end;
-  all : l.place ≡ l.end → entry_front l.entries l.round l.block ≡ l.nodes.items;
-}
-
-abbrev pub decreases-loop-place : goal.decreases-loop-place
-decreases-loop-place l = l.end - l.place
+abbrev pub invariant-loop-part : goal.invariant-loop-part
+invariant-loop-part l = l.nodes.items ≡ places_from l.entries l.round (4096 * l.block) (min l.end (64 * l.part))

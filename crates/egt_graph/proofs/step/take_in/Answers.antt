@@ -4,9 +4,11 @@ use Rattle.egt_graph.proofs.step.take_in.Goals as goal
 use Rattle.egt_graph.proofs.step.take_in.Goals.{then-entries-nodes, else-entries-nodes}
 
 pub loop-k-init : goal.loop-k-init
-loop-k-init g c =
-    turns_begin (g.G.Game.graph c.args._game.now) (g.met.G.Game.lawful c.args._game.now) c.args.round c.args.posted.now c.nodes-nodes.result.now
-    c.args.round c.args.round c.args.entries.now c.args.waits.now c.requires.amid
+loop-k-init g c = record {
+  amid = turns_begin (g.G.Game.graph c.args._game.now) (g.met.G.Game.lawful c.args._game.now) c.args.round c.args.posted.now c.nodes-nodes.result.now
+      c.args.round c.args.round c.args.entries.now c.args.waits.now c.requires.amid;
+  coming = λ notes. notes;
+}
 
 pub take_back-requires-clause-within : goal.take_back-requires-clause-within
 take_back-requires-clause-within g c =
@@ -20,7 +22,7 @@ take_back-requires-clause-waited g c =
     let turn = turn_from (g.G.Game.graph c.args._game.now) (g.G.Game.graph c.args.batch.now.game) c.requires.alike c.args.round c.args.batch.now.block c.loop-k.k
     c.args.posted.now c.nodes-nodes.result.now c.args.batch.now.nodes c.targets-sources.result.now c.nodes-nodes.ensures.value c.requires.whole c.loop-k-test.true c.requires.fresh c.targets-sources.ensures in
     turn_waited (g.G.Game.graph c.args._game.now) (g.met.G.Game.lawful c.args._game.now) c.args.round c.args.batch.now.block c.loop-k.k c.args.posted.now
-    c.nodes-nodes.result.now c.targets-sources.result.now c.args.round c.args.round c.loop-k.entries c.loop-k.waits turn c.loop-k.invariant c.if-entries-nodes.true
+    c.nodes-nodes.result.now c.targets-sources.result.now c.args.round c.args.round c.loop-k.entries c.loop-k.waits turn c.loop-k.invariant.amid c.if-entries-nodes.true
 
 pub mark_wins-requires-clause-within : goal.mark_wins-requires-clause-within
 mark_wins-requires-clause-within g c =
@@ -34,12 +36,16 @@ loop-k-preserved g c =
     let turn = turn_from (g.G.Game.graph c.args._game.now) (g.G.Game.graph c.args.batch.now.game) c.requires.alike c.args.round c.args.batch.now.block c.loop-k.k
     c.args.posted.now c.nodes-nodes.result.now c.args.batch.now.nodes c.targets-sources.result.now c.nodes-nodes.ensures.value c.requires.whole c.loop-k-test.true c.requires.fresh c.targets-sources.ensures in
     elim c.if-entries-nodes.branch [
-      | then-entries-nodes w ↦ rw (w.entries-is, w.waits-is)
-          (turn_won (g.G.Game.graph c.args._game.now) (g.met.G.Game.lawful c.args._game.now) c.args.round c.args.batch.now.block c.loop-k.k c.args.posted.now
-          c.nodes-nodes.result.now c.targets-sources.result.now c.args.round c.args.round c.loop-k.entries c.loop-k.waits _ _ turn c.loop-k.invariant w.if-entries-nodes.true w.take_back.ensures)
-      | else-entries-nodes w ↦ rw (w.entries-is, w.waits-is)
-          (turn_lost (g.G.Game.graph c.args._game.now) (g.met.G.Game.lawful c.args._game.now) c.args.round c.args.batch.now.block c.loop-k.k c.args.posted.now
-          c.nodes-nodes.result.now c.targets-sources.result.now c.args.round c.args.round c.loop-k.entries c.loop-k.waits _ turn c.loop-k.invariant w.if-entries-nodes.false w.mark_wins.ensures)
+      | then-entries-nodes w ↦ rw (w.entries-is, w.waits-is, w.coming-is) (record {
+        amid = turn_won (g.G.Game.graph c.args._game.now) (g.met.G.Game.lawful c.args._game.now) c.args.round c.args.batch.now.block c.loop-k.k c.args.posted.now
+            c.nodes-nodes.result.now c.targets-sources.result.now c.args.round c.args.round c.loop-k.entries c.loop-k.waits _ _ turn c.loop-k.invariant.amid w.if-entries-nodes.true w.take_back.ensures.takes;
+        coming = λ notes. w.take_back.ensures.news (c.loop-k.invariant.coming notes);
+      })
+      | else-entries-nodes w ↦ rw (w.entries-is, w.waits-is, w.coming-is) (record {
+        amid = turn_lost (g.G.Game.graph c.args._game.now) (g.met.G.Game.lawful c.args._game.now) c.args.round c.args.batch.now.block c.loop-k.k c.args.posted.now
+            c.nodes-nodes.result.now c.targets-sources.result.now c.args.round c.args.round c.loop-k.entries c.loop-k.waits _ turn c.loop-k.invariant.amid w.if-entries-nodes.false w.mark_wins.ensures.marks;
+        coming = λ notes. w.mark_wins.ensures.news (c.loop-k.invariant.coming notes);
+      })
     ]
 
 pub returns-clause-amid : goal.returns-clause-amid
@@ -47,4 +53,4 @@ returns-clause-amid g c =
     rw c.block.ensures.value
     (turns_end (g.G.Game.graph c.args._game.now) (g.met.G.Game.lawful c.args._game.now) c.args.round c.args.batch.now.block c.args.posted.now
     c.nodes-nodes.result.now c.args.round c.args.round c.loop-k.entries c.loop-k.waits (c.nodes-nodes.ensures.value ∙ c.requires.whole) c.requires.in_range c.requires.fresh
-    c.loop-k.k (omega arith) c.loop-k.invariant)
+    c.loop-k.k (omega arith) c.loop-k.invariant.amid)
