@@ -80,6 +80,17 @@ attacked_as a board men occupied side t kept is seen =
           elim some [ inl p ↦ inl p | inr r ↦ inr (elim r [ inl p ↦ inl p | inr q ↦ inr (elim q [ inl p ↦ inl p | inr o ↦ inr (elim o [ inl p ↦ p | inr none ↦ absurd none ]) ]) ]) ],
     )
 
+-- the squares that are free once the man on one of them is taken off
+pub free_without : (board : Placement) (all left lifted : ℕ) → ((u : ℕ) → (bit_at all u ≡ 0) ↔ IsFree board u) → bit_at left lifted ≡ 0 → ((u : ℕ) → u ≢ lifted → bit_at left u ≡ bit_at all u)
+    → (u : ℕ) → (bit_at left u ≡ 0) ↔ IsFree (map.remove board lifted) u
+free_without board all left lifted free gone others u = elim (cases_eq u lifted) [
+  | inl e ↦ (λ _. get-remove_same board lifted u e, λ _. ap (bit_at left) e ∙ gone)
+  | inr other ↦ (
+    λ none. get-remove_other board lifted u other ∙ (free u).0 (sym (others u other) ∙ none),
+    λ none. others u other ∙ (free u).1 (sym (get-remove_other board lifted u other) ∙ none),
+  )
+]
+
 -- a board is seen as it is
 pub seen_itself : (board : Placement) (side : Side) (occupied : ℕ) → ((u : ℕ) → (bit_at occupied u ≡ 0) ↔ IsFree board u) → IsSeenAs board side occupied board
 seen_itself board side occupied free = record { stand = λ s man own. (λ h. h, λ h. h); free = free }
@@ -87,7 +98,7 @@ seen_itself board side occupied free = record { stand = λ s man own. (λ h. h, 
 -- and, where none of that side's men stands on the square, as it is without the man there
 pub seen_without : (board : Placement) (side : Side) (all left lifted : ℕ) → ((man : Man) → Stands board lifted man → man.side ≢ side) → ((u : ℕ) → (bit_at all u ≡ 0) ↔ IsFree board u) →
     bit_at left lifted ≡ 0 → ((u : ℕ) → u ≢ lifted → bit_at left u ≡ bit_at all u) → IsSeenAs board side left (map.remove board lifted)
-seen_without board side all left lifted foreign free gone others = record { stand = stand; free = free_of }
+seen_without board side all left lifted foreign free gone others = record { stand = stand; free = free_without board all left lifted free gone others }
   where
     stand : (s : ℕ) (man : Man) → man.side ≡ side → Stands (map.remove board lifted) s man ↔ Stands board s man
     stand s man own = elim (cases_eq s lifted) [
@@ -96,15 +107,6 @@ seen_without board side all left lifted foreign free gone others = record { stan
         λ there. absurd (foreign man (ap (map.get board) (sym e) ∙ there) own),
       )
       | inr other ↦ (λ there. sym (get-remove_other board lifted s other) ∙ there, λ there. get-remove_other board lifted s other ∙ there)
-    ]
-
-    free_of : (u : ℕ) → (bit_at left u ≡ 0) ↔ IsFree (map.remove board lifted) u
-    free_of u = elim (cases_eq u lifted) [
-      | inl e ↦ (λ _. get-remove_same board lifted u e, λ _. ap (bit_at left) e ∙ gone)
-      | inr other ↦ (
-        λ none. get-remove_other board lifted u other ∙ (free u).0 (sym (others u other) ∙ none),
-        λ none. others u other ∙ (free u).1 (sym (get-remove_other board lifted u other) ∙ none),
-      )
     ]
 
 -- one of the board's four men attacks the square exactly where a man of that side does

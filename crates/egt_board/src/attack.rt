@@ -1,5 +1,6 @@
 //! What the men on a board attack: FIDE Laws of Chess 2023, articles 3.1.3 and 3.9.
 ghost use Rattle.std.specs.Prelude.{◌≡◌, ℕ, ◌≤◌, ◌↔◌, IsTrue};
+ghost use Rattle.std.specs.FinMap as map;
 ghost use Rattle.std.specs.Int.{bit_at};
 ghost use Rattle.egt_board.specs.Attack.{IsAttacked, IsInCheck, AttacksFrom};
 ghost use Rattle.egt_board.specs.Camps.{IsOccupied};
@@ -43,6 +44,15 @@ impl Board {
         ensures few { size_of result ≤ most_reached man.kind }
     {
         gait::reach(man, from, all)
+    }
+
+    /// The same once the man on `lifted`, if there is one, is taken off.
+    pub fn reach_without(&self, man: Man, from: Square, lifted: Square, all: SquareSet) -> SquareSet
+        requires { IsOccupied self.now all }
+        ensures reached { (t : ℕ) → Has result t ↔ Reaches (IsFree (map.remove self.now lifted)) man from t }
+        ensures few { size_of result ≤ most_reached man.kind }
+    {
+        gait::reach(man, from, all.less(lifted))
     }
 
     /// Whether a man of that side attacks the square, even if it may not move itself.

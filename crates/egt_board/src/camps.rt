@@ -1,7 +1,8 @@
 //! The squares of either side's men.
-ghost use Rattle.std.specs.Prelude.{◌≡◌, ℕ};
+ghost use Rattle.std.specs.Prelude.{◌≡◌, ◌≤◌, ℕ};
 ghost use Rattle.egt_board.specs.Camps.{AreCamps, IsOccupied};
-ghost use Rattle.egt_board.specs.Setup.{Setup};
+ghost use Rattle.egt_board.specs.Setup.{Setup, IsAdmissible};
+ghost use Rattle.egt_board.specs.SquareSet.{size_of};
 
 use crate::position::Position;
 use crate::square_set::SquareSet;
@@ -33,3 +34,8 @@ impl Position {
         }
     }
 }
+
+/// Either side has at most three men, since the other has a king. This function does nothing: a caller calls it to know what it ensures.
+pub fn camps_are_few()
+    ensures { (p : Setup) (camps : Camps) → IsAdmissible p → AreCamps p camps → (size_of camps.own ≤ 3) × (size_of camps.enemy ≤ 3) }
+{}

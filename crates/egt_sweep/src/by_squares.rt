@@ -5,6 +5,7 @@ ghost use Rattle.std.specs.List.Sorted.{IsStrictlyIncreasing};
 ghost use Rattle.arrayvec.specs.ArrayVec.{array_vec_len};
 ghost use Rattle.egt_class.specs.Membership.{IsOf};
 ghost use Rattle.egt_board.specs.Attack.{king_of};
+ghost use Rattle.egt_board.specs.Camps.{AreCamps};
 ghost use Rattle.egt_board.specs.Man.{other_side};
 ghost use Rattle.egt_board.specs.Placement.{IsHeld, Stands};
 ghost use Rattle.egt_board.specs.SquareSet.{Has, size_of};
@@ -16,7 +17,8 @@ ghost use Rattle.egt_sweep.specs.Edges.{AtSome, IsAt, Connects, CameTo, HadNoTar
 use crate::ascending::put;
 use crate::laws::laws;
 use arrayvec::ArrayVec;
-use egt_board::{Kind, Man, Position, Side, Square, SquareSet};
+use egt_board::camps::camps_are_few;
+use egt_board::{Camps, Kind, Man, Position, Square, SquareSet};
 use egt_class::Class;
 use egt_index::{Frame, Steps};
 use egt_table::Column;
@@ -31,13 +33,16 @@ fn below(square: Square) -> SquareSet
     }
 }
 
-/// The squares of that side's men other than the king.
-fn beside_king(position: &Position, side: Side, king: Square) -> SquareSet
-    requires { Stands position.now.men king (king_of side) }
-    ensures held { (s : ℕ) → Has result s ↔ (IsHeld position.now.men s side × (s ≢ king)) }
+/// The squares of the men of the side that waits other than its king.
+fn beside_king(position: &Position, camps: Camps, king: Square) -> SquareSet
+    requires camps { AreCamps position.now camps }
+    requires king { Stands position.now.men king (king_of (other_side position.now.side)) }
+    ensures held { (s : ℕ) → Has result s ↔ (IsHeld position.now.men s (other_side position.now.side) × (s ≢ king)) }
     ensures few { size_of result ≤ 2 }
 {
-    position.of(side).less(king)
+    camps_are_few();
+    let _whole = position.side();
+    camps.enemy.less(king)
 }
 
 /// Whether the game goes back by the man's moves.
@@ -83,10 +88,12 @@ fn add_sources_of(
     class: Class,
     frame: &Frame,
     position: &Position,
+    camps: Camps,
     to: Square,
     list: &mut ArrayVec<u32, 128>,
 )
     requires of { (flipped : Bool) × IsOf class flipped position.now }
+    requires camps { AreCamps position.now camps }
     requires held { IsHeld position.now.men to (other_side position.now.side) }
     requires frame { IsFrame position.now frame.now }
     requires class { frame.now.class ≡ class }
@@ -105,7 +112,7 @@ fn add_sources_of(
         return;
     }
     let steps = frame.steps(to);
-    let sources = quiet_sources(position, man, to);
+    let sources = quiet_sources(position, camps, man, to);
     add_left(class, &steps, position, man, to, sources, list);
 }
 
@@ -115,10 +122,12 @@ fn add_others(
     class: Class,
     frame: &Frame,
     position: &Position,
+    camps: Camps,
     men: SquareSet,
     list: &mut ArrayVec<u32, 128>,
 )
     requires of { (flipped : Bool) × IsOf class flipped position.now }
+    requires camps { AreCamps position.now camps }
     requires held { (s : ℕ) → Has men s → IsHeld position.now.men s (other_side position.now.side) }
     requires frame { IsFrame position.now frame.now }
     requires class { frame.now.class ≡ class }
@@ -132,7 +141,7 @@ fn add_others(
 {
     let mut rest = men;
     while let Some(to) = rest.pop_first() {
-        add_sources_of(column, class, frame, position, to, list);
+        add_sources_of(column, class, frame, position, camps, to, list);
     }
 }
 
@@ -164,11 +173,12 @@ pub(crate) fn sources_by_squares(
     };
     let king = position.king(side);
     let steps = frame.steps(king);
-    let sources = quiet_sources(position, man, king);
+    let camps = position.camps();
+    let sources = quiet_sources(position, camps, man, king);
     let low = sources.common(below(king));
     let high = sources.without(low);
-    let others = beside_king(position, side, king);
+    let others = beside_king(position, camps, king);
     add_left(class, &steps, position, man, king, low, list);
-    add_others(column, class, frame, position, others, list);
+    add_others(column, class, frame, position, camps, others, list);
     add_left(class, &steps, position, man, king, high, list);
 }

@@ -1,6 +1,7 @@
 pub mod Sides
 pub mod Came
 pub mod Ways
+pub mod Straight
 pub mod Quiet
 pub mod Went
 pub mod InOrder

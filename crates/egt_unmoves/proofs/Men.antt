@@ -33,7 +33,7 @@ pub record ListsMen (q : Setup) (now : List Unmove) (left : SquareSet) : Type 0 
   pub left_is : (t : ℕ) → Has left t ↔ (IsHeld q.men t (other_side q.side) × (next ≤ t))
   pub room : (k : ℕ) → IsKingOn q.men (other_side q.side) k → length now + 56 * size_of left ≤ 128 + 40 * bit_at left.bits k
 
-not_both : {A : Type 0} (n : ℕ) → n ≡ 0 → n ≡ 1 → A
+pub not_both : {A : Type 0} (n : ℕ) → n ≡ 0 → n ≡ 1 → A
 not_both n none one = absurd (omega arith)
 
 pub ListsMen-none : (q : Setup) (left : SquareSet) → ((t : ℕ) → Has left t ↔ IsHeld q.men t (other_side q.side)) → size_of left ≤ 3 → ListsMen q [] left

@@ -21,7 +21,7 @@ pub(crate) fn is_settled_target(board: &Board, mover: Side, square: Square) -> b
 }
 
 /// The rank, from 0, that a pawn of that side reaches by an advance of two squares.
-fn advanced_rank(side: Side) -> u8
+pub(crate) fn advanced_rank(side: Side) -> u8
     ensures { result ≡ advanced_rank side }
 {
     match side {

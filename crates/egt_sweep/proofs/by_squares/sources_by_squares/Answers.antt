@@ -1,9 +1,8 @@
-use Rattle.std.proofs.Common.{◌≢◌, ℕ, ◌<◌, sym, ap, ◌∙◌, subst, inl, inr, List, length, arith}
+use Rattle.std.proofs.Common.{◌≢◌, ℕ, ◌<◌, ap, subst, inl, inr, List, length, arith}
 use Rattle.egt_board.specs.Man.{other_side}
 use Rattle.egt_board.specs.Attack.{king_of}
 use Rattle.egt_board.specs.Placement.{IsHeld}
 use Rattle.egt_board.specs.SquareSet.{Has}
-use Rattle.egt_board.specs.declared.man.Side.{Side}
 use Rattle.egt_index.specs.Steps.{AreSteps}
 use Rattle.egt_sweep.proofs.Returning.{came_moved, was_came, came_edges, king_back, in_part}
 use Rattle.egt_sweep.proofs.by_squares.sources_by_squares.Goals as goal
@@ -19,7 +18,7 @@ add_left-requires-clause-moved c s on_board low =
     came_moved c.laws.ensures c.args.class c.args.position.now (king_of c.other-side.result) c.king-king.result c.king-king.ensures.stands s on_board (c.quiet_sources-sources.ensures.sound s on_board of)
 
 pub add_others-requires-clause-held : goal.add_others-requires-clause-held
-add_others-requires-clause-held c s has = subst (λ (x : Side). IsHeld c.args.position.now.men s x) (c.other-side.ensures ∙ ap other_side c.side.ensures.side) ((c.beside_king-others.ensures.held s).0 has).0
+add_others-requires-clause-held c s has = ((c.beside_king-others.ensures.held s).0 has).0
 
 pub add_others-requires-clause-room : goal.add_others-requires-clause-room
 add_others-requires-clause-room c =
@@ -50,9 +49,8 @@ returns-clause-exact c j at =
     let all = c.quiet_sources-sources.result in
     let low = c.common-low.result in
     let high = c.without-high.result in
-    let waits = c.other-side.ensures ∙ ap other_side c.side.ensures.side in
     let below : c.args.class < 36 = subst (λ (n : ℕ). n < 36) c.number-number.ensures.value c.number-number.ensures.below in
-    let held : (s : ℕ) → IsHeld q.men s (other_side q.side) → s ≢ king → Has c.beside_king-others.result s = λ s here apart. (c.beside_king-others.ensures.held s).1 (subst (λ (x : Side). IsHeld q.men s x) (sym waits) here, apart) in
+    let held : (s : ℕ) → IsHeld q.men s (other_side q.side) → s ≢ king → Has c.beside_king-others.result s = λ s here apart. (c.beside_king-others.ensures.held s).1 (here, apart) in
     came_edges c.laws.ensures c.args.class below c.args.column q j at man king all low high c.beside_king-others.result held
     (in_part all c.below.result low high c.common-low.ensures.squares c.without-high.ensures.squares)
     (was_came c.laws.ensures c.args.class q man king c.king-king.ensures.stands c.args.column all c.requires.before r.sound r.complete r.before (king_back c.args.column c.other-side.result))
