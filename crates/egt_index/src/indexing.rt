@@ -23,6 +23,7 @@ use crate::digits::king_digit;
 use crate::facts::facts;
 use crate::home::home;
 use crate::men::{has_equal_sides, has_pawns};
+use crate::nearer::homeward;
 use crate::scales::squares_of;
 use crate::stand::{Stand, exchanged, stand_after, standing_of};
 use crate::turning::turned_square;
@@ -146,54 +147,6 @@ fn least_code_by(
     }
 }
 
-/// Two squares as a number, in order of the first.
-pub(crate) fn pair(first: Square, second: Square) -> u16
-    ensures { result ≡ 64 * first + second }
-{
-    64 * u16::from(first.number()) + u16::from(second.number())
-}
-
-/// The squares of the kings after the turn, as a number.
-#[inline(always)]
-pub(crate) fn kings_after(stand: &Stand, turn: u8) -> u16
-    requires { turn < 16 }
-    ensures { result ≡ 64 * turned_square (turn % 8) (turn / 8 == 1) stand.now.white + turned_square (turn % 8) (turn / 8 == 1) stand.now.black }
-{
-    pair(
-        turned_square(turn, stand.white),
-        turned_square(turn, stand.black),
-    )
-}
-
-/// The turns that bring the white king home.
-#[derive(Clone, Copy)]
-struct Home {
-    first: u8,
-    second: Option<u8>,
-    /// The squares of the kings after them, as a number: the lesser of two.
-    kings: u16,
-}
-
-/// The turns that exchange colours, or those that do not, and bring the white king home.
-#[inline(always)]
-fn homeward(class: Class, stand: &Stand, flips: bool) -> Home
-    ensures home { AreHome (has_pawns (material_of class)) flips stand.now.white result.first result.second }
-    ensures kings { (side : Side) (passed : Bool) (p : Setup) → HasStand class flips stand.now side passed p → KingsHome class p flips result.kings }
-{
-    facts();
-    let _number = class.number();
-    let (first, second) = home(has_pawns(class), flips, stand.white);
-    let kings = kings_after(stand, first);
-    Home {
-        first,
-        second,
-        kings: match second {
-            Some(second) => kings.min(kings_after(stand, second)),
-            None => kings,
-        },
-    }
-}
-
 /// The least code of all images of a settled position of a class whose sides have the same men, with these men, in colours flipped
 /// or not. Few positions need it.
 #[inline(never)]
@@ -232,10 +185,18 @@ fn least_of_colours(
     facts();
     let _number = class.number();
     let others = exchanged(stand);
-    let own = homeward(class, stand, flipped);
-    let other = homeward(class, &others, !flipped);
+    let own = homeward(class, stand.white, stand.black, flipped);
+    let other = homeward(class, stand.black, stand.white, !flipped);
     if own.kings < other.kings {
-        return least_code_by(class, stand, side, passed, flipped, own.first, own.second);
+        return least_code_by(
+            class,
+            stand,
+            side,
+            passed,
+            flipped,
+            own.turns.first,
+            own.turns.second,
+        );
     }
     if other.kings < own.kings {
         return least_code_by(
@@ -244,8 +205,8 @@ fn least_of_colours(
             side,
             passed,
             !flipped,
-            other.first,
-            other.second,
+            other.turns.first,
+            other.turns.second,
         );
     }
     let copy = *stand;
