@@ -1,5 +1,5 @@
 //! Indexes of positions that differ from one position by the square of a man.
-ghost use Rattle.std.specs.Prelude.{◌≡◌, ◌≢◌, Bool, true, false, IfSome};
+ghost use Rattle.std.specs.Prelude.{◌≡◌, Bool, true, false, IfSome};
 ghost use Rattle.egt_board.specs.Setup.{Setup};
 ghost use Rattle.egt_board.specs.declared.man.Man.{Man};
 ghost use Rattle.egt_board.specs.Placement.{Stands};

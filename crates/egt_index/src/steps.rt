@@ -1,5 +1,5 @@
 //! The ways of one man of a frame.
-ghost use Rattle.std.specs.Prelude.{ℕ, ◌<◌, Bool, true, false};
+ghost use Rattle.std.specs.Prelude.{ℕ, ◌<◌, true, false};
 ghost use Rattle.egt_board.specs.Setup.{Setup};
 ghost use Rattle.egt_index.specs.Frame.{IsMoved};
 ghost use Rattle.egt_index.specs.Index.{IsIndex};

@@ -285,7 +285,7 @@ impl Way {
 }
 
 /// The side, or the other one where colours are exchanged.
-fn side_after(side: Side, flips: bool) -> Side
+pub(crate) fn side_after(side: Side, flips: bool) -> Side
     ensures { result ≡ turned_side flips side }
 {
     if flips { side.other() } else { side }
