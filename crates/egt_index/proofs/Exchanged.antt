@@ -12,6 +12,7 @@ use Rattle.egt_board.specs.Placement.{Placement}
 use Rattle.egt_board.specs.Turned.{turned_man}
 use Rattle.egt_class.specs.Below.{all_below, passes_below}
 use Rattle.egt_class.specs.Material.{material_of, materials, has_equal_sides}
+use Rattle.egt_index.specs.Scales.{IsOn}
 use Rattle.egt_index.specs.Size.{men_beside}
 use Rattle.egt_index.specs.Stood.{Entry, men_among, list_of, AllStand, IsFilled, Stood, on_square_of}
 use Rattle.egt_index.specs.declared.stand.Stand.{Stand}
@@ -78,6 +79,25 @@ men_exchanged None (Some d) = refl
 men_exchanged (Some e) None = refl
 men_exchanged (Some e) (Some d) = refl
 
+-- the men beside the kings of those
+pair_stood : (c : ℕ) (flips : Bool) (men : Placement) (stand : Stand) → c < 36 → has_equal_sides c ≡ true → Stood c flips men (list_of stand) → is_pair (men_among (option_to_list stand.next ++ option_to_list stand.last)) ≡ true
+pair_stood c flips men stand c_in equal stood = ap is_pair (tails stood.are) ∙ pair_there c c_in equal
+  where
+    tails : {a b : Man} {x y : List Man} → a ∷ b ∷ x ≡ a ∷ b ∷ y → x ≡ y
+    tails e = cc
+
+on_exchanged : (x y : Entry) (n l : ℕ) → is_pair (men_among (option_to_list x ++ option_to_list y)) ≡ true → IsOn x n → IsOn y l → IsOn (on_square_of x y) l × IsOn (on_square_of y x) n
+unfolding is_pair
+on_exchanged None None n l pair on_n on_l = (tt, tt)
+on_exchanged None (Some d) n l pair on_n on_l = absurd (false≢true pair)
+on_exchanged (Some e) None n l pair on_n on_l = absurd (false≢true pair)
+on_exchanged (Some e) (Some d) n l pair on_n on_l = (on_l, on_n)
+
+-- stand on the squares of one another
+pub others_on : (c : ℕ) (flips : Bool) (men : Placement) (stand : Stand) (n l : ℕ) → c < 36 → has_equal_sides c ≡ true → Stood c flips men (list_of stand) → IsOn stand.next n → IsOn stand.last l
+    → IsOn (on_square_of stand.next stand.last) l × IsOn (on_square_of stand.last stand.next) n
+others_on c flips men stand n l c_in equal stood next last = on_exchanged stand.next stand.last n l (pair_stood c flips men stand c_in equal stood) next last
+
 pub stood_exchanged : (c : ℕ) (flips : Bool) (men : Placement) (stand other : Stand) → c < 36 → has_equal_sides c ≡ true → other.white ≡ stand.black → other.black ≡ stand.white
     → other.next ≡ on_square_of stand.next stand.last → other.last ≡ on_square_of stand.last stand.next → Stood c flips men (list_of stand) → Stood c (not flips) men (list_of other)
 stood_exchanged c flips men stand other c_in equal white black next last stood = record {
@@ -87,14 +107,8 @@ stood_exchanged c flips men stand other c_in equal white black next last stood =
       (subst (λ b. AllStand (not flips) men ((king_of White, stand.black) ∷ (king_of Black, b) ∷ (option_to_list other.next ++ option_to_list other.last))) (sym black)
       (subst (λ (x : Entry). AllStand (not flips) men ((king_of White, stand.black) ∷ (king_of Black, stand.white) ∷ (option_to_list x ++ option_to_list other.last))) (sym next)
       (subst (λ (y : Entry). AllStand (not flips) men ((king_of White, stand.black) ∷ (king_of Black, stand.white) ∷ (option_to_list (on_square_of stand.next stand.last) ++ option_to_list y))) (sym last)
-      (all_exchanged flips men stand.white stand.black stand.next stand.last pair stood.all))));
+      (all_exchanged flips men stand.white stand.black stand.next stand.last (pair_stood c flips men stand c_in equal stood) stood.all))));
 }
-  where
-    tails : {a b : Man} {x y : List Man} → a ∷ b ∷ x ≡ a ∷ b ∷ y → x ≡ y
-    tails e = cc
-
-    pair : is_pair (men_among (option_to_list stand.next ++ option_to_list stand.last)) ≡ true
-    pair = ap is_pair (tails stood.are) ∙ pair_there c c_in equal
 
 filled_both : (x y : Entry) → (x ≡ None → y ≡ None) → on_square_of x y ≡ None → on_square_of y x ≡ None
 filled_both None None filled none = refl

@@ -1,5 +1,5 @@
 -- The code after one man of a class went, as what the others add and what he adds.
-use Rattle.std.proofs.Common.{◌≡◌, ◌≢◌, ℕ, ◌+◌, ◌-◌, ◌*◌, ◌/◌, ◌%◌, ◌<◌, min, max, Bool, true, false, cond, eqb, List, [], ◌∷◌, ◌++◌, Option, Some, None, IfSome, arith, refl, sym, ap, ◌∙◌, inl, inr, subst}
+use Rattle.std.proofs.Common.{◌≡◌, ◌≢◌, ℕ, ◌+◌, ◌-◌, ◌*◌, ◌/◌, ◌%◌, ◌<◌, min, max, Bool, true, false, cond, eqb, List, [], ◌∷◌, ◌++◌, Option, Some, None, arith, refl, sym, ap, ◌∙◌, inl, inr, subst}
 use Rattle.std.specs.Option.{option_map, option_to_list}
 use Rattle.std.proofs.lemmas.Bool.{cases_lt, false≢true}
 use Rattle.egt_board.specs.declared.man.Man.{Man}
@@ -12,20 +12,18 @@ use Rattle.egt_class.specs.Material.{material_of}
 use Rattle.egt_index.specs.Code.{king_square}
 use Rattle.egt_index.specs.Facts.{Facts}
 use Rattle.egt_index.specs.Home.{AreHome, LeastWith}
-use Rattle.egt_index.specs.Lanes.{moved_square, moved_entry, IsWent, IsLane, AreLanes, turn_of}
+use Rattle.egt_index.specs.Frame.{IsMoved}
 use Rattle.egt_index.specs.Scales.{share, code_by, man_at, AreScales, IsOn, AreEqual}
 use Rattle.egt_index.specs.Size.{king_base, has_pawns}
-use Rattle.egt_index.specs.Stood.{Entry, HasStand, IsFilled, IsOrdered, IsInOrder, IsTurned, entry_after, IsOff, AllStand, AllApart, list_of}
+use Rattle.egt_index.specs.Stood.{Entry, HasStand, IsFilled, IsOrdered, IsInOrder, IsTurned, entry_after, IsOff, AllStand, AllApart}
 use Rattle.egt_index.specs.Turns.{CodeAfter, lesser}
-use Rattle.egt_index.specs.Ways.{code_with, other_square, IsThere, IsMover, IsGoer, IsSingle, IsOneOfTwo, IsPaired, ComesHome, IsHoming, IsKingOn}
-use Rattle.egt_index.specs.declared.lanes.Lane.{Lane}
-use Rattle.egt_index.specs.declared.lanes.Lanes.{Lanes}
+use Rattle.egt_index.specs.Ways.{code_with, other_square, IsThere, IsMover, IsGoer, IsSeen, IsSingle, IsOneOfTwo, IsPaired, ComesHome, IsHoming}
+use Rattle.egt_index.specs.Went.{moved_square, moved_entry, IsWent}
 use Rattle.egt_index.specs.declared.scales.Scale.{Scale}
 use Rattle.egt_index.specs.declared.scales.Scales.{Scales}
 use Rattle.egt_index.specs.declared.scales.Squares.{Squares}
 use Rattle.egt_index.specs.declared.stand.Stand.{Stand}
 use Rattle.egt_index.specs.declared.ways.Homing.{Homing}
-use Rattle.egt_index.specs.declared.ways.KingWay.{KingWay}
 use Rattle.egt_index.specs.declared.ways.Mover.{Mover}
 use Rattle.egt_index.specs.declared.ways.Mover.TheVariants.{Black, Next, Last, Nobody}
 use Rattle.egt_index.proofs.Best.{king_after, none_after}
@@ -321,64 +319,31 @@ told_both {L} code c flips q a b x y ax by least =
     subst (λ (o : Option L). LeastWith c q flips (lesser (option_map code o) (option_map code y))) ax
     (subst (λ (o : Option L). LeastWith c q flips (lesser (option_map code a) (option_map code o))) by least)
 
--- what a lane tells of a position in which a man went
-abbrev pub IsAlong : ℕ → ℕ → ℕ → Setup → Stand → Stand → Side → Scales → Bool → Mover → Lane → Option ℕ → Type 0
-IsAlong c from to q before after side scales pawns mover lane code =
-    lane.turn < 16 → IsGoer c (eqb (lane.turn / 8) 1) before from side scales pawns mover → IsLane before lane → IsWent c (eqb (lane.turn / 8) 1) before after from to side q → KeepsPlay (lane.turn % 8) q.men → CodeAfter c q lane.turn code
+-- what a turn makes of a position in which a man went
+abbrev pub IsAlong : ℕ → ℕ → ℕ → Setup → Stand → Stand → Side → Scales → Bool → Mover → ℕ → Option ℕ → Type 0
+IsAlong c from to q before after side scales pawns mover t code =
+    IsGoer c (eqb (t / 8) 1) before from side scales pawns mover → IsWent c (eqb (t / 8) 1) before after from to side q → KeepsPlay (t % 8) q.men → CodeAfter c q t code
 
-abbrev pub IsAlongToo : ℕ → ℕ → ℕ → Setup → Stand → Stand → Side → Scales → Bool → Mover → Option Lane → Option ℕ → Type 0
+abbrev pub IsAlongToo : ℕ → ℕ → ℕ → Setup → Stand → Stand → Side → Scales → Bool → Mover → Option ℕ → Option ℕ → Type 0
 IsAlongToo c from to q before after side scales pawns mover None code = code ≡ None
-IsAlongToo c from to q before after side scales pawns mover (Some lane) code = IsAlong c from to q before after side scales pawns mover lane code
+IsAlongToo c from to q before after side scales pawns mover (Some t) code = IsAlong c from to q before after side scales pawns mover t code
 
--- the least code along the lanes
-pub least_lanes : Facts → (c from to : ℕ) (flips : Bool) (q : Setup) (before after : Stand) (side : Side) (scales : Scales) (pawns : Bool) (mover : Mover) (lanes : Lanes) (second : Option Lane) (a b : Option ℕ)
-    → AreLanes c flips before lanes → lanes.second ≡ second → IsGoer c flips before from side scales pawns mover → IsWent c flips before after from to side q
-    → IsAlong c from to q before after side scales pawns mover lanes.first a → IsAlongToo c from to q before after side scales pawns mover second b → LeastWith c q flips (lesser a b)
-least_lanes facts c from to flips q before after side scales pawns mover lanes second a b are second_is goer gone one two =
-    least_home facts c flips q after side lanes.first.turn (turn_of second) a b gone.stand home
-    (λ t_in flips_is keeps. one t_in (as_goer lanes.first.turn flips_is) are.first (as_gone lanes.first.turn flips_is) keeps)
-    (too second (subst (λ (o : Option Lane). IfSome o (IsLane before)) second_is are.second) two)
+-- the least code of the turns that bring the white king home, who stays
+pub least_stayed : Facts → (c from to : ℕ) (flips : Bool) (q : Setup) (before after : Stand) (side : Side) (scales : Scales) (pawns : Bool) (mover : Mover) (first : ℕ) (second a b : Option ℕ)
+    → AreHome (has_pawns (material_of c)) flips before.white first second → IsGoer c flips before from side scales pawns mover → IsWent c flips before after from to side q
+    → IsAlong c from to q before after side scales pawns mover first a → IsAlongToo c from to q before after side scales pawns mover second b → LeastWith c q flips (lesser a b)
+least_stayed facts c from to flips q before after side scales pawns mover first second a b home goer gone one two =
+    least_home facts c flips q after side first second a b gone.stand
+    (subst (λ s. AreHome (has_pawns (material_of c)) flips s first second) (sym (gone.moved.white ∙ stayed from to before.white goer.white)) home)
+    (coded first a one) (too second two)
   where
-    home : AreHome (has_pawns (material_of c)) flips after.white lanes.first.turn (turn_of second)
-    home =
-        subst (λ (o : Option Lane). AreHome (has_pawns (material_of c)) flips after.white lanes.first.turn (turn_of o)) second_is
-        (subst (λ s. AreHome (has_pawns (material_of c)) flips s lanes.first.turn (turn_of lanes.second)) (sym (gone.moved.white ∙ stayed from to before.white goer.white)) are.home)
+    coded : (t : ℕ) (o : Option ℕ) → IsAlong c from to q before after side scales pawns mover t o → IsCoded c flips q t o
+    coded t o along t_in flips_is keeps =
+        along (subst (λ f. IsGoer c f before from side scales pawns mover) (sym flips_is) goer) (subst (λ f. IsWent c f before after from to side q) (sym flips_is) gone) keeps
 
-    as_goer : (t : ℕ) → eqb (t / 8) 1 ≡ flips → IsGoer c (eqb (t / 8) 1) before from side scales pawns mover
-    as_goer t flips_is = subst (λ f. IsGoer c f before from side scales pawns mover) (sym flips_is) goer
-
-    as_gone : (t : ℕ) → eqb (t / 8) 1 ≡ flips → IsWent c (eqb (t / 8) 1) before after from to side q
-    as_gone t flips_is = subst (λ f. IsWent c f before after from to side q) (sym flips_is) gone
-
-    too : (o : Option Lane) → IfSome o (IsLane before) → IsAlongToo c from to q before after side scales pawns mover o b → IsCodedToo c flips q (turn_of o) b
-    too None lane none = none
-    too (Some l) lane along = λ t_in flips_is keeps. along t_in (as_goer l.turn flips_is) lane (as_gone l.turn flips_is) keeps
-
--- the king went, and the others stand where they stood
-pub king_on : (c from to : ℕ) (flips : Bool) (q : Setup) (before after : Stand) (side : Side) (way : KingWay) → before.white ≡ from → IsFilled before → AllApart (list_of before) → IsWent c flips before after from to side q
-    → way.squares.black ≡ before.black → IsOn before.next way.squares.next → IsOn before.last way.squares.last → way.class ≡ c → way.side ≡ turned_side flips side → way.flips ≡ flips → IsKingOn c flips way to q
-king_on c from to flips q before after side way king filled apart gone black next last class_is side_is flips_is = record {
-  after = after;
-  side = side;
-  stand = gone.stand;
-  filled = λ none. last_kept ∙ filled (sym next_kept ∙ none);
-  white = gone.moved.white ∙ went from to before.white king;
-  black = gone.moved.black ∙ stayed from to before.black (λ same. apart.0.0 (same ∙ sym king)) ∙ sym black;
-  next = subst (λ (e : Entry). IsOn e way.squares.next) (sym next_kept) next;
-  last = subst (λ (e : Entry). IsOn e way.squares.last) (sym last_kept) last;
-  class_is = class_is;
-  side_is = side_is;
-  flips_is = flips_is;
-}
-  where
-    offs : IsOff (option_to_list before.next) from × IsOff (option_to_list before.last) from
-    offs = off_both before.next before.last from (subst (IsOff (option_to_list before.next ++ option_to_list before.last)) king apart.0.1)
-
-    next_kept : after.next ≡ before.next
-    next_kept = gone.moved.next ∙ entry_off from to before.next offs.0
-
-    last_kept : after.last ≡ before.last
-    last_kept = gone.moved.last ∙ entry_off from to before.last offs.1
+    too : (t : Option ℕ) → IsAlongToo c from to q before after side scales pawns mover t b → IsCodedToo c flips q t b
+    too None none = none
+    too (Some t) along = coded t b along
 
 -- whom the turns bring home
 pub comes_home : (c to : ℕ) (flips : Bool) (q : Setup) (after : Stand) (side : Side) (squares : Squares) (homing : Homing) → HasStand c flips after side false q → IsFilled after → after.white ≡ to
@@ -397,21 +362,44 @@ comes_home c to flips q after side squares homing has filled white black next la
   paired = is.paired after has.stood.are filled;
 }
 
-pub king_comes_home : (c to : ℕ) (flips : Bool) (q : Setup) (way : KingWay) (homing : Homing) → IsKingOn c flips way to q → IsHoming way.class way.squares way.side way.flips homing → ComesHome c flips homing to q
-king_comes_home c to flips q way homing on is =
-    comes_home c to flips q on.after on.side way.squares homing on.stand on.filled on.white on.black on.next on.last
-    (subst (λ k. IsHoming k way.squares (turned_side flips on.side) flips homing) on.class_is
-    (subst (λ (s : Side). IsHoming way.class way.squares s flips homing) on.side_is
-    (subst (λ f. IsHoming way.class way.squares way.side f homing) on.flips_is is)))
+-- the king went, and the others stand where they stood
+pub king_went : (c to : ℕ) (flips : Bool) (p q : Setup) (before : Stand) (side : Side) (squares : Squares) (homing : Homing) → IsSeen c flips p before before.white side → IsMoved c p before.white to q
+    → squares.black ≡ before.black → IsOn before.next squares.next → IsOn before.last squares.last → IsHoming c squares (turned_side flips side) flips homing → ComesHome c flips homing to q
+king_went c to flips p q before side squares homing seen moved black next last is =
+    comes_home c to flips q after side squares homing gone.stand (λ none. last_kept ∙ seen.filled (sym next_kept ∙ none))
+    (gone.moved.white ∙ went before.white to before.white refl)
+    (gone.moved.black ∙ stayed before.white to before.black seen.apart.0.0 ∙ sym black)
+    (subst (λ (e : Entry). IsOn e squares.next) (sym next_kept) next)
+    (subst (λ (e : Entry). IsOn e squares.last) (sym last_kept) last) is
+  where
+    after : Stand
+    after = (seen.goes to q moved).0
+
+    gone : IsWent c flips before after before.white to side q
+    gone = (seen.goes to q moved).1
+
+    offs : IsOff (option_to_list before.next) before.white × IsOff (option_to_list before.last) before.white
+    offs = off_both before.next before.last before.white seen.apart.0.1
+
+    next_kept : after.next ≡ before.next
+    next_kept = gone.moved.next ∙ entry_off before.white to before.next offs.0
+
+    last_kept : after.last ≡ before.last
+    last_kept = gone.moved.last ∙ entry_off before.white to before.last offs.1
+
+-- where a turn takes the men
+abbrev pub lane : ℕ → Stand → Stand
+lane t s = record {
+  white = turned_square (t % 8) (eqb (t / 8) 1) s.white;
+  black = turned_square (t % 8) (eqb (t / 8) 1) s.black;
+  next = entry_after (t % 8) (eqb (t / 8) 1) s.next;
+  last = entry_after (t % 8) (eqb (t / 8) 1) s.last;
+}
+
+pub is_lane : (t : ℕ) (s : Stand) → IsTurned (t % 8) (eqb (t / 8) 1) s (lane t s)
+is_lane t s = record { white = refl; black = refl; next = refl; last = refl }
 
 -- men who stand, each on a square of his own
 pub all_apart : (flips : Bool) (men : Placement) (list : List (Man × ℕ)) → AllStand flips men list → AllApart list
 all_apart flips men [] all = tt
 all_apart flips men (e ∷ list) all = (all.2, all_apart flips men list all.3)
-
-pub stand_same : (a b : Stand) → a.white ≡ b.white → a.black ≡ b.black → a.next ≡ b.next → a.last ≡ b.last → a ≡ b
-stand_same a b white black next last =
-    ap (λ w. stand w a.black a.next a.last) white ∙ ap (λ k. stand b.white k a.next a.last) black ∙ ap (λ (x : Entry). stand b.white b.black x a.last) next ∙ ap (λ (y : Entry). stand b.white b.black b.next y) last
-  where
-    stand : ℕ → ℕ → Entry → Entry → Stand
-    stand w k x y = record { white = w; black = k; next = x; last = y }

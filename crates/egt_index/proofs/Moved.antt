@@ -1,5 +1,5 @@
 -- The men of a class after one of them went to a free square.
-use Rattle.std.proofs.Common.{◌≡◌, ◌≢◌, ℕ, ◌<◌, not, Bool, true, false, List, [], ◌∷◌, ◌++◌, map, Option, Some, None, IfSome, refl, sym, ap, ◌∙◌, inl, inr, subst}
+use Rattle.std.proofs.Common.{◌≡◌, ◌≢◌, ℕ, ◌<◌, Bool, true, false, List, [], ◌∷◌, ◌++◌, map, Option, Some, None, IfSome, refl, sym, ap, ◌∙◌, inl, inr, subst}
 use Rattle.std.specs.Option.{option_to_list, is_some}
 use Rattle.std.specs.FinMap as placement
 use Rattle.std.proofs.lemmas.Bool.{cases_eq}
@@ -15,11 +15,10 @@ use Rattle.egt_board.specs.Setup.{Setup, IsAdmissible}
 use Rattle.egt_board.specs.Turned.{turned_man}
 use Rattle.egt_class.specs.Material.{has_equal_sides}
 use Rattle.egt_index.specs.Facts.{Facts}
-use Rattle.egt_index.specs.Frame.{IsMoved, IsFrame, AreExchangedLanes}
-use Rattle.egt_index.specs.Lanes.{moved_square, moved_entry, IsMovedStand, AreOnBoard, IsWent}
+use Rattle.egt_index.specs.Frame.{IsMoved, IsFrame}
+use Rattle.egt_index.specs.Went.{moved_square, moved_entry, IsMovedStand, AreOnBoard, IsWent}
 use Rattle.egt_index.specs.Stood.{Entry, men_among, IsOff, AllStand, Stood, HasStand, list_of, on_square_of}
 use Rattle.egt_index.specs.declared.frame.Frame.{Frame}
-use Rattle.egt_index.specs.declared.lanes.Lanes.{Lanes}
 use Rattle.egt_index.specs.declared.stand.Stand.{Stand}
 use Rattle.egt_index.proofs.Carried.{went, stayed}
 use Rattle.egt_index.proofs.Exchanged.{stood_exchanged}
@@ -191,37 +190,38 @@ module _ (facts : Facts) (p q : Setup) (from to : ℕ) (frame : Frame) (side : S
   abbrev after : Stand
   after = after_of from to frame.stand
 
-  has : HasStand frame.class frame.flipped after side false q
-  has = stand_moved frame.class frame.flipped is.passed p q from to frame.stand after frame.side side is.stand moved settled side_is (is_after from to frame.stand)
+  has : HasStand frame.class false after side false q
+  has = stand_moved frame.class false is.passed p q from to frame.stand after frame.side side is.stand moved settled side_is (is_after from to frame.stand)
 
   from_in : IsAdmissible p → from < 64
   from_in ok = ok.on_board from moved.man moved.stands
 
-  pub went_own : IsWent frame.class frame.flipped frame.stand after from to side q
+  pub went_own : IsWent frame.class false frame.stand after from to side q
   went_own = record {
     from_in = from_in is.stand.admissible;
-    on_board = on_board_of frame.class frame.flipped is.passed p frame.stand frame.side is.stand;
+    on_board = on_board_of frame.class false is.passed p frame.stand frame.side is.stand;
     moved = is_after from to frame.stand;
     stand = has;
   }
 
-  pub went_exchanged : (lanes : Lanes) → has_equal_sides frame.class ≡ true → (e : AreExchangedLanes frame.class frame.flipped frame.stand lanes) → IsWent frame.class (not frame.flipped) e.exchanged (exchange after) from to side q
-  went_exchanged lanes equal e = record {
+  pub went_exchanged : (other : Stand) → has_equal_sides frame.class ≡ true → other.white ≡ frame.stand.black → other.black ≡ frame.stand.white
+      → other.next ≡ on_square_of frame.stand.next frame.stand.last → other.last ≡ on_square_of frame.stand.last frame.stand.next → IsWent frame.class true other (exchange after) from to side q
+  went_exchanged other equal white black next last = record {
     from_in = from_in is.stand.admissible;
-    on_board = on_board_of frame.class (not frame.flipped) is.passed p e.exchanged frame.side (record {
+    on_board = on_board_of frame.class true is.passed p other frame.side (record {
       admissible = is.stand.admissible;
       settled = is.stand.settled;
-      is_of = facts.both_flips p frame.class frame.flipped (not frame.flipped) c_in equal is.stand.is_of;
-      stood = stood_exchanged frame.class frame.flipped p.men frame.stand e.exchanged c_in equal e.white e.black e.next e.last is.stand.stood;
+      is_of = facts.both_flips p frame.class false true c_in equal is.stand.is_of;
+      stood = stood_exchanged frame.class false p.men frame.stand other c_in equal white black next last is.stand.stood;
       side_is = is.stand.side_is;
       target_is = is.stand.target_is;
     });
-    moved = exchanged_moved from to frame.stand after e.exchanged (is_after from to frame.stand) e.white e.black e.next e.last;
+    moved = exchanged_moved from to frame.stand after other (is_after from to frame.stand) white black next last;
     stand = record {
       admissible = has.admissible;
       settled = has.settled;
-      is_of = facts.both_flips q frame.class frame.flipped (not frame.flipped) c_in equal has.is_of;
-      stood = stood_exchanged frame.class frame.flipped q.men after (exchange after) c_in equal refl refl refl refl has.stood;
+      is_of = facts.both_flips q frame.class false true c_in equal has.is_of;
+      stood = stood_exchanged frame.class false q.men after (exchange after) c_in equal refl refl refl refl has.stood;
       side_is = has.side_is;
       target_is = has.target_is;
     };

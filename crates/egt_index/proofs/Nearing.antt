@@ -11,13 +11,10 @@ use Rattle.egt_class.specs.Material.{material_of, has_equal_sides}
 use Rattle.egt_index.specs.Code.{Spells}
 use Rattle.egt_index.specs.Facts.{Facts}
 use Rattle.egt_index.specs.Home.{IsTurnWith, BringsHome, AreHome, LeastWith}
-use Rattle.egt_index.specs.Lanes.{IsLane, AreLanes, turn_of}
 use Rattle.egt_index.specs.Nearer.{KingsHome, AreNearest, KingsTell}
 use Rattle.egt_index.specs.Size.{has_pawns}
 use Rattle.egt_index.specs.Stood.{HasStand}
 use Rattle.egt_index.specs.Turns.{IsTurn, Best}
-use Rattle.egt_index.specs.declared.lanes.Lane.{Lane}
-use Rattle.egt_index.specs.declared.lanes.Lanes.{Lanes}
 use Rattle.egt_index.specs.declared.stand.Stand.{Stand}
 use Rattle.egt_index.proofs.Beating.{spelled_home, stands_after, kings_less, has_exchanged}
 use Rattle.egt_index.proofs.LeastTurn.{keeps_play, none_away}
@@ -126,28 +123,26 @@ told_other true false = inl refl
 told_other false true = inl refl
 told_other false false = inr refl
 
--- the kings along a lane stand where its turn takes kings that stand on the same squares
-along : (before stand : Stand) (lane : Lane) → IsLane before lane → stand.white ≡ before.white → stand.black ≡ before.black → kings_after stand lane.turn ≡ 64 * lane.after.white + lane.after.black
-along before stand lane is white black =
-    ap (λ w. 64 * w + turned_square (lane.turn % 8) (eqb (lane.turn / 8) 1) stand.black) (ap (turned_square (lane.turn % 8) (eqb (lane.turn / 8) 1)) white ∙ sym is.white)
-    ∙ ap (λ b. 64 * lane.after.white + b) (ap (turned_square (lane.turn % 8) (eqb (lane.turn / 8) 1)) black ∙ sym is.black)
+-- kings on the same squares come to the same
+same_kings : (stand : Stand) (t white black : ℕ) → stand.white ≡ white → stand.black ≡ black → kings_after stand t ≡ 64 * turned_square (t % 8) (eqb (t / 8) 1) white + turned_square (t % 8) (eqb (t / 8) 1) black
+same_kings stand t white black white_is black_is =
+    ap (λ w. 64 * turned_square (t % 8) (eqb (t / 8) 1) w + turned_square (t % 8) (eqb (t / 8) 1) stand.black) white_is
+    ∙ ap (λ b. 64 * turned_square (t % 8) (eqb (t / 8) 1) white + turned_square (t % 8) (eqb (t / 8) 1) b) black_is
 
--- where one lane goes home, or two do
-pub nearest_of_one : Facts → (c : ℕ) (flips : Bool) (before : Stand) (lanes : Lanes) → c < 36 → AreLanes c flips before lanes → lanes.second ≡ None → AreNearest c flips before.white before.black (64 * lanes.first.after.white + lanes.first.after.black)
-nearest_of_one facts c flips before lanes c_in are none stand side passed p white black has =
-    subst (KingsHome c p flips) (along before stand lanes.first are.first white black)
-    (kings_of_one facts c flips stand side passed p lanes.first.turn c_in has
-    (subst (λ w. AreHome (has_pawns (material_of c)) flips w lanes.first.turn None) (sym white)
-    (subst (λ (o : Option Lane). AreHome (has_pawns (material_of c)) flips before.white lanes.first.turn (turn_of o)) none are.home)))
+-- where one turn brings the white king home, or two do
+pub nearest_of_one : Facts → (c : ℕ) (flips : Bool) (white black first kings : ℕ) → c < 36 → AreHome (has_pawns (material_of c)) flips white first None
+    → kings ≡ 64 * turned_square (first % 8) (eqb (first / 8) 1) white + turned_square (first % 8) (eqb (first / 8) 1) black → AreNearest c flips white black kings
+nearest_of_one facts c flips white black first kings c_in home kings_is stand side passed p white_is black_is has =
+    subst (KingsHome c p flips) (same_kings stand first white black white_is black_is ∙ sym kings_is)
+    (kings_of_one facts c flips stand side passed p first c_in has (subst (λ w. AreHome (has_pawns (material_of c)) flips w first None) (sym white_is) home))
 
-pub nearest_of_two : Facts → (c : ℕ) (flips : Bool) (before : Stand) (lanes : Lanes) (second : Lane) → c < 36 → AreLanes c flips before lanes → lanes.second ≡ Some second
-    → AreNearest c flips before.white before.black (min (64 * lanes.first.after.white + lanes.first.after.black) (64 * second.after.white + second.after.black))
-nearest_of_two facts c flips before lanes second c_in are some stand side passed p white black has =
-    subst (λ k. KingsHome c p flips (min k (64 * second.after.white + second.after.black))) (along before stand lanes.first are.first white black)
-    (subst (λ k. KingsHome c p flips (min (kings_after stand lanes.first.turn) k)) (along before stand second (subst (λ (o : Option Lane). IfSome o (IsLane before)) some are.second) white black)
-    (kings_of_two facts c flips stand side passed p lanes.first.turn second.turn c_in has
-    (subst (λ w. AreHome (has_pawns (material_of c)) flips w lanes.first.turn (Some second.turn)) (sym white)
-    (subst (λ (o : Option Lane). AreHome (has_pawns (material_of c)) flips before.white lanes.first.turn (turn_of o)) some are.home))))
+pub nearest_of_two : Facts → (c : ℕ) (flips : Bool) (white black first second kings : ℕ) → c < 36 → AreHome (has_pawns (material_of c)) flips white first (Some second)
+    → kings ≡ 64 * turned_square (first % 8) (eqb (first / 8) 1) white + turned_square (first % 8) (eqb (first / 8) 1) black
+    → AreNearest c flips white black (min kings (64 * turned_square (second % 8) (eqb (second / 8) 1) white + turned_square (second % 8) (eqb (second / 8) 1) black))
+nearest_of_two facts c flips white black first second kings c_in home kings_is stand side passed p white_is black_is has =
+    subst (λ k. KingsHome c p flips (min k (64 * turned_square (second % 8) (eqb (second / 8) 1) white + turned_square (second % 8) (eqb (second / 8) 1) black))) (same_kings stand first white black white_is black_is ∙ sym kings_is)
+    (subst (λ k. KingsHome c p flips (min (kings_after stand first) k)) (same_kings stand second white black white_is black_is)
+    (kings_of_two facts c flips stand side passed p first second c_in has (subst (λ w. AreHome (has_pawns (material_of c)) flips w first (Some second)) (sym white_is) home)))
 
 -- kings that come to lesser squares in the one colours than in the others tell in which the least code is
 pub nearer_tell : Facts → (c : ℕ) (flips others : Bool) (white black k l : ℕ) → c < 36 → has_equal_sides c ≡ true → not flips ≡ others → AreNearest c flips white black k → AreNearest c others black white l → k < l → KingsTell c flips white black

@@ -12,12 +12,13 @@ use Rattle.egt_board.specs.Settled.{IsSettled}
 use Rattle.egt_board.specs.Setup.{Setup}
 use Rattle.egt_class.specs.Material.{Material, material_of}
 use Rattle.egt_index.specs.Beaten.{SpellsAt}
-use Rattle.egt_index.specs.Code.{Spells}
-use Rattle.egt_index.specs.Digits.{number_from}
+use Rattle.egt_index.specs.Code.{Spells, men_at}
+use Rattle.egt_index.specs.Digits.{number_from, AreDigits}
 use Rattle.egt_index.specs.Frame.{IsFrame}
+use Rattle.egt_index.specs.Home.{IsAtHome}
 use Rattle.egt_index.specs.Row.{row_len, IsInRow, IsRowFrame, IsVoidRow}
 use Rattle.egt_index.specs.Scales.{ends_of}
-use Rattle.egt_index.specs.Size.{has_target}
+use Rattle.egt_index.specs.Size.{has_pawns, has_target, men_bases}
 use Rattle.egt_index.specs.Spelled.{Ends, SpellsMen, SpellsNoMen}
 use Rattle.egt_index.specs.Stood.{AllApart, HasStand, Stood, list_of}
 use Rattle.egt_index.specs.declared.frame.Frame.{Frame}
@@ -106,7 +107,7 @@ module _ (c n code : ℕ) (stand : Stand) (p : Setup) (row : code / row_len c �
 
 -- the frame of one position of a row, with the other's side to move
 abbrev pub turned_to : Side → Frame → Frame
-turned_to side frame = record { class = frame.class; flipped = frame.flipped; side = side; stand = frame.stand; own = frame.own; exchanged = frame.exchanged; nearer = frame.nearer }
+turned_to side frame = record { class = frame.class; side = side; stand = frame.stand; alone = frame.alone; nearer = frame.nearer }
 
 pub frame_turned : (c : ℕ) (stand : Stand) (p : Setup) (frame : Frame) → IsRowFrame c stand frame → IsInRow c stand p → IsFrame p (turned_to p.side frame)
 frame_turned c stand p frame row here = record {
@@ -115,19 +116,30 @@ frame_turned c stand p frame row here = record {
     admissible = here.stands.admissible;
     settled = here.stands.settled;
     is_of = record { men = λ man. ap (λ (men : Placement). count_of men man) same ∙ there.is_of.men man };
-    stood = subst (λ (men : Placement). Stood frame.class frame.flipped men (list_of frame.stand)) (sym same) there.stood;
+    stood = subst (λ (men : Placement). Stood frame.class false men (list_of frame.stand)) (sym same) there.stood;
     side_is = refl;
     target_is = here.stands.target_is;
   };
   filled = row.is_frame.filled;
-  own = row.is_frame.own;
+  home = row.is_frame.home;
+  alone = row.is_frame.alone;
   equal = row.is_frame.equal;
-  exchanged = row.is_frame.exchanged;
   nearer = row.is_frame.nearer;
 }
   where
-    there : HasStand frame.class frame.flipped frame.stand frame.side row.is_frame.passed row.position
+    there : HasStand frame.class false frame.stand frame.side row.is_frame.passed row.position
     there = row.is_frame.stand
 
     same : p.men ≡ row.position.men
     same = here.men ∙ sym row.in_row.men
+
+-- the white king whom digits spell is at home
+pub home_spelled : (m : Material) (n : ℕ) (stand : Stand) → SpellsMen m n (list_of stand) → IsAtHome (has_pawns m) stand.white
+home_spelled m n stand men = of_digits men.digits men.are men.list_is
+  where
+    heads : {a b : Man × ℕ} {x y : List (Man × ℕ)} → a ∷ x ≡ b ∷ y → a.1 ≡ b.1
+    heads e = cc
+
+    of_digits : (digits : List ℕ) → AreDigits (men_bases m) digits → list_of stand ≡ men_at m digits → IsAtHome (has_pawns m) stand.white
+    of_digits [] are is = absurd are
+    of_digits (d ∷ digits) are is = (d, are.0, sym (heads is))

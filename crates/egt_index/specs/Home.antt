@@ -20,6 +20,10 @@ pub record IsTurnWith (pawns flips : Bool) (t : ℕ) : Type 0 where
 abbrev pub BringsHome : Bool → Bool → ℕ → ℕ → Type 0
 BringsHome pawns flips king t = (d : ℕ) × (d < king_base pawns) × (king_square pawns d ≡ turned_square (t % 8) flips king)
 
+-- the king is there, so that the turn that changes nothing brings him home
+abbrev pub IsAtHome : Bool → ℕ → Type 0
+IsAtHome pawns king = (d : ℕ) × (d < king_base pawns) × (king_square pawns d ≡ king)
+
 -- these one or two turns do so, and no other
 pub record AreHome (pawns flips : Bool) (king first : ℕ) (second : Option ℕ) : Type 0 where
   pub one : IsTurnWith pawns flips first

@@ -1,5 +1,5 @@
 -- The kings of what turns make of a position, which tell between the colours.
-use Rattle.std.specs.Prelude.{◌≡◌, ℕ, ◌+◌, ◌*◌, ◌/◌, ◌<◌, ◌≤◌, ◌==◌, not, Bool, Option}
+use Rattle.std.specs.Prelude.{◌≡◌, ℕ, ◌+◌, ◌*◌, ◌/◌, ◌<◌, ◌≤◌, ◌==◌, Bool, true, false, Option}
 use Rattle.egt_board.specs.declared.man.Side.{Side}
 use Rattle.egt_board.specs.declared.man.Side.TheVariants.{White, Black}
 use Rattle.egt_board.specs.Attack.{king_of}
@@ -43,7 +43,7 @@ KingsTell c flips white black =
     (stand : Stand) (side : Side) (passed : Bool) (p : Setup) (code : Option ℕ) → stand.white ≡ white → stand.black ≡ black → HasStand c flips stand side passed p → LeastWith c p flips code → Best c p 16 code
 
 -- the least code is in these colours, wherever the men beside the kings stand
-abbrev pub IsNearer : ℕ → Bool → Stand → Nearer → Type 0
-IsNearer c flipped stand Own = KingsTell c flipped stand.white stand.black
-IsNearer c flipped stand Exchanged = KingsTell c (not flipped) stand.black stand.white
-IsNearer c flipped stand Both = Unit {0}
+abbrev pub IsNearer : ℕ → Stand → Nearer → Type 0
+IsNearer c stand Own = KingsTell c false stand.white stand.black
+IsNearer c stand Exchanged = KingsTell c true stand.black stand.white
+IsNearer c stand Both = Unit {0}

@@ -7,8 +7,8 @@ use Rattle.egt_board.specs.declared.man.Side.{Side}
 use Rattle.egt_class.specs.Material.{material_of}
 use Rattle.egt_index.specs.Frame.{IsMoved}
 use Rattle.egt_index.specs.Home.{IsTurnWith, LeastWith}
-use Rattle.egt_index.specs.Lanes.{IsWent}
-use Rattle.egt_index.specs.Scales.{share, code_by, man_at, AreScales, IsOn, AreEqual}
+use Rattle.egt_index.specs.Went.{IsWent}
+use Rattle.egt_index.specs.Scales.{share, code_by, man_at, AreScales, ScalesFit, IsOn, AreEqual}
 use Rattle.egt_index.specs.Size.{has_pawns, men_in_order}
 use Rattle.egt_index.specs.Stood.{Entry, HasStand, IsFilled, IsOff, AllApart, list_of, men_among}
 use Rattle.egt_index.specs.declared.scales.Scales.{Scales}
@@ -20,11 +20,15 @@ use Rattle.egt_index.specs.declared.ways.Line.{Line}
 use Rattle.egt_index.specs.declared.ways.Mover.{Mover}
 use Rattle.egt_index.specs.declared.ways.Mover.TheVariants.{Black, Next, Last, Nobody}
 use Rattle.egt_index.specs.declared.ways.Pair.{Pair}
+use Rattle.egt_index.specs.declared.ways.Sum.{Sum}
 use Rattle.egt_index.specs.declared.ways.Way.{Way}
-use Rattle.egt_index.specs.declared.ways.Way.TheVariants.{One, Two, OnePair, TwoPairs, King, Never}
+use Rattle.egt_index.specs.declared.ways.Way.TheVariants.{One, Two, OnePair, TwoPairs, King, Turned, Never}
+
+abbrev pub sum_code : Sum → ℕ → ℕ
+sum_code sum to = sum.rest + share sum.scale to
 
 abbrev pub line_code : Line → ℕ → ℕ
-line_code line to = line.rest + share line.scale (turned_square (line.turn % 8) (line.turn / 8 == 1) to)
+line_code line to = sum_code line.sum (turned_square (line.turn % 8) (line.turn / 8 == 1) to)
 
 abbrev pub pair_code : Pair → ℕ → ℕ
 pair_code pair to =
@@ -32,10 +36,13 @@ pair_code pair to =
     + share pair.last (max (turned_square (pair.turn % 8) (pair.turn / 8 == 1) to) pair.other)
 
 -- its sums are none past what a code holds
+pub record SumFits (sum : Sum) : Type 0 where
+  pub stride : sum.scale.stride ≤ 1048576
+  pub rest : sum.rest ≤ 1073741824
+
 pub record LineFits (line : Line) : Type 0 where
   pub turn : line.turn < 16
-  pub stride : line.scale.stride ≤ 1048576
-  pub rest : line.rest ≤ 1073741824
+  pub sum : SumFits line.sum
 
 pub record PairFits (pair : Pair) : Type 0 where
   pub turn : pair.turn < 16
@@ -84,37 +91,20 @@ squares_after t squares = record {
   last = turned_square (t % 8) (t / 8 == 1) squares.last;
 }
 
--- how the king counts, and what the others add after that turn
-pub record KingWayFits (way : KingWay) : Type 0 where
-  pub homing : Homing
-  pub is : IsHoming way.class way.squares way.side way.flips homing
-  pub pawns : way.pawns ≡ homing.pawns
-  pub base : IsTurnWith way.pawns way.flips way.base
-  pub king : way.king ≡ homing.scales.king
-  pub rest : way.rest ≡ code_in_order homing.scales 0 (squares_after way.base way.squares) homing.pair
-  pub king_few : way.king ≤ 1048576
+-- the turn exchanges colours as all that bring him home do, and that is what the others add after it
+pub record KingWayFits (base : ℕ) (way : KingWay) : Type 0 where
+  pub scales : ScalesFit way.homing.scales
+  pub base_is : IsTurnWith way.homing.pawns way.homing.flips base
+  pub rest : way.rest ≡ code_in_order way.homing.scales 0 (squares_after base way.homing.squares) way.homing.pair
   pub rest_few : way.rest ≤ 1073741824
-
--- q is the position after the king went to the square, and the others stand so
-pub record IsKingOn (c : ℕ) (flips : Bool) (way : KingWay) (to : ℕ) (q : Setup) : Type 0 where
-  pub after : Stand
-  pub side : Side
-  pub stand : HasStand c flips after side false q
-  pub filled : IsFilled after
-  pub white : after.white ≡ to
-  pub black : after.black ≡ way.squares.black
-  pub next : IsOn after.next way.squares.next
-  pub last : IsOn after.last way.squares.last
-  pub class_is : way.class ≡ c
-  pub side_is : way.side ≡ turned_side flips side
-  pub flips_is : way.flips ≡ flips
 
 abbrev pub WayFits : Way → Type 0
 WayFits (One line) = LineFits line
 WayFits (Two first second) = LineFits first × LineFits second
 WayFits (OnePair pair) = PairFits pair
 WayFits (TwoPairs first second) = PairFits first × PairFits second
-WayFits (King way) = KingWayFits way
+WayFits (King way) = KingWayFits 0 way
+WayFits (Turned king) = KingWayFits king.base king.way
 WayFits Never = Unit {0}
 
 -- wherever the man on `from` in p goes, the way tells the least code of what the turns make of the position then
@@ -123,12 +113,24 @@ Leads c flips p from (One line) = (to : ℕ) (q : Setup) → IsMoved c p from to
 Leads c flips p from (Two first second) = (to : ℕ) (q : Setup) → IsMoved c p from to q → LeastWith c q flips (Some (min (line_code first to) (line_code second to)))
 Leads c flips p from (OnePair pair) = (to : ℕ) (q : Setup) → IsMoved c p from to q → LeastWith c q flips (Some (pair_code pair to))
 Leads c flips p from (TwoPairs first second) = (to : ℕ) (q : Setup) → IsMoved c p from to q → LeastWith c q flips (Some (min (pair_code first to) (pair_code second to)))
-Leads c flips p from (King way) = (to : ℕ) (q : Setup) → IsMoved c p from to q → IsKingOn c flips way to q
+Leads c flips p from (King way) = (to : ℕ) (q : Setup) → IsMoved c p from to q → ComesHome c flips way.homing to q
+Leads c flips p from (Turned king) = (to : ℕ) (q : Setup) → IsMoved c p from to q → ComesHome c flips king.way.homing to q
 Leads c flips p from Never = (to : ℕ) (q : Setup) → IsMoved c p from to q → LeastWith c q flips None
+
+-- the same where one turn in the class's colours alone brings the king home, and changes nothing
+abbrev pub LeadsBy : ℕ → Setup → ℕ → Sum → Type 0
+LeadsBy c p from sum = (to : ℕ) (q : Setup) → IsMoved c p from to q → LeastWith c q false (Some (sum_code sum to))
 
 -- the position in which the man on `from` went is that of these men, one of them on another square
 abbrev pub Goes : ℕ → Bool → Setup → Stand → ℕ → Side → Type 0
 Goes c flips p before from side = (to : ℕ) (q : Setup) → IsMoved c p from to q → (after : Stand) × IsWent c flips before after from to side q
+
+-- the men as the ways of one of them are made of
+pub record IsSeen (c : ℕ) (flips : Bool) (p : Setup) (stand : Stand) (from : ℕ) (side : Side) : Type 0 where
+  pub men : men_among (list_of stand) ≡ men_in_order (material_of c)
+  pub filled : IsFilled stand
+  pub apart : AllApart (list_of stand)
+  pub goes : Goes c flips p stand from side
 
 -- a man stands there
 abbrev pub IsThere : Entry → ℕ → Type 0

@@ -10,8 +10,9 @@ ghost use Rattle.egt_index.specs.declared.beaten.Told.TheVariants.{Beaten, Least
 
 use crate::facts::facts;
 use crate::home::{home, still_home};
-use crate::indexing::{code_after, kings_after, pair};
+use crate::indexing::code_after;
 use crate::men::{has_equal_sides, has_pawns};
+use crate::nearer::{kings_after, pair};
 use crate::stand::{Stand, exchanged, is_behind};
 use egt_board::Side;
 use egt_class::Class;
@@ -93,7 +94,7 @@ fn told_by(class: Class, stand: &Stand, turn: u8, asked: Option<Coded>) -> Told
     facts();
     let _number = class.number();
     let own = kings(stand, turn / 8 == 1);
-    let image = kings_after(stand, turn);
+    let image = kings_after(stand.white, stand.black, turn);
     if image < own {
         return Told::Beaten;
     }

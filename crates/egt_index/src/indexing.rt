@@ -1,41 +1,31 @@
 //! The index of a position.
-ghost use Rattle.std.specs.Prelude.{◌≡◌, ◌+◌, ◌*◌, ◌<◌, ◌%◌, ◌/◌, ◌==◌, Bool, true, false};
+ghost use Rattle.std.specs.Prelude.{◌≡◌, ◌*◌, ◌<◌, ◌%◌, ◌/◌, ◌==◌, Bool, true, false};
 ghost use Rattle.std.specs.Option.{is_some};
 ghost use Rattle.egt_board.specs.Setup.{Setup};
 ghost use Rattle.egt_board.specs.Settled.{SettlesTo};
 ghost use Rattle.egt_board.specs.Symmetry.{KeepsPlay};
-ghost use Rattle.egt_board.specs.Turned.{turned_side, turned_square};
 ghost use Rattle.egt_board.specs.declared.man.Side.{Side};
 ghost use Rattle.egt_class.specs.Material.{material_of, has_equal_sides};
 ghost use Rattle.egt_class.specs.Membership.{IsOf};
 ghost use Rattle.egt_index.specs.Home.{AreHome, LeastWith};
 ghost use Rattle.egt_index.specs.Index.{IsIndex};
-ghost use Rattle.egt_index.specs.Nearer.{KingsHome};
-ghost use Rattle.egt_index.specs.Scales.{ScalesFit};
+ghost use Rattle.egt_index.specs.Scales.{IsOn};
 ghost use Rattle.egt_index.specs.Size.{has_pawns};
 ghost use Rattle.egt_index.specs.Stood.{HasStand, IsFilled, IsStandAfter};
 ghost use Rattle.egt_index.specs.declared.stand.Stand.{Stand};
 ghost use Rattle.egt_index.specs.Turns.{Best, CodeAfter, lesser};
-ghost use Rattle.egt_index.specs.Ways.{ComesHome};
 
 use crate::codes::{number_behind, with_side};
 use crate::digits::king_digit;
 use crate::facts::facts;
-use crate::home::home;
+use crate::home::{Turns, home};
 use crate::men::{has_equal_sides, has_pawns};
-use crate::scales::squares_of;
+use crate::nearer::homeward;
+use crate::scales::{Squares, squares_of};
 use crate::stand::{Stand, exchanged, stand_after, standing_of};
-use crate::turning::turned_square;
-use crate::ways::Homing;
+use crate::ways::{Homing, side_after};
 use egt_board::{Position, Side, Square};
 use egt_class::Class;
-
-/// The side, or the other one where colours are exchanged.
-fn side_after(side: Side, flips: bool) -> Side
-    ensures { result ≡ turned_side flips side }
-{
-    if flips { side.other() } else { side }
-}
 
 /// The least code of what the turn makes of a settled position of the class, if it has one: the turn takes the men where they stand
 /// `after`.
@@ -99,17 +89,24 @@ fn least_with_target(class: Class, stand: &Stand, side: Side, flips: bool) -> Op
     }
 }
 
-/// The white king, whom the turns bring home, and where the others stand.
+/// The same of one without a target, where the white king stands there, these turns bring him home, and the others stand on these squares.
 #[inline(always)]
-fn homing(class: Class, stand: &Stand, side: Side, flips: bool) -> Homing
-    requires { IsFilled stand.now }
-    ensures fit { ScalesFit result.scales }
-    ensures pawns { result.pawns ≡ has_pawns (material_of class) }
-    ensures flips { result.flips ≡ flips }
-    ensures comes { (p : Setup) → HasStand class flips stand.now side false p → ComesHome class flips result stand.now.white p }
+fn least_on(
+    class: Class,
+    white: Square,
+    squares: Squares,
+    side: Side,
+    flips: bool,
+    turns: Turns,
+) -> Option<u32>
+    requires { AreHome (has_pawns (material_of class)) flips white turns.first turns.second }
+    ensures { (p : Setup) (stand : Stand) → HasStand class flips stand side false p → IsFilled stand → stand.white ≡ white → stand.black ≡ squares.black → IsOn stand.next squares.next → IsOn stand.last squares.last →
+        LeastWith class p flips result }
 {
+    facts();
     let _number = class.number();
-    Homing::of(class, squares_of(stand), side_after(side, flips), flips)
+    let homing = Homing::of(class, squares, side_after(side, flips), flips);
+    homing.code_by(turns.first, turns.second, white)
 }
 
 /// The same of either.
@@ -118,80 +115,13 @@ fn least_code(class: Class, stand: &Stand, side: Side, passed: bool, flips: bool
     requires { IsFilled stand.now }
     ensures { (p : Setup) → HasStand class flips stand.now side passed p → LeastWith class p flips result }
 {
-    let (first, second) = home(has_pawns(class), flips, stand.white);
-    least_code_by(class, stand, side, passed, flips, first, second)
-}
-
-/// The same, where these turns bring the white king home.
-#[inline(always)]
-fn least_code_by(
-    class: Class,
-    stand: &Stand,
-    side: Side,
-    passed: bool,
-    flips: bool,
-    first: u8,
-    second: Option<u8>,
-) -> Option<u32>
-    requires filled { IsFilled stand.now }
-    requires home { AreHome (has_pawns (material_of class)) flips stand.now.white first second }
-    ensures { (p : Setup) → HasStand class flips stand.now side passed p → LeastWith class p flips result }
-{
-    let _number = class.number();
     if passed {
         let copy = *stand;
-        least_with_target(class, &copy, side, flips)
-    } else {
-        homing(class, stand, side, flips).code_by(first, second, stand.white)
+        return least_with_target(class, &copy, side, flips);
     }
-}
-
-/// Two squares as a number, in order of the first.
-pub(crate) fn pair(first: Square, second: Square) -> u16
-    ensures { result ≡ 64 * first + second }
-{
-    64 * u16::from(first.number()) + u16::from(second.number())
-}
-
-/// The squares of the kings after the turn, as a number.
-#[inline(always)]
-pub(crate) fn kings_after(stand: &Stand, turn: u8) -> u16
-    requires { turn < 16 }
-    ensures { result ≡ 64 * turned_square (turn % 8) (turn / 8 == 1) stand.now.white + turned_square (turn % 8) (turn / 8 == 1) stand.now.black }
-{
-    pair(
-        turned_square(turn, stand.white),
-        turned_square(turn, stand.black),
-    )
-}
-
-/// The turns that bring the white king home.
-#[derive(Clone, Copy)]
-struct Home {
-    first: u8,
-    second: Option<u8>,
-    /// The squares of the kings after them, as a number: the lesser of two.
-    kings: u16,
-}
-
-/// The turns that exchange colours, or those that do not, and bring the white king home.
-#[inline(always)]
-fn homeward(class: Class, stand: &Stand, flips: bool) -> Home
-    ensures home { AreHome (has_pawns (material_of class)) flips stand.now.white result.first result.second }
-    ensures kings { (side : Side) (passed : Bool) (p : Setup) → HasStand class flips stand.now side passed p → KingsHome class p flips result.kings }
-{
-    facts();
-    let _number = class.number();
     let (first, second) = home(has_pawns(class), flips, stand.white);
-    let kings = kings_after(stand, first);
-    Home {
-        first,
-        second,
-        kings: match second {
-            Some(second) => kings.min(kings_after(stand, second)),
-            None => kings,
-        },
-    }
+    let turns = Turns { first, second };
+    least_on(class, stand.white, squares_of(stand), side, flips, turns)
 }
 
 /// The least code of all images of a settled position of a class whose sides have the same men, with these men, in colours flipped
@@ -231,22 +161,17 @@ fn least_of_colours(
 {
     facts();
     let _number = class.number();
-    let others = exchanged(stand);
-    let own = homeward(class, stand, flipped);
-    let other = homeward(class, &others, !flipped);
-    if own.kings < other.kings {
-        return least_code_by(class, stand, side, passed, flipped, own.first, own.second);
-    }
-    if other.kings < own.kings {
-        return least_code_by(
-            class,
-            &others,
-            side,
-            passed,
-            !flipped,
-            other.first,
-            other.second,
-        );
+    let own = homeward(class, stand.white, stand.black, flipped);
+    let other = homeward(class, stand.black, stand.white, !flipped);
+    if !passed {
+        let squares = squares_of(stand);
+        if own.kings < other.kings {
+            return least_on(class, stand.white, squares, side, flipped, own.turns);
+        }
+        if other.kings < own.kings {
+            let exchanged = squares.exchanged(stand.white);
+            return least_on(class, stand.black, exchanged, side, !flipped, other.turns);
+        }
     }
     let copy = *stand;
     least_of_both(class, &copy, side, passed, flipped)

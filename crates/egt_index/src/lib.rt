@@ -9,7 +9,6 @@ pub mod facts;
 pub mod frame;
 pub mod home;
 pub mod indexing;
-pub mod lanes;
 pub mod laws;
 pub mod men;
 pub mod nearer;

@@ -1,14 +1,18 @@
 //! The colours in which the least code is, as the kings tell: their digits are the highest.
-ghost use Rattle.std.specs.Prelude.{◌≡◌, ℕ, ◌<◌, Bool, true};
-ghost use Rattle.egt_class.specs.Material.{has_equal_sides};
-ghost use Rattle.egt_index.specs.Frame.{AreExchangedLanes};
-ghost use Rattle.egt_index.specs.Lanes.{AreLanes};
+ghost use Rattle.std.specs.Prelude.{◌≡◌, ℕ, ◌+◌, ◌*◌, ◌<◌, ◌/◌, ◌%◌, ◌==◌, Bool, true, false, IfSome};
+ghost use Rattle.egt_board.specs.Turned.{turned_square};
+ghost use Rattle.egt_class.specs.Material.{material_of, has_equal_sides};
+ghost use Rattle.egt_index.specs.Home.{AreHome};
 ghost use Rattle.egt_index.specs.Nearer.{AreNearest, IsNearer};
-ghost use Rattle.egt_index.specs.declared.stand.Stand.{Stand};
+ghost use Rattle.egt_index.specs.Size.{has_pawns};
 
 use crate::facts::facts;
-use crate::indexing::pair;
-use crate::lanes::Lanes;
+use crate::home::{Turns, home};
+use crate::men::has_pawns;
+use crate::stand::Stand;
+use crate::turning::turned_square;
+use egt_board::Square;
+use egt_class::Class;
 
 /// The colours in which the least code is, wherever the men beside the kings stand, in a class whose sides have the same men.
 #[derive(Clone, Copy)]
@@ -21,28 +25,72 @@ pub(crate) enum Nearer {
     Both,
 }
 
-/// The squares of the kings after the turns that bring the white king home, as a number: the lesser of two.
+/// Two squares as a number, in order of the first.
+pub(crate) fn pair(first: Square, second: Square) -> u16
+    ensures { result ≡ 64 * first + second }
+{
+    64 * u16::from(first.number()) + u16::from(second.number())
+}
+
+/// The squares of the kings after the turn, as a number.
 #[inline(always)]
-fn kings_along(lanes: &Lanes) -> u16
-    ensures { (c : ℕ) (flips : Bool) (stand : Stand) → c < 36 → AreLanes c flips stand lanes.now → AreNearest c flips stand.white stand.black result }
+pub(crate) fn kings_after(white: Square, black: Square, turn: u8) -> u16
+    requires { turn < 16 }
+    ensures { result ≡ 64 * turned_square (turn % 8) (turn / 8 == 1) white + turned_square (turn % 8) (turn / 8 == 1) black }
+{
+    pair(turned_square(turn, white), turned_square(turn, black))
+}
+
+/// The same after the turns that bring the white king home: the lesser of two. After the first they are known.
+#[inline(always)]
+fn least_kings(white: Square, black: Square, kings: u16, second: Option<u8>) -> u16
+    requires { IfSome second (λ turn. turn < 16) }
+    ensures { (c first : ℕ) (flips : Bool) → c < 36 → AreHome (has_pawns (material_of c)) flips white first second →
+        kings ≡ 64 * turned_square (first % 8) (first / 8 == 1) white + turned_square (first % 8) (first / 8 == 1) black → AreNearest c flips white black result }
 {
     facts();
-    let kings = pair(lanes.first.after.white, lanes.first.after.black);
-    match &lanes.second {
-        Some(lane) => kings.min(pair(lane.after.white, lane.after.black)),
+    match second {
+        Some(turn) => kings.min(kings_after(white, black, turn)),
         None => kings,
     }
 }
 
-/// The colours in which the kings come to lesser squares, where both sides have the same men.
+/// The turns that bring the white king home, and the squares of the kings after them, as a number: the lesser of two.
+#[derive(Clone, Copy)]
+pub(crate) struct HomeTurns {
+    pub(crate) turns: Turns,
+    pub(crate) kings: u16,
+}
+
+/// The same of the turns that exchange colours, or of those that do not, where the kings stand on these squares.
 #[inline(always)]
-pub(crate) fn nearer_colours(own: &Lanes, exchanged: &Lanes) -> Nearer
-    ensures { (c : ℕ) (flipped : Bool) (stand : Stand) → c < 36 → has_equal_sides c ≡ true → AreLanes c flipped stand own.now → AreExchangedLanes c flipped stand exchanged.now →
-        IsNearer c flipped stand result }
+pub(crate) fn homeward(class: Class, white: Square, black: Square, flips: bool) -> HomeTurns
+    ensures home { AreHome (has_pawns (material_of class)) flips white result.turns.first result.turns.second }
+    ensures kings { AreNearest class flips white black result.kings }
+{
+    let _number = class.number();
+    let (first, second) = home(has_pawns(class), flips, white);
+    let kings = kings_after(white, black, first);
+    HomeTurns {
+        turns: Turns { first, second },
+        kings: least_kings(white, black, kings, second),
+    }
+}
+
+/// The colours in which the kings come to lesser squares, where both sides have the same men and the white king is at home, and the other
+/// turn that leaves him there.
+#[inline(always)]
+pub(crate) fn nearer_colours(class: Class, stand: &Stand, still: Option<u8>) -> Nearer
+    requires below { IfSome still (λ turn. turn < 16) }
+    requires equal { has_equal_sides class ≡ true }
+    requires home { AreHome (has_pawns (material_of class)) false stand.now.white 0 still }
+    ensures { IsNearer class stand.now result }
 {
     facts();
-    let own = kings_along(own);
-    let others = kings_along(exchanged);
+    let _number = class.number();
+    let kings = pair(stand.white, stand.black);
+    let own = least_kings(stand.white, stand.black, kings, still);
+    let others = homeward(class, stand.black, stand.white, true).kings;
     if own < others {
         return Nearer::Own;
     }

@@ -129,7 +129,7 @@ impl Row {
         let side = position.side();
         match &mut self.frame {
             Some(frame) => frame.side = side,
-            None => self.frame = Some(Frame::of_stand(self.class, false, &self.stand, side)),
+            None => self.frame = Some(Frame::of_stand(self.class, &self.stand, side)),
         }
     }
 

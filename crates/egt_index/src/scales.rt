@@ -330,6 +330,20 @@ impl Squares {
         }
     }
 
+    /// The same seen with colours exchanged, in a class whose sides have the same men: each is on the square of the other side's.
+    #[inline(always)]
+    pub(crate) fn exchanged(&self, white: Square) -> Squares
+        ensures black { result.black ≡ white }
+        ensures next { result.next ≡ self.now.last }
+        ensures last { result.last ≡ self.now.next }
+    {
+        Squares {
+            black: white,
+            next: self.last,
+            last: self.next,
+        }
+    }
+
     /// Where the turn takes them.
     #[inline(always)]
     pub(crate) fn turned(&self, turn: u8) -> Squares

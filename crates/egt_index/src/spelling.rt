@@ -12,8 +12,9 @@ ghost use Rattle.egt_board.specs.declared.man.Side.TheVariants.{White, Black};
 ghost use Rattle.egt_class.specs.Material.{material_of};
 ghost use Rattle.egt_index.specs.Code.{Spells, king_square};
 ghost use Rattle.egt_index.specs.Frame.{IsFrame};
+ghost use Rattle.egt_index.specs.Home.{IsAtHome};
 ghost use Rattle.egt_index.specs.Index.{IsIndex, IsVoid};
-ghost use Rattle.egt_index.specs.Size.{king_base};
+ghost use Rattle.egt_index.specs.Size.{king_base, has_pawns};
 ghost use Rattle.std.specs.Option.{option_to_list};
 ghost use Rattle.egt_index.specs.Spelled.{Splits, Tells, SpellsMen, SpellsNoMen, Ends, HasPawns, IsTold};
 ghost use Rattle.egt_index.specs.Stood.{AllApart, IsFilled, list_of, with_entry, HasStand};
@@ -229,6 +230,7 @@ fn at_index(class: Class, index: u32) -> (Position, Stand)
     ensures index { IsIndex class result.0 index }
     ensures stand { (passed : Bool) × HasStand class false result.1 result.0.side passed result.0 }
     ensures filled { IsFilled result.1 }
+    ensures home { IsAtHome (has_pawns (material_of class)) result.1.white }
 {
     facts();
     let _number = class.number();
@@ -262,6 +264,6 @@ pub fn indexed(class: Class, index: u32) -> (Position, Frame)
     ensures class { result.1.class ≡ class }
 {
     let (position, stand) = at_index(class, index);
-    let frame = Frame::of_stand(class, false, &stand, position.side());
+    let frame = Frame::of_stand(class, &stand, position.side());
     (position, frame)
 }

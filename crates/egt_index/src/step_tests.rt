@@ -1,12 +1,11 @@
 //! The index after a man's step against the index of the position to which it leads.
-ghost use Rattle.std.specs.Prelude.{ℕ, Bool};
-ghost use Rattle.egt_board.specs.Settled.{IsSettled};
-ghost use Rattle.egt_class.specs.Membership.{IsOf};
+ghost use Rattle.std.specs.Prelude.{◌≡◌, ℕ, ◌/◌};
 ghost use Rattle.egt_index.specs.Frame.{IsFrame};
+ghost use Rattle.egt_index.specs.Row.{row_len, IsRow};
 ghost use Rattle.egt_index.specs.Steps.{WaysFit};
 
 use crate::facts::facts;
-use crate::{Frame, Steps, index, position, size};
+use crate::{Frame, Row, Steps, index, indexed, position, row_of, size};
 use arrayvec::ArrayVec;
 use egt_board::{Man, Position, Square};
 use egt_class::{Class, of};
@@ -56,30 +55,65 @@ fn count_from(frame: &Frame, position: &Position, from: Square) -> Result<u32, F
     }
 }
 
-/// The same of all men of a settled position.
-fn count_of_position(position: &Position) -> Result<u32, Fail>
-    requires { IsSettled position.now }
+/// The same of all men of the position.
+fn count_of_position(frame: &Frame, position: &Position) -> Result<u32, Fail>
+    requires { IsFrame position.now frame.now }
 {
-    let (class, _) = of(position);
-    let frame = Frame::of(class, position);
     let mut count: u32 = 0;
     for number in 0..64 {
-        let more = count_from(&frame, position, Square::at(number))?;
+        let more = count_from(frame, position, Square::at(number))?;
         count = count.checked_add(more).ok_or("too many")?;
     }
     Ok(count)
 }
 
-/// The same of the position of that code, if it spells one, and of the same with colours exchanged.
-fn count_of_code(class: Class, code: u32) -> Result<u32, Fail> {
+/// The same of the position of that code of the row, if it spells one: the row is turned to it.
+fn count_of_turned(row: &mut Row, code: u32) -> Result<u32, Fail>
+    requires { IsRow (code / row_len row.old.class) row.old }
+    ensures row { (n : ℕ) → IsRow n row.old → IsRow n row.new }
+    ensures class { row.new.class ≡ row.old.class }
+{
+    match row.position_at(code) {
+        Some(position) => {
+            row.turn_to(&position);
+            count_of_position(row.frame(), &position)
+        }
+        None => Ok(0),
+    }
+}
+
+/// The same of the position of that code, if it spells one, by a frame of its own.
+fn count_of_indexed(class: Class, code: u32) -> Result<u32, Fail> {
     facts();
-    if let Some(spelled) = position(class, code) {
-        let flipped = spelled.flip_colours().settle();
-        let count = count_of_position(&spelled)?;
-        let more = count_of_position(&flipped)?;
-        Ok(count.checked_add(more).ok_or("too many")?)
-    } else {
-        Ok(0)
+    match position(class, code) {
+        Some(_) => {
+            let (position, frame) = indexed(class, code);
+            count_of_position(&frame, &position)
+        }
+        None => Ok(0),
+    }
+}
+
+/// The code that differs in its last digit, of the same row.
+fn beside(code: u32) -> u32
+    ensures { (c : ℕ) → result / row_len c ≡ code / row_len c }
+{
+    if code % 2 == 0 { code + 1 } else { code - 1 }
+}
+
+/// The same of the code and the one beside it in its row, to whose positions the row is turned one after the other.
+fn count_of_code(class: Class, code: u32) -> Result<u32, Fail> {
+    match row_of(class, code) {
+        Some(row) => {
+            let mut row = row;
+            let turned = count_of_turned(&mut row, code)?;
+            if turned != count_of_indexed(class, code)? {
+                return Err(Fail::from("other steps"));
+            }
+            let more = count_of_turned(&mut row, beside(code))?;
+            Ok(turned.checked_add(more).ok_or("too many")?)
+        }
+        None => Ok(0),
     }
 }
 

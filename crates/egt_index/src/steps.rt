@@ -1,5 +1,5 @@
 //! The ways of one man of a frame.
-ghost use Rattle.std.specs.Prelude.{ℕ, ◌<◌, not, Bool};
+ghost use Rattle.std.specs.Prelude.{ℕ, ◌<◌, true, false};
 ghost use Rattle.egt_board.specs.Setup.{Setup};
 ghost use Rattle.egt_index.specs.Frame.{IsMoved};
 ghost use Rattle.egt_index.specs.Index.{IsIndex};
@@ -9,14 +9,14 @@ ghost use Rattle.egt_index.specs.Ways.{WayFits, Leads};
 
 use crate::facts::facts;
 use crate::indexing::lesser;
-use crate::ways::{KingWay, Line, Way};
+use crate::ways::{KingWay, Sum, Way};
 use egt_board::Square;
 
 /// The codes after one man went, of all turns.
 #[derive(Clone, Copy)]
 pub(crate) enum Ways {
     /// The most common case by itself: one turn of the class's colours alone makes what has a code.
-    Single(Line),
+    Single(Sum),
     /// The white king's in the only colours in which the least can be.
     King(KingWay),
     /// The codes in the only colours in which the least can be.
@@ -29,7 +29,7 @@ pub(crate) enum Ways {
 fn least_of(own: &Way, exchanged: &Way, to: Square) -> Option<u32>
     requires own { WayFits own.now }
     requires exchanged { WayFits exchanged.now }
-    ensures { (c from : ℕ) (flipped : Bool) (p q : Setup) → c < 36 → Leads c flipped p from own.now → Leads c (not flipped) p from exchanged.now → IsMoved c p from to q → Best c q 16 result }
+    ensures { (c from : ℕ) (p q : Setup) → c < 36 → Leads c false p from own.now → Leads c true p from exchanged.now → IsMoved c p from to q → Best c q 16 result }
 {
     let own = own.code_to(to);
     let other = exchanged.code_to(to);
@@ -52,7 +52,7 @@ impl Steps {
     {
         facts();
         match &self.ways {
-            Ways::Single(line) => line.code_to(to),
+            Ways::Single(sum) => sum.code_to(to),
             Ways::King(way) => way.code_to(to).unwrap(),
             _ => self.least_to(to).unwrap(),
         }
@@ -65,7 +65,7 @@ impl Steps {
         ensures { (c from : ℕ) (p q : Setup) → AreSteps p c from self.now → IsMoved c p from to q → Best c q 16 result }
     {
         match &self.ways {
-            Ways::Single(line) => Some(line.code_to(to)),
+            Ways::Single(sum) => Some(sum.code_to(to)),
             Ways::King(way) => way.code_to(to),
             Ways::Alone(way) => way.code_to(to),
             Ways::Both(own, exchanged) => least_of(own, exchanged, to),

@@ -1,27 +1,25 @@
 //! The codes after one man of a class went, by the square to which he went.
-ghost use Rattle.std.specs.Prelude.{◌≡◌, ℕ, ◌+◌, ◌<◌, ◌≤◌, ◌/◌, ◌%◌, ◌==◌, Bool, IfSome, Some, true, false};
+ghost use Rattle.std.specs.Prelude.{◌≡◌, ◌≢◌, ℕ, ◌+◌, ◌<◌, ◌≤◌, ◌/◌, ◌%◌, ◌==◌, Bool, IfSome, Some, None, true, false};
 ghost use Rattle.std.specs.Option.{option_map};
 ghost use Rattle.egt_board.specs.Setup.{Setup};
 ghost use Rattle.egt_board.specs.Symmetry.{KeepsPlay};
-ghost use Rattle.egt_board.specs.Turned.{turned_side};
+ghost use Rattle.egt_board.specs.Turned.{turned_side, turned_square};
 ghost use Rattle.egt_board.specs.declared.man.Side.{Side};
 ghost use Rattle.egt_class.specs.Material.{material_of};
 ghost use Rattle.egt_index.specs.Frame.{IsMoved};
-ghost use Rattle.egt_index.specs.Home.{AreHome, LeastWith};
-ghost use Rattle.egt_index.specs.Lanes.{AreLanes, IsLane, IsWent};
+ghost use Rattle.egt_index.specs.Home.{AreHome, IsTurnWith, LeastWith};
 ghost use Rattle.egt_index.specs.Scales.{ScalesFit, share, code_by};
-ghost use Rattle.egt_index.specs.Size.{men_in_order};
-ghost use Rattle.egt_index.specs.Stood.{AllApart, IsFilled, list_of, men_among};
+ghost use Rattle.egt_index.specs.Size.{has_pawns};
 ghost use Rattle.egt_index.specs.Turns.{CodeAfter, lesser};
-ghost use Rattle.egt_index.specs.Ways.{line_code, pair_code, code_with, LineFits, PairFits, ComesHome, IsHoming, IsKingOn, KingWayFits, WayFits, Leads, Goes, IsMover, IsGoer, IsSingle, IsOneOfTwo, IsPaired, other_square};
+ghost use Rattle.egt_index.specs.Ways.{sum_code, line_code, pair_code, code_with, code_in_order, SumFits, LineFits, PairFits, ComesHome, IsHoming, KingWayFits, WayFits, Leads, LeadsBy, Goes, IsSeen, IsMover, IsGoer, IsSingle, IsOneOfTwo, IsPaired, other_square};
+ghost use Rattle.egt_index.specs.Went.{IsWent};
 ghost use Rattle.egt_index.specs.declared.stand.Stand.{Stand};
-ghost use Rattle.egt_index.specs.declared.ways.Way.TheVariants.{One, King};
+ghost use Rattle.egt_index.specs.declared.ways.Way.TheVariants.{King, Turned};
 
 use crate::digits::king_digit;
 use crate::facts::facts;
-use crate::home::{home, still_home};
+use crate::home::{Turns, home, still_home};
 use crate::indexing::lesser;
-use crate::lanes::{Lane, Lanes};
 use crate::men::{has_pawns, is_paired};
 use crate::scales::{NOBODY, Scale, Scales, Squares, class_scales, in_order, squares_of};
 use crate::stand::Stand;
@@ -29,12 +27,29 @@ use crate::turning::turned_square;
 use egt_board::{Side, Square};
 use egt_class::Class;
 
-/// The code after a turn, by the square of one man: what the others add, and how he counts.
+/// The code by the square of one man: what the others add, and how he counts.
+#[derive(Clone, Copy)]
+pub(crate) struct Sum {
+    pub(crate) scale: Scale,
+    pub(crate) rest: u32,
+}
+
+impl Sum {
+    /// The code where he stands on the square.
+    #[inline(always)]
+    pub(crate) fn code_to(&self, to: Square) -> u32
+        requires { SumFits self.now }
+        ensures { result ≡ sum_code self.now to }
+    {
+        self.rest + self.scale.share(to)
+    }
+}
+
+/// The same after a turn.
 #[derive(Clone, Copy)]
 pub(crate) struct Line {
     pub(crate) turn: u8,
-    pub(crate) scale: Scale,
-    pub(crate) rest: u32,
+    pub(crate) sum: Sum,
 }
 
 impl Line {
@@ -44,7 +59,7 @@ impl Line {
         requires { LineFits self.now }
         ensures { result ≡ line_code self.now to }
     {
-        self.rest + self.scale.share(turned_square(self.turn, to))
+        self.sum.code_to(turned_square(self.turn, to))
     }
 }
 
@@ -128,6 +143,7 @@ impl Homing {
     }
 
     /// The least code after he went to the square.
+    #[inline(never)]
     fn code_to(&self, to: Square) -> Option<u32>
         requires { ScalesFit self.now.scales }
         ensures { (c : ℕ) (flips : Bool) (q : Setup) → c < 36 → ComesHome c flips self.now to q → LeastWith c q flips result }
@@ -137,81 +153,101 @@ impl Homing {
     }
 }
 
-/// The codes after the white king went. In most of his steps the only turn that brings him home is the first one that did so before the
-/// step: then the code is what his digit adds to what the others add after that turn.
+/// The codes after the white king went. In most of his steps the only turn that brings him home is the one that did so before the step:
+/// then the code is what his digit adds to what the others add after that turn.
 #[derive(Clone, Copy)]
 pub(crate) struct KingWay {
-    pub(crate) class: Class,
-    /// Who is to move then, in the class's colours.
-    pub(crate) side: Side,
-    pub(crate) flips: bool,
-    pub(crate) pawns: bool,
-    /// The first turn that brings him home from where he stands.
-    pub(crate) base: u8,
-    pub(crate) squares: Squares,
-    pub(crate) king: u32,
+    pub(crate) homing: Homing,
     pub(crate) rest: u32,
 }
 
 impl KingWay {
-    /// The way of the white king of these men.
-    #[inline(never)]
-    pub(crate) fn of(class: Class, stand: &Stand, flips: bool, side: Side) -> KingWay
-        ensures fits { KingWayFits result }
-        ensures leads { (from : ℕ) (p : Setup) → stand.now.white ≡ from → IsFilled stand.now → AllApart (list_of stand.now) → Goes class flips p stand.now from side →
-            Leads class flips p from (King result) }
+    /// The way of the king whom the turns bring home, where the turn that does so now takes the others to these squares.
+    #[inline(always)]
+    fn of(homing: Homing, after: &Squares) -> KingWay
+        requires { ScalesFit homing.scales }
+        ensures homing { result.homing ≡ homing }
+        ensures rest { result.rest ≡ code_in_order homing.scales 0 after.now homing.pair }
+        ensures few { result.rest ≤ 1073741824 }
     {
-        let side = side_after(side, flips);
-        let squares = squares_of(stand);
-        let homing = Homing::of(class, squares, side, flips);
-        let (base, _) = home(homing.pawns, flips, stand.white);
-        let after = squares.turned(base).ordered(homing.pair);
-        KingWay {
-            class,
-            side,
-            flips,
-            pawns: homing.pawns,
-            base,
-            squares,
-            king: homing.scales.king,
-            rest: homing.scales.code(0, &after),
-        }
+        let rest = homing.scales.code(0, &after.ordered(homing.pair));
+        KingWay { homing, rest }
     }
 
-    /// The code after he went to the square, if the base brings him home from there too and no other turn does.
+    /// The way of the white king, who is at home, of men in the class's colours.
+    #[inline(never)]
+    pub(crate) fn at_home(class: Class, stand: &Stand, side: Side) -> KingWay
+        ensures fits { KingWayFits 0 result }
+        ensures leads { (p : Setup) → IsSeen class false p stand.now stand.now.white side → Leads class false p stand.now.white (King result) }
+    {
+        let squares = squares_of(stand);
+        let homing = Homing::of(class, squares, side, false);
+        KingWay::of(homing, &squares)
+    }
+
+    /// The code after he went where that turn takes him to the square, if it brings him home from there too and no other turn does.
     #[inline(always)]
-    fn code_by_base(&self, to: Square) -> Option<u32>
-        requires { KingWayFits self.now }
-        ensures { (c : ℕ) (flips : Bool) (q : Setup) → c < 36 → IsKingOn c flips self.now to q → IfSome result (λ code. LeastWith c q flips (Some code)) }
+    fn code_by_base(&self, king: Square) -> Option<u32>
+        requires { (base : ℕ) × KingWayFits base self.now }
+        ensures { (base c to : ℕ) (flips : Bool) (q : Setup) → KingWayFits base self.now → c < 36 → to < 64 → king ≡ turned_square (base % 8) (base / 8 == 1) to → ComesHome c flips self.now.homing to q →
+            IfSome result (λ code. LeastWith c q flips (Some code)) }
     {
         facts();
-        let _number = to.number();
-        let king = turned_square(self.base, to);
-        let high = king_digit(self.pawns, king)?;
-        let code = u32::from(high) * self.king + self.rest;
-        match still_home(self.pawns, king) {
+        let high = king_digit(self.homing.pawns, king)?;
+        let code = u32::from(high) * self.homing.scales.king + self.rest;
+        match still_home(self.homing.pawns, king) {
             Some(_) => None,
             None => Some(code),
         }
     }
 
-    /// The least code after he went to the square, by the turns that bring him home.
-    #[inline(never)]
-    fn turned_code(&self, to: Square) -> Option<u32>
-        ensures { (c : ℕ) (flips : Bool) (q : Setup) → c < 36 → IsKingOn c flips self.now to q → LeastWith c q flips result }
+    /// The least code after he went to the square, who was at home.
+    #[inline(always)]
+    pub(crate) fn code_to(&self, to: Square) -> Option<u32>
+        requires { KingWayFits 0 self.now }
+        ensures { (c : ℕ) (flips : Bool) (q : Setup) → c < 36 → ComesHome c flips self.now.homing to q → LeastWith c q flips result }
     {
-        Homing::of(self.class, self.squares, self.side, self.flips).code_to(to)
+        let _number = to.number();
+        match self.code_by_base(to) {
+            Some(code) => Some(code),
+            None => self.homing.code_to(to),
+        }
+    }
+}
+
+/// The same of the king whom a turn brings home that exchanges colours.
+#[derive(Clone, Copy)]
+pub(crate) struct TurnedKing {
+    pub(crate) base: u8,
+    pub(crate) way: KingWay,
+}
+
+impl TurnedKing {
+    /// The way of the white king, whom the turn brings home, of men in exchanged colours.
+    #[inline(never)]
+    pub(crate) fn of(class: Class, stand: &Stand, side: Side, base: u8) -> TurnedKing
+        requires { IsTurnWith (has_pawns (material_of class)) true base }
+        ensures fits { KingWayFits result.base result.way }
+        ensures leads { (p : Setup) → IsSeen class true p stand.now stand.now.white side → Leads class true p stand.now.white (Turned result) }
+    {
+        let squares = squares_of(stand);
+        let homing = Homing::of(class, squares, side_after(side, true), true);
+        TurnedKing {
+            base,
+            way: KingWay::of(homing, &squares.turned(base)),
+        }
     }
 
     /// The least code after he went to the square.
     #[inline(always)]
-    pub(crate) fn code_to(&self, to: Square) -> Option<u32>
-        requires { KingWayFits self.now }
-        ensures { (c : ℕ) (flips : Bool) (q : Setup) → c < 36 → IsKingOn c flips self.now to q → LeastWith c q flips result }
+    fn code_to(&self, to: Square) -> Option<u32>
+        requires { KingWayFits self.now.base self.now.way }
+        ensures { (c : ℕ) (flips : Bool) (q : Setup) → c < 36 → ComesHome c flips self.now.way.homing to q → LeastWith c q flips result }
     {
-        match self.code_by_base(to) {
+        let _number = to.number();
+        match self.way.code_by_base(turned_square(self.base, to)) {
             Some(code) => Some(code),
-            None => self.turned_code(to),
+            None => self.way.homing.code_to(to),
         }
     }
 }
@@ -224,6 +260,7 @@ pub(crate) enum Way {
     OnePair(Pair),
     TwoPairs(Pair, Pair),
     King(KingWay),
+    Turned(TurnedKing),
     /// No turn makes anything that has a code.
     Never,
 }
@@ -241,13 +278,14 @@ impl Way {
             Way::OnePair(pair) => Some(pair.code_to(to)),
             Way::TwoPairs(first, second) => Some(first.code_to(to).min(second.code_to(to))),
             Way::King(way) => way.code_to(to),
+            Way::Turned(king) => king.code_to(to),
             Way::Never => None,
         }
     }
 }
 
 /// The side, or the other one where colours are exchanged.
-fn side_after(side: Side, flips: bool) -> Side
+pub(crate) fn side_after(side: Side, flips: bool) -> Side
     ensures { result ≡ turned_side flips side }
 {
     if flips { side.other() } else { side }
@@ -299,23 +337,42 @@ fn parted(scales: &Scales, mover: Mover) -> (Scale, Scales)
     }
 }
 
-/// The code along the lane, if it has one.
+/// How codes add up where the man goes and the others stay on these squares, of two equal men the one on the lesser first.
 #[inline(always)]
-fn line_along(scales: &Scales, pawns: bool, pair: bool, lane: &Lane, mover: Mover) -> Option<Line>
-    requires { ScalesFit scales.now }
-    ensures fits { lane.now.turn < 16 → IfSome result LineFits }
-    ensures code { (c from to : ℕ) (before after : Stand) (side : Side) (q : Setup) → lane.now.turn < 16 → IsGoer c (lane.now.turn / 8 == 1) before from side scales.now pawns mover →
-        IsSingle before mover → IsPaired before pair → IsLane before lane.now → IsWent c (lane.now.turn / 8 == 1) before after from to side q → KeepsPlay (lane.now.turn % 8) q.men →
-        CodeAfter c q lane.now.turn (option_map (λ line. line_code line to) result) }
+fn sum_by(scales: &Scales, high: u32, squares: &Squares, mover: Mover) -> Sum
+    requires fit { ScalesFit scales.now }
+    requires high { high < 32 }
+    ensures fits { SumFits result }
+    ensures sum { (to : ℕ) → sum_code result to ≡ code_with mover scales.now high squares.now.black squares.now.next squares.now.last to }
+{
+    let (scale, others) = parted(scales, mover);
+    Sum {
+        scale,
+        rest: others.code(high, squares),
+    }
+}
+
+/// The code after the turn, if it has one.
+fn line_along(
+    scales: &Scales,
+    pawns: bool,
+    pair: bool,
+    stand: &Stand,
+    turn: u8,
+    mover: Mover,
+) -> Option<Line>
+    requires fit { ScalesFit scales.now }
+    requires turn { turn < 16 }
+    ensures fits { IfSome result LineFits }
+    ensures code { (c from to : ℕ) (after : Stand) (side : Side) (q : Setup) → IsGoer c (turn / 8 == 1) stand.now from side scales.now pawns mover → IsSingle stand.now mover → IsPaired stand.now pair →
+        IsWent c (turn / 8 == 1) stand.now after from to side q → KeepsPlay (turn % 8) q.men → CodeAfter c q turn (option_map (λ line. line_code line to) result) }
 {
     facts();
-    let high = king_digit(pawns, lane.after.white)?;
-    let squares = squares_of(&lane.after).ordered(pair);
-    let (scale, others) = parted(scales, mover);
+    let high = king_digit(pawns, turned_square(turn, stand.white))?;
+    let squares = squares_of(stand).turned(turn).ordered(pair);
     Some(Line {
-        turn: lane.turn,
-        scale,
-        rest: others.code(u32::from(high), &squares),
+        turn,
+        sum: sum_by(scales, u32::from(high), &squares, mover),
     })
 }
 
@@ -329,20 +386,20 @@ fn other_square(squares: &Squares, mover: Mover) -> Square
     }
 }
 
-/// The code along the lane, if it has one, of one of two equal men.
-fn pair_along(scales: &Scales, pawns: bool, lane: &Lane, mover: Mover) -> Option<Pair>
-    requires { ScalesFit scales.now }
-    ensures fits { lane.now.turn < 16 → IfSome result PairFits }
-    ensures code { (c from to : ℕ) (before after : Stand) (side : Side) (q : Setup) → lane.now.turn < 16 → IsGoer c (lane.now.turn / 8 == 1) before from side scales.now pawns mover →
-        IsOneOfTwo before mover → IsLane before lane.now → IsWent c (lane.now.turn / 8 == 1) before after from to side q → KeepsPlay (lane.now.turn % 8) q.men →
-        CodeAfter c q lane.now.turn (option_map (λ pair. pair_code pair to) result) }
+/// The code after the turn, if it has one, of one of two equal men.
+fn pair_along(scales: &Scales, pawns: bool, stand: &Stand, turn: u8, mover: Mover) -> Option<Pair>
+    requires fit { ScalesFit scales.now }
+    requires turn { turn < 16 }
+    ensures fits { IfSome result PairFits }
+    ensures code { (c from to : ℕ) (after : Stand) (side : Side) (q : Setup) → IsGoer c (turn / 8 == 1) stand.now from side scales.now pawns mover → IsOneOfTwo stand.now mover →
+        IsWent c (turn / 8 == 1) stand.now after from to side q → KeepsPlay (turn % 8) q.men → CodeAfter c q turn (option_map (λ pair. pair_code pair to) result) }
 {
     facts();
-    let high = king_digit(pawns, lane.after.white)?;
-    let squares = squares_of(&lane.after);
+    let high = king_digit(pawns, turned_square(turn, stand.white))?;
+    let squares = squares_of(stand).turned(turn);
     let others = scales.without_next().without_last();
     Some(Pair {
-        turn: lane.turn,
+        turn,
         other: other_square(&squares, mover),
         next: scales.next,
         last: scales.last,
@@ -350,7 +407,7 @@ fn pair_along(scales: &Scales, pawns: bool, lane: &Lane, mover: Mover) -> Option
     })
 }
 
-/// The least of what two lanes tell.
+/// The least of what two turns tell.
 fn least_line(first: Option<Line>, second: Option<Line>) -> Way
     ensures fits { IfSome first LineFits → IfSome second LineFits → WayFits result }
     ensures leads { (c from : ℕ) (flips : Bool) (p : Setup) →
@@ -380,18 +437,20 @@ fn least_pair(first: Option<Pair>, second: Option<Pair>) -> Way
     }
 }
 
-/// The codes along the lanes.
-fn lines(scales: &Scales, pawns: bool, pair: bool, lanes: &Lanes, mover: Mover) -> Way
-    requires { ScalesFit scales.now }
-    ensures fits { (c : ℕ) (flips : Bool) (before : Stand) → AreLanes c flips before lanes.now → WayFits result }
-    ensures leads { (c from : ℕ) (flips : Bool) (p : Setup) (before : Stand) (side : Side) → AreLanes c flips before lanes.now → IsGoer c flips before from side scales.now pawns mover →
-        IsSingle before mover → IsPaired before pair → Goes c flips p before from side → Leads c flips p from result }
+/// The codes after the turns.
+fn lines(scales: &Scales, pawns: bool, pair: bool, stand: &Stand, turns: Turns, mover: Mover) -> Way
+    requires fit { ScalesFit scales.now }
+    requires first { turns.first < 16 }
+    requires second { IfSome turns.second (λ turn. turn < 16) }
+    ensures fits { WayFits result }
+    ensures leads { (c from : ℕ) (flips : Bool) (p : Setup) (side : Side) → AreHome (has_pawns (material_of c)) flips stand.now.white turns.first turns.second → IsGoer c flips stand.now from side scales.now pawns mover →
+        IsSingle stand.now mover → IsPaired stand.now pair → Goes c flips p stand.now from side → Leads c flips p from result }
 {
     facts();
-    let first = line_along(scales, pawns, pair, &lanes.first, mover);
-    match &lanes.second {
-        Some(lane) => {
-            let second = line_along(scales, pawns, pair, lane, mover);
+    let first = line_along(scales, pawns, pair, stand, turns.first, mover);
+    match turns.second {
+        Some(turn) => {
+            let second = line_along(scales, pawns, pair, stand, turn, mover);
             least_line(first, second)
         }
         None => least_line(first, None),
@@ -399,17 +458,19 @@ fn lines(scales: &Scales, pawns: bool, pair: bool, lanes: &Lanes, mover: Mover) 
 }
 
 /// The same of one of two equal men.
-fn pairs(scales: &Scales, pawns: bool, lanes: &Lanes, mover: Mover) -> Way
-    requires { ScalesFit scales.now }
-    ensures fits { (c : ℕ) (flips : Bool) (before : Stand) → AreLanes c flips before lanes.now → WayFits result }
-    ensures leads { (c from : ℕ) (flips : Bool) (p : Setup) (before : Stand) (side : Side) → AreLanes c flips before lanes.now → IsGoer c flips before from side scales.now pawns mover →
-        IsOneOfTwo before mover → Goes c flips p before from side → Leads c flips p from result }
+fn pairs(scales: &Scales, pawns: bool, stand: &Stand, turns: Turns, mover: Mover) -> Way
+    requires fit { ScalesFit scales.now }
+    requires first { turns.first < 16 }
+    requires second { IfSome turns.second (λ turn. turn < 16) }
+    ensures fits { WayFits result }
+    ensures leads { (c from : ℕ) (flips : Bool) (p : Setup) (side : Side) → AreHome (has_pawns (material_of c)) flips stand.now.white turns.first turns.second → IsGoer c flips stand.now from side scales.now pawns mover →
+        IsOneOfTwo stand.now mover → Goes c flips p stand.now from side → Leads c flips p from result }
 {
     facts();
-    let first = pair_along(scales, pawns, &lanes.first, mover);
-    match &lanes.second {
-        Some(lane) => {
-            let second = pair_along(scales, pawns, lane, mover);
+    let first = pair_along(scales, pawns, stand, turns.first, mover);
+    match turns.second {
+        Some(turn) => {
+            let second = pair_along(scales, pawns, stand, turn, mover);
             least_pair(first, second)
         }
         None => least_pair(first, None),
@@ -430,63 +491,60 @@ fn is_one_of_two(pair: bool, mover: Mover) -> bool
 }
 
 /// The codes after a man beside the white king went, or nobody.
-fn way_of_other(scales: &Scales, pawns: bool, pair: bool, lanes: &Lanes, mover: Mover) -> Way
-    requires { ScalesFit scales.now }
-    ensures fits { (c : ℕ) (flips : Bool) (before : Stand) → AreLanes c flips before lanes.now → WayFits result }
-    ensures leads { (c from : ℕ) (flips : Bool) (p : Setup) (before : Stand) (side : Side) → AreLanes c flips before lanes.now → IsGoer c flips before from side scales.now pawns mover →
-        IsPaired before pair → Goes c flips p before from side → Leads c flips p from result }
+fn way_of_other(
+    scales: &Scales,
+    pawns: bool,
+    pair: bool,
+    stand: &Stand,
+    turns: Turns,
+    mover: Mover,
+) -> Way
+    requires fit { ScalesFit scales.now }
+    requires first { turns.first < 16 }
+    requires second { IfSome turns.second (λ turn. turn < 16) }
+    ensures fits { WayFits result }
+    ensures leads { (c from : ℕ) (flips : Bool) (p : Setup) (side : Side) → AreHome (has_pawns (material_of c)) flips stand.now.white turns.first turns.second → IsGoer c flips stand.now from side scales.now pawns mover →
+        IsPaired stand.now pair → Goes c flips p stand.now from side → Leads c flips p from result }
 {
     if is_one_of_two(pair, mover) {
-        pairs(scales, pawns, lanes, mover)
+        pairs(scales, pawns, stand, turns, mover)
     } else {
-        lines(scales, pawns, pair, lanes, mover)
+        lines(scales, pawns, pair, stand, turns, mover)
     }
 }
 
-/// The codes after the man on `from` went, where that side is to move then.
+/// The codes after the man on `from` went, not the white king, whom these turns bring home; that side is to move then.
 pub(crate) fn way_of(
     class: Class,
     stand: &Stand,
-    lanes: &Lanes,
+    turns: Turns,
     flips: bool,
     side: Side,
     from: Square,
 ) -> Way
-    ensures fits { AreLanes class flips stand.now lanes.now → WayFits result }
-    ensures leads { (p : Setup) → AreLanes class flips stand.now lanes.now → men_among (list_of stand.now) ≡ men_in_order (material_of class) → IsFilled stand.now →
-        AllApart (list_of stand.now) → Goes class flips p stand.now from side → Leads class flips p from result }
+    requires first { turns.first < 16 }
+    requires second { IfSome turns.second (λ turn. turn < 16) }
+    ensures fits { WayFits result }
+    ensures leads { (p : Setup) → stand.now.white ≢ from → AreHome (has_pawns (material_of class)) flips stand.now.white turns.first turns.second → IsSeen class flips p stand.now from side →
+        Leads class flips p from result }
 {
     let _number = class.number();
-    if stand.white == from {
-        return Way::King(KingWay::of(class, stand, flips, side));
-    }
     let scales = class_scales(class, side_after(side, flips));
     let pawns = has_pawns(class);
     let pair = is_paired(class);
     let mover = mover_on(stand, from);
-    way_of_other(&scales, pawns, pair, lanes, mover)
+    way_of_other(&scales, pawns, pair, stand, turns, mover)
 }
 
-/// The codes after the man on `from` went, where he is neither the white king nor one of two equal men, and one turn alone makes
-/// what has a code.
+/// How the codes add up after the man on `from` went, where he is neither the white king nor one of two equal men, and of the turns in the
+/// class's colours the one that changes nothing alone leaves the white king at home.
 #[inline(always)]
-pub(crate) fn line_of(
-    class: Class,
-    stand: &Stand,
-    lanes: &Lanes,
-    flips: bool,
-    side: Side,
-    from: Square,
-) -> Option<Line>
-    ensures fits { AreLanes class flips stand.now lanes.now → IfSome result LineFits }
-    ensures leads { (p : Setup) → AreLanes class flips stand.now lanes.now → men_among (list_of stand.now) ≡ men_in_order (material_of class) → IsFilled stand.now →
-        AllApart (list_of stand.now) → Goes class flips p stand.now from side → IfSome result (λ line. Leads class flips p from (One line)) }
+pub(crate) fn sum_of(class: Class, stand: &Stand, side: Side, from: Square) -> Option<Sum>
+    ensures fits { IfSome result SumFits }
+    ensures leads { (p : Setup) → AreHome (has_pawns (material_of class)) false stand.now.white 0 None → IsSeen class false p stand.now from side → IfSome result (λ sum. LeadsBy class p from sum) }
 {
     facts();
     let _number = class.number();
-    if lanes.second.is_some() {
-        return None;
-    }
     let is_king = stand.white == from;
     if is_king {
         return None;
@@ -496,6 +554,8 @@ pub(crate) fn line_of(
     if is_one_of_two(pair, mover) {
         return None;
     }
-    let scales = class_scales(class, side_after(side, flips));
-    line_along(&scales, has_pawns(class), pair, &lanes.first, mover)
+    let high = king_digit(has_pawns(class), stand.white)?;
+    let scales = class_scales(class, side);
+    let squares = squares_of(stand).ordered(pair);
+    Some(sum_by(&scales, u32::from(high), &squares, mover))
 }

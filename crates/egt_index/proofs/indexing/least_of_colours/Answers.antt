@@ -1,18 +1,32 @@
-use Rattle.std.proofs.Common.{not, arith}
+use Rattle.std.proofs.Common.{◌<◌, not, false, arith, refl, sym, subst}
+use Rattle.egt_index.specs.Scales.{IsOn}
+use Rattle.egt_index.specs.Stood.{HasStand}
 use Rattle.egt_index.proofs.Beating.{has_exchanged}
+use Rattle.egt_index.proofs.Exchanged.{filled_exchanged, others_on}
+use Rattle.egt_index.proofs.Moved.{exchange}
 use Rattle.egt_index.proofs.Nearing.{nearer, told, told_other}
 use Rattle.egt_index.proofs.indexing.least_of_colours.Goals as goal
 
 pub returns-then-own-other : goal.returns-then-own-other
 returns-then-own-other c = λ p has.
-    let seen = has_exchanged c.facts.ensures c.args.class c.args.flipped c.args.stand.now c.exchanged-others.result c.args.side c.args.passed p (omega (arith, c.number-number.ensures.below, c.number-number.ensures.value)) c.requires.equal
-    c.exchanged-others.ensures.white c.exchanged-others.ensures.black c.exchanged-others.ensures.next c.exchanged-others.ensures.last has in
-    nearer c.args.class p c.args.flipped (not c.args.flipped) c.homeward-own.result.kings c.homeward-other.result.kings c.least_code_by.result (told c.args.flipped) (c.homeward-own.ensures.kings c.args.side c.args.passed p has)
-    (c.homeward-other.ensures.kings c.args.side c.args.passed p seen) c.if-own-other.true (c.least_code_by.ensures p has)
+    let k = c.args.class in
+    let stand = c.args.stand.now in
+    let here = subst (λ b. HasStand k c.args.flipped stand c.args.side b p) c.if-not-passed.true has in
+    let k_in : k < 36 = omega (arith, c.number-number.ensures.below, c.number-number.ensures.value) in
+    let seen = has_exchanged c.facts.ensures k c.args.flipped stand (exchange stand) c.args.side false p k_in c.requires.equal refl refl refl refl here in
+    nearer k p c.args.flipped (not c.args.flipped) c.homeward-own.result.kings c.homeward-other.result.kings c.least_on.result (told c.args.flipped)
+    (c.homeward-own.ensures.kings stand c.args.side false p refl refl here) (c.homeward-other.ensures.kings (exchange stand) c.args.side false p refl refl seen) c.if-own-other.true
+    (c.least_on.ensures p stand here c.requires.filled refl (sym c.squares_of-squares.ensures.black) c.squares_of-squares.ensures.next c.squares_of-squares.ensures.last)
 
 pub returns-then-other-own : goal.returns-then-other-own
 returns-then-other-own c = λ p has.
-    let seen = has_exchanged c.facts.ensures c.args.class c.args.flipped c.args.stand.now c.exchanged-others.result c.args.side c.args.passed p (omega (arith, c.number-number.ensures.below, c.number-number.ensures.value)) c.requires.equal
-    c.exchanged-others.ensures.white c.exchanged-others.ensures.black c.exchanged-others.ensures.next c.exchanged-others.ensures.last has in
-    nearer c.args.class p (not c.args.flipped) c.args.flipped c.homeward-other.result.kings c.homeward-own.result.kings c.least_code_by-then-other-own.result (told_other c.args.flipped)
-    (c.homeward-other.ensures.kings c.args.side c.args.passed p seen) (c.homeward-own.ensures.kings c.args.side c.args.passed p has) c.if-other-own.true (c.least_code_by-then-other-own.ensures p seen)
+    let k = c.args.class in
+    let stand = c.args.stand.now in
+    let here = subst (λ b. HasStand k c.args.flipped stand c.args.side b p) c.if-not-passed.true has in
+    let k_in : k < 36 = omega (arith, c.number-number.ensures.below, c.number-number.ensures.value) in
+    let seen = has_exchanged c.facts.ensures k c.args.flipped stand (exchange stand) c.args.side false p k_in c.requires.equal refl refl refl refl here in
+    let on = others_on k c.args.flipped p.men stand c.squares_of-squares.result.next c.squares_of-squares.result.last k_in c.requires.equal has.stood c.squares_of-squares.ensures.next c.squares_of-squares.ensures.last in
+    nearer k p (not c.args.flipped) c.args.flipped c.homeward-other.result.kings c.homeward-own.result.kings c.least_on-then-other-own.result (told_other c.args.flipped)
+    (c.homeward-other.ensures.kings (exchange stand) c.args.side false p refl refl seen) (c.homeward-own.ensures.kings stand c.args.side false p refl refl here) c.if-other-own.true
+    (c.least_on-then-other-own.ensures p (exchange stand) seen (filled_exchanged stand (exchange stand) refl refl c.requires.filled) refl (sym c.exchanged-exchanged.ensures.black)
+    (subst (IsOn (exchange stand).next) (sym c.exchanged-exchanged.ensures.next) on.0) (subst (IsOn (exchange stand).last) (sym c.exchanged-exchanged.ensures.last) on.1))

@@ -15,6 +15,7 @@ use Rattle.egt_index.specs.Stood.{HasStand, list_of}
 use Rattle.egt_index.specs.declared.stand.Stand.{Stand}
 use Rattle.egt_index.proofs.Decoded.{has_pawns_list, no_men}
 use Rattle.egt_index.proofs.AtIndex.{IsAtIndex, at_index, indexed_by, taken}
+use Rattle.egt_index.proofs.Rows.{home_spelled}
 use Rattle.egt_index.proofs.Setups.{AreKings, kings_spelled, on_board_of}
 use Rattle.egt_index.proofs.spelling.at_index.Goals.{After-with_kings-position}
 use Rattle.egt_index.proofs.spelling.at_index.Goals as goal
@@ -85,3 +86,6 @@ pub returns-clause-stand : goal.returns-clause-stand
 returns-clause-stand c =
     let has = subst (HasStand c.args.class false c.unwrap-stand.result c.ends-number.result.1 c.ends-number.result.2) (is_setup c) (made c).stands in
     (c.ends-number.result.2, subst (λ side. HasStand c.args.class false c.unwrap-stand.result side c.ends-number.result.2 c.with_kings-position.result) (sym has.side_is) has)
+
+pub returns-clause-home : goal.returns-clause-home
+returns-clause-home c = home_spelled (material_of c.args.class) c.ends-number.result.0 c.unwrap-stand.result (taken (material_of c.args.class) c.ends-number.result.0 c.stand_on.result c.unwrap-stand.result c.stand_on.ensures.some c.unwrap-stand.ensures)

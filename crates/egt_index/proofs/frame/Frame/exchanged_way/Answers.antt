@@ -1,29 +1,34 @@
-use Rattle.std.proofs.Common.{◌<◌, not, Option, sym, ap, ◌∙◌, subst, arith}
-use Rattle.std.specs.Option.{is_some}
-use Rattle.egt_index.specs.Lanes.{AreLanes}
-use Rattle.egt_index.specs.declared.lanes.Lanes.{Lanes}
-use Rattle.egt_index.specs.declared.stand.Stand.{Stand}
-use Rattle.egt_index.proofs.Framed.{exchanged_lanes, exchanged_seen}
-use Rattle.egt_index.proofs.LeastTurn.{none_exchanged}
+use Rattle.std.proofs.Common.{◌<◌, true, arith, sym, ◌∙◌, subst, Option, ℕ, IfSome, Some, None}
+use Rattle.std.proofs.lemmas.Bool.{false≢true, eqb-true, eq-eqb}
+use Rattle.egt_index.specs.Home.{AreHome, IsTurnWith}
+use Rattle.egt_index.specs.Ways.{Leads}
+use Rattle.egt_index.specs.declared.ways.Way.TheVariants.{Turned}
+use Rattle.egt_index.proofs.Framed.{exchanged_seen}
 use Rattle.egt_index.proofs.frame.Frame.exchanged_way.Goals as goal
 
-pub returns-in-Some-clause-fits : goal.returns-in-Some-clause-fits
-returns-in-Some-clause-fits c = λ p is.
-    let frame = c.args.self.now in
-    let (e, here) = exchanged_lanes frame.class frame.flipped frame.stand c.exchanged-stand.result frame.exchanged c.in-Some.lanes c.in-Some.is is.exchanged
-    c.exchanged-stand.ensures.white c.exchanged-stand.ensures.black c.exchanged-stand.ensures.next c.exchanged-stand.ensures.last in
-    c.way_of.ensures.fits (subst (λ (s : Stand). AreLanes frame.class (not frame.flipped) s c.in-Some.lanes) here e.are)
+pub of-requires : goal.of-requires
+of-requires c = subst (λ pawns. IsTurnWith pawns true c.home-first.result.0) c.has_pawns.ensures c.home-first.ensures.one
 
-pub returns-in-Some-clause-leads : goal.returns-in-Some-clause-leads
-returns-in-Some-clause-leads c = λ p is side.
+pub way_of-requires-clause-second : goal.way_of-requires-clause-second
+way_of-requires-clause-second c = below c.home-first.result.1 c.home-first.ensures.other
+  where
+    below : (o : Option ℕ) → IfSome o (IsTurnWith c.has_pawns.result true) → IfSome o (λ t. t < 16)
+    below None with_all = tt
+    below (Some t) turn = turn.below
+
+pub returns-then-is_king-clause-leads : goal.returns-then-is_king-clause-leads
+returns-then-is_king-clause-leads c = λ p is equal.
     let frame = c.args.self.now in
     let c_in : frame.class < 36 = omega (arith, c.number-number.ensures.below, c.number-number.ensures.value) in
-    let seen = exchanged_seen c.facts.ensures p c.args.from frame c_in is c.args.side c.in-Some.lanes c.exchanged-stand.result side c.in-Some.is
+    let seen = exchanged_seen c.facts.ensures p c.exchanged-stand.result.white frame c_in is c.other-side.result c.exchanged-stand.result c.other-side.ensures equal
     c.exchanged-stand.ensures.white c.exchanged-stand.ensures.black c.exchanged-stand.ensures.next c.exchanged-stand.ensures.last in
-    c.way_of.ensures.leads p seen.are seen.men seen.filled seen.apart seen.goes
+    subst (λ s. Leads frame.class true p s (Turned c.of.result)) (eqb-true _ _ (sym c.eq-is_king.ensures ∙ c.if-is_king.true)) (c.of.ensures.leads p seen)
 
-pub returns-in-None-clause-leads : goal.returns-in-None-clause-leads
-returns-in-None-clause-leads c = λ p is side to q moved.
+pub returns-clause-leads : goal.returns-clause-leads
+returns-clause-leads c = λ p is equal.
     let frame = c.args.self.now in
     let c_in : frame.class < 36 = omega (arith, c.number-number.ensures.below, c.number-number.ensures.value) in
-    none_exchanged c.facts.ensures frame.class frame.flipped q c_in moved.admissible (moved.class frame.flipped is.stand.is_of) (sym is.equal ∙ ap (λ (o : Option Lanes). is_some o) c.in-None.is)
+    c.way_of.ensures.leads p (λ same. false≢true (sym c.if-is_king.false ∙ c.eq-is_king.ensures ∙ eq-eqb _ _ same))
+    (subst (λ pawns. AreHome pawns true c.exchanged-stand.result.white c.home-first.result.0 c.home-first.result.1) c.has_pawns.ensures c.home-first.ensures)
+    (exchanged_seen c.facts.ensures p c.args.from frame c_in is c.other-side.result c.exchanged-stand.result c.other-side.ensures equal
+    c.exchanged-stand.ensures.white c.exchanged-stand.ensures.black c.exchanged-stand.ensures.next c.exchanged-stand.ensures.last)

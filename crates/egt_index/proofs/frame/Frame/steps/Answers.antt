@@ -5,9 +5,8 @@ pub returns-in-Some : goal.returns-in-Some
 returns-in-Some c = λ p man is stands.
     record {
       class_in = omega (arith, c.number-number.ensures.below, c.number-number.ensures.value);
-      flipped = c.args.self.now.flipped;
       is_of = is.stand.is_of;
-      fit = c.in-Some.ensures.fits p is;
+      fit = c.in-Some.ensures.fits;
       lead = c.in-Some.ensures.leads p is;
     }
 
@@ -15,9 +14,8 @@ pub returns-in-Some-king_way : goal.returns-in-Some-king_way
 returns-in-Some-king_way c = λ p man is stands.
     record {
       class_in = omega (arith, c.number-number.ensures.below, c.number-number.ensures.value);
-      flipped = c.args.self.now.flipped;
       is_of = is.stand.is_of;
-      fit = c.in-Some-king_way.ensures.fits p is;
+      fit = c.in-Some-king_way.ensures.fits;
       lead = c.in-Some-king_way.ensures.leads p is;
     }
 

@@ -4,11 +4,15 @@ use Rattle.egt_index.specs.Row.{IsRowFrame}
 use Rattle.egt_index.specs.Stood.{HasStand}
 use Rattle.egt_index.specs.declared.frame.Frame.{Frame}
 use Rattle.egt_board.specs.declared.man.Side.{Side}
-use Rattle.egt_index.proofs.Rows.{turned_to, frame_turned}
+use Rattle.egt_class.specs.Material.{material_of}
+use Rattle.egt_index.proofs.Rows.{turned_to, frame_turned, home_spelled}
 use Rattle.egt_index.proofs.row.Row.turn_to.Goals as goal
 
-pub of_stand-requires : goal.of_stand-requires
-of_stand-requires c = c.requires.of.filled
+pub of_stand-requires-clause-filled : goal.of_stand-requires-clause-filled
+of_stand-requires-clause-filled c = c.requires.of.filled
+
+pub of_stand-requires-clause-home : goal.of_stand-requires-clause-home
+of_stand-requires-clause-home c = home_spelled (material_of c.args.self.now.class) c.requires.row.0 c.args.self.now.stand c.requires.row.1.men
 
 -- the frame that was there
 pub returns-in-Some-clause-row : goal.returns-in-Some-clause-row

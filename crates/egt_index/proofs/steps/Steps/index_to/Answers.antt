@@ -1,4 +1,4 @@
-use Rattle.std.proofs.Common.{ℕ, Some, sym, subst}
+use Rattle.std.proofs.Common.{ℕ, false, Some, sym, subst}
 use Rattle.egt_index.specs.Steps.{AllLead}
 use Rattle.egt_index.specs.Turns.{Best}
 use Rattle.egt_index.specs.declared.steps.Ways.{Ways}
@@ -9,26 +9,26 @@ use Rattle.egt_index.proofs.steps.Steps.index_to.Goals as goal
 pub unwrap-requires : goal.unwrap-requires
 unwrap-requires k =
     let (c, from, p, q, are, moved) = k.requires in
-    let (flips, leads, all) = subst (λ (w : Ways). AllLead c are.flipped p from w) k.in-King.is are.lead in
-    best_at_last k.facts.ensures c are.flipped q k.code_to-in-King.result moved.admissible (untargeted_settled q moved.target) (moved.class are.flipped are.is_of)
-    (all k.args.to q k.code_to-in-King.result moved (k.code_to-in-King.ensures c flips q are.class_in (leads k.args.to q moved)))
+    let (leads, all) = subst (λ (w : Ways). AllLead c p from w) k.in-King.is are.lead in
+    best_at_last k.facts.ensures c false q k.code_to-in-King.result moved.admissible (untargeted_settled q moved.target) (moved.class false are.is_of)
+    (all k.args.to q k.code_to-in-King.result moved (k.code_to-in-King.ensures c false q are.class_in (leads k.args.to q moved)))
 
 pub unwrap-requires-in_default : goal.unwrap-requires-in_default
 unwrap-requires-in_default k =
     let (c, from, p, q, are, moved) = k.requires in
-    best_at_last k.facts.ensures c are.flipped q k.least_to.result moved.admissible (untargeted_settled q moved.target) (moved.class are.flipped are.is_of) (k.least_to.ensures c from p q are moved)
+    best_at_last k.facts.ensures c false q k.least_to.result moved.admissible (untargeted_settled q moved.target) (moved.class false are.is_of) (k.least_to.ensures c from p q are moved)
 
 pub returns-in-Single : goal.returns-in-Single
 returns-in-Single k = λ c from p q are moved.
-    let lead = subst (λ (w : Ways). AllLead c are.flipped p from w) k.in-Single.is are.lead in
+    let lead = subst (λ (w : Ways). AllLead c p from w) k.in-Single.is are.lead in
     index_found k.facts.ensures c q q k.code_to.result moved.admissible (settles_untargeted q moved.target)
     (subst (λ (code : ℕ). Best c q 16 (Some code)) (sym k.code_to.ensures) (lead k.args.to q moved))
 
 pub returns-in-King : goal.returns-in-King
 returns-in-King k = λ c from p q are moved.
-    let (flips, leads, all) = subst (λ (w : Ways). AllLead c are.flipped p from w) k.in-King.is are.lead in
+    let (leads, all) = subst (λ (w : Ways). AllLead c p from w) k.in-King.is are.lead in
     index_found k.facts.ensures c q q k.unwrap.result moved.admissible (settles_untargeted q moved.target) (subst (Best c q 16) k.unwrap.ensures
-    (all k.args.to q k.code_to-in-King.result moved (k.code_to-in-King.ensures c flips q are.class_in (leads k.args.to q moved))))
+    (all k.args.to q k.code_to-in-King.result moved (k.code_to-in-King.ensures c false q are.class_in (leads k.args.to q moved))))
 
 pub returns-in_default : goal.returns-in_default
 returns-in_default k = λ c from p q are moved.

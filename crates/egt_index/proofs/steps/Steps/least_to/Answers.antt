@@ -1,4 +1,4 @@
-use Rattle.std.proofs.Common.{ℕ, Some, sym, subst}
+use Rattle.std.proofs.Common.{ℕ, false, Some, sym, subst}
 use Rattle.egt_index.specs.Steps.{AllLead}
 use Rattle.egt_index.specs.Turns.{Best}
 use Rattle.egt_index.specs.declared.steps.Ways.{Ways}
@@ -6,20 +6,20 @@ use Rattle.egt_index.proofs.steps.Steps.least_to.Goals as goal
 
 pub returns-in-Single : goal.returns-in-Single
 returns-in-Single k = λ c from p q are moved.
-    let lead = subst (λ (w : Ways). AllLead c are.flipped p from w) k.in-Single.is are.lead in
+    let lead = subst (λ (w : Ways). AllLead c p from w) k.in-Single.is are.lead in
     subst (λ (code : ℕ). Best c q 16 (Some code)) (sym k.code_to.ensures) (lead k.args.to q moved)
 
 pub returns-in-King : goal.returns-in-King
 returns-in-King k = λ c from p q are moved.
-    let (flips, leads, all) = subst (λ (w : Ways). AllLead c are.flipped p from w) k.in-King.is are.lead in
-    all k.args.to q k.code_to-in-King.result moved (k.code_to-in-King.ensures c flips q are.class_in (leads k.args.to q moved))
+    let (leads, all) = subst (λ (w : Ways). AllLead c p from w) k.in-King.is are.lead in
+    all k.args.to q k.code_to-in-King.result moved (k.code_to-in-King.ensures c false q are.class_in (leads k.args.to q moved))
 
 pub returns-in-Alone : goal.returns-in-Alone
 returns-in-Alone k = λ c from p q are moved.
-    let (flips, leads, all) = subst (λ (w : Ways). AllLead c are.flipped p from w) k.in-Alone.is are.lead in
+    let (flips, leads, all) = subst (λ (w : Ways). AllLead c p from w) k.in-Alone.is are.lead in
     all k.args.to q k.code_to-in-Alone.result moved (k.code_to-in-Alone.ensures c from flips p q are.class_in leads moved)
 
 pub returns-in-Both : goal.returns-in-Both
 returns-in-Both k = λ c from p q are moved.
-    let lead = subst (λ (w : Ways). AllLead c are.flipped p from w) k.in-Both.is are.lead in
-    k.least_of.ensures c from are.flipped p q are.class_in lead.0 lead.1 moved
+    let lead = subst (λ (w : Ways). AllLead c p from w) k.in-Both.is are.lead in
+    k.least_of.ensures c from p q are.class_in lead.0 lead.1 moved

@@ -1,14 +1,9 @@
--- The men of a class where turns take them, as one man goes from square to square.
-use Rattle.std.specs.Prelude.{◌≡◌, ℕ, ◌<◌, ◌/◌, ◌%◌, ◌==◌, Bool, false, if◌then◌else◌, Option, IfSome}
+-- The men of a class as one man goes from square to square.
+use Rattle.std.specs.Prelude.{◌≡◌, ℕ, ◌<◌, ◌==◌, Bool, false, if◌then◌else◌, IfSome}
 use Rattle.std.specs.Option.{option_map}
 use Rattle.egt_board.specs.Setup.{Setup}
 use Rattle.egt_board.specs.declared.man.Side.{Side}
-use Rattle.egt_class.specs.Material.{material_of}
-use Rattle.egt_index.specs.Home.{AreHome}
-use Rattle.egt_index.specs.Size.{has_pawns}
-use Rattle.egt_index.specs.Stood.{Entry, HasStand, IsTurned}
-use Rattle.egt_index.specs.declared.lanes.Lane.{Lane}
-use Rattle.egt_index.specs.declared.lanes.Lanes.{Lanes}
+use Rattle.egt_index.specs.Stood.{Entry, HasStand}
 use Rattle.egt_index.specs.declared.stand.Stand.{Stand}
 
 -- the square of a man after the man on `from` went to `to`
@@ -38,16 +33,3 @@ pub record IsWent (c : ℕ) (flips : Bool) (before after : Stand) (from to : ℕ
   pub on_board : AreOnBoard before
   pub moved : IsMovedStand from to before after
   pub stand : HasStand c flips after side false q
-
--- where a turn takes the men
-abbrev pub IsLane : Stand → Lane → Type 0
-IsLane stand lane = IsTurned (lane.turn % 8) (lane.turn / 8 == 1) stand lane.after
-
-abbrev pub turn_of : Option Lane → Option ℕ
-turn_of lane = option_map (λ l. l.turn) lane
-
--- the turns that bring the white king home, and where they take the men
-pub record AreLanes (c : ℕ) (flips : Bool) (stand : Stand) (lanes : Lanes) : Type 0 where
-  pub home : AreHome (has_pawns (material_of c)) flips stand.white lanes.first.turn (turn_of lanes.second)
-  pub first : IsLane stand lanes.first
-  pub second : IfSome lanes.second (IsLane stand)
