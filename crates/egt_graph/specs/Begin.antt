@@ -3,6 +3,7 @@ use Rattle.std.specs.Prelude.{◌≡◌, ℕ, ◌+◌, ◌<◌, ◌≤◌, ◌==
 use Rattle.std.specs.List.{list_any}
 use Rattle.egt_graph.specs.Graph.{Graph}
 use Rattle.egt_graph.specs.Columns.{outs, leaves, count_of, entry_at, later_at, is_loss, is_win_of, is_loss_of}
+use Rattle.egt_graph.specs.declared.begin.Columns.{Columns}
 use Rattle.egt_graph.specs.declared.game.Exit.{Exit}
 
 -- the node was added under the numbers of its exits
@@ -27,3 +28,7 @@ pub record IsBegun (g : Graph) (m : ℕ) (entries waits later : List ℕ) (lost 
   pub losses : (i : ℕ) → i < m → slice_index_or lost i false ≡ list_any is_loss (leaves g i)
   pub lost_exits : IsFilled g is_loss_of m lost_due
   pub won_exits : IsFilled g is_win_of m won_due
+
+abbrev pub AreBegun : Graph → ℕ → Columns → Type 0
+AreBegun g m columns =
+    IsBegun g m columns.entries.items columns.waits.items columns.later.items columns.lost.items columns.lost_due columns.won_due

@@ -1,8 +1,9 @@
 -- A finite game as its players see it: who may go where. Positions are numbers, its nodes.
-use Rattle.std.specs.Prelude.{◌≡◌, ℕ, ◌<◌, ◌≤◌, Bool, List, [], All, Contains, IsTrue, IsFalse}
+use Rattle.std.specs.Prelude.{◌≡◌, ℕ, ◌<◌, ◌≤◌, Bool, true, List, [], length, Option, All, Contains, IsTrue, IsFalse, IfSome, IfNone}
 use Rattle.std.specs.List.Sorted.{IsStrictlyIncreasing}
 use Rattle.egt_graph.specs.declared.game.Exit.{Exit}
 use Rattle.egt_graph.specs.declared.game.Exit.TheVariants.{Win, Loss, Draw}
+use Rattle.egt_graph.specs.declared.game.Start.{Start}
 
 pub record Graph : Type 0 where
   -- the nodes are the numbers below the size that are not void
@@ -19,6 +20,11 @@ pub record Graph : Type 0 where
 pub record IsNode (g : Graph) (i : ℕ) : Type 0 where
   pub in_range : i < g.size
   pub not_void : IsFalse (g.void i)
+
+-- what is told of a number before any rank is known, with the values of the positions outside
+pub record IsStart (g : Graph) (i : ℕ) (start : Option Start) (exits : List Exit) : Type 0 where
+  pub node : IfSome start (λ s. IsFalse (g.void i) × (s.mated ≡ g.mated i) × (s.degree ≡ length (g.out i)) × (s.degree ≤ 64) × (exits ≡ g.exits i))
+  pub void : IfNone start ((g.void i ≡ true) × (exits ≡ []))
 
 -- a value from outside is of a distance that an entry can hold
 abbrev pub HasShortDistance : Exit → Type 0

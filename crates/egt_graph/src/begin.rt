@@ -2,10 +2,11 @@
 ghost use Rattle.std.specs.Prelude.{◌≡◌, ℕ, ◌+◌, ◌<◌, ◌≤◌, ◌^◌, length, count_by, [], ◌∷◌, OnOk, IfOk};
 ghost use Rattle.std.specs.List.{list_any};
 ghost use Rattle.egt_graph.specs.Columns.{outs, leaves, entry_at, is_loss, is_win_from, is_win_of, is_loss_of};
-ghost use Rattle.egt_graph.specs.Begin.{Adds, IsBegun};
+ghost use Rattle.egt_graph.specs.Begin.{Adds, AreBegun, IsBegun};
+ghost use Rattle.egt_graph.specs.Graph.{IsStart};
 
 use crate::columns::DRAW;
-use crate::game::{Exit, Game};
+use crate::game::{Exit, Game, Start};
 use crate::schedule::Schedule;
 use arrayvec::ArrayVec;
 use std::alloc::{AllocError, Global};
@@ -36,13 +37,44 @@ pub(crate) fn begin<G: Game>(alloc: Global, game: &G) -> Result<Columns, AllocEr
         won_due: Schedule::new(alloc),
     };
     let mut exits = ArrayVec::new();
-    for node in 0..size {
-        push_node(alloc, game, node, &mut exits, &mut columns)?;
+    let mut next_exits = ArrayVec::new();
+    for pair in 0..size / 2 {
+        push_two(
+            alloc,
+            game,
+            2 * pair,
+            &mut exits,
+            &mut next_exits,
+            &mut columns,
+        )?;
+    }
+    if size % 2 == 1 {
+        push_one(alloc, game, size - 1, &mut exits, &mut columns)?;
     }
     Ok(columns)
 }
 
-fn push_node<G: Game>(
+/// Pushes a number and the next, of which the game is asked at once.
+fn push_two<G: Game>(
+    alloc: Global,
+    game: &G,
+    node: u32,
+    exits: &mut ArrayVec<Exit, 64>,
+    next_exits: &mut ArrayVec<Exit, 64>,
+    columns: &mut Columns,
+) -> Result<(), AllocError>
+    requires in_range { node + 1 < (G.graph game.now).size }
+    requires begun { AreBegun (G.graph game.now) node columns.old }
+    ensures { OnOk result (AreBegun (G.graph game.now) (node + 2) columns.new) }
+{
+    let _size = game.size();
+    let (start, next) = game.start_two(node, exits, next_exits);
+    push_node(alloc, game, node, start, exits.as_slice(), columns)?;
+    push_node(alloc, game, node + 1, next, next_exits.as_slice(), columns)
+}
+
+/// Pushes a number of which the game is asked alone.
+fn push_one<G: Game>(
     alloc: Global,
     game: &G,
     node: u32,
@@ -50,13 +82,29 @@ fn push_node<G: Game>(
     columns: &mut Columns,
 ) -> Result<(), AllocError>
     requires in_range { node < (G.graph game.now).size }
-    requires begun { IsBegun (G.graph game.now) node columns.old.entries.items columns.old.waits.items
-        columns.old.later.items columns.old.lost.items columns.old.lost_due columns.old.won_due }
-    ensures { OnOk result (IsBegun (G.graph game.now) (node + 1) columns.new.entries.items columns.new.waits.items
-        columns.new.later.items columns.new.lost.items columns.new.lost_due columns.new.won_due) }
+    requires begun { AreBegun (G.graph game.now) node columns.old }
+    ensures { OnOk result (AreBegun (G.graph game.now) (node + 1) columns.new) }
 {
-    let row = row_of(game, node, exits);
-    let exits = exits.as_slice();
+    let start = game.start(node, exits);
+    push_node(alloc, game, node, start, exits.as_slice(), columns)
+}
+
+/// Pushes the number of which the game has told this. `_game` is that game: the contract alone reads it.
+fn push_node<G: Game>(
+    alloc: Global,
+    _game: &G,
+    node: u32,
+    start: Option<Start>,
+    exits: &[Exit],
+    columns: &mut Columns,
+) -> Result<(), AllocError>
+    requires in_range { node < (G.graph _game.now).size }
+    requires started { IsStart (G.graph _game.now) node start exits.now }
+    requires few { length exits.now ≤ 64 }
+    requires begun { AreBegun (G.graph _game.now) node columns.old }
+    ensures { OnOk result (AreBegun (G.graph _game.now) (node + 1) columns.new) }
+{
+    let row = row_of(_game, node, start, exits);
     columns.entries.push(row.entry)?;
     columns.waits.push(row.moves + exits.len() as u8)?;
     columns.later.push(count_wins(exits))?;
@@ -71,21 +119,23 @@ fn push_node<G: Game>(
     Ok(())
 }
 
-/// What the game says of a node, or of a number that is none.
+/// What the columns hold of a node, or of a number that is none.
 #[derive(Clone, Copy)]
 struct Row {
     entry: u16,
     moves: u8,
 }
 
-fn row_of<G: Game>(game: &G, node: u32, exits: &mut ArrayVec<Exit, 64>) -> Row
-    requires { node < (G.graph game.now).size }
-    ensures entry { result.entry ≡ entry_at (G.graph game.now) 0 node }
-    ensures moves { result.moves ≡ length (outs (G.graph game.now) node) }
+/// `_game` and `_exits` are read by the contract alone.
+fn row_of<G: Game>(_game: &G, node: u32, start: Option<Start>, _exits: &[Exit]) -> Row
+    requires in_range { node < (G.graph _game.now).size }
+    requires started { IsStart (G.graph _game.now) node start _exits.now }
+    ensures entry { result.entry ≡ entry_at (G.graph _game.now) 0 node }
+    ensures moves { result.moves ≡ length (outs (G.graph _game.now) node) }
     ensures few_moves { result.moves ≤ 64 }
-    ensures exits { exits.new.items ≡ leaves (G.graph game.now) node }
+    ensures exits { _exits.now ≡ leaves (G.graph _game.now) node }
 {
-    match game.start(node, exits) {
+    match start {
         Some(start) => Row {
             entry: if start.mated { 3 } else { DRAW },
             moves: start.degree,

@@ -1,6 +1,6 @@
 //! A finite game: nodes, the moves between them, and the moves that leave it.
-ghost use Rattle.std.specs.Prelude.{◌≡◌, ◌<◌, ◌≤◌, length, [], true, IfSome, IfNone, IsFalse};
-ghost use Rattle.egt_graph.specs.Graph.{Graph, IsNode, IsGame};
+ghost use Rattle.std.specs.Prelude.{◌≡◌, ◌+◌, ◌<◌, ◌≤◌, length, [], true, IfSome, IfNone, IsFalse};
+ghost use Rattle.egt_graph.specs.Graph.{Graph, IsNode, IsGame, IsStart};
 
 use arrayvec::ArrayVec;
 
@@ -84,6 +84,22 @@ pub trait Game {
             mated: self.mated(i),
             degree: self.degree(i) as u8,
         })
+    }
+
+    /// What `start` answers of two neighbours, which may have much in common.
+    fn start_two(
+        &self,
+        i: u32,
+        exits: &mut ArrayVec<Exit, 64>,
+        next_exits: &mut ArrayVec<Exit, 64>,
+    ) -> (Option<Start>, Option<Start>)
+        requires { i + 1 < (graph self.now).size }
+        ensures first { IsStart (graph self.now) i result.0 exits.new.items }
+        ensures second { IsStart (graph self.now) (i + 1) result.1 next_exits.new.items }
+    {
+        let _size = self.size();
+        let start = self.start(i, exits);
+        (start, self.start(i + 1, next_exits))
     }
 
     /// Fills the list with what `into` answers, in the place of what it had.

@@ -3,7 +3,6 @@ ghost use Rattle.std.specs.Prelude.{◌≡◌, ◌+◌, ◌*◌, ◌++◌, ◌�
 ghost use Rattle.std.specs.Option.{option_to_list};
 ghost use Rattle.arrayvec.specs.ArrayVec.{array_vec_len};
 ghost use Rattle.egt_board.specs.Placement.{Stands};
-ghost use Rattle.egt_board.specs.Settled.{IsSettled};
 ghost use Rattle.egt_board.specs.Setup.{Setup, IsAdmissible};
 ghost use Rattle.egt_board.specs.SquareSet.{Has, size_of};
 ghost use Rattle.egt_board.specs.declared.man.Man.{Man};
@@ -23,7 +22,7 @@ ghost use Rattle.egt_sweep.specs.Aiming.{column_of, known, KnowsOwn};
 ghost use Rattle.egt_sweep.specs.Edges.{GoesOn};
 ghost use Rattle.egt_sweep.specs.MateColumn.{IsIndexed};
 ghost use Rattle.egt_sweep.specs.Nodes.{plies_told, exit_of, shown_below, exit_by, exits_by};
-ghost use Rattle.egt_sweep.specs.Ways.{IsStep, AllLeave, OthersGoOn};
+ghost use Rattle.egt_sweep.specs.Ways.{IsFrameIn, IsStep, AllLeave, OthersGoOn};
 
 use crate::aim::Aim;
 use crate::laws::laws;
@@ -184,6 +183,7 @@ fn add_exit_of_step(
     aim: &Aim<'_>,
     class: Class,
     library: &Library,
+    frame: &Frame,
     position: &Position,
     from: Square,
     to: Square,
@@ -192,7 +192,7 @@ fn add_exit_of_step(
     requires knows { KnowsOwn class aim.now }
     requires of { (flipped : Bool) × IsOf class flipped position.now }
     requires children { HasChildren (table_at library.now) class }
-    requires settled { IsSettled position.now }
+    requires frame { IsFrameIn class position.now frame.now }
     requires target { IsLegalTarget position.now from to }
     requires step { IsStep position.now from to }
     requires leaves { (m : Move) (q : Setup) → m.from ≡ from → m.to ≡ to → Leads position.now m q → ¬ GoesOn (column_of aim.now) class position.now m q }
@@ -203,7 +203,6 @@ fn add_exit_of_step(
     laws();
     let _side = position.side();
     let _number = class.number();
-    let frame = Frame::of(class, position);
     let index = frame.steps(from).index_to(to);
     list.push(exit_in(aim, class, library, class, index));
 }
@@ -213,6 +212,7 @@ fn add_exits_to(
     aim: &Aim<'_>,
     class: Class,
     library: &Library,
+    frame: Option<&Frame>,
     position: &Position,
     from: Square,
     to: Square,
@@ -221,25 +221,28 @@ fn add_exits_to(
     requires knows { KnowsOwn class aim.now }
     requires of { (flipped : Bool) × IsOf class flipped position.now }
     requires children { HasChildren (table_at library.now) class }
-    requires settled { IsSettled position.now }
+    requires frame { IfSome frame (λ f. IsFrameIn class position.now f.now) }
     requires target { IsLegalTarget position.now from to }
     requires leaves { (m : Move) (q : Setup) → m.from ≡ from → m.to ≡ to → Leads position.now m q → ¬ GoesOn (column_of aim.now) class position.now m q }
     requires room { (man : Man) → Stands position.now.men from man → array_vec_len list.old + most_choices man.kind ≤ 64 }
     ensures items { list.new.items ≡ list.old.items ++ exits_by (known (table_at library.now) class aim.now) (column_of aim.now) class position.now (moves_between from to) }
     ensures few { (man : Man) → Stands position.now.men from man → array_vec_len list.new ≤ array_vec_len list.old + most_choices man.kind }
 {
-    if is_step(position, from, to) {
-        add_exit_of_step(aim, class, library, position, from, to, list);
-    } else {
-        add_exits_between(aim, class, library, position, from, to, list);
+    match frame {
+        Some(frame) if is_step(position, from, to) => {
+            add_exit_of_step(aim, class, library, frame, position, from, to, list);
+        }
+        _ => add_exits_between(aim, class, library, position, from, to, list),
     }
 }
 
-/// Adds the values of where the man's moves that leave the game lead, in the order of moves: those to these squares.
+/// Adds the values of where the man's moves that leave the game lead, in the order of moves: those to these squares. Where the frame is
+/// at hand, the positions that steps lead to are not made.
 pub(crate) fn add_exits(
     aim: &Aim<'_>,
     class: Class,
     library: &Library,
+    frame: Option<&Frame>,
     position: &Position,
     from: Square,
     targets: SquareSet,
@@ -248,7 +251,7 @@ pub(crate) fn add_exits(
     requires knows { KnowsOwn class aim.now }
     requires of { (flipped : Bool) × IsOf class flipped position.now }
     requires children { HasChildren (table_at library.now) class }
-    requires settled { IsSettled position.now }
+    requires frame { IfSome frame (λ f. IsFrameIn class position.now f.now) }
     requires targets { (t : ℕ) → Has targets t → IsLegalTarget position.now from t }
     requires leaves { AllLeave (column_of aim.now) class position.now from targets }
     requires others { OthersGoOn (column_of aim.now) class position.now from targets }
@@ -260,6 +263,6 @@ pub(crate) fn add_exits(
     let _side = position.side();
     let mut rest = targets;
     while let Some(to) = rest.pop_first() {
-        add_exits_to(aim, class, library, position, from, to, list);
+        add_exits_to(aim, class, library, frame, position, from, to, list);
     }
 }

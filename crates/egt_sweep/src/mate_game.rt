@@ -5,7 +5,9 @@ ghost use Rattle.egt_sweep.specs.ClassGame.{class_game, class_game_is_lawful};
 
 use crate::aim::Aim;
 use crate::missing::Missing;
-use crate::nodes::{exits, is_mated, is_void, predecessors, start, successors};
+use crate::nodes::{
+    exits, is_mated, is_void, listed_degree, predecessors, start, start_two, successors,
+};
 use arrayvec::ArrayVec;
 use egt_check::{Library, first_missing};
 use egt_class::Class;
@@ -66,7 +68,7 @@ impl Game for MateGame<'_> {
     }
 
     fn degree(&self, i: u32) -> usize {
-        successors(Column::Mate, self.class, i).len()
+        listed_degree(Column::Mate, self.class, i)
     }
 
     fn into(&self, j: u32) -> ArrayVec<u32, 128> {
@@ -85,5 +87,14 @@ impl Game for MateGame<'_> {
 
     fn start(&self, i: u32, exits: &mut ArrayVec<Exit, 64>) -> Option<Start> {
         start(&Aim::Mate, self.class, self.library, i, exits)
+    }
+
+    fn start_two(
+        &self,
+        i: u32,
+        exits: &mut ArrayVec<Exit, 64>,
+        next_exits: &mut ArrayVec<Exit, 64>,
+    ) -> (Option<Start>, Option<Start>) {
+        start_two(&Aim::Mate, self.class, self.library, i, exits, next_exits)
     }
 }

@@ -1,38 +1,33 @@
 //! The nodes of a class's game.
-ghost use Rattle.std.specs.Prelude.{◌≡◌, ◌<◌, ◌≤◌, ℕ, Bool, Some, [], length, not, false, true, IsTrue, IsFalse, IfSome, IfNone};
+ghost use Rattle.std.specs.Prelude.{◌≡◌, ◌+◌, ◌%◌, ◌/◌, ◌<◌, ◌≤◌, ℕ, Some, [], length, not, false, true, IsTrue, IsFalse, IfSome};
 ghost use Rattle.std.specs.Int.{bit_at};
 ghost use Rattle.std.specs.Option.{is_some};
 ghost use Rattle.egt_board.specs.Decided.{tells};
-ghost use Rattle.egt_board.specs.Settled.{IsSettled};
-ghost use Rattle.egt_board.specs.Setup.{Setup};
 ghost use Rattle.egt_board.specs.declared.square_set.SquareSet.{SquareSet};
-ghost use Rattle.egt_class.specs.Membership.{IsOf};
+ghost use Rattle.egt_index.specs.Row.{row_len, IsRowOf};
 ghost use Rattle.egt_index.specs.Size.{size_of};
 ghost use Rattle.egt_moves.specs.DecidedMoves.{decided_checkmate};
-ghost use Rattle.egt_moves.specs.Legal.{Leads};
 ghost use Rattle.egt_moves.specs.Standing.{CanMove};
-ghost use Rattle.egt_moves.specs.declared.chess_move.Move.{Move};
+ghost use Rattle.egt_graph.specs.Graph.{IsStart};
 ghost use Rattle.egt_graph.specs.Passing.{passing_below};
-ghost use Rattle.egt_sweep.specs.Edges.{IsAt, GoesOn};
-ghost use Rattle.egt_sweep.specs.Ways.{Counts, HasAnchor};
-ghost use Rattle.egt_check.specs.Tables.{table_at, beside, HasChildren};
-ghost use Rattle.egt_table.specs.declared.column.Column.TheVariants.{Zeroing};
-ghost use Rattle.egt_sweep.specs.MateColumn.{mate_table, IsMateColumn};
-ghost use Rattle.egt_sweep.specs.Aiming.{column_of, known, KnowsOwn};
-ghost use Rattle.egt_sweep.specs.Nodes.{position_at, is_mated, connects, exits_at, exits_from};
+ghost use Rattle.egt_check.specs.Tables.{table_at, HasChildren};
+ghost use Rattle.egt_sweep.specs.Aiming.{column_of, game_of, known, KnowsOwn};
+ghost use Rattle.egt_sweep.specs.Edges.{IsAt};
+ghost use Rattle.egt_sweep.specs.Nodes.{position_at, is_mated, connects, exits_at};
+ghost use Rattle.egt_sweep.specs.Ways.{IsFrameIn, Counts, HasAnchor};
 
 use crate::aim::Aim;
 use crate::anchor::has_anchor;
 use crate::edges::edges;
 use crate::laws::laws;
-use crate::sources::sources;
+use crate::sources::{has_pawn, sources};
 use crate::ways::{Ways, ways_of};
 use arrayvec::ArrayVec;
 use egt_board::Position;
 use egt_check::Library;
 use egt_class::Class;
-use egt_graph::{Exit, Ranks, Start};
-use egt_index::{Frame, indexed, position, position_of};
+use egt_graph::{Exit, Start};
+use egt_index::{Frame, Row, indexed, position, position_of, row_of, size};
 use egt_moves::{Standing, standing};
 use egt_table::Column;
 
@@ -114,7 +109,7 @@ pub(crate) fn exits(
     let _number = class.number();
     let mut list = ArrayVec::new();
     let position = position_of(class, index);
-    let _ways = ways_of(aim, class, library, &position, &mut list);
+    let _ways = ways_of(aim, class, library, None, &position, &mut list);
     list
 }
 
@@ -132,26 +127,20 @@ fn is_checkmate_by(position: &Position, ways: &Ways) -> bool
 /// To how many nodes the moves that go on lead: they are listed, since a mirror may take two of them to one index. Few nodes are such,
 /// so it stays out of what is done at all nodes.
 #[inline(never)]
-fn listed_degree(column: Column, class: Class, position: &Position) -> usize
-    requires of { (flipped : Bool) × IsOf class flipped position.now }
-    requires settled { IsSettled position.now }
-    ensures value { (i : ℕ) → IsAt class i position.now → result ≡ length (passing_below (size_of class) (λ j. connects column class i j)) }
+pub(crate) fn listed_degree(column: Column, class: Class, index: u32) -> usize
+    requires { IsFalse (not (is_some (position_at class index))) }
+    ensures value { result ≡ length (passing_below (size_of class) (λ j. connects column class index j)) }
     ensures few { result ≤ 64 }
 {
-    laws();
-    let _number = class.number();
-    let frame = Frame::of(class, position);
-    let mut list = ArrayVec::new();
-    edges(column, class, &frame, position, &mut list);
-    list.len()
+    successors(column, class, index).len()
 }
 
-/// To how many nodes the moves that go on lead. Where no mirror can take two of them to one index, each has its own.
-fn degree(column: Column, class: Class, position: &Position, ways: &Ways) -> usize
-    requires of { (flipped : Bool) × IsOf class flipped position.now }
-    requires settled { IsSettled position.now }
+/// To how many nodes the moves that go on lead from the position at the index. Where no mirror can take two of them to one index, each
+/// has its own.
+fn degree(column: Column, class: Class, index: u32, position: &Position, ways: &Ways) -> usize
+    requires at { IsAt class index position.now }
     requires counts { HasAnchor class position.now → (none : SquareSet) × ((s : ℕ) → bit_at none.bits s ≡ 0) × Counts column class position.now none ways.now.onward }
-    ensures value { (i : ℕ) → IsAt class i position.now → result ≡ length (passing_below (size_of class) (λ j. connects column class i j)) }
+    ensures value { result ≡ length (passing_below (size_of class) (λ j. connects column class index j)) }
     ensures few { result ≤ 64 }
 {
     laws();
@@ -159,7 +148,7 @@ fn degree(column: Column, class: Class, position: &Position, ways: &Ways) -> usi
     if ways.onward <= 64 && has_anchor(class, position) {
         return ways.onward as usize;
     }
-    listed_degree(column, class, position)
+    listed_degree(column, class, index)
 }
 
 /// What a run begins with at the node of the position.
@@ -167,28 +156,76 @@ fn start_at(
     aim: &Aim<'_>,
     class: Class,
     library: &Library,
+    index: u32,
+    frame: Option<&Frame>,
     position: &Position,
     exits: &mut ArrayVec<Exit, 64>,
 ) -> Start
     requires knows { KnowsOwn class aim.now }
     requires children { HasChildren (table_at library.now) class }
-    requires of { (flipped : Bool) × IsOf class flipped position.now }
-    requires settled { IsSettled position.now }
-    ensures mated { result.mated ≡ tells (decided_checkmate position.now) }
-    ensures degree { (i : ℕ) → IsAt class i position.now → result.degree ≡ length (passing_below (size_of class) (λ j. connects (column_of aim.now) class i j)) }
-    ensures few { result.degree ≤ 64 }
-    ensures exits { exits.new.items ≡ exits_from (known (table_at library.now) class aim.now) (column_of aim.now) class (Some position.now) }
+    requires at { IsAt class index position.now }
+    requires frame { IfSome frame (λ f. IsFrameIn class position.now f.now) }
+    requires empty { exits.old.items ≡ [] }
+    ensures { IsStart (game_of (table_at library.now) class aim.now) index (Some result) exits.new.items }
 {
-    exits.clear();
-    let ways = ways_of(aim, class, library, position, exits);
+    laws();
+    let _number = class.number();
+    let ways = ways_of(aim, class, library, frame, position, exits);
     Start {
         mated: is_checkmate_by(position, &ways),
-        degree: degree(aim.column(), class, position, &ways) as u8,
+        degree: degree(aim.column(), class, index, position, &ways) as u8,
     }
 }
 
-/// What a run begins with at a number: nothing where no position has it. The values of the positions outside take the place of what
-/// `exits` had.
+/// Whether it is known that no position has the index. In the game of zeroing moves the mate ranks of the class, `_class`, tell it.
+fn is_known_void(aim: &Aim<'_>, _class: Class, index: u32) -> bool
+    requires below { index < size_of _class }
+    requires knows { KnowsOwn _class aim.now }
+    ensures { IsTrue result → not (is_some (position_at _class index)) ≡ true }
+{
+    match aim {
+        Aim::Mate => false,
+        Aim::Zeroing(ranks) => ranks.entries()[index as usize] == 0,
+    }
+}
+
+/// What a run begins with at a number of the row: nothing where no position has it. The values of the positions outside take the place
+/// of what `exits` had.
+fn start_in(
+    aim: &Aim<'_>,
+    class: Class,
+    library: &Library,
+    row: &mut Option<Row>,
+    index: u32,
+    exits: &mut ArrayVec<Exit, 64>,
+) -> Option<Start>
+    requires below { index < size_of class }
+    requires knows { KnowsOwn class aim.now }
+    requires children { HasChildren (table_at library.now) class }
+    requires row { IsRowOf class (index / row_len class) row.old }
+    ensures row { IsRowOf class (index / row_len class) row.new }
+    ensures start { IsStart (game_of (table_at library.now) class aim.now) index result exits.new.items }
+{
+    laws();
+    let _number = class.number();
+    exits.clear();
+    if is_known_void(aim, class, index) {
+        return None;
+    }
+    let Some(row) = row else {
+        return None;
+    };
+    let position = row.position_at(index)?;
+    // There the steps of pawns leave the game, and what they lead to is found by the frame.
+    if matches!(aim, Aim::Zeroing(_)) && has_pawn(&position, position.side()) {
+        row.turn_to(&position);
+        let frame = Some(row.frame());
+        return Some(start_at(aim, class, library, index, frame, &position, exits));
+    }
+    Some(start_at(aim, class, library, index, None, &position, exits))
+}
+
+/// What a run begins with at a number, by its row.
 pub(crate) fn start(
     aim: &Aim<'_>,
     class: Class,
@@ -196,52 +233,65 @@ pub(crate) fn start(
     index: u32,
     exits: &mut ArrayVec<Exit, 64>,
 ) -> Option<Start>
+    requires below { index < size_of class }
     requires knows { KnowsOwn class aim.now }
     requires children { HasChildren (table_at library.now) class }
-    ensures node { IfSome result (λ start. IsFalse (not (is_some (position_at class index)))
-        × (start.mated ≡ is_mated (position_at class index))
-        × (start.degree ≡ length (passing_below (size_of class) (λ j. connects (column_of aim.now) class index j)))
-        × (start.degree ≤ 64)
-        × (exits.new.items ≡ exits_at (known (table_at library.now) class aim.now) (column_of aim.now) class index)) }
-    ensures void { IfNone result ((not (is_some (position_at class index)) ≡ true) × (exits.new.items ≡ [])) }
+    ensures { IsStart (game_of (table_at library.now) class aim.now) index result exits.new.items }
 {
-    laws();
     let _number = class.number();
-    match position(class, index) {
-        Some(position) => Some(start_at(aim, class, library, &position, exits)),
-        None => {
-            exits.clear();
-            None
-        }
-    }
+    let mut row = row_of(class, index);
+    start_in(aim, class, library, &mut row, index, exits)
 }
 
-/// The same in the game of zeroing moves, where the mate ranks of the class tell which numbers are nodes. So nothing is asked of a number
-/// that no position has, and nothing is tested of the others.
-pub(crate) fn start_by_ranks(
-    mates: &Ranks,
+/// What a run begins with at two numbers of one row, which is not made where it is known that neither is a node.
+fn start_row(
+    aim: &Aim<'_>,
     class: Class,
     library: &Library,
     index: u32,
     exits: &mut ArrayVec<Exit, 64>,
-) -> Option<Start>
-    requires below { index < size_of class }
-    requires knows { IsMateColumn class mates.now }
+    next_exits: &mut ArrayVec<Exit, 64>,
+) -> (Option<Start>, Option<Start>)
+    requires below { index + 1 < size_of class }
+    requires even { index % 2 ≡ 0 }
+    requires knows { KnowsOwn class aim.now }
     requires children { HasChildren (table_at library.now) class }
-    ensures node { IfSome result (λ start. IsFalse (not (is_some (position_at class index)))
-        × (start.mated ≡ is_mated (position_at class index))
-        × (start.degree ≡ length (passing_below (size_of class) (λ j. connects Zeroing class index j)))
-        × (start.degree ≤ 64)
-        × (exits.new.items ≡ exits_at (beside (table_at library.now) (mate_table class mates.now)) Zeroing class index)) }
-    ensures void { IfNone result ((not (is_some (position_at class index)) ≡ true) × (exits.new.items ≡ [])) }
+    ensures first { IsStart (game_of (table_at library.now) class aim.now) index result.0 exits.new.items }
+    ensures second { IsStart (game_of (table_at library.now) class aim.now) (index + 1) result.1 next_exits.new.items }
 {
-    laws();
     let _number = class.number();
-    if mates.entries()[index as usize] == 0 {
+    if is_known_void(aim, class, index) && is_known_void(aim, class, index + 1) {
         exits.clear();
-        return None;
+        next_exits.clear();
+        return (None, None);
     }
-    let position = position_of(class, index);
-    let aim = Aim::Zeroing(mates);
-    Some(start_at(&aim, class, library, &position, exits))
+    let mut row = row_of(class, index);
+    let first = start_in(aim, class, library, &mut row, index, exits);
+    (
+        first,
+        start_in(aim, class, library, &mut row, index + 1, next_exits),
+    )
+}
+
+/// What a run begins with at two neighbours: an even number and the next are of one row.
+pub(crate) fn start_two(
+    aim: &Aim<'_>,
+    class: Class,
+    library: &Library,
+    index: u32,
+    exits: &mut ArrayVec<Exit, 64>,
+    next_exits: &mut ArrayVec<Exit, 64>,
+) -> (Option<Start>, Option<Start>)
+    requires below { index + 1 < size_of class }
+    requires knows { KnowsOwn class aim.now }
+    requires children { HasChildren (table_at library.now) class }
+    ensures first { IsStart (game_of (table_at library.now) class aim.now) index result.0 exits.new.items }
+    ensures second { IsStart (game_of (table_at library.now) class aim.now) (index + 1) result.1 next_exits.new.items }
+{
+    let _size = size(class);
+    if index % 2 == 0 {
+        return start_row(aim, class, library, index, exits, next_exits);
+    }
+    let first = start(aim, class, library, index, exits);
+    (first, start(aim, class, library, index + 1, next_exits))
 }

@@ -1,10 +1,9 @@
 //! How many legal moves of a position go on in the game, and the values of where the others lead.
-ghost use Rattle.std.specs.Prelude.{◌≡◌, ◌≢◌, ℕ, ◌+◌, ◌++◌, ◌<◌, ◌≤◌, ◌↔◌, ◌⊎◌, ◌^◌, Bool, IsTrue, false, [], Some};
+ghost use Rattle.std.specs.Prelude.{◌≡◌, ◌≢◌, ℕ, ◌+◌, ◌++◌, ◌<◌, ◌≤◌, ◌↔◌, ◌⊎◌, ◌^◌, Bool, IsTrue, false, [], Some, IfSome};
 ghost use Rattle.std.specs.Int.{bit_at};
 ghost use Rattle.arrayvec.specs.ArrayVec.{array_vec_len};
 ghost use Rattle.egt_board.specs.Camps.{AreCamps};
 ghost use Rattle.egt_board.specs.Placement.{Stands, IsHeld};
-ghost use Rattle.egt_board.specs.Settled.{IsSettled};
 ghost use Rattle.egt_board.specs.Setup.{Setup};
 ghost use Rattle.egt_board.specs.SquareSet.{Has, size_of};
 ghost use Rattle.egt_board.specs.declared.man.Man.{Man};
@@ -20,7 +19,7 @@ ghost use Rattle.egt_check.specs.Tables.{table_at, HasChildren};
 ghost use Rattle.egt_sweep.specs.Aiming.{column_of, known, KnowsOwn};
 ghost use Rattle.egt_sweep.specs.Edges.{GoesOn};
 ghost use Rattle.egt_sweep.specs.Nodes.{exits_by, exits_from};
-ghost use Rattle.egt_sweep.specs.Ways.{Stays, IsOnward, Counts, HasAnchor};
+ghost use Rattle.egt_sweep.specs.Ways.{Stays, IsFrameIn, IsOnward, Counts, HasAnchor};
 
 use crate::aim::Aim;
 use crate::laws::laws;
@@ -31,6 +30,7 @@ use egt_board::{Camps, Kind, Man, Position, Square, SquareSet};
 use egt_check::Library;
 use egt_class::Class;
 use egt_graph::Exit;
+use egt_index::Frame;
 use egt_index::laws::one_index_for_one_setup;
 use egt_moves::legal_targets_of;
 use egt_table::Column;
@@ -120,6 +120,7 @@ fn with_man(
     aim: &Aim<'_>,
     class: Class,
     library: &Library,
+    frame: Option<&Frame>,
     position: &Position,
     camps: Camps,
     from: Square,
@@ -129,7 +130,7 @@ fn with_man(
     requires knows { KnowsOwn class aim.now }
     requires of { (flipped : Bool) × IsOf class flipped position.now }
     requires children { HasChildren (table_at library.now) class }
-    requires settled { IsSettled position.now }
+    requires frame { IfSome frame (λ f. IsFrameIn class position.now f.now) }
     requires camps { AreCamps position.now camps }
     requires held { IsHeld position.now.men from position.now.side }
     requires few { ways.onward + 64 < 2 ^ 32 }
@@ -149,7 +150,7 @@ fn with_man(
     let targets = legal_targets_of(position, camps, man, from);
     let onward = onward(aim.column(), class, position, camps, from, targets);
     let leaving = targets.without(onward);
-    add_exits(aim, class, library, position, from, leaving, exits);
+    add_exits(aim, class, library, frame, position, from, leaving, exits);
     Ways {
         any: or_has_some(ways.any, targets),
         onward: ways.onward + count(onward),
@@ -161,13 +162,14 @@ pub(crate) fn ways_of(
     aim: &Aim<'_>,
     class: Class,
     library: &Library,
+    frame: Option<&Frame>,
     position: &Position,
     exits: &mut ArrayVec<Exit, 64>,
 ) -> Ways
     requires knows { KnowsOwn class aim.now }
     requires of { (flipped : Bool) × IsOf class flipped position.now }
     requires children { HasChildren (table_at library.now) class }
-    requires settled { IsSettled position.now }
+    requires frame { IfSome frame (λ f. IsFrameIn class position.now f.now) }
     requires empty { exits.old.items ≡ [] }
     ensures any { IsTrue result.any → CanMove position.now }
     ensures counts { HasAnchor class position.now → (none : SquareSet) × ((s : ℕ) → bit_at none.bits s ≡ 0) × Counts (column_of aim.now) class position.now none result.onward }
@@ -181,7 +183,9 @@ pub(crate) fn ways_of(
     let camps = position.camps();
     let mut rest = position.of(position.side());
     while let Some(from) = rest.pop_first() {
-        ways = with_man(aim, class, library, position, camps, from, ways, exits);
+        ways = with_man(
+            aim, class, library, frame, position, camps, from, ways, exits,
+        );
     }
     ways
 }

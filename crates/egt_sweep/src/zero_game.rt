@@ -8,7 +8,9 @@ ghost use Rattle.egt_sweep.specs.MateColumn.{mate_table, IsMateColumn};
 
 use crate::aim::Aim;
 use crate::missing::Missing;
-use crate::nodes::{exits, is_mated, is_void, predecessors, start_by_ranks, successors};
+use crate::nodes::{
+    exits, is_mated, is_void, listed_degree, predecessors, start, start_two, successors,
+};
 use arrayvec::ArrayVec;
 use egt_check::{Library, first_missing};
 use egt_class::Class;
@@ -83,7 +85,7 @@ impl Game for ZeroGame<'_> {
     }
 
     fn degree(&self, i: u32) -> usize {
-        successors(Column::Zeroing, self.class, i).len()
+        listed_degree(Column::Zeroing, self.class, i)
     }
 
     fn into(&self, j: u32) -> ArrayVec<u32, 128> {
@@ -101,6 +103,22 @@ impl Game for ZeroGame<'_> {
     }
 
     fn start(&self, i: u32, exits: &mut ArrayVec<Exit, 64>) -> Option<Start> {
-        start_by_ranks(self.mates, self.class, self.library, i, exits)
+        start(
+            &Aim::Zeroing(self.mates),
+            self.class,
+            self.library,
+            i,
+            exits,
+        )
+    }
+
+    fn start_two(
+        &self,
+        i: u32,
+        exits: &mut ArrayVec<Exit, 64>,
+        next_exits: &mut ArrayVec<Exit, 64>,
+    ) -> (Option<Start>, Option<Start>) {
+        let aim = Aim::Zeroing(self.mates);
+        start_two(&aim, self.class, self.library, i, exits, next_exits)
     }
 }

@@ -1,6 +1,7 @@
 //! Small games whose values were worked out by hand.
 use super::games::{Sample, Stairs};
-use crate::{Exit, SolveFault, solve};
+use crate::{Exit, Game, SolveFault, Start, solve};
+use arrayvec::ArrayVec;
 use std::test::*;
 
 // 0 leaves for a position lost in 3: a win in 4, found late and through the exit alone.
@@ -111,6 +112,37 @@ fn moves_and_exits(rt: HostRuntime) -> Result<(), Fail> {
     let ranks = solve(rt.alloc(), &game, 3)?;
     assert_eq!(rt; ranks.entries(), [9, 6].as_slice());
     Ok(())
+}
+
+// 1 is void. 0 leads to 2 and leaves for a draw, and 2 is checkmate.
+#[test]
+fn two_neighbours(rt: HostRuntime) {
+    let game = Sample {
+        size: 3,
+        voids: &[1],
+        mates: &[2],
+        moves: &[(0, 2)],
+        exits: &[(0, Exit::Draw)],
+    };
+    let mut exits = ArrayVec::new();
+    let mut next_exits = ArrayVec::new();
+    let zero = Some(Start {
+        mated: false,
+        degree: 1,
+    });
+    assert_eq!(rt;
+        game.start_two(0, &mut exits, &mut next_exits),
+        (zero, None)
+    );
+    assert_eq!(rt; exits.as_slice(), [Exit::Draw].as_slice());
+    assert_eq!(rt; next_exits.len(), 0);
+    let two = Some(Start {
+        mated: true,
+        degree: 0,
+    });
+    assert_eq!(rt; game.start_two(1, &mut exits, &mut next_exits), (None, two));
+    assert_eq!(rt; exits.len(), 0);
+    assert_eq!(rt; next_exits.len(), 0);
 }
 
 #[test]

@@ -1,9 +1,22 @@
-use Rattle.std.proofs.Common.{ℕ, subst, arith}
-use Rattle.egt_graph.specs.Begin.{IsBegun}
+use Rattle.std.proofs.Common.{ℕ, sym, subst, arith}
+use Rattle.egt_graph.specs.Begin.{AreBegun}
+use Rattle.egt_graph.proofs.begin.begin.Goals.{then-size-eq1+in_ok-push_one, else-size-eq1}
 use Rattle.egt_graph.proofs.begin.begin.Goals as goal
+
+pub push_one-requires-clause-begun : goal.push_one-requires-clause-begun
+push_one-requires-clause-begun g c =
+    subst (λ (n : ℕ). AreBegun (g.G.Game.graph c.args.game.now) n c.loop-pair.columns)
+    (omega (arith, c.if-size-eq1.true, c.loop-pair-test.false, c.loop-pair.auto.pair-end)) c.loop-pair.invariant
 
 pub returns : goal.returns
 returns g c =
-    let P : ℕ → Type 0 = λ n. IsBegun (g.G.Game.graph c.args.game.now) n c.loop-node.columns.entries.items c.loop-node.columns.waits.items
-    c.loop-node.columns.later.items c.loop-node.columns.lost.items c.loop-node.columns.lost_due c.loop-node.columns.won_due in
-    subst P (omega (arith, c.size-size.ensures)) c.loop-node.invariant
+    let graph = g.G.Game.graph c.args.game.now in
+    elim c.if-size-eq1.branch [
+      | then-size-eq1+in_ok-push_one w ↦
+          subst (AreBegun graph graph.size) (sym w.columns-is)
+          (subst (λ (n : ℕ). AreBegun graph n w.push_one.new.columns) (omega (arith, w.if-size-eq1.true, c.size-size.ensures)) w.in_ok-push_one.ensures)
+      | else-size-eq1 w ↦
+          subst (AreBegun graph graph.size) (sym w.columns-is)
+          (subst (λ (n : ℕ). AreBegun graph n c.loop-pair.columns)
+          (omega (arith, w.if-size-eq1.false, c.loop-pair-test.false, c.loop-pair.auto.pair-end, c.size-size.ensures)) c.loop-pair.invariant)
+    ]

@@ -6,9 +6,9 @@ use Rattle.egt_graph.proofs.begin.push_node.Goals as goal
 
 pub returns : goal.returns
 returns g c =
-    let is = c.as_slice-exits.ensures.value ∙ c.row_of-row.ensures.exits in
+    let is = c.row_of-row.ensures.exits in
     rw (c.in_ok-push.ensures.items, c.in_ok-push-2.ensures.items, c.in_ok-push-3.ensures.items, c.in_ok-push-4.ensures.items)
-    (Begun_more (g.G.Game.graph c.args.game.now) c.args.node _ _ _ _ _ _ c.requires.begun _ _ _ _ _ _
+    (Begun_more (g.G.Game.graph c.args._game.now) c.args.node _ _ _ _ _ _ c.requires.begun _ _ _ _ _ _
     c.row_of-row.ensures.entry
     (ap₂ (λ moves exits. moves + length exits) c.row_of-row.ensures.moves is)
     (c.count_wins.ensures ∙ ap (count_by (is_win_from 0)) is)
