@@ -1,5 +1,6 @@
 -- The code of each image of a settled position, in the colours of the class.
 use Rattle.std.proofs.Common.{◌≡◌, ℕ, ◌<◌, ◌≤◌, ◌⊎◌, ◌&&◌, ◌||◌, not, Bool, true, false, cond, ltb, eqb, Option, Some, None, IfSome, arith, refl, sym, ap, ◌∙◌, inl, inr, subst}
+use Rattle.std.specs.Option.{is_some}
 use Rattle.std.proofs.lemmas.Bool.{cases_lt, false≢true, lt-ltb, and_from, and_parts, eqb-true}
 use Rattle.egt_board.specs.declared.man.Side.{Side}
 use Rattle.egt_board.specs.declared.man.Side.TheVariants.{White, Black}
@@ -10,7 +11,7 @@ use Rattle.egt_board.specs.declared.mirror.Mirror.TheVariants.{Colours}
 use Rattle.egt_board.specs.Man.{other_side}
 use Rattle.egt_board.specs.Mirror.{man_by}
 use Rattle.egt_board.specs.Pawn.{pawn_of, ahead, HasPawnBeside, HasNoPawn}
-use Rattle.egt_board.specs.Placement.{Stands}
+use Rattle.egt_board.specs.Placement.{Placement, Stands}
 use Rattle.egt_board.specs.Setup.{Setup, IsAdmissible}
 use Rattle.egt_board.specs.Settled.{IsSettled, SettlesTo}
 use Rattle.egt_board.specs.Target.{FitsTarget, IsTarget}
@@ -24,6 +25,8 @@ use Rattle.egt_index.specs.Size.{men_in_order, has_pawns, has_target}
 use Rattle.egt_index.specs.Code.{HasTargetDigit}
 use Rattle.egt_index.specs.Picked.{AreCounted}
 use Rattle.egt_index.specs.Facts.{Facts}
+use Rattle.egt_index.specs.Stood.{HasStand, Stood, list_of}
+use Rattle.egt_index.specs.declared.stand.Stand.{Stand}
 use Rattle.egt_index.proofs.Counted.{counted_some}
 use Rattle.egt_index.proofs.Tallied.{in_class}
 use Rattle.egt_index.proofs.Tested.{implied}
@@ -149,3 +152,15 @@ settled_class facts c flipped p q settles is_of = record { men = λ man. ap (λ 
 pub settled_side : (p q : Setup) → SettlesTo p q → q.side ≡ p.side
 settled_side p q (inl settled) = ap (λ (s : Setup). s.side) settled.1
 settled_side p q (inr other) = ap (λ (s : Setup). s.side) other.1
+
+-- the men of what a position settles to stand where they stood
+pub settled_stand : Facts → (c : ℕ) (flipped : Bool) (p q : Setup) (stand : Stand) (side : Side) (passed : Bool) → IsAdmissible p → IsOf c flipped p → Stood c flipped p.men (list_of stand) → side ≡ p.side → is_some q.target ≡ passed
+    → SettlesTo p q → HasStand c flipped stand side passed q
+settled_stand facts c flipped p q stand side passed ok is_of stood side_is target settles = record {
+  admissible = facts.settled_admissible p q ok settles;
+  settled = facts.is_settled p q settles;
+  is_of = settled_class facts c flipped p q settles is_of;
+  stood = subst (λ (men : Placement). Stood c flipped men (list_of stand)) (sym (facts.settled_men p q settles)) stood;
+  side_is = settled_side p q settles ∙ sym side_is;
+  target_is = target;
+}

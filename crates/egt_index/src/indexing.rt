@@ -1,5 +1,5 @@
 //! The index of a position.
-ghost use Rattle.std.specs.Prelude.{◌≡◌, ◌*◌, ◌<◌, ◌%◌, ◌/◌, ◌==◌, Bool, true, false};
+ghost use Rattle.std.specs.Prelude.{◌≡◌, ◌<◌, ◌%◌, ◌/◌, ◌==◌, Bool, true, false, IfSome, Some};
 ghost use Rattle.std.specs.Option.{is_some};
 ghost use Rattle.egt_board.specs.Setup.{Setup};
 ghost use Rattle.egt_board.specs.Settled.{SettlesTo};
@@ -109,19 +109,27 @@ fn least_on(
     homing.code_by(turns.first, turns.second, white)
 }
 
-/// The same of either.
+/// The same where the men stand so.
 #[inline(always)]
+fn least_untargeted(class: Class, stand: &Stand, side: Side, flips: bool) -> Option<u32>
+    requires { IsFilled stand.now }
+    ensures { (p : Setup) → HasStand class flips stand.now side false p → LeastWith class p flips result }
+{
+    let (first, second) = home(has_pawns(class), flips, stand.white);
+    let turns = Turns { first, second };
+    least_on(class, stand.white, squares_of(stand), side, flips, turns)
+}
+
+/// The same of either.
 fn least_code(class: Class, stand: &Stand, side: Side, passed: bool, flips: bool) -> Option<u32>
     requires { IsFilled stand.now }
     ensures { (p : Setup) → HasStand class flips stand.now side passed p → LeastWith class p flips result }
 {
     if passed {
-        let copy = *stand;
-        return least_with_target(class, &copy, side, flips);
+        least_with_target(class, stand, side, flips)
+    } else {
+        least_untargeted(class, stand, side, flips)
     }
-    let (first, second) = home(has_pawns(class), flips, stand.white);
-    let turns = Turns { first, second };
-    least_on(class, stand.white, squares_of(stand), side, flips, turns)
 }
 
 /// The least code of all images of a settled position of a class whose sides have the same men, with these men, in colours flipped
@@ -146,39 +154,30 @@ fn least_of_both(
     lesser(own, other)
 }
 
-/// The same. The kings' digits are the highest, so other squares of theirs tell in which colours it is.
+/// The same of one without a target, where the kings tell in which colours it is: their digits are the highest. `None` where they come to
+/// the same squares in both.
 #[inline(always)]
-fn least_of_colours(
-    class: Class,
-    stand: &Stand,
-    side: Side,
-    passed: bool,
-    flipped: bool,
-) -> Option<u32>
+fn least_by_kings(class: Class, stand: &Stand, side: Side, flipped: bool) -> Option<u32>
     requires filled { IsFilled stand.now }
     requires equal { has_equal_sides class ≡ true }
-    ensures { (p : Setup) → HasStand class flipped stand.now side passed p → Best class p 16 result }
+    ensures { (p : Setup) → HasStand class flipped stand.now side false p → IfSome result (λ code. Best class p 16 (Some code)) }
 {
     facts();
     let _number = class.number();
     let own = homeward(class, stand.white, stand.black, flipped);
     let other = homeward(class, stand.black, stand.white, !flipped);
-    if !passed {
-        let squares = squares_of(stand);
-        if own.kings < other.kings {
-            return least_on(class, stand.white, squares, side, flipped, own.turns);
-        }
-        if other.kings < own.kings {
-            let exchanged = squares.exchanged(stand.white);
-            return least_on(class, stand.black, exchanged, side, !flipped, other.turns);
-        }
+    let squares = squares_of(stand);
+    if own.kings < other.kings {
+        return least_on(class, stand.white, squares, side, flipped, own.turns);
     }
-    let copy = *stand;
-    least_of_both(class, &copy, side, passed, flipped)
+    if other.kings < own.kings {
+        let exchanged = squares.exchanged(stand.white);
+        return least_on(class, stand.black, exchanged, side, !flipped, other.turns);
+    }
+    None
 }
 
-/// The same in any class.
-#[inline(always)]
+/// The same in any class, with a target or without.
 fn least_of_images(
     class: Class,
     stand: &Stand,
@@ -192,7 +191,7 @@ fn least_of_images(
     facts();
     let _number = class.number();
     if has_equal_sides(class) {
-        least_of_colours(class, stand, side, passed, flipped)
+        least_of_both(class, stand, side, passed, flipped)
     } else {
         least_code(class, stand, side, passed, flipped)
     }
@@ -209,9 +208,9 @@ fn keeps_target(position: &Position) -> bool
     }
 }
 
-/// The same of what a position settles to.
-#[inline(always)]
-fn least_of(class: Class, position: &Position) -> Option<u32>
+/// The same of what a position settles to. Few positions need it.
+#[inline(never)]
+fn least_of_any(class: Class, position: &Position) -> Option<u32>
     requires { (flipped : Bool) × IsOf class flipped position.now }
     ensures { (q : Setup) → SettlesTo position.now q → Best class q 16 result }
 {
@@ -220,6 +219,28 @@ fn least_of(class: Class, position: &Position) -> Option<u32>
     let passed = keeps_target(position);
     let standing = standing_of(class, position);
     least_of_images(class, &standing.stand, side, passed, standing.flipped)
+}
+
+/// The same. Where there is no target and the kings tell the colours, no more is kept of the men than their squares.
+#[inline(always)]
+fn least_of(class: Class, position: &Position) -> Option<u32>
+    requires { (flipped : Bool) × IsOf class flipped position.now }
+    ensures { (q : Setup) → SettlesTo position.now q → Best class q 16 result }
+{
+    facts();
+    let _number = class.number();
+    let side = position.side();
+    if keeps_target(position) {
+        return least_of_any(class, position);
+    }
+    let standing = standing_of(class, position);
+    if !has_equal_sides(class) {
+        return least_untargeted(class, &standing.stand, side, standing.flipped);
+    }
+    match least_by_kings(class, &standing.stand, side, standing.flipped) {
+        Some(code) => Some(code),
+        None => least_of_any(class, position),
+    }
 }
 
 /// The index of a position of the class, in whatever colours: the least code that spells an image of its settled form.

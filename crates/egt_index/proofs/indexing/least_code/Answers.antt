@@ -1,11 +1,9 @@
-use Rattle.std.proofs.Common.{refl, sym, subst}
-use Rattle.egt_index.specs.Home.{AreHome}
+use Rattle.std.proofs.Common.{subst}
 use Rattle.egt_index.specs.Stood.{HasStand}
 use Rattle.egt_index.proofs.indexing.least_code.Goals as goal
 
-pub least_on-requires : goal.least_on-requires
-least_on-requires c = subst (λ pawns. AreHome pawns c.args.flips c.args.stand.now.white c.home-first.result.0 c.home-first.result.1) c.has_pawns.ensures c.home-first.ensures
+pub returns-then-passed : goal.returns-then-passed
+returns-then-passed c = λ p has. c.least_with_target.ensures p (subst (λ b. HasStand c.args.class c.args.flips c.args.stand.now c.args.side b p) c.if-passed.true has)
 
-pub returns : goal.returns
-returns c = λ p has.
-    c.least_on.ensures p c.args.stand.now (subst (λ b. HasStand c.args.class c.args.flips c.args.stand.now c.args.side b p) c.if-passed.false has) c.requires refl (sym c.squares_of.ensures.black) c.squares_of.ensures.next c.squares_of.ensures.last
+pub returns-else-passed : goal.returns-else-passed
+returns-else-passed c = λ p has. c.least_untargeted.ensures p (subst (λ b. HasStand c.args.class c.args.flips c.args.stand.now c.args.side b p) c.if-passed.false has)
