@@ -90,6 +90,7 @@ fn push_one<G: Game>(
 }
 
 /// Pushes the number of which the game has told this. `_game` is that game: the contract alone reads it.
+#[inline(always)]
 fn push_node<G: Game>(
     alloc: Global,
     _game: &G,

@@ -1,5 +1,5 @@
 -- What a run begins with at a node.
-use Rattle.std.proofs.Common.{◌≡◌, ℕ, ◌+◌, ◌/◌, ◌%◌, ◌<◌, ◌≤◌, cond, not, Bool, true, false, List, [], length, Option, Some, None, arith, refl, sym, ap, ◌∙◌, subst, inl, inr}
+use Rattle.std.proofs.Common.{◌≡◌, ◌≢◌, ℕ, ◌+◌, ◌/◌, ◌%◌, ◌<◌, ◌≤◌, cond, not, Bool, true, false, List, [], length, slice_index, Option, Some, None, arith, refl, sym, ap, ◌∙◌, subst, inl, inr}
 use Rattle.std.specs.Int.{bit_at}
 use Rattle.std.specs.Option.{is_some}
 use Rattle.egt_board.specs.Decided.{Decided, tells}
@@ -24,6 +24,7 @@ use Rattle.egt_sweep.specs.Aiming.{column_of, game_of, known}
 use Rattle.egt_sweep.specs.declared.aim.Aim.{Aim}
 use Rattle.egt_sweep.specs.Edges.{IsAt, GoesOn, LeadsOn, Connects}
 use Rattle.egt_sweep.specs.Laws.{Laws}
+use Rattle.egt_sweep.specs.MateColumn.{IsMateColumn}
 use Rattle.egt_sweep.specs.Nodes.{position_at, is_mated, connects, exits_at, exits_from}
 use Rattle.egt_sweep.specs.Ways.{Counts}
 use Rattle.egt_sweep.proofs.Linked.{position_is, there_is, void_is}
@@ -80,6 +81,14 @@ unstarted tables aim c i void exits empty = record { node = tt; void = (void, em
 
 pub no_node : (laws : Laws) (c i : ℕ) → IsVoid c i → not (is_some (position_at c i)) ≡ true
 no_node laws c i void = ap not (void_is laws c i void)
+
+-- where the entry of a mate column is not 0 there is a position
+pub node_told : (c i : ℕ) (entries : List ℕ) → IsMateColumn c entries → i < size_of c → slice_index entries i ≢ 0 → not (is_some (position_at c i)) ≡ false
+node_told c i entries column lt some = of (is_some (position_at c i)) refl
+  where
+    of : (b : Bool) → is_some (position_at c i) ≡ b → not (is_some (position_at c i)) ≡ false
+    of true is = ap not is
+    of false is = absurd (some (column.2 i lt is))
 
 -- an even code and the next are of one row
 pub next_in_row : (c i : ℕ) → i % 2 ≡ 0 → (i + 1) / row_len c ≡ i / row_len c

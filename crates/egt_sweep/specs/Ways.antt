@@ -12,8 +12,6 @@ use Rattle.egt_board.specs.SquareSet.{Has}
 use Rattle.egt_board.specs.declared.man.Man.{Man}
 use Rattle.egt_board.specs.declared.square_set.SquareSet.{SquareSet}
 use Rattle.egt_index.specs.Axis.{is_on_axis, StandsAlone}
-use Rattle.egt_index.specs.Frame.{IsFrame}
-use Rattle.egt_index.specs.declared.frame.Frame.{Frame}
 use Rattle.egt_moves.specs.Legal.{Leads, plain, passed}
 use Rattle.egt_moves.specs.declared.chess_move.Move.{Move}
 use Rattle.egt_table.specs.declared.column.Column.{Column}
@@ -30,10 +28,6 @@ pub record IsStep (p : Setup) (from t : ℕ) : Type 0 where
   pub free : ¬ IsHeld p.men t (other_side p.side)
   pub stays : Stays p man t
   pub unpassed : passed man from t ≡ None
-
--- the frame is that of the position in the class
-abbrev pub IsFrameIn : ℕ → Setup → Frame → Type 0
-IsFrameIn c p frame = IsFrame p frame × (frame.class ≡ c)
 
 -- the move to the square promotes nothing, and goes on
 pub record IsOnward (column : Column) (c : ℕ) (p : Setup) (from t : ℕ) : Type 0 where

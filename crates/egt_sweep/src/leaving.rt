@@ -7,6 +7,7 @@ ghost use Rattle.egt_board.specs.Setup.{Setup, IsAdmissible};
 ghost use Rattle.egt_board.specs.SquareSet.{Has, size_of};
 ghost use Rattle.egt_board.specs.declared.man.Man.{Man};
 ghost use Rattle.egt_class.specs.Membership.{IsOf};
+ghost use Rattle.egt_index.specs.Frame.{IsFrame};
 ghost use Rattle.egt_index.specs.Index.{IsIndex};
 ghost use Rattle.egt_moves.specs.Arena.{Value};
 ghost use Rattle.egt_moves.specs.Legal.{Leads, IsLegal};
@@ -19,10 +20,10 @@ ghost use Rattle.egt_check.specs.Entry.{Shows};
 ghost use Rattle.egt_check.specs.Reading.{read};
 ghost use Rattle.egt_check.specs.Tables.{table_at, entry_at, HasChildren};
 ghost use Rattle.egt_sweep.specs.Aiming.{column_of, known, KnowsOwn};
-ghost use Rattle.egt_sweep.specs.Edges.{GoesOn};
+ghost use Rattle.egt_sweep.specs.Edges.{IsAt, GoesOn};
 ghost use Rattle.egt_sweep.specs.MateColumn.{IsIndexed};
 ghost use Rattle.egt_sweep.specs.Nodes.{plies_told, exit_of, shown_below, exit_by, exits_by};
-ghost use Rattle.egt_sweep.specs.Ways.{IsFrameIn, IsStep, AllLeave, OthersGoOn};
+ghost use Rattle.egt_sweep.specs.Ways.{IsStep, AllLeave, OthersGoOn};
 
 use crate::aim::Aim;
 use crate::laws::laws;
@@ -32,7 +33,7 @@ use egt_board::{Position, Square, SquareSet};
 use egt_check::Library;
 use egt_class::{Class, of};
 use egt_graph::Exit;
-use egt_index::{Frame, index};
+use egt_index::{Frame, index, indexed};
 use egt_moves::{Move, play_legal, promotions};
 use egt_table::Column;
 
@@ -176,6 +177,17 @@ fn add_exits_between(
     }
 }
 
+/// The frame of the position at the index.
+#[inline(always)]
+fn frame_at(class: Class, index: u32) -> Frame
+    requires { (p : Setup) × IsAt class index p }
+    ensures frame { (p : Setup) → IsAt class index p → IsFrame p result }
+    ensures class { result.class ≡ class }
+{
+    laws();
+    indexed(class, index).1
+}
+
 /// Adds the value of where the man's step to the square, which leaves the game, leads. The position there is not made. Few moves are
 /// such steps, so it stays out of the loop over all moves.
 #[inline(never)]
@@ -183,7 +195,7 @@ fn add_exit_of_step(
     aim: &Aim<'_>,
     class: Class,
     library: &Library,
-    frame: &Frame,
+    index: u32,
     position: &Position,
     from: Square,
     to: Square,
@@ -192,7 +204,7 @@ fn add_exit_of_step(
     requires knows { KnowsOwn class aim.now }
     requires of { (flipped : Bool) × IsOf class flipped position.now }
     requires children { HasChildren (table_at library.now) class }
-    requires frame { IsFrameIn class position.now frame.now }
+    requires at { IsAt class index position.now }
     requires target { IsLegalTarget position.now from to }
     requires step { IsStep position.now from to }
     requires leaves { (m : Move) (q : Setup) → m.from ≡ from → m.to ≡ to → Leads position.now m q → ¬ GoesOn (column_of aim.now) class position.now m q }
@@ -203,8 +215,9 @@ fn add_exit_of_step(
     laws();
     let _side = position.side();
     let _number = class.number();
-    let index = frame.steps(from).index_to(to);
-    list.push(exit_in(aim, class, library, class, index));
+    let frame = frame_at(class, index);
+    let next = frame.steps(from).index_to(to);
+    list.push(exit_in(aim, class, library, class, next));
 }
 
 /// Adds the values of where the man's moves to the square, which leave the game, lead, in the order of moves.
@@ -212,7 +225,7 @@ fn add_exits_to(
     aim: &Aim<'_>,
     class: Class,
     library: &Library,
-    frame: Option<&Frame>,
+    index: u32,
     position: &Position,
     from: Square,
     to: Square,
@@ -221,28 +234,26 @@ fn add_exits_to(
     requires knows { KnowsOwn class aim.now }
     requires of { (flipped : Bool) × IsOf class flipped position.now }
     requires children { HasChildren (table_at library.now) class }
-    requires frame { IfSome frame (λ f. IsFrameIn class position.now f.now) }
+    requires at { IsAt class index position.now }
     requires target { IsLegalTarget position.now from to }
     requires leaves { (m : Move) (q : Setup) → m.from ≡ from → m.to ≡ to → Leads position.now m q → ¬ GoesOn (column_of aim.now) class position.now m q }
     requires room { (man : Man) → Stands position.now.men from man → array_vec_len list.old + most_choices man.kind ≤ 64 }
     ensures items { list.new.items ≡ list.old.items ++ exits_by (known (table_at library.now) class aim.now) (column_of aim.now) class position.now (moves_between from to) }
     ensures few { (man : Man) → Stands position.now.men from man → array_vec_len list.new ≤ array_vec_len list.old + most_choices man.kind }
 {
-    match frame {
-        Some(frame) if is_step(position, from, to) => {
-            add_exit_of_step(aim, class, library, frame, position, from, to, list);
-        }
-        _ => add_exits_between(aim, class, library, position, from, to, list),
+    if is_step(position, from, to) {
+        add_exit_of_step(aim, class, library, index, position, from, to, list);
+    } else {
+        add_exits_between(aim, class, library, position, from, to, list);
     }
 }
 
-/// Adds the values of where the man's moves that leave the game lead, in the order of moves: those to these squares. Where the frame is
-/// at hand, the positions that steps lead to are not made.
+/// Adds the values of where the man's moves that leave the game lead, in the order of moves: those to these squares.
 pub(crate) fn add_exits(
     aim: &Aim<'_>,
     class: Class,
     library: &Library,
-    frame: Option<&Frame>,
+    index: u32,
     position: &Position,
     from: Square,
     targets: SquareSet,
@@ -251,7 +262,7 @@ pub(crate) fn add_exits(
     requires knows { KnowsOwn class aim.now }
     requires of { (flipped : Bool) × IsOf class flipped position.now }
     requires children { HasChildren (table_at library.now) class }
-    requires frame { IfSome frame (λ f. IsFrameIn class position.now f.now) }
+    requires at { IsAt class index position.now }
     requires targets { (t : ℕ) → Has targets t → IsLegalTarget position.now from t }
     requires leaves { AllLeave (column_of aim.now) class position.now from targets }
     requires others { OthersGoOn (column_of aim.now) class position.now from targets }
@@ -263,6 +274,6 @@ pub(crate) fn add_exits(
     let _side = position.side();
     let mut rest = targets;
     while let Some(to) = rest.pop_first() {
-        add_exits_to(aim, class, library, frame, position, from, to, list);
+        add_exits_to(aim, class, library, index, position, from, to, list);
     }
 }

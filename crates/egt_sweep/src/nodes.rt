@@ -1,5 +1,5 @@
 //! The nodes of a class's game.
-ghost use Rattle.std.specs.Prelude.{◌≡◌, ◌+◌, ◌%◌, ◌/◌, ◌<◌, ◌≤◌, ℕ, Some, [], length, not, false, true, IsTrue, IsFalse, IfSome};
+ghost use Rattle.std.specs.Prelude.{◌≡◌, ◌+◌, ◌%◌, ◌/◌, ◌<◌, ◌≤◌, ℕ, Some, [], length, not, false, true, IsTrue, IsFalse};
 ghost use Rattle.std.specs.Int.{bit_at};
 ghost use Rattle.std.specs.Option.{is_some};
 ghost use Rattle.egt_board.specs.Decided.{tells};
@@ -10,24 +10,27 @@ ghost use Rattle.egt_moves.specs.DecidedMoves.{decided_checkmate};
 ghost use Rattle.egt_moves.specs.Standing.{CanMove};
 ghost use Rattle.egt_graph.specs.Graph.{IsStart};
 ghost use Rattle.egt_graph.specs.Passing.{passing_below};
-ghost use Rattle.egt_check.specs.Tables.{table_at, HasChildren};
+ghost use Rattle.egt_table.specs.declared.column.Column.TheVariants.{Zeroing};
+ghost use Rattle.egt_check.specs.Tables.{table_at, beside, HasChildren};
 ghost use Rattle.egt_sweep.specs.Aiming.{column_of, game_of, known, KnowsOwn};
+ghost use Rattle.egt_sweep.specs.ClassGame.{class_game};
 ghost use Rattle.egt_sweep.specs.Edges.{IsAt};
+ghost use Rattle.egt_sweep.specs.MateColumn.{mate_table, IsMateColumn};
 ghost use Rattle.egt_sweep.specs.Nodes.{position_at, is_mated, connects, exits_at};
-ghost use Rattle.egt_sweep.specs.Ways.{IsFrameIn, Counts, HasAnchor};
+ghost use Rattle.egt_sweep.specs.Ways.{Counts, HasAnchor};
 
 use crate::aim::Aim;
 use crate::anchor::has_anchor;
 use crate::edges::edges;
 use crate::laws::laws;
-use crate::sources::{has_pawn, sources};
+use crate::sources::sources;
 use crate::ways::{Ways, ways_of};
 use arrayvec::ArrayVec;
 use egt_board::Position;
 use egt_check::Library;
 use egt_class::Class;
-use egt_graph::{Exit, Start};
-use egt_index::{Frame, Row, indexed, position, position_of, row_of, size};
+use egt_graph::{Exit, Ranks, Start};
+use egt_index::{Row, indexed, position, position_of, row_of, size};
 use egt_moves::{Standing, standing};
 use egt_table::Column;
 
@@ -109,7 +112,7 @@ pub(crate) fn exits(
     let _number = class.number();
     let mut list = ArrayVec::new();
     let position = position_of(class, index);
-    let _ways = ways_of(aim, class, library, None, &position, &mut list);
+    let _ways = ways_of(aim, class, library, index, &position, &mut list);
     list
 }
 
@@ -157,72 +160,48 @@ fn start_at(
     class: Class,
     library: &Library,
     index: u32,
-    frame: Option<&Frame>,
     position: &Position,
     exits: &mut ArrayVec<Exit, 64>,
 ) -> Start
     requires knows { KnowsOwn class aim.now }
     requires children { HasChildren (table_at library.now) class }
     requires at { IsAt class index position.now }
-    requires frame { IfSome frame (λ f. IsFrameIn class position.now f.now) }
     requires empty { exits.old.items ≡ [] }
     ensures { IsStart (game_of (table_at library.now) class aim.now) index (Some result) exits.new.items }
 {
     laws();
     let _number = class.number();
-    let ways = ways_of(aim, class, library, frame, position, exits);
+    let ways = ways_of(aim, class, library, index, position, exits);
     Start {
         mated: is_checkmate_by(position, &ways),
         degree: degree(aim.column(), class, index, position, &ways) as u8,
     }
 }
 
-/// Whether it is known that no position has the index. In the game of zeroing moves the mate ranks of the class, `_class`, tell it.
-fn is_known_void(aim: &Aim<'_>, _class: Class, index: u32) -> bool
-    requires below { index < size_of _class }
-    requires knows { KnowsOwn _class aim.now }
-    ensures { IsTrue result → not (is_some (position_at _class index)) ≡ true }
-{
-    match aim {
-        Aim::Mate => false,
-        Aim::Zeroing(ranks) => ranks.entries()[index as usize] == 0,
-    }
-}
-
 /// What a run begins with at a number of the row: nothing where no position has it. The values of the positions outside take the place
 /// of what `exits` had.
+#[inline(always)]
 fn start_in(
     aim: &Aim<'_>,
     class: Class,
     library: &Library,
-    row: &mut Option<Row>,
+    row: &Option<Row>,
     index: u32,
     exits: &mut ArrayVec<Exit, 64>,
 ) -> Option<Start>
-    requires below { index < size_of class }
     requires knows { KnowsOwn class aim.now }
     requires children { HasChildren (table_at library.now) class }
-    requires row { IsRowOf class (index / row_len class) row.old }
-    ensures row { IsRowOf class (index / row_len class) row.new }
-    ensures start { IsStart (game_of (table_at library.now) class aim.now) index result exits.new.items }
+    requires row { IsRowOf class (index / row_len class) row.now }
+    ensures { IsStart (game_of (table_at library.now) class aim.now) index result exits.new.items }
 {
     laws();
     let _number = class.number();
     exits.clear();
-    if is_known_void(aim, class, index) {
-        return None;
-    }
     let Some(row) = row else {
         return None;
     };
     let position = row.position_at(index)?;
-    // There the steps of pawns leave the game, and what they lead to is found by the frame.
-    if matches!(aim, Aim::Zeroing(_)) && has_pawn(&position, position.side()) {
-        row.turn_to(&position);
-        let frame = Some(row.frame());
-        return Some(start_at(aim, class, library, index, frame, &position, exits));
-    }
-    Some(start_at(aim, class, library, index, None, &position, exits))
+    Some(start_at(aim, class, library, index, &position, exits))
 }
 
 /// What a run begins with at a number, by its row.
@@ -233,47 +212,16 @@ pub(crate) fn start(
     index: u32,
     exits: &mut ArrayVec<Exit, 64>,
 ) -> Option<Start>
-    requires below { index < size_of class }
     requires knows { KnowsOwn class aim.now }
     requires children { HasChildren (table_at library.now) class }
     ensures { IsStart (game_of (table_at library.now) class aim.now) index result exits.new.items }
 {
     let _number = class.number();
-    let mut row = row_of(class, index);
-    start_in(aim, class, library, &mut row, index, exits)
+    let row = row_of(class, index);
+    start_in(aim, class, library, &row, index, exits)
 }
 
-/// What a run begins with at two numbers of one row, which is not made where it is known that neither is a node.
-fn start_row(
-    aim: &Aim<'_>,
-    class: Class,
-    library: &Library,
-    index: u32,
-    exits: &mut ArrayVec<Exit, 64>,
-    next_exits: &mut ArrayVec<Exit, 64>,
-) -> (Option<Start>, Option<Start>)
-    requires below { index + 1 < size_of class }
-    requires even { index % 2 ≡ 0 }
-    requires knows { KnowsOwn class aim.now }
-    requires children { HasChildren (table_at library.now) class }
-    ensures first { IsStart (game_of (table_at library.now) class aim.now) index result.0 exits.new.items }
-    ensures second { IsStart (game_of (table_at library.now) class aim.now) (index + 1) result.1 next_exits.new.items }
-{
-    let _number = class.number();
-    if is_known_void(aim, class, index) && is_known_void(aim, class, index + 1) {
-        exits.clear();
-        next_exits.clear();
-        return (None, None);
-    }
-    let mut row = row_of(class, index);
-    let first = start_in(aim, class, library, &mut row, index, exits);
-    (
-        first,
-        start_in(aim, class, library, &mut row, index + 1, next_exits),
-    )
-}
-
-/// What a run begins with at two neighbours: an even number and the next are of one row.
+/// What a run begins with at two neighbours. An even number and the next are of one row.
 pub(crate) fn start_two(
     aim: &Aim<'_>,
     class: Class,
@@ -288,10 +236,42 @@ pub(crate) fn start_two(
     ensures first { IsStart (game_of (table_at library.now) class aim.now) index result.0 exits.new.items }
     ensures second { IsStart (game_of (table_at library.now) class aim.now) (index + 1) result.1 next_exits.new.items }
 {
+    let _number = class.number();
     let _size = size(class);
-    if index % 2 == 0 {
-        return start_row(aim, class, library, index, exits, next_exits);
+    if index % 2 == 1 {
+        let first = start(aim, class, library, index, exits);
+        return (first, start(aim, class, library, index + 1, next_exits));
     }
-    let first = start(aim, class, library, index, exits);
-    (first, start(aim, class, library, index + 1, next_exits))
+    let row = row_of(class, index);
+    let first = start_in(aim, class, library, &row, index, exits);
+    (
+        first,
+        start_in(aim, class, library, &row, index + 1, next_exits),
+    )
+}
+
+/// The same in the game of zeroing moves, where the mate ranks of the class tell which numbers are nodes. So nothing is asked of a number
+/// that no position has, and nothing is tested of the others: a row, which is tested, costs more than it spares.
+#[inline(always)]
+pub(crate) fn start_by_ranks(
+    mates: &Ranks,
+    class: Class,
+    library: &Library,
+    index: u32,
+    exits: &mut ArrayVec<Exit, 64>,
+) -> Option<Start>
+    requires below { index < size_of class }
+    requires knows { IsMateColumn class mates.now }
+    requires children { HasChildren (table_at library.now) class }
+    ensures { IsStart (class_game (beside (table_at library.now) (mate_table class mates.now)) Zeroing class) index result exits.new.items }
+{
+    laws();
+    let _number = class.number();
+    exits.clear();
+    if mates.entries()[index as usize] == 0 {
+        return None;
+    }
+    let position = position_of(class, index);
+    let aim = Aim::Zeroing(mates);
+    Some(start_at(&aim, class, library, index, &position, exits))
 }

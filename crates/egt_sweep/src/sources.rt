@@ -69,7 +69,7 @@ fn sources_by_unmoves(
 }
 
 /// Whether that side has a pawn.
-pub(crate) fn has_pawn(position: &Position, side: Side) -> bool
+fn has_pawn(position: &Position, side: Side) -> bool
     ensures some { IsTrue result → (s : ℕ) × Stands position.now.men s (pawn_of side) }
     ensures none { IsFalse result → (s : ℕ) → ¬ Stands position.now.men s (pawn_of side) }
 {

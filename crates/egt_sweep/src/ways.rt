@@ -1,5 +1,5 @@
 //! How many legal moves of a position go on in the game, and the values of where the others lead.
-ghost use Rattle.std.specs.Prelude.{◌≡◌, ◌≢◌, ℕ, ◌+◌, ◌++◌, ◌<◌, ◌≤◌, ◌↔◌, ◌⊎◌, ◌^◌, Bool, IsTrue, false, [], Some, IfSome};
+ghost use Rattle.std.specs.Prelude.{◌≡◌, ◌≢◌, ℕ, ◌+◌, ◌++◌, ◌<◌, ◌≤◌, ◌↔◌, ◌⊎◌, ◌^◌, Bool, IsTrue, false, [], Some};
 ghost use Rattle.std.specs.Int.{bit_at};
 ghost use Rattle.arrayvec.specs.ArrayVec.{array_vec_len};
 ghost use Rattle.egt_board.specs.Camps.{AreCamps};
@@ -17,9 +17,9 @@ ghost use Rattle.egt_moves.specs.Targets.{IsLegalTarget};
 ghost use Rattle.egt_moves.specs.declared.chess_move.Move.{Move};
 ghost use Rattle.egt_check.specs.Tables.{table_at, HasChildren};
 ghost use Rattle.egt_sweep.specs.Aiming.{column_of, known, KnowsOwn};
-ghost use Rattle.egt_sweep.specs.Edges.{GoesOn};
+ghost use Rattle.egt_sweep.specs.Edges.{IsAt, GoesOn};
 ghost use Rattle.egt_sweep.specs.Nodes.{exits_by, exits_from};
-ghost use Rattle.egt_sweep.specs.Ways.{Stays, IsFrameIn, IsOnward, Counts, HasAnchor};
+ghost use Rattle.egt_sweep.specs.Ways.{Stays, IsOnward, Counts, HasAnchor};
 
 use crate::aim::Aim;
 use crate::laws::laws;
@@ -30,7 +30,6 @@ use egt_board::{Camps, Kind, Man, Position, Square, SquareSet};
 use egt_check::Library;
 use egt_class::Class;
 use egt_graph::Exit;
-use egt_index::Frame;
 use egt_index::laws::one_index_for_one_setup;
 use egt_moves::legal_targets_of;
 use egt_table::Column;
@@ -120,7 +119,7 @@ fn with_man(
     aim: &Aim<'_>,
     class: Class,
     library: &Library,
-    frame: Option<&Frame>,
+    index: u32,
     position: &Position,
     camps: Camps,
     from: Square,
@@ -130,7 +129,7 @@ fn with_man(
     requires knows { KnowsOwn class aim.now }
     requires of { (flipped : Bool) × IsOf class flipped position.now }
     requires children { HasChildren (table_at library.now) class }
-    requires frame { IfSome frame (λ f. IsFrameIn class position.now f.now) }
+    requires at { IsAt class index position.now }
     requires camps { AreCamps position.now camps }
     requires held { IsHeld position.now.men from position.now.side }
     requires few { ways.onward + 64 < 2 ^ 32 }
@@ -150,7 +149,7 @@ fn with_man(
     let targets = legal_targets_of(position, camps, man, from);
     let onward = onward(aim.column(), class, position, camps, from, targets);
     let leaving = targets.without(onward);
-    add_exits(aim, class, library, frame, position, from, leaving, exits);
+    add_exits(aim, class, library, index, position, from, leaving, exits);
     Ways {
         any: or_has_some(ways.any, targets),
         onward: ways.onward + count(onward),
@@ -162,14 +161,14 @@ pub(crate) fn ways_of(
     aim: &Aim<'_>,
     class: Class,
     library: &Library,
-    frame: Option<&Frame>,
+    index: u32,
     position: &Position,
     exits: &mut ArrayVec<Exit, 64>,
 ) -> Ways
     requires knows { KnowsOwn class aim.now }
     requires of { (flipped : Bool) × IsOf class flipped position.now }
     requires children { HasChildren (table_at library.now) class }
-    requires frame { IfSome frame (λ f. IsFrameIn class position.now f.now) }
+    requires at { IsAt class index position.now }
     requires empty { exits.old.items ≡ [] }
     ensures any { IsTrue result.any → CanMove position.now }
     ensures counts { HasAnchor class position.now → (none : SquareSet) × ((s : ℕ) → bit_at none.bits s ≡ 0) × Counts (column_of aim.now) class position.now none result.onward }
@@ -184,7 +183,7 @@ pub(crate) fn ways_of(
     let mut rest = position.of(position.side());
     while let Some(from) = rest.pop_first() {
         ways = with_man(
-            aim, class, library, frame, position, camps, from, ways, exits,
+            aim, class, library, index, position, camps, from, ways, exits,
         );
     }
     ways

@@ -9,7 +9,7 @@ ghost use Rattle.egt_sweep.specs.MateColumn.{mate_table, IsMateColumn};
 use crate::aim::Aim;
 use crate::missing::Missing;
 use crate::nodes::{
-    exits, is_mated, is_void, listed_degree, predecessors, start, start_two, successors,
+    exits, is_mated, is_void, listed_degree, predecessors, start_by_ranks, successors,
 };
 use arrayvec::ArrayVec;
 use egt_check::{Library, first_missing};
@@ -102,23 +102,8 @@ impl Game for ZeroGame<'_> {
         exits(&Aim::Zeroing(self.mates), self.class, self.library, i)
     }
 
+    #[inline(always)]
     fn start(&self, i: u32, exits: &mut ArrayVec<Exit, 64>) -> Option<Start> {
-        start(
-            &Aim::Zeroing(self.mates),
-            self.class,
-            self.library,
-            i,
-            exits,
-        )
-    }
-
-    fn start_two(
-        &self,
-        i: u32,
-        exits: &mut ArrayVec<Exit, 64>,
-        next_exits: &mut ArrayVec<Exit, 64>,
-    ) -> (Option<Start>, Option<Start>) {
-        let aim = Aim::Zeroing(self.mates);
-        start_two(&aim, self.class, self.library, i, exits, next_exits)
+        start_by_ranks(self.mates, self.class, self.library, i, exits)
     }
 }

@@ -9,8 +9,8 @@ add_exit_of_step-requires-clause-room c =
     let some = some_choice leads.man.kind in
     omega (arith, room, some)
 
-pub returns-in-Some-clause-few : goal.returns-in-Some-clause-few
-returns-in-Some-clause-few c man stands =
+pub returns-then-is_step-clause-few : goal.returns-then-is_step-clause-few
+returns-then-is_step-clause-few c man stands =
     let few = c.add_exit_of_step.ensures.few in
     let some = some_choice man.kind in
     omega (arith, few, some)

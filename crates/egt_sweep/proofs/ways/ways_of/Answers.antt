@@ -66,3 +66,6 @@ returns-clause-exits c =
     walked_whole _ c.loop-from.rest c.loop-from.rest c.args.exits.now.items list list c.requires.empty c.in_default.ensures.empty c.loop-from.invariant.4
     ∙ sym (all_told (λ m. option_to_list (exit_by tables column c.args.class p m (played p m))) p (λ m illegal.
     nothing_told c.laws.ensures tables column c.args.class p m c.side.ensures.admissible (λ q leads. absurd (false≢true (sym illegal ∙ tells_where (decided_legal p m) (q, leads))))))
+
+pub returns-clause-counts : goal.returns-clause-counts
+returns-clause-counts c anchor = (c.loop-from.rest, c.in_default.ensures.empty, c.loop-from.invariant.3 anchor)
