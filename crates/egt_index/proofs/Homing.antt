@@ -90,17 +90,6 @@ brought_told : (pawns flips : Bool) (king t : ℕ) → is_brought pawns flips ki
 unfolding is_brought has_digit
 brought_told pawns flips king t h = let some = some_passes _ _ h in (some.0, some.1, eqb-true _ _ some.2)
 
--- the turn that brings a king home, not to such a square, is the only one
-is_alone : Bool → Bool → ℕ → ℕ → Bool
-is_alone pawns flips t from = not (is_with pawns flips t) || (is_away pawns flips from t || (is_tied pawns (turned_square (t % 8) flips from) || is_right_at pawns flips from t t))
-
-all_alone : (pawns flips : Bool) → all_below (λ t. all_below (is_alone pawns flips t) 64) 16 ≡ true
-unfolding all_below is_alone is_right_at is_with is_away is_brought has_digit some_below
-all_alone true true = refl
-all_alone true false = refl
-all_alone false true = refl
-all_alone false false = refl
-
 -- the one turn, or the two
 turns_told : (pawns flips : Bool) (king first last : ℕ) (second : Option ℕ) → is_right_at pawns flips king first last ≡ true → ((first ≡ last) × (second ≡ None)) ⊎ (second ≡ Some last) → AreHome pawns flips king first second
 unfolding is_right_at
@@ -161,18 +150,3 @@ still_told pawns king last digit second last_is seconds below is = turns_told pa
     right : is_right_at pawns false king 0 last ≡ true
     right = subst (λ n. is_right_at pawns false king 0 n ≡ true) (sym last_is)
         (subst (λ k. is_right_at pawns false k 0 (still pawns k) ≡ true) is (passes_below (λ d. is_right_at pawns false (king_square pawns d) 0 (still pawns (king_square pawns d))) (king_base pawns) digit (all_still pawns) below))
-
--- the only one that brings him there
-pub alone_told : (pawns flips : Bool) (king t from digit : ℕ) → is_tied pawns king ≡ false → IsTurnWith pawns flips t → from < 64 → king ≡ turned_square (t % 8) flips from
-    → digit < king_base pawns → king_square pawns digit ≡ king → AreHome pawns flips from t None
-unfolding is_alone
-alone_told pawns flips king t from digit tied turn from_in king_is below is = turns_told pawns flips from t t None right (inl (refl, refl))
-  where
-    right : is_right_at pawns flips from t t ≡ true
-    right = elim (one_of _ _ (implied _ _ (told_with pawns flips t turn) (passes_below (is_alone pawns flips t) 64 from (passes_below _ 16 t (all_alone pawns flips) turn.below) from_in))) [
-      | inl away ↦ absurd (away_told pawns flips from t digit away below (is ∙ king_is))
-      | inr there ↦ elim (one_of _ _ there) [
-        | inl on ↦ absurd (false≢true (sym tied ∙ ap (is_tied pawns) king_is ∙ on))
-        | inr all ↦ all
-      ]
-    ]

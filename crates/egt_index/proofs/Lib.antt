@@ -38,6 +38,7 @@ pub mod Swapping
 pub mod Boarding
 pub mod Scaled
 pub mod Lined
+pub mod Reached
 pub mod AtIndex
 pub mod Framed
 pub mod Rows

@@ -1,5 +1,5 @@
 -- The men of a class after one of them went to a free square.
-use Rattle.std.proofs.Common.{◌≡◌, ◌≢◌, ℕ, ◌<◌, Bool, true, false, List, [], ◌∷◌, ◌++◌, map, Option, Some, None, IfSome, refl, sym, ap, ◌∙◌, inl, inr, subst}
+use Rattle.std.proofs.Common.{◌≡◌, ◌≢◌, ℕ, ◌<◌, Bool, false, List, [], ◌∷◌, ◌++◌, map, Option, Some, None, IfSome, refl, sym, ap, ◌∙◌, inl, inr, subst}
 use Rattle.std.specs.Option.{option_to_list, is_some}
 use Rattle.std.specs.FinMap as placement
 use Rattle.std.proofs.lemmas.Bool.{cases_eq}
@@ -13,15 +13,13 @@ use Rattle.egt_board.specs.Pawn.{ahead, HasPawnBeside}
 use Rattle.egt_board.specs.Settled.{IsSettled, SettlesTo}
 use Rattle.egt_board.specs.Setup.{Setup, IsAdmissible}
 use Rattle.egt_board.specs.Turned.{turned_man}
-use Rattle.egt_class.specs.Material.{has_equal_sides}
 use Rattle.egt_index.specs.Facts.{Facts}
 use Rattle.egt_index.specs.Frame.{IsMoved, IsFrame}
 use Rattle.egt_index.specs.Went.{moved_square, moved_entry, IsMovedStand, AreOnBoard, IsWent}
-use Rattle.egt_index.specs.Stood.{Entry, men_among, IsOff, AllStand, Stood, HasStand, list_of, on_square_of}
+use Rattle.egt_index.specs.Stood.{Entry, men_among, IsOff, AllStand, Stood, HasStand, list_of}
 use Rattle.egt_index.specs.declared.frame.Frame.{Frame}
 use Rattle.egt_index.specs.declared.stand.Stand.{Stand}
 use Rattle.egt_index.proofs.Carried.{went, stayed}
-use Rattle.egt_index.proofs.Exchanged.{stood_exchanged}
 
 module _ (c : ℕ) (p : Setup) (from to : ℕ) (q : Setup) (moved : IsMoved c p from to q) where
   abbrev move_one : Man × ℕ → Man × ℕ
@@ -144,33 +142,6 @@ on_board_of c flips passed p stand side has = record {
     both (Some e) None all = (all.0, tt)
     both (Some e) (Some d) all = (all.0, all.3.0)
 
--- a man goes where he is seen to go with colours exchanged
-entry_exchanged : (from to : ℕ) (x y : Entry) → on_square_of (moved_entry from to x) (moved_entry from to y) ≡ moved_entry from to (on_square_of x y)
-entry_exchanged from to None y = refl
-entry_exchanged from to (Some e) None = refl
-entry_exchanged from to (Some e) (Some d) = refl
-
--- the stand with colours exchanged
-abbrev pub exchange : Stand → Stand
-exchange s = record { white = s.black; black = s.white; next = on_square_of s.next s.last; last = on_square_of s.last s.next }
-
-pub exchanged_moved : (from to : ℕ) (before after other : Stand) → IsMovedStand from to before after → other.white ≡ before.black → other.black ≡ before.white
-    → other.next ≡ on_square_of before.next before.last → other.last ≡ on_square_of before.last before.next → IsMovedStand from to other (exchange after)
-exchanged_moved from to before after other is white black next last = record {
-  white = is.black ∙ ap (moved_square from to) (sym white);
-  black = is.white ∙ ap (moved_square from to) (sym black);
-  next =
-      ap (λ (x : Entry). on_square_of x after.last) is.next
-      ∙ ap (λ (y : Entry). on_square_of (moved_entry from to before.next) y) is.last
-      ∙ entry_exchanged from to before.next before.last
-      ∙ ap (moved_entry from to) (sym next);
-  last =
-      ap (λ (x : Entry). on_square_of x after.next) is.last
-      ∙ ap (λ (y : Entry). on_square_of (moved_entry from to before.last) y) is.next
-      ∙ entry_exchanged from to before.last before.next
-      ∙ ap (moved_entry from to) (sym last);
-}
-
 -- where the men stand after the man on `from` went to `to`
 abbrev pub after_of : ℕ → ℕ → Stand → Stand
 after_of from to s = record {
@@ -202,27 +173,4 @@ module _ (facts : Facts) (p q : Setup) (from to : ℕ) (frame : Frame) (side : S
     on_board = on_board_of frame.class false is.passed p frame.stand frame.side is.stand;
     moved = is_after from to frame.stand;
     stand = has;
-  }
-
-  pub went_exchanged : (other : Stand) → has_equal_sides frame.class ≡ true → other.white ≡ frame.stand.black → other.black ≡ frame.stand.white
-      → other.next ≡ on_square_of frame.stand.next frame.stand.last → other.last ≡ on_square_of frame.stand.last frame.stand.next → IsWent frame.class true other (exchange after) from to side q
-  went_exchanged other equal white black next last = record {
-    from_in = from_in is.stand.admissible;
-    on_board = on_board_of frame.class true is.passed p other frame.side (record {
-      admissible = is.stand.admissible;
-      settled = is.stand.settled;
-      is_of = facts.both_flips p frame.class false true c_in equal is.stand.is_of;
-      stood = stood_exchanged frame.class false p.men frame.stand other c_in equal white black next last is.stand.stood;
-      side_is = is.stand.side_is;
-      target_is = is.stand.target_is;
-    });
-    moved = exchanged_moved from to frame.stand after other (is_after from to frame.stand) white black next last;
-    stand = record {
-      admissible = has.admissible;
-      settled = has.settled;
-      is_of = facts.both_flips q frame.class false true c_in equal has.is_of;
-      stood = stood_exchanged frame.class false q.men after (exchange after) c_in equal refl refl refl refl has.stood;
-      side_is = has.side_is;
-      target_is = has.target_is;
-    };
   }

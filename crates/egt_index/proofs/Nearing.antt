@@ -17,8 +17,8 @@ use Rattle.egt_index.specs.Stood.{HasStand}
 use Rattle.egt_index.specs.Turns.{IsTurn, Best}
 use Rattle.egt_index.specs.declared.stand.Stand.{Stand}
 use Rattle.egt_index.proofs.Beating.{spelled_home, stands_after, kings_less, has_exchanged}
+use Rattle.egt_index.proofs.Exchanged.{exchange}
 use Rattle.egt_index.proofs.LeastTurn.{keeps_play, none_away}
-use Rattle.egt_index.proofs.Moved.{exchange}
 
 -- the kings after a turn, as a number
 abbrev pub kings_after : Stand → ℕ → ℕ
@@ -144,9 +144,8 @@ nearest_of_two facts c flips white black first second kings c_in home kings_is s
     (subst (λ k. KingsHome c p flips (min (kings_after stand first) k)) (same_kings stand second white black white_is black_is)
     (kings_of_two facts c flips stand side passed p first second c_in has (subst (λ w. AreHome (has_pawns (material_of c)) flips w first (Some second)) (sym white_is) home)))
 
--- kings that come to lesser squares in the one colours than in the others tell in which the least code is
-pub nearer_tell : Facts → (c : ℕ) (flips others : Bool) (white black k l : ℕ) → c < 36 → has_equal_sides c ≡ true → not flips ≡ others → AreNearest c flips white black k → AreNearest c others black white l → k < l → KingsTell c flips white black
-nearer_tell facts c flips others white black k l c_in equal others_is own other less stand side passed p code white_is black_is has least =
-    nearer c p flips others k l code (subst (λ o. (b : Bool) → (b ≡ flips) ⊎ (b ≡ o)) others_is (told flips)) (own stand side passed p white_is black_is has)
-    (other (exchange stand) side passed p black_is white_is
-    (subst (λ o. HasStand c o (exchange stand) side passed p) others_is (has_exchanged facts c flips stand (exchange stand) side passed p c_in equal refl refl refl refl has))) less least
+-- kings that come to lesser squares in the class's colours than in the others tell that the least code is in these
+pub nearer_tell : Facts → (c white black k l : ℕ) → c < 36 → has_equal_sides c ≡ true → AreNearest c false white black k → AreNearest c true black white l → k < l → KingsTell c white black
+nearer_tell facts c white black k l c_in equal own other less stand side passed p code white_is black_is has least =
+    nearer c p false true k l code (told false) (own stand side passed p white_is black_is has)
+    (other (exchange stand) side passed p black_is white_is (has_exchanged facts c false stand (exchange stand) side passed p c_in equal refl refl refl refl has)) less least

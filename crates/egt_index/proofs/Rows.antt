@@ -107,7 +107,7 @@ module _ (c n code : ℕ) (stand : Stand) (p : Setup) (row : code / row_len c �
 
 -- the frame of one position of a row, with the other's side to move
 abbrev pub turned_to : Side → Frame → Frame
-turned_to side frame = record { class = frame.class; side = side; stand = frame.stand; alone = frame.alone; nearer = frame.nearer }
+turned_to side frame = record { class = frame.class; side = side; stand = frame.stand; alone = frame.alone; equal = frame.equal; own = frame.own }
 
 pub frame_turned : (c : ℕ) (stand : Stand) (p : Setup) (frame : Frame) → IsRowFrame c stand frame → IsInRow c stand p → IsFrame p (turned_to p.side frame)
 frame_turned c stand p frame row here = record {
@@ -124,7 +124,7 @@ frame_turned c stand p frame row here = record {
   home = row.is_frame.home;
   alone = row.is_frame.alone;
   equal = row.is_frame.equal;
-  nearer = row.is_frame.nearer;
+  own = row.is_frame.own;
 }
   where
     there : HasStand frame.class false frame.stand frame.side row.is_frame.passed row.position

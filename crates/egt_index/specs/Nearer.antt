@@ -1,5 +1,5 @@
 -- The kings of what turns make of a position, which tell between the colours.
-use Rattle.std.specs.Prelude.{◌≡◌, ℕ, ◌+◌, ◌*◌, ◌/◌, ◌<◌, ◌≤◌, ◌==◌, Bool, true, false, Option}
+use Rattle.std.specs.Prelude.{◌≡◌, ℕ, ◌+◌, ◌*◌, ◌/◌, ◌<◌, ◌≤◌, ◌==◌, Bool, false, Option}
 use Rattle.egt_board.specs.declared.man.Side.{Side}
 use Rattle.egt_board.specs.declared.man.Side.TheVariants.{White, Black}
 use Rattle.egt_board.specs.Attack.{king_of}
@@ -9,8 +9,6 @@ use Rattle.egt_index.specs.Code.{Spells}
 use Rattle.egt_index.specs.Home.{LeastWith}
 use Rattle.egt_index.specs.Stood.{HasStand}
 use Rattle.egt_index.specs.Turns.{IsTurn, Best}
-use Rattle.egt_index.specs.declared.nearer.Nearer.{Nearer}
-use Rattle.egt_index.specs.declared.nearer.Nearer.TheVariants.{Own, Exchanged, Both}
 use Rattle.egt_index.specs.declared.stand.Stand.{Stand}
 
 -- some turn that exchanges colours so makes what a code spells, with its kings on these squares, and none makes any with its kings on
@@ -36,14 +34,8 @@ abbrev pub AreNearest : ℕ → Bool → (white black kings : ℕ) → Type 0
 AreNearest c flips white black kings =
     (stand : Stand) (side : Side) (passed : Bool) (p : Setup) → stand.white ≡ white → stand.black ≡ black → HasStand c flips stand side passed p → KingsHome c p flips kings
 
--- in whatever position the kings stand on these squares, the least code of the turns that exchange colours so is that of all turns, if
+-- in whatever position the kings stand on these squares, the least code of the turns that exchange no colours is that of all turns, if
 -- there is one
-abbrev pub KingsTell : ℕ → Bool → (white black : ℕ) → Type 0
-KingsTell c flips white black =
-    (stand : Stand) (side : Side) (passed : Bool) (p : Setup) (code : Option ℕ) → stand.white ≡ white → stand.black ≡ black → HasStand c flips stand side passed p → LeastWith c p flips code → Best c p 16 code
-
--- the least code is in these colours, wherever the men beside the kings stand
-abbrev pub IsNearer : ℕ → Stand → Nearer → Type 0
-IsNearer c stand Own = KingsTell c false stand.white stand.black
-IsNearer c stand Exchanged = KingsTell c true stand.black stand.white
-IsNearer c stand Both = Unit {0}
+abbrev pub KingsTell : ℕ → (white black : ℕ) → Type 0
+KingsTell c white black =
+    (stand : Stand) (side : Side) (passed : Bool) (p : Setup) (code : Option ℕ) → stand.white ≡ white → stand.black ≡ black → HasStand c false stand side passed p → LeastWith c p false code → Best c p 16 code

@@ -8,9 +8,11 @@ use Rattle.egt_board.specs.declared.man.Side.{Side}
 use Rattle.egt_board.specs.Images.{side_number}
 use Rattle.egt_class.specs.Material.{Material}
 use Rattle.egt_index.specs.Size.{has_target}
-use Rattle.egt_index.specs.Stood.{Entry}
+use Rattle.egt_index.specs.Stood.{Entry, IsFilled}
 use Rattle.egt_index.specs.declared.scales.Scale.{Scale}
 use Rattle.egt_index.specs.declared.scales.Scales.{Scales}
+use Rattle.egt_index.specs.declared.scales.Squares.{Squares}
+use Rattle.egt_index.specs.declared.stand.Stand.{Stand}
 
 -- what the man adds on the square
 abbrev pub share : Scale → ℕ → ℕ
@@ -79,6 +81,14 @@ pub record ScalesFit (scales : Scales) : Type 0 where
 -- the man, if there is one, stands on the square
 abbrev pub IsOn : Entry → ℕ → Type 0
 IsOn entry s = IfSome entry (λ e. e.1 ≡ s)
+
+-- the white king stands there, and the others on these squares
+pub record StandOn (stand : Stand) (white : ℕ) (squares : Squares) : Type 0 where
+  pub filled : IsFilled stand
+  pub white_is : stand.white ≡ white
+  pub black_is : stand.black ≡ squares.black
+  pub next : IsOn stand.next squares.next
+  pub last : IsOn stand.last squares.last
 
 abbrev pub AreEqual : Entry → Entry → Type 0
 AreEqual None y = ⊥

@@ -6,7 +6,7 @@ use Rattle.egt_board.specs.Turned.{turned_square, turned_side}
 use Rattle.egt_board.specs.declared.man.Side.{Side}
 use Rattle.egt_class.specs.Material.{material_of}
 use Rattle.egt_index.specs.Frame.{IsMoved}
-use Rattle.egt_index.specs.Home.{IsTurnWith, LeastWith}
+use Rattle.egt_index.specs.Home.{LeastWith}
 use Rattle.egt_index.specs.Went.{IsWent}
 use Rattle.egt_index.specs.Scales.{share, code_by, man_at, AreScales, ScalesFit, IsOn, AreEqual}
 use Rattle.egt_index.specs.Size.{has_pawns, men_in_order}
@@ -22,7 +22,7 @@ use Rattle.egt_index.specs.declared.ways.Mover.TheVariants.{Black, Next, Last, N
 use Rattle.egt_index.specs.declared.ways.Pair.{Pair}
 use Rattle.egt_index.specs.declared.ways.Sum.{Sum}
 use Rattle.egt_index.specs.declared.ways.Way.{Way}
-use Rattle.egt_index.specs.declared.ways.Way.TheVariants.{One, Two, OnePair, TwoPairs, King, Turned, Never}
+use Rattle.egt_index.specs.declared.ways.Way.TheVariants.{One, Two, OnePair, TwoPairs, Never}
 
 abbrev pub sum_code : Sum → ℕ → ℕ
 sum_code sum to = sum.rest + share sum.scale to
@@ -83,19 +83,11 @@ pub record IsHoming (c : ℕ) (squares : Squares) (side : Side) (flips : Bool) (
   pub scales : (stand : Stand) → men_among (list_of stand) ≡ men_in_order (material_of c) → IsFilled stand → AreScales (material_of c) (man_at stand.next) (man_at stand.last) side homing.scales
   pub paired : (stand : Stand) → men_among (list_of stand) ≡ men_in_order (material_of c) → IsFilled stand → IsPaired stand homing.pair
 
--- the squares after the turn
-abbrev pub squares_after : ℕ → Squares → Squares
-squares_after t squares = record {
-  black = turned_square (t % 8) (t / 8 == 1) squares.black;
-  next = turned_square (t % 8) (t / 8 == 1) squares.next;
-  last = turned_square (t % 8) (t / 8 == 1) squares.last;
-}
-
--- the turn exchanges colours as all that bring him home do, and that is what the others add after it
-pub record KingWayFits (base : ℕ) (way : KingWay) : Type 0 where
+-- no turn that brings him home exchanges colours, and that is what the others add where they stand
+pub record KingWayFits (way : KingWay) : Type 0 where
   pub scales : ScalesFit way.homing.scales
-  pub base_is : IsTurnWith way.homing.pawns way.homing.flips base
-  pub rest : way.rest ≡ code_in_order way.homing.scales 0 (squares_after base way.homing.squares) way.homing.pair
+  pub flips_is : way.homing.flips ≡ false
+  pub rest : way.rest ≡ code_in_order way.homing.scales 0 way.homing.squares way.homing.pair
   pub rest_few : way.rest ≤ 1073741824
 
 abbrev pub WayFits : Way → Type 0
@@ -103,8 +95,6 @@ WayFits (One line) = LineFits line
 WayFits (Two first second) = LineFits first × LineFits second
 WayFits (OnePair pair) = PairFits pair
 WayFits (TwoPairs first second) = PairFits first × PairFits second
-WayFits (King way) = KingWayFits 0 way
-WayFits (Turned king) = KingWayFits king.base king.way
 WayFits Never = Unit {0}
 
 -- wherever the man on `from` in p goes, the way tells the least code of what the turns make of the position then
@@ -113,11 +103,13 @@ Leads c flips p from (One line) = (to : ℕ) (q : Setup) → IsMoved c p from to
 Leads c flips p from (Two first second) = (to : ℕ) (q : Setup) → IsMoved c p from to q → LeastWith c q flips (Some (min (line_code first to) (line_code second to)))
 Leads c flips p from (OnePair pair) = (to : ℕ) (q : Setup) → IsMoved c p from to q → LeastWith c q flips (Some (pair_code pair to))
 Leads c flips p from (TwoPairs first second) = (to : ℕ) (q : Setup) → IsMoved c p from to q → LeastWith c q flips (Some (min (pair_code first to) (pair_code second to)))
-Leads c flips p from (King way) = (to : ℕ) (q : Setup) → IsMoved c p from to q → ComesHome c flips way.homing to q
-Leads c flips p from (Turned king) = (to : ℕ) (q : Setup) → IsMoved c p from to q → ComesHome c flips king.way.homing to q
 Leads c flips p from Never = (to : ℕ) (q : Setup) → IsMoved c p from to q → LeastWith c q flips None
 
--- the same where one turn in the class's colours alone brings the king home, and changes nothing
+-- wherever the white king on `from` in p goes, the others stand as the way tells
+abbrev pub LeadsHome : ℕ → Setup → ℕ → KingWay → Type 0
+LeadsHome c p from way = (to : ℕ) (q : Setup) → IsMoved c p from to q → ComesHome c false way.homing to q
+
+-- a way of his own of a man beside him, where one turn in the class's colours alone brings the king home, and changes nothing
 abbrev pub LeadsBy : ℕ → Setup → ℕ → Sum → Type 0
 LeadsBy c p from sum = (to : ℕ) (q : Setup) → IsMoved c p from to q → LeastWith c q false (Some (sum_code sum to))
 

@@ -72,12 +72,9 @@ pub(crate) fn home(pawns: bool, flips: bool, king: Square) -> (u8, Option<u8>)
 }
 
 /// The turn, beside the one that changes nothing, that leaves the king at home who is there, in the same colours: it exchanges files
-/// and ranks, where he stands on the long diagonal. Where there is none and a turn brought him there from some square, no other turn of
-/// the same colours brings him home from that square.
+/// and ranks, where he stands on the long diagonal.
 pub(crate) fn still_home(pawns: bool, king: Square) -> Option<u8>
     ensures home { (digit : ℕ) → digit < king_base pawns → king_square pawns digit ≡ king → AreHome pawns false king 0 result }
-    ensures alone { (flips : Bool) (turn from digit : ℕ) → result ≡ None → IsTurnWith pawns flips turn → from < 64 → king ≡ turned_square (turn % 8) flips from → digit < king_base pawns → king_square pawns digit ≡ king →
-        AreHome pawns flips from turn None }
     ensures below { IfSome result (λ turn. turn < 16) }
 {
     if !pawns & (king.file() == king.rank()) {

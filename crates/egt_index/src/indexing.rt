@@ -4,12 +4,12 @@ ghost use Rattle.std.specs.Option.{is_some};
 ghost use Rattle.egt_board.specs.Setup.{Setup};
 ghost use Rattle.egt_board.specs.Settled.{SettlesTo};
 ghost use Rattle.egt_board.specs.Symmetry.{KeepsPlay};
-ghost use Rattle.egt_board.specs.declared.man.Side.{Side};
+ghost use Rattle.egt_board.specs.Turned.{turned_side};
 ghost use Rattle.egt_class.specs.Material.{material_of, has_equal_sides};
 ghost use Rattle.egt_class.specs.Membership.{IsOf};
 ghost use Rattle.egt_index.specs.Home.{AreHome, LeastWith};
 ghost use Rattle.egt_index.specs.Index.{IsIndex};
-ghost use Rattle.egt_index.specs.Scales.{IsOn};
+ghost use Rattle.egt_index.specs.Scales.{StandOn};
 ghost use Rattle.egt_index.specs.Size.{has_pawns};
 ghost use Rattle.egt_index.specs.Stood.{HasStand, IsFilled, IsStandAfter};
 ghost use Rattle.egt_index.specs.declared.stand.Stand.{Stand};
@@ -23,9 +23,16 @@ use crate::men::{has_equal_sides, has_pawns};
 use crate::nearer::homeward;
 use crate::scales::{Squares, squares_of};
 use crate::stand::{Stand, exchanged, stand_after, standing_of};
-use crate::ways::{Homing, side_after};
+use crate::ways::Homing;
 use egt_board::{Position, Side, Square};
 use egt_class::Class;
+
+/// The side, or the other one where colours are exchanged.
+fn side_after(side: Side, flips: bool) -> Side
+    ensures { result ≡ turned_side flips side }
+{
+    if flips { side.other() } else { side }
+}
 
 /// The least code of what the turn makes of a settled position of the class, if it has one: the turn takes the men where they stand
 /// `after`.
@@ -100,8 +107,7 @@ fn least_on(
     turns: Turns,
 ) -> Option<u32>
     requires { AreHome (has_pawns (material_of class)) flips white turns.first turns.second }
-    ensures { (p : Setup) (stand : Stand) → HasStand class flips stand side false p → IsFilled stand → stand.white ≡ white → stand.black ≡ squares.black → IsOn stand.next squares.next → IsOn stand.last squares.last →
-        LeastWith class p flips result }
+    ensures { (p : Setup) (stand : Stand) → HasStand class flips stand side false p → StandOn stand white squares → LeastWith class p flips result }
 {
     facts();
     let _number = class.number();
@@ -120,81 +126,66 @@ fn least_untargeted(class: Class, stand: &Stand, side: Side, flips: bool) -> Opt
     least_on(class, stand.white, squares_of(stand), side, flips, turns)
 }
 
-/// The same of either.
-fn least_code(class: Class, stand: &Stand, side: Side, passed: bool, flips: bool) -> Option<u32>
-    requires { IsFilled stand.now }
-    ensures { (p : Setup) → HasStand class flips stand.now side passed p → LeastWith class p flips result }
-{
-    if passed {
-        least_with_target(class, stand, side, flips)
-    } else {
-        least_untargeted(class, stand, side, flips)
-    }
-}
-
-/// The least code of all images of a settled position of a class whose sides have the same men, with these men, in colours flipped
-/// or not. Few positions need it.
-#[inline(never)]
-fn least_of_both(
-    class: Class,
-    stand: &Stand,
-    side: Side,
-    passed: bool,
-    flipped: bool,
-) -> Option<u32>
-    requires filled { IsFilled stand.now }
-    requires equal { has_equal_sides class ≡ true }
-    ensures { (p : Setup) → HasStand class flipped stand.now side passed p → Best class p 16 result }
+/// The least code of all images of a settled position with a target, of a class whose sides have the same men.
+fn least_of_both(class: Class, stand: &Stand, side: Side, flipped: bool) -> Option<u32>
+    requires { has_equal_sides class ≡ true }
+    ensures { (p : Setup) → HasStand class flipped stand.now side true p → Best class p 16 result }
 {
     facts();
     let _number = class.number();
     let others = exchanged(stand);
-    let other = least_code(class, &others, side, passed, !flipped);
-    let own = least_code(class, stand, side, passed, flipped);
+    let other = least_with_target(class, &others, side, !flipped);
+    let own = least_with_target(class, stand, side, flipped);
     lesser(own, other)
 }
 
-/// The same of one without a target, where the kings tell in which colours it is: their digits are the highest. `None` where they come to
-/// the same squares in both.
-#[inline(always)]
-fn least_by_kings(class: Class, stand: &Stand, side: Side, flipped: bool) -> Option<u32>
-    requires filled { IsFilled stand.now }
-    requires equal { has_equal_sides class ≡ true }
-    ensures { (p : Setup) → HasStand class flipped stand.now side false p → IfSome result (λ code. Best class p 16 (Some code)) }
-{
-    facts();
-    let _number = class.number();
-    let own = homeward(class, stand.white, stand.black, flipped);
-    let other = homeward(class, stand.black, stand.white, !flipped);
-    let squares = squares_of(stand);
-    if own.kings < other.kings {
-        return least_on(class, stand.white, squares, side, flipped, own.turns);
-    }
-    if other.kings < own.kings {
-        let exchanged = squares.exchanged(stand.white);
-        return least_on(class, stand.black, exchanged, side, !flipped, other.turns);
-    }
-    None
-}
-
-/// The same in any class, with a target or without.
-fn least_of_images(
+/// The same of one without a target, where the white king and the others stand on these squares and the kings come to the same ones in
+/// both colours.
+#[inline(never)]
+fn least_where_tied(
     class: Class,
-    stand: &Stand,
+    white: Square,
+    squares: Squares,
     side: Side,
-    passed: bool,
     flipped: bool,
 ) -> Option<u32>
-    requires { IsFilled stand.now }
-    ensures { (p : Setup) → HasStand class flipped stand.now side passed p → Best class p 16 result }
+    requires { has_equal_sides class ≡ true }
+    ensures { (p : Setup) (stand : Stand) → HasStand class flipped stand side false p → StandOn stand white squares → Best class p 16 result }
 {
     facts();
     let _number = class.number();
-    if has_equal_sides(class) {
-        least_of_both(class, stand, side, passed, flipped)
-    } else {
-        least_code(class, stand, side, passed, flipped)
+    let turns = homeward(class, white, squares.black, flipped).turns;
+    let own = least_on(class, white, squares, side, flipped, turns);
+    let turns = homeward(class, squares.black, white, !flipped).turns;
+    let exchanged = squares.exchanged(white);
+    let other = least_on(class, squares.black, exchanged, side, !flipped, turns);
+    lesser(own, other)
+}
+
+/// The same wherever the kings stand. Most often they tell in which colours it is: their digits are the highest.
+#[inline(always)]
+pub(crate) fn least_by_kings(
+    class: Class,
+    white: Square,
+    squares: Squares,
+    side: Side,
+    flipped: bool,
+) -> Option<u32>
+    requires { has_equal_sides class ≡ true }
+    ensures { (p : Setup) (stand : Stand) → HasStand class flipped stand side false p → StandOn stand white squares → Best class p 16 result }
+{
+    facts();
+    let _number = class.number();
+    let own = homeward(class, white, squares.black, flipped);
+    let other = homeward(class, squares.black, white, !flipped);
+    if own.kings < other.kings {
+        return least_on(class, white, squares, side, flipped, own.turns);
     }
+    if other.kings < own.kings {
+        let exchanged = squares.exchanged(white);
+        return least_on(class, squares.black, exchanged, side, !flipped, other.turns);
+    }
+    least_where_tied(class, white, squares, side, flipped)
 }
 
 /// Whether the position has a target that a pawn stands ready to take.
@@ -208,20 +199,24 @@ fn keeps_target(position: &Position) -> bool
     }
 }
 
-/// The same of what a position settles to. Few positions need it.
+/// The same of what a position settles to, if that has a target. Few positions have one.
 #[inline(never)]
-fn least_of_any(class: Class, position: &Position) -> Option<u32>
+fn least_where_passed(class: Class, position: &Position) -> Option<u32>
     requires { (flipped : Bool) × IsOf class flipped position.now }
-    ensures { (q : Setup) → SettlesTo position.now q → Best class q 16 result }
+    ensures { (q : Setup) → SettlesTo position.now q → is_some q.target ≡ true → Best class q 16 result }
 {
     facts();
+    let _number = class.number();
     let side = position.side();
-    let passed = keeps_target(position);
     let standing = standing_of(class, position);
-    least_of_images(class, &standing.stand, side, passed, standing.flipped)
+    if has_equal_sides(class) {
+        least_of_both(class, &standing.stand, side, standing.flipped)
+    } else {
+        least_with_target(class, &standing.stand, side, standing.flipped)
+    }
 }
 
-/// The same. Where there is no target and the kings tell the colours, no more is kept of the men than their squares.
+/// The same with a target or without.
 #[inline(always)]
 fn least_of(class: Class, position: &Position) -> Option<u32>
     requires { (flipped : Bool) × IsOf class flipped position.now }
@@ -231,16 +226,20 @@ fn least_of(class: Class, position: &Position) -> Option<u32>
     let _number = class.number();
     let side = position.side();
     if keeps_target(position) {
-        return least_of_any(class, position);
+        return least_where_passed(class, position);
     }
     let standing = standing_of(class, position);
     if !has_equal_sides(class) {
         return least_untargeted(class, &standing.stand, side, standing.flipped);
     }
-    match least_by_kings(class, &standing.stand, side, standing.flipped) {
-        Some(code) => Some(code),
-        None => least_of_any(class, position),
-    }
+    let stand = &standing.stand;
+    least_by_kings(
+        class,
+        stand.white,
+        squares_of(stand),
+        side,
+        standing.flipped,
+    )
 }
 
 /// The index of a position of the class, in whatever colours: the least code that spells an image of its settled form.

@@ -5,6 +5,7 @@ pub mod axis;
 pub mod beaten;
 pub mod codes;
 pub mod digits;
+pub mod either;
 pub mod facts;
 pub mod frame;
 pub mod home;

@@ -3,7 +3,7 @@ ghost use Rattle.std.specs.Prelude.{◌≡◌, ℕ, ◌+◌, ◌*◌, ◌<◌, �
 ghost use Rattle.egt_board.specs.Turned.{turned_square};
 ghost use Rattle.egt_class.specs.Material.{material_of, has_equal_sides};
 ghost use Rattle.egt_index.specs.Home.{AreHome};
-ghost use Rattle.egt_index.specs.Nearer.{AreNearest, IsNearer};
+ghost use Rattle.egt_index.specs.Nearer.{AreNearest, KingsTell};
 ghost use Rattle.egt_index.specs.Size.{has_pawns};
 
 use crate::facts::facts;
@@ -13,17 +13,6 @@ use crate::stand::Stand;
 use crate::turning::turned_square;
 use egt_board::Square;
 use egt_class::Class;
-
-/// The colours in which the least code is, wherever the men beside the kings stand, in a class whose sides have the same men.
-#[derive(Clone, Copy)]
-pub(crate) enum Nearer {
-    /// The class's, where the kings come to lesser squares.
-    Own,
-    /// The others, where they do so.
-    Exchanged,
-    /// The kings come to the same squares in both, and do not tell.
-    Both,
-}
 
 /// Two squares as a number, in order of the first.
 pub(crate) fn pair(first: Square, second: Square) -> u16
@@ -77,25 +66,19 @@ pub(crate) fn homeward(class: Class, white: Square, black: Square, flips: bool) 
     }
 }
 
-/// The colours in which the kings come to lesser squares, where both sides have the same men and the white king is at home, and the other
-/// turn that leaves him there.
+/// Whether the kings come to lesser squares in the class's colours than in the others, where both sides have the same men, the white king
+/// is at home, and this turn leaves him there, if there is one beside that which changes nothing. Then the least code is in these.
 #[inline(always)]
-pub(crate) fn nearer_colours(class: Class, stand: &Stand, still: Option<u8>) -> Nearer
+pub(crate) fn is_own_nearer(class: Class, stand: &Stand, still: Option<u8>) -> bool
     requires below { IfSome still (λ turn. turn < 16) }
     requires equal { has_equal_sides class ≡ true }
     requires home { AreHome (has_pawns (material_of class)) false stand.now.white 0 still }
-    ensures { IsNearer class stand.now result }
+    ensures { result ≡ true → KingsTell class stand.now.white stand.now.black }
 {
     facts();
     let _number = class.number();
     let kings = pair(stand.white, stand.black);
     let own = least_kings(stand.white, stand.black, kings, still);
     let others = homeward(class, stand.black, stand.white, true).kings;
-    if own < others {
-        return Nearer::Own;
-    }
-    if others < own {
-        return Nearer::Exchanged;
-    }
-    Nearer::Both
+    own < others
 }

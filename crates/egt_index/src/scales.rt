@@ -3,8 +3,10 @@ ghost use Rattle.std.specs.Prelude.{◌≡◌, ◌<◌, ◌≤◌, ◌/◌, ◌%
 ghost use Rattle.egt_board.specs.declared.man.Side.TheVariants.{White, Black};
 ghost use Rattle.egt_board.specs.Turned.{turned_square};
 ghost use Rattle.egt_class.specs.Material.{material_of};
+ghost use Rattle.egt_index.specs.Either.{moved_squares};
 ghost use Rattle.egt_index.specs.Size.{men_in_order};
 ghost use Rattle.egt_index.specs.Stood.{men_among, list_of, IsFilled};
+ghost use Rattle.egt_index.specs.Went.{moved_square};
 ghost use Rattle.egt_index.specs.declared.scales.Scales.{Scales};
 ghost use Rattle.egt_index.specs.declared.stand.Stand.{Stand};
 ghost use Rattle.egt_index.specs.Scales.{share, code_by, digits_at, less_at, stride_at, man_at, AreScales, ScalesFit, IsOn};
@@ -310,6 +312,14 @@ pub(crate) fn in_order(one: Square, other: Square) -> (Square, Square)
     }
 }
 
+/// The square of a man after the one on `from` went to `to`.
+#[inline(always)]
+pub(crate) fn moved(from: Square, to: Square, square: Square) -> Square
+    ensures { result ≡ moved_square from to square }
+{
+    if square == from { to } else { square }
+}
+
 impl Squares {
     /// Of two equal men the one on the lesser square first.
     #[inline(always)]
@@ -341,6 +351,18 @@ impl Squares {
             black: white,
             next: self.last,
             last: self.next,
+        }
+    }
+
+    /// The same after the man on `from` went to `to`.
+    #[inline(always)]
+    pub(crate) fn moved(&self, from: Square, to: Square) -> Squares
+        ensures { result ≡ moved_squares from to self.now }
+    {
+        Squares {
+            black: moved(from, to, self.black),
+            next: moved(from, to, self.next),
+            last: moved(from, to, self.last),
         }
     }
 

@@ -1,14 +1,13 @@
 //! The ways of one man of a frame.
-ghost use Rattle.std.specs.Prelude.{ℕ, ◌<◌, true, false};
+ghost use Rattle.std.specs.Prelude.{ℕ};
 ghost use Rattle.egt_board.specs.Setup.{Setup};
 ghost use Rattle.egt_index.specs.Frame.{IsMoved};
 ghost use Rattle.egt_index.specs.Index.{IsIndex};
 ghost use Rattle.egt_index.specs.Steps.{AreSteps, WaysFit};
 ghost use Rattle.egt_index.specs.Turns.{Best};
-ghost use Rattle.egt_index.specs.Ways.{WayFits, Leads};
 
+use crate::either::EitherWay;
 use crate::facts::facts;
-use crate::indexing::lesser;
 use crate::ways::{KingWay, Sum, Way};
 use egt_board::Square;
 
@@ -17,23 +16,12 @@ use egt_board::Square;
 pub(crate) enum Ways {
     /// The most common case by itself: one turn of the class's colours alone makes what has a code.
     Single(Sum),
-    /// The white king's in the only colours in which the least can be.
+    /// The white king's in the class's colours, where the least is in these.
     King(KingWay),
-    /// The codes in the only colours in which the least can be.
-    Alone(Way),
-    /// Those in the class's colours, and those in the others.
-    Both(Way, Way),
-}
-
-/// The least code after he went to the square, if there is one.
-fn least_of(own: &Way, exchanged: &Way, to: Square) -> Option<u32>
-    requires own { WayFits own.now }
-    requires exchanged { WayFits exchanged.now }
-    ensures { (c from : ℕ) (p q : Setup) → c < 36 → Leads c false p from own.now → Leads c true p from exchanged.now → IsMoved c p from to q → Best c q 16 result }
-{
-    let own = own.code_to(to);
-    let other = exchanged.code_to(to);
-    lesser(own, other)
+    /// The same of any other man.
+    Own(Way),
+    /// The codes in either colours.
+    Either(EitherWay),
 }
 
 /// Where one man of a frame's position may go, so that the index after he went is found by little more than an addition.
@@ -67,8 +55,8 @@ impl Steps {
         match &self.ways {
             Ways::Single(sum) => Some(sum.code_to(to)),
             Ways::King(way) => way.code_to(to),
-            Ways::Alone(way) => way.code_to(to),
-            Ways::Both(own, exchanged) => least_of(own, exchanged, to),
+            Ways::Own(way) => way.code_to(to),
+            Ways::Either(way) => way.code_to(to),
         }
     }
 }

@@ -3,18 +3,17 @@ ghost use Rattle.std.specs.Prelude.{◌≡◌, ◌≢◌, ℕ, ◌+◌, ◌<◌,
 ghost use Rattle.std.specs.Option.{option_map};
 ghost use Rattle.egt_board.specs.Setup.{Setup};
 ghost use Rattle.egt_board.specs.Symmetry.{KeepsPlay};
-ghost use Rattle.egt_board.specs.Turned.{turned_side, turned_square};
+ghost use Rattle.egt_board.specs.Turned.{turned_square};
 ghost use Rattle.egt_board.specs.declared.man.Side.{Side};
 ghost use Rattle.egt_class.specs.Material.{material_of};
 ghost use Rattle.egt_index.specs.Frame.{IsMoved};
-ghost use Rattle.egt_index.specs.Home.{AreHome, IsTurnWith, LeastWith};
+ghost use Rattle.egt_index.specs.Home.{AreHome, LeastWith};
 ghost use Rattle.egt_index.specs.Scales.{ScalesFit, share, code_by};
 ghost use Rattle.egt_index.specs.Size.{has_pawns};
 ghost use Rattle.egt_index.specs.Turns.{CodeAfter, lesser};
-ghost use Rattle.egt_index.specs.Ways.{sum_code, line_code, pair_code, code_with, code_in_order, SumFits, LineFits, PairFits, ComesHome, IsHoming, KingWayFits, WayFits, Leads, LeadsBy, Goes, IsSeen, IsMover, IsGoer, IsSingle, IsOneOfTwo, IsPaired, other_square};
+ghost use Rattle.egt_index.specs.Ways.{sum_code, line_code, pair_code, code_with, code_in_order, SumFits, LineFits, PairFits, ComesHome, IsHoming, KingWayFits, WayFits, Leads, LeadsHome, LeadsBy, Goes, IsSeen, IsMover, IsGoer, IsSingle, IsOneOfTwo, IsPaired, other_square};
 ghost use Rattle.egt_index.specs.Went.{IsWent};
 ghost use Rattle.egt_index.specs.declared.stand.Stand.{Stand};
-ghost use Rattle.egt_index.specs.declared.ways.Way.TheVariants.{King, Turned};
 
 use crate::digits::king_digit;
 use crate::facts::facts;
@@ -153,8 +152,8 @@ impl Homing {
     }
 }
 
-/// The codes after the white king went. In most of his steps the only turn that brings him home is the one that did so before the step:
-/// then the code is what his digit adds to what the others add after that turn.
+/// The codes after the white king went, who was at home. In most of his steps he stays there and no other turn brings him home: then the code
+/// is what his digit adds to what the others add.
 #[derive(Clone, Copy)]
 pub(crate) struct KingWay {
     pub(crate) homing: Homing,
@@ -162,105 +161,53 @@ pub(crate) struct KingWay {
 }
 
 impl KingWay {
-    /// The way of the king whom the turns bring home, where the turn that does so now takes the others to these squares.
-    #[inline(always)]
-    fn of(homing: Homing, after: &Squares) -> KingWay
-        requires { ScalesFit homing.scales }
-        ensures homing { result.homing ≡ homing }
-        ensures rest { result.rest ≡ code_in_order homing.scales 0 after.now homing.pair }
-        ensures few { result.rest ≤ 1073741824 }
-    {
-        let rest = homing.scales.code(0, &after.ordered(homing.pair));
-        KingWay { homing, rest }
-    }
-
     /// The way of the white king, who is at home, of men in the class's colours.
     #[inline(never)]
     pub(crate) fn at_home(class: Class, stand: &Stand, side: Side) -> KingWay
-        ensures fits { KingWayFits 0 result }
-        ensures leads { (p : Setup) → IsSeen class false p stand.now stand.now.white side → Leads class false p stand.now.white (King result) }
+        ensures fits { KingWayFits result }
+        ensures leads { (p : Setup) → IsSeen class false p stand.now stand.now.white side → LeadsHome class p stand.now.white result }
     {
         let squares = squares_of(stand);
         let homing = Homing::of(class, squares, side, false);
-        KingWay::of(homing, &squares)
+        let rest = homing.scales.code(0, &squares.ordered(homing.pair));
+        KingWay { homing, rest }
     }
 
-    /// The code after he went where that turn takes him to the square, if it brings him home from there too and no other turn does.
+    /// The code after he went to the square, if he is at home there too and no other turn brings him home.
     #[inline(always)]
-    fn code_by_base(&self, king: Square) -> Option<u32>
-        requires { (base : ℕ) × KingWayFits base self.now }
-        ensures { (base c to : ℕ) (flips : Bool) (q : Setup) → KingWayFits base self.now → c < 36 → to < 64 → king ≡ turned_square (base % 8) (base / 8 == 1) to → ComesHome c flips self.now.homing to q →
-            IfSome result (λ code. LeastWith c q flips (Some code)) }
+    fn code_at_home(&self, to: Square) -> Option<u32>
+        requires { KingWayFits self.now }
+        ensures { (c : ℕ) (flips : Bool) (q : Setup) → c < 36 → ComesHome c flips self.now.homing to q → IfSome result (λ code. LeastWith c q flips (Some code)) }
     {
         facts();
-        let high = king_digit(self.homing.pawns, king)?;
+        let high = king_digit(self.homing.pawns, to)?;
         let code = u32::from(high) * self.homing.scales.king + self.rest;
-        match still_home(self.homing.pawns, king) {
+        match still_home(self.homing.pawns, to) {
             Some(_) => None,
             None => Some(code),
         }
     }
 
-    /// The least code after he went to the square, who was at home.
+    /// The least code after he went to the square.
     #[inline(always)]
     pub(crate) fn code_to(&self, to: Square) -> Option<u32>
-        requires { KingWayFits 0 self.now }
+        requires { KingWayFits self.now }
         ensures { (c : ℕ) (flips : Bool) (q : Setup) → c < 36 → ComesHome c flips self.now.homing to q → LeastWith c q flips result }
     {
-        let _number = to.number();
-        match self.code_by_base(to) {
+        match self.code_at_home(to) {
             Some(code) => Some(code),
             None => self.homing.code_to(to),
         }
     }
 }
 
-/// The same of the king whom a turn brings home that exchanges colours.
-#[derive(Clone, Copy)]
-pub(crate) struct TurnedKing {
-    pub(crate) base: u8,
-    pub(crate) way: KingWay,
-}
-
-impl TurnedKing {
-    /// The way of the white king, whom the turn brings home, of men in exchanged colours.
-    #[inline(never)]
-    pub(crate) fn of(class: Class, stand: &Stand, side: Side, base: u8) -> TurnedKing
-        requires { IsTurnWith (has_pawns (material_of class)) true base }
-        ensures fits { KingWayFits result.base result.way }
-        ensures leads { (p : Setup) → IsSeen class true p stand.now stand.now.white side → Leads class true p stand.now.white (Turned result) }
-    {
-        let squares = squares_of(stand);
-        let homing = Homing::of(class, squares, side_after(side, true), true);
-        TurnedKing {
-            base,
-            way: KingWay::of(homing, &squares.turned(base)),
-        }
-    }
-
-    /// The least code after he went to the square.
-    #[inline(always)]
-    fn code_to(&self, to: Square) -> Option<u32>
-        requires { KingWayFits self.now.base self.now.way }
-        ensures { (c : ℕ) (flips : Bool) (q : Setup) → c < 36 → ComesHome c flips self.now.way.homing to q → LeastWith c q flips result }
-    {
-        let _number = to.number();
-        match self.way.code_by_base(turned_square(self.base, to)) {
-            Some(code) => Some(code),
-            None => self.way.homing.code_to(to),
-        }
-    }
-}
-
-/// The codes after one man went, of the turns that exchange colours, or of those that do not.
+/// The codes after a man beside the white king went, of the turns that exchange colours, or of those that do not.
 #[derive(Clone, Copy)]
 pub(crate) enum Way {
     One(Line),
     Two(Line, Line),
     OnePair(Pair),
     TwoPairs(Pair, Pair),
-    King(KingWay),
-    Turned(TurnedKing),
     /// No turn makes anything that has a code.
     Never,
 }
@@ -277,18 +224,9 @@ impl Way {
             Way::Two(first, second) => Some(first.code_to(to).min(second.code_to(to))),
             Way::OnePair(pair) => Some(pair.code_to(to)),
             Way::TwoPairs(first, second) => Some(first.code_to(to).min(second.code_to(to))),
-            Way::King(way) => way.code_to(to),
-            Way::Turned(king) => king.code_to(to),
             Way::Never => None,
         }
     }
-}
-
-/// The side, or the other one where colours are exchanged.
-pub(crate) fn side_after(side: Side, flips: bool) -> Side
-    ensures { result ≡ turned_side flips side }
-{
-    if flips { side.other() } else { side }
 }
 
 /// The man of a class who goes.
@@ -514,41 +452,31 @@ fn way_of_other(
 }
 
 /// The codes after the man on `from` went, not the white king, whom these turns bring home; that side is to move then.
-pub(crate) fn way_of(
-    class: Class,
-    stand: &Stand,
-    turns: Turns,
-    flips: bool,
-    side: Side,
-    from: Square,
-) -> Way
+pub(crate) fn way_of(class: Class, stand: &Stand, turns: Turns, side: Side, from: Square) -> Way
     requires first { turns.first < 16 }
     requires second { IfSome turns.second (λ turn. turn < 16) }
     ensures fits { WayFits result }
-    ensures leads { (p : Setup) → stand.now.white ≢ from → AreHome (has_pawns (material_of class)) flips stand.now.white turns.first turns.second → IsSeen class flips p stand.now from side →
-        Leads class flips p from result }
+    ensures leads { (p : Setup) → stand.now.white ≢ from → AreHome (has_pawns (material_of class)) false stand.now.white turns.first turns.second → IsSeen class false p stand.now from side →
+        Leads class false p from result }
 {
     let _number = class.number();
-    let scales = class_scales(class, side_after(side, flips));
+    let scales = class_scales(class, side);
     let pawns = has_pawns(class);
     let pair = is_paired(class);
     let mover = mover_on(stand, from);
     way_of_other(&scales, pawns, pair, stand, turns, mover)
 }
 
-/// How the codes add up after the man on `from` went, where he is neither the white king nor one of two equal men, and of the turns in the
+/// How the codes add up after the man on `from` went, not the white king, where he is not one of two equal men, and of the turns in the
 /// class's colours the one that changes nothing alone leaves the white king at home.
 #[inline(always)]
 pub(crate) fn sum_of(class: Class, stand: &Stand, side: Side, from: Square) -> Option<Sum>
     ensures fits { IfSome result SumFits }
-    ensures leads { (p : Setup) → AreHome (has_pawns (material_of class)) false stand.now.white 0 None → IsSeen class false p stand.now from side → IfSome result (λ sum. LeadsBy class p from sum) }
+    ensures leads { (p : Setup) → stand.now.white ≢ from → AreHome (has_pawns (material_of class)) false stand.now.white 0 None → IsSeen class false p stand.now from side →
+        IfSome result (λ sum. LeadsBy class p from sum) }
 {
     facts();
     let _number = class.number();
-    let is_king = stand.white == from;
-    if is_king {
-        return None;
-    }
     let pair = is_paired(class);
     let mover = mover_on(stand, from);
     if is_one_of_two(pair, mover) {

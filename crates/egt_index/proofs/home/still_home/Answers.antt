@@ -1,5 +1,5 @@
 use Rattle.std.proofs.Common.{Some, None, cond, refl, ap, sym, inl, inr, true, false}
-use Rattle.egt_index.proofs.Homing.{alone_told, still_told, tied_is}
+use Rattle.egt_index.proofs.Homing.{still_told, tied_is}
 use Rattle.egt_index.proofs.home.still_home.Goals as goal
 
 pub returns-then-pawns-file-clause-home : goal.returns-then-pawns-file-clause-home
@@ -11,8 +11,3 @@ pub returns-else-pawns-file-clause-home : goal.returns-else-pawns-file-clause-ho
 returns-else-pawns-file-clause-home c = λ digit below is.
     still_told c.args.pawns c.args.king 0 digit None
     (sym (ap (λ b. cond b 4 0) (tied_is c.args.pawns c.args.king c.file.result c.rank.result false c.file.ensures.value c.rank.ensures.value c.if-pawns-file.false))) (inl (refl, refl)) below is
-
-pub returns-else-pawns-file-clause-alone : goal.returns-else-pawns-file-clause-alone
-returns-else-pawns-file-clause-alone c = λ flips turn from digit none with from_in is below there.
-    alone_told c.args.pawns flips c.args.king turn from digit
-    (tied_is c.args.pawns c.args.king c.file.result c.rank.result false c.file.ensures.value c.rank.ensures.value c.if-pawns-file.false) with from_in is below there

@@ -14,7 +14,7 @@ code_by-requires-clause-home c =
     (subst (λ flips. AreHome (has_pawns (material_of c.args.class)) flips c.args.white c.args.turns.first c.args.turns.second) (sym is.flips_is) c.requires)
 
 pub returns : goal.returns
-returns c = λ p stand has filled white black next last.
+returns c = λ p stand has on.
     c.code_by.ensures c.args.class c.args.flips p (omega (arith, c.number-number.ensures.below, c.number-number.ensures.value))
-    (comes_home c.args.class c.args.white c.args.flips p stand c.args.side c.args.squares c.of-homing.result has filled white black next last
+    (comes_home c.args.class c.args.white c.args.flips p stand c.args.side c.args.squares c.of-homing.result has on.filled on.white_is on.black_is on.next on.last
     (subst (λ (s : Side). IsHoming c.args.class c.args.squares s c.args.flips c.of-homing.result) c.side_after.ensures c.of-homing.ensures.is))

@@ -1,11 +1,10 @@
-use Rattle.std.proofs.Common.{◌<◌, false, Some, None, arith, refl, sym, ◌∙◌}
-use Rattle.std.proofs.lemmas.Bool.{false≢true, eq-eqb}
+use Rattle.std.proofs.Common.{◌<◌, false, Some, None, arith, refl, ◌∙◌}
 use Rattle.egt_index.specs.Ways.{sum_code}
 use Rattle.egt_index.proofs.Lined.{line_lined, on_after, lane, is_lane, least_stayed, code_with_same}
 use Rattle.egt_index.proofs.ways.sum_of.Goals as goal
 
 pub returns-clause-leads : goal.returns-clause-leads
-returns-clause-leads c = λ p home seen to q moved.
+returns-clause-leads c = λ p apart home seen to q moved.
     let k = c.args.class in
     let before = c.args.stand.now in
     let k_in : k < 36 = omega (arith, c.number-number.ensures.below, c.number-number.ensures.value) in
@@ -15,7 +14,7 @@ returns-clause-leads c = λ p home seen to q moved.
     (record {
       class_in = k_in;
       apart = seen.apart;
-      white = λ same. false≢true (sym c.if-is_king.false ∙ c.eq-is_king.ensures ∙ eq-eqb _ _ same);
+      white = apart;
       mover_is = c.mover_on-mover.ensures;
       scales_are = c.class_scales-scales.ensures.are before seen.men seen.filled;
       pawns_is = c.has_pawns.ensures;

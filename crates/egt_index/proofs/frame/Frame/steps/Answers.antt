@@ -1,5 +1,35 @@
-use Rattle.std.proofs.Common.{arith}
+use Rattle.std.proofs.Common.{◌<◌, Some, ap, arith, sym, ◌∙◌, subst}
+use Rattle.std.proofs.lemmas.Bool.{false≢true, eqb-true, eq-eqb}
+use Rattle.egt_class.specs.Material.{has_equal_sides}
+use Rattle.egt_index.specs.Ways.{sum_code, LeadsHome}
+use Rattle.egt_index.proofs.Framed.{own_seen}
 use Rattle.egt_index.proofs.frame.Frame.steps.Goals as goal
+
+pub returns-then-not-is_own_after : goal.returns-then-not-is_own_after
+returns-then-not-is_own_after c = λ p man is stands.
+    let frame = c.args.self.now in
+    let c_in : frame.class < 36 = omega (arith, c.number-number.ensures.below, c.number-number.ensures.value) in
+    record {
+      class_in = c_in;
+      is_of = is.stand.is_of;
+      fit = ap has_equal_sides c.of.ensures.class ∙ sym is.equal ∙ c.is_own_after.ensures.equal c.if-not-is_own_after.true;
+      lead = (c.of.ensures.class, c.of.ensures.leads p (own_seen c.facts.ensures p c.args.from frame c_in is c.other-side.result c.other-side.ensures));
+    }
+
+pub returns-then-eq : goal.returns-then-eq
+returns-then-eq c = λ p man is stands.
+    let frame = c.args.self.now in
+    let c_in : frame.class < 36 = omega (arith, c.number-number.ensures.below, c.number-number.ensures.value) in
+    record {
+      class_in = c_in;
+      is_of = is.stand.is_of;
+      fit = c.at_home.ensures.fits;
+      lead = (
+        subst (λ s. LeadsHome frame.class p s c.at_home.result) (eqb-true _ _ (sym c.eq.ensures ∙ c.if-eq.true))
+            (c.at_home.ensures.leads p (own_seen c.facts.ensures p frame.stand.white frame c_in is c.other-side.result c.other-side.ensures)),
+        c.is_own_after.ensures.own c.if-not-is_own_after.false p is,
+      );
+    }
 
 pub returns-in-Some : goal.returns-in-Some
 returns-in-Some c = λ p man is stands.
@@ -7,17 +37,14 @@ returns-in-Some c = λ p man is stands.
       class_in = omega (arith, c.number-number.ensures.below, c.number-number.ensures.value);
       is_of = is.stand.is_of;
       fit = c.in-Some.ensures.fits;
-      lead = c.in-Some.ensures.leads p is;
+      lead = λ to q moved. c.is_own_after.ensures.own c.if-not-is_own_after.false p is to q (Some (sum_code c.in-Some.sum to)) moved (c.in-Some.ensures.leads p is (λ same. false≢true (sym c.if-eq.false ∙ c.eq.ensures ∙ eq-eqb _ _ same)) to q moved);
     }
 
-pub returns-in-Some-king_way : goal.returns-in-Some-king_way
-returns-in-Some-king_way c = λ p man is stands.
+pub returns-in-None : goal.returns-in-None
+returns-in-None c = λ p man is stands.
     record {
       class_in = omega (arith, c.number-number.ensures.below, c.number-number.ensures.value);
       is_of = is.stand.is_of;
-      fit = c.in-Some-king_way.ensures.fits;
-      lead = c.in-Some-king_way.ensures.leads p is;
+      fit = c.own_way.ensures.fits;
+      lead = (c.own_way.ensures.leads p is (λ same. false≢true (sym c.if-eq.false ∙ c.eq.ensures ∙ eq-eqb _ _ same)), c.is_own_after.ensures.own c.if-not-is_own_after.false p is);
     }
-
-pub returns-in-None-king_way : goal.returns-in-None-king_way
-returns-in-None-king_way c = λ p man is stands. c.other_ways.ensures p is

@@ -14,12 +14,12 @@ returns-in-King k = λ c from p q are moved.
     let (leads, all) = subst (λ (w : Ways). AllLead c p from w) k.in-King.is are.lead in
     all k.args.to q k.code_to-in-King.result moved (k.code_to-in-King.ensures c false q are.class_in (leads k.args.to q moved))
 
-pub returns-in-Alone : goal.returns-in-Alone
-returns-in-Alone k = λ c from p q are moved.
-    let (flips, leads, all) = subst (λ (w : Ways). AllLead c p from w) k.in-Alone.is are.lead in
-    all k.args.to q k.code_to-in-Alone.result moved (k.code_to-in-Alone.ensures c from flips p q are.class_in leads moved)
+pub returns-in-Own : goal.returns-in-Own
+returns-in-Own k = λ c from p q are moved.
+    let (leads, all) = subst (λ (w : Ways). AllLead c p from w) k.in-Own.is are.lead in
+    all k.args.to q k.code_to-in-Own.result moved (k.code_to-in-Own.ensures c from false p q are.class_in leads moved)
 
-pub returns-in-Both : goal.returns-in-Both
-returns-in-Both k = λ c from p q are moved.
-    let lead = subst (λ (w : Ways). AllLead c p from w) k.in-Both.is are.lead in
-    k.least_of.ensures c from p q are.class_in lead.0 lead.1 moved
+pub returns-in-Either : goal.returns-in-Either
+returns-in-Either k = λ c from p q are moved.
+    let (class_is, leads) = subst (λ (w : Ways). AllLead c p from w) k.in-Either.is are.lead in
+    subst (λ n. Best n q 16 k.code_to-in-Either.result) class_is (k.code_to-in-Either.ensures q (leads k.args.to q moved))
