@@ -42,3 +42,4 @@ pub mod Reached
 pub mod AtIndex
 pub mod Framed
 pub mod Rows
+pub mod Touching

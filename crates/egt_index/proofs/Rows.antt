@@ -94,13 +94,16 @@ module _ (c n code : ℕ) (stand : Stand) (p : Setup) (row : code / row_len c �
   unfolding list_in_row
   apart_in_row = fits_apart (list_of stand) (subst FitsBoard (sym list_in_row.list_is) s.apart)
 
-  pub stand_in_row : IsSettled p → HasStand c false stand p.side (is_some p.target) p
+  pub men_on_row : p.men ≡ men_of (list_of stand)
   unfolding list_in_row
+  men_on_row = s.men ∙ ap men_of (sym list_in_row.list_is)
+
+  pub stand_in_row : IsSettled p → HasStand c false stand p.side (is_some p.target) p
   stand_in_row settled = record {
     admissible = s.admissible;
     settled = settled;
     is_of = spells_class c code p s;
-    stood = stood_spelled c n stand p men apart_in_row s.admissible (s.men ∙ ap men_of (sym list_in_row.list_is));
+    stood = stood_spelled c n stand p men apart_in_row s.admissible men_on_row;
     side_is = refl;
     target_is = refl;
   }

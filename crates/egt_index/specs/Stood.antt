@@ -2,6 +2,7 @@
 use Rattle.std.specs.Prelude.{◌≡◌, ◌≢◌, ℕ, ◌<◌, ◌≤◌, ◌⊎◌, Bool, List, [], ◌∷◌, ◌++◌, map, Option, Some, None, IfSome}
 use Rattle.std.specs.Option.{option_map, option_to_list, is_some}
 use Rattle.std.specs.FinMap as placement
+use Rattle.std.specs.Int.{abs_diff}
 use Rattle.egt_board.specs.declared.man.Side.{Side}
 use Rattle.egt_board.specs.declared.man.Side.TheVariants.{White, Black}
 use Rattle.egt_board.specs.declared.man.Man.{Man}
@@ -10,6 +11,7 @@ use Rattle.egt_board.specs.Pawn.{MayStand}
 use Rattle.egt_board.specs.Placement.{Placement, Stands}
 use Rattle.egt_board.specs.Settled.{IsSettled}
 use Rattle.egt_board.specs.Setup.{Setup, IsAdmissible}
+use Rattle.egt_board.specs.Square.{file_of, rank_of}
 use Rattle.egt_board.specs.Turned.{turned_square, turned_man}
 use Rattle.egt_class.specs.Material.{material_of}
 use Rattle.egt_class.specs.Membership.{IsOf}
@@ -43,6 +45,11 @@ IsOff (e ∷ list) q = (e.1 ≢ q) × IsOff list q
 abbrev pub AllApart : List (Man × ℕ) → Type 0
 AllApart [] = Unit {0}
 AllApart (e ∷ list) = IsOff list e.1 × AllApart list
+
+-- neither the files of the squares nor their ranks are further apart than one
+pub record AreNear (one other : ℕ) : Type 0 where
+  pub files : abs_diff (file_of one) (file_of other) ≤ 1
+  pub ranks : abs_diff (rank_of one) (rank_of other) ≤ 1
 
 -- all of these stand on their squares, in colours exchanged where `flips`, each on a square of its own
 abbrev pub AllStand : Bool → Placement → List (Man × ℕ) → Type 0

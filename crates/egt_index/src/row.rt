@@ -15,7 +15,7 @@ use crate::facts::facts;
 use crate::frame::Frame;
 use crate::men::has_target;
 use crate::spelling::{admitted, board_of, ends, is_passed, is_settled, stand_on, target_of};
-use crate::stand::{Stand, are_apart};
+use crate::stand::{Stand, are_apart, are_kings_near};
 use egt_board::{Board, Position, Side};
 use egt_class::Class;
 
@@ -52,6 +52,9 @@ pub fn row_of(class: Class, code: u32) -> Option<Row>
     let _number = class.number();
     let (number, _, _) = ends(class, code);
     let stand = stand_on(class, number)?;
+    if are_kings_near(&stand) {
+        return None;
+    }
     if !are_apart(&stand) {
         return None;
     }

@@ -6,7 +6,7 @@ ghost use Rattle.egt_board.specs.declared.man.Side.TheVariants.{White, Black};
 ghost use Rattle.egt_class.specs.Membership.{IsOf};
 ghost use Rattle.egt_index.specs.Beaten.{AreBehind};
 ghost use Rattle.egt_index.specs.Scales.{IsOn};
-ghost use Rattle.egt_index.specs.Stood.{Stood, Holds, IsAmong, IsFirst, list_of, IsFilled, IsOff, AllApart, entry_after, on_square_of, IsInOrder, IsOrdered, AreExchanged, IsTurned, IsStandAfter};
+ghost use Rattle.egt_index.specs.Stood.{Stood, Holds, IsAmong, IsFirst, list_of, IsFilled, IsOff, AllApart, AreNear, entry_after, on_square_of, IsInOrder, IsOrdered, AreExchanged, IsTurned, IsStandAfter};
 
 use crate::facts::facts;
 use crate::men::beside;
@@ -254,4 +254,14 @@ pub(crate) fn are_apart(stand: &Stand) -> bool
     let off_white = is_off(stand.next, stand.white) & is_off(stand.last, stand.white);
     let off_black = is_off(stand.next, stand.black) & is_off(stand.last, stand.black);
     others & off_white & off_black & (stand.white != stand.black)
+}
+
+/// Whether the kings stand on neighbouring squares, or on one.
+#[inline(always)]
+pub(crate) fn are_kings_near(stand: &Stand) -> bool
+    ensures { result ≡ true → AreNear stand.now.white stand.now.black }
+{
+    let files = stand.white.file().abs_diff(stand.black.file());
+    let ranks = stand.white.rank().abs_diff(stand.black.rank());
+    files <= 1 && ranks <= 1
 }

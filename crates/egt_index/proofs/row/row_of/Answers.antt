@@ -1,4 +1,4 @@
-use Rattle.std.proofs.Common.{◌≡◌, ◌/◌, false, None, sym, refl, ◌∙◌, subst}
+use Rattle.std.proofs.Common.{◌≡◌, ◌/◌, arith, false, None, sym, refl, ◌∙◌, subst}
 use Rattle.std.proofs.lemmas.Bool.{false≢true}
 use Rattle.egt_class.specs.Material.{material_of}
 use Rattle.egt_index.specs.Beaten.{AllAsked}
@@ -8,6 +8,7 @@ use Rattle.egt_index.specs.Spelled.{SpellsMen}
 use Rattle.egt_index.specs.Stood.{list_of}
 use Rattle.egt_index.proofs.Exists.{index_settled, index_spelled}
 use Rattle.egt_index.proofs.Rows.{men_in_row, void_without_men, list_in_row, apart_in_row, stand_in_row}
+use Rattle.egt_index.proofs.Touching.{none_near}
 use Rattle.egt_index.proofs.row.row_of.Goals.{After-are_apart, After-board_of-board, in-Least, in-Tied}
 use Rattle.egt_index.proofs.row.row_of.Goals as goal
 
@@ -19,6 +20,11 @@ returns-in_err-stand c =
 -- the men that the number of the row spells
 men : (c : After-are_apart) → SpellsMen (material_of c.args.class) (c.args.code / row_len c.args.class) (list_of c.in_ok-stand.stand)
 men c = men_in_row (material_of c.args.class) c.args.code _ _ _ (list_of c.in_ok-stand.stand) c.ends-number.ensures c.in_ok-stand.ensures.some
+
+pub returns-then-are_kings_near : goal.returns-then-are_kings_near
+returns-then-are_kings_near c = λ code same p ok index.
+    none_near c.args.class (c.args.code / row_len c.args.class) code c.in_ok-stand.stand index.image (omega (arith, c.number-number.ensures.below, c.number-number.ensures.value)) same
+    (men_in_row (material_of c.args.class) c.args.code _ _ _ (list_of c.in_ok-stand.stand) c.ends-number.ensures c.in_ok-stand.ensures.some) index.spells (c.are_kings_near.ensures c.if-are_kings_near.true)
 
 pub returns-then-not-are_apart : goal.returns-then-not-are_apart
 returns-then-not-are_apart c = λ code same p ok index.
