@@ -1,11 +1,10 @@
 -- What a legal move says, by the entries of its successor.
-use Rattle.std.proofs.Common.{◌≡◌, ◌↔◌, Bool, IsTrue, IfSome, Option, Some, None, refl, subst}
-use Rattle.std.specs.Option.{IsSome, IfNone}
+use Rattle.std.proofs.Common.{◌≡◌, ◌↔◌, Bool, IsTrue, IfSome, Option, subst}
 use Rattle.egt_board.specs.Setup.{Setup, IsAdmissible}
 use Rattle.egt_moves.specs.declared.chess_move.Move.{Move}
 use Rattle.egt_moves.specs.Chess.{Zeroes}
 use Rattle.egt_moves.specs.DecidedMoves.{leads_to_one}
-use Rattle.egt_moves.specs.Legal.{Leads, IsLegal}
+use Rattle.egt_moves.specs.Legal.{Leads}
 use Rattle.egt_table.specs.declared.column.Column.{Column}
 use Rattle.egt_table.specs.declared.column.Column.TheVariants.{Mate, Zeroing}
 use Rattle.egt_check.specs.declared.by_column.ByColumn.{ByColumn}
