@@ -2,6 +2,7 @@ pub mod Graph
 pub mod Value
 pub mod Frontier
 pub mod News
+pub mod Undecided
 pub mod Rounds
 pub mod Events
 pub mod Columns

@@ -1,6 +1,7 @@
 //! A finite game: nodes, the moves between them, and the moves that leave it.
-ghost use Rattle.std.specs.Prelude.{◌≡◌, ◌+◌, ◌<◌, ◌≤◌, length, [], true, IfSome, IfNone, IsFalse};
+ghost use Rattle.std.specs.Prelude.{◌≡◌, ◌+◌, ◌*◌, ◌<◌, ◌≤◌, length, [], true, IfSome, IfNone, IsFalse};
 ghost use Rattle.egt_graph.specs.Graph.{Graph, IsNode, IsGame, IsStart};
+ghost use Rattle.egt_graph.specs.Undecided.{AreMarkedInto};
 
 use arrayvec::ArrayVec;
 
@@ -108,6 +109,17 @@ pub trait Game {
         ensures { list.new.items ≡ (graph self.now).into j }
     {
         *list = self.into(j);
+    }
+
+    /// Fills the list, in the place of what it had, with nodes from which a move leads to `j`, in any order: with all that are marked,
+    /// and perhaps with others. The mark of node `i` is bit `i % 64` of word `i / 64`.
+    fn list_marked_into(&self, j: u32, marks: &[u64], list: &mut ArrayVec<u32, 128>)
+        requires node { IsNode (graph self.now) j }
+        requires room { (graph self.now).size ≤ 64 * length marks.now }
+        ensures { AreMarkedInto (graph self.now) j marks.now list.new.items }
+    {
+        let _words = marks.len();
+        self.list_into(j, list);
     }
 
     ghost lawful: { (game : Self) → IsGame (graph game) };

@@ -1,5 +1,5 @@
 //! What the digits of a code spell, and the position of a code that is known to be an index.
-ghost use Rattle.std.specs.Prelude.{◌≡◌, ◌≢◌, ◌<◌, ◌≤◌, ◌↔◌, Bool, true, false, IsTrue, IsSome, IfSome, IfNone, None};
+ghost use Rattle.std.specs.Prelude.{◌≡◌, ◌≢◌, ◌∷◌, [], ◌<◌, ◌≤◌, ◌↔◌, Bool, true, false, IsTrue, IsSome, IfSome, IfNone, None};
 ghost use Rattle.std.specs.FinMap as map;
 ghost use Rattle.egt_board.specs.Attack.{king_of};
 ghost use Rattle.egt_board.specs.Listed.{men_of};
@@ -134,6 +134,16 @@ fn with_entry(board: Board, entry: Option<(Man, Square)>) -> Board
     }
 }
 
+/// The board with the kings alone.
+#[inline(always)]
+fn kings_on(white: Square, black: Square) -> Board
+    requires { white ≢ black }
+    ensures { result ≡ men_of ((king_of White, white) ∷ (king_of Black, black) ∷ []) }
+{
+    let board = with_entry(Board::new(), Some((WHITE_KING, white)));
+    with_entry(board, Some((BLACK_KING, black)))
+}
+
 /// The board with the men on it.
 #[inline(always)]
 pub(crate) fn board_of(stand: &Stand) -> Board
@@ -141,12 +151,7 @@ pub(crate) fn board_of(stand: &Stand) -> Board
     ensures men { result ≡ men_of (list_of stand.now) }
     ensures few { map.len result ≤ 4 }
 {
-    let kings = Board::of_stood(
-        (WHITE_KING, stand.white),
-        (BLACK_KING, stand.black),
-        None,
-        None,
-    );
+    let kings = kings_on(stand.white, stand.black);
     let board = with_entry(kings, stand.next);
     with_entry(board, stand.last)
 }

@@ -20,19 +20,19 @@ pub with_entry-board-requires-clause-free : goal.with_entry-board-requires-claus
 unfolding kings
 with_entry-board-requires-clause-free c =
     let list = option_to_list c.args.stand.now.next in
-    subst (λ (men : Placement). IfSome c.args.stand.now.next (λ e. IsFree men e.1)) (sym c.of_stood-kings.ensures.men)
+    subst (λ (men : Placement). IfSome c.args.stand.now.next (λ e. IsFree men e.1)) (sym c.kings_on-kings.ensures)
     (entry_free (kings c.args.stand.now) c.args.stand.now.next (apart_before (kings c.args.stand.now ++ list) (option_to_list c.args.stand.now.last) c.requires))
 
 pub with_entry-board-requires-clause-room : goal.with_entry-board-requires-clause-room
 unfolding kings
 with_entry-board-requires-clause-room c =
-    let is = ap map.len c.of_stood-kings.ensures.men in let few = few_listed (kings c.args.stand.now) in omega arith
+    let is = ap map.len c.kings_on-kings.ensures in let few = few_listed (kings c.args.stand.now) in omega arith
 
 -- the board with the first man beside the kings
 board_is : (c : goal.After-with_entry-arg-2-1) → c.with_entry-board.result ≡ men_of (kings c.args.stand.now ++ option_to_list c.args.stand.now.next)
 unfolding kings
 board_is c =
-    c.with_entry-board.ensures ∙ ap (λ (men : Placement). with_entry men c.args.stand.now.next) c.of_stood-kings.ensures.men
+    c.with_entry-board.ensures ∙ ap (λ (men : Placement). with_entry men c.args.stand.now.next) c.kings_on-kings.ensures
     ∙ entry_put (kings c.args.stand.now) c.args.stand.now.next (apart_before (kings c.args.stand.now ++ option_to_list c.args.stand.now.next) (option_to_list c.args.stand.now.last) c.requires)
 
 pub with_entry-requires-clause-free : goal.with_entry-requires-clause-free
