@@ -14,6 +14,7 @@ pub mod Growing
 pub mod Blocks
 pub mod Noting
 pub mod Taking
+pub mod Marking
 pub mod Running
 pub mod Beginning
 pub mod Histories

@@ -1,9 +1,9 @@
 //! Ranks by rounds: in round r the nodes of rank r are taken back, block by block, in any order.
-ghost use Rattle.std.specs.Prelude.{◌≡◌, ◌≢◌, ◌↔◌, ℕ, ◌+◌, ◌<◌, ◌≤◌, true, false, List, length, slice_index, slice_index_or, All, IsTrue, IfOk, MatchResult, MatchBool, replicate};
+ghost use Rattle.std.specs.Prelude.{◌≡◌, ◌≢◌, ◌↔◌, ℕ, ◌+◌, ◌<◌, ◌≤◌, true, false, List, length, slice_index, slice_index_or, All, IsTrue, IfOk, IfErr, MatchResult, MatchBool, replicate};
 ghost use Rattle.std.specs.List.Sorted.{IsStrictlyIncreasing};
 ghost use Rattle.egt_graph.specs.Graph.{IsAlike, IsNode};
 ghost use Rattle.egt_graph.specs.Value.{AreRanks};
-ghost use Rattle.egt_graph.specs.Frontier.{blocks_of};
+ghost use Rattle.egt_graph.specs.Frontier.{blocks_of, front};
 ghost use Rattle.egt_graph.specs.Rounds.{begun, listed, is_posted, IsCurrent, Posts, Closes, ClosesRunning};
 ghost use Rattle.egt_graph.specs.declared.answer.Phase.TheVariants.{Running, Finished as IsOver};
 
@@ -14,7 +14,7 @@ use crate::game::Game;
 use crate::ranks::Ranks;
 use crate::scan::{BLOCK, PART, block_nodes, is_block_front};
 use crate::schedule::Schedule;
-use crate::step::{all_set, clear, fall_due, take_in, turn_over};
+use crate::step::{all_set, clear, fall_due, take_block, take_in, turn_over};
 use std::alloc::{AllocError, Global};
 use std::marker::Model;
 
@@ -33,6 +33,8 @@ pub struct Rounds<'g, G: Game> {
     news: Vec<bool>,
     /// The same of the next round.
     coming: Vec<bool>,
+    /// Bit `i % 64` of word `i / 64` is set where node `i` may be undecided.
+    marks: Vec<u64>,
     /// For each node the moves and exits that it waits for: at first all, and one less for each that is found won.
     waits: Vec<u8>,
     /// For each node the exits into positions won for the opponent that have not fallen due.
@@ -46,6 +48,7 @@ pub struct Rounds<'g, G: Game> {
 impl<'g, G: Game> Model for Rounds<'g, G> {
     ghost use Rattle.egt_graph.specs.News.{HasNews};
     ghost use Rattle.egt_graph.specs.Run.{Run, IsRun};
+    ghost use Rattle.egt_graph.specs.Undecided.{HasMarks};
 
     ghost Value = { Run G };
 
@@ -57,7 +60,8 @@ impl<'g, G: Game> Model for Rounds<'g, G> {
     ghost invariant = { λ s. IsRun (G.graph s.game.now)
         (record { limit = s.limit; round = s.round; phase = s.phase; posted = s.posted.items })
         s.entries.items s.waits.items s.later.items s.lost.items s.lost_due s.won_due
-        × HasNews (G.graph s.game.now).size s.phase s.round s.entries.items s.news.items s.coming.items };
+        × HasNews (G.graph s.game.now).size s.phase s.round s.entries.items s.news.items s.coming.items
+        × HasMarks (G.graph s.game.now).size s.phase s.entries.items s.marks.items };
 }
 
 impl<'g, G: Game> Rounds<'g, G> {
@@ -80,6 +84,7 @@ impl<'g, G: Game> Rounds<'g, G> {
         let parts = (game.size() as usize + (PART - 1)) / PART;
         let news = vec![in alloc; true; parts]?;
         let coming = vec![in alloc; false; parts]?;
+        let marks = vec![in alloc; u64::MAX; parts]?;
         Ok(Rounds {
             game,
             limit,
@@ -89,6 +94,7 @@ impl<'g, G: Game> Rounds<'g, G> {
             entries,
             news,
             coming,
+            marks,
             waits,
             later,
             lost,
@@ -181,6 +187,33 @@ impl<'g, G: Game> Rounds<'g, G> {
             self.round,
         );
         Post::Posted
+    }
+
+    /// Expands a block and posts what it found, without a batch: of a lost node it asks for the undecided sources alone.
+    pub(crate) fn work(&mut self, alloc: Global, block: u32) -> Result<Post, AllocError>
+        requires running { self.old.state.phase ≡ Running }
+        requires in_range { block < blocks_of (G.graph self.old.game).size }
+        ensures same_game { self.new.game ≡ self.old.game }
+        ensures same_round { IfErr result (λ _. self.new.state ≡ self.old.state) }
+        ensures posts { IfOk result (λ post. Posts (G.graph self.old.game) self.old.state self.old.state.round block
+            (front (G.graph self.old.game) self.old.state.round block) post self.new.state) }
+    {
+        if self.posted[block as usize] {
+            return Ok(Post::Repeat);
+        }
+        let nodes = self.listed_nodes(alloc, block)?;
+        take_block(
+            self.game,
+            &mut self.entries,
+            &mut self.waits,
+            &mut self.marks,
+            &mut self.coming,
+            &mut self.posted,
+            block,
+            &nodes,
+            self.round,
+        );
+        Ok(Post::Posted)
     }
 
     fn is_current(&self, batch: &Batch<'_, G>) -> bool

@@ -82,9 +82,7 @@ fn post_all<G: Game>(alloc: Global, rounds: &mut Rounds<'_, G>) -> Result<(), Al
     ensures posted { OnOk result (AllPosted rounds.new.state) }
 {
     for block in 0..rounds.blocks() {
-        let batch = rounds.expand(alloc, block)?;
-        // It was just made of this round's nodes, so nothing is compared.
-        rounds.take(&batch);
+        rounds.work(alloc, block)?;
     }
     Ok(())
 }

@@ -1,13 +1,17 @@
 //! What a post and a close do to the columns.
 ghost use Rattle.std.specs.Prelude.{◌≡◌, ℕ, ◌+◌, ◌*◌, ◌<◌, ◌≤◌, true, false, List, length, slice_index, slice_index_or, slice_set, replicate, All, IsTrue, IsFalse, MatchBool};
-ghost use Rattle.egt_graph.specs.Graph.{IsAlike};
+ghost use Rattle.std.specs.List.{Contains};
+ghost use Rattle.egt_graph.specs.Graph.{IsAlike, IsNode};
 ghost use Rattle.egt_graph.specs.Frontier.{front};
 ghost use Rattle.egt_graph.specs.Columns.{Amid, Marks, TakesBack, count_of, done_of, is_open_at};
 ghost use Rattle.egt_graph.specs.News.{Notes};
+ghost use Rattle.egt_graph.specs.Undecided.{AreMarked, IsMarked};
 
 use crate::batch::Batch;
 use crate::columns::{any_open, count_down, mark_wins, take_back};
 use crate::game::Game;
+use crate::scan::PART;
+use arrayvec::ArrayVec;
 
 /// Takes back the moves into the nodes of a batch, and ticks its block. `_game` is the game that the columns are of: the
 /// contract alone reads it.
@@ -32,6 +36,7 @@ pub(crate) fn take_in<G: Game>(
     ensures ticked { posted.new ≡ slice_set posted.old batch.now.block true }
     ensures amid { Amid (G.graph _game.now) round (done_of posted.new) round round entries.new waits.new }
     ensures coming { Notes (round + 1) entries.old coming.old → Notes (round + 1) entries.new coming.new }
+    ensures marked { (marks : List ℕ) → AreMarked entries.old marks → AreMarked entries.new marks }
 {
     let nodes = batch.nodes();
     for k in 0..nodes.len() {
@@ -43,6 +48,105 @@ pub(crate) fn take_in<G: Game>(
         }
     }
     posted[batch.block() as usize] = true;
+}
+
+/// The nodes need no mark any more.
+fn unmark(marks: &mut [u64], nodes: &[u32])
+    requires room { All (λ i. i < 64 * length marks.old) nodes.now }
+    ensures others { (i : ℕ) → ¬ Contains nodes.now i → IsMarked marks.old i → IsMarked marks.new i }
+{
+    for node in nodes {
+        let at = *node as usize;
+        marks[at / PART] &= !(1 << (at % PART));
+    }
+}
+
+/// A lost node's undecided sources win. The game is asked for the marked ones alone, since nothing becomes of the others.
+fn mark_sources<G: Game>(
+    game: &G,
+    entries: &mut [u16],
+    marks: &mut [u64],
+    coming: &mut [bool],
+    node: u32,
+    plies: u16,
+    sources: &mut ArrayVec<u32, 128>,
+)
+    requires node { IsNode (G.graph game.now) node }
+    requires short { plies ≤ 32001 }
+    requires entries_long { length entries.old ≡ (G.graph game.now).size }
+    requires room { length entries.old ≤ 64 * length coming.old }
+    requires marks_room { length entries.old ≤ 64 * length marks.old }
+    requires marked { AreMarked entries.old marks.old }
+    ensures marks { Marks entries.old ((G.graph game.now).into node) plies entries.new }
+    ensures news { Notes plies entries.old coming.old → Notes plies entries.new coming.new }
+    ensures marked { AreMarked entries.new marks.new }
+{
+    game.list_marked_into(node, marks, sources);
+    mark_wins(entries, coming, sources.as_slice(), plies);
+    unmark(marks, sources.as_slice());
+}
+
+/// A won node's sources wait for one move less each.
+fn take_sources<G: Game>(
+    game: &G,
+    entries: &mut [u16],
+    waits: &mut [u8],
+    coming: &mut [bool],
+    node: u32,
+    plies: u16,
+    sources: &mut ArrayVec<u32, 128>,
+)
+    requires node { IsNode (G.graph game.now) node }
+    requires short { plies ≤ 32001 }
+    requires entries_long { length entries.old ≡ (G.graph game.now).size }
+    requires matched { length waits.old ≡ length entries.old }
+    requires waited { (i : ℕ) → count_of i ((G.graph game.now).into node) ≤ slice_index waits.old i }
+    requires room { length entries.old ≤ 64 * length coming.old }
+    ensures takes { TakesBack entries.old waits.old ((G.graph game.now).into node) plies entries.new waits.new }
+    ensures news { Notes plies entries.old coming.old → Notes plies entries.new coming.new }
+{
+    game.list_into(node, sources);
+    take_back(entries, waits, coming, sources.as_slice(), plies);
+}
+
+/// The same for a whole block, of which the game is asked for the moves into each node.
+pub(crate) fn take_block<G: Game>(
+    game: &G,
+    entries: &mut [u16],
+    waits: &mut [u8],
+    marks: &mut [u64],
+    coming: &mut [bool],
+    posted: &mut [bool],
+    block: u32,
+    nodes: &[u32],
+    round: u16,
+)
+    requires short { round ≤ 32000 }
+    requires whole { nodes.now ≡ front (G.graph game.now) round block }
+    requires are_nodes { All (IsNode (G.graph game.now)) nodes.now }
+    requires in_range { block < length posted.old }
+    requires fresh { IsFalse (slice_index_or posted.old block false) }
+    requires entries_long { length entries.old ≡ (G.graph game.now).size }
+    requires waits_long { length waits.old ≡ (G.graph game.now).size }
+    requires amid { Amid (G.graph game.now) round (done_of posted.old) round round entries.old waits.old }
+    requires room { length entries.old ≤ 64 * length coming.old }
+    requires marks_room { length entries.old ≤ 64 * length marks.old }
+    requires marked { AreMarked entries.old marks.old }
+    ensures ticked { posted.new ≡ slice_set posted.old block true }
+    ensures amid { Amid (G.graph game.now) round (done_of posted.new) round round entries.new waits.new }
+    ensures coming { Notes (round + 1) entries.old coming.old → Notes (round + 1) entries.new coming.new }
+    ensures marked { AreMarked entries.new marks.new }
+{
+    let mut sources = ArrayVec::new();
+    for k in 0..nodes.len() {
+        let node = nodes[k];
+        if entries[node as usize] == 2 + 2 * round {
+            take_sources(game, entries, waits, coming, node, round + 1, &mut sources);
+        } else {
+            mark_sources(game, entries, marks, coming, node, round + 1, &mut sources);
+        }
+    }
+    posted[block as usize] = true;
 }
 
 /// The exits of number `round` fall due. Is some node then decided in one ply more, or yet to be decided by its exits?

@@ -25,6 +25,7 @@ pub mod ways;
 pub use axis::is_on_axis;
 pub use frame::Frame;
 pub use indexing::index;
+pub use men::has_pawns;
 pub use row::{Row, begins_row, position, row_of};
 pub use sizes::size;
 pub use spelling::{indexed, position_of};

@@ -16,7 +16,8 @@ use crate::laws::laws;
 use arrayvec::ArrayVec;
 use egt_board::{Position, Side, SquareSet};
 use egt_class::Class;
-use egt_index::{Frame, index};
+use egt_index::laws::a_class_without_pawns_has_none;
+use egt_index::{Frame, has_pawns, index};
 use egt_table::Column;
 use egt_unmoves::{Unmove, target_before, unmoves};
 
@@ -81,12 +82,18 @@ fn has_pawn(position: &Position, side: Side) -> bool
 }
 
 /// Whether the position has a target, or may have had one before, which a pawn of the side that moved stood ready to take.
-fn may_have_target(position: &Position) -> bool
+fn may_have_target(class: Class, position: &Position) -> bool
+    requires { (flipped : Bool) × IsOf class flipped position.now }
     ensures now { IsFalse result → position.now.target ≡ None }
     ensures before { IsFalse result → HadNoTarget position.now }
 {
+    a_class_without_pawns_has_none();
+    let _side = position.side();
     if position.target().is_some() {
         return true;
+    }
+    if !has_pawns(class) {
+        return false;
     }
     if !has_pawn(position, position.side().other()) {
         return false;
@@ -110,7 +117,7 @@ pub(crate) fn sources(
     ensures ascending { IsStrictlyIncreasing list.new.items }
     ensures exact { (j : ℕ) → IsAt class j position.now → (k : ℕ) → Contains list.new.items k ↔ Connects column class k j }
 {
-    if may_have_target(position) {
+    if may_have_target(class, position) {
         sources_by_unmoves(column, class, position, list);
     } else {
         sources_by_squares(column, class, frame, position, list);

@@ -1,4 +1,5 @@
-use Rattle.std.proofs.Common.{length, ◌∙◌, arith}
+use Rattle.std.proofs.Common.{◌+◌, length, ◌∙◌, arith}
+use Rattle.egt_graph.proofs.Marking.{marked_after, still_marked}
 use Rattle.egt_graph.proofs.Taking.{turn_from, sources_within, turn_won, turn_lost, turn_waited, turns_begin, turns_end}
 use Rattle.egt_graph.proofs.step.take_in.Goals as goal
 use Rattle.egt_graph.proofs.step.take_in.Goals.{then-entries-nodes, else-entries-nodes}
@@ -8,6 +9,7 @@ loop-k-init g c = record {
   amid = turns_begin (g.G.Game.graph c.args._game.now) (g.met.G.Game.lawful c.args._game.now) c.args.round c.args.posted.now c.nodes-nodes.result.now
       c.args.round c.args.round c.args.entries.now c.args.waits.now c.requires.amid;
   coming = λ notes. notes;
+  marked = λ marks h. h;
 }
 
 pub take_back-requires-clause-within : goal.take_back-requires-clause-within
@@ -40,11 +42,13 @@ loop-k-preserved g c =
         amid = turn_won (g.G.Game.graph c.args._game.now) (g.met.G.Game.lawful c.args._game.now) c.args.round c.args.batch.now.block c.loop-k.k c.args.posted.now
             c.nodes-nodes.result.now c.targets-sources.result.now c.args.round c.args.round c.loop-k.entries c.loop-k.waits _ _ turn c.loop-k.invariant.amid w.if-entries-nodes.true w.take_back.ensures.takes;
         coming = λ notes. w.take_back.ensures.news (c.loop-k.invariant.coming notes);
+        marked = λ marks h. still_marked _ _ _ _ _ _ _ w.take_back.ensures.takes (c.loop-k.invariant.marked marks h);
       })
       | else-entries-nodes w ↦ rw (w.entries-is, w.waits-is, w.coming-is) (record {
         amid = turn_lost (g.G.Game.graph c.args._game.now) (g.met.G.Game.lawful c.args._game.now) c.args.round c.args.batch.now.block c.loop-k.k c.args.posted.now
             c.nodes-nodes.result.now c.targets-sources.result.now c.args.round c.args.round c.loop-k.entries c.loop-k.waits _ turn c.loop-k.invariant.amid w.if-entries-nodes.false w.mark_wins.ensures.marks;
         coming = λ notes. w.mark_wins.ensures.news (c.loop-k.invariant.coming notes);
+        marked = λ marks h. marked_after _ _ c.targets-sources.result.now _ (c.args.round + 1) w.mark_wins.ensures.marks (c.loop-k.invariant.marked marks h);
       })
     ]
 

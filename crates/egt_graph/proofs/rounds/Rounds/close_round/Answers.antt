@@ -1,5 +1,6 @@
 use Rattle.std.proofs.Common.{◌≡◌, length, All, IsTrue, false, replicate, refl, ◌+◌, sym, ap, ◌∙◌, rules}
 use Rattle.egt_graph.specs.declared.answer.Phase.TheVariants.{Running}
+use Rattle.egt_graph.proofs.Marking.{marked_of, marked_while, marked_due}
 use Rattle.egt_graph.proofs.Noting.{finished_news, next_news}
 use Rattle.egt_graph.proofs.Running.{written, due_nodes, due_waited, due_counted, falls_from, finished_run, next_run, found_open, found_shut}
 use Rattle.egt_graph.proofs.rounds.Rounds.close_round.Goals as goal
@@ -49,6 +50,7 @@ invariant_of-self g c =
     ) (
       finished_run (g.G.Game.graph c.self.inside.game.now) (g.met.G.Game.lawful c.self.inside.game.now) _ _ _ _ _ _ _ c.self.invariant.0 _ _ _ f none entries_long waits_long later_long,
       finished_news _ _ _ _ _ _ _ _ c.self.invariant.1 coming_long,
+      record { room = c.self.invariant.2.room; marked = tt },
     )
 
 pub returns-then-not-unsettled-clause-closes : goal.returns-then-not-unsettled-clause-closes
@@ -92,6 +94,7 @@ invariant_of-self-2 g c =
     let waits_long = c.fall_due-unsettled.auto.waits ∙ ap length c.deref_mut-2.ensures.value in
     let later_long = c.fall_due-unsettled.auto.later ∙ ap length c.deref_mut-4.ensures.value in
     let coming_long = c.fall_due-unsettled.auto.coming ∙ ap length c.deref_mut-3.ensures.value in
+    let due = c.fall_due-unsettled.ensures.columns in
     let kept = written c.self.inside.coming.len c.fall_due-unsettled.new.coming c.self.inside.coming.items coming_long coming_len in
     let was : c.deref_mut-6.result.now ≡ c.fall_due-unsettled.new.coming = c.deref_mut-6.ensures.value ∙ kept in
     let turned : c.turn_over.new.news ≡ c.fall_due-unsettled.new.coming = c.turn_over.ensures.news ∙ was in
@@ -114,6 +117,9 @@ invariant_of-self-2 g c =
           entries_long waits_long later_long c.clear.new.flags cleared,
       next_news (g.G.Game.graph c.self.inside.game.now) _ _ _ _ _ _ _ _ _ running c.self.invariant.1 coming_long
           (rw (c.deref_mut.ensures.value, c.deref_mut-3.ensures.value) at c.fall_due-unsettled.ensures.coming) f.closed.entry turned blank,
+      marked_while _ _ _ _ running c.self.invariant.2.room (marked_due c.deref_mut.result.now due.0 c.deref_mut-2.result.now c.due.result.now c.due-2.result.now
+          c.fall_due-unsettled.new.entries c.fall_due-unsettled.new.waits c.self.inside.marks.items (c.self.inside.round + 1) due.1 due.2
+          (rw c.deref_mut.ensures.value (marked_of _ _ _ _ c.self.invariant.2 running))),
     )
 
 pub returns-clause-closes : goal.returns-clause-closes

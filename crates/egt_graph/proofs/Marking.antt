@@ -1,0 +1,109 @@
+-- Marks of nodes that are not decided.
+use Rattle.std.proofs.Common.{◌≡◌, ◌≢◌, ℕ, ◌+◌, ◌-◌, ◌*◌, ◌/◌, ◌%◌, ◌<◌, ◌≤◌, ◌^◌, Bool, true, false, eqb, ltb, ◌&&◌, List, length, get_or, set, sym, ap, subst, ◌∙◌, inl, inr, arith, bit_and, w64, All, Contains, replicate}
+use Rattle.std.proofs.lemmas.Bool.{cases_Bool, cases_eq, cases_lt, lt-ltb, eqb-true, eq-eqb, false≢true}
+use Rattle.std.proofs.lemmas.List.{get_or-set_same, get_or-set_other, get_or_default, get_or_past, get_or-replicate, length-replicate}
+use Rattle.std.proofs.lemmas.List.Elements.{All-contains, All-contains_itself, All-weaker}
+use Rattle.std.proofs.lemmas.Nat.Bits.{bit_at_clear_other, bit_at_ones}
+use Rattle.std.specs.Int.{bit_at}
+use Rattle.egt_graph.specs.Graph.{Graph, IsNode, IsGame}
+use Rattle.egt_graph.specs.Columns.{count_of, decided, Marks, TakesBack}
+use Rattle.egt_graph.specs.Undecided.{IsMarked, AreMarked, AreMarkedInto, MarkedIn, HasMarks}
+use Rattle.egt_graph.specs.declared.answer.Phase.{Phase}
+use Rattle.egt_graph.specs.declared.answer.Phase.TheVariants.{Running}
+use Rattle.egt_graph.proofs.Holding.{decided_open, decided_shut}
+use Rattle.egt_graph.proofs.Lists.{counted_contains}
+use Rattle.egt_graph.proofs.Steps.{counted_at, counted_le}
+
+-- another node's mark stays
+pub cleared : (bits : List ℕ) (at i : ℕ) → at / 64 < length bits → at ≢ i → IsMarked bits i
+    → IsMarked (set bits (at / 64) (bit_and (get_or bits (at / 64) 0) (18446744073709551615 - 1 * 2 ^ (at % 64) % 18446744073709551616))) i
+cleared bits at i within apart marked =
+    let word = bit_and (get_or bits (at / 64) 0) (18446744073709551615 - 1 * 2 ^ (at % 64) % 18446744073709551616) in
+    elim (cases_eq (i / 64) (at / 64)) [
+      | inl e ↦
+          ap (λ q. bit_at (get_or (set bits (at / 64) word) q 0) (i % 64)) e
+          ∙ ap (λ w. bit_at w (i % 64)) (get_or-set_same bits (at / 64) word 0 within)
+          ∙ bit_at_clear_other w64 (get_or bits (at / 64) 0) (at % 64) (omega arith) (i % 64) (omega arith) (λ q. apart (omega (arith, e, q)))
+          ∙ ap (λ q. bit_at (get_or bits q 0) (i % 64)) (sym e) ∙ marked
+      | inr ne ↦ ap (λ w. bit_at w (i % 64)) (get_or-set_other bits (at / 64) (i / 64) word 0 ne) ∙ marked
+    ]
+
+contains_counted : (i : ℕ) (xs : List ℕ) → Contains xs i → 0 < count_of i xs
+contains_counted i xs has =
+    let here : get_or xs has.0 0 ≡ i = get_or_default xs has.0 0 i has.1 ∙ has.2 in
+    let more = counted_at xs has.0 has.1 in
+    let all = counted_le (get_or xs has.0 0) xs (has.0 + 1) in
+    subst (λ j. 0 < count_of j xs) here (omega (arith, more, all))
+
+-- the sources that are asked for are as good as all
+pub sources_within : (g : Graph) → IsGame g → (j n : ℕ) (bits list : List ℕ) → IsNode g j → AreMarkedInto g j bits list → g.size ≤ n → All (λ i. i < n) list
+sources_within g law j n bits list node are room =
+    All-weaker (Contains list) (λ i. i < n) (λ i has.
+    let there = All-contains (IsNode g) (g.into j) i (law.into_nodes j node) (are.within i has) in let lt = there.in_range in omega (arith, lt, room)) list (All-contains_itself list)
+
+told : (e n : ℕ) (here there : Bool) → (e ≡ 1 → here ≡ there) → decided e here false n ≡ decided e there false n
+told e n here there same = elim (cases_Bool (eqb e 1)) [
+  | inl o ↦ ap (λ b. decided e b false n) (same (eqb-true e 1 o))
+  | inr s ↦ decided_shut e n here false s ∙ sym (decided_shut e n there false s)
+]
+
+counts_alike : (i : ℕ) (xs ys : List ℕ) → (Contains xs i → Contains ys i) → (Contains ys i → Contains xs i) → ltb 0 (count_of i xs) ≡ ltb 0 (count_of i ys)
+counts_alike i xs ys to from = elim (cases_lt 0 (count_of i xs)) [
+  | inl some ↦ lt-ltb 0 (count_of i xs) some ∙ sym (lt-ltb 0 (count_of i ys) (contains_counted i ys (to (counted_contains i xs some))))
+  | inr none ↦ elim (cases_lt 0 (count_of i ys)) [
+    | inl other ↦ absurd (let more = contains_counted i xs (from (counted_contains i ys other)) in omega (arith, more, none))
+    | inr nothing ↦ ap (ltb 0) (let same : count_of i xs ≡ count_of i ys = omega (arith, none, nothing) in same)
+  ]
+]
+
+pub marks_all : (g : Graph) (j n : ℕ) (es es' bits list : List ℕ) → AreMarked es bits → AreMarkedInto g j bits list → Marks es list n es' → Marks es (g.into j) n es'
+marks_all g j n es es' bits list marked are marks i =
+    marks i ∙ told (get_or es i 0) n (ltb 0 (count_of i list)) (ltb 0 (count_of i (g.into j)))
+    (λ one. counts_alike i list (g.into j) (are.within i) (λ has. are.whole i has (marked i one)))
+
+-- what is not decided after wins were marked was not decided before, and is none of the marked
+pub open_before : (es es' list : List ℕ) (n i : ℕ) → Marks es list n es' → get_or es' i 0 ≡ 1 → (get_or es i 0 ≡ 1) × (Contains list i → ⊥)
+open_before es es' list n i marks one = elim (cases_Bool (eqb (get_or es i 0) 1)) [
+  | inr s ↦ absurd (let same = sym (marks i ∙ decided_shut (get_or es i 0) n (ltb 0 (count_of i list)) false s) ∙ one in false≢true (sym s ∙ eq-eqb (get_or es i 0) 1 same))
+  | inl o ↦ (
+    eqb-true (get_or es i 0) 1 o,
+    λ has.
+        let t = lt-ltb 0 (count_of i list) (contains_counted i list has) in
+        let win : get_or es' i 0 ≡ 2 + 2 * n = marks i ∙ ap (λ b. decided (get_or es i 0) b false n) t ∙ decided_open (get_or es i 0) n true false o in
+        absurd (omega (arith, win, one)),
+  )
+]
+
+-- what is not decided after moves were taken back was not decided before
+pub still_marked : (es ws xs es' ws' bits : List ℕ) (n : ℕ) → TakesBack es ws xs n es' ws' → AreMarked es bits → AreMarked es' bits
+still_marked es ws xs es' ws' bits n takes marked i one = marked i (elim (cases_Bool (eqb (get_or es i 0) 1)) [
+  | inl o ↦ eqb-true (get_or es i 0) 1 o
+  | inr s ↦ sym (takes.entry i ∙ decided_shut (get_or es i 0) n false (ltb 0 (count_of i xs) && eqb (get_or ws' i 0) 0) s) ∙ one
+])
+
+pub marked_after : (es es' xs bits : List ℕ) (n : ℕ) → Marks es xs n es' → AreMarked es bits → AreMarked es' bits
+marked_after es es' xs bits n marks marked i one = marked i (open_before es es' xs n i marks one).0
+
+-- the exits of a round fell due
+pub marked_due : (es middle ws xs ys es' ws' bits : List ℕ) (n : ℕ) → Marks es xs n middle → TakesBack middle ws ys n es' ws' → AreMarked es bits → AreMarked es' bits
+marked_due es middle ws xs ys es' ws' bits n marks takes marked = still_marked middle ws ys es' ws' bits n takes (marked_after es middle xs bits n marks marked)
+
+-- while a run goes on
+pub marked_of : (size : ℕ) (phase : Phase) (es bits : List ℕ) → HasMarks size phase es bits → phase ≡ Running → AreMarked es bits
+marked_of size phase es bits has running = subst (λ (p : Phase). MarkedIn p es bits) running has.marked
+
+pub marked_while : (size : ℕ) (phase : Phase) (es bits : List ℕ) → phase ≡ Running → size ≤ 64 * length bits → AreMarked es bits → HasMarks size phase es bits
+marked_while size phase es bits running room marked = record { room = room; marked = subst (λ (p : Phase). MarkedIn p es bits) (sym running) marked }
+
+-- all nodes are marked at first
+pub all_marked : (size : ℕ) (es bits : List ℕ) → length es ≡ size → bits ≡ replicate ((size + 63) / 64) 18446744073709551615 → HasMarks size Running es bits
+all_marked size es bits long are = record {
+  room = let n = ap length are ∙ length-replicate ((size + 63) / 64) 18446744073709551615 in omega (arith, n);
+  marked = λ i one. elim (cases_lt i (length es)) [
+    | inl lt ↦
+        ap (λ ws. bit_at (get_or ws (i / 64) 0) (i % 64)) are
+        ∙ ap (λ w. bit_at w (i % 64)) (get_or-replicate ((size + 63) / 64) (i / 64) 18446744073709551615 0 (omega (arith, lt, long)))
+        ∙ bit_at_ones 64 (i % 64) (omega arith)
+    | inr le ↦ absurd (let none = get_or_past es i 0 le in omega (arith, one, none))
+  ];
+}
