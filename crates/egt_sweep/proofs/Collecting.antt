@@ -13,6 +13,8 @@ use Rattle.egt_table.specs.declared.column.Column.{Column}
 use Rattle.egt_unmoves.specs.declared.unmove.Unmove.{Unmove}
 use Rattle.egt_sweep.specs.Edges.{GoesOn, LeadsOn, GoesBack, ComesFrom}
 use Rattle.egt_sweep.specs.Laws.{Laws}
+use Rattle.egt_sweep.specs.Wanted.{IsWanted}
+use Rattle.egt_sweep.specs.declared.wanted.Wanted.{Wanted}
 
 -- one of the first n elements gives k
 unfoldable pub Collected : {X : Type 0} → (X → ℕ → Type 0) → List X → ℕ → ℕ → Type 0
@@ -89,3 +91,10 @@ collected_start gives xs list empty =
 -- what comes from unmoves one goes back by
 pub back_on : (column : Column) (c : ℕ) (u : Unmove) (i k : ℕ) → GoesBack column u → IsIndex c u.before i → ((j : ℕ) → IsIndex c u.before j → j ≡ i) → (k ≡ i) ↔ ComesFrom column c u k
 back_on column c u i k goes is one = (λ e. (goes, subst (IsIndex c u.before) (sym e) is), λ from. one k from.1)
+
+-- of one number alone what is wanted
+pub kept : {P : Type 0} (wanted : Wanted) (i k : ℕ) → ((k ≡ i) ↔ P) → IsWanted wanted i → (k ≡ i) ↔ (P × IsWanted wanted k)
+kept wanted i k same has = (λ e. (same.0 e, subst (IsWanted wanted) (sym e) has), λ p. same.1 p.0)
+
+pub dropped : {P : Type 0} (wanted : Wanted) (i k : ℕ) → ((k ≡ i) ↔ P) → (IsWanted wanted i → ⊥) → (P × IsWanted wanted k) → ⊥
+dropped wanted i k same never p = never (subst (IsWanted wanted) (same.1 p.0) p.1)

@@ -30,6 +30,8 @@ use Rattle.egt_unmoves.specs.Unmoves.{ComesBy, setup_before}
 use Rattle.egt_unmoves.specs.declared.unmove.Unmove.{Unmove}
 use Rattle.egt_sweep.specs.Edges.{AtSome, IsAt, Connects, GoesBack, BackBy, CameTo, HadNoTarget, IsTakenBack, WasOn}
 use Rattle.egt_sweep.specs.Laws.{Laws}
+use Rattle.egt_sweep.specs.Wanted.{IsWanted, Among}
+use Rattle.egt_sweep.specs.declared.wanted.Wanted.{Wanted}
 use Rattle.egt_sweep.proofs.Collecting.{members_off}
 use Rattle.egt_sweep.proofs.Backward.{decided_pawn, taken_back, leads_back}
 use Rattle.egt_sweep.proofs.Onward.{men_moved, gone_from, come_to, elsewhere, arrives_free}
@@ -128,8 +130,8 @@ module _ (laws : Laws) (c : ℕ) (q : Setup) (man : Man) (to : ℕ) (stands : St
     pawn = ap (λ (x : Man). x.kind) (one_man q.men to came.comes.leads.man man (subst (λ s. Stands q.men s came.comes.leads.man) came.here (came_stands came.before q came.move came.comes)) stands) ∙ pawn;
   })
 
-  pub none_came : (column : Column) → (IsTakenBack column man → ⊥) → (old : List ℕ) (k : ℕ) → Contains old k ↔ (Contains old k ⊎ CameTo column c q to k)
-  none_came column never old k = members_off (λ came. never (taken column k came))
+  pub none_came : (column : Column) → (IsTakenBack column man → ⊥) → (wanted : Wanted) (old : List ℕ) (k : ℕ) → Contains old k ↔ (Contains old k ⊎ Among wanted (CameTo column c q) to k)
+  none_came column never wanted old k = members_off (λ came. never (taken column k came.0))
 
   module _ (column : Column) (set : SquareSet) (none_had : HadNoTarget q)
       (sound : (s : ℕ) → s < 64 → Has set s → ComesBy (setup_before q man to s None) (plain s to) q)
@@ -143,6 +145,10 @@ module _ (laws : Laws) (c : ℕ) (q : Setup) (man : Man) (to : ℕ) (stands : St
           let b = one_before came.before came.move came.here came.comes (none_had came.before came.move came.comes) in
           (came.move.from, complete came.before came.move came.here came.comes, (came.comes.admissible.on_board came.move.from came.comes.leads.man came.comes.leads.stands, subst (λ (x : Setup). IsIndex c x k) b came.index)),
     )
+
+-- the same of those that are wanted
+pub among : {P : Type 0} (goes : ℕ → ℕ → Type 0) (set : SquareSet) (wanted : Wanted) (k : ℕ) → (AtSome set goes k ↔ P) → AtSome set (Among wanted goes) k ↔ (P × IsWanted wanted k)
+among goes set wanted k same = (λ h. (same.0 (h.0, h.1, h.2.0), h.2.1), λ p. let at = same.1 p.0 in (at.0, at.1, (at.2, p.1)))
 
 -- moves of the game are the king's
 pub king_back : (column : Column) (side : Side) → IsTakenBack column (king_of side)
@@ -192,26 +198,26 @@ module _ (laws : Laws) (c : ℕ) (below : c < 36) (column : Column) (q : Setup) 
       goes Zeroing is = λ pawn. is ((taken_back laws c below column k j q at edge).1.1.pawn.1 pawn)
 
   -- the king came from squares of two sets, the other men stand on those of a third: together the edges to the index
-  pub came_edges : (j : ℕ) → IsAt c j q → (man : Man) (king : ℕ) (all low high others : SquareSet) → ((s : ℕ) → IsHeld q.men s (other_side q.side) → s ≢ king → Has others s) →
+  pub came_edges : (wanted : Wanted) (j : ℕ) → IsAt c j q → (man : Man) (king : ℕ) (all low high others : SquareSet) → ((s : ℕ) → IsHeld q.men s (other_side q.side) → s ≢ king → Has others s) →
       ((s : ℕ) → Has all s ↔ (Has low s ⊎ Has high s)) → ((k : ℕ) → AtSome all (WasOn c q man king) k ↔ CameTo column c q king k) → (old first second third : List ℕ) → old ≡ [] →
-      ((k : ℕ) → Contains first k ↔ (Contains old k ⊎ AtSome low (WasOn c q man king) k)) → ((k : ℕ) → Contains second k ↔ (Contains first k ⊎ AtSome others (CameTo column c q) k)) →
-      ((k : ℕ) → Contains third k ↔ (Contains second k ⊎ AtSome high (WasOn c q man king) k)) → (k : ℕ) → Contains third k ↔ Connects column c k j
-  came_edges j at man king all low high others held parts was old first second third empty with_low with_others with_high k = (
+      ((k : ℕ) → Contains first k ↔ (Contains old k ⊎ AtSome low (Among wanted (WasOn c q man king)) k)) → ((k : ℕ) → Contains second k ↔ (Contains first k ⊎ AtSome others (Among wanted (CameTo column c q)) k)) →
+      ((k : ℕ) → Contains third k ↔ (Contains second k ⊎ AtSome high (Among wanted (WasOn c q man king)) k)) → (k : ℕ) → Contains third k ↔ (Connects column c k j × IsWanted wanted k)
+  came_edges wanted j at man king all low high others held parts was old first second third empty with_low with_others with_high k = (
     λ has. elim ((with_high k).0 has) [
-      | inr h ↦ came_connects j k king at ((was k).0 (h.0, (parts h.0).1 (inr h.1), h.2))
+      | inr h ↦ (came_connects j k king at ((was k).0 (h.0, (parts h.0).1 (inr h.1), h.2.0)), h.2.1)
       | inl before ↦ elim ((with_others k).0 before) [
-        | inr o ↦ came_connects j k o.0 at o.2
+        | inr o ↦ (came_connects j k o.0 at o.2.0, o.2.1)
         | inl start ↦ elim ((with_low k).0 start) [
-          | inr l ↦ came_connects j k king at ((was k).0 (l.0, (parts l.0).1 (inl l.1), l.2))
+          | inr l ↦ (came_connects j k king at ((was k).0 (l.0, (parts l.0).1 (inl l.1), l.2.0)), l.2.1)
           | inl none ↦ absurd (let c = subst (λ (xs : List ℕ). Contains xs k) empty none in omega (arith, c.1))
         ]
       ]
     ],
-    λ edge. let came = connects_came j k at edge in elim (cases_eq came.0 king) [
-      | inr apart ↦ (with_high k).1 (inl ((with_others k).1 (inr (came.0, held came.0 (subst (λ s. IsHeld q.men s (other_side q.side)) came.1.here (came_held came.1.before q came.1.move came.1.comes)) apart, came.1))))
+    λ edge. let came = connects_came j k at edge.0 in elim (cases_eq came.0 king) [
+      | inr apart ↦ (with_high k).1 (inl ((with_others k).1 (inr (came.0, held came.0 (subst (λ s. IsHeld q.men s (other_side q.side)) came.1.here (came_held came.1.before q came.1.move came.1.comes)) apart, (came.1, edge.1)))))
       | inl e ↦ let on = (was k).1 (subst (λ s. CameTo column c q s k) e came.1) in elim ((parts on.0).0 on.1) [
-        | inl l ↦ (with_high k).1 (inl ((with_others k).1 (inl ((with_low k).1 (inr (on.0, l, on.2))))))
-        | inr h ↦ (with_high k).1 (inr (on.0, h, on.2))
+        | inl l ↦ (with_high k).1 (inl ((with_others k).1 (inl ((with_low k).1 (inr (on.0, l, (on.2, edge.1)))))))
+        | inr h ↦ (with_high k).1 (inr (on.0, h, (on.2, edge.1)))
       ]
     ],
   )

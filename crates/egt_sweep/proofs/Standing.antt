@@ -10,7 +10,7 @@ use Rattle.egt_index.specs.Size.{size_of}
 use Rattle.egt_moves.specs.Standing.{IsCheckmate, StandsAs}
 use Rattle.egt_moves.specs.declared.outcome.Standing.{Standing}
 use Rattle.egt_moves.specs.declared.outcome.Standing.TheVariants.{Stalemate, HasMove}
-use Rattle.egt_graph.specs.Passing.{passing_below, passing_is}
+use Rattle.egt_graph.specs.Passing.{passing_below, passing_has, passing_is, passing_passes}
 use Rattle.egt_table.specs.declared.column.Column.{Column}
 use Rattle.egt_sweep.specs.Edges.{Connects}
 use Rattle.egt_sweep.specs.Laws.{Laws}
@@ -51,3 +51,10 @@ module _ (laws : Laws) (c i : ℕ) where
   sources_told column xs below ascends exact = passing_is (size_of c) (λ k. connects column c k i) xs ascends
       (λ k has. let edge = (exact k).0 has in (laws.facts.index_below edge.from c k edge.at.index, (connects_is laws column c k i below).1 edge))
       (λ k lt t. (exact k).1 ((connects_is laws column c k i below).0 t))
+
+  -- the list has just the numbers from which a move that goes on leads to i
+  pub source_listed : (column : Column) (k : ℕ) → c < 36 → Contains (passing_below (size_of c) (λ k. connects column c k i)) k ↔ Connects column c k i
+  source_listed column k below = (
+    λ has. (connects_is laws column c k i below).0 (passing_passes (size_of c) (λ k. connects column c k i) k has),
+    λ edge. passing_has (size_of c) (λ k. connects column c k i) k (laws.facts.index_below edge.from c k edge.at.index) ((connects_is laws column c k i below).1 edge),
+  )

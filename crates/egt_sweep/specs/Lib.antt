@@ -8,3 +8,4 @@ pub mod Aiming
 pub mod Built
 pub mod Fault
 pub mod Ways
+pub mod Wanted

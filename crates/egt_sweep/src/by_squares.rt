@@ -12,10 +12,12 @@ ghost use Rattle.egt_board.specs.SquareSet.{Has, size_of};
 ghost use Rattle.egt_index.specs.Frame.{IsFrame, IsMoved};
 ghost use Rattle.egt_index.specs.Steps.{AreSteps};
 ghost use Rattle.egt_unmoves.specs.Unmoves.{setup_before};
+ghost use Rattle.egt_sweep.specs.Wanted.{IsWanted, Among};
 ghost use Rattle.egt_sweep.specs.Edges.{AtSome, IsAt, Connects, CameTo, HadNoTarget, IsTakenBack, WasOn};
 
 use crate::ascending::put;
 use crate::laws::laws;
+use crate::wanted::Wanted;
 use arrayvec::ArrayVec;
 use egt_board::camps::camps_are_few;
 use egt_board::{Camps, Kind, Man, Position, Square, SquareSet};
@@ -55,7 +57,7 @@ fn goes_back_by(column: Column, man: Man) -> bool
     }
 }
 
-/// Adds the indexes of the positions in which the man on `to` stands on one of these squares and nothing else differs. The steps are
+/// Adds those wanted of the indexes of the positions in which the man on `to` stands on one of these squares and nothing else differs. The steps are
 /// his. It is inlined so that they stay in registers.
 #[inline(always)]
 fn add_left(
@@ -65,6 +67,7 @@ fn add_left(
     man: Man,
     to: Square,
     squares: SquareSet,
+    wanted: &Wanted<'_>,
     list: &mut ArrayVec<u32, 128>,
 )
     requires steps { AreSteps position.now class to steps.now }
@@ -72,13 +75,16 @@ fn add_left(
     requires ascending { IsStrictlyIncreasing list.old.items }
     requires room { array_vec_len list.old + size_of squares ≤ 128 }
     ensures ascending { IsStrictlyIncreasing list.new.items }
-    ensures members { (k : ℕ) → Contains list.new.items k ↔ (Contains list.old.items k ⊎ AtSome squares (WasOn class position.now man to) k) }
+    ensures members { (k : ℕ) → Contains list.new.items k ↔ (Contains list.old.items k ⊎ AtSome squares (Among wanted.now (WasOn class position.now man to)) k) }
     ensures few { array_vec_len list.new ≤ array_vec_len list.old + size_of squares }
 {
     laws();
     let mut rest = squares;
     while let Some(from) = rest.pop_first() {
-        put(list, steps.index_to(from));
+        let index = steps.index_to(from);
+        if wanted.has(index) {
+            put(list, index);
+        }
     }
 }
 
@@ -90,6 +96,7 @@ fn add_sources_of(
     position: &Position,
     camps: Camps,
     to: Square,
+    wanted: &Wanted<'_>,
     list: &mut ArrayVec<u32, 128>,
 )
     requires of { (flipped : Bool) × IsOf class flipped position.now }
@@ -102,7 +109,7 @@ fn add_sources_of(
     requires ascending { IsStrictlyIncreasing list.old.items }
     requires room { array_vec_len list.old + 28 ≤ 128 }
     ensures ascending { IsStrictlyIncreasing list.new.items }
-    ensures members { (k : ℕ) → Contains list.new.items k ↔ (Contains list.old.items k ⊎ CameTo column class position.now to k) }
+    ensures members { (k : ℕ) → Contains list.new.items k ↔ (Contains list.old.items k ⊎ Among wanted.now (CameTo column class position.now) to k) }
     ensures few { array_vec_len list.new ≤ array_vec_len list.old + 28 }
 {
     laws();
@@ -113,7 +120,7 @@ fn add_sources_of(
     }
     let steps = frame.steps(to);
     let sources = quiet_sources(position, camps, man, to);
-    add_left(class, &steps, position, man, to, sources, list);
+    add_left(class, &steps, position, man, to, sources, wanted, list);
 }
 
 /// Adds the indexes from which the men on these squares came, if their moves go on.
@@ -124,6 +131,7 @@ fn add_others(
     position: &Position,
     camps: Camps,
     men: SquareSet,
+    wanted: &Wanted<'_>,
     list: &mut ArrayVec<u32, 128>,
 )
     requires of { (flipped : Bool) × IsOf class flipped position.now }
@@ -136,12 +144,12 @@ fn add_others(
     requires ascending { IsStrictlyIncreasing list.old.items }
     requires room { array_vec_len list.old + 28 * size_of men ≤ 128 }
     ensures ascending { IsStrictlyIncreasing list.new.items }
-    ensures members { (k : ℕ) → Contains list.new.items k ↔ (Contains list.old.items k ⊎ AtSome men (CameTo column class position.now) k) }
+    ensures members { (k : ℕ) → Contains list.new.items k ↔ (Contains list.old.items k ⊎ AtSome men (Among wanted.now (CameTo column class position.now)) k) }
     ensures few { array_vec_len list.new ≤ array_vec_len list.old + 28 * size_of men }
 {
     let mut rest = men;
     while let Some(to) = rest.pop_first() {
-        add_sources_of(column, class, frame, position, camps, to, list);
+        add_sources_of(column, class, frame, position, camps, to, wanted, list);
     }
 }
 
@@ -153,6 +161,7 @@ pub(crate) fn sources_by_squares(
     class: Class,
     frame: &Frame,
     position: &Position,
+    wanted: &Wanted<'_>,
     list: &mut ArrayVec<u32, 128>,
 )
     requires empty { list.old.items ≡ [] }
@@ -162,7 +171,7 @@ pub(crate) fn sources_by_squares(
     requires untargeted { position.now.target ≡ None }
     requires before { HadNoTarget position.now }
     ensures ascending { IsStrictlyIncreasing list.new.items }
-    ensures exact { (j : ℕ) → IsAt class j position.now → (k : ℕ) → Contains list.new.items k ↔ Connects column class k j }
+    ensures exact { (j : ℕ) → IsAt class j position.now → (k : ℕ) → Contains list.new.items k ↔ (Connects column class k j × IsWanted wanted.now k) }
 {
     laws();
     let _number = class.number();
@@ -178,7 +187,7 @@ pub(crate) fn sources_by_squares(
     let low = sources.common(below(king));
     let high = sources.without(low);
     let others = beside_king(position, camps, king);
-    add_left(class, &steps, position, man, king, low, list);
-    add_others(column, class, frame, position, camps, others, list);
-    add_left(class, &steps, position, man, king, high, list);
+    add_left(class, &steps, position, man, king, low, wanted, list);
+    add_others(column, class, frame, position, camps, others, wanted, list);
+    add_left(class, &steps, position, man, king, high, wanted, list);
 }

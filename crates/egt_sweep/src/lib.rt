@@ -16,6 +16,7 @@ mod nodes;
 mod quiet;
 pub mod ranks;
 mod sources;
+mod wanted;
 mod ways;
 mod zero_game;
 

@@ -1,6 +1,7 @@
 //! The nodes of a class's game.
-ghost use Rattle.std.specs.Prelude.{◌≡◌, ◌+◌, ◌%◌, ◌/◌, ◌<◌, ◌≤◌, ℕ, Some, [], length, not, false, true, IsTrue, IsFalse};
+ghost use Rattle.std.specs.Prelude.{◌≡◌, ◌+◌, ◌%◌, ◌/◌, ◌<◌, ◌≤◌, ◌↔◌, ℕ, Some, [], length, not, false, true, IsTrue, IsFalse};
 ghost use Rattle.std.specs.Int.{bit_at};
+ghost use Rattle.std.specs.List.{Contains};
 ghost use Rattle.std.specs.Option.{is_some};
 ghost use Rattle.egt_board.specs.Decided.{tells};
 ghost use Rattle.egt_board.specs.declared.square_set.SquareSet.{SquareSet};
@@ -10,6 +11,7 @@ ghost use Rattle.egt_moves.specs.DecidedMoves.{decided_checkmate};
 ghost use Rattle.egt_moves.specs.Standing.{CanMove};
 ghost use Rattle.egt_graph.specs.Graph.{IsStart};
 ghost use Rattle.egt_graph.specs.Passing.{passing_below};
+ghost use Rattle.egt_graph.specs.Undecided.{IsMarked};
 ghost use Rattle.egt_table.specs.declared.column.Column.TheVariants.{Zeroing};
 ghost use Rattle.egt_check.specs.Tables.{table_at, beside, HasChildren};
 ghost use Rattle.egt_sweep.specs.Aiming.{column_of, game_of, known, KnowsOwn};
@@ -24,6 +26,7 @@ use crate::anchor::has_anchor;
 use crate::edges::edges;
 use crate::laws::laws;
 use crate::sources::sources;
+use crate::wanted::Wanted;
 use crate::ways::{Ways, ways_of};
 use arrayvec::ArrayVec;
 use egt_board::Position;
@@ -93,7 +96,32 @@ pub(crate) fn predecessors(column: Column, class: Class, index: u32, list: &mut 
     let _number = class.number();
     list.clear();
     let (position, frame) = indexed(class, index);
-    sources(column, class, &frame, &position, list);
+    sources(column, class, &frame, &position, &Wanted::All, list);
+}
+
+/// The same, with those alone whose bits are set: of node `i` bit `i % 64` of word `i / 64`.
+pub(crate) fn marked_predecessors(
+    column: Column,
+    class: Class,
+    index: u32,
+    marks: &[u64],
+    list: &mut ArrayVec<u32, 128>,
+)
+    requires { IsFalse (not (is_some (position_at class index))) }
+    ensures { (i : ℕ) → Contains list.new.items i ↔ (Contains (passing_below (size_of class) (λ k. connects column class k index)) i × IsMarked marks.now i) }
+{
+    laws();
+    let _number = class.number();
+    list.clear();
+    let (position, frame) = indexed(class, index);
+    sources(
+        column,
+        class,
+        &frame,
+        &position,
+        &Wanted::Marked(marks),
+        list,
+    );
 }
 
 /// The values of where the moves lead that leave the game from a node, in the order of moves.

@@ -8,11 +8,13 @@ ghost use Rattle.egt_board.specs.Pawn.{pawn_of};
 ghost use Rattle.egt_board.specs.Placement.{Stands};
 ghost use Rattle.egt_board.specs.Settled.{IsSettled};
 ghost use Rattle.egt_index.specs.Frame.{IsFrame};
+ghost use Rattle.egt_sweep.specs.Wanted.{IsWanted};
 ghost use Rattle.egt_sweep.specs.Edges.{IsAt, GoesBack, ComesFrom, Connects, HadNoTarget};
 
 use crate::ascending::put;
 use crate::by_squares::sources_by_squares;
 use crate::laws::laws;
+use crate::wanted::Wanted;
 use arrayvec::ArrayVec;
 use egt_board::{Position, Side, SquareSet};
 use egt_class::Class;
@@ -31,19 +33,29 @@ fn goes_back(column: Column, unmove: &Unmove) -> bool
     }
 }
 
-/// Adds the index from which the unmove came, if its move goes on.
-fn add_source(column: Column, class: Class, unmove: &Unmove, list: &mut ArrayVec<u32, 128>)
+/// Adds the index from which the unmove came, if its move goes on and the index is wanted.
+fn add_source(
+    column: Column,
+    class: Class,
+    unmove: &Unmove,
+    wanted: &Wanted<'_>,
+    list: &mut ArrayVec<u32, 128>,
+)
     requires of { (flipped : Bool) × IsOf class flipped unmove.now.before }
     requires ascending { IsStrictlyIncreasing list.old.items }
     requires room { array_vec_len list.old < 128 }
     ensures ascending { IsStrictlyIncreasing list.new.items }
-    ensures members { (k : ℕ) → Contains list.new.items k ↔ (Contains list.old.items k ⊎ ComesFrom column class unmove.now k) }
+    ensures members { (k : ℕ) → Contains list.new.items k ↔ (Contains list.old.items k ⊎ (ComesFrom column class unmove.now k × IsWanted wanted.now k)) }
     ensures few { array_vec_len list.new ≤ array_vec_len list.old + 1 }
 {
     laws();
     let _side = unmove.before.side();
-    if goes_back(column, unmove) {
-        put(list, index(class, &unmove.before));
+    if !goes_back(column, unmove) {
+        return;
+    }
+    let index = index(class, &unmove.before);
+    if wanted.has(index) {
+        put(list, index);
     }
 }
 
@@ -52,20 +64,21 @@ fn sources_by_unmoves(
     column: Column,
     class: Class,
     position: &Position,
+    wanted: &Wanted<'_>,
     list: &mut ArrayVec<u32, 128>,
 )
     requires empty { list.old.items ≡ [] }
     requires of { (flipped : Bool) × IsOf class flipped position.now }
     requires settled { IsSettled position.now }
     ensures ascending { IsStrictlyIncreasing list.new.items }
-    ensures exact { (j : ℕ) → IsAt class j position.now → (k : ℕ) → Contains list.new.items k ↔ Connects column class k j }
+    ensures exact { (j : ℕ) → IsAt class j position.now → (k : ℕ) → Contains list.new.items k ↔ (Connects column class k j × IsWanted wanted.now k) }
 {
     laws();
     let _number = class.number();
     let _side = position.side();
     let unmoves = unmoves(position);
     for unmove in unmoves.as_slice() {
-        add_source(column, class, unmove, list);
+        add_source(column, class, unmove, wanted, list);
     }
 }
 
@@ -101,12 +114,13 @@ fn may_have_target(class: Class, position: &Position) -> bool
     target_before(position).is_some()
 }
 
-/// Fills the list with the indexes from which moves that go on lead to the settled position at an index.
+/// Fills the list with the wanted indexes from which moves that go on lead to the settled position at an index.
 pub(crate) fn sources(
     column: Column,
     class: Class,
     frame: &Frame,
     position: &Position,
+    wanted: &Wanted<'_>,
     list: &mut ArrayVec<u32, 128>,
 )
     requires empty { list.old.items ≡ [] }
@@ -115,11 +129,11 @@ pub(crate) fn sources(
     requires frame { IsFrame position.now frame.now }
     requires class { frame.now.class ≡ class }
     ensures ascending { IsStrictlyIncreasing list.new.items }
-    ensures exact { (j : ℕ) → IsAt class j position.now → (k : ℕ) → Contains list.new.items k ↔ Connects column class k j }
+    ensures exact { (j : ℕ) → IsAt class j position.now → (k : ℕ) → Contains list.new.items k ↔ (Connects column class k j × IsWanted wanted.now k) }
 {
     if may_have_target(class, position) {
-        sources_by_unmoves(column, class, position, list);
+        sources_by_unmoves(column, class, position, wanted, list);
     } else {
-        sources_by_squares(column, class, frame, position, list);
+        sources_by_squares(column, class, frame, position, wanted, list);
     }
 }

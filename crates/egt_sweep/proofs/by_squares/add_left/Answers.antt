@@ -2,16 +2,17 @@ use Rattle.std.proofs.Common.{ℕ, ◌<◌, None, ◌↔◌, ◌≡◌, sym, sub
 use Rattle.arrayvec.specs.ArrayVec.{array_vec_len}
 use Rattle.egt_index.specs.Index.{IsIndex}
 use Rattle.egt_unmoves.specs.Unmoves.{setup_before}
+use Rattle.egt_sweep.specs.Wanted.{Among}
 use Rattle.egt_sweep.specs.Edges.{WasOn}
-use Rattle.egt_sweep.proofs.Collecting.{members_on}
+use Rattle.egt_sweep.proofs.Collecting.{members_on, members_off, untrue, kept, dropped}
 use Rattle.egt_sweep.proofs.Gathering.{gathered_none, gathered_more, gathered_all}
 use Rattle.egt_sweep.proofs.by_squares.add_left.Goals as goal
 
 pub loop-from-init : goal.loop-from-init
-loop-from-init c = (c.requires.ascending, omega arith, gathered_none (WasOn c.args.class c.args.position.now c.args.man c.args.to) c.args.squares c.args.list.now.items)
+loop-from-init c = (c.requires.ascending, omega arith, gathered_none (Among c.args.wanted.now (WasOn c.args.class c.args.position.now c.args.man c.args.to)) c.args.squares c.args.list.now.items)
 
-pub index_to-requires : goal.index_to-requires
-index_to-requires c =
+pub index_to-index-requires : goal.index_to-index-requires
+index_to-index-requires c =
     let from = c.in-Some.from in
     let q = c.args.position.now in
     (c.args.class, c.args.to, q, setup_before q c.args.man c.args.to from None, c.requires.steps, c.requires.moved from (omega arith) (c.loop-from.invariant.2.left from c.in-Some.ensures.had))
@@ -24,29 +25,51 @@ put-requires c =
     let short : array_vec_len c.loop-from.list < 128 = omega (arith, so_far, size, room) in
     (omega arith, (c.loop-from.invariant.0, short))
 
+pub loop-from-preserved-then-has : goal.loop-from-preserved-then-has
+loop-from-preserved-then-has c =
+    let q = c.args.position.now in
+    let s = c.in-Some.ensures in
+    let inv = c.loop-from.invariant in
+    let from = c.in-Some.from in
+    let index = c.index_to-index.result in
+    let on_board : from < 64 = omega arith in
+    let before = setup_before q c.args.man c.args.to from None in
+    let moved = c.requires.moved from on_board (inv.2.left from s.had) in
+    let is = c.index_to-index.ensures c.args.class c.args.to q before c.requires.steps moved in
+    let one : (k : ℕ) → (k ≡ index) ↔ WasOn c.args.class q c.args.man c.args.to from k = λ k. (
+      λ e. (on_board, subst (IsIndex c.args.class before) (sym e) is),
+      λ was. c.laws.ensures.facts.one_index before c.args.class k index moved.admissible was.1 is,
+    ) in (
+      c.put.ensures.ascending,
+      let few = c.put.ensures.few in let so_far = inv.1 in let size = s.size in omega (arith, few, so_far, size),
+      gathered_more (Among c.args.wanted.now (WasOn c.args.class q c.args.man c.args.to)) c.args.squares c.args.list.now.items c.loop-from.list.items c.put.new.list.items c.loop-from.rest c.pop_first.new.self from
+          s.had s.gone s.others (λ k. members_on (c.put.ensures.members k) (kept c.args.wanted.now index k (one k) (c.has.ensures.0 c.if-has.true))) inv.2,
+    )
+
 pub loop-from-preserved : goal.loop-from-preserved
 loop-from-preserved c =
     let q = c.args.position.now in
     let s = c.in-Some.ensures in
     let inv = c.loop-from.invariant in
     let from = c.in-Some.from in
+    let index = c.index_to-index.result in
     let on_board : from < 64 = omega arith in
     let before = setup_before q c.args.man c.args.to from None in
     let moved = c.requires.moved from on_board (inv.2.left from s.had) in
-    let index = c.index_to.ensures c.args.class c.args.to q before c.requires.steps moved in
-    let one : (k : ℕ) → (k ≡ c.index_to.result) ↔ WasOn c.args.class q c.args.man c.args.to from k = λ k. (
-      λ e. (on_board, subst (IsIndex c.args.class before) (sym e) index),
-      λ was. c.laws.ensures.facts.one_index before c.args.class k c.index_to.result moved.admissible was.1 index,
+    let is = c.index_to-index.ensures c.args.class c.args.to q before c.requires.steps moved in
+    let one : (k : ℕ) → (k ≡ index) ↔ WasOn c.args.class q c.args.man c.args.to from k = λ k. (
+      λ e. (on_board, subst (IsIndex c.args.class before) (sym e) is),
+      λ was. c.laws.ensures.facts.one_index before c.args.class k index moved.admissible was.1 is,
     ) in (
-      c.put.ensures.ascending,
-      let few = c.put.ensures.few in let so_far = inv.1 in let size = s.size in omega (arith, few, so_far, size),
-      gathered_more (WasOn c.args.class q c.args.man c.args.to) c.args.squares c.args.list.now.items c.loop-from.list.items c.put.new.list.items c.loop-from.rest c.pop_first.new.self from
-          s.had s.gone s.others (λ k. members_on (c.put.ensures.members k) (one k)) inv.2,
+      inv.0,
+      let so_far = inv.1 in let size = s.size in omega (arith, so_far, size),
+      gathered_more (Among c.args.wanted.now (WasOn c.args.class q c.args.man c.args.to)) c.args.squares c.args.list.now.items c.loop-from.list.items c.loop-from.list.items c.loop-from.rest c.pop_first.new.self from
+          s.had s.gone s.others (λ k. members_off (dropped c.args.wanted.now index k (one k) (untrue c.has.result c.if-has.false c.has.ensures))) inv.2,
     )
 
 pub returns-clause-members : goal.returns-clause-members
 returns-clause-members c =
-    gathered_all (WasOn c.args.class c.args.position.now c.args.man c.args.to) c.args.squares c.args.list.now.items c.loop-from.list.items c.loop-from.rest c.in_default.ensures.empty c.loop-from.invariant.2
+    gathered_all (Among c.args.wanted.now (WasOn c.args.class c.args.position.now c.args.man c.args.to)) c.args.squares c.args.list.now.items c.loop-from.list.items c.loop-from.rest c.in_default.ensures.empty c.loop-from.invariant.2
 
 pub returns-clause-few : goal.returns-clause-few
 returns-clause-few c = let so_far = c.loop-from.invariant.1 in omega (arith, so_far)

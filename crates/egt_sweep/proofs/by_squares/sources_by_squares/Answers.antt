@@ -51,7 +51,7 @@ returns-clause-exact c j at =
     let high = c.without-high.result in
     let below : c.args.class < 36 = subst (λ (n : ℕ). n < 36) c.number-number.ensures.value c.number-number.ensures.below in
     let held : (s : ℕ) → IsHeld q.men s (other_side q.side) → s ≢ king → Has c.beside_king-others.result s = λ s here apart. (c.beside_king-others.ensures.held s).1 (here, apart) in
-    came_edges c.laws.ensures c.args.class below c.args.column q j at man king all low high c.beside_king-others.result held
+    came_edges c.laws.ensures c.args.class below c.args.column q c.args.wanted.now j at man king all low high c.beside_king-others.result held
     (in_part all c.below.result low high c.common-low.ensures.squares c.without-high.ensures.squares)
     (was_came c.laws.ensures c.args.class q man king c.king-king.ensures.stands c.args.column all c.requires.before r.sound r.complete r.before (king_back c.args.column c.other-side.result))
     c.args.list.now.items c.add_left.new.list.items c.add_others.new.list.items c.add_left-2.new.list.items c.requires.empty

@@ -10,4 +10,6 @@ sources-requires-clause-of c = c.laws.ensures.indexed_class _ c.args.class c.arg
 
 pub returns : goal.returns
 returns c = sources_told c.laws.ensures c.args.class c.args.index c.args.column c.sources.new.list.items (subst (λ (n : ℕ). n < 36) c.number-number.ensures.value c.number-number.ensures.below)
-    c.sources.ensures.ascending (c.sources.ensures.exact c.args.index (record { spells = c.indexed-position.ensures.spells; index = c.indexed-position.ensures.index }))
+    c.sources.ensures.ascending
+    (λ k. let exact = c.sources.ensures.exact c.args.index (record { spells = c.indexed-position.ensures.spells; index = c.indexed-position.ensures.index }) k in
+    (λ has. (exact.0 has).0, λ edge. exact.1 (edge, tt)))

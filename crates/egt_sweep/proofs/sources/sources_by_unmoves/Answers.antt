@@ -2,13 +2,14 @@ use Rattle.std.proofs.Common.{ℕ, ◌<◌, arith, subst, sym}
 use Rattle.std.specs.List.{Contains}
 use Rattle.egt_unmoves.specs.declared.unmove.Unmove.{Unmove}
 use Rattle.std.proofs.Common.{List}
+use Rattle.egt_sweep.specs.Wanted.{IsWanted}
 use Rattle.egt_sweep.specs.Edges.{ComesFrom}
 use Rattle.egt_sweep.proofs.Backward.{before_class, sources_are}
 use Rattle.egt_sweep.proofs.Collecting.{collected_start, collected_more, collected_all, members_then}
 use Rattle.egt_sweep.proofs.sources.sources_by_unmoves.Goals as goal
 
 pub loop-unmove-init : goal.loop-unmove-init
-loop-unmove-init c = collected_start (ComesFrom c.args.column c.args.class) c.as_slice-unmove-items.result.now c.args.list.now.items c.requires.empty
+loop-unmove-init c = collected_start (λ u k. ComesFrom c.args.column c.args.class u k × IsWanted c.args.wanted.now k) c.as_slice-unmove-items.result.now c.args.list.now.items c.requires.empty
 
 pub add_source-requires-clause-of : goal.add_source-requires-clause-of
 add_source-requires-clause-of c =
@@ -22,14 +23,14 @@ loop-unmove-preserved c = (
   c.add_source.ensures.ascending,
   omega (arith, c.add_source.ensures.few, c.loop-unmove.invariant.1),
   λ k. members_then (c.add_source.ensures.members k) (c.loop-unmove.invariant.2 k)
-      (collected_more (ComesFrom c.args.column c.args.class) c.as_slice-unmove-items.result.now c.loop-unmove.unmove-index c.unmove-item.result k c.loop-unmove-test.true c.unmove-item.is),
+      (collected_more (λ u k. ComesFrom c.args.column c.args.class u k × IsWanted c.args.wanted.now k) c.as_slice-unmove-items.result.now c.loop-unmove.unmove-index c.unmove-item.result k c.loop-unmove-test.true c.unmove-item.is),
 )
 
 pub returns-clause-exact : goal.returns-clause-exact
 returns-clause-exact c j at k =
     let items = c.as_slice-unmove-items.result.now in
     let below = subst (λ (n : ℕ). n < 36) c.number-number.ensures.value c.number-number.ensures.below in
-    let all = collected_all (ComesFrom c.args.column c.args.class) items c.loop-unmove.unmove-index k (omega (arith, c.loop-unmove-test.false)) in
+    let all = collected_all (λ u k. ComesFrom c.args.column c.args.class u k × IsWanted c.args.wanted.now k) items c.loop-unmove.unmove-index k (omega (arith, c.loop-unmove-test.false)) in
     let are = sources_are c.laws.ensures c.args.class below c.args.column c.args.position.now items c.unmoves-unmoves.result.items j k c.as_slice-unmove-items.ensures.value c.unmoves-unmoves.ensures.exact at in
     let here = c.loop-unmove.invariant.2 k in
-    (λ h. are.0 (all.0 (here.0 h)), λ h. here.1 (all.1 (are.1 h)))
+    (λ h. let f = all.0 (here.0 h) in (are.0 (f.0, f.1, f.2.0), f.2.1), λ h. let f = are.1 h.0 in here.1 (all.1 (f.0, f.1, (f.2, h.1))))

@@ -2,6 +2,7 @@ use Rattle.std.proofs.Common.{ℕ, ◌≤◌, ◌↔◌}
 use Rattle.std.specs.List.{Contains}
 use Rattle.std.specs.List.Sorted.{IsStrictlyIncreasing}
 use Rattle.arrayvec.specs.ArrayVec.{array_vec_len}
+use Rattle.egt_sweep.specs.Wanted.{IsWanted}
 use Rattle.egt_sweep.specs.Edges.{ComesFrom}
 use Rattle.egt_sweep.proofs.Collecting.{Collected}
 use Rattle.egt_sweep.proofs.sources.sources_by_unmoves.Given as goal
@@ -10,4 +11,4 @@ use Rattle.egt_sweep.proofs.sources.sources_by_unmoves.Given as goal
 abbrev pub invariant-loop-unmove : goal.invariant-loop-unmove
 invariant-loop-unmove l =
     IsStrictlyIncreasing l.list.items × (array_vec_len l.list ≤ l.unmove-index)
-    × ((k : ℕ) → Contains l.list.items k ↔ Collected (ComesFrom l.column l.class) l.unmove-items l.unmove-index k)
+    × ((k : ℕ) → Contains l.list.items k ↔ Collected (λ u k. ComesFrom l.column l.class u k × IsWanted l.wanted k) l.unmove-items l.unmove-index k)
