@@ -6,7 +6,8 @@ use Rattle.std.proofs.lemmas.List.{get_or_append_left, get_or_push, get_or_past,
 use Rattle.std.proofs.lemmas.List.Sums.{sum_by_more, sum_by_push}
 use Rattle.egt_graph.specs.Graph.{Graph}
 use Rattle.egt_graph.specs.Value.{is_empty, is_lost_before, is_won_before, mated_within}
-use Rattle.egt_graph.specs.Begin.{Adds, IsFilled, IsBegun}
+use Rattle.egt_graph.specs.Begin.{Adds, IsFilled, IsBegun, AreCounted}
+use Rattle.egt_graph.specs.Counts.{IsCount}
 use Rattle.egt_graph.specs.Columns.{outs, leaves, has_moves, count_of, decided, entry_at, later_at, is_loss, is_win_of, is_loss_of, waits_at, is_winning, is_win_from, done_of, Amid, Await}
 use Rattle.egt_graph.specs.declared.game.Exit.{Exit}
 use Rattle.egt_graph.specs.declared.game.Exit.TheVariants.{Win, Loss, Draw}
@@ -119,6 +120,15 @@ Begun_more g m es ws ls fs ld wd h e w l f ld' wd' p q r s t u = record {
   losses = pushed false (λ i. list_any is_loss (leaves g i)) fs m f h.lost_long h.losses s;
   lost_exits = Filled_more g is_loss_of m ld ld' h.lost_exits t;
   won_exits = Filled_more g is_win_of m wd wd' h.won_exits u;
+}
+
+pub Counted_more : (g : Graph) (m : ℕ) (counts : List ℕ) → AreCounted g m counts → (n : ℕ) → IsCount g m n → AreCounted g (m + 1) (counts ++ n ∷ [])
+Counted_more g m counts h n is = record {
+  long = length_push counts n ∙ ap (λ k. k + 1) h.long;
+  each = λ i lt. elim (cases_eq i m) [
+    | inl e ↦ rw (e, get_or_push counts n 0 m h.long) is
+    | inr ne ↦ rw (get_or_append_left counts (n ∷ []) 0 i (let long = h.long in omega arith)) (h.each i (omega arith))
+  ];
 }
 
 -- ---- the columns of round 0

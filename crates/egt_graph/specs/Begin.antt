@@ -2,6 +2,7 @@
 use Rattle.std.specs.Prelude.{◌≡◌, ℕ, ◌+◌, ◌<◌, ◌≤◌, ◌==◌, Bool, false, List, [], length, slice_index, slice_index_or, count_by, if◌then◌else◌}
 use Rattle.std.specs.List.{list_any}
 use Rattle.egt_graph.specs.Graph.{Graph}
+use Rattle.egt_graph.specs.Counts.{IsCount}
 use Rattle.egt_graph.specs.Columns.{outs, leaves, count_of, entry_at, later_at, is_loss, is_win_of, is_loss_of}
 use Rattle.egt_graph.specs.declared.begin.Columns.{Columns}
 use Rattle.egt_graph.specs.declared.game.Exit.{Exit}
@@ -29,6 +30,12 @@ pub record IsBegun (g : Graph) (m : ℕ) (entries waits later : List ℕ) (lost 
   pub lost_exits : IsFilled g is_loss_of m lost_due
   pub won_exits : IsFilled g is_win_of m won_due
 
+-- what was told of the first m nodes
+pub record AreCounted (g : Graph) (m : ℕ) (counts : List ℕ) : Type 0 where
+  pub long : length counts ≡ m
+  pub each : (i : ℕ) → i < m → IsCount g i (slice_index counts i)
+
 abbrev pub AreBegun : Graph → ℕ → Columns → Type 0
 AreBegun g m columns =
     IsBegun g m columns.entries.items columns.waits.items columns.later.items columns.lost.items columns.lost_due columns.won_due
+    × AreCounted g m columns.counts.items

@@ -9,6 +9,7 @@ pub mod Columns
 pub mod Batch
 pub mod Run
 pub mod Begin
+pub mod Counts
 pub mod Fault
 pub mod Laws
 pub mod Passing

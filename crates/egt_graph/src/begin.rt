@@ -2,10 +2,11 @@
 ghost use Rattle.std.specs.Prelude.{◌≡◌, ℕ, ◌+◌, ◌<◌, ◌≤◌, ◌^◌, length, count_by, [], ◌∷◌, OnOk, IfOk};
 ghost use Rattle.std.specs.List.{list_any};
 ghost use Rattle.egt_graph.specs.Columns.{outs, leaves, entry_at, is_loss, is_win_from, is_win_of, is_loss_of};
-ghost use Rattle.egt_graph.specs.Begin.{Adds, AreBegun, IsBegun};
+ghost use Rattle.egt_graph.specs.Begin.{Adds, AreBegun};
 ghost use Rattle.egt_graph.specs.Graph.{IsStart};
 
 use crate::columns::DRAW;
+use crate::counts::count_told;
 use crate::game::{Exit, Game, Start};
 use crate::schedule::Schedule;
 use arrayvec::ArrayVec;
@@ -20,12 +21,12 @@ pub(crate) struct Columns {
     pub(crate) lost: Vec<bool>,
     pub(crate) lost_due: Schedule,
     pub(crate) won_due: Schedule,
+    pub(crate) counts: Vec<u8>,
 }
 
 /// The columns before the first round. Each node's moves are counted, and none is asked for.
 pub(crate) fn begin<G: Game>(alloc: Global, game: &G) -> Result<Columns, AllocError>
-    ensures { IfOk result (λ columns. IsBegun (G.graph game.now) (G.graph game.now).size
-        columns.entries.items columns.waits.items columns.later.items columns.lost.items columns.lost_due columns.won_due) }
+    ensures { IfOk result (AreBegun (G.graph game.now) (G.graph game.now).size) }
 {
     let size = game.size();
     let mut columns = Columns {
@@ -35,6 +36,7 @@ pub(crate) fn begin<G: Game>(alloc: Global, game: &G) -> Result<Columns, AllocEr
         lost: Vec::with_capacity(alloc, size as usize)?,
         lost_due: Schedule::new(alloc),
         won_due: Schedule::new(alloc),
+        counts: Vec::with_capacity(alloc, size as usize)?,
     };
     let mut exits = ArrayVec::new();
     let mut next_exits = ArrayVec::new();
@@ -110,6 +112,7 @@ fn push_node<G: Game>(
     columns.waits.push(row.moves + exits.len() as u8)?;
     columns.later.push(count_wins(exits))?;
     columns.lost.push(any_loss(exits))?;
+    columns.counts.push(count_told(_game, node, start, exits))?;
     schedule_exits(
         alloc,
         exits,
@@ -169,6 +172,7 @@ fn any_loss(exits: &[Exit]) -> bool
     false
 }
 
+#[inline(always)]
 fn schedule_exits(
     alloc: Global,
     exits: &[Exit],

@@ -1,6 +1,7 @@
 //! One step of retrograde analysis over plain columns: an entry and a counter a node. Where an entry is decided is noted.
 ghost use Rattle.std.specs.Prelude.{◌≡◌, ◌==◌, true, false, ℕ, ◌+◌, ◌-◌, ◌*◌, ◌<◌, ◌≤◌, length, slice_index, slice_set, All, MatchBool, IsTrue, IsFalse};
 ghost use Rattle.egt_graph.specs.Columns.{decided, Marks, TakesBack, count_of, is_open, is_open_at};
+ghost use Rattle.egt_graph.specs.Frontier.{is_entry_of_round};
 ghost use Rattle.egt_graph.specs.News.{Notes};
 
 use crate::scan::PART;
@@ -87,15 +88,17 @@ pub(crate) fn count_down(later: &mut [u8], nodes: &[u32])
     }
 }
 
-/// Is some node decided in `plies` plies, or undecided and yet to be decided by its exits?
+/// Is some node decided in `plies` plies, or undecided and yet to be decided by its exits? Most often a noted part tells.
 pub(crate) fn any_open(
     entries: &[u16],
     waits: &[u8],
     later: &[u8],
     lost: &[bool],
+    coming: &[bool],
     plies: u16,
 ) -> bool
     requires short { plies ≤ 32001 }
+    requires room { length entries.now ≤ 64 * length coming.now }
     requires waits { length waits.now ≡ length entries.now }
     requires later { length later.now ≡ length entries.now }
     requires lost { length lost.now ≡ length entries.now }
@@ -103,6 +106,9 @@ pub(crate) fn any_open(
         ((i : ℕ) × IsTrue (is_open_at plies entries.now waits.now later.now lost.now i))
         ((i : ℕ) → i < length entries.now → IsFalse (is_open_at plies entries.now waits.now later.now lost.now i)) }
 {
+    if any_noted(entries, coming, plies) {
+        return true;
+    }
     for i in 0..entries.len() {
         if is_open(entries[i], waits[i], later[i], lost[i], plies) {
             return true;
@@ -111,12 +117,45 @@ pub(crate) fn any_open(
     false
 }
 
+/// Is some node of a whole part that is noted decided in `plies` plies?
+fn any_noted(entries: &[u16], news: &[bool], plies: u16) -> bool
+    requires short { plies ≤ 32001 }
+    requires room { length entries.now ≤ 64 * length news.now }
+    ensures { IsTrue result → (i : ℕ) × IsTrue (is_entry_of_round plies (slice_index entries.now i)) }
+{
+    for part in 0..entries.len() / PART {
+        if news[part] && any_in_part(entries, part * PART, plies) {
+            return true;
+        }
+    }
+    false
+}
+
+fn any_in_part(entries: &[u16], from: usize, plies: u16) -> bool
+    requires short { plies ≤ 32001 }
+    requires within { from + 64 ≤ length entries.now }
+    ensures { IsTrue result → (i : ℕ) × IsTrue (is_entry_of_round plies (slice_index entries.now i)) }
+{
+    for i in from..from + PART {
+        if is_decided_in(entries[i], plies) {
+            return true;
+        }
+    }
+    false
+}
+
+#[inline(always)]
+fn is_decided_in(entry: u16, plies: u16) -> bool
+    requires { plies ≤ 32001 }
+    ensures { result ≡ is_entry_of_round plies entry }
+{
+    entry == 2 + 2 * plies || entry == 3 + 2 * plies
+}
+
 #[inline(always)]
 fn is_open(entry: u16, wait: u8, later: u8, lost: bool, plies: u16) -> bool
     requires { plies ≤ 32001 }
     ensures { result ≡ is_open plies entry wait later lost }
 {
-    entry == 2 + 2 * plies
-        || entry == 3 + 2 * plies
-        || (entry == DRAW && (lost || (wait > 0 && wait == later)))
+    is_decided_in(entry, plies) || (entry == DRAW && (lost || (wait > 0 && wait == later)))
 }

@@ -6,6 +6,7 @@ mod answer;
 mod batch;
 mod begin;
 mod columns;
+mod counts;
 mod game;
 pub mod laws;
 mod ranks;
@@ -17,11 +18,12 @@ mod step;
 
 pub use answer::{Close, Post};
 pub use batch::Batch;
+pub use counts::UNTOLD;
 pub use game::{Exit, Game, Start};
 pub use ranks::Ranks;
 pub use rounds::Rounds;
 pub use scan::frontier;
-pub use solver::{SolveFault, solve};
+pub use solver::{SolveFault, solve, solve_and_count};
 pub use std::alloc::AllocError as NoMemory;
 
 #[cfg(test)]

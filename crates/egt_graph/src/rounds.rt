@@ -2,6 +2,7 @@
 ghost use Rattle.std.specs.Prelude.{◌≡◌, ◌≢◌, ◌↔◌, ℕ, ◌+◌, ◌<◌, ◌≤◌, true, false, List, length, slice_index, slice_index_or, All, IsTrue, IfOk, IfErr, MatchResult, MatchBool, replicate};
 ghost use Rattle.std.specs.List.Sorted.{IsStrictlyIncreasing};
 ghost use Rattle.egt_graph.specs.Graph.{IsAlike, IsNode};
+ghost use Rattle.egt_graph.specs.Counts.{AreCounts};
 ghost use Rattle.egt_graph.specs.Value.{AreRanks};
 ghost use Rattle.egt_graph.specs.Frontier.{blocks_of, front};
 ghost use Rattle.egt_graph.specs.Rounds.{begun, listed, is_posted, IsCurrent, Posts, Closes, ClosesRunning};
@@ -71,6 +72,21 @@ impl<'g, G: Game> Rounds<'g, G> {
         requires { limit ≤ 32000 }
         ensures { IfOk result (λ rounds. (rounds.game ≡ game.now) × (rounds.state ≡ begun (G.graph game.now) limit)) }
     {
+        let (rounds, _counts) = Rounds::counted(alloc, game, limit)?;
+        Ok(rounds)
+    }
+
+    /// The same, with what is told of the moves of each node.
+    pub(crate) fn counted(
+        alloc: Global,
+        game: &'g G,
+        limit: u16,
+    ) -> Result<(Self, Vec<u8>), AllocError>
+        requires { limit ≤ 32000 }
+        ensures rounds { IfOk result
+            (λ told. (told.0.game ≡ game.now) × (told.0.state ≡ begun (G.graph game.now) limit)) }
+        ensures counts { IfOk result (λ told. AreCounts (G.graph game.now) told.1.items) }
+    {
         let Columns {
             entries,
             waits,
@@ -78,6 +94,7 @@ impl<'g, G: Game> Rounds<'g, G> {
             lost,
             lost_due,
             won_due,
+            counts,
         } = begin(alloc, game)?;
         let blocks = (game.size() as usize + (BLOCK - 1)) / BLOCK;
         let posted = vec![in alloc; false; blocks]?;
@@ -85,7 +102,7 @@ impl<'g, G: Game> Rounds<'g, G> {
         let news = vec![in alloc; true; parts]?;
         let coming = vec![in alloc; false; parts]?;
         let marks = vec![in alloc; u64::MAX; parts]?;
-        Ok(Rounds {
+        let rounds = Rounds {
             game,
             limit,
             round: 0,
@@ -100,7 +117,8 @@ impl<'g, G: Game> Rounds<'g, G> {
             lost,
             lost_due,
             won_due,
-        })
+        };
+        Ok((rounds, counts))
     }
 
     /// The round, from 0.

@@ -1,5 +1,6 @@
 //! A whole game by one worker.
 ghost use Rattle.std.specs.Prelude.{◌≡◌, ◌≢◌, ◌≤◌, true, length, IfOk, OnOk};
+ghost use Rattle.egt_graph.specs.Counts.{AreCounts};
 ghost use Rattle.egt_graph.specs.Value.{AreRanks, SomeAbove};
 ghost use Rattle.egt_graph.specs.Rounds.{AllPosted, State};
 ghost use Rattle.egt_graph.specs.declared.answer.Phase.TheVariants.{Running};
@@ -58,7 +59,23 @@ pub fn solve<G: Game>(alloc: Global, game: &G, limit: u16) -> Result<Ranks, Solv
     ensures ok { IfOk result (AreRanks (G.graph game.now) limit) }
     ensures too_deep { result ≡ Err SolveFault.TooDeep → SomeAbove (G.graph game.now) limit }
 {
-    let mut rounds = Rounds::new(alloc, game, limit)?;
+    let (ranks, _counts) = solve_and_count(alloc, game, limit)?;
+    Ok(ranks)
+}
+
+/// What `solve` answers, with a byte a number: how many moves the node has, where none of them leaves the game, and else
+/// [`UNTOLD`](crate::UNTOLD). A game with the same moves need not count them again.
+pub fn solve_and_count<G: Game>(
+    alloc: Global,
+    game: &G,
+    limit: u16,
+) -> Result<(Ranks, Vec<u8>), SolveFault>
+    requires { limit ≤ 32000 }
+    ensures ok { IfOk result (λ told. AreRanks (G.graph game.now) limit told.0) }
+    ensures counts { IfOk result (λ told. AreCounts (G.graph game.now) told.1.items) }
+    ensures too_deep { result ≡ Err SolveFault.TooDeep → SomeAbove (G.graph game.now) limit }
+{
+    let (mut rounds, counts) = Rounds::counted(alloc, game, limit)?;
     'rounds: loop {
         post_all(alloc, &mut rounds)?;
         match rounds.close() {
@@ -69,7 +86,7 @@ pub fn solve<G: Game>(alloc: Global, game: &G, limit: u16) -> Result<Ranks, Solv
         }
     }
     match rounds.into_ranks() {
-        Ok(ranks) => Ok(ranks),
+        Ok(ranks) => Ok((ranks, counts)),
         Err(_rounds) => unreachable!(),
     }
 }

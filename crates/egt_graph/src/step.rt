@@ -181,7 +181,7 @@ pub(crate) fn fall_due(
     mark_wins(entries, coming, losses, round + 1);
     take_back(entries, waits, coming, wins, round + 1);
     count_down(later, wins);
-    any_open(entries, waits, later, lost, round + 1)
+    any_open(entries, waits, later, lost, coming, round + 1)
 }
 
 /// Are all flags set?

@@ -1,6 +1,6 @@
 use Rattle.std.proofs.Common.{◌≡◌, ◌-◌, ◌≤◌}
 use Rattle.egt_graph.specs.declared.answer.Phase.TheVariants.{Running}
-use Rattle.egt_graph.proofs.solver.solve.Given as goal
+use Rattle.egt_graph.proofs.solver.solve_and_count.Given as goal
 
 abbrev pub invariant-rounds : goal.invariant-rounds
 invariant-rounds g l = record {
