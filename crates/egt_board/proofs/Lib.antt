@@ -30,3 +30,5 @@ pub mod Turns
 pub mod TurnMirrors
 pub mod SettledForms
 pub mod ManCounts
+pub mod TouchingKings
+pub mod BothSides

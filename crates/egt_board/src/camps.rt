@@ -28,9 +28,10 @@ impl Position {
     pub fn camps(&self) -> Camps
         ensures { AreCamps self.now result }
     {
+        let own = self.of(self.side());
         Camps {
-            own: self.of(self.side()),
-            enemy: self.of(self.side().other()),
+            own,
+            enemy: self.board().occupied().without(own),
         }
     }
 }

@@ -3,7 +3,7 @@
 ghost use Rattle.std.specs.Prelude.{◌≡◌, ◌≢◌, ℕ, ◌<◌, ◌↔◌};
 ghost use Rattle.std.specs.FinMap as map;
 ghost use Rattle.std.specs.Int.{bit_at};
-ghost use Rattle.egt_board.specs.Attack.{IsAttacked, AttacksFrom};
+ghost use Rattle.egt_board.specs.Attack.{IsAttacked, AttacksFrom, king_of};
 ghost use Rattle.egt_board.specs.Camps.{IsOccupied};
 ghost use Rattle.egt_board.specs.Gait.{Reaches};
 ghost use Rattle.egt_board.specs.Placement.{Placement, Stands, IsFree};
@@ -120,6 +120,13 @@ impl Board {
 pub fn attacks_pass_over_no_occupant()
     ensures { (men : Placement) (t : ℕ) (side : Side) (occupant : Man) → occupant.side ≢ side
         → IsAttacked (map.insert men t occupant) t side ↔ IsAttacked men t side }
+{}
+
+/// A king attacks another's square exactly where that one attacks his: kings are next to each other or not. This function does nothing: a
+/// caller calls it to know what it ensures.
+pub fn kings_attack_each_other()
+    ensures { (men others : Placement) (side other : Side) (s t : ℕ) → s < 64
+        → Reaches (IsFree men) (king_of side) s t → Reaches (IsFree others) (king_of other) t s }
 {}
 
 /// Whether a man attacks a square does not depend on what stands there. This function does nothing: a caller calls it

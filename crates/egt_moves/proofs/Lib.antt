@@ -21,6 +21,7 @@ pub mod Choosing
 pub mod Growing
 pub mod Walking
 pub mod SafeGoals
+pub mod LoneKing
 pub mod Sticking
 pub mod Ending
 pub mod Trying

@@ -1,5 +1,5 @@
 //! The squares to which legal moves go: FIDE Laws of Chess 2023, articles 3.1 to 3.9.
-ghost use Rattle.std.specs.Prelude.{◌≡◌, ◌≢◌, ℕ, ◌<◌, ◌≤◌, ◌↔◌, Some, IfSome, IfNone};
+ghost use Rattle.std.specs.Prelude.{◌≡◌, ◌≢◌, ℕ, ◌<◌, ◌≤◌, ◌↔◌, Some, IsTrue, IfSome, IfNone};
 ghost use Rattle.std.specs.FinMap as map;
 ghost use Rattle.egt_board.specs.Attack.{IsAttacked, IsInCheck};
 ghost use Rattle.egt_board.specs.Camps.{AreCamps};
@@ -16,7 +16,7 @@ ghost use Rattle.egt_moves.specs.Room.{most_goals};
 ghost use Rattle.egt_moves.specs.Targets.{IsLegalTarget, IsSafeGoal};
 
 use crate::going::{is_safe, targets};
-use egt_board::safety::attacks_pass_over_no_occupant;
+use egt_board::safety::{attacks_pass_over_no_occupant, kings_attack_each_other};
 use egt_board::{Camps, Kind, Man, Position, Square, SquareSet};
 
 /// The squares that the enemy attacks once the man on `from`, one of the side to move, is lifted.
@@ -32,15 +32,28 @@ fn danger(position: &Position, camps: Camps, from: Square) -> SquareSet
         .danger_without(enemy, from, camps.occupied())
 }
 
-/// The squares to which this man, lifted from `from`, may come so that the enemy does not attack `king`.
+/// Is this the only square of the camp?
+fn is_lone(camp: SquareSet, king: Square) -> bool
+    ensures { IsTrue result → (t : ℕ) → Has camp t → t ≡ king }
+{
+    camp.less(king).is_empty()
+}
+
+/// The squares to which this man, lifted from `from`, may come so that the enemy does not attack `king`: all of them where the enemy has
+/// his king alone.
 fn shelter(position: &Position, camps: Camps, man: Man, from: Square, king: Square) -> SquareSet
     requires camps { AreCamps position.now camps }
     requires stands { Stands position.now.men from man }
     requires mine { man.side ≡ position.now.side }
+    requires home { IsKingOn position.now.men position.now.side king }
     ensures kept { (t : ℕ) → t < 64 → Has result t ↔ IsKeptFrom (map.remove position.now.men from) t man king (other_side position.now.side) }
     ensures admissible { IsAdmissible position.now }
 {
     let enemy = position.side().other();
+    if is_lone(camps.enemy, position.king(enemy)) {
+        kings_attack_each_other();
+        return SquareSet::ALL;
+    }
     position
         .board()
         .shelter_without(king, enemy, from, camps.occupied())

@@ -1,0 +1,53 @@
+-- The men of the one side are those that are not the other's.
+use Rattle.std.proofs.Common.{◌≡◌, ◌↔◌, ◌⊎◌, ℕ, ◌-◌, Some, None, Option, min, arith, refl, sym, ap, ◌∙◌, inl, inr}
+use Rattle.std.specs.Int.{bit_at}
+use Rattle.std.specs.FinMap as map
+use Rattle.std.proofs.lemmas.Bool.{cases_eq}
+use Rattle.std.proofs.lemmas.Nat.Bits.{bit_at-lt}
+use Rattle.egt_board.specs.declared.man.Side.{Side}
+use Rattle.egt_board.specs.declared.man.Side.TheVariants.{White, Black}
+use Rattle.egt_board.specs.declared.man.Man.{Man}
+use Rattle.egt_board.specs.Man.{other_side}
+use Rattle.egt_board.specs.Placement.{Placement, Stands, IsFree, IsHeld, one_man}
+
+-- a man is of the one side or of the other, and not of both
+side_or_other : (a b : Side) → (a ≡ b) ⊎ (a ≡ other_side b)
+side_or_other White White = inl refl
+side_or_other White Black = inr refl
+side_or_other Black White = inr refl
+side_or_other Black Black = inl refl
+
+not_both_sides : (b : Side) → b ≡ other_side b → ⊥
+not_both_sides White e = absurd (cc)
+not_both_sides Black e = absurd (cc)
+
+stands_there : (men : Placement) (t : ℕ) → IsFree men t ⊎ ((man : Man) × Stands men t man)
+stands_there men t = of_option (map.get men t) refl
+  where
+    of_option : (o : Option Man) → map.get men t ≡ o → IsFree men t ⊎ ((man : Man) × Stands men t man)
+    of_option None e = inl e
+    of_option (Some man) e = inr (man, e)
+
+pub other_held : (men : Placement) (side : Side) (all own enemy t : ℕ) → (bit_at all t ≡ 0) ↔ IsFree men t → (bit_at own t ≡ 1) ↔ IsHeld men t side
+    → bit_at enemy t ≡ min (bit_at all t) (1 - bit_at own t) → (bit_at enemy t ≡ 1) ↔ IsHeld men t (other_side side)
+other_held men side all own enemy t free held is = (there, back)
+  where
+    there : bit_at enemy t ≡ 1 → IsHeld men t (other_side side)
+    there has = elim (stands_there men t) [
+      | inl none ↦ let zero = free.1 none in absurd (omega (arith, has, is, zero))
+      | inr some ↦ elim (side_or_other some.0.side side) [
+        | inl mine ↦ let one = held.1 (record { man = some.0; stands = some.1; theirs = mine }) in absurd (omega (arith, has, is, one))
+        | inr theirs ↦ record { man = some.0; stands = some.1; theirs = theirs }
+      ]
+    ]
+
+    back : IsHeld men t (other_side side) → bit_at enemy t ≡ 1
+    back h = elim (cases_eq (bit_at all t) 0) [
+      | inl zero ↦ let none = free.0 zero in let both : None ≡ Some h.man = sym none ∙ h.stands in absurd (cc)
+      | inr some ↦ elim (cases_eq (bit_at own t) 1) [
+        | inl one ↦
+            let mine = held.0 one in
+            absurd (not_both_sides side (sym mine.theirs ∙ ap (λ (m : Man). m.side) (one_man men t _ _ mine.stands h.stands) ∙ h.theirs))
+        | inr other ↦ omega (arith, is, some, other, bit_at-lt all t, bit_at-lt own t)
+      ]
+    ]

@@ -1,0 +1,42 @@
+-- Kings attack each other or neither does.
+use Rattle.std.proofs.Common.{ℕ, ◌<◌, arith, sym, subst, inl, inr}
+use Rattle.egt_board.specs.declared.man.Side.{Side}
+use Rattle.egt_board.specs.declared.step.Step.{Step}
+use Rattle.egt_board.specs.Attack.{king_of}
+use Rattle.egt_board.specs.Gait.{Rides, Reaches}
+use Rattle.egt_board.specs.Step.{Away}
+
+-- a king goes one step
+once : (F : ℕ → Type 0) (s t : ℕ) (d : Step) → Rides F 1 s t d → Away d 1 s t
+once F s t d r = subst (λ n. Away d n s t) (omega (arith, r.moves, r.within)) r.away
+
+ride : (F : ℕ → Type 0) (s t : ℕ) (d : Step) → Away d 1 s t → Rides F 1 s t d
+ride F s t d away = record { count = 1; moves = omega arith; within = omega arith; away = away; clear = λ k u some less on. absurd (omega (arith, some, less)) }
+
+-- each of a king's steps leads back by another
+pub reached_back : (F G : ℕ → Type 0) (side other : Side) (s t : ℕ) → s < 64 → Reaches F (king_of side) s t → Reaches G (king_of other) t s
+reached_back F G side other s t s_in (inl r) =
+    let a = once F s t _ r in
+    inr (inl (ride G t s _ (record { on_board = s_in; across = a.across; along = sym a.along })))
+reached_back F G side other s t s_in (inr (inl r)) =
+    let a = once F s t _ r in
+    inl (ride G t s _ (record { on_board = s_in; across = a.across; along = sym a.along }))
+reached_back F G side other s t s_in (inr (inr (inl r))) =
+    let a = once F s t _ r in
+    inr (inr (inr (inl (ride G t s _ (record { on_board = s_in; across = sym a.across; along = a.along })))))
+reached_back F G side other s t s_in (inr (inr (inr (inl r)))) =
+    let a = once F s t _ r in
+    inr (inr (inl (ride G t s _ (record { on_board = s_in; across = sym a.across; along = a.along }))))
+reached_back F G side other s t s_in (inr (inr (inr (inr (inl r))))) =
+    let a = once F s t _ r in
+    inr (inr (inr (inr (inr (inr (inr (inl (ride G t s _ (record { on_board = s_in; across = a.across; along = a.along })))))))))
+reached_back F G side other s t s_in (inr (inr (inr (inr (inr (inl r)))))) =
+    let a = once F s t _ r in
+    inr (inr (inr (inr (inr (inr (inl (ride G t s _ (record { on_board = s_in; across = a.across; along = a.along }))))))))
+reached_back F G side other s t s_in (inr (inr (inr (inr (inr (inr (inl r))))))) =
+    let a = once F s t _ r in
+    inr (inr (inr (inr (inr (inl (ride G t s _ (record { on_board = s_in; across = a.across; along = a.along })))))))
+reached_back F G side other s t s_in (inr (inr (inr (inr (inr (inr (inr (inl r)))))))) =
+    let a = once F s t _ r in
+    inr (inr (inr (inr (inl (ride G t s _ (record { on_board = s_in; across = a.across; along = a.along }))))))
+reached_back F G side other s t s_in (inr (inr (inr (inr (inr (inr (inr (inr none)))))))) = absurd none
