@@ -18,6 +18,7 @@ pub mod Classes
 pub mod Exists
 pub mod Splitting
 pub mod Decoded
+pub mod WithoutPawns
 pub mod TurnTable
 pub mod Standing
 pub mod Homing

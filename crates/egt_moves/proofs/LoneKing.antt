@@ -1,10 +1,10 @@
 -- A king alone attacks no king.
-use Rattle.std.proofs.Common.{◌≡◌, ◌≢◌, ◌↔◌, ℕ, ◌<◌, sym, ap, ◌∙◌, subst}
+use Rattle.std.proofs.Common.{◌≡◌, ◌≢◌, ℕ, ◌<◌, sym, ap, ◌∙◌, subst}
 use Rattle.std.specs.FinMap as map
 use Rattle.egt_board.specs.declared.man.Side.{Side}
 use Rattle.egt_board.specs.declared.man.Man.{Man}
 use Rattle.egt_board.specs.Man.{other_side}
-use Rattle.egt_board.specs.Attack.{king_of, IsAttacked, IsInCheck}
+use Rattle.egt_board.specs.Attack.{king_of}
 use Rattle.egt_board.specs.Camps.{AreCamps}
 use Rattle.egt_board.specs.Gait.{Reaches}
 use Rattle.egt_board.specs.Placement.{Placement, Stands, IsFree, one_man, get-insert_same, get-insert_other, get-remove_same, get-remove_other}

@@ -1,0 +1,45 @@
+//! Whose pawns may move.
+ghost use Rattle.std.specs.Prelude.{◌≡◌, ℕ, IsFalse};
+ghost use Rattle.egt_board.specs.Pawn.{pawn_of};
+ghost use Rattle.egt_board.specs.Placement.{Stands};
+ghost use Rattle.egt_board.specs.Setup.{Setup};
+ghost use Rattle.egt_board.specs.declared.man.Kind.TheVariants.{P};
+ghost use Rattle.egt_class.specs.Material.{men_in};
+ghost use Rattle.egt_index.specs.Code.{Spells};
+
+use crate::spelling::ends;
+use egt_board::Side;
+use egt_class::Class;
+
+/// Whether White has pawns, in order of the classes' numbers.
+static WHITE_PAWNS: [bool; 36] = [
+    false, false, false, false, false, true, false, false, false, false, false, false, false,
+    false, false, false, false, false, false, false, false, false, false, false, false, false,
+    true, true, true, true, false, false, false, false, true, true,
+];
+
+/// Whether Black has pawns, in order of the classes' numbers.
+static BLACK_PAWNS: [bool; 36] = [
+    false, false, false, false, false, false, false, false, false, false, false, false, false,
+    false, false, false, false, false, false, false, false, false, false, false, false, false,
+    false, false, false, false, true, true, true, true, false, true,
+];
+
+/// Whether that side has pawns in the class.
+fn side_has_pawns(class: Class, side: Side) -> bool
+    ensures { IsFalse result → men_in class side P ≡ 0 }
+{
+    let number = usize::from(class.number());
+    match side {
+        Side::White => WHITE_PAWNS[number],
+        Side::Black => BLACK_PAWNS[number],
+    }
+}
+
+/// Whether the side to move has pawns in a position that the code of the class spells.
+pub fn may_move_pawn(class: Class, code: u32) -> bool
+    ensures { IsFalse result → (p : Setup) → Spells class code p → (s : ℕ) → ¬ Stands p.men s (pawn_of p.side) }
+{
+    let (_men, side, _passed) = ends(class, code);
+    side_has_pawns(class, side)
+}
