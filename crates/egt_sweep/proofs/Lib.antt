@@ -20,5 +20,6 @@ pub mod Counting
 pub mod Tallying
 pub mod Led
 pub mod Starting
+pub mod Telling
 pub mod Returning
 pub mod Gathering

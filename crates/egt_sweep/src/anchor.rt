@@ -33,10 +33,21 @@ fn is_anchor(class: Class, position: &Position, square: Square) -> bool
     is_alone(position, man, square)
 }
 
-/// Whether some man of the side that waits is kept in place by no mirror, so that no two moves lead to one index.
+/// Whether the king of the side that waits, who is alone of his kind, is on no axis.
+fn is_king_anchor(class: Class, position: &Position) -> bool
+    ensures { IsTrue result → HasAnchor class position.now }
+{
+    let waiting = position.side().other();
+    !is_on_axis(class, position.king(waiting))
+}
+
+/// Whether some man of the side that waits is kept in place by no mirror, so that no two moves lead to one index. Most often its king is.
 pub(crate) fn has_anchor(class: Class, position: &Position) -> bool
     ensures { IsTrue result → HasAnchor class position.now }
 {
+    if is_king_anchor(class, position) {
+        return true;
+    }
     let mut rest = position.of(position.side().other());
     while let Some(square) = rest.pop_first() {
         if is_anchor(class, position, square) {

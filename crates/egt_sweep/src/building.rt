@@ -5,6 +5,7 @@ ghost use Rattle.egt_table.specs.declared.column.Column.TheVariants.{Mate, Zeroi
 ghost use Rattle.egt_check.specs.Tables.{table_at, beside, HasChildren};
 ghost use Rattle.egt_sweep.specs.Built.{IsBuilt, IsNotBuilt, HasNoFalseChild};
 ghost use Rattle.egt_sweep.specs.ClassGame.{class_game};
+ghost use Rattle.egt_sweep.specs.Counts.{CountsMoves};
 ghost use Rattle.egt_sweep.specs.MateColumn.{mate_table};
 
 use crate::build_fault::BuildFault;
@@ -15,7 +16,7 @@ use crate::zero_game::ZeroGame;
 use egt_check::Library;
 use egt_check::laws::rules_are_kept_by_true_tables_alone;
 use egt_class::{Class, children};
-use egt_graph::{Ranks, SolveFault, solve};
+use egt_graph::{Ranks, SolveFault, solve, solve_and_count};
 use egt_moves::laws::one_value;
 use egt_table::Table;
 use std::alloc::Global;
@@ -30,16 +31,17 @@ fn children_are_true(class: Class, library: &Library)
     }
 }
 
-/// The ranks of the class's game of mates.
+/// The ranks of the class's game of mates, and what is told of the moves of its nodes.
 pub(crate) fn mate_ranks(
     alloc: Global,
     class: Class,
     library: &Library,
     limit: u16,
-) -> Result<Ranks, BuildFault>
+) -> Result<(Ranks, Vec<u8>), BuildFault>
     requires { limit ≤ 32000 }
     ensures children { IfOk result (λ _. HasChildren (table_at library.now) class) }
-    ensures ranks { IfOk result (AreRanks (class_game (table_at library.now) Mate class) limit) }
+    ensures ranks { IfOk result (λ told. AreRanks (class_game (table_at library.now) Mate class) limit told.0) }
+    ensures counts { IfOk result (λ told. CountsMoves (table_at library.now) class told.1.items) }
     ensures refused { IfErr result (IsNotBuilt (table_at library.now) class limit) }
 {
     laws();
@@ -50,8 +52,8 @@ pub(crate) fn mate_ranks(
         Ok(game) => game,
         Err(missing) => return Err(BuildFault::from(missing)),
     };
-    match solve(alloc, &game, limit) {
-        Ok(ranks) => Ok(ranks),
+    match solve_and_count(alloc, &game, limit) {
+        Ok(told) => Ok(told),
         Err(SolveFault::NoMemory) => Err(BuildFault::NoMemory),
         Err(SolveFault::TooDeep) => Err(BuildFault::TooDeep(limit)),
     }
@@ -63,11 +65,13 @@ fn zeroing_ranks<'x>(
     class: Class,
     library: &'x Library,
     mates: &'x Ranks,
+    counts: &'x [u8],
     limit: u16,
 ) -> Result<Ranks, BuildFault>
     requires limit { limit ≤ 32000 }
     requires children { HasChildren (table_at library.now) class }
     requires mates { AreRanks (class_game (table_at library.now) Mate class) limit mates.now }
+    requires counts { CountsMoves (table_at library.now) class counts.now }
     ensures ranks { IfOk result (AreRanks (class_game (beside (table_at library.now) (mate_table class mates.now)) Zeroing class) limit) }
     ensures refused { IfErr result (IsNotBuilt (table_at library.now) class limit) }
 {
@@ -76,7 +80,7 @@ fn zeroing_ranks<'x>(
     zeroing_ranks_are_distances();
     children_are_true(class, library);
     let _number = class.number();
-    let game = match ZeroGame::new(class, library, mates) {
+    let game = match ZeroGame::counted(class, library, mates, counts) {
         Ok(game) => game,
         Err(missing) => return Err(BuildFault::from(missing)),
     };
@@ -112,8 +116,8 @@ pub fn build(
     one_value();
     children_are_true(class, library);
     let _number = class.number();
-    let mate = mate_ranks(alloc, class, library, limit)?;
-    let zeroing = zeroing_ranks(alloc, class, library, &mate, limit)?;
+    let (mate, counts) = mate_ranks(alloc, class, library, limit)?;
+    let zeroing = zeroing_ranks(alloc, class, library, &mate, &counts, limit)?;
     match Table::from_ranks(class, mate, zeroing) {
         Ok(table) => Ok(table),
         Err(_columns) => unreachable!(),

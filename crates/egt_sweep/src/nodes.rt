@@ -1,10 +1,14 @@
 //! The nodes of a class's game.
-ghost use Rattle.std.specs.Prelude.{◌≡◌, ◌+◌, ◌%◌, ◌/◌, ◌<◌, ◌≤◌, ◌↔◌, ℕ, Some, [], length, not, false, true, IsTrue, IsFalse};
+ghost use Rattle.std.specs.Prelude.{◌≡◌, ◌+◌, ◌%◌, ◌/◌, ◌<◌, ◌≤◌, ◌↔◌, ℕ, Some, IfSome, [], length, slice_index, not, false, true, IsTrue, IsFalse};
 ghost use Rattle.std.specs.Int.{bit_at};
 ghost use Rattle.std.specs.List.{Contains};
 ghost use Rattle.std.specs.Option.{is_some};
 ghost use Rattle.egt_board.specs.Decided.{tells};
+ghost use Rattle.egt_board.specs.Pawn.{pawn_of};
+ghost use Rattle.egt_board.specs.Placement.{Stands};
+ghost use Rattle.egt_board.specs.Setup.{Setup};
 ghost use Rattle.egt_board.specs.declared.square_set.SquareSet.{SquareSet};
+ghost use Rattle.egt_index.specs.Code.{Spells};
 ghost use Rattle.egt_index.specs.Row.{row_len, IsRowOf};
 ghost use Rattle.egt_index.specs.Size.{size_of};
 ghost use Rattle.egt_moves.specs.DecidedMoves.{decided_checkmate};
@@ -16,6 +20,7 @@ ghost use Rattle.egt_table.specs.declared.column.Column.TheVariants.{Zeroing};
 ghost use Rattle.egt_check.specs.Tables.{table_at, beside, HasChildren};
 ghost use Rattle.egt_sweep.specs.Aiming.{column_of, game_of, known, KnowsOwn};
 ghost use Rattle.egt_sweep.specs.ClassGame.{class_game};
+ghost use Rattle.egt_sweep.specs.Counts.{CountsMoves};
 ghost use Rattle.egt_sweep.specs.Edges.{IsAt};
 ghost use Rattle.egt_sweep.specs.MateColumn.{mate_table, IsMateColumn};
 ghost use Rattle.egt_sweep.specs.Nodes.{position_at, is_mated, connects, exits_at};
@@ -32,8 +37,8 @@ use arrayvec::ArrayVec;
 use egt_board::Position;
 use egt_check::Library;
 use egt_class::Class;
-use egt_graph::{Exit, Ranks, Start};
-use egt_index::{Row, indexed, position, position_of, row_of, size};
+use egt_graph::{Exit, Ranks, Start, UNTOLD};
+use egt_index::{Row, indexed, may_move_pawn, position, position_of, row_of, size};
 use egt_moves::{Standing, standing};
 use egt_table::Column;
 
@@ -278,17 +283,37 @@ pub(crate) fn start_two(
     )
 }
 
+/// To how many nodes moves lead in both games, where that was told: all of them stay in the class, and none is a pawn's, so none zeroes.
+#[inline(always)]
+fn told_degree(class: Class, counts: &[u8], index: u32) -> Option<u8>
+    ensures count { IfSome result (λ n. (index < length counts.now) × (n ≡ slice_index counts.now index) × (0 < n) × (n < 255)) }
+    ensures pawns { IfSome result (λ _. (p : Setup) → Spells class index p → (s : ℕ) → ¬ Stands p.men s (pawn_of p.side)) }
+{
+    let i = index as usize;
+    if i >= counts.len() {
+        return None;
+    }
+    let count = counts[i];
+    if count == 0 || count == UNTOLD || may_move_pawn(class, index) {
+        return None;
+    }
+    Some(count)
+}
+
 /// The same in the game of zeroing moves, where the mate ranks of the class tell which numbers are nodes. So nothing is asked of a number
-/// that no position has, and nothing is tested of the others: a row, which is tested, costs more than it spares.
+/// that no position has, and nothing is tested of the others: a row, which is tested, costs more than it spares. Of most nodes the game of
+/// mates has told the moves already.
 #[inline(always)]
 pub(crate) fn start_by_ranks(
     mates: &Ranks,
+    counts: &[u8],
     class: Class,
     library: &Library,
     index: u32,
     exits: &mut ArrayVec<Exit, 64>,
 ) -> Option<Start>
     requires below { index < size_of class }
+    requires counts { CountsMoves (table_at library.now) class counts.now }
     requires knows { IsMateColumn class mates.now }
     requires children { HasChildren (table_at library.now) class }
     ensures { IsStart (class_game (beside (table_at library.now) (mate_table class mates.now)) Zeroing class) index result exits.new.items }
@@ -296,6 +321,12 @@ pub(crate) fn start_by_ranks(
     laws();
     let _number = class.number();
     exits.clear();
+    if let Some(degree) = told_degree(class, counts, index) {
+        return Some(Start {
+            mated: false,
+            degree,
+        });
+    }
     if mates.entries()[index as usize] == 0 {
         return None;
     }

@@ -4,6 +4,7 @@ ghost use Rattle.std.specs.Option.{is_some};
 ghost use Rattle.egt_check.specs.Tables.{table_at, beside, HasChildren};
 ghost use Rattle.egt_table.specs.declared.column.Column.TheVariants.{Zeroing};
 ghost use Rattle.egt_sweep.specs.ClassGame.{class_game, class_game_is_lawful};
+ghost use Rattle.egt_sweep.specs.Counts.{CountsMoves};
 ghost use Rattle.egt_sweep.specs.MateColumn.{mate_table, IsMateColumn};
 
 use crate::aim::Aim;
@@ -26,8 +27,11 @@ pub struct ZeroGame<'l> {
     class: Class,
     library: &'l Library,
     mates: &'l Ranks,
+    /// What the game of mates has told of its nodes' moves; it may be empty.
+    counts: &'l [u8],
     ghost children: { HasChildren (table_at library.now) class },
     ghost shows: { IsMateColumn class mates.now },
+    ghost told: { CountsMoves (table_at library.now) class counts.now },
 }
 
 impl<'l> ZeroGame<'l> {
@@ -53,6 +57,24 @@ impl<'l> ZeroGame<'l> {
         ensures mates { IfOk result (λ g. g.mates.now ≡ mates.now) }
         ensures missing { IfErr result (λ missing. IsFirstMissing (table_at library.now) class missing.class) }
     {
+        ZeroGame::counted(class, library, mates, &[])
+    }
+
+    /// The same, with what the game of mates has told of its nodes' moves.
+    pub(crate) fn counted(
+        class: Class,
+        library: &'l Library,
+        mates: &'l Ranks,
+        counts: &'l [u8],
+    ) -> Result<ZeroGame<'l>, Missing>
+        requires ranks { HasChildren (table_at library.now) class → AreMateRanks (table_at library.now) class mates.now }
+        requires counts { CountsMoves (table_at library.now) class counts.now }
+        ensures exact { IsOk result ↔ HasChildren (table_at library.now) class }
+        ensures class { IfOk result (λ g. g.class ≡ class) }
+        ensures library { IfOk result (λ g. g.library.now ≡ library.now) }
+        ensures mates { IfOk result (λ g. g.mates.now ≡ mates.now) }
+        ensures missing { IfErr result (λ missing. IsFirstMissing (table_at library.now) class missing.class) }
+    {
         if let Some(child) = first_missing(class, library) {
             return Err(Missing { class: child });
         }
@@ -60,6 +82,7 @@ impl<'l> ZeroGame<'l> {
             class,
             library,
             mates,
+            counts,
         })
     }
 }
@@ -109,6 +132,6 @@ impl Game for ZeroGame<'_> {
 
     #[inline(always)]
     fn start(&self, i: u32, exits: &mut ArrayVec<Exit, 64>) -> Option<Start> {
-        start_by_ranks(self.mates, self.class, self.library, i, exits)
+        start_by_ranks(self.mates, self.counts, self.class, self.library, i, exits)
     }
 }

@@ -1,4 +1,11 @@
-use Rattle.std.proofs.Common.{◌≢◌, ℕ, List, slice_index, subst}
+use Rattle.std.proofs.Common.{◌≢◌, ◌<◌, ℕ, false, List, Some, slice_index, sym, subst}
+use Rattle.egt_graph.specs.Counts.{IsCount}
+use Rattle.egt_graph.specs.Graph.{IsStart}
+use Rattle.egt_table.specs.declared.column.Column.TheVariants.{Mate, Zeroing}
+use Rattle.egt_check.specs.Tables.{table_at, beside}
+use Rattle.egt_sweep.specs.ClassGame.{class_game}
+use Rattle.egt_sweep.specs.MateColumn.{mate_table}
+use Rattle.egt_sweep.proofs.Telling.{told_start}
 use Rattle.egt_sweep.proofs.Standing.{none_missing}
 use Rattle.egt_sweep.proofs.Starting.{node_told}
 use Rattle.egt_sweep.proofs.nodes.start_by_ranks.Goals as goal
@@ -6,3 +13,13 @@ use Rattle.egt_sweep.proofs.nodes.start_by_ranks.Goals as goal
 pub position_of-position-requires : goal.position_of-position-requires
 position_of-position-requires c = λ void. none_missing c.laws.ensures c.args.class c.args.index void
     (node_told c.args.class c.args.index c.args.mates.now c.requires.knows c.requires.below (subst (λ (xs : List ℕ). slice_index xs c.args.index ≢ 0) c.entries.ensures c.if-entries-index-eq0.false))
+
+pub returns-in-Some : goal.returns-in-Some
+returns-in-Some c =
+    let class = c.args.class in
+    let below = subst (λ (n : ℕ). n < 36) c.number-number.ensures.value c.number-number.ensures.below in
+    let told = c.in-Some.ensures.count in
+    subst (IsStart (class_game (beside (table_at c.args.library.now) (mate_table class c.args.mates.now)) Zeroing class) c.args.index (Some (record { mated = false; degree = c.in-Some.degree })))
+    (sym c.clear.ensures)
+    (told_start c.laws.ensures (table_at c.args.library.now) (beside (table_at c.args.library.now) (mate_table class c.args.mates.now)) class c.args.index c.in-Some.degree below c.requires.below
+    (subst (IsCount (class_game (table_at c.args.library.now) Mate class) c.args.index) (sym told.1) (c.requires.counts c.args.index told.0)) told.3 told.2 c.in-Some.ensures.pawns)

@@ -1,0 +1,146 @@
+-- Where all moves stay in the class and none is a pawn's, none zeroes: both games have the same edges there, and no exits.
+use Rattle.std.proofs.Common.{◌≡◌, if◌then◌else◌, ℕ, ◌<◌, ◌≤◌, ◌↔◌, Bool, true, false, not, List, [], ◌∷◌, length, Option, Some, None, IsFalse, arith, refl, sym, ap, ◌∙◌, subst, inl, inr}
+use Rattle.std.proofs.lemmas.Bool.{false≢true}
+use Rattle.std.specs.List.{flat_map}
+use Rattle.std.specs.Option.{is_some, option_to_list}
+use Rattle.egt_board.specs.Pawn.{pawn_of}
+use Rattle.egt_board.specs.Placement.{Stands, one_man}
+use Rattle.egt_board.specs.Setup.{Setup, IsAdmissible}
+use Rattle.egt_board.specs.declared.man.Kind.{Kind}
+use Rattle.egt_board.specs.declared.man.Man.{Man}
+use Rattle.egt_board.specs.declared.man.Side.{Side}
+use Rattle.egt_class.specs.Membership.{IsOf}
+use Rattle.egt_index.specs.Code.{Spells}
+use Rattle.egt_index.specs.Size.{size_of}
+use Rattle.egt_moves.specs.Chess.{Zeroes}
+use Rattle.egt_moves.specs.Legal.{Leads}
+use Rattle.egt_moves.specs.Moves.{moves_of, played}
+use Rattle.egt_moves.specs.declared.chess_move.Move.{Move}
+use Rattle.egt_graph.specs.Counts.{IsCount}
+use Rattle.egt_graph.specs.Graph.{IsStart}
+use Rattle.egt_graph.specs.Passing.{passing_below, passing_is, passing_has, passing_passes, passing_is_below, passing_ascends}
+use Rattle.egt_table.specs.declared.column.Column.TheVariants.{Mate, Zeroing}
+use Rattle.egt_check.specs.Tables.{Tables}
+use Rattle.egt_sweep.specs.ClassGame.{class_game, class_game_is_lawful}
+use Rattle.egt_sweep.specs.Edges.{IsAt, GoesOn, Connects}
+use Rattle.egt_sweep.specs.Laws.{Laws}
+use Rattle.egt_sweep.specs.Nodes.{position_at, is_mated, connects, exits_at, exits_from, exits_by, exit_by, exit_of, shown_below, goes_on}
+use Rattle.egt_sweep.proofs.Linked.{position_is, goes_is, connects_is}
+use Rattle.egt_sweep.proofs.Members.{In, contains_in, given_in}
+use Rattle.egt_sweep.proofs.OutOfClass.{nothing_told}
+
+-- no pawn of the side to move stands where the code spells a position
+abbrev pub MovesNoPawn : ℕ → ℕ → Type 0
+MovesNoPawn c i = (p : Setup) → Spells c i p → (s : ℕ) → Stands p.men s (pawn_of p.side) → ⊥
+
+there : (o : Option Setup) → not (is_some o) ≡ false → (p : Setup) × (o ≡ Some p)
+there None e = absurd (false≢true (sym e))
+there (Some p) e = (p, refl)
+
+nothing_of : {X Y : Type 0} (f : X → List Y) → ((x : X) → f x ≡ []) → (xs : List X) → flat_map f xs ≡ []
+nothing_of f none [] = refl
+nothing_of f none (x ∷ xs) = rw (none x) (nothing_of f none xs)
+
+module _ (laws : Laws) (tables : Tables) (c i : ℕ) (below : c < 36) (p : Setup) (at : IsAt c i p) where
+  of_class : (flipped : Bool) × IsOf c flipped p
+  of_class = laws.indexed_class p c i at.spells.admissible at.index
+
+  -- a move without an exit stays in the class
+  stays : exits_at tables Mate c i ≡ [] → (m : Move) (q : Setup) → Leads p m q → GoesOn Mate c p m q
+  unfolding exits_at
+  stays none m q leads = of_test (goes_on Mate c p m q) refl
+    where
+      q_ok : IsAdmissible q
+      q_ok = laws.facts.step_admissible p q m at.spells.admissible leads
+
+      empty : exits_by tables Mate c p (moves_of p) ≡ []
+      empty = sym (ap (exits_from tables Mate c) ((position_is laws c i p).1 at)) ∙ none
+
+      of_test : (b : Bool) → goes_on Mate c p m q ≡ b → GoesOn Mate c p m q
+      of_test true e = (goes_is laws Mate c p q m q_ok).0 e
+      of_test false e =
+          let exit = exit_of Mate (shown_below tables 36 q) in
+          let here : exit_by tables Mate c p m (played p m) ≡ Some exit =
+          ap (exit_by tables Mate c p m) ((laws.played p q m).0 leads) ∙ ap (λ b. if b then None else Some exit) e in
+          let listed = contains_in m (moves_of p) ((laws.listed p m at.spells.admissible).1 (q, leads)) in
+          absurd (subst (In exit) empty (given_in (λ k. exit_by tables Mate c p k (played p k)) (moves_of p) m exit listed here))
+
+  -- and is no pawn's, so it does not zero
+  quiet : MovesNoPawn c i → (m : Move) (q : Setup) → Leads p m q → GoesOn Mate c p m q → Zeroes p m → ⊥
+  quiet no_pawn m q leads on (inl taken) =
+      let ok = laws.facts.step_admissible p q m at.spells.admissible leads in
+      let own = laws.indexed_class q c on.0 ok on.1 in
+      let other = laws.other_class p q m c of_class.0 below at.spells.admissible of_class.1 leads (inl (inl taken)) in
+      let less = laws.facts.child_below c other.0 below other.2 in
+      let same = laws.facts.one_class q c other.0 own.0 other.1 below (omega (arith, less, below)) own.1 other.3 in
+      omega (arith, less, same)
+  quiet no_pawn m q leads on (inr moved) =
+      let is : moved.man ≡ leads.man = one_man p.men m.from moved.man leads.man moved.stands leads.stands in
+      let pawn : leads.man ≡ pawn_of p.side = kind_of leads.man p.side leads.mine (ap (λ (x : Man). x.kind) (sym is) ∙ moved.pawn) in
+      no_pawn p at.spells m.from (leads.stands ∙ ap Some pawn)
+    where
+      kind_of : (man : Man) (side : Side) → man.side ≡ side → man.kind ≡ (pawn_of side).kind → man ≡ pawn_of side
+      kind_of man side e f = ap (λ (s : Side). record { side = s; kind = man.kind }) e ∙ ap (λ (k : Kind). record { side = side; kind = k }) f
+
+  same_edges : ((m : Move) (q : Setup) → Leads p m q → GoesOn Mate c p m q × (Zeroes p m → ⊥)) → (j : ℕ) → Connects Mate c i j ↔ Connects Zeroing c i j
+  same_edges all j = (
+    λ edge.
+        let e : edge.from ≡ p = laws.one_spelled c i edge.from p edge.at.spells at.spells in
+        record { from = p; at = at; move = edge.move; to = edge.to; leads = subst (λ x. Leads x edge.move edge.to) e edge.leads; on = (all edge.move edge.to (subst (λ x. Leads x edge.move edge.to) e edge.leads)).1; index = edge.index },
+    λ edge.
+        let e : edge.from ≡ p = laws.one_spelled c i edge.from p edge.at.spells at.spells in
+        record { from = p; at = at; move = edge.move; to = edge.to; leads = subst (λ x. Leads x edge.move edge.to) e edge.leads; on = (j, edge.index); index = edge.index },
+  )
+
+-- what is told of a node of the game of mates is what that of zeroing moves begins with
+pub told_start : (laws : Laws) (tables other : Tables) (c i n : ℕ) → c < 36 → i < size_of c → IsCount (class_game tables Mate c) i n → n < 255 → 0 < n → MovesNoPawn c i
+    → IsStart (class_game other Zeroing c) i (Some (record { mated = false; degree = n })) []
+unfolding exits_at
+told_start laws tables other c i n below in_range count told some no_pawn = record {
+  node = (
+    count_is.0,
+    sym not_mated,
+    sym (ap length edges ∙ count_is.1),
+    count_is.2,
+    sym (ap (exits_from other Zeroing c) (sym here) ∙ nothing_of (λ m. option_to_list (exit_by other Zeroing c p m (played p m))) (λ m. nothing_told laws other Zeroing c p m at.spells.admissible (λ q leads. (all m q leads).1)) (moves_of p)),
+  );
+  void = tt;
+}
+  where
+    count_is : IsFalse (not (is_some (position_at c i))) × (length (passing_below (size_of c) (λ j. connects Mate c i j)) ≡ n) × (n ≤ 64) × (exits_at tables Mate c i ≡ [])
+    count_is = count told
+
+    found : (p : Setup) × (position_at c i ≡ Some p)
+    found = there (position_at c i) count_is.0
+
+    p : Setup
+    p = found.0
+
+    here : Some p ≡ position_at c i
+    here = sym found.1
+
+    at : IsAt c i p
+    at = (position_is laws c i p).0 found.1
+
+    all : (m : Move) (q : Setup) → Leads p m q → GoesOn Mate c p m q × (Zeroes p m → ⊥)
+    all m q leads = let on = stays laws tables c i below p at count_is.3 m q leads in (on, quiet laws tables c i below p at no_pawn m q leads on)
+
+    edges : passing_below (size_of c) (λ j. connects Zeroing c i j) ≡ passing_below (size_of c) (λ j. connects Mate c i j)
+    edges =
+        let same = same_edges laws tables c i below p at all in
+        sym (passing_is (size_of c) (λ j. connects Zeroing c i j) (passing_below (size_of c) (λ j. connects Mate c i j)) (passing_ascends (size_of c) (λ j. connects Mate c i j))
+        (λ k has. (
+          passing_is_below (size_of c) (λ j. connects Mate c i j) k has,
+          (connects_is laws Zeroing c i k below).1 ((same k).0 ((connects_is laws Mate c i k below).0 (passing_passes (size_of c) (λ j. connects Mate c i j) k has))),
+        ))
+        (λ k lt is. passing_has (size_of c) (λ j. connects Mate c i j) k lt ((connects_is laws Mate c i k below).1 ((same k).1 ((connects_is laws Zeroing c i k below).0 is)))))
+
+    not_mated : is_mated (position_at c i) ≡ false
+    not_mated = of_test (is_mated (position_at c i)) refl
+      where
+        of_test : (b : Bool) → is_mated (position_at c i) ≡ b → is_mated (position_at c i) ≡ false
+        of_test false e = e
+        of_test true e =
+            let none = ((class_game_is_lawful tables Mate c).mate_ends i (record { in_range = in_range; not_void = count_is.0 }) e).0 in
+            let zero : 0 ≡ n = sym (ap length none) ∙ count_is.1 in
+            absurd (omega (arith, zero, some))
