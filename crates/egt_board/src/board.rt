@@ -245,16 +245,8 @@ impl Board {
         requires { map.len self.old < 4 }
         ensures { self.new ≡ map.insert self.old square man }
     {
-        let new = filled(square, man);
-        let after_first = greater(&new, &self.first);
-        let after_second = greater(&after_first, &self.second);
-        let after_third = greater(&after_second, &self.third);
-        *self = Board {
-            first: lesser(&new, &self.first),
-            second: lesser(&after_first, &self.second),
-            third: lesser(&after_second, &self.third),
-            fourth: lesser(&after_third, &self.fourth),
-        };
+        self.clear(square);
+        *self = self.with_man(square, man);
     }
 
     /// The board with the man on the square, which is free, where there are fewer than four men.

@@ -1,20 +1,29 @@
-use Rattle.std.proofs.Common.{[], ◌∷◌, Some, arith}
+use Rattle.std.proofs.Common.{◌≡◌, ℕ, ◌-◌, ◌≤◌, Bool, true, false, cond, arith, refl, sym, ap, ◌∙◌, inl, inr}
+use Rattle.std.specs.Cmp.{nat_cmp_total}
 use Rattle.std.specs.FinMap as map
-use Rattle.egt_board.specs.Board.{Slot}
-use Rattle.egt_board.proofs.Slots.{AreShown, shown, shown_with, with_four, placed_of, kept_of}
+use Rattle.std.proofs.lemmas.Bool.{cases_eq}
+use Rattle.egt_board.specs.declared.man.Man.{Man}
+use Rattle.egt_board.specs.Placement.{Placement, same_men, get-insert_same, get-insert_other, get-remove_same, get-remove_other}
 use Rattle.egt_board.proofs.board.Board.put.Goals as goal
 
--- the slots afterwards
-after : (c : goal.After-lesser-4) → AreShown (c.lesser.result ∷ c.lesser-2.result ∷ c.lesser-3.result ∷ c.lesser-4.result ∷ []) (map.insert c.args.self.now c.args.square c.args.man)
-after c =
-    let a = c.self.inside in
-    let new : Slot = Some (c.args.square, c.args.man) in
-    rw (c.lesser-4.ensures, c.lesser-3.ensures, c.lesser-2.ensures, c.lesser.ensures, c.greater-after_third.ensures, c.greater-after_second.ensures, c.greater-after_first.ensures, c.filled-new.ensures, with_four new a.first a.second a.third a.fourth)
-    (shown_with (a.first ∷ a.second ∷ a.third ∷ a.fourth ∷ []) c.args.self.now c.args.square c.args.man
-    (shown (a.first ∷ a.second ∷ a.third ∷ a.fourth ∷ []) c.args.self.now c.self.invariant c.self.view_is) c.requires (omega arith))
+no_more : (m : Placement) (s : ℕ) → map.len (map.remove m s) ≤ map.len m
+no_more m s = of_test (map.contains_key m s) (map.len-remove nat_cmp_total m s)
+  where
+    of_test : (b : Bool) → map.len (map.remove m s) ≡ cond b (map.len m - 1) (map.len m) → map.len (map.remove m s) ≤ map.len m
+    of_test true e = omega (arith, e)
+    of_test false e = omega (arith, e)
 
-pub invariant_of-self : goal.invariant_of-self
-invariant_of-self c = kept_of _ _ (after c)
+in_place : (m : Placement) (s : ℕ) (man : Man) → map.insert (map.remove m s) s man ≡ map.insert m s man
+in_place m s man = same_men _ _ (λ q. elim (cases_eq q s) [
+  | inl here ↦ get-insert_same (map.remove m s) s man q here ∙ sym (get-insert_same m s man q here)
+  | inr apart ↦ get-insert_other (map.remove m s) s man q apart ∙ get-remove_other m s q apart ∙ sym (get-insert_other m s man q apart)
+])
+
+pub with_man-requires-clause-free : goal.with_man-requires-clause-free
+with_man-requires-clause-free c = rw c.clear.ensures (get-remove_same c.args.self.now c.args.square c.args.square refl)
+
+pub with_man-requires-clause-room : goal.with_man-requires-clause-room
+with_man-requires-clause-room c = rw c.clear.ensures (let few = no_more c.args.self.now c.args.square in omega (arith, few, c.requires))
 
 pub returns : goal.returns
-returns c = placed_of _ _ (after c)
+returns c = c.with_man.ensures ∙ ap (λ m. map.insert m c.args.square c.args.man) c.clear.ensures ∙ in_place c.args.self.now c.args.square c.args.man
