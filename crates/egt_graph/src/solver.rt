@@ -59,8 +59,7 @@ pub fn solve<G: Game>(alloc: Global, game: &G, limit: u16) -> Result<Ranks, Solv
     ensures ok { IfOk result (AreRanks (G.graph game.now) limit) }
     ensures too_deep { result ≡ Err SolveFault.TooDeep → SomeAbove (G.graph game.now) limit }
 {
-    let (ranks, _counts) = solve_and_count(alloc, game, limit)?;
-    Ok(ranks)
+    finish(alloc, Rounds::new(alloc, game, limit)?)
 }
 
 /// What `solve` answers, with a byte a number: how many moves the node has, where none of them leaves the game, and else
@@ -75,7 +74,19 @@ pub fn solve_and_count<G: Game>(
     ensures counts { IfOk result (λ told. AreCounts (G.graph game.now) told.1.items) }
     ensures too_deep { result ≡ Err SolveFault.TooDeep → SomeAbove (G.graph game.now) limit }
 {
-    let (mut rounds, counts) = Rounds::counted(alloc, game, limit)?;
+    let (rounds, counts) = Rounds::counted(alloc, game, limit)?;
+    let ranks = finish(alloc, rounds)?;
+    Ok((ranks, counts))
+}
+
+/// Works a run off from its beginning to its end.
+fn finish<G: Game>(alloc: Global, rounds: Rounds<'_, G>) -> Result<Ranks, SolveFault>
+    requires running { rounds.state.phase ≡ Running }
+    requires within { rounds.state.round ≤ rounds.state.limit }
+    ensures ok { IfOk result (AreRanks (G.graph rounds.entry.game) rounds.entry.state.limit) }
+    ensures too_deep { result ≡ Err SolveFault.TooDeep → SomeAbove (G.graph rounds.entry.game) rounds.entry.state.limit }
+{
+    let mut rounds = rounds;
     'rounds: loop {
         post_all(alloc, &mut rounds)?;
         match rounds.close() {
@@ -86,7 +97,7 @@ pub fn solve_and_count<G: Game>(
         }
     }
     match rounds.into_ranks() {
-        Ok(ranks) => Ok((ranks, counts)),
+        Ok(ranks) => Ok(ranks),
         Err(_rounds) => unreachable!(),
     }
 }
