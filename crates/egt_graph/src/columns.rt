@@ -4,7 +4,7 @@ ghost use Rattle.egt_graph.specs.Columns.{decided, Marks, TakesBack, count_of, i
 ghost use Rattle.egt_graph.specs.Frontier.{is_entry_of_round};
 ghost use Rattle.egt_graph.specs.News.{Notes};
 
-use crate::scan::PART;
+use crate::scan::{PART, is_of_round};
 
 /// The entry of a node that is not decided.
 pub(crate) const DRAW: u16 = 1;
@@ -137,7 +137,7 @@ fn any_in_part(entries: &[u16], from: usize, plies: u16) -> bool
     ensures { IsTrue result → (i : ℕ) × IsTrue (is_entry_of_round plies (slice_index entries.now i)) }
 {
     for i in from..from + PART {
-        if is_decided_in(entries[i], plies) {
+        if is_of_round(entries[i], plies) {
             return true;
         }
     }
@@ -145,17 +145,9 @@ fn any_in_part(entries: &[u16], from: usize, plies: u16) -> bool
 }
 
 #[inline(always)]
-fn is_decided_in(entry: u16, plies: u16) -> bool
-    requires { plies ≤ 32001 }
-    ensures { result ≡ is_entry_of_round plies entry }
-{
-    entry == 2 + 2 * plies || entry == 3 + 2 * plies
-}
-
-#[inline(always)]
 fn is_open(entry: u16, wait: u8, later: u8, lost: bool, plies: u16) -> bool
     requires { plies ≤ 32001 }
     ensures { result ≡ is_open plies entry wait later lost }
 {
-    is_decided_in(entry, plies) || (entry == DRAW && (lost || (wait > 0 && wait == later)))
+    is_of_round(entry, plies) || (entry == DRAW && (lost || (wait > 0 && wait == later)))
 }

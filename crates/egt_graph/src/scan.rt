@@ -96,9 +96,10 @@ fn next_place(entries: &[u16], from: usize, end: usize, round: u16) -> usize
     end
 }
 
+/// Does the entry spell a win or a loss in `round` plies?
 #[inline(always)]
-fn is_of_round(entry: u16, round: u16) -> bool
-    requires { round ≤ 32000 }
+pub(crate) fn is_of_round(entry: u16, round: u16) -> bool
+    requires { round ≤ 32001 }
     ensures { result ≡ is_entry_of_round round entry }
 {
     entry == 2 + 2 * round || entry == 3 + 2 * round
