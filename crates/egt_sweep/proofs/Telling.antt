@@ -108,7 +108,7 @@ told_start laws tables other c i n below in_range count told some no_pawn = reco
 }
   where
     count_is : IsFalse (not (is_some (position_at c i))) × (length (passing_below (size_of c) (λ j. connects Mate c i j)) ≡ n) × (n ≤ 64) × (exits_at tables Mate c i ≡ [])
-    count_is = count told
+    count_is = count.0 told
 
     found : (p : Setup) × (position_at c i ≡ Some p)
     found = there (position_at c i) count_is.0
