@@ -8,7 +8,7 @@ use Rattle.egt_graph.specs.Graph.{Graph}
 use Rattle.egt_graph.specs.Value.{is_empty, is_lost_before, is_won_before, mated_within}
 use Rattle.egt_graph.specs.Begin.{Adds, IsFilled, IsBegun, AreCounted}
 use Rattle.egt_graph.specs.Counts.{IsCount}
-use Rattle.egt_graph.specs.Columns.{outs, leaves, has_moves, count_of, decided, entry_at, later_at, is_loss, is_win_of, is_loss_of, waits_at, is_winning, is_win_from, done_of, Amid, Await}
+use Rattle.egt_graph.specs.Columns.{outs, leaves, told_from, told, has_moves, count_of, decided, entry_at, later_at, is_loss, is_win_of, is_loss_of, waits_at, is_winning, is_win_from, done_of, Amid, Await}
 use Rattle.egt_graph.specs.declared.game.Exit.{Exit}
 use Rattle.egt_graph.specs.declared.game.Exit.TheVariants.{Win, Loss, Draw}
 use Rattle.egt_graph.specs.Frontier.{is_node, blocks_of}
@@ -95,6 +95,26 @@ Filled_more g test m a b h adds = record {
       let z = h.after n i (omega arith) in
       omega arith;
 }
+
+-- ---- before the first node
+
+pub Begun_none : (g : Graph) → IsBegun g 0 [] (told g []) [] [] [] []
+unfolding told_from
+Begun_none g = record {
+  entries_long = refl;
+  waits_long = refl;
+  later_long = refl;
+  lost_long = refl;
+  entry = λ i lt. absurd (omega arith);
+  waiting = λ i lt. absurd (omega arith);
+  wins = λ i lt. absurd (omega arith);
+  losses = λ i lt. absurd (omega arith);
+  lost_exits = Filled_none g is_loss_of;
+  won_exits = Filled_none g is_win_of;
+}
+
+pub Counted_none : (g : Graph) → AreCounted g 0 []
+Counted_none g = record { long = refl; each = λ i lt. absurd (omega arith) }
 
 -- ---- one node more
 

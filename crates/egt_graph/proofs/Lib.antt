@@ -5,6 +5,7 @@ pub mod Lists
 pub mod Values
 pub mod Holding
 pub mod Nodes
+pub mod Uncounted
 pub mod Exits
 pub mod Closing
 pub mod Ranking

@@ -24,10 +24,13 @@ turn_sources : (g : Graph) (r block k : ℕ) (posted : List Bool) (nodes sources
 turn_sources g r block k posted nodes sources t =
     let f = front_at g r block k nodes t.whole t.in_list in t.moves ∙ sym (ins_at g _ (and_parts (is_node g (get_or nodes k 0)) _ f.0).0)
 
+pub sources_nodes : (g : Graph) → IsGame g → (r block k : ℕ) (posted : List Bool) (nodes sources : List ℕ) → IsTurn g r block k posted nodes sources → All (IsNode g) sources
+sources_nodes g law r block k posted nodes sources t = rw t.moves (law.into_nodes _ (turn_node g r block k posted nodes sources t))
+
 pub sources_within : (g : Graph) → IsGame g → (r block k : ℕ) (posted : List Bool) (nodes sources : List ℕ) → IsTurn g r block k posted nodes sources
     → (n : ℕ) → n ≡ g.size → All (λ i. i < n) sources
 sources_within g law r block k posted nodes sources t n e =
-    rw (t.moves, e) (All-weaker (IsNode g) (λ i. i < g.size) (λ i node. node.in_range) (g.into (get_or nodes k 0)) (law.into_nodes _ (turn_node g r block k posted nodes sources t)))
+    rw e (All-weaker (IsNode g) (λ i. i < g.size) (λ i node. node.in_range) sources (sources_nodes g law r block k posted nodes sources t))
 
 -- the entry of the node tells a win from a loss
 found_win : (g : Graph) (r i e : ℕ) (win loss : Bool) → Found g r i → e ≡ decided (entry_at g r i) win loss (r + 1) → e ≡ 2 + 2 * r

@@ -3,7 +3,7 @@ use Rattle.std.specs.Prelude.{◌≡◌, ℕ, ◌+◌, ◌<◌, ◌≤◌, ◌==
 use Rattle.std.specs.List.{list_any}
 use Rattle.egt_graph.specs.Graph.{Graph}
 use Rattle.egt_graph.specs.Counts.{IsCount}
-use Rattle.egt_graph.specs.Columns.{outs, leaves, count_of, entry_at, later_at, is_loss, is_win_of, is_loss_of}
+use Rattle.egt_graph.specs.Columns.{outs, leaves, told, count_of, entry_at, later_at, is_loss, is_win_of, is_loss_of}
 use Rattle.egt_graph.specs.declared.begin.Columns.{Columns}
 use Rattle.egt_graph.specs.declared.game.Exit.{Exit}
 
@@ -37,5 +37,5 @@ pub record AreCounted (g : Graph) (m : ℕ) (counts : List ℕ) : Type 0 where
 
 abbrev pub AreBegun : Graph → ℕ → Columns → Type 0
 AreBegun g m columns =
-    IsBegun g m columns.entries.items columns.waits.items columns.later.items columns.lost.items columns.lost_due columns.won_due
+    IsBegun g m columns.entries.items (told g columns.waits.items) columns.later.items columns.lost.items columns.lost_due columns.won_due
     × AreCounted g m columns.counts.items

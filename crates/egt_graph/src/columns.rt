@@ -1,10 +1,13 @@
 //! One step of retrograde analysis over plain columns: an entry and a counter a node. Where an entry is decided is noted.
 ghost use Rattle.std.specs.Prelude.{◌≡◌, ◌==◌, true, false, ℕ, ◌+◌, ◌-◌, ◌*◌, ◌<◌, ◌≤◌, length, slice_index, slice_set, All, MatchBool, IsTrue, IsFalse};
-ghost use Rattle.egt_graph.specs.Columns.{decided, Marks, TakesBack, count_of, is_open, is_open_at};
+ghost use Rattle.egt_graph.specs.Graph.{IsNode};
+ghost use Rattle.egt_graph.specs.Columns.{decided, told, told_at, Marks, TakesBack, count_of, is_open, is_open_at};
 ghost use Rattle.egt_graph.specs.Frontier.{is_entry_of_round};
 ghost use Rattle.egt_graph.specs.News.{Notes};
 
+use crate::game::Game;
 use crate::scan::{PART, is_of_round};
+use crate::waiting::waiting;
 
 /// The entry of a node that is not decided.
 pub(crate) const DRAW: u16 = 1;
@@ -38,7 +41,8 @@ fn mark_win(entries: &mut [u16], news: &mut [bool], i: usize, plies: u16)
 }
 
 /// Each of the nodes waits for one move less. It loses in `plies` plies where it waits for none and was not decided.
-pub(crate) fn take_back(
+pub(crate) fn take_back<G: Game>(
+    game: &G,
     entries: &mut [u16],
     waits: &mut [u8],
     news: &mut [bool],
@@ -46,32 +50,46 @@ pub(crate) fn take_back(
     plies: u16,
 )
     requires short { plies ≤ 32001 }
-    requires within { All (λ i. i < length entries.old) nodes.now }
+    requires are_nodes { All (IsNode (G.graph game.now)) nodes.now }
+    requires entries_long { length entries.old ≡ (G.graph game.now).size }
     requires matched { length waits.old ≡ length entries.old }
-    requires waited { (i : ℕ) → count_of i nodes.now ≤ slice_index waits.old i }
+    requires waited { (i : ℕ) → count_of i nodes.now ≤ slice_index (told (G.graph game.now) waits.old) i }
     requires room { length entries.old ≤ 64 * length news.old }
-    ensures takes { TakesBack entries.old waits.old nodes.now plies entries.new waits.new }
+    ensures takes { TakesBack entries.old (told (G.graph game.now) waits.old) nodes.now plies entries.new (told (G.graph game.now) waits.new) }
     ensures news { Notes plies entries.old news.old → Notes plies entries.new news.new }
 {
     for node in nodes {
-        take_back_move(entries, waits, news, *node as usize, plies);
+        take_back_move(game, entries, waits, news, *node, plies);
     }
 }
 
 #[inline(always)]
-fn take_back_move(entries: &mut [u16], waits: &mut [u8], news: &mut [bool], i: usize, plies: u16)
+fn take_back_move<G: Game>(
+    game: &G,
+    entries: &mut [u16],
+    waits: &mut [u8],
+    news: &mut [bool],
+    node: u32,
+    plies: u16,
+)
     requires short { plies ≤ 32001 }
-    requires within { i < length entries.old }
-    requires within_waits { i < length waits.old }
-    requires waited { 0 < slice_index waits.old i }
+    requires node { IsNode (G.graph game.now) node }
+    requires within { node < length entries.old }
+    requires within_waits { node < length waits.old }
+    requires waited { 0 < told_at (G.graph game.now) node (slice_index waits.old node) }
     requires room { length entries.old ≤ 64 * length news.old }
-    ensures waits { waits.new ≡ slice_set waits.old i (slice_index waits.old i - 1) }
+    ensures waits { (left : ℕ)
+        × (left ≡ told_at (G.graph game.now) node (slice_index waits.old node) - 1)
+        × (left < 255)
+        × (waits.new ≡ slice_set waits.old node left) }
     ensures entries { entries.new
-        ≡ slice_set entries.old i (decided (slice_index entries.old i) false (slice_index waits.old i - 1 == 0) plies) }
+        ≡ slice_set entries.old node (decided (slice_index entries.old node) false (told_at (G.graph game.now) node (slice_index waits.old node) - 1 == 0) plies) }
     ensures news { Notes plies entries.old news.old → Notes plies entries.new news.new }
 {
-    waits[i] -= 1;
-    if waits[i] == 0 && entries[i] == DRAW {
+    let i = node as usize;
+    let left = waiting(game, node, waits[i]) - 1;
+    waits[i] = left;
+    if left == 0 && entries[i] == DRAW {
         entries[i] = 3 + 2 * plies;
         news[i / PART] = true;
     }
@@ -89,7 +107,8 @@ pub(crate) fn count_down(later: &mut [u8], nodes: &[u32])
 }
 
 /// Is some node decided in `plies` plies, or undecided and yet to be decided by its exits? Most often a noted part tells.
-pub(crate) fn any_open(
+pub(crate) fn any_open<G: Game>(
+    game: &G,
     entries: &[u16],
     waits: &[u8],
     later: &[u8],
@@ -99,18 +118,21 @@ pub(crate) fn any_open(
 ) -> bool
     requires short { plies ≤ 32001 }
     requires room { length entries.now ≤ 64 * length coming.now }
+    requires entries { length entries.now ≡ (G.graph game.now).size }
+    requires leaving { (i : ℕ) → 0 < slice_index later.now i → IsNode (G.graph game.now) i }
     requires waits { length waits.now ≡ length entries.now }
     requires later { length later.now ≡ length entries.now }
     requires lost { length lost.now ≡ length entries.now }
     ensures { MatchBool result
-        ((i : ℕ) × IsTrue (is_open_at plies entries.now waits.now later.now lost.now i))
-        ((i : ℕ) → i < length entries.now → IsFalse (is_open_at plies entries.now waits.now later.now lost.now i)) }
+        ((i : ℕ) × IsTrue (is_open_at plies entries.now (told (G.graph game.now) waits.now) later.now lost.now i))
+        ((i : ℕ) → i < length entries.now → IsFalse (is_open_at plies entries.now (told (G.graph game.now) waits.now) later.now lost.now i)) }
 {
     if any_noted(entries, coming, plies) {
         return true;
     }
-    for i in 0..entries.len() {
-        if is_open(entries[i], waits[i], later[i], lost[i], plies) {
+    for node in 0..game.size() {
+        let i = node as usize;
+        if is_open(game, node, entries[i], waits[i], later[i], lost[i], plies) {
             return true;
         }
     }
@@ -145,9 +167,19 @@ fn any_in_part(entries: &[u16], from: usize, plies: u16) -> bool
 }
 
 #[inline(always)]
-fn is_open(entry: u16, wait: u8, later: u8, lost: bool, plies: u16) -> bool
-    requires { plies ≤ 32001 }
-    ensures { result ≡ is_open plies entry wait later lost }
+fn is_open<G: Game>(
+    game: &G,
+    node: u32,
+    entry: u16,
+    wait: u8,
+    later: u8,
+    lost: bool,
+    plies: u16,
+) -> bool
+    requires short { plies ≤ 32001 }
+    requires leaving { 0 < later → IsNode (G.graph game.now) node }
+    ensures { result ≡ is_open plies entry (told_at (G.graph game.now) node wait) later lost }
 {
-    is_of_round(entry, plies) || (entry == DRAW && (lost || (wait > 0 && wait == later)))
+    is_of_round(entry, plies)
+        || (entry == DRAW && (lost || (later > 0 && waiting(game, node, wait) == later)))
 }

@@ -21,8 +21,9 @@ pub enum Exit {
 pub struct Start {
     /// Is the mover checkmated?
     pub mated: bool,
-    /// How many nodes moves lead to.
-    pub degree: u8,
+    /// How many nodes moves lead to, where they were counted. `None` is for a node that hardly will wait for any move: a run asks for `degree`
+    /// where it does.
+    pub degree: Option<u8>,
 }
 
 /// A game over the nodes from 0 up to `size`. Some of the numbers may be void: they are no nodes.
@@ -65,14 +66,13 @@ pub trait Game {
         requires { IsNode (graph self.now) i }
         ensures { result.items ≡ (graph self.now).exits i };
 
-    /// What `void`, `mated`, `degree` and `exits` answer of a number, at once; `None` where it is no node. The values of the positions
-    /// outside take the place of what `exits` had.
+    /// What `void`, `mated`, `degree` (if it counts) and `exits` answer of a number, at once; `None` where it is no node. The values of the
+    /// positions outside take the place of what `exits` had.
     fn start(&self, i: u32, exits: &mut ArrayVec<Exit, 64>) -> Option<Start>
         requires { i < (graph self.now).size }
         ensures node { IfSome result (λ start. IsFalse ((graph self.now).void i)
             × (start.mated ≡ (graph self.now).mated i)
-            × (start.degree ≡ length ((graph self.now).out i))
-            × (start.degree ≤ 64)
+            × IfSome start.degree (λ n. (n ≡ length ((graph self.now).out i)) × (n ≤ 64))
             × (exits.new.items ≡ (graph self.now).exits i)) }
         ensures void { IfNone result (((graph self.now).void i ≡ true) × (exits.new.items ≡ [])) }
     {
@@ -83,7 +83,7 @@ pub trait Game {
         *exits = self.exits(i);
         Some(Start {
             mated: self.mated(i),
-            degree: self.degree(i) as u8,
+            degree: Some(self.degree(i) as u8),
         })
     }
 

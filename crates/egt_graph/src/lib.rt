@@ -15,6 +15,7 @@ mod scan;
 mod schedule;
 mod solver;
 mod step;
+mod waiting;
 
 pub use answer::{Close, Post};
 pub use batch::Batch;

@@ -36,7 +36,8 @@ pub struct Rounds<'g, G: Game> {
     coming: Vec<bool>,
     /// Bit `i % 64` of word `i / 64` is set where node `i` may be undecided.
     marks: Vec<u64>,
-    /// For each node the moves and exits that it waits for: at first all, and one less for each that is found won.
+    /// For each node the moves and exits that it waits for: at first all, which were not counted where it is `UNCOUNTED`, and one less
+    /// for each that is found won.
     waits: Vec<u8>,
     /// For each node the exits into positions won for the opponent that have not fallen due.
     later: Vec<u8>,
@@ -47,6 +48,7 @@ pub struct Rounds<'g, G: Game> {
 }
 
 impl<'g, G: Game> Model for Rounds<'g, G> {
+    ghost use Rattle.egt_graph.specs.Columns.{told};
     ghost use Rattle.egt_graph.specs.News.{HasNews};
     ghost use Rattle.egt_graph.specs.Run.{Run, IsRun};
     ghost use Rattle.egt_graph.specs.Undecided.{HasMarks};
@@ -60,7 +62,7 @@ impl<'g, G: Game> Model for Rounds<'g, G> {
 
     ghost invariant = { λ s. IsRun (G.graph s.game.now)
         (record { limit = s.limit; round = s.round; phase = s.phase; posted = s.posted.items })
-        s.entries.items s.waits.items s.later.items s.lost.items s.lost_due s.won_due
+        s.entries.items (told (G.graph s.game.now) s.waits.items) s.later.items s.lost.items s.lost_due s.won_due
         × HasNews (G.graph s.game.now).size s.phase s.round s.entries.items s.news.items s.coming.items
         × HasMarks (G.graph s.game.now).size s.phase s.entries.items s.marks.items };
 }
@@ -267,6 +269,7 @@ impl<'g, G: Game> Rounds<'g, G> {
             return Close::NotAll;
         }
         let unsettled = fall_due(
+            self.game,
             &mut self.entries,
             &mut self.waits,
             &mut self.coming,
