@@ -19,6 +19,7 @@ pub mod Exists
 pub mod Splitting
 pub mod Decoded
 pub mod WithoutPawns
+pub mod KingAlone
 pub mod TurnTable
 pub mod Standing
 pub mod Homing

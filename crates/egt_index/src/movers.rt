@@ -1,9 +1,12 @@
-//! Whose pawns may move.
-ghost use Rattle.std.specs.Prelude.{◌≡◌, ℕ, IsFalse};
+//! Which men the sides of a class have: whose pawns may move, and who has his king alone.
+ghost use Rattle.std.specs.Prelude.{◌≡◌, ◌≢◌, ℕ, IsTrue, IsFalse};
+ghost use Rattle.egt_board.specs.Man.{other_side};
 ghost use Rattle.egt_board.specs.Pawn.{pawn_of};
 ghost use Rattle.egt_board.specs.Placement.{Stands};
 ghost use Rattle.egt_board.specs.Setup.{Setup};
-ghost use Rattle.egt_board.specs.declared.man.Kind.TheVariants.{P};
+ghost use Rattle.egt_board.specs.declared.man.Kind.{Kind};
+ghost use Rattle.egt_board.specs.declared.man.Kind.TheVariants.{P, K};
+ghost use Rattle.egt_board.specs.declared.man.Man.{Man};
 ghost use Rattle.egt_class.specs.Material.{men_in};
 ghost use Rattle.egt_index.specs.Code.{Spells};
 
@@ -42,4 +45,31 @@ pub fn may_move_pawn(class: Class, code: u32) -> bool
 {
     let (_men, side, _passed) = ends(class, code);
     side_has_pawns(class, side)
+}
+
+/// Whether Black has its king alone, in order of the classes' numbers. White has in the first of them.
+static BLACK_ALONE: [bool; 36] = [
+    true, true, true, true, true, true, true, true, true, true, true, true, true, true, true, true,
+    false, false, false, false, false, false, false, false, false, false, true, true, true, true,
+    false, false, false, false, true, false,
+];
+
+/// Whether that side has its king alone in the class.
+fn has_king_alone(class: Class, side: Side) -> bool
+    ensures { IsTrue result → (kind : Kind) → kind ≢ K → men_in class side kind ≡ 0 }
+{
+    let number = usize::from(class.number());
+    match side {
+        Side::White => number == 0,
+        Side::Black => BLACK_ALONE[number],
+    }
+}
+
+/// Whether the side that waits has its king alone in a position that the code of the class spells.
+pub fn faces_king_alone(class: Class, code: u32) -> bool
+    ensures { IsTrue result → (p : Setup) → Spells class code p → (s : ℕ) (man : Man) → Stands p.men s man
+        → man.side ≡ other_side p.side → man.kind ≡ K }
+{
+    let (_men, side, _passed) = ends(class, code);
+    has_king_alone(class, side.other())
 }

@@ -21,5 +21,6 @@ pub mod Tallying
 pub mod Led
 pub mod Starting
 pub mod Telling
+pub mod LoneKing
 pub mod Returning
 pub mod Gathering

@@ -1,5 +1,5 @@
 -- What a run begins with at a node.
-use Rattle.std.proofs.Common.{◌≡◌, ◌≢◌, ℕ, ◌+◌, ◌/◌, ◌%◌, ◌<◌, ◌≤◌, cond, not, Bool, true, false, List, [], length, slice_index, Option, Some, None, arith, refl, sym, ap, ◌∙◌, subst, inl, inr}
+use Rattle.std.proofs.Common.{◌≡◌, ◌≢◌, ℕ, ◌+◌, ◌/◌, ◌%◌, ◌<◌, ◌≤◌, cond, not, Bool, true, false, List, [], length, slice_index, Option, Some, None, IfSome, arith, refl, sym, ap, ◌∙◌, subst, inl, inr}
 use Rattle.std.specs.Int.{bit_at}
 use Rattle.std.specs.Option.{is_some}
 use Rattle.egt_board.specs.Decided.{Decided, tells}
@@ -59,17 +59,16 @@ module _ (laws : Laws) (c i : ℕ) (p : Setup) (at : IsAt c i p) where
 
 -- what is told of the position at a node is what the graph tells of the node
 pub started : (laws : Laws) (tables : Tables) (aim : Aim) (c i : ℕ) (p : Setup) → IsAt c i p → (start : Start) (exits : List Exit) →
-    start.mated ≡ tells (decided_checkmate p) → start.degree ≡ length (passing_below (size_of c) (λ j. connects (column_of aim) c i j)) → start.degree ≤ 64 →
+    start.mated ≡ tells (decided_checkmate p) → IfSome start.degree (λ n. (n ≡ length (passing_below (size_of c) (λ j. connects (column_of aim) c i j))) × (n ≤ 64)) →
     exits ≡ exits_from (known tables c aim) (column_of aim) c (Some p) → IsStart (game_of tables c aim) i (Some start) exits
 unfolding exits_at
-started laws tables aim c i p at start exits mate counted few told =
+started laws tables aim c i p at start exits mate counted told =
     let found = here laws c i p at in
     record {
       node = (
         no_void laws c i p at,
         mate ∙ sym (ap is_mated found),
         counted,
-        few,
         told ∙ ap (exits_from (known tables c aim) (column_of aim) c) (sym found),
       );
       void = tt;

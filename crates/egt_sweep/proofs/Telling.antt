@@ -33,11 +33,11 @@ use Rattle.egt_sweep.proofs.OutOfClass.{nothing_told}
 abbrev pub MovesNoPawn : ℕ → ℕ → Type 0
 MovesNoPawn c i = (p : Setup) → Spells c i p → (s : ℕ) → Stands p.men s (pawn_of p.side) → ⊥
 
-there : (o : Option Setup) → not (is_some o) ≡ false → (p : Setup) × (o ≡ Some p)
+pub there : (o : Option Setup) → not (is_some o) ≡ false → (p : Setup) × (o ≡ Some p)
 there None e = absurd (false≢true (sym e))
 there (Some p) e = (p, refl)
 
-nothing_of : {X Y : Type 0} (f : X → List Y) → ((x : X) → f x ≡ []) → (xs : List X) → flat_map f xs ≡ []
+pub nothing_of : {X Y : Type 0} (f : X → List Y) → ((x : X) → f x ≡ []) → (xs : List X) → flat_map f xs ≡ []
 nothing_of f none [] = refl
 nothing_of f none (x ∷ xs) = rw (none x) (nothing_of f none xs)
 
@@ -94,21 +94,20 @@ module _ (laws : Laws) (tables : Tables) (c i : ℕ) (below : c < 36) (p : Setup
 
 -- what is told of a node of the game of mates is what that of zeroing moves begins with
 pub told_start : (laws : Laws) (tables other : Tables) (c i n : ℕ) → c < 36 → i < size_of c → IsCount (class_game tables Mate c) i n → n < 255 → 0 < n → MovesNoPawn c i
-    → IsStart (class_game other Zeroing c) i (Some (record { mated = false; degree = n })) []
+    → IsStart (class_game other Zeroing c) i (Some (record { mated = false; degree = Some n })) []
 unfolding exits_at
 told_start laws tables other c i n below in_range count told some no_pawn = record {
   node = (
     count_is.0,
     sym not_mated,
-    sym (ap length edges ∙ count_is.1),
-    count_is.2,
+    (sym (ap length edges ∙ count_is.1), count_is.2),
     sym (ap (exits_from other Zeroing c) (sym here) ∙ nothing_of (λ m. option_to_list (exit_by other Zeroing c p m (played p m))) (λ m. nothing_told laws other Zeroing c p m at.spells.admissible (λ q leads. (all m q leads).1)) (moves_of p)),
   );
   void = tt;
 }
   where
     count_is : IsFalse (not (is_some (position_at c i))) × (length (passing_below (size_of c) (λ j. connects Mate c i j)) ≡ n) × (n ≤ 64) × (exits_at tables Mate c i ≡ [])
-    count_is = count.0 told
+    count_is = count told
 
     found : (p : Setup) × (position_at c i ≡ Some p)
     found = there (position_at c i) count_is.0

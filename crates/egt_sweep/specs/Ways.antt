@@ -9,6 +9,7 @@ use Rattle.egt_board.specs.Placement.{Stands, IsHeld}
 use Rattle.egt_board.specs.Setup.{Setup}
 use Rattle.egt_board.specs.Square.{rank_of}
 use Rattle.egt_board.specs.SquareSet.{Has}
+use Rattle.egt_board.specs.declared.man.Kind.TheVariants.{K}
 use Rattle.egt_board.specs.declared.man.Man.{Man}
 use Rattle.egt_board.specs.declared.square_set.SquareSet.{SquareSet}
 use Rattle.egt_index.specs.Axis.{is_on_axis, StandsAlone}
@@ -50,6 +51,10 @@ AllLeave column c p from set = (m : Move) (q : Setup) → m.from ≡ from → Ha
 -- and those to others go on
 abbrev pub OthersGoOn : Column → ℕ → Setup → ℕ → SquareSet → Type 0
 OthersGoOn column c p from set = (m : Move) (q : Setup) → m.from ≡ from → bit_at set.bits m.to ≡ 0 → Leads p m q → GoesOn column c p m q
+
+-- the side that waits has its king alone
+abbrev pub WaitsAlone : Setup → Type 0
+WaitsAlone p = (s : ℕ) (man : Man) → Stands p.men s man → man.side ≡ other_side p.side → man.kind ≡ K
 
 -- a man of the side that waits whom no mirror keeps in place: he is alone of his kind, and on no axis
 pub record HasAnchor (c : ℕ) (p : Setup) : Type 0 where

@@ -8,6 +8,7 @@ mod build_fault;
 mod building;
 mod by_squares;
 mod edges;
+mod facing;
 mod laws;
 mod leaving;
 mod mate_game;

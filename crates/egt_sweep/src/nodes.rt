@@ -29,16 +29,20 @@ ghost use Rattle.egt_sweep.specs.Ways.{Counts, HasAnchor};
 use crate::aim::Aim;
 use crate::anchor::has_anchor;
 use crate::edges::edges;
+use crate::facing::start_facing_king;
 use crate::laws::laws;
 use crate::sources::sources;
 use crate::wanted::Wanted;
 use crate::ways::{Ways, ways_of};
 use arrayvec::ArrayVec;
 use egt_board::Position;
+use egt_board::safety::kings_attack_each_other;
 use egt_check::Library;
 use egt_class::Class;
 use egt_graph::{Exit, Ranks, Start, UNTOLD};
-use egt_index::{Row, indexed, may_move_pawn, position, position_of, row_of, size};
+use egt_index::{
+    Row, faces_king_alone, indexed, may_move_pawn, position, position_of, row_of, size,
+};
 use egt_moves::{Standing, standing};
 use egt_table::Column;
 
@@ -204,10 +208,13 @@ fn start_at(
 {
     laws();
     let _number = class.number();
+    if faces_king_alone(class, index) {
+        return start_facing_king(aim, class, library, index, position, exits);
+    }
     let ways = ways_of(aim, class, library, index, position, exits);
     Start {
         mated: is_checkmate_by(position, &ways),
-        degree: degree(aim.column(), class, index, position, &ways) as u8,
+        degree: Some(degree(aim.column(), class, index, position, &ways) as u8),
     }
 }
 
@@ -324,11 +331,18 @@ pub(crate) fn start_by_ranks(
     if let Some(degree) = told_degree(class, counts, index) {
         return Some(Start {
             mated: false,
-            degree,
+            degree: Some(degree),
         });
     }
     if mates.entries()[index as usize] == 0 {
         return None;
+    }
+    kings_attack_each_other();
+    if faces_king_alone(class, index) && !may_move_pawn(class, index) {
+        return Some(Start {
+            mated: false,
+            degree: None,
+        });
     }
     let position = position_of(class, index);
     let aim = Aim::Zeroing(mates);

@@ -12,4 +12,7 @@ degree-requires-clause-counts c anchor =
 pub returns : goal.returns
 returns c =
     started c.laws.ensures (table_at c.args.library.now) c.args.aim.now c.args.class c.args.index c.args.position.now c.requires.at _ _
-    c.is_checkmate_by.ensures (rw c.column.ensures at c.degree.ensures.value) c.degree.ensures.few c.ways_of-ways.ensures.exits
+    c.is_checkmate_by.ensures (rw c.column.ensures at c.degree.ensures.value, c.degree.ensures.few) c.ways_of-ways.ensures.exits
+
+pub start_facing_king-requires-clause-alone : goal.start_facing_king-requires-clause-alone
+start_facing_king-requires-clause-alone c = c.faces_king_alone.ensures c.if-faces_king_alone.true c.args.position.now c.requires.at.spells
