@@ -18,7 +18,7 @@ use Rattle.egt_index.proofs.Best.{king_after, none_after}
 use Rattle.egt_index.proofs.Classes.{image_in_others, pawns_there}
 use Rattle.egt_index.proofs.Turned.{no_pawns}
 
-least_at : Facts → (c : ℕ) (p : Setup) (u code t : ℕ) (q : Setup) (other : ℕ) → TurnCode c p u code → t ≡ u → IsTurn t p q → Spells c other q → code ≤ other
+pub least_at : Facts → (c : ℕ) (p : Setup) (u code t : ℕ) (q : Setup) (other : ℕ) → TurnCode c p u code → t ≡ u → IsTurn t p q → Spells c other q → code ≤ other
 least_at facts c p u code t q other after same turn spells =
     after.coded.least other (subst (Spells c other) (facts.once (u % 8) (eqb (u / 8) 1) p q after.image (subst (λ j. IsTurn j p q) same turn).1 after.turned.1) spells)
 

@@ -8,7 +8,7 @@ use Rattle.egt_board.specs.Setup.{Setup, IsAdmissible}
 use Rattle.egt_class.specs.Material.{material_of, has_equal_sides}
 use Rattle.egt_class.specs.Membership.{IsOf}
 use Rattle.egt_index.specs.Home.{AreHome, IsAtHome}
-use Rattle.egt_index.specs.Nearer.{KingsTell}
+use Rattle.egt_index.specs.Nearer.{IsFirst, KingsTell}
 use Rattle.egt_index.specs.Size.{has_pawns}
 use Rattle.egt_index.specs.Stood.{HasStand, IsFilled}
 use Rattle.egt_index.specs.declared.frame.Frame.{Frame}
@@ -27,7 +27,7 @@ pub record IsMoved (c : ℕ) (p : Setup) (from to : ℕ) (q : Setup) : Type 0 wh
   pub class : (flipped : Bool) → IsOf c flipped p → IsOf c flipped q
 
 -- the frame tells where the men of p stand, which is settled, of the frame's class and in its colours, with the white king at home,
--- whether one turn alone leaves him there, whether both sides have the same men, and where they have, whether the least code is in these
+-- whether one turn alone leaves him there, whether another that does takes the kings to greater squares, whether both sides have the same men, and where they have, whether the least code is in these
 -- colours wherever the men stand beside the kings
 pub record IsFrame (p : Setup) (frame : Frame) : Type 0 where
   pub passed : Bool
@@ -35,5 +35,6 @@ pub record IsFrame (p : Setup) (frame : Frame) : Type 0 where
   pub filled : IsFilled frame.stand
   pub home : IsAtHome (has_pawns (material_of frame.class)) frame.stand.white
   pub alone : frame.alone ≡ true → AreHome (has_pawns (material_of frame.class)) false frame.stand.white 0 None
+  pub first : frame.first ≡ true → IsFirst frame.class frame.stand.white frame.stand.black
   pub equal : frame.equal ≡ has_equal_sides frame.class
   pub own : frame.own ≡ true → KingsTell frame.class frame.stand.white frame.stand.black

@@ -1,5 +1,5 @@
 //! Indexes of positions that differ from one position by the square of a man.
-ghost use Rattle.std.specs.Prelude.{◌≡◌, ◌≢◌, Bool, true, false, IfSome};
+ghost use Rattle.std.specs.Prelude.{◌⊎◌, ◌≡◌, ◌≢◌, Bool, true, false, IfSome};
 ghost use Rattle.egt_board.specs.Setup.{Setup};
 ghost use Rattle.egt_board.specs.declared.man.Man.{Man};
 ghost use Rattle.egt_board.specs.Placement.{Stands};
@@ -15,7 +15,7 @@ use crate::either::EitherWay;
 use crate::facts::facts;
 use crate::home::{Turns, still_home};
 use crate::men::{has_equal_sides, has_pawns};
-use crate::nearer::is_own_nearer;
+use crate::nearer::{is_first, is_own_nearer};
 use crate::stand::Stand;
 use crate::steps::{Steps, Ways};
 use crate::ways::{KingWay, Sum, Way, sum_of, way_of};
@@ -32,6 +32,8 @@ pub struct Frame {
     pub(crate) stand: Stand,
     /// Whether no other turn of the same colours leaves the white king at home.
     pub(crate) alone: bool,
+    /// Whether it takes the kings to greater squares, if there is one.
+    pub(crate) first: bool,
     /// Whether both sides have the same men.
     pub(crate) equal: bool,
     /// Whether then the least code is in the class's colours once a man went who is no king.
@@ -85,8 +87,16 @@ impl Frame {
         self.own
     }
 
-    /// How the codes add up after the man on the square went, not the white king, in the class's colours, where one turn of those alone
-    /// brings that king home, and he is not one of two equal men.
+    /// Whether, once the man on the square went, not the white king, the least code in these colours is of the turn that changes nothing.
+    #[inline(always)]
+    fn is_first_after(&self, from: Square) -> bool
+        ensures { result ≡ true → (self.now.alone ≡ true) ⊎ ((self.now.first ≡ true) × (self.now.stand.black ≢ from)) }
+    {
+        self.alone || (self.first && self.stand.black != from)
+    }
+
+    /// How the codes add up after the man on the square went, not the white king, in the class's colours, where the turn that changes nothing
+    /// makes the least of those, and he is not one of two equal men.
     #[inline(always)]
     fn single_sum(&self, from: Square) -> Option<Sum>
         ensures fits { IfSome result SumFits }
@@ -94,7 +104,7 @@ impl Frame {
     {
         facts();
         let _number = self.class.number();
-        if !self.alone {
+        if !self.is_first_after(from) {
             return None;
         }
         sum_of(self.class, &self.stand, self.side.other(), from)
@@ -138,6 +148,7 @@ impl Frame {
             side,
             stand: *stand,
             alone: still.is_none(),
+            first: is_first(class, stand.white, stand.black, still),
             equal,
             own,
         }

@@ -9,6 +9,7 @@ ghost use Rattle.egt_class.specs.Material.{material_of};
 ghost use Rattle.egt_index.specs.Frame.{IsMoved};
 ghost use Rattle.egt_index.specs.Home.{AreHome, LeastWith};
 ghost use Rattle.egt_index.specs.Scales.{ScalesFit, share, code_by};
+ghost use Rattle.egt_index.specs.Nearer.{IsFirst};
 ghost use Rattle.egt_index.specs.Size.{has_pawns};
 ghost use Rattle.egt_index.specs.Turns.{CodeAfter, lesser};
 ghost use Rattle.egt_index.specs.Ways.{sum_code, line_code, pair_code, code_with, code_in_order, SumFits, LineFits, PairFits, ComesHome, IsHoming, KingWayFits, WayFits, Leads, LeadsHome, LeadsBy, Goes, IsSeen, IsMover, IsGoer, IsSingle, IsOneOfTwo, IsPaired, other_square};
@@ -468,11 +469,13 @@ pub(crate) fn way_of(class: Class, stand: &Stand, turns: Turns, side: Side, from
 }
 
 /// How the codes add up after the man on `from` went, not the white king, where he is not one of two equal men, and of the turns in the
-/// class's colours the one that changes nothing alone leaves the white king at home.
+/// class's colours the one that changes nothing alone leaves the white king at home, or takes the kings, who stay, to the least squares.
 #[inline(always)]
 pub(crate) fn sum_of(class: Class, stand: &Stand, side: Side, from: Square) -> Option<Sum>
     ensures fits { IfSome result SumFits }
     ensures leads { (p : Setup) → stand.now.white ≢ from → AreHome (has_pawns (material_of class)) false stand.now.white 0 None → IsSeen class false p stand.now from side →
+        IfSome result (λ sum. LeadsBy class p from sum) }
+    ensures first { (p : Setup) → stand.now.white ≢ from → stand.now.black ≢ from → IsFirst class stand.now.white stand.now.black → IsSeen class false p stand.now from side →
         IfSome result (λ sum. LeadsBy class p from sum) }
 {
     facts();
