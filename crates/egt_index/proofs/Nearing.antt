@@ -11,7 +11,7 @@ use Rattle.egt_class.specs.Material.{material_of, has_equal_sides}
 use Rattle.egt_index.specs.Code.{Spells}
 use Rattle.egt_index.specs.Facts.{Facts}
 use Rattle.egt_index.specs.Home.{IsTurnWith, BringsHome, AreHome, LeastWith}
-use Rattle.egt_index.specs.Nearer.{KingsHome, AreNearest, IsFirst, KingsTell}
+use Rattle.egt_index.specs.Nearer.{KingsHome, AreNearest, TakesAway, IsFirst, KingsTell}
 use Rattle.egt_index.specs.Size.{has_pawns}
 use Rattle.egt_index.specs.Stood.{HasStand}
 use Rattle.egt_index.specs.Turns.{IsTurn, CodeAfter, Best}
@@ -176,7 +176,7 @@ first_least facts c q stand side passed code has first after = record {
       | inl e ↦
           let stood = subst (λ f. HasStand c f stand side passed q) (sym flips_is) has in
           let greater : 64 * stand.white + stand.black < kings_after stand t =
-          subst (λ (n : ℕ). 64 * stand.white + stand.black < kings_after stand n) (sym e) (subst (λ o. IfSome o (λ n. 64 * stand.white + stand.black < kings_after stand n)) is first.greater) in
+          subst (λ (n : ℕ). 64 * stand.white + stand.black < kings_after stand n) (sym e) (subst (λ o. IfSome o (TakesAway stand.white stand.black)) is first.greater) in
           let less = kings_less c code other after.image r _ _ _ _ after.coded.spells spells
           (stands_after facts q after.image 0 stand.white (king_of White) has.admissible after.turned has.stood.all.1) (stands_after facts q after.image 0 stand.black (king_of Black) has.admissible after.turned has.stood.all.3.1)
           (stands_after facts q r t stand.white (king_of White) has.admissible turn stood.stood.all.1) (stands_after facts q r t stand.black (king_of Black) has.admissible turn stood.stood.all.3.1) greater in

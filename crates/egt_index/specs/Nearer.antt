@@ -37,11 +37,15 @@ abbrev pub AreNearest : ℕ → Bool → (white black kings : ℕ) → Type 0
 AreNearest c flips white black kings =
     (stand : Stand) (side : Side) (passed : Bool) (p : Setup) → stand.white ≡ white → stand.black ≡ black → HasStand c flips stand side passed p → KingsHome c p flips kings
 
+-- the turn takes the kings to greater squares
+abbrev pub TakesAway : (white black t : ℕ) → Type 0
+TakesAway white black t = 64 * white + black < 64 * turned_square (t % 8) (t / 8 == 1) white + turned_square (t % 8) (t / 8 == 1) black
+
 -- the turn that changes nothing leaves the white king at home, and another in the same colours that does takes the kings to greater squares
 pub record IsFirst (c white black : ℕ) : Type 0 where
   pub second : Option ℕ
   pub home : AreHome (has_pawns (material_of c)) false white 0 second
-  pub greater : IfSome second (λ t. 64 * white + black < 64 * turned_square (t % 8) (t / 8 == 1) white + turned_square (t % 8) (t / 8 == 1) black)
+  pub greater : IfSome second (TakesAway white black)
 
 -- in whatever position the kings stand on these squares, the least code of the turns that exchange no colours is that of all turns, if
 -- there is one

@@ -15,7 +15,7 @@ use crate::either::EitherWay;
 use crate::facts::facts;
 use crate::home::{Turns, still_home};
 use crate::men::{has_equal_sides, has_pawns};
-use crate::nearer::{is_first, is_own_nearer};
+use crate::nearer::{is_own_nearer, takes_away};
 use crate::stand::Stand;
 use crate::steps::{Steps, Ways};
 use crate::ways::{KingWay, Sum, Way, sum_of, way_of};
@@ -148,7 +148,7 @@ impl Frame {
             side,
             stand: *stand,
             alone: still.is_none(),
-            first: is_first(class, stand.white, stand.black, still),
+            first: takes_away(stand.white, stand.black, still),
             equal,
             own,
         }

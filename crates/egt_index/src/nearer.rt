@@ -3,7 +3,7 @@ ghost use Rattle.std.specs.Prelude.{◌≡◌, ℕ, ◌+◌, ◌*◌, ◌<◌, �
 ghost use Rattle.egt_board.specs.Turned.{turned_square};
 ghost use Rattle.egt_class.specs.Material.{material_of, has_equal_sides};
 ghost use Rattle.egt_index.specs.Home.{AreHome};
-ghost use Rattle.egt_index.specs.Nearer.{AreNearest, IsFirst, KingsTell};
+ghost use Rattle.egt_index.specs.Nearer.{TakesAway, AreNearest, KingsTell};
 ghost use Rattle.egt_index.specs.Size.{has_pawns};
 
 use crate::facts::facts;
@@ -66,15 +66,13 @@ pub(crate) fn homeward(class: Class, white: Square, black: Square, flips: bool) 
     }
 }
 
-/// Whether the other turn that leaves the white king at home, if there is one, takes the kings to greater squares. `_class` is read by the
-/// contract alone.
+/// Whether the turn, if there is one, takes the kings to greater squares.
 #[inline(always)]
-pub(crate) fn is_first(_class: Class, white: Square, black: Square, still: Option<u8>) -> bool
-    requires below { IfSome still (λ turn. turn < 16) }
-    requires home { AreHome (has_pawns (material_of _class)) false white 0 still }
-    ensures { result ≡ true → IsFirst _class white black }
+pub(crate) fn takes_away(white: Square, black: Square, turn: Option<u8>) -> bool
+    requires { IfSome turn (λ t. t < 16) }
+    ensures { result ≡ true → IfSome turn (TakesAway white black) }
 {
-    match still {
+    match turn {
         Some(turn) => pair(white, black) < kings_after(white, black, turn),
         None => true,
     }

@@ -21,6 +21,7 @@ use crate::facts::facts;
 use crate::home::{Turns, home, still_home};
 use crate::indexing::lesser;
 use crate::men::{has_pawns, is_paired};
+use crate::nearer::takes_away;
 use crate::scales::{NOBODY, Scale, Scales, Squares, class_scales, in_order, squares_of};
 use crate::stand::Stand;
 use crate::turning::turned_square;
@@ -153,8 +154,8 @@ impl Homing {
     }
 }
 
-/// The codes after the white king went, who was at home. In most of his steps he stays there and no other turn brings him home: then the code
-/// is what his digit adds to what the others add.
+/// The codes after the white king went, who was at home. In most of his steps he stays there and no other turn brings him home, or takes the
+/// kings to greater squares: then the code is what his digit adds to what the others add.
 #[derive(Clone, Copy)]
 pub(crate) struct KingWay {
     pub(crate) homing: Homing,
@@ -174,7 +175,7 @@ impl KingWay {
         KingWay { homing, rest }
     }
 
-    /// The code after he went to the square, if he is at home there too and no other turn brings him home.
+    /// The code after he went to the square, if he is at home there too and no other turn brings him home, or takes the kings to greater squares.
     #[inline(always)]
     fn code_at_home(&self, to: Square) -> Option<u32>
         requires { KingWayFits self.now }
@@ -183,9 +184,11 @@ impl KingWay {
         facts();
         let high = king_digit(self.homing.pawns, to)?;
         let code = u32::from(high) * self.homing.scales.king + self.rest;
-        match still_home(self.homing.pawns, to) {
-            Some(_) => None,
-            None => Some(code),
+        let still = still_home(self.homing.pawns, to);
+        if takes_away(to, self.homing.squares.black, still) {
+            Some(code)
+        } else {
+            None
         }
     }
 

@@ -22,13 +22,10 @@ returns-clause-frame c = λ p passed has.
       filled = c.requires.filled;
       home = c.requires.home;
       alone = λ is. subst (λ (o : Option ℕ). AreHome (has_pawns (material_of k)) false stand.white 0 o) (none_of c.still_home-still.result (c.is_none.ensures ∙ ap not is)) home;
-      first = c.is_first.ensures;
+      first = λ is. record { second = c.still_home-still.result; home = home; greater = c.takes_away.ensures is };
       equal = c.has_equal_sides-equal.ensures;
       own = λ is. elim c.if-equal.branch [
         | then-equal w ↦ w.is_own_nearer-own.ensures (sym w.own-is ∙ is)
         | else-equal w ↦ absurd (false≢true (sym w.own-is ∙ is))
       ];
     }
-
-pub is_first-requires-clause-home : goal.is_first-requires-clause-home
-is_first-requires-clause-home c = still_home c.args.class c.has_pawns.result c.args.stand.now.white c.still_home-still.result c.has_pawns.ensures c.requires.home c.still_home-still.ensures.home
