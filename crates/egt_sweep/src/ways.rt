@@ -115,6 +115,7 @@ pub(crate) fn onward(
 }
 
 /// The legal moves, with those of the man on the square. The values of where his moves that leave the game lead are added to `exits`.
+#[inline(always)]
 pub(crate) fn with_man(
     aim: &Aim<'_>,
     class: Class,
