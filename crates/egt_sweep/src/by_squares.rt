@@ -17,6 +17,7 @@ ghost use Rattle.egt_sweep.specs.Edges.{AtSome, IsAt, Connects, CameTo, HadNoTar
 
 use crate::ascending::put;
 use crate::laws::laws;
+use crate::sifting::sift;
 use crate::wanted::Wanted;
 use arrayvec::ArrayVec;
 use egt_board::camps::camps_are_few;
@@ -24,7 +25,7 @@ use egt_board::{Camps, Kind, Man, Position, Square, SquareSet};
 use egt_class::Class;
 use egt_index::{Frame, Steps};
 use egt_table::Column;
-use egt_unmoves::quiet_sources;
+use egt_unmoves::{quiet_sources, quiet_sources_among, ways_back};
 
 /// The squares of lesser numbers.
 fn below(square: Square) -> SquareSet
@@ -119,7 +120,8 @@ fn add_sources_of(
         return;
     }
     let steps = frame.steps(to);
-    let sources = quiet_sources(position, camps, man, to);
+    let squares = sift(&steps, ways_back(position, camps, man, to), wanted);
+    let sources = quiet_sources_among(position, camps, man, to, squares);
     add_left(class, &steps, position, man, to, sources, wanted, list);
 }
 

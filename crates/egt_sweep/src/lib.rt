@@ -16,6 +16,7 @@ mod missing;
 mod nodes;
 mod quiet;
 pub mod ranks;
+mod sifting;
 mod sources;
 mod wanted;
 mod ways;
