@@ -7,8 +7,9 @@ use Rattle.egt_board.specs.Attack.{king_of}
 use Rattle.egt_board.specs.Gait.{Reaches}
 use Rattle.egt_board.specs.Images.{kind_number}
 use Rattle.egt_board.specs.Man.{other_side}
-use Rattle.egt_board.specs.Pawn.{pawn_of, ahead}
+use Rattle.egt_board.specs.Pawn.{Advances, pawn_of, ahead}
 use Rattle.egt_board.specs.Placement.{Placement, Stands, IsFree, IsHeld, one_man, get-insert_same, get-insert_other, get-remove_same, get-remove_other}
+use Rattle.egt_board.specs.Target.{FitsTarget}
 use Rattle.egt_board.specs.Setup.{Setup, IsAdmissible, HasKings, IsKingOn}
 use Rattle.egt_board.specs.declared.man.Kind.{Kind}
 use Rattle.egt_board.specs.declared.man.Kind.TheVariants.{P, K}
@@ -20,7 +21,8 @@ use Rattle.egt_moves.specs.Chess.{IsPawnOn}
 use Rattle.egt_moves.specs.DecidedMoves.{decided_checkmate}
 use Rattle.egt_moves.specs.Legal.{Leads, men_left, takes_in_passing}
 use Rattle.egt_moves.specs.Moves.{moves_of, moves_from, played}
-use Rattle.egt_moves.specs.Promotion.{arriving}
+use Rattle.egt_moves.specs.Exchange.{Captures}
+use Rattle.egt_moves.specs.Promotion.{arriving, promotes}
 use Rattle.egt_moves.specs.Standing.{IsCheckmate}
 use Rattle.egt_moves.specs.declared.chess_move.Move.{Move}
 use Rattle.egt_graph.specs.Graph.{IsStart}
@@ -30,7 +32,9 @@ use Rattle.egt_sweep.specs.ClassGame.{class_game}
 use Rattle.egt_sweep.specs.Edges.{IsAt, GoesOn}
 use Rattle.egt_sweep.specs.Laws.{Laws}
 use Rattle.egt_sweep.specs.Nodes.{is_mated, exits_at, exits_by, exits_from, exit_by}
-use Rattle.egt_sweep.specs.Ways.{WaitsAlone}
+use Rattle.egt_sweep.specs.Ways.{Stays, WaitsAlone}
+use Rattle.egt_table.specs.declared.column.Column.TheVariants.{Mate}
+use Rattle.egt_sweep.proofs.Onward.{unpromoted, pawn_stays}
 use Rattle.egt_sweep.proofs.OutOfClass.{nothing_told}
 use Rattle.egt_sweep.proofs.Starting.{not_told, here, no_void}
 use Rattle.egt_sweep.proofs.Staying.{quiet_goes_on}
@@ -100,6 +104,16 @@ module _ (laws : Laws) (p : Setup) (ok : IsAdmissible p) (alone : WaitsAlone p) 
       men_are : map.get q.men king.0 ≡ map.get (map.insert (map.remove (men_left p leads.man m.to) m.from) m.to (arriving leads.man m.promo)) king.0
       men_are = ap (λ (x : Setup). map.get x.men king.0) leads.becomes
 
+  -- nor is a pawn taken in passing
+  target_none : (o : Option ℕ) → p.target ≡ o → (t : ℕ) → o ≡ Some t → ⊥
+  target_none o is t e =
+      let target = subst (FitsTarget p.men p.side) (is ∙ e) ok.target in
+      pawn_is_no_king (alone (ahead (other_side p.side) t) (pawn_of (other_side p.side)) target.advanced refl)
+
+  no_capture : (m : Move) (q : Setup) → Leads p m q → Captures p m → ⊥
+  no_capture m q leads (inl held) = king_stays m q leads held
+  no_capture m q leads (inr passing) = target_none p.target refl m.to passing.1
+
   -- and attacks no king
   never_mated : BothAttack → IsCheckmate p → ⊥
   never_mated both mate =
@@ -129,6 +143,32 @@ module _ (laws : Laws) (p : Setup) (ok : IsAdmissible p) (alone : WaitsAlone p) 
     piece_stays_in from man stands piece =
         from_none (λ m. option_to_list (exit_by tables column c p m (played p m))) from (λ to promo. nothing_told laws tables column c p (record { from = from; to = to; promo = promo }) ok
         (λ q leads. piece_goes_on (record { from = from; to = to; promo = promo }) q leads (λ pawn. piece (ap (λ (x : Man). x.kind) (one_man p.men from man pawn.man stands pawn.stands) ∙ pawn.pawn))))
+
+    -- and a pawn that none of its advances promotes
+    pub pawn_stays_in : (from : ℕ) (man : Man) → Stands p.men from man → man.kind ≡ P → column ≡ Mate → ((t : ℕ) → Advances (IsFree p.men) man.side from t → Stays p man t)
+        → exits_by tables column c p (moves_from from 64) ≡ []
+    pawn_stays_in from man stands pawn mate stays =
+        from_none (λ m. option_to_list (exit_by tables column c p m (played p m))) from (λ to promo. nothing_told laws tables column c p (record { from = from; to = to; promo = promo }) ok
+        (λ q leads. subst (λ (col : Column). GoesOn col c p (record { from = from; to = to; promo = promo }) q) (sym mate) (goes_on_by (record { from = from; to = to; promo = promo }) q leads
+        (one_man p.men from man leads.man stands leads.stands) refl)))
+      where
+        arrives : (m : Move) (q : Setup) (leads : Leads p m q) → man ≡ leads.man → m.from ≡ from → Stays p man m.to
+        arrives m q leads same here = elim leads.goes [
+          | inl piece ↦ absurd (piece.piece (ap (λ (x : Man). x.kind) (sym same) ∙ pawn))
+          | inr goes ↦ elim goes [
+            | inl advances ↦ stays m.to (subst (λ s. Advances (IsFree p.men) man.side s m.to) here (subst (λ (x : Man). Advances (IsFree p.men) x.side m.from m.to) (sym same) advances.advances))
+            | inr takes ↦ absurd (elim takes.takes [
+              | inl held ↦ king_stays m q leads held
+              | inr passed ↦ target_none p.target refl m.to passed
+            ])
+          ]
+        ]
+
+        goes_on_by : (m : Move) (q : Setup) (leads : Leads p m q) → man ≡ leads.man → m.from ≡ from → GoesOn Mate c p m q
+        goes_on_by m q leads same here =
+            let rank = (arrives m q leads same here).0 in
+            let none = unpromoted (promotes leads.man m.to) m.promo (subst (λ (x : Man). promotes x m.to ≡ false) same (pawn_stays man m.to rank)) leads.promotion in
+            laws.facts.some_index q c of.0 c_in (laws.facts.step_admissible p q m ok leads) (laws.quiet_class p q m c of.0 ok of.1 leads (no_capture m q leads) none)
 
     pub pieces_stay_in : ((s : ℕ) → Stands p.men s (pawn_of p.side) → ⊥) → exits_from tables column c (Some p) ≡ []
     pieces_stay_in none =

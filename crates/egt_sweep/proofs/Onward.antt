@@ -34,7 +34,7 @@ use Rattle.egt_sweep.proofs.Staying.{quiet_goes_on, no_promotion}
 
 -- ---- what is promoted
 
-unpromoted : (b : Bool) (promo : Option Kind) → b ≡ false → FitsPromotion b promo → promo ≡ None
+pub unpromoted : (b : Bool) (promo : Option Kind) → b ≡ false → FitsPromotion b promo → promo ≡ None
 unpromoted true promo e fits = absurd (false≢true (sym e))
 unpromoted false None e fits = refl
 unpromoted false (Some kind) e fits = absurd fits
