@@ -15,7 +15,7 @@ use egt_board::Square;
 /// The codes after one man went, of all turns.
 #[derive(Clone, Copy)]
 pub(crate) enum Ways {
-    /// The most common case by itself: one turn of the class's colours alone makes what has a code.
+    /// The most common case by itself: of the turns in the class's colours the one that changes nothing makes the least code.
     Single(Sum),
     /// The white king's in the class's colours, where the least is in these.
     King(KingWay),
