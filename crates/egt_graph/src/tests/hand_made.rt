@@ -1,6 +1,6 @@
 //! Small games whose values were worked out by hand.
-use super::games::{Sample, Stairs};
-use crate::{Exit, Game, SolveFault, Start, solve};
+use super::games::{Sample, Stairs, Uncounted};
+use crate::{Exit, Game, SolveFault, Start, UNTOLD, solve, solve_and_count};
 use arrayvec::ArrayVec;
 use std::test::*;
 
@@ -29,6 +29,35 @@ fn with_exits() -> Sample<'static> {
 fn exits_that_fall_due(rt: HostRuntime) -> Result<(), Fail> {
     let ranks = solve(rt.alloc(), &with_exits(), 32_000)?;
     assert_eq!(rt; ranks.entries(), [10, 13, 17, 1, 18].as_slice());
+    Ok(())
+}
+
+// What is not counted at first is counted where it is waited for, in nodes with exits and in others.
+#[test]
+fn counted_when_waited_for(rt: HostRuntime) -> Result<(), Fail> {
+    let game = with_exits();
+    let ranks = solve(rt.alloc(), &Uncounted { game: &game }, 8)?;
+    assert_eq!(rt; ranks.entries(), [10, 13, 17, 1, 18].as_slice());
+    assert!(rt;
+        matches!(
+            solve(rt.alloc(), &Uncounted { game: &game }, 7),
+            Err(SolveFault::TooDeep)
+        )
+    );
+    Ok(())
+}
+
+// 1 and 4 alone have moves and no exits.
+#[test]
+fn counts_told(rt: HostRuntime) -> Result<(), Fail> {
+    let game = with_exits();
+    let (_ranks, counts) = solve_and_count(rt.alloc(), &game, 8)?;
+    assert_eq!(rt;
+        counts.as_slice(),
+        [UNTOLD, 1, UNTOLD, UNTOLD, 1].as_slice()
+    );
+    let (_ranks, counts) = solve_and_count(rt.alloc(), &Uncounted { game: &game }, 8)?;
+    assert_eq!(rt; counts.as_slice(), [UNTOLD; 5].as_slice());
     Ok(())
 }
 
@@ -128,7 +157,7 @@ fn two_neighbours(rt: HostRuntime) {
     let mut next_exits = ArrayVec::new();
     let zero = Some(Start {
         mated: false,
-        degree: 1,
+        degree: Some(1),
     });
     assert_eq!(rt;
         game.start_two(0, &mut exits, &mut next_exits),
@@ -138,7 +167,7 @@ fn two_neighbours(rt: HostRuntime) {
     assert_eq!(rt; next_exits.len(), 0);
     let two = Some(Start {
         mated: true,
-        degree: 0,
+        degree: Some(0),
     });
     assert_eq!(rt; game.start_two(1, &mut exits, &mut next_exits), (None, two));
     assert_eq!(rt; exits.len(), 0);
