@@ -32,7 +32,6 @@ pub use row::{Row, begins_row, position, row_of};
 pub use sizes::size;
 pub use spelling::{indexed, position_of};
 pub use steps::Steps;
-pub use ways::Sum;
 
 #[cfg(test)]
 mod index_tests;

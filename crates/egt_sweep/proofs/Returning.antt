@@ -146,28 +146,6 @@ module _ (laws : Laws) (c : ℕ) (q : Setup) (man : Man) (to : ℕ) (stands : St
           (came.move.from, complete came.before came.move came.here came.comes, (came.comes.admissible.on_board came.move.from came.comes.leads.man came.comes.leads.stands, subst (λ (x : Setup). IsIndex c x k) b came.index)),
     )
 
-  -- the same where squares were left out beforehand of which nobody asks
-  module _ (column : Column) (set sifted : SquareSet) (wanted : Wanted) (none_had : HadNoTarget q)
-      (sound : (s : ℕ) → s < 64 → Has set s → ComesBy (setup_before q man to s None) (plain s to) q)
-      (complete : (b : Setup) (m : Move) → m.to ≡ to → ComesBy b m q → Has sifted m.from → Has set m.from)
-      (kept : (s k : ℕ) → ComesBy (setup_before q man to s None) (plain s to) q → s < 64 → IsIndex c (setup_before q man to s None) k → IsWanted wanted k → Has sifted s)
-      (one_before : (b : Setup) (m : Move) → m.to ≡ to → ComesBy b m q → b.target ≡ None → b ≡ setup_before q man to m.from None) where
-    plain_move : (m : Move) → m.to ≡ to → m.promo ≡ None → m ≡ plain m.from to
-    plain_move m here none = λ i. record { from = m.from; to = here i; promo = none i }
-
-    pub sifted_came : IsTakenBack column man → (k : ℕ) → AtSome set (Among wanted (WasOn c q man to)) k ↔ (CameTo column c q to k × IsWanted wanted k)
-    sifted_came taken k = (
-      λ was. let from = was.0 in (record { before = setup_before q man to from None; move = plain from to; here = refl; comes = sound from was.2.0.0 was.1; back = back_by column from taken; index = was.2.0.1 }, was.2.1),
-      λ p.
-          let came = p.0 in
-          let from = came.move.from in
-          let b = one_before came.before came.move came.here came.comes (none_had came.before came.move came.comes) in
-          let on_board = came.comes.admissible.on_board from came.comes.leads.man came.comes.leads.stands in
-          let comes = subst (λ (m : Move). ComesBy (setup_before q man to from None) m q) (plain_move came.move came.here came.comes.no_promotion) (subst (λ (x : Setup). ComesBy x came.move q) b came.comes) in
-          let index = subst (λ (x : Setup). IsIndex c x k) b came.index in
-          (from, complete came.before came.move came.here came.comes (kept from k comes on_board index p.1), ((on_board, index), p.1)),
-    )
-
 -- the same of those that are wanted
 pub among : {P : Type 0} (goes : ℕ → ℕ → Type 0) (set : SquareSet) (wanted : Wanted) (k : ℕ) → (AtSome set goes k ↔ P) → AtSome set (Among wanted goes) k ↔ (P × IsWanted wanted k)
 among goes set wanted k same = (λ h. (same.0 (h.0, h.1, h.2.0), h.2.1), λ p. let at = same.1 p.0 in (at.0, at.1, (at.2, p.1)))

@@ -17,7 +17,6 @@ ghost use Rattle.egt_sweep.specs.Edges.{AtSome, IsAt, Connects, CameTo, HadNoTar
 
 use crate::ascending::put;
 use crate::laws::laws;
-use crate::sifting::sift;
 use crate::wanted::Wanted;
 use arrayvec::ArrayVec;
 use egt_board::camps::camps_are_few;
@@ -25,7 +24,7 @@ use egt_board::{Camps, Kind, Man, Position, Square, SquareSet};
 use egt_class::Class;
 use egt_index::{Frame, Steps};
 use egt_table::Column;
-use egt_unmoves::{quiet_sources, quiet_sources_among, ways_back};
+use egt_unmoves::quiet_sources;
 
 /// The squares of lesser numbers.
 fn below(square: Square) -> SquareSet
@@ -120,8 +119,7 @@ fn add_sources_of(
         return;
     }
     let steps = frame.steps(to);
-    let squares = sift(&steps, ways_back(position, camps, man, to), wanted);
-    let sources = quiet_sources_among(position, camps, man, to, squares);
+    let sources = quiet_sources(position, camps, man, to);
     add_left(class, &steps, position, man, to, sources, wanted, list);
 }
 

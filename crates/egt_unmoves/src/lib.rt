@@ -9,7 +9,7 @@ pub mod taking_back;
 pub mod targets;
 pub mod unmove;
 
-pub use leaving::{quiet_sources, quiet_sources_among, ways_back};
+pub use leaving::quiet_sources;
 pub use listing::unmoves;
 pub use targets::target_before;
 pub use unmove::Unmove;

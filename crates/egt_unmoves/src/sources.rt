@@ -99,42 +99,6 @@ fn quiet(position: &Position, camps: Camps, man: Man, to: Square) -> SquareSet
         .without(attackers(position, camps, man, to, king))
 }
 
-/// The squares from which the man on `to`, one of the side that waits, may have come past free squares, whoever was in check before.
-pub(crate) fn ways_to(position: &Position, camps: Camps, man: Man, to: Square) -> SquareSet
-    requires camps { AreCamps position.now camps }
-    requires stands { Stands position.now.men to man }
-    ensures ways { (s : ℕ) → s < 64 → Has result s ↔ HasWay position.now.men man to s }
-    ensures few { size_of result ≤ most_goals man.kind }
-{
-    let _whole = position.side();
-    if is_pawn(man) {
-        pawn_sources(position, camps, man, to)
-    } else {
-        piece_sources(position, camps, man, to)
-    }
-}
-
-/// Those of these squares that the man on `to`, one of the side that waits, may have left. Where there are none, nothing is looked for.
-pub(crate) fn sources_among(
-    position: &Position,
-    camps: Camps,
-    man: Man,
-    to: Square,
-    ways: SquareSet,
-) -> SquareSet
-    requires camps { AreCamps position.now camps }
-    requires stands { Stands position.now.men to man }
-    requires theirs { man.side ≡ other_side position.now.side }
-    requires ways { (s : ℕ) → s < 64 → Has ways s → HasWay position.now.men man to s }
-    ensures left { (s : ℕ) → s < 64 → Has result s ↔ (Has ways s × MayHaveLeft position.now man to s) }
-    ensures few { size_of result ≤ size_of ways }
-{
-    if ways.is_empty() {
-        return ways;
-    }
-    ways.common(quiet(position, camps, man, to))
-}
-
 /// The squares that the man on `to`, one of the side that waits, may have left.
 pub(crate) fn sources(position: &Position, camps: Camps, man: Man, to: Square) -> SquareSet
     requires camps { AreCamps position.now camps }
@@ -143,6 +107,11 @@ pub(crate) fn sources(position: &Position, camps: Camps, man: Man, to: Square) -
     ensures left { (s : ℕ) → s < 64 → Has result s ↔ MayHaveLeft position.now man to s }
     ensures few { size_of result ≤ most_goals man.kind }
 {
-    let ways = ways_to(position, camps, man, to);
-    sources_among(position, camps, man, to, ways)
+    let _whole = position.side();
+    let ways = if is_pawn(man) {
+        pawn_sources(position, camps, man, to)
+    } else {
+        piece_sources(position, camps, man, to)
+    };
+    ways.common(quiet(position, camps, man, to))
 }

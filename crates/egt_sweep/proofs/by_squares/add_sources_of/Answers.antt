@@ -1,11 +1,9 @@
-use Rattle.std.proofs.Common.{ℕ, None, refl, sym, ◌∙◌, subst}
+use Rattle.std.proofs.Common.{ℕ, sym, ◌∙◌, subst}
 use Rattle.egt_board.specs.Placement.{Stands}
 use Rattle.egt_index.specs.Steps.{AreSteps}
 use Rattle.egt_sweep.specs.Edges.{WasOn}
 use Rattle.egt_sweep.proofs.Collecting.{untrue, members_on}
-use Rattle.egt_moves.specs.Legal.{plain}
-use Rattle.egt_unmoves.specs.Unmoves.{setup_before}
-use Rattle.egt_sweep.proofs.Returning.{came_moved, sifted_came, none_came}
+use Rattle.egt_sweep.proofs.Returning.{among, came_moved, was_came, none_came}
 use Rattle.egt_sweep.proofs.by_squares.add_sources_of.Goals as goal
 
 pub returns-then-not-goes_back_by-clause-members : goal.returns-then-not-goes_back_by-clause-members
@@ -21,26 +19,12 @@ add_left-requires-clause-steps c =
 
 pub add_left-requires-clause-moved : goal.add_left-requires-clause-moved
 add_left-requires-clause-moved c s on_board has =
-    came_moved c.laws.ensures c.args.class c.args.position.now c.unwrap-man.result c.args.to (sym c.at.ensures ∙ c.unwrap-man.ensures) s on_board (c.quiet_sources_among-sources.ensures.sound s on_board has)
-
-pub sift-squares-requires : goal.sift-squares-requires
-sift-squares-requires c =
-    let q = c.args.position.now in
-    let stands : Stands q.men c.args.to c.unwrap-man.result = sym c.at.ensures ∙ c.unwrap-man.ensures in
-    (c.args.class, c.args.to, q, subst (λ (d : ℕ). AreSteps q d c.args.to c.steps-steps.result) c.requires.class (c.steps-steps.ensures q c.unwrap-man.result c.requires.frame stands))
-
-pub quiet_sources_among-sources-requires-clause-ways : goal.quiet_sources_among-sources-requires-clause-ways
-quiet_sources_among-sources-requires-clause-ways c s on_board has = c.ways_back.ensures.ways s on_board (c.sift-squares.ensures.among s has)
+    came_moved c.laws.ensures c.args.class c.args.position.now c.unwrap-man.result c.args.to (sym c.at.ensures ∙ c.unwrap-man.ensures) s on_board (c.quiet_sources-sources.ensures.sound s on_board has)
 
 pub returns-clause-members : goal.returns-clause-members
 returns-clause-members c k =
-    let q = c.args.position.now in
-    let man = c.unwrap-man.result in
-    let stands : Stands q.men c.args.to man = sym c.at.ensures ∙ c.unwrap-man.ensures in
-    let r = c.quiet_sources_among-sources.ensures in
-    let steps = subst (λ (d : ℕ). AreSteps q d c.args.to c.steps-steps.result) c.requires.class (c.steps-steps.ensures q man c.requires.frame stands) in
+    let r = c.quiet_sources-sources.ensures in
+    let stands = sym c.at.ensures ∙ c.unwrap-man.ensures in
     members_on (c.add_left.ensures.members k)
-    (sifted_came c.laws.ensures c.args.class q man c.args.to stands c.args.column c.quiet_sources_among-sources.result c.sift-squares.result c.args.wanted.now c.requires.before r.sound r.complete
-    (λ s i comes on_board index wanted. c.sift-squares.ensures.kept c.args.class c.args.to q (setup_before q man c.args.to s None) s i steps (came_moved c.laws.ensures c.args.class q man c.args.to stands s on_board comes) index wanted
-    (c.ways_back.ensures.complete (setup_before q man c.args.to s None) (plain s c.args.to) refl comes))
-    r.before (c.goes_back_by.ensures.0 c.if-not-goes_back_by.false) k)
+    (among (WasOn c.args.class c.args.position.now c.unwrap-man.result c.args.to) c.quiet_sources-sources.result c.args.wanted.now k (was_came c.laws.ensures c.args.class c.args.position.now c.unwrap-man.result c.args.to stands c.args.column c.quiet_sources-sources.result c.requires.before r.sound r.complete r.before
+    (c.goes_back_by.ensures.0 c.if-not-goes_back_by.false) k))
