@@ -1,7 +1,10 @@
 //! What holds of codes and indexes. These functions do nothing: a caller calls one to know what it ensures.
 ghost use Rattle.std.specs.Prelude.{◌≡◌, ◌↔◌, ◌⊎◌, ℕ, ◌<◌, Bool, false};
 ghost use Rattle.egt_board.specs.declared.man.Man.{Man};
-ghost use Rattle.egt_board.specs.Pawn.{HasNoPawn};
+ghost use Rattle.egt_board.specs.declared.man.Side.{Side};
+ghost use Rattle.egt_board.specs.Man.{other_side};
+ghost use Rattle.egt_board.specs.Pawn.{pawn_of};
+ghost use Rattle.egt_board.specs.Placement.{Stands};
 ghost use Rattle.egt_board.specs.Settled.{SettlesTo};
 ghost use Rattle.egt_board.specs.Setup.{Setup, IsAdmissible};
 ghost use Rattle.egt_class.specs.Material.{material_of};
@@ -9,7 +12,7 @@ ghost use Rattle.egt_class.specs.Membership.{IsOf};
 ghost use Rattle.egt_index.specs.Axis.{is_on_axis, StandsAlone};
 ghost use Rattle.egt_index.specs.Code.{Spells};
 ghost use Rattle.egt_index.specs.Index.{IsIndex, IsVoid, SettleAlike};
-ghost use Rattle.egt_index.specs.Size.{has_pawns, size_of};
+ghost use Rattle.egt_index.specs.Size.{has_target, size_of};
 
 use crate::facts::facts;
 
@@ -63,9 +66,10 @@ pub fn one_index_for_one_setup()
     facts();
 }
 
-/// No pawn stands in a position of a class without pawns.
-pub fn a_class_without_pawns_has_none()
-    ensures { (c : ℕ) (flipped : Bool) (p : Setup) → IsAdmissible p → IsOf c flipped p → has_pawns (material_of c) ≡ false → HasNoPawn p.men }
+/// Not both sides have pawns in a position of a class whose positions have no target.
+pub fn a_class_without_targets_has_pawns_of_one_side()
+    ensures { (c : ℕ) (flipped : Bool) (p : Setup) → IsAdmissible p → IsOf c flipped p → has_target (material_of c) ≡ false →
+        (side : Side) (s t : ℕ) → Stands p.men s (pawn_of side) → ¬ Stands p.men t (pawn_of (other_side side)) }
 {
     facts();
 }

@@ -136,7 +136,7 @@ pub(crate) fn beside(class: Class) -> (Option<Man>, Option<Man>)
 }
 
 /// Whether the class has pawns.
-pub fn has_pawns(class: Class) -> bool
+pub(crate) fn has_pawns(class: Class) -> bool
     ensures { result ≡ has_pawns (material_of class) }
 {
     PAWNS[usize::from(class.number())]
@@ -150,7 +150,7 @@ pub(crate) fn is_paired(class: Class) -> bool
 }
 
 /// Whether positions of the class may have a target: only where both sides have a pawn.
-pub(crate) fn has_target(class: Class) -> bool
+pub fn has_target(class: Class) -> bool
     ensures { result ≡ has_target (material_of class) }
 {
     class.number() == 35

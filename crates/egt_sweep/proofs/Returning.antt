@@ -19,6 +19,7 @@ use Rattle.egt_board.specs.Placement.{Placement, Stands, IsFree, IsHeld, one_man
 use Rattle.egt_board.specs.Settled.{SettlesTo}
 use Rattle.egt_board.specs.Setup.{Setup}
 use Rattle.egt_board.specs.SquareSet.{Has}
+use Rattle.egt_board.specs.Target.{FitsTarget}
 use Rattle.egt_index.specs.Frame.{IsMoved}
 use Rattle.egt_index.specs.Index.{IsIndex}
 use Rattle.egt_moves.specs.Chess.{IsPawnOn}
@@ -71,16 +72,32 @@ module _ (b q : Setup) (m : Move) (comes : ComesBy b m q) where
   waits : b.side ≡ other_side q.side
   waits = sym (side_twice b.side) ∙ ap other_side (sym (settles_side comes.led q comes.settles ∙ ap (λ (x : Setup). x.side) comes.leads.becomes))
 
-  -- the side that moved has no pawn, so that none stood ready to take in passing
-  pub no_taker : ((s : ℕ) → ¬ Stands q.men s (pawn_of (other_side q.side))) → b.target ≡ None
-  no_taker none = by_target b.target refl
+  -- a pawn of the other side stands where it stood before
+  kept_pawn : (s : ℕ) → Stands b.men s (pawn_of (other_side b.side)) → Stands q.men s (pawn_of (other_side b.side))
+  kept_pawn s there = elim (cases_eq s m.from) [
+    | inl e ↦ absurd (let is : pawn_of (other_side b.side) ≡ comes.leads.man = one_man b.men m.from (pawn_of (other_side b.side)) comes.leads.man (sym (ap (map.get b.men) e) ∙ there) comes.leads.stands in
+        no_side b.side (sym comes.leads.mine ∙ sym (ap (λ (x : Man). x.side) is)))
+    | inr off ↦ elim (cases_eq s m.to) [
+      | inl e ↦ absurd (let both : Some (pawn_of (other_side b.side)) ≡ None = sym there ∙ ap (map.get b.men) e ∙ free_there in cc)
+      | inr away ↦ ap (λ (men : Placement). map.get men s) now_men ∙ elsewhere b.men m.from m.to comes.leads.man comes.leads.stands free_there s off away ∙ there
+    ]
+  ]
+    where
+      no_side : (side : Side) → side ≡ other_side side → ⊥
+      no_side White e = let no = e in cc
+      no_side Black e = let no = e in cc
+
+  -- where not both sides have pawns, none stood ready to take in passing
+  pub no_taker : ((side : Side) (s t : ℕ) → Stands q.men s (pawn_of side) → ¬ Stands q.men t (pawn_of (other_side side))) → b.target ≡ None
+  no_taker never = by_target b.target refl
     where
       by_target : (o : Option ℕ) → b.target ≡ o → b.target ≡ None
       by_target None is = is
       by_target (Some t) is = absurd
           (let beside : HasPawnBeside b.men b.side (ahead (other_side b.side) t) = subst (λ (o : Option ℕ). IfSome o (λ t. HasPawnBeside b.men b.side (ahead (other_side b.side) t))) is comes.settled in
+          let target = subst (FitsTarget b.men b.side) is comes.admissible.target in
           let now = had_pawn beside.square beside.stands in
-          none now.0 (subst (λ (side : Side). Stands q.men now.0 (pawn_of side)) waits now.1))
+          never b.side now.0 (ahead (other_side b.side) t) now.1 (kept_pawn (ahead (other_side b.side) t) target.advanced))
 
   -- the man stands where it came to
   pub came_held : IsHeld q.men m.to (other_side q.side)

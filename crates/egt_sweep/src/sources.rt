@@ -4,8 +4,6 @@ ghost use Rattle.std.specs.List.{Contains};
 ghost use Rattle.std.specs.List.Sorted.{IsStrictlyIncreasing};
 ghost use Rattle.arrayvec.specs.ArrayVec.{array_vec_len};
 ghost use Rattle.egt_class.specs.Membership.{IsOf};
-ghost use Rattle.egt_board.specs.Pawn.{pawn_of};
-ghost use Rattle.egt_board.specs.Placement.{Stands};
 ghost use Rattle.egt_board.specs.Settled.{IsSettled};
 ghost use Rattle.egt_index.specs.Frame.{IsFrame};
 ghost use Rattle.egt_sweep.specs.Wanted.{IsWanted};
@@ -16,10 +14,10 @@ use crate::by_squares::sources_by_squares;
 use crate::laws::laws;
 use crate::wanted::Wanted;
 use arrayvec::ArrayVec;
-use egt_board::{Position, Side, SquareSet};
+use egt_board::Position;
 use egt_class::Class;
-use egt_index::laws::a_class_without_pawns_has_none;
-use egt_index::{Frame, has_pawns, index};
+use egt_index::laws::a_class_without_targets_has_pawns_of_one_side;
+use egt_index::{Frame, has_target, index};
 use egt_table::Column;
 use egt_unmoves::{Unmove, target_before, unmoves};
 
@@ -82,33 +80,19 @@ fn sources_by_unmoves(
     }
 }
 
-/// Whether that side has a pawn.
-fn has_pawn(position: &Position, side: Side) -> bool
-    ensures some { IsTrue result → (s : ℕ) × Stands position.now.men s (pawn_of side) }
-    ensures none { IsFalse result → (s : ℕ) → ¬ Stands position.now.men s (pawn_of side) }
-{
-    let _side = position.side();
-    match position.board().find(side.pawn(), SquareSet::ALL) {
-        Some(_square) => true,
-        None => false,
-    }
-}
-
-/// Whether the position has a target, or may have had one before, which a pawn of the side that moved stood ready to take.
+/// Whether the position has a target, or may have had one before, which a pawn of the side that moved stood ready to take. For that both
+/// sides need pawns.
 fn may_have_target(class: Class, position: &Position) -> bool
     requires { (flipped : Bool) × IsOf class flipped position.now }
     ensures now { IsFalse result → position.now.target ≡ None }
     ensures before { IsFalse result → HadNoTarget position.now }
 {
-    a_class_without_pawns_has_none();
+    a_class_without_targets_has_pawns_of_one_side();
     let _side = position.side();
     if position.target().is_some() {
         return true;
     }
-    if !has_pawns(class) {
-        return false;
-    }
-    if !has_pawn(position, position.side().other()) {
+    if !has_target(class) {
         return false;
     }
     target_before(position).is_some()
