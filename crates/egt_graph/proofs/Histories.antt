@@ -351,7 +351,7 @@ alike_rank g h law a i node (Win n) r = ((alike_within g h law a n i node).0 ∙
 alike_rank g h law a i node (Loss n) r = ((alike_within g h law a n i node).1 ∙ r.0, alike_mated_before g h law a n i node ∙ r.1)
 alike_rank g h law a i node Draw r = λ n. ((alike_within g h law a n i node).0 ∙ (r n).0, (alike_within g h law a n i node).1 ∙ (r n).1)
 
-alike_ranks : (g h : Graph) → IsGame g → IsAlike g h → (limit : ℕ) (entries : List ℕ) → AreRanks h limit entries → AreRanks g limit entries
+pub alike_ranks : (g h : Graph) → IsGame g → IsAlike g h → (limit : ℕ) (entries : List ℕ) → AreRanks h limit entries → AreRanks g limit entries
 alike_ranks g h law a limit entries r = record {
   all = r.all ∙ sym a.size;
   voids = λ i lt v. let e = a.size in r.voids i (omega arith) (sym (a.void i lt) ∙ v);

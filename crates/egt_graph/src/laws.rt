@@ -1,6 +1,6 @@
 //! Laws over the definitions alone. Each is the contract of a function that does nothing.
 ghost use Rattle.egt_graph.specs.Events.{EventsLeave, EachRoundIsOfItsRank, FinishedRunsAgree};
-ghost use Rattle.egt_graph.specs.Laws.{MorePliesDoNoHarm, EachNodeHasOneValue};
+ghost use Rattle.egt_graph.specs.Laws.{MorePliesDoNoHarm, EachNodeHasOneValue, AlikeGamesHaveTheSameRanks};
 
 /// A mate within n plies is a mate within more.
 pub fn more_plies_do_no_harm()
@@ -27,4 +27,9 @@ pub fn each_round_is_of_its_rank()
 /// gives are equal.
 pub fn finished_runs_agree()
     ensures { FinishedRunsAgree }
+{}
+
+/// Games whose calls all answer alike have the same ranks.
+pub fn alike_games_have_the_same_ranks()
+    ensures { AlikeGamesHaveTheSameRanks }
 {}

@@ -3,7 +3,7 @@ ghost use Rattle.std.specs.Prelude.{◌≡◌, ◌↔◌, ◌⊎◌, ℕ, ◌<�
 ghost use Rattle.egt_board.specs.declared.man.Man.{Man};
 ghost use Rattle.egt_board.specs.declared.man.Side.{Side};
 ghost use Rattle.egt_board.specs.Man.{other_side};
-ghost use Rattle.egt_board.specs.Pawn.{pawn_of};
+ghost use Rattle.egt_board.specs.Pawn.{pawn_of, HasNoPawn};
 ghost use Rattle.egt_board.specs.Placement.{Stands};
 ghost use Rattle.egt_board.specs.Settled.{SettlesTo};
 ghost use Rattle.egt_board.specs.Setup.{Setup, IsAdmissible};
@@ -12,7 +12,7 @@ ghost use Rattle.egt_class.specs.Membership.{IsOf};
 ghost use Rattle.egt_index.specs.Axis.{is_on_axis, StandsAlone};
 ghost use Rattle.egt_index.specs.Code.{Spells};
 ghost use Rattle.egt_index.specs.Index.{IsIndex, IsVoid, SettleAlike};
-ghost use Rattle.egt_index.specs.Size.{has_target, size_of};
+ghost use Rattle.egt_index.specs.Size.{has_pawns, has_target, size_of};
 
 use crate::facts::facts;
 
@@ -62,6 +62,13 @@ pub fn a_code_is_an_index_or_void()
 pub fn one_index_for_one_setup()
     ensures { (c i k : ℕ) (flipped : Bool) (man : Man) (p q : Setup) → IsAdmissible p → IsAdmissible q → IsOf c flipped p → IsIndex c p i → IsIndex c q i →
         p.side ≡ q.side → StandsAlone p.men man k → StandsAlone q.men man k → is_on_axis c k ≡ false → (r : Setup) × SettlesTo p r × SettlesTo q r }
+{
+    facts();
+}
+
+/// No pawn stands in a position of a class without pawns.
+pub fn a_class_without_pawns_has_none()
+    ensures { (c : ℕ) (flipped : Bool) (p : Setup) → IsAdmissible p → IsOf c flipped p → has_pawns (material_of c) ≡ false → HasNoPawn p.men }
 {
     facts();
 }

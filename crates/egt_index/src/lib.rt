@@ -26,12 +26,13 @@ pub mod ways;
 pub use axis::is_on_axis;
 pub use frame::Frame;
 pub use indexing::index;
-pub use men::has_target;
+pub use men::{has_pawns, has_target};
 pub use movers::{faces_king_alone, may_move_pawn};
 pub use row::{Row, begins_row, position, row_of};
 pub use sizes::size;
 pub use spelling::{indexed, position_of};
 pub use steps::Steps;
+pub use ways::Sum;
 
 #[cfg(test)]
 mod index_tests;

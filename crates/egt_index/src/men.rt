@@ -136,7 +136,7 @@ pub(crate) fn beside(class: Class) -> (Option<Man>, Option<Man>)
 }
 
 /// Whether the class has pawns.
-pub(crate) fn has_pawns(class: Class) -> bool
+pub fn has_pawns(class: Class) -> bool
     ensures { result ≡ has_pawns (material_of class) }
 {
     PAWNS[usize::from(class.number())]

@@ -1,10 +1,11 @@
 //! The ways of one man of a frame.
-ghost use Rattle.std.specs.Prelude.{ℕ};
+ghost use Rattle.std.specs.Prelude.{ℕ, IfSome};
 ghost use Rattle.egt_board.specs.Setup.{Setup};
 ghost use Rattle.egt_index.specs.Frame.{IsMoved};
 ghost use Rattle.egt_index.specs.Index.{IsIndex};
 ghost use Rattle.egt_index.specs.Steps.{AreSteps, WaysFit};
 ghost use Rattle.egt_index.specs.Turns.{Best};
+ghost use Rattle.egt_index.specs.Ways.{sum_code, SumFits};
 
 use crate::either::EitherWay;
 use crate::facts::facts;
@@ -43,6 +44,20 @@ impl Steps {
             Ways::Single(sum) => sum.code_to(to),
             Ways::King(way) => way.code_to(to).unwrap(),
             _ => self.least_to(to).unwrap(),
+        }
+    }
+
+    /// How the codes add up in the most common case: then the sum is the index wherever he may go.
+    #[inline(always)]
+    pub fn sum(&self) -> Option<Sum>
+        requires { (c from : ℕ) × (p : Setup) × AreSteps p c from self.now }
+        ensures fits { IfSome result SumFits }
+        ensures leads { (c from : ℕ) (p : Setup) → AreSteps p c from self.now → IfSome result (λ sum. (to : ℕ) (q : Setup) → IsMoved c p from to q → IsIndex c q (sum_code sum to)) }
+    {
+        facts();
+        match &self.ways {
+            Ways::Single(sum) => Some(*sum),
+            _ => None,
         }
     }
 

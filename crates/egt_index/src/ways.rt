@@ -30,7 +30,7 @@ use egt_class::Class;
 
 /// The code by the square of one man: what the others add, and how he counts.
 #[derive(Clone, Copy)]
-pub(crate) struct Sum {
+pub struct Sum {
     pub(crate) scale: Scale,
     pub(crate) rest: u32,
 }
@@ -38,7 +38,7 @@ pub(crate) struct Sum {
 impl Sum {
     /// The code where he stands on the square.
     #[inline(always)]
-    pub(crate) fn code_to(&self, to: Square) -> u32
+    pub fn code_to(&self, to: Square) -> u32
         requires { SumFits self.now }
         ensures { result ≡ sum_code self.now to }
     {

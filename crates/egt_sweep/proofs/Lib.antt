@@ -22,5 +22,6 @@ pub mod Led
 pub mod Starting
 pub mod Telling
 pub mod LoneKing
+pub mod OneGame
 pub mod Returning
 pub mod Gathering

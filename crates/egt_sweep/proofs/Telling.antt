@@ -66,7 +66,7 @@ module _ (laws : Laws) (tables : Tables) (c i : ℕ) (below : c < 36) (p : Setup
           absurd (subst (In exit) empty (given_in (λ k. exit_by tables Mate c p k (played p k)) (moves_of p) m exit listed here))
 
   -- and is no pawn's, so it does not zero
-  quiet : MovesNoPawn c i → (m : Move) (q : Setup) → Leads p m q → GoesOn Mate c p m q → Zeroes p m → ⊥
+  pub quiet : MovesNoPawn c i → (m : Move) (q : Setup) → Leads p m q → GoesOn Mate c p m q → Zeroes p m → ⊥
   quiet no_pawn m q leads on (inl taken) =
       let ok = laws.facts.step_admissible p q m at.spells.admissible leads in
       let own = laws.indexed_class q c on.0 ok on.1 in
@@ -82,15 +82,21 @@ module _ (laws : Laws) (tables : Tables) (c i : ℕ) (below : c < 36) (p : Setup
       kind_of : (man : Man) (side : Side) → man.side ≡ side → man.kind ≡ (pawn_of side).kind → man ≡ pawn_of side
       kind_of man side e f = ap (λ (s : Side). record { side = s; kind = man.kind }) e ∙ ap (λ (k : Kind). record { side = side; kind = k }) f
 
-  same_edges : ((m : Move) (q : Setup) → Leads p m q → GoesOn Mate c p m q × (Zeroes p m → ⊥)) → (j : ℕ) → Connects Mate c i j ↔ Connects Zeroing c i j
+  pub same_edges : ((m : Move) (q : Setup) → Leads p m q → GoesOn Mate c p m q → Zeroes p m → ⊥) → (j : ℕ) → Connects Mate c i j ↔ Connects Zeroing c i j
   same_edges all j = (
     λ edge.
         let e : edge.from ≡ p = laws.one_spelled c i edge.from p edge.at.spells at.spells in
-        record { from = p; at = at; move = edge.move; to = edge.to; leads = subst (λ x. Leads x edge.move edge.to) e edge.leads; on = (all edge.move edge.to (subst (λ x. Leads x edge.move edge.to) e edge.leads)).1; index = edge.index },
+        record { from = p; at = at; move = edge.move; to = edge.to; leads = subst (λ x. Leads x edge.move edge.to) e edge.leads; on = all edge.move edge.to (subst (λ x. Leads x edge.move edge.to) e edge.leads) (j, edge.index); index = edge.index },
     λ edge.
         let e : edge.from ≡ p = laws.one_spelled c i edge.from p edge.at.spells at.spells in
         record { from = p; at = at; move = edge.move; to = edge.to; leads = subst (λ x. Leads x edge.move edge.to) e edge.leads; on = (j, edge.index); index = edge.index },
   )
+
+-- numbers that pass two tests alike are the same
+pub passing_same : (n : ℕ) (f g : ℕ → Bool) → ((k : ℕ) → k < n → (f k ≡ true) ↔ (g k ≡ true)) → passing_below n f ≡ passing_below n g
+passing_same n f g same = passing_is n g (passing_below n f) (passing_ascends n f)
+    (λ k has. let lt = passing_is_below n f k has in (lt, (same k lt).0 (passing_passes n f k has)))
+    (λ k lt is. passing_has n f k lt ((same k lt).1 is))
 
 -- what is told of a node of the game of mates is what that of zeroing moves begins with
 pub told_start : (laws : Laws) (tables other : Tables) (c i n : ℕ) → c < 36 → i < size_of c → IsCount (class_game tables Mate c) i n → n < 255 → 0 < n → MovesNoPawn c i
@@ -126,13 +132,11 @@ told_start laws tables other c i n below in_range count told some no_pawn = reco
 
     edges : passing_below (size_of c) (λ j. connects Zeroing c i j) ≡ passing_below (size_of c) (λ j. connects Mate c i j)
     edges =
-        let same = same_edges laws tables c i below p at all in
-        sym (passing_is (size_of c) (λ j. connects Zeroing c i j) (passing_below (size_of c) (λ j. connects Mate c i j)) (passing_ascends (size_of c) (λ j. connects Mate c i j))
-        (λ k has. (
-          passing_is_below (size_of c) (λ j. connects Mate c i j) k has,
-          (connects_is laws Zeroing c i k below).1 ((same k).0 ((connects_is laws Mate c i k below).0 (passing_passes (size_of c) (λ j. connects Mate c i j) k has))),
+        let same = same_edges laws tables c i below p at (λ m q leads on. (all m q leads).1) in
+        passing_same (size_of c) (λ j. connects Zeroing c i j) (λ j. connects Mate c i j) (λ k lt. (
+          λ is. (connects_is laws Mate c i k below).1 ((same k).1 ((connects_is laws Zeroing c i k below).0 is)),
+          λ is. (connects_is laws Zeroing c i k below).1 ((same k).0 ((connects_is laws Mate c i k below).0 is)),
         ))
-        (λ k lt is. passing_has (size_of c) (λ j. connects Mate c i j) k lt ((connects_is laws Mate c i k below).1 ((same k).1 ((connects_is laws Zeroing c i k below).0 is)))))
 
     not_mated : is_mated (position_at c i) ≡ false
     not_mated = of_test (is_mated (position_at c i)) refl

@@ -10,3 +10,4 @@ pub mod Built
 pub mod Fault
 pub mod Ways
 pub mod Wanted
+pub mod Drawn

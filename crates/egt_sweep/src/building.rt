@@ -7,8 +7,10 @@ ghost use Rattle.egt_sweep.specs.Built.{IsBuilt, IsNotBuilt, HasNoFalseChild};
 ghost use Rattle.egt_sweep.specs.ClassGame.{class_game};
 ghost use Rattle.egt_sweep.specs.Counts.{CountsMoves};
 ghost use Rattle.egt_sweep.specs.MateColumn.{mate_table};
+ghost use Rattle.egt_sweep.specs.declared.build_fault.BuildFault.TheVariants.{NoMemory};
 
 use crate::build_fault::BuildFault;
+use crate::drawn_children::has_one_game;
 use crate::laws::laws;
 use crate::mate_game::MateGame;
 use crate::ranks::{mate_ranks_are_values, zeroing_ranks_are_distances};
@@ -16,7 +18,9 @@ use crate::zero_game::ZeroGame;
 use egt_check::Library;
 use egt_check::laws::rules_are_kept_by_true_tables_alone;
 use egt_class::{Class, children};
+use egt_graph::laws::alike_games_have_the_same_ranks;
 use egt_graph::{Ranks, SolveFault, solve, solve_and_count};
+use egt_index::laws::a_class_without_pawns_has_none;
 use egt_moves::laws::one_value;
 use egt_table::Table;
 use std::alloc::Global;
@@ -59,7 +63,19 @@ pub(crate) fn mate_ranks(
     }
 }
 
-/// The ranks of its game of zeroing moves. None is above the limit, since none is above the mate rank.
+/// The ranks once more.
+fn copied(alloc: Global, ranks: &Ranks) -> Result<Ranks, BuildFault>
+    ensures same { IfOk result (λ copy. copy ≡ ranks.now) }
+    ensures refused { IfErr result (λ fault. fault ≡ NoMemory) }
+{
+    match ranks.copied(alloc) {
+        Ok(copy) => Ok(copy),
+        Err(_refused) => Err(BuildFault::NoMemory),
+    }
+}
+
+/// The ranks of its game of zeroing moves. None is above the limit, since none is above the mate rank. Where nothing zeroes but captures into
+/// draws, both games are one, and so are their ranks.
 fn zeroing_ranks<'x>(
     alloc: Global,
     class: Class,
@@ -78,8 +94,13 @@ fn zeroing_ranks<'x>(
     laws();
     mate_ranks_are_values();
     zeroing_ranks_are_distances();
+    alike_games_have_the_same_ranks();
+    a_class_without_pawns_has_none();
     children_are_true(class, library);
     let _number = class.number();
+    if has_one_game(class, library) {
+        return copied(alloc, mates);
+    }
     let game = match ZeroGame::counted(class, library, mates, counts) {
         Ok(game) => game,
         Err(missing) => return Err(BuildFault::from(missing)),

@@ -17,6 +17,7 @@ ghost use Rattle.egt_sweep.specs.Edges.{AtSome, IsAt, Connects, CameTo, HadNoTar
 
 use crate::ascending::put;
 use crate::laws::laws;
+use crate::sifting::sift;
 use crate::wanted::Wanted;
 use arrayvec::ArrayVec;
 use egt_board::camps::camps_are_few;
@@ -120,7 +121,17 @@ fn add_sources_of(
     }
     let steps = frame.steps(to);
     let sources = quiet_sources(position, camps, man, to);
-    add_left(class, &steps, position, man, to, sources, wanted, list);
+    let wanted_sources = sift(&steps, sources, wanted);
+    add_left(
+        class,
+        &steps,
+        position,
+        man,
+        to,
+        wanted_sources,
+        wanted,
+        list,
+    );
 }
 
 /// Adds the indexes from which the men on these squares came, if their moves go on.

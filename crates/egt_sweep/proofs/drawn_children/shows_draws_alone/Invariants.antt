@@ -1,0 +1,8 @@
+use Rattle.std.specs.Prelude.{ℕ, ◌<◌, ◌≤◌}
+use Rattle.egt_table.specs.declared.column.Column.TheVariants.{Mate}
+use Rattle.egt_check.specs.Tables.{entry_at}
+use Rattle.egt_sweep.proofs.drawn_children.shows_draws_alone.Given as goal
+
+-- the entries so far show draws or nothing
+abbrev pub invariant-loop-index : goal.invariant-loop-index
+invariant-loop-index l = (i : ℕ) → i < l.index → entry_at l.fn.table Mate i ≤ 1
