@@ -1,5 +1,5 @@
 -- What a frame tells of its position in the class's colours.
-use Rattle.std.proofs.Common.{◌≡◌, ◌≢◌, ℕ, ◌<◌, Bool, true, false, Option, Some, None, refl, sym, ◌∙◌, subst}
+use Rattle.std.proofs.Common.{◌≡◌, ◌≢◌, ℕ, ◌<◌, Bool, true, false, Option, Some, None, IfSome, refl, sym, ◌∙◌, subst}
 use Rattle.egt_board.specs.declared.man.Side.{Side}
 use Rattle.egt_board.specs.Man.{other_side}
 use Rattle.egt_board.specs.Setup.{Setup}
@@ -9,15 +9,17 @@ use Rattle.egt_index.specs.Facts.{Facts}
 use Rattle.egt_index.specs.Frame.{IsFrame}
 use Rattle.egt_index.specs.Home.{AreHome, IsAtHome}
 use Rattle.egt_index.specs.Size.{king_base, has_pawns}
-use Rattle.egt_index.specs.Steps.{IsLeastOwn}
+use Rattle.egt_index.specs.Steps.{AddsUp, IsLeastOwn}
 use Rattle.egt_index.specs.Stood.{list_of}
 use Rattle.egt_index.specs.Turns.{Best, lesser}
-use Rattle.egt_index.specs.Ways.{IsSeen}
+use Rattle.egt_index.specs.Ways.{IsSeen, LeadsBy, sum_code}
 use Rattle.egt_index.specs.declared.frame.Frame.{Frame}
+use Rattle.egt_index.specs.declared.ways.Sum.{Sum}
+use Rattle.egt_index.proofs.Best.{index_found}
 use Rattle.egt_index.proofs.Carried.{stayed}
 use Rattle.egt_index.proofs.LeastTurn.{best_of_colours, none_exchanged}
 use Rattle.egt_index.proofs.Lined.{all_apart}
-use Rattle.egt_index.proofs.Moved.{went_own, after_of}
+use Rattle.egt_index.proofs.Moved.{went_own, after_of, settles_untargeted}
 
 module _ (facts : Facts) (p : Setup) (from : ℕ) (frame : Frame) (c_in : frame.class < 36) (is : IsFrame p frame) where
   pub own_seen : (side : Side) → side ≡ other_side frame.side → IsSeen frame.class false p frame.stand from side
@@ -48,3 +50,9 @@ module _ (facts : Facts) (p : Setup) (from : ℕ) (frame : Frame) (c_in : frame.
 pub still_home : (c : ℕ) (pawns : Bool) (king : ℕ) (second : Option ℕ) → pawns ≡ has_pawns (material_of c) → IsAtHome (has_pawns (material_of c)) king
     → ((digit : ℕ) → digit < king_base pawns → king_square pawns digit ≡ king → AreHome pawns false king 0 second) → AreHome (has_pawns (material_of c)) false king 0 second
 still_home c pawns king second pawns_is there home = subst (λ b. (digit : ℕ) → digit < king_base b → king_square b digit ≡ king → AreHome b false king 0 second) pawns_is home there.0 there.1 there.2
+
+-- where the least of those codes is a sum, so is the index
+pub adds_up : Facts → (c : ℕ) (p : Setup) (from : ℕ) → IsLeastOwn c p from → (o : Option Sum) → IfSome o (LeadsBy c p from) → IfSome o (AddsUp p c from)
+adds_up facts c p from own None leads = tt
+adds_up facts c p from own (Some sum) leads = λ to q moved.
+    index_found facts c q q (sum_code sum to) moved.admissible (settles_untargeted q moved.target) (own to q (Some (sum_code sum to)) moved (leads to q moved))

@@ -6,10 +6,12 @@ use Rattle.egt_class.specs.Membership.{IsOf}
 use Rattle.egt_index.specs.Either.{LeadsEither}
 use Rattle.egt_index.specs.Frame.{IsMoved}
 use Rattle.egt_index.specs.Home.{LeastWith}
+use Rattle.egt_index.specs.Index.{IsIndex}
 use Rattle.egt_index.specs.Turns.{Best}
 use Rattle.egt_index.specs.Ways.{sum_code, SumFits, KingWayFits, WayFits, Leads, LeadsHome}
 use Rattle.egt_index.specs.declared.steps.Steps.{Steps}
 use Rattle.egt_index.specs.declared.steps.Ways.{Ways}
+use Rattle.egt_index.specs.declared.ways.Sum.{Sum}
 use Rattle.egt_index.specs.declared.steps.Ways.TheVariants.{Single, King, Own, Either}
 
 abbrev pub WaysFit : Ways → Type 0
@@ -36,3 +38,7 @@ pub record AreSteps (p : Setup) (c from : ℕ) (steps : Steps) : Type 0 where
   pub is_of : IsOf c false p
   pub fit : WaysFit steps.ways
   pub lead : AllLead c p from steps.ways
+
+-- wherever the man on `from` in p goes, the sum is the index
+abbrev pub AddsUp : Setup → ℕ → ℕ → Sum → Type 0
+AddsUp p c from sum = (to : ℕ) (q : Setup) → IsMoved c p from to q → IsIndex c q (sum_code sum to)

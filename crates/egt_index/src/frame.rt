@@ -7,7 +7,7 @@ ghost use Rattle.egt_class.specs.Material.{material_of};
 ghost use Rattle.egt_index.specs.Frame.{IsFrame};
 ghost use Rattle.egt_index.specs.Home.{IsAtHome};
 ghost use Rattle.egt_index.specs.Size.{has_pawns};
-ghost use Rattle.egt_index.specs.Steps.{AreSteps, IsLeastOwn};
+ghost use Rattle.egt_index.specs.Steps.{AddsUp, AreSteps, IsLeastOwn};
 ghost use Rattle.egt_index.specs.Stood.{HasStand, IsFilled};
 ghost use Rattle.egt_index.specs.Ways.{SumFits, WayFits, Leads, LeadsBy};
 
@@ -67,6 +67,23 @@ impl Frame {
                 ways: Ways::Own(self.own_way(from)),
             },
         }
+    }
+
+    /// How the codes add up after the man on the square went, in the most common case: then the sum is the index wherever he may go.
+    #[inline(always)]
+    pub fn sum(&self, from: Square) -> Option<Sum>
+        ensures fits { IfSome result SumFits }
+        ensures leads { (p : Setup) (man : Man) → IsFrame p self.now → Stands p.men from man → IfSome result (AddsUp p self.now.class from) }
+    {
+        facts();
+        let _number = self.class.number();
+        if !self.is_own_after(from) {
+            return None;
+        }
+        if from == self.stand.white {
+            return None;
+        }
+        self.single_sum(from)
     }
 
     /// Whether the least code is in the class's colours wherever the man on the square went. A king who goes may come to lesser squares in

@@ -7,6 +7,7 @@ pub mod codes;
 pub mod digits;
 pub mod either;
 pub mod facts;
+pub mod following;
 pub mod frame;
 pub mod home;
 pub mod indexing;
@@ -23,6 +24,7 @@ pub mod steps;
 pub mod turning;
 pub mod ways;
 
+pub use following::IndexAfter;
 pub use axis::is_on_axis;
 pub use frame::Frame;
 pub use indexing::index;

@@ -1,12 +1,12 @@
 //! The ways of one man of a frame.
-ghost use Rattle.std.specs.Prelude.{ℕ, IfSome};
+ghost use Rattle.std.specs.Prelude.{ℕ};
 ghost use Rattle.egt_board.specs.Setup.{Setup};
 ghost use Rattle.egt_index.specs.Frame.{IsMoved};
 ghost use Rattle.egt_index.specs.Index.{IsIndex};
 ghost use Rattle.egt_index.specs.Steps.{AreSteps, WaysFit};
 ghost use Rattle.egt_index.specs.Turns.{Best};
-ghost use Rattle.egt_index.specs.Ways.{sum_code, SumFits};
 
+use crate::following::IndexAfter;
 use crate::either::EitherWay;
 use crate::facts::facts;
 use crate::ways::{KingWay, Sum, Way};
@@ -31,14 +31,13 @@ pub struct Steps {
     pub(crate) ways: Ways,
 }
 
-impl Steps {
-    /// The index, in the frame's class, of the position after the man went to `to`, where none stood; no pawn by two squares that
-    /// sets a target.
+impl IndexAfter for Steps {
+    ghost use Rattle.egt_index.specs.Steps.{AreSteps};
+
+    ghost of_man = { λ steps p c from. AreSteps p c from steps };
+
     #[inline(always)]
-    pub fn index_to(&self, to: Square) -> u32
-        requires { (c from : ℕ) × (p q : Setup) × AreSteps p c from self.now × IsMoved c p from to q }
-        ensures { (c from : ℕ) (p q : Setup) → AreSteps p c from self.now → IsMoved c p from to q → IsIndex c q result }
-    {
+    fn index_to(&self, to: Square) -> u32 {
         facts();
         match &self.ways {
             Ways::Single(sum) => sum.code_to(to),
@@ -46,21 +45,21 @@ impl Steps {
             _ => self.least_to(to).unwrap(),
         }
     }
+}
 
-    /// How the codes add up in the most common case: then the sum is the index wherever he may go.
+impl IndexAfter for Sum {
+    ghost use Rattle.egt_index.specs.Steps.{AddsUp};
+    ghost use Rattle.egt_index.specs.Ways.{SumFits};
+
+    ghost of_man = { λ sum p c from. SumFits sum × AddsUp p c from sum };
+
     #[inline(always)]
-    pub fn sum(&self) -> Option<Sum>
-        requires { (c from : ℕ) × (p : Setup) × AreSteps p c from self.now }
-        ensures fits { IfSome result SumFits }
-        ensures leads { (c from : ℕ) (p : Setup) → AreSteps p c from self.now → IfSome result (λ sum. (to : ℕ) (q : Setup) → IsMoved c p from to q → IsIndex c q (sum_code sum to)) }
-    {
-        facts();
-        match &self.ways {
-            Ways::Single(sum) => Some(*sum),
-            _ => None,
-        }
+    fn index_to(&self, to: Square) -> u32 {
+        self.code_to(to)
     }
+}
 
+impl Steps {
     /// The least code of all turns.
     #[inline(never)]
     pub(crate) fn least_to(&self, to: Square) -> Option<u32>

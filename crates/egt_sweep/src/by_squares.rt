@@ -10,20 +10,18 @@ ghost use Rattle.egt_board.specs.Man.{other_side};
 ghost use Rattle.egt_board.specs.Placement.{IsHeld, Stands};
 ghost use Rattle.egt_board.specs.SquareSet.{Has, size_of};
 ghost use Rattle.egt_index.specs.Frame.{IsFrame, IsMoved};
-ghost use Rattle.egt_index.specs.Steps.{AreSteps};
 ghost use Rattle.egt_unmoves.specs.Unmoves.{setup_before};
 ghost use Rattle.egt_sweep.specs.Wanted.{IsWanted, Among};
 ghost use Rattle.egt_sweep.specs.Edges.{AtSome, IsAt, Connects, CameTo, HadNoTarget, IsTakenBack, WasOn};
 
 use crate::ascending::put;
 use crate::laws::laws;
-use crate::sifting::sift;
 use crate::wanted::Wanted;
 use arrayvec::ArrayVec;
 use egt_board::camps::camps_are_few;
 use egt_board::{Camps, Kind, Man, Position, Square, SquareSet};
 use egt_class::Class;
-use egt_index::{Frame, Steps};
+use egt_index::{Frame, IndexAfter};
 use egt_table::Column;
 use egt_unmoves::quiet_sources;
 
@@ -58,12 +56,12 @@ fn goes_back_by(column: Column, man: Man) -> bool
     }
 }
 
-/// Adds those wanted of the indexes of the positions in which the man on `to` stands on one of these squares and nothing else differs. The steps are
-/// his. It is inlined so that they stay in registers.
+/// Adds those wanted of the indexes of the positions in which the man on `to` stands on one of these squares and nothing else differs. The indexes
+/// after he went are these. It is inlined so that they stay in registers.
 #[inline(always)]
-fn add_left(
+fn add_left<I: IndexAfter>(
     class: Class,
-    steps: &Steps,
+    indexes: &I,
     position: &Position,
     man: Man,
     to: Square,
@@ -71,7 +69,7 @@ fn add_left(
     wanted: &Wanted<'_>,
     list: &mut ArrayVec<u32, 128>,
 )
-    requires steps { AreSteps position.now class to steps.now }
+    requires indexes { I.of_man indexes.now position.now class to }
     requires moved { (s : ℕ) → s < 64 → Has squares s → IsMoved class position.now to s (setup_before position.now man to s None) }
     requires ascending { IsStrictlyIncreasing list.old.items }
     requires room { array_vec_len list.old + size_of squares ≤ 128 }
@@ -80,13 +78,40 @@ fn add_left(
     ensures few { array_vec_len list.new ≤ array_vec_len list.old + size_of squares }
 {
     laws();
+    let wanted = *wanted;
     let mut rest = squares;
     while let Some(from) = rest.pop_first() {
-        let index = steps.index_to(from);
+        let index = indexes.index_to(from);
         if wanted.has(index) {
             put(list, index);
         }
     }
+}
+
+/// The same by the steps of the man on `to`. Few men need them, so they stay out of the way of the others.
+#[inline(never)]
+fn add_stepped(
+    class: Class,
+    frame: &Frame,
+    position: &Position,
+    man: Man,
+    to: Square,
+    squares: SquareSet,
+    wanted: &Wanted<'_>,
+    list: &mut ArrayVec<u32, 128>,
+)
+    requires frame { IsFrame position.now frame.now }
+    requires class { frame.now.class ≡ class }
+    requires stands { Stands position.now.men to man }
+    requires moved { (s : ℕ) → s < 64 → Has squares s → IsMoved class position.now to s (setup_before position.now man to s None) }
+    requires ascending { IsStrictlyIncreasing list.old.items }
+    requires room { array_vec_len list.old + size_of squares ≤ 128 }
+    ensures ascending { IsStrictlyIncreasing list.new.items }
+    ensures members { (k : ℕ) → Contains list.new.items k ↔ (Contains list.old.items k ⊎ AtSome squares (Among wanted.now (WasOn class position.now man to)) k) }
+    ensures few { array_vec_len list.new ≤ array_vec_len list.old + size_of squares }
+{
+    let steps = frame.steps(to);
+    add_left(class, &steps, position, man, to, squares, wanted, list);
 }
 
 /// Adds the indexes from which the man on `to` came, if its moves go on. Neither has the position a target, nor had one before.
@@ -119,19 +144,11 @@ fn add_sources_of(
     if !goes_back_by(column, man) {
         return;
     }
-    let steps = frame.steps(to);
     let sources = quiet_sources(position, camps, man, to);
-    let wanted_sources = sift(&steps, sources, wanted);
-    add_left(
-        class,
-        &steps,
-        position,
-        man,
-        to,
-        wanted_sources,
-        wanted,
-        list,
-    );
+    match frame.sum(to) {
+        Some(sum) => add_left(class, &sum, position, man, to, sources, wanted, list),
+        None => add_stepped(class, frame, position, man, to, sources, wanted, list),
+    }
 }
 
 /// Adds the indexes from which the men on these squares came, if their moves go on.

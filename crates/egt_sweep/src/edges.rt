@@ -24,7 +24,7 @@ use crate::ways::onward;
 use arrayvec::ArrayVec;
 use egt_board::{Camps, Position, Square};
 use egt_class::Class;
-use egt_index::{Frame, Steps, index};
+use egt_index::{Frame, IndexAfter, Steps, index};
 use egt_moves::{Move, legal_targets_of, play_legal};
 use egt_table::Column;
 

@@ -33,7 +33,7 @@ use egt_board::{Position, Square, SquareSet};
 use egt_check::Library;
 use egt_class::{Class, of};
 use egt_graph::Exit;
-use egt_index::{Frame, index, indexed};
+use egt_index::{Frame, IndexAfter, index, indexed};
 use egt_moves::{Move, play_legal, promotions};
 use egt_table::Column;
 

@@ -17,7 +17,6 @@ mod missing;
 mod nodes;
 mod quiet;
 pub mod ranks;
-mod sifting;
 mod sources;
 mod wanted;
 mod ways;

@@ -26,7 +26,7 @@ impl Wanted<'_> {
 
 /// Whether the number's bit is set.
 #[inline(always)]
-pub(crate) fn is_marked(marks: &[u64], number: u32) -> bool
+fn is_marked(marks: &[u64], number: u32) -> bool
     ensures { IsTrue result ↔ IsMarked marks.now number }
 {
     match marks.get(number as usize / 64) {

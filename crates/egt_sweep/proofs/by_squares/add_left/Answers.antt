@@ -9,16 +9,16 @@ use Rattle.egt_sweep.proofs.Gathering.{gathered_none, gathered_more, gathered_al
 use Rattle.egt_sweep.proofs.by_squares.add_left.Goals as goal
 
 pub loop-from-init : goal.loop-from-init
-loop-from-init c = (c.requires.ascending, omega arith, gathered_none (Among c.args.wanted.now (WasOn c.args.class c.args.position.now c.args.man c.args.to)) c.args.squares c.args.list.now.items)
+loop-from-init g c = (c.requires.ascending, omega arith, gathered_none (Among c.args.wanted.now (WasOn c.args.class c.args.position.now c.args.man c.args.to)) c.args.squares c.args.list.now.items)
 
 pub index_to-index-requires : goal.index_to-index-requires
-index_to-index-requires c =
+index_to-index-requires g c =
     let from = c.in-Some.from in
     let q = c.args.position.now in
-    (c.args.class, c.args.to, q, setup_before q c.args.man c.args.to from None, c.requires.steps, c.requires.moved from (omega arith) (c.loop-from.invariant.2.left from c.in-Some.ensures.had))
+    (c.args.class, c.args.to, q, setup_before q c.args.man c.args.to from None, c.requires.indexes, c.requires.moved from (omega arith) (c.loop-from.invariant.2.left from c.in-Some.ensures.had))
 
 pub put-requires : goal.put-requires
-put-requires c =
+put-requires g c =
     let so_far = c.loop-from.invariant.1 in
     let size = c.in-Some.ensures.size in
     let room = c.requires.room in
@@ -26,7 +26,7 @@ put-requires c =
     (omega arith, (c.loop-from.invariant.0, short))
 
 pub loop-from-preserved-then-has : goal.loop-from-preserved-then-has
-loop-from-preserved-then-has c =
+loop-from-preserved-then-has g c =
     let q = c.args.position.now in
     let s = c.in-Some.ensures in
     let inv = c.loop-from.invariant in
@@ -35,7 +35,7 @@ loop-from-preserved-then-has c =
     let on_board : from < 64 = omega arith in
     let before = setup_before q c.args.man c.args.to from None in
     let moved = c.requires.moved from on_board (inv.2.left from s.had) in
-    let is = c.index_to-index.ensures c.args.class c.args.to q before c.requires.steps moved in
+    let is = c.index_to-index.ensures c.args.class c.args.to q before c.requires.indexes moved in
     let one : (k : ℕ) → (k ≡ index) ↔ WasOn c.args.class q c.args.man c.args.to from k = λ k. (
       λ e. (on_board, subst (IsIndex c.args.class before) (sym e) is),
       λ was. c.laws.ensures.facts.one_index before c.args.class k index moved.admissible was.1 is,
@@ -47,7 +47,7 @@ loop-from-preserved-then-has c =
     )
 
 pub loop-from-preserved : goal.loop-from-preserved
-loop-from-preserved c =
+loop-from-preserved g c =
     let q = c.args.position.now in
     let s = c.in-Some.ensures in
     let inv = c.loop-from.invariant in
@@ -56,7 +56,7 @@ loop-from-preserved c =
     let on_board : from < 64 = omega arith in
     let before = setup_before q c.args.man c.args.to from None in
     let moved = c.requires.moved from on_board (inv.2.left from s.had) in
-    let is = c.index_to-index.ensures c.args.class c.args.to q before c.requires.steps moved in
+    let is = c.index_to-index.ensures c.args.class c.args.to q before c.requires.indexes moved in
     let one : (k : ℕ) → (k ≡ index) ↔ WasOn c.args.class q c.args.man c.args.to from k = λ k. (
       λ e. (on_board, subst (IsIndex c.args.class before) (sym e) is),
       λ was. c.laws.ensures.facts.one_index before c.args.class k index moved.admissible was.1 is,
@@ -68,8 +68,8 @@ loop-from-preserved c =
     )
 
 pub returns-clause-members : goal.returns-clause-members
-returns-clause-members c =
+returns-clause-members g c =
     gathered_all (Among c.args.wanted.now (WasOn c.args.class c.args.position.now c.args.man c.args.to)) c.args.squares c.args.list.now.items c.loop-from.list.items c.loop-from.rest c.in_default.ensures.empty c.loop-from.invariant.2
 
 pub returns-clause-few : goal.returns-clause-few
-returns-clause-few c = let so_far = c.loop-from.invariant.1 in omega (arith, so_far)
+returns-clause-few g c = let so_far = c.loop-from.invariant.1 in omega (arith, so_far)

@@ -9,10 +9,10 @@ use Rattle.egt_sweep.proofs.by_squares.add_left.Given as goal
 
 -- the list has, in order, the indexes with the man on the squares that are no longer left
 abbrev pub invariant-loop-from : goal.invariant-loop-from
-invariant-loop-from l =
+invariant-loop-from g l =
     IsStrictlyIncreasing l.list.items
     × (array_vec_len l.list + size_of l.rest ≤ array_vec_len l.fn.list + size_of l.initial.rest)
     × Gathered (Among l.wanted (WasOn l.fn.class l.position l.fn.man l.fn.to)) l.initial.rest l.rest l.fn.list.items l.list.items
 
 abbrev pub decreases-loop-from : goal.decreases-loop-from
-decreases-loop-from l = l.rest.bits
+decreases-loop-from g l = l.rest.bits

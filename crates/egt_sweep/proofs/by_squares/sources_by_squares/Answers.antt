@@ -7,8 +7,8 @@ use Rattle.egt_index.specs.Steps.{AreSteps}
 use Rattle.egt_sweep.proofs.Returning.{came_moved, was_came, came_edges, king_back, in_part}
 use Rattle.egt_sweep.proofs.by_squares.sources_by_squares.Goals as goal
 
-pub add_left-requires-clause-steps : goal.add_left-requires-clause-steps
-add_left-requires-clause-steps c =
+pub add_left-requires-clause-indexes : goal.add_left-requires-clause-indexes
+add_left-requires-clause-indexes c =
     let q = c.args.position.now in
     subst (λ (d : ℕ). AreSteps q d c.king-king.result c.steps-steps.result) c.requires.class (c.steps-steps.ensures q (king_of c.other-side.result) c.requires.frame c.king-king.ensures.stands)
 
@@ -25,8 +25,8 @@ add_others-requires-clause-room c =
     let none = ap (λ (xs : List ℕ). length xs) c.requires.empty in
     omega (arith, none, c.quiet_sources-sources.ensures.few, c.common-low.ensures.few, c.add_left.ensures.few, c.beside_king-others.ensures.few)
 
-pub add_left-requires-2-clause-steps : goal.add_left-requires-2-clause-steps
-add_left-requires-2-clause-steps c =
+pub add_left-requires-2-clause-indexes : goal.add_left-requires-2-clause-indexes
+add_left-requires-2-clause-indexes c =
     let q = c.args.position.now in
     subst (λ (d : ℕ). AreSteps q d c.king-king.result c.steps-steps.result) c.requires.class (c.steps-steps.ensures q (king_of c.other-side.result) c.requires.frame c.king-king.ensures.stands)
 

@@ -4,7 +4,7 @@ use Rattle.egt_index.specs.Turns.{Best}
 use Rattle.egt_index.specs.declared.steps.Ways.{Ways}
 use Rattle.egt_index.proofs.Best.{best_at_last, index_found}
 use Rattle.egt_index.proofs.Moved.{untargeted_settled, settles_untargeted}
-use Rattle.egt_index.proofs.steps.Steps.index_to.Goals as goal
+use Rattle.egt_index.proofs.steps.StepsIndexAfter.index_to.Goals as goal
 
 pub unwrap-requires : goal.unwrap-requires
 unwrap-requires k =
