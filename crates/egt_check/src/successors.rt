@@ -6,6 +6,7 @@ ghost use Rattle.egt_board.specs.Placement.{IsHeld};
 ghost use Rattle.egt_board.specs.SquareSet.{Has};
 ghost use Rattle.egt_board.specs.Setup.{Setup};
 ghost use Rattle.egt_index.specs.Frame.{IsFrame};
+ghost use Rattle.egt_index.specs.Steps.{AreSteps};
 ghost use Rattle.egt_index.specs.Size.{size_of};
 ghost use Rattle.egt_moves.specs.Arena.{NoMove};
 ghost use Rattle.egt_moves.specs.Chess.{chess, Zeroes};
@@ -25,7 +26,7 @@ use crate::score_table::scores_by;
 use egt_board::{Camps, Position, Square, SquareSet};
 use egt_class::laws::moves_lead_into_the_class_or_a_child as quiet_moves_keep_the_class;
 use egt_class::of;
-use egt_index::{Frame, IndexAfter, index};
+use egt_index::{Frame, IndexAfter, Steps, index};
 use egt_moves::{Move, legal_targets_of, play_legal, promotions, zeroing};
 use egt_table::{Column, Table};
 
@@ -127,16 +128,16 @@ fn best_after(
 /// The scores of the legal move from the one square to the other, which takes nothing: it stays in the table's class, and only one man's
 /// square changes. It zeroes where it is a pawn's.
 #[inline(always)]
-fn quiet_scores<I: IndexAfter>(
+fn quiet_scores(
     table: &Table,
     library: &Library,
-    indexes: &I,
+    steps: &Steps,
     position: &Position,
     step: QuietStep,
 ) -> ByColumn
     requires quiet { IsQuietTarget position.now step.pawn step.from step.to }
     requires own { IsInClass table.now.class position.now }
-    requires indexes { I.of_man indexes.now position.now table.now.class step.from }
+    requires steps { AreSteps position.now table.now.class step.from steps.now }
     ensures { (column : Column) (q : Setup) (leads : Leads position.now (plain step.from step.to) q) →
         Scores (shown_by library.now table.now) column position.now q (plain step.from step.to, leads) (number_at result column) }
 {
@@ -145,7 +146,7 @@ fn quiet_scores<I: IndexAfter>(
     let _side = position.side();
     let _class = table.class();
     let QuietStep { from, to, pawn } = step;
-    let entries = entries_at(table, indexes.index_to(to));
+    let entries = entries_at(table, steps.index_to(to));
     let chess_move = Move {
         from,
         to,
@@ -202,68 +203,7 @@ fn best_to_each(
     best
 }
 
-/// The best score so far, and of the moves from the square to these, which take nothing. The indexes after the man there went are these.
-#[inline(always)]
-fn best_by<I: IndexAfter>(
-    table: &Table,
-    library: &Library,
-    indexes: &I,
-    position: &Position,
-    from: Square,
-    targets: SquareSet,
-    pawn: bool,
-    best: Option<ByColumn>,
-) -> Option<ByColumn>
-    requires targets { (t : ℕ) → Has targets t → IsQuietTarget position.now pawn from t }
-    requires own { IsInClass table.now.class position.now }
-    requires indexes { I.of_man indexes.now position.now table.now.class from }
-    ensures { AreRaised (shown_by library.now table.now) position.now (λ m. (m.from ≡ from) × Has targets m.to) best result }
-{
-    let mut rest = targets;
-    match rest.pop_first() {
-        Some(first) => {
-            let step = QuietStep {
-                from,
-                to: first,
-                pawn,
-            };
-            let scores = quiet_scores(table, library, indexes, position, step);
-            let mut highest = raised(best, scores);
-            while let Some(to) = rest.pop_first() {
-                let step = QuietStep { from, to, pawn };
-                let scores = quiet_scores(table, library, indexes, position, step);
-                highest = higher(highest, scores);
-            }
-            Some(highest)
-        }
-        None => best,
-    }
-}
-
-/// The same by the steps of the man on the square. Few men need them, so they stay out of the way of the others.
-#[inline(never)]
-fn best_by_steps(
-    table: &Table,
-    library: &Library,
-    frame: &Frame,
-    position: &Position,
-    from: Square,
-    targets: SquareSet,
-    pawn: bool,
-    best: Option<ByColumn>,
-) -> Option<ByColumn>
-    requires held { IsHeld position.now.men from position.now.side }
-    requires targets { (t : ℕ) → Has targets t → IsQuietTarget position.now pawn from t }
-    requires own { IsInClass table.now.class position.now }
-    requires frame { IsFrame position.now frame.now }
-    requires class { frame.now.class ≡ table.now.class }
-    ensures { AreRaised (shown_by library.now table.now) position.now (λ m. (m.from ≡ from) × Has targets m.to) best result }
-{
-    let steps = frame.steps(from);
-    best_by(table, library, &steps, position, from, targets, pawn, best)
-}
-
-/// The same, by the sum of codes in the most common case.
+/// The best score so far, and of the moves from the square to these, which take nothing.
 fn best_to_each_quiet(
     table: &Table,
     library: &Library,
@@ -281,9 +221,25 @@ fn best_to_each_quiet(
     requires class { frame.now.class ≡ table.now.class }
     ensures { AreRaised (shown_by library.now table.now) position.now (λ m. (m.from ≡ from) × Has targets m.to) best result }
 {
-    match frame.sum(from) {
-        Some(sum) => best_by(table, library, &sum, position, from, targets, pawn, best),
-        None => best_by_steps(table, library, frame, position, from, targets, pawn, best),
+    let mut rest = targets;
+    match rest.pop_first() {
+        Some(first) => {
+            let steps = frame.steps(from);
+            let step = QuietStep {
+                from,
+                to: first,
+                pawn,
+            };
+            let scores = quiet_scores(table, library, &steps, position, step);
+            let mut highest = raised(best, scores);
+            while let Some(to) = rest.pop_first() {
+                let step = QuietStep { from, to, pawn };
+                let scores = quiet_scores(table, library, &steps, position, step);
+                highest = higher(highest, scores);
+            }
+            Some(highest)
+        }
+        None => best,
     }
 }
 
