@@ -182,46 +182,8 @@ fn add_others(
 }
 
 /// Fills the list with the indexes from which moves that go on lead to the settled position, where neither it has a target nor had one
-/// before. The indexes after the king of the side that waits went are these. His squares weigh most in an index, so those below his own come first
-/// and those above it last: then most indexes are the greatest so far, and few numbers are shifted.
-#[inline(always)]
-fn fill<I: IndexAfter>(
-    column: Column,
-    class: Class,
-    frame: &Frame,
-    indexes: &I,
-    position: &Position,
-    man: Man,
-    king: Square,
-    wanted: &Wanted<'_>,
-    list: &mut ArrayVec<u32, 128>,
-)
-    requires empty { list.old.items ≡ [] }
-    requires of { (flipped : Bool) × IsOf class flipped position.now }
-    requires frame { IsFrame position.now frame.now }
-    requires class { frame.now.class ≡ class }
-    requires indexes { I.of_man indexes.now position.now class king }
-    requires king { Stands position.now.men king man }
-    requires theirs { man ≡ king_of (other_side position.now.side) }
-    requires untargeted { position.now.target ≡ None }
-    requires before { HadNoTarget position.now }
-    ensures ascending { IsStrictlyIncreasing list.new.items }
-    ensures exact { (j : ℕ) → IsAt class j position.now → (k : ℕ) → Contains list.new.items k ↔ (Connects column class k j × IsWanted wanted.now k) }
-{
-    laws();
-    let _number = class.number();
-    let camps = position.camps();
-    let sources = quiet_sources(position, camps, man, king);
-    let low = sources.common(below(king));
-    let high = sources.without(low);
-    let others = beside_king(position, camps, king);
-    add_left(class, indexes, position, man, king, low, wanted, list);
-    add_others(column, class, frame, position, camps, others, wanted, list);
-    add_left(class, indexes, position, man, king, high, wanted, list);
-}
-
-/// Fills the list with the indexes from which moves that go on lead to the settled position, where neither it has a target nor had one
-/// before.
+/// before. The king's squares weigh most in an index, so those below his own come first and those above it last: then most indexes
+/// are the greatest so far, and few numbers are shifted.
 pub(crate) fn sources_by_squares(
     column: Column,
     class: Class,
@@ -239,21 +201,21 @@ pub(crate) fn sources_by_squares(
     ensures ascending { IsStrictlyIncreasing list.new.items }
     ensures exact { (j : ℕ) → IsAt class j position.now → (k : ℕ) → Contains list.new.items k ↔ (Connects column class k j × IsWanted wanted.now k) }
 {
+    laws();
+    let _number = class.number();
     let side = position.side().other();
     let man = Man {
         side,
         kind: Kind::K,
     };
     let king = position.king(side);
-    match frame.sum(king) {
-        Some(sum) => fill(
-            column, class, frame, &sum, position, man, king, wanted, list,
-        ),
-        None => {
-            let steps = frame.steps(king);
-            fill(
-                column, class, frame, &steps, position, man, king, wanted, list,
-            );
-        }
-    }
+    let steps = frame.steps(king);
+    let camps = position.camps();
+    let sources = quiet_sources(position, camps, man, king);
+    let low = sources.common(below(king));
+    let high = sources.without(low);
+    let others = beside_king(position, camps, king);
+    add_left(class, &steps, position, man, king, low, wanted, list);
+    add_others(column, class, frame, position, camps, others, wanted, list);
+    add_left(class, &steps, position, man, king, high, wanted, list);
 }
