@@ -114,6 +114,34 @@ fn add_stepped(
     add_left(class, &steps, position, man, to, squares, wanted, list);
 }
 
+/// The same, by the sum of codes in the most common case.
+#[inline(always)]
+fn add_gone(
+    class: Class,
+    frame: &Frame,
+    position: &Position,
+    man: Man,
+    to: Square,
+    squares: SquareSet,
+    wanted: &Wanted<'_>,
+    list: &mut ArrayVec<u32, 128>,
+)
+    requires frame { IsFrame position.now frame.now }
+    requires class { frame.now.class ≡ class }
+    requires stands { Stands position.now.men to man }
+    requires moved { (s : ℕ) → s < 64 → Has squares s → IsMoved class position.now to s (setup_before position.now man to s None) }
+    requires ascending { IsStrictlyIncreasing list.old.items }
+    requires room { array_vec_len list.old + size_of squares ≤ 128 }
+    ensures ascending { IsStrictlyIncreasing list.new.items }
+    ensures members { (k : ℕ) → Contains list.new.items k ↔ (Contains list.old.items k ⊎ AtSome squares (Among wanted.now (WasOn class position.now man to)) k) }
+    ensures few { array_vec_len list.new ≤ array_vec_len list.old + size_of squares }
+{
+    match frame.sum(to) {
+        Some(sum) => add_left(class, &sum, position, man, to, squares, wanted, list),
+        None => add_stepped(class, frame, position, man, to, squares, wanted, list),
+    }
+}
+
 /// Adds the indexes from which the man on `to` came, if its moves go on. Neither has the position a target, nor had one before.
 fn add_sources_of(
     column: Column,
@@ -145,10 +173,7 @@ fn add_sources_of(
         return;
     }
     let sources = quiet_sources(position, camps, man, to);
-    match frame.sum(to) {
-        Some(sum) => add_left(class, &sum, position, man, to, sources, wanted, list),
-        None => add_stepped(class, frame, position, man, to, sources, wanted, list),
-    }
+    add_gone(class, frame, position, man, to, sources, wanted, list);
 }
 
 /// Adds the indexes from which the men on these squares came, if their moves go on.
