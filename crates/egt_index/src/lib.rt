@@ -24,8 +24,8 @@ pub mod steps;
 pub mod turning;
 pub mod ways;
 
-pub use following::IndexAfter;
 pub use axis::is_on_axis;
+pub use following::IndexAfter;
 pub use frame::Frame;
 pub use indexing::index;
 pub use men::{has_pawns, has_target};

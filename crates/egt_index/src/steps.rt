@@ -6,9 +6,9 @@ ghost use Rattle.egt_index.specs.Index.{IsIndex};
 ghost use Rattle.egt_index.specs.Steps.{AreSteps, WaysFit};
 ghost use Rattle.egt_index.specs.Turns.{Best};
 
-use crate::following::IndexAfter;
 use crate::either::EitherWay;
 use crate::facts::facts;
+use crate::following::IndexAfter;
 use crate::ways::{KingWay, Sum, Way};
 use egt_board::Square;
 
