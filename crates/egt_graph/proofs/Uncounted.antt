@@ -1,5 +1,5 @@
 -- What nodes wait for, where some were not counted.
-use Rattle.std.proofs.Common.{◌≡◌, ℕ, zero, suc, ◌+◌, ◌<◌, cond, List, [], ◌∷◌, ◌++◌, length, slice_index, get_or, set, refl, sym, ap, ◌∙◌, arith}
+use Rattle.std.proofs.Common.{◌≡◌, ℕ, zero, suc, ◌+◌, ◌<◌, cond, List, [], ◌∷◌, length, slice_index, get_or, set, refl, sym, ap, ◌∙◌, arith}
 use Rattle.std.proofs.lemmas.Bool.{ne_eqb}
 use Rattle.egt_graph.specs.Graph.{Graph}
 use Rattle.egt_graph.specs.Columns.{outs, leaves, told_at, told_from, told}
@@ -35,16 +35,11 @@ told_from-set g k (v ∷ ws) zero w = ap (λ n. told_at g n w ∷ told_from g (k
 told_from-set g k (v ∷ ws) (suc i) w =
     ap (λ xs. told_at g k v ∷ xs) (told_from-set g (k + 1) ws i w ∙ ap (λ n. set (told_from g (k + 1) ws) i (told_at g n w)) (let e : k + 1 + i ≡ k + suc i = omega arith in e))
 
+-- whatever was written
+pub told-put : (g : Graph) (ws : List ℕ) (i w : ℕ) → told g (set ws i w) ≡ set (told g ws) i (told_at g i w)
+told-put g ws i w = told_from-set g 0 ws i w ∙ ap (λ n. set (told g ws) i (told_at g n w)) (zero_plus i)
+
 -- a count
 pub told-set : (g : Graph) (ws : List ℕ) (i w : ℕ) → w < 255 → told g (set ws i w) ≡ set (told g ws) i w
 told-set g ws i w counted =
-    told_from-set g 0 ws i w ∙ ap (λ n. set (told g ws) i (told_at g n w)) (zero_plus i) ∙ ap (set (told g ws) i) (ap (λ b. cond b (length (outs g i) + length (leaves g i)) w) (ne_eqb w 255 (λ e. absurd (omega arith))))
-
-told_from-push : (g : Graph) (k : ℕ) (ws : List ℕ) (w : ℕ) → told_from g k (ws ++ w ∷ []) ≡ told_from g k ws ++ told_at g (k + length ws) w ∷ []
-unfolding told_from
-told_from-push g k [] w = ap (λ n. told_at g n w ∷ []) (let e : k ≡ k + 0 = omega arith in e)
-told_from-push g k (v ∷ ws) w =
-    ap (λ xs. told_at g k v ∷ xs) (told_from-push g (k + 1) ws w ∙ ap (λ n. told_from g (k + 1) ws ++ told_at g n w ∷ []) (let e : k + 1 + length ws ≡ k + suc (length ws) = omega arith in e))
-
-pub told-push : (g : Graph) (m : ℕ) (ws : List ℕ) (w : ℕ) → length ws ≡ m → told g (ws ++ w ∷ []) ≡ told g ws ++ told_at g m w ∷ []
-told-push g m ws w long = told_from-push g 0 ws w ∙ ap (λ n. told g ws ++ told_at g n w ∷ []) (zero_plus (length ws) ∙ long)
+    told-put g ws i w ∙ ap (set (told g ws) i) (ap (λ b. cond b (length (outs g i) + length (leaves g i)) w) (ne_eqb w 255 (λ e. absurd (omega arith))))

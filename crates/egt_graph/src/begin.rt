@@ -1,12 +1,12 @@
 //! What a run begins with.
-ghost use Rattle.std.specs.Prelude.{◌≡◌, ℕ, ◌+◌, ◌<◌, ◌≤◌, ◌^◌, length, count_by, [], ◌∷◌, OnOk, IfOk};
+ghost use Rattle.std.specs.Prelude.{◌≡◌, ℕ, ◌+◌, ◌<◌, ◌≤◌, length, count_by, [], ◌∷◌, OnOk, IfOk, IfSome, IfNone, if◌then◌else◌};
 ghost use Rattle.std.specs.List.{list_any};
 ghost use Rattle.egt_graph.specs.Columns.{outs, leaves, told_at, entry_at, is_loss, is_win_from, is_win_of, is_loss_of};
 ghost use Rattle.egt_graph.specs.Begin.{Adds, AreBegun};
 ghost use Rattle.egt_graph.specs.Graph.{IsStart};
 
 use crate::columns::DRAW;
-use crate::counts::count_told;
+use crate::counts::UNTOLD;
 use crate::game::{Exit, Game, Start};
 use crate::schedule::Schedule;
 use crate::waiting::UNCOUNTED;
@@ -31,18 +31,18 @@ pub(crate) fn begin<G: Game>(alloc: Global, game: &G) -> Result<Columns, AllocEr
 {
     let size = game.size();
     let mut columns = Columns {
-        entries: Vec::with_capacity(alloc, size as usize)?,
-        waits: Vec::with_capacity(alloc, size as usize)?,
-        later: Vec::with_capacity(alloc, size as usize)?,
-        lost: Vec::with_capacity(alloc, size as usize)?,
+        entries: vec![in alloc; 0; size as usize]?,
+        waits: vec![in alloc; 0; size as usize]?,
+        later: vec![in alloc; 0; size as usize]?,
+        lost: vec![in alloc; false; size as usize]?,
         lost_due: Schedule::new(alloc),
         won_due: Schedule::new(alloc),
-        counts: Vec::with_capacity(alloc, size as usize)?,
+        counts: vec![in alloc; UNTOLD; size as usize]?,
     };
     let mut exits = ArrayVec::new();
     let mut next_exits = ArrayVec::new();
     for pair in 0..size / 2 {
-        push_two(
+        fill_two(
             alloc,
             game,
             2 * pair,
@@ -52,13 +52,13 @@ pub(crate) fn begin<G: Game>(alloc: Global, game: &G) -> Result<Columns, AllocEr
         )?;
     }
     if size % 2 == 1 {
-        push_one(alloc, game, size - 1, &mut exits, &mut columns)?;
+        fill_one(alloc, game, size - 1, &mut exits, &mut columns)?;
     }
     Ok(columns)
 }
 
-/// Pushes a number and the next, of which the game is asked at once.
-fn push_two<G: Game>(
+/// Fills in a number and the next, of which the game is asked at once.
+fn fill_two<G: Game>(
     alloc: Global,
     game: &G,
     node: u32,
@@ -72,12 +72,12 @@ fn push_two<G: Game>(
 {
     let _size = game.size();
     let (start, next) = game.start_two(node, exits, next_exits);
-    push_node(alloc, game, node, start, exits.as_slice(), columns)?;
-    push_node(alloc, game, node + 1, next, next_exits.as_slice(), columns)
+    fill(alloc, game, node, start, exits.as_slice(), columns)?;
+    fill(alloc, game, node + 1, next, next_exits.as_slice(), columns)
 }
 
-/// Pushes a number of which the game is asked alone.
-fn push_one<G: Game>(
+/// Fills in a number of which the game is asked alone.
+fn fill_one<G: Game>(
     alloc: Global,
     game: &G,
     node: u32,
@@ -89,12 +89,12 @@ fn push_one<G: Game>(
     ensures { OnOk result (AreBegun (G.graph game.now) (node + 1) columns.new) }
 {
     let start = game.start(node, exits);
-    push_node(alloc, game, node, start, exits.as_slice(), columns)
+    fill(alloc, game, node, start, exits.as_slice(), columns)
 }
 
-/// Pushes the number of which the game has told this. `_game` is that game: the contract alone reads it.
+/// Fills in the number of which the game has told this: nothing where it is no node. `_game` is that game: the contract alone reads it.
 #[inline(always)]
-fn push_node<G: Game>(
+fn fill<G: Game>(
     alloc: Global,
     _game: &G,
     node: u32,
@@ -108,12 +108,20 @@ fn push_node<G: Game>(
     requires begun { AreBegun (G.graph _game.now) node columns.old }
     ensures { OnOk result (AreBegun (G.graph _game.now) (node + 1) columns.new) }
 {
-    let row = row_of(_game, node, start, exits);
-    columns.entries.push(row.entry)?;
-    columns.waits.push(row.wait)?;
-    columns.later.push(count_wins(exits))?;
-    columns.lost.push(any_loss(exits))?;
-    columns.counts.push(count_told(_game, node, start, exits))?;
+    let Some(start) = start else {
+        return Ok(());
+    };
+    let i = node as usize;
+    columns.entries[i] = first_entry(start.mated);
+    if exits.is_empty() {
+        let moves = start.degree.unwrap_or(UNCOUNTED);
+        columns.waits[i] = moves;
+        columns.counts[i] = moves;
+        return Ok(());
+    }
+    columns.waits[i] = waits_for(start, exits);
+    columns.later[i] = count_wins(exits);
+    columns.lost[i] = any_loss(exits);
     schedule_exits(
         alloc,
         exits,
@@ -124,32 +132,23 @@ fn push_node<G: Game>(
     Ok(())
 }
 
-/// What the columns hold of a node, or of a number that is none.
-#[derive(Clone, Copy)]
-struct Row {
-    entry: u16,
-    wait: u8,
+/// The entry of a node before any rank but that of checkmates is known.
+fn first_entry(mated: bool) -> u16
+    ensures { result ≡ (if mated then 3 else 1) }
+{
+    if mated { 3 } else { DRAW }
 }
 
-/// `_game` is read by the contract alone.
-fn row_of<G: Game>(_game: &G, node: u32, start: Option<Start>, exits: &[Exit]) -> Row
-    requires in_range { node < (G.graph _game.now).size }
-    requires started { IsStart (G.graph _game.now) node start exits.now }
+/// What the node waits for at first.
+fn waits_for(start: Start, exits: &[Exit]) -> u8
     requires few { length exits.now ≤ 64 }
-    ensures entry { result.entry ≡ entry_at (G.graph _game.now) 0 node }
-    ensures waits { told_at (G.graph _game.now) node result.wait
-        ≡ length (outs (G.graph _game.now) node) + length (leaves (G.graph _game.now) node) }
-    ensures exits { exits.now ≡ leaves (G.graph _game.now) node }
+    requires moves { IfSome start.degree (λ n. n ≤ 64) }
+    ensures counted { IfSome start.degree (λ n. result ≡ n + length exits.now) }
+    ensures uncounted { IfNone start.degree (result ≡ 255) }
 {
-    match start {
-        Some(start) => Row {
-            entry: if start.mated { 3 } else { DRAW },
-            wait: match start.degree {
-                Some(moves) => moves + exits.len() as u8,
-                None => UNCOUNTED,
-            },
-        },
-        None => Row { entry: 0, wait: 0 },
+    match start.degree {
+        Some(moves) => moves + exits.len() as u8,
+        None => UNCOUNTED,
     }
 }
 

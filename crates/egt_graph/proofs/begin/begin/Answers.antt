@@ -1,11 +1,12 @@
-use Rattle.std.proofs.Common.{◌≡◌, ◌+◌, ◌*◌, ℕ, sym, subst, arith}
+use Rattle.std.proofs.Common.{◌≡◌, ◌+◌, ◌*◌, ℕ, false, replicate, sym, subst, arith}
+use Rattle.std.proofs.lemmas.Grind.{common_steps}
 use Rattle.egt_graph.specs.Begin.{AreBegun}
-use Rattle.egt_graph.proofs.Beginning.{Begun_none, Counted_none}
-use Rattle.egt_graph.proofs.begin.begin.Goals.{then-size-eq1+in_ok-push_one, else-size-eq1}
+use Rattle.egt_graph.proofs.Beginning.{Begun_none, Counts_none}
+use Rattle.egt_graph.proofs.begin.begin.Goals.{then-size-eq1+in_ok-fill_one, else-size-eq1}
 use Rattle.egt_graph.proofs.begin.begin.Goals as goal
 
-pub push_one-requires-clause-begun : goal.push_one-requires-clause-begun
-push_one-requires-clause-begun g c =
+pub fill_one-requires-clause-begun : goal.fill_one-requires-clause-begun
+fill_one-requires-clause-begun g c =
     subst (λ (n : ℕ). AreBegun (g.G.Game.graph c.args.game.now) n c.loop-pair.columns)
     (omega (arith, c.if-size-eq1.true, c.loop-pair-test.false, c.loop-pair.auto.pair-end)) c.loop-pair.invariant
 
@@ -13,9 +14,9 @@ pub returns : goal.returns
 returns g c =
     let graph = g.G.Game.graph c.args.game.now in
     elim c.if-size-eq1.branch [
-      | then-size-eq1+in_ok-push_one w ↦
+      | then-size-eq1+in_ok-fill_one w ↦
           subst (AreBegun graph graph.size) (sym w.columns-is)
-          (subst (λ (n : ℕ). AreBegun graph n w.push_one.new.columns) (omega (arith, w.if-size-eq1.true, c.size-size.ensures)) w.in_ok-push_one.ensures)
+          (subst (λ (n : ℕ). AreBegun graph n w.fill_one.new.columns) (omega (arith, w.if-size-eq1.true, c.size-size.ensures)) w.in_ok-fill_one.ensures)
       | else-size-eq1 w ↦
           subst (AreBegun graph graph.size) (sym w.columns-is)
           (subst (λ (n : ℕ). AreBegun graph n c.loop-pair.columns)
@@ -24,10 +25,15 @@ returns g c =
 
 pub loop-pair-init : goal.loop-pair-init
 loop-pair-init g c =
-    rw (c.in_ok-with_capacity.ensures.items, c.in_ok-with_capacity-2.ensures.items, c.in_ok-with_capacity-3.ensures.items, c.in_ok-with_capacity-4.ensures.items, c.in_ok-with_capacity-5.ensures.items, c.new.ensures, c.new-2.ensures)
-    (Begun_none (g.G.Game.graph c.args.game.now), Counted_none (g.G.Game.graph c.args.game.now))
+    let graph = g.G.Game.graph c.args.game.now in
+    let entries : c.in_ok-vec.field-0.items ≡ replicate graph.size 0 = grind (arith, common_steps) in
+    let waits : c.in_ok-vec-2.field-0.items ≡ replicate graph.size 0 = grind (arith, common_steps) in
+    let later : c.in_ok-vec-3.field-0.items ≡ replicate graph.size 0 = grind (arith, common_steps) in
+    let lost : c.in_ok-vec-4.field-0.items ≡ replicate graph.size false = grind (arith, common_steps) in
+    let counts : c.in_ok-vec-5.field-0.items ≡ replicate graph.size 255 = grind (arith, common_steps) in
+    rw (entries, waits, later, lost, counts, c.new.ensures, c.new-2.ensures) (Begun_none graph, Counts_none graph)
 
 pub loop-pair-preserved : goal.loop-pair-preserved
 loop-pair-preserved g c =
-    subst (λ (n : ℕ). AreBegun (g.G.Game.graph c.args.game.now) n c.push_two.new.columns)
-    (let e : 2 * c.loop-pair.pair + 2 ≡ 2 * (c.loop-pair.pair + 1) = omega arith in e) c.in_ok-push_two.ensures
+    subst (λ (n : ℕ). AreBegun (g.G.Game.graph c.args.game.now) n c.fill_two.new.columns)
+    (let e : 2 * c.loop-pair.pair + 2 ≡ 2 * (c.loop-pair.pair + 1) = omega arith in e) c.in_ok-fill_two.ensures
