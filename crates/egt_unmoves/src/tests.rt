@@ -1,5 +1,5 @@
 //! Worked positions, whose unmoves are found by hand, and samples of four classes against plain play.
-use crate::{Unmove, unmoves};
+use crate::{Unmove, target_before, unmoves};
 use arrayvec::ArrayVec;
 use egt_board::{Kind, Man, Position, Side, Square};
 use egt_moves::{Move, legal_moves, play};
@@ -135,6 +135,18 @@ fn a_target_may_have_been_there(rt: HostRuntime) {
         "d6 e7 e3",
     ];
     assert!(rt; are("kd6 pd4 Pe4 Kh1 w", &rows) == Some(true));
+}
+
+#[test]
+fn a_target_before_had_a_pawn_beside_its_own(rt: HostRuntime) {
+    let before = |words| position(words).map(|position| target_before(&position));
+    assert!(rt; before("kd6 pd4 Pe4 Kh1 w") == Some(square(b"e3")));
+    // That pawn may have advanced instead, from d4.
+    assert!(rt; before("kd6 pd3 Pe4 Kh1 w") == Some(square(b"e3")));
+    assert!(rt; before("kd6 pd5 Pe4 Kh1 w") == Some(None));
+    assert!(rt; before("kd6 pc4 Pe4 Kh1 w") == Some(None));
+    assert!(rt; before("ka1 pd4 Pd5 Ke6 b") == Some(None));
+    assert!(rt; before("ka1 pe5 Pd6 Kh6 b") == Some(square(b"e6")));
 }
 
 #[test]
