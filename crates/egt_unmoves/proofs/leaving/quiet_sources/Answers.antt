@@ -1,8 +1,5 @@
 use Rattle.egt_unmoves.proofs.leaving.quiet_sources.Goals as goal
 
-pub squares_left-requires : goal.squares_left-requires
-squares_left-requires c = c.side-side.ensures.admissible.pawns c.args.to c.args.man c.requires.stands
-
 pub returns-clause-sound : goal.returns-clause-sound
 returns-clause-sound c = (c.squares_left.ensures.came c.args.position.now c.side-side.ensures.admissible c.requires.untargeted c.look_around.ensures).sound
 
