@@ -43,7 +43,7 @@ impl Board {
         ensures reached { (t : ℕ) → Has result t ↔ Reaches (IsFree self.now) man from t }
         ensures few { size_of result ≤ most_reached man.kind }
     {
-        gait::reach(man, from, all)
+        gait::reach_past(man, from, all)
     }
 
     /// The same once the man on `lifted`, if there is one, is taken off.
@@ -52,7 +52,7 @@ impl Board {
         ensures reached { (t : ℕ) → Has result t ↔ Reaches (IsFree (map.remove self.now lifted)) man from t }
         ensures few { size_of result ≤ most_reached man.kind }
     {
-        gait::reach(man, from, all.less(lifted))
+        gait::reach_past(man, from, all.less(lifted))
     }
 
     /// Whether a man of that side attacks the square, even if it may not move itself.

@@ -4,7 +4,7 @@ ghost use Rattle.std.specs.Int.{bit_at};
 ghost use Rattle.egt_board.specs.Between.{IsBetween};
 ghost use Rattle.egt_board.specs.Gait.{Reaches, Rides};
 ghost use Rattle.egt_board.specs.Safety.{Stops};
-ghost use Rattle.egt_board.specs.SquareSet.{Has};
+ghost use Rattle.egt_board.specs.SquareSet.{Has, size_of, most_reached};
 
 use crate::lookup::{behind, between, lone_reach};
 use crate::man::Man;
@@ -53,6 +53,14 @@ pub(crate) fn reach(man: Man, from: Square, occupied: SquareSet) -> SquareSet
     seen(from, lone_reach(man, from), occupied)
 }
 
+/// The same, and how many they are at most.
+pub fn reach_past(man: Man, from: Square, occupied: SquareSet) -> SquareSet
+    ensures reached { (t : ℕ) → t < 64 → Has result t ↔ Reaches (λ u. bit_at occupied.bits u ≡ 0) man from t }
+    ensures few { size_of result ≤ most_reached man.kind }
+{
+    reach(man, from, occupied)
+}
+
 /// Whether this man on `from` attacks `to` where these squares are occupied.
 pub(crate) fn attacks(man: Man, from: Square, to: Square, occupied: SquareSet) -> bool
     ensures { IsTrue result ↔ Reaches (λ u. bit_at occupied.bits u ≡ 0) man from to }
@@ -62,7 +70,7 @@ pub(crate) fn attacks(man: Man, from: Square, to: Square, occupied: SquareSet) -
 
 /// The squares to which a man may come so that this man on `from`, which it takes or whose line it crosses, does not
 /// attack `to` where these squares are occupied.
-pub(crate) fn stops(man: Man, from: Square, to: Square, occupied: SquareSet) -> SquareSet
+pub fn stops(man: Man, from: Square, to: Square, occupied: SquareSet) -> SquareSet
     ensures { (t : ℕ) → t < 64 → Has result t ↔ Stops occupied.bits man from to t }
 {
     if attacks(man, from, to, occupied) {

@@ -12,3 +12,4 @@ pub mod Room
 pub mod TwoKings
 pub mod UnmoveImages
 pub mod Left
+pub mod Bits

@@ -21,7 +21,7 @@ use Rattle.egt_unmoves.proofs.Came.{came}
 use Rattle.egt_unmoves.proofs.InOrder.{squares_within, target_place_small, ListsBelow-none, ListsBelow-skip}
 
 -- that side's king stands somewhere
-king_square : (p : Setup) (side : Side) → IsAdmissible p → (k : ℕ) × IsKingOn p.men side k
+pub king_square : (p : Setup) (side : Side) → IsAdmissible p → (k : ℕ) × IsKingOn p.men side k
 king_square p White ok = (ok.kings.white, ok.kings.white_there)
 king_square p Black ok = (ok.kings.black, ok.kings.black_there)
 

@@ -1,19 +1,20 @@
 -- Squares on which a man leaves the king of the side to move unattacked.
-use Rattle.std.proofs.Common.{◌≡◌, ◌≢◌, ◌↔◌, ℕ, refl, sym, ap, ◌∙◌, inl, inr, subst}
+use Rattle.std.proofs.Common.{◌≡◌, ◌≢◌, ◌↔◌, ◌⊎◌, ℕ, Some, refl, sym, ap, ◌∙◌, inl, inr, subst}
 use Rattle.std.specs.FinMap as map
 use Rattle.std.specs.Int.{bit_at}
 use Rattle.std.proofs.lemmas.Bool.{cases_eq}
+use Rattle.egt_board.specs.declared.man.Kind.{Kind}
+use Rattle.egt_board.specs.declared.man.Kind.TheVariants.{Q, R, B, N, P, K}
 use Rattle.egt_board.specs.declared.man.Man.{Man}
-use Rattle.egt_board.specs.declared.square_set.SquareSet.{SquareSet}
 use Rattle.egt_board.specs.Attack.{king_of, IsAttacked, IsInCheck}
 use Rattle.egt_board.specs.Gait.{Reaches, Reaches-free}
 use Rattle.egt_board.specs.Man.{other_side}
-use Rattle.egt_board.specs.Placement.{Placement, Stands, IsFree, IsHeld, one_man, get-insert_same, get-insert_other, get-remove_same, get-remove_other}
+use Rattle.egt_board.specs.Placement.{Placement, Stands, IsFree, one_man, get-insert_same, get-insert_other, get-remove_same, get-remove_other}
 use Rattle.egt_board.specs.Safety.{Stops}
 use Rattle.egt_board.specs.Setup.{Setup, IsAdmissible, IsKingOn}
-use Rattle.egt_board.specs.SquareSet.{Has}
 use Rattle.egt_unmoves.specs.Unmoves.{MayComeFrom, men_before}
 use Rattle.egt_unmoves.proofs.Came.{not_free, unput_free}
+use Rattle.egt_unmoves.proofs.Men.{king_square}
 use Rattle.egt_unmoves.proofs.Sides.{side_twice, sides_differ}
 use Rattle.egt_unmoves.proofs.Ways.{kings_face}
 use Rattle.egt_unmoves.proofs.Went.{elsewhere, stood, king_stays}
@@ -39,9 +40,18 @@ kings_keep_apart F q k w ok king waits reaches =
       };
     })
 
+-- a man is a king or none
+king_or_none : (kind : Kind) → (kind ≡ K) ⊎ (kind ≢ K)
+king_or_none Q = inr (λ e. cc)
+king_or_none R = inr (λ e. cc)
+king_or_none B = inr (λ e. cc)
+king_or_none N = inr (λ e. cc)
+king_or_none P = inr (λ e. cc)
+king_or_none K = inl refl
+
 -- the man on s, the other men of its side but the king, and the squares that are taken without the man
-module _ (q : Setup) (man : Man) (to s k w : ℕ) (others : SquareSet) (occupied : ℕ) (ok : IsAdmissible q) (stands : Stands q.men to man) (theirs : man.side ≡ other_side q.side) (free : IsFree q.men s)
-    (king : IsKingOn q.men q.side k) (waits : IsKingOn q.men (other_side q.side) w) (held : (f : ℕ) → Has others f ↔ (IsHeld q.men f (other_side q.side) × (f ≢ w) × (f ≢ to)))
+module _ (q : Setup) (man : Man) (to s k : ℕ) (Other : Man → ℕ → Type 0) (occupied : ℕ) (ok : IsAdmissible q) (stands : Stands q.men to man) (theirs : man.side ≡ other_side q.side) (free : IsFree q.men s)
+    (king : IsKingOn q.men q.side k) (others : (f : ℕ) (m : Man) → (Stands q.men f m × (m.side ≡ other_side q.side) × (m.kind ≢ K) × (f ≢ to)) ↔ Other m f)
     (clear : (u : ℕ) → (bit_at occupied u ≡ 0) ↔ IsFree (map.remove q.men to) u) where
   may : MayComeFrom q man to s
   may = record { stands = stands; theirs = theirs; free = free }
@@ -61,19 +71,26 @@ module _ (q : Setup) (man : Man) (to s k w : ℕ) (others : SquareSet) (occupied
     λ h. get-insert_other (map.remove q.men to) s man u h.1 ∙ (clear u).0 h.0,
   )
 
+  -- the king of the side that waits attacks no king
+  by_king : (f : ℕ) (m : Man) → Stands q.men f m → m.side ≡ other_side q.side → m.kind ≡ K → Reaches (IsFree men) m f k → ⊥
+  by_king f m there own is reaches =
+      let same : m ≡ king_of (other_side q.side) = λ i. record { side = own i; kind = is i } in
+      let w = king_square q (other_side q.side) ok in
+      let here : f ≡ w.0 = w.1.only f (there ∙ ap Some same) in
+      kings_keep_apart (IsFree men) q k w.0 ok king w.1 (subst (λ (y : Man). Reaches (IsFree men) y w.0 k) same (subst (λ t. Reaches (IsFree men) m t k) here reaches))
+
   -- the man leaves the king unattacked where it stops the others from attacking it, and does not attack it itself
-  pub quiet_at : (¬ IsInCheck men q.side) ↔ (((f : ℕ) (m : Man) → Has others f → Stands q.men f m → Stops occupied m f k s) × (¬ Reaches (IsFree men) man s k))
+  pub quiet_at : (¬ IsInCheck men q.side) ↔ (((f : ℕ) (m : Man) → Other m f → Stops occupied m f k s) × (¬ Reaches (IsFree men) man s k))
   quiet_at = (
     λ safe. (
-      λ f m has there.
-          let h = (held f).0 has in
-          let own : m.side ≡ other_side q.side = ap (λ (y : Man). y.side) (one_man q.men f m h.0.man there h.0.stands) ∙ h.0.theirs in
-          let apart : f ≢ s = λ e. not_free q.men s m free (subst (λ v. Stands q.men v m) e there) in
+      λ f m other.
+          let h = (others f m).1 other in
+          let apart : f ≢ s = λ e. not_free q.men s m free (subst (λ v. Stands q.men v m) e h.0) in
           inr (λ r. safe (in_check (record {
             from = f;
             man = m;
-            stands = elsewhere q man to s may f apart h.2 ∙ there;
-            theirs = own;
+            stands = elsewhere q man to s may f apart h.3 ∙ h.0;
+            theirs = h.1;
             reaches = Reaches-free (λ u. (bit_at occupied u ≡ 0) × (u ≢ s)) (IsFree men) m f k (λ u u_in. (free_there u).1) r;
           }))),
       λ reaches. safe (in_check (record { from = s; man = man; stands = get-insert_same (map.remove q.men to) s man s refl; theirs = theirs; reaches = reaches })),
@@ -82,13 +99,11 @@ module _ (q : Setup) (man : Man) (to s k w : ℕ) (others : SquareSet) (occupied
         let there : IsAttacked men k (other_side q.side) = subst (λ t. IsAttacked men t (other_side q.side)) (king_there.only check.square check.stands) check.attacked in
         elim (stood q man to s may there.from there.man there.stands) [
           | inl here ↦ h.1 (subst (λ (y : Man). Reaches (IsFree men) y s k) here.1 (subst (λ t. Reaches (IsFree men) there.man t k) here.0 there.reaches))
-          | inr other ↦ elim (cases_eq there.from w) [
-            | inl e ↦
-                let same : there.man ≡ king_of (other_side q.side) = one_man q.men w there.man (king_of (other_side q.side)) (subst (λ t. Stands q.men t there.man) e other.2) waits.stands in
-                kings_keep_apart (IsFree men) q k w ok king waits (subst (λ (y : Man). Reaches (IsFree men) y w k) same (subst (λ t. Reaches (IsFree men) there.man t k) e there.reaches))
-            | inr apart ↦ elim (h.0 there.from there.man ((held there.from).1 (record { man = there.man; stands = other.2; theirs = there.theirs }, apart, other.1)) other.2) [
+          | inr other ↦ elim (king_or_none there.man.kind) [
+            | inl is ↦ by_king there.from there.man other.2 there.theirs is there.reaches
+            | inr none ↦ elim (h.0 there.from there.man ((others there.from there.man).0 (other.2, there.theirs, none, other.1))) [
               | inl e ↦ other.0 (sym e)
-              | inr none ↦ none (Reaches-free (IsFree men) (λ u. (bit_at occupied u ≡ 0) × (u ≢ s)) there.man there.from k (λ u u_in. (free_there u).0) there.reaches)
+              | inr stopped ↦ stopped (Reaches-free (IsFree men) (λ u. (bit_at occupied u ≡ 0) × (u ≢ s)) there.man there.from k (λ u u_in. (free_there u).0) there.reaches)
             ]
           ]
         ],

@@ -1,6 +1,7 @@
 //! Moves backwards: the positions from which a legal move that neither captures nor promotes leads to a position.
 #![tactic(auto)]
 
+pub mod around;
 pub mod laws;
 pub mod leaving;
 pub mod listing;
@@ -9,7 +10,8 @@ pub mod taking_back;
 pub mod targets;
 pub mod unmove;
 
-pub use leaving::quiet_sources;
+pub use around::Around;
+pub use leaving::{came_from, quiet_sources};
 pub use listing::unmoves;
 pub use targets::target_before;
 pub use unmove::Unmove;

@@ -1,24 +1,30 @@
 //! Where a man may have come from.
-ghost use Rattle.std.specs.Prelude.{◌≡◌, ℕ, ◌<◌, ◌≤◌, ◌↔◌, IsTrue};
+ghost use Rattle.std.specs.Prelude.{◌≡◌, ℕ, ◌<◌, ◌≤◌, ◌↔◌, Some, IsTrue};
+ghost use Rattle.std.specs.FinMap as map;
 ghost use Rattle.egt_board.specs.Attack.{IsInCheck};
-ghost use Rattle.egt_board.specs.Camps.{AreCamps};
+ghost use Rattle.egt_board.specs.Camps.{AreCamps, IsOccupied};
 ghost use Rattle.egt_board.specs.Gait.{Reaches};
 ghost use Rattle.egt_board.specs.Man.{other_side};
 ghost use Rattle.egt_board.specs.Pawn.{MayStand};
-ghost use Rattle.egt_board.specs.Placement.{Stands, IsFree};
+ghost use Rattle.egt_board.specs.Placement.{Placement, Stands, IsFree};
+ghost use Rattle.egt_board.specs.Safety.{Stops};
+ghost use Rattle.egt_board.specs.Setup.{Setup, IsAdmissible};
 ghost use Rattle.egt_board.specs.Square.{rank_of};
 ghost use Rattle.egt_board.specs.SquareSet.{Has, size_of};
 ghost use Rattle.egt_board.specs.declared.man.Kind.TheVariants.{P};
 ghost use Rattle.egt_board.specs.declared.man.Man.{Man};
 ghost use Rattle.egt_moves.specs.Room.{most_goals};
+ghost use Rattle.egt_unmoves.specs.Around.{StandsAround};
 ghost use Rattle.egt_unmoves.specs.Unmoves.{HasWay, MayHaveLeft, facing, men_before};
 
+use crate::around::{Around, look_around};
 use crate::taking_back::is_pawn;
 use crate::targets::advanced_rank;
 use egt_board::safety::reach_passes_over_its_end;
-use egt_board::{Camps, Kind, Man, Position, Square, SquareSet};
+use egt_board::{Camps, Kind, Man, Position, Square, SquareSet, gait};
 
 /// The man that attacks the squares from which this one attacks its own: of a pawn the enemy's, of another man the same.
+#[inline(always)]
 fn facing(man: Man) -> Man
     ensures { result ≡ facing man }
 {
@@ -28,29 +34,28 @@ fn facing(man: Man) -> Man
     }
 }
 
-/// The squares from which the man that stands on `to` now, put there, attacks the square.
-fn attackers(position: &Position, camps: Camps, man: Man, to: Square, square: Square) -> SquareSet
-    requires { AreCamps position.now camps }
-    ensures attackers { (s : ℕ) → s < 64 → Has result s ↔ Reaches (IsFree (men_before position.now.men man to s)) man s square }
+/// The squares from which the man, put there, attacks the square, where the other men stand on these squares.
+#[inline(always)]
+fn attackers(man: Man, square: Square, occupied: SquareSet) -> SquareSet
+    ensures attackers { (men : Placement) → IsOccupied men occupied → (s : ℕ) → s < 64 → Has result s ↔ Reaches (IsFree (map.insert men s man)) man s square }
     ensures few { size_of result ≤ most_goals man.kind }
 {
     reach_passes_over_its_end();
-    position
-        .board()
-        .reach_without(facing(man), square, to, camps.occupied())
+    gait::reach_past(facing(man), square, occupied)
 }
 
-/// The squares from which the piece or king may have come to `to`, past free squares.
-fn piece_sources(position: &Position, camps: Camps, man: Man, to: Square) -> SquareSet
-    requires camps { AreCamps position.now camps }
-    requires piece { man.kind ≡ P → ⊥ }
-    ensures ways { (s : ℕ) → s < 64 → Has result s ↔ HasWay position.now.men man to s }
+/// The squares from which the piece or king may have come to `to`, past free squares. All men stand on the squares of `all`.
+#[inline(always)]
+fn piece_sources(man: Man, to: Square, all: SquareSet) -> SquareSet
+    requires { man.kind ≡ P → ⊥ }
+    ensures ways { (men : Placement) → IsOccupied men all → (s : ℕ) → s < 64 → Has result s ↔ HasWay men man to s }
     ensures few { size_of result ≤ most_goals man.kind }
 {
-    attackers(position, camps, man, to, to).without(camps.occupied())
+    attackers(man, to, all.less(to)).without(all)
 }
 
 /// Whether a pawn may stand on the square: on none of the first rank or the last.
+#[inline(always)]
 fn may_have_pawn(square: Square) -> bool
     ensures { IsTrue result ↔ ((0 < rank_of square) × (rank_of square < 7)) }
 {
@@ -59,15 +64,13 @@ fn may_have_pawn(square: Square) -> bool
 }
 
 /// The squares from which the pawn may have advanced to `to`: the one behind, or the second behind it after an advance of two squares.
-fn pawn_sources(position: &Position, camps: Camps, man: Man, to: Square) -> SquareSet
-    requires camps { AreCamps position.now camps }
-    requires stands { Stands position.now.men to man }
+/// All men stand on the squares of `all`.
+fn pawn_sources(man: Man, to: Square, all: SquareSet) -> SquareSet
     requires pawn { man.kind ≡ P }
     requires fits { MayStand man to }
-    ensures ways { (s : ℕ) → s < 64 → Has result s ↔ HasWay position.now.men man to s }
+    ensures ways { (men : Placement) → IsOccupied men all → Stands men to man → (s : ℕ) → s < 64 → Has result s ↔ HasWay men man to s }
     ensures few { size_of result ≤ 4 }
 {
-    let all = camps.occupied();
     let back = man.side.other();
     let behind = to.ahead(back);
     if !may_have_pawn(behind) {
@@ -83,23 +86,48 @@ fn pawn_sources(position: &Position, camps: Camps, man: Man, to: Square) -> Squa
     near.with(behind.ahead(back)).without(all)
 }
 
-/// The free squares on which the man, one of the side that waits, leaves the king of the side to move unattacked, and perhaps squares that
-/// are not free. The kings leave each other unattacked everywhere.
-fn quiet(position: &Position, camps: Camps, man: Man, to: Square) -> SquareSet
-    requires camps { AreCamps position.now camps }
-    requires stands { Stands position.now.men to man }
-    requires theirs { man.side ≡ other_side position.now.side }
-    ensures { (s : ℕ) → s < 64 → IsFree position.now.men s → Has result s ↔ ¬ IsInCheck (men_before position.now.men man to s) position.now.side }
+/// The squares to which a man may come so that this one, if there is one, does not attack the king: where these squares are occupied,
+/// and besides the one that the man comes to.
+#[inline(always)]
+fn shield_from(other: Option<(Man, Square)>, king: Square, occupied: SquareSet) -> SquareSet
+    ensures { (t : ℕ) → t < 64 → Has result t ↔ ((s : ℕ) (man : Man) → other ≡ Some (man, s) → Stops occupied.bits man s king t) }
 {
-    let king = position.king(position.side());
-    let others = camps.enemy.less(position.king(man.side)).less(to);
-    position
-        .board()
-        .shelter_from(others, king, camps.occupied().less(to))
-        .without(attackers(position, camps, man, to, king))
+    match other {
+        Some((man, from)) => gait::stops(man, from, king, occupied),
+        None => SquareSet::ALL,
+    }
 }
 
-/// The squares that the man on `to`, one of the side that waits, may have left.
+/// The free squares on which the man, one of the side that waits, leaves the king of the side to move unattacked, and perhaps squares that
+/// are not free. The kings leave each other unattacked everywhere.
+#[inline(always)]
+fn quiet(man: Man, to: Square, around: &Around) -> SquareSet
+    ensures { (q : Setup) → IsAdmissible q → StandsAround q man to around.now
+        → (s : ℕ) → s < 64 → IsFree q.men s → Has result s ↔ ¬ IsInCheck (men_before q.men man to s) q.side }
+{
+    let king = around.king;
+    let left = around.all.less(to);
+    let one = shield_from(around.one, king, left);
+    let other = shield_from(around.other, king, left);
+    one.common(other).without(attackers(man, king, left))
+}
+
+/// The squares that the man on `to`, one of the side that waits, may have left: by what stands around him.
+#[inline(always)]
+pub(crate) fn sources_around(man: Man, to: Square, around: &Around) -> SquareSet
+    requires { MayStand man to }
+    ensures left { (q : Setup) → IsAdmissible q → StandsAround q man to around.now → (s : ℕ) → s < 64 → Has result s ↔ MayHaveLeft q man to s }
+    ensures few { size_of result ≤ most_goals man.kind }
+{
+    let ways = if is_pawn(man) {
+        pawn_sources(man, to, around.all)
+    } else {
+        piece_sources(man, to, around.all)
+    };
+    ways.common(quiet(man, to, around))
+}
+
+/// The same, of a position: what stands around the man is looked up.
 pub(crate) fn sources(position: &Position, camps: Camps, man: Man, to: Square) -> SquareSet
     requires camps { AreCamps position.now camps }
     requires stands { Stands position.now.men to man }
@@ -108,10 +136,5 @@ pub(crate) fn sources(position: &Position, camps: Camps, man: Man, to: Square) -
     ensures few { size_of result ≤ most_goals man.kind }
 {
     let _whole = position.side();
-    let ways = if is_pawn(man) {
-        pawn_sources(position, camps, man, to)
-    } else {
-        piece_sources(position, camps, man, to)
-    };
-    ways.common(quiet(position, camps, man, to))
+    sources_around(man, to, &look_around(position, camps, man, to))
 }

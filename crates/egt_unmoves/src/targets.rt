@@ -1,5 +1,5 @@
 //! The target that a position may have had before the last move.
-ghost use Rattle.std.specs.Prelude.{◌≡◌, ◌⊎◌, ◌↔◌, None, IsTrue};
+ghost use Rattle.std.specs.Prelude.{◌≡◌, ◌<◌, ◌⊎◌, ◌↔◌, None, IsTrue};
 ghost use Rattle.egt_board.specs.Man.{other_side};
 ghost use Rattle.egt_board.specs.Pawn.{pawn_of, ahead, HasPawnBeside};
 ghost use Rattle.egt_board.specs.Placement.{Stands};
@@ -7,7 +7,7 @@ ghost use Rattle.egt_board.specs.Setup.{Setup};
 ghost use Rattle.egt_board.specs.Square.{rank_of};
 ghost use Rattle.egt_board.specs.Target.{IsTarget};
 ghost use Rattle.egt_moves.specs.declared.chess_move.Move.{Move};
-ghost use Rattle.egt_unmoves.specs.Targets.{advanced_rank};
+ghost use Rattle.egt_unmoves.specs.Targets.{advanced_rank, StoodBeside, MightBeTaken};
 ghost use Rattle.egt_unmoves.specs.Unmoves.{ComesBy};
 
 use egt_board::{Board, Position, Side, Square};
@@ -37,15 +37,31 @@ fn has_advanced(position: &Position, side: Side, square: Square) -> bool
     square.rank() == advanced_rank(side) && position.at(square) == Some(side.pawn())
 }
 
+/// Whether a pawn of that side stands beside the square, or has advanced by one since it stood there.
+fn stood_beside(board: &Board, side: Side, square: Square) -> bool
+    requires not_first { 0 < rank_of square }
+    requires not_last { rank_of square < 7 }
+    ensures { IsTrue result ↔ StoodBeside board.now side square }
+{
+    board.has_pawn_beside(side, square) || board.has_pawn_beside(side, square.ahead(side))
+}
+
+/// Whether a pawn of that side, which is to move now, stands on the square and might have been taken in passing by the last move.
+fn might_be_taken(position: &Position, mover: Side, square: Square) -> bool
+    ensures { IsTrue result ↔ MightBeTaken position.now.men mover square }
+{
+    has_advanced(position, mover, square) && stood_beside(position.board(), mover.other(), square)
+}
+
 /// The target that the position before the last move had, where it had one: behind a pawn of the side that is to move
-/// now, which had just advanced two squares. Four men leave room for one.
+/// now, which had just advanced two squares, and which a pawn stood ready to take. Four men leave room for one.
 pub fn target_before(position: &Position) -> Option<Square>
     ensures { (b : Setup) (m : Move) → ComesBy b m position.now → (b.target ≡ None) ⊎ (b.target ≡ result) }
 {
     let mover = position.side();
     let mut rest = position.of(mover);
     while let Some(square) = rest.pop_first() {
-        if has_advanced(position, mover, square) {
+        if might_be_taken(position, mover, square) {
             return Some(square.ahead(mover.other()));
         }
     }

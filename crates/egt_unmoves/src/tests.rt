@@ -1,7 +1,8 @@
 //! Worked positions, whose unmoves are found by hand, and samples of four classes against plain play.
-use crate::{Unmove, unmoves};
+use crate::leaving::squares_left;
+use crate::{Around, Unmove, target_before, unmoves};
 use arrayvec::ArrayVec;
-use egt_board::{Kind, Man, Position, Side, Square};
+use egt_board::{Kind, Man, Position, Side, Square, SquareSet};
 use egt_moves::{Move, legal_moves, play};
 use std::test::Fail;
 
@@ -138,6 +139,18 @@ fn a_target_may_have_been_there(rt: HostRuntime) {
 }
 
 #[test]
+fn a_target_before_had_a_pawn_beside_its_own(rt: HostRuntime) {
+    let before = |words| position(words).map(|position| target_before(&position));
+    assert!(rt; before("kd6 pd4 Pe4 Kh1 w") == Some(square(b"e3")));
+    // That pawn may have advanced instead, from d4.
+    assert!(rt; before("kd6 pd3 Pe4 Kh1 w") == Some(square(b"e3")));
+    assert!(rt; before("kd6 pd5 Pe4 Kh1 w") == Some(None));
+    assert!(rt; before("kd6 pc4 Pe4 Kh1 w") == Some(None));
+    assert!(rt; before("ka1 pd4 Pd5 Ke6 b") == Some(None));
+    assert!(rt; before("ka1 pe5 Pd6 Kh6 b") == Some(square(b"e6")));
+}
+
+#[test]
 fn a_target_tells_the_last_move(rt: HostRuntime) {
     assert!(rt; are("kd5 pd4 Pe4 Kh1 b e3", &["e4 e2 - p"]) == Some(true));
     // Had the pawn come from e2, e3 would be a target now.
@@ -173,6 +186,55 @@ fn the_side_that_waited_was_not_in_check(rt: HostRuntime) {
         "b2 a2 -", "b2 c2 -", "b2 d2 -", "b2 e2 -", "b2 f2 -", "b2 g2 -", "b2 h2 -",
     ];
     assert!(rt; are("Ka1 Rb2 kb8 b", &rows) == Some(true));
+}
+
+/// White's king is on a1 and Black's on h5, and a black rook on a8.
+fn beside_a_rook() -> Around {
+    Around {
+        king: Square::at(0),
+        all: SquareSet {
+            bits: 1 | 1 << 39 | 1 << 56,
+        },
+        one: None,
+        other: None,
+        taker: false,
+    }
+}
+
+#[test]
+fn a_man_came_from_where_the_king_was_unattacked(rt: HostRuntime) {
+    let rook = Man {
+        side: Side::Black,
+        kind: Kind::R,
+    };
+    let knight = Man {
+        side: Side::Black,
+        kind: Kind::N,
+    };
+    // From the file the rook would have given check already.
+    let mut around = beside_a_rook();
+    assert!(rt; squares_left(rook, Square::at(56), &around).bits == 0xFE << 56);
+    // The knight on b6 had stood in the rook's way, on a4.
+    around.one = Some((rook, Square::at(56)));
+    around.all = around.all.with(Square::at(41));
+    assert!(rt; squares_left(knight, Square::at(41), &around).bits == 1 << 24);
+    around.other = around.one;
+    around.one = None;
+    assert!(rt; squares_left(knight, Square::at(41), &around).bits == 1 << 24);
+}
+
+#[test]
+fn a_pawn_came_by_one_square_where_it_may_not_be_taken(rt: HostRuntime) {
+    let pawn = Man {
+        side: Side::Black,
+        kind: Kind::P,
+    };
+    // On e5, with a white pawn on d5 or none.
+    let mut around = beside_a_rook();
+    around.all = around.all.with(Square::at(36));
+    assert!(rt; squares_left(pawn, Square::at(36), &around).bits == 1 << 44 | 1 << 52);
+    around.taker = true;
+    assert!(rt; squares_left(pawn, Square::at(36), &around).bits == 1 << 44);
 }
 
 /// The move between two squares where it is legal, takes nothing and leads to this position.

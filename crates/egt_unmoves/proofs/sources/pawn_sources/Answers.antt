@@ -24,11 +24,11 @@ kept : (a o m : ℕ) → a < 2 → o < 2 → m ≡ min a (1 - o) → (m ≡ 1) �
 kept a o m a_bit o_bit e = (λ one. (omega arith, omega arith), λ h. let one = h.0 in let none = h.1 in omega arith)
 
 pub returns-then-not-may_have_pawn-clause-ways : goal.returns-then-not-may_have_pawn-clause-ways
-returns-then-not-may_have_pawn-clause-ways c = λ s s_in. (
+returns-then-not-may_have_pawn-clause-ways c = λ men occupied stands s s_in. (
   λ one. not_both (bit_at 0 s) (bit_at-zero s) one,
   λ way.
       let is = found_behind c.args.man.side c.other-back.result c.args.to c.ahead-behind.result c.other-back.ensures c.ahead-behind.ensures in
-      let came = (has_way c.args.position.now.men c.args.man c.args.to s c.requires.pawn c.requires.stands (omega arith) (c.requires.fits c.requires.pawn)).0 way in
+      let came = (has_way men c.args.man c.args.to s c.requires.pawn stands (omega arith) (c.requires.fits c.requires.pawn)).0 way in
       absurd (false≢true (sym c.if-not-may_have_pawn.true ∙ c.may_have_pawn.ensures.1 (subst IsInside (sym is) came.inside))),
 )
 
@@ -36,12 +36,12 @@ pub returns-then-not-may_have_pawn-clause-few : goal.returns-then-not-may_have_p
 returns-then-not-may_have_pawn-clause-few c = size_none 4
 
 pub returns-then-contains-clause-ways : goal.returns-then-contains-clause-ways
-returns-then-contains-clause-ways c = λ s s_in. (
+returns-then-contains-clause-ways c = λ men occupied stands s s_in. (
   λ one. not_both (bit_at 0 s) (bit_at-zero s) one,
   λ way.
       let is = found_behind c.args.man.side c.other-back.result c.args.to c.ahead-behind.result c.other-back.ensures c.ahead-behind.ensures in
-      let came = (has_way c.args.position.now.men c.args.man c.args.to s c.requires.pawn c.requires.stands (omega arith) (c.requires.fits c.requires.pawn)).0 way in
-      not_both (bit_at c.occupied-all.result.bits c.ahead-behind.result) ((c.occupied-all.ensures c.args.position.now c.requires.camps c.ahead-behind.result).1 (subst (IsFree c.args.position.now.men) (sym is) came.over))
+      let came = (has_way men c.args.man c.args.to s c.requires.pawn stands (omega arith) (c.requires.fits c.requires.pawn)).0 way in
+      not_both (bit_at c.args.all.bits c.ahead-behind.result) ((occupied c.ahead-behind.result).1 (subst (IsFree men) (sym is) came.over))
       (c.contains.ensures.0 c.if-contains.true),
 )
 
@@ -49,13 +49,13 @@ pub returns-then-contains-clause-few : goal.returns-then-contains-clause-few
 returns-then-contains-clause-few c = size_none 4
 
 pub returns-then-rank-advanced_rank-clause-ways : goal.returns-then-rank-advanced_rank-clause-ways
-returns-then-rank-advanced_rank-clause-ways c = λ s s_in.
+returns-then-rank-advanced_rank-clause-ways c = λ men occupied stands s s_in.
     let at = c.ahead-behind.result in
     let is = found_behind c.args.man.side c.other-back.result c.args.to at c.other-back.ensures c.ahead-behind.ensures in
-    let straight = has_way c.args.position.now.men c.args.man c.args.to s c.requires.pawn c.requires.stands (omega arith) (c.requires.fits c.requires.pawn) in
-    let over = (c.occupied-all.ensures c.args.position.now c.requires.camps at).0 (untold c.contains.result c.occupied-all.result.bits at c.contains.ensures c.if-contains.false) in (
+    let straight = has_way men c.args.man c.args.to s c.requires.pawn stands (omega arith) (c.requires.fits c.requires.pawn) in
+    let over = (occupied at).0 (untold c.contains.result c.args.all.bits at c.contains.ensures c.if-contains.false) in (
       λ has. straight.1 (record {
-        over = subst (IsFree c.args.position.now.men) is over;
+        over = subst (IsFree men) is over;
         inside = subst IsInside is (c.may_have_pawn.ensures.0 c.if-not-may_have_pawn.false);
         from = inl (one_square c.with-near.result at s c.with-near.ensures.others has ∙ is);
       }),
@@ -69,21 +69,19 @@ pub returns-then-rank-advanced_rank-clause-few : goal.returns-then-rank-advanced
 returns-then-rank-advanced_rank-clause-few c = let more = size_with (record { bits = 0 }) c.with-near.result c.ahead-behind.result c.with-near.ensures.others in let none = size_none 0 in omega (arith, more, none)
 
 pub returns-clause-ways : goal.returns-clause-ways
-returns-clause-ways c = λ s s_in.
-    let q = c.args.position.now in
+returns-clause-ways c = λ men occupied stands s s_in.
     let at = c.ahead-behind.result in
     let is = found_behind c.args.man.side c.other-back.result c.args.to at c.other-back.ensures c.ahead-behind.ensures in
     let next : c.ahead.result ≡ second c.args.man.side c.args.to = found_behind c.args.man.side c.other-back.result at c.ahead.result c.other-back.ensures c.ahead.ensures ∙ ap (behind c.args.man.side) is in
-    let straight = has_way q.men c.args.man c.args.to s c.requires.pawn c.requires.stands (omega arith) (c.requires.fits c.requires.pawn) in
-    let occupied = c.occupied-all.ensures q c.requires.camps in
-    let over = (occupied at).0 (untold c.contains.result c.occupied-all.result.bits at c.contains.ensures c.if-contains.false) in
-    let bits = kept _ _ _ (bit_at-lt c.with.result.bits s) (bit_at-lt c.occupied-all.result.bits s) (c.without.ensures.squares s) in
+    let straight = has_way men c.args.man c.args.to s c.requires.pawn stands (omega arith) (c.requires.fits c.requires.pawn) in
+    let over = (occupied at).0 (untold c.contains.result c.args.all.bits at c.contains.ensures c.if-contains.false) in
+    let bits = kept _ _ _ (bit_at-lt c.with.result.bits s) (bit_at-lt c.args.all.bits s) (c.without.ensures.squares s) in
     let rank : rank_of c.args.to ≡ advanced_rank c.args.man.side = sym c.rank.ensures.value ∙ c.if-rank-advanced_rank.false ∙ c.advanced_rank.ensures in (
       λ has.
           let h = bits.0 has in
           let free = (occupied s).0 h.1 in
           straight.1 (record {
-            over = subst (IsFree q.men) is over;
+            over = subst (IsFree men) is over;
             inside = subst IsInside is (c.may_have_pawn.ensures.0 c.if-not-may_have_pawn.false);
             from = elim (either c.with-near.result c.with.result c.ahead.result s c.with.ensures.others h.0) [
               | inl far ↦ inr (far ∙ next, rank, free)

@@ -1,0 +1,31 @@
+-- What stands around a man that may have made the last move, and the squares that it tells.
+use Rattle.std.specs.Prelude.{◌≡◌, ◌≢◌, ℕ, ◌<◌, ◌↔◌, ◌⊎◌, Some, None, IsTrue}
+use Rattle.egt_board.specs.declared.man.Kind.TheVariants.{K}
+use Rattle.egt_board.specs.declared.man.Man.{Man}
+use Rattle.egt_board.specs.declared.square_set.SquareSet.{SquareSet}
+use Rattle.egt_board.specs.Camps.{IsOccupied}
+use Rattle.egt_board.specs.Man.{other_side}
+use Rattle.egt_board.specs.Pawn.{HasPawnBeside}
+use Rattle.egt_board.specs.Placement.{Stands}
+use Rattle.egt_board.specs.Setup.{Setup, IsKingOn}
+use Rattle.egt_board.specs.SquareSet.{Has}
+use Rattle.egt_moves.specs.declared.chess_move.Move.{Move}
+use Rattle.egt_moves.specs.Legal.{plain}
+use Rattle.egt_unmoves.specs.declared.around.Around.{Around}
+use Rattle.egt_unmoves.specs.Unmoves.{ComesBy, setup_before}
+
+-- the man, one of the side that waits, stands there, and this around him: the other men of his side but its king are one at most, or two
+pub record StandsAround (q : Setup) (man : Man) (to : ℕ) (around : Around) : Type 0 where
+  pub stands : Stands q.men to man
+  pub theirs : man.side ≡ other_side q.side
+  pub king : IsKingOn q.men q.side around.king
+  pub all : IsOccupied q.men around.all
+  pub others : (s : ℕ) (m : Man) → (Stands q.men s m × (m.side ≡ other_side q.side) × (m.kind ≢ K) × (s ≢ to)) ↔ ((around.one ≡ Some (m, s)) ⊎ (around.other ≡ Some (m, s)))
+  pub taker : IsTrue around.taker ↔ HasPawnBeside q.men q.side to
+
+-- the man came to the one square from exactly these, by legal moves that neither capture nor promote, and with it back on one of them nothing
+-- but a target before is left untold
+pub record CameFrom (q : Setup) (man : Man) (to : ℕ) (squares : SquareSet) : Type 0 where
+  pub sound : (s : ℕ) → s < 64 → Has squares s → ComesBy (setup_before q man to s None) (plain s to) q
+  pub complete : (b : Setup) (m : Move) → m.to ≡ to → ComesBy b m q → Has squares m.from
+  pub before : (b : Setup) (m : Move) → m.to ≡ to → ComesBy b m q → b.target ≡ None → b ≡ setup_before q man to m.from None
