@@ -42,6 +42,7 @@ pub mod Scaled
 pub mod Lined
 pub mod Reached
 pub mod AtIndex
+pub mod FrameMen
 pub mod Framed
 pub mod Rows
 pub mod Touching
