@@ -22,6 +22,7 @@ pub mod sizes;
 pub mod spelling;
 pub mod stand;
 pub mod steps;
+pub mod total;
 pub mod turning;
 pub mod ways;
 
