@@ -1,18 +1,25 @@
 -- What the digits of an index say: a settled position that has it.
-use Rattle.std.proofs.Common.{◌≡◌, ℕ, ◌<◌, false, Bool, Option, Some, IfSome, subst, inl, inr}
+use Rattle.std.proofs.Common.{◌≡◌, ℕ, ◌<◌, Bool, List, true, false, Option, Some, None, IfSome, refl, sym, subst, inl, inr}
 use Rattle.egt_board.specs.declared.man.Side.{Side}
+use Rattle.egt_board.specs.declared.man.Side.TheVariants.{White, Black}
+use Rattle.egt_board.specs.declared.man.Man.{Man}
 use Rattle.egt_board.specs.Listed.{setup_of}
+use Rattle.egt_board.specs.Pawn.{pawn_of, ahead}
 use Rattle.egt_board.specs.Settled.{IsSettled}
 use Rattle.egt_board.specs.Setup.{Setup}
 use Rattle.egt_class.specs.Material.{Material, material_of}
+use Rattle.egt_index.specs.AtIndex.{IsAtIndex, IsFramedAt}
 use Rattle.egt_index.specs.Code.{Spells}
 use Rattle.egt_index.specs.Facts.{Facts}
+use Rattle.egt_index.specs.Frame.{IsFrame}
 use Rattle.egt_index.specs.Index.{IsIndex, IsVoid}
-use Rattle.egt_index.specs.Spelled.{Ends, SpellsMen, IsTold}
-use Rattle.egt_index.specs.Stood.{AllApart, HasStand, list_of}
+use Rattle.egt_index.specs.Spelled.{Ends, HasPawns, IsListed, IsTold, SpellsMen}
+use Rattle.egt_index.specs.Stood.{HasStand, list_of}
+use Rattle.egt_index.specs.declared.frame.Frame.{Frame}
 use Rattle.egt_index.specs.declared.stand.Stand.{Stand}
 use Rattle.egt_index.proofs.Decoded.{spelled_setup}
 use Rattle.egt_index.proofs.Exists.{index_settled}
+use Rattle.egt_index.proofs.OnePosition.{spells_once}
 use Rattle.egt_index.proofs.Setups.{fits_apart, stand_spelled}
 use Rattle.egt_index.proofs.Telling.{index_or_void}
 
@@ -22,14 +29,6 @@ indexed_by facts c code c_in some = elim (index_or_void facts c code c_in) [
   | inl found ↦ found
   | inr void ↦ absurd (some void)
 ]
-
--- what is known of the position that the digits of an index tell
-pub record IsAtIndex (c code : ℕ) (stand : Stand) (side : Side) (passed : Bool) (target : Option ℕ) : Type 0 where
-  pub apart : AllApart (list_of stand)
-  pub spells : Spells c code (setup_of (list_of stand) side target)
-  pub is : IsIndex c (setup_of (list_of stand) side target) code
-  pub settled : IsSettled (setup_of (list_of stand) side target)
-  pub stands : HasStand c false stand side passed (setup_of (list_of stand) side target)
 
 pub at_index : Facts → (c code high : ℕ) (stand : Stand) (side : Side) (passed : Bool) (target : Option ℕ) → c < 36 → ¬ IsVoid c code → Ends (material_of c) code high side passed
     → SpellsMen (material_of c) high (list_of stand) → IsTold passed side (list_of stand) target → IsAtIndex c code stand side passed target
@@ -46,3 +45,24 @@ at_index facts c code high stand side passed target c_in some ends men told =
 -- the stand that is found
 pub taken : (m : Material) (number : ℕ) (o : Option Stand) (stand : Stand) → IfSome o (λ s. SpellsMen m number (list_of s)) → o ≡ Some stand → SpellsMen m number (list_of stand)
 taken m number o stand some is = subst (λ (o : Option Stand). IfSome o (λ s. SpellsMen m number (list_of s))) is some
+
+-- where there are pawns, the square behind one of them is a target
+pub target_exists : (passed : Bool) (side : Side) (list : List (Man × ℕ)) → (passed ≡ true → HasPawns list) → (target : Option ℕ) × IsTold passed side list target
+target_exists false side list pawns = (None, refl)
+target_exists true side list pawns = of_side side
+  where
+    has : HasPawns list
+    has = pawns refl
+
+    of_side : (side : Side) → (target : Option ℕ) × IsTold true side list target
+    of_side White = (Some (ahead White has.black), (has.black, subst (λ l. IsListed l (pawn_of Black) has.black) (sym has.list_is) (inr (inr (inr (inl (refl, refl))))), refl))
+    of_side Black = (Some (ahead Black has.white), (has.white, subst (λ l. IsListed l (pawn_of White) has.white) (sym has.list_is) (inr (inr (inl (refl, refl)))), refl))
+
+-- the frame of the men is that of whatever position the code spells
+pub framed_at : (c code : ℕ) (stand : Stand) (side : Side) (passed : Bool) (target : Option ℕ) (frame : Frame) → IsAtIndex c code stand side passed target
+    → ((p : Setup) (passed : Bool) → HasStand c false stand side passed p → IsFrame p frame) → (p : Setup) → Spells c code p → IsFramedAt c code p frame passed
+framed_at c code stand side passed target frame at frames p spells =
+    subst (λ p. IsFramedAt c code p frame passed) (spells_once c code (setup_of (list_of stand) side target) p at.spells spells) here
+  where
+    here : IsFramedAt c code (setup_of (list_of stand) side target) frame passed
+    here = record { spells = at.spells; settled = at.settled; index = at.is; framed = frames _ passed at.stands; target = at.stands.target_is }

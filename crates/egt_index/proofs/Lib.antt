@@ -42,6 +42,8 @@ pub mod Scaled
 pub mod Lined
 pub mod Reached
 pub mod AtIndex
+pub mod FrameMen
+pub mod Totals
 pub mod Framed
 pub mod Rows
 pub mod Touching

@@ -110,7 +110,7 @@ module _ (c n code : ℕ) (stand : Stand) (p : Setup) (row : code / row_len c �
 
 -- the frame of one position of a row, with the other's side to move
 abbrev pub turned_to : Side → Frame → Frame
-turned_to side frame = record { class = frame.class; side = side; stand = frame.stand; alone = frame.alone; first = frame.first; equal = frame.equal; own = frame.own }
+turned_to side frame = record { class = frame.class; side = side; stand = frame.stand; alone = frame.alone; first = frame.first; equal = frame.equal; own = frame.own; total = frame.total }
 
 pub frame_turned : (c : ℕ) (stand : Stand) (p : Setup) (frame : Frame) → IsRowFrame c stand frame → IsInRow c stand p → IsFrame p (turned_to p.side frame)
 frame_turned c stand p frame row here = record {
@@ -129,6 +129,7 @@ frame_turned c stand p frame row here = record {
   first = row.is_frame.first;
   equal = row.is_frame.equal;
   own = row.is_frame.own;
+  total = row.is_frame.total;
 }
   where
     there : HasStand frame.class false frame.stand frame.side row.is_frame.passed row.position

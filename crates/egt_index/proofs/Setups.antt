@@ -33,7 +33,7 @@ pub free_of : (list : List (Man × ℕ)) (q : ℕ) → IsOff list q → IsFree (
 free_of [] q off = get_none q
 free_of (e ∷ list) q off = get_later e list q (λ same. off.0 (sym same)) ∙ free_of list q off.1
 
-off_of : (list : List (Man × ℕ)) (q : ℕ) → IsFree (men_of list) q → IsOff list q
+pub off_of : (list : List (Man × ℕ)) (q : ℕ) → IsFree (men_of list) q → IsOff list q
 off_of [] q free = tt
 off_of (e ∷ list) q free = ((λ same. not_here (sym same)), off_of list q (sym (get_later e list q not_here) ∙ free))
   where

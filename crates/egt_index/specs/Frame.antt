@@ -11,6 +11,7 @@ use Rattle.egt_index.specs.Home.{AreHome, IsAtHome}
 use Rattle.egt_index.specs.Nearer.{IsFirst, KingsTell}
 use Rattle.egt_index.specs.Size.{has_pawns}
 use Rattle.egt_index.specs.Stood.{HasStand, IsFilled}
+use Rattle.egt_index.specs.Total.{IsTotal}
 use Rattle.egt_index.specs.declared.frame.Frame.{Frame}
 
 -- the man on `from` went to `to`, where none stood, and nothing else on the board changed; it is the other side's turn, without a
@@ -28,7 +29,7 @@ pub record IsMoved (c : ℕ) (p : Setup) (from to : ℕ) (q : Setup) : Type 0 wh
 
 -- the frame tells where the men of p stand, which is settled, of the frame's class and in its colours, with the white king at home,
 -- whether one turn alone leaves him there, whether another that does takes the kings to greater squares, whether both sides have the same men, and where they have, whether the least code is in these
--- colours wherever the men stand beside the kings
+-- colours wherever the men stand beside the kings, and what all men add to a code
 pub record IsFrame (p : Setup) (frame : Frame) : Type 0 where
   pub passed : Bool
   pub stand : HasStand frame.class false frame.stand frame.side passed p
@@ -38,3 +39,4 @@ pub record IsFrame (p : Setup) (frame : Frame) : Type 0 where
   pub first : frame.first ≡ true → IsFirst frame.class frame.stand.white frame.stand.black
   pub equal : frame.equal ≡ has_equal_sides frame.class
   pub own : frame.own ≡ true → KingsTell frame.class frame.stand.white frame.stand.black
+  pub total : IsTotal frame.class frame.stand frame.total

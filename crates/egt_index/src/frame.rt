@@ -18,6 +18,7 @@ use crate::men::{has_equal_sides, has_pawns};
 use crate::nearer::{is_own_nearer, takes_away};
 use crate::stand::Stand;
 use crate::steps::{Steps, Ways};
+use crate::total::total_of;
 use crate::ways::{KingWay, Sum, Way, sum_of, way_of};
 use egt_board::{Side, Square};
 use egt_class::Class;
@@ -38,6 +39,8 @@ pub struct Frame {
     pub(crate) equal: bool,
     /// Whether then the least code is in the class's colours once a man went who is no king.
     pub(crate) own: bool,
+    /// What all men add to a code, but for the side to move.
+    pub(crate) total: u32,
 }
 
 impl Frame {
@@ -124,7 +127,7 @@ impl Frame {
         if !self.is_first_after(from) {
             return None;
         }
-        sum_of(self.class, &self.stand, self.side.other(), from)
+        sum_of(self.class, &self.stand, self.side.other(), self.total, from)
     }
 
     /// The codes after he went, in the class's colours.
@@ -168,6 +171,7 @@ impl Frame {
             first: takes_away(stand.white, stand.black, still),
             equal,
             own,
+            total: total_of(class, stand),
         }
     }
 }

@@ -9,6 +9,7 @@ pub mod either;
 pub mod facts;
 pub mod following;
 pub mod frame;
+pub mod frame_men;
 pub mod home;
 pub mod indexing;
 pub mod laws;
@@ -21,6 +22,7 @@ pub mod sizes;
 pub mod spelling;
 pub mod stand;
 pub mod steps;
+pub mod total;
 pub mod turning;
 pub mod ways;
 
@@ -32,7 +34,7 @@ pub use men::{has_pawns, has_target};
 pub use movers::{faces_king_alone, may_move_pawn};
 pub use row::{Row, begins_row, position, row_of};
 pub use sizes::size;
-pub use spelling::{indexed, position_of};
+pub use spelling::{frame_at, indexed, position_of};
 pub use steps::Steps;
 pub use ways::Sum;
 

@@ -235,7 +235,7 @@ impl Scales {
         requires fit { ScalesFit self.now }
         requires high { high < 32 }
         ensures value { result ≡ code_by self.now high squares.now.black squares.now.next squares.now.last }
-        ensures few { result ≤ 1073741824 }
+        ensures few { result ≤ 268435456 }
     {
         high * self.king
             + self.black.share(squares.black)

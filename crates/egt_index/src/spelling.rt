@@ -1,15 +1,16 @@
 //! What the digits of a code spell, and the position of a code that is known to be an index.
-ghost use Rattle.std.specs.Prelude.{◌≡◌, ◌≢◌, ◌∷◌, [], ◌<◌, ◌≤◌, ◌↔◌, Bool, true, false, IsTrue, IsSome, IfSome, IfNone, None};
+ghost use Rattle.std.specs.Prelude.{◌≡◌, ◌≢◌, ℕ, ◌∷◌, [], ◌<◌, ◌≤◌, ◌↔◌, Option, Bool, true, false, IsTrue, IsSome, IfSome, IfNone, None};
 ghost use Rattle.std.specs.FinMap as map;
 ghost use Rattle.egt_board.specs.Attack.{king_of};
 ghost use Rattle.egt_board.specs.Listed.{men_of};
 ghost use Rattle.egt_board.specs.Pawn.{PawnsFit};
 ghost use Rattle.egt_board.specs.Placement.{Placement, IsFree};
 ghost use Rattle.egt_board.specs.Settled.{IsSettled};
-ghost use Rattle.egt_board.specs.Setup.{IsAdmissible, IsKingOn};
+ghost use Rattle.egt_board.specs.Setup.{Setup, IsAdmissible, IsKingOn};
 ghost use Rattle.egt_board.specs.Target.{FitsTarget};
 ghost use Rattle.egt_board.specs.declared.man.Side.TheVariants.{White, Black};
 ghost use Rattle.egt_class.specs.Material.{material_of};
+ghost use Rattle.egt_index.specs.AtIndex.{IsAtIndex, IsFramedAt};
 ghost use Rattle.egt_index.specs.Code.{Spells, king_square};
 ghost use Rattle.egt_index.specs.Frame.{IsFrame};
 ghost use Rattle.egt_index.specs.Home.{IsAtHome};
@@ -225,8 +226,24 @@ pub(crate) fn is_settled(position: &Position) -> bool
     position.target().is_none() || position.settle().target().is_some()
 }
 
-/// The settled position whose index this is, and where its men stand: what a row answers of its code, where the caller knows that
-/// there is one. No test is needed then.
+/// Where the men stand of the settled position whose index this is, the side to move, and whether there is a target, where the caller
+/// knows that there is such a position: its digits say so, and no test is needed.
+#[inline(always)]
+fn stand_at(class: Class, index: u32) -> (Stand, Side, bool)
+    requires { ¬ IsVoid class index }
+    ensures at { (target : Option ℕ) → IsTold result.2 result.1 (list_of result.0) target → IsAtIndex class index result.0 result.1 result.2 target }
+    ensures pawns { result.2 ≡ true → HasPawns (list_of result.0) }
+    ensures filled { IsFilled result.0 }
+    ensures home { IsAtHome (has_pawns (material_of class)) result.0.white }
+{
+    facts();
+    let _number = class.number();
+    let (number, side, passed) = ends(class, index);
+    let stand = stand_on(class, number).unwrap();
+    (stand, side, passed)
+}
+
+/// The settled position whose index this is, and where its men stand: what a row answers of its code.
 #[inline(always)]
 fn at_index(class: Class, index: u32) -> (Position, Stand)
     requires { ¬ IsVoid class index }
@@ -237,10 +254,7 @@ fn at_index(class: Class, index: u32) -> (Position, Stand)
     ensures filled { IsFilled result.1 }
     ensures home { IsAtHome (has_pawns (material_of class)) result.1.white }
 {
-    facts();
-    let _number = class.number();
-    let (number, side, passed) = ends(class, index);
-    let stand = stand_on(class, number).unwrap();
+    let (stand, side, passed) = stand_at(class, index);
     let target = target_of(side, passed, &stand);
     let board = board_of(&stand);
     let position = Position::with_kings(board, side, target, stand.white, stand.black);
@@ -271,4 +285,19 @@ pub fn indexed(class: Class, index: u32) -> (Position, Frame)
     let (position, stand) = at_index(class, index);
     let frame = Frame::of_stand(class, &stand, position.side());
     (position, frame)
+}
+
+/// The frame of the settled position whose index this is, and whether that has a target, where the caller knows that there is one. No
+/// board is made.
+#[inline(always)]
+pub fn frame_at(class: Class, index: u32) -> (Frame, bool)
+    requires { ¬ IsVoid class index }
+    ensures there { (p : Setup) × IsFramedAt class index p result.0 result.1 }
+    ensures all { (p : Setup) → Spells class index p → IsFramedAt class index p result.0 result.1 }
+    ensures class { result.0.class ≡ class }
+{
+    facts();
+    let _number = class.number();
+    let (stand, side, passed) = stand_at(class, index);
+    (Frame::of_stand(class, &stand, side), passed)
 }

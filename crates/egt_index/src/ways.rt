@@ -11,6 +11,7 @@ ghost use Rattle.egt_index.specs.Home.{AreHome, LeastWith};
 ghost use Rattle.egt_index.specs.Scales.{ScalesFit, share, code_by};
 ghost use Rattle.egt_index.specs.Nearer.{IsFirst};
 ghost use Rattle.egt_index.specs.Size.{has_pawns};
+ghost use Rattle.egt_index.specs.Total.{IsTotal};
 ghost use Rattle.egt_index.specs.Turns.{CodeAfter, lesser};
 ghost use Rattle.egt_index.specs.Ways.{sum_code, line_code, pair_code, code_with, code_in_order, SumFits, LineFits, PairFits, ComesHome, IsHoming, KingWayFits, WayFits, Leads, LeadsHome, LeadsBy, Goes, IsSeen, IsMover, IsGoer, IsSingle, IsOneOfTwo, IsPaired, other_square};
 ghost use Rattle.egt_index.specs.Went.{IsWent};
@@ -24,6 +25,7 @@ use crate::men::{has_pawns, is_paired};
 use crate::nearer::takes_away;
 use crate::scales::{NOBODY, Scale, Scales, Squares, class_scales, in_order, squares_of};
 use crate::stand::Stand;
+use crate::total::total_without;
 use crate::turning::turned_square;
 use egt_board::{Side, Square};
 use egt_class::Class;
@@ -243,6 +245,7 @@ enum Mover {
 }
 
 /// The man on the square, who is not the white king.
+#[inline(always)]
 fn mover_on(stand: &Stand, from: Square) -> Mover
     ensures { IsMover stand.now from result }
 {
@@ -420,6 +423,7 @@ fn pairs(scales: &Scales, pawns: bool, stand: &Stand, turns: Turns, mover: Mover
 }
 
 /// Whether he who goes is one of two equal men.
+#[inline(always)]
 fn is_one_of_two(pair: bool, mover: Mover) -> bool
     ensures two { (before : Stand) → IsPaired before pair → result ≡ true → IsOneOfTwo before mover }
     ensures one { (before : Stand) → IsPaired before pair → result ≡ false → IsSingle before mover }
@@ -471,25 +475,47 @@ pub(crate) fn way_of(class: Class, stand: &Stand, turns: Turns, side: Side, from
     way_of_other(&scales, pawns, pair, stand, turns, mover)
 }
 
-/// How the codes add up after the man on `from` went, not the white king, where he is not one of two equal men, and of the turns in the
-/// class's colours the one that changes nothing alone leaves the white king at home, or takes the kings, who stay, to the least squares.
+/// How the man counts who goes.
 #[inline(always)]
-pub(crate) fn sum_of(class: Class, stand: &Stand, side: Side, from: Square) -> Option<Sum>
+fn scale_of(scales: &Scales, mover: Mover) -> Scale
+    requires { ScalesFit scales.now }
+    ensures few { result.stride ≤ 1048576 }
+    ensures part { (high black next last s : ℕ) → share result s ≤ code_with mover scales.now high black next last s }
+    ensures sum { (high black next last s to : ℕ) → code_with mover scales.now high black next last to + share result s ≡ code_with mover scales.now high black next last s + share result to }
+{
+    match mover {
+        Mover::Black => scales.black,
+        Mover::Next => scales.next,
+        Mover::Last => scales.last,
+        Mover::Nobody => NOBODY,
+    }
+}
+
+/// How the codes add up after the man on `from` went, not the white king, where he is not one of two equal men, all men add so much where
+/// they stand, and of the turns in the class's colours the one that changes nothing alone leaves the white king at home, or takes the kings,
+/// who stay, to the least squares.
+#[inline(always)]
+pub(crate) fn sum_of(
+    class: Class,
+    stand: &Stand,
+    side: Side,
+    total: u32,
+    from: Square,
+) -> Option<Sum>
     ensures fits { IfSome result SumFits }
-    ensures leads { (p : Setup) → stand.now.white ≢ from → AreHome (has_pawns (material_of class)) false stand.now.white 0 None → IsSeen class false p stand.now from side →
+    ensures leads { (p : Setup) → IsTotal class stand.now total → stand.now.white ≢ from → AreHome (has_pawns (material_of class)) false stand.now.white 0 None → IsSeen class false p stand.now from side →
         IfSome result (λ sum. LeadsBy class p from sum) }
-    ensures first { (p : Setup) → stand.now.white ≢ from → stand.now.black ≢ from → IsFirst class stand.now.white stand.now.black → IsSeen class false p stand.now from side →
+    ensures first { (p : Setup) → IsTotal class stand.now total → stand.now.white ≢ from → stand.now.black ≢ from → IsFirst class stand.now.white stand.now.black → IsSeen class false p stand.now from side →
         IfSome result (λ sum. LeadsBy class p from sum) }
 {
     facts();
     let _number = class.number();
-    let pair = is_paired(class);
     let mover = mover_on(stand, from);
-    if is_one_of_two(pair, mover) {
+    if is_one_of_two(is_paired(class), mover) {
         return None;
     }
-    let high = king_digit(has_pawns(class), stand.white)?;
     let scales = class_scales(class, side);
-    let squares = squares_of(stand).ordered(pair);
-    Some(sum_by(&scales, u32::from(high), &squares, mover))
+    let scale = scale_of(&scales, mover);
+    let rest = total_without(total, scales.side, scale.share(from));
+    Some(Sum { scale, rest })
 }

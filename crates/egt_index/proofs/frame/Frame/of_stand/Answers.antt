@@ -28,4 +28,5 @@ returns-clause-frame c = λ p passed has.
         | then-equal w ↦ w.is_own_nearer-own.ensures (sym w.own-is ∙ is)
         | else-equal w ↦ absurd (false≢true (sym w.own-is ∙ is))
       ];
+      total = c.total_of.ensures has.stood.are c.requires.filled;
     }

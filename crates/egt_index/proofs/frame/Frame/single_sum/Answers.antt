@@ -8,6 +8,6 @@ returns-clause-leads c = λ p is apart.
     let c_in : frame.class < 36 = omega (arith, c.number-number.ensures.below, c.number-number.ensures.value) in
     let seen = own_seen c.facts.ensures p c.args.from frame c_in is c.other.result c.other.ensures in
     elim (c.is_first_after.ensures c.if-not-is_first_after.false) [
-      | inl alone ↦ c.sum_of.ensures.leads p apart (is.alone alone) seen
-      | inr first ↦ c.sum_of.ensures.first p apart first.1 (is.first first.0) seen
+      | inl alone ↦ c.sum_of.ensures.leads p is.total apart (is.alone alone) seen
+      | inr first ↦ c.sum_of.ensures.first p is.total apart first.1 (is.first first.0) seen
     ]
