@@ -9,7 +9,7 @@ returns-then-is_pawn-clause-came c = λ q ok untargeted around.
     let man = c.args.man in
     let to = c.args.to in
     let left = c.sources_around-sources.ensures.left q ok around in
-    let went = c.pawn_left.ensures.went q around.theirs untargeted around.taker (λ s s_in. (left s s_in).0) in
+    let went = c.pawn_left.ensures.went q around.theirs untargeted (around.taker (c.is_pawn.ensures.0 c.if-is_pawn.true)) (λ s s_in. (left s s_in).0) in
     record {
       sound = λ s s_in has. went_came q man to around.stands around.theirs untargeted s ok ((went s s_in).0 has).1;
       complete = λ b m there comes.
