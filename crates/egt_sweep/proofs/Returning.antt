@@ -6,7 +6,8 @@ use Rattle.std.specs.Option.{is_some}
 use Rattle.std.specs.FinMap as map
 use Rattle.std.specs.Int.{bit_at}
 use Rattle.std.specs.List.{Contains}
-use Rattle.egt_board.specs.declared.man.Kind.TheVariants.{P}
+use Rattle.egt_board.specs.declared.man.Kind.{Kind}
+use Rattle.egt_board.specs.declared.man.Kind.TheVariants.{Q, R, B, N, P, K}
 use Rattle.egt_board.specs.declared.man.Man.{Man}
 use Rattle.egt_board.specs.declared.man.Side.{Side}
 use Rattle.egt_board.specs.declared.man.Side.TheVariants.{White, Black}
@@ -17,7 +18,7 @@ use Rattle.egt_board.specs.Man.{other_side}
 use Rattle.egt_board.specs.Pawn.{pawn_of, ahead, HasPawnBeside}
 use Rattle.egt_board.specs.Placement.{Placement, Stands, IsFree, IsHeld, one_man, get-insert_same}
 use Rattle.egt_board.specs.Settled.{SettlesTo}
-use Rattle.egt_board.specs.Setup.{Setup}
+use Rattle.egt_board.specs.Setup.{Setup, IsKingOn}
 use Rattle.egt_board.specs.SquareSet.{Has}
 use Rattle.egt_board.specs.Target.{FitsTarget}
 use Rattle.egt_index.specs.Frame.{IsMoved}
@@ -27,9 +28,10 @@ use Rattle.egt_moves.specs.Legal.{plain}
 use Rattle.egt_moves.specs.declared.chess_move.Move.{Move}
 use Rattle.egt_table.specs.declared.column.Column.{Column}
 use Rattle.egt_table.specs.declared.column.Column.TheVariants.{Mate, Zeroing}
+use Rattle.egt_unmoves.specs.Around.{AreMenOf}
 use Rattle.egt_unmoves.specs.Unmoves.{ComesBy, setup_before}
 use Rattle.egt_unmoves.specs.declared.unmove.Unmove.{Unmove}
-use Rattle.egt_sweep.specs.Edges.{AtSome, IsAt, Connects, GoesBack, BackBy, CameTo, HadNoTarget, IsTakenBack, WasOn}
+use Rattle.egt_sweep.specs.Edges.{AtEntry, AtSome, IsAt, Connects, GoesBack, BackBy, CameTo, HadNoTarget, IsTakenBack, WasOn}
 use Rattle.egt_sweep.specs.Laws.{Laws}
 use Rattle.egt_sweep.specs.Wanted.{IsWanted, Among}
 use Rattle.egt_sweep.specs.declared.wanted.Wanted.{Wanted}
@@ -214,30 +216,68 @@ module _ (laws : Laws) (c : ℕ) (below : c < 36) (column : Column) (q : Setup) 
       goes Mate is = tt
       goes Zeroing is = λ pawn. is ((taken_back laws c below column k j q at edge).1.1.pawn.1 pawn)
 
-  -- the king came from squares of two sets, the other men stand on those of a third: together the edges to the index
-  pub came_edges : (wanted : Wanted) (j : ℕ) → IsAt c j q → (man : Man) (king : ℕ) (all low high others : SquareSet) → ((s : ℕ) → IsHeld q.men s (other_side q.side) → s ≢ king → Has others s) →
-      ((s : ℕ) → Has all s ↔ (Has low s ⊎ Has high s)) → ((k : ℕ) → AtSome all (WasOn c q man king) k ↔ CameTo column c q king k) → (old first second third : List ℕ) → old ≡ [] →
-      ((k : ℕ) → Contains first k ↔ (Contains old k ⊎ AtSome low (Among wanted (WasOn c q man king)) k)) → ((k : ℕ) → Contains second k ↔ (Contains first k ⊎ AtSome others (Among wanted (CameTo column c q)) k)) →
-      ((k : ℕ) → Contains third k ↔ (Contains second k ⊎ AtSome high (Among wanted (WasOn c q man king)) k)) → (k : ℕ) → Contains third k ↔ (Connects column c k j × IsWanted wanted k)
-  came_edges wanted j at man king all low high others held parts was old first second third empty with_low with_others with_high k = (
+  -- the king came from squares of two sets, and the two men beside him from others: together the edges to the index
+  pub came_edges : (wanted : Wanted) (j : ℕ) → IsAt c j q → (man : Man) (king : ℕ) (all low high : SquareSet) (side : Side) (one other : Option (Man × ℕ)) →
+      ((s : ℕ) (goes : ℕ → ℕ → Type 0) (k : ℕ) → IsHeld q.men s (other_side q.side) → s ≢ king → goes s k → AtEntry side one goes k ⊎ AtEntry side other goes k) →
+      ((s : ℕ) → Has all s ↔ (Has low s ⊎ Has high s)) → ((k : ℕ) → AtSome all (WasOn c q man king) k ↔ CameTo column c q king k) → (old first second third fourth : List ℕ) → old ≡ [] →
+      ((k : ℕ) → Contains first k ↔ (Contains old k ⊎ AtSome low (Among wanted (WasOn c q man king)) k)) → ((k : ℕ) → Contains second k ↔ (Contains first k ⊎ AtEntry side one (Among wanted (CameTo column c q)) k)) →
+      ((k : ℕ) → Contains third k ↔ (Contains second k ⊎ AtEntry side other (Among wanted (CameTo column c q)) k)) →
+      ((k : ℕ) → Contains fourth k ↔ (Contains third k ⊎ AtSome high (Among wanted (WasOn c q man king)) k)) → (k : ℕ) → Contains fourth k ↔ (Connects column c k j × IsWanted wanted k)
+  came_edges wanted j at man king all low high side one other held parts was old first second third fourth empty with_low with_one with_other with_high k = (
     λ has. elim ((with_high k).0 has) [
       | inr h ↦ (came_connects j k king at ((was k).0 (h.0, (parts h.0).1 (inr h.1), h.2.0)), h.2.1)
-      | inl before ↦ elim ((with_others k).0 before) [
-        | inr o ↦ (came_connects j k o.0 at o.2.0, o.2.1)
-        | inl start ↦ elim ((with_low k).0 start) [
-          | inr l ↦ (came_connects j k king at ((was k).0 (l.0, (parts l.0).1 (inl l.1), l.2.0)), l.2.1)
-          | inl none ↦ absurd (let c = subst (λ (xs : List ℕ). Contains xs k) empty none in omega (arith, c.1))
+      | inl before ↦ elim ((with_other k).0 before) [
+        | inr o ↦ there other o
+        | inl earlier ↦ elim ((with_one k).0 earlier) [
+          | inr o ↦ there one o
+          | inl start ↦ elim ((with_low k).0 start) [
+            | inr l ↦ (came_connects j k king at ((was k).0 (l.0, (parts l.0).1 (inl l.1), l.2.0)), l.2.1)
+            | inl none ↦ absurd (let c = subst (λ (xs : List ℕ). Contains xs k) empty none in omega (arith, c.1))
+          ]
         ]
       ]
     ],
     λ edge. let came = connects_came j k at edge.0 in elim (cases_eq came.0 king) [
-      | inr apart ↦ (with_high k).1 (inl ((with_others k).1 (inr (came.0, held came.0 (subst (λ s. IsHeld q.men s (other_side q.side)) came.1.here (came_held came.1.before q came.1.move came.1.comes)) apart, (came.1, edge.1)))))
+      | inr apart ↦
+          let here = subst (λ s. IsHeld q.men s (other_side q.side)) came.1.here (came_held came.1.before q came.1.move came.1.comes) in
+          elim (held came.0 (Among wanted (CameTo column c q)) k here apart (came.1, edge.1)) [
+            | inl o ↦ (with_high k).1 (inl ((with_other k).1 (inl ((with_one k).1 (inr o)))))
+            | inr o ↦ (with_high k).1 (inl ((with_other k).1 (inr o)))
+          ]
       | inl e ↦ let on = (was k).1 (subst (λ s. CameTo column c q s k) e came.1) in elim ((parts on.0).0 on.1) [
-        | inl l ↦ (with_high k).1 (inl ((with_others k).1 (inl ((with_low k).1 (inr (on.0, l, (on.2, edge.1)))))))
+        | inl l ↦ (with_high k).1 (inl ((with_other k).1 (inl ((with_one k).1 (inl ((with_low k).1 (inr (on.0, l, (on.2, edge.1)))))))))
         | inr h ↦ (with_high k).1 (inr (on.0, h, (on.2, edge.1)))
       ]
     ],
   )
+    where
+      there : (entry : Option (Man × ℕ)) → AtEntry side entry (Among wanted (CameTo column c q)) k → Connects column c k j × IsWanted wanted k
+      there None at_none = absurd at_none
+      there (Some e) o = (came_connects j k e.1 at o.1.0, o.1.1)
+
+-- the men of a side stand on its king's square and on those of the men beside the kings
+module _ (q : Setup) (enemy king : ℕ) (all : SquareSet) (one other : Option (Man × ℕ)) (side : Side) (men : AreMenOf q enemy all one other) (waiting : side ≡ other_side q.side) (there : IsKingOn q.men (other_side q.side) king) where
+  king_or_not : (kind : Kind) → (kind ≡ K) ⊎ (kind ≢ K)
+  king_or_not K = inl refl
+  king_or_not Q = inr (λ e. cc)
+  king_or_not R = inr (λ e. cc)
+  king_or_not B = inr (λ e. cc)
+  king_or_not N = inr (λ e. cc)
+  king_or_not P = inr (λ e. cc)
+
+  at_entry : (entry : Option (Man × ℕ)) (m : Man) (s : ℕ) (goes : ℕ → ℕ → Type 0) (k : ℕ) → entry ≡ Some (m, s) → m.side ≡ side → goes s k → AtEntry side entry goes k
+  at_entry entry m s goes k e own is = subst (λ (o : Option (Man × ℕ)). AtEntry side o goes k) (sym e) (own, is)
+
+  pub beside_held : (s : ℕ) (goes : ℕ → ℕ → Type 0) (k : ℕ) → IsHeld q.men s (other_side q.side) → s ≢ king → goes s k → AtEntry side one goes k ⊎ AtEntry side other goes k
+  beside_held s goes k held apart is = elim (king_or_not held.man.kind) [
+    | inl e ↦
+        let same : held.man ≡ king_of (other_side q.side) = λ i. record { side = held.theirs i; kind = e i } in
+        absurd (apart (there.only s (subst (λ (x : Man). Stands q.men s x) same held.stands)))
+    | inr piece ↦ elim (men.every s held.man held.stands piece) [
+      | inl e ↦ inl (at_entry one held.man s goes k e (held.theirs ∙ sym waiting) is)
+      | inr e ↦ inr (at_entry other held.man s goes k e (held.theirs ∙ sym waiting) is)
+    ]
+  ]
 
 -- what is none or what is not there is none
 pub none_told : (o found : Option ℕ) → is_some found ≡ false → (o ≡ None) ⊎ (o ≡ found) → o ≡ None

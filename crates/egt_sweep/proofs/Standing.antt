@@ -1,5 +1,5 @@
 -- Positions at nodes, as the graph's tests tell them.
-use Rattle.std.proofs.Common.{◌≡◌, ℕ, ◌<◌, ◌⊎◌, ◌↔◌, not, Bool, true, false, List, Option, Some, None, IfSome, IfNone, IsFalse, refl, sym, ap, subst, inl, inr}
+use Rattle.std.proofs.Common.{◌≡◌, ℕ, ◌<◌, ◌⊎◌, ◌↔◌, not, Bool, true, false, List, Option, Some, None, IfSome, IfNone, IsFalse, refl, sym, ap, ◌∙◌, subst, inl, inr}
 use Rattle.std.specs.Option.{is_some, IsSome}
 use Rattle.std.specs.List.{Contains}
 use Rattle.std.specs.List.Sorted.{IsStrictlyIncreasing}
@@ -12,10 +12,10 @@ use Rattle.egt_moves.specs.declared.outcome.Standing.{Standing}
 use Rattle.egt_moves.specs.declared.outcome.Standing.TheVariants.{Stalemate, HasMove}
 use Rattle.egt_graph.specs.Passing.{passing_below, passing_has, passing_is, passing_passes}
 use Rattle.egt_table.specs.declared.column.Column.{Column}
-use Rattle.egt_sweep.specs.Edges.{Connects}
+use Rattle.egt_sweep.specs.Edges.{Connects, IsAt}
 use Rattle.egt_sweep.specs.Laws.{Laws}
-use Rattle.egt_sweep.specs.Nodes.{position_at, connects}
-use Rattle.egt_sweep.proofs.Linked.{void_is, there_is, node_at, connects_is}
+use Rattle.egt_sweep.specs.Nodes.{position_at, setup_of, setup_at, connects}
+use Rattle.egt_sweep.proofs.Linked.{void_is, there_is, node_at, position_is, connects_is}
 
 pub denied : (b x : Bool) → not b ≡ x → b ≡ not x
 denied true x e = ap not e
@@ -39,6 +39,14 @@ module _ (laws : Laws) (c i : ℕ) where
   -- at a node there is one
   pub none_missing : IsVoid c i → IsFalse (not (is_some (position_at c i))) → ⊥
   none_missing void node = let at = node_at laws c i node in void at.0 at.1.spells.admissible at.1.index
+
+  -- the position there is at its index
+  pub at_setup : IsFalse (not (is_some (position_at c i))) → IsAt c i (setup_at c i)
+  at_setup node = let at = node_at laws c i node in subst (λ (o : Option Setup). IsAt c i (setup_of o)) (sym ((position_is laws c i at.0).1 at.1)) at.1
+
+  -- and no other
+  pub same_at : (p q : Setup) → IsAt c i p → IsAt c i q → p ≡ q
+  same_at p q one other = let both : Some p ≡ Some q = sym ((position_is laws c i p).1 one) ∙ (position_is laws c i q).1 other in cc
 
   -- an ascending list of exactly the edges is the graph's
   pub edges_told : (column : Column) (xs : List ℕ) → c < 36 → IsStrictlyIncreasing xs → ((k : ℕ) → Contains xs k ↔ Connects column c i k) → xs ≡ passing_below (size_of c) (λ j. connects column c i j)

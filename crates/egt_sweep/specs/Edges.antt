@@ -1,9 +1,10 @@
 -- The moves that go on in a class's game, as relations.
-use Rattle.std.specs.Prelude.{◌≡◌, ◌≢◌, ◌<◌, ℕ, List, None, IsTrue}
+use Rattle.std.specs.Prelude.{◌≡◌, ◌≢◌, ◌<◌, ℕ, List, Option, Some, None, IsTrue}
 use Rattle.std.specs.List.{Contains}
 use Rattle.egt_board.specs.Setup.{Setup}
 use Rattle.egt_board.specs.declared.man.Kind.TheVariants.{P}
 use Rattle.egt_board.specs.declared.man.Man.{Man}
+use Rattle.egt_board.specs.declared.man.Side.{Side}
 use Rattle.egt_board.specs.declared.square_set.SquareSet.{SquareSet}
 use Rattle.egt_board.specs.SquareSet.{Has}
 use Rattle.egt_index.specs.Code.{Spells}
@@ -79,6 +80,11 @@ HadNoTarget q = (b : Setup) (m : Move) → ComesBy b m q → b.target ≡ None
 -- the index k goes with some square of the set
 abbrev pub AtSome : SquareSet → (ℕ → ℕ → Type 0) → ℕ → Type 0
 AtSome set goes k = (s : ℕ) × Has set s × goes s k
+
+-- the number k goes with the square of the man, if there is one and he is of that side
+abbrev pub AtEntry : Side → Option (Man × ℕ) → (ℕ → ℕ → Type 0) → ℕ → Type 0
+AtEntry side None goes k = ⊥
+AtEntry side (Some e) goes k = (e.0.side ≡ side) × goes e.1 k
 
 -- with the man of the one square back on the other, the position before has the index k
 abbrev pub WasOn : ℕ → Setup → Man → ℕ → ℕ → ℕ → Type 0

@@ -8,6 +8,8 @@ use Rattle.std.proofs.Common.{inl, inr}
 use Rattle.egt_board.specs.Decided.{Decided, tells}
 use Rattle.egt_board.specs.DecidedSetup.{settled_form}
 use Rattle.egt_board.specs.DecidedTurns.{decided_turn}
+use Rattle.egt_board.specs.Corners.{corners}
+use Rattle.egt_board.specs.declared.man.Side.TheVariants.{White}
 use Rattle.egt_board.specs.Setup.{Setup}
 use Rattle.egt_class.specs.Material.{Material, material_of}
 use Rattle.egt_index.specs.Code.{SpellsBy}
@@ -64,6 +66,14 @@ has_index c i (Some p) = is_number i (index_in c p)
 -- the position at the index
 unfoldable pub position_at : ℕ → ℕ → Option Setup
 position_at c i = kept_if (has_index c i (spelled c i)) (spelled c i)
+
+-- it, or two kings in corners where there is none
+abbrev pub setup_of : Option Setup → Setup
+setup_of None = record { men = corners; side = White; target = None }
+setup_of (Some p) = p
+
+abbrev pub setup_at : ℕ → ℕ → Setup
+setup_at c i = setup_of (position_at c i)
 
 -- the side to move is checkmated
 abbrev pub is_mated : Option Setup → Bool

@@ -1,29 +1,55 @@
-//! The moves that go on, backwards, by the squares that men left: no position before is made.
-ghost use Rattle.std.specs.Prelude.{◌≡◌, ◌≢◌, ◌↔◌, ◌+◌, ◌*◌, ◌≤◌, ◌<◌, ◌⊎◌, ℕ, Bool, None, [], IsTrue};
+//! The moves that go on, backwards, by the squares that men left: no position is made, neither the one now nor one before.
+ghost use Rattle.std.specs.Prelude.{◌≡◌, ◌↔◌, ◌+◌, ◌≤◌, ◌<◌, ◌⊎◌, ℕ, None, [], IsTrue};
 ghost use Rattle.std.specs.List.{Contains};
 ghost use Rattle.std.specs.List.Sorted.{IsStrictlyIncreasing};
 ghost use Rattle.arrayvec.specs.ArrayVec.{array_vec_len};
-ghost use Rattle.egt_class.specs.Membership.{IsOf};
-ghost use Rattle.egt_board.specs.Attack.{king_of};
-ghost use Rattle.egt_board.specs.Camps.{AreCamps};
+ghost use Rattle.egt_board.specs.Beside.{StandsBeside};
 ghost use Rattle.egt_board.specs.Man.{other_side};
-ghost use Rattle.egt_board.specs.Placement.{IsHeld, Stands};
+ghost use Rattle.egt_board.specs.Placement.{Stands};
+ghost use Rattle.egt_board.specs.Setup.{Setup, IsAdmissible};
 ghost use Rattle.egt_board.specs.SquareSet.{Has, size_of};
 ghost use Rattle.egt_index.specs.Frame.{IsFrame, IsMoved};
+ghost use Rattle.egt_unmoves.specs.Around.{AreMenOf, CameFrom};
 ghost use Rattle.egt_unmoves.specs.Unmoves.{setup_before};
 ghost use Rattle.egt_sweep.specs.Wanted.{IsWanted, Among};
-ghost use Rattle.egt_sweep.specs.Edges.{AtSome, IsAt, Connects, CameTo, HadNoTarget, IsTakenBack, WasOn};
+ghost use Rattle.egt_sweep.specs.Edges.{AtEntry, AtSome, IsAt, Connects, CameTo, HadNoTarget, IsTakenBack, WasOn};
+ghost use Rattle.egt_sweep.specs.Nodes.{setup_at};
 
 use crate::ascending::put;
 use crate::laws::laws;
 use crate::wanted::Wanted;
 use arrayvec::ArrayVec;
-use egt_board::camps::camps_are_few;
-use egt_board::{Camps, Kind, Man, Position, Square, SquareSet};
+use egt_board::{Kind, Man, Side, Square, SquareSet};
 use egt_class::Class;
 use egt_index::{Frame, IndexAfter};
 use egt_table::Column;
-use egt_unmoves::quiet_sources;
+use egt_unmoves::{Around, squares_left};
+
+/// The men of a position, as the moves of the side that waits are taken back.
+#[derive(Clone, Copy)]
+struct Men {
+    /// Where the king of the side to move stands.
+    king: Square,
+    /// The squares of all men.
+    all: SquareSet,
+    /// The men beside the kings.
+    one: Option<(Man, Square)>,
+    other: Option<(Man, Square)>,
+}
+
+/// The men of a frame's position.
+#[inline(always)]
+fn men_of(frame: &Frame) -> Men
+    ensures { (q : Setup) → IsFrame q frame.now → AreMenOf q result.king result.all result.one result.other }
+{
+    let (one, other) = frame.beside();
+    Men {
+        king: frame.king(frame.side()),
+        all: frame.occupied(),
+        one,
+        other,
+    }
+}
 
 /// The squares of lesser numbers.
 fn below(square: Square) -> SquareSet
@@ -32,18 +58,6 @@ fn below(square: Square) -> SquareSet
     SquareSet {
         bits: (1 << square.number()) - 1,
     }
-}
-
-/// The squares of the men of the side that waits other than its king.
-fn beside_king(position: &Position, camps: Camps, king: Square) -> SquareSet
-    requires camps { AreCamps position.now camps }
-    requires king { Stands position.now.men king (king_of (other_side position.now.side)) }
-    ensures held { (s : ℕ) → Has result s ↔ (IsHeld position.now.men s (other_side position.now.side) × (s ≢ king)) }
-    ensures few { size_of result ≤ 2 }
-{
-    camps_are_few();
-    let _whole = position.side();
-    camps.enemy.less(king)
 }
 
 /// Whether the game goes back by the man's moves.
@@ -57,24 +71,24 @@ fn goes_back_by(column: Column, man: Man) -> bool
 }
 
 /// Adds those wanted of the indexes of the positions in which the man on `to` stands on one of these squares and nothing else differs. The indexes
-/// after he went are these. It is inlined so that they stay in registers.
+/// after he went are these. `_arrival`, the index of the position, is read by the contract alone. It is inlined so that they stay in registers.
 #[inline(always)]
 fn add_left<I: IndexAfter>(
     class: Class,
+    _arrival: u32,
     indexes: &I,
-    position: &Position,
     man: Man,
     to: Square,
     squares: SquareSet,
     wanted: &Wanted<'_>,
     list: &mut ArrayVec<u32, 128>,
 )
-    requires indexes { I.of_man indexes.now position.now class to }
-    requires moved { (s : ℕ) → s < 64 → Has squares s → IsMoved class position.now to s (setup_before position.now man to s None) }
+    requires indexes { I.of_man indexes.now (setup_at class _arrival) class to }
+    requires moved { (s : ℕ) → s < 64 → Has squares s → IsMoved class (setup_at class _arrival) to s (setup_before (setup_at class _arrival) man to s None) }
     requires ascending { IsStrictlyIncreasing list.old.items }
     requires room { array_vec_len list.old + size_of squares ≤ 128 }
     ensures ascending { IsStrictlyIncreasing list.new.items }
-    ensures members { (k : ℕ) → Contains list.new.items k ↔ (Contains list.old.items k ⊎ AtSome squares (Among wanted.now (WasOn class position.now man to)) k) }
+    ensures members { (k : ℕ) → Contains list.new.items k ↔ (Contains list.old.items k ⊎ AtSome squares (Among wanted.now (WasOn class (setup_at class _arrival) man to)) k) }
     ensures few { array_vec_len list.new ≤ array_vec_len list.old + size_of squares }
 {
     laws();
@@ -92,117 +106,144 @@ fn add_left<I: IndexAfter>(
 #[inline(never)]
 fn add_stepped(
     class: Class,
+    arrival: u32,
     frame: &Frame,
-    position: &Position,
     man: Man,
     to: Square,
     squares: SquareSet,
     wanted: &Wanted<'_>,
     list: &mut ArrayVec<u32, 128>,
 )
-    requires frame { IsFrame position.now frame.now }
+    requires frame { IsFrame (setup_at class arrival) frame.now }
     requires class { frame.now.class ≡ class }
-    requires stands { Stands position.now.men to man }
-    requires moved { (s : ℕ) → s < 64 → Has squares s → IsMoved class position.now to s (setup_before position.now man to s None) }
+    requires stands { Stands (setup_at class arrival).men to man }
+    requires moved { (s : ℕ) → s < 64 → Has squares s → IsMoved class (setup_at class arrival) to s (setup_before (setup_at class arrival) man to s None) }
     requires ascending { IsStrictlyIncreasing list.old.items }
     requires room { array_vec_len list.old + size_of squares ≤ 128 }
     ensures ascending { IsStrictlyIncreasing list.new.items }
-    ensures members { (k : ℕ) → Contains list.new.items k ↔ (Contains list.old.items k ⊎ AtSome squares (Among wanted.now (WasOn class position.now man to)) k) }
+    ensures members { (k : ℕ) → Contains list.new.items k ↔ (Contains list.old.items k ⊎ AtSome squares (Among wanted.now (WasOn class (setup_at class arrival) man to)) k) }
     ensures few { array_vec_len list.new ≤ array_vec_len list.old + size_of squares }
 {
     let steps = frame.steps(to);
-    add_left(class, &steps, position, man, to, squares, wanted, list);
+    add_left(class, arrival, &steps, man, to, squares, wanted, list);
 }
 
 /// The same, by the sum of codes in the most common case.
 #[inline(always)]
 fn add_gone(
     class: Class,
+    arrival: u32,
     frame: &Frame,
-    position: &Position,
     man: Man,
     to: Square,
     squares: SquareSet,
     wanted: &Wanted<'_>,
     list: &mut ArrayVec<u32, 128>,
 )
-    requires frame { IsFrame position.now frame.now }
+    requires frame { IsFrame (setup_at class arrival) frame.now }
     requires class { frame.now.class ≡ class }
-    requires stands { Stands position.now.men to man }
-    requires moved { (s : ℕ) → s < 64 → Has squares s → IsMoved class position.now to s (setup_before position.now man to s None) }
+    requires stands { Stands (setup_at class arrival).men to man }
+    requires moved { (s : ℕ) → s < 64 → Has squares s → IsMoved class (setup_at class arrival) to s (setup_before (setup_at class arrival) man to s None) }
     requires ascending { IsStrictlyIncreasing list.old.items }
     requires room { array_vec_len list.old + size_of squares ≤ 128 }
     ensures ascending { IsStrictlyIncreasing list.new.items }
-    ensures members { (k : ℕ) → Contains list.new.items k ↔ (Contains list.old.items k ⊎ AtSome squares (Among wanted.now (WasOn class position.now man to)) k) }
+    ensures members { (k : ℕ) → Contains list.new.items k ↔ (Contains list.old.items k ⊎ AtSome squares (Among wanted.now (WasOn class (setup_at class arrival) man to)) k) }
     ensures few { array_vec_len list.new ≤ array_vec_len list.old + size_of squares }
 {
     match frame.sum(to) {
-        Some(sum) => add_left(class, &sum, position, man, to, squares, wanted, list),
-        None => add_stepped(class, frame, position, man, to, squares, wanted, list),
+        Some(sum) => add_left(class, arrival, &sum, man, to, squares, wanted, list),
+        None => add_stepped(class, arrival, frame, man, to, squares, wanted, list),
     }
 }
 
-/// Adds the indexes from which the man on `to` came, if its moves go on. Neither has the position a target, nor had one before.
+/// The squares from which the man on `to`, one of the side that waits, came. The contract alone reads the class and the index.
+#[inline(always)]
+fn squares_before(_class: Class, _arrival: u32, men: &Men, man: Man, to: Square) -> SquareSet
+    requires admissible { IsAdmissible (setup_at _class _arrival) }
+    requires men { AreMenOf (setup_at _class _arrival) men.now.king men.now.all men.now.one men.now.other }
+    requires untargeted { (setup_at _class _arrival).target ≡ None }
+    requires stands { Stands (setup_at _class _arrival).men to man }
+    requires theirs { man.side ≡ other_side (setup_at _class _arrival).side }
+    ensures came { CameFrom (setup_at _class _arrival) man to result }
+    ensures few { size_of result ≤ 28 }
+{
+    let around = Around::of(man, to, men.king, men.all, men.one, men.other);
+    squares_left(man, to, &around)
+}
+
+/// Adds the indexes from which the man on `to`, one of the side that waits, came, if its moves go on.
 fn add_sources_of(
     column: Column,
     class: Class,
+    arrival: u32,
     frame: &Frame,
-    position: &Position,
-    camps: Camps,
+    men: &Men,
+    man: Man,
     to: Square,
     wanted: &Wanted<'_>,
     list: &mut ArrayVec<u32, 128>,
 )
-    requires of { (flipped : Bool) × IsOf class flipped position.now }
-    requires camps { AreCamps position.now camps }
-    requires held { IsHeld position.now.men to (other_side position.now.side) }
-    requires frame { IsFrame position.now frame.now }
+    requires admissible { IsAdmissible (setup_at class arrival) }
+    requires frame { IsFrame (setup_at class arrival) frame.now }
     requires class { frame.now.class ≡ class }
-    requires untargeted { position.now.target ≡ None }
-    requires before { HadNoTarget position.now }
+    requires men { AreMenOf (setup_at class arrival) men.now.king men.now.all men.now.one men.now.other }
+    requires untargeted { (setup_at class arrival).target ≡ None }
+    requires before { HadNoTarget (setup_at class arrival) }
+    requires stands { Stands (setup_at class arrival).men to man }
+    requires theirs { man.side ≡ other_side (setup_at class arrival).side }
     requires ascending { IsStrictlyIncreasing list.old.items }
     requires room { array_vec_len list.old + 28 ≤ 128 }
     ensures ascending { IsStrictlyIncreasing list.new.items }
-    ensures members { (k : ℕ) → Contains list.new.items k ↔ (Contains list.old.items k ⊎ Among wanted.now (CameTo column class position.now) to k) }
+    ensures members { (k : ℕ) → Contains list.new.items k ↔ (Contains list.old.items k ⊎ Among wanted.now (CameTo column class (setup_at class arrival)) to k) }
     ensures few { array_vec_len list.new ≤ array_vec_len list.old + 28 }
 {
     laws();
-    let _side = position.side();
-    let man = position.at(to).unwrap();
     if !goes_back_by(column, man) {
         return;
     }
-    let sources = quiet_sources(position, camps, man, to);
-    add_gone(class, frame, position, man, to, sources, wanted, list);
+    let squares = squares_before(class, arrival, men, man, to);
+    add_gone(class, arrival, frame, man, to, squares, wanted, list);
 }
 
-/// Adds the indexes from which the men on these squares came, if their moves go on.
-fn add_others(
+/// Whether the man is of that side.
+fn is_of(man: Man, side: Side) -> bool
+    ensures { IsTrue result ↔ (man.side ≡ side) }
+{
+    man.side == side
+}
+
+/// The same of a man beside the kings, if there is one and he is of the side that waits.
+fn add_entry(
     column: Column,
     class: Class,
+    arrival: u32,
     frame: &Frame,
-    position: &Position,
-    camps: Camps,
-    men: SquareSet,
+    men: &Men,
+    entry: Option<(Man, Square)>,
+    waiting: Side,
     wanted: &Wanted<'_>,
     list: &mut ArrayVec<u32, 128>,
 )
-    requires of { (flipped : Bool) × IsOf class flipped position.now }
-    requires camps { AreCamps position.now camps }
-    requires held { (s : ℕ) → Has men s → IsHeld position.now.men s (other_side position.now.side) }
-    requires frame { IsFrame position.now frame.now }
+    requires admissible { IsAdmissible (setup_at class arrival) }
+    requires frame { IsFrame (setup_at class arrival) frame.now }
     requires class { frame.now.class ≡ class }
-    requires untargeted { position.now.target ≡ None }
-    requires before { HadNoTarget position.now }
+    requires men { AreMenOf (setup_at class arrival) men.now.king men.now.all men.now.one men.now.other }
+    requires untargeted { (setup_at class arrival).target ≡ None }
+    requires before { HadNoTarget (setup_at class arrival) }
+    requires entry { StandsBeside (setup_at class arrival).men entry }
+    requires waiting { waiting ≡ other_side (setup_at class arrival).side }
     requires ascending { IsStrictlyIncreasing list.old.items }
-    requires room { array_vec_len list.old + 28 * size_of men ≤ 128 }
+    requires room { array_vec_len list.old + 28 ≤ 128 }
     ensures ascending { IsStrictlyIncreasing list.new.items }
-    ensures members { (k : ℕ) → Contains list.new.items k ↔ (Contains list.old.items k ⊎ AtSome men (Among wanted.now (CameTo column class position.now)) k) }
-    ensures few { array_vec_len list.new ≤ array_vec_len list.old + 28 * size_of men }
+    ensures members { (k : ℕ) → Contains list.new.items k ↔ (Contains list.old.items k ⊎ AtEntry waiting entry (Among wanted.now (CameTo column class (setup_at class arrival))) k) }
+    ensures few { array_vec_len list.new ≤ array_vec_len list.old + 28 }
 {
-    let mut rest = men;
-    while let Some(to) = rest.pop_first() {
-        add_sources_of(column, class, frame, position, camps, to, wanted, list);
+    if let Some(placed) = entry {
+        if is_of(placed.0, waiting) {
+            add_sources_of(
+                column, class, arrival, frame, men, placed.0, placed.1, wanted, list,
+            );
+        }
     }
 }
 
@@ -212,35 +253,39 @@ fn add_others(
 pub(crate) fn sources_by_squares(
     column: Column,
     class: Class,
+    arrival: u32,
     frame: &Frame,
-    position: &Position,
     wanted: &Wanted<'_>,
     list: &mut ArrayVec<u32, 128>,
 )
-    requires empty { list.old.items ≡ [] }
-    requires of { (flipped : Bool) × IsOf class flipped position.now }
-    requires frame { IsFrame position.now frame.now }
+    requires at { IsAt class arrival (setup_at class arrival) }
+    requires frame { IsFrame (setup_at class arrival) frame.now }
     requires class { frame.now.class ≡ class }
-    requires untargeted { position.now.target ≡ None }
-    requires before { HadNoTarget position.now }
+    requires untargeted { (setup_at class arrival).target ≡ None }
+    requires before { HadNoTarget (setup_at class arrival) }
+    requires empty { list.old.items ≡ [] }
     ensures ascending { IsStrictlyIncreasing list.new.items }
-    ensures exact { (j : ℕ) → IsAt class j position.now → (k : ℕ) → Contains list.new.items k ↔ (Connects column class k j × IsWanted wanted.now k) }
+    ensures exact { (k : ℕ) → Contains list.new.items k ↔ (Connects column class k arrival × IsWanted wanted.now k) }
 {
     laws();
     let _number = class.number();
-    let side = position.side().other();
+    let side = frame.side().other();
     let man = Man {
         side,
         kind: Kind::K,
     };
-    let king = position.king(side);
+    let king = frame.king(side);
     let steps = frame.steps(king);
-    let camps = position.camps();
-    let sources = quiet_sources(position, camps, man, king);
-    let low = sources.common(below(king));
-    let high = sources.without(low);
-    let others = beside_king(position, camps, king);
-    add_left(class, &steps, position, man, king, low, wanted, list);
-    add_others(column, class, frame, position, camps, others, wanted, list);
-    add_left(class, &steps, position, man, king, high, wanted, list);
+    let men = men_of(frame);
+    let squares = squares_before(class, arrival, &men, man, king);
+    let low = squares.common(below(king));
+    let high = squares.without(low);
+    add_left(class, arrival, &steps, man, king, low, wanted, list);
+    add_entry(
+        column, class, arrival, frame, &men, men.one, side, wanted, list,
+    );
+    add_entry(
+        column, class, arrival, frame, &men, men.other, side, wanted, list,
+    );
+    add_left(class, arrival, &steps, man, king, high, wanted, list);
 }

@@ -104,8 +104,7 @@ pub(crate) fn predecessors(column: Column, class: Class, index: u32, list: &mut 
     laws();
     let _number = class.number();
     list.clear();
-    let (position, frame) = indexed(class, index);
-    sources(column, class, &frame, &position, &Wanted::All, list);
+    sources(column, class, index, &Wanted::All, list);
 }
 
 /// The same, with those alone whose bits are set: of node `i` bit `i % 64` of word `i / 64`.
@@ -122,15 +121,7 @@ pub(crate) fn marked_predecessors(
     laws();
     let _number = class.number();
     list.clear();
-    let (position, frame) = indexed(class, index);
-    sources(
-        column,
-        class,
-        &frame,
-        &position,
-        &Wanted::Marked(marks),
-        list,
-    );
+    sources(column, class, index, &Wanted::Marked(marks), list);
 }
 
 /// The values of where the moves lead that leave the game from a node, in the order of moves.

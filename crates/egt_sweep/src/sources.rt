@@ -1,13 +1,14 @@
 //! The moves that go on, backwards.
 ghost use Rattle.std.specs.Prelude.{◌≡◌, ◌↔◌, ◌+◌, ◌≤◌, ◌<◌, ◌⊎◌, ℕ, Bool, None, [], IsTrue, IsFalse};
+ghost use Rattle.std.specs.Option.{is_some};
 ghost use Rattle.std.specs.List.{Contains};
 ghost use Rattle.std.specs.List.Sorted.{IsStrictlyIncreasing};
 ghost use Rattle.arrayvec.specs.ArrayVec.{array_vec_len};
 ghost use Rattle.egt_class.specs.Membership.{IsOf};
 ghost use Rattle.egt_board.specs.Settled.{IsSettled};
-ghost use Rattle.egt_index.specs.Frame.{IsFrame};
 ghost use Rattle.egt_sweep.specs.Wanted.{IsWanted};
 ghost use Rattle.egt_sweep.specs.Edges.{IsAt, GoesBack, ComesFrom, Connects, HadNoTarget};
+ghost use Rattle.egt_sweep.specs.Nodes.{setup_at};
 
 use crate::ascending::put;
 use crate::by_squares::sources_by_squares;
@@ -17,7 +18,7 @@ use arrayvec::ArrayVec;
 use egt_board::Position;
 use egt_class::Class;
 use egt_index::laws::a_class_without_targets_has_pawns_of_one_side;
-use egt_index::{Frame, has_target, index};
+use egt_index::{frame_at, has_target, index, position_of};
 use egt_table::Column;
 use egt_unmoves::{Unmove, target_before, unmoves};
 
@@ -80,44 +81,46 @@ fn sources_by_unmoves(
     }
 }
 
-/// Whether the position has a target, or may have had one before, which a pawn of the side that moved stood ready to take. For that both
-/// sides need pawns.
-fn may_have_target(class: Class, position: &Position) -> bool
-    requires { (flipped : Bool) × IsOf class flipped position.now }
-    ensures now { IsFalse result → position.now.target ≡ None }
-    ensures before { IsFalse result → HadNoTarget position.now }
+/// Whether the position at the index has a target, as `passed` tells, or may have had one before, which a pawn of the side that moved stood
+/// ready to take. For that both sides need pawns.
+fn may_have_target(class: Class, index: u32, passed: bool) -> bool
+    requires at { IsAt class index (setup_at class index) }
+    requires target { is_some (setup_at class index).target ≡ passed }
+    ensures now { IsFalse result → (setup_at class index).target ≡ None }
+    ensures before { IsFalse result → HadNoTarget (setup_at class index) }
 {
+    laws();
     a_class_without_targets_has_pawns_of_one_side();
-    let _side = position.side();
-    if position.target().is_some() {
+    let _number = class.number();
+    if passed {
         return true;
     }
     if !has_target(class) {
         return false;
     }
-    target_before(position).is_some()
+    target_before(&position_of(class, index)).is_some()
 }
 
-/// Fills the list with the wanted indexes from which moves that go on lead to the settled position at an index.
+/// Fills the list with the wanted indexes from which moves that go on lead to the position at the index.
 pub(crate) fn sources(
     column: Column,
     class: Class,
-    frame: &Frame,
-    position: &Position,
+    index: u32,
     wanted: &Wanted<'_>,
     list: &mut ArrayVec<u32, 128>,
 )
+    requires at { IsAt class index (setup_at class index) }
     requires empty { list.old.items ≡ [] }
-    requires of { (flipped : Bool) × IsOf class flipped position.now }
-    requires settled { IsSettled position.now }
-    requires frame { IsFrame position.now frame.now }
-    requires class { frame.now.class ≡ class }
     ensures ascending { IsStrictlyIncreasing list.new.items }
-    ensures exact { (j : ℕ) → IsAt class j position.now → (k : ℕ) → Contains list.new.items k ↔ (Connects column class k j × IsWanted wanted.now k) }
+    ensures exact { (k : ℕ) → Contains list.new.items k ↔ (Connects column class k index × IsWanted wanted.now k) }
 {
-    if may_have_target(class, position) {
-        sources_by_unmoves(column, class, position, wanted, list);
+    laws();
+    let _number = class.number();
+    let (frame, passed) = frame_at(class, index);
+    if may_have_target(class, index, passed) {
+        let position = position_of(class, index);
+        sources_by_unmoves(column, class, &position, wanted, list);
     } else {
-        sources_by_squares(column, class, frame, position, wanted, list);
+        sources_by_squares(column, class, index, &frame, wanted, list);
     }
 }

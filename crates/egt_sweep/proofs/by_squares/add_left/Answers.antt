@@ -4,17 +4,18 @@ use Rattle.egt_index.specs.Index.{IsIndex}
 use Rattle.egt_unmoves.specs.Unmoves.{setup_before}
 use Rattle.egt_sweep.specs.Wanted.{Among}
 use Rattle.egt_sweep.specs.Edges.{WasOn}
+use Rattle.egt_sweep.specs.Nodes.{setup_at}
 use Rattle.egt_sweep.proofs.Collecting.{members_on, members_off, untrue, kept, dropped}
 use Rattle.egt_sweep.proofs.Gathering.{gathered_none, gathered_more, gathered_all}
 use Rattle.egt_sweep.proofs.by_squares.add_left.Goals as goal
 
 pub loop-from-init : goal.loop-from-init
-loop-from-init g c = (c.requires.ascending, omega arith, gathered_none (Among c.args.wanted.now (WasOn c.args.class c.args.position.now c.args.man c.args.to)) c.args.squares c.args.list.now.items)
+loop-from-init g c = (c.requires.ascending, omega arith, gathered_none (Among c.args.wanted.now (WasOn c.args.class (setup_at c.args.class c.args._arrival) c.args.man c.args.to)) c.args.squares c.args.list.now.items)
 
 pub index_to-index-requires : goal.index_to-index-requires
 index_to-index-requires g c =
     let from = c.in-Some.from in
-    let q = c.args.position.now in
+    let q = setup_at c.args.class c.args._arrival in
     (c.args.class, c.args.to, q, setup_before q c.args.man c.args.to from None, c.requires.indexes, c.requires.moved from (omega arith) (c.loop-from.invariant.2.left from c.in-Some.ensures.had))
 
 pub put-requires : goal.put-requires
@@ -27,7 +28,7 @@ put-requires g c =
 
 pub loop-from-preserved-then-has : goal.loop-from-preserved-then-has
 loop-from-preserved-then-has g c =
-    let q = c.args.position.now in
+    let q = setup_at c.args.class c.args._arrival in
     let s = c.in-Some.ensures in
     let inv = c.loop-from.invariant in
     let from = c.in-Some.from in
@@ -48,7 +49,7 @@ loop-from-preserved-then-has g c =
 
 pub loop-from-preserved : goal.loop-from-preserved
 loop-from-preserved g c =
-    let q = c.args.position.now in
+    let q = setup_at c.args.class c.args._arrival in
     let s = c.in-Some.ensures in
     let inv = c.loop-from.invariant in
     let from = c.in-Some.from in
@@ -69,7 +70,7 @@ loop-from-preserved g c =
 
 pub returns-clause-members : goal.returns-clause-members
 returns-clause-members g c =
-    gathered_all (Among c.args.wanted.now (WasOn c.args.class c.args.position.now c.args.man c.args.to)) c.args.squares c.args.list.now.items c.loop-from.list.items c.loop-from.rest c.in_default.ensures.empty c.loop-from.invariant.2
+    gathered_all (Among c.args.wanted.now (WasOn c.args.class (setup_at c.args.class c.args._arrival) c.args.man c.args.to)) c.args.squares c.args.list.now.items c.loop-from.list.items c.loop-from.rest c.in_default.ensures.empty c.loop-from.invariant.2
 
 pub returns-clause-few : goal.returns-clause-few
 returns-clause-few g c = let so_far = c.loop-from.invariant.1 in omega (arith, so_far)
