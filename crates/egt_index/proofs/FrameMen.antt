@@ -15,10 +15,10 @@ use Rattle.egt_board.specs.Listed.{men_of}
 use Rattle.egt_board.specs.Placement.{Placement, Stands, IsFree}
 use Rattle.egt_board.specs.Setup.{Setup, IsKingOn}
 use Rattle.egt_board.specs.SquareSet.{Has}
-use Rattle.egt_index.specs.Others.{AreOthers, square_or}
+use Rattle.egt_index.specs.Others.{AreOthers}
 use Rattle.egt_index.specs.Picked.{AreCounted}
 use Rattle.egt_index.specs.Spelled.{IsListed}
-use Rattle.egt_index.specs.Stood.{AllApart, AllStand, Entry, HasStand, IsOff, list_of}
+use Rattle.egt_index.specs.Stood.{AllApart, AllStand, Entry, HasStand, IsOff, list_of, square_or}
 use Rattle.egt_index.specs.declared.stand.Stand.{Stand}
 use Rattle.egt_index.proofs.After.{all_there}
 use Rattle.egt_index.proofs.Lined.{all_apart}

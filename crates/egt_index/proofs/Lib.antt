@@ -44,6 +44,7 @@ pub mod Reached
 pub mod AtIndex
 pub mod FrameMen
 pub mod Totals
+pub mod IndexTotal
 pub mod Framed
 pub mod Rows
 pub mod Touching

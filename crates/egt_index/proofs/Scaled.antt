@@ -64,7 +64,7 @@ splits_by man n s other may s_in = record {
     digit pawns = digit_at pawns man.side man.kind s (λ white king. other (ap (λ z. of z man.kind) white ∙ ap (of White) king)) may s_in
 
 -- the number with the man's digit behind it
-abbrev entry_number : Entry → ℕ → ℕ
+abbrev pub entry_number : Entry → ℕ → ℕ
 entry_number None n = n
 entry_number (Some e) n = n * kind_digits e.0.kind + (e.1 - kind_less e.0.kind)
 
@@ -72,7 +72,7 @@ tells_entry : (pawns : Bool) (entry : Entry) (n : ℕ) → HasDigit entry → If
 tells_entry pawns None n has on = record { digits = []; are = tt; list_is = refl; number_is = refl }
 tells_entry pawns (Some e) n has on = tells_one pawns (n * kind_digits e.0.kind + (e.1 - kind_less e.0.kind)) e.0 n e.1 (splits_by e.0 n e.1 has.0 has.1 on)
 
-abbrev number_on : ℕ → Stand → ℕ
+abbrev pub number_on : ℕ → Stand → ℕ
 number_on high s = entry_number s.last (entry_number s.next (high * 64 + s.black))
 
 king_other : king_of Black ≢ king_of White
@@ -111,7 +111,7 @@ is_base (Some man) = of_kind man.kind
     of_kind K = inr (inr refl)
 
 -- the digits behind the men's
-abbrev with_ends : Bool → ℕ → ℕ → ℕ
+abbrev pub with_ends : Bool → ℕ → ℕ → ℕ
 with_ends has side number = number_from number (2 ∷ cond has (2 ∷ []) []) (side ∷ cond has (0 ∷ []) [])
 
 abbrev IsSum : Bool → ℕ → ℕ → Type 0
@@ -185,7 +185,7 @@ entry_number_is None n = omega arith
 entry_number_is (Some e) n = refl
 
 -- so the code is the number with the digits of the side to move and of no target behind it
-code_told : (m : Material) (s : Stand) (side : Side) (scales : Scales) (high n l : ℕ) → AreScales m (man_at s.next) (man_at s.last) side scales → IsOn s.next n → IsOn s.last l
+pub code_told : (m : Material) (s : Stand) (side : Side) (scales : Scales) (high n l : ℕ) → AreScales m (man_at s.next) (man_at s.last) side scales → IsOn s.next n → IsOn s.last l
     → code_by scales high s.black n l ≡ with_ends (has_target m) (side_number side) (number_on high s)
 code_told m s side scales high n l are next last =
     sums (ap (λ k. high * k) are.king)

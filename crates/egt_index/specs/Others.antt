@@ -1,5 +1,5 @@
 -- The men of a position beside its kings, in whatever order.
-use Rattle.std.specs.Prelude.{◌≡◌, ◌≢◌, ℕ, ◌⊎◌, Some, None, IfSome}
+use Rattle.std.specs.Prelude.{◌≡◌, ◌≢◌, ℕ, ◌⊎◌, Some, IfSome}
 use Rattle.egt_board.specs.Beside.{StandsBeside}
 use Rattle.egt_board.specs.Placement.{Placement, Stands}
 use Rattle.egt_board.specs.declared.man.Kind.TheVariants.{K}
@@ -12,8 +12,3 @@ pub record AreOthers (men : Placement) (first second : Entry) : Type 0 where
   pub other : StandsBeside men second
   pub all : (s : ℕ) (man : Man) → Stands men s man → man.kind ≢ K → (first ≡ Some (man, s)) ⊎ (second ≡ Some (man, s))
   pub apart : IfSome first (λ e. IfSome second (λ d. e.1 ≢ d.1))
-
--- the square of the man, or the other one where there is no man
-abbrev pub square_or : Entry → ℕ → ℕ
-square_or None s = s
-square_or (Some e) s = e.1

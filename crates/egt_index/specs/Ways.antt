@@ -11,7 +11,9 @@ use Rattle.egt_index.specs.Went.{IsWent}
 use Rattle.egt_index.specs.Scales.{share, code_by, man_at, AreScales, ScalesFit, IsOn, AreEqual}
 use Rattle.egt_index.specs.Size.{has_pawns, men_in_order}
 use Rattle.egt_index.specs.Stood.{Entry, HasStand, IsFilled, IsOff, AllApart, list_of, men_among}
+use Rattle.egt_index.specs.declared.scales.Scale.{Scale}
 use Rattle.egt_index.specs.declared.scales.Scales.{Scales}
+use Rattle.egt_index.specs.declared.scales.TheConstants.{NOBODY}
 use Rattle.egt_index.specs.declared.scales.Squares.{Squares}
 use Rattle.egt_index.specs.declared.stand.Stand.{Stand}
 use Rattle.egt_index.specs.declared.ways.Homing.{Homing}
@@ -172,3 +174,10 @@ other_square Next next last = last
 other_square Last next last = next
 other_square Black next last = next
 other_square Nobody next last = next
+
+-- how he counts who goes
+abbrev pub scale_by : Scales → Mover → Scale
+scale_by scales Black = scales.black
+scale_by scales Next = scales.next
+scale_by scales Last = scales.last
+scale_by scales Nobody = NOBODY

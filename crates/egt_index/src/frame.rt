@@ -9,6 +9,7 @@ ghost use Rattle.egt_index.specs.Home.{IsAtHome};
 ghost use Rattle.egt_index.specs.Size.{has_pawns};
 ghost use Rattle.egt_index.specs.Steps.{AddsUp, AreSteps, IsLeastOwn};
 ghost use Rattle.egt_index.specs.Stood.{HasStand, IsFilled};
+ghost use Rattle.egt_index.specs.Total.{IsTotal};
 ghost use Rattle.egt_index.specs.Ways.{SumFits, WayFits, Leads, LeadsBy};
 
 use crate::either::EitherWay;
@@ -155,6 +156,17 @@ impl Frame {
         ensures frame { (p : Setup) (passed : Bool) → HasStand class false stand.now side passed p → IsFrame p result }
         ensures class { result.class ≡ class }
     {
+        Frame::with_total(class, stand, side, total_of(class, stand))
+    }
+
+    /// The same where it is known what all men add to a code.
+    #[inline(always)]
+    pub(crate) fn with_total(class: Class, stand: &Stand, side: Side, total: u32) -> Frame
+        requires filled { IsFilled stand.now }
+        requires home { IsAtHome (has_pawns (material_of class)) stand.now.white }
+        ensures frame { IsTotal class stand.now total → (p : Setup) (passed : Bool) → HasStand class false stand.now side passed p → IsFrame p result }
+        ensures class { result.class ≡ class }
+    {
         let _number = class.number();
         let still = still_home(has_pawns(class), stand.white);
         let equal = has_equal_sides(class);
@@ -171,7 +183,7 @@ impl Frame {
             first: takes_away(stand.white, stand.black, still),
             equal,
             own,
-            total: total_of(class, stand),
+            total,
         }
     }
 }

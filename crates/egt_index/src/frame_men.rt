@@ -3,21 +3,11 @@ ghost use Rattle.std.specs.Prelude.{◌≡◌};
 ghost use Rattle.egt_board.specs.Camps.{IsOccupied};
 ghost use Rattle.egt_board.specs.Setup.{Setup, IsKingOn};
 ghost use Rattle.egt_index.specs.Frame.{IsFrame};
-ghost use Rattle.egt_index.specs.Others.{AreOthers, square_or};
+ghost use Rattle.egt_index.specs.Others.{AreOthers};
 
 use crate::frame::Frame;
+use crate::stand::square_or;
 use egt_board::{Man, Side, Square, SquareSet};
-
-/// The man's square; the other one where there is no man, so that nothing hangs on whether there is.
-#[inline(always)]
-fn square_or(entry: &Option<(Man, Square)>, other: Square) -> Square
-    ensures { result ≡ square_or entry.now other }
-{
-    match entry {
-        Some((_, square)) => *square,
-        None => other,
-    }
-}
 
 impl Frame {
     /// The side to move.

@@ -1,5 +1,5 @@
 //! What the digits of a code spell, and the position of a code that is known to be an index.
-ghost use Rattle.std.specs.Prelude.{◌≡◌, ◌≢◌, ℕ, ◌∷◌, [], ◌<◌, ◌≤◌, ◌↔◌, Option, Bool, true, false, IsTrue, IsSome, IfSome, IfNone, None};
+ghost use Rattle.std.specs.Prelude.{◌≡◌, ◌≢◌, ℕ, ◌*◌, ◌/◌, ◌∷◌, [], ◌<◌, ◌≤◌, ◌↔◌, Option, Bool, true, false, IsTrue, IsSome, IfSome, IfNone, None};
 ghost use Rattle.std.specs.FinMap as map;
 ghost use Rattle.egt_board.specs.Attack.{king_of};
 ghost use Rattle.egt_board.specs.Listed.{men_of};
@@ -15,6 +15,7 @@ ghost use Rattle.egt_index.specs.Code.{Spells, king_square};
 ghost use Rattle.egt_index.specs.Frame.{IsFrame};
 ghost use Rattle.egt_index.specs.Home.{IsAtHome};
 ghost use Rattle.egt_index.specs.Index.{IsIndex, IsVoid};
+ghost use Rattle.egt_index.specs.Scales.{ends_of};
 ghost use Rattle.egt_index.specs.Size.{king_base, has_pawns};
 ghost use Rattle.std.specs.Option.{option_to_list};
 ghost use Rattle.egt_index.specs.Spelled.{Splits, Tells, SpellsMen, SpellsNoMen, Ends, HasPawns, IsTold};
@@ -232,6 +233,7 @@ pub(crate) fn is_settled(position: &Position) -> bool
 fn stand_at(class: Class, index: u32) -> (Stand, Side, bool)
     requires { ¬ IsVoid class index }
     ensures at { (target : Option ℕ) → IsTold result.2 result.1 (list_of result.0) target → IsAtIndex class index result.0 result.1 result.2 target }
+    ensures men { SpellsMen (material_of class) (index / ends_of (material_of class)) (list_of result.0) }
     ensures pawns { result.2 ≡ true → HasPawns (list_of result.0) }
     ensures filled { IsFilled result.0 }
     ensures home { IsAtHome (has_pawns (material_of class)) result.0.white }
@@ -287,6 +289,18 @@ pub fn indexed(class: Class, index: u32) -> (Position, Frame)
     (position, frame)
 }
 
+/// The code with digits of 0 for the side to move and the target: what all men add to it, if it is an index.
+#[inline(always)]
+fn without_ends(class: Class, code: u32) -> u32
+    ensures { result ≡ code / ends_of (material_of class) * ends_of (material_of class) }
+{
+    if has_target(class) {
+        code / 4 * 4
+    } else {
+        code / 2 * 2
+    }
+}
+
 /// The frame of the settled position whose index this is, and whether that has a target, where the caller knows that there is one. No
 /// board is made.
 #[inline(always)]
@@ -299,5 +313,6 @@ pub fn frame_at(class: Class, index: u32) -> (Frame, bool)
     facts();
     let _number = class.number();
     let (stand, side, passed) = stand_at(class, index);
-    (Frame::of_stand(class, &stand, side), passed)
+    let total = without_ends(class, index);
+    (Frame::with_total(class, &stand, side, total), passed)
 }

@@ -6,7 +6,7 @@ ghost use Rattle.egt_board.specs.declared.man.Side.TheVariants.{White, Black};
 ghost use Rattle.egt_class.specs.Membership.{IsOf};
 ghost use Rattle.egt_index.specs.Beaten.{AreBehind};
 ghost use Rattle.egt_index.specs.Scales.{IsOn};
-ghost use Rattle.egt_index.specs.Stood.{Stood, Holds, IsAmong, IsFirst, list_of, IsFilled, IsOff, AllApart, AreNear, entry_after, on_square_of, IsInOrder, IsOrdered, AreExchanged, IsTurned, IsStandAfter};
+ghost use Rattle.egt_index.specs.Stood.{Stood, Holds, IsAmong, IsFirst, list_of, IsFilled, IsOff, AllApart, AreNear, entry_after, on_square_of, IsInOrder, IsOrdered, AreExchanged, IsTurned, IsStandAfter, square_or};
 
 use crate::facts::facts;
 use crate::men::beside;
@@ -86,6 +86,17 @@ pub(crate) fn square_of(found: &Option<(Man, Square)>) -> Square
     match found {
         Some((_, square)) => *square,
         None => Square::at(0),
+    }
+}
+
+/// The man's square; the other one where there is no man, so that nothing hangs on whether there is.
+#[inline(always)]
+pub(crate) fn square_or(entry: &Option<(Man, Square)>, other: Square) -> Square
+    ensures { result ≡ square_or entry.now other }
+{
+    match entry {
+        Some((_, square)) => *square,
+        None => other,
     }
 }
 

@@ -1,11 +1,12 @@
 //! The index after a man's step against the index of the position to which it leads.
 ghost use Rattle.std.specs.Prelude.{◌≡◌, ℕ, ◌/◌};
 ghost use Rattle.egt_index.specs.Frame.{IsFrame};
+ghost use Rattle.egt_index.specs.Index.{IsVoid};
 ghost use Rattle.egt_index.specs.Row.{row_len, IsRow};
 ghost use Rattle.egt_index.specs.Steps.{WaysFit};
 
 use crate::facts::facts;
-use crate::{Frame, Row, Steps, index, indexed, position, row_of, size};
+use crate::{Frame, Row, Steps, frame_at, index, indexed, position, position_of, row_of, size};
 use arrayvec::ArrayVec;
 use egt_board::{Man, Position, Square};
 use egt_class::{Class, of};
@@ -82,13 +83,53 @@ fn count_of_turned(row: &mut Row, code: u32) -> Result<u32, Fail>
     }
 }
 
-/// The same of the position of that code, if it spells one, by a frame of its own.
+/// Whether the men beside the kings are the same, in whatever order.
+fn are_beside(frame: &Frame, position: &Position) -> bool {
+    let _side = position.side();
+    let (first, second) = frame.beside();
+    let (one, other) = position.board().beside_kings();
+    if one == first {
+        other == second
+    } else {
+        one == second && other == first
+    }
+}
+
+/// Whether the frame tells what the position does.
+fn tells(frame: &Frame, position: &Position) -> bool {
+    let side = position.side();
+    let kings = frame.king(side) == position.king(side)
+        && frame.king(side.other()) == position.king(side.other());
+    let occupied = frame.occupied() == position.board().occupied();
+    frame.side() == side && kings && occupied && are_beside(frame, position)
+}
+
+/// The same of the position of that index, by a frame that was made without it.
+fn count_of_framed(class: Class, index: u32) -> Result<u32, Fail>
+    requires { ¬ IsVoid class index }
+{
+    let position = position_of(class, index);
+    let (frame, passed) = frame_at(class, index);
+    if passed != position.target().is_some() {
+        return Err(Fail::from("another target"));
+    }
+    if !tells(&frame, &position) {
+        return Err(Fail::from("other men"));
+    }
+    count_of_position(&frame, &position)
+}
+
+/// The same of the position of that code, if it spells one, by frames of its own.
 fn count_of_indexed(class: Class, code: u32) -> Result<u32, Fail> {
     facts();
     match position(class, code) {
         Some(_) => {
             let (position, frame) = indexed(class, code);
-            count_of_position(&frame, &position)
+            let count = count_of_position(&frame, &position)?;
+            if count != count_of_framed(class, code)? {
+                return Err(Fail::from("other steps"));
+            }
+            Ok(count)
         }
         None => Ok(0),
     }

@@ -1,5 +1,5 @@
 //! The codes after one man of a class went, by the square to which he went.
-ghost use Rattle.std.specs.Prelude.{◌≡◌, ◌≢◌, ℕ, ◌+◌, ◌<◌, ◌≤◌, ◌/◌, ◌%◌, ◌==◌, Bool, IfSome, Some, None, true, false};
+ghost use Rattle.std.specs.Prelude.{◌≡◌, ◌≢◌, ℕ, ◌+◌, ◌<◌, ◌≤◌, ◌/◌, ◌%◌, ◌==◌, Bool, if◌then◌else◌, IfSome, Some, None, true, false};
 ghost use Rattle.std.specs.Option.{option_map};
 ghost use Rattle.egt_board.specs.Setup.{Setup};
 ghost use Rattle.egt_board.specs.Symmetry.{KeepsPlay};
@@ -13,7 +13,8 @@ ghost use Rattle.egt_index.specs.Nearer.{IsFirst};
 ghost use Rattle.egt_index.specs.Size.{has_pawns};
 ghost use Rattle.egt_index.specs.Total.{IsTotal};
 ghost use Rattle.egt_index.specs.Turns.{CodeAfter, lesser};
-ghost use Rattle.egt_index.specs.Ways.{sum_code, line_code, pair_code, code_with, code_in_order, SumFits, LineFits, PairFits, ComesHome, IsHoming, KingWayFits, WayFits, Leads, LeadsHome, LeadsBy, Goes, IsSeen, IsMover, IsGoer, IsSingle, IsOneOfTwo, IsPaired, other_square};
+ghost use Rattle.egt_index.specs.Ways.{sum_code, line_code, pair_code, code_with, code_in_order, SumFits, LineFits, PairFits, ComesHome, IsHoming, KingWayFits, WayFits, Leads, LeadsHome, LeadsBy, Goes, IsSeen, IsMover, IsGoer, IsSingle, IsOneOfTwo, IsPaired, other_square, scale_by};
+ghost use Rattle.egt_index.specs.declared.ways.Mover.{Mover};
 ghost use Rattle.egt_index.specs.Went.{IsWent};
 ghost use Rattle.egt_index.specs.declared.stand.Stand.{Stand};
 
@@ -24,7 +25,7 @@ use crate::indexing::lesser;
 use crate::men::{has_pawns, is_paired};
 use crate::nearer::takes_away;
 use crate::scales::{NOBODY, Scale, Scales, Squares, class_scales, in_order, squares_of};
-use crate::stand::Stand;
+use crate::stand::{Stand, square_or};
 use crate::total::total_without;
 use crate::turning::turned_square;
 use egt_board::{Side, Square};
@@ -245,7 +246,6 @@ enum Mover {
 }
 
 /// The man on the square, who is not the white king.
-#[inline(always)]
 fn mover_on(stand: &Stand, from: Square) -> Mover
     ensures { IsMover stand.now from result }
 {
@@ -423,7 +423,6 @@ fn pairs(scales: &Scales, pawns: bool, stand: &Stand, turns: Turns, mover: Mover
 }
 
 /// Whether he who goes is one of two equal men.
-#[inline(always)]
 fn is_one_of_two(pair: bool, mover: Mover) -> bool
     ensures two { (before : Stand) → IsPaired before pair → result ≡ true → IsOneOfTwo before mover }
     ensures one { (before : Stand) → IsPaired before pair → result ≡ false → IsSingle before mover }
@@ -475,20 +474,34 @@ pub(crate) fn way_of(class: Class, stand: &Stand, turns: Turns, side: Side, from
     way_of_other(&scales, pawns, pair, stand, turns, mover)
 }
 
-/// How the man counts who goes.
+/// Whether the man on the square, who is not the white king, is none of two equal men.
 #[inline(always)]
-fn scale_of(scales: &Scales, mover: Mover) -> Scale
+fn is_single(pair: bool, stand: &Stand, from: Square) -> bool
+    ensures { result ≡ true → (mover : Mover) → IsPaired stand.now pair → IsMover stand.now from mover → IsSingle stand.now mover }
+{
+    !pair || stand.black == from
+}
+
+/// The one or the other.
+#[inline(always)]
+fn either(first: bool, one: Scale, other: Scale) -> Scale
+    ensures { result ≡ (if first then one else other) }
+{
+    if first { one } else { other }
+}
+
+/// How the man on the square counts, who is not the white king. No jump hangs on who he is.
+#[inline(always)]
+fn scale_on(scales: &Scales, stand: &Stand, from: Square) -> Scale
     requires { ScalesFit scales.now }
     ensures few { result.stride ≤ 1048576 }
-    ensures part { (high black next last s : ℕ) → share result s ≤ code_with mover scales.now high black next last s }
-    ensures sum { (high black next last s to : ℕ) → code_with mover scales.now high black next last to + share result s ≡ code_with mover scales.now high black next last s + share result to }
+    ensures is { stand.now.white ≢ from → (mover : Mover) → IsMover stand.now from mover → result ≡ scale_by scales.now mover }
 {
-    match mover {
-        Mover::Black => scales.black,
-        Mover::Next => scales.next,
-        Mover::Last => scales.last,
-        Mover::Nobody => NOBODY,
-    }
+    let next = square_or(&stand.next, stand.white) == from;
+    let last = square_or(&stand.last, stand.white) == from;
+    let scale = either(last, scales.last, NOBODY);
+    let scale = either(next, scales.next, scale);
+    either(stand.black == from, scales.black, scale)
 }
 
 /// How the codes add up after the man on `from` went, not the white king, where he is not one of two equal men, all men add so much where
@@ -510,12 +523,11 @@ pub(crate) fn sum_of(
 {
     facts();
     let _number = class.number();
-    let mover = mover_on(stand, from);
-    if is_one_of_two(is_paired(class), mover) {
+    if !is_single(is_paired(class), stand, from) {
         return None;
     }
     let scales = class_scales(class, side);
-    let scale = scale_of(&scales, mover);
+    let scale = scale_on(&scales, stand, from);
     let rest = total_without(total, scales.side, scale.share(from));
     Some(Sum { scale, rest })
 }

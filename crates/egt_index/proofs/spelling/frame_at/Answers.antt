@@ -1,16 +1,20 @@
-use Rattle.std.proofs.Common.{arith}
+use Rattle.std.proofs.Common.{sym, subst, arith}
 use Rattle.egt_index.specs.AtIndex.{IsFramedAt}
 use Rattle.egt_index.specs.Code.{Spells}
 use Rattle.egt_board.specs.Setup.{Setup}
+use Rattle.egt_index.specs.Total.{IsTotal}
+use Rattle.egt_index.proofs.IndexTotal.{total_at}
 use Rattle.egt_index.proofs.AtIndex.{framed_at, indexed_by, target_exists}
-use Rattle.egt_index.proofs.spelling.frame_at.Goals.{After-of_stand}
+use Rattle.egt_index.proofs.spelling.frame_at.Goals.{After-with_total}
 use Rattle.egt_index.proofs.spelling.frame_at.Goals as goal
 
-framed : (c : After-of_stand) (p : Setup) → Spells c.args.class c.args.index p → IsFramedAt c.args.class c.args.index p c.of_stand.result c.stand_at-stand.result.2
+framed : (c : After-with_total) (p : Setup) → Spells c.args.class c.args.index p → IsFramedAt c.args.class c.args.index p c.with_total.result c.stand_at-stand.result.2
 framed c =
     let at = c.stand_at-stand in
+    let total = total_at c.facts.ensures c.args.class c.args.index at.result.0 (omega (arith, c.number-number.ensures.below, c.number-number.ensures.value)) c.requires at.ensures.men in
     let told = target_exists at.result.2 at.result.1 _ at.ensures.pawns in
-    framed_at c.args.class c.args.index at.result.0 at.result.1 at.result.2 told.0 c.of_stand.result (at.ensures.at told.0 told.1) c.of_stand.ensures.frame
+    framed_at c.args.class c.args.index at.result.0 at.result.1 at.result.2 told.0 c.with_total.result (at.ensures.at told.0 told.1)
+    (c.with_total.ensures.frame (subst (IsTotal c.args.class at.result.0) (sym c.without_ends-total.ensures) total))
 
 pub returns-clause-there : goal.returns-clause-there
 returns-clause-there c =

@@ -8,7 +8,7 @@ use Rattle.egt_index.specs.Stood.{list_of}
 use Rattle.egt_index.specs.declared.stand.Stand.{Stand}
 use Rattle.egt_index.proofs.Decoded.{has_pawns_list, no_men}
 use Rattle.egt_index.proofs.AtIndex.{at_index, indexed_by, taken}
-use Rattle.egt_index.proofs.Rows.{home_spelled}
+use Rattle.egt_index.proofs.Rows.{home_spelled, men_in_row}
 use Rattle.egt_index.proofs.spelling.stand_at.Goals.{After-unwrap-stand}
 use Rattle.egt_index.proofs.spelling.stand_at.Goals as goal
 
@@ -28,6 +28,9 @@ pub returns-clause-at : goal.returns-clause-at
 returns-clause-at c = λ target told.
     at_index c.facts.ensures c.args.class c.args.index c.ends-number.result.0 c.unwrap-stand.result c.ends-number.result.1 c.ends-number.result.2 target
     (omega (arith, c.number-number.ensures.below, c.number-number.ensures.value)) c.requires c.ends-number.ensures (men c) told
+
+pub returns-clause-men : goal.returns-clause-men
+returns-clause-men c = men_in_row (material_of c.args.class) c.args.index c.ends-number.result.0 c.ends-number.result.1 c.ends-number.result.2 (list_of c.unwrap-stand.result) c.ends-number.ensures (men c)
 
 pub returns-clause-pawns : goal.returns-clause-pawns
 returns-clause-pawns c = λ passed. of_test (has_target (material_of c.args.class)) refl passed c.ends-number.ensures.never

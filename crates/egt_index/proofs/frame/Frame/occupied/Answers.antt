@@ -2,7 +2,7 @@ use Rattle.std.proofs.Common.{◌≡◌, ◌≢◌, ℕ, subst}
 use Rattle.std.specs.Prelude.{◌↔◌}
 use Rattle.std.specs.Int.{bit_at}
 use Rattle.std.proofs.lemmas.Nat.Bits.{bit_at-zero}
-use Rattle.egt_index.specs.Others.{square_or}
+use Rattle.egt_index.specs.Stood.{square_or}
 use Rattle.egt_index.proofs.FrameMen.{added, free_off, off_four}
 use Rattle.egt_index.proofs.frame.Frame.occupied.Goals as goal
 
