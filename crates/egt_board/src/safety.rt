@@ -7,7 +7,7 @@ ghost use Rattle.egt_board.specs.Attack.{IsAttacked, AttacksFrom, king_of};
 ghost use Rattle.egt_board.specs.Camps.{IsOccupied};
 ghost use Rattle.egt_board.specs.Gait.{Reaches};
 ghost use Rattle.egt_board.specs.Placement.{Placement, Stands, IsFree};
-ghost use Rattle.egt_board.specs.Safety.{IsKeptFrom, IsSeenAs, Stops, StopsSlot};
+ghost use Rattle.egt_board.specs.Safety.{IsKeptFrom, IsSeenAs, StopsSlot};
 ghost use Rattle.egt_board.specs.SquareSet.{Has};
 ghost use Rattle.egt_board.specs.declared.man.Man.{Man};
 ghost use Rattle.egt_board.specs.declared.man.Side.{Side};
@@ -97,21 +97,6 @@ impl Board {
         ensures { (t : ℕ) (newcomer : Man) → t < 64 → newcomer.side ≢ side → Has result t ↔ IsKeptFrom (map.remove self.now lifted) t newcomer to side }
     {
         self.shelter_among(to, side, all.less(lifted))
-    }
-
-    /// The squares to which a man may come so that none of the men on the squares of `from`, which he takes or whose lines he crosses,
-    /// attacks `to`, where these squares are occupied.
-    pub fn shelter_from(&self, from: SquareSet, to: Square, occupied: SquareSet) -> SquareSet
-        requires { (s : ℕ) → Has from s → (man : Man) × Stands self.now s man }
-        ensures { (t : ℕ) → t < 64 → Has result t ↔ ((s : ℕ) (man : Man) → Has from s → Stands self.now s man → Stops occupied.bits man s to t) }
-    {
-        let mut shelter = SquareSet::ALL;
-        let mut rest = from;
-        while let Some(square) = rest.pop_first() {
-            let man = self.at(square).unwrap();
-            shelter = shelter.common(gait::stops(man, square, to, occupied));
-        }
-        shelter
     }
 }
 
