@@ -7,7 +7,6 @@ ghost use Rattle.egt_board.specs.Setup.{Setup, IsAdmissible};
 ghost use Rattle.egt_board.specs.SquareSet.{Has, size_of};
 ghost use Rattle.egt_board.specs.declared.man.Man.{Man};
 ghost use Rattle.egt_class.specs.Membership.{IsOf};
-ghost use Rattle.egt_index.specs.Frame.{IsFrame};
 ghost use Rattle.egt_index.specs.Index.{IsIndex};
 ghost use Rattle.egt_moves.specs.Arena.{Value};
 ghost use Rattle.egt_moves.specs.Legal.{Leads, IsLegal};
@@ -33,7 +32,7 @@ use egt_board::{Position, Square, SquareSet};
 use egt_check::Library;
 use egt_class::{Class, of};
 use egt_graph::Exit;
-use egt_index::{Frame, IndexAfter, index, indexed};
+use egt_index::{IndexAfter, frame_at, index};
 use egt_moves::{Move, play_legal, promotions};
 use egt_table::Column;
 
@@ -177,17 +176,6 @@ fn add_exits_between(
     }
 }
 
-/// The frame of the position at the index.
-#[inline(always)]
-fn frame_at(class: Class, index: u32) -> Frame
-    requires { (p : Setup) × IsAt class index p }
-    ensures frame { (p : Setup) → IsAt class index p → IsFrame p result }
-    ensures class { result.class ≡ class }
-{
-    laws();
-    indexed(class, index).1
-}
-
 /// Adds the value of where the man's step to the square, which leaves the game, leads. The position there is not made. Few moves are
 /// such steps, so it stays out of the loop over all moves.
 #[inline(never)]
@@ -215,7 +203,7 @@ fn add_exit_of_step(
     laws();
     let _side = position.side();
     let _number = class.number();
-    let frame = frame_at(class, index);
+    let (frame, _passed) = frame_at(class, index);
     let next = frame.steps(from).index_to(to);
     list.push(exit_in(aim, class, library, class, next));
 }
