@@ -216,20 +216,50 @@ module _ (laws : Laws) (c : ℕ) (below : c < 36) (column : Column) (q : Setup) 
       goes Mate is = tt
       goes Zeroing is = λ pawn. is ((taken_back laws c below column k j q at edge).1.1.pawn.1 pawn)
 
+  -- where a man beside the kings came from there is an edge to the index
+  edge_there : (wanted : Wanted) (j k : ℕ) → IsAt c j q → (side : Side) (entry : Option (Man × ℕ)) → AtEntry side entry (Among wanted (CameTo column c q)) k → Connects column c k j × IsWanted wanted k
+  edge_there wanted j k at side None at_none = absurd at_none
+  edge_there wanted j k at side (Some e) o = (came_connects j k e.1 at o.1.0, o.1.1)
+
+  -- where the king came from nowhere that is wanted, the edges are those of the two men beside him
+  pub came_beside : (wanted : Wanted) (j : ℕ) → IsAt c j q → (king : ℕ) (side : Side) (one other : Option (Man × ℕ)) →
+      ((s : ℕ) (goes : ℕ → ℕ → Type 0) (k : ℕ) → IsHeld q.men s (other_side q.side) → s ≢ king → goes s k → AtEntry side one goes k ⊎ AtEntry side other goes k) →
+      ((k : ℕ) → ¬ Among wanted (CameTo column c q) king k) → (old new : List ℕ) → old ≡ [] →
+      ((k : ℕ) → Contains new k ↔ ((Contains old k ⊎ AtEntry side one (Among wanted (CameTo column c q)) k) ⊎ AtEntry side other (Among wanted (CameTo column c q)) k)) →
+      (k : ℕ) → Contains new k ↔ (Connects column c k j × IsWanted wanted k)
+  came_beside wanted j at king side one other held idle old new empty with_both k = (
+    λ has. elim ((with_both k).0 has) [
+      | inr o ↦ edge_there wanted j k at side other o
+      | inl earlier ↦ elim earlier [
+        | inr o ↦ edge_there wanted j k at side one o
+        | inl none ↦ absurd (let c = subst (λ (xs : List ℕ). Contains xs k) empty none in omega (arith, c.1))
+      ]
+    ],
+    λ edge. let came = connects_came j k at edge.0 in elim (cases_eq came.0 king) [
+      | inr apart ↦
+          let here = subst (λ s. IsHeld q.men s (other_side q.side)) came.1.here (came_held came.1.before q came.1.move came.1.comes) in
+          elim (held came.0 (Among wanted (CameTo column c q)) k here apart (came.1, edge.1)) [
+            | inl o ↦ (with_both k).1 (inl (inr o))
+            | inr o ↦ (with_both k).1 (inr o)
+          ]
+      | inl e ↦ absurd (idle k (subst (λ s. CameTo column c q s k) e came.1, edge.1))
+    ],
+  )
+
   -- the king came from squares of two sets, and the two men beside him from others: together the edges to the index
   pub came_edges : (wanted : Wanted) (j : ℕ) → IsAt c j q → (man : Man) (king : ℕ) (all low high : SquareSet) (side : Side) (one other : Option (Man × ℕ)) →
       ((s : ℕ) (goes : ℕ → ℕ → Type 0) (k : ℕ) → IsHeld q.men s (other_side q.side) → s ≢ king → goes s k → AtEntry side one goes k ⊎ AtEntry side other goes k) →
-      ((s : ℕ) → Has all s ↔ (Has low s ⊎ Has high s)) → ((k : ℕ) → AtSome all (WasOn c q man king) k ↔ CameTo column c q king k) → (old first second third fourth : List ℕ) → old ≡ [] →
-      ((k : ℕ) → Contains first k ↔ (Contains old k ⊎ AtSome low (Among wanted (WasOn c q man king)) k)) → ((k : ℕ) → Contains second k ↔ (Contains first k ⊎ AtEntry side one (Among wanted (CameTo column c q)) k)) →
-      ((k : ℕ) → Contains third k ↔ (Contains second k ⊎ AtEntry side other (Among wanted (CameTo column c q)) k)) →
-      ((k : ℕ) → Contains fourth k ↔ (Contains third k ⊎ AtSome high (Among wanted (WasOn c q man king)) k)) → (k : ℕ) → Contains fourth k ↔ (Connects column c k j × IsWanted wanted k)
-  came_edges wanted j at man king all low high side one other held parts was old first second third fourth empty with_low with_one with_other with_high k = (
+      ((s : ℕ) → Has all s ↔ (Has low s ⊎ Has high s)) → ((k : ℕ) → AtSome all (WasOn c q man king) k ↔ CameTo column c q king k) → (old first second third : List ℕ) → old ≡ [] →
+      ((k : ℕ) → Contains first k ↔ (Contains old k ⊎ AtSome low (Among wanted (WasOn c q man king)) k)) →
+      ((k : ℕ) → Contains second k ↔ ((Contains first k ⊎ AtEntry side one (Among wanted (CameTo column c q)) k) ⊎ AtEntry side other (Among wanted (CameTo column c q)) k)) →
+      ((k : ℕ) → Contains third k ↔ (Contains second k ⊎ AtSome high (Among wanted (WasOn c q man king)) k)) → (k : ℕ) → Contains third k ↔ (Connects column c k j × IsWanted wanted k)
+  came_edges wanted j at man king all low high side one other held parts was old first second third empty with_low with_both with_high k = (
     λ has. elim ((with_high k).0 has) [
       | inr h ↦ (came_connects j k king at ((was k).0 (h.0, (parts h.0).1 (inr h.1), h.2.0)), h.2.1)
-      | inl before ↦ elim ((with_other k).0 before) [
-        | inr o ↦ there other o
-        | inl earlier ↦ elim ((with_one k).0 earlier) [
-          | inr o ↦ there one o
+      | inl before ↦ elim ((with_both k).0 before) [
+        | inr o ↦ edge_there wanted j k at side other o
+        | inl earlier ↦ elim earlier [
+          | inr o ↦ edge_there wanted j k at side one o
           | inl start ↦ elim ((with_low k).0 start) [
             | inr l ↦ (came_connects j k king at ((was k).0 (l.0, (parts l.0).1 (inl l.1), l.2.0)), l.2.1)
             | inl none ↦ absurd (let c = subst (λ (xs : List ℕ). Contains xs k) empty none in omega (arith, c.1))
@@ -241,19 +271,15 @@ module _ (laws : Laws) (c : ℕ) (below : c < 36) (column : Column) (q : Setup) 
       | inr apart ↦
           let here = subst (λ s. IsHeld q.men s (other_side q.side)) came.1.here (came_held came.1.before q came.1.move came.1.comes) in
           elim (held came.0 (Among wanted (CameTo column c q)) k here apart (came.1, edge.1)) [
-            | inl o ↦ (with_high k).1 (inl ((with_other k).1 (inl ((with_one k).1 (inr o)))))
-            | inr o ↦ (with_high k).1 (inl ((with_other k).1 (inr o)))
+            | inl o ↦ (with_high k).1 (inl ((with_both k).1 (inl (inr o))))
+            | inr o ↦ (with_high k).1 (inl ((with_both k).1 (inr o)))
           ]
       | inl e ↦ let on = (was k).1 (subst (λ s. CameTo column c q s k) e came.1) in elim ((parts on.0).0 on.1) [
-        | inl l ↦ (with_high k).1 (inl ((with_other k).1 (inl ((with_one k).1 (inl ((with_low k).1 (inr (on.0, l, (on.2, edge.1)))))))))
+        | inl l ↦ (with_high k).1 (inl ((with_both k).1 (inl (inl ((with_low k).1 (inr (on.0, l, (on.2, edge.1))))))))
         | inr h ↦ (with_high k).1 (inr (on.0, h, (on.2, edge.1)))
       ]
     ],
   )
-    where
-      there : (entry : Option (Man × ℕ)) → AtEntry side entry (Among wanted (CameTo column c q)) k → Connects column c k j × IsWanted wanted k
-      there None at_none = absurd at_none
-      there (Some e) o = (came_connects j k e.1 at o.1.0, o.1.1)
 
 -- the men of a side stand on its king's square and on those of the men beside the kings
 module _ (q : Setup) (enemy king : ℕ) (all : SquareSet) (one other : Option (Man × ℕ)) (side : Side) (men : AreMenOf q enemy all one other) (waiting : side ≡ other_side q.side) (there : IsKingOn q.men (other_side q.side) king) where

@@ -11,3 +11,4 @@ pub mod Fault
 pub mod Ways
 pub mod Wanted
 pub mod Drawn
+pub mod Idle

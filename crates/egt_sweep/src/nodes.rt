@@ -35,8 +35,8 @@ use crate::sources::sources;
 use crate::wanted::Wanted;
 use crate::ways::{Ways, ways_of};
 use arrayvec::ArrayVec;
-use egt_board::Position;
 use egt_board::safety::kings_attack_each_other;
+use egt_board::{Position, SquareSet};
 use egt_check::Library;
 use egt_class::Class;
 use egt_graph::{Exit, Ranks, Start, UNTOLD};
@@ -104,7 +104,7 @@ pub(crate) fn predecessors(column: Column, class: Class, index: u32, list: &mut 
     laws();
     let _number = class.number();
     list.clear();
-    sources(column, class, index, &Wanted::All, list);
+    sources(column, class, index, SquareSet::EMPTY, &Wanted::All, list);
 }
 
 /// The same, with those alone whose bits are set: of node `i` bit `i % 64` of word `i / 64`.
@@ -121,7 +121,14 @@ pub(crate) fn marked_predecessors(
     laws();
     let _number = class.number();
     list.clear();
-    sources(column, class, index, &Wanted::Marked(marks), list);
+    sources(
+        column,
+        class,
+        index,
+        SquareSet::EMPTY,
+        &Wanted::Marked(marks),
+        list,
+    );
 }
 
 /// The values of where the moves lead that leave the game from a node, in the order of moves.

@@ -6,6 +6,7 @@ ghost use Rattle.std.specs.List.Sorted.{IsStrictlyIncreasing};
 ghost use Rattle.arrayvec.specs.ArrayVec.{array_vec_len};
 ghost use Rattle.egt_class.specs.Membership.{IsOf};
 ghost use Rattle.egt_board.specs.Settled.{IsSettled};
+ghost use Rattle.egt_sweep.specs.Idle.{AreIdle};
 ghost use Rattle.egt_sweep.specs.Wanted.{IsWanted};
 ghost use Rattle.egt_sweep.specs.Edges.{IsAt, GoesBack, ComesFrom, Connects, HadNoTarget};
 ghost use Rattle.egt_sweep.specs.Nodes.{setup_at};
@@ -15,7 +16,7 @@ use crate::by_squares::sources_by_squares;
 use crate::laws::laws;
 use crate::wanted::Wanted;
 use arrayvec::ArrayVec;
-use egt_board::Position;
+use egt_board::{Position, SquareSet};
 use egt_class::Class;
 use egt_index::laws::a_class_without_targets_has_pawns_of_one_side;
 use egt_index::{frame_at, has_target, index, position_of};
@@ -101,15 +102,18 @@ fn may_have_target(class: Class, index: u32, passed: bool) -> bool
     target_before(&position_of(class, index)).is_some()
 }
 
-/// Fills the list with the wanted indexes from which moves that go on lead to the position at the index.
+/// Fills the list with the wanted indexes from which moves that go on lead to the position at the index. Men on the squares of `idle` came
+/// from none that is wanted.
 pub(crate) fn sources(
     column: Column,
     class: Class,
     index: u32,
+    idle: SquareSet,
     wanted: &Wanted<'_>,
     list: &mut ArrayVec<u32, 128>,
 )
     requires at { IsAt class index (setup_at class index) }
+    requires idle { AreIdle column class (setup_at class index) wanted.now idle }
     requires empty { list.old.items ≡ [] }
     ensures ascending { IsStrictlyIncreasing list.new.items }
     ensures exact { (k : ℕ) → Contains list.new.items k ↔ (Connects column class k index × IsWanted wanted.now k) }
@@ -121,6 +125,6 @@ pub(crate) fn sources(
         let position = position_of(class, index);
         sources_by_unmoves(column, class, &position, wanted, list);
     } else {
-        sources_by_squares(column, class, index, &frame, wanted, list);
+        sources_by_squares(column, class, index, &frame, idle, wanted, list);
     }
 }
