@@ -11,7 +11,7 @@ pub mod targets;
 pub mod unmove;
 
 pub use around::Around;
-pub use leaving::squares_left;
+pub use leaving::{squares_left, squares_open};
 pub use listing::unmoves;
 pub use targets::target_before;
 pub use unmove::Unmove;
