@@ -10,7 +10,7 @@ ghost use Rattle.egt_graph.specs.declared.answer.Phase.TheVariants.{Running, Fin
 
 use crate::answer::{Close, Phase, Post};
 use crate::batch::Batch;
-use crate::begin::{Columns, begin};
+use crate::begin::{Columns, begin, undecided};
 use crate::game::Game;
 use crate::ranks::Ranks;
 use crate::scan::{BLOCK, PART, block_nodes, is_block_front};
@@ -103,7 +103,7 @@ impl<'g, G: Game> Rounds<'g, G> {
         let parts = (game.size() as usize + (PART - 1)) / PART;
         let news = vec![in alloc; true; parts]?;
         let coming = vec![in alloc; false; parts]?;
-        let marks = vec![in alloc; u64::MAX; parts]?;
+        let marks = undecided(alloc, &entries)?;
         let rounds = Rounds {
             game,
             limit,
