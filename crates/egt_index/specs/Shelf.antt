@@ -1,19 +1,16 @@
 -- Codes that differ by no more than the last man's square, and how far a step of another man moves all of them.
-use Rattle.std.specs.Prelude.{◌≡◌, ◌≢◌, ℕ, ◌+◌, ◌*◌, ◌/◌, ◌%◌, ◌<◌, ◌≤◌, false, List, [], ◌∷◌, Option, Some, None, IfSome}
+use Rattle.std.specs.Prelude.{◌≡◌, ◌≢◌, ℕ, ◌+◌, ◌*◌, ◌/◌, ◌%◌, ◌<◌, ◌≤◌, List, [], ◌∷◌, Option, Some, None}
 use Rattle.egt_board.specs.Setup.{Setup}
 use Rattle.egt_board.specs.declared.man.Man.{Man}
 use Rattle.egt_class.specs.Material.{material_of}
-use Rattle.egt_index.specs.Code.{Spells, king_square}
+use Rattle.egt_index.specs.Code.{Spells}
 use Rattle.egt_index.specs.Frame.{IsMoved}
-use Rattle.egt_index.specs.Home.{AreHome}
 use Rattle.egt_index.specs.Index.{IsIndex}
-use Rattle.egt_index.specs.Nearer.{TakesAway}
 use Rattle.egt_index.specs.Scales.{AreEqual, digits_at, ends_of, share}
-use Rattle.egt_index.specs.Size.{has_target, king_base, men_beside}
-use Rattle.egt_index.specs.Ways.{IsThere}
+use Rattle.egt_index.specs.Size.{has_target, men_beside}
+use Rattle.egt_index.specs.Ways.{IsThere, KingAdds}
 use Rattle.egt_index.specs.declared.shelf.Goer.{Goer}
 use Rattle.egt_index.specs.declared.shelf.Goer.TheVariants.{Beside, King}
-use Rattle.egt_index.specs.declared.shelf.KingScale.{KingScale}
 use Rattle.egt_index.specs.declared.shelf.Shift.{Shift}
 use Rattle.egt_index.specs.declared.stand.Stand.{Stand}
 use Rattle.egt_index.specs.declared.ways.Mover.{Mover}
@@ -43,16 +40,6 @@ pub record IsAlikeIndex (c i code : ℕ) (p : Setup) : Type 0 where
   pub alike : AreAlike c i code
   pub spells : Spells c code p
   pub index : IsIndex c p code
-
--- the white king adds so much on the square, where he is at home, and the turn that changes nothing makes the least code
-pub record KingAdds (king : KingScale) (to n : ℕ) : Type 0 where
-  pub digit : ℕ
-  pub below : digit < king_base king.pawns
-  pub is : king_square king.pawns digit ≡ to
-  pub second : Option ℕ
-  pub home : AreHome king.pawns false to 0 second
-  pub greater : IfSome second (TakesAway to king.black)
-  pub adds : n ≡ digit * king.stride
 
 -- who goes adds so much on the square
 abbrev pub Adds : Goer → ℕ → ℕ → Type 0

@@ -7,7 +7,7 @@ ghost use Rattle.egt_index.specs.Code.{Spells};
 ghost use Rattle.egt_index.specs.Frame.{IsMoved, IsOwnAfter, IsFirstAfter};
 ghost use Rattle.egt_index.specs.Index.{IsIndex, IsVoid};
 ghost use Rattle.egt_index.specs.Scales.{ScalesFit, ends_of};
-ghost use Rattle.egt_index.specs.Shelf.{Adds, AreAlike, GoerFits, IsShelved, IsShift, KingAdds, shelf_len};
+ghost use Rattle.egt_index.specs.Shelf.{Adds, AreAlike, GoerFits, IsShelved, IsShift, shelf_len};
 ghost use Rattle.egt_index.specs.Size.{size_of};
 ghost use Rattle.egt_index.specs.Ways.{IsPaired, scale_by};
 ghost use Rattle.egt_index.specs.declared.ways.Mover.{Mover};
@@ -15,12 +15,11 @@ ghost use Rattle.egt_index.specs.declared.ways.Mover.{Mover};
 use crate::digits::king_digit;
 use crate::facts::facts;
 use crate::frame::Frame;
-use crate::home::still_home;
 use crate::men::{has_pawns, has_target, is_paired};
-use crate::nearer::takes_away;
 use crate::scales::{Scale, Scales, class_scales};
 use crate::stand::Stand;
 use crate::total::{total_without, without_ends};
+use crate::ways::KingScale;
 use egt_board::Square;
 use egt_class::Class;
 
@@ -48,32 +47,6 @@ pub fn shelf_end(class: Class, index: u32) -> u32
     let _number = class.number();
     let len = shelf_len(class);
     index - index % len + len
-}
-
-/// How the white king counts, and what tells whether the turn that changes nothing makes the least code where he goes.
-#[derive(Clone, Copy)]
-pub(crate) struct KingScale {
-    pub(crate) pawns: bool,
-    pub(crate) black: Square,
-    pub(crate) stride: u32,
-}
-
-impl KingScale {
-    /// What he adds on the square, if he is at home there and no other turn brings him home, or takes the kings to greater squares.
-    #[inline(always)]
-    fn adds(&self, to: Square) -> Option<u32>
-        requires { self.now.stride ≤ 1048576 }
-        ensures few { IfSome result (λ n. n ≤ 66060288) }
-        ensures adds { IfSome result (KingAdds self.now to) }
-    {
-        let digit = king_digit(self.pawns, to)?;
-        let still = still_home(self.pawns, to);
-        if takes_away(to, self.black, still) {
-            Some(u32::from(digit) * self.stride)
-        } else {
-            None
-        }
-    }
 }
 
 /// How the man counts who goes.
