@@ -1,0 +1,20 @@
+use Rattle.std.proofs.Common.{◌/◌, ap, arith, sym, ◌∙◌}
+use Rattle.egt_index.proofs.IndexTotal.{few}
+use Rattle.egt_index.proofs.Shelved.{same_quotient}
+use Rattle.egt_index.proofs.shelf.shelf_end.Goals as goal
+
+pub overflow_add-result : goal.overflow_add-result
+overflow_add-result c =
+    let size = few c.args.class (omega (arith, c.number-number.ensures.below, c.number-number.ensures.value)) in
+    let len = c.shelf_len-len.ensures.few in
+    let below = c.requires in
+    omega arith
+
+pub returns-clause-alike : goal.returns-clause-alike
+returns-clause-alike c = λ j above below same. record {
+  shelf =
+      let len = c.shelf_len-len.result in
+      let is = c.shelf_len-len.ensures.is in
+      ap (λ n. c.args.index / n) (sym is) ∙ same_quotient len c.args.index j c.shelf_len-len.ensures.some above (omega arith) ∙ ap (λ n. j / n) is;
+  ends = sym same;
+}
