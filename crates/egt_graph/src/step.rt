@@ -135,6 +135,7 @@ fn run_end(entries: &[u16], nodes: &[u32], from: usize, round: u16) -> usize
 }
 
 /// The same for a whole block, of which the game is asked for the moves into each won node, and into lost nodes by the run.
+/// The list is lent, since to make it takes as long as to write all of it; what it had is lost.
 pub(crate) fn take_block<G: Game>(
     game: &G,
     entries: &mut [u16],
@@ -145,6 +146,7 @@ pub(crate) fn take_block<G: Game>(
     block: u32,
     nodes: &[u32],
     round: u16,
+    run_sources: &mut ArrayVec<u32, 8192>,
 )
     requires short { round ≤ 32000 }
     requires whole { nodes.now ≡ front (G.graph game.now) round block }
@@ -162,12 +164,7 @@ pub(crate) fn take_block<G: Game>(
     ensures coming { Notes (round + 1) entries.old coming.old → Notes (round + 1) entries.new coming.new }
     ensures marked { AreMarked entries.new marks.new }
 {
-    posted[block as usize] = true;
-    if nodes.is_empty() {
-        return;
-    }
     let mut sources = ArrayVec::new();
-    let mut marked = ArrayVec::new();
     let mut k = 0;
     while k < nodes.len() {
         let node = nodes[k];
@@ -183,11 +180,12 @@ pub(crate) fn take_block<G: Game>(
                 coming,
                 &nodes[k..end],
                 round + 1,
-                &mut marked,
+                run_sources,
             );
             k = end;
         }
     }
+    posted[block as usize] = true;
 }
 
 /// The exits of number `round` fall due. Is some node then decided in one ply more, or yet to be decided by its exits?

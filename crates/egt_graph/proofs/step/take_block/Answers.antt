@@ -22,14 +22,6 @@ loop-k-init g c = record {
   marked = c.requires.marked;
 }
 
-pub returns-then-is_empty-clause-amid : goal.returns-then-is_empty-clause-amid
-returns-then-is_empty-clause-amid g c =
-    turns_end (g.G.Game.graph c.args.game.now) (g.met.G.Game.lawful c.args.game.now) c.args.round c.args.block c.args.posted.now
-    c.args.nodes.now c.args.round c.args.round c.args.entries.now (told (g.G.Game.graph c.args.game.now) c.args.waits.now) c.requires.whole c.requires.in_range c.requires.fresh
-    0 (grind (arith, c.is_empty.ensures, c.if-is_empty.true))
-    (turns_begin (g.G.Game.graph c.args.game.now) (g.met.G.Game.lawful c.args.game.now) c.args.round c.args.posted.now c.args.nodes.now
-    c.args.round c.args.round c.args.entries.now (told (g.G.Game.graph c.args.game.now) c.args.waits.now) c.requires.amid)
-
 pub take_sources-requires-clause-waited : goal.take_sources-requires-clause-waited
 take_sources-requires-clause-waited g c =
     turn_waited (g.G.Game.graph c.args.game.now) (g.met.G.Game.lawful c.args.game.now) c.args.round c.args.block c.loop-k.k c.args.posted.now

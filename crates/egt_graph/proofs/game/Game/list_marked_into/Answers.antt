@@ -1,5 +1,5 @@
-use Rattle.std.proofs.Common.{◌≡◌, ◌++◌, length, get_or, ap, sym, subst, ◌∙◌, arith, length-append}
-use Rattle.egt_graph.proofs.Marking.{Lists, lists_none, lists_more, lists_all}
+use Rattle.std.proofs.Common.{◌≡◌, ◌++◌, length, get_or, ap, ◌∙◌, arith, length-append}
+use Rattle.egt_graph.proofs.Marking.{lists_none, lists_more, lists_all}
 use Rattle.egt_graph.proofs.game.Game.list_marked_into.Goals as goal
 
 pub loop-node-init : goal.loop-node-init

@@ -16,5 +16,5 @@ invariant_of-rounds g c =
       begun_run (g.G.Game.graph c.args.game.now) c.args.limit _ _ _ _ _ _ _ c.in_ok-entries.ensures.0 small c.requires flags,
       begun_news (g.G.Game.graph c.args.game.now) _ _ _ _ _ _ _ _ c.in_ok-entries.ensures.0 news coming,
       marks_begun (g.G.Game.graph c.args.game.now).size _ _ c.in_ok-entries.ensures.0.entries_long
-      (rw c.deref.ensures.value at c.in_ok-marks.ensures.room) (rw c.deref.ensures.value at c.in_ok-marks.ensures.marks),
+          (rw c.deref.ensures.value at c.in_ok-marks.ensures.room) (rw c.deref.ensures.value at c.in_ok-marks.ensures.marks),
     )
