@@ -43,9 +43,9 @@ came_inside q man to stands b m there comes pawn =
     let left = (left_square q man to stands b m there comes).left in
     let same : comes.leads.man ≡ man = led_man b m q man comes (ap (map.get q.men) there ∙ stands) in
     let fits : FitsPromotion (promotes comes.leads.man m.to) None = subst (FitsPromotion (promotes comes.leads.man m.to)) comes.no_promotion comes.leads.promotion in
-    let plainly : FitsPromotion (rank_of to == last_rank man.side) None =
-    subst (λ k. FitsPromotion (is_pawn k && (rank_of to == last_rank man.side)) None) pawn
-    (subst (λ (y : Man). FitsPromotion (promotes y to) None) same (subst (λ t. FitsPromotion (promotes comes.leads.man t) None) there fits)) in
+    let plain_man : FitsPromotion (promotes man m.to) None = subst (λ (y : Man). FitsPromotion (promotes y m.to) None) same fits in
+    let plain_there : FitsPromotion (promotes man to) None = subst (λ t. FitsPromotion (promotes man t) None) there plain_man in
+    let plainly : FitsPromotion (rank_of to == last_rank man.side) None = subst (λ k. FitsPromotion (is_pawn k && (rank_of to == last_rank man.side)) None) pawn plain_there in
     elim left.way.goes [
       | inl piece ↦ absurd (piece.0 pawn)
       | inr advance ↦ elim (eqb_tells (rank_of to) (last_rank man.side)) [

@@ -1,12 +1,18 @@
-use Rattle.std.proofs.Common.{◌≢◌, ◌∙◌, arith, sym}
+use Rattle.std.proofs.Common.{◌≢◌, ◌∙◌, ℕ, arith, sym}
 use Rattle.std.specs.Int.{bit_at}
 use Rattle.std.proofs.lemmas.Bool.{false≢true}
 use Rattle.std.proofs.lemmas.Nat.Bits.{bit_at-lt}
+use Rattle.egt_board.specs.Placement.{Placement, IsFree}
+use Rattle.egt_board.specs.SquareSet.{Has}
+use Rattle.egt_board.specs.declared.square_set.SquareSet.{SquareSet}
 use Rattle.egt_unmoves.specs.Around.{AreTaken}
 use Rattle.egt_unmoves.proofs.Left.{came_inside, few_goals}
 use Rattle.egt_unmoves.proofs.Straight.{size_none}
 use Rattle.egt_unmoves.proofs.Went.{left_square}
 use Rattle.egt_unmoves.proofs.leaving.squares_open.Goals as goal
+
+taken : (men : Placement) (held : SquareSet) → ((t : ℕ) → Has held t → ¬ IsFree men t) → AreTaken men held
+taken men held on t free = let small = bit_at-lt held.bits t in let not_one : bit_at held.bits t ≢ 1 = λ has. on t has free in omega arith
 
 pub returns-then-not-may_have_pawn-clause-open : goal.returns-then-not-may_have_pawn-clause-open
 returns-then-not-may_have_pawn-clause-open c = λ q stands theirs held b m there comes.
@@ -19,9 +25,7 @@ returns-then-not-may_have_pawn-clause-few c = size_none 28
 pub returns-clause-open : goal.returns-clause-open
 returns-clause-open c = λ q stands theirs held b m there comes.
     let way = (left_square q c.args.man c.args.to stands b m there comes).left.way in
-    let taken : AreTaken q.men c.args.held = λ t free.
-    let small = bit_at-lt c.args.held.bits t in let not_one : bit_at c.args.held.bits t ≢ 1 = λ has. held t has free in omega arith in
-    c.ways_back.ensures.found q.men taken stands m.from way.within way
+    c.ways_back.ensures.found q.men (taken q.men c.args.held held) stands m.from way.within way
 
 pub returns-clause-few : goal.returns-clause-few
 returns-clause-few c = let a = few_goals c.args.man.kind in let b = c.ways_back.ensures.few in omega (arith, a, b)
