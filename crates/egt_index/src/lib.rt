@@ -7,6 +7,7 @@ pub mod codes;
 pub mod digits;
 pub mod either;
 pub mod facts;
+pub mod fixed;
 pub mod following;
 pub mod frame;
 pub mod frame_men;
@@ -28,6 +29,7 @@ pub mod turning;
 pub mod ways;
 
 pub use axis::is_on_axis;
+pub use fixed::Fixed;
 pub use following::IndexAfter;
 pub use frame::Frame;
 pub use indexing::index;
