@@ -115,23 +115,25 @@ module _ (b q : Setup) (m : Move) (comes : ComesBy b m q) where
 
 module _ (laws : Laws) (c : ℕ) (q : Setup) (man : Man) (to : ℕ) (stands : Stands q.men to man) where
   -- the position before differs by the square of the man alone
-  pub came_moved : (s : ℕ) → s < 64 → ComesBy (setup_before q man to s None) (plain s to) q → IsMoved c q to s (setup_before q man to s None)
-  came_moved s s_in comes = record {
+  pub came_back : (b : Setup) (m : Move) → ComesBy b m q → b ≡ setup_before q man to m.from None → IsMoved c q to m.from b
+  came_back b m comes is = record {
     man = man;
     stands = stands;
-    free = left_free (setup_before q man to s None) q (plain s to) comes;
-    on_board = s_in;
-    men = refl;
-    side = refl;
-    target = refl;
+    free = left_free b q m comes;
+    on_board = comes.admissible.on_board m.from comes.leads.man comes.leads.stands;
+    men = ap (λ (x : Setup). x.men) is;
+    side = ap (λ (x : Setup). x.side) is;
+    target = ap (λ (x : Setup). x.target) is;
     admissible = comes.admissible;
     class = λ flipped of.
-        let b = setup_before q man to s None in
         let own = laws.facts.classes b comes.admissible in
-        let led = laws.quiet_class b comes.led (plain s to) own.0 own.1 comes.admissible own.3 comes.leads comes.no_capture comes.no_promotion in
+        let led = laws.quiet_class b comes.led m own.0 own.1 comes.admissible own.3 comes.leads comes.no_capture comes.no_promotion in
         let now = (laws.facts.settled_class comes.led q own.0 own.1 comes.settles).0 led in
         record { men = λ other. own.3.men other ∙ sym (now.men other) ∙ of.men other };
   }
+
+  pub came_moved : (s : ℕ) → s < 64 → ComesBy (setup_before q man to s None) (plain s to) q → IsMoved c q to s (setup_before q man to s None)
+  came_moved s s_in comes = came_back (setup_before q man to s None) (plain s to) comes refl
 
   pawn_back : (s : ℕ) → IsPawnOn (setup_before q man to s None).men s → man.kind ≡ P
   pawn_back s pawn = ap (λ (x : Man). x.kind) (one_man (setup_before q man to s None).men s man pawn.man (get-insert_same (map.remove q.men to) s man s refl) pawn.stands) ∙ pawn.pawn
@@ -141,7 +143,7 @@ module _ (laws : Laws) (c : ℕ) (q : Setup) (man : Man) (to : ℕ) (stands : St
   back_by Zeroing s is = λ pawn. is (pawn_back s pawn)
 
   -- where the game goes back by no move of the man, it came by none
-  taken : (column : Column) (k : ℕ) → CameTo column c q to k → IsTakenBack column man
+  pub taken : (column : Column) (k : ℕ) → CameTo column c q to k → IsTakenBack column man
   taken Mate k came = tt
   taken Zeroing k came = λ pawn. came.back (record {
     man = came.comes.leads.man;
@@ -202,7 +204,7 @@ module _ (laws : Laws) (c : ℕ) (below : c < 36) (column : Column) (q : Setup) 
       goes Mate back = tt
       goes Zeroing back = λ pawn. back (tells_so (decided_pawn came.before.men came.move.from) pawn)
 
-  connects_came : (j k : ℕ) → IsAt c j q → Connects column c k j → (to : ℕ) × CameTo column c q to k
+  pub connects_came : (j k : ℕ) → IsAt c j q → Connects column c k j → (to : ℕ) × CameTo column c q to k
   connects_came j k at edge =
       let w = taken_back laws c below column k j q at edge in
       let m = w.1.0 in

@@ -12,3 +12,4 @@ pub mod Ways
 pub mod Wanted
 pub mod Drawn
 pub mod Idle
+pub mod Together

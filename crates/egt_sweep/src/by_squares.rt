@@ -62,7 +62,7 @@ fn below(square: Square) -> SquareSet
 }
 
 /// Whether the game goes back by the man's moves.
-fn goes_back_by(column: Column, man: Man) -> bool
+pub(crate) fn goes_back_by(column: Column, man: Man) -> bool
     ensures { IsTrue result ↔ IsTakenBack column man }
 {
     match column {
@@ -212,7 +212,7 @@ fn add_sources_of(
 }
 
 /// Whether the man is of that side.
-fn is_of(man: Man, side: Side) -> bool
+pub(crate) fn is_of(man: Man, side: Side) -> bool
     ensures { IsTrue result ↔ (man.side ≡ side) }
 {
     man.side == side
