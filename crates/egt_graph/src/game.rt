@@ -114,7 +114,8 @@ pub trait Game {
     }
 
     /// Fills the list, in the place of what it had, with nodes from which a move leads to one of these, in any order and perhaps more
-    /// than once: with all that are marked, and perhaps with others. The mark of node `i` is bit `i % 64` of word `i / 64`.
+    /// than once: with all that are marked, and perhaps with others. The mark of node `i` is bit `i % 64` of word `i / 64`. There is
+    /// room for all moves into as many nodes as are asked of at once.
     fn list_marked_into(&self, nodes: &[u32], marks: &[u64], list: &mut ArrayVec<u32, 8192>)
         requires nodes { All (IsNode (graph self.now)) nodes.now }
         requires ascending { IsStrictlyIncreasing nodes.now }

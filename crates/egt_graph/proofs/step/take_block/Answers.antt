@@ -31,11 +31,11 @@ take_sources-requires-clause-waited g c =
 
 pub mark_sources-requires-clause-are_nodes : goal.mark_sources-requires-clause-are_nodes
 mark_sources-requires-clause-are_nodes g c =
-    run_holds (IsNode (g.G.Game.graph c.args.game.now)) c.args.nodes.now c.loop-k.k c.run_end-end.result c.requires.are_nodes
+    run_holds (IsNode (g.G.Game.graph c.args.game.now)) c.args.nodes.now _ _ c.requires.are_nodes
 
 pub mark_sources-requires-clause-ascending : goal.mark_sources-requires-clause-ascending
 mark_sources-requires-clause-ascending g c =
-    run_ascends c.args.nodes.now c.loop-k.k c.run_end-end.result
+    run_ascends c.args.nodes.now _ _
     (subst IsStrictlyIncreasing (sym c.requires.whole) (front-ascends (g.G.Game.graph c.args.game.now) c.args.round c.args.block))
 
 pub loop-k-preserved-then-entries-node : goal.loop-k-preserved-then-entries-node
