@@ -1,8 +1,8 @@
 -- Codes that differ by no more than the last man's square: the same men stand there but for him.
-use Rattle.std.proofs.Common.{◌≡◌, ℕ, ◌+◌, ◌*◌, ◌/◌, ◌%◌, ◌<◌, ◌≤◌, ◌==◌, nat_lt, Bool, true, false, cond, List, [], ◌∷◌, ◌++◌, map, Some, None, arith, refl, sym, ap, ◌∙◌, subst}
+use Rattle.std.proofs.Common.{◌≡◌, ℕ, ◌+◌, ◌-◌, ◌*◌, ◌/◌, ◌%◌, ◌<◌, ◌≤◌, ◌==◌, nat_lt, Bool, true, false, cond, List, [], ◌∷◌, ◌++◌, map, Some, None, arith, refl, sym, ap, ◌∙◌, subst}
 use Rattle.std.specs.Option.{is_some, option_to_list}
 use Rattle.std.specs.Prelude.{slice_index}
-use Rattle.std.proofs.Math.Nat.{div-div-eq-div-mul, div-lt_iff_lt-mul, div-one}
+use Rattle.std.proofs.Math.Nat.{div-div-eq-div-mul, div-lt_iff_lt-mul, div-one, mul-le-mul_right}
 use Rattle.std.proofs.lemmas.Bool.{eqb-true, ltb-true}
 use Rattle.std.proofs.lemmas.Nat.{div-add-mod', div-mul-add}
 use Rattle.egt_board.specs.Attack.{king_of}
@@ -50,6 +50,29 @@ all_some = refl
 
 pub len_some : (c : ℕ) → c < 36 → 0 < slice_index LENS c
 len_some c c_in = ltb-true 0 (slice_index LENS c) (passes_below (λ c. nat_lt 0 (slice_index LENS c)) 36 c all_some c_in)
+
+all_whole : all_below (λ c. size_of c % shelf_len c == 0) 36 ≡ true
+unfolding all_below size_of shelf_len material_of materials
+all_whole = refl
+
+-- a class ends with a shelf
+pub whole_shelves : (c : ℕ) → c < 36 → size_of c % shelf_len c ≡ 0
+whole_shelves c c_in = eqb-true (size_of c % shelf_len c) 0 (passes_below (λ c. size_of c % shelf_len c == 0) 36 c all_whole c_in)
+
+-- the next multiple is within a greater one
+pub next_within : (len i n : ℕ) → 0 < len → i < n → n % len ≡ 0 → i - i % len + len ≤ n
+next_within len i n some below whole =
+    let here = div-add-mod' i len in
+    let there = div-add-mod' n len in
+    let less : i / len < n / len = (div-lt_iff_lt-mul some).1 (omega arith) in
+    let most : (i / len + 1) * len ≤ n / len * len = mul-le-mul_right len (above (i / len) (n / len) less) in
+    omega (arith, add_one (i / len))
+  where
+    add_one : (k : ℕ) → (k + 1) * len ≡ k * len + len
+    add_one k = omega arith
+
+    above : (a b : ℕ) → a < b → a + 1 ≤ b
+    above a b lt = omega arith
 
 -- between a number and the next multiple the quotient stays
 pub same_quotient : (len i j : ℕ) → 0 < len → i ≤ j → j + i % len < i + len → i / len ≡ j / len

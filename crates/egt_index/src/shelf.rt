@@ -38,10 +38,12 @@ fn shelf_len(class: Class) -> u32
     u32::from(LENS[usize::from(class.number())])
 }
 
-/// The end of the index's shelf: up to it the codes with the same last digits differ from the index by the last man's square alone.
+/// The end of the index's shelf, within the class: up to it the codes with the same last digits differ from the index by the last man's square
+/// alone.
 pub fn shelf_end(class: Class, index: u32) -> u32
     requires { index < size_of class }
     ensures above { index < result }
+    ensures within { result ≤ size_of class }
     ensures alike { (j : ℕ) → index ≤ j → j < result → j % ends_of (material_of class) ≡ index % ends_of (material_of class) → AreAlike class index j }
 {
     let _number = class.number();
