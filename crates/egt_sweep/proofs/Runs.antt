@@ -1,9 +1,6 @@
 -- What is told at once of nodes that differ by the last man's square alone.
 use Rattle.std.proofs.Common.{◌≡◌, ◌≢◌, ℕ, ◌+◌, ◌-◌, ◌<◌, ◌⊎◌, max, Bool, false, List, Option, Some, None, IfSome, arith, refl, sym, ap, ◌∙◌, subst, inl, inr}
-use Rattle.std.proofs.lemmas.Bool.{cases_eq}
-use Rattle.std.proofs.lemmas.Nat.Bits.{bit_at-lt}
 use Rattle.std.specs.Int.{bit_at}
-use Rattle.egt_board.specs.Attack.{king_of}
 use Rattle.egt_board.specs.Man.{other_side}
 use Rattle.egt_board.specs.Placement.{Stands, IsHeld}
 use Rattle.egt_board.specs.Setup.{Setup, IsKingOn}
@@ -27,7 +24,7 @@ use Rattle.egt_unmoves.proofs.Left.{one_before}
 use Rattle.egt_sweep.specs.Edges.{CameTo, Connects, HadNoTarget, IsAt, IsTakenBack}
 use Rattle.egt_sweep.specs.Laws.{Laws}
 use Rattle.egt_sweep.specs.Nodes.{setup_at}
-use Rattle.egt_sweep.specs.Together.{AreAt, HitsTell, IsAlikeNode, IsMissed, IsMissedAt, IsNearTo, IsRunOf, NoneBeside, TellsOf}
+use Rattle.egt_sweep.specs.Together.{AreAt, HitsTell, IsAlikeNode, IsMissed, IsMissedAt, IsNearTo, IsRunOf, NoneBeside}
 use Rattle.egt_sweep.specs.declared.together.Hits.{Hits}
 use Rattle.egt_sweep.specs.declared.together.Run.{Run}
 use Rattle.egt_sweep.proofs.Returning.{came_back, came_held, connects_came, taken}

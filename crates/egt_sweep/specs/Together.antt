@@ -1,5 +1,5 @@
 -- What is told at once of nodes that differ by the last man's square alone.
-use Rattle.std.specs.Prelude.{◌≡◌, ℕ, ◌+◌, ◌<◌, ◌≤◌, ◌%◌, ◌⊎◌, true, false, List, Option, Some, None, IfSome}
+use Rattle.std.specs.Prelude.{◌≡◌, ℕ, ◌+◌, ◌<◌, ◌≤◌, ◌%◌, ◌⊎◌, false, List, Option, Some, None, IfSome}
 use Rattle.std.specs.Int.{bit_at}
 use Rattle.egt_board.specs.Man.{other_side}
 use Rattle.egt_board.specs.Placement.{Stands, IsFree}

@@ -1,4 +1,3 @@
-use Rattle.std.proofs.Common.{ℕ}
 use Rattle.egt_sweep.proofs.Runs.{LeftOrTold}
 use Rattle.egt_sweep.proofs.together.bits_of.Given as goal
 
