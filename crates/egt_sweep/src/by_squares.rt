@@ -28,19 +28,19 @@ use egt_unmoves::{Around, squares_left};
 
 /// The men of a position, as the moves of the side that waits are taken back.
 #[derive(Clone, Copy)]
-struct Men {
+pub(crate) struct Men {
     /// Where the king of the side to move stands.
-    king: Square,
+    pub(crate) king: Square,
     /// The squares of all men.
-    all: SquareSet,
+    pub(crate) all: SquareSet,
     /// The men beside the kings.
-    one: Option<(Man, Square)>,
-    other: Option<(Man, Square)>,
+    pub(crate) one: Option<(Man, Square)>,
+    pub(crate) other: Option<(Man, Square)>,
 }
 
 /// The men of a frame's position.
 #[inline(always)]
-fn men_of(frame: &Frame) -> Men
+pub(crate) fn men_of(frame: &Frame) -> Men
     ensures { (q : Setup) → IsFrame q frame.now → AreMenOf q result.king result.all result.one result.other }
 {
     let (one, other) = frame.beside();
