@@ -10,6 +10,7 @@ pub mod Exits
 pub mod Closing
 pub mod Ranking
 pub mod Ending
+pub mod Lost
 pub mod Steps
 pub mod Growing
 pub mod Blocks

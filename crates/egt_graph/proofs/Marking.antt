@@ -1,17 +1,18 @@
 -- Marks of nodes that are not decided.
-use Rattle.std.proofs.Common.{◌≡◌, ◌≢◌, ℕ, ◌+◌, ◌-◌, ◌*◌, ◌/◌, ◌%◌, ◌<◌, ◌≤◌, ◌^◌, Bool, true, false, eqb, ltb, ◌&&◌, List, length, get_or, set, sym, ap, subst, ◌∙◌, inl, inr, arith, bit_and, w64, All, Contains, replicate}
-use Rattle.std.proofs.lemmas.Bool.{cases_Bool, cases_eq, cases_lt, lt-ltb, eqb-true, eq-eqb, false≢true}
-use Rattle.std.proofs.lemmas.List.{get_or-set_same, get_or-set_other, get_or_default, get_or_past, get_or-replicate, length-replicate}
-use Rattle.std.proofs.lemmas.List.Elements.{All-contains, All-contains_itself, All-weaker}
-use Rattle.std.proofs.lemmas.Nat.Bits.{bit_at_clear_other, bit_at_ones}
+use Rattle.std.proofs.Common.{◌≡◌, ◌≢◌, ℕ, ◌+◌, ◌-◌, ◌*◌, ◌/◌, ◌%◌, ◌<◌, ◌≤◌, ◌^◌, Bool, true, false, eqb, ltb, ◌&&◌, List, [], ◌++◌, length, get_or, set, sym, ap, subst, ◌∙◌, inl, inr, arith, bit_and, bit_or, w64, cond, ◌⊎◌, All, Contains}
+use Rattle.std.proofs.lemmas.Bool.{cases_Bool, cases_eq, cases_lt, lt-ltb, eqb-true, eq-eqb, ne_eqb, false≢true}
+use Rattle.std.proofs.lemmas.List.{get_or-set_same, get_or-set_other, get_or_default, get_or_past}
+use Rattle.std.proofs.lemmas.List.Elements.{All-contains, All-contains_itself, All-weaker, Contains-get_or, Contains-append_left, Contains-append_right, Contains-append_cases}
+use Rattle.std.proofs.lemmas.Nat.Bits.{bit_at_clear_other, bit_at_set_same, bit_at_set_other, bit_at-zero}
 use Rattle.std.specs.Int.{bit_at}
 use Rattle.egt_graph.specs.Graph.{Graph, IsNode, IsGame}
-use Rattle.egt_graph.specs.Columns.{count_of, decided, Marks, TakesBack}
-use Rattle.egt_graph.specs.Undecided.{IsMarked, AreMarked, AreMarkedInto, MarkedIn, HasMarks}
+use Rattle.egt_graph.specs.Columns.{count_of, into_all, decided, Marks, TakesBack}
+use Rattle.egt_graph.specs.Undecided.{IsMarked, AreMarked, AreExactMarks, AreMarkedInto, MarkedIn, HasMarks}
 use Rattle.egt_graph.specs.declared.answer.Phase.{Phase}
 use Rattle.egt_graph.specs.declared.answer.Phase.TheVariants.{Running}
 use Rattle.egt_graph.proofs.Holding.{decided_open, decided_shut}
 use Rattle.egt_graph.proofs.Lists.{counted_contains}
+use Rattle.egt_graph.proofs.Lost.{in_all, from_all}
 use Rattle.egt_graph.proofs.Steps.{counted_at, counted_le}
 
 -- another node's mark stays
@@ -35,11 +36,42 @@ contains_counted i xs has =
     let all = counted_le (get_or xs has.0 0) xs (has.0 + 1) in
     subst (λ j. 0 < count_of j xs) here (omega (arith, more, all))
 
+-- ---- the moves into some nodes, listed one after the other
+
+pub record Lists (g : Graph) (nodes : List ℕ) (n : ℕ) (list : List ℕ) : Type 0 where
+  pub within : (i : ℕ) → Contains list i → (k : ℕ) × (k < n) × Contains (g.into (get_or nodes k 0)) i
+  pub whole : (i k : ℕ) → k < n → Contains (g.into (get_or nodes k 0)) i → Contains list i
+
+pub lists_none : (g : Graph) (nodes : List ℕ) → Lists g nodes 0 []
+lists_none g nodes = record { within = λ i has. absurd (let lt = has.1 in omega arith); whole = λ i k lt has. absurd (omega arith) }
+
+pub lists_more : (g : Graph) (nodes : List ℕ) (n : ℕ) (list : List ℕ) → Lists g nodes n list → Lists g nodes (n + 1) (list ++ g.into (get_or nodes n 0))
+lists_more g nodes n list h = record {
+  within = λ i has. elim (Contains-append_cases list (g.into (get_or nodes n 0)) i has) [
+    | inl before ↦ let w = h.within i before in let lt = w.1 in (w.0, omega arith, w.2)
+    | inr now ↦ (n, omega arith, now)
+  ];
+  whole = λ i k lt has. elim (cases_eq k n) [
+    | inl e ↦ Contains-append_right list (g.into (get_or nodes n 0)) i (subst (λ m. Contains (g.into (get_or nodes m 0)) i) e has)
+    | inr ne ↦ Contains-append_left list (g.into (get_or nodes n 0)) i (h.whole i k (omega arith) has)
+  ];
+}
+
+pub lists_all : (g : Graph) (nodes : List ℕ) (n : ℕ) (bits list : List ℕ) → n ≡ length nodes → Lists g nodes n list → AreMarkedInto g nodes bits list
+lists_all g nodes n bits list all h = record {
+  within = λ i has. let w = h.within i has in let lt = w.1 in (get_or nodes w.0 0, Contains-get_or nodes w.0 0 (omega arith), w.2);
+  whole = λ i j has into marked.
+      let lt = has.1 in
+      h.whole i has.0 (omega arith) (subst (λ m. Contains (g.into m) i) (sym (get_or_default nodes has.0 0 j has.1 ∙ has.2)) into);
+}
+
 -- the sources that are asked for are as good as all
-pub sources_within : (g : Graph) → IsGame g → (j n : ℕ) (bits list : List ℕ) → IsNode g j → AreMarkedInto g j bits list → g.size ≤ n → All (λ i. i < n) list
-sources_within g law j n bits list node are room =
+pub sources_within : (g : Graph) → IsGame g → (n : ℕ) (nodes bits list : List ℕ) → All (IsNode g) nodes → AreMarkedInto g nodes bits list → g.size ≤ n → All (λ i. i < n) list
+sources_within g law n nodes bits list each are room =
     All-weaker (Contains list) (λ i. i < n) (λ i has.
-    let there = All-contains (IsNode g) (g.into j) i (law.into_nodes j node) (are.within i has) in let lt = there.in_range in omega (arith, lt, room)) list (All-contains_itself list)
+    let into = are.within i has in
+    let there = All-contains (IsNode g) (g.into into.0) i (law.into_nodes into.0 (All-contains (IsNode g) nodes into.0 each into.1)) into.2 in
+    let lt = there.in_range in omega (arith, lt, room)) list (All-contains_itself list)
 
 told : (e n : ℕ) (here there : Bool) → (e ≡ 1 → here ≡ there) → decided e here false n ≡ decided e there false n
 told e n here there same = elim (cases_Bool (eqb e 1)) [
@@ -56,10 +88,13 @@ counts_alike i xs ys to from = elim (cases_lt 0 (count_of i xs)) [
   ]
 ]
 
-pub marks_all : (g : Graph) (j n : ℕ) (es es' bits list : List ℕ) → AreMarked es bits → AreMarkedInto g j bits list → Marks es list n es' → Marks es (g.into j) n es'
-marks_all g j n es es' bits list marked are marks i =
-    marks i ∙ told (get_or es i 0) n (ltb 0 (count_of i list)) (ltb 0 (count_of i (g.into j)))
-    (λ one. counts_alike i list (g.into j) (are.within i) (λ has. are.whole i has (marked i one)))
+pub marks_all : (g : Graph) (nodes : List ℕ) (n : ℕ) (es es' bits list : List ℕ) → All (IsNode g) nodes → AreMarked es bits → AreMarkedInto g nodes bits list
+    → Marks es list n es' → Marks es (into_all g nodes) n es'
+marks_all g nodes n es es' bits list each marked are marks i =
+    marks i ∙ told (get_or es i 0) n (ltb 0 (count_of i list)) (ltb 0 (count_of i (into_all g nodes)))
+    (λ one. counts_alike i list (into_all g nodes)
+    (λ has. let into = are.within i has in in_all g nodes i into.0 each into.1 into.2)
+    (λ has. let from = from_all g nodes i each has in are.whole i from.0 from.1 from.2 (marked i one)))
 
 -- what is not decided after wins were marked was not decided before, and is none of the marked
 pub open_before : (es es' list : List ℕ) (n i : ℕ) → Marks es list n es' → get_or es' i 0 ≡ 1 → (get_or es i 0 ≡ 1) × (Contains list i → ⊥)
@@ -95,15 +130,50 @@ marked_of size phase es bits has running = subst (λ (p : Phase). MarkedIn p es 
 pub marked_while : (size : ℕ) (phase : Phase) (es bits : List ℕ) → phase ≡ Running → size ≤ 64 * length bits → AreMarked es bits → HasMarks size phase es bits
 marked_while size phase es bits running room marked = record { room = room; marked = subst (λ (p : Phase). MarkedIn p es bits) (sym running) marked }
 
--- all nodes are marked at first
-pub all_marked : (size : ℕ) (es bits : List ℕ) → length es ≡ size → bits ≡ replicate ((size + 63) / 64) 18446744073709551615 → HasMarks size Running es bits
-all_marked size es bits long are = record {
-  room = let n = ap length are ∙ length-replicate ((size + 63) / 64) 18446744073709551615 in omega (arith, n);
-  marked = λ i one. elim (cases_lt i (length es)) [
-    | inl lt ↦
-        ap (λ ws. bit_at (get_or ws (i / 64) 0) (i % 64)) are
-        ∙ ap (λ w. bit_at w (i % 64)) (get_or-replicate ((size + 63) / 64) (i / 64) 18446744073709551615 0 (omega (arith, lt, long)))
-        ∙ bit_at_ones 64 (i % 64) (omega arith)
-    | inr le ↦ absurd (let none = get_or_past es i 0 le in omega (arith, one, none))
-  ];
+-- ---- the marks of the nodes that are not decided
+
+pub marks_begun : (size : ℕ) (es bits : List ℕ) → length es ≡ size → length es ≤ 64 * length bits → AreExactMarks es bits → HasMarks size Running es bits
+marks_begun size es bits long room exact = record {
+  room = omega (arith, long, room);
+  marked = λ i one. exact i ∙ ap (λ b. cond b 1 0) (eq-eqb (get_or es i 0) 1 one);
 }
+
+-- the bits of the entries from `from` up to i, and no other
+pub record HasBits (es : List ℕ) (from i word : ℕ) : Type 0 where
+  pub seen : (k : ℕ) → from + k < i → bit_at word k ≡ cond (eqb (get_or es (from + k) 0) 1) 1 0
+  pub unseen : (k : ℕ) → i ≤ from + k → bit_at word k ≡ 0
+
+pub bits_none : (es : List ℕ) (from : ℕ) → HasBits es from from 0
+bits_none es from = record { seen = λ k lt. absurd (omega arith); unseen = λ k le. bit_at-zero k }
+
+pub bits_set : (es : List ℕ) (from i word : ℕ) → from ≤ i → i < from + 64 → get_or es i 0 ≡ 1 → HasBits es from i word
+    → HasBits es from (i + 1) (bit_or word (1 * 2 ^ (i - from) % 18446744073709551616))
+bits_set es from i word low high one h = record {
+  seen = λ k lt. elim (cases_eq k (i - from)) [
+    | inl e ↦
+        let there : i ≡ from + k = omega arith in
+        ap (bit_at (bit_or word (1 * 2 ^ (i - from) % 18446744073709551616))) e ∙ bit_at_set_same w64 word (i - from) (omega arith)
+        ∙ ap (λ b. cond b 1 0) (sym (eq-eqb (get_or es (from + k) 0) 1 (ap (λ n. get_or es n 0) (sym there) ∙ one)))
+    | inr ne ↦ bit_at_set_other w64 word (i - from) (omega arith) k ne ∙ h.seen k (omega arith)
+  ];
+  unseen = λ k le. bit_at_set_other w64 word (i - from) (omega arith) k (λ e. absurd (omega arith)) ∙ h.unseen k (omega arith);
+}
+
+pub bits_kept : (es : List ℕ) (from i word : ℕ) → from ≤ i → get_or es i 0 ≢ 1 → HasBits es from i word → HasBits es from (i + 1) word
+bits_kept es from i word low other h = record {
+  seen = λ k lt. elim (cases_eq (from + k) i) [
+    | inl e ↦ h.unseen k (omega arith) ∙ ap (λ b. cond b 1 0) (sym (ne_eqb (get_or es (from + k) 0) 1 (λ q. other (ap (λ n. get_or es n 0) (sym e) ∙ q))))
+    | inr ne ↦ h.seen k (omega arith)
+  ];
+  unseen = λ k le. h.unseen k (omega arith);
+}
+
+-- past the last entry there is none that is not decided
+past_last : (es : List ℕ) (i bit : ℕ) → length es ≤ i → bit ≡ 0 → bit ≡ cond (eqb (get_or es i 0) 1) 1 0
+past_last es i bit le unset = unset ∙ ap (λ e. cond (eqb e 1) 1 0) (sym (get_or_past es i 0 le))
+
+pub bits_all : (es : List ℕ) (from i word k : ℕ) → (i ≡ from + 64) ⊎ (length es ≤ i) → k < 64 → HasBits es from i word → bit_at word k ≡ cond (eqb (get_or es (from + k) 0) 1) 1 0
+bits_all es from i word k end lt h = elim (cases_lt (from + k) i) [
+  | inl before ↦ h.seen k before
+  | inr after ↦ past_last es (from + k) (bit_at word k) (elim end [ inl e ↦ absurd (omega arith) | inr le ↦ omega arith ]) (h.unseen k after)
+]

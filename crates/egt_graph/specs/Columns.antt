@@ -1,7 +1,7 @@
 -- What the columns of a run hold: functions of the game, the round and the nodes whose moves were taken back, whatever
 -- the order in which that was done.
 use Rattle.std.specs.Prelude.{◌≡◌, ℕ, zero, suc, ◌+◌, ◌*◌, ◌/◌, Bool, true, false, not, ◌&&◌, ◌||◌, List, [], ◌∷◌, length, slice_index, slice_index_or, count_by, take, ◌==◌, nat_lt, nat_le, if◌then◌else◌}
-use Rattle.std.specs.List.{list_any}
+use Rattle.std.specs.List.{list_any, flat_map}
 use Rattle.egt_graph.specs.Graph.{Graph}
 use Rattle.egt_graph.specs.Value.{is_empty, is_lost_before, is_won_before, mated_within, mates_within, mated_before, mates_before}
 use Rattle.egt_graph.specs.Frontier.{is_node, is_entry_of_round}
@@ -14,6 +14,10 @@ outs g i = if is_node g i then g.out i else []
 
 abbrev pub ins : Graph → ℕ → List ℕ
 ins g j = if is_node g j then g.into j else []
+
+-- the moves into each of some nodes, one after the other
+abbrev pub into_all : Graph → List ℕ → List ℕ
+into_all g nodes = flat_map (ins g) nodes
 
 abbrev pub leaves : Graph → ℕ → List Exit
 leaves g i = if is_node g i then g.exits i else []

@@ -1,13 +1,16 @@
 //! What a run begins with.
-ghost use Rattle.std.specs.Prelude.{◌≡◌, ℕ, ◌+◌, ◌<◌, ◌≤◌, length, count_by, [], ◌∷◌, OnOk, IfOk, IfSome, IfNone, if◌then◌else◌};
+ghost use Rattle.std.specs.Prelude.{◌≡◌, ℕ, ◌+◌, ◌*◌, ◌<◌, ◌≤◌, ◌==◌, length, slice_index, count_by, [], ◌∷◌, OnOk, IfOk, IfSome, IfNone, if◌then◌else◌};
+ghost use Rattle.std.specs.Int.{bit_at};
 ghost use Rattle.std.specs.List.{list_any};
 ghost use Rattle.egt_graph.specs.Columns.{outs, leaves, told_at, entry_at, is_loss, is_win_from, is_win_of, is_loss_of};
 ghost use Rattle.egt_graph.specs.Begin.{Adds, AreBegun};
 ghost use Rattle.egt_graph.specs.Graph.{IsStart};
+ghost use Rattle.egt_graph.specs.Undecided.{AreExactMarks};
 
 use crate::columns::DRAW;
 use crate::counts::UNTOLD;
 use crate::game::{Exit, Game, Start};
+use crate::scan::PART;
 use crate::schedule::Schedule;
 use crate::waiting::UNCOUNTED;
 use arrayvec::ArrayVec;
@@ -208,4 +211,30 @@ fn schedule_exit(
         Exit::Loss(plies) => lost_due.add(alloc, plies, node),
         Exit::Draw => Ok(()),
     }
+}
+
+/// The marks of the nodes that are not decided: bit `i % 64` of word `i / 64` is set where entry `i` is that of a draw, and no other bit.
+pub(crate) fn undecided(alloc: Global, entries: &[u16]) -> Result<Vec<u64>, AllocError>
+    ensures room { IfOk result (λ marks. length entries.now ≤ 64 * length marks.items) }
+    ensures marks { IfOk result (λ marks. AreExactMarks entries.now marks.items) }
+{
+    let mut marks = vec![in alloc; 0; entries.len().div_ceil(PART)]?;
+    for part in 0..marks.len() {
+        marks[part] = undecided_in_part(entries, part * PART);
+    }
+    Ok(marks)
+}
+
+/// The marks of the entries from `from` on, of which there are 64, or fewer at the end.
+fn undecided_in_part(entries: &[u16], from: usize) -> u64
+    requires { from ≤ length entries.now }
+    ensures { (k : ℕ) → k < 64 → bit_at result k ≡ (if slice_index entries.now (from + k) == 1 then 1 else 0) }
+{
+    let mut marks = 0;
+    for i in from..entries.len().min(from + PART) {
+        if entries[i] == DRAW {
+            marks |= 1 << (i - from);
+        }
+    }
+    marks
 }

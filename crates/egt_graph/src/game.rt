@@ -1,5 +1,7 @@
 //! A finite game: nodes, the moves between them, and the moves that leave it.
-ghost use Rattle.std.specs.Prelude.{◌≡◌, ◌+◌, ◌*◌, ◌<◌, ◌≤◌, length, [], true, IfSome, IfNone, IsFalse};
+ghost use Rattle.std.specs.Prelude.{◌≡◌, ◌+◌, ◌*◌, ◌<◌, ◌≤◌, ◌++◌, length, [], true, All, IfSome, IfNone, IsFalse};
+ghost use Rattle.std.specs.List.Sorted.{IsStrictlyIncreasing};
+ghost use Rattle.arrayvec.specs.ArrayVec.{array_vec_len};
 ghost use Rattle.egt_graph.specs.Graph.{Graph, IsNode, IsGame, IsStart};
 ghost use Rattle.egt_graph.specs.Undecided.{AreMarkedInto};
 
@@ -111,16 +113,34 @@ pub trait Game {
         *list = self.into(j);
     }
 
-    /// Fills the list, in the place of what it had, with nodes from which a move leads to `j`, in any order: with all that are marked,
-    /// and perhaps with others. The mark of node `i` is bit `i % 64` of word `i / 64`.
-    fn list_marked_into(&self, j: u32, marks: &[u64], list: &mut ArrayVec<u32, 128>)
-        requires node { IsNode (graph self.now) j }
+    /// Fills the list, in the place of what it had, with nodes from which a move leads to one of these, in any order and perhaps more
+    /// than once: with all that are marked, and perhaps with others. The mark of node `i` is bit `i % 64` of word `i / 64`. There is
+    /// room for all moves into as many nodes as are asked of at once.
+    fn list_marked_into(&self, nodes: &[u32], marks: &[u64], list: &mut ArrayVec<u32, 8192>)
+        requires nodes { All (IsNode (graph self.now)) nodes.now }
+        requires ascending { IsStrictlyIncreasing nodes.now }
+        requires few { length nodes.now ≤ 64 }
         requires room { (graph self.now).size ≤ 64 * length marks.now }
-        ensures { AreMarkedInto (graph self.now) j marks.now list.new.items }
+        ensures { AreMarkedInto (graph self.now) nodes.now marks.now list.new.items }
     {
         let _words = marks.len();
-        self.list_into(j, list);
+        let mut sources = ArrayVec::new();
+        list.clear();
+        for node in nodes {
+            self.list_into(*node, &mut sources);
+            append(list, sources.as_slice());
+        }
     }
 
     ghost lawful: { (game : Self) → IsGame (graph game) };
+}
+
+/// Adds the sources of one node to a list that has room for them.
+fn append(list: &mut ArrayVec<u32, 8192>, sources: &[u32])
+    requires { array_vec_len list.old + length sources.now ≤ 8192 }
+    ensures { list.new.items ≡ list.old.items ++ sources.now }
+{
+    for source in sources {
+        list.push(*source);
+    }
 }

@@ -10,12 +10,13 @@ ghost use Rattle.egt_graph.specs.declared.answer.Phase.TheVariants.{Running, Fin
 
 use crate::answer::{Close, Phase, Post};
 use crate::batch::Batch;
-use crate::begin::{Columns, begin};
+use crate::begin::{Columns, begin, undecided};
 use crate::game::Game;
 use crate::ranks::Ranks;
 use crate::scan::{BLOCK, PART, block_nodes, is_block_front};
 use crate::schedule::Schedule;
 use crate::step::{all_set, clear, fall_due, take_block, take_in, turn_over};
+use arrayvec::ArrayVec;
 use std::alloc::{AllocError, Global};
 use std::marker::Model;
 
@@ -103,7 +104,7 @@ impl<'g, G: Game> Rounds<'g, G> {
         let parts = (game.size() as usize + (PART - 1)) / PART;
         let news = vec![in alloc; true; parts]?;
         let coming = vec![in alloc; false; parts]?;
-        let marks = vec![in alloc; u64::MAX; parts]?;
+        let marks = undecided(alloc, &entries)?;
         let rounds = Rounds {
             game,
             limit,
@@ -209,8 +210,14 @@ impl<'g, G: Game> Rounds<'g, G> {
         Post::Posted
     }
 
-    /// Expands a block and posts what it found, without a batch: of a lost node it asks for the undecided sources alone.
-    pub(crate) fn work(&mut self, alloc: Global, block: u32) -> Result<Post, AllocError>
+    /// Expands a block and posts what it found, without a batch: of lost nodes it asks for the undecided sources alone, which it
+    /// puts into the list that is lent.
+    pub(crate) fn work(
+        &mut self,
+        alloc: Global,
+        block: u32,
+        sources: &mut ArrayVec<u32, 8192>,
+    ) -> Result<Post, AllocError>
         requires running { self.old.state.phase ≡ Running }
         requires in_range { block < blocks_of (G.graph self.old.game).size }
         ensures same_game { self.new.game ≡ self.old.game }
@@ -232,6 +239,7 @@ impl<'g, G: Game> Rounds<'g, G> {
             block,
             &nodes,
             self.round,
+            sources,
         );
         Ok(Post::Posted)
     }

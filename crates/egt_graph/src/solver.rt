@@ -10,6 +10,7 @@ use crate::answer::Close;
 use crate::game::Game;
 use crate::ranks::Ranks;
 use crate::rounds::Rounds;
+use arrayvec::ArrayVec;
 use std::alloc::{AllocError, Global};
 
 /// Why a game was not solved.
@@ -109,8 +110,9 @@ fn post_all<G: Game>(alloc: Global, rounds: &mut Rounds<'_, G>) -> Result<(), Al
     ensures same_round { OnOk result (rounds.new.state ≡ record rounds.old.state { posted = rounds.new.state.posted }) }
     ensures posted { OnOk result (AllPosted rounds.new.state) }
 {
+    let mut sources = ArrayVec::new();
     for block in 0..rounds.blocks() {
-        rounds.work(alloc, block)?;
+        rounds.work(alloc, block, &mut sources)?;
     }
     Ok(())
 }

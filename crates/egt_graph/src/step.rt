@@ -1,9 +1,10 @@
 //! What a post and a close do to the columns.
-ghost use Rattle.std.specs.Prelude.{◌≡◌, ℕ, ◌+◌, ◌*◌, ◌<◌, ◌≤◌, true, false, List, length, slice_index, slice_index_or, slice_set, replicate, All, IsTrue, IsFalse, MatchBool};
+ghost use Rattle.std.specs.Prelude.{◌≡◌, ◌≢◌, ℕ, ◌+◌, ◌*◌, ◌<◌, ◌≤◌, true, false, List, length, slice_index, slice_index_or, slice_set, replicate, All, IsTrue, IsFalse, MatchBool};
 ghost use Rattle.std.specs.List.{Contains};
+ghost use Rattle.std.specs.List.Sorted.{IsStrictlyIncreasing};
 ghost use Rattle.egt_graph.specs.Graph.{IsAlike, IsNode};
 ghost use Rattle.egt_graph.specs.Frontier.{front};
-ghost use Rattle.egt_graph.specs.Columns.{told, Amid, Marks, TakesBack, count_of, done_of, is_open_at};
+ghost use Rattle.egt_graph.specs.Columns.{told, into_all, Amid, Marks, TakesBack, count_of, done_of, is_open_at};
 ghost use Rattle.egt_graph.specs.News.{Notes};
 ghost use Rattle.egt_graph.specs.Undecided.{AreMarked, IsMarked};
 
@@ -60,27 +61,29 @@ fn unmark(marks: &mut [u64], nodes: &[u32])
     }
 }
 
-/// A lost node's undecided sources win. The game is asked for the marked ones alone, since nothing becomes of the others.
+/// The undecided sources of lost nodes win. The game is asked for the marked ones alone, since nothing becomes of the others.
 fn mark_sources<G: Game>(
     game: &G,
     entries: &mut [u16],
     marks: &mut [u64],
     coming: &mut [bool],
-    node: u32,
+    nodes: &[u32],
     plies: u16,
-    sources: &mut ArrayVec<u32, 128>,
+    sources: &mut ArrayVec<u32, 8192>,
 )
-    requires node { IsNode (G.graph game.now) node }
+    requires are_nodes { All (IsNode (G.graph game.now)) nodes.now }
+    requires ascending { IsStrictlyIncreasing nodes.now }
+    requires few { length nodes.now ≤ 64 }
     requires short { plies ≤ 32001 }
     requires entries_long { length entries.old ≡ (G.graph game.now).size }
     requires room { length entries.old ≤ 64 * length coming.old }
     requires marks_room { length entries.old ≤ 64 * length marks.old }
     requires marked { AreMarked entries.old marks.old }
-    ensures marks { Marks entries.old ((G.graph game.now).into node) plies entries.new }
+    ensures marks { Marks entries.old (into_all (G.graph game.now) nodes.now) plies entries.new }
     ensures news { Notes plies entries.old coming.old → Notes plies entries.new coming.new }
     ensures marked { AreMarked entries.new marks.new }
 {
-    game.list_marked_into(node, marks, sources);
+    game.list_marked_into(nodes, marks, sources);
     mark_wins(entries, coming, sources.as_slice(), plies);
     unmark(marks, sources.as_slice());
 }
@@ -108,7 +111,31 @@ fn take_sources<G: Game>(
     take_back(game, entries, waits, coming, sources.as_slice(), plies);
 }
 
-/// The same for a whole block, of which the game is asked for the moves into each node.
+/// The most lost nodes of which the game is asked at once.
+const RUN: usize = 64;
+
+/// Where a run of lost nodes ends that begins at `from`: before the next won node, or when it is full.
+fn run_end(entries: &[u16], nodes: &[u32], from: usize, round: u16) -> usize
+    requires short { round ≤ 32000 }
+    requires within { All (λ i. i < length entries.now) nodes.now }
+    requires in_list { from < length nodes.now }
+    requires lost { slice_index entries.now (slice_index nodes.now from) ≢ 2 + 2 * round }
+    ensures some { from < result }
+    ensures in_list { result ≤ length nodes.now }
+    ensures few { result ≤ from + 64 }
+    ensures lost { (k : ℕ) → from ≤ k → k < result → slice_index entries.now (slice_index nodes.now k) ≢ 2 + 2 * round }
+{
+    let end = nodes.len().min(from + RUN);
+    for k in from + 1..end {
+        if entries[nodes[k] as usize] == 2 + 2 * round {
+            return k;
+        }
+    }
+    end
+}
+
+/// The same for a whole block, of which the game is asked for the moves into each won node, and into lost nodes by the run.
+/// The list is lent, since to make it takes as long as to write all of it; what it had is lost.
 pub(crate) fn take_block<G: Game>(
     game: &G,
     entries: &mut [u16],
@@ -119,6 +146,7 @@ pub(crate) fn take_block<G: Game>(
     block: u32,
     nodes: &[u32],
     round: u16,
+    run_sources: &mut ArrayVec<u32, 8192>,
 )
     requires short { round ≤ 32000 }
     requires whole { nodes.now ≡ front (G.graph game.now) round block }
@@ -137,12 +165,24 @@ pub(crate) fn take_block<G: Game>(
     ensures marked { AreMarked entries.new marks.new }
 {
     let mut sources = ArrayVec::new();
-    for k in 0..nodes.len() {
+    let mut k = 0;
+    while k < nodes.len() {
         let node = nodes[k];
         if entries[node as usize] == 2 + 2 * round {
             take_sources(game, entries, waits, coming, node, round + 1, &mut sources);
+            k += 1;
         } else {
-            mark_sources(game, entries, marks, coming, node, round + 1, &mut sources);
+            let end = run_end(entries, nodes, k, round);
+            mark_sources(
+                game,
+                entries,
+                marks,
+                coming,
+                &nodes[k..end],
+                round + 1,
+                run_sources,
+            );
+            k = end;
         }
     }
     posted[block as usize] = true;

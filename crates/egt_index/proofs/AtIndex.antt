@@ -1,5 +1,5 @@
 -- What the digits of an index say: a settled position that has it.
-use Rattle.std.proofs.Common.{◌≡◌, ℕ, ◌<◌, Bool, List, true, false, Option, Some, None, IfSome, refl, sym, subst, inl, inr}
+use Rattle.std.proofs.Common.{◌≡◌, ℕ, ◌/◌, ◌<◌, Bool, List, true, false, Option, Some, None, IfSome, refl, sym, subst, inl, inr}
 use Rattle.egt_board.specs.declared.man.Side.{Side}
 use Rattle.egt_board.specs.declared.man.Side.TheVariants.{White, Black}
 use Rattle.egt_board.specs.declared.man.Man.{Man}
@@ -13,6 +13,7 @@ use Rattle.egt_index.specs.Code.{Spells}
 use Rattle.egt_index.specs.Facts.{Facts}
 use Rattle.egt_index.specs.Frame.{IsFrame}
 use Rattle.egt_index.specs.Index.{IsIndex, IsVoid}
+use Rattle.egt_index.specs.Scales.{ends_of}
 use Rattle.egt_index.specs.Spelled.{Ends, HasPawns, IsListed, IsTold, SpellsMen}
 use Rattle.egt_index.specs.Stood.{HasStand, list_of}
 use Rattle.egt_index.specs.declared.frame.Frame.{Frame}
@@ -60,9 +61,17 @@ target_exists true side list pawns = of_side side
 
 -- the frame of the men is that of whatever position the code spells
 pub framed_at : (c code : ℕ) (stand : Stand) (side : Side) (passed : Bool) (target : Option ℕ) (frame : Frame) → IsAtIndex c code stand side passed target
+    → frame.stand ≡ stand → SpellsMen (material_of c) (code / ends_of (material_of c)) (list_of stand)
     → ((p : Setup) (passed : Bool) → HasStand c false stand side passed p → IsFrame p frame) → (p : Setup) → Spells c code p → IsFramedAt c code p frame passed
-framed_at c code stand side passed target frame at frames p spells =
+framed_at c code stand side passed target frame at same men frames p spells =
     subst (λ p. IsFramedAt c code p frame passed) (spells_once c code (setup_of (list_of stand) side target) p at.spells spells) here
   where
     here : IsFramedAt c code (setup_of (list_of stand) side target) frame passed
-    here = record { spells = at.spells; settled = at.settled; index = at.is; framed = frames _ passed at.stands; target = at.stands.target_is }
+    here = record {
+      spells = at.spells;
+      settled = at.settled;
+      index = at.is;
+      framed = frames _ passed at.stands;
+      target = at.stands.target_is;
+      men = subst (λ (s : Stand). SpellsMen (material_of c) (code / ends_of (material_of c)) (list_of s)) (sym same) men;
+    }

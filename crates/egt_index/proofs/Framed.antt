@@ -1,12 +1,12 @@
 -- What a frame tells of its position in the class's colours.
-use Rattle.std.proofs.Common.{◌≡◌, ◌≢◌, ℕ, ◌<◌, Bool, true, false, Option, Some, None, IfSome, refl, sym, ◌∙◌, subst}
+use Rattle.std.proofs.Common.{◌≡◌, ℕ, ◌<◌, Bool, false, Option, Some, None, IfSome, refl, sym, ◌∙◌, subst, inl, inr}
 use Rattle.egt_board.specs.declared.man.Side.{Side}
 use Rattle.egt_board.specs.Man.{other_side}
 use Rattle.egt_board.specs.Setup.{Setup}
 use Rattle.egt_class.specs.Material.{material_of}
 use Rattle.egt_index.specs.Code.{king_square}
 use Rattle.egt_index.specs.Facts.{Facts}
-use Rattle.egt_index.specs.Frame.{IsFrame}
+use Rattle.egt_index.specs.Frame.{IsFrame, IsOwnAfter}
 use Rattle.egt_index.specs.Home.{AreHome, IsAtHome}
 use Rattle.egt_index.specs.Size.{king_base, has_pawns}
 use Rattle.egt_index.specs.Steps.{AddsUp, IsLeastOwn}
@@ -30,19 +30,16 @@ module _ (facts : Facts) (p : Setup) (from : ℕ) (frame : Frame) (c_in : frame.
     goes = λ to q moved. (_, went_own facts p q from to frame side c_in is moved side_is);
   }
 
-  -- where no other colours have a code
-  pub least_alone : frame.equal ≡ false → IsLeastOwn frame.class p from
-  least_alone unequal to q code moved least = subst (Best frame.class q 16) (unlessened code)
+  -- where no other colours have a code, or the kings tell, and stay
+  pub least_own : IsOwnAfter frame from → IsLeastOwn frame.class p from
+  least_own (inl unequal) to q code moved least = subst (Best frame.class q 16) (unlessened code)
       (best_of_colours frame.class q false code None least
       (none_exchanged facts frame.class false q c_in moved.admissible (moved.class false is.stand.is_of) (sym is.equal ∙ unequal)))
     where
       unlessened : (o : Option ℕ) → lesser o None ≡ o
       unlessened None = refl
       unlessened (Some n) = refl
-
-  -- where the kings tell, and stay
-  pub least_by_kings : frame.own ≡ true → frame.stand.white ≢ from → frame.stand.black ≢ from → IsLeastOwn frame.class p from
-  least_by_kings own white black to q code moved least =
+  least_own (inr (own, white, black)) to q code moved least =
       let went = went_own facts p q from to frame (other_side frame.side) c_in is moved refl in
       is.own own (after_of from to frame.stand) (other_side frame.side) false q code (stayed from to frame.stand.white white) (stayed from to frame.stand.black black) went.stand least
 

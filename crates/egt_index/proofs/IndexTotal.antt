@@ -19,7 +19,6 @@ use Rattle.egt_index.specs.Code.{Spells, king_square, men_at, placed, square_by_
 use Rattle.egt_index.specs.Digits.{AreDigits, number_from, number_of}
 use Rattle.egt_index.specs.Facts.{Facts}
 use Rattle.egt_index.specs.Index.{IsIndex, IsVoid}
-use Rattle.egt_index.specs.Others.{AreOthers}
 use Rattle.egt_index.specs.Scales.{AreEqual, IsOn, code_by, ends_of, kind_digits, kind_less}
 use Rattle.egt_index.specs.Size.{base_by, base_of, has_pawns, has_target, king_base, men_bases, men_beside, size_of}
 use Rattle.egt_index.specs.Spelled.{SpellsMen}
@@ -35,11 +34,11 @@ use Rattle.egt_index.proofs.Rows.{list_in_row, stand_in_row}
 use Rattle.egt_index.proofs.Scaled.{code_told, entry_number, number_on, with_ends}
 use Rattle.egt_index.proofs.Swapping.{beaten_behind}
 
-abbrev NoKings : List Man → Type 0
+abbrev pub NoKings : List Man → Type 0
 NoKings [] = Unit {0}
 NoKings (man ∷ men) = (man.kind ≢ K) × NoKings men
 
-one_digit : (pawns : Bool) (side : Side) (kind : Kind) (d : ℕ) → kind ≢ K → (base_by pawns side kind ≡ kind_digits kind) × (square_by_digit pawns side kind d - kind_less kind ≡ d)
+pub one_digit : (pawns : Bool) (side : Side) (kind : Kind) (d : ℕ) → kind ≢ K → (base_by pawns side kind ≡ kind_digits kind) × (square_by_digit pawns side kind d - kind_less kind ≡ d)
 one_digit pawns White K d not = absurd (not refl)
 one_digit pawns Black K d not = absurd (not refl)
 one_digit pawns White P d not = (refl, omega arith)
@@ -80,6 +79,15 @@ no_kings men None (Some d) one other = (other.1, tt)
 no_kings men (Some e) None one other = (one.1, tt)
 no_kings men (Some e) (Some d) one other = (one.1, (other.1, tt))
 
+-- no man of a class beside the kings is one
+pub none_beside : (c : ℕ) (s : Stand) (side : Side) (passed : Bool) (p : Setup) → HasStand c false s side passed p → NoKings (men_beside (material_of c))
+none_beside c s side passed p has =
+    let beside = others_stood c s side passed p has in
+    subst NoKings (tails has.stood.are) (no_kings p.men s.next s.last beside.one beside.other)
+  where
+    tails : {a b : Man} {x y : List Man} → a ∷ b ∷ x ≡ a ∷ b ∷ y → x ≡ y
+    tails e = cc
+
 -- the digits of the men, told by their squares
 record Told (m : Material) (n : ℕ) (s : Stand) : Type 0 where
   digit : ℕ
@@ -119,7 +127,7 @@ ends_apart : (has : Bool) (n side : ℕ) → n * cond has 4 2 + side * (cond has
 ends_apart true n side = omega arith
 ends_apart false n side = omega arith
 
-ends_less : (has : Bool) (i : ℕ) → i / cond has 4 2 * cond has 4 2 ≤ i
+pub ends_less : (has : Bool) (i : ℕ) → i / cond has 4 2 * cond has 4 2 ≤ i
 ends_less true i = omega arith
 ends_less false i = omega arith
 
@@ -130,7 +138,7 @@ all_few : all_below is_few 36 ≡ true
 unfolding all_below is_few size_of material_of materials
 all_few = refl
 
-few : (c : ℕ) → c < 36 → size_of c < 268435456
+pub few : (c : ℕ) → c < 36 → size_of c < 268435456
 unfolding is_few
 few c c_in = ltb-true (size_of c) 268435456 (passes_below is_few 36 c all_few c_in)
 
@@ -211,14 +219,8 @@ total_at facts c index s c_in some men = record {
     at : SpellsAt c index s p
     at = list_in_row c (index / ends_of m) index s p refl men found.1
 
-    beside : AreOthers p.men s.next s.last
-    beside = others_stood c s p.side (is_some p.target) p has
-
-    tails : {a b : Man} {x y : List Man} → a ∷ b ∷ x ≡ a ∷ b ∷ y → x ≡ y
-    tails e = cc
-
     is : Told m (index / ends_of m) s
-    is = told m (index / ends_of m) s men (subst NoKings (tails has.stood.are) (no_kings p.men s.next s.last beside.one beside.other))
+    is = told m (index / ends_of m) s men (none_beside c s p.side (is_some p.target) p has)
 
     order : IsInOrder s.next s.last
     order = not_behind s.next s.last (λ behind. no_index facts c index p has.admissible settled (0, (omega arith), beaten_behind c index s p has.admissible has.stood.all behind has.stood.are has.is_of at) found.2)

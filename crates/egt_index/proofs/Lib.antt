@@ -48,3 +48,7 @@ pub mod IndexTotal
 pub mod Framed
 pub mod Rows
 pub mod Touching
+pub mod Summed
+pub mod KingHome
+pub mod Shelved
+pub mod Shifted

@@ -363,14 +363,25 @@ comes_home c to flips q after side squares homing has filled white black next la
 }
 
 -- the king went, and the others stand where they stood
-pub king_went : (c to : ℕ) (flips : Bool) (p q : Setup) (before : Stand) (side : Side) (squares : Squares) (homing : Homing) → IsSeen c flips p before before.white side → IsMoved c p before.white to q
-    → squares.black ≡ before.black → IsOn before.next squares.next → IsOn before.last squares.last → IsHoming c squares (turned_side flips side) flips homing → ComesHome c flips homing to q
-king_went c to flips p q before side squares homing seen moved black next last is =
-    comes_home c to flips q after side squares homing gone.stand (λ none. last_kept ∙ seen.filled (sym next_kept ∙ none))
-    (gone.moved.white ∙ went before.white to before.white refl)
-    (gone.moved.black ∙ stayed before.white to before.black seen.apart.0.0 ∙ sym black)
-    (subst (λ (e : Entry). IsOn e squares.next) (sym next_kept) next)
-    (subst (λ (e : Entry). IsOn e squares.last) (sym last_kept) last) is
+pub record KingGone (c : ℕ) (flips : Bool) (before : Stand) (to : ℕ) (side : Side) (q : Setup) : Type 0 where
+  pub after : Stand
+  pub stand : HasStand c flips after side false q
+  pub filled : IsFilled after
+  pub white : after.white ≡ to
+  pub black : after.black ≡ before.black
+  pub next : after.next ≡ before.next
+  pub last : after.last ≡ before.last
+
+pub king_gone : (c to : ℕ) (flips : Bool) (p q : Setup) (before : Stand) (side : Side) → IsSeen c flips p before before.white side → IsMoved c p before.white to q → KingGone c flips before to side q
+king_gone c to flips p q before side seen moved = record {
+  after = after;
+  stand = gone.stand;
+  filled = λ none. last_kept ∙ seen.filled (sym next_kept ∙ none);
+  white = gone.moved.white ∙ went before.white to before.white refl;
+  black = gone.moved.black ∙ stayed before.white to before.black seen.apart.0.0;
+  next = next_kept;
+  last = last_kept;
+}
   where
     after : Stand
     after = (seen.goes to q moved).0
@@ -386,6 +397,14 @@ king_went c to flips p q before side squares homing seen moved black next last i
 
     last_kept : after.last ≡ before.last
     last_kept = gone.moved.last ∙ entry_off before.white to before.last offs.1
+
+pub king_went : (c to : ℕ) (flips : Bool) (p q : Setup) (before : Stand) (side : Side) (squares : Squares) (homing : Homing) → IsSeen c flips p before before.white side → IsMoved c p before.white to q
+    → squares.black ≡ before.black → IsOn before.next squares.next → IsOn before.last squares.last → IsHoming c squares (turned_side flips side) flips homing → ComesHome c flips homing to q
+king_went c to flips p q before side squares homing seen moved black next last is =
+    let gone = king_gone c to flips p q before side seen moved in
+    comes_home c to flips q gone.after side squares homing gone.stand gone.filled gone.white (gone.black ∙ sym black)
+    (subst (λ (e : Entry). IsOn e squares.next) (sym gone.next) next)
+    (subst (λ (e : Entry). IsOn e squares.last) (sym gone.last) last) is
 
 -- where a turn takes the men
 abbrev pub lane : ℕ → Stand → Stand

@@ -73,8 +73,17 @@ ends_with false code =
     let side = side_of (code % 2) (omega arith) in
     let s = side.1 in (side.0, false, record { is = omega arith; never = λ e. refl })
 
-ends_there : (m : Material) (code : ℕ) → (side : Side) × (passed : Bool) × Ends m code (code / ends_of m) side passed
+pub ends_there : (m : Material) (code : ℕ) → (side : Side) × (passed : Bool) × Ends m code (code / ends_of m) side passed
 ends_there m code = let ends = ends_with (has_target m) code in (ends.0, ends.1, record { number_is = ends.2.is; never = ends.2.never })
+
+-- codes with one remainder have the same ends
+pub ends_alike : (m : Material) (code other : ℕ) (side : Side) (passed : Bool) → Ends m code (code / ends_of m) side passed → code % ends_of m ≡ other % ends_of m → Ends m other (other / ends_of m) side passed
+ends_alike m code other side passed ends same = record { number_is = of_test (has_target m) (side_number side) (cond passed 1 0) ends.number_is same; never = ends.never }
+  where
+    of_test : (targets : Bool) (s f : ℕ) → code ≡ number_from (code / cond targets 4 2) (2 ∷ cond targets (2 ∷ []) []) (s ∷ cond targets (f ∷ []) []) → code % cond {A = ℕ} targets 4 2 ≡ other % cond {A = ℕ} targets 4 2
+        → other ≡ number_from (other / cond targets 4 2) (2 ∷ cond targets (2 ∷ []) []) (s ∷ cond targets (f ∷ []) [])
+    of_test true s f is same = omega arith
+    of_test false s f is same = omega arith
 
 -- where what stands before the ends spells no men, no code of the row is an index
 pub void_without_men : (c code high : ℕ) (side : Side) (passed : Bool) → Ends (material_of c) code high side passed → SpellsNoMen (material_of c) high → IsVoidRow c (code / row_len c)

@@ -1,5 +1,5 @@
 -- Positions that differ by the square of one man.
-use Rattle.std.specs.Prelude.{◌≡◌, ℕ, ◌<◌, Bool, true, false, None}
+use Rattle.std.specs.Prelude.{◌≡◌, ◌≢◌, ℕ, ◌<◌, ◌⊎◌, Bool, true, false, None}
 use Rattle.std.specs.FinMap as map
 use Rattle.egt_board.specs.declared.man.Man.{Man}
 use Rattle.egt_board.specs.Man.{other_side}
@@ -40,3 +40,11 @@ pub record IsFrame (p : Setup) (frame : Frame) : Type 0 where
   pub equal : frame.equal ≡ has_equal_sides frame.class
   pub own : frame.own ≡ true → KingsTell frame.class frame.stand.white frame.stand.black
   pub total : IsTotal frame.class frame.stand frame.total
+
+-- once the man on the square went, the least code is in the class's colours: the sides differ, or the kings tell and he is none of them
+abbrev pub IsOwnAfter : Frame → ℕ → Type 0
+IsOwnAfter frame from = (frame.equal ≡ false) ⊎ ((frame.own ≡ true) × (frame.stand.white ≢ from) × (frame.stand.black ≢ from))
+
+-- and in these colours of the turn that changes nothing, if he is not the white king
+abbrev pub IsFirstAfter : Frame → ℕ → Type 0
+IsFirstAfter frame from = (frame.alone ≡ true) ⊎ ((frame.first ≡ true) × (frame.stand.black ≢ from))

@@ -1,15 +1,17 @@
 -- The codes after one man of a class went, by the square to which he went.
-use Rattle.std.specs.Prelude.{◌≡◌, ◌≢◌, ℕ, ◌+◌, ◌<◌, ◌≤◌, ◌/◌, ◌%◌, ◌==◌, min, max, Bool, if◌then◌else◌, Some, None, true, false}
+use Rattle.std.specs.Prelude.{◌≡◌, ◌≢◌, ℕ, ◌+◌, ◌*◌, ◌<◌, ◌≤◌, ◌/◌, ◌%◌, ◌==◌, min, max, Bool, if◌then◌else◌, Option, Some, None, IfSome, true, false}
 use Rattle.std.specs.Option.{option_to_list}
 use Rattle.egt_board.specs.Setup.{Setup}
 use Rattle.egt_board.specs.Turned.{turned_square, turned_side}
 use Rattle.egt_board.specs.declared.man.Side.{Side}
 use Rattle.egt_class.specs.Material.{material_of}
 use Rattle.egt_index.specs.Frame.{IsMoved}
-use Rattle.egt_index.specs.Home.{LeastWith}
+use Rattle.egt_index.specs.Code.{king_square}
+use Rattle.egt_index.specs.Home.{AreHome, LeastWith}
+use Rattle.egt_index.specs.Nearer.{TakesAway}
 use Rattle.egt_index.specs.Went.{IsWent}
 use Rattle.egt_index.specs.Scales.{share, code_by, man_at, AreScales, ScalesFit, IsOn, AreEqual}
-use Rattle.egt_index.specs.Size.{has_pawns, men_in_order}
+use Rattle.egt_index.specs.Size.{has_pawns, king_base, men_in_order}
 use Rattle.egt_index.specs.Stood.{Entry, HasStand, IsFilled, IsOff, AllApart, list_of, men_among}
 use Rattle.egt_index.specs.declared.scales.Scale.{Scale}
 use Rattle.egt_index.specs.declared.scales.Scales.{Scales}
@@ -17,6 +19,7 @@ use Rattle.egt_index.specs.declared.scales.TheConstants.{NOBODY}
 use Rattle.egt_index.specs.declared.scales.Squares.{Squares}
 use Rattle.egt_index.specs.declared.stand.Stand.{Stand}
 use Rattle.egt_index.specs.declared.ways.Homing.{Homing}
+use Rattle.egt_index.specs.declared.ways.KingScale.{KingScale}
 use Rattle.egt_index.specs.declared.ways.KingWay.{KingWay}
 use Rattle.egt_index.specs.declared.ways.Line.{Line}
 use Rattle.egt_index.specs.declared.ways.Mover.{Mover}
@@ -84,6 +87,16 @@ pub record IsHoming (c : ℕ) (squares : Squares) (side : Side) (flips : Bool) (
   pub flips_is : homing.flips ≡ flips
   pub scales : (stand : Stand) → men_among (list_of stand) ≡ men_in_order (material_of c) → IsFilled stand → AreScales (material_of c) (man_at stand.next) (man_at stand.last) side homing.scales
   pub paired : (stand : Stand) → men_among (list_of stand) ≡ men_in_order (material_of c) → IsFilled stand → IsPaired stand homing.pair
+
+-- the white king adds so much on the square, where he is at home, and the turn that changes nothing makes the least code
+pub record KingAdds (king : KingScale) (to n : ℕ) : Type 0 where
+  pub digit : ℕ
+  pub below : digit < king_base king.pawns
+  pub is : king_square king.pawns digit ≡ to
+  pub second : Option ℕ
+  pub home : AreHome king.pawns false to 0 second
+  pub greater : IfSome second (TakesAway to king.black)
+  pub adds : n ≡ digit * king.stride
 
 -- no turn that brings him home exchanges colours, and that is what the others add where they stand
 pub record KingWayFits (way : KingWay) : Type 0 where

@@ -1,13 +1,13 @@
 //! Indexes of positions that differ from one position by the square of a man.
-ghost use Rattle.std.specs.Prelude.{◌⊎◌, ◌≡◌, ◌≢◌, Bool, true, false, IfSome};
+ghost use Rattle.std.specs.Prelude.{◌≡◌, ◌≢◌, Bool, true, false, IfSome};
 ghost use Rattle.egt_board.specs.Setup.{Setup};
 ghost use Rattle.egt_board.specs.declared.man.Man.{Man};
 ghost use Rattle.egt_board.specs.Placement.{Stands};
 ghost use Rattle.egt_class.specs.Material.{material_of};
-ghost use Rattle.egt_index.specs.Frame.{IsFrame};
+ghost use Rattle.egt_index.specs.Frame.{IsFrame, IsFirstAfter, IsOwnAfter};
 ghost use Rattle.egt_index.specs.Home.{IsAtHome};
 ghost use Rattle.egt_index.specs.Size.{has_pawns};
-ghost use Rattle.egt_index.specs.Steps.{AddsUp, AreSteps, IsLeastOwn};
+ghost use Rattle.egt_index.specs.Steps.{AddsUp, AreSteps};
 ghost use Rattle.egt_index.specs.Stood.{HasStand, IsFilled};
 ghost use Rattle.egt_index.specs.Total.{IsTotal};
 ghost use Rattle.egt_index.specs.Ways.{SumFits, WayFits, Leads, LeadsBy};
@@ -93,8 +93,8 @@ impl Frame {
     /// Whether the least code is in the class's colours wherever the man on the square went. A king who goes may come to lesser squares in
     /// the others.
     #[inline(always)]
-    fn is_own_after(&self, from: Square) -> bool
-        ensures own { result ≡ true → (p : Setup) → IsFrame p self.now → IsLeastOwn self.now.class p from }
+    pub(crate) fn is_own_after(&self, from: Square) -> bool
+        ensures own { result ≡ true → IsOwnAfter self.now from }
         ensures equal { result ≡ false → self.now.equal ≡ true }
     {
         facts();
@@ -110,8 +110,8 @@ impl Frame {
 
     /// Whether, once the man on the square went, not the white king, the least code in these colours is of the turn that changes nothing.
     #[inline(always)]
-    fn is_first_after(&self, from: Square) -> bool
-        ensures { result ≡ true → (self.now.alone ≡ true) ⊎ ((self.now.first ≡ true) × (self.now.stand.black ≢ from)) }
+    pub(crate) fn is_first_after(&self, from: Square) -> bool
+        ensures { result ≡ true → IsFirstAfter self.now from }
     {
         self.alone || (self.first && self.stand.black != from)
     }
@@ -166,6 +166,7 @@ impl Frame {
         requires home { IsAtHome (has_pawns (material_of class)) stand.now.white }
         ensures frame { IsTotal class stand.now total → (p : Setup) (passed : Bool) → HasStand class false stand.now side passed p → IsFrame p result }
         ensures class { result.class ≡ class }
+        ensures stand { result.stand ≡ stand.now }
     {
         let _number = class.number();
         let still = still_home(has_pawns(class), stand.white);

@@ -25,6 +25,7 @@ use crate::facts::facts;
 use crate::frame::Frame;
 use crate::men::{beside, has_pawns, has_target};
 use crate::stand::Stand;
+use crate::total::without_ends;
 use egt_board::{Board, Kind, Man, Position, Side, Square};
 use egt_class::Class;
 
@@ -289,18 +290,6 @@ pub fn indexed(class: Class, index: u32) -> (Position, Frame)
     (position, frame)
 }
 
-/// The code with digits of 0 for the side to move and the target: what all men add to it, if it is an index.
-#[inline(always)]
-fn without_ends(class: Class, code: u32) -> u32
-    ensures { result ≡ code / ends_of (material_of class) * ends_of (material_of class) }
-{
-    if has_target(class) {
-        code / 4 * 4
-    } else {
-        code / 2 * 2
-    }
-}
-
 /// The frame of the settled position whose index this is, and whether that has a target, where the caller knows that there is one. No
 /// board is made.
 #[inline(always)]
@@ -313,6 +302,6 @@ pub fn frame_at(class: Class, index: u32) -> (Frame, bool)
     facts();
     let _number = class.number();
     let (stand, side, passed) = stand_at(class, index);
-    let total = without_ends(class, index);
+    let total = without_ends(has_target(class), index);
     (Frame::with_total(class, &stand, side, total), passed)
 }

@@ -3,12 +3,17 @@ ghost use Rattle.std.specs.Prelude.{◌≡◌, ℕ, ◌/◌};
 ghost use Rattle.egt_index.specs.Frame.{IsFrame};
 ghost use Rattle.egt_index.specs.Index.{IsVoid};
 ghost use Rattle.egt_index.specs.Row.{row_len, IsRow};
+ghost use Rattle.egt_index.specs.Shelf.{AreAlike, IsShift};
 ghost use Rattle.egt_index.specs.Steps.{WaysFit};
 
 use crate::facts::facts;
-use crate::{Frame, Row, Steps, frame_at, index, indexed, position, position_of, row_of, size};
+use crate::men::has_equal_sides;
+use crate::{
+    Frame, Row, Shift, Steps, frame_at, has_target, index, indexed, position, position_of, row_of,
+    shelf_end, size,
+};
 use arrayvec::ArrayVec;
-use egt_board::{Man, Position, Square};
+use egt_board::{Man, Position, Side, Square};
 use egt_class::{Class, of};
 use std::test::Fail;
 
@@ -133,6 +138,117 @@ fn count_of_indexed(class: Class, code: u32) -> Result<u32, Fail> {
         }
         None => Ok(0),
     }
+}
+
+/// How many steps of the man lead from the position, whose index is so far above the first, where the shift tells by that one.
+fn count_of_alike(
+    shift: &Shift,
+    first: u32,
+    above: u32,
+    position: &Position,
+    from: Square,
+) -> Result<u32, Fail>
+    requires { (c i from : ℕ) × IsShift c i from shift.now × AreAlike c i first × ¬ IsVoid c first }
+{
+    let mut count: u32 = 0;
+    for number in 0..64 {
+        let to = Square::at(number);
+        if let Some(after) = moved(position, from, to) {
+            if let Some(found) = shift.index_to(first, to) {
+                let (class, _) = of(&after);
+                if found.checked_add(above) != Some(index(class, &after)) {
+                    return Err(Fail::from("another index"));
+                }
+                count = count.checked_add(1).ok_or("too many")?;
+            }
+        }
+    }
+    Ok(count)
+}
+
+/// The same from the positions of the indexes up to 64 above the first that are alike to it.
+fn count_of_shelf(class: Class, shift: &Shift, first: u32, from: Square) -> Result<u32, Fail>
+    requires { (c i from : ℕ) × IsShift c i from shift.now × AreAlike c i first × ¬ IsVoid c first }
+{
+    if first >= size(class) {
+        return Err(Fail::from("past the class"));
+    }
+    let end = shelf_end(class, first);
+    let ends = if has_target(class) { 4 } else { 2 };
+    let mut count: u32 = 0;
+    for step in 0..32 {
+        let above = step * ends;
+        let code = first.checked_add(above).ok_or("too many")?;
+        if code < end {
+            if let Some(alike) = position(class, code) {
+                let more = count_of_alike(shift, first, above, &alike, from)?;
+                count = count.checked_add(more).ok_or("too many")?;
+            }
+        }
+    }
+    Ok(count)
+}
+
+/// The same of the man on the square, if he has a shift. Whoever has a sum has one, but for the last of two men, and the white king where the
+/// sides differ.
+fn count_of_shift(class: Class, first: u32, from: Square) -> Result<u32, Fail>
+    requires { ¬ IsVoid class first }
+{
+    let (frame, _) = frame_at(class, first);
+    let is_last = match frame.beside().1 {
+        Some((_, square)) => square == from,
+        None => false,
+    };
+    match frame.shift(from) {
+        Some(shift) => count_of_shelf(class, &shift, first, from),
+        None => {
+            let of_king = frame.king(Side::White) == from && !has_equal_sides(class);
+            let of_other = frame.sum(from).is_some() && frame.occupied().contains(from) && !is_last;
+            if of_king || of_other {
+                return Err(Fail::from("no shift"));
+            }
+            Ok(0)
+        }
+    }
+}
+
+/// The same of all men of the position of that code, if it spells one.
+fn count_of_shifts(class: Class, code: u32) -> Result<u32, Fail> {
+    facts();
+    match position(class, code) {
+        Some(_) => {
+            let mut count: u32 = 0;
+            for number in 0..64 {
+                let more = count_of_shift(class, code, Square::at(number))?;
+                count = count.checked_add(more).ok_or("too many")?;
+            }
+            Ok(count)
+        }
+        None => Ok(0),
+    }
+}
+
+/// How many steps lead on by shifts from so many of the class's codes.
+fn count_shifted(number: u8, every: u32) -> Result<u32, Fail> {
+    let class = Class::new(number).ok_or("no class")?;
+    let mut steps: u32 = 0;
+    for code in 0..size(class) {
+        if code.checked_rem(every) == Some(0) {
+            let more = count_of_shifts(class, code)?;
+            steps = steps.checked_add(more).ok_or("too many")?;
+        }
+    }
+    Ok(steps)
+}
+
+/// All of KQK; of KRRK, KQKR, KQPK and KPKP one code of so many.
+#[test]
+fn shifts_lead_to_indexes(rt: HostRuntime) -> Result<(), Fail> {
+    assert!(rt; count_shifted(1, 1)? > 0);
+    for number in [10, 17, 26, 35] {
+        assert!(rt; count_shifted(number, 4999)? > 0);
+    }
+    Ok(())
 }
 
 /// The code that differs in its last digit, of the same row.

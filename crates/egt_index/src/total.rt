@@ -1,5 +1,5 @@
 //! What all men add to a code where they stand, and what is left of it without one of them.
-ghost use Rattle.std.specs.Prelude.{◌≡◌, ◌<◌, ◌≤◌, ◌+◌};
+ghost use Rattle.std.specs.Prelude.{◌≡◌, ◌<◌, ◌≤◌, ◌+◌, ◌*◌, ◌/◌, if◌then◌else◌};
 ghost use Rattle.egt_class.specs.Material.{material_of};
 ghost use Rattle.egt_index.specs.Home.{IsAtHome};
 ghost use Rattle.egt_index.specs.Size.{has_pawns, men_in_order};
@@ -33,4 +33,12 @@ pub(crate) fn total_without(total: u32, side: u32, share: u32) -> u32
     ensures rest { total + side < 1073741824 → share ≤ total + side → result + share ≡ total + side }
 {
     total.wrapping_add(side).wrapping_sub(share) % 1_073_741_824
+}
+
+/// The code with digits of 0 for the side to move and the target: what all men add to it, if it is an index.
+#[inline(always)]
+pub(crate) fn without_ends(targets: bool, code: u32) -> u32
+    ensures { result ≡ code / (if targets then 4 else 2) * (if targets then 4 else 2) }
+{
+    if targets { code / 4 * 4 } else { code / 2 * 2 }
 }

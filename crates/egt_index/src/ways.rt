@@ -13,7 +13,7 @@ ghost use Rattle.egt_index.specs.Nearer.{IsFirst};
 ghost use Rattle.egt_index.specs.Size.{has_pawns};
 ghost use Rattle.egt_index.specs.Total.{IsTotal};
 ghost use Rattle.egt_index.specs.Turns.{CodeAfter, lesser};
-ghost use Rattle.egt_index.specs.Ways.{sum_code, line_code, pair_code, code_with, code_in_order, SumFits, LineFits, PairFits, ComesHome, IsHoming, KingWayFits, WayFits, Leads, LeadsHome, LeadsBy, Goes, IsSeen, IsMover, IsGoer, IsSingle, IsOneOfTwo, IsPaired, other_square, scale_by};
+ghost use Rattle.egt_index.specs.Ways.{sum_code, line_code, pair_code, code_with, code_in_order, SumFits, LineFits, PairFits, ComesHome, IsHoming, KingAdds, KingWayFits, WayFits, Leads, LeadsHome, LeadsBy, Goes, IsSeen, IsMover, IsGoer, IsSingle, IsOneOfTwo, IsPaired, other_square, scale_by};
 ghost use Rattle.egt_index.specs.declared.ways.Mover.{Mover};
 ghost use Rattle.egt_index.specs.Went.{IsWent};
 ghost use Rattle.egt_index.specs.declared.stand.Stand.{Stand};
@@ -157,6 +157,32 @@ impl Homing {
     }
 }
 
+/// How the white king counts, and what tells whether the turn that changes nothing makes the least code where he goes.
+#[derive(Clone, Copy)]
+pub(crate) struct KingScale {
+    pub(crate) pawns: bool,
+    pub(crate) black: Square,
+    pub(crate) stride: u32,
+}
+
+impl KingScale {
+    /// What he adds on the square, if he is at home there and no other turn brings him home, or takes the kings to greater squares.
+    #[inline(always)]
+    pub(crate) fn adds(&self, to: Square) -> Option<u32>
+        requires { self.now.stride ≤ 1048576 }
+        ensures few { IfSome result (λ n. n ≤ 66060288) }
+        ensures adds { IfSome result (KingAdds self.now to) }
+    {
+        let digit = king_digit(self.pawns, to)?;
+        let still = still_home(self.pawns, to);
+        if takes_away(to, self.black, still) {
+            Some(u32::from(digit) * self.stride)
+        } else {
+            None
+        }
+    }
+}
+
 /// The codes after the white king went, who was at home. In most of his steps he stays there and no other turn brings him home, or takes the
 /// kings to greater squares: then the code is what his digit adds to what the others add.
 #[derive(Clone, Copy)]
@@ -185,14 +211,13 @@ impl KingWay {
         ensures { (c : ℕ) (flips : Bool) (q : Setup) → c < 36 → ComesHome c flips self.now.homing to q → IfSome result (λ code. LeastWith c q flips (Some code)) }
     {
         facts();
-        let high = king_digit(self.homing.pawns, to)?;
-        let code = u32::from(high) * self.homing.scales.king + self.rest;
-        let still = still_home(self.homing.pawns, to);
-        if takes_away(to, self.homing.squares.black, still) {
-            Some(code)
-        } else {
-            None
-        }
+        let scale = KingScale {
+            pawns: self.homing.pawns,
+            black: self.homing.squares.black,
+            stride: self.homing.scales.king,
+        };
+        let adds = scale.adds(to)?;
+        Some(adds + self.rest)
     }
 
     /// The least code after he went to the square.

@@ -75,6 +75,12 @@ untrue true e is = absurd (false≢true (sym e))
 untrue false e is = λ h. false≢true (is.1 h)
 
 -- members that grow as what they are to be does
+pub members_after : {A B C P Q : Type 0} → (A ↔ (B ⊎ Q)) → (B ↔ (C ⊎ P)) → A ↔ ((C ⊎ P) ⊎ Q)
+members_after second first = (
+  λ a. elim (second.0 a) [ inl b ↦ inl (first.0 b) | inr q ↦ inr q ],
+  λ h. second.1 (elim h [ inl before ↦ inl (first.1 before) | inr q ↦ inr q ]),
+)
+
 pub members_then : {A B M N P : Type 0} → (A ↔ (B ⊎ P)) → (B ↔ M) → (N ↔ (M ⊎ P)) → A ↔ N
 members_then grown same next = (λ a. next.1 (⊎_map same.0 (λ p. p) (grown.0 a)), λ n. grown.1 (⊎_map same.1 (λ p. p) (next.0 n)))
 

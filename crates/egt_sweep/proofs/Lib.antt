@@ -25,3 +25,5 @@ pub mod LoneKing
 pub mod OneGame
 pub mod Returning
 pub mod Gathering
+pub mod Marked
+pub mod Runs

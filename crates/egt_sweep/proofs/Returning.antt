@@ -115,23 +115,25 @@ module _ (b q : Setup) (m : Move) (comes : ComesBy b m q) where
 
 module _ (laws : Laws) (c : ℕ) (q : Setup) (man : Man) (to : ℕ) (stands : Stands q.men to man) where
   -- the position before differs by the square of the man alone
-  pub came_moved : (s : ℕ) → s < 64 → ComesBy (setup_before q man to s None) (plain s to) q → IsMoved c q to s (setup_before q man to s None)
-  came_moved s s_in comes = record {
+  pub came_back : (b : Setup) (m : Move) → ComesBy b m q → b ≡ setup_before q man to m.from None → IsMoved c q to m.from b
+  came_back b m comes is = record {
     man = man;
     stands = stands;
-    free = left_free (setup_before q man to s None) q (plain s to) comes;
-    on_board = s_in;
-    men = refl;
-    side = refl;
-    target = refl;
+    free = left_free b q m comes;
+    on_board = comes.admissible.on_board m.from comes.leads.man comes.leads.stands;
+    men = ap (λ (x : Setup). x.men) is;
+    side = ap (λ (x : Setup). x.side) is;
+    target = ap (λ (x : Setup). x.target) is;
     admissible = comes.admissible;
     class = λ flipped of.
-        let b = setup_before q man to s None in
         let own = laws.facts.classes b comes.admissible in
-        let led = laws.quiet_class b comes.led (plain s to) own.0 own.1 comes.admissible own.3 comes.leads comes.no_capture comes.no_promotion in
+        let led = laws.quiet_class b comes.led m own.0 own.1 comes.admissible own.3 comes.leads comes.no_capture comes.no_promotion in
         let now = (laws.facts.settled_class comes.led q own.0 own.1 comes.settles).0 led in
         record { men = λ other. own.3.men other ∙ sym (now.men other) ∙ of.men other };
   }
+
+  pub came_moved : (s : ℕ) → s < 64 → ComesBy (setup_before q man to s None) (plain s to) q → IsMoved c q to s (setup_before q man to s None)
+  came_moved s s_in comes = came_back (setup_before q man to s None) (plain s to) comes refl
 
   pawn_back : (s : ℕ) → IsPawnOn (setup_before q man to s None).men s → man.kind ≡ P
   pawn_back s pawn = ap (λ (x : Man). x.kind) (one_man (setup_before q man to s None).men s man pawn.man (get-insert_same (map.remove q.men to) s man s refl) pawn.stands) ∙ pawn.pawn
@@ -141,7 +143,7 @@ module _ (laws : Laws) (c : ℕ) (q : Setup) (man : Man) (to : ℕ) (stands : St
   back_by Zeroing s is = λ pawn. is (pawn_back s pawn)
 
   -- where the game goes back by no move of the man, it came by none
-  taken : (column : Column) (k : ℕ) → CameTo column c q to k → IsTakenBack column man
+  pub taken : (column : Column) (k : ℕ) → CameTo column c q to k → IsTakenBack column man
   taken Mate k came = tt
   taken Zeroing k came = λ pawn. came.back (record {
     man = came.comes.leads.man;
@@ -202,7 +204,7 @@ module _ (laws : Laws) (c : ℕ) (below : c < 36) (column : Column) (q : Setup) 
       goes Mate back = tt
       goes Zeroing back = λ pawn. back (tells_so (decided_pawn came.before.men came.move.from) pawn)
 
-  connects_came : (j k : ℕ) → IsAt c j q → Connects column c k j → (to : ℕ) × CameTo column c q to k
+  pub connects_came : (j k : ℕ) → IsAt c j q → Connects column c k j → (to : ℕ) × CameTo column c q to k
   connects_came j k at edge =
       let w = taken_back laws c below column k j q at edge in
       let m = w.1.0 in
@@ -216,20 +218,50 @@ module _ (laws : Laws) (c : ℕ) (below : c < 36) (column : Column) (q : Setup) 
       goes Mate is = tt
       goes Zeroing is = λ pawn. is ((taken_back laws c below column k j q at edge).1.1.pawn.1 pawn)
 
+  -- where a man beside the kings came from there is an edge to the index
+  edge_there : (wanted : Wanted) (j k : ℕ) → IsAt c j q → (side : Side) (entry : Option (Man × ℕ)) → AtEntry side entry (Among wanted (CameTo column c q)) k → Connects column c k j × IsWanted wanted k
+  edge_there wanted j k at side None at_none = absurd at_none
+  edge_there wanted j k at side (Some e) o = (came_connects j k e.1 at o.1.0, o.1.1)
+
+  -- where the king came from nowhere that is wanted, the edges are those of the two men beside him
+  pub came_beside : (wanted : Wanted) (j : ℕ) → IsAt c j q → (king : ℕ) (side : Side) (one other : Option (Man × ℕ)) →
+      ((s : ℕ) (goes : ℕ → ℕ → Type 0) (k : ℕ) → IsHeld q.men s (other_side q.side) → s ≢ king → goes s k → AtEntry side one goes k ⊎ AtEntry side other goes k) →
+      ((k : ℕ) → ¬ Among wanted (CameTo column c q) king k) → (old new : List ℕ) → old ≡ [] →
+      ((k : ℕ) → Contains new k ↔ ((Contains old k ⊎ AtEntry side one (Among wanted (CameTo column c q)) k) ⊎ AtEntry side other (Among wanted (CameTo column c q)) k)) →
+      (k : ℕ) → Contains new k ↔ (Connects column c k j × IsWanted wanted k)
+  came_beside wanted j at king side one other held idle old new empty with_both k = (
+    λ has. elim ((with_both k).0 has) [
+      | inr o ↦ edge_there wanted j k at side other o
+      | inl earlier ↦ elim earlier [
+        | inr o ↦ edge_there wanted j k at side one o
+        | inl none ↦ absurd (let c = subst (λ (xs : List ℕ). Contains xs k) empty none in omega (arith, c.1))
+      ]
+    ],
+    λ edge. let came = connects_came j k at edge.0 in elim (cases_eq came.0 king) [
+      | inr apart ↦
+          let here = subst (λ s. IsHeld q.men s (other_side q.side)) came.1.here (came_held came.1.before q came.1.move came.1.comes) in
+          elim (held came.0 (Among wanted (CameTo column c q)) k here apart (came.1, edge.1)) [
+            | inl o ↦ (with_both k).1 (inl (inr o))
+            | inr o ↦ (with_both k).1 (inr o)
+          ]
+      | inl e ↦ absurd (idle k (subst (λ s. CameTo column c q s k) e came.1, edge.1))
+    ],
+  )
+
   -- the king came from squares of two sets, and the two men beside him from others: together the edges to the index
   pub came_edges : (wanted : Wanted) (j : ℕ) → IsAt c j q → (man : Man) (king : ℕ) (all low high : SquareSet) (side : Side) (one other : Option (Man × ℕ)) →
       ((s : ℕ) (goes : ℕ → ℕ → Type 0) (k : ℕ) → IsHeld q.men s (other_side q.side) → s ≢ king → goes s k → AtEntry side one goes k ⊎ AtEntry side other goes k) →
-      ((s : ℕ) → Has all s ↔ (Has low s ⊎ Has high s)) → ((k : ℕ) → AtSome all (WasOn c q man king) k ↔ CameTo column c q king k) → (old first second third fourth : List ℕ) → old ≡ [] →
-      ((k : ℕ) → Contains first k ↔ (Contains old k ⊎ AtSome low (Among wanted (WasOn c q man king)) k)) → ((k : ℕ) → Contains second k ↔ (Contains first k ⊎ AtEntry side one (Among wanted (CameTo column c q)) k)) →
-      ((k : ℕ) → Contains third k ↔ (Contains second k ⊎ AtEntry side other (Among wanted (CameTo column c q)) k)) →
-      ((k : ℕ) → Contains fourth k ↔ (Contains third k ⊎ AtSome high (Among wanted (WasOn c q man king)) k)) → (k : ℕ) → Contains fourth k ↔ (Connects column c k j × IsWanted wanted k)
-  came_edges wanted j at man king all low high side one other held parts was old first second third fourth empty with_low with_one with_other with_high k = (
+      ((s : ℕ) → Has all s ↔ (Has low s ⊎ Has high s)) → ((k : ℕ) → AtSome all (WasOn c q man king) k ↔ CameTo column c q king k) → (old first second third : List ℕ) → old ≡ [] →
+      ((k : ℕ) → Contains first k ↔ (Contains old k ⊎ AtSome low (Among wanted (WasOn c q man king)) k)) →
+      ((k : ℕ) → Contains second k ↔ ((Contains first k ⊎ AtEntry side one (Among wanted (CameTo column c q)) k) ⊎ AtEntry side other (Among wanted (CameTo column c q)) k)) →
+      ((k : ℕ) → Contains third k ↔ (Contains second k ⊎ AtSome high (Among wanted (WasOn c q man king)) k)) → (k : ℕ) → Contains third k ↔ (Connects column c k j × IsWanted wanted k)
+  came_edges wanted j at man king all low high side one other held parts was old first second third empty with_low with_both with_high k = (
     λ has. elim ((with_high k).0 has) [
       | inr h ↦ (came_connects j k king at ((was k).0 (h.0, (parts h.0).1 (inr h.1), h.2.0)), h.2.1)
-      | inl before ↦ elim ((with_other k).0 before) [
-        | inr o ↦ there other o
-        | inl earlier ↦ elim ((with_one k).0 earlier) [
-          | inr o ↦ there one o
+      | inl before ↦ elim ((with_both k).0 before) [
+        | inr o ↦ edge_there wanted j k at side other o
+        | inl earlier ↦ elim earlier [
+          | inr o ↦ edge_there wanted j k at side one o
           | inl start ↦ elim ((with_low k).0 start) [
             | inr l ↦ (came_connects j k king at ((was k).0 (l.0, (parts l.0).1 (inl l.1), l.2.0)), l.2.1)
             | inl none ↦ absurd (let c = subst (λ (xs : List ℕ). Contains xs k) empty none in omega (arith, c.1))
@@ -241,19 +273,15 @@ module _ (laws : Laws) (c : ℕ) (below : c < 36) (column : Column) (q : Setup) 
       | inr apart ↦
           let here = subst (λ s. IsHeld q.men s (other_side q.side)) came.1.here (came_held came.1.before q came.1.move came.1.comes) in
           elim (held came.0 (Among wanted (CameTo column c q)) k here apart (came.1, edge.1)) [
-            | inl o ↦ (with_high k).1 (inl ((with_other k).1 (inl ((with_one k).1 (inr o)))))
-            | inr o ↦ (with_high k).1 (inl ((with_other k).1 (inr o)))
+            | inl o ↦ (with_high k).1 (inl ((with_both k).1 (inl (inr o))))
+            | inr o ↦ (with_high k).1 (inl ((with_both k).1 (inr o)))
           ]
       | inl e ↦ let on = (was k).1 (subst (λ s. CameTo column c q s k) e came.1) in elim ((parts on.0).0 on.1) [
-        | inl l ↦ (with_high k).1 (inl ((with_other k).1 (inl ((with_one k).1 (inl ((with_low k).1 (inr (on.0, l, (on.2, edge.1)))))))))
+        | inl l ↦ (with_high k).1 (inl ((with_both k).1 (inl (inl ((with_low k).1 (inr (on.0, l, (on.2, edge.1))))))))
         | inr h ↦ (with_high k).1 (inr (on.0, h, (on.2, edge.1)))
       ]
     ],
   )
-    where
-      there : (entry : Option (Man × ℕ)) → AtEntry side entry (Among wanted (CameTo column c q)) k → Connects column c k j × IsWanted wanted k
-      there None at_none = absurd at_none
-      there (Some e) o = (came_connects j k e.1 at o.1.0, o.1.1)
 
 -- the men of a side stand on its king's square and on those of the men beside the kings
 module _ (q : Setup) (enemy king : ℕ) (all : SquareSet) (one other : Option (Man × ℕ)) (side : Side) (men : AreMenOf q enemy all one other) (waiting : side ≡ other_side q.side) (there : IsKingOn q.men (other_side q.side) king) where

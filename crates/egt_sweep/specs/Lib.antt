@@ -11,3 +11,5 @@ pub mod Fault
 pub mod Ways
 pub mod Wanted
 pub mod Drawn
+pub mod Idle
+pub mod Together

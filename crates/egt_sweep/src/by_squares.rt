@@ -11,6 +11,7 @@ ghost use Rattle.egt_board.specs.SquareSet.{Has, size_of};
 ghost use Rattle.egt_index.specs.Frame.{IsFrame, IsMoved};
 ghost use Rattle.egt_unmoves.specs.Around.{AreMenOf, CameFrom};
 ghost use Rattle.egt_unmoves.specs.Unmoves.{setup_before};
+ghost use Rattle.egt_sweep.specs.Idle.{AreIdle};
 ghost use Rattle.egt_sweep.specs.Wanted.{IsWanted, Among};
 ghost use Rattle.egt_sweep.specs.Edges.{AtEntry, AtSome, IsAt, Connects, CameTo, HadNoTarget, IsTakenBack, WasOn};
 ghost use Rattle.egt_sweep.specs.Nodes.{setup_at};
@@ -27,19 +28,19 @@ use egt_unmoves::{Around, squares_left};
 
 /// The men of a position, as the moves of the side that waits are taken back.
 #[derive(Clone, Copy)]
-struct Men {
+pub(crate) struct Men {
     /// Where the king of the side to move stands.
-    king: Square,
+    pub(crate) king: Square,
     /// The squares of all men.
-    all: SquareSet,
+    pub(crate) all: SquareSet,
     /// The men beside the kings.
-    one: Option<(Man, Square)>,
-    other: Option<(Man, Square)>,
+    pub(crate) one: Option<(Man, Square)>,
+    pub(crate) other: Option<(Man, Square)>,
 }
 
 /// The men of a frame's position.
 #[inline(always)]
-fn men_of(frame: &Frame) -> Men
+pub(crate) fn men_of(frame: &Frame) -> Men
     ensures { (q : Setup) → IsFrame q frame.now → AreMenOf q result.king result.all result.one result.other }
 {
     let (one, other) = frame.beside();
@@ -61,7 +62,7 @@ fn below(square: Square) -> SquareSet
 }
 
 /// Whether the game goes back by the man's moves.
-fn goes_back_by(column: Column, man: Man) -> bool
+pub(crate) fn goes_back_by(column: Column, man: Man) -> bool
     ensures { IsTrue result ↔ IsTakenBack column man }
 {
     match column {
@@ -171,7 +172,7 @@ fn squares_before(_class: Class, _arrival: u32, men: &Men, man: Man, to: Square)
     squares_left(man, to, &around)
 }
 
-/// Adds the indexes from which the man on `to`, one of the side that waits, came, if its moves go on.
+/// Adds the indexes from which the man on `to`, one of the side that waits, came, if its moves go on and he is not idle.
 fn add_sources_of(
     column: Column,
     class: Class,
@@ -180,6 +181,7 @@ fn add_sources_of(
     men: &Men,
     man: Man,
     to: Square,
+    idle: SquareSet,
     wanted: &Wanted<'_>,
     list: &mut ArrayVec<u32, 128>,
 )
@@ -191,6 +193,7 @@ fn add_sources_of(
     requires before { HadNoTarget (setup_at class arrival) }
     requires stands { Stands (setup_at class arrival).men to man }
     requires theirs { man.side ≡ other_side (setup_at class arrival).side }
+    requires idle { AreIdle column class (setup_at class arrival) wanted.now idle }
     requires ascending { IsStrictlyIncreasing list.old.items }
     requires room { array_vec_len list.old + 28 ≤ 128 }
     ensures ascending { IsStrictlyIncreasing list.new.items }
@@ -198,6 +201,9 @@ fn add_sources_of(
     ensures few { array_vec_len list.new ≤ array_vec_len list.old + 28 }
 {
     laws();
+    if idle.contains(to) {
+        return;
+    }
     if !goes_back_by(column, man) {
         return;
     }
@@ -206,7 +212,7 @@ fn add_sources_of(
 }
 
 /// Whether the man is of that side.
-fn is_of(man: Man, side: Side) -> bool
+pub(crate) fn is_of(man: Man, side: Side) -> bool
     ensures { IsTrue result ↔ (man.side ≡ side) }
 {
     man.side == side
@@ -221,6 +227,7 @@ fn add_entry(
     men: &Men,
     entry: Option<(Man, Square)>,
     waiting: Side,
+    idle: SquareSet,
     wanted: &Wanted<'_>,
     list: &mut ArrayVec<u32, 128>,
 )
@@ -232,6 +239,7 @@ fn add_entry(
     requires before { HadNoTarget (setup_at class arrival) }
     requires entry { StandsBeside (setup_at class arrival).men entry }
     requires waiting { waiting ≡ other_side (setup_at class arrival).side }
+    requires idle { AreIdle column class (setup_at class arrival) wanted.now idle }
     requires ascending { IsStrictlyIncreasing list.old.items }
     requires room { array_vec_len list.old + 28 ≤ 128 }
     ensures ascending { IsStrictlyIncreasing list.new.items }
@@ -241,20 +249,56 @@ fn add_entry(
     if let Some(placed) = entry {
         if is_of(placed.0, waiting) {
             add_sources_of(
-                column, class, arrival, frame, men, placed.0, placed.1, wanted, list,
+                column, class, arrival, frame, men, placed.0, placed.1, idle, wanted, list,
             );
         }
     }
 }
 
+/// The same of both men beside the kings.
+fn add_beside(
+    column: Column,
+    class: Class,
+    arrival: u32,
+    frame: &Frame,
+    men: &Men,
+    waiting: Side,
+    idle: SquareSet,
+    wanted: &Wanted<'_>,
+    list: &mut ArrayVec<u32, 128>,
+)
+    requires admissible { IsAdmissible (setup_at class arrival) }
+    requires frame { IsFrame (setup_at class arrival) frame.now }
+    requires class { frame.now.class ≡ class }
+    requires men { AreMenOf (setup_at class arrival) men.now.king men.now.all men.now.one men.now.other }
+    requires untargeted { (setup_at class arrival).target ≡ None }
+    requires before { HadNoTarget (setup_at class arrival) }
+    requires waiting { waiting ≡ other_side (setup_at class arrival).side }
+    requires idle { AreIdle column class (setup_at class arrival) wanted.now idle }
+    requires ascending { IsStrictlyIncreasing list.old.items }
+    requires room { array_vec_len list.old + 56 ≤ 128 }
+    ensures ascending { IsStrictlyIncreasing list.new.items }
+    ensures members { (k : ℕ) → Contains list.new.items k ↔ ((Contains list.old.items k ⊎ AtEntry waiting men.now.one (Among wanted.now (CameTo column class (setup_at class arrival))) k)
+        ⊎ AtEntry waiting men.now.other (Among wanted.now (CameTo column class (setup_at class arrival))) k) }
+    ensures few { array_vec_len list.new ≤ array_vec_len list.old + 56 }
+{
+    add_entry(
+        column, class, arrival, frame, men, men.one, waiting, idle, wanted, list,
+    );
+    add_entry(
+        column, class, arrival, frame, men, men.other, waiting, idle, wanted, list,
+    );
+}
+
 /// Fills the list with the indexes from which moves that go on lead to the settled position, where neither it has a target nor had one
-/// before. The king's squares weigh most in an index, so those below his own come first and those above it last: then most indexes
-/// are the greatest so far, and few numbers are shifted.
+/// before. Men on the squares of `idle` came from none that is wanted. The king's squares weigh most in an index, so those below his own
+/// come first and those above it last: then most indexes are the greatest so far, and few numbers are shifted.
 pub(crate) fn sources_by_squares(
     column: Column,
     class: Class,
     arrival: u32,
     frame: &Frame,
+    idle: SquareSet,
     wanted: &Wanted<'_>,
     list: &mut ArrayVec<u32, 128>,
 )
@@ -263,6 +307,7 @@ pub(crate) fn sources_by_squares(
     requires class { frame.now.class ≡ class }
     requires untargeted { (setup_at class arrival).target ≡ None }
     requires before { HadNoTarget (setup_at class arrival) }
+    requires idle { AreIdle column class (setup_at class arrival) wanted.now idle }
     requires empty { list.old.items ≡ [] }
     ensures ascending { IsStrictlyIncreasing list.new.items }
     ensures exact { (k : ℕ) → Contains list.new.items k ↔ (Connects column class k arrival × IsWanted wanted.now k) }
@@ -275,17 +320,20 @@ pub(crate) fn sources_by_squares(
         kind: Kind::K,
     };
     let king = frame.king(side);
-    let steps = frame.steps(king);
     let men = men_of(frame);
+    if idle.contains(king) {
+        add_beside(
+            column, class, arrival, frame, &men, side, idle, wanted, list,
+        );
+        return;
+    }
+    let steps = frame.steps(king);
     let squares = squares_before(class, arrival, &men, man, king);
     let low = squares.common(below(king));
     let high = squares.without(low);
     add_left(class, arrival, &steps, man, king, low, wanted, list);
-    add_entry(
-        column, class, arrival, frame, &men, men.one, side, wanted, list,
-    );
-    add_entry(
-        column, class, arrival, frame, &men, men.other, side, wanted, list,
+    add_beside(
+        column, class, arrival, frame, &men, side, idle, wanted, list,
     );
     add_left(class, arrival, &steps, man, king, high, wanted, list);
 }

@@ -18,6 +18,7 @@ mod nodes;
 mod quiet;
 pub mod ranks;
 mod sources;
+mod together;
 mod wanted;
 mod ways;
 mod zero_game;

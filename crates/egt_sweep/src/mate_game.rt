@@ -82,8 +82,8 @@ impl Game for MateGame<'_> {
         predecessors(Column::Mate, self.class, j, list);
     }
 
-    fn list_marked_into(&self, j: u32, marks: &[u64], list: &mut ArrayVec<u32, 128>) {
-        marked_predecessors(Column::Mate, self.class, j, marks, list);
+    fn list_marked_into(&self, nodes: &[u32], marks: &[u64], list: &mut ArrayVec<u32, 8192>) {
+        marked_predecessors(Column::Mate, self.class, nodes, marks, list);
     }
 
     fn exits(&self, i: u32) -> ArrayVec<Exit, 64> {

@@ -1,5 +1,5 @@
 //! The nodes of a class's game.
-ghost use Rattle.std.specs.Prelude.{◌≡◌, ◌+◌, ◌%◌, ◌/◌, ◌<◌, ◌≤◌, ◌↔◌, ℕ, Some, IfSome, [], length, slice_index, not, false, true, IsTrue, IsFalse};
+ghost use Rattle.std.specs.Prelude.{All, ◌≡◌, ◌+◌, ◌%◌, ◌/◌, ◌<◌, ◌≤◌, ◌↔◌, ℕ, Some, IfSome, [], length, slice_index, not, false, true, IsTrue, IsFalse};
 ghost use Rattle.std.specs.Int.{bit_at};
 ghost use Rattle.std.specs.List.{Contains};
 ghost use Rattle.std.specs.Option.{is_some};
@@ -32,11 +32,12 @@ use crate::edges::edges;
 use crate::facing::start_facing_king;
 use crate::laws::laws;
 use crate::sources::sources;
+use crate::together::marked_sources;
 use crate::wanted::Wanted;
 use crate::ways::{Ways, ways_of};
 use arrayvec::ArrayVec;
-use egt_board::Position;
 use egt_board::safety::kings_attack_each_other;
+use egt_board::{Position, SquareSet};
 use egt_check::Library;
 use egt_class::Class;
 use egt_graph::{Exit, Ranks, Start, UNTOLD};
@@ -104,24 +105,25 @@ pub(crate) fn predecessors(column: Column, class: Class, index: u32, list: &mut 
     laws();
     let _number = class.number();
     list.clear();
-    sources(column, class, index, &Wanted::All, list);
+    sources(column, class, index, SquareSet::EMPTY, &Wanted::All, list);
 }
 
-/// The same, with those alone whose bits are set: of node `i` bit `i % 64` of word `i / 64`.
+/// Fills the list, in the place of what it had, with the nodes whose bits are set and from which moves that go on lead to one of these nodes,
+/// perhaps more than once: of node `i` bit `i % 64` of word `i / 64`.
 pub(crate) fn marked_predecessors(
     column: Column,
     class: Class,
-    index: u32,
+    nodes: &[u32],
     marks: &[u64],
-    list: &mut ArrayVec<u32, 128>,
+    list: &mut ArrayVec<u32, 8192>,
 )
-    requires { IsFalse (not (is_some (position_at class index))) }
-    ensures { (i : ℕ) → Contains list.new.items i ↔ (Contains (passing_below (size_of class) (λ k. connects column class k index)) i × IsMarked marks.now i) }
+    requires nodes { All (λ j. IsFalse (not (is_some (position_at class j)))) nodes.now }
+    requires few { length nodes.now ≤ 64 }
+    ensures { (i : ℕ) → Contains list.new.items i ↔ ((j : ℕ) × Contains nodes.now j × Contains (passing_below (size_of class) (λ k. connects column class k j)) i × IsMarked marks.now i) }
 {
     laws();
     let _number = class.number();
-    list.clear();
-    sources(column, class, index, &Wanted::Marked(marks), list);
+    marked_sources(column, class, nodes, marks, list);
 }
 
 /// The values of where the moves lead that leave the game from a node, in the order of moves.

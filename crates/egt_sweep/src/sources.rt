@@ -6,21 +6,23 @@ ghost use Rattle.std.specs.List.Sorted.{IsStrictlyIncreasing};
 ghost use Rattle.arrayvec.specs.ArrayVec.{array_vec_len};
 ghost use Rattle.egt_class.specs.Membership.{IsOf};
 ghost use Rattle.egt_board.specs.Settled.{IsSettled};
+ghost use Rattle.egt_index.specs.Frame.{IsFrame};
+ghost use Rattle.egt_sweep.specs.Idle.{AreIdle};
 ghost use Rattle.egt_sweep.specs.Wanted.{IsWanted};
 ghost use Rattle.egt_sweep.specs.Edges.{IsAt, GoesBack, ComesFrom, Connects, HadNoTarget};
 ghost use Rattle.egt_sweep.specs.Nodes.{setup_at};
 
 use crate::ascending::put;
-use crate::by_squares::sources_by_squares;
+use crate::by_squares::{men_of, sources_by_squares};
 use crate::laws::laws;
 use crate::wanted::Wanted;
 use arrayvec::ArrayVec;
-use egt_board::Position;
+use egt_board::{Position, SquareSet};
 use egt_class::Class;
 use egt_index::laws::a_class_without_targets_has_pawns_of_one_side;
-use egt_index::{frame_at, has_target, index, position_of};
+use egt_index::{Frame, frame_at, has_target, index, position_of};
 use egt_table::Column;
-use egt_unmoves::{Unmove, target_before, unmoves};
+use egt_unmoves::{Unmove, may_have_had_target, target_before, unmoves};
 
 /// Whether the move that the unmove takes back goes on in the game.
 fn goes_back(column: Column, unmove: &Unmove) -> bool
@@ -82,9 +84,10 @@ fn sources_by_unmoves(
 }
 
 /// Whether the position at the index has a target, as `passed` tells, or may have had one before, which a pawn of the side that moved stood
-/// ready to take. For that both sides need pawns.
-fn may_have_target(class: Class, index: u32, passed: bool) -> bool
+/// ready to take. For that both sides need pawns, and the frame tells of most positions that no pawn had just advanced.
+fn may_have_target(class: Class, index: u32, frame: &Frame, passed: bool) -> bool
     requires at { IsAt class index (setup_at class index) }
+    requires frame { IsFrame (setup_at class index) frame.now }
     requires target { is_some (setup_at class index).target ≡ passed }
     ensures now { IsFalse result → (setup_at class index).target ≡ None }
     ensures before { IsFalse result → HadNoTarget (setup_at class index) }
@@ -98,18 +101,25 @@ fn may_have_target(class: Class, index: u32, passed: bool) -> bool
     if !has_target(class) {
         return false;
     }
+    let men = men_of(frame);
+    if !may_have_had_target(frame.side(), &men.one, &men.other) {
+        return false;
+    }
     target_before(&position_of(class, index)).is_some()
 }
 
-/// Fills the list with the wanted indexes from which moves that go on lead to the position at the index.
+/// Fills the list with the wanted indexes from which moves that go on lead to the position at the index. Men on the squares of `idle` came
+/// from none that is wanted.
 pub(crate) fn sources(
     column: Column,
     class: Class,
     index: u32,
+    idle: SquareSet,
     wanted: &Wanted<'_>,
     list: &mut ArrayVec<u32, 128>,
 )
     requires at { IsAt class index (setup_at class index) }
+    requires idle { AreIdle column class (setup_at class index) wanted.now idle }
     requires empty { list.old.items ≡ [] }
     ensures ascending { IsStrictlyIncreasing list.new.items }
     ensures exact { (k : ℕ) → Contains list.new.items k ↔ (Connects column class k index × IsWanted wanted.now k) }
@@ -117,10 +127,10 @@ pub(crate) fn sources(
     laws();
     let _number = class.number();
     let (frame, passed) = frame_at(class, index);
-    if may_have_target(class, index, passed) {
+    if may_have_target(class, index, &frame, passed) {
         let position = position_of(class, index);
         sources_by_unmoves(column, class, &position, wanted, list);
     } else {
-        sources_by_squares(column, class, index, &frame, wanted, list);
+        sources_by_squares(column, class, index, &frame, idle, wanted, list);
     }
 }

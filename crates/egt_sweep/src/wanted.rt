@@ -1,5 +1,6 @@
 //! Which numbers a list is to have.
-ghost use Rattle.std.specs.Prelude.{◌↔◌, IsTrue};
+ghost use Rattle.std.specs.Prelude.{◌≡◌, ◌↔◌, ◌+◌, ◌<◌, ℕ, slice_index, IsTrue};
+ghost use Rattle.std.specs.Int.{bit_at};
 ghost use Rattle.egt_graph.specs.Undecided.{IsMarked};
 ghost use Rattle.egt_sweep.specs.Wanted.{IsWanted};
 
@@ -33,4 +34,25 @@ fn is_marked(marks: &[u64], number: u32) -> bool
         Some(word) => (*word >> (number % 64)) & 1 == 1,
         None => false,
     }
+}
+
+/// The word of the bits, none set past the last.
+#[inline(always)]
+fn word_at(marks: &[u64], at: usize) -> u64
+    ensures { result ≡ slice_index marks.now at }
+{
+    match marks.get(at) {
+        Some(word) => *word,
+        None => 0,
+    }
+}
+
+/// The bits of 64 numbers from that on.
+#[inline(always)]
+pub(crate) fn marks_from(marks: &[u64], from: u32) -> u64
+    ensures { (k : ℕ) → k < 64 → IsMarked marks.now (from + k) → bit_at result k ≡ 1 }
+{
+    let at = from as usize / 64;
+    let words = u128::from(word_at(marks, at + 1)) << 64 | u128::from(word_at(marks, at));
+    ((words >> (from % 64)) & u128::from(u64::MAX)) as u64
 }

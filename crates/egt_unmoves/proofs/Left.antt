@@ -1,23 +1,25 @@
 -- The squares that a man left, where the position has no target.
-use Rattle.std.proofs.Common.{◌≡◌, ◌≢◌, ◌↔◌, ◌⊎◌, ℕ, ◌≤◌, ◌&&◌, ◌/◌, ◌+◌, if◌then◌else◌, false, Option, Some, None, refl, sym, ap, ◌∙◌, subst, inl, inr, arith}
+use Rattle.std.proofs.Common.{◌≡◌, ◌≢◌, ◌↔◌, ◌⊎◌, ℕ, ◌≤◌, ◌==◌, ◌&&◌, ◌/◌, ◌+◌, if◌then◌else◌, false, Option, Some, None, refl, sym, ap, ◌∙◌, subst, inl, inr, arith}
+use Rattle.std.specs.FinMap as map
+use Rattle.std.proofs.lemmas.Bool.Decides.{eqb_tells}
 use Rattle.egt_board.specs.declared.man.Kind.{Kind}
 use Rattle.egt_board.specs.declared.man.Kind.TheVariants.{Q, R, B, N, P, K}
 use Rattle.egt_board.specs.declared.man.Man.{Man}
 use Rattle.egt_board.specs.Man.{other_side}
-use Rattle.egt_board.specs.Pawn.{HasPawnBeside}
+use Rattle.egt_board.specs.Pawn.{last_rank, MayStand, HasPawnBeside}
 use Rattle.egt_board.specs.Placement.{Stands, IsFree}
 use Rattle.egt_board.specs.Settled.{IsSettled, SettlesTo}
 use Rattle.egt_board.specs.Setup.{Setup, IsAdmissible}
 use Rattle.egt_board.specs.Square.{rank_of}
 use Rattle.egt_moves.specs.Legal.{plain, passed, is_two_ranks}
-use Rattle.egt_moves.specs.Promotion.{is_pawn}
+use Rattle.egt_moves.specs.Promotion.{is_pawn, promotes, FitsPromotion}
 use Rattle.egt_moves.specs.Room.{most_goals}
 use Rattle.egt_moves.specs.declared.chess_move.Move.{Move}
 use Rattle.egt_unmoves.specs.Targets.{advanced_rank}
 use Rattle.egt_unmoves.specs.Unmoves.{ComesBy, MayHaveLeft, Went, led_to, men_before, setup_before}
-use Rattle.egt_unmoves.proofs.Came.{came, came_man, settles_once}
-use Rattle.egt_unmoves.proofs.Straight.{behind, second, came_straight, passes_none, passes_some}
-use Rattle.egt_unmoves.proofs.Went.{went_comes, target_stays, target_goes}
+use Rattle.egt_unmoves.proofs.Came.{came, came_man, led_man, settles_once}
+use Rattle.egt_unmoves.proofs.Straight.{behind, second, came_straight, inside_after, passes_none, passes_some}
+use Rattle.egt_unmoves.proofs.Went.{left_square, went_comes, target_stays, target_goes}
 
 pub few_goals : (kind : Kind) → most_goals kind ≤ 28
 few_goals Q = omega arith
@@ -34,6 +36,23 @@ no_pawn B not = refl
 no_pawn N not = refl
 no_pawn P not = absurd (not refl)
 no_pawn K not = refl
+
+-- a pawn that came by such a move stands on no rank of pieces
+pub came_inside : (q : Setup) (man : Man) (to : ℕ) → Stands q.men to man → (b : Setup) (m : Move) → m.to ≡ to → ComesBy b m q → MayStand man to
+came_inside q man to stands b m there comes pawn =
+    let left = (left_square q man to stands b m there comes).left in
+    let same : comes.leads.man ≡ man = led_man b m q man comes (ap (map.get q.men) there ∙ stands) in
+    let fits : FitsPromotion (promotes comes.leads.man m.to) None = subst (FitsPromotion (promotes comes.leads.man m.to)) comes.no_promotion comes.leads.promotion in
+    let plain_man : FitsPromotion (promotes man m.to) None = subst (λ (y : Man). FitsPromotion (promotes y m.to) None) same fits in
+    let plain_there : FitsPromotion (promotes man to) None = subst (λ t. FitsPromotion (promotes man t) None) there plain_man in
+    let plainly : FitsPromotion (rank_of to == last_rank man.side) None = subst (λ k. FitsPromotion (is_pawn k && (rank_of to == last_rank man.side)) None) pawn plain_there in
+    elim left.way.goes [
+      | inl piece ↦ absurd (piece.0 pawn)
+      | inr advance ↦ elim (eqb_tells (rank_of to) (last_rank man.side)) [
+        | inl h ↦ absurd (subst (λ b. FitsPromotion b None) h.0 plainly)
+        | inr h ↦ inside_after (IsFree (men_before q.men man to m.from)) man.side m.from to (left.way.fits pawn) advance.1 h.1
+      ]
+    ]
 
 module _ (q : Setup) (man : Man) (to : ℕ) (untargeted : q.target ≡ None) where
   none_settled : (o : Option ℕ) → o ≡ None → IsSettled (record { men = q.men; side = q.side; target = o })

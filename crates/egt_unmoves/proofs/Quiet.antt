@@ -116,13 +116,21 @@ free_left men to s free = elim (cases_eq s to) [
   | inr other ↦ get-remove_other men to s other ∙ free
 ]
 
+-- squares that are taken stay so once the man is taken off, but for its own
+pub taken_less : (men : Placement) (all left to : ℕ) → ((u : ℕ) → IsFree men u → bit_at all u ≡ 0) → bit_at left to ≡ 0 → ((u : ℕ) → u ≢ to → bit_at left u ≡ bit_at all u)
+    → (u : ℕ) → IsFree (map.remove men to) u → bit_at left u ≡ 0
+taken_less men all left to taken gone others u free = elim (cases_eq u to) [
+  | inl e ↦ ap (bit_at left) e ∙ gone
+  | inr other ↦ others u other ∙ taken u (sym (get-remove_other men to u other) ∙ free)
+]
+
 -- which squares are free once the man is taken off, where a bit of it is cleared
 pub free_less : (men : Placement) (all left to : ℕ) → ((u : ℕ) → (bit_at all u ≡ 0) ↔ IsFree men u) → bit_at left to ≡ 0 → ((u : ℕ) → u ≢ to → bit_at left u ≡ bit_at all u)
     → (u : ℕ) → (bit_at left u ≡ 0) ↔ IsFree (map.remove men to) u
-free_less men all left to free gone others u = elim (cases_eq u to) [
-  | inl e ↦ (λ _. get-remove_same men to u e, λ _. ap (bit_at left) e ∙ gone)
-  | inr other ↦ (
-    λ none. get-remove_other men to u other ∙ (free u).0 (sym (others u other) ∙ none),
-    λ none. others u other ∙ (free u).1 (sym (get-remove_other men to u other) ∙ none),
-  )
-]
+free_less men all left to free gone others u = (
+  λ none. elim (cases_eq u to) [
+    | inl e ↦ get-remove_same men to u e
+    | inr other ↦ get-remove_other men to u other ∙ (free u).0 (sym (others u other) ∙ none)
+  ],
+  taken_less men all left to (λ v. (free v).1) gone others u,
+)

@@ -14,7 +14,7 @@ use Rattle.egt_board.specs.Man.{other_side}
 use Rattle.egt_board.specs.Square.{rank_of}
 use Rattle.egt_board.specs.Step.{Away}
 use Rattle.egt_board.specs.SquareSet.{Has, total, size_of}
-use Rattle.egt_board.specs.Pawn.{ahead, forward, home_rank, farthest_advance, Advances}
+use Rattle.egt_board.specs.Pawn.{ahead, forward, home_rank, last_rank, farthest_advance, Advances}
 use Rattle.egt_board.specs.Placement.{Placement, Stands, IsFree, get-insert_other, get-remove_same, get-remove_other}
 use Rattle.egt_moves.specs.Legal.{passed, is_two_ranks}
 use Rattle.egt_moves.specs.Promotion.{is_pawn}
@@ -90,6 +90,12 @@ came_straight F side s t s_in a = by_count side a.rides.count a.rides.moves a.ri
         inr (omega arith, clear 1 (t + 8) (omega arith) (omega arith) (record { on_board = omega arith; across = omega arith; along = omega arith }), omega arith, down_two s t (omega arith))
     by_count side zero some few away clear = absurd (omega arith)
     by_count side (suc (suc (suc n))) some few away clear = let two = few_advance side s in absurd (omega arith)
+
+-- it ends on no rank of pieces, unless on the last
+pub inside_after : (F : ℕ → Type 0) (side : Side) (s t : ℕ) → IsInside s → Advances F side s t → rank_of t ≢ last_rank side → IsInside t
+inside_after F White s t inside a not_last =
+    let low = inside.0 in let y = a.rides.away.along in let some = a.rides.moves in let t_in = a.rides.away.on_board in (omega arith, omega arith)
+inside_after F Black s t inside a not_last = let high = inside.1 in let y = a.rides.away.along in let some = a.rides.moves in (omega arith, omega arith)
 
 -- so it comes from the square behind its goal, or over it
 pub passed_over : (F : ℕ → Type 0) (side : Side) (s t : ℕ) → s < 64 → Advances F side s t → (s ≡ behind side t) ⊎ F (behind side t)

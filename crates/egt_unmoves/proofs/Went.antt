@@ -22,7 +22,7 @@ use Rattle.egt_moves.specs.Going.{Goes}
 use Rattle.egt_moves.specs.Legal.{plain, passed, men_after, after}
 use Rattle.egt_moves.specs.Promotion.{is_pawn, promotes, FitsPromotion}
 use Rattle.egt_unmoves.specs.Unmoves.{ComesBy, MayComeFrom, Went, GoesOver, led_to, men_before, setup_before}
-use Rattle.egt_unmoves.proofs.Came.{Came, came, came_man, moved_on, not_free, left_whole, settles_men, settles_side, settles_once}
+use Rattle.egt_unmoves.proofs.Came.{Came, came, came_man, led_man, moved_on, not_free, left_whole, settles_men, settles_side, settles_once}
 use Rattle.egt_unmoves.proofs.Room.{few_before}
 use Rattle.egt_unmoves.proofs.Sides.{side_twice, sides_differ}
 use Rattle.egt_unmoves.proofs.Straight.{passed_over}
@@ -56,7 +56,7 @@ comes_went b q m man stands c = record {
     side = sym (side_twice q.side) ∙ ap other_side (sym x.side)
 
     leader : c.leads.man ≡ man
-    leader = one_man b.men m.from c.leads.man x.man c.leads.stands x.stood ∙ same_man
+    leader = led_man b m q man c stands
 
     target : c.led.target ≡ passed man m.from m.to
     target = ap (λ (p : Setup). p.target) c.leads.becomes ∙ ap (λ (y : Man). passed y m.from m.to) leader

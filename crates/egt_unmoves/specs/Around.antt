@@ -1,5 +1,6 @@
 -- What stands around a man that may have made the last move, and the squares that it tells.
 use Rattle.std.specs.Prelude.{◌≡◌, ◌≢◌, ℕ, ◌<◌, ◌↔◌, ◌⊎◌, Option, Some, None, IsTrue}
+use Rattle.std.specs.Int.{bit_at}
 use Rattle.egt_board.specs.declared.man.Kind.TheVariants.{P, K}
 use Rattle.egt_board.specs.declared.man.Man.{Man}
 use Rattle.egt_board.specs.declared.square_set.SquareSet.{SquareSet}
@@ -7,13 +8,17 @@ use Rattle.egt_board.specs.Beside.{StandsBeside}
 use Rattle.egt_board.specs.Camps.{IsOccupied}
 use Rattle.egt_board.specs.Man.{other_side}
 use Rattle.egt_board.specs.Pawn.{IsBeside, HasPawnBeside}
-use Rattle.egt_board.specs.Placement.{Stands}
+use Rattle.egt_board.specs.Placement.{Placement, Stands, IsFree}
 use Rattle.egt_board.specs.Setup.{Setup, IsKingOn}
 use Rattle.egt_board.specs.SquareSet.{Has}
 use Rattle.egt_moves.specs.declared.chess_move.Move.{Move}
 use Rattle.egt_moves.specs.Legal.{plain}
 use Rattle.egt_unmoves.specs.declared.around.Around.{Around}
 use Rattle.egt_unmoves.specs.Unmoves.{ComesBy, setup_before}
+
+-- men stand on all of these squares, and perhaps on others
+abbrev pub AreTaken : Placement → SquareSet → Type 0
+AreTaken men squares = (t : ℕ) → IsFree men t → bit_at squares.bits t ≡ 0
 
 -- the man, one of the side that waits, stands there, and this around him: the other men of his side but its king are one at most, or two
 pub record StandsAround (q : Setup) (man : Man) (to : ℕ) (around : Around) : Type 0 where

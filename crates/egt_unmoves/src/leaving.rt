@@ -2,14 +2,16 @@
 ghost use Rattle.std.specs.Prelude.{◌≡◌, ℕ, ◌<◌, ◌≤◌, ◌↔◌, None, IsTrue};
 ghost use Rattle.egt_board.specs.Man.{other_side};
 ghost use Rattle.egt_board.specs.Pawn.{HasPawnBeside, MayStand};
+ghost use Rattle.egt_board.specs.Placement.{Stands, IsFree};
 ghost use Rattle.egt_board.specs.Setup.{Setup, IsAdmissible};
 ghost use Rattle.egt_board.specs.SquareSet.{Has, size_of};
 ghost use Rattle.egt_board.specs.declared.man.Kind.TheVariants.{P};
+ghost use Rattle.egt_moves.specs.declared.chess_move.Move.{Move};
 ghost use Rattle.egt_unmoves.specs.Around.{StandsAround, CameFrom};
-ghost use Rattle.egt_unmoves.specs.Unmoves.{MayHaveLeft, Went};
+ghost use Rattle.egt_unmoves.specs.Unmoves.{ComesBy, MayHaveLeft, Went};
 
 use crate::around::Around;
-use crate::sources::sources_around;
+use crate::sources::{may_have_pawn, sources_around, ways_back};
 use crate::taking_back::is_pawn;
 use crate::targets::advanced_rank;
 use egt_board::{Man, Square, SquareSet};
@@ -48,4 +50,17 @@ pub fn squares_left(man: Man, to: Square, around: &Around) -> SquareSet
     } else {
         sources
     }
+}
+
+/// Squares among which are all from which the man on `to`, one of the side that waits, came by a legal move that neither captures nor promotes,
+/// wherever other men stand beside those on the squares of `held`: those from which it has a way past the squares of `held` alone.
+pub fn squares_open(man: Man, to: Square, held: SquareSet) -> SquareSet
+    ensures open { (q : Setup) → Stands q.men to man → man.side ≡ other_side q.side → ((t : ℕ) → Has held t → ¬ IsFree q.men t) →
+        (b : Setup) (m : Move) → m.to ≡ to → ComesBy b m q → Has result m.from }
+    ensures few { size_of result ≤ 28 }
+{
+    if is_pawn(man) && !may_have_pawn(to) {
+        return SquareSet::EMPTY;
+    }
+    ways_back(man, to, held)
 }

@@ -11,9 +11,9 @@ pub mod targets;
 pub mod unmove;
 
 pub use around::Around;
-pub use leaving::squares_left;
+pub use leaving::{squares_left, squares_open};
 pub use listing::unmoves;
-pub use targets::target_before;
+pub use targets::{may_have_had_target, target_before};
 pub use unmove::Unmove;
 
 #[cfg(test)]

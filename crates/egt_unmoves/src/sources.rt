@@ -14,7 +14,7 @@ ghost use Rattle.egt_board.specs.SquareSet.{Has, size_of};
 ghost use Rattle.egt_board.specs.declared.man.Kind.TheVariants.{P};
 ghost use Rattle.egt_board.specs.declared.man.Man.{Man};
 ghost use Rattle.egt_moves.specs.Room.{most_goals};
-ghost use Rattle.egt_unmoves.specs.Around.{StandsAround};
+ghost use Rattle.egt_unmoves.specs.Around.{AreTaken, StandsAround};
 ghost use Rattle.egt_unmoves.specs.Unmoves.{HasWay, MayHaveLeft, facing, men_before};
 
 use crate::around::{Around, look_around};
@@ -34,29 +34,33 @@ fn facing(man: Man) -> Man
     }
 }
 
-/// The squares from which the man, put there, attacks the square, where the other men stand on these squares.
+/// The squares from which the man, put there, attacks the square, where the other men stand on these squares. Where some stand elsewhere too, it
+/// attacks from these squares at most.
 #[inline(always)]
 fn attackers(man: Man, square: Square, occupied: SquareSet) -> SquareSet
-    ensures attackers { (men : Placement) → IsOccupied men occupied → (s : ℕ) → s < 64 → Has result s ↔ Reaches (IsFree (map.insert men s man)) man s square }
+    ensures found { (men : Placement) → AreTaken men occupied → (s : ℕ) → s < 64 → Reaches (IsFree (map.insert men s man)) man s square → Has result s }
+    ensures only { (men : Placement) → IsOccupied men occupied → (s : ℕ) → s < 64 → Has result s → Reaches (IsFree (map.insert men s man)) man s square }
     ensures few { size_of result ≤ most_goals man.kind }
 {
     reach_passes_over_its_end();
     gait::reach_past(facing(man), square, occupied)
 }
 
-/// The squares from which the piece or king may have come to `to`, past free squares. All men stand on the squares of `all`.
+/// The squares from which the piece or king may have come to `to`, past free squares, where all men stand on the squares of `held`. Where some
+/// stand elsewhere too, it came from these squares at most.
 #[inline(always)]
-fn piece_sources(man: Man, to: Square, all: SquareSet) -> SquareSet
+fn piece_sources(man: Man, to: Square, held: SquareSet) -> SquareSet
     requires { man.kind ≡ P → ⊥ }
-    ensures ways { (men : Placement) → IsOccupied men all → (s : ℕ) → s < 64 → Has result s ↔ HasWay men man to s }
+    ensures found { (men : Placement) → AreTaken men held → (s : ℕ) → s < 64 → HasWay men man to s → Has result s }
+    ensures only { (men : Placement) → IsOccupied men held → (s : ℕ) → s < 64 → Has result s → HasWay men man to s }
     ensures few { size_of result ≤ most_goals man.kind }
 {
-    attackers(man, to, all.less(to)).without(all)
+    attackers(man, to, held.less(to)).without(held)
 }
 
 /// Whether a pawn may stand on the square: on none of the first rank or the last.
 #[inline(always)]
-fn may_have_pawn(square: Square) -> bool
+pub(crate) fn may_have_pawn(square: Square) -> bool
     ensures { IsTrue result ↔ ((0 < rank_of square) × (rank_of square < 7)) }
 {
     let rank = square.rank();
@@ -64,11 +68,12 @@ fn may_have_pawn(square: Square) -> bool
 }
 
 /// The squares from which the pawn may have advanced to `to`: the one behind, or the second behind it after an advance of two squares.
-/// All men stand on the squares of `all`.
-fn pawn_sources(man: Man, to: Square, all: SquareSet) -> SquareSet
+/// All men stand on the squares of `held`; where some stand elsewhere too, it came from these squares at most.
+fn pawn_sources(man: Man, to: Square, held: SquareSet) -> SquareSet
     requires pawn { man.kind ≡ P }
     requires fits { MayStand man to }
-    ensures ways { (men : Placement) → IsOccupied men all → Stands men to man → (s : ℕ) → s < 64 → Has result s ↔ HasWay men man to s }
+    ensures found { (men : Placement) → AreTaken men held → Stands men to man → (s : ℕ) → s < 64 → HasWay men man to s → Has result s }
+    ensures only { (men : Placement) → IsOccupied men held → Stands men to man → (s : ℕ) → s < 64 → Has result s → HasWay men man to s }
     ensures few { size_of result ≤ 4 }
 {
     let back = man.side.other();
@@ -76,14 +81,30 @@ fn pawn_sources(man: Man, to: Square, all: SquareSet) -> SquareSet
     if !may_have_pawn(behind) {
         return SquareSet::EMPTY;
     }
-    if all.contains(behind) {
+    if held.contains(behind) {
         return SquareSet::EMPTY;
     }
     let near = SquareSet::EMPTY.with(behind);
     if to.rank() != advanced_rank(man.side) {
         return near;
     }
-    near.with(behind.ahead(back)).without(all)
+    near.with(behind.ahead(back)).without(held)
+}
+
+/// The squares from which the man may have come to `to`, past free squares, where all men stand on the squares of `held`. Where some stand
+/// elsewhere too, it came from these squares at most.
+#[inline(always)]
+pub(crate) fn ways_back(man: Man, to: Square, held: SquareSet) -> SquareSet
+    requires { MayStand man to }
+    ensures found { (men : Placement) → AreTaken men held → Stands men to man → (s : ℕ) → s < 64 → HasWay men man to s → Has result s }
+    ensures only { (men : Placement) → IsOccupied men held → Stands men to man → (s : ℕ) → s < 64 → Has result s → HasWay men man to s }
+    ensures few { size_of result ≤ most_goals man.kind }
+{
+    if is_pawn(man) {
+        pawn_sources(man, to, held)
+    } else {
+        piece_sources(man, to, held)
+    }
 }
 
 /// The squares to which a man may come so that this one, if there is one, does not attack the king: where these squares are occupied,
@@ -119,11 +140,7 @@ pub(crate) fn sources_around(man: Man, to: Square, around: &Around) -> SquareSet
     ensures left { (q : Setup) → IsAdmissible q → StandsAround q man to around.now → (s : ℕ) → s < 64 → Has result s ↔ MayHaveLeft q man to s }
     ensures few { size_of result ≤ most_goals man.kind }
 {
-    let ways = if is_pawn(man) {
-        pawn_sources(man, to, around.all)
-    } else {
-        piece_sources(man, to, around.all)
-    };
+    let ways = ways_back(man, to, around.all);
     ways.common(quiet(man, to, around))
 }
 

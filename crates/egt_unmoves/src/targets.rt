@@ -1,16 +1,18 @@
 //! The target that a position may have had before the last move.
-ghost use Rattle.std.specs.Prelude.{◌≡◌, ◌<◌, ◌⊎◌, ◌↔◌, None, IsTrue};
+ghost use Rattle.std.specs.Prelude.{◌≡◌, ◌<◌, ◌⊎◌, ◌↔◌, ℕ, true, false, Some, None, IsTrue};
 ghost use Rattle.egt_board.specs.Man.{other_side};
 ghost use Rattle.egt_board.specs.Pawn.{pawn_of, ahead, HasPawnBeside};
 ghost use Rattle.egt_board.specs.Placement.{Stands};
 ghost use Rattle.egt_board.specs.Setup.{Setup};
 ghost use Rattle.egt_board.specs.Square.{rank_of};
 ghost use Rattle.egt_board.specs.Target.{IsTarget};
+ghost use Rattle.egt_board.specs.declared.square_set.SquareSet.{SquareSet};
 ghost use Rattle.egt_moves.specs.declared.chess_move.Move.{Move};
+ghost use Rattle.egt_unmoves.specs.Around.{AreMenOf};
 ghost use Rattle.egt_unmoves.specs.Targets.{advanced_rank, StoodBeside, MightBeTaken};
 ghost use Rattle.egt_unmoves.specs.Unmoves.{ComesBy};
 
-use egt_board::{Board, Position, Side, Square};
+use egt_board::{Board, Man, Position, Side, Square};
 
 /// Whether a pawn may have passed this square in the last move, with that side to move now, and a pawn stands ready
 /// to take it.
@@ -51,6 +53,28 @@ fn might_be_taken(position: &Position, mover: Side, square: Square) -> bool
     ensures { IsTrue result ↔ MightBeTaken position.now.men mover square }
 {
     has_advanced(position, mover, square) && stood_beside(position.board(), mover.other(), square)
+}
+
+/// Whether the man, if there is one, is a pawn of that side on the rank that it reaches by an advance of two squares.
+fn is_advanced(entry: &Option<(Man, Square)>, side: Side) -> bool
+    ensures { (s : ℕ) → entry.now ≡ Some (pawn_of side, s) → rank_of s ≡ advanced_rank side → result ≡ true }
+{
+    match entry {
+        Some((man, square)) => *man == side.pawn() && square.rank() == advanced_rank(side),
+        None => false,
+    }
+}
+
+/// Whether the position before the last move may have had a target, as far as the men beside the kings tell, in whatever order: one of them
+/// is a pawn of the side to move on the rank that it reaches by an advance of two squares.
+pub fn may_have_had_target(
+    mover: Side,
+    one: &Option<(Man, Square)>,
+    other: &Option<(Man, Square)>,
+) -> bool
+    ensures { (q : Setup) (king : ℕ) (all : SquareSet) → result ≡ false → mover ≡ q.side → AreMenOf q king all one.now other.now → (b : Setup) (m : Move) → ComesBy b m q → b.target ≡ None }
+{
+    is_advanced(one, mover) || is_advanced(other, mover)
 }
 
 /// The target that the position before the last move had, where it had one: behind a pawn of the side that is to move

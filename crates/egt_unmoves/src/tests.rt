@@ -1,5 +1,7 @@
 //! Worked positions, whose unmoves are found by hand, and samples of four classes against plain play.
-use crate::leaving::squares_left;
+use crate::leaving::{squares_left, squares_open};
+use crate::sources::may_have_pawn;
+use crate::taking_back::is_pawn;
 use crate::{Around, Unmove, target_before, unmoves};
 use arrayvec::ArrayVec;
 use egt_board::{Kind, Man, Position, Side, Square, SquareSet};
@@ -235,6 +237,72 @@ fn a_pawn_came_by_one_square_where_it_may_not_be_taken(rt: HostRuntime) {
     assert!(rt; squares_left(pawn, Square::at(36), &around).bits == 1 << 44 | 1 << 52);
     around.taker = true;
     assert!(rt; squares_left(pawn, Square::at(36), &around).bits == 1 << 44);
+}
+
+/// The set of these squares, as `e6 c4`.
+fn squares(words: &str) -> Option<SquareSet> {
+    let mut set = SquareSet::EMPTY;
+    for word in words.split(' ') {
+        if !word.is_empty() {
+            set = set.with(square(word.as_bytes())?);
+        }
+    }
+    Some(set)
+}
+
+/// Whether the squares open to the man, as `Re4`, past those that are held are these.
+fn opens(word: &str, held: &str, open: &str) -> Option<bool> {
+    let (man, to) = man(word.as_bytes())?;
+    Some(squares_open(man, to, squares(held)?) == squares(open)?)
+}
+
+#[test]
+fn held_squares_bar_the_way(rt: HostRuntime) {
+    assert!(rt; opens("Re4", "e6 c4", "d4 f4 g4 h4 e5 e3 e2 e1") == Some(true));
+    assert!(rt; opens("ba1", "d4 a2 a1", "b2 c3") == Some(true));
+    assert!(rt; opens("Qh8", "g8 g7 h7", "") == Some(true));
+    assert!(rt; opens("na1", "c2 b2", "b3") == Some(true));
+    assert!(rt; opens("Ka1", "b1", "a2 b2") == Some(true));
+}
+
+#[test]
+fn held_squares_bar_pawns_that_advance(rt: HostRuntime) {
+    assert!(rt; opens("Pe4", "d3 f3", "e3 e2") == Some(true));
+    assert!(rt; opens("pe5", "", "e6 e7") == Some(true));
+    assert!(rt; opens("Pe4", "e3", "") == Some(true));
+    assert!(rt; opens("Pe4", "e2", "e3") == Some(true));
+    assert!(rt; opens("Pe5", "", "e4") == Some(true));
+    // None comes from the first rank, nor to it or the last.
+    assert!(rt; opens("Pe2", "", "") == Some(true));
+    assert!(rt; opens("Pe8", "", "") == Some(true));
+    assert!(rt; opens("Pe1", "", "") == Some(true));
+}
+
+/// Whether the squares that the man left, as this stands around him, are open to him past those that are held.
+fn left_open(man: Man, to: Square, around: &Around, held: SquareSet) -> bool {
+    if is_pawn(man) && !may_have_pawn(to) {
+        return true;
+    }
+    squares_left(man, to, around)
+        .without(squares_open(man, to, held))
+        .is_empty()
+}
+
+#[test]
+fn squares_that_were_left_are_open(rt: HostRuntime) {
+    let kinds = [Kind::Q, Kind::R, Kind::B, Kind::N, Kind::P, Kind::K];
+    for number in 0..64 {
+        let to = Square::at(number);
+        let mut around = beside_a_rook();
+        around.all = around.all.with(to);
+        for kind in kinds {
+            for held in [0, 39, 56, number] {
+                let some = around.all.less(Square::at(held));
+                assert!(rt; left_open(black(kind), to, &around, some));
+                assert!(rt; left_open(white(kind), to, &around, some));
+            }
+        }
+    }
 }
 
 /// The move between two squares where it is legal, takes nothing and leads to this position.

@@ -1,6 +1,8 @@
 //! Games for the tests.
-ghost use Rattle.std.specs.Prelude.{◌≡◌, ◌<◌, ◌≤◌, length, filter};
-ghost use Rattle.std.specs.List.{range_with_len};
+ghost use Rattle.std.specs.Prelude.{◌≡◌, ◌↔◌, ◌⊎◌, ℕ, ◌+◌, ◌<◌, ◌≤◌, length, filter, IsTrue};
+ghost use Rattle.std.specs.List.{range_with_len, Contains};
+ghost use Rattle.arrayvec.specs.ArrayVec.{array_vec_len};
+ghost use Rattle.egt_graph.specs.Undecided.{IsMarked};
 ghost use Rattle.egt_graph.specs.Sample.{sample, sample_is_game, stairs, stairs_are_a_game, is_listed, is_pair, is_move, is_short};
 
 use crate::game::{Exit, Game, Start};
@@ -290,5 +292,76 @@ impl<'a, G: Game> Game for Uncounted<'a, G> {
             mated: self.game.mated(i),
             degree: None,
         })
+    }
+}
+
+/// The same game, which lists the marked sources of several nodes backwards, and again as far as there is room.
+#[derive(Drop)]
+pub(crate) struct Backwards<'a, G: Game> {
+    pub(crate) game: &'a G,
+}
+
+impl<'a, G: Game> Game for Backwards<'a, G> {
+    ghost graph = { λ s. G.graph s.game.now };
+
+    ghost lawful = { λ s. G.lawful s.game.now };
+
+    fn size(&self) -> u32 {
+        self.game.size()
+    }
+
+    fn void(&self, i: u32) -> bool {
+        self.game.void(i)
+    }
+
+    fn mated(&self, i: u32) -> bool {
+        self.game.mated(i)
+    }
+
+    fn out(&self, i: u32) -> ArrayVec<u32, 64> {
+        self.game.out(i)
+    }
+
+    fn degree(&self, i: u32) -> usize {
+        self.game.degree(i)
+    }
+
+    fn into(&self, j: u32) -> ArrayVec<u32, 128> {
+        self.game.into(j)
+    }
+
+    fn exits(&self, i: u32) -> ArrayVec<Exit, 64> {
+        self.game.exits(i)
+    }
+
+    fn list_marked_into(&self, nodes: &[u32], marks: &[u64], list: &mut ArrayVec<u32, 8192>) {
+        let mut sources = ArrayVec::new();
+        self.game.list_marked_into(nodes, marks, &mut sources);
+        list.clear();
+        push_marked(list, sources.as_slice(), marks);
+        push_marked(list, sources.as_slice(), marks);
+    }
+}
+
+/// Adds the marked sources, the last first, as far as there is room.
+fn push_marked(list: &mut ArrayVec<u32, 8192>, sources: &[u32], marks: &[u64])
+    ensures kept { (i : ℕ) → Contains list.old.items i → Contains list.new.items i }
+    ensures within { (i : ℕ) → Contains list.new.items i → Contains list.old.items i ⊎ Contains sources.now i }
+    ensures whole { array_vec_len list.old + length sources.now ≤ 8192 → (i : ℕ) → Contains sources.now i → IsMarked marks.now i → Contains list.new.items i }
+{
+    for k in 0..sources.len() {
+        let source = sources[sources.len() - 1 - k];
+        if is_marked(marks, source) && !list.is_full() {
+            list.push(source);
+        }
+    }
+}
+
+fn is_marked(marks: &[u64], i: u32) -> bool
+    ensures { IsTrue result ↔ IsMarked marks.now i }
+{
+    match marks.get(i as usize / 64) {
+        Some(word) => (*word >> (i % 64)) & 1 == 1,
+        None => false,
     }
 }

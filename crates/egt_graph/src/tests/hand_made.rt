@@ -1,5 +1,5 @@
 //! Small games whose values were worked out by hand.
-use super::games::{Sample, Stairs, Uncounted};
+use super::games::{Backwards, STAIRS, Sample, Stairs, Uncounted, stair_entry};
 use crate::{Exit, Game, SolveFault, Start, UNTOLD, solve, solve_and_count};
 use arrayvec::ArrayVec;
 use std::test::*;
@@ -104,6 +104,54 @@ fn moves_alone(rt: HostRuntime) -> Result<(), Fail> {
     let ranks = solve(rt.alloc(), &game, 2)?;
     assert_eq!(rt; ranks.entries(), [1, 1, 1, 0, 3, 4, 7, 1, 4].as_slice());
     assert!(rt; matches!(solve(rt.alloc(), &game, 1), Err(SolveFault::TooDeep)));
+    Ok(())
+}
+
+// 0 and 1 are checkmates. 2 leads to both and 3 to 1: wins in 1. 4 leaves for a position won in 1: a loss in 2. 5 leaves for
+// one lost in 1: a win in 2. 6 leads to 2 and 3: a loss in 2. 7 leads to 4 and 6, 9 to 6 and 8: wins in 3. 8 leads to 5: a loss in 3.
+// 10 leads to 5 and 7: a loss in 4.
+fn won_among_lost() -> Sample<'static> {
+    Sample {
+        size: 11,
+        voids: &[],
+        mates: &[0, 1],
+        moves: &[
+            (2, 0),
+            (2, 1),
+            (3, 1),
+            (6, 2),
+            (6, 3),
+            (7, 4),
+            (7, 6),
+            (8, 5),
+            (9, 6),
+            (9, 8),
+            (10, 5),
+            (10, 7),
+        ],
+        exits: &[(4, Exit::Win(1)), (5, Exit::Loss(1))],
+    }
+}
+
+// In whatever order, and however often, a game lists the marked sources of several nodes.
+#[test]
+fn sources_of_several_nodes(rt: HostRuntime) -> Result<(), Fail> {
+    let game = won_among_lost();
+    let want = [3, 3, 4, 4, 7, 6, 7, 8, 9, 8, 11];
+    let ranks = solve(rt.alloc(), &game, 4)?;
+    assert_eq!(rt; ranks.entries(), want.as_slice());
+    let ranks = solve(rt.alloc(), &Backwards { game: &game }, 4)?;
+    assert_eq!(rt; ranks.entries(), want.as_slice());
+    Ok(())
+}
+
+#[test]
+fn sources_of_many_nodes(rt: HostRuntime) -> Result<(), Fail> {
+    let ranks = solve(rt.alloc(), &Backwards { game: &STAIRS }, 4)?;
+    assert_eq!(rt; ranks.entries().len(), 10_000);
+    for (node, entry) in ranks.entries().iter().enumerate() {
+        assert_eq!(rt; *entry, stair_entry(node));
+    }
     Ok(())
 }
 

@@ -5,20 +5,20 @@ use Rattle.egt_graph.proofs.step.mark_sources.Goals as goal
 pub mark_wins-requires-clause-within : goal.mark_wins-requires-clause-within
 mark_wins-requires-clause-within g c =
     rw c.as_slice.ensures.value
-    (sources_within (g.G.Game.graph c.args.game.now) (g.met.G.Game.lawful c.args.game.now) c.args.node (length c.args.entries.now) c.args.marks.now c.list_marked_into.new.list.items
-    c.requires.node c.list_marked_into.ensures (omega (arith, c.requires.entries_long)))
+    (sources_within (g.G.Game.graph c.args.game.now) (g.met.G.Game.lawful c.args.game.now) (length c.args.entries.now) c.args.nodes.now c.args.marks.now c.list_marked_into.new.list.items
+    c.requires.are_nodes c.list_marked_into.ensures (omega (arith, c.requires.entries_long)))
 
 pub unmark-requires : goal.unmark-requires
 unmark-requires g c = record {
   room = rw c.as_slice-2.ensures.value
-      (sources_within (g.G.Game.graph c.args.game.now) (g.met.G.Game.lawful c.args.game.now) c.args.node (64 * length c.args.marks.now) c.args.marks.now c.list_marked_into.new.list.items
-      c.requires.node c.list_marked_into.ensures (omega (arith, c.requires.entries_long, c.requires.marks_room)));
+      (sources_within (g.G.Game.graph c.args.game.now) (g.met.G.Game.lawful c.args.game.now) (64 * length c.args.marks.now) c.args.nodes.now c.args.marks.now c.list_marked_into.new.list.items
+      c.requires.are_nodes c.list_marked_into.ensures (omega (arith, c.requires.entries_long, c.requires.marks_room)));
 }
 
 pub returns-clause-marks : goal.returns-clause-marks
 returns-clause-marks g c =
-    marks_all (g.G.Game.graph c.args.game.now) c.args.node c.args.plies c.args.entries.now c.mark_wins.new.entries c.args.marks.now c.list_marked_into.new.list.items
-    c.requires.marked c.list_marked_into.ensures (rw c.as_slice.ensures.value at (c.mark_wins.ensures.marks))
+    marks_all (g.G.Game.graph c.args.game.now) c.args.nodes.now c.args.plies c.args.entries.now c.mark_wins.new.entries c.args.marks.now c.list_marked_into.new.list.items
+    c.requires.are_nodes c.requires.marked c.list_marked_into.ensures (rw c.as_slice.ensures.value at (c.mark_wins.ensures.marks))
 
 pub returns-clause-marked : goal.returns-clause-marked
 returns-clause-marked g c i one =

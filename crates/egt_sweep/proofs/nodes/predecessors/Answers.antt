@@ -1,9 +1,13 @@
-use Rattle.std.proofs.Common.{ℕ, ◌<◌, subst}
+use Rattle.std.proofs.Common.{ℕ, ◌<◌, arith, subst}
+use Rattle.std.proofs.lemmas.Nat.Bits.{bit_at-zero}
 use Rattle.egt_sweep.proofs.Standing.{sources_told, at_setup}
 use Rattle.egt_sweep.proofs.nodes.predecessors.Goals as goal
 
 pub sources-requires-clause-at : goal.sources-requires-clause-at
 sources-requires-clause-at c = at_setup c.laws.ensures c.args.class c.args.index c.requires
+
+pub sources-requires-clause-idle : goal.sources-requires-clause-idle
+sources-requires-clause-idle c s k has came = let none = bit_at-zero s in omega (arith, none, has)
 
 pub returns : goal.returns
 returns c = sources_told c.laws.ensures c.args.class c.args.index c.args.column c.sources.new.list.items (subst (λ (n : ℕ). n < 36) c.number-number.ensures.value c.number-number.ensures.below)

@@ -18,9 +18,17 @@ returns-then-not-has_target-clause-before c told b m comes =
     let of = c.laws.ensures.indexed_class _ c.args.class c.args.index at.spells.admissible at.index in
     no_taker b _ m comes (c.a_class_without_targets_has_pawns_of_one_side.ensures c.args.class of.0 _ at.spells.admissible of.1 (sym c.has_target.ensures ∙ c.if-not-has_target.true))
 
+none_there : (o : Option ℕ) → is_some o ≡ false → o ≡ None
+none_there None e = refl
+none_there (Some t) e = absurd (false≢true (sym e))
+
 pub returns-clause-now : goal.returns-clause-now
 returns-clause-now c told = none_there _ (c.requires.target ∙ c.if-passed.false)
-  where
-    none_there : (o : Option ℕ) → is_some o ≡ false → o ≡ None
-    none_there None e = refl
-    none_there (Some t) e = absurd (false≢true (sym e))
+
+pub returns-then-not-may_have_had_target-clause-now : goal.returns-then-not-may_have_had_target-clause-now
+returns-then-not-may_have_had_target-clause-now c told = none_there _ (c.requires.target ∙ c.if-passed.false)
+
+pub returns-then-not-may_have_had_target-clause-before : goal.returns-then-not-may_have_had_target-clause-before
+returns-then-not-may_have_had_target-clause-before c told b m comes =
+    let q = setup_at c.args.class c.args.index in
+    c.may_have_had_target.ensures q c.men_of-men.result.king c.men_of-men.result.all c.if-not-may_have_had_target.true (c.side.ensures q c.requires.frame) (c.men_of-men.ensures q c.requires.frame) b m comes

@@ -3,7 +3,7 @@ use Rattle.std.proofs.lemmas.Grind.{common_steps}
 use Rattle.egt_graph.specs.Frontier.{blocks_of}
 use Rattle.egt_graph.specs.News.{parts_of}
 use Rattle.egt_graph.proofs.Beginning.{begun_run}
-use Rattle.egt_graph.proofs.Marking.{all_marked}
+use Rattle.egt_graph.proofs.Marking.{marks_begun}
 use Rattle.egt_graph.proofs.Noting.{begun_news}
 use Rattle.egt_graph.proofs.rounds.Rounds.counted.Goals as goal
 
@@ -12,9 +12,9 @@ invariant_of-rounds g c =
     let small : (g.G.Game.graph c.args.game.now).size < 2 ^ 32 = omega (arith, c.size.ensures) in
     let flags : c.in_ok-posted.posted.items ≡ replicate (blocks_of (g.G.Game.graph c.args.game.now).size) false = grind (arith, common_steps) in
     let news : c.in_ok-news.news.items ≡ replicate (parts_of (g.G.Game.graph c.args.game.now).size) true = grind (arith, common_steps) in
-    let coming : c.in_ok-coming.coming.items ≡ replicate (parts_of (g.G.Game.graph c.args.game.now).size) false = grind (arith, common_steps) in
-    let marks : c.in_ok-marks.marks.items ≡ replicate (parts_of (g.G.Game.graph c.args.game.now).size) 18446744073709551615 = grind (arith, common_steps) in (
+    let coming : c.in_ok-coming.coming.items ≡ replicate (parts_of (g.G.Game.graph c.args.game.now).size) false = grind (arith, common_steps) in (
       begun_run (g.G.Game.graph c.args.game.now) c.args.limit _ _ _ _ _ _ _ c.in_ok-entries.ensures.0 small c.requires flags,
       begun_news (g.G.Game.graph c.args.game.now) _ _ _ _ _ _ _ _ c.in_ok-entries.ensures.0 news coming,
-      all_marked (g.G.Game.graph c.args.game.now).size _ _ c.in_ok-entries.ensures.0.entries_long marks,
+      marks_begun (g.G.Game.graph c.args.game.now).size _ _ c.in_ok-entries.ensures.0.entries_long
+          (rw c.deref.ensures.value at c.in_ok-marks.ensures.room) (rw c.deref.ensures.value at c.in_ok-marks.ensures.marks),
     )

@@ -1,12 +1,13 @@
-use Rattle.std.proofs.Common.{arith, sym, ◌∙◌}
+use Rattle.std.proofs.Common.{sym, ◌∙◌, inl, inr}
 use Rattle.std.proofs.lemmas.Bool.{false≢true, eq-eqb}
-use Rattle.egt_index.proofs.Framed.{least_alone, least_by_kings}
 use Rattle.egt_index.proofs.frame.Frame.is_own_after.Goals as goal
 
 pub returns-then-not-self-clause-own : goal.returns-then-not-self-clause-own
-returns-then-not-self-clause-own c = λ own p is. least_alone c.facts.ensures p c.args.from c.args.self.now (omega (arith, c.number-number.ensures.below, c.number-number.ensures.value)) is c.if-not-self.true
+returns-then-not-self-clause-own c = λ own. inl c.if-not-self.true
 
 pub returns-clause-own : goal.returns-clause-own
-returns-clause-own c = λ own p is.
-    least_by_kings c.facts.ensures p c.args.from c.args.self.now (omega (arith, c.number-number.ensures.below, c.number-number.ensures.value)) is own
-    (λ same. false≢true (sym c.if-eq.false ∙ c.eq.ensures ∙ eq-eqb _ _ same)) (λ same. false≢true (sym c.if-eq-2.false ∙ c.eq-else-eq.ensures ∙ eq-eqb _ _ same))
+returns-clause-own c = λ own. inr (
+  own,
+  (λ same. false≢true (sym c.if-eq.false ∙ c.eq.ensures ∙ eq-eqb _ _ same)),
+  (λ same. false≢true (sym c.if-eq-2.false ∙ c.eq-else-eq.ensures ∙ eq-eqb _ _ same)),
+)

@@ -2,7 +2,7 @@ use Rattle.std.proofs.Common.{◌<◌, Some, ap, arith, sym, ◌∙◌, subst}
 use Rattle.std.proofs.lemmas.Bool.{false≢true, eqb-true, eq-eqb}
 use Rattle.egt_class.specs.Material.{has_equal_sides}
 use Rattle.egt_index.specs.Ways.{sum_code, LeadsHome}
-use Rattle.egt_index.proofs.Framed.{own_seen}
+use Rattle.egt_index.proofs.Framed.{least_own, own_seen}
 use Rattle.egt_index.proofs.frame.Frame.steps.Goals as goal
 
 pub returns-then-not-is_own_after : goal.returns-then-not-is_own_after
@@ -27,7 +27,7 @@ returns-then-eq c = λ p man is stands.
       lead = (
         subst (λ s. LeadsHome frame.class p s c.at_home.result) (eqb-true _ _ (sym c.eq.ensures ∙ c.if-eq.true))
             (c.at_home.ensures.leads p (own_seen c.facts.ensures p frame.stand.white frame c_in is c.other-side.result c.other-side.ensures)),
-        c.is_own_after.ensures.own c.if-not-is_own_after.false p is,
+        least_own c.facts.ensures p c.args.from frame c_in is (c.is_own_after.ensures.own c.if-not-is_own_after.false),
       );
     }
 
@@ -37,7 +37,7 @@ returns-in-Some c = λ p man is stands.
       class_in = omega (arith, c.number-number.ensures.below, c.number-number.ensures.value);
       is_of = is.stand.is_of;
       fit = c.in-Some.ensures.fits;
-      lead = λ to q moved. c.is_own_after.ensures.own c.if-not-is_own_after.false p is to q (Some (sum_code c.in-Some.sum to)) moved (c.in-Some.ensures.leads p is (λ same. false≢true (sym c.if-eq.false ∙ c.eq.ensures ∙ eq-eqb _ _ same)) to q moved);
+      lead = λ to q moved. least_own c.facts.ensures p c.args.from c.args.self.now (omega (arith, c.number-number.ensures.below, c.number-number.ensures.value)) is (c.is_own_after.ensures.own c.if-not-is_own_after.false) to q (Some (sum_code c.in-Some.sum to)) moved (c.in-Some.ensures.leads p is (λ same. false≢true (sym c.if-eq.false ∙ c.eq.ensures ∙ eq-eqb _ _ same)) to q moved);
     }
 
 pub returns-in-None : goal.returns-in-None
@@ -46,5 +46,5 @@ returns-in-None c = λ p man is stands.
       class_in = omega (arith, c.number-number.ensures.below, c.number-number.ensures.value);
       is_of = is.stand.is_of;
       fit = c.own_way.ensures.fits;
-      lead = (c.own_way.ensures.leads p is (λ same. false≢true (sym c.if-eq.false ∙ c.eq.ensures ∙ eq-eqb _ _ same)), c.is_own_after.ensures.own c.if-not-is_own_after.false p is);
+      lead = (c.own_way.ensures.leads p is (λ same. false≢true (sym c.if-eq.false ∙ c.eq.ensures ∙ eq-eqb _ _ same)), least_own c.facts.ensures p c.args.from c.args.self.now (omega (arith, c.number-number.ensures.below, c.number-number.ensures.value)) is (c.is_own_after.ensures.own c.if-not-is_own_after.false));
     }

@@ -2,6 +2,6 @@ use Rattle.egt_sweep.proofs.mate_game.MateGameGame.list_marked_into.Goals as goa
 
 pub returns : goal.returns
 returns c = record {
-  within = λ i has. ((c.marked_predecessors.ensures i).0 has).0;
-  whole = λ i has marked. (c.marked_predecessors.ensures i).1 (has, marked);
+  within = λ i has. let found = (c.marked_predecessors.ensures i).0 has in (found.0, found.1, found.2);
+  whole = λ i j listed has marked. (c.marked_predecessors.ensures i).1 (j, listed, has, marked);
 }

@@ -1,0 +1,10 @@
+use Rattle.std.proofs.Common.{◌<◌, ap, subst, sym, ◌∙◌, arith}
+use Rattle.egt_index.specs.Shelf.{shelf_len}
+use Rattle.egt_index.proofs.Shelved.{len_some, lens_are_right}
+use Rattle.egt_index.proofs.shelf.shelf_len.Goals as goal
+
+pub returns-clause-is : goal.returns-clause-is
+returns-clause-is c = c.from-2.ensures ∙ lens_are_right c.from.result (omega (arith, c.number.ensures.below, c.from.ensures)) ∙ ap shelf_len (c.from.ensures ∙ c.number.ensures.value)
+
+pub returns-clause-some : goal.returns-clause-some
+returns-clause-some c = subst (λ n. 0 < n) (sym c.from-2.ensures) (len_some c.from.result (omega (arith, c.number.ensures.below, c.from.ensures)))

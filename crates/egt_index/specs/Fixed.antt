@@ -1,0 +1,17 @@
+-- The men of a position who stand on their squares wherever the last man of the class stands.
+use Rattle.std.specs.Prelude.{◌≡◌, ◌≢◌, ℕ, ◌⊎◌, Some}
+use Rattle.egt_board.specs.Beside.{StandsBeside}
+use Rattle.egt_board.specs.Placement.{Stands}
+use Rattle.egt_board.specs.Setup.{Setup, IsKingOn}
+use Rattle.egt_board.specs.declared.man.Kind.TheVariants.{K}
+use Rattle.egt_board.specs.declared.man.Man.{Man}
+use Rattle.egt_board.specs.declared.man.Side.TheVariants.{White, Black}
+use Rattle.egt_index.specs.declared.fixed.Fixed.{Fixed}
+
+-- the side is to move, and these men stand on their squares; beside them there is no other man than the last
+pub record StandsFixed (p : Setup) (fixed : Fixed) : Type 0 where
+  pub side_is : p.side ≡ fixed.side
+  pub white_there : IsKingOn p.men White fixed.white
+  pub black_there : IsKingOn p.men Black fixed.black
+  pub one_there : StandsBeside p.men fixed.one
+  pub others : (s : ℕ) (man : Man) → Stands p.men s man → man.kind ≢ K → (fixed.one ≡ Some (man, s)) ⊎ (fixed.last ≡ Some man)
