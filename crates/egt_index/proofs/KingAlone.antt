@@ -1,5 +1,5 @@
 -- The side of a class that has its king alone.
-use Rattle.std.proofs.Common.{◌≡◌, ◌≢◌, ℕ, ◌<◌, ◌||◌, ◌&&◌, ◌⊎◌, not, Bool, true, false, eqb, arith, refl, sym, ap, ◌∙◌, inl, inr}
+use Rattle.std.proofs.Common.{◌≡◌, ◌≢◌, ℕ, ◌<◌, ◌||◌, ◌&&◌, ◌⊎◌, not, Bool, true, false, eqb, zero, suc, arith, refl, sym, ap, ◌∙◌, inl, inr}
 use Rattle.std.specs.Prelude.{slice_index_or}
 use Rattle.std.proofs.lemmas.Bool.{false≢true, eqb-true, and_parts}
 use Rattle.std.proofs.lemmas.List.{get_or_default}
@@ -15,6 +15,7 @@ use Rattle.egt_board.specs.Setup.{Setup}
 use Rattle.egt_class.specs.Below.{all_below, passes_below}
 use Rattle.egt_class.specs.Material.{material_of, materials, men_in}
 use Rattle.egt_index.specs.Code.{Spells}
+use Rattle.egt_index.specs.Movers.{HasManBeside}
 use Rattle.egt_index.specs.Spelled.{Ends}
 use Rattle.egt_index.specs.declared.movers.TheConstants.{BLACK_ALONE}
 use Rattle.egt_index.proofs.Classes.{spells_class}
@@ -66,6 +67,56 @@ black_alone c d c_in is = none_of c Black
 
 pub white_alone : (c : ℕ) → c ≡ 0 → (kind : Kind) → kind ≢ K → men_in c White kind ≡ 0
 white_alone c is = none_of c White (ap (λ n. none_beside n White) is ∙ right_white)
+
+others_black : all_below (λ c. slice_index_or BLACK_ALONE c false || not (none_beside c Black)) 36 ≡ true
+unfolding all_below material_of materials men_in
+others_black = refl
+
+others_white : all_below (λ c. eqb c 0 || not (none_beside c White)) 36 ≡ true
+unfolding all_below material_of materials men_in
+others_white = refl
+
+second : (a b : Bool) → a ≡ false → (a || b) ≡ true → b ≡ true
+second true b f h = absurd (false≢true (sym f))
+second false b f h = h
+
+above : (n : ℕ) → eqb n 0 ≡ false → 0 < n
+above zero h = absurd (false≢true (sym h))
+above (suc n) h = omega arith
+
+-- some kind has a man
+some_of : (c : ℕ) (side : Side) → not (none_beside c side) ≡ true → HasManBeside c side
+some_of c side = by_queens (eqb (men_in c side Q) 0) refl
+  where
+    man : (kind : Kind) → kind ≢ K → eqb (men_in c side kind) 0 ≡ false → HasManBeside c side
+    man kind other some = record { kind = kind; beside = other; there = above (men_in c side kind) some }
+
+    by_pawns : (a : Bool) → eqb (men_in c side P) 0 ≡ a → not a ≡ true → HasManBeside c side
+    by_pawns true is h = absurd (false≢true h)
+    by_pawns false is h = man P (λ e. let n = ap kind_number e in omega (arith, n)) is
+
+    by_knights : (a : Bool) → eqb (men_in c side N) 0 ≡ a → not (a && eqb (men_in c side P) 0) ≡ true → HasManBeside c side
+    by_knights true is h = by_pawns (eqb (men_in c side P) 0) refl h
+    by_knights false is h = man N (λ e. let n = ap kind_number e in omega (arith, n)) is
+
+    by_bishops : (a : Bool) → eqb (men_in c side B) 0 ≡ a → not (a && (eqb (men_in c side N) 0 && eqb (men_in c side P) 0)) ≡ true → HasManBeside c side
+    by_bishops true is h = by_knights (eqb (men_in c side N) 0) refl h
+    by_bishops false is h = man B (λ e. let n = ap kind_number e in omega (arith, n)) is
+
+    by_rooks : (a : Bool) → eqb (men_in c side R) 0 ≡ a → not (a && (eqb (men_in c side B) 0 && (eqb (men_in c side N) 0 && eqb (men_in c side P) 0))) ≡ true → HasManBeside c side
+    by_rooks true is h = by_bishops (eqb (men_in c side B) 0) refl h
+    by_rooks false is h = man R (λ e. let n = ap kind_number e in omega (arith, n)) is
+
+    by_queens : (a : Bool) → eqb (men_in c side Q) 0 ≡ a → not (a && (eqb (men_in c side R) 0 && (eqb (men_in c side B) 0 && (eqb (men_in c side N) 0 && eqb (men_in c side P) 0)))) ≡ true → HasManBeside c side
+    by_queens true is h = by_rooks (eqb (men_in c side R) 0) refl h
+    by_queens false is h = man Q (λ e. let n = ap kind_number e in omega (arith, n)) is
+
+pub black_beside : (c : ℕ) (d : Bool) → c < 36 → slice_index_or BLACK_ALONE c d ≡ false → HasManBeside c Black
+black_beside c d c_in is = some_of c Black
+    (second (slice_index_or BLACK_ALONE c false) _ (sym (get_or_default BLACK_ALONE c d false c_in) ∙ is) (passes_below (λ c. slice_index_or BLACK_ALONE c false || not (none_beside c Black)) 36 c others_black c_in))
+
+pub white_beside : (c : ℕ) → c < 36 → eqb c 0 ≡ false → HasManBeside c White
+white_beside c c_in is = some_of c White (second (eqb c 0) _ is (passes_below (λ c. eqb c 0 || not (none_beside c White)) 36 c others_white c_in))
 
 king_or : (kind : Kind) → (kind ≡ K) ⊎ (kind ≢ K)
 king_or K = inl refl

@@ -1,5 +1,6 @@
 -- Pawns that have advanced two squares, and those that might have taken them in passing.
-use Rattle.std.specs.Prelude.{◌≡◌, ℕ, ◌⊎◌}
+use Rattle.std.specs.Prelude.{◌≡◌, ℕ, ◌⊎◌, Option, Some}
+use Rattle.egt_board.specs.declared.man.Man.{Man}
 use Rattle.egt_board.specs.declared.man.Side.{Side}
 use Rattle.egt_board.specs.declared.man.Side.TheVariants.{White, Black}
 use Rattle.egt_board.specs.Man.{other_side}
@@ -21,3 +22,9 @@ pub record MightBeTaken (men : Placement) (side : Side) (square : ℕ) : Type 0 
   pub rank : rank_of square ≡ advanced_rank side
   pub stands : Stands men square (pawn_of side)
   pub taker : StoodBeside men (other_side side) square
+
+-- the man, if there is one, is a pawn of that side that has reached this rank
+pub record HasAdvanced (entry : Option (Man × ℕ)) (side : Side) : Type 0 where
+  pub square : ℕ
+  pub there : entry ≡ Some (pawn_of side, square)
+  pub rank : rank_of square ≡ advanced_rank side

@@ -9,7 +9,7 @@ ghost use Rattle.egt_board.specs.Target.{IsTarget};
 ghost use Rattle.egt_board.specs.declared.square_set.SquareSet.{SquareSet};
 ghost use Rattle.egt_moves.specs.declared.chess_move.Move.{Move};
 ghost use Rattle.egt_unmoves.specs.Around.{AreMenOf};
-ghost use Rattle.egt_unmoves.specs.Targets.{advanced_rank, StoodBeside, MightBeTaken};
+ghost use Rattle.egt_unmoves.specs.Targets.{advanced_rank, HasAdvanced, StoodBeside, MightBeTaken};
 ghost use Rattle.egt_unmoves.specs.Unmoves.{ComesBy};
 
 use egt_board::{Board, Man, Position, Side, Square};
@@ -57,7 +57,7 @@ fn might_be_taken(position: &Position, mover: Side, square: Square) -> bool
 
 /// Whether the man, if there is one, is a pawn of that side on the rank that it reaches by an advance of two squares.
 fn is_advanced(entry: &Option<(Man, Square)>, side: Side) -> bool
-    ensures { (s : ℕ) → entry.now ≡ Some (pawn_of side, s) → rank_of s ≡ advanced_rank side → result ≡ true }
+    ensures { IsTrue result ↔ HasAdvanced entry.now side }
 {
     match entry {
         Some((man, square)) => *man == side.pawn() && square.rank() == advanced_rank(side),
@@ -72,7 +72,8 @@ pub fn may_have_had_target(
     one: &Option<(Man, Square)>,
     other: &Option<(Man, Square)>,
 ) -> bool
-    ensures { (q : Setup) (king : ℕ) (all : SquareSet) → result ≡ false → mover ≡ q.side → AreMenOf q king all one.now other.now → (b : Setup) (m : Move) → ComesBy b m q → b.target ≡ None }
+    ensures targets { (q : Setup) (king : ℕ) (all : SquareSet) → result ≡ false → mover ≡ q.side → AreMenOf q king all one.now other.now → (b : Setup) (m : Move) → ComesBy b m q → b.target ≡ None }
+    ensures pawns { IsTrue result ↔ (HasAdvanced one.now mover ⊎ HasAdvanced other.now mover) }
 {
     is_advanced(one, mover) || is_advanced(other, mover)
 }

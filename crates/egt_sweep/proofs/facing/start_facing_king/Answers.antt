@@ -20,4 +20,4 @@ returns-else-may_move_pawn c =
     faced c.laws.ensures c.kings_attack_each_other.ensures (known (table_at c.args.library.now) c.args.class c.args.aim.now) (column_of c.args.aim.now) c.args.class c.args.index c.args.position.now
     c.requires.at c.requires.alone c.args.exits.now.items
     (c.requires.empty ∙ sym (pieces_stay_in c.laws.ensures c.args.position.now ok c.requires.alone c.args.class below of (known (table_at c.args.library.now) c.args.class c.args.aim.now) (column_of c.args.aim.now)
-    (c.may_move_pawn.ensures c.if-may_move_pawn.false c.args.position.now c.requires.at.spells)))
+    (c.may_move_pawn.ensures.absent c.if-may_move_pawn.false c.args.position.now c.requires.at.spells)))

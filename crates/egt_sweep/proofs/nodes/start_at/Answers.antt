@@ -15,4 +15,4 @@ returns c =
     c.is_checkmate_by.ensures (rw c.column.ensures at c.degree.ensures.value, c.degree.ensures.few) c.ways_of-ways.ensures.exits
 
 pub start_facing_king-requires-clause-alone : goal.start_facing_king-requires-clause-alone
-start_facing_king-requires-clause-alone c = c.faces_king_alone.ensures c.if-faces_king_alone.true c.args.position.now c.requires.at.spells
+start_facing_king-requires-clause-alone c = c.faces_king_alone.ensures.alone c.if-faces_king_alone.true c.args.position.now c.requires.at.spells

@@ -36,9 +36,9 @@ returns-then-not-may_move_pawn c =
     let found = there (position_at class c.args.index)
     (node_told class c.args.index c.args.mates.now c.requires.knows c.requires.below (subst (λ (xs : List ℕ). slice_index xs c.args.index ≢ 0) c.entries.ensures c.if-entries-index-eq0.false)) in
     let at = (position_is c.laws.ensures class c.args.index found.0).0 found.1 in
-    let alone : WaitsAlone found.0 = c.faces_king_alone.ensures c.if-faces_king_alone.true found.0 at.spells in
+    let alone : WaitsAlone found.0 = c.faces_king_alone.ensures.alone c.if-faces_king_alone.true found.0 at.spells in
     let of = c.laws.ensures.indexed_class found.0 class c.args.index at.spells.admissible at.index in
     subst (IsStart (class_game tables Zeroing class) c.args.index (Some (record { mated = false; degree = None })))
     (sym c.clear.ensures)
     (faced c.laws.ensures c.kings_attack_each_other.ensures tables Zeroing class c.args.index found.0 at alone []
-    (sym (pieces_stay_in c.laws.ensures found.0 at.spells.admissible alone class below of tables Zeroing (c.may_move_pawn.ensures c.if-not-may_move_pawn.true found.0 at.spells))))
+    (sym (pieces_stay_in c.laws.ensures found.0 at.spells.admissible alone class below of tables Zeroing (c.may_move_pawn.ensures.absent c.if-not-may_move_pawn.true found.0 at.spells))))

@@ -31,4 +31,4 @@ returns-then-not-may_have_had_target-clause-now c told = none_there _ (c.require
 pub returns-then-not-may_have_had_target-clause-before : goal.returns-then-not-may_have_had_target-clause-before
 returns-then-not-may_have_had_target-clause-before c told b m comes =
     let q = setup_at c.args.class c.args.index in
-    c.may_have_had_target.ensures q c.men_of-men.result.king c.men_of-men.result.all c.if-not-may_have_had_target.true (c.side.ensures q c.requires.frame) (c.men_of-men.ensures q c.requires.frame) b m comes
+    c.may_have_had_target.ensures.targets q c.men_of-men.result.king c.men_of-men.result.all c.if-not-may_have_had_target.true (c.side.ensures q c.requires.frame) (c.men_of-men.ensures q c.requires.frame) b m comes
