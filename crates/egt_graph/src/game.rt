@@ -3,6 +3,7 @@ ghost use Rattle.std.specs.Prelude.{◌≡◌, ◌+◌, ◌*◌, ◌<◌, ◌≤
 ghost use Rattle.std.specs.List.Sorted.{IsStrictlyIncreasing};
 ghost use Rattle.arrayvec.specs.ArrayVec.{array_vec_len};
 ghost use Rattle.egt_graph.specs.Graph.{Graph, IsNode, IsGame, IsStart};
+ghost use Rattle.egt_graph.specs.Columns.{into_all};
 ghost use Rattle.egt_graph.specs.Undecided.{AreMarkedInto};
 
 use arrayvec::ArrayVec;
@@ -113,6 +114,21 @@ pub trait Game {
         *list = self.into(j);
     }
 
+    /// Fills the list, in the place of what it had, with what `into` answers of each of these nodes, one after the other.
+    fn list_all_into(&self, nodes: &[u32], list: &mut ArrayVec<u32, 8192>)
+        requires nodes { All (IsNode (graph self.now)) nodes.now }
+        requires ascending { IsStrictlyIncreasing nodes.now }
+        requires few { length nodes.now ≤ 64 }
+        ensures { list.new.items ≡ into_all (graph self.now) nodes.now }
+    {
+        let mut sources = ArrayVec::new();
+        list.clear();
+        for node in nodes {
+            self.list_into(*node, &mut sources);
+            append(list, sources.as_slice());
+        }
+    }
+
     /// Fills the list, in the place of what it had, with nodes from which a move leads to one of these, in any order and perhaps more
     /// than once: with all that are marked, and perhaps with others. The mark of node `i` is bit `i % 64` of word `i / 64`. There is
     /// room for all moves into as many nodes as are asked of at once.
@@ -124,19 +140,14 @@ pub trait Game {
         ensures { AreMarkedInto (graph self.now) nodes.now marks.now list.new.items }
     {
         let _words = marks.len();
-        let mut sources = ArrayVec::new();
-        list.clear();
-        for node in nodes {
-            self.list_into(*node, &mut sources);
-            append(list, sources.as_slice());
-        }
+        self.list_all_into(nodes, list);
     }
 
     ghost lawful: { (game : Self) → IsGame (graph game) };
 }
 
 /// Adds the sources of one node to a list that has room for them.
-fn append(list: &mut ArrayVec<u32, 8192>, sources: &[u32])
+pub(crate) fn append(list: &mut ArrayVec<u32, 8192>, sources: &[u32])
     requires { array_vec_len list.old + length sources.now ≤ 8192 }
     ensures { list.new.items ≡ list.old.items ++ sources.now }
 {

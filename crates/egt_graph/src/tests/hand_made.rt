@@ -1,5 +1,5 @@
 //! Small games whose values were worked out by hand.
-use super::games::{Backwards, STAIRS, Sample, Stairs, Uncounted, stair_entry};
+use super::games::{Backwards, STAIRS, Sample, Stairs, Together, Uncounted, stair_entry};
 use crate::{Exit, Game, SolveFault, Start, UNTOLD, solve, solve_and_count};
 use arrayvec::ArrayVec;
 use std::test::*;
@@ -141,6 +141,8 @@ fn sources_of_several_nodes(rt: HostRuntime) -> Result<(), Fail> {
     let ranks = solve(rt.alloc(), &game, 4)?;
     assert_eq!(rt; ranks.entries(), want.as_slice());
     let ranks = solve(rt.alloc(), &Backwards { game: &game }, 4)?;
+    assert_eq!(rt; ranks.entries(), want.as_slice());
+    let ranks = solve(rt.alloc(), &Together::new(&game), 4)?;
     assert_eq!(rt; ranks.entries(), want.as_slice());
     Ok(())
 }
