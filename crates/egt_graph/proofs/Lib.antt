@@ -14,6 +14,7 @@ pub mod Lost
 pub mod Steps
 pub mod Growing
 pub mod Blocks
+pub mod Won
 pub mod Noting
 pub mod Taking
 pub mod Marking

@@ -13,7 +13,7 @@ use Rattle.egt_graph.proofs.Lists.{count_by-cons, any_same, count_same}
 use Rattle.egt_graph.proofs.Holding.{Hold-mark, Hold-same}
 use Rattle.egt_graph.proofs.Nodes.{test_from_node, ins_at, with_node, or_false, lost_wins, lost_waits, lost_waiting}
 
-count-append : (i : ℕ) (xs ys : List ℕ) → count_of i (xs ++ ys) ≡ count_of i xs + count_of i ys
+pub count-append : (i : ℕ) (xs ys : List ℕ) → count_of i (xs ++ ys) ≡ count_of i xs + count_of i ys
 count-append i xs ys = sum_by-append (λ y. cond (eqb y i) 1 0) xs ys
 
 some_of_both : (b : Bool) (m n : ℕ) → ((b || ltb 0 m) || ltb 0 n) ≡ (b || ltb 0 (m + n))
@@ -59,12 +59,12 @@ with_more done j js x =
     told false = refl
 
 -- what holds of a node depends on what is done at each other
-wins_alike : (g : Graph) (r : ℕ) (done done' : ℕ → Bool) (due : ℕ) → ((x : ℕ) → done x ≡ done' x) → (i : ℕ) → is_winning g r done due i ≡ is_winning g r done' due i
+pub wins_alike : (g : Graph) (r : ℕ) (done done' : ℕ → Bool) (due : ℕ) → ((x : ℕ) → done x ≡ done' x) → (i : ℕ) → is_winning g r done due i ≡ is_winning g r done' due i
 wins_alike g r done done' due same i =
     ap (λ b. b || list_any (is_lost_before due) (leaves g i))
     (any_same (is_known_loss g r done) (is_known_loss g r done') (λ x. ap (λ t. mated_before g r x || (mated_within g r x && t)) (same x)) (outs g i))
 
-waits_alike : (g : Graph) (r : ℕ) (done done' : ℕ → Bool) (won : ℕ) → ((x : ℕ) → done x ≡ done' x) → (i : ℕ) → waits_at g r done won i ≡ waits_at g r done' won i
+pub waits_alike : (g : Graph) (r : ℕ) (done done' : ℕ → Bool) (won : ℕ) → ((x : ℕ) → done x ≡ done' x) → (i : ℕ) → waits_at g r done won i ≡ waits_at g r done' won i
 waits_alike g r done done' won same i =
     ap (λ n. n + count_by (λ e. not (is_won_before won e)) (leaves g i))
     (count_same (λ x. not (is_known_win g r done x)) (λ x. not (is_known_win g r done' x)) (λ x. ap (λ t. not (mates_before g r x || (mates_within g r x && t))) (same x)) (outs g i))

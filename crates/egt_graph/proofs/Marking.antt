@@ -1,8 +1,8 @@
 -- Marks of nodes that are not decided.
-use Rattle.std.proofs.Common.{◌≡◌, ◌≢◌, ℕ, ◌+◌, ◌-◌, ◌*◌, ◌/◌, ◌%◌, ◌<◌, ◌≤◌, ◌^◌, Bool, true, false, eqb, ltb, ◌&&◌, List, [], ◌++◌, length, get_or, set, sym, ap, subst, ◌∙◌, inl, inr, arith, bit_and, bit_or, w64, cond, ◌⊎◌, All, Contains}
+use Rattle.std.proofs.Common.{◌≡◌, ◌≢◌, ℕ, ◌+◌, ◌-◌, ◌*◌, ◌/◌, ◌%◌, ◌<◌, ◌≤◌, ◌^◌, Bool, true, false, eqb, ltb, ◌&&◌, List, length, get_or, set, sym, ap, subst, ◌∙◌, inl, inr, arith, bit_and, bit_or, w64, cond, ◌⊎◌, All, Contains}
 use Rattle.std.proofs.lemmas.Bool.{cases_Bool, cases_eq, cases_lt, lt-ltb, eqb-true, eq-eqb, ne_eqb, false≢true}
 use Rattle.std.proofs.lemmas.List.{get_or-set_same, get_or-set_other, get_or_default, get_or_past}
-use Rattle.std.proofs.lemmas.List.Elements.{All-contains, All-contains_itself, All-weaker, Contains-get_or, Contains-append_left, Contains-append_right, Contains-append_cases}
+use Rattle.std.proofs.lemmas.List.Elements.{All-contains, All-contains_itself, All-weaker}
 use Rattle.std.proofs.lemmas.Nat.Bits.{bit_at_clear_other, bit_at_set_same, bit_at_set_other, bit_at-zero}
 use Rattle.std.specs.Int.{bit_at}
 use Rattle.egt_graph.specs.Graph.{Graph, IsNode, IsGame}
@@ -36,33 +36,12 @@ contains_counted i xs has =
     let all = counted_le (get_or xs has.0 0) xs (has.0 + 1) in
     subst (λ j. 0 < count_of j xs) here (omega (arith, more, all))
 
--- ---- the moves into some nodes, listed one after the other
+-- ---- the moves into some nodes
 
-pub record Lists (g : Graph) (nodes : List ℕ) (n : ℕ) (list : List ℕ) : Type 0 where
-  pub within : (i : ℕ) → Contains list i → (k : ℕ) × (k < n) × Contains (g.into (get_or nodes k 0)) i
-  pub whole : (i k : ℕ) → k < n → Contains (g.into (get_or nodes k 0)) i → Contains list i
-
-pub lists_none : (g : Graph) (nodes : List ℕ) → Lists g nodes 0 []
-lists_none g nodes = record { within = λ i has. absurd (let lt = has.1 in omega arith); whole = λ i k lt has. absurd (omega arith) }
-
-pub lists_more : (g : Graph) (nodes : List ℕ) (n : ℕ) (list : List ℕ) → Lists g nodes n list → Lists g nodes (n + 1) (list ++ g.into (get_or nodes n 0))
-lists_more g nodes n list h = record {
-  within = λ i has. elim (Contains-append_cases list (g.into (get_or nodes n 0)) i has) [
-    | inl before ↦ let w = h.within i before in let lt = w.1 in (w.0, omega arith, w.2)
-    | inr now ↦ (n, omega arith, now)
-  ];
-  whole = λ i k lt has. elim (cases_eq k n) [
-    | inl e ↦ Contains-append_right list (g.into (get_or nodes n 0)) i (subst (λ m. Contains (g.into (get_or nodes m 0)) i) e has)
-    | inr ne ↦ Contains-append_left list (g.into (get_or nodes n 0)) i (h.whole i k (omega arith) has)
-  ];
-}
-
-pub lists_all : (g : Graph) (nodes : List ℕ) (n : ℕ) (bits list : List ℕ) → n ≡ length nodes → Lists g nodes n list → AreMarkedInto g nodes bits list
-lists_all g nodes n bits list all h = record {
-  within = λ i has. let w = h.within i has in let lt = w.1 in (get_or nodes w.0 0, Contains-get_or nodes w.0 0 (omega arith), w.2);
-  whole = λ i j has into marked.
-      let lt = has.1 in
-      h.whole i has.0 (omega arith) (subst (λ m. Contains (g.into m) i) (sym (get_or_default nodes has.0 0 j has.1 ∙ has.2)) into);
+pub all_are_marked : (g : Graph) (nodes bits : List ℕ) → All (IsNode g) nodes → AreMarkedInto g nodes bits (into_all g nodes)
+all_are_marked g nodes bits each = record {
+  within = λ i has. from_all g nodes i each has;
+  whole = λ i j has into marked. in_all g nodes i j each has into;
 }
 
 -- the sources that are asked for are as good as all

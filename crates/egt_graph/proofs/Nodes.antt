@@ -207,14 +207,12 @@ less g law r done won j node wins fresh undone i =
           no_more _ _ _ (ap (λ t. cond (not t) 1 0) a) (ap (λ t. cond t 1 0) f)
     ]
 
--- a won node of the round: the nodes that lead to it wait for one move less
-pub won_node_takes_back : (g : Graph) (law : IsGame g) (r : ℕ) (done : ℕ → Bool) (due won j : ℕ) (es ws es' ws' : List ℕ)
-    → IsNode g j → mates_within g r j ≡ true → mates_before g r j ≡ false → done j ≡ false
-    → Amid g r done due won es ws → TakesBack es ws (ins g j) (r + 1) es' ws' → Amid g r (with_node done j) due won es' ws'
-won_node_takes_back g law r done due won j es ws es' ws' node wins fresh undone h takes =
-    Hold-same (is_winning g r (with_node done j) due) (waits_at g r (with_node done j) won)
-    (Hold-take (waits_at g r (with_node done j) won) (ins g j) es' ws' h takes (less g law r done won j node wins fresh undone) moved)
-    (λ i. ap (λ b. b || list_any (is_lost_before due) (leaves g i)) (any_same _ _ unchanged (outs g i))) (λ i. refl)
+-- ---- a won node of the round
+
+-- no node wins by it
+pub won_wins : (g : Graph) → IsGame g → (r : ℕ) (done : ℕ → Bool) (due j : ℕ) → IsNode g j → mates_within g r j ≡ true → (i : ℕ)
+    → is_winning g r done due i ≡ is_winning g r (with_node done j) due i
+won_wins g law r done due j node wins i = ap (λ b. b || list_any (is_lost_before due) (leaves g i)) (any_same _ _ unchanged (outs g i))
   where
     no_loss : mated_within g r j ≡ false
     no_loss = false_from_ne_true _ (λ m. never_both g law r j node wins m)
@@ -225,5 +223,15 @@ won_node_takes_back g law r done due won j es ws es' ws' node wins fresh undone 
       | inr ne ↦ known_same (mated_before g r x) (mated_within g r x) (done x) (with_node done j x) (sym (other done j x ne))
     ]
 
-    moved : (i : ℕ) → 0 < count_of i (ins g j) → has_moves g i ≡ true
-    moved i some = let e = moves_match g law i j in moved_has_moves g i j (omega arith)
+-- each that leads to it has moves
+pub won_moved : (g : Graph) → IsGame g → (j i : ℕ) → 0 < count_of i (ins g j) → has_moves g i ≡ true
+won_moved g law j i some = let e = moves_match g law i j in moved_has_moves g i j (omega arith)
+
+-- the nodes that lead to it wait for one move less
+pub won_node_takes_back : (g : Graph) (law : IsGame g) (r : ℕ) (done : ℕ → Bool) (due won j : ℕ) (es ws es' ws' : List ℕ)
+    → IsNode g j → mates_within g r j ≡ true → mates_before g r j ≡ false → done j ≡ false
+    → Amid g r done due won es ws → TakesBack es ws (ins g j) (r + 1) es' ws' → Amid g r (with_node done j) due won es' ws'
+won_node_takes_back g law r done due won j es ws es' ws' node wins fresh undone h takes =
+    Hold-same (is_winning g r (with_node done j) due) (waits_at g r (with_node done j) won)
+    (Hold-take (waits_at g r (with_node done j) won) (ins g j) es' ws' h takes (less g law r done won j node wins fresh undone) (won_moved g law j))
+    (won_wins g law r done due j node wins) (λ i. refl)

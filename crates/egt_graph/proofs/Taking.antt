@@ -9,6 +9,7 @@ use Rattle.egt_graph.specs.Frontier.{is_node, front}
 use Rattle.egt_graph.specs.Columns.{ins, into_all, count_of, entry_at, decided, Amid, Marks, TakesBack, done_of, done_by}
 use Rattle.egt_graph.proofs.Nodes.{node_from_test, ins_at, with_node, lost_node_marks, won_node_takes_back, less}
 use Rattle.egt_graph.proofs.Lost.{IsLost, with_nodes, lost_run_marks, run_at, done_run}
+use Rattle.egt_graph.proofs.Won.{IsWonRun}
 use Rattle.egt_graph.proofs.Blocks.{Found, Wins, Loses, found, found_entry, front_at, Amid_redone, done_by_none, done_by_more, done_by_all, not_done}
 
 -- one node of a batch of round r, at place k, with the nodes that a move leads from to it
@@ -87,6 +88,20 @@ turns_lost g law r block k end posted nodes due won es ws es' whole le within h 
           node = node_from_test g _ (and_parts (is_node g (get_or nodes (k + p) 0)) _ f.0).0;
           lost = found_loss g r _ _ _ _ (found g law r _ f.0) (h.entry (get_or nodes (k + p) 0)) (lost (k + p) (omega arith) at.0);
         })
+
+-- a run of won nodes, from place k up to end
+pub turns_won : (g : Graph) → IsGame g → (r block k end : ℕ) (posted : List Bool) (nodes : List ℕ) (due won : ℕ) (es ws : List ℕ)
+    → nodes ≡ front g r block → slice_index_or posted block false ≡ false → k ≤ end → end ≤ length nodes → Amid g r (done_by posted nodes k) due won es ws
+    → ((m : ℕ) → k ≤ m → m < end → get_or es (get_or nodes m 0) 0 ≡ 2 + 2 * r) → IsWonRun g r block k end posted nodes
+turns_won g law r block k end posted nodes due won es ws whole fresh le within h is = record {
+  whole = whole;
+  fresh = fresh;
+  ordered = le;
+  within = within;
+  wins = λ m low high.
+      let f = front_at g r block m nodes whole (omega arith) in
+      found_win g r _ _ _ _ (found g law r _ f.0) (h.entry (get_or nodes m 0)) (is m low high);
+}
 
 -- a won node takes back no move that is not waited for
 pub turn_waited : (g : Graph) → IsGame g → (r block k : ℕ) (posted : List Bool) (nodes sources : List ℕ) (due won : ℕ) (es ws : List ℕ)

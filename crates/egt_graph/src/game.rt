@@ -3,6 +3,7 @@ ghost use Rattle.std.specs.Prelude.{◌≡◌, ◌+◌, ◌*◌, ◌<◌, ◌≤
 ghost use Rattle.std.specs.List.Sorted.{IsStrictlyIncreasing};
 ghost use Rattle.arrayvec.specs.ArrayVec.{array_vec_len};
 ghost use Rattle.egt_graph.specs.Graph.{Graph, IsNode, IsGame, IsStart};
+ghost use Rattle.egt_graph.specs.Columns.{into_all};
 ghost use Rattle.egt_graph.specs.Undecided.{AreMarkedInto};
 
 use arrayvec::ArrayVec;
@@ -105,12 +106,48 @@ pub trait Game {
         (start, self.start(i + 1, next_exits))
     }
 
+    /// What `start` answers of four neighbours, which may have much in common.
+    fn start_four(
+        &self,
+        i: u32,
+        first: &mut ArrayVec<Exit, 64>,
+        second: &mut ArrayVec<Exit, 64>,
+        third: &mut ArrayVec<Exit, 64>,
+        fourth: &mut ArrayVec<Exit, 64>,
+    ) -> (Option<Start>, Option<Start>, Option<Start>, Option<Start>)
+        requires { i + 3 < (graph self.now).size }
+        ensures first { IsStart (graph self.now) i result.0 first.new.items }
+        ensures second { IsStart (graph self.now) (i + 1) result.1 second.new.items }
+        ensures third { IsStart (graph self.now) (i + 2) result.2 third.new.items }
+        ensures fourth { IsStart (graph self.now) (i + 3) result.3 fourth.new.items }
+    {
+        let _size = self.size();
+        let (start, next) = self.start_two(i, first, second);
+        let (after, last) = self.start_two(i + 2, third, fourth);
+        (start, next, after, last)
+    }
+
     /// Fills the list with what `into` answers, in the place of what it had.
     fn list_into(&self, j: u32, list: &mut ArrayVec<u32, 128>)
         requires { IsNode (graph self.now) j }
         ensures { list.new.items ≡ (graph self.now).into j }
     {
         *list = self.into(j);
+    }
+
+    /// Fills the list, in the place of what it had, with what `into` answers of each of these nodes, one after the other.
+    fn list_all_into(&self, nodes: &[u32], list: &mut ArrayVec<u32, 8192>)
+        requires nodes { All (IsNode (graph self.now)) nodes.now }
+        requires ascending { IsStrictlyIncreasing nodes.now }
+        requires few { length nodes.now ≤ 64 }
+        ensures { list.new.items ≡ into_all (graph self.now) nodes.now }
+    {
+        let mut sources = ArrayVec::new();
+        list.clear();
+        for node in nodes {
+            self.list_into(*node, &mut sources);
+            append(list, sources.as_slice());
+        }
     }
 
     /// Fills the list, in the place of what it had, with nodes from which a move leads to one of these, in any order and perhaps more
@@ -124,19 +161,14 @@ pub trait Game {
         ensures { AreMarkedInto (graph self.now) nodes.now marks.now list.new.items }
     {
         let _words = marks.len();
-        let mut sources = ArrayVec::new();
-        list.clear();
-        for node in nodes {
-            self.list_into(*node, &mut sources);
-            append(list, sources.as_slice());
-        }
+        self.list_all_into(nodes, list);
     }
 
     ghost lawful: { (game : Self) → IsGame (graph game) };
 }
 
 /// Adds the sources of one node to a list that has room for them.
-fn append(list: &mut ArrayVec<u32, 8192>, sources: &[u32])
+pub(crate) fn append(list: &mut ArrayVec<u32, 8192>, sources: &[u32])
     requires { array_vec_len list.old + length sources.now ≤ 8192 }
     ensures { list.new.items ≡ list.old.items ++ sources.now }
 {

@@ -88,53 +88,55 @@ fn mark_sources<G: Game>(
     unmark(marks, sources.as_slice());
 }
 
-/// A won node's sources wait for one move less each.
+/// The sources of won nodes wait for one move less each, for every move into one of these.
 fn take_sources<G: Game>(
     game: &G,
     entries: &mut [u16],
     waits: &mut [u8],
     coming: &mut [bool],
-    node: u32,
+    nodes: &[u32],
     plies: u16,
-    sources: &mut ArrayVec<u32, 128>,
+    sources: &mut ArrayVec<u32, 8192>,
 )
-    requires node { IsNode (G.graph game.now) node }
+    requires are_nodes { All (IsNode (G.graph game.now)) nodes.now }
+    requires ascending { IsStrictlyIncreasing nodes.now }
+    requires few { length nodes.now ≤ 64 }
     requires short { plies ≤ 32001 }
     requires entries_long { length entries.old ≡ (G.graph game.now).size }
     requires matched { length waits.old ≡ length entries.old }
-    requires waited { (i : ℕ) → count_of i ((G.graph game.now).into node) ≤ slice_index (told (G.graph game.now) waits.old) i }
+    requires waited { (i : ℕ) → count_of i (into_all (G.graph game.now) nodes.now) ≤ slice_index (told (G.graph game.now) waits.old) i }
     requires room { length entries.old ≤ 64 * length coming.old }
-    ensures takes { TakesBack entries.old (told (G.graph game.now) waits.old) ((G.graph game.now).into node) plies entries.new (told (G.graph game.now) waits.new) }
+    ensures takes { TakesBack entries.old (told (G.graph game.now) waits.old) (into_all (G.graph game.now) nodes.now) plies entries.new (told (G.graph game.now) waits.new) }
     ensures news { Notes plies entries.old coming.old → Notes plies entries.new coming.new }
 {
-    game.list_into(node, sources);
+    game.list_all_into(nodes, sources);
     take_back(game, entries, waits, coming, sources.as_slice(), plies);
 }
 
-/// The most lost nodes of which the game is asked at once.
+/// The most nodes of which the game is asked at once.
 const RUN: usize = 64;
 
-/// Where a run of lost nodes ends that begins at `from`: before the next won node, or when it is full.
-fn run_end(entries: &[u16], nodes: &[u32], from: usize, round: u16) -> usize
-    requires short { round ≤ 32000 }
+/// Where a run of nodes with one entry ends that begins at `from`: before the next node with another, or when it is full.
+fn run_end(entries: &[u16], nodes: &[u32], from: usize) -> usize
     requires within { All (λ i. i < length entries.now) nodes.now }
     requires in_list { from < length nodes.now }
-    requires lost { slice_index entries.now (slice_index nodes.now from) ≢ 2 + 2 * round }
     ensures some { from < result }
     ensures in_list { result ≤ length nodes.now }
     ensures few { result ≤ from + 64 }
-    ensures lost { (k : ℕ) → from ≤ k → k < result → slice_index entries.now (slice_index nodes.now k) ≢ 2 + 2 * round }
+    ensures alike { (k : ℕ) → from ≤ k → k < result
+        → slice_index entries.now (slice_index nodes.now k) ≡ slice_index entries.now (slice_index nodes.now from) }
 {
+    let entry = entries[nodes[from] as usize];
     let end = nodes.len().min(from + RUN);
     for k in from + 1..end {
-        if entries[nodes[k] as usize] == 2 + 2 * round {
+        if entries[nodes[k] as usize] != entry {
             return k;
         }
     }
     end
 }
 
-/// The same for a whole block, of which the game is asked for the moves into each won node, and into lost nodes by the run.
+/// The same for a whole block, of which the game is asked for the moves into won nodes by the run, and into lost nodes too.
 /// The list is lent, since to make it takes as long as to write all of it; what it had is lost.
 pub(crate) fn take_block<G: Game>(
     game: &G,
@@ -146,7 +148,7 @@ pub(crate) fn take_block<G: Game>(
     block: u32,
     nodes: &[u32],
     round: u16,
-    run_sources: &mut ArrayVec<u32, 8192>,
+    sources: &mut ArrayVec<u32, 8192>,
 )
     requires short { round ≤ 32000 }
     requires whole { nodes.now ≡ front (G.graph game.now) round block }
@@ -164,26 +166,18 @@ pub(crate) fn take_block<G: Game>(
     ensures coming { Notes (round + 1) entries.old coming.old → Notes (round + 1) entries.new coming.new }
     ensures marked { AreMarked entries.new marks.new }
 {
-    let mut sources = ArrayVec::new();
     let mut k = 0;
     while k < nodes.len() {
         let node = nodes[k];
+        let end = run_end(entries, nodes, k);
         if entries[node as usize] == 2 + 2 * round {
-            take_sources(game, entries, waits, coming, node, round + 1, &mut sources);
-            k += 1;
+            let won = &nodes[k..end];
+            take_sources(game, entries, waits, coming, won, round + 1, sources);
         } else {
-            let end = run_end(entries, nodes, k, round);
-            mark_sources(
-                game,
-                entries,
-                marks,
-                coming,
-                &nodes[k..end],
-                round + 1,
-                run_sources,
-            );
-            k = end;
+            let lost = &nodes[k..end];
+            mark_sources(game, entries, marks, coming, lost, round + 1, sources);
         }
+        k = end;
     }
     posted[block as usize] = true;
 }

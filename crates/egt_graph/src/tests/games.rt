@@ -5,7 +5,7 @@ ghost use Rattle.arrayvec.specs.ArrayVec.{array_vec_len};
 ghost use Rattle.egt_graph.specs.Undecided.{IsMarked};
 ghost use Rattle.egt_graph.specs.Sample.{sample, sample_is_game, stairs, stairs_are_a_game, is_listed, is_pair, is_move, is_short};
 
-use crate::game::{Exit, Game, Start};
+use crate::game::{Exit, Game, Start, append};
 use arrayvec::ArrayVec;
 use std::cell::Cell;
 
@@ -340,6 +340,87 @@ impl<'a, G: Game> Game for Backwards<'a, G> {
         list.clear();
         push_marked(list, sources.as_slice(), marks);
         push_marked(list, sources.as_slice(), marks);
+    }
+}
+
+/// The same game, which by itself lists the sources of several nodes and tells of four neighbours, the last first, and counts how often it does.
+#[derive(Drop)]
+pub(crate) struct Together<'a, G: Game> {
+    game: &'a G,
+    runs: Cell<u32>,
+    fours: Cell<u32>,
+}
+
+impl<'a, G: Game> Together<'a, G> {
+    pub(crate) fn new(game: &'a G) -> Self {
+        Together {
+            game,
+            runs: Cell::new(0),
+            fours: Cell::new(0),
+        }
+    }
+
+    /// How often it was asked for the sources of several nodes, and how often of four neighbours.
+    pub(crate) fn asked(&self) -> (u32, u32) {
+        (self.runs.get(), self.fours.get())
+    }
+}
+
+impl<'a, G: Game> Game for Together<'a, G> {
+    ghost graph = { λ s. G.graph s.game.now };
+
+    ghost lawful = { λ s. G.lawful s.game.now };
+
+    fn size(&self) -> u32 {
+        self.game.size()
+    }
+
+    fn void(&self, i: u32) -> bool {
+        self.game.void(i)
+    }
+
+    fn mated(&self, i: u32) -> bool {
+        self.game.mated(i)
+    }
+
+    fn out(&self, i: u32) -> ArrayVec<u32, 64> {
+        self.game.out(i)
+    }
+
+    fn degree(&self, i: u32) -> usize {
+        self.game.degree(i)
+    }
+
+    fn into(&self, j: u32) -> ArrayVec<u32, 128> {
+        self.game.into(j)
+    }
+
+    fn exits(&self, i: u32) -> ArrayVec<Exit, 64> {
+        self.game.exits(i)
+    }
+
+    fn list_all_into(&self, nodes: &[u32], list: &mut ArrayVec<u32, 8192>) {
+        self.runs.set(self.runs.get().wrapping_add(1));
+        list.clear();
+        for node in nodes {
+            append(list, self.game.into(*node).as_slice());
+        }
+    }
+
+    fn start_four(
+        &self,
+        i: u32,
+        first: &mut ArrayVec<Exit, 64>,
+        second: &mut ArrayVec<Exit, 64>,
+        third: &mut ArrayVec<Exit, 64>,
+        fourth: &mut ArrayVec<Exit, 64>,
+    ) -> (Option<Start>, Option<Start>, Option<Start>, Option<Start>) {
+        self.fours.set(self.fours.get().wrapping_add(1));
+        let _size = self.game.size();
+        let last = self.game.start(i + 3, fourth);
+        let after = self.game.start(i + 2, third);
+        let next = self.game.start(i + 1, second);
+        (self.game.start(i, first), next, after, last)
     }
 }
 

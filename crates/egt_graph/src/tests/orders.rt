@@ -1,7 +1,7 @@
 //! Runs by rounds, in whatever order the blocks are posted.
 ghost use Rattle.std.specs.Prelude.{◌≡◌};
 
-use super::games::{Counted, STAIRS, Stairs, stair_entry};
+use super::games::{Counted, STAIRS, Stairs, Together, stair_entry};
 use crate::{Close, Game, NoMemory, Post, Ranks, Rounds, solve};
 use std::alloc::Global;
 use std::test::*;
@@ -247,5 +247,19 @@ fn what_a_whole_run_asks(rt: HostRuntime) -> Result<(), Fail> {
     assert_eq!(rt; ranks.entries().len(), 10_000);
     // Every node has a rank here, and its moves are asked for once.
     assert_eq!(rt; game.asked(), (0, 10_000));
+    Ok(())
+}
+
+// Of the won nodes 2,000 stand in each of two blocks, of the lost 2,000 in one, 96 and 1,904 in two, and 192 and 1,808 in two: runs of 64, the
+// last of each block with what is left.
+#[test]
+fn what_is_asked_at_once(rt: HostRuntime) -> Result<(), Fail> {
+    let game = Together::new(&STAIRS);
+    let ranks = solve(rt.alloc(), &game, 4)?;
+    assert_eq!(rt; ranks.entries().len(), 10_000);
+    for (node, entry) in ranks.entries().iter().enumerate() {
+        assert_eq!(rt; *entry, stair_entry(node));
+    }
+    assert_eq!(rt; game.asked(), (2 * 32 + 32 + (2 + 30) + (3 + 29), 2_500));
     Ok(())
 }
