@@ -13,3 +13,4 @@ pub mod Still
 pub mod Raising
 mod Scoring
 mod ScoreTable
+mod Uniformity

@@ -13,3 +13,4 @@ pub mod FirstBad
 pub mod Steps
 pub mod Raised
 pub mod Judged
+pub mod Uniform

@@ -14,6 +14,7 @@ pub mod reject;
 pub mod rule;
 pub mod score_table;
 pub mod successors;
+pub mod uniform;
 
 pub use checking::{check, first_missing};
 pub use library::Library;

@@ -1,5 +1,5 @@
 //! The best of a position's steps.
-ghost use Rattle.std.specs.Prelude.{◌≡◌, ◌↔◌, ℕ, ◌<◌, max, IsTrue, IfSome, IfNone};
+ghost use Rattle.std.specs.Prelude.{◌≡◌, ◌↔◌, ℕ, ◌<◌, max, true, false, IsTrue, IfSome, IfNone};
 ghost use Rattle.std.specs.Option.{option_map};
 ghost use Rattle.egt_board.specs.Camps.{AreCamps};
 ghost use Rattle.egt_board.specs.Placement.{IsHeld};
@@ -17,12 +17,13 @@ ghost use Rattle.egt_check.specs.Raised.{AreRaised};
 ghost use Rattle.egt_check.specs.Score.{number_at, greater, Scores, IsBest};
 ghost use Rattle.egt_check.specs.Steps.{HasTable, IsInClass, IsQuietTarget, shown_by};
 ghost use Rattle.egt_check.specs.Tables.{table_at, beside, entry_at, HasEntry, HasChildren};
+ghost use Rattle.egt_check.specs.Uniform.{IsUniform};
 
 use crate::by_column::ByColumn;
 use crate::facts::facts;
 use crate::library::Library;
 use crate::quiet::{QuietStep, is_pawn, quiet_targets};
-use crate::score_table::scores_by;
+use crate::score_table::{scores_by, uniform_scores};
 use egt_board::{Camps, Position, Square, SquareSet};
 use egt_class::laws::moves_lead_into_the_class_or_a_child as quiet_moves_keep_the_class;
 use egt_class::of;
@@ -155,6 +156,31 @@ fn quiet_scores(
     scores(table, library, position, &chess_move, entries, pawn)
 }
 
+/// The same in a uniform table, by the indexes after the man went, who is no pawn.
+#[inline(always)]
+fn uniform_step_scores<I: IndexAfter>(
+    table: &Table,
+    _library: &Library,
+    indexes: &I,
+    position: &Position,
+    _from: Square,
+    to: Square,
+) -> ByColumn
+    requires uniform { IsUniform table.now }
+    requires quiet { IsQuietTarget position.now false _from to }
+    requires own { IsInClass table.now.class position.now }
+    requires indexes { I.of_man indexes.now position.now table.now.class _from }
+    ensures { (column : Column) (q : Setup) (leads : Leads position.now (plain _from to) q) →
+        Scores (shown_by _library.now table.now) column position.now q (plain _from to, leads) (number_at result column) }
+{
+    facts();
+    quiet_moves_keep_the_class();
+    let _side = position.side();
+    let _class = table.class();
+    let entries = entries_at(table, indexes.index_to(to));
+    uniform_scores(entries)
+}
+
 /// The best score so far, and of the legal moves from the one square to the other.
 fn best_between(
     table: &Table,
@@ -204,6 +230,7 @@ fn best_to_each(
 }
 
 /// The best score so far, and of the moves from the square to these, which take nothing.
+#[inline(never)]
 fn best_to_each_quiet(
     table: &Table,
     library: &Library,
@@ -243,16 +270,126 @@ fn best_to_each_quiet(
     }
 }
 
+/// The same in a uniform table, by the indexes after the man went, who is no pawn. It is inlined so that they stay in registers.
+#[inline(always)]
+fn best_to_each_uniform<I: IndexAfter>(
+    table: &Table,
+    library: &Library,
+    indexes: &I,
+    position: &Position,
+    from: Square,
+    targets: SquareSet,
+    best: Option<ByColumn>,
+) -> Option<ByColumn>
+    requires uniform { IsUniform table.now }
+    requires targets { (t : ℕ) → Has targets t → IsQuietTarget position.now false from t }
+    requires own { IsInClass table.now.class position.now }
+    requires indexes { I.of_man indexes.now position.now table.now.class from }
+    ensures { AreRaised (shown_by library.now table.now) position.now (λ m. (m.from ≡ from) × Has targets m.to) best result }
+{
+    let mut rest = targets;
+    match rest.pop_first() {
+        Some(first) => {
+            let scores = uniform_step_scores(table, library, indexes, position, from, first);
+            let mut highest = raised(best, scores);
+            while let Some(to) = rest.pop_first() {
+                let scores = uniform_step_scores(table, library, indexes, position, from, to);
+                highest = higher(highest, scores);
+            }
+            Some(highest)
+        }
+        None => best,
+    }
+}
+
+/// The same by the steps of the man. Few men need them, so they stay out of the way of the others.
+#[inline(never)]
+fn best_stepped(
+    table: &Table,
+    library: &Library,
+    frame: &Frame,
+    position: &Position,
+    from: Square,
+    targets: SquareSet,
+    best: Option<ByColumn>,
+) -> Option<ByColumn>
+    requires uniform { IsUniform table.now }
+    requires held { IsHeld position.now.men from position.now.side }
+    requires targets { (t : ℕ) → Has targets t → IsQuietTarget position.now false from t }
+    requires own { IsInClass table.now.class position.now }
+    requires frame { IsFrame position.now frame.now }
+    requires class { frame.now.class ≡ table.now.class }
+    ensures { AreRaised (shown_by library.now table.now) position.now (λ m. (m.from ≡ from) × Has targets m.to) best result }
+{
+    let steps = frame.steps(from);
+    best_to_each_uniform(table, library, &steps, position, from, targets, best)
+}
+
+/// The same by the sum of codes in the most common case.
+#[inline(always)]
+fn best_summed(
+    table: &Table,
+    library: &Library,
+    frame: &Frame,
+    position: &Position,
+    from: Square,
+    targets: SquareSet,
+    best: Option<ByColumn>,
+) -> Option<ByColumn>
+    requires uniform { IsUniform table.now }
+    requires held { IsHeld position.now.men from position.now.side }
+    requires targets { (t : ℕ) → Has targets t → IsQuietTarget position.now false from t }
+    requires own { IsInClass table.now.class position.now }
+    requires frame { IsFrame position.now frame.now }
+    requires class { frame.now.class ≡ table.now.class }
+    ensures { AreRaised (shown_by library.now table.now) position.now (λ m. (m.from ≡ from) × Has targets m.to) best result }
+{
+    match frame.sum(from) {
+        Some(sum) => best_to_each_uniform(table, library, &sum, position, from, targets, best),
+        None => best_stepped(table, library, frame, position, from, targets, best),
+    }
+}
+
+/// The best score so far, and of the moves from the square to these, which take nothing. A pawn's zero, and there is one at most.
+#[inline(always)]
+fn best_of_quiet(
+    table: &Table,
+    library: &Library,
+    uniform: bool,
+    frame: &Frame,
+    position: &Position,
+    from: Square,
+    targets: SquareSet,
+    pawn: bool,
+    best: Option<ByColumn>,
+) -> Option<ByColumn>
+    requires uniform { uniform ≡ true → IsUniform table.now }
+    requires held { IsHeld position.now.men from position.now.side }
+    requires targets { (t : ℕ) → Has targets t → IsQuietTarget position.now pawn from t }
+    requires own { IsInClass table.now.class position.now }
+    requires frame { IsFrame position.now frame.now }
+    requires class { frame.now.class ≡ table.now.class }
+    ensures { AreRaised (shown_by library.now table.now) position.now (λ m. (m.from ≡ from) × Has targets m.to) best result }
+{
+    if pawn || !uniform {
+        best_to_each_quiet(table, library, frame, position, from, targets, pawn, best)
+    } else {
+        best_summed(table, library, frame, position, from, targets, best)
+    }
+}
+
 /// The best score so far, and of the legal moves of the man on the square.
 fn best_of_man(
     table: &Table,
     library: &Library,
+    uniform: bool,
     frame: &Frame,
     position: &Position,
     camps: Camps,
     from: Square,
     best: Option<ByColumn>,
 ) -> Option<ByColumn>
+    requires uniform { uniform ≡ true → IsUniform table.now }
     requires camps { AreCamps position.now camps }
     requires held { IsHeld position.now.men from position.now.side }
     requires own { IsInClass table.now.class position.now }
@@ -265,7 +402,9 @@ fn best_of_man(
     let targets = legal_targets_of(position, camps, man, from);
     let quiet = quiet_targets(position, camps, man, from, targets);
     let pawn = is_pawn(man);
-    let best = best_to_each_quiet(table, library, frame, position, from, quiet, pawn, best);
+    let best = best_of_quiet(
+        table, library, uniform, frame, position, from, quiet, pawn, best,
+    );
     best_to_each(table, library, position, from, targets.without(quiet), best)
 }
 
@@ -273,9 +412,11 @@ fn best_of_man(
 pub(crate) fn best(
     table: &Table,
     library: &Library,
+    uniform: bool,
     frame: &Frame,
     position: &Position,
 ) -> Option<ByColumn>
+    requires uniform { uniform ≡ true → IsUniform table.now }
     requires own { IsInClass table.now.class position.now }
     requires children { HasChildren (table_at library.now) table.now.class }
     requires frame { IsFrame position.now frame.now }
@@ -288,7 +429,7 @@ pub(crate) fn best(
     let mut best = None;
     let mut rest = camps.own;
     while let Some(from) = rest.pop_first() {
-        best = best_of_man(table, library, frame, position, camps, from, best);
+        best = best_of_man(table, library, uniform, frame, position, camps, from, best);
     }
     best
 }

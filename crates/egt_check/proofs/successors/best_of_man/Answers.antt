@@ -14,8 +14,8 @@ quiet_targets-quiet-requires-clause-stands c = sym c.at.ensures ∙ c.unwrap-man
 pub quiet_targets-quiet-requires-clause-targets : goal.quiet_targets-quiet-requires-clause-targets
 quiet_targets-quiet-requires-clause-targets c = λ t has. (c.legal_targets_of-targets.ensures.legal t).0 has
 
-pub best_to_each_quiet-best-requires-clause-targets : goal.best_to_each_quiet-best-requires-clause-targets
-best_to_each_quiet-best-requires-clause-targets c = λ t has.
+pub best_of_quiet-best-requires-clause-targets : goal.best_of_quiet-best-requires-clause-targets
+best_of_quiet-best-requires-clause-targets c = λ t has.
     subst (λ (b : Bool). IsQuietTarget c.args.position.now b c.args.from t) (sym c.is_pawn-pawn.ensures) (c.quiet_targets-quiet.ensures.quiet t has).1
 
 pub best_to_each-requires-clause-targets : goal.best_to_each-requires-clause-targets
@@ -27,7 +27,7 @@ best_to_each-requires-clause-targets c = λ t has.
 pub returns : goal.returns
 returns c = λ column.
     raised_by_both (shown_by c.args.library.now c.args.table.now) column c.args.position.now (λ m. (m.from ≡ c.args.from) × Has c.quiet_targets-quiet.result m.to) (λ m. (m.from ≡ c.args.from) × Has c.without.result m.to) (λ m. m.from ≡ c.args.from)
-    (column_of column c.args.best) (column_of column c.best_to_each_quiet-best.result) (column_of column c.best_to_each.result) (c.best_to_each_quiet-best.ensures column) (c.best_to_each.ensures column)
+    (column_of column c.args.best) (column_of column c.best_of_quiet-best.result) (column_of column c.best_to_each.result) (c.best_of_quiet-best.ensures column) (c.best_to_each.ensures column)
     (λ m legal is.
     let there : Has c.legal_targets_of-targets.result m.to = (c.legal_targets_of-targets.ensures.legal m.to).1 (targeted c.args.position.now m c.args.from is legal) in
     let without = c.without.ensures.squares m.to in
