@@ -14,3 +14,4 @@ pub mod Raising
 mod Scoring
 mod ScoreTable
 mod Uniformity
+mod Men

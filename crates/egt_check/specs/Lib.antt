@@ -14,3 +14,4 @@ pub mod Steps
 pub mod Raised
 pub mod Judged
 pub mod Uniform
+pub mod Men

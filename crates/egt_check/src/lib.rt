@@ -9,6 +9,7 @@ pub mod judging;
 pub mod laws;
 pub mod library;
 pub mod outcome;
+pub mod own_men;
 pub mod quiet;
 pub mod reject;
 pub mod rule;

@@ -1,8 +1,9 @@
 //! The best of a position's steps.
 ghost use Rattle.std.specs.Prelude.{◌≡◌, ◌↔◌, ℕ, ◌<◌, max, true, false, IsTrue, IfSome, IfNone};
 ghost use Rattle.std.specs.Option.{option_map};
+ghost use Rattle.egt_board.specs.Beside.{StandsBeside};
 ghost use Rattle.egt_board.specs.Camps.{AreCamps};
-ghost use Rattle.egt_board.specs.Placement.{IsHeld};
+ghost use Rattle.egt_board.specs.Placement.{IsHeld, Stands};
 ghost use Rattle.egt_board.specs.SquareSet.{Has};
 ghost use Rattle.egt_board.specs.Setup.{Setup};
 ghost use Rattle.egt_index.specs.Frame.{IsFrame};
@@ -13,6 +14,7 @@ ghost use Rattle.egt_moves.specs.Chess.{chess, Zeroes};
 ghost use Rattle.egt_moves.specs.Legal.{Leads, IsLegal, plain};
 ghost use Rattle.egt_moves.specs.Targets.{IsLegalTarget};
 ghost use Rattle.egt_table.specs.declared.column.Column.{Column};
+ghost use Rattle.egt_check.specs.Men.{IsEntryOn};
 ghost use Rattle.egt_check.specs.Raised.{AreRaised};
 ghost use Rattle.egt_check.specs.Score.{number_at, greater, Scores, IsBest};
 ghost use Rattle.egt_check.specs.Steps.{HasTable, IsInClass, IsQuietTarget, shown_by};
@@ -22,9 +24,10 @@ ghost use Rattle.egt_check.specs.Uniform.{IsUniform};
 use crate::by_column::ByColumn;
 use crate::facts::facts;
 use crate::library::Library;
+use crate::own_men::{camps_of, is_of};
 use crate::quiet::{QuietStep, is_pawn, quiet_targets};
 use crate::score_table::{scores_by, uniform_scores};
-use egt_board::{Camps, Position, Square, SquareSet};
+use egt_board::{Camps, Kind, Man, Position, Side, Square, SquareSet};
 use egt_class::laws::moves_lead_into_the_class_or_a_child as quiet_moves_keep_the_class;
 use egt_class::of;
 use egt_index::{Frame, IndexAfter, Steps, index};
@@ -379,6 +382,7 @@ fn best_of_quiet(
 }
 
 /// The best score so far, and of the legal moves of the man on the square.
+#[inline(always)]
 fn best_of_man(
     table: &Table,
     library: &Library,
@@ -386,19 +390,20 @@ fn best_of_man(
     frame: &Frame,
     position: &Position,
     camps: Camps,
+    man: Man,
     from: Square,
     best: Option<ByColumn>,
 ) -> Option<ByColumn>
     requires uniform { uniform ≡ true → IsUniform table.now }
     requires camps { AreCamps position.now camps }
-    requires held { IsHeld position.now.men from position.now.side }
+    requires stands { Stands position.now.men from man }
+    requires mine { man.side ≡ position.now.side }
     requires own { IsInClass table.now.class position.now }
     requires children { HasChildren (table_at library.now) table.now.class }
     requires frame { IsFrame position.now frame.now }
     requires class { frame.now.class ≡ table.now.class }
     ensures { AreRaised (shown_by library.now table.now) position.now (λ m. m.from ≡ from) best result }
 {
-    let man = position.at(from).unwrap();
     let targets = legal_targets_of(position, camps, man, from);
     let quiet = quiet_targets(position, camps, man, from, targets);
     let pawn = is_pawn(man);
@@ -406,6 +411,39 @@ fn best_of_man(
         table, library, uniform, frame, position, from, quiet, pawn, best,
     );
     best_to_each(table, library, position, from, targets.without(quiet), best)
+}
+
+/// The same of the man beside the kings, if there is one and he is of the side to move.
+#[inline(always)]
+fn best_of_entry(
+    table: &Table,
+    library: &Library,
+    uniform: bool,
+    frame: &Frame,
+    position: &Position,
+    camps: Camps,
+    entry: Option<(Man, Square)>,
+    side: Side,
+    best: Option<ByColumn>,
+) -> Option<ByColumn>
+    requires uniform { uniform ≡ true → IsUniform table.now }
+    requires camps { AreCamps position.now camps }
+    requires entry { StandsBeside position.now.men entry }
+    requires side { side ≡ position.now.side }
+    requires own { IsInClass table.now.class position.now }
+    requires children { HasChildren (table_at library.now) table.now.class }
+    requires frame { IsFrame position.now frame.now }
+    requires class { frame.now.class ≡ table.now.class }
+    ensures { AreRaised (shown_by library.now table.now) position.now (λ m. IsEntryOn side entry m.from) best result }
+{
+    if let Some(placed) = entry {
+        if is_of(placed.0, side) {
+            return best_of_man(
+                table, library, uniform, frame, position, camps, placed.0, placed.1, best,
+            );
+        }
+    }
+    best
 }
 
 /// In each column the best score of a legal move, if there is a move.
@@ -425,11 +463,21 @@ pub(crate) fn best(
         (λ best. (column : Column) → IsBest (shown_by library.now table.now) column position.now (number_at best column)) }
     ensures none { IfNone result (NoMove chess position.now) }
 {
-    let camps = position.camps();
-    let mut best = None;
-    let mut rest = camps.own;
-    while let Some(from) = rest.pop_first() {
-        best = best_of_man(table, library, uniform, frame, position, camps, from, best);
-    }
-    best
+    let camps = camps_of(frame);
+    let side = frame.side();
+    let man = Man {
+        side,
+        kind: Kind::K,
+    };
+    let king = frame.king(side);
+    let (one, other) = frame.beside();
+    let of_king = best_of_man(
+        table, library, uniform, frame, position, camps, man, king, None,
+    );
+    let of_one = best_of_entry(
+        table, library, uniform, frame, position, camps, one, side, of_king,
+    );
+    best_of_entry(
+        table, library, uniform, frame, position, camps, other, side, of_one,
+    )
 }

@@ -1,4 +1,4 @@
-use Rattle.std.proofs.Common.{◌≡◌, Bool, sym, ◌∙◌, subst, inl, inr, arith}
+use Rattle.std.proofs.Common.{◌≡◌, Bool, sym, subst, inl, inr, arith}
 use Rattle.std.specs.Int.{bit_at}
 use Rattle.std.proofs.lemmas.Bool.{cases_eq}
 use Rattle.egt_board.specs.SquareSet.{Has}
@@ -8,11 +8,11 @@ use Rattle.egt_check.proofs.Raising.{raised_by_both}
 use Rattle.egt_check.proofs.Still.{targeted}
 use Rattle.egt_check.proofs.successors.best_of_man.Goals as goal
 
-pub quiet_targets-quiet-requires-clause-stands : goal.quiet_targets-quiet-requires-clause-stands
-quiet_targets-quiet-requires-clause-stands c = sym c.at.ensures ∙ c.unwrap-man.ensures
-
 pub quiet_targets-quiet-requires-clause-targets : goal.quiet_targets-quiet-requires-clause-targets
 quiet_targets-quiet-requires-clause-targets c = λ t has. (c.legal_targets_of-targets.ensures.legal t).0 has
+
+pub best_of_quiet-best-requires-clause-held : goal.best_of_quiet-best-requires-clause-held
+best_of_quiet-best-requires-clause-held c = record { man = c.args.man; stands = c.requires.stands; theirs = c.requires.mine }
 
 pub best_of_quiet-best-requires-clause-targets : goal.best_of_quiet-best-requires-clause-targets
 best_of_quiet-best-requires-clause-targets c = λ t has.
