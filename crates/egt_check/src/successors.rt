@@ -211,6 +211,7 @@ fn best_between(
 }
 
 /// The best score so far, and of the legal moves from the square to these.
+#[inline(never)]
 fn best_to_each(
     table: &Table,
     library: &Library,
@@ -410,7 +411,12 @@ fn best_of_man(
     let best = best_of_quiet(
         table, library, uniform, frame, position, from, quiet, pawn, best,
     );
-    best_to_each(table, library, position, from, targets.without(quiet), best)
+    let others = targets.without(quiet);
+    // Most men have none, so no call is made for them.
+    if others.is_empty() {
+        return best;
+    }
+    best_to_each(table, library, position, from, others, best)
 }
 
 /// The same of the man beside the kings, if there is one and he is of the side to move.
@@ -446,7 +452,9 @@ fn best_of_entry(
     best
 }
 
-/// In each column the best score of a legal move, if there is a move.
+/// In each column the best score of a legal move, if there is a move. It is no part of the loop over all indexes, so that this keeps the row
+/// in one place, and a man's loop has the registers.
+#[inline(never)]
 pub(crate) fn best(
     table: &Table,
     library: &Library,
