@@ -13,3 +13,5 @@ pub mod Still
 pub mod Raising
 mod Scoring
 mod ScoreTable
+mod Uniformity
+mod Men

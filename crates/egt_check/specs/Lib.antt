@@ -13,3 +13,5 @@ pub mod FirstBad
 pub mod Steps
 pub mod Raised
 pub mod Judged
+pub mod Uniform
+pub mod Men

@@ -9,6 +9,7 @@ use crate::judging::judge;
 use crate::library::Library;
 use crate::reject::Reject;
 use crate::rule::Rule;
+use crate::uniform::is_uniform;
 use egt_class::laws::children_have_smaller_numbers;
 use egt_class::{Class, children};
 use egt_index::{begins_row, row_of, size};
@@ -49,13 +50,14 @@ fn judge_all(table: &Table, library: &Library) -> Result<(), Reject>
     ensures exact { IsOk result ↔ KeepsRules (beside (table_at library.now) table.now) table.now }
     ensures reason { IfErr result (IsRefused (table_at library.now) table.now) }
 {
+    let uniform = is_uniform(table);
     let mut bad_zeroing = None;
     let mut row = None;
     for index in 0..size(table.class()) {
         if begins_row(table.class(), index) {
             row = row_of(table.class(), index);
         }
-        let (mate, zeroing) = judge(table, library, &mut row, index);
+        let (mate, zeroing) = judge(table, library, uniform, &mut row, index);
         if let Some(rule) = mate {
             return Err(Reject::Rejected {
                 column: Column::Mate,

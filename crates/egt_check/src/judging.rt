@@ -1,5 +1,5 @@
 //! The judgement of one index's entries.
-ghost use Rattle.std.specs.Prelude.{◌≡◌, ◌↔◌, ◌<◌, ◌/◌, ◌==◌, if◌then◌else◌, IsTrue};
+ghost use Rattle.std.specs.Prelude.{◌≡◌, ◌↔◌, ◌<◌, ◌/◌, ◌==◌, if◌then◌else◌, true, IsTrue};
 ghost use Rattle.egt_index.specs.Frame.{IsFrame};
 ghost use Rattle.egt_index.specs.Row.{row_len, IsRowOf};
 ghost use Rattle.egt_index.specs.Size.{size_of};
@@ -12,6 +12,7 @@ ghost use Rattle.egt_check.specs.Rules.{IsJudged};
 ghost use Rattle.egt_check.specs.Score.{number_at, IsAtEnd, IsDue};
 ghost use Rattle.egt_check.specs.Steps.{IsInClass, shown_by};
 ghost use Rattle.egt_check.specs.Tables.{table_at, beside, HasChildren};
+ghost use Rattle.egt_check.specs.Uniform.{IsUniform};
 
 use crate::by_column::ByColumn;
 use crate::facts::facts;
@@ -110,7 +111,14 @@ fn entry_at_end(position: &Position) -> u16
 }
 
 /// The entries that are due to a position of the table's class.
-fn due(table: &Table, library: &Library, frame: &Frame, position: &Position) -> ByColumn
+fn due(
+    table: &Table,
+    library: &Library,
+    uniform: bool,
+    frame: &Frame,
+    position: &Position,
+) -> ByColumn
+    requires uniform { uniform ≡ true → IsUniform table.now }
     requires own { IsInClass table.now.class position.now }
     requires children { HasChildren (table_at library.now) table.now.class }
     requires frame { IsFrame position.now frame.now }
@@ -119,7 +127,7 @@ fn due(table: &Table, library: &Library, frame: &Frame, position: &Position) -> 
 {
     facts();
     let _side = position.side();
-    match best(table, library, frame, position) {
+    match best(table, library, uniform, frame, position) {
         Some(best) => ByColumn {
             mate: entry_before(best.mate),
             zeroing: entry_before(best.zeroing),
@@ -146,9 +154,11 @@ fn judge_voids(entries: &ByColumn) -> (Option<Rule>, Option<Rule>)
 pub(crate) fn judge(
     table: &Table,
     library: &Library,
+    uniform: bool,
     row: &mut Option<Row>,
     index: u32,
 ) -> (Option<Rule>, Option<Rule>)
+    requires uniform { uniform ≡ true → IsUniform table.now }
     requires inside { index < size_of table.now.class }
     requires children { HasChildren (table_at library.now) table.now.class }
     requires row { IsRowOf table.now.class (index / row_len table.now.class) row.old }
@@ -166,7 +176,7 @@ pub(crate) fn judge(
         None => judge_voids(&entries),
         Some(position) => {
             row.turn_to(&position);
-            let due = due(table, library, row.frame(), &position);
+            let due = due(table, library, uniform, row.frame(), &position);
             (
                 judge_mate(entries.mate, due.mate),
                 judge_zeroing(entries.mate, entries.zeroing, due.zeroing),

@@ -9,11 +9,13 @@ pub mod judging;
 pub mod laws;
 pub mod library;
 pub mod outcome;
+pub mod own_men;
 pub mod quiet;
 pub mod reject;
 pub mod rule;
 pub mod score_table;
 pub mod successors;
+pub mod uniform;
 
 pub use checking::{check, first_missing};
 pub use library::Library;

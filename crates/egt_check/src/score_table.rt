@@ -1,6 +1,7 @@
 //! The scores of steps, by tables of the entries that occur.
-ghost use Rattle.std.specs.Prelude.{◌≡◌, ◌<◌, false, slice_index, Option};
+ghost use Rattle.std.specs.Prelude.{◌≡◌, ◌<◌, true, false, slice_index, Option};
 ghost use Rattle.egt_check.specs.Score.{IsShownBy, zeroing_said, score_of};
+ghost use Rattle.egt_check.specs.Uniform.{AreUniform};
 ghost use Rattle.egt_check.specs.declared.outcome.Outcome.{Outcome};
 
 use crate::by_column::ByColumn;
@@ -105,6 +106,34 @@ fn known_scores(mate: u16, zeroing: u16) -> ByColumn
         } else {
             UNKNOWN
         },
+    }
+}
+
+/// Whether the tables know both entries, which show a win, a loss or neither alike.
+#[inline(always)]
+pub(crate) fn are_uniform(entries: ByColumn) -> bool
+    ensures { result ≡ true → AreUniform entries.mate entries.zeroing }
+{
+    let ByColumn { mate, zeroing } = entries;
+    if mate >= KNOWN || zeroing >= KNOWN {
+        return false;
+    }
+    looked_up(mate).kind == looked_up(zeroing).kind
+}
+
+/// The scores of a step that does not zero to a position with such entries: nothing is left to compare.
+#[inline(always)]
+pub(crate) fn uniform_scores(entries: ByColumn) -> ByColumn
+    requires { AreUniform entries.mate entries.zeroing }
+    ensures mate { (said : Option Outcome) → IsShownBy entries.mate said → result.mate ≡ score_of said }
+    ensures zeroing { (said other : Option Outcome) → IsShownBy entries.mate said → IsShownBy entries.zeroing other →
+        result.zeroing ≡ score_of (zeroing_said said other false) }
+{
+    let by_mate = looked_up(entries.mate);
+    let by_zeroing = looked_up(entries.zeroing);
+    ByColumn {
+        mate: by_mate.mate,
+        zeroing: by_zeroing.zeroing,
     }
 }
 

@@ -1,8 +1,9 @@
 //! The best of a position's steps.
-ghost use Rattle.std.specs.Prelude.{◌≡◌, ◌↔◌, ℕ, ◌<◌, max, IsTrue, IfSome, IfNone};
+ghost use Rattle.std.specs.Prelude.{◌≡◌, ◌↔◌, ℕ, ◌<◌, max, true, false, IsTrue, IfSome, IfNone};
 ghost use Rattle.std.specs.Option.{option_map};
+ghost use Rattle.egt_board.specs.Beside.{StandsBeside};
 ghost use Rattle.egt_board.specs.Camps.{AreCamps};
-ghost use Rattle.egt_board.specs.Placement.{IsHeld};
+ghost use Rattle.egt_board.specs.Placement.{IsHeld, Stands};
 ghost use Rattle.egt_board.specs.SquareSet.{Has};
 ghost use Rattle.egt_board.specs.Setup.{Setup};
 ghost use Rattle.egt_index.specs.Frame.{IsFrame};
@@ -13,17 +14,20 @@ ghost use Rattle.egt_moves.specs.Chess.{chess, Zeroes};
 ghost use Rattle.egt_moves.specs.Legal.{Leads, IsLegal, plain};
 ghost use Rattle.egt_moves.specs.Targets.{IsLegalTarget};
 ghost use Rattle.egt_table.specs.declared.column.Column.{Column};
+ghost use Rattle.egt_check.specs.Men.{IsEntryOn};
 ghost use Rattle.egt_check.specs.Raised.{AreRaised};
 ghost use Rattle.egt_check.specs.Score.{number_at, greater, Scores, IsBest};
 ghost use Rattle.egt_check.specs.Steps.{HasTable, IsInClass, IsQuietTarget, shown_by};
 ghost use Rattle.egt_check.specs.Tables.{table_at, beside, entry_at, HasEntry, HasChildren};
+ghost use Rattle.egt_check.specs.Uniform.{IsUniform};
 
 use crate::by_column::ByColumn;
 use crate::facts::facts;
 use crate::library::Library;
+use crate::own_men::{camps_of, is_of};
 use crate::quiet::{QuietStep, is_pawn, quiet_targets};
-use crate::score_table::scores_by;
-use egt_board::{Camps, Position, Square, SquareSet};
+use crate::score_table::{scores_by, uniform_scores};
+use egt_board::{Camps, Kind, Man, Position, Side, Square, SquareSet};
 use egt_class::laws::moves_lead_into_the_class_or_a_child as quiet_moves_keep_the_class;
 use egt_class::of;
 use egt_index::{Frame, IndexAfter, Steps, index};
@@ -155,6 +159,31 @@ fn quiet_scores(
     scores(table, library, position, &chess_move, entries, pawn)
 }
 
+/// The same in a uniform table, by the indexes after the man went, who is no pawn.
+#[inline(always)]
+fn uniform_step_scores<I: IndexAfter>(
+    table: &Table,
+    _library: &Library,
+    indexes: &I,
+    position: &Position,
+    _from: Square,
+    to: Square,
+) -> ByColumn
+    requires uniform { IsUniform table.now }
+    requires quiet { IsQuietTarget position.now false _from to }
+    requires own { IsInClass table.now.class position.now }
+    requires indexes { I.of_man indexes.now position.now table.now.class _from }
+    ensures { (column : Column) (q : Setup) (leads : Leads position.now (plain _from to) q) →
+        Scores (shown_by _library.now table.now) column position.now q (plain _from to, leads) (number_at result column) }
+{
+    facts();
+    quiet_moves_keep_the_class();
+    let _side = position.side();
+    let _class = table.class();
+    let entries = entries_at(table, indexes.index_to(to));
+    uniform_scores(entries)
+}
+
 /// The best score so far, and of the legal moves from the one square to the other.
 fn best_between(
     table: &Table,
@@ -182,6 +211,7 @@ fn best_between(
 }
 
 /// The best score so far, and of the legal moves from the square to these.
+#[inline(never)]
 fn best_to_each(
     table: &Table,
     library: &Library,
@@ -204,6 +234,7 @@ fn best_to_each(
 }
 
 /// The best score so far, and of the moves from the square to these, which take nothing.
+#[inline(never)]
 fn best_to_each_quiet(
     table: &Table,
     library: &Library,
@@ -243,39 +274,195 @@ fn best_to_each_quiet(
     }
 }
 
-/// The best score so far, and of the legal moves of the man on the square.
-fn best_of_man(
+/// The same in a uniform table, by the indexes after the man went, who is no pawn. It is inlined so that they stay in registers.
+#[inline(always)]
+fn best_to_each_uniform<I: IndexAfter>(
+    table: &Table,
+    library: &Library,
+    indexes: &I,
+    position: &Position,
+    from: Square,
+    targets: SquareSet,
+    best: Option<ByColumn>,
+) -> Option<ByColumn>
+    requires uniform { IsUniform table.now }
+    requires targets { (t : ℕ) → Has targets t → IsQuietTarget position.now false from t }
+    requires own { IsInClass table.now.class position.now }
+    requires indexes { I.of_man indexes.now position.now table.now.class from }
+    ensures { AreRaised (shown_by library.now table.now) position.now (λ m. (m.from ≡ from) × Has targets m.to) best result }
+{
+    let mut rest = targets;
+    match rest.pop_first() {
+        Some(first) => {
+            let scores = uniform_step_scores(table, library, indexes, position, from, first);
+            let mut highest = raised(best, scores);
+            while let Some(to) = rest.pop_first() {
+                let scores = uniform_step_scores(table, library, indexes, position, from, to);
+                highest = higher(highest, scores);
+            }
+            Some(highest)
+        }
+        None => best,
+    }
+}
+
+/// The same by the steps of the man. Few men need them, so they stay out of the way of the others.
+#[inline(never)]
+fn best_stepped(
     table: &Table,
     library: &Library,
     frame: &Frame,
     position: &Position,
+    from: Square,
+    targets: SquareSet,
+    best: Option<ByColumn>,
+) -> Option<ByColumn>
+    requires uniform { IsUniform table.now }
+    requires held { IsHeld position.now.men from position.now.side }
+    requires targets { (t : ℕ) → Has targets t → IsQuietTarget position.now false from t }
+    requires own { IsInClass table.now.class position.now }
+    requires frame { IsFrame position.now frame.now }
+    requires class { frame.now.class ≡ table.now.class }
+    ensures { AreRaised (shown_by library.now table.now) position.now (λ m. (m.from ≡ from) × Has targets m.to) best result }
+{
+    let steps = frame.steps(from);
+    best_to_each_uniform(table, library, &steps, position, from, targets, best)
+}
+
+/// The same by the sum of codes in the most common case.
+#[inline(always)]
+fn best_summed(
+    table: &Table,
+    library: &Library,
+    frame: &Frame,
+    position: &Position,
+    from: Square,
+    targets: SquareSet,
+    best: Option<ByColumn>,
+) -> Option<ByColumn>
+    requires uniform { IsUniform table.now }
+    requires held { IsHeld position.now.men from position.now.side }
+    requires targets { (t : ℕ) → Has targets t → IsQuietTarget position.now false from t }
+    requires own { IsInClass table.now.class position.now }
+    requires frame { IsFrame position.now frame.now }
+    requires class { frame.now.class ≡ table.now.class }
+    ensures { AreRaised (shown_by library.now table.now) position.now (λ m. (m.from ≡ from) × Has targets m.to) best result }
+{
+    match frame.sum(from) {
+        Some(sum) => best_to_each_uniform(table, library, &sum, position, from, targets, best),
+        None => best_stepped(table, library, frame, position, from, targets, best),
+    }
+}
+
+/// The best score so far, and of the moves from the square to these, which take nothing. A pawn's zero, and there is one at most.
+#[inline(always)]
+fn best_of_quiet(
+    table: &Table,
+    library: &Library,
+    uniform: bool,
+    frame: &Frame,
+    position: &Position,
+    from: Square,
+    targets: SquareSet,
+    pawn: bool,
+    best: Option<ByColumn>,
+) -> Option<ByColumn>
+    requires uniform { uniform ≡ true → IsUniform table.now }
+    requires held { IsHeld position.now.men from position.now.side }
+    requires targets { (t : ℕ) → Has targets t → IsQuietTarget position.now pawn from t }
+    requires own { IsInClass table.now.class position.now }
+    requires frame { IsFrame position.now frame.now }
+    requires class { frame.now.class ≡ table.now.class }
+    ensures { AreRaised (shown_by library.now table.now) position.now (λ m. (m.from ≡ from) × Has targets m.to) best result }
+{
+    if pawn || !uniform {
+        best_to_each_quiet(table, library, frame, position, from, targets, pawn, best)
+    } else {
+        best_summed(table, library, frame, position, from, targets, best)
+    }
+}
+
+/// The best score so far, and of the legal moves of the man on the square.
+#[inline(always)]
+fn best_of_man(
+    table: &Table,
+    library: &Library,
+    uniform: bool,
+    frame: &Frame,
+    position: &Position,
     camps: Camps,
+    man: Man,
     from: Square,
     best: Option<ByColumn>,
 ) -> Option<ByColumn>
+    requires uniform { uniform ≡ true → IsUniform table.now }
     requires camps { AreCamps position.now camps }
-    requires held { IsHeld position.now.men from position.now.side }
+    requires stands { Stands position.now.men from man }
+    requires mine { man.side ≡ position.now.side }
     requires own { IsInClass table.now.class position.now }
     requires children { HasChildren (table_at library.now) table.now.class }
     requires frame { IsFrame position.now frame.now }
     requires class { frame.now.class ≡ table.now.class }
     ensures { AreRaised (shown_by library.now table.now) position.now (λ m. m.from ≡ from) best result }
 {
-    let man = position.at(from).unwrap();
     let targets = legal_targets_of(position, camps, man, from);
     let quiet = quiet_targets(position, camps, man, from, targets);
     let pawn = is_pawn(man);
-    let best = best_to_each_quiet(table, library, frame, position, from, quiet, pawn, best);
-    best_to_each(table, library, position, from, targets.without(quiet), best)
+    let best = best_of_quiet(
+        table, library, uniform, frame, position, from, quiet, pawn, best,
+    );
+    let others = targets.without(quiet);
+    // Most men have none, so no call is made for them.
+    if others.is_empty() {
+        return best;
+    }
+    best_to_each(table, library, position, from, others, best)
 }
 
-/// In each column the best score of a legal move, if there is a move.
+/// The same of the man beside the kings, if there is one and he is of the side to move.
+#[inline(always)]
+fn best_of_entry(
+    table: &Table,
+    library: &Library,
+    uniform: bool,
+    frame: &Frame,
+    position: &Position,
+    camps: Camps,
+    entry: Option<(Man, Square)>,
+    side: Side,
+    best: Option<ByColumn>,
+) -> Option<ByColumn>
+    requires uniform { uniform ≡ true → IsUniform table.now }
+    requires camps { AreCamps position.now camps }
+    requires entry { StandsBeside position.now.men entry }
+    requires side { side ≡ position.now.side }
+    requires own { IsInClass table.now.class position.now }
+    requires children { HasChildren (table_at library.now) table.now.class }
+    requires frame { IsFrame position.now frame.now }
+    requires class { frame.now.class ≡ table.now.class }
+    ensures { AreRaised (shown_by library.now table.now) position.now (λ m. IsEntryOn side entry m.from) best result }
+{
+    if let Some(placed) = entry {
+        if is_of(placed.0, side) {
+            return best_of_man(
+                table, library, uniform, frame, position, camps, placed.0, placed.1, best,
+            );
+        }
+    }
+    best
+}
+
+/// In each column the best score of a legal move, if there is a move. It is no part of the loop over all indexes, so that this keeps the row
+/// in one place, and a man's loop has the registers.
+#[inline(never)]
 pub(crate) fn best(
     table: &Table,
     library: &Library,
+    uniform: bool,
     frame: &Frame,
     position: &Position,
 ) -> Option<ByColumn>
+    requires uniform { uniform ≡ true → IsUniform table.now }
     requires own { IsInClass table.now.class position.now }
     requires children { HasChildren (table_at library.now) table.now.class }
     requires frame { IsFrame position.now frame.now }
@@ -284,11 +471,21 @@ pub(crate) fn best(
         (λ best. (column : Column) → IsBest (shown_by library.now table.now) column position.now (number_at best column)) }
     ensures none { IfNone result (NoMove chess position.now) }
 {
-    let camps = position.camps();
-    let mut best = None;
-    let mut rest = camps.own;
-    while let Some(from) = rest.pop_first() {
-        best = best_of_man(table, library, frame, position, camps, from, best);
-    }
-    best
+    let camps = camps_of(frame);
+    let side = frame.side();
+    let man = Man {
+        side,
+        kind: Kind::K,
+    };
+    let king = frame.king(side);
+    let (one, other) = frame.beside();
+    let of_king = best_of_man(
+        table, library, uniform, frame, position, camps, man, king, None,
+    );
+    let of_one = best_of_entry(
+        table, library, uniform, frame, position, camps, one, side, of_king,
+    );
+    best_of_entry(
+        table, library, uniform, frame, position, camps, other, side, of_one,
+    )
 }

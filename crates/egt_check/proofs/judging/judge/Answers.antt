@@ -23,6 +23,7 @@ due-due-requires c =
     let class = (row_class c.args.table.now.class c.args.index c.args.row.now c.in-Some.row c.in-Some.is c.requires.row) in
     let spelled = subst (λ (k : ℕ). Spells k c.args.index c.in-Some-position_at.position) class c.in-Some-position_at.ensures.spells in
     record {
+      uniform = c.requires.uniform;
       own = (false, c.spelled_positions_are_of_the_class.ensures c.args.table.now.class c.args.index c.in-Some-position_at.position spelled);
       children = c.requires.children;
       frame = c.frame.ensures.frame c.in-Some-position_at.position c.turn_to.ensures.frame;
