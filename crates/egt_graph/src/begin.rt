@@ -42,65 +42,41 @@ pub(crate) fn begin<G: Game>(alloc: Global, game: &G) -> Result<Columns, AllocEr
         won_due: Schedule::new(alloc),
         counts: vec![in alloc; UNTOLD; size as usize]?,
     };
-    let mut first = ArrayVec::new();
-    let mut second = ArrayVec::new();
-    let mut third = ArrayVec::new();
-    let mut fourth = ArrayVec::new();
-    for row in 0..size / 4 {
-        fill_four(
+    let mut exits = ArrayVec::new();
+    let mut next_exits = ArrayVec::new();
+    for pair in 0..size / 2 {
+        fill_two(
             alloc,
             game,
-            4 * row,
-            &mut first,
-            &mut second,
-            &mut third,
-            &mut fourth,
+            2 * pair,
+            &mut exits,
+            &mut next_exits,
             &mut columns,
         )?;
     }
-    fill_rest(alloc, game, size - size % 4, &mut columns)?;
+    if size % 2 == 1 {
+        fill_one(alloc, game, size - 1, &mut exits, &mut columns)?;
+    }
     Ok(columns)
 }
 
-/// Fills in a number and the next three, of which the game is asked at once.
-fn fill_four<G: Game>(
+/// Fills in a number and the next, of which the game is asked at once.
+fn fill_two<G: Game>(
     alloc: Global,
     game: &G,
     node: u32,
-    first: &mut ArrayVec<Exit, 64>,
-    second: &mut ArrayVec<Exit, 64>,
-    third: &mut ArrayVec<Exit, 64>,
-    fourth: &mut ArrayVec<Exit, 64>,
+    exits: &mut ArrayVec<Exit, 64>,
+    next_exits: &mut ArrayVec<Exit, 64>,
     columns: &mut Columns,
 ) -> Result<(), AllocError>
-    requires in_range { node + 3 < (G.graph game.now).size }
+    requires in_range { node + 1 < (G.graph game.now).size }
     requires begun { AreBegun (G.graph game.now) node columns.old }
-    ensures { OnOk result (AreBegun (G.graph game.now) (node + 4) columns.new) }
+    ensures { OnOk result (AreBegun (G.graph game.now) (node + 2) columns.new) }
 {
     let _size = game.size();
-    let (start, next, after, last) = game.start_four(node, first, second, third, fourth);
-    fill(alloc, game, node, start, first.as_slice(), columns)?;
-    fill(alloc, game, node + 1, next, second.as_slice(), columns)?;
-    fill(alloc, game, node + 2, after, third.as_slice(), columns)?;
-    fill(alloc, game, node + 3, last, fourth.as_slice(), columns)
-}
-
-/// Fills in the last numbers, of which the game is asked one by one.
-fn fill_rest<G: Game>(
-    alloc: Global,
-    game: &G,
-    from: u32,
-    columns: &mut Columns,
-) -> Result<(), AllocError>
-    requires in_range { from ≤ (G.graph game.now).size }
-    requires begun { AreBegun (G.graph game.now) from columns.old }
-    ensures { OnOk result (AreBegun (G.graph game.now) (G.graph game.now).size columns.new) }
-{
-    let mut exits = ArrayVec::new();
-    for node in from..game.size() {
-        fill_one(alloc, game, node, &mut exits, columns)?;
-    }
-    Ok(())
+    let (start, next) = game.start_two(node, exits, next_exits);
+    fill(alloc, game, node, start, exits.as_slice(), columns)?;
+    fill(alloc, game, node + 1, next, next_exits.as_slice(), columns)
 }
 
 /// Fills in a number of which the game is asked alone.

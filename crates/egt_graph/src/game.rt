@@ -106,27 +106,6 @@ pub trait Game {
         (start, self.start(i + 1, next_exits))
     }
 
-    /// What `start` answers of four neighbours, which may have much in common.
-    fn start_four(
-        &self,
-        i: u32,
-        first: &mut ArrayVec<Exit, 64>,
-        second: &mut ArrayVec<Exit, 64>,
-        third: &mut ArrayVec<Exit, 64>,
-        fourth: &mut ArrayVec<Exit, 64>,
-    ) -> (Option<Start>, Option<Start>, Option<Start>, Option<Start>)
-        requires { i + 3 < (graph self.now).size }
-        ensures first { IsStart (graph self.now) i result.0 first.new.items }
-        ensures second { IsStart (graph self.now) (i + 1) result.1 second.new.items }
-        ensures third { IsStart (graph self.now) (i + 2) result.2 third.new.items }
-        ensures fourth { IsStart (graph self.now) (i + 3) result.3 fourth.new.items }
-    {
-        let _size = self.size();
-        let (start, next) = self.start_two(i, first, second);
-        let (after, last) = self.start_two(i + 2, third, fourth);
-        (start, next, after, last)
-    }
-
     /// Fills the list with what `into` answers, in the place of what it had.
     fn list_into(&self, j: u32, list: &mut ArrayVec<u32, 128>)
         requires { IsNode (graph self.now) j }

@@ -210,8 +210,8 @@ impl<'g, G: Game> Rounds<'g, G> {
         Post::Posted
     }
 
-    /// Expands a block and posts what it found, without a batch: of lost nodes it asks for the undecided sources alone. The list is lent for
-    /// what the game answers.
+    /// Expands a block and posts what it found, without a batch: of lost nodes it asks for the undecided sources alone, which it
+    /// puts into the list that is lent.
     pub(crate) fn work(
         &mut self,
         alloc: Global,

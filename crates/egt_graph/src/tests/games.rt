@@ -343,12 +343,11 @@ impl<'a, G: Game> Game for Backwards<'a, G> {
     }
 }
 
-/// The same game, which by itself lists the sources of several nodes and tells of four neighbours, the last first, and counts how often it does.
+/// The same game, which lists the sources of several nodes by itself, and counts how often it does.
 #[derive(Drop)]
 pub(crate) struct Together<'a, G: Game> {
     game: &'a G,
     runs: Cell<u32>,
-    fours: Cell<u32>,
 }
 
 impl<'a, G: Game> Together<'a, G> {
@@ -356,13 +355,12 @@ impl<'a, G: Game> Together<'a, G> {
         Together {
             game,
             runs: Cell::new(0),
-            fours: Cell::new(0),
         }
     }
 
-    /// How often it was asked for the sources of several nodes, and how often of four neighbours.
-    pub(crate) fn asked(&self) -> (u32, u32) {
-        (self.runs.get(), self.fours.get())
+    /// How often it was asked for the sources of several nodes.
+    pub(crate) fn runs(&self) -> u32 {
+        self.runs.get()
     }
 }
 
@@ -405,22 +403,6 @@ impl<'a, G: Game> Game for Together<'a, G> {
         for node in nodes {
             append(list, self.game.into(*node).as_slice());
         }
-    }
-
-    fn start_four(
-        &self,
-        i: u32,
-        first: &mut ArrayVec<Exit, 64>,
-        second: &mut ArrayVec<Exit, 64>,
-        third: &mut ArrayVec<Exit, 64>,
-        fourth: &mut ArrayVec<Exit, 64>,
-    ) -> (Option<Start>, Option<Start>, Option<Start>, Option<Start>) {
-        self.fours.set(self.fours.get().wrapping_add(1));
-        let _size = self.game.size();
-        let last = self.game.start(i + 3, fourth);
-        let after = self.game.start(i + 2, third);
-        let next = self.game.start(i + 1, second);
-        (self.game.start(i, first), next, after, last)
     }
 }
 

@@ -224,55 +224,6 @@ fn two_neighbours(rt: HostRuntime) {
     assert_eq!(rt; next_exits.len(), 0);
 }
 
-// 0 leads to 2 and leaves for a draw, and 4 leaves for positions won in 1 and lost in 2. 1 is void, 2 is checkmate, and 3 leads to 0.
-#[test]
-fn four_neighbours(rt: HostRuntime) {
-    let game = Sample {
-        size: 5,
-        voids: &[1],
-        mates: &[2],
-        moves: &[(0, 2), (3, 0)],
-        exits: &[(0, Exit::Draw), (4, Exit::Win(1)), (4, Exit::Loss(2))],
-    };
-    let mut first = ArrayVec::new();
-    let mut second = ArrayVec::new();
-    let mut third = ArrayVec::new();
-    let mut fourth = ArrayVec::new();
-    let two = Some(Start {
-        mated: true,
-        degree: Some(0),
-    });
-    let three = Some(Start {
-        mated: false,
-        degree: Some(1),
-    });
-    let four = Some(Start {
-        mated: false,
-        degree: Some(0),
-    });
-    assert_eq!(rt;
-        game.start_four(1, &mut first, &mut second, &mut third, &mut fourth),
-        (None, two, three, four)
-    );
-    assert_eq!(rt; (first.len(), second.len(), third.len()), (0, 0, 0));
-    assert_eq!(rt; fourth.as_slice(), [Exit::Win(1), Exit::Loss(2)].as_slice());
-}
-
-// The last numbers, of which fewer than four are left, are asked for one by one.
-#[test]
-fn numbers_past_the_last_four(rt: HostRuntime) -> Result<(), Fail> {
-    let game = with_exits();
-    let asked = Together::new(&game);
-    let (ranks, counts) = solve_and_count(rt.alloc(), &asked, 8)?;
-    assert_eq!(rt; ranks.entries(), [10, 13, 17, 1, 18].as_slice());
-    assert_eq!(rt;
-        counts.as_slice(),
-        [UNTOLD, 1, UNTOLD, UNTOLD, 1].as_slice()
-    );
-    assert_eq!(rt; asked.asked().1, 1);
-    Ok(())
-}
-
 #[test]
 fn no_nodes(rt: HostRuntime) -> Result<(), Fail> {
     let ranks = solve(rt.alloc(), &Stairs { size: 0, step: 1 }, 0)?;

@@ -260,6 +260,6 @@ fn what_is_asked_at_once(rt: HostRuntime) -> Result<(), Fail> {
     for (node, entry) in ranks.entries().iter().enumerate() {
         assert_eq!(rt; *entry, stair_entry(node));
     }
-    assert_eq!(rt; game.asked(), (2 * 32 + 32 + (2 + 30) + (3 + 29), 2_500));
+    assert_eq!(rt; game.runs(), 2 * 32 + 32 + (2 + 30) + (3 + 29));
     Ok(())
 }

@@ -1,16 +1,30 @@
-use Rattle.std.proofs.Common.{◌≡◌, ◌+◌, ◌*◌, ℕ, false, replicate, subst, arith}
+use Rattle.std.proofs.Common.{◌≡◌, ◌+◌, ◌*◌, ℕ, false, replicate, sym, subst, arith}
 use Rattle.std.proofs.lemmas.Grind.{common_steps}
 use Rattle.egt_graph.specs.Begin.{AreBegun}
 use Rattle.egt_graph.proofs.Beginning.{Begun_none, Counts_none}
+use Rattle.egt_graph.proofs.begin.begin.Goals.{then-size-eq1+in_ok-fill_one, else-size-eq1}
 use Rattle.egt_graph.proofs.begin.begin.Goals as goal
 
-pub fill_rest-requires-clause-begun : goal.fill_rest-requires-clause-begun
-fill_rest-requires-clause-begun g c =
-    subst (λ (n : ℕ). AreBegun (g.G.Game.graph c.args.game.now) n c.loop-row.columns)
-    (omega (arith, c.loop-row-test.false, c.loop-row.auto.row-end)) c.loop-row.invariant
+pub fill_one-requires-clause-begun : goal.fill_one-requires-clause-begun
+fill_one-requires-clause-begun g c =
+    subst (λ (n : ℕ). AreBegun (g.G.Game.graph c.args.game.now) n c.loop-pair.columns)
+    (omega (arith, c.if-size-eq1.true, c.loop-pair-test.false, c.loop-pair.auto.pair-end)) c.loop-pair.invariant
 
-pub loop-row-init : goal.loop-row-init
-loop-row-init g c =
+pub returns : goal.returns
+returns g c =
+    let graph = g.G.Game.graph c.args.game.now in
+    elim c.if-size-eq1.branch [
+      | then-size-eq1+in_ok-fill_one w ↦
+          subst (AreBegun graph graph.size) (sym w.columns-is)
+          (subst (λ (n : ℕ). AreBegun graph n w.fill_one.new.columns) (omega (arith, w.if-size-eq1.true, c.size-size.ensures)) w.in_ok-fill_one.ensures)
+      | else-size-eq1 w ↦
+          subst (AreBegun graph graph.size) (sym w.columns-is)
+          (subst (λ (n : ℕ). AreBegun graph n c.loop-pair.columns)
+          (omega (arith, w.if-size-eq1.false, c.loop-pair-test.false, c.loop-pair.auto.pair-end, c.size-size.ensures)) c.loop-pair.invariant)
+    ]
+
+pub loop-pair-init : goal.loop-pair-init
+loop-pair-init g c =
     let graph = g.G.Game.graph c.args.game.now in
     let entries : c.in_ok-vec.field-0.items ≡ replicate graph.size 0 = grind (arith, common_steps) in
     let waits : c.in_ok-vec-2.field-0.items ≡ replicate graph.size 0 = grind (arith, common_steps) in
@@ -19,7 +33,7 @@ loop-row-init g c =
     let counts : c.in_ok-vec-5.field-0.items ≡ replicate graph.size 255 = grind (arith, common_steps) in
     rw (entries, waits, later, lost, counts, c.new.ensures, c.new-2.ensures) (Begun_none graph, Counts_none graph)
 
-pub loop-row-preserved : goal.loop-row-preserved
-loop-row-preserved g c =
-    subst (λ (n : ℕ). AreBegun (g.G.Game.graph c.args.game.now) n c.fill_four.new.columns)
-    (let e : 4 * c.loop-row.row + 4 ≡ 4 * (c.loop-row.row + 1) = omega arith in e) c.in_ok-fill_four.ensures
+pub loop-pair-preserved : goal.loop-pair-preserved
+loop-pair-preserved g c =
+    subst (λ (n : ℕ). AreBegun (g.G.Game.graph c.args.game.now) n c.fill_two.new.columns)
+    (let e : 2 * c.loop-pair.pair + 2 ≡ 2 * (c.loop-pair.pair + 1) = omega arith in e) c.in_ok-fill_two.ensures
