@@ -3,6 +3,7 @@ ghost use Rattle.std.specs.Prelude.{◌≡◌, ◌+◌, ◌*◌, ◌<◌, ◌≤
 ghost use Rattle.std.specs.List.Sorted.{IsStrictlyIncreasing};
 ghost use Rattle.arrayvec.specs.ArrayVec.{array_vec_len};
 ghost use Rattle.egt_graph.specs.Graph.{Graph, IsNode, IsGame, IsStart};
+ghost use Rattle.egt_graph.specs.Columns.{into_all};
 ghost use Rattle.egt_graph.specs.Undecided.{AreMarkedInto};
 
 use arrayvec::ArrayVec;
@@ -111,6 +112,21 @@ pub trait Game {
         ensures { list.new.items ≡ (graph self.now).into j }
     {
         *list = self.into(j);
+    }
+
+    /// Fills the list, in the place of what it had, with what `into` answers of each of these nodes, one after the other.
+    fn list_all_into(&self, nodes: &[u32], list: &mut ArrayVec<u32, 8192>)
+        requires nodes { All (IsNode (graph self.now)) nodes.now }
+        requires ascending { IsStrictlyIncreasing nodes.now }
+        requires few { length nodes.now ≤ 64 }
+        ensures { list.new.items ≡ into_all (graph self.now) nodes.now }
+    {
+        let mut sources = ArrayVec::new();
+        list.clear();
+        for node in nodes {
+            self.list_into(*node, &mut sources);
+            append(list, sources.as_slice());
+        }
     }
 
     /// Fills the list, in the place of what it had, with nodes from which a move leads to one of these, in any order and perhaps more
