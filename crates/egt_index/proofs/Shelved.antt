@@ -128,13 +128,13 @@ before_last : (bases digits others : List ℕ) (base d e : ℕ) → AreDigits ba
 before_last bases digits others base d e are too d_in e_in same =
     (number_from-same bases digits others 0 0 are too (sym (div-mul-add (number_of bases digits) base d d_in) ∙ same ∙ div-mul-add (number_of bases others) base e e_in)).1
 
-abbrev all_men : List Man → List Man
+abbrev pub all_men : List Man → List Man
 all_men men = king_of White ∷ king_of Black ∷ men
 
-abbrev all_bases : Bool → List Man → List ℕ
+abbrev pub all_bases : Bool → List Man → List ℕ
 all_bases pawns men = map (base_of pawns) (all_men men)
 
-abbrev listed_with : (white black : ℕ) (next last : Entry) → List (Man × ℕ)
+abbrev pub listed_with : (white black : ℕ) (next last : Entry) → List (Man × ℕ)
 listed_with white black next last = (king_of White, white) ∷ (king_of Black, black) ∷ (option_to_list next ++ option_to_list last)
 
 -- the last man stands where the digits say, and all others where they stood
@@ -157,7 +157,7 @@ two_on pawns a b white black (Some x) (Some y) d e f g v list = record { last = 
     swapped last e = cc
 
 -- no class has more than two men beside the kings
-no_third : (pawns : Bool) (a b c : Man) (more : List Man) (white black : ℕ) (next last : Entry) (digits : List ℕ) → AreDigits (all_bases pawns (a ∷ b ∷ c ∷ more)) digits
+pub no_third : (pawns : Bool) (a b c : Man) (more : List Man) (white black : ℕ) (next last : Entry) (digits : List ℕ) → AreDigits (all_bases pawns (a ∷ b ∷ c ∷ more)) digits
     → listed_with white black next last ≡ placed pawns (all_men (a ∷ b ∷ c ∷ more)) digits → ⊥
 no_third pawns a b c more white black next last [] are list = are
 no_third pawns a b c more white black next last (d ∷ []) are list = are.1
@@ -228,6 +228,7 @@ on_shelf last total frame = record {
 pub record IsOnShelf (frame : Frame) (code : ℕ) (p : Setup) : Type 0 where
   pub last : Entry
   pub man : man_at last ≡ man_at frame.stand.last
+  pub men : SpellsMen (material_of frame.class) (code / ends_of (material_of frame.class)) (list_of (record { white = frame.stand.white; black = frame.stand.black; next = frame.stand.next; last = last }))
   pub is : IsFrame p (on_shelf last (without_ends frame.class code) frame)
 
 -- the frame of an index, with the last man elsewhere, is that of each position whose index is alike
@@ -236,6 +237,7 @@ unfolding shelf_len
 is_on_shelf facts i code p q frame passed c_in at here = record {
   last = on.last;
   man = on.man;
+  men = men;
   is = record {
     passed = is_some q.target;
     stand = has;

@@ -6,8 +6,9 @@ use Rattle.egt_class.specs.Material.{material_of}
 use Rattle.egt_index.specs.Code.{Spells}
 use Rattle.egt_index.specs.Frame.{IsMoved}
 use Rattle.egt_index.specs.Index.{IsIndex}
-use Rattle.egt_index.specs.Scales.{AreEqual, digits_at, ends_of, share}
+use Rattle.egt_index.specs.Scales.{AreEqual, digits_at, ends_of, kind_digits, kind_less, share}
 use Rattle.egt_index.specs.Size.{has_target, men_beside}
+use Rattle.egt_index.specs.Stood.{Entry}
 use Rattle.egt_index.specs.Ways.{IsThere, KingAdds}
 use Rattle.egt_index.specs.declared.shelf.Goer.{Goer}
 use Rattle.egt_index.specs.declared.shelf.Goer.TheVariants.{Beside, King}
@@ -50,6 +51,11 @@ Adds (King king) to n = KingAdds king to n
 abbrev pub GoerFits : Goer → Type 0
 GoerFits (Beside scale) = scale.stride ≤ 1048576
 GoerFits (King king) = king.stride ≤ 1048576
+
+-- the man, if there is one, on the square of the lowest digit
+abbrev pub by_digit : Entry → ℕ → Entry
+by_digit None number = None
+by_digit (Some e) number = Some (e.0, number % kind_digits e.0.kind + kind_less e.0.kind)
 
 -- wherever the man on `from` goes in a position whose index is alike to i, the index is then that one without its ends and without what is
 -- taken, and what the side to move and the man on his square add

@@ -1,6 +1,7 @@
 //! Codes of positions: one number for all images of a position, so that a table has one entry for them.
 #![tactic(auto)]
 
+pub mod alike;
 pub mod axis;
 pub mod beaten;
 pub mod codes;
@@ -42,6 +43,8 @@ pub use spelling::{frame_at, indexed, position_of};
 pub use steps::Steps;
 pub use ways::Sum;
 
+#[cfg(test)]
+mod alike_tests;
 #[cfg(test)]
 mod index_tests;
 #[cfg(test)]

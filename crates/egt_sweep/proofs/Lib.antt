@@ -27,3 +27,5 @@ pub mod Returning
 pub mod Gathering
 pub mod Marked
 pub mod Runs
+pub mod Shelved
+pub mod Following

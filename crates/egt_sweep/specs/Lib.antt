@@ -13,3 +13,4 @@ pub mod Wanted
 pub mod Drawn
 pub mod Idle
 pub mod Together
+pub mod Shelves

@@ -1,18 +1,17 @@
 -- What is told at once of nodes that differ by the last man's square alone.
-use Rattle.std.specs.Prelude.{◌≡◌, ℕ, ◌+◌, ◌<◌, ◌≤◌, ◌%◌, ◌⊎◌, false, List, Option, Some, None, IfSome}
+use Rattle.std.specs.Prelude.{◌≡◌, ℕ, ◌+◌, ◌<◌, ◌≤◌, ◌⊎◌, false, List, Option, Some, None, IfSome}
 use Rattle.std.specs.Int.{bit_at}
 use Rattle.egt_board.specs.Man.{other_side}
 use Rattle.egt_board.specs.Placement.{Stands, IsFree}
 use Rattle.egt_board.specs.SquareSet.{Has}
 use Rattle.egt_board.specs.declared.man.Man.{Man}
 use Rattle.egt_board.specs.declared.square_set.SquareSet.{SquareSet}
-use Rattle.egt_class.specs.Material.{material_of}
 use Rattle.egt_graph.specs.Undecided.{IsMarked}
-use Rattle.egt_index.specs.Scales.{ends_of}
 use Rattle.egt_index.specs.Shelf.{AreAlike}
 use Rattle.egt_table.specs.declared.column.Column.{Column}
 use Rattle.egt_sweep.specs.Edges.{CameTo, HadNoTarget, IsAt}
 use Rattle.egt_sweep.specs.Nodes.{setup_at}
+use Rattle.egt_sweep.specs.Shelves.{AreNear}
 use Rattle.egt_sweep.specs.declared.together.Hits.{Hits}
 use Rattle.egt_sweep.specs.declared.together.Run.{Run}
 
@@ -51,14 +50,10 @@ AreAt (Some hits) s = s ≡ hits.to
 abbrev pub NoneBeside : Column → ℕ → ℕ → ℕ → Option Hits → Type 0
 NoneBeside column c first king one = (j s i : ℕ) → IsAlikeNode c first j → CameTo column c (setup_at c j) s i → (s ≡ king) ⊎ AreAt one s
 
--- up to that number those with the same last digits differ from the first by the last man's square alone
-pub record AreNear (c first until : ℕ) : Type 0 where
-  pub alike : (j : ℕ) → first ≤ j → j < until → j % ends_of (material_of c) ≡ first % ends_of (material_of c) → AreAlike c first j
-  pub few : until ≤ first + 64
-
 -- what a run of such nodes tells of them
 pub record IsRunOf (column : Column) (c : ℕ) (marks : List ℕ) (run : Run) : Type 0 where
   pub near : AreNear c run.first run.until
+  pub few : run.until ≤ run.first + 64
   pub king : HitsTell column c run.first marks run.king
   pub one : IfSome run.one (HitsTell column c run.first marks)
   pub beside : run.last ≡ false → NoneBeside column c run.first run.king.to run.one

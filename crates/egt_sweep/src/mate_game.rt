@@ -6,8 +6,8 @@ ghost use Rattle.egt_sweep.specs.ClassGame.{class_game, class_game_is_lawful};
 use crate::aim::Aim;
 use crate::missing::Missing;
 use crate::nodes::{
-    exits, is_mated, is_void, listed_degree, marked_predecessors, predecessors, start, start_two,
-    successors,
+    all_predecessors, exits, is_mated, is_void, listed_degree, marked_predecessors, predecessors,
+    start, start_two, successors,
 };
 use arrayvec::ArrayVec;
 use egt_check::{Library, first_missing};
@@ -80,6 +80,10 @@ impl Game for MateGame<'_> {
 
     fn list_into(&self, j: u32, list: &mut ArrayVec<u32, 128>) {
         predecessors(Column::Mate, self.class, j, list);
+    }
+
+    fn list_all_into(&self, nodes: &[u32], list: &mut ArrayVec<u32, 8192>) {
+        all_predecessors(Column::Mate, self.class, nodes, list);
     }
 
     fn list_marked_into(&self, nodes: &[u32], marks: &[u64], list: &mut ArrayVec<u32, 8192>) {

@@ -1,7 +1,7 @@
 //! The nodes of a class's game.
 ghost use Rattle.std.specs.Prelude.{All, ◌≡◌, ◌+◌, ◌%◌, ◌/◌, ◌<◌, ◌≤◌, ◌↔◌, ℕ, Some, IfSome, [], length, slice_index, not, false, true, IsTrue, IsFalse};
 ghost use Rattle.std.specs.Int.{bit_at};
-ghost use Rattle.std.specs.List.{Contains};
+ghost use Rattle.std.specs.List.{Contains, flat_map};
 ghost use Rattle.std.specs.Option.{is_some};
 ghost use Rattle.egt_board.specs.Decided.{tells};
 ghost use Rattle.egt_board.specs.Pawn.{pawn_of};
@@ -30,6 +30,7 @@ use crate::aim::Aim;
 use crate::anchor::has_anchor;
 use crate::edges::edges;
 use crate::facing::start_facing_king;
+use crate::in_turn::sources_in_turn;
 use crate::laws::laws;
 use crate::sources::sources;
 use crate::together::marked_sources;
@@ -42,7 +43,7 @@ use egt_check::Library;
 use egt_class::Class;
 use egt_graph::{Exit, Ranks, Start, UNTOLD};
 use egt_index::{
-    Row, faces_king_alone, indexed, may_move_pawn, position, position_of, row_of, size,
+    Row, faces_king_alone, frame_at, indexed, may_move_pawn, position, position_of, row_of, size,
 };
 use egt_moves::{Standing, standing};
 use egt_table::Column;
@@ -105,7 +106,33 @@ pub(crate) fn predecessors(column: Column, class: Class, index: u32, list: &mut 
     laws();
     let _number = class.number();
     list.clear();
-    sources(column, class, index, SquareSet::EMPTY, &Wanted::All, list);
+    let (frame, passed) = frame_at(class, index);
+    sources(
+        column,
+        class,
+        index,
+        &frame,
+        passed,
+        SquareSet::EMPTY,
+        &Wanted::All,
+        list,
+    );
+}
+
+/// Fills the list, in the place of what it had, with the nodes from which moves that go on lead to each of these nodes, one after the other.
+pub(crate) fn all_predecessors(
+    column: Column,
+    class: Class,
+    nodes: &[u32],
+    list: &mut ArrayVec<u32, 8192>,
+)
+    requires nodes { All (λ j. IsFalse (not (is_some (position_at class j)))) nodes.now }
+    requires few { length nodes.now ≤ 64 }
+    ensures { list.new.items ≡ flat_map (λ j. passing_below (size_of class) (λ i. connects column class i j)) nodes.now }
+{
+    laws();
+    let _number = class.number();
+    sources_in_turn(column, class, nodes, list);
 }
 
 /// Fills the list, in the place of what it had, with the nodes whose bits are set and from which moves that go on lead to one of these nodes,

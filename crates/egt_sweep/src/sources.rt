@@ -6,6 +6,7 @@ ghost use Rattle.std.specs.List.Sorted.{IsStrictlyIncreasing};
 ghost use Rattle.arrayvec.specs.ArrayVec.{array_vec_len};
 ghost use Rattle.egt_class.specs.Membership.{IsOf};
 ghost use Rattle.egt_board.specs.Settled.{IsSettled};
+ghost use Rattle.egt_index.specs.AtIndex.{IsFramedAt};
 ghost use Rattle.egt_index.specs.Frame.{IsFrame};
 ghost use Rattle.egt_sweep.specs.Idle.{AreIdle};
 ghost use Rattle.egt_sweep.specs.Wanted.{IsWanted};
@@ -20,7 +21,7 @@ use arrayvec::ArrayVec;
 use egt_board::{Position, SquareSet};
 use egt_class::Class;
 use egt_index::laws::a_class_without_targets_has_pawns_of_one_side;
-use egt_index::{Frame, frame_at, has_target, index, position_of};
+use egt_index::{Frame, has_target, index, position_of};
 use egt_table::Column;
 use egt_unmoves::{Unmove, may_have_had_target, target_before, unmoves};
 
@@ -108,17 +109,21 @@ fn may_have_target(class: Class, index: u32, frame: &Frame, passed: bool) -> boo
     target_before(&position_of(class, index)).is_some()
 }
 
-/// Fills the list with the wanted indexes from which moves that go on lead to the position at the index. Men on the squares of `idle` came
-/// from none that is wanted.
+/// Fills the list with the wanted indexes from which moves that go on lead to the position at the index, whose frame this is; `passed` tells
+/// whether it has a target. Men on the squares of `idle` came from none that is wanted.
 pub(crate) fn sources(
     column: Column,
     class: Class,
     index: u32,
+    frame: &Frame,
+    passed: bool,
     idle: SquareSet,
     wanted: &Wanted<'_>,
     list: &mut ArrayVec<u32, 128>,
 )
     requires at { IsAt class index (setup_at class index) }
+    requires frame { IsFramedAt class index (setup_at class index) frame.now passed }
+    requires class { frame.now.class ≡ class }
     requires idle { AreIdle column class (setup_at class index) wanted.now idle }
     requires empty { list.old.items ≡ [] }
     ensures ascending { IsStrictlyIncreasing list.new.items }
@@ -126,11 +131,10 @@ pub(crate) fn sources(
 {
     laws();
     let _number = class.number();
-    let (frame, passed) = frame_at(class, index);
-    if may_have_target(class, index, &frame, passed) {
+    if may_have_target(class, index, frame, passed) {
         let position = position_of(class, index);
         sources_by_unmoves(column, class, &position, wanted, list);
     } else {
-        sources_by_squares(column, class, index, &frame, idle, wanted, list);
+        sources_by_squares(column, class, index, frame, idle, wanted, list);
     }
 }

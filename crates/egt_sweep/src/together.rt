@@ -23,18 +23,20 @@ ghost use Rattle.egt_index.specs.Size.{has_target};
 ghost use Rattle.egt_sweep.specs.Edges.{CameTo, Connects, IsAt, IsTakenBack};
 ghost use Rattle.egt_sweep.specs.Idle.{AreIdle};
 ghost use Rattle.egt_sweep.specs.Nodes.{setup_at};
-ghost use Rattle.egt_sweep.specs.Together.{AreAt, AreHeldThroughout, AreNear, HitsTell, IsAlikeNode, IsMissed, IsMissedAt, IsNearTo, IsRunOf, NeverTargeted, NoneBeside, StandsThroughout, TellsOf};
+ghost use Rattle.egt_sweep.specs.Shelves.{AreNear, IsShelf};
+ghost use Rattle.egt_sweep.specs.Together.{AreAt, AreHeldThroughout, HitsTell, IsAlikeNode, IsMissed, IsMissedAt, IsNearTo, IsRunOf, NeverTargeted, NoneBeside, StandsThroughout, TellsOf};
 ghost use Rattle.egt_sweep.specs.declared.wanted.Wanted.TheVariants.{Marked};
 
 use crate::by_squares::{goes_back_by, is_of};
 use crate::laws::laws;
+use crate::shelves::{Shelf, is_near};
 use crate::sources::sources;
 use crate::wanted::{Wanted, marks_from};
 use arrayvec::ArrayVec;
 use egt_board::{Kind, Man, Side, Square, SquareSet};
 use egt_class::Class;
 use egt_index::laws::a_class_without_targets_has_pawns_of_one_side;
-use egt_index::{Fixed, Frame, Shift, frame_at, has_target, shelf_end};
+use egt_index::{Fixed, Frame, Shift, has_target};
 use egt_table::Column;
 use egt_unmoves::squares_open;
 
@@ -215,18 +217,21 @@ fn king(fixed: &Fixed, side: Side) -> Square
     }
 }
 
-/// What is told of the node and those above it that differ by the last man's square alone.
-fn run_of(column: Column, class: Class, first: u32, until: u32, marks: &[u64]) -> Run
-    requires at { IsAt class first (setup_at class first) }
-    requires near { AreNear class first until }
+/// What is told of the shelf's node and those above it that differ by the last man's square alone.
+fn run_of(column: Column, class: Class, shelf: &Shelf, until: u32, marks: &[u64]) -> Run
+    requires at { IsAt class shelf.now.node (setup_at class shelf.now.node) }
+    requires shelf { IsShelf class shelf.now }
+    requires near { AreNear class shelf.now.node until }
+    requires few { until ≤ shelf.now.node + 64 }
     requires targets { NeverTargeted class }
     ensures run { IsRunOf column class marks.now result }
-    ensures first { result.first ≡ first }
+    ensures first { result.first ≡ shelf.now.node }
     ensures until { result.until ≡ until }
 {
     laws();
     let _number = class.number();
-    let (frame, _passed) = frame_at(class, first);
+    let first = shelf.node;
+    let frame = &shelf.frame;
     let fixed = frame.fixed();
     let side = fixed.side.other();
     let man = Man {
@@ -240,53 +245,65 @@ fn run_of(column: Column, class: Class, first: u32, until: u32, marks: &[u64]) -
         until,
         king: Hits {
             to,
-            bits: bits_of(column, class, first, &frame, man, to, held, marks),
+            bits: bits_of(column, class, first, frame, man, to, held, marks),
         },
-        one: hits_of_one(column, class, first, &frame, &fixed, held, marks),
+        one: hits_of_one(column, class, first, frame, &fixed, held, marks),
         last: moves_last(column, fixed.last, side),
     }
 }
 
-/// Adds the marked nodes from which moves that go on lead to the node. Men on the squares of `idle` came from none.
+/// Adds the marked nodes from which moves that go on lead to the node. Men on the squares of `idle` came from none. The shelf goes on to the
+/// node, and what the node has is found first in a list that is lent.
 fn add_marked_sources(
     column: Column,
     class: Class,
     node: u32,
     idle: SquareSet,
+    shelf: &mut Shelf,
     marks: &[u64],
+    found: &mut ArrayVec<u32, 128>,
     list: &mut ArrayVec<u32, 8192>,
 )
     requires at { IsAt class node (setup_at class node) }
     requires idle { AreIdle column class (setup_at class node) (Marked marks) idle }
+    requires shelf { IsShelf class shelf.old }
     requires room { array_vec_len list.old + 128 ≤ 8192 }
+    ensures shelf { IsShelf class shelf.new }
     ensures members { (i : ℕ) → Contains list.new.items i ↔ (Contains list.old.items i ⊎ (Connects column class i node × IsMarked marks.now i)) }
     ensures few { array_vec_len list.new ≤ array_vec_len list.old + 128 }
 {
-    let mut found = ArrayVec::new();
+    shelf.turn_to(class, node);
+    found.clear();
     sources(
         column,
         class,
         node,
+        &shelf.frame,
+        shelf.passed,
         idle,
         &Wanted::Marked(marks),
-        &mut found,
+        found,
     );
     list.try_extend_from_slice(found.as_slice()).unwrap();
 }
 
-/// The same of a node of a run.
+/// The same of a node of a run. The shelf stays where it is if nobody came to the node.
 fn add_sources_in_run(
     column: Column,
     class: Class,
     node: u32,
     run: &Run,
+    shelf: &mut Shelf,
     marks: &[u64],
+    found: &mut ArrayVec<u32, 128>,
     list: &mut ArrayVec<u32, 8192>,
 )
     requires at { IsAt class node (setup_at class node) }
     requires run { IsRunOf column class marks.now run.now }
     requires near { IsNearTo class run.now node }
+    requires shelf { IsShelf class shelf.old }
     requires room { array_vec_len list.old + 128 ≤ 8192 }
+    ensures shelf { IsShelf class shelf.new }
     ensures members { (i : ℕ) → Contains list.new.items i ↔ (Contains list.old.items i ⊎ (Connects column class i node × IsMarked marks.now i)) }
     ensures few { array_vec_len list.new ≤ array_vec_len list.old + 128 }
 {
@@ -294,48 +311,39 @@ fn add_sources_in_run(
     let _number = class.number();
     let distance = node - run.first;
     if !run.misses(distance) {
-        add_marked_sources(column, class, node, run.missed(distance), marks, list);
+        let idle = run.missed(distance);
+        add_marked_sources(column, class, node, idle, shelf, marks, found, list);
     }
 }
 
-/// Where the numbers end, at most 64 from it on, of which those with the same last digits differ from the node by the last man's square alone.
-fn end_of_run(class: Class, node: u32) -> u32
-    requires { IsAt class node (setup_at class node) }
-    ensures { AreNear class node result }
+/// Where the numbers end, at most 64 from the shelf's node on, of which those with the same last digits differ from it by the last man's
+/// square alone.
+fn end_of_run(class: Class, shelf: &Shelf) -> u32
+    requires at { IsAt class shelf.now.node (setup_at class shelf.now.node) }
+    requires shelf { IsShelf class shelf.now }
+    ensures near { AreNear class shelf.now.node result }
+    ensures few { result ≤ shelf.now.node + 64 }
 {
-    laws();
     let _number = class.number();
-    shelf_end(class, node).min(node + 64)
+    shelf.until.min(shelf.node + 64)
 }
 
-/// Whether the node is one of those that differ so.
-#[inline(always)]
-fn is_near(class: Class, first: u32, until: u32, node: u32) -> bool
-    requires { AreNear class first until }
-    ensures { IsTrue result → (first ≤ node) × (node < first + 64) × AreAlike class first node }
-{
-    if node < first || node >= until {
-        return false;
-    }
-    if has_target(class) {
-        node % 4 == first % 4
-    } else {
-        node % 2 == first % 2
-    }
-}
-
-/// The run that tells of the node at place `k`: the last one or a new one. `None` where the node is alone, or the class has targets.
+/// The run that tells of the node at place `k`: the last one or a new one, for which the shelf goes on to the node. `None` where the node is
+/// alone, or the class has targets.
 fn run_at(
     column: Column,
     class: Class,
     nodes: &[u32],
     k: usize,
     last: Option<Run>,
+    shelf: &mut Shelf,
     marks: &[u64],
 ) -> Option<Run>
     requires in_list { k < length nodes.now }
     requires at { IsAt class (slice_index nodes.now k) (setup_at class (slice_index nodes.now k)) }
     requires last { IfSome last (IsRunOf column class marks.now) }
+    requires shelf { IsShelf class shelf.old }
+    ensures shelf { IsShelf class shelf.new }
     ensures run { IfSome result (IsRunOf column class marks.now) }
     ensures near { IfSome result (λ run. IsNearTo class run (slice_index nodes.now k)) }
 {
@@ -351,9 +359,10 @@ fn run_at(
             return Some(run);
         }
     }
-    let until = end_of_run(class, node);
+    shelf.turn_to(class, node);
+    let until = end_of_run(class, shelf);
     if k + 1 < nodes.len() && is_near(class, node, until, nodes[k + 1]) {
-        Some(run_of(column, class, node, until, marks))
+        Some(run_of(column, class, shelf, until, marks))
     } else {
         None
     }
@@ -372,12 +381,29 @@ pub(crate) fn marked_sources(
     ensures { (i : ℕ) → Contains list.new.items i ↔ ((j : ℕ) × Contains nodes.now j × Connects column class i j × IsMarked marks.now i) }
 {
     list.clear();
+    if nodes.is_empty() {
+        return;
+    }
+    let mut shelf = Shelf::at(class, nodes[0]);
+    let mut found = ArrayVec::new();
     let mut run = None;
     for k in 0..nodes.len() {
-        run = run_at(column, class, nodes, k, run, marks);
+        let node = nodes[k];
+        run = run_at(column, class, nodes, k, run, &mut shelf, marks);
         match &run {
-            Some(run) => add_sources_in_run(column, class, nodes[k], run, marks, list),
-            None => add_marked_sources(column, class, nodes[k], SquareSet::EMPTY, marks, list),
+            Some(run) => add_sources_in_run(
+                column, class, node, run, &mut shelf, marks, &mut found, list,
+            ),
+            None => add_marked_sources(
+                column,
+                class,
+                node,
+                SquareSet::EMPTY,
+                &mut shelf,
+                marks,
+                &mut found,
+                list,
+            ),
         }
     }
 }

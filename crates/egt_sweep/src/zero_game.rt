@@ -10,8 +10,8 @@ ghost use Rattle.egt_sweep.specs.MateColumn.{mate_table, IsMateColumn};
 use crate::aim::Aim;
 use crate::missing::Missing;
 use crate::nodes::{
-    exits, is_mated, is_void, listed_degree, marked_predecessors, predecessors, start_by_ranks,
-    successors,
+    all_predecessors, exits, is_mated, is_void, listed_degree, marked_predecessors, predecessors,
+    start_by_ranks, successors,
 };
 use arrayvec::ArrayVec;
 use egt_check::{Library, first_missing};
@@ -120,6 +120,10 @@ impl Game for ZeroGame<'_> {
 
     fn list_into(&self, j: u32, list: &mut ArrayVec<u32, 128>) {
         predecessors(Column::Zeroing, self.class, j, list);
+    }
+
+    fn list_all_into(&self, nodes: &[u32], list: &mut ArrayVec<u32, 8192>) {
+        all_predecessors(Column::Zeroing, self.class, nodes, list);
     }
 
     fn list_marked_into(&self, nodes: &[u32], marks: &[u64], list: &mut ArrayVec<u32, 8192>) {

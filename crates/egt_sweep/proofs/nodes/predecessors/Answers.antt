@@ -1,10 +1,16 @@
 use Rattle.std.proofs.Common.{ℕ, ◌<◌, arith, subst}
 use Rattle.std.proofs.lemmas.Nat.Bits.{bit_at-zero}
-use Rattle.egt_sweep.proofs.Standing.{sources_told, at_setup}
+use Rattle.egt_sweep.proofs.Standing.{sources_told, at_setup, none_missing}
 use Rattle.egt_sweep.proofs.nodes.predecessors.Goals as goal
 
 pub sources-requires-clause-at : goal.sources-requires-clause-at
 sources-requires-clause-at c = at_setup c.laws.ensures c.args.class c.args.index c.requires
+
+pub frame_at-frame-requires : goal.frame_at-frame-requires
+frame_at-frame-requires c = λ void. none_missing c.laws.ensures c.args.class c.args.index void c.requires
+
+pub sources-requires-clause-frame : goal.sources-requires-clause-frame
+sources-requires-clause-frame c = c.frame_at-frame.ensures.all _ (at_setup c.laws.ensures c.args.class c.args.index c.requires).spells
 
 pub sources-requires-clause-idle : goal.sources-requires-clause-idle
 sources-requires-clause-idle c s k has came = let none = bit_at-zero s in omega (arith, none, has)

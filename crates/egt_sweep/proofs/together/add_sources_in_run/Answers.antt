@@ -5,7 +5,7 @@ use Rattle.egt_sweep.proofs.together.add_sources_in_run.Goals as goal
 
 pub add_marked_sources-requires-clause-idle : goal.add_marked_sources-requires-clause-idle
 add_marked_sources-requires-clause-idle c s i has among =
-    missed_idle c.laws.ensures c.args.column c.args.class c.args.marks.now c.args.run.now c.args.node c.requires.run c.requires.near c.requires.at s i (c.missed.ensures s has) among.0 among.1
+    missed_idle c.laws.ensures c.args.column c.args.class c.args.marks.now c.args.run.now c.args.node c.requires.run c.requires.near c.requires.at s i (c.missed-idle.ensures s has) among.0 among.1
 
 pub returns-else-not-misses-clause-members : goal.returns-else-not-misses-clause-members
 returns-else-not-misses-clause-members c i =
