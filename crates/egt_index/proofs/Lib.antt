@@ -50,6 +50,8 @@ pub mod Rows
 pub mod Touching
 pub mod Summed
 pub mod KingHome
+pub mod HomeSquare
+pub mod OwnKing
 pub mod Shelved
 pub mod Shifted
 pub mod LastMan

@@ -28,6 +28,7 @@ impl EitherWay {
     #[inline(always)]
     pub(crate) fn of(class: Class, stand: &Stand, side: Side, from: Square) -> EitherWay
         ensures class { result.class ≡ class }
+        ensures white { result.white ≡ stand.now.white }
         ensures leads { (p : Setup) → IsSeen class false p stand.now from side → LeadsEither class p from result }
     {
         EitherWay {
@@ -40,7 +41,7 @@ impl EitherWay {
     }
 
     /// The least code after he went to the square.
-    #[inline(always)]
+    #[inline(never)]
     pub(crate) fn code_to(&self, to: Square) -> Option<u32>
         requires { has_equal_sides self.now.class ≡ true }
         ensures { (q : Setup) → IsReached self.now to q → Best self.now.class q 16 result }

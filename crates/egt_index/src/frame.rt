@@ -15,6 +15,7 @@ ghost use Rattle.egt_index.specs.Ways.{SumFits, WayFits, Leads, LeadsBy};
 use crate::either::EitherWay;
 use crate::facts::facts;
 use crate::home::{Turns, still_home};
+use crate::king_sums::{BlackSum, WhiteSum};
 use crate::men::{has_equal_sides, has_pawns};
 use crate::nearer::{is_own_nearer, takes_away};
 use crate::stand::Stand;
@@ -54,9 +55,7 @@ impl Frame {
         let _number = self.class.number();
         let side = self.side.other();
         if !self.is_own_after(from) {
-            return Steps {
-                ways: Ways::Either(EitherWay::of(self.class, &self.stand, side, from)),
-            };
+            return self.either_steps(from);
         }
         if self.stand.white == from {
             return Steps {
@@ -70,6 +69,31 @@ impl Frame {
             None => Steps {
                 ways: Ways::Own(self.own_way(from)),
             },
+        }
+    }
+
+    /// The same where only the kings after his step tell in which colours the least code is.
+    #[inline(never)]
+    fn either_steps(&self, from: Square) -> Steps
+        ensures { (p : Setup) → self.now.equal ≡ true → IsFrame p self.now → AreSteps p self.now.class from result }
+    {
+        facts();
+        let _number = self.class.number();
+        let side = self.side.other();
+        if self.stand.black == from {
+            if let Some(sum) = self.single_sum(from) {
+                return Steps {
+                    ways: Ways::Black(BlackSum::of(self.class, &self.stand, side, sum)),
+                };
+            }
+        }
+        if self.stand.white != from {
+            return Steps {
+                ways: Ways::Either(EitherWay::of(self.class, &self.stand, side, from)),
+            };
+        }
+        Steps {
+            ways: Ways::White(WhiteSum::of(self.class, &self.stand, side)),
         }
     }
 

@@ -14,6 +14,7 @@ pub mod frame;
 pub mod frame_men;
 pub mod home;
 pub mod indexing;
+pub mod king_sums;
 pub mod laws;
 pub mod men;
 pub mod movers;

@@ -8,6 +8,7 @@ ghost use Rattle.egt_index.specs.Steps.{WaysFit};
 
 use crate::facts::facts;
 use crate::men::has_equal_sides;
+use crate::nearer::homeward;
 use crate::{
     Frame, Row, Shift, Steps, frame_at, has_target, index, indexed, position, position_of, row_of,
     shelf_end, size,
@@ -15,6 +16,7 @@ use crate::{
 use arrayvec::ArrayVec;
 use egt_board::{Man, Position, Side, Square};
 use egt_class::{Class, of};
+use std::cmp::Ordering;
 use std::test::Fail;
 
 /// The position after the man on `from` went to `to`, where none stands.
@@ -292,6 +294,63 @@ fn steps_lead_to_indexes(rt: HostRuntime) -> Result<(), Fail> {
     assert!(rt; count(0, 7)? > 0);
     for number in 1..36 {
         assert!(rt; count(number, 5003)? > 0);
+    }
+    Ok(())
+}
+
+/// How the squares to which the kings come in the class's colours compare with those in the others.
+fn told(class: Class, position: &Position) -> Ordering {
+    let white = position.king(Side::White);
+    let black = position.king(Side::Black);
+    let own = homeward(class, white, black, false).kings;
+    let other = homeward(class, black, white, true).kings;
+    own.cmp(&other)
+}
+
+/// How many steps of the side's king the kings tell so after them; all of them have the index of the position to which they lead.
+fn count_of_king(class: Class, code: u32, side: Side, so: Ordering) -> Result<u32, Fail>
+    requires { ¬ IsVoid class code }
+{
+    let (position, frame) = indexed(class, code);
+    let from = position.king(side);
+    let steps = frame.steps(from);
+    let mut count: u32 = 0;
+    for number in 0..64 {
+        let to = Square::at(number);
+        if let Some(after) = moved(&position, from, to) {
+            let (class, _) = of(&after);
+            if told(class, &after) == so {
+                if steps.least_to(to) != Some(index(class, &after)) {
+                    return Err(Fail::from("another index"));
+                }
+                count = count.checked_add(1).ok_or("too many")?;
+            }
+        }
+    }
+    Ok(count)
+}
+
+/// The same of so many of KPKP's codes.
+fn count_of_kings(side: Side, so: Ordering) -> Result<u32, Fail> {
+    let class = Class::new(35).ok_or("no class")?;
+    let mut steps: u32 = 0;
+    for code in 0..size(class) {
+        if code.checked_rem(50_021) == Some(1) {
+            if position(class, code).is_some() {
+                let more = count_of_king(class, code, side, so)?;
+                steps = steps.checked_add(more).ok_or("too many")?;
+            }
+        }
+    }
+    Ok(steps)
+}
+
+#[test]
+fn steps_of_kings_lead_to_either_colours(rt: HostRuntime) -> Result<(), Fail> {
+    for side in [Side::White, Side::Black] {
+        for so in [Ordering::Less, Ordering::Equal, Ordering::Greater] {
+            assert!(rt; count_of_kings(side, so)? > 0);
+        }
     }
     Ok(())
 }

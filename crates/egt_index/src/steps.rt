@@ -9,6 +9,7 @@ ghost use Rattle.egt_index.specs.Turns.{Best};
 use crate::either::EitherWay;
 use crate::facts::facts;
 use crate::following::IndexAfter;
+use crate::king_sums::{BlackSum, WhiteSum};
 use crate::ways::{KingWay, Sum, Way};
 use egt_board::Square;
 
@@ -23,6 +24,9 @@ pub(crate) enum Ways {
     Own(Way),
     /// The codes in either colours.
     Either(EitherWay),
+    /// The same of a king, of a class whose sides have the same men.
+    White(WhiteSum),
+    Black(BlackSum),
 }
 
 /// Where one man of a frame's position may go, so that the index after he went is found by little more than an addition.
@@ -71,6 +75,8 @@ impl Steps {
             Ways::King(way) => way.code_to(to),
             Ways::Own(way) => way.code_to(to),
             Ways::Either(way) => way.code_to(to),
+            Ways::White(sum) => sum.code_to(to),
+            Ways::Black(sum) => sum.code_to(to),
         }
     }
 }

@@ -1,20 +1,11 @@
-use Rattle.std.proofs.Common.{◌<◌, Some, ap, arith, sym, ◌∙◌, subst}
+use Rattle.std.proofs.Common.{◌<◌, Some, arith, sym, ◌∙◌, subst}
 use Rattle.std.proofs.lemmas.Bool.{false≢true, eqb-true, eq-eqb}
-use Rattle.egt_class.specs.Material.{has_equal_sides}
 use Rattle.egt_index.specs.Ways.{sum_code, LeadsHome}
 use Rattle.egt_index.proofs.Framed.{least_own, own_seen}
 use Rattle.egt_index.proofs.frame.Frame.steps.Goals as goal
 
 pub returns-then-not-is_own_after : goal.returns-then-not-is_own_after
-returns-then-not-is_own_after c = λ p man is stands.
-    let frame = c.args.self.now in
-    let c_in : frame.class < 36 = omega (arith, c.number-number.ensures.below, c.number-number.ensures.value) in
-    record {
-      class_in = c_in;
-      is_of = is.stand.is_of;
-      fit = ap has_equal_sides c.of.ensures.class ∙ sym is.equal ∙ c.is_own_after.ensures.equal c.if-not-is_own_after.true;
-      lead = (c.of.ensures.class, c.of.ensures.leads p (own_seen c.facts.ensures p c.args.from frame c_in is c.other-side.result c.other-side.ensures));
-    }
+returns-then-not-is_own_after c = λ p man is stands. c.either_steps.ensures p (c.is_own_after.ensures.equal c.if-not-is_own_after.true) is
 
 pub returns-then-eq : goal.returns-then-eq
 returns-then-eq c = λ p man is stands.
