@@ -52,3 +52,4 @@ pub mod Summed
 pub mod KingHome
 pub mod Shelved
 pub mod Shifted
+pub mod ByMen
