@@ -33,3 +33,4 @@ pub mod DecidedTurns
 pub mod Counting
 pub mod Corners
 pub mod Beside
+pub mod AllMen

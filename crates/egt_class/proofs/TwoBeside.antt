@@ -4,7 +4,7 @@ use Rattle.std.specs.Option.{option_map}
 use Rattle.std.specs.FinMap as placement
 use Rattle.egt_board.specs.declared.man.Kind.TheVariants.{K}
 use Rattle.egt_board.specs.declared.man.Man.{Man}
-use Rattle.egt_board.specs.Beside.{AreBeside}
+use Rattle.egt_board.specs.AllMen.{HasBeside}
 use Rattle.egt_board.specs.Images.{stands_here, count_of}
 use Rattle.egt_board.specs.Placement.{Placement, Stands, get-remove_same, get-remove_other}
 use Rattle.egt_board.specs.SquareSet.{total}
@@ -59,20 +59,23 @@ nobody is = cc
 abbrev OnBoard : Placement → Type 0
 OnBoard men = (s : ℕ) (man : Man) → Stands men s man → s < 64
 
-counted : Clears → (men : Placement) (first second : Option (Man × ℕ)) → OnBoard men → AreBeside men first second → (man : Man) → man.kind ≢ K
+counted : Clears → (men : Placement) (first second : Option (Man × ℕ)) → OnBoard men → HasBeside men first second → (man : Man) → man.kind ≢ K
     → count_of men man ≡ stands_here man (man_in first) + stands_here man (man_in second)
 unfolding man_in square_in
 counted clears men None None on_board are man not_king =
     let none = kings_alone men man not_king (λ t other stands not. elim (are.all t other stands not) [ inl e ↦ nobody e | inr e ↦ nobody e ]) in omega arith
-counted clears men None (Some (b, t)) on_board are man not_king = absurd (nobody (sym (are.from_first refl)))
+counted clears men None (Some (b, t)) on_board are man not_king =
+    let one = taken_off clears men t b man (on_board t b are.other.0) are.other.0 in
+    let none = kings_alone (placement.remove men t) man not_king (λ u other stands not.
+    let there = still men t u other stands in
+    elim (are.all u other there.0 not) [ inl e ↦ nobody e | inr e ↦ there.1 (sym (ap square_in e)) ]) in omega arith
 counted clears men (Some (a, s)) None on_board are man not_king =
     let one = taken_off clears men s a man (on_board s a are.one.0) are.one.0 in
     let none = kings_alone (placement.remove men s) man not_king (λ u other stands not.
     let there = still men s u other stands in
     elim (are.all u other there.0 not) [ inl e ↦ there.1 (sym (ap square_in e)) | inr e ↦ nobody e ]) in omega arith
 counted clears men (Some (a, s)) (Some (b, t)) on_board are man not_king =
-    let order : s < t = are.in_order in
-    let apart : t ≢ s = λ e. omega arith in
+    let apart : t ≢ s = λ e. are.apart (sym e) in
     let one = taken_off clears men s a man (on_board s a are.one.0) are.one.0 in
     let there = get-remove_other men s t apart ∙ are.other.0 in
     let two = taken_off clears (placement.remove men s) t b man (on_board t b are.other.0) there in
@@ -90,7 +93,7 @@ no_king men None there = tt
 no_king men (Some e) there = there.1
 
 -- the men beside the kings of an admissible position
-pub are_beside : Clears → (p : Setup) (first second : Option (Man × ℕ)) → OnBoard p.men → OneKing p.men → AreBeside p.men first second → IsBeside p (option_map (λ e. e.0) first) (option_map (λ e. e.0) second)
+pub are_beside : Clears → (p : Setup) (first second : Option (Man × ℕ)) → OnBoard p.men → OneKing p.men → HasBeside p.men first second → IsBeside p (option_map (λ e. e.0) first) (option_map (λ e. e.0) second)
 unfolding man_in
 are_beside clears p first second on_board kings are = record {
   kings = kings;

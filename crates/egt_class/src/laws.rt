@@ -1,8 +1,11 @@
 //! What holds of classes and positions. These functions do nothing: a caller calls one to know what it ensures.
 ghost use Rattle.std.specs.Prelude.{◌≡◌, ◌<◌, ◌↔◌, ◌⊎◌, ℕ, Bool, not, Option, None, IsSome, IsTrue};
 ghost use Rattle.std.specs.List.{Contains};
+ghost use Rattle.std.specs.Option.{option_map};
 ghost use Rattle.std.specs.List.Sorted.{IsStrictlyIncreasing};
+ghost use Rattle.egt_board.specs.AllMen.{HasBeside};
 ghost use Rattle.egt_board.specs.Man.{other_side};
+ghost use Rattle.egt_board.specs.declared.man.Man.{Man};
 ghost use Rattle.egt_board.specs.declared.man.Side.TheVariants.{White, Black};
 ghost use Rattle.egt_board.specs.declared.man.Kind.{Kind};
 ghost use Rattle.egt_board.specs.Setup.{Setup, IsAdmissible};
@@ -14,9 +17,10 @@ ghost use Rattle.egt_moves.specs.Exchange.{Captures};
 ghost use Rattle.egt_class.specs.Material.{men_in, has_equal_sides};
 ghost use Rattle.egt_class.specs.Name.{name_of};
 ghost use Rattle.egt_class.specs.Membership.{IsOf};
+ghost use Rattle.egt_class.specs.Pair.{IsBeside};
 ghost use Rattle.egt_class.specs.Children.{children_of};
 
-use egt_board::counting::{listed_men_are_counted, one_king_is_counted};
+use egt_board::counting::{listed_men_are_counted, one_king_is_counted, one_square_changes};
 use egt_board::laws::images_keep_men;
 use egt_moves::exchanging::{moves_exchange_men, moves_keep_admissibility};
 
@@ -35,6 +39,15 @@ pub fn every_position_has_a_class()
     ensures { (p : Setup) → IsAdmissible p → (c : ℕ) × (flipped : Bool) × (c < 36) × IsOf c flipped p }
 {
     listed_men_are_counted();
+    one_king_is_counted();
+}
+
+/// The men beside the kings, in whatever order, are as many of each kind as stand on the board.
+pub fn men_beside_are_counted()
+    ensures { (p : Setup) (one other : Option (Man × ℕ)) → IsAdmissible p → HasBeside p.men one other →
+        IsBeside p (option_map (λ e. e.0) one) (option_map (λ e. e.0) other) }
+{
+    one_square_changes();
     one_king_is_counted();
 }
 

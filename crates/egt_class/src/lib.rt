@@ -9,7 +9,7 @@ pub mod naming;
 
 pub use class::Class;
 pub use descent::children;
-pub use membership::of;
+pub use membership::{of, of_men};
 pub use naming::{by_name, name};
 
 #[cfg(test)]

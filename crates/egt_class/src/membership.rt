@@ -1,6 +1,7 @@
 //! Of what class a position is.
 ghost use Rattle.std.specs.Prelude.{◌≡◌, ◌<◌, ◌+◌, ◌*◌, IsTrue, false};
 ghost use Rattle.std.specs.Option.{option_map};
+ghost use Rattle.egt_board.specs.Setup.{Setup};
 ghost use Rattle.egt_class.specs.Material.{has_equal_sides};
 ghost use Rattle.egt_class.specs.Membership.{IsOf};
 ghost use Rattle.egt_class.specs.Pair.{slot_of, class_at, flip_at, IsBeside};
@@ -86,6 +87,15 @@ fn class_of_pair(first: usize, second: usize) -> (Class, bool)
     (Class::at(number), flipped)
 }
 
+/// The class of every position with these men beside the kings, in whatever order, and whether colours are to be flipped there.
+#[inline(always)]
+pub fn of_men(one: Option<Man>, other: Option<Man>) -> (Class, bool)
+    ensures class { (p : Setup) → IsBeside p one other → IsOf result.0 result.1 p }
+    ensures unflipped { IsTrue (has_equal_sides result.0) → result.1 ≡ false }
+{
+    class_of_pair(slot(one), slot(other))
+}
+
 /// The class of a position, and whether colours are to be flipped for White to be the side that the name gives first; never so
 /// where both sides have the same men.
 pub fn of(position: &Position) -> (Class, bool)
@@ -93,5 +103,5 @@ pub fn of(position: &Position) -> (Class, bool)
     ensures unflipped { IsTrue (has_equal_sides result.0) → result.1 ≡ false }
 {
     let (first, second) = beside(position);
-    class_of_pair(slot(first), slot(second))
+    of_men(first, second)
 }

@@ -6,7 +6,8 @@ use Rattle.std.proofs.lemmas.Bool.{and_parts, eqb-true, false≢true}
 use Rattle.std.proofs.lemmas.List.{get_or_default}
 use Rattle.egt_board.specs.declared.man.Man.{Man}
 use Rattle.egt_board.specs.declared.man.Side.TheVariants.{White, Black}
-use Rattle.egt_board.specs.Beside.{AreBeside, StandsBeside}
+use Rattle.egt_board.specs.AllMen.{HasBeside}
+use Rattle.egt_board.specs.Beside.{StandsBeside}
 use Rattle.egt_board.specs.Man.{other_side}
 use Rattle.egt_board.specs.Placement.{Stands}
 use Rattle.egt_board.specs.Setup.{Setup, IsAdmissible}
@@ -47,7 +48,7 @@ found_first facts c true p man s c_in ok is_of tell stands = elim (one_of (has_e
 
 -- by the two men beside the kings
 pub colours_told : Facts → (c : ℕ) (flipped : Bool) (p : Setup) (first : Option Man) (rest : List Man) (one other : Entry) (among : Bool) → c < 36 → IsAdmissible p → IsOf c flipped p → tells_colours c first ≡ true
-    → option_to_list first ++ rest ≡ men_beside (material_of c) → AreBeside p.men one other → IsTrue among ↔ IsAmong first one other → IsOf c (not among) p
+    → option_to_list first ++ rest ≡ men_beside (material_of c) → HasBeside p.men one other → IsTrue among ↔ IsAmong first one other → IsOf c (not among) p
 colours_told facts c flipped p None rest one other true c_in ok is_of tell are beside test = unflipped facts c flipped p c_in is_of tell
 colours_told facts c flipped p (Some man) rest one other true c_in ok is_of tell are beside test = elim (test.0 refl) [
   | inl holds ↦ of_entry one beside.one holds

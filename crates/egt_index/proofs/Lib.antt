@@ -55,3 +55,4 @@ pub mod OwnKing
 pub mod Shelved
 pub mod Shifted
 pub mod LastMan
+pub mod ByMen

@@ -10,7 +10,8 @@ use Rattle.egt_board.specs.declared.man.Kind.{Kind}
 use Rattle.egt_board.specs.declared.man.Kind.TheVariants.{K}
 use Rattle.egt_board.specs.declared.man.Man.{Man}
 use Rattle.egt_board.specs.Attack.{king_of}
-use Rattle.egt_board.specs.Beside.{AreBeside, StandsBeside}
+use Rattle.egt_board.specs.AllMen.{HasBeside}
+use Rattle.egt_board.specs.Beside.{StandsBeside}
 use Rattle.egt_board.specs.Counting.{is_man}
 use Rattle.egt_board.specs.Images.{man_number, side_number}
 use Rattle.egt_board.specs.Man.{other_side}
@@ -125,6 +126,11 @@ kings_on flips p side other w b ok side_is other_is white black = record {
     of_side Black false s is stands = of_black s (stands ∙ ap (λ z. Some (king_of z)) (sym (other_is ∙ ap other_side is)))
     of_side Black true s is stands = of_white s (stands ∙ ap (λ z. Some (king_of z)) (sym is))
 
+-- the same by the kings' squares in the colours of the board
+pub kings_by : (flips : Bool) (p : Setup) (w b : ℕ) → IsAdmissible p → IsKingOn p.men White w → IsKingOn p.men Black b → KingsOn flips p.men (cond flips b w) (cond flips w b)
+kings_by true p w b ok white black = kings_on true p Black White b w ok refl refl black white
+kings_by false p w b ok white black = kings_on false p White Black w b ok refl refl white black
+
 -- no other man stands where the kings do
 off_kings : (flips : Bool) (men : Placement) (w b s : ℕ) (man : Man) → KingsOn flips men w b → Stands men s man → man.kind ≢ K → (s ≢ w) × (s ≢ b)
 off_kings flips men w b s man kings stands beside = (
@@ -169,14 +175,14 @@ record Next (flips : Bool) (men : Placement) (man : Man) (one other : Entry) : T
   beside : (turned_man flips man).kind ≢ K
   is : (one ≡ Some (turned_man flips man, square)) ⊎ (other ≡ Some (turned_man flips man, square))
 
-next_of : (flips : Bool) (men : Placement) (man : Man) (list : List Man) (one other : Entry) → Others flips men (man ∷ list) → AreBeside men one other → Next flips men man one other
+next_of : (flips : Bool) (men : Placement) (man : Man) (list : List Man) (one other : Entry) → Others flips men (man ∷ list) → HasBeside men one other → Next flips men man one other
 next_of flips men man list one other h beside =
     let first = first_is_there h.placement (turned_man flips man) (map (turned_man flips) list) h.counted in
     let here = h.here first.0 (turned_man flips man) first.2.stands in
     record { square = first.0; on_board = first.1; stands = here.0; beside = here.1; is = beside.all first.0 (turned_man flips man) here.0 here.1 }
 
 -- in colours that are the class's the first man of the name is among them
-pub among_own : (c : ℕ) (p : Setup) (w b : ℕ) (first : Option Man) (rest : List Man) (one other : Entry) → option_to_list first ++ rest ≡ men_beside (material_of c) → IsOf c false p → KingsOn false p.men w b → AreBeside p.men one other
+pub among_own : (c : ℕ) (p : Setup) (w b : ℕ) (first : Option Man) (rest : List Man) (one other : Entry) → option_to_list first ++ rest ≡ men_beside (material_of c) → IsOf c false p → KingsOn false p.men w b → HasBeside p.men one other
     → IsAmong first one other
 among_own c p w b None rest one other are is_of kings beside = tt
 among_own c p w b (Some man) rest one other are is_of kings beside =
@@ -194,7 +200,7 @@ record First (flips : Bool) (men : Placement) (man : Man) (next : Entry) : Type 
   beside : (turned_man flips man).kind ≢ K
   is : next ≡ Some (turned_man flips man, square)
 
-first_of : (flips : Bool) (p : Setup) (man : Man) (list : List Man) (one other next last : Entry) → IsAdmissible p → Others flips p.men (man ∷ list) → AreBeside p.men one other → IsInNameOrder (Some man) flips one other next last → First flips p.men man next
+first_of : (flips : Bool) (p : Setup) (man : Man) (list : List Man) (one other next last : Entry) → IsAdmissible p → Others flips p.men (man ∷ list) → HasBeside p.men one other → IsInNameOrder (Some man) flips one other next last → First flips p.men man next
 first_of flips p man list one other next last ok h beside (inl order) = of_one one beside.one order.0 order.1
   where
     of_one : (one : Entry) → StandsBeside p.men one → Holds one (turned_man flips man) → next ≡ one → First flips p.men man next
@@ -226,7 +232,7 @@ without_first flips men man list s s_in stands beside h = (
 )
 
 -- and the other man, if there is one, is the last of the name
-last_of : (flips : Bool) (men : Placement) (first second : Man) (one other next last : Entry) (f : First flips men first next) → Others flips men (first ∷ second ∷ []) → AreBeside men one other → IsInNameOrder (Some first) flips one other next last
+last_of : (flips : Bool) (men : Placement) (first second : Man) (one other next last : Entry) (f : First flips men first next) → Others flips men (first ∷ second ∷ []) → HasBeside men one other → IsInNameOrder (Some first) flips one other next last
     → (t : ℕ) × (t < 64) × (t ≢ f.square) × Stands men t (turned_man flips second) × ((turned_man flips second).kind ≢ K) × (last ≡ Some (turned_man flips second, t))
 last_of flips men first second one other next last f h beside order =
     let rest = without_first flips men first (second ∷ []) f.square f.on_board f.stands f.beside h in
@@ -269,7 +275,7 @@ placed man s = option_map (λ m. (m, s)) man
 
 -- so the men stand as the class's name has them
 stood_on : (c : ℕ) (flips : Bool) (p : Setup) (w b : ℕ) (first second : Option Man) (one other next last : Entry) (s t : ℕ) → IsAdmissible p → IsOf c flips p → option_to_list first ++ option_to_list second ≡ men_beside (material_of c) → (first ≡ None → second ≡ None)
-    → KingsOn flips p.men w b → AreBeside p.men one other → IsInNameOrder first flips one other next last → IsOn next s → IsOn last t
+    → KingsOn flips p.men w b → HasBeside p.men one other → IsInNameOrder first flips one other next last → IsOn next s → IsOn last t
     → Stood c flips p.men ((king_of White, w) ∷ (king_of Black, b) ∷ (option_to_list (placed first s) ++ option_to_list (placed second t)))
 stood_on c flips p w b None None one other next last s t ok is_of are from_first kings beside order on on' = record {
   are = ap (λ l. king_of White ∷ king_of Black ∷ l) are;
@@ -301,7 +307,7 @@ stood_on c flips p w b (Some first) (Some second) one other next last s t ok is_
     }))
 
 pub stood_by : (c : ℕ) (flips : Bool) (p : Setup) (w b : ℕ) (first second : Option Man) (one other : Entry) (in_order : Bool) (s t : ℕ) → IsAdmissible p → IsOf c flips p → option_to_list first ++ option_to_list second ≡ men_beside (material_of c) → (first ≡ None → second ≡ None)
-    → KingsOn flips p.men w b → AreBeside p.men one other → IsTrue in_order ↔ IsFirst first flips one → IsOn one s → IsOn other t
+    → KingsOn flips p.men w b → HasBeside p.men one other → IsTrue in_order ↔ IsFirst first flips one → IsOn one s → IsOn other t
     → Stood c flips p.men ((king_of White, w) ∷ (king_of Black, b) ∷ (option_to_list (placed first (cond in_order s t)) ++ option_to_list (placed second (cond in_order t s))))
 stood_by c flips p w b first second one other in_order s t ok is_of are from_first kings beside test on on' =
     stood_on c flips p w b first second one other (cond in_order one other) (cond in_order other one) (cond in_order s t) (cond in_order t s) ok is_of are from_first kings beside (name_order first flips one other in_order test)

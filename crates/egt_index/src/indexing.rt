@@ -1,7 +1,8 @@
 //! The index of a position.
-ghost use Rattle.std.specs.Prelude.{◌≡◌, ◌<◌, ◌%◌, ◌/◌, ◌==◌, Bool, true, false, IfSome, Some};
+ghost use Rattle.std.specs.Prelude.{◌≡◌, ◌<◌, ◌%◌, ◌/◌, ◌==◌, Bool, true, false, IfSome, Some, None};
 ghost use Rattle.std.specs.Option.{is_some};
-ghost use Rattle.egt_board.specs.Setup.{Setup};
+ghost use Rattle.egt_board.specs.AllMen.{HasAllMen};
+ghost use Rattle.egt_board.specs.Setup.{Setup, IsAdmissible};
 ghost use Rattle.egt_board.specs.Settled.{SettlesTo};
 ghost use Rattle.egt_board.specs.Symmetry.{KeepsPlay};
 ghost use Rattle.egt_board.specs.Turned.{turned_side};
@@ -22,10 +23,11 @@ use crate::home::{Turns, home};
 use crate::men::{has_equal_sides, has_pawns};
 use crate::nearer::homeward;
 use crate::scales::{Squares, squares_of};
-use crate::stand::{Stand, exchanged, stand_after, standing_of};
+use crate::stand::{Stand, Standing, exchanged, man_of, stand_after, standing_by, standing_of};
 use crate::ways::Homing;
-use egt_board::{Position, Side, Square};
-use egt_class::Class;
+use egt_board::{Man, Position, Side, Square};
+use egt_class::laws::men_beside_are_counted;
+use egt_class::{Class, of_men};
 
 /// The side, or the other one where colours are exchanged.
 fn side_after(side: Side, flips: bool) -> Side
@@ -216,23 +218,18 @@ fn least_where_passed(class: Class, position: &Position) -> Option<u32>
     }
 }
 
-/// The same with a target or without.
+/// The same of one without a target, whose men stand so.
 #[inline(always)]
-fn least_of(class: Class, position: &Position) -> Option<u32>
-    requires { (flipped : Bool) × IsOf class flipped position.now }
-    ensures { (q : Setup) → SettlesTo position.now q → Best class q 16 result }
+fn least_standing(class: Class, standing: &Standing, side: Side) -> Option<u32>
+    requires { IsFilled standing.now.stand }
+    ensures { (p : Setup) → HasStand class standing.now.flipped standing.now.stand side false p → Best class p 16 result }
 {
     facts();
     let _number = class.number();
-    let side = position.side();
-    if keeps_target(position) {
-        return least_where_passed(class, position);
-    }
-    let standing = standing_of(class, position);
-    if !has_equal_sides(class) {
-        return least_untargeted(class, &standing.stand, side, standing.flipped);
-    }
     let stand = &standing.stand;
+    if !has_equal_sides(class) {
+        return least_untargeted(class, stand, side, standing.flipped);
+    }
     least_by_kings(
         class,
         stand.white,
@@ -240,6 +237,21 @@ fn least_of(class: Class, position: &Position) -> Option<u32>
         side,
         standing.flipped,
     )
+}
+
+/// The same with a target or without.
+#[inline(always)]
+fn least_of(class: Class, position: &Position) -> Option<u32>
+    requires { (flipped : Bool) × IsOf class flipped position.now }
+    ensures { (q : Setup) → SettlesTo position.now q → Best class q 16 result }
+{
+    facts();
+    let side = position.side();
+    if keeps_target(position) {
+        return least_where_passed(class, position);
+    }
+    let standing = standing_of(class, position);
+    least_standing(class, &standing, side)
 }
 
 /// The index of a position of the class, in whatever colours: the least code that spells an image of its settled form.
@@ -250,4 +262,25 @@ pub fn index(class: Class, position: &Position) -> u32
     facts();
     let _side = position.side();
     least_of(class, position).unwrap()
+}
+
+/// The class of a position without a target and its index there, by its men alone: the kings' squares, the men beside the kings, in
+/// whatever order, and the side to move.
+pub fn indexed_by_men(
+    white: Square,
+    black: Square,
+    one: Option<(Man, Square)>,
+    other: Option<(Man, Square)>,
+    side: Side,
+) -> (Class, u32)
+    requires { (p : Setup) × IsAdmissible p × HasAllMen p.men white black one other × (p.side ≡ side) × (p.target ≡ None) }
+    ensures { (p : Setup) → IsAdmissible p → HasAllMen p.men white black one other → p.side ≡ side → p.target ≡ None →
+        ((flipped : Bool) × IsOf result.0 flipped p) × IsIndex result.0 p result.1 }
+{
+    facts();
+    men_beside_are_counted();
+    let (class, flipped) = of_men(man_of(&one), man_of(&other));
+    let standing = standing_by(class, flipped, white, black, &one, &other);
+    let index = least_standing(class, &standing, side).unwrap();
+    (class, index)
 }

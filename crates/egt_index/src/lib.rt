@@ -34,7 +34,7 @@ pub use axis::is_on_axis;
 pub use fixed::Fixed;
 pub use following::IndexAfter;
 pub use frame::Frame;
-pub use indexing::index;
+pub use indexing::{index, indexed_by_men};
 pub use men::{has_pawns, has_target};
 pub use movers::{faces_king_alone, may_move_pawn};
 pub use row::{Row, begins_row, position, row_of};

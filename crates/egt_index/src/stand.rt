@@ -1,11 +1,14 @@
 //! The men of a class on their squares.
-ghost use Rattle.std.specs.Prelude.{◌≡◌, ◌<◌, ◌%◌, ◌/◌, ◌==◌, ◌↔◌, IsTrue, Bool, true, false, if◌then◌else◌};
+ghost use Rattle.std.specs.Prelude.{◌≡◌, ◌<◌, ◌%◌, ◌/◌, ◌==◌, ◌++◌, ◌↔◌, IsTrue, Bool, true, false, if◌then◌else◌, None};
 ghost use Rattle.std.specs.Option.{option_to_list, option_map};
+ghost use Rattle.egt_board.specs.AllMen.{HasAllMen};
+ghost use Rattle.egt_board.specs.Setup.{Setup, IsAdmissible};
 ghost use Rattle.egt_board.specs.Turned.{turned_man};
-ghost use Rattle.egt_board.specs.declared.man.Side.TheVariants.{White, Black};
+ghost use Rattle.egt_class.specs.Material.{material_of};
 ghost use Rattle.egt_class.specs.Membership.{IsOf};
 ghost use Rattle.egt_index.specs.Beaten.{AreBehind};
 ghost use Rattle.egt_index.specs.Scales.{IsOn};
+ghost use Rattle.egt_index.specs.Size.{men_beside};
 ghost use Rattle.egt_index.specs.Stood.{Stood, Holds, IsAmong, IsFirst, list_of, IsFilled, IsOff, AllApart, AreNear, entry_after, on_square_of, IsInOrder, IsOrdered, AreExchanged, IsTurned, IsStandAfter, square_or};
 
 use crate::facts::facts;
@@ -22,13 +25,6 @@ pub(crate) struct Stand {
     pub(crate) black: Square,
     pub(crate) next: Option<(Man, Square)>,
     pub(crate) last: Option<(Man, Square)>,
-}
-
-/// The side of the position that the class's name tells first.
-fn named_first(flips: bool) -> Side
-    ensures { result ≡ (if flips then Black else White) }
-{
-    if flips { Side::Black } else { Side::White }
 }
 
 /// Whether the men are the same.
@@ -89,6 +85,16 @@ pub(crate) fn square_of(found: &Option<(Man, Square)>) -> Square
     }
 }
 
+/// The man of the entry, if there is one.
+pub(crate) fn man_of(entry: &Option<(Man, Square)>) -> Option<Man>
+    ensures { result ≡ option_map (λ e. e.0) entry.now }
+{
+    match entry {
+        Some((man, _)) => Some(*man),
+        None => None,
+    }
+}
+
 /// The man's square; the other one where there is no man, so that nothing hangs on whether there is.
 #[inline(always)]
 pub(crate) fn square_or(entry: &Option<(Man, Square)>, other: Square) -> Square
@@ -122,6 +128,33 @@ pub(crate) struct Standing {
     pub(crate) stand: Stand,
 }
 
+/// Where these men, in whatever order beside the kings, stand in the class, whose men beside the kings are `first` and `second`.
+#[inline(always)]
+pub(crate) fn stand_by(
+    class: Class,
+    flipped: bool,
+    white: Square,
+    black: Square,
+    first: Option<Man>,
+    second: Option<Man>,
+    one: &Option<(Man, Square)>,
+    other: &Option<(Man, Square)>,
+) -> Stand
+    requires men { option_to_list first ++ option_to_list second ≡ men_beside (material_of class) }
+    requires from_first { first ≡ None → second ≡ None }
+    ensures stood { (p : Setup) → IsAdmissible p → IsOf class flipped p → HasAllMen p.men white black one.now other.now → Stood class flipped p.men (list_of result) }
+    ensures filled { IsFilled result }
+{
+    let in_order = is_first(&first, flipped, one);
+    let (one, other) = (square_of(one), square_of(other));
+    Stand {
+        white: either(flipped, black, white),
+        black: either(flipped, white, black),
+        next: placed(first, either(in_order, one, other)),
+        last: placed(second, either(in_order, other, one)),
+    }
+}
+
 /// Where the men of a position of the class stand. The first man of the name beside the king tells the colours: no class whose
 /// sides differ has him on both.
 #[inline(always)]
@@ -136,18 +169,33 @@ pub(crate) fn standing_of(class: Class, position: &Position) -> Standing
     let _side = position.side();
     let (first, second) = beside(class);
     let (one, other) = position.board().beside_kings();
+    let white = position.king(Side::White);
+    let black = position.king(Side::Black);
     let flipped = !is_among(&first, &one, &other);
-    let in_order = is_first(&first, flipped, &one);
-    let (one, other) = (square_of(&one), square_of(&other));
-    let colour = named_first(flipped);
     Standing {
         flipped,
-        stand: Stand {
-            white: position.king(colour),
-            black: position.king(colour.other()),
-            next: placed(first, either(in_order, one, other)),
-            last: placed(second, either(in_order, other, one)),
-        },
+        stand: stand_by(class, flipped, white, black, first, second, &one, &other),
+    }
+}
+
+/// Where these men, in whatever order beside the kings, stand in their class, in colours exchanged where `flipped`.
+#[inline(always)]
+pub(crate) fn standing_by(
+    class: Class,
+    flipped: bool,
+    white: Square,
+    black: Square,
+    one: &Option<(Man, Square)>,
+    other: &Option<(Man, Square)>,
+) -> Standing
+    ensures flipped { result.flipped ≡ flipped }
+    ensures stood { (p : Setup) → IsAdmissible p → IsOf class flipped p → HasAllMen p.men white black one.now other.now → Stood class flipped p.men (list_of result.stand) }
+    ensures filled { IsFilled result.stand }
+{
+    let (first, second) = beside(class);
+    Standing {
+        flipped,
+        stand: stand_by(class, flipped, white, black, first, second, one, other),
     }
 }
 

@@ -29,3 +29,4 @@ pub mod NextMoves
 pub mod TurnedMoves
 pub mod ListedMoves
 pub mod MenExchanged
+pub mod MenTold

@@ -16,3 +16,4 @@ pub mod Turned
 pub mod DecidedMoves
 pub mod Moves
 pub mod Exchange
+pub mod AllMen

@@ -1,5 +1,5 @@
 //! The moves that leave a game, and the values of where they lead.
-ghost use Rattle.std.specs.Prelude.{◌≡◌, ◌+◌, ◌*◌, ◌++◌, ◌≤◌, ◌<◌, ℕ, Bool, IsSome, IfSome};
+ghost use Rattle.std.specs.Prelude.{◌≡◌, ◌≢◌, true, Some, None, ◌+◌, ◌*◌, ◌++◌, ◌≤◌, ◌<◌, ℕ, Bool, IsSome, IfSome};
 ghost use Rattle.std.specs.Option.{option_to_list};
 ghost use Rattle.arrayvec.specs.ArrayVec.{array_vec_len};
 ghost use Rattle.egt_board.specs.Placement.{Stands};
@@ -8,6 +8,7 @@ ghost use Rattle.egt_board.specs.SquareSet.{Has, size_of};
 ghost use Rattle.egt_board.specs.declared.man.Man.{Man};
 ghost use Rattle.egt_class.specs.Membership.{IsOf};
 ghost use Rattle.egt_index.specs.Index.{IsIndex};
+ghost use Rattle.egt_moves.specs.AllMen.{AreMenOf};
 ghost use Rattle.egt_moves.specs.Arena.{Value};
 ghost use Rattle.egt_moves.specs.Legal.{Leads, IsLegal};
 ghost use Rattle.egt_moves.specs.Moves.{played, moves_between, moves_from};
@@ -32,8 +33,8 @@ use egt_board::{Position, Square, SquareSet};
 use egt_check::Library;
 use egt_class::{Class, of};
 use egt_graph::Exit;
-use egt_index::{IndexAfter, frame_at, index};
-use egt_moves::{Move, play_legal, promotions};
+use egt_index::{IndexAfter, frame_at, index, indexed_by_men};
+use egt_moves::{Men, Move, is_told_by_men, play_legal, promotions};
 use egt_table::Column;
 
 /// The plies of an exit: in the game of zeroing moves none are left.
@@ -120,19 +121,64 @@ fn exit_at(aim: &Aim<'_>, own: Class, library: &Library, next: &Position) -> Exi
     exit_in(aim, own, library, class, index(class, next))
 }
 
+/// The same of a position without a target, by its men alone.
+fn exit_by_men(aim: &Aim<'_>, own: Class, library: &Library, next: &Men) -> Exit
+    requires knows { KnowsOwn own aim.now }
+    requires there { (q : Setup) × IsAdmissible q × AreMenOf q next.now × (q.target ≡ None) × ((c : ℕ) (flipped : Bool) → c < 36 → IsOf c flipped q → IsSome (known (table_at library.now) own aim.now c)) }
+    ensures { (q : Setup) → IsAdmissible q → AreMenOf q next.now → q.target ≡ None → result ≡ exit_of (column_of aim.now) (shown_below (known (table_at library.now) own aim.now) 36 q) }
+{
+    let (class, index) = indexed_by_men(next.white, next.black, next.one, next.other, next.side);
+    let _number = class.number();
+    exit_in(aim, own, library, class, index)
+}
+
+/// The value of where the move, which leaves the game, leads. The position there is not made where the men tell it.
+fn exit_after(
+    aim: &Aim<'_>,
+    class: Class,
+    library: &Library,
+    position: &Position,
+    men: &Men,
+    told: bool,
+    chess_move: &Move,
+) -> Exit
+    requires knows { KnowsOwn class aim.now }
+    requires of { (flipped : Bool) × IsOf class flipped position.now }
+    requires children { HasChildren (table_at library.now) class }
+    requires men { AreMenOf position.now men.now }
+    requires legal { IsLegal position.now chess_move.now }
+    requires told { told ≡ true → (q : Setup) → Leads position.now chess_move.now q → (position.now.target ≢ Some chess_move.now.to) × (q.target ≡ None) }
+    requires leaves { (q : Setup) → Leads position.now chess_move.now q → ¬ GoesOn (column_of aim.now) class position.now chess_move.now q }
+    ensures { (q : Setup) → Leads position.now chess_move.now q → result ≡ exit_of (column_of aim.now) (shown_below (known (table_at library.now) class aim.now) 36 q) }
+{
+    laws();
+    let _side = position.side();
+    let _number = class.number();
+    if told {
+        let next = men.after(chess_move);
+        return exit_by_men(aim, class, library, &next);
+    }
+    let next = play_legal(position, *chess_move);
+    exit_at(aim, class, library, &next)
+}
+
 /// Adds the value of where the move, which leaves the game, leads.
 fn add_exit(
     aim: &Aim<'_>,
     class: Class,
     library: &Library,
     position: &Position,
+    men: &Men,
+    told: bool,
     chess_move: &Move,
     list: &mut ArrayVec<Exit, 64>,
 )
     requires knows { KnowsOwn class aim.now }
     requires of { (flipped : Bool) × IsOf class flipped position.now }
     requires children { HasChildren (table_at library.now) class }
+    requires men { AreMenOf position.now men.now }
     requires legal { IsLegal position.now chess_move.now }
+    requires told { told ≡ true → (q : Setup) → Leads position.now chess_move.now q → (position.now.target ≢ Some chess_move.now.to) × (q.target ≡ None) }
     requires leaves { (q : Setup) → Leads position.now chess_move.now q → ¬ GoesOn (column_of aim.now) class position.now chess_move.now q }
     requires room { array_vec_len list.old < 64 }
     ensures items { list.new.items ≡ list.old.items ++ option_to_list (exit_by (known (table_at library.now) class aim.now) (column_of aim.now) class position.now chess_move.now (played position.now chess_move.now)) }
@@ -140,9 +186,8 @@ fn add_exit(
 {
     laws();
     let _side = position.side();
-    let _number = class.number();
-    let next = play_legal(position, *chess_move);
-    list.push(exit_at(aim, class, library, &next));
+    let exit = exit_after(aim, class, library, position, men, told, chess_move);
+    list.push(exit);
 }
 
 /// Adds the values of where the moves between the two squares, which leave the game, lead, in the order of moves.
@@ -166,13 +211,15 @@ fn add_exits_between(
 {
     laws();
     let _side = position.side();
+    let men = Men::of(position);
+    let told = is_told_by_men(position, from, to);
     for promo in promotions(position, from, to) {
         let chess_move = Move {
             from,
             to,
             promo: *promo,
         };
-        add_exit(aim, class, library, position, &chess_move, list);
+        add_exit(aim, class, library, position, &men, told, &chess_move, list);
     }
 }
 

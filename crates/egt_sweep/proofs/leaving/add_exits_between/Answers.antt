@@ -19,6 +19,9 @@ add_exit-requires-clause-legal c =
     let promo = slice_index_or items n None in
     (c.promotions-promo-items.ensures.legal promo).0 (n, c.loop-promo-test.true, sym (get_or_default items n None promo c.loop-promo-test.true))
 
+pub add_exit-requires-clause-told : goal.add_exit-requires-clause-told
+add_exit-requires-clause-told c told q leads = c.is_told_by_men-told.ensures told _ q refl refl leads
+
 pub add_exit-requires-clause-room : goal.add_exit-requires-clause-room
 add_exit-requires-clause-room c =
     let leads = c.requires.target.1.1 in

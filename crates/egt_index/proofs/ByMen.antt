@@ -1,0 +1,34 @@
+-- What the men of a position without a target tell of it.
+use Rattle.std.proofs.Common.{◌≡◌, ℕ, None, Option, IfSome, false, Bool, refl, sym, ap, inl, subst}
+use Rattle.std.specs.Option.{option_map, is_some}
+use Rattle.egt_board.specs.declared.man.Man.{Man}
+use Rattle.egt_board.specs.declared.man.Side.{Side}
+use Rattle.egt_board.specs.Pawn.{ahead, HasPawnBeside}
+use Rattle.egt_board.specs.Man.{other_side}
+use Rattle.egt_board.specs.Settled.{IsSettled, SettlesTo}
+use Rattle.egt_board.specs.Setup.{Setup, IsAdmissible}
+use Rattle.egt_class.specs.Membership.{IsOf}
+use Rattle.egt_class.specs.Pair.{IsBeside}
+use Rattle.egt_index.specs.Facts.{Facts}
+use Rattle.egt_index.specs.Stood.{Entry, HasStand, Stood, list_of}
+use Rattle.egt_index.specs.declared.stand.Stand.{Stand}
+use Rattle.egt_index.proofs.Turned.{settled_stand}
+
+-- without a target nothing is to be settled
+pub no_target : (p : Setup) → p.target ≡ None → IsSettled p
+no_target p none = subst (λ (o : Option ℕ). IfSome o (λ t. HasPawnBeside p.men p.side (ahead (other_side p.side) t))) (sym none) tt
+
+pub settles_to_itself : (p : Setup) → p.target ≡ None → SettlesTo p p
+settles_to_itself p none = inl (no_target p none, refl)
+
+-- the men found are those beside the kings
+pub found_beside : (p : Setup) (one other : Entry) (first second : Option Man) → first ≡ option_map (λ e. e.0) one → second ≡ option_map (λ e. e.0) other
+    → IsBeside p (option_map (λ e. e.0) one) (option_map (λ e. e.0) other) → IsBeside p first second
+found_beside p one other first second first_is second_is is =
+    subst (λ (o : Option Man). IsBeside p o second) (sym first_is) (subst (λ (o : Option Man). IsBeside p (option_map (λ e. e.0) one) o) (sym second_is) is)
+
+-- they stand as in the class
+pub stand_of_men : Facts → (c : ℕ) (flipped told : Bool) (p : Setup) (stand : Stand) (side : Side) → told ≡ flipped → IsAdmissible p → IsOf c flipped p → Stood c flipped p.men (list_of stand) → p.side ≡ side → p.target ≡ None
+    → HasStand c told stand side false p
+stand_of_men facts c flipped told p stand side told_is ok is_of stood side_is none = subst (λ (f : Bool). HasStand c f stand side false p) (sym told_is)
+    (settled_stand facts c flipped p p stand side false ok is_of stood (sym side_is) (ap (λ (o : Option ℕ). is_some o) none) (settles_to_itself p none))

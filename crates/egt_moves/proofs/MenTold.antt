@@ -1,0 +1,178 @@
+-- The men after a move, told by those before.
+use Rattle.std.proofs.Common.{◌≡◌, ◌≢◌, ℕ, ◌⊎◌, ◌&&◌, Option, Some, None, true, false, Bool, refl, sym, ap, ◌∙◌, inl, inr, subst, if◌then◌else◌}
+use Rattle.std.specs.Prelude.{◌==◌}
+use Rattle.std.specs.FinMap as map
+use Rattle.std.proofs.lemmas.Bool.Decides.{eqb_tells}
+use Rattle.egt_board.specs.declared.man.Side.{Side}
+use Rattle.egt_board.specs.declared.man.Side.TheVariants.{White, Black}
+use Rattle.egt_board.specs.declared.man.Kind.{Kind}
+use Rattle.egt_board.specs.declared.man.Kind.TheVariants.{K}
+use Rattle.egt_board.specs.declared.man.Man.{Man}
+use Rattle.egt_board.specs.AllMen.{HasAllMen, AreApart}
+use Rattle.egt_board.specs.Attack.{king_of, IsInCheck}
+use Rattle.egt_board.specs.Beside.{StandsBeside}
+use Rattle.egt_board.specs.Man.{other_side}
+use Rattle.egt_board.specs.Pawn.{ahead, last_rank}
+use Rattle.egt_board.specs.Square.{rank_of}
+use Rattle.egt_board.specs.Placement.{Placement, Stands, one_man}
+use Rattle.egt_board.specs.Setup.{Setup, IsAdmissible, IsKingOn}
+use Rattle.egt_moves.specs.declared.chess_move.Move.{Move}
+use Rattle.egt_moves.specs.AllMen.{entry_after, square_after}
+use Rattle.egt_moves.specs.Legal.{Leads, after, is_target, men_left, men_after}
+use Rattle.egt_moves.specs.Promotion.{is_pawn, promotes, FitsPromotion, IsOfficer, arriving}
+use Rattle.egt_moves.proofs.Admissible.{admissible_after}
+use Rattle.egt_moves.proofs.After.{after_to, after_other, after_cases, MayBecome, may_become, not_king_of}
+
+abbrev Entry : Type 0
+Entry = Option (Man × ℕ)
+
+-- a move that does not arrive on the target takes nothing in passing
+not_passing : (p : Setup) (man : Man) (to : ℕ) → p.target ≢ Some to → men_left p man to ≡ p.men
+not_passing p man to off = ap (λ b. if b then map.remove p.men (ahead (other_side p.side) to) else p.men) (none (is_pawn man.kind))
+  where
+    away : (o : Option ℕ) → o ≢ Some to → is_target o to ≡ false
+    away None other = refl
+    away (Some t) other = elim (eqb_tells t to) [ inl h ↦ absurd (other (ap Some h.1)) | inr h ↦ h.0 ]
+
+    none : (b : Bool) → (b && is_target p.target to) ≡ false
+    none true = away p.target off
+    none false = refl
+
+-- who neither moves nor is taken stays
+stays : (p : Setup) (man : Man) (m : Move) (t : ℕ) (other : Man) → p.target ≢ Some m.to → t ≢ m.from → t ≢ m.to → Stands p.men t other → Stands (men_after p man m) t other
+stays p man m t other off not_from not_to stands = after_other p man m t not_from not_to ∙ ap (λ men. map.get men t) (not_passing p man m.to off) ∙ stands
+
+-- what arrives is no king where no king moved
+arrives_beside : (man : Man) (promo : Option Kind) → MayBecome promo → man.kind ≢ K → (arriving man promo).kind ≢ K
+arrives_beside man promo may other is = not_king_of man promo (arriving man promo).side may other (λ i. record { side = (arriving man promo).side; kind = sym is i })
+
+-- and a king where one did
+king_stays_king : (man : Man) (to : ℕ) (promo : Option Kind) → FitsPromotion (promotes man to) promo → (arriving man promo).kind ≢ K → man.kind ≢ K
+king_stays_king man to None fits other is = other is
+king_stays_king man to (Some kind) fits other is = subst (λ k. FitsPromotion (is_pawn k && (rank_of to == last_rank man.side)) (Some kind)) is fits
+
+entry_stands : (p : Setup) (man : Man) (m : Move) (entry : Entry) → Stands p.men m.from man → MayBecome m.promo → p.target ≢ Some m.to → StandsBeside p.men entry → StandsBeside (men_after p man m) (entry_after entry m)
+entry_stands p man m None stands may off beside = tt
+entry_stands p man m (Some e) stands may off beside = elim (eqb_tells e.1 m.from) [
+  | inl from ↦ subst (λ b. StandsBeside (men_after p man m) (if b then Some (arriving e.0 m.promo, m.to) else (if e.1 == m.to then None else Some e))) (sym from.0)
+      (let same : man ≡ e.0 = one_man p.men m.from man e.0 stands (ap (map.get p.men) (sym from.1) ∙ beside.0) in
+      (after_to p man m ∙ ap (λ x. Some (arriving x m.promo)) same, arrives_beside e.0 m.promo may beside.1))
+  | inr not_from ↦ subst (λ b. StandsBeside (men_after p man m) (if b then Some (arriving e.0 m.promo, m.to) else (if e.1 == m.to then None else Some e))) (sym not_from.0)
+      (elim (eqb_tells e.1 m.to) [
+        | inl to ↦ subst (λ b. StandsBeside (men_after p man m) (if b then None else Some e)) (sym to.0) tt
+        | inr not_to ↦ subst (λ b. StandsBeside (men_after p man m) (if b then None else Some e)) (sym not_to.0) (stays p man m e.1 e.0 off not_from.1 not_to.1 beside.0, beside.1)
+      ])
+]
+
+-- who left is where he arrived, and who stood elsewhere is there
+entry_moved : (entry : Entry) (man : Man) (m : Move) → entry ≡ Some (man, m.from) → entry_after entry m ≡ Some (arriving man m.promo, m.to)
+entry_moved entry man m is = ap (λ o. entry_after o m) is ∙ elim (eqb_tells m.from m.from) [
+  | inl h ↦ ap (λ b. if b then Some (arriving man m.promo, m.to) else (if m.from == m.to then None else Some (man, m.from))) h.0
+  | inr h ↦ absurd (h.1 refl)
+]
+
+entry_kept : (entry : Entry) (man : Man) (s : ℕ) (m : Move) → s ≢ m.from → s ≢ m.to → entry ≡ Some (man, s) → entry_after entry m ≡ Some (man, s)
+entry_kept entry man s m not_from not_to is = ap (λ o. entry_after o m) is ∙ elim (eqb_tells s m.from) [
+  | inl h ↦ absurd (not_from h.1)
+  | inr h ↦ ap (λ b. if b then Some (arriving man m.promo, m.to) else (if s == m.to then None else Some (man, s))) h.0 ∙ elim (eqb_tells s m.to) [
+    | inl g ↦ absurd (not_to g.1)
+    | inr g ↦ ap (λ b. if b then None else Some (man, s)) g.0
+  ]
+]
+
+-- men on squares of their own go to squares of their own
+entries_apart : (one other : Entry) (m : Move) → AreApart one other → AreApart (entry_after one m) (entry_after other m)
+entries_apart None other m apart = tt
+entries_apart (Some e) None m apart = nobody (entry_after (Some e) m)
+  where
+    nobody : (o : Entry) → AreApart o None
+    nobody None = tt
+    nobody (Some x) = tt
+entries_apart (Some e) (Some d) m apart = by_tests (e.1 == m.from) (e.1 == m.to) (d.1 == m.from) (d.1 == m.to) (told e.1 m.from) (told e.1 m.to) (told d.1 m.from) (told d.1 m.to)
+  where
+    -- the test tells whether the squares are the same
+    Tells : Bool → ℕ → ℕ → Type 0
+    Tells b s t = ((b ≡ true) × (s ≡ t)) ⊎ ((b ≡ false) × (s ≢ t))
+
+    told : (s t : ℕ) → Tells (s == t) s t
+    told s t = eqb_tells s t
+
+    goes : Bool → Bool → Man × ℕ → Entry
+    goes from to x = if from then Some (arriving x.0 m.promo, m.to) else (if to then None else Some x)
+
+    by_tests : (a b c d' : Bool) → Tells a e.1 m.from → Tells b e.1 m.to → Tells c d.1 m.from → Tells d' d.1 m.to → AreApart (goes a b e) (goes c d' d)
+    by_tests true b true d' (inl x) y (inl z) w = absurd (apart (x.1 ∙ sym z.1))
+    by_tests true b true d' (inl x) y (inr z) w = absurd (cc)
+    by_tests true b true d' (inr x) y z w = absurd (cc)
+    by_tests true b false true x y z w = tt
+    by_tests true b false false x y z (inl w) = absurd (cc)
+    by_tests true b false false x y z (inr w) = λ same. w.1 (sym same)
+    by_tests false true c d' x y z w = tt
+    by_tests false false true d' x (inl y) z w = absurd (cc)
+    by_tests false false true d' x (inr y) z w = y.1
+    by_tests false false false true x y z w = tt
+    by_tests false false false false x y z w = apart
+
+-- the king's square after the move, of which it is known that he has one
+king_told : (p : Setup) (man : Man) (m : Move) (side : Side) (k s : ℕ) → IsAdmissible p → Stands p.men m.from man → MayBecome m.promo → IsKingOn p.men side k → IsKingOn (men_after p man m) side s → IsKingOn (men_after p man m) side (square_after k m)
+king_told p man m side k s ok stands may king there = subst (IsKingOn (men_after p man m) side) (sym is) there
+  where
+    is : square_after k m ≡ s
+    is = elim (after_cases p man m s (king_of side) ok there.stands) [
+      | inl moved ↦
+          let left : m.from ≡ k = king.only m.from (stands ∙ ap Some (king_moved moved.1)) in
+          elim (eqb_tells k m.from) [
+            | inl h ↦ ap (λ b. if b then m.to else k) h.0 ∙ sym moved.0
+            | inr h ↦ absurd (h.1 (sym left))
+          ]
+      | inr stayed ↦
+          let same : s ≡ k = king.only s stayed.2 in
+          elim (eqb_tells k m.from) [
+            | inl h ↦ absurd (stayed.0 (same ∙ h.1))
+            | inr h ↦ ap (λ b. if b then m.to else k) h.0 ∙ sym same
+          ]
+    ]
+      where
+        king_moved : king_of side ≡ arriving man m.promo → man ≡ king_of side
+        king_moved arrives = of_promo m.promo may arrives
+          where
+            of_promo : (promo : Option Kind) → MayBecome promo → king_of side ≡ arriving man promo → man ≡ king_of side
+            of_promo None none e = sym e
+            of_promo (Some kind) may e = absurd (subst IsOfficer (sym (ap (λ (x : Man). x.kind) e)) may)
+
+pub men_told : (p q : Setup) (m : Move) (white black : ℕ) (one other : Entry) → IsAdmissible p → HasAllMen p.men white black one other → Leads p m q → p.target ≢ Some m.to
+    → HasAllMen q.men (square_after white m) (square_after black m) (entry_after one m) (entry_after other m)
+men_told p q m white black one other ok all leads off = subst (λ (men : Placement). HasAllMen men (square_after white m) (square_after black m) (entry_after one m) (entry_after other m)) (sym (ap (λ (s : Setup). s.men) leads.becomes)) (record {
+  white_there = king_told p man m White white next.kings.white ok leads.stands may all.white_there next.kings.white_there;
+  black_there = king_told p man m Black black next.kings.black ok leads.stands may all.black_there next.kings.black_there;
+  beside = record {
+    one = entry_stands p man m one leads.stands may off all.beside.one;
+    other = entry_stands p man m other leads.stands may off all.beside.other;
+    all = every;
+    apart = entries_apart one other m all.beside.apart;
+  };
+})
+  where
+    man : Man
+    man = leads.man
+
+    may : MayBecome m.promo
+    may = may_become _ m.promo leads.promotion
+
+    next : IsAdmissible (after p man m)
+    next = admissible_after p man m leads.stands leads.mine leads.goes leads.promotion ok (subst (λ (s : Setup). ¬ IsInCheck s.men p.side) leads.becomes leads.safe)
+
+    every : (s : ℕ) (x : Man) → Stands (men_after p man m) s x → x.kind ≢ K → (entry_after one m ≡ Some (x, s)) ⊎ (entry_after other m ≡ Some (x, s))
+    every s x stands beside = elim (after_cases p man m s x ok stands) [
+      | inl moved ↦
+          let was = king_stays_king man m.to m.promo leads.promotion (λ is. beside (ap (λ (y : Man). y.kind) moved.1 ∙ is)) in
+          let now : ◌≡◌ {A = Entry} (Some (arriving man m.promo, m.to)) (Some (x, s)) = λ i. Some (sym moved.1 i, sym moved.0 i) in
+          elim (all.beside.all m.from man leads.stands was) [
+            | inl e ↦ inl (entry_moved one man m e ∙ now)
+            | inr e ↦ inr (entry_moved other man m e ∙ now)
+          ]
+      | inr stayed ↦ elim (all.beside.all s x stayed.2 beside) [
+        | inl e ↦ inl (entry_kept one x s m stayed.0 stayed.1 e)
+        | inr e ↦ inr (entry_kept other x s m stayed.0 stayed.1 e)
+      ]
+    ]
