@@ -9,6 +9,8 @@ use Rattle.egt_index.specs.Home.{AreHome}
 use Rattle.egt_index.specs.Turns.{Best}
 use Rattle.egt_index.specs.Ways.{KingAdds, SumFits, sum_code}
 use Rattle.egt_index.specs.declared.king_sums.BlackSum.{BlackSum}
+use Rattle.egt_index.specs.declared.king_sums.EitherWays.{EitherWays}
+use Rattle.egt_index.specs.declared.king_sums.EitherWays.TheVariants.{All, White, Black}
 use Rattle.egt_index.specs.declared.king_sums.WhiteSum.{WhiteSum}
 
 -- a turn that brings the king home brings him there
@@ -41,3 +43,14 @@ pub record LeadsBlack (c : ℕ) (p : Setup) (from : ℕ) (sum : BlackSum) : Type
   pub class_is : sum.either.class ≡ c
   pub all : LeadsEither c p from sum.either
   pub near : (to s : ℕ) (q : Setup) → IsMoved c p from to q → IsHomeSquare sum.pawns true to s → sum.either.white < s → Best c q 16 (Some (sum_code sum.sum to))
+
+abbrev pub EitherFit : EitherWays → Type 0
+EitherFit (All way) = has_equal_sides way.class ≡ true
+EitherFit (White sum) = WhiteFits sum
+EitherFit (Black sum) = BlackFits sum
+
+-- wherever the man on `from` in p goes, the ways tell the least code of all turns
+abbrev pub EitherLead : ℕ → Setup → ℕ → EitherWays → Type 0
+EitherLead c p from (All way) = (way.class ≡ c) × LeadsEither c p from way
+EitherLead c p from (White sum) = LeadsWhite c p from sum
+EitherLead c p from (Black sum) = LeadsBlack c p from sum

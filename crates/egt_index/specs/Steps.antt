@@ -1,27 +1,23 @@
 -- The ways of one man of a frame's position.
-use Rattle.std.specs.Prelude.{◌≡◌, ℕ, ◌<◌, true, false, Option, Some}
+use Rattle.std.specs.Prelude.{ℕ, ◌<◌, false, Option, Some}
 use Rattle.egt_board.specs.Setup.{Setup}
-use Rattle.egt_class.specs.Material.{has_equal_sides}
 use Rattle.egt_class.specs.Membership.{IsOf}
-use Rattle.egt_index.specs.Either.{LeadsEither}
 use Rattle.egt_index.specs.Frame.{IsMoved}
 use Rattle.egt_index.specs.Home.{LeastWith}
 use Rattle.egt_index.specs.Index.{IsIndex}
-use Rattle.egt_index.specs.KingSums.{WhiteFits, BlackFits, LeadsWhite, LeadsBlack}
+use Rattle.egt_index.specs.KingSums.{EitherFit, EitherLead}
 use Rattle.egt_index.specs.Turns.{Best}
 use Rattle.egt_index.specs.Ways.{sum_code, SumFits, KingWayFits, WayFits, Leads, LeadsHome}
 use Rattle.egt_index.specs.declared.steps.Steps.{Steps}
 use Rattle.egt_index.specs.declared.steps.Ways.{Ways}
 use Rattle.egt_index.specs.declared.ways.Sum.{Sum}
-use Rattle.egt_index.specs.declared.steps.Ways.TheVariants.{Single, King, Own, Either, White, Black}
+use Rattle.egt_index.specs.declared.steps.Ways.TheVariants.{Single, King, Own, Either}
 
 abbrev pub WaysFit : Ways → Type 0
 WaysFit (Single sum) = SumFits sum
 WaysFit (King way) = KingWayFits way
 WaysFit (Own way) = WayFits way
-WaysFit (Either way) = has_equal_sides way.class ≡ true
-WaysFit (White sum) = WhiteFits sum
-WaysFit (Black sum) = BlackFits sum
+WaysFit (Either ways) = EitherFit ways
 
 -- wherever the man on `from` in p goes, the least code of the turns that exchange no colours is that of all turns, if there is one
 abbrev pub IsLeastOwn : ℕ → Setup → ℕ → Type 0
@@ -33,9 +29,7 @@ abbrev pub AllLead : ℕ → Setup → ℕ → Ways → Type 0
 AllLead c p from (Single sum) = (to : ℕ) (q : Setup) → IsMoved c p from to q → Best c q 16 (Some (sum_code sum to))
 AllLead c p from (King way) = LeadsHome c p from way × IsLeastOwn c p from
 AllLead c p from (Own way) = Leads c false p from way × IsLeastOwn c p from
-AllLead c p from (Either way) = (way.class ≡ c) × LeadsEither c p from way
-AllLead c p from (White sum) = LeadsWhite c p from sum
-AllLead c p from (Black sum) = LeadsBlack c p from sum
+AllLead c p from (Either ways) = EitherLead c p from ways
 
 -- these are the ways of the man on `from` in p
 pub record AreSteps (p : Setup) (c from : ℕ) (steps : Steps) : Type 0 where

@@ -6,6 +6,7 @@ ghost use Rattle.egt_board.specs.Placement.{Stands};
 ghost use Rattle.egt_class.specs.Material.{material_of};
 ghost use Rattle.egt_index.specs.Frame.{IsFrame, IsFirstAfter, IsOwnAfter};
 ghost use Rattle.egt_index.specs.Home.{IsAtHome};
+ghost use Rattle.egt_index.specs.KingSums.{EitherFit, EitherLead};
 ghost use Rattle.egt_index.specs.Size.{has_pawns};
 ghost use Rattle.egt_index.specs.Steps.{AddsUp, AreSteps};
 ghost use Rattle.egt_index.specs.Stood.{HasStand, IsFilled};
@@ -15,7 +16,7 @@ ghost use Rattle.egt_index.specs.Ways.{SumFits, WayFits, Leads, LeadsBy};
 use crate::either::EitherWay;
 use crate::facts::facts;
 use crate::home::{Turns, still_home};
-use crate::king_sums::{BlackSum, WhiteSum};
+use crate::king_sums::{BlackSum, EitherWays, WhiteSum};
 use crate::men::{has_equal_sides, has_pawns};
 use crate::nearer::{is_own_nearer, takes_away};
 use crate::stand::Stand;
@@ -55,7 +56,9 @@ impl Frame {
         let _number = self.class.number();
         let side = self.side.other();
         if !self.is_own_after(from) {
-            return self.either_steps(from);
+            return Steps {
+                ways: Ways::Either(self.either_ways(from)),
+            };
         }
         if self.stand.white == from {
             return Steps {
@@ -74,27 +77,22 @@ impl Frame {
 
     /// The same where only the kings after his step tell in which colours the least code is.
     #[inline(never)]
-    fn either_steps(&self, from: Square) -> Steps
-        ensures { (p : Setup) → self.now.equal ≡ true → IsFrame p self.now → AreSteps p self.now.class from result }
+    fn either_ways(&self, from: Square) -> EitherWays
+        ensures fit { (p : Setup) → self.now.equal ≡ true → IsFrame p self.now → EitherFit result }
+        ensures lead { (p : Setup) → self.now.equal ≡ true → IsFrame p self.now → EitherLead self.now.class p from result }
     {
         facts();
         let _number = self.class.number();
         let side = self.side.other();
         if self.stand.black == from {
             if let Some(sum) = self.single_sum(from) {
-                return Steps {
-                    ways: Ways::Black(BlackSum::of(self.class, &self.stand, side, sum)),
-                };
+                return EitherWays::Black(BlackSum::of(self.class, &self.stand, side, sum));
             }
         }
         if self.stand.white != from {
-            return Steps {
-                ways: Ways::Either(EitherWay::of(self.class, &self.stand, side, from)),
-            };
+            return EitherWays::All(EitherWay::of(self.class, &self.stand, side, from));
         }
-        Steps {
-            ways: Ways::White(WhiteSum::of(self.class, &self.stand, side)),
-        }
+        EitherWays::White(WhiteSum::of(self.class, &self.stand, side))
     }
 
     /// How the codes add up after the man on the square went, in the most common case: then the sum is the index wherever he may go.

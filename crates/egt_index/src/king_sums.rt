@@ -5,7 +5,7 @@ ghost use Rattle.egt_board.specs.Setup.{Setup};
 ghost use Rattle.egt_class.specs.Material.{material_of, has_equal_sides};
 ghost use Rattle.egt_index.specs.Frame.{IsMoved};
 ghost use Rattle.egt_index.specs.Home.{IsAtHome};
-ghost use Rattle.egt_index.specs.KingSums.{IsHomeSquare, WhiteFits, BlackFits, LeadsWhite, LeadsBlack};
+ghost use Rattle.egt_index.specs.KingSums.{IsHomeSquare, WhiteFits, BlackFits, EitherFit, EitherLead, LeadsWhite, LeadsBlack};
 ghost use Rattle.egt_index.specs.Size.{has_pawns};
 ghost use Rattle.egt_index.specs.Turns.{Best};
 ghost use Rattle.egt_index.specs.Ways.{IsSeen, LeadsBy, SumFits};
@@ -129,6 +129,30 @@ impl BlackSum {
             Some(self.sum.code_to(to))
         } else {
             self.either.code_to(to)
+        }
+    }
+}
+
+/// The codes in either colours after a man went.
+#[derive(Clone, Copy)]
+pub(crate) enum EitherWays {
+    /// One who is no king, or the black king where two turns leave the white one at home.
+    All(EitherWay),
+    White(WhiteSum),
+    Black(BlackSum),
+}
+
+impl EitherWays {
+    /// The least code after he went to the square.
+    #[inline(always)]
+    pub(crate) fn code_to(&self, to: Square) -> Option<u32>
+        requires { EitherFit self.now }
+        ensures { (c from : ℕ) (p q : Setup) → EitherLead c p from self.now → IsMoved c p from to q → Best c q 16 result }
+    {
+        match self {
+            EitherWays::All(way) => way.code_to(to),
+            EitherWays::White(sum) => sum.code_to(to),
+            EitherWays::Black(sum) => sum.code_to(to),
         }
     }
 }

@@ -6,10 +6,9 @@ ghost use Rattle.egt_index.specs.Index.{IsIndex};
 ghost use Rattle.egt_index.specs.Steps.{AreSteps, WaysFit};
 ghost use Rattle.egt_index.specs.Turns.{Best};
 
-use crate::either::EitherWay;
 use crate::facts::facts;
 use crate::following::IndexAfter;
-use crate::king_sums::{BlackSum, WhiteSum};
+use crate::king_sums::EitherWays;
 use crate::ways::{KingWay, Sum, Way};
 use egt_board::Square;
 
@@ -23,10 +22,7 @@ pub(crate) enum Ways {
     /// The same of any other man.
     Own(Way),
     /// The codes in either colours.
-    Either(EitherWay),
-    /// The same of a king, of a class whose sides have the same men.
-    White(WhiteSum),
-    Black(BlackSum),
+    Either(EitherWays),
 }
 
 /// Where one man of a frame's position may go, so that the index after he went is found by little more than an addition.
@@ -74,9 +70,7 @@ impl Steps {
             Ways::Single(sum) => Some(sum.code_to(to)),
             Ways::King(way) => way.code_to(to),
             Ways::Own(way) => way.code_to(to),
-            Ways::Either(way) => way.code_to(to),
-            Ways::White(sum) => sum.code_to(to),
-            Ways::Black(sum) => sum.code_to(to),
+            Ways::Either(ways) => ways.code_to(to),
         }
     }
 }

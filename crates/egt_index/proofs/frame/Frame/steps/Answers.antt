@@ -5,7 +5,14 @@ use Rattle.egt_index.proofs.Framed.{least_own, own_seen}
 use Rattle.egt_index.proofs.frame.Frame.steps.Goals as goal
 
 pub returns-then-not-is_own_after : goal.returns-then-not-is_own_after
-returns-then-not-is_own_after c = λ p man is stands. c.either_steps.ensures p (c.is_own_after.ensures.equal c.if-not-is_own_after.true) is
+returns-then-not-is_own_after c = λ p man is stands.
+    let equal = c.is_own_after.ensures.equal c.if-not-is_own_after.true in
+    record {
+      class_in = omega (arith, c.number-number.ensures.below, c.number-number.ensures.value);
+      is_of = is.stand.is_of;
+      fit = c.either_ways.ensures.fit p equal is;
+      lead = c.either_ways.ensures.lead p equal is;
+    }
 
 pub returns-then-eq : goal.returns-then-eq
 returns-then-eq c = λ p man is stands.

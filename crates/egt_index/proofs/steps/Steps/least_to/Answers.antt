@@ -21,13 +21,4 @@ returns-in-Own k = λ c from p q are moved.
 
 pub returns-in-Either : goal.returns-in-Either
 returns-in-Either k = λ c from p q are moved.
-    let (class_is, leads) = subst (λ (w : Ways). AllLead c p from w) k.in-Either.is are.lead in
-    subst (λ n. Best n q 16 k.code_to-in-Either.result) class_is (k.code_to-in-Either.ensures q (leads k.args.to q moved))
-
-pub returns-in-White : goal.returns-in-White
-returns-in-White k = λ c from p q are moved.
-    k.code_to-in-White.ensures c from p q (subst (λ (w : Ways). AllLead c p from w) k.in-White.is are.lead) moved
-
-pub returns-in-Black : goal.returns-in-Black
-returns-in-Black k = λ c from p q are moved.
-    k.code_to-in-Black.ensures c from p q (subst (λ (w : Ways). AllLead c p from w) k.in-Black.is are.lead) moved
+    k.code_to-in-Either.ensures c from p q (subst (λ (w : Ways). AllLead c p from w) k.in-Either.is are.lead) moved
