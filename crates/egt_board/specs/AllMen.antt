@@ -35,4 +35,4 @@ apart_by_order (Some e) (Some d) order = λ same. omega (arith, order, same)
 
 -- those listed in order of square are these men
 pub in_any_order : (men : Placement) (first second : Option (Man × ℕ)) → AreBeside men first second → HasBeside men first second
-in_any_order men first second are = record { one = are.one; other = are.other; all = are.all; apart = apart_by_order first second are.in_order; }
+in_any_order men first second are = record { one = are.one; other = are.other; all = are.all; apart = apart_by_order first second are.in_order }
