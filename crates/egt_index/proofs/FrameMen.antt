@@ -67,7 +67,7 @@ module _ (c : ℕ) (stand : Stand) (side : Side) (passed : Bool) (p : Setup) (ha
   black_stood = let there = has.admissible.kings.black_there in subst (IsKingOn p.men Black) (sym (there.only stand.black has.stood.all.3.1)) there
 
   -- no others stand there
-  men_are : p.men ≡ men_of (list_of stand)
+  pub men_are : p.men ≡ men_of (list_of stand)
   men_are = (all_there p.men (list_of stand) has.admissible.on_board (subst (AreCounted p.men) (sym has.stood.are) (counted_of c p has.is_of)) has.stood.all).0
 
   pub free_off : (t : ℕ) → IsFree p.men t ↔ IsOff (list_of stand) t

@@ -19,11 +19,12 @@ use Rattle.egt_index.specs.Code.{Spells, king_square, men_at, placed, square_by_
 use Rattle.egt_index.specs.Digits.{AreDigits, number_from, number_of}
 use Rattle.egt_index.specs.Facts.{Facts}
 use Rattle.egt_index.specs.Index.{IsIndex, IsVoid}
-use Rattle.egt_index.specs.Scales.{AreEqual, IsOn, code_by, ends_of, kind_digits, kind_less}
+use Rattle.egt_index.specs.Scales.{AreEqual, AreScales, IsOn, code_by, ends_of, kind_digits, kind_less, man_at}
 use Rattle.egt_index.specs.Size.{base_by, base_of, has_pawns, has_target, king_base, men_bases, men_beside, size_of}
 use Rattle.egt_index.specs.Spelled.{SpellsMen}
 use Rattle.egt_index.specs.Stood.{Entry, HasStand, IsInOrder, list_of, men_among}
 use Rattle.egt_index.specs.Total.{IsTotal}
+use Rattle.egt_index.specs.declared.scales.Scales.{Scales}
 use Rattle.egt_index.specs.declared.stand.Stand.{Stand}
 use Rattle.egt_index.proofs.AtIndex.{indexed_by}
 use Rattle.egt_index.proofs.Beating.{no_index}
@@ -89,13 +90,13 @@ none_beside c s side passed p has =
     tails e = cc
 
 -- the digits of the men, told by their squares
-record Told (m : Material) (n : ℕ) (s : Stand) : Type 0 where
-  digit : ℕ
-  below : digit < king_base (has_pawns m)
-  king : king_square (has_pawns m) digit ≡ s.white
-  number : n ≡ number_on digit s
+pub record Told (m : Material) (n : ℕ) (s : Stand) : Type 0 where
+  pub digit : ℕ
+  pub below : digit < king_base (has_pawns m)
+  pub king : king_square (has_pawns m) digit ≡ s.white
+  pub number : n ≡ number_on digit s
 
-told : (m : Material) (n : ℕ) (s : Stand) → SpellsMen m n (list_of s) → NoKings (men_beside m) → Told m n s
+pub told : (m : Material) (n : ℕ) (s : Stand) → SpellsMen m n (list_of s) → NoKings (men_beside m) → Told m n s
 told m n s men none = of_digits men.digits men.are men.list_is men.number_is
   where
     heads : {a b : Man × ℕ} {x y : List (Man × ℕ)} → a ∷ x ≡ b ∷ y → a.1 ≡ b.1
@@ -171,13 +172,22 @@ kept x y k l true on_x on_y order equal = of x y on_x on_y order (equal refl)
     of (Some x) (Some y) on_x on_y order same = let le : x.1 ≤ y.1 = order same in (omega arith, omega arith)
 
 -- a square of the man, or any
-abbrev square_in : Entry → ℕ
+abbrev pub square_in : Entry → ℕ
 square_in None = 0
 square_in (Some e) = e.1
 
-in_square : (x : Entry) → IsOn x (square_in x)
+pub in_square : (x : Entry) → IsOn x (square_in x)
 in_square None = tt
 in_square (Some e) = refl
+
+-- the men's digits with the ends behind them are what all of them add where they stand
+pub plain_sum : (m : Material) (n digit : ℕ) (s : Stand) (side : Side) (scales : Scales) → n ≡ number_on digit s → AreScales m (man_at s.next) (man_at s.last) side scales
+    → n * ends_of m + scales.side ≡ code_by scales digit s.black (square_in s.next) (square_in s.last)
+plain_sum m n digit s side scales number are =
+    ap (λ k. n * ends_of m + k) are.side_is
+    ∙ ends_apart (has_target m) n (side_number side)
+    ∙ ap (with_ends (has_target m) (side_number side)) number
+    ∙ sym (code_told m s side scales digit (square_in s.next) (square_in s.last) are (in_square s.next) (in_square s.last))
 
 pub total_at : Facts → (c index : ℕ) (s : Stand) → c < 36 → ¬ IsVoid c index → SpellsMen (material_of c) (index / ends_of (material_of c)) (list_of s) → IsTotal c s (index / ends_of (material_of c) * ends_of (material_of c))
 total_at facts c index s c_in some men = record {
@@ -193,10 +203,7 @@ total_at facts c index s c_in some men = record {
   unequal = two.unequal;
   few = let below = index_below p c index found.2 in let size = few c c_in in let le = ends_less (has_target m) index in omega arith;
   sum = λ side scales are.
-      ap (λ k. index / ends_of m * ends_of m + k) are.side_is
-      ∙ ends_apart (has_target m) (index / ends_of m) (side_number side)
-      ∙ ap (with_ends (has_target m) (side_number side)) is.number
-      ∙ sym (code_told m s side scales is.digit (square_in s.next) (square_in s.last) are (in_square s.next) (in_square s.last))
+      plain_sum m (index / ends_of m) is.digit s side scales is.number are
       ∙ ap (λ k. code_by scales is.digit s.black k (square_in s.last)) (sym stays.0)
       ∙ ap (λ k. code_by scales is.digit s.black (cond two.pair (min (square_in s.next) (square_in s.last)) (square_in s.next)) k) (sym stays.1);
 }

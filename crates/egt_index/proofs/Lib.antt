@@ -52,6 +52,7 @@ pub mod Summed
 pub mod KingHome
 pub mod HomeSquare
 pub mod OwnKing
+pub mod Gone
 pub mod Shelved
 pub mod Shifted
 pub mod LastMan

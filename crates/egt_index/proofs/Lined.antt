@@ -166,7 +166,7 @@ pub code_same : (scales : Scales) (h i b d n m l k : ℕ) → h ≡ i → b ≡ 
 code_same scales h i b d n m l k hi bd nm lk =
     ap (λ x. code_by scales x b n l) hi ∙ ap (λ x. code_by scales i x n l) bd ∙ ap (λ x. code_by scales i d x l) nm ∙ ap (λ x. code_by scales i d m x) lk
 
-entry_off : (from to : ℕ) (e : Entry) → IsOff (option_to_list e) from → moved_entry from to e ≡ e
+pub entry_off : (from to : ℕ) (e : Entry) → IsOff (option_to_list e) from → moved_entry from to e ≡ e
 entry_off from to None off = refl
 entry_off from to (Some e) off = ap (λ s. Some (e.0, s)) (stayed from to e.1 off.0)
 
@@ -174,7 +174,7 @@ on_there : (n : ℕ) (flips : Bool) (from to : ℕ) (e : Entry) → IsThere e fr
 on_there n flips from to None there = tt
 on_there n flips from to (Some e) there = ap (turned_square n flips) (went from to e.1 there)
 
-man_moved : (from to : ℕ) (e : Entry) → man_at (moved_entry from to e) ≡ man_at e
+pub man_moved : (from to : ℕ) (e : Entry) → man_at (moved_entry from to e) ≡ man_at e
 man_moved from to None = refl
 man_moved from to (Some e) = refl
 
@@ -188,11 +188,11 @@ equal_unmoved from to None y equal = equal
 equal_unmoved from to (Some e) None equal = equal
 equal_unmoved from to (Some e) (Some d) equal = equal
 
-off_both : (x y : Entry) (s : ℕ) → IsOff (option_to_list x ++ option_to_list y) s → IsOff (option_to_list x) s × IsOff (option_to_list y) s
+pub off_both : (x y : Entry) (s : ℕ) → IsOff (option_to_list x ++ option_to_list y) s → IsOff (option_to_list x) s × IsOff (option_to_list y) s
 off_both None y s off = (tt, off)
 off_both (Some e) y s off = ((off.0, tt), off.1)
 
-off_last : (x y : Entry) (s : ℕ) → AllApart (option_to_list x ++ option_to_list y) → IsThere x s → IsOff (option_to_list y) s
+pub off_last : (x y : Entry) (s : ℕ) → AllApart (option_to_list x ++ option_to_list y) → IsThere x s → IsOff (option_to_list y) s
 off_last None y s apart there = absurd there
 off_last (Some e) None s apart there = tt
 off_last (Some e) (Some d) s apart there = ((λ same. apart.0.0 (same ∙ sym there)), tt)

@@ -84,7 +84,7 @@ king_stands s e = absurd (let kinds = ap kind_number e in omega arith)
 no_less : (s : ℕ) → s - 0 ≡ s
 no_less s = omega arith
 
-number_told : (pawns : Bool) (high : ℕ) (s : Stand) → HasDigit s.next → HasDigit s.last → s.black < 64 → IfSome s.next (λ e. e.1 < 64) → IfSome s.last (λ e. e.1 < 64)
+pub number_told : (pawns : Bool) (high : ℕ) (s : Stand) → HasDigit s.next → HasDigit s.last → s.black < 64 → IfSome s.next (λ e. e.1 < 64) → IfSome s.last (λ e. e.1 < 64)
     → Tells pawns (number_on high s) (men_among (rest_of s)) high (rest_of s)
 number_told pawns high s next last black next_in last_in =
     all_told pawns (number_on high s) (high * 64 + s.black) (entry_number s.next (high * 64 + s.black)) high s.black (men_among (option_to_list s.next ++ option_to_list s.last))

@@ -16,10 +16,10 @@ use Rattle.egt_index.specs.AtIndex.{IsFramedAt}
 use Rattle.egt_index.specs.Code.{Spells, placed, square_of}
 use Rattle.egt_index.specs.Digits.{AreDigits, number_of}
 use Rattle.egt_index.specs.Facts.{Facts}
-use Rattle.egt_index.specs.Frame.{IsFrame, IsMoved}
+use Rattle.egt_index.specs.Frame.{IsFrame}
 use Rattle.egt_index.specs.Index.{IsIndex, IsVoid}
 use Rattle.egt_index.specs.Scales.{digits_at, ends_of, kind_digits, man_at}
-use Rattle.egt_index.specs.Shelf.{Adds, AreAlike, IsAlikeIndex, IsShift, last_of, shelf_len, without_ends}
+use Rattle.egt_index.specs.Shelf.{AreAlike, IsAlikeIndex, IsShift, last_of, shelf_len, without_ends}
 use Rattle.egt_index.specs.Size.{base_of, has_pawns, has_target, men_beside, size_of}
 use Rattle.egt_index.specs.Spelled.{Ends, SpellsMen}
 use Rattle.egt_index.specs.Stood.{Entry, HasStand, list_of}
@@ -95,12 +95,13 @@ ends_moved : (has : Bool) (a k : ℕ) → a % cond {A = ℕ} has 4 2 ≡ (a + k)
 ends_moved true a k same = omega arith
 ends_moved false a k same = omega arith
 
-pub index_moved : Facts → (c i from index k to total rest adds : ℕ) (shift : Shift) (p q : Setup) → IsShift c i from shift → AreAlike c i index → ¬ IsVoid c index
+-- what is found for one index, so much above it, is the sum of the index so much above
+pub sum_above : Facts → (c i from index k total rest adds : ℕ) (shift : Shift) → IsShift c i from shift → AreAlike c i index → ¬ IsVoid c index → AreAlike c i (index + k)
     → total ≡ index / cond shift.targets 4 2 * cond shift.targets 4 2
-    → (total + shift.side < 1073741824 → shift.taken ≤ total + shift.side → rest + shift.taken ≡ total + shift.side) → Adds shift.goer to adds
-    → IsAlikeIndex c i (index + k) p → IsMoved c p from to q → IsIndex c q (rest + adds + k)
-index_moved facts c i from index k to total rest adds shift p q is alike some total_is rest_is adds_is here moved =
-    is.leads (index + k) to adds (rest + adds + k) p q here moved adds_is (add_up rest shift.taken total shift.side (without_ends c index) (without_ends c (index + k)) adds k sum whole far)
+    → (total + shift.side < 1073741824 → shift.taken ≤ total + shift.side → rest + shift.taken ≡ total + shift.side)
+    → rest + adds + k + shift.taken ≡ without_ends c (index + k) + shift.side + adds
+sum_above facts c i from index k total rest adds shift is alike some above total_is rest_is =
+    add_up rest shift.taken total shift.side (without_ends c index) (without_ends c (index + k)) adds k sum whole far
   where
     found : (p : Setup) × Spells c index p × IsIndex c p index
     found = indexed_by facts c index is.class_in some
@@ -109,7 +110,7 @@ index_moved facts c i from index k to total rest adds shift p q is alike some to
     whole = total_is ∙ ap (λ b. index / cond b 4 2 * cond b 4 2) is.targets
 
     far : without_ends c (index + k) ≡ without_ends c index + k
-    far = ends_moved (has_target (material_of c)) index k (sym alike.ends ∙ here.alike.ends)
+    far = ends_moved (has_target (material_of c)) index k (sym alike.ends ∙ above.ends)
 
     add_up : (rest taken total side here there adds k : ℕ) → rest + taken ≡ total + side → total ≡ here → there ≡ here + k → rest + adds + k + taken ≡ there + side + adds
     add_up rest taken total side here there adds k sum whole far = omega arith

@@ -1,5 +1,5 @@
 -- How far a step of one man moves the indexes that differ by the last man's square.
-use Rattle.std.proofs.Common.{◌≡◌, ◌≢◌, ℕ, ◌+◌, ◌-◌, ◌*◌, ◌<◌, ◌≤◌, Bool, false, cond, min, max, Some, None, arith, refl, sym, ap, ◌∙◌, subst, inl, inr}
+use Rattle.std.proofs.Common.{◌≡◌, ◌≢◌, ℕ, ◌+◌, ◌-◌, ◌*◌, ◌/◌, ◌<◌, ◌≤◌, Bool, false, cond, min, max, Some, None, arith, refl, sym, ap, ◌∙◌, subst, inl, inr}
 use Rattle.egt_board.specs.Attack.{king_of}
 use Rattle.egt_board.specs.Man.{other_side}
 use Rattle.egt_board.specs.Setup.{Setup}
@@ -12,7 +12,7 @@ use Rattle.egt_index.specs.Facts.{Facts}
 use Rattle.egt_index.specs.Frame.{IsFirstAfter, IsMoved, IsOwnAfter}
 use Rattle.egt_index.specs.Home.{LeastWith}
 use Rattle.egt_index.specs.Index.{IsIndex}
-use Rattle.egt_index.specs.Scales.{AreEqual, AreScales, IsOn, ScalesFit, code_by, man_at, share}
+use Rattle.egt_index.specs.Scales.{AreEqual, AreScales, IsOn, ScalesFit, code_by, ends_of, man_at, share}
 use Rattle.egt_index.specs.Shelf.{IsAlikeIndex, IsShelved, IsShift, without_ends}
 use Rattle.egt_index.specs.Size.{has_pawns, has_target, king_base, men_in_order}
 use Rattle.egt_index.specs.Stood.{Entry, IsFilled, list_of, men_among}
@@ -29,7 +29,8 @@ use Rattle.egt_index.specs.declared.ways.Mover.TheVariants.{Black, Next, Last, N
 use Rattle.egt_index.proofs.Best.{index_found}
 use Rattle.egt_index.proofs.Framed.{least_own, own_seen}
 use Rattle.egt_index.proofs.KingHome.{least_at_home}
-use Rattle.egt_index.proofs.Lined.{king_gone}
+use Rattle.egt_index.proofs.Gone.{beside_gone, king_gone}
+use Rattle.egt_index.proofs.Lined.{king_gone as king_stands_after}
 use Rattle.egt_index.proofs.Moved.{settles_untargeted}
 use Rattle.egt_index.proofs.Picking.{same_digit}
 use Rattle.egt_index.proofs.Shelved.{IsOnShelf, is_on_shelf, on_shelf}
@@ -42,12 +43,18 @@ equal_men (Some x) None z same equal = absurd equal
 equal_men (Some x) (Some y) None same equal = absurd (cc)
 equal_men (Some x) (Some y) (Some z) same equal = equal ∙ (cc)
 
-goes_still : (stand : Stand) (from : ℕ) (last : Entry) (mover : Mover) → man_at last ≡ man_at stand.last → IsShelved stand from mover
-    → IsMover (record { white = stand.white; black = stand.black; next = stand.next; last = last }) from mover × IsSingle (record { white = stand.white; black = stand.black; next = stand.next; last = last }) mover
-goes_still stand from last Black man shelved = (shelved, tt)
-goes_still stand from last Next man shelved = ((shelved.0, shelved.1), (λ equal. shelved.2 (equal_men stand.next last stand.last man equal)))
-goes_still stand from last Last man shelved = absurd shelved
-goes_still stand from last Nobody man shelved = absurd shelved
+shelved_still : (stand : Stand) (from : ℕ) (last : Entry) (mover : Mover) → man_at last ≡ man_at stand.last → IsShelved stand from mover
+    → IsShelved (record { white = stand.white; black = stand.black; next = stand.next; last = last }) from mover
+shelved_still stand from last Black man shelved = shelved
+shelved_still stand from last Next man shelved = (shelved.0, shelved.1, (λ equal. shelved.2 (equal_men stand.next last stand.last man equal)))
+shelved_still stand from last Last man shelved = absurd shelved
+shelved_still stand from last Nobody man shelved = absurd shelved
+
+shelved_goes : (stand : Stand) (from : ℕ) (mover : Mover) → IsShelved stand from mover → IsMover stand from mover × IsSingle stand mover
+shelved_goes stand from Black shelved = (shelved, tt)
+shelved_goes stand from Next shelved = ((shelved.0, shelved.1), shelved.2)
+shelved_goes stand from Last shelved = absurd shelved
+shelved_goes stand from Nobody shelved = absurd shelved
 
 abbrev CountSo : Frame → Side → Scales → Type 0
 CountSo frame side scales = (s : Stand) → men_among (list_of s) ≡ men_in_order (material_of frame.class) → IsFilled s → AreScales (material_of frame.class) (man_at s.next) (man_at s.last) side scales
@@ -76,20 +83,26 @@ module _ (facts : Facts) (i : ℕ) (p : Setup) (frame : Frame) (passed : Bool) (
     share_is : (s : ℕ) → share scale s ≡ share (scale_by scales mover) s
     share_is s = ap (λ (k : Scale). share k s) scale_is
 
+    still : (j : ℕ) (q : Setup) (here : IsAlikeIndex frame.class i j q) → IsShelved (there j q here).stand from mover
+    still j q here = shelved_still frame.stand from (on j q here).last mover (on j q here).man shelved
+
+    goes : (j : ℕ) (q : Setup) (here : IsAlikeIndex frame.class i j q) → IsMover (there j q here).stand from mover × IsSingle (there j q here).stand mover
+    goes j q here = shelved_goes (there j q here).stand from mover (still j q here)
+
     within : (j : ℕ) (q : Setup) → IsAlikeIndex frame.class i j q → share scale from ≤ without_ends frame.class j + scales.side
     within j q here =
-        let goes = goes_still frame.stand from (on j q here).last mover (on j q here).man shelved in
+        let goes = goes j q here in
         subst (λ (n : ℕ). n ≤ without_ends frame.class j + scales.side) (sym (share_is from))
         (share_within frame.class from (there j q here).stand side (without_ends frame.class j) scales mover (on j q here).is.total goes.0 goes.1 (are_there j q here))
 
     least : frame.stand.white ≢ from → IsFirstAfter frame from → (j to rest : ℕ) (q r : Setup) → IsAlikeIndex frame.class i j q → IsMoved frame.class q from to r
         → rest + share (scale_by scales mover) from ≡ without_ends frame.class j + scales.side → LeastWith frame.class r false (Some (rest + share (scale_by scales mover) to))
     least white (inl alone) j to rest q r here moved sum =
-        let goes = goes_still frame.stand from (on j q here).last mover (on j q here).man shelved in
+        let goes = goes j q here in
         least_where_alone frame.class from (there j q here).stand side (without_ends frame.class j) scales mover (on j q here).is.total goes.0 goes.1 (are_there j q here)
         facts c_in q rest (seen j q here) white sum ((on j q here).is.alone alone) to r moved
     least white (inr (first, black)) j to rest q r here moved sum =
-        let goes = goes_still frame.stand from (on j q here).last mover (on j q here).man shelved in
+        let goes = goes j q here in
         least_where_first frame.class from (there j q here).stand side (without_ends frame.class j) scales mover (on j q here).is.total goes.0 goes.1 (are_there j q here)
         facts c_in q rest (seen j q here) white sum black ((on j q here).is.first first) to r moved
 
@@ -106,6 +119,11 @@ module _ (facts : Facts) (i : ℕ) (p : Setup) (frame : Frame) (passed : Bool) (
           let enough = subst (λ (n : ℕ). n ≤ without_ends frame.class j + scales.side) (share_is from) (within j q here) in
           subst (λ (n : ℕ). IsIndex frame.class r n) (sym (code_is code taken (without_ends frame.class j + scales.side) n (share (scale_by scales mover) from) (share (scale_by scales mover) to) enough sum (taken_is ∙ share_is from) (adds ∙ share_is to)))
           (indexed j q here to _ r moved (least white first j to rest q r here moved (left (without_ends frame.class j + scales.side) (share (scale_by scales mover) from) enough)));
+      comes = λ j to n code q r here to_in other no_pawn adds sum spells.
+          let goes = goes j q here in
+          beside_gone frame.class code from to q r (there j q here).stand frame.side side (on j q here).is.passed (on j q here).is.stand side_is scales (are_there j q here) to_in other no_pawn spells
+          (j / ends_of (material_of frame.class)) (on j q here).men mover (still j q here) goes.0 goes.1 white
+          (sums code taken (without_ends frame.class j + scales.side) n (share (scale_by scales mover) from) (share (scale_by scales mover) to) sum (taken_is ∙ share_is from) (adds ∙ share_is to));
     }
       where
         left : (all part : ℕ) → part ≤ all → all - part + part ≡ all
@@ -113,6 +131,9 @@ module _ (facts : Facts) (i : ℕ) (p : Setup) (frame : Frame) (passed : Bool) (
 
         code_is : (code taken all n part other : ℕ) → part ≤ all → code + taken ≡ all + n → taken ≡ part → n ≡ other → code ≡ all - part + other
         code_is code taken all n part other le sum taken_is n_is = omega arith
+
+        sums : (code taken all n part other : ℕ) → code + taken ≡ all + n → taken ≡ part → n ≡ other → code + part ≡ all + other
+        sums code taken all n part other sum taken_is n_is = omega arith
 
 -- of the white king
 module _ (facts : Facts) (i : ℕ) (p : Setup) (frame : Frame) (passed : Bool) (c_in : frame.class < 36) (at : IsFramedAt frame.class i p frame passed) (own : IsOwnAfter frame frame.stand.white)
@@ -124,6 +145,9 @@ module _ (facts : Facts) (i : ℕ) (p : Setup) (frame : Frame) (passed : Bool) (
 
     abbrev king_there : Frame
     king_there = on_shelf king_on.last (without_ends frame.class j) frame
+
+    king_are : AreScales (material_of frame.class) (man_at frame.stand.next) (man_at king_on.last) side scales
+    king_are = are king_there.stand king_on.is.stand.stood.are king_on.is.filled
 
     abbrev total : IsTotal frame.class king_there.stand (without_ends frame.class j)
     total = king_on.is.total
@@ -137,7 +161,7 @@ module _ (facts : Facts) (i : ℕ) (p : Setup) (frame : Frame) (passed : Bool) (
     -- his digit is part of the total
     sum_there : without_ends frame.class j + scales.side ≡ code_by scales digit frame.stand.black next last
     sum_there =
-        total.sum side scales (are king_there.stand king_on.is.stand.stood.are king_on.is.filled)
+        total.sum side scales king_are
         ∙ ap (λ d. code_by scales d frame.stand.black next last)
         (same_digit (has_pawns (material_of frame.class)) (king_of White) total.digit digit total.below (subst (λ b. digit < king_base b) pawns_is below)
         (total.king ∙ sym (subst (λ b. king_square b digit ≡ frame.stand.white) pawns_is is)))
@@ -148,7 +172,7 @@ module _ (facts : Facts) (i : ℕ) (p : Setup) (frame : Frame) (passed : Bool) (
     comes : (to : ℕ) (r : Setup) → IsMoved frame.class q frame.stand.white to r → ComesHome frame.class false homing to r
     unfolding homing
     comes to r moved =
-        let gone = king_gone frame.class to false q r king_there.stand side (own_seen facts q frame.stand.white king_there c_in king_on.is side side_is) moved in
+        let gone = king_stands_after frame.class to false q r king_there.stand side (own_seen facts q frame.stand.white king_there c_in king_on.is side side_is) moved in
         record {
           after = gone.after;
           side = side;
@@ -180,7 +204,20 @@ module _ (facts : Facts) (i : ℕ) (p : Setup) (frame : Frame) (passed : Bool) (
         (least_own facts q frame.stand.white (king_there j q here) c_in (king_on j q here).is own to r (Some code) moved
         (least_at_home facts frame.class to adds.digit code (homing j q here) adds.second r c_in (comes j q here to r moved) adds.below adds.is adds.home adds.greater
         (code_is code (without_ends frame.class j) n adds.digit (next j q here) (last j q here) sum adds.adds (sum_there j q here))));
+    comes = λ j to n code q r here to_in other no_pawn adds sum spells.
+        king_gone frame.class code frame.stand.white to q r (king_there j q here).stand frame.side side (king_on j q here).is.passed (king_on j q here).is.stand side_is scales (king_are j q here) to_in other no_pawn spells
+        (j / ends_of (material_of frame.class)) (king_on j q here).men refl digit adds.digit (below_class digit below) (square_class digit ∙ is) (below_class adds.digit adds.below) (square_class adds.digit ∙ adds.is)
+        (sums code (without_ends frame.class j) n adds.digit sum adds.adds);
   }
     where
+      below_class : (d : ℕ) → d < king_base pawns → d < king_base (has_pawns (material_of frame.class))
+      below_class d = subst (λ b. d < king_base b) pawns_is
+
+      square_class : (d : ℕ) → king_square (has_pawns (material_of frame.class)) d ≡ king_square pawns d
+      square_class d = ap (λ b. king_square b d) (sym pawns_is)
+
+      sums : (code whole n high : ℕ) → code + taken ≡ whole + scales.side + n → n ≡ high * scales.king → code + digit * scales.king ≡ whole + scales.side + high * scales.king
+      sums code whole n high sum adds = omega (arith, taken_is)
+
       code_is : (code whole n high x y : ℕ) → code + taken ≡ whole + scales.side + n → n ≡ high * scales.king → whole + scales.side ≡ code_by scales digit frame.stand.black x y → code ≡ code_by scales high frame.stand.black x y
       code_is code whole n high x y sum adds here = omega (arith, taken_is)

@@ -1,6 +1,10 @@
 -- Codes that differ by no more than the last man's square, and how far a step of another man moves all of them.
 use Rattle.std.specs.Prelude.{◌≡◌, ◌≢◌, ℕ, ◌+◌, ◌*◌, ◌/◌, ◌%◌, ◌<◌, ◌≤◌, List, [], ◌∷◌, Option, Some, None}
+use Rattle.std.specs.FinMap as map
+use Rattle.egt_board.specs.Man.{other_side}
+use Rattle.egt_board.specs.Placement.{Stands, IsFree}
 use Rattle.egt_board.specs.Setup.{Setup}
+use Rattle.egt_board.specs.declared.man.Kind.TheVariants.{P}
 use Rattle.egt_board.specs.declared.man.Man.{Man}
 use Rattle.egt_class.specs.Material.{material_of}
 use Rattle.egt_index.specs.Code.{Spells}
@@ -57,8 +61,22 @@ abbrev pub by_digit : Entry → ℕ → Entry
 by_digit None number = None
 by_digit (Some e) number = Some (e.0, number % kind_digits e.0.kind + kind_less e.0.kind)
 
+-- the man on `from` in p stands on `to` in q, where none stood, and nothing else on the board differs; it is the other side's turn, without a
+-- target
+pub record HasGone (p : Setup) (from to : ℕ) (q : Setup) : Type 0 where
+  pub man : Man
+  pub stands : Stands p.men from man
+  pub free : IsFree p.men to
+  pub men : q.men ≡ map.insert (map.remove p.men from) to man
+  pub side : q.side ≡ other_side p.side
+  pub target : q.target ≡ None
+
+-- no pawn stands on the square
+abbrev pub HasNoPawnOn : Setup → ℕ → Type 0
+HasNoPawnOn p s = (man : Man) → Stands p.men s man → man.kind ≢ P
+
 -- wherever the man on `from` goes in a position whose index is alike to i, the index is then that one without its ends and without what is
--- taken, and what the side to move and the man on his square add
+-- taken, and what the side to move and the man on his square add; and any position that such a code spells is the one after he went
 pub record IsShift (c i from : ℕ) (shift : Shift) : Type 0 where
   pub class_in : c < 36
   pub targets : shift.targets ≡ has_target (material_of c)
@@ -66,6 +84,7 @@ pub record IsShift (c i from : ℕ) (shift : Shift) : Type 0 where
   pub fits : GoerFits shift.goer
   pub within : (j : ℕ) (p : Setup) → IsAlikeIndex c i j p → shift.taken ≤ without_ends c j + shift.side
   pub leads : (j to n code : ℕ) (p q : Setup) → IsAlikeIndex c i j p → IsMoved c p from to q → Adds shift.goer to n → code + shift.taken ≡ without_ends c j + shift.side + n → IsIndex c q code
+  pub comes : (j to n code : ℕ) (p q : Setup) → IsAlikeIndex c i j p → to < 64 → to ≢ from → HasNoPawnOn p from → Adds shift.goer to n → code + shift.taken ≡ without_ends c j + shift.side + n → Spells c code q → HasGone p from to q
 
 -- the man on the square, who is not the white king, stands there wherever the last man does, and is not one of two equal men
 abbrev pub IsShelved : Stand → ℕ → Mover → Type 0

@@ -7,7 +7,7 @@ ghost use Rattle.egt_index.specs.Code.{Spells};
 ghost use Rattle.egt_index.specs.Frame.{IsMoved, IsOwnAfter, IsFirstAfter};
 ghost use Rattle.egt_index.specs.Index.{IsIndex, IsVoid};
 ghost use Rattle.egt_index.specs.Scales.{ScalesFit, ends_of};
-ghost use Rattle.egt_index.specs.Shelf.{Adds, AreAlike, GoerFits, IsShelved, IsShift, shelf_len};
+ghost use Rattle.egt_index.specs.Shelf.{Adds, AreAlike, GoerFits, HasGone, HasNoPawnOn, IsShelved, IsShift, shelf_len};
 ghost use Rattle.egt_index.specs.Size.{size_of};
 ghost use Rattle.egt_index.specs.Ways.{IsPaired, scale_by};
 ghost use Rattle.egt_index.specs.declared.ways.Mover.{Mover};
@@ -88,14 +88,18 @@ pub struct Shift {
 
 impl Shift {
     /// The index after the man went to `to` in the position of this index. As much above it comes each index of the shelf with the same last
-    /// digits. `None` only of the white king, where he leaves home or turns have to be compared.
+    /// digits. A position that such a number spells is the one after he went, if he is no pawn and `to` another square than his. `None` only of
+    /// the white king, where he leaves home or turns have to be compared.
     #[inline(always)]
     pub fn index_to(&self, index: u32, to: Square) -> Option<u32>
         requires { (c i from : ℕ) × IsShift c i from self.now × AreAlike c i index × ¬ IsVoid c index }
-        ensures { (c i from : ℕ) → IsShift c i from self.now → AreAlike c i index → ¬ IsVoid c index → IfSome result (λ n. (k : ℕ) (p q : Setup) →
+        ensures leads { (c i from : ℕ) → IsShift c i from self.now → AreAlike c i index → ¬ IsVoid c index → IfSome result (λ n. (k : ℕ) (p q : Setup) →
             AreAlike c i (index + k) → Spells c (index + k) p → IsIndex c p (index + k) → IsMoved c p from to q → IsIndex c q (n + k)) }
+        ensures back { (c i from : ℕ) → IsShift c i from self.now → AreAlike c i index → ¬ IsVoid c index → to ≢ from → IfSome result (λ n. (k : ℕ) (p q : Setup) →
+            AreAlike c i (index + k) → Spells c (index + k) p → IsIndex c p (index + k) → HasNoPawnOn p from → Spells c (n + k) q → HasGone p from to q) }
     {
         facts();
+        let _number = to.number();
         let adds = self.goer.adds(to)?;
         let total = without_ends(self.targets, index);
         Some(total_without(total, self.side, self.taken) + adds)
