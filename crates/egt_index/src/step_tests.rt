@@ -14,7 +14,7 @@ use crate::{
     shelf_end, size,
 };
 use arrayvec::ArrayVec;
-use egt_board::{Man, Position, Side, Square};
+use egt_board::{Kind, Man, Position, Side, Square};
 use egt_class::{Class, of};
 use std::cmp::Ordering;
 use std::test::Fail;
@@ -168,6 +168,85 @@ fn count_of_alike(
     Ok(count)
 }
 
+/// Whether the positions have the same men, side to move and target.
+fn are_same(one: &Position, other: &Position) -> bool {
+    for number in 0..64 {
+        let square = Square::at(number);
+        if one.at(square) != other.at(square) {
+            return false;
+        }
+    }
+    one.side() == other.side() && one.target() == other.target()
+}
+
+/// Whether the one position is that after the man on `from` in the other went to `to`.
+fn has_gone(before: &Position, from: Square, to: Square, reached: &Position) -> bool {
+    match moved(before, from, to) {
+        Some(after) => are_same(&after, reached),
+        None => false,
+    }
+}
+
+/// Whether a pawn stands on the square.
+fn has_pawn_on(position: &Position, square: Square) -> bool {
+    match position.at(square) {
+        Some(man) => man.kind == Kind::P,
+        None => false,
+    }
+}
+
+/// To how many squares the shift finds an index for the man of the position, whose index is so far above the first; the position of each such
+/// index is that after he went.
+fn count_of_found(
+    class: Class,
+    shift: &Shift,
+    first: u32,
+    above: u32,
+    before: &Position,
+    from: Square,
+) -> Result<u32, Fail>
+    requires { (c i from : ℕ) × IsShift c i from shift.now × AreAlike c i first × ¬ IsVoid c first }
+{
+    let mut count: u32 = 0;
+    for number in 0..64 {
+        let to = Square::at(number);
+        if to == from {
+            continue;
+        }
+        if let Some(found) = shift.index_to(first, to) {
+            let code = found.checked_add(above).ok_or("too many")?;
+            if let Some(reached) = position(class, code) {
+                if !has_gone(before, from, to, &reached) {
+                    return Err(Fail::from("another position"));
+                }
+                count = count.checked_add(1).ok_or("too many")?;
+            }
+        }
+    }
+    Ok(count)
+}
+
+/// How many steps of the man lead from the position, as counted by the squares to which he may go, and by the indexes that the shift finds if he is
+/// no pawn.
+fn count_both_ways(
+    class: Class,
+    shift: &Shift,
+    first: u32,
+    above: u32,
+    position: &Position,
+    from: Square,
+) -> Result<u32, Fail>
+    requires { (c i from : ℕ) × IsShift c i from shift.now × AreAlike c i first × ¬ IsVoid c first }
+{
+    let count = count_of_alike(shift, first, above, position, from)?;
+    if !has_pawn_on(position, from) {
+        if count != count_of_found(class, shift, first, above, position, from)? {
+            return Err(Fail::from("other indexes"));
+        }
+    }
+    Ok(count)
+}
+
 /// The same from the positions of the indexes up to 64 above the first that are alike to it.
 fn count_of_shelf(class: Class, shift: &Shift, first: u32, from: Square) -> Result<u32, Fail>
     requires { (c i from : ℕ) × IsShift c i from shift.now × AreAlike c i first × ¬ IsVoid c first }
@@ -183,7 +262,7 @@ fn count_of_shelf(class: Class, shift: &Shift, first: u32, from: Square) -> Resu
         let code = first.checked_add(above).ok_or("too many")?;
         if code < end {
             if let Some(alike) = position(class, code) {
-                let more = count_of_alike(shift, first, above, &alike, from)?;
+                let more = count_both_ways(class, shift, first, above, &alike, from)?;
                 count = count.checked_add(more).ok_or("too many")?;
             }
         }
