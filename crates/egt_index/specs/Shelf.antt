@@ -76,7 +76,8 @@ abbrev pub HasNoPawnOn : Setup → ℕ → Type 0
 HasNoPawnOn p s = (man : Man) → Stands p.men s man → man.kind ≢ P
 
 -- wherever the man on `from` goes in a position whose index is alike to i, the index is then that one without its ends and without what is
--- taken, and what the side to move and the man on his square add; and any position that such a code spells is the one after he went
+-- taken, and what the side to move and the man on his square add; and any position that such a code spells is the one after he went, if he is
+-- no pawn and the square another than his
 pub record IsShift (c i from : ℕ) (shift : Shift) : Type 0 where
   pub class_in : c < 36
   pub targets : shift.targets ≡ has_target (material_of c)
