@@ -1,14 +1,17 @@
 //! The best of a position's steps.
-ghost use Rattle.std.specs.Prelude.{◌≡◌, ◌↔◌, ℕ, ◌<◌, max, true, false, IsTrue, IfSome, IfNone};
+ghost use Rattle.std.specs.Prelude.{◌≡◌, ◌≢◌, ◌↔◌, ℕ, ◌<◌, max, Bool, true, false, Some, None, IsTrue, IsSome, IfSome, IfNone};
 ghost use Rattle.std.specs.Option.{option_map};
 ghost use Rattle.egt_board.specs.Beside.{StandsBeside};
 ghost use Rattle.egt_board.specs.Camps.{AreCamps};
 ghost use Rattle.egt_board.specs.Placement.{IsHeld, Stands};
 ghost use Rattle.egt_board.specs.SquareSet.{Has};
-ghost use Rattle.egt_board.specs.Setup.{Setup};
+ghost use Rattle.egt_board.specs.Setup.{Setup, IsAdmissible};
+ghost use Rattle.egt_class.specs.Membership.{IsOf};
 ghost use Rattle.egt_index.specs.Frame.{IsFrame};
+ghost use Rattle.egt_index.specs.Index.{IsIndex};
 ghost use Rattle.egt_index.specs.Steps.{AreSteps};
 ghost use Rattle.egt_index.specs.Size.{size_of};
+ghost use Rattle.egt_moves.specs.AllMen.{AreMenOf};
 ghost use Rattle.egt_moves.specs.Arena.{NoMove};
 ghost use Rattle.egt_moves.specs.Chess.{chess, Zeroes};
 ghost use Rattle.egt_moves.specs.Legal.{Leads, IsLegal, plain};
@@ -29,9 +32,9 @@ use crate::quiet::{QuietStep, is_pawn, quiet_targets};
 use crate::score_table::{scores_by, uniform_scores};
 use egt_board::{Camps, Kind, Man, Position, Side, Square, SquareSet};
 use egt_class::laws::moves_lead_into_the_class_or_a_child as quiet_moves_keep_the_class;
-use egt_class::of;
-use egt_index::{Frame, IndexAfter, Steps, index};
-use egt_moves::{Move, legal_targets_of, play_legal, promotions, zeroing};
+use egt_class::{Class, of};
+use egt_index::{Frame, IndexAfter, Steps, index, indexed_by_men};
+use egt_moves::{Men, Move, is_told_by_men, legal_targets_of, play_legal, promotions, zeroing};
 use egt_table::{Column, Table};
 
 /// A table's entries at an index.
@@ -45,7 +48,22 @@ pub(crate) fn entries_at(table: &Table, index: u32) -> ByColumn
     }
 }
 
-/// The entries of a position in the table of its class: this one, or one of the library.
+/// The entries at an index in the table of its class: this one, or one of the library.
+fn entries_in(table: &Table, library: &Library, class: Class, index: u32) -> ByColumn
+    requires there { IsSome (beside (table_at library.now) table.now class) }
+    requires below { index < size_of class }
+    ensures { (column : Column) (q : Setup) (flipped : Bool) → IsOf class flipped q → IsIndex class q index →
+        HasEntry (beside (table_at library.now) table.now) column q (number_at result column) }
+{
+    let _number = class.number();
+    if class == table.class() {
+        entries_at(table, index)
+    } else {
+        entries_at(library.get(class).unwrap(), index)
+    }
+}
+
+/// The entries of a position in the table of its class.
 fn entries_of(table: &Table, library: &Library, position: &Position) -> ByColumn
     requires { HasTable (beside (table_at library.now) table.now) position.now }
     ensures { (column : Column) →
@@ -54,12 +72,47 @@ fn entries_of(table: &Table, library: &Library, position: &Position) -> ByColumn
     facts();
     let (class, _) = of(position);
     let _number = class.number();
-    let index = index(class, position);
-    if class == table.class() {
-        entries_at(table, index)
-    } else {
-        entries_at(library.get(class).unwrap(), index)
+    entries_in(table, library, class, index(class, position))
+}
+
+/// The same of a position without a target, by its men alone.
+fn entries_by_men(table: &Table, library: &Library, men: &Men) -> ByColumn
+    requires { (q : Setup) × IsAdmissible q × AreMenOf q men.now × (q.target ≡ None) × HasTable (beside (table_at library.now) table.now) q }
+    ensures { (column : Column) (q : Setup) → IsAdmissible q → AreMenOf q men.now → q.target ≡ None →
+        HasEntry (beside (table_at library.now) table.now) column q (number_at result column) }
+{
+    facts();
+    let (class, index) = indexed_by_men(men.white, men.black, men.one, men.other, men.side);
+    let _number = class.number();
+    entries_in(table, library, class, index)
+}
+
+/// The entries of where a legal move leads. The position there is not made where the men tell it.
+fn entries_after(
+    table: &Table,
+    library: &Library,
+    position: &Position,
+    men: &Men,
+    told: bool,
+    chess_move: &Move,
+) -> ByColumn
+    requires legal { IsLegal position.now chess_move.now }
+    requires own { IsInClass table.now.class position.now }
+    requires children { HasChildren (table_at library.now) table.now.class }
+    requires men { AreMenOf position.now men.now }
+    requires told { told ≡ true → (q : Setup) → Leads position.now chess_move.now q → (position.now.target ≢ Some chess_move.now.to) × (q.target ≡ None) }
+    ensures { (column : Column) (q : Setup) → Leads position.now chess_move.now q →
+        HasEntry (beside (table_at library.now) table.now) column q (number_at result column) }
+{
+    facts();
+    let _side = position.side();
+    let _class = table.class();
+    if told {
+        let next = men.after(chess_move);
+        return entries_by_men(table, library, &next);
     }
+    let next = play_legal(position, *chess_move);
+    entries_of(table, library, &next)
 }
 
 /// The scores of a legal move to a position with these entries.
@@ -111,19 +164,19 @@ fn best_after(
     table: &Table,
     library: &Library,
     position: &Position,
+    men: &Men,
+    told: bool,
     chess_move: &Move,
     best: Option<ByColumn>,
 ) -> Option<ByColumn>
     requires legal { IsLegal position.now chess_move.now }
     requires own { IsInClass table.now.class position.now }
     requires children { HasChildren (table_at library.now) table.now.class }
+    requires men { AreMenOf position.now men.now }
+    requires told { told ≡ true → (q : Setup) → Leads position.now chess_move.now q → (position.now.target ≢ Some chess_move.now.to) × (q.target ≡ None) }
     ensures { AreRaised (shown_by library.now table.now) position.now (λ m. m ≡ chess_move.now) best result }
 {
-    facts();
-    let _side = position.side();
-    let _class = table.class();
-    let next = play_legal(position, *chess_move);
-    let entries = entries_of(table, library, &next);
+    let entries = entries_after(table, library, position, men, told, chess_move);
     let zeroes = zeroing(position, *chess_move);
     let scores = scores(table, library, position, chess_move, entries, zeroes);
     Some(raised(best, scores))
@@ -189,6 +242,7 @@ fn best_between(
     table: &Table,
     library: &Library,
     position: &Position,
+    men: &Men,
     from: Square,
     to: Square,
     best: Option<ByColumn>,
@@ -196,8 +250,10 @@ fn best_between(
     requires target { IsLegalTarget position.now from to }
     requires own { IsInClass table.now.class position.now }
     requires children { HasChildren (table_at library.now) table.now.class }
+    requires men { AreMenOf position.now men.now }
     ensures { AreRaised (shown_by library.now table.now) position.now (λ m. (m.from ≡ from) × (m.to ≡ to)) best result }
 {
+    let told = is_told_by_men(position, from, to);
     let mut best = best;
     for promo in promotions(position, from, to) {
         let chess_move = Move {
@@ -205,7 +261,7 @@ fn best_between(
             to,
             promo: *promo,
         };
-        best = best_after(table, library, position, &chess_move, best);
+        best = best_after(table, library, position, men, told, &chess_move, best);
     }
     best
 }
@@ -225,10 +281,11 @@ fn best_to_each(
     requires children { HasChildren (table_at library.now) table.now.class }
     ensures { AreRaised (shown_by library.now table.now) position.now (λ m. (m.from ≡ from) × Has targets m.to) best result }
 {
+    let men = Men::of(position);
     let mut best = best;
     let mut rest = targets;
     while let Some(to) = rest.pop_first() {
-        best = best_between(table, library, position, from, to, best);
+        best = best_between(table, library, position, &men, from, to, best);
     }
     best
 }

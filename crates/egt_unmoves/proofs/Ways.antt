@@ -4,6 +4,7 @@ use Rattle.std.proofs.Math.Nat.{add-mul}
 use Rattle.std.specs.FinMap as map
 use Rattle.std.proofs.lemmas.Bool.{false≢true}
 use Rattle.std.proofs.lemmas.Bool.Decides.{eqb_tells}
+use Rattle.std.proofs.lemmas.Nat.Bits.{bit_at-zero}
 use Rattle.egt_board.specs.declared.man.Side.{Side}
 use Rattle.egt_board.specs.declared.man.Side.TheVariants.{White, Black}
 use Rattle.egt_board.specs.declared.man.Kind.{Kind}
@@ -13,15 +14,17 @@ use Rattle.egt_board.specs.declared.step.Way.{Way}
 use Rattle.egt_board.specs.declared.step.Way.TheVariants.{Up, Down, Still}
 use Rattle.egt_board.specs.declared.step.Step.{Step}
 use Rattle.egt_board.specs.Attack.{king_of}
+use Rattle.egt_board.specs.Between.{IsBetween}
 use Rattle.egt_board.specs.Man.{other_side}
 use Rattle.egt_board.specs.Square.{file_of, rank_of}
 use Rattle.egt_board.specs.Coordinate.{Further}
 use Rattle.egt_board.specs.Step.{Away}
-use Rattle.egt_board.specs.Gait.{OneOf, Rides, Reaches, straight_steps, diagonal_steps, knight_steps, pawn_steps, steps_of, farthest}
+use Rattle.egt_board.specs.Gait.{OneOf, Rides, Reaches, Reaches-free, straight_steps, diagonal_steps, knight_steps, pawn_steps, steps_of, farthest}
 use Rattle.egt_board.specs.Pawn.{pawn_of, ahead, forward, home_rank, farthest_advance, Advances}
 use Rattle.egt_board.specs.Placement.{Placement, IsFree}
 use Rattle.egt_moves.specs.Legal.{passed, is_two_ranks}
 use Rattle.egt_moves.specs.Promotion.{is_pawn}
+use Rattle.egt_board.proofs.Hiding.{Open, free_between, clear_reach}
 use Rattle.egt_unmoves.specs.Unmoves.{facing}
 use Rattle.egt_unmoves.proofs.Came.{unput_free}
 use Rattle.egt_unmoves.proofs.Sides.{side_twice}
@@ -202,3 +205,7 @@ ahead_passed F man s t u pawn a e = by_count man.side a.rides.count a.rides.move
     by_count Black (suc (suc zero)) some few away = let x = away.across in let y = away.along in let z = found.1 in omega arith
     by_count side zero some few away = absurd (omega arith)
     by_count side (suc (suc (suc n))) some few away = absurd (omega arith)
+
+-- a man that attacks a square past some squares does so past all that are free between
+pub past_free : (F G : ℕ → Type 0) (man : Man) (s t : ℕ) → ((u : ℕ) → IsBetween s t u → F u → G u) → Reaches F man s t → Reaches G man s t
+past_free F G man s t free r = clear_reach G man s t (Reaches-free F (Open 0) man s t (λ u u_in _. bit_at-zero u) r) (λ u between. free u between (free_between F man s t u r between))

@@ -1,7 +1,8 @@
 //! Where a man may have come from.
-ghost use Rattle.std.specs.Prelude.{◌≡◌, ℕ, ◌<◌, ◌≤◌, ◌↔◌, Some, IsTrue};
+ghost use Rattle.std.specs.Prelude.{◌≡◌, ◌≢◌, ℕ, ◌<◌, ◌≤◌, ◌↔◌, Some, IsTrue};
 ghost use Rattle.std.specs.FinMap as map;
 ghost use Rattle.egt_board.specs.Attack.{IsInCheck};
+ghost use Rattle.egt_board.specs.Between.{IsBetween};
 ghost use Rattle.egt_board.specs.Camps.{AreCamps, IsOccupied};
 ghost use Rattle.egt_board.specs.Gait.{Reaches};
 ghost use Rattle.egt_board.specs.Man.{other_side};
@@ -35,11 +36,13 @@ fn facing(man: Man) -> Man
 }
 
 /// The squares from which the man, put there, attacks the square, where the other men stand on these squares. Where some stand elsewhere too, it
-/// attacks from these squares at most.
+/// attacks from these squares at most: from those with no man elsewhere between.
 #[inline(always)]
 fn attackers(man: Man, square: Square, occupied: SquareSet) -> SquareSet
     ensures found { (men : Placement) → AreTaken men occupied → (s : ℕ) → s < 64 → Reaches (IsFree (map.insert men s man)) man s square → Has result s }
     ensures only { (men : Placement) → IsOccupied men occupied → (s : ℕ) → s < 64 → Has result s → Reaches (IsFree (map.insert men s man)) man s square }
+    ensures past { (men : Placement) (s : ℕ) → s < 64 → Has result s → ((t : ℕ) → IsBetween s square t → ¬ Has occupied t → IsFree men t)
+        → Reaches (IsFree (map.insert men s man)) man s square }
     ensures few { size_of result ≤ most_goals man.kind }
 {
     reach_passes_over_its_end();
@@ -47,12 +50,13 @@ fn attackers(man: Man, square: Square, occupied: SquareSet) -> SquareSet
 }
 
 /// The squares from which the piece or king may have come to `to`, past free squares, where all men stand on the squares of `held`. Where some
-/// stand elsewhere too, it came from these squares at most.
+/// stand elsewhere too, it came from these squares at most: from those that are free, with no man elsewhere between.
 #[inline(always)]
 fn piece_sources(man: Man, to: Square, held: SquareSet) -> SquareSet
     requires { man.kind ≡ P → ⊥ }
     ensures found { (men : Placement) → AreTaken men held → (s : ℕ) → s < 64 → HasWay men man to s → Has result s }
     ensures only { (men : Placement) → IsOccupied men held → (s : ℕ) → s < 64 → Has result s → HasWay men man to s }
+    ensures past { (men : Placement) (s : ℕ) → s < 64 → Has result s → IsFree men s → ((t : ℕ) → IsBetween s to t → ¬ Has held t → IsFree men t) → HasWay men man to s }
     ensures few { size_of result ≤ most_goals man.kind }
 {
     attackers(man, to, held.less(to)).without(held)
@@ -92,12 +96,13 @@ fn pawn_sources(man: Man, to: Square, held: SquareSet) -> SquareSet
 }
 
 /// The squares from which the man may have come to `to`, past free squares, where all men stand on the squares of `held`. Where some stand
-/// elsewhere too, it came from these squares at most.
+/// elsewhere too, it came from these squares at most: a piece or king from those that are free, with no man elsewhere between.
 #[inline(always)]
 pub(crate) fn ways_back(man: Man, to: Square, held: SquareSet) -> SquareSet
     requires { MayStand man to }
     ensures found { (men : Placement) → AreTaken men held → Stands men to man → (s : ℕ) → s < 64 → HasWay men man to s → Has result s }
     ensures only { (men : Placement) → IsOccupied men held → Stands men to man → (s : ℕ) → s < 64 → Has result s → HasWay men man to s }
+    ensures past { man.kind ≢ P → (men : Placement) (s : ℕ) → s < 64 → Has result s → IsFree men s → ((t : ℕ) → IsBetween s to t → ¬ Has held t → IsFree men t) → HasWay men man to s }
     ensures few { size_of result ≤ most_goals man.kind }
 {
     if is_pawn(man) {

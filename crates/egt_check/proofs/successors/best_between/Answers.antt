@@ -15,6 +15,9 @@ best_after-best-requires-clause-legal c =
     (c.promotions-promo-items.ensures.legal (slice_index_or items n None)).0
     (listed_there (shown_by c.args.library.now c.args.table.now) c.args.position.now c.args.from c.args.to items n (slice_index_or items n None) c.loop-promo-test.true refl)
 
+pub best_after-best-requires-clause-told : goal.best_after-best-requires-clause-told
+best_after-best-requires-clause-told c told q leads = c.is_told_by_men-told.ensures told _ q refl refl leads
+
 pub loop-promo-preserved : goal.loop-promo-preserved
 loop-promo-preserved c =
     let items = c.promotions-promo-items.result.now in

@@ -29,3 +29,9 @@ returns-clause-open c = λ q stands theirs held b m there comes.
 
 pub returns-clause-few : goal.returns-clause-few
 returns-clause-few c = let a = few_goals c.args.man.kind in let b = c.ways_back.ensures.few in omega (arith, a, b)
+
+pub returns-then-not-may_have_pawn-clause-ways : goal.returns-then-not-may_have_pawn-clause-ways
+returns-then-not-may_have_pawn-clause-ways c = λ q stands piece held s s_in has free between. absurd (piece (c.is_pawn.ensures.0 c.if-is_pawn.true))
+
+pub returns-clause-ways : goal.returns-clause-ways
+returns-clause-ways c = λ q stands piece held s s_in has free between. c.ways_back.ensures.past piece q.men s s_in has free between
