@@ -1,10 +1,11 @@
 -- What a run begins with.
-use Rattle.std.proofs.Common.{◌≡◌, ◌≢◌, ℕ, zero, suc, ◌+◌, ◌<◌, ◌≤◌, ◌^◌, Bool, true, false, cond, not, ◌&&◌, eqb, ltb, Option, Some, None, List, [], ◌∷◌, ◌++◌, length, slice_index, slice_index_or, get_or, set, take, IsFalse, IfSome, IfNone, refl, sym, ap, ap₂, ◌∙◌, inl, inr, subst, arith, count_by, replicate, if◌then◌else◌}
+use Rattle.std.proofs.Common.{◌≡◌, ◌≢◌, ℕ, zero, suc, ◌+◌, ◌*◌, ◌/◌, ◌%◌, ◌<◌, ◌≤◌, ◌^◌, Bool, true, false, cond, not, ◌&&◌, eqb, ltb, Option, Some, None, List, [], ◌∷◌, ◌++◌, length, slice_index, slice_index_or, get_or, set, take, IsFalse, IfSome, IfNone, refl, sym, ap, ap₂, ◌∙◌, inl, inr, subst, arith, count_by, replicate, if◌then◌else◌}
+use Rattle.std.specs.Int.{bit_at}
 use Rattle.std.specs.List.{list_any}
 use Rattle.std.proofs.lemmas.Bool.{cases_Bool, cases_eq, cases_lt, eq-eqb, ne_eqb, and_left, and_right, le-ltb, or_from, eqb-true}
 use Rattle.std.proofs.lemmas.List.{get_or_past, get_or-replicate, get_or-set_same, get_or-set_other, length-set, length-replicate}
 use Rattle.std.proofs.lemmas.List.Sums.{sum_by_more, sum_by_push}
-use Rattle.egt_graph.specs.Graph.{Graph}
+use Rattle.egt_graph.specs.Graph.{Graph, IsNode}
 use Rattle.egt_graph.specs.Value.{is_empty, is_lost_before, is_won_before, mated_within}
 use Rattle.egt_graph.specs.Begin.{Adds, IsFilled, IsBegun}
 use Rattle.egt_graph.specs.Counts.{IsCount, AreCounts}
@@ -13,10 +14,11 @@ use Rattle.egt_graph.specs.declared.game.Exit.{Exit}
 use Rattle.egt_graph.specs.declared.game.Exit.TheVariants.{Win, Loss, Draw}
 use Rattle.egt_graph.specs.Frontier.{is_node, blocks_of}
 use Rattle.egt_graph.specs.Run.{IsRun, IsSchedule}
+use Rattle.egt_graph.specs.Undecided.{is_up_to, AreMarksUpTo, HasKnown, HasMarks}
 use Rattle.egt_graph.specs.declared.answer.Phase.TheVariants.{Running}
 use Rattle.egt_graph.proofs.Lists.{count_by-cons}
 use Rattle.egt_graph.proofs.Holding.{decided_open, decided_shut}
-use Rattle.egt_graph.proofs.Nodes.{outs_at, outs_none, leaves_at, leaves_none, test_from_node}
+use Rattle.egt_graph.proofs.Nodes.{outs_at, outs_none, leaves_at, leaves_none, node_from_test, test_from_node}
 use Rattle.egt_graph.proofs.Uncounted.{told-at, told-length, told-put}
 use Rattle.egt_graph.proofs.Closing.{entry_none}
 use Rattle.egt_graph.proofs.Running.{none_done}
@@ -301,6 +303,12 @@ same_draw b n = elim (cases_Bool (eqb b 1)) [
   | inr f ↦ sym (decided_shut b n false false f)
 ]
 
+begun_entry : (g : Graph) (es ws ls : List ℕ) (fs : List Bool) (ld wd : List (List ℕ)) → IsBegun g g.size es ws ls fs ld wd → (i : ℕ) → slice_index es i ≡ entry_at g 0 i
+begun_entry g es ws ls fs ld wd h i = elim (cases_lt i g.size) [
+  | inl lt ↦ h.entry i lt
+  | inr le ↦ get_or_past es i 0 (let e = h.entries_long in omega arith) ∙ sym (entry_none g 0 i (outside g i le))
+]
+
 pub begun_amid : (g : Graph) (es ws ls : List ℕ) (fs : List Bool) (ld wd : List (List ℕ)) → IsBegun g g.size es ws ls fs ld wd
     → (done : ℕ → Bool) → ((j : ℕ) → done j ≡ false) → Amid g 0 done 0 0 es ws
 begun_amid g es ws ls fs ld wd h done none = record { entry = entry; waiting = waiting }
@@ -313,15 +321,9 @@ begun_amid g es ws ls fs ld wd h done none = record { entry = entry; waiting = w
           ∙ sym (begun_waits g done i ∙ ap₂ (λ (a : List ℕ) (b : List Exit). length a + length b) (outs_none g i (outside g i le)) (leaves_none g i (outside g i le)))
     ]
 
-    base : (i : ℕ) → slice_index es i ≡ entry_at g 0 i
-    base i = elim (cases_lt i g.size) [
-      | inl lt ↦ h.entry i lt
-      | inr le ↦ get_or_past es i 0 (let e = h.entries_long in omega arith) ∙ sym (entry_none g 0 i (outside g i le))
-    ]
-
     entry : (i : ℕ) → slice_index es i ≡ decided (entry_at g 0 i) (is_winning g 0 done 0 i) (has_moves g i && eqb (waits_at g 0 done 0 i) 0) (0 + 1)
     entry i =
-        base i ∙ same_draw (entry_at g 0 i) (0 + 1)
+        begun_entry g es ws ls fs ld wd h i ∙ same_draw (entry_at g 0 i) (0 + 1)
         ∙ ap₂ (λ w l. decided (entry_at g 0 i) w l (0 + 1)) (sym (begun_winning g done none i))
         (sym (ap (λ k. has_moves g i && eqb k 0) (begun_waits g done i) ∙ some_wait (outs g i) (leaves g i)))
 
@@ -359,3 +361,35 @@ begun_run g limit posted es ws ls fs ld wd h small short is = record {
   wins = begun_schedule g is_win_of wd h.won_exits;
   columns = (begun_amid g es ws ls fs ld wd h (done_of posted) (λ j. ap (λ p. done_of p j) is ∙ none_done g (blocks_of g.size) j), begun_await g es ws ls fs ld wd h);
 }
+
+-- ---- the bits of the nodes
+
+-- a mark is of a node
+marked_node : (g : Graph) (last bit i : ℕ) → bit ≡ cond (is_up_to last (entry_at g 0 i)) 1 0 → bit ≡ 1 → IsNode g i
+marked_node g last bit i exact one = elim (cases_Bool (is_node g i)) [
+  | inl t ↦ node_from_test g i t
+  | inr f ↦ absurd (let unset = exact ∙ ap (λ (e : ℕ). cond (is_up_to last e) 1 0) (entry_none g 0 i f) in omega (arith, unset, one))
+]
+
+-- each node has an entry, and it is small
+node_marked : (g : Graph) (bit i : ℕ) → bit ≡ cond (is_up_to 65535 (entry_at g 0 i)) 1 0 → IsNode g i → bit ≡ 1
+node_marked g bit i exact node =
+    exact ∙ ap (λ (e : ℕ). cond (is_up_to 65535 e) 1 0) (ap (λ b. cond b (cond (g.mated i) 3 1) 0) (test_from_node g i node))
+    ∙ elim (cases_Bool (g.mated i)) [ inl t ↦ rw t refl | inr f ↦ rw f refl ]
+
+module _ (g : Graph) (es ws ls : List ℕ) (fs : List Bool) (ld wd : List (List ℕ)) (h : IsBegun g g.size es ws ls fs ld wd) (bits : List ℕ) where
+  exact_at : (last : ℕ) → AreMarksUpTo last es bits → (i : ℕ) → bit_at (slice_index bits (i / 64)) (i % 64) ≡ cond (is_up_to last (entry_at g 0 i)) 1 0
+  exact_at last exact i = exact i ∙ ap (λ e. cond (is_up_to last e) 1 0) (begun_entry g es ws ls fs ld wd h i)
+
+  pub begun_known : length es ≤ 64 * length bits → AreMarksUpTo 65535 es bits → HasKnown g bits
+  begun_known room exact = record {
+    room = let long = h.entries_long in omega (arith, long, room);
+    known = λ i. (marked_node g 65535 _ i (exact_at 65535 exact i), node_marked g _ i (exact_at 65535 exact i));
+  }
+
+  pub begun_marks : length es ≤ 64 * length bits → AreMarksUpTo 1 es bits → HasMarks g Running es bits
+  begun_marks room exact = record {
+    room = let long = h.entries_long in omega (arith, long, room);
+    of_nodes = λ i. marked_node g 1 _ i (exact_at 1 exact i);
+    marked = λ i one. exact i ∙ ap (λ e. cond (is_up_to 1 e) 1 0) one;
+  }

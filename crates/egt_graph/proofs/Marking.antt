@@ -1,13 +1,13 @@
 -- Marks of nodes that are not decided.
 use Rattle.std.proofs.Common.{◌≡◌, ◌≢◌, ℕ, ◌+◌, ◌-◌, ◌*◌, ◌/◌, ◌%◌, ◌<◌, ◌≤◌, ◌^◌, Bool, true, false, eqb, ltb, ◌&&◌, List, length, get_or, set, sym, ap, subst, ◌∙◌, inl, inr, arith, bit_and, bit_or, w64, cond, ◌⊎◌, All, Contains}
-use Rattle.std.proofs.lemmas.Bool.{cases_Bool, cases_eq, cases_lt, lt-ltb, eqb-true, eq-eqb, ne_eqb, false≢true}
+use Rattle.std.proofs.lemmas.Bool.{cases_Bool, cases_eq, cases_lt, lt-ltb, eqb-true, eq-eqb, false≢true}
 use Rattle.std.proofs.lemmas.List.{get_or-set_same, get_or-set_other, get_or_default, get_or_past}
 use Rattle.std.proofs.lemmas.List.Elements.{All-contains, All-contains_itself, All-weaker}
-use Rattle.std.proofs.lemmas.Nat.Bits.{bit_at_clear_other, bit_at_set_same, bit_at_set_other, bit_at-zero}
+use Rattle.std.proofs.lemmas.Nat.Bits.{bit_at_and, bit_at-lt, bit_at_clear_other, bit_at_set_same, bit_at_set_other, bit_at-zero}
 use Rattle.std.specs.Int.{bit_at}
 use Rattle.egt_graph.specs.Graph.{Graph, IsNode, IsGame}
 use Rattle.egt_graph.specs.Columns.{count_of, into_all, decided, Marks, TakesBack}
-use Rattle.egt_graph.specs.Undecided.{IsMarked, AreMarked, AreExactMarks, AreMarkedInto, MarkedIn, HasMarks}
+use Rattle.egt_graph.specs.Undecided.{IsMarked, AreMarked, AreOfNodes, AreMarkedInto, MarkedIn, HasMarks}
 use Rattle.egt_graph.specs.declared.answer.Phase.{Phase}
 use Rattle.egt_graph.specs.declared.answer.Phase.TheVariants.{Running}
 use Rattle.egt_graph.proofs.Holding.{decided_open, decided_shut}
@@ -75,6 +75,22 @@ marks_all g nodes n es es' bits list each marked are marks i =
     (λ has. let into = are.within i has in in_all g nodes i into.0 each into.1 into.2)
     (λ has. let from = from_all g nodes i each has in are.whole i from.0 from.1 from.2 (marked i one)))
 
+-- no mark is made
+pub no_more_marks : (bits : List ℕ) (at i : ℕ) → at / 64 < length bits
+    → IsMarked (set bits (at / 64) (bit_and (get_or bits (at / 64) 0) (18446744073709551615 - 1 * 2 ^ (at % 64) % 18446744073709551616))) i → IsMarked bits i
+no_more_marks bits at i within marked =
+    let old = get_or bits (at / 64) 0 in
+    let gone = 18446744073709551615 - 1 * 2 ^ (at % 64) % 18446744073709551616 in
+    elim (cases_eq (i / 64) (at / 64)) [
+      | inl e ↦
+          let both = sym (bit_at_and old gone (i % 64))
+          ∙ ap (λ w. bit_at w (i % 64)) (sym (get_or-set_same bits (at / 64) (bit_and old gone) 0 within))
+          ∙ ap (λ q. bit_at (get_or (set bits (at / 64) (bit_and old gone)) q 0) (i % 64)) (sym e) ∙ marked in
+          let few = bit_at-lt old (i % 64) in
+          ap (λ q. bit_at (get_or bits q 0) (i % 64)) e ∙ (let one : bit_at old (i % 64) ≡ 1 = omega (arith, both, few) in one)
+      | inr ne ↦ ap (λ w. bit_at w (i % 64)) (sym (get_or-set_other bits (at / 64) (i / 64) (bit_and old gone) 0 ne)) ∙ marked
+    ]
+
 -- what is not decided after wins were marked was not decided before, and is none of the marked
 pub open_before : (es es' list : List ℕ) (n i : ℕ) → Marks es list n es' → get_or es' i 0 ≡ 1 → (get_or es i 0 ≡ 1) × (Contains list i → ⊥)
 open_before es es' list n i marks one = elim (cases_Bool (eqb (get_or es i 0) 1)) [
@@ -103,56 +119,51 @@ pub marked_due : (es middle ws xs ys es' ws' bits : List ℕ) (n : ℕ) → Mark
 marked_due es middle ws xs ys es' ws' bits n marks takes marked = still_marked middle ws ys es' ws' bits n takes (marked_after es middle xs bits n marks marked)
 
 -- while a run goes on
-pub marked_of : (size : ℕ) (phase : Phase) (es bits : List ℕ) → HasMarks size phase es bits → phase ≡ Running → AreMarked es bits
-marked_of size phase es bits has running = subst (λ (p : Phase). MarkedIn p es bits) running has.marked
+pub marked_of : (g : Graph) (phase : Phase) (es bits : List ℕ) → HasMarks g phase es bits → phase ≡ Running → AreMarked es bits
+marked_of g phase es bits has running = subst (λ (p : Phase). MarkedIn p es bits) running has.marked
 
-pub marked_while : (size : ℕ) (phase : Phase) (es bits : List ℕ) → phase ≡ Running → size ≤ 64 * length bits → AreMarked es bits → HasMarks size phase es bits
-marked_while size phase es bits running room marked = record { room = room; marked = subst (λ (p : Phase). MarkedIn p es bits) (sym running) marked }
+pub marked_while : (g : Graph) (phase : Phase) (es bits : List ℕ) → phase ≡ Running → g.size ≤ 64 * length bits → AreOfNodes g bits → AreMarked es bits → HasMarks g phase es bits
+marked_while g phase es bits running room of_nodes marked = record { room = room; of_nodes = of_nodes; marked = subst (λ (p : Phase). MarkedIn p es bits) (sym running) marked }
 
--- ---- the marks of the nodes that are not decided
+-- ---- the marks of nodes by their entries
 
-pub marks_begun : (size : ℕ) (es bits : List ℕ) → length es ≡ size → length es ≤ 64 * length bits → AreExactMarks es bits → HasMarks size Running es bits
-marks_begun size es bits long room exact = record {
-  room = omega (arith, long, room);
-  marked = λ i one. exact i ∙ ap (λ b. cond b 1 0) (eq-eqb (get_or es i 0) 1 one);
-}
-
--- the bits of the entries from `from` up to i, and no other
-pub record HasBits (es : List ℕ) (from i word : ℕ) : Type 0 where
-  pub seen : (k : ℕ) → from + k < i → bit_at word k ≡ cond (eqb (get_or es (from + k) 0) 1) 1 0
+-- the bits of the entries from `from` up to i that pass, and no other
+pub record HasBits (test : ℕ → Bool) (es : List ℕ) (from i word : ℕ) : Type 0 where
+  pub seen : (k : ℕ) → from + k < i → bit_at word k ≡ cond (test (get_or es (from + k) 0)) 1 0
   pub unseen : (k : ℕ) → i ≤ from + k → bit_at word k ≡ 0
 
-pub bits_none : (es : List ℕ) (from : ℕ) → HasBits es from from 0
-bits_none es from = record { seen = λ k lt. absurd (omega arith); unseen = λ k le. bit_at-zero k }
+module _ (test : ℕ → Bool) (es : List ℕ) (from : ℕ) where
+  pub bits_none : HasBits test es from from 0
+  bits_none = record { seen = λ k lt. absurd (omega arith); unseen = λ k le. bit_at-zero k }
 
-pub bits_set : (es : List ℕ) (from i word : ℕ) → from ≤ i → i < from + 64 → get_or es i 0 ≡ 1 → HasBits es from i word
-    → HasBits es from (i + 1) (bit_or word (1 * 2 ^ (i - from) % 18446744073709551616))
-bits_set es from i word low high one h = record {
-  seen = λ k lt. elim (cases_eq k (i - from)) [
-    | inl e ↦
-        let there : i ≡ from + k = omega arith in
-        ap (bit_at (bit_or word (1 * 2 ^ (i - from) % 18446744073709551616))) e ∙ bit_at_set_same w64 word (i - from) (omega arith)
-        ∙ ap (λ b. cond b 1 0) (sym (eq-eqb (get_or es (from + k) 0) 1 (ap (λ n. get_or es n 0) (sym there) ∙ one)))
-    | inr ne ↦ bit_at_set_other w64 word (i - from) (omega arith) k ne ∙ h.seen k (omega arith)
-  ];
-  unseen = λ k le. bit_at_set_other w64 word (i - from) (omega arith) k (λ e. absurd (omega arith)) ∙ h.unseen k (omega arith);
-}
+  pub bits_set : (i word : ℕ) → from ≤ i → i < from + 64 → test (get_or es i 0) ≡ true → HasBits test es from i word
+      → HasBits test es from (i + 1) (bit_or word (1 * 2 ^ (i - from) % 18446744073709551616))
+  bits_set i word low high passes h = record {
+    seen = λ k lt. elim (cases_eq k (i - from)) [
+      | inl e ↦
+          let there : i ≡ from + k = omega arith in
+          ap (bit_at (bit_or word (1 * 2 ^ (i - from) % 18446744073709551616))) e ∙ bit_at_set_same w64 word (i - from) (omega arith)
+          ∙ ap (λ b. cond b 1 0) (sym (ap (λ n. test (get_or es n 0)) (sym there) ∙ passes))
+      | inr ne ↦ bit_at_set_other w64 word (i - from) (omega arith) k ne ∙ h.seen k (omega arith)
+    ];
+    unseen = λ k le. bit_at_set_other w64 word (i - from) (omega arith) k (λ e. absurd (omega arith)) ∙ h.unseen k (omega arith);
+  }
 
-pub bits_kept : (es : List ℕ) (from i word : ℕ) → from ≤ i → get_or es i 0 ≢ 1 → HasBits es from i word → HasBits es from (i + 1) word
-bits_kept es from i word low other h = record {
-  seen = λ k lt. elim (cases_eq (from + k) i) [
-    | inl e ↦ h.unseen k (omega arith) ∙ ap (λ b. cond b 1 0) (sym (ne_eqb (get_or es (from + k) 0) 1 (λ q. other (ap (λ n. get_or es n 0) (sym e) ∙ q))))
-    | inr ne ↦ h.seen k (omega arith)
-  ];
-  unseen = λ k le. h.unseen k (omega arith);
-}
+  pub bits_kept : (i word : ℕ) → from ≤ i → test (get_or es i 0) ≡ false → HasBits test es from i word → HasBits test es from (i + 1) word
+  bits_kept i word low fails h = record {
+    seen = λ k lt. elim (cases_eq (from + k) i) [
+      | inl e ↦ h.unseen k (omega arith) ∙ ap (λ b. cond b 1 0) (sym (ap (λ n. test (get_or es n 0)) e ∙ fails))
+      | inr ne ↦ h.seen k (omega arith)
+    ];
+    unseen = λ k le. h.unseen k (omega arith);
+  }
 
--- past the last entry there is none that is not decided
-past_last : (es : List ℕ) (i bit : ℕ) → length es ≤ i → bit ≡ 0 → bit ≡ cond (eqb (get_or es i 0) 1) 1 0
-past_last es i bit le unset = unset ∙ ap (λ e. cond (eqb e 1) 1 0) (sym (get_or_past es i 0 le))
+  -- past the last entry none passes
+  past_last : test 0 ≡ false → (i bit : ℕ) → length es ≤ i → bit ≡ 0 → bit ≡ cond (test (get_or es i 0)) 1 0
+  past_last none i bit le unset = unset ∙ ap (λ b. cond b 1 0) (sym (ap test (get_or_past es i 0 le) ∙ none))
 
-pub bits_all : (es : List ℕ) (from i word k : ℕ) → (i ≡ from + 64) ⊎ (length es ≤ i) → k < 64 → HasBits es from i word → bit_at word k ≡ cond (eqb (get_or es (from + k) 0) 1) 1 0
-bits_all es from i word k end lt h = elim (cases_lt (from + k) i) [
-  | inl before ↦ h.seen k before
-  | inr after ↦ past_last es (from + k) (bit_at word k) (elim end [ inl e ↦ absurd (omega arith) | inr le ↦ omega arith ]) (h.unseen k after)
-]
+  pub bits_all : test 0 ≡ false → (i word k : ℕ) → (i ≡ from + 64) ⊎ (length es ≤ i) → k < 64 → HasBits test es from i word → bit_at word k ≡ cond (test (get_or es (from + k) 0)) 1 0
+  bits_all none i word k end lt h = elim (cases_lt (from + k) i) [
+    | inl before ↦ h.seen k before
+    | inr after ↦ past_last none (from + k) (bit_at word k) (elim end [ inl e ↦ absurd (omega arith) | inr le ↦ omega arith ]) (h.unseen k after)
+  ]

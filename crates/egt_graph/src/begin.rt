@@ -1,11 +1,11 @@
 //! What a run begins with.
-ghost use Rattle.std.specs.Prelude.{◌≡◌, ℕ, ◌+◌, ◌*◌, ◌<◌, ◌≤◌, ◌==◌, length, slice_index, count_by, [], ◌∷◌, OnOk, IfOk, IfSome, IfNone, if◌then◌else◌};
+ghost use Rattle.std.specs.Prelude.{◌≡◌, ℕ, ◌+◌, ◌*◌, ◌<◌, ◌≤◌, length, slice_index, count_by, [], ◌∷◌, OnOk, IfOk, IfSome, IfNone, if◌then◌else◌};
 ghost use Rattle.std.specs.Int.{bit_at};
 ghost use Rattle.std.specs.List.{list_any};
 ghost use Rattle.egt_graph.specs.Columns.{outs, leaves, told_at, entry_at, is_loss, is_win_from, is_win_of, is_loss_of};
 ghost use Rattle.egt_graph.specs.Begin.{Adds, AreBegun};
 ghost use Rattle.egt_graph.specs.Graph.{IsStart};
-ghost use Rattle.egt_graph.specs.Undecided.{AreExactMarks};
+ghost use Rattle.egt_graph.specs.Undecided.{AreMarksUpTo, is_up_to};
 
 use crate::columns::DRAW;
 use crate::counts::UNTOLD;
@@ -213,28 +213,36 @@ fn schedule_exit(
     }
 }
 
-/// The marks of the nodes that are not decided: bit `i % 64` of word `i / 64` is set where entry `i` is that of a draw, and no other bit.
-pub(crate) fn undecided(alloc: Global, entries: &[u16]) -> Result<Vec<u64>, AllocError>
+/// The marks of the nodes with an entry up to `last`: bit `i % 64` of word `i / 64` is set where `i` is one, and no other bit.
+pub(crate) fn marks_up_to(alloc: Global, entries: &[u16], last: u16) -> Result<Vec<u64>, AllocError>
     ensures room { IfOk result (λ marks. length entries.now ≤ 64 * length marks.items) }
-    ensures marks { IfOk result (λ marks. AreExactMarks entries.now marks.items) }
+    ensures marks { IfOk result (λ marks. AreMarksUpTo last entries.now marks.items) }
 {
     let mut marks = vec![in alloc; 0; entries.len().div_ceil(PART)]?;
     for part in 0..marks.len() {
-        marks[part] = undecided_in_part(entries, part * PART);
+        marks[part] = marks_in_part(entries, part * PART, last);
     }
     Ok(marks)
 }
 
 /// The marks of the entries from `from` on, of which there are 64, or fewer at the end.
-fn undecided_in_part(entries: &[u16], from: usize) -> u64
+fn marks_in_part(entries: &[u16], from: usize, last: u16) -> u64
     requires { from ≤ length entries.now }
-    ensures { (k : ℕ) → k < 64 → bit_at result k ≡ (if slice_index entries.now (from + k) == 1 then 1 else 0) }
+    ensures { (k : ℕ) → k < 64 → bit_at result k ≡ (if is_up_to last (slice_index entries.now (from + k)) then 1 else 0) }
 {
     let mut marks = 0;
     for i in from..entries.len().min(from + PART) {
-        if entries[i] == DRAW {
+        if is_entry_up_to(entries[i], last) {
             marks |= 1 << (i - from);
         }
     }
     marks
+}
+
+/// Is it the entry of a node, and at most `last`?
+#[inline(always)]
+fn is_entry_up_to(entry: u16, last: u16) -> bool
+    ensures { result ≡ is_up_to last entry }
+{
+    entry > 0 && entry <= last
 }

@@ -4,7 +4,7 @@ ghost use Rattle.std.specs.List.Sorted.{IsStrictlyIncreasing};
 ghost use Rattle.arrayvec.specs.ArrayVec.{array_vec_len};
 ghost use Rattle.egt_graph.specs.Graph.{Graph, IsNode, IsGame, IsStart};
 ghost use Rattle.egt_graph.specs.Columns.{into_all};
-ghost use Rattle.egt_graph.specs.Undecided.{AreMarkedInto};
+ghost use Rattle.egt_graph.specs.Undecided.{AreKnown, AreOfNodes, AreMarkedInto};
 
 use arrayvec::ArrayVec;
 
@@ -115,12 +115,16 @@ pub trait Game {
     }
 
     /// Fills the list, in the place of what it had, with what `into` answers of each of these nodes, one after the other.
-    fn list_all_into(&self, nodes: &[u32], list: &mut ArrayVec<u32, 8192>)
+    /// `known` has the bits of the nodes: bit `i % 64` of word `i / 64` is set exactly where `i` is one.
+    fn list_all_into(&self, nodes: &[u32], known: &[u64], list: &mut ArrayVec<u32, 8192>)
         requires nodes { All (IsNode (graph self.now)) nodes.now }
         requires ascending { IsStrictlyIncreasing nodes.now }
         requires few { length nodes.now ≤ 64 }
+        requires room { (graph self.now).size ≤ 64 * length known.now }
+        requires known { AreKnown (graph self.now) known.now }
         ensures { list.new.items ≡ into_all (graph self.now) nodes.now }
     {
+        let _words = known.len();
         let mut sources = ArrayVec::new();
         list.clear();
         for node in nodes {
@@ -130,17 +134,23 @@ pub trait Game {
     }
 
     /// Fills the list, in the place of what it had, with nodes from which a move leads to one of these, in any order and perhaps more
-    /// than once: with all that are marked, and perhaps with others. The mark of node `i` is bit `i % 64` of word `i / 64`. There is
-    /// room for all moves into as many nodes as are asked of at once.
+    /// than once: with all that are marked, and perhaps with others. The mark of node `i` is bit `i % 64` of word `i / 64`, and
+    /// nothing but nodes is marked. There is room for all moves into as many nodes as are asked of at once.
     fn list_marked_into(&self, nodes: &[u32], marks: &[u64], list: &mut ArrayVec<u32, 8192>)
         requires nodes { All (IsNode (graph self.now)) nodes.now }
         requires ascending { IsStrictlyIncreasing nodes.now }
         requires few { length nodes.now ≤ 64 }
         requires room { (graph self.now).size ≤ 64 * length marks.now }
+        requires known { AreOfNodes (graph self.now) marks.now }
         ensures { AreMarkedInto (graph self.now) nodes.now marks.now list.new.items }
     {
         let _words = marks.len();
-        self.list_all_into(nodes, list);
+        let mut all = ArrayVec::new();
+        list.clear();
+        for node in nodes {
+            self.list_into(*node, &mut all);
+            append(list, all.as_slice());
+        }
     }
 
     ghost lawful: { (game : Self) → IsGame (graph game) };

@@ -10,7 +10,8 @@ ghost use Rattle.egt_graph.specs.declared.answer.Phase.TheVariants.{Running, Fin
 
 use crate::answer::{Close, Phase, Post};
 use crate::batch::Batch;
-use crate::begin::{Columns, begin, undecided};
+use crate::begin::{Columns, begin, marks_up_to};
+use crate::columns::DRAW;
 use crate::game::Game;
 use crate::ranks::Ranks;
 use crate::scan::{BLOCK, PART, block_nodes, is_block_front};
@@ -35,7 +36,9 @@ pub struct Rounds<'g, G: Game> {
     news: Vec<bool>,
     /// The same of the next round.
     coming: Vec<bool>,
-    /// Bit `i % 64` of word `i / 64` is set where node `i` may be undecided.
+    /// Bit `i % 64` of word `i / 64` is set where `i` is a node.
+    known: Vec<u64>,
+    /// The same where node `i` may be undecided.
     marks: Vec<u64>,
     /// For each node the moves and exits that it waits for: at first all, which were not counted where it is `UNCOUNTED`, and one less
     /// for each that is found won.
@@ -52,7 +55,7 @@ impl<'g, G: Game> Model for Rounds<'g, G> {
     ghost use Rattle.egt_graph.specs.Columns.{told};
     ghost use Rattle.egt_graph.specs.News.{HasNews};
     ghost use Rattle.egt_graph.specs.Run.{Run, IsRun};
-    ghost use Rattle.egt_graph.specs.Undecided.{HasMarks};
+    ghost use Rattle.egt_graph.specs.Undecided.{HasKnown, HasMarks};
 
     ghost Value = { Run G };
 
@@ -65,7 +68,8 @@ impl<'g, G: Game> Model for Rounds<'g, G> {
         (record { limit = s.limit; round = s.round; phase = s.phase; posted = s.posted.items })
         s.entries.items (told (G.graph s.game.now) s.waits.items) s.later.items s.lost.items s.lost_due s.won_due
         × HasNews (G.graph s.game.now).size s.phase s.round s.entries.items s.news.items s.coming.items
-        × HasMarks (G.graph s.game.now).size s.phase s.entries.items s.marks.items };
+        × HasMarks (G.graph s.game.now) s.phase s.entries.items s.marks.items
+        × HasKnown (G.graph s.game.now) s.known.items };
 }
 
 impl<'g, G: Game> Rounds<'g, G> {
@@ -104,7 +108,8 @@ impl<'g, G: Game> Rounds<'g, G> {
         let parts = (game.size() as usize + (PART - 1)) / PART;
         let news = vec![in alloc; true; parts]?;
         let coming = vec![in alloc; false; parts]?;
-        let marks = undecided(alloc, &entries)?;
+        let known = marks_up_to(alloc, &entries, u16::MAX)?;
+        let marks = marks_up_to(alloc, &entries, DRAW)?;
         let rounds = Rounds {
             game,
             limit,
@@ -114,6 +119,7 @@ impl<'g, G: Game> Rounds<'g, G> {
             entries,
             news,
             coming,
+            known,
             marks,
             waits,
             later,
@@ -233,6 +239,7 @@ impl<'g, G: Game> Rounds<'g, G> {
             self.game,
             &mut self.entries,
             &mut self.waits,
+            &self.known,
             &mut self.marks,
             &mut self.coming,
             &mut self.posted,

@@ -6,7 +6,7 @@ ghost use Rattle.egt_graph.specs.Graph.{IsAlike, IsNode};
 ghost use Rattle.egt_graph.specs.Frontier.{front};
 ghost use Rattle.egt_graph.specs.Columns.{told, into_all, Amid, Marks, TakesBack, count_of, done_of, is_open_at};
 ghost use Rattle.egt_graph.specs.News.{Notes};
-ghost use Rattle.egt_graph.specs.Undecided.{AreMarked, IsMarked};
+ghost use Rattle.egt_graph.specs.Undecided.{AreKnown, AreMarked, AreOfNodes, IsMarked};
 
 use crate::batch::Batch;
 use crate::columns::{any_open, count_down, mark_wins, take_back};
@@ -54,6 +54,7 @@ pub(crate) fn take_in<G: Game>(
 fn unmark(marks: &mut [u64], nodes: &[u32])
     requires room { All (λ i. i < 64 * length marks.old) nodes.now }
     ensures others { (i : ℕ) → ¬ Contains nodes.now i → IsMarked marks.old i → IsMarked marks.new i }
+    ensures no_more { (i : ℕ) → IsMarked marks.new i → IsMarked marks.old i }
 {
     for node in nodes {
         let at = *node as usize;
@@ -78,9 +79,11 @@ fn mark_sources<G: Game>(
     requires entries_long { length entries.old ≡ (G.graph game.now).size }
     requires room { length entries.old ≤ 64 * length coming.old }
     requires marks_room { length entries.old ≤ 64 * length marks.old }
+    requires of_nodes { AreOfNodes (G.graph game.now) marks.old }
     requires marked { AreMarked entries.old marks.old }
     ensures marks { Marks entries.old (into_all (G.graph game.now) nodes.now) plies entries.new }
     ensures news { Notes plies entries.old coming.old → Notes plies entries.new coming.new }
+    ensures of_nodes { AreOfNodes (G.graph game.now) marks.new }
     ensures marked { AreMarked entries.new marks.new }
 {
     game.list_marked_into(nodes, marks, sources);
@@ -93,6 +96,7 @@ fn take_sources<G: Game>(
     game: &G,
     entries: &mut [u16],
     waits: &mut [u8],
+    known: &[u64],
     coming: &mut [bool],
     nodes: &[u32],
     plies: u16,
@@ -106,10 +110,12 @@ fn take_sources<G: Game>(
     requires matched { length waits.old ≡ length entries.old }
     requires waited { (i : ℕ) → count_of i (into_all (G.graph game.now) nodes.now) ≤ slice_index (told (G.graph game.now) waits.old) i }
     requires room { length entries.old ≤ 64 * length coming.old }
+    requires known_room { length entries.old ≤ 64 * length known.now }
+    requires known { AreKnown (G.graph game.now) known.now }
     ensures takes { TakesBack entries.old (told (G.graph game.now) waits.old) (into_all (G.graph game.now) nodes.now) plies entries.new (told (G.graph game.now) waits.new) }
     ensures news { Notes plies entries.old coming.old → Notes plies entries.new coming.new }
 {
-    game.list_all_into(nodes, sources);
+    game.list_all_into(nodes, known, sources);
     take_back(game, entries, waits, coming, sources.as_slice(), plies);
 }
 
@@ -142,6 +148,7 @@ pub(crate) fn take_block<G: Game>(
     game: &G,
     entries: &mut [u16],
     waits: &mut [u8],
+    known: &[u64],
     marks: &mut [u64],
     coming: &mut [bool],
     posted: &mut [bool],
@@ -159,11 +166,15 @@ pub(crate) fn take_block<G: Game>(
     requires waits_long { length waits.old ≡ (G.graph game.now).size }
     requires amid { Amid (G.graph game.now) round (done_of posted.old) round round entries.old (told (G.graph game.now) waits.old) }
     requires room { length entries.old ≤ 64 * length coming.old }
+    requires known_room { length entries.old ≤ 64 * length known.now }
+    requires known { AreKnown (G.graph game.now) known.now }
     requires marks_room { length entries.old ≤ 64 * length marks.old }
+    requires of_nodes { AreOfNodes (G.graph game.now) marks.old }
     requires marked { AreMarked entries.old marks.old }
     ensures ticked { posted.new ≡ slice_set posted.old block true }
     ensures amid { Amid (G.graph game.now) round (done_of posted.new) round round entries.new (told (G.graph game.now) waits.new) }
     ensures coming { Notes (round + 1) entries.old coming.old → Notes (round + 1) entries.new coming.new }
+    ensures of_nodes { AreOfNodes (G.graph game.now) marks.new }
     ensures marked { AreMarked entries.new marks.new }
 {
     let mut k = 0;
@@ -172,7 +183,7 @@ pub(crate) fn take_block<G: Game>(
         let end = run_end(entries, nodes, k);
         if entries[node as usize] == 2 + 2 * round {
             let won = &nodes[k..end];
-            take_sources(game, entries, waits, coming, won, round + 1, sources);
+            take_sources(game, entries, waits, known, coming, won, round + 1, sources);
         } else {
             let lost = &nodes[k..end];
             mark_sources(game, entries, marks, coming, lost, round + 1, sources);

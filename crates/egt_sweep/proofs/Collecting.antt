@@ -84,6 +84,19 @@ members_after second first = (
 pub members_then : {A B M N P : Type 0} → (A ↔ (B ⊎ P)) → (B ↔ M) → (N ↔ (M ⊎ P)) → A ↔ N
 members_then grown same next = (λ a. next.1 (⊎_map same.0 (λ p. p) (grown.0 a)), λ n. grown.1 (⊎_map same.1 (λ p. p) (next.0 n)))
 
+-- the same beside what was there before
+pub members_beside : {A B O M N P : Type 0} → (A ↔ (B ⊎ P)) → (B ↔ (O ⊎ M)) → (N ↔ (M ⊎ P)) → A ↔ (O ⊎ N)
+members_beside grown same next = (
+  λ a. elim (grown.0 a) [
+    | inl b ↦ elim (same.0 b) [ inl o ↦ inl o | inr m ↦ inr (next.1 (inl m)) ]
+    | inr p ↦ inr (next.1 (inr p))
+  ],
+  λ h. elim h [
+    | inl o ↦ grown.1 (inl (same.1 (inl o)))
+    | inr n ↦ elim (next.0 n) [ inl m ↦ grown.1 (inl (same.1 (inr m))) | inr p ↦ grown.1 (inr p) ]
+  ],
+)
+
 pub none_ascend : IsStrictlyIncreasing []
 none_ascend k lt = absurd (omega (arith, lt))
 

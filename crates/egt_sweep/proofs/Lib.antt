@@ -29,3 +29,5 @@ pub mod Marked
 pub mod Runs
 pub mod Shelved
 pub mod Following
+pub mod ToldMen
+pub mod InRuns

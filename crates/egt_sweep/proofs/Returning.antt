@@ -138,7 +138,7 @@ module _ (laws : Laws) (c : ℕ) (q : Setup) (man : Man) (to : ℕ) (stands : St
   pawn_back : (s : ℕ) → IsPawnOn (setup_before q man to s None).men s → man.kind ≡ P
   pawn_back s pawn = ap (λ (x : Man). x.kind) (one_man (setup_before q man to s None).men s man pawn.man (get-insert_same (map.remove q.men to) s man s refl) pawn.stands) ∙ pawn.pawn
 
-  back_by : (column : Column) (s : ℕ) → IsTakenBack column man → BackBy column (setup_before q man to s None) (plain s to)
+  pub back_by : (column : Column) (s : ℕ) → IsTakenBack column man → BackBy column (setup_before q man to s None) (plain s to)
   back_by Mate s is = tt
   back_by Zeroing s is = λ pawn. is (pawn_back s pawn)
 
@@ -193,7 +193,7 @@ in_part all under low high lower higher s = (
 )
 
 module _ (laws : Laws) (c : ℕ) (below : c < 36) (column : Column) (q : Setup) where
-  came_connects : (j k to : ℕ) → IsAt c j q → CameTo column c q to k → Connects column c k j
+  pub came_connects : (j k to : ℕ) → IsAt c j q → CameTo column c q to k → Connects column c k j
   came_connects j k to at came =
       let d = decided_pawn came.before.men came.move.from in
       leads_back laws c below column k j q (record { before = came.before; pawn = tells d }) at
@@ -222,31 +222,6 @@ module _ (laws : Laws) (c : ℕ) (below : c < 36) (column : Column) (q : Setup) 
   edge_there : (wanted : Wanted) (j k : ℕ) → IsAt c j q → (side : Side) (entry : Option (Man × ℕ)) → AtEntry side entry (Among wanted (CameTo column c q)) k → Connects column c k j × IsWanted wanted k
   edge_there wanted j k at side None at_none = absurd at_none
   edge_there wanted j k at side (Some e) o = (came_connects j k e.1 at o.1.0, o.1.1)
-
-  -- where the king came from nowhere that is wanted, the edges are those of the two men beside him
-  pub came_beside : (wanted : Wanted) (j : ℕ) → IsAt c j q → (king : ℕ) (side : Side) (one other : Option (Man × ℕ)) →
-      ((s : ℕ) (goes : ℕ → ℕ → Type 0) (k : ℕ) → IsHeld q.men s (other_side q.side) → s ≢ king → goes s k → AtEntry side one goes k ⊎ AtEntry side other goes k) →
-      ((k : ℕ) → ¬ Among wanted (CameTo column c q) king k) → (old new : List ℕ) → old ≡ [] →
-      ((k : ℕ) → Contains new k ↔ ((Contains old k ⊎ AtEntry side one (Among wanted (CameTo column c q)) k) ⊎ AtEntry side other (Among wanted (CameTo column c q)) k)) →
-      (k : ℕ) → Contains new k ↔ (Connects column c k j × IsWanted wanted k)
-  came_beside wanted j at king side one other held idle old new empty with_both k = (
-    λ has. elim ((with_both k).0 has) [
-      | inr o ↦ edge_there wanted j k at side other o
-      | inl earlier ↦ elim earlier [
-        | inr o ↦ edge_there wanted j k at side one o
-        | inl none ↦ absurd (let c = subst (λ (xs : List ℕ). Contains xs k) empty none in omega (arith, c.1))
-      ]
-    ],
-    λ edge. let came = connects_came j k at edge.0 in elim (cases_eq came.0 king) [
-      | inr apart ↦
-          let here = subst (λ s. IsHeld q.men s (other_side q.side)) came.1.here (came_held came.1.before q came.1.move came.1.comes) in
-          elim (held came.0 (Among wanted (CameTo column c q)) k here apart (came.1, edge.1)) [
-            | inl o ↦ (with_both k).1 (inl (inr o))
-            | inr o ↦ (with_both k).1 (inr o)
-          ]
-      | inl e ↦ absurd (idle k (subst (λ s. CameTo column c q s k) e came.1, edge.1))
-    ],
-  )
 
   -- the king came from squares of two sets, and the two men beside him from others: together the edges to the index
   pub came_edges : (wanted : Wanted) (j : ℕ) → IsAt c j q → (man : Man) (king : ℕ) (all low high : SquareSet) (side : Side) (one other : Option (Man × ℕ)) →
@@ -312,3 +287,12 @@ pub none_told : (o found : Option ℕ) → is_some found ≡ false → (o ≡ No
 none_told o found told (inl e) = e
 none_told o None told (inr e) = e
 none_told o (Some t) told (inr e) = absurd (false≢true (sym told))
+
+-- what is added of a man of that side
+pub of_man : (side : Side) (entry : Option (Man × ℕ)) (man : Man) (to : ℕ) (goes : ℕ → ℕ → Type 0) (k : ℕ) (old new : List ℕ) → entry ≡ Some (man, to) → man.side ≡ side
+    → Contains new k ↔ (Contains old k ⊎ goes to k) → Contains new k ↔ (Contains old k ⊎ AtEntry side entry goes k)
+of_man side entry man to goes k old new is own added =
+    subst (λ (o : Option (Man × ℕ)). Contains new k ↔ (Contains old k ⊎ AtEntry side o goes k)) (sym is) (
+      λ has. elim (added.0 has) [ inl listed ↦ inl listed | inr here ↦ inr (own, here) ],
+      λ h. added.1 (elim h [ inl listed ↦ inl listed | inr here ↦ inr here.1 ]),
+    )

@@ -11,6 +11,7 @@ pub mod Fault
 pub mod Ways
 pub mod Wanted
 pub mod Drawn
-pub mod Idle
 pub mod Together
 pub mod Shelves
+pub mod Told
+pub mod Runs

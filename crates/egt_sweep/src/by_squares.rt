@@ -11,7 +11,6 @@ ghost use Rattle.egt_board.specs.SquareSet.{Has, size_of};
 ghost use Rattle.egt_index.specs.Frame.{IsFrame, IsMoved};
 ghost use Rattle.egt_unmoves.specs.Around.{AreMenOf, CameFrom};
 ghost use Rattle.egt_unmoves.specs.Unmoves.{setup_before};
-ghost use Rattle.egt_sweep.specs.Idle.{AreIdle};
 ghost use Rattle.egt_sweep.specs.Wanted.{IsWanted, Among};
 ghost use Rattle.egt_sweep.specs.Edges.{AtEntry, AtSome, IsAt, Connects, CameTo, HadNoTarget, IsTakenBack, WasOn};
 ghost use Rattle.egt_sweep.specs.Nodes.{setup_at};
@@ -172,8 +171,8 @@ fn squares_before(_class: Class, _arrival: u32, men: &Men, man: Man, to: Square)
     squares_left(man, to, &around)
 }
 
-/// Adds the indexes from which the man on `to`, one of the side that waits, came, if its moves go on and he is not idle.
-fn add_sources_of(
+/// Adds the indexes from which the man on `to`, one of the side that waits, came, if its moves go on.
+pub(crate) fn add_sources_of(
     column: Column,
     class: Class,
     arrival: u32,
@@ -181,7 +180,6 @@ fn add_sources_of(
     men: &Men,
     man: Man,
     to: Square,
-    idle: SquareSet,
     wanted: &Wanted<'_>,
     list: &mut ArrayVec<u32, 128>,
 )
@@ -193,7 +191,6 @@ fn add_sources_of(
     requires before { HadNoTarget (setup_at class arrival) }
     requires stands { Stands (setup_at class arrival).men to man }
     requires theirs { man.side ≡ other_side (setup_at class arrival).side }
-    requires idle { AreIdle column class (setup_at class arrival) wanted.now idle }
     requires ascending { IsStrictlyIncreasing list.old.items }
     requires room { array_vec_len list.old + 28 ≤ 128 }
     ensures ascending { IsStrictlyIncreasing list.new.items }
@@ -201,9 +198,6 @@ fn add_sources_of(
     ensures few { array_vec_len list.new ≤ array_vec_len list.old + 28 }
 {
     laws();
-    if idle.contains(to) {
-        return;
-    }
     if !goes_back_by(column, man) {
         return;
     }
@@ -219,7 +213,7 @@ pub(crate) fn is_of(man: Man, side: Side) -> bool
 }
 
 /// The same of a man beside the kings, if there is one and he is of the side that waits.
-fn add_entry(
+pub(crate) fn add_entry(
     column: Column,
     class: Class,
     arrival: u32,
@@ -227,7 +221,6 @@ fn add_entry(
     men: &Men,
     entry: Option<(Man, Square)>,
     waiting: Side,
-    idle: SquareSet,
     wanted: &Wanted<'_>,
     list: &mut ArrayVec<u32, 128>,
 )
@@ -239,7 +232,6 @@ fn add_entry(
     requires before { HadNoTarget (setup_at class arrival) }
     requires entry { StandsBeside (setup_at class arrival).men entry }
     requires waiting { waiting ≡ other_side (setup_at class arrival).side }
-    requires idle { AreIdle column class (setup_at class arrival) wanted.now idle }
     requires ascending { IsStrictlyIncreasing list.old.items }
     requires room { array_vec_len list.old + 28 ≤ 128 }
     ensures ascending { IsStrictlyIncreasing list.new.items }
@@ -249,7 +241,7 @@ fn add_entry(
     if let Some(placed) = entry {
         if is_of(placed.0, waiting) {
             add_sources_of(
-                column, class, arrival, frame, men, placed.0, placed.1, idle, wanted, list,
+                column, class, arrival, frame, men, placed.0, placed.1, wanted, list,
             );
         }
     }
@@ -263,7 +255,6 @@ fn add_beside(
     frame: &Frame,
     men: &Men,
     waiting: Side,
-    idle: SquareSet,
     wanted: &Wanted<'_>,
     list: &mut ArrayVec<u32, 128>,
 )
@@ -274,7 +265,6 @@ fn add_beside(
     requires untargeted { (setup_at class arrival).target ≡ None }
     requires before { HadNoTarget (setup_at class arrival) }
     requires waiting { waiting ≡ other_side (setup_at class arrival).side }
-    requires idle { AreIdle column class (setup_at class arrival) wanted.now idle }
     requires ascending { IsStrictlyIncreasing list.old.items }
     requires room { array_vec_len list.old + 56 ≤ 128 }
     ensures ascending { IsStrictlyIncreasing list.new.items }
@@ -283,22 +273,21 @@ fn add_beside(
     ensures few { array_vec_len list.new ≤ array_vec_len list.old + 56 }
 {
     add_entry(
-        column, class, arrival, frame, men, men.one, waiting, idle, wanted, list,
+        column, class, arrival, frame, men, men.one, waiting, wanted, list,
     );
     add_entry(
-        column, class, arrival, frame, men, men.other, waiting, idle, wanted, list,
+        column, class, arrival, frame, men, men.other, waiting, wanted, list,
     );
 }
 
 /// Fills the list with the indexes from which moves that go on lead to the settled position, where neither it has a target nor had one
-/// before. Men on the squares of `idle` came from none that is wanted. The king's squares weigh most in an index, so those below his own
+/// before. The king's squares weigh most in an index, so those below his own
 /// come first and those above it last: then most indexes are the greatest so far, and few numbers are shifted.
 pub(crate) fn sources_by_squares(
     column: Column,
     class: Class,
     arrival: u32,
     frame: &Frame,
-    idle: SquareSet,
     wanted: &Wanted<'_>,
     list: &mut ArrayVec<u32, 128>,
 )
@@ -307,7 +296,6 @@ pub(crate) fn sources_by_squares(
     requires class { frame.now.class ≡ class }
     requires untargeted { (setup_at class arrival).target ≡ None }
     requires before { HadNoTarget (setup_at class arrival) }
-    requires idle { AreIdle column class (setup_at class arrival) wanted.now idle }
     requires empty { list.old.items ≡ [] }
     ensures ascending { IsStrictlyIncreasing list.new.items }
     ensures exact { (k : ℕ) → Contains list.new.items k ↔ (Connects column class k arrival × IsWanted wanted.now k) }
@@ -321,19 +309,11 @@ pub(crate) fn sources_by_squares(
     };
     let king = frame.king(side);
     let men = men_of(frame);
-    if idle.contains(king) {
-        add_beside(
-            column, class, arrival, frame, &men, side, idle, wanted, list,
-        );
-        return;
-    }
     let steps = frame.steps(king);
     let squares = squares_before(class, arrival, &men, man, king);
     let low = squares.common(below(king));
     let high = squares.without(low);
     add_left(class, arrival, &steps, man, king, low, wanted, list);
-    add_beside(
-        column, class, arrival, frame, &men, side, idle, wanted, list,
-    );
+    add_beside(column, class, arrival, frame, &men, side, wanted, list);
     add_left(class, arrival, &steps, man, king, high, wanted, list);
 }

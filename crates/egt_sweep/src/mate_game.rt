@@ -82,8 +82,8 @@ impl Game for MateGame<'_> {
         predecessors(Column::Mate, self.class, j, list);
     }
 
-    fn list_all_into(&self, nodes: &[u32], list: &mut ArrayVec<u32, 8192>) {
-        all_predecessors(Column::Mate, self.class, nodes, list);
+    fn list_all_into(&self, nodes: &[u32], known: &[u64], list: &mut ArrayVec<u32, 8192>) {
+        all_predecessors(Column::Mate, self.class, nodes, known, list);
     }
 
     fn list_marked_into(&self, nodes: &[u32], marks: &[u64], list: &mut ArrayVec<u32, 8192>) {

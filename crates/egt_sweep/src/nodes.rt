@@ -30,7 +30,6 @@ use crate::aim::Aim;
 use crate::anchor::has_anchor;
 use crate::edges::edges;
 use crate::facing::start_facing_king;
-use crate::in_turn::sources_in_turn;
 use crate::laws::laws;
 use crate::sources::sources;
 use crate::together::marked_sources;
@@ -107,36 +106,31 @@ pub(crate) fn predecessors(column: Column, class: Class, index: u32, list: &mut 
     let _number = class.number();
     list.clear();
     let (frame, passed) = frame_at(class, index);
-    sources(
-        column,
-        class,
-        index,
-        &frame,
-        passed,
-        SquareSet::EMPTY,
-        &Wanted::All,
-        list,
-    );
+    sources(column, class, index, &frame, passed, &Wanted::All, list);
 }
 
 /// Fills the list, in the place of what it had, with the nodes from which moves that go on lead to each of these nodes, one after the other.
+/// The bits of the nodes alone are set: of node `i` bit `i % 64` of word `i / 64`.
 pub(crate) fn all_predecessors(
     column: Column,
     class: Class,
     nodes: &[u32],
+    known: &[u64],
     list: &mut ArrayVec<u32, 8192>,
 )
     requires nodes { All (λ j. IsFalse (not (is_some (position_at class j)))) nodes.now }
     requires few { length nodes.now ≤ 64 }
+    requires marked { (i : ℕ) → IsMarked known.now i → IsFalse (not (is_some (position_at class i))) }
+    requires known { (i : ℕ) → i < size_of class → IsFalse (not (is_some (position_at class i))) → IsMarked known.now i }
     ensures { list.new.items ≡ flat_map (λ j. passing_below (size_of class) (λ i. connects column class i j)) nodes.now }
 {
     laws();
     let _number = class.number();
-    sources_in_turn(column, class, nodes, list);
+    marked_sources(column, class, nodes, known, list);
 }
 
 /// Fills the list, in the place of what it had, with the nodes whose bits are set and from which moves that go on lead to one of these nodes,
-/// perhaps more than once: of node `i` bit `i % 64` of word `i / 64`.
+/// perhaps more than once: of node `i` bit `i % 64` of word `i / 64`. Only nodes have theirs set.
 pub(crate) fn marked_predecessors(
     column: Column,
     class: Class,
@@ -146,6 +140,7 @@ pub(crate) fn marked_predecessors(
 )
     requires nodes { All (λ j. IsFalse (not (is_some (position_at class j)))) nodes.now }
     requires few { length nodes.now ≤ 64 }
+    requires marked { (i : ℕ) → IsMarked marks.now i → IsFalse (not (is_some (position_at class i))) }
     ensures { (i : ℕ) → Contains list.new.items i ↔ ((j : ℕ) × Contains nodes.now j × Contains (passing_below (size_of class) (λ k. connects column class k j)) i × IsMarked marks.now i) }
 {
     laws();

@@ -8,7 +8,6 @@ ghost use Rattle.egt_class.specs.Membership.{IsOf};
 ghost use Rattle.egt_board.specs.Settled.{IsSettled};
 ghost use Rattle.egt_index.specs.AtIndex.{IsFramedAt};
 ghost use Rattle.egt_index.specs.Frame.{IsFrame};
-ghost use Rattle.egt_sweep.specs.Idle.{AreIdle};
 ghost use Rattle.egt_sweep.specs.Wanted.{IsWanted};
 ghost use Rattle.egt_sweep.specs.Edges.{IsAt, GoesBack, ComesFrom, Connects, HadNoTarget};
 ghost use Rattle.egt_sweep.specs.Nodes.{setup_at};
@@ -18,7 +17,7 @@ use crate::by_squares::{men_of, sources_by_squares};
 use crate::laws::laws;
 use crate::wanted::Wanted;
 use arrayvec::ArrayVec;
-use egt_board::{Position, SquareSet};
+use egt_board::Position;
 use egt_class::Class;
 use egt_index::laws::a_class_without_targets_has_pawns_of_one_side;
 use egt_index::{Frame, has_target, index, position_of};
@@ -110,21 +109,19 @@ fn may_have_target(class: Class, index: u32, frame: &Frame, passed: bool) -> boo
 }
 
 /// Fills the list with the wanted indexes from which moves that go on lead to the position at the index, whose frame this is; `passed` tells
-/// whether it has a target. Men on the squares of `idle` came from none that is wanted.
+/// whether it has a target.
 pub(crate) fn sources(
     column: Column,
     class: Class,
     index: u32,
     frame: &Frame,
     passed: bool,
-    idle: SquareSet,
     wanted: &Wanted<'_>,
     list: &mut ArrayVec<u32, 128>,
 )
     requires at { IsAt class index (setup_at class index) }
     requires frame { IsFramedAt class index (setup_at class index) frame.now passed }
     requires class { frame.now.class ≡ class }
-    requires idle { AreIdle column class (setup_at class index) wanted.now idle }
     requires empty { list.old.items ≡ [] }
     ensures ascending { IsStrictlyIncreasing list.new.items }
     ensures exact { (k : ℕ) → Contains list.new.items k ↔ (Connects column class k index × IsWanted wanted.now k) }
@@ -135,6 +132,6 @@ pub(crate) fn sources(
         let position = position_of(class, index);
         sources_by_unmoves(column, class, &position, wanted, list);
     } else {
-        sources_by_squares(column, class, index, frame, idle, wanted, list);
+        sources_by_squares(column, class, index, frame, wanted, list);
     }
 }

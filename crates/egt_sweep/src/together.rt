@@ -1,190 +1,42 @@
 //! The moves that go on, backwards, of several nodes at once. Of nodes that differ by the last man's square alone each other man came from
-//! squares of one set, and from each such square from nodes as far from these as from the first: one look at 64 marks tells of all of them
-//! whether one is marked.
-ghost use Rattle.std.specs.Prelude.{◌≡◌, ◌↔◌, ◌+◌, ◌*◌, ◌≤◌, ◌<◌, ◌⊎◌, ℕ, Bool, true, false, All, Some, length, slice_index, IfSome, IsTrue};
+//! squares of one set, and from each such square from nodes as far from these as from the first: one look at 64 marks tells of all of them.
+ghost use Rattle.std.specs.Prelude.{◌≡◌, ◌↔◌, ◌+◌, ◌≤◌, ◌<◌, ◌⊎◌, ◌++◌, ℕ, Bool, true, false, All, Some, [], length, slice_index};
 ghost use Rattle.std.specs.Int.{bit_at};
-ghost use Rattle.std.specs.List.{Contains};
+ghost use Rattle.std.specs.List.{Contains, flat_map};
+ghost use Rattle.std.specs.List.Sorted.{IsStrictlyIncreasing};
 ghost use Rattle.arrayvec.specs.ArrayVec.{array_vec_len};
 ghost use Rattle.egt_board.specs.Man.{other_side};
 ghost use Rattle.egt_board.specs.Placement.{IsFree};
 ghost use Rattle.egt_board.specs.Setup.{Setup, IsKingOn};
 ghost use Rattle.egt_board.specs.SquareSet.{Has};
 ghost use Rattle.egt_board.specs.declared.man.Man.{Man};
-ghost use Rattle.egt_board.specs.declared.man.Side.{Side};
 ghost use Rattle.egt_class.specs.Material.{material_of};
 ghost use Rattle.egt_graph.specs.Undecided.{IsMarked};
 ghost use Rattle.egt_index.specs.AtIndex.{IsFramedAt};
-ghost use Rattle.egt_index.specs.Code.{Spells};
 ghost use Rattle.egt_index.specs.Fixed.{StandsFixed};
-ghost use Rattle.egt_index.specs.Frame.{IsMoved};
-ghost use Rattle.egt_index.specs.Index.{IsIndex, IsVoid};
-ghost use Rattle.egt_index.specs.Shelf.{AreAlike, IsShift};
+ghost use Rattle.egt_index.specs.Frame.{IsFrame};
 ghost use Rattle.egt_index.specs.Size.{has_target};
+ghost use Rattle.egt_unmoves.specs.Around.{AreMenOf};
 ghost use Rattle.egt_sweep.specs.Edges.{CameTo, Connects, IsAt, IsTakenBack};
-ghost use Rattle.egt_sweep.specs.Idle.{AreIdle};
 ghost use Rattle.egt_sweep.specs.Nodes.{setup_at};
 ghost use Rattle.egt_sweep.specs.Shelves.{AreNear, IsShelf};
-ghost use Rattle.egt_sweep.specs.Together.{AreAt, AreHeldThroughout, HitsTell, IsAlikeNode, IsMissed, IsMissedAt, IsNearTo, IsRunOf, NeverTargeted, NoneBeside, StandsThroughout, TellsOf};
-ghost use Rattle.egt_sweep.specs.declared.wanted.Wanted.TheVariants.{Marked};
+ghost use Rattle.egt_sweep.specs.Runs.{IsNearTo, IsRunOf};
+ghost use Rattle.egt_sweep.specs.Together.{AreHeldThroughout, IsAlikeNode, NeverTargeted};
+ghost use Rattle.egt_sweep.specs.Told.{AreNodesMarked, CameOf, CameTold, IsTold, IsToldAt, marked_into};
 
-use crate::by_squares::{goes_back_by, is_of};
+use crate::by_squares::{Men, goes_back_by, is_of, men_of};
 use crate::laws::laws;
 use crate::shelves::{Shelf, is_near};
 use crate::sources::sources;
-use crate::wanted::{Wanted, marks_from};
+use crate::told::Told;
+use crate::untold::{add_sources_of_king, add_untold};
+use crate::wanted::Wanted;
 use arrayvec::ArrayVec;
 use egt_board::{Kind, Man, Side, Square, SquareSet};
 use egt_class::Class;
 use egt_index::laws::a_class_without_targets_has_pawns_of_one_side;
-use egt_index::{Fixed, Frame, Shift, has_target};
+use egt_index::{Fixed, Frame, has_target};
 use egt_table::Column;
-use egt_unmoves::squares_open;
-
-/// To which of the 64 nodes from one on the man on a square may have come from a marked one.
-#[derive(Clone, Copy)]
-pub(crate) struct Hits {
-    pub(crate) to: Square,
-    pub(crate) bits: u64,
-}
-
-impl Hits {
-    /// Whether he may have come so to the node so far above the first.
-    #[inline(always)]
-    fn has(&self, distance: u32) -> bool
-        requires { distance < 64 }
-        ensures has { result ≡ true → bit_at self.now.bits distance ≡ 1 }
-        ensures misses { result ≡ false → IsMissed self.now distance }
-    {
-        (self.bits >> distance) & 1 == 1
-    }
-}
-
-/// What is told of nodes that differ by the last man's square alone.
-#[derive(Clone, Copy)]
-pub(crate) struct Run {
-    pub(crate) first: u32,
-    /// Where they end, less than 64 above the first.
-    pub(crate) until: u32,
-    /// The king of the side that waits.
-    pub(crate) king: Hits,
-    /// The man of that side beside it who stands on one square at all of them.
-    pub(crate) one: Option<Hits>,
-    /// Whether the last man may have moved too.
-    pub(crate) last: bool,
-}
-
-impl Run {
-    /// The squares of the men who came to the node from no marked one.
-    #[inline(always)]
-    fn missed(&self, distance: u32) -> SquareSet
-        requires { distance < 64 }
-        ensures { (s : ℕ) → Has result s → IsMissedAt self.now.king self.now.one distance s }
-    {
-        let mut squares = SquareSet::EMPTY;
-        if !self.king.has(distance) {
-            squares = squares.with(self.king.to);
-        }
-        if let Some(one) = self.one {
-            if !one.has(distance) {
-                squares = squares.with(one.to);
-            }
-        }
-        squares
-    }
-
-    /// Whether nobody came to the node from a marked one.
-    #[inline(always)]
-    fn misses(&self, distance: u32) -> bool
-        requires { distance < 64 }
-        ensures last { result ≡ true → self.now.last ≡ false }
-        ensures king { result ≡ true → IsMissed self.now.king distance }
-        ensures one { result ≡ true → IfSome self.now.one (λ one. IsMissed one distance) }
-    {
-        if self.last || self.king.has(distance) {
-            return false;
-        }
-        match self.one {
-            Some(one) => !one.has(distance),
-            None => true,
-        }
-    }
-}
-
-/// Of the 64 numbers from that on to which the man went from the first node to the square, those that are marked.
-#[inline(always)]
-fn marked_after(shift: &Shift, first: u32, from: Square, marks: &[u64]) -> u64
-    requires { (c i to : ℕ) × IsShift c i to shift.now × AreAlike c i first × ¬ IsVoid c first }
-    ensures { (c i to k n : ℕ) (p q : Setup) → IsShift c i to shift.now → AreAlike c i first → ¬ IsVoid c first → k < 64 → AreAlike c i (first + k) → Spells c (first + k) p → IsIndex c p (first + k) →
-        IsMoved c p to from q → IsIndex c q n → IsMarked marks.now n → bit_at result k ≡ 1 }
-{
-    laws();
-    match shift.index_to(first, from) {
-        Some(index) => marks_from(marks, index),
-        None => u64::MAX,
-    }
-}
-
-/// To which of the 64 nodes the man on `to` may have come from a marked one, where men stand on the squares of `held` at all of them. The contract
-/// alone reads the column.
-fn bits_of(
-    _column: Column,
-    class: Class,
-    first: u32,
-    frame: &Frame,
-    man: Man,
-    to: Square,
-    held: SquareSet,
-    marks: &[u64],
-) -> u64
-    requires at { IsAt class first (setup_at class first) }
-    requires frame { (passed : Bool) × IsFramedAt class first (setup_at class first) frame.now passed }
-    requires class { frame.now.class ≡ class }
-    requires stands { StandsThroughout class first man to }
-    requires held { AreHeldThroughout class first held }
-    requires targets { NeverTargeted class }
-    ensures { TellsOf _column class first marks.now to result }
-{
-    laws();
-    let _number = class.number();
-    let Some(shift) = frame.shift(to) else {
-        return u64::MAX;
-    };
-    let mut bits = 0;
-    let mut rest = squares_open(man, to, held);
-    while let Some(from) = rest.pop_first() {
-        bits |= marked_after(&shift, first, from, marks);
-    }
-    bits
-}
-
-/// The same of the man beside the kings who stands on one square at all of the nodes, if he is of that side and the game goes back by his moves.
-fn hits_of_one(
-    column: Column,
-    class: Class,
-    first: u32,
-    frame: &Frame,
-    fixed: &Fixed,
-    held: SquareSet,
-    marks: &[u64],
-) -> Option<Hits>
-    requires at { IsAt class first (setup_at class first) }
-    requires frame { (passed : Bool) × IsFramedAt class first (setup_at class first) frame.now passed }
-    requires class { frame.now.class ≡ class }
-    requires fixed { (j : ℕ) → IsAlikeNode class first j → StandsFixed (setup_at class j) fixed.now }
-    requires held { AreHeldThroughout class first held }
-    requires targets { NeverTargeted class }
-    ensures tells { IfSome result (HitsTell column class first marks.now) }
-    ensures his { (man : Man) (s : ℕ) → fixed.now.one ≡ Some (man, s) → man.side ≡ other_side fixed.now.side → IsTakenBack column man → AreAt result s }
-{
-    let placed = fixed.one?;
-    if !is_of(placed.0, fixed.side.other()) || !goes_back_by(column, placed.0) {
-        return None;
-    }
-    Some(Hits {
-        to: placed.1,
-        bits: bits_of(column, class, first, frame, placed.0, placed.1, held, marks),
-    })
-}
 
 /// Whether moves of the last of two men go on, if he is of that side.
 fn moves_last(column: Column, last: Option<Man>, side: Side) -> bool
@@ -217,61 +69,335 @@ fn king(fixed: &Fixed, side: Side) -> Square
     }
 }
 
-/// What is told of the shelf's node and those above it that differ by the last man's square alone.
-fn run_of(column: Column, class: Class, shelf: &Shelf, until: u32, marks: &[u64]) -> Run
-    requires at { IsAt class shelf.now.node (setup_at class shelf.now.node) }
-    requires shelf { IsShelf class shelf.now }
-    requires near { AreNear class shelf.now.node until }
-    requires few { until ≤ shelf.now.node + 64 }
-    requires targets { NeverTargeted class }
-    ensures run { IsRunOf column class marks.now result }
-    ensures first { result.first ≡ shelf.now.node }
-    ensures until { result.until ≡ until }
+/// Tells of the man beside the kings who stands on one square at all of the nodes, if he is of the side that waits and the game goes back by his
+/// moves. Whether nothing is left untold of him.
+fn tell_one(
+    column: Column,
+    class: Class,
+    first: u32,
+    frame: &Frame,
+    fixed: &Fixed,
+    held: SquareSet,
+    marks: &[u64],
+    told: &mut Told,
+) -> bool
+    requires at { IsAt class first (setup_at class first) }
+    requires frame { (passed : Bool) × IsFramedAt class first (setup_at class first) frame.now passed }
+    requires class { frame.now.class ≡ class }
+    requires fixed { (j : ℕ) → IsAlikeNode class first j → StandsFixed (setup_at class j) fixed.now }
+    requires held { AreHeldThroughout class first held }
+    requires never { NeverTargeted class }
+    requires targets { has_target (material_of class) ≡ false }
+    requires nodes { AreNodesMarked class marks.now }
+    ensures told { IsTold column class first marks.now told.new }
+    ensures his { result ≡ true → (man : Man) (s : ℕ) → fixed.now.one ≡ Some (man, s) → man.side ≡ other_side fixed.now.side → IsTakenBack column man → IsToldAt told.new s }
 {
-    laws();
-    let _number = class.number();
-    let first = shelf.node;
-    let frame = &shelf.frame;
-    let fixed = frame.fixed();
-    let side = fixed.side.other();
-    let man = Man {
-        side,
-        kind: Kind::K,
+    told.told = false;
+    let Some(placed) = fixed.one else {
+        return true;
     };
-    let to = king(&fixed, side);
-    let held = held(&fixed);
-    Run {
-        first,
-        until,
-        king: Hits {
-            to,
-            bits: bits_of(column, class, first, frame, man, to, held, marks),
-        },
-        one: hits_of_one(column, class, first, frame, &fixed, held, marks),
-        last: moves_last(column, fixed.last, side),
+    if !is_of(placed.0, fixed.side.other()) || !goes_back_by(column, placed.0) {
+        return true;
+    }
+    if placed.0.kind == Kind::P {
+        return false;
+    }
+    told.tell(column, class, first, frame, placed.0, placed.1, held, marks);
+    told.told
+}
+
+/// Whether men may have moved of whom nothing is told: `king` and `one` tell whether those two are, `last` whether the last may have moved.
+fn is_partial(king: bool, one: bool, last: bool) -> bool
+    ensures { result ≡ false → (king ≡ true) × (one ≡ true) × (last ≡ false) }
+{
+    !king || !one || last
+}
+
+/// What is told of nodes that differ by the last man's square alone.
+#[derive(Drop)]
+pub(crate) struct Run {
+    pub(crate) first: u32,
+    /// Where they end, at most 64 above the first; at the first where there are none.
+    pub(crate) until: u32,
+    /// The king of the side that waits.
+    pub(crate) king: Told,
+    /// The man of that side beside it who stands on one square at all of them.
+    pub(crate) one: Told,
+    /// Whether men may have moved of whom nothing is told.
+    pub(crate) partial: bool,
+}
+
+impl Run {
+    /// Nothing is told of any node.
+    pub(crate) fn nothing(_column: Column, _class: Class, _marks: &[u64]) -> Run
+        ensures { IsRunOf _column _class _marks.now result }
+    {
+        Run {
+            first: 0,
+            until: 0,
+            king: Told::nothing(),
+            one: Told::nothing(),
+            partial: true,
+        }
+    }
+
+    /// Whether nobody came to the node so far above the first from a marked one.
+    #[inline(always)]
+    fn misses(&self, distance: u32) -> bool
+        requires { distance < 64 }
+        ensures closed { result ≡ true → self.now.partial ≡ false }
+        ensures king { result ≡ true → self.now.king.told ≡ true → bit_at self.now.king.any distance ≡ 0 }
+        ensures one { result ≡ true → self.now.one.told ≡ true → bit_at self.now.one.any distance ≡ 0 }
+    {
+        !self.partial && self.king.misses(distance) && self.one.misses(distance)
+    }
+
+    /// Tells of the shelf's node and those above it up to `until` that differ by the last man's square alone.
+    fn tell(&mut self, column: Column, class: Class, shelf: &Shelf, until: u32, marks: &[u64])
+        requires at { IsAt class shelf.now.node (setup_at class shelf.now.node) }
+        requires shelf { IsShelf class shelf.now }
+        requires near { AreNear class shelf.now.node until }
+        requires few { until ≤ shelf.now.node + 64 }
+        requires never { NeverTargeted class }
+        requires targets { has_target (material_of class) ≡ false }
+        requires nodes { AreNodesMarked class marks.now }
+        ensures run { IsRunOf column class marks.now self.new }
+        ensures first { self.new.first ≡ shelf.now.node }
+        ensures until { self.new.until ≡ until }
+    {
+        laws();
+        let _number = class.number();
+        let first = shelf.node;
+        let frame = &shelf.frame;
+        let fixed = frame.fixed();
+        let side = fixed.side.other();
+        let man = Man {
+            side,
+            kind: Kind::K,
+        };
+        let held = held(&fixed);
+        let to = king(&fixed, side);
+        self.first = first;
+        self.until = until;
+        self.king
+            .tell(column, class, first, frame, man, to, held, marks);
+        let one = tell_one(
+            column,
+            class,
+            first,
+            frame,
+            &fixed,
+            held,
+            marks,
+            &mut self.one,
+        );
+        self.partial = is_partial(self.king.told, one, moves_last(column, fixed.last, side));
+    }
+
+    /// Adds the marked nodes from which the king of the side that waits, on that square, came to a node of the run, whose frame this is.
+    fn add_king(
+        &self,
+        column: Column,
+        class: Class,
+        node: u32,
+        frame: &Frame,
+        men: &Men,
+        king: Square,
+        marks: &[u64],
+        list: &mut ArrayVec<u32, 128>,
+    )
+        requires at { IsAt class node (setup_at class node) }
+        requires run { IsRunOf column class marks.now self.now }
+        requires near { IsNearTo class self.now node }
+        requires frame { IsFrame (setup_at class node) frame.now }
+        requires class { frame.now.class ≡ class }
+        requires men { AreMenOf (setup_at class node) men.now.king men.now.all men.now.one men.now.other }
+        requires king { IsKingOn (setup_at class node).men (other_side (setup_at class node).side) king }
+        requires never { NeverTargeted class }
+        requires nodes { AreNodesMarked class marks.now }
+        requires empty { list.old.items ≡ [] }
+        ensures ascending { IsStrictlyIncreasing list.new.items }
+        ensures members { (i : ℕ) → Contains list.new.items i ↔ (Contains list.old.items i ⊎ (CameTo column class (setup_at class node) king i × IsMarked marks.now i)) }
+        ensures few { array_vec_len list.new ≤ 28 }
+    {
+        if self.king.told {
+            let distance = node - self.first;
+            self.king
+                .add_before(column, class, self.first, distance, men.all, marks, list);
+        } else {
+            add_sources_of_king(column, class, node, frame, men, king, marks, list);
+        }
+    }
+
+    /// Adds the marked nodes from which the other man who is told of came, if there is one.
+    fn add_one(
+        &self,
+        column: Column,
+        class: Class,
+        node: u32,
+        men: &Men,
+        marks: &[u64],
+        list: &mut ArrayVec<u32, 128>,
+    )
+        requires at { IsAt class node (setup_at class node) }
+        requires run { IsRunOf column class marks.now self.now }
+        requires near { IsNearTo class self.now node }
+        requires men { AreMenOf (setup_at class node) men.now.king men.now.all men.now.one men.now.other }
+        requires nodes { AreNodesMarked class marks.now }
+        requires ascending { IsStrictlyIncreasing list.old.items }
+        requires room { array_vec_len list.old ≤ 28 }
+        ensures ascending { IsStrictlyIncreasing list.new.items }
+        ensures members { (i : ℕ) → Contains list.new.items i ↔ (Contains list.old.items i ⊎ CameTold column class (setup_at class node) marks.now self.now.one i) }
+        ensures few { array_vec_len list.new ≤ array_vec_len list.old + 28 }
+    {
+        if self.one.told {
+            let distance = node - self.first;
+            self.one
+                .add_before(column, class, self.first, distance, men.all, marks, list);
+        }
+    }
+
+    /// Adds the marked nodes from which the men beside the kings came of whom nothing is told: `told` is the square of the one who is told of.
+    fn add_rest(
+        &self,
+        column: Column,
+        class: Class,
+        node: u32,
+        frame: &Frame,
+        men: &Men,
+        told: SquareSet,
+        marks: &[u64],
+        list: &mut ArrayVec<u32, 128>,
+    )
+        requires at { IsAt class node (setup_at class node) }
+        requires frame { IsFrame (setup_at class node) frame.now }
+        requires class { frame.now.class ≡ class }
+        requires men { AreMenOf (setup_at class node) men.now.king men.now.all men.now.one men.now.other }
+        requires never { NeverTargeted class }
+        requires ascending { IsStrictlyIncreasing list.old.items }
+        requires room { array_vec_len list.old ≤ 56 }
+        ensures ascending { IsStrictlyIncreasing list.new.items }
+        ensures members { (i : ℕ) → Contains list.new.items i ↔ (Contains list.old.items i ⊎ CameOf column class (setup_at class node) told marks.now men.now.one men.now.other self.now.partial i) }
+        ensures few { array_vec_len list.new ≤ array_vec_len list.old + 56 }
+    {
+        if self.partial {
+            add_untold(column, class, node, frame, men, told, marks, list);
+        }
+    }
+
+    /// Adds the marked nodes from which moves that go on lead to a node of the run, whose frame this is.
+    fn add_before(
+        &self,
+        column: Column,
+        class: Class,
+        node: u32,
+        frame: &Frame,
+        marks: &[u64],
+        list: &mut ArrayVec<u32, 128>,
+    )
+        requires at { IsAt class node (setup_at class node) }
+        requires run { IsRunOf column class marks.now self.now }
+        requires near { IsNearTo class self.now node }
+        requires frame { IsFrame (setup_at class node) frame.now }
+        requires class { frame.now.class ≡ class }
+        requires never { NeverTargeted class }
+        requires nodes { AreNodesMarked class marks.now }
+        requires empty { list.old.items ≡ [] }
+        ensures ascending { IsStrictlyIncreasing list.new.items }
+        ensures exact { (i : ℕ) → Contains list.new.items i ↔ (Connects column class i node × IsMarked marks.now i) }
+    {
+        laws();
+        let _number = class.number();
+        let king = frame.king(frame.side().other());
+        let men = men_of(frame);
+        self.add_king(column, class, node, frame, &men, king, marks, list);
+        self.add_one(column, class, node, &men, marks, list);
+        self.add_rest(
+            column,
+            class,
+            node,
+            frame,
+            &men,
+            self.one.square(),
+            marks,
+            list,
+        );
+    }
+
+    /// Goes on to the node at place `k`, of which it tells then, or stays: whether it tells of it. It does not where the node is alone, or the class
+    /// has targets.
+    fn turn_to(
+        &mut self,
+        column: Column,
+        class: Class,
+        nodes: &[u32],
+        k: usize,
+        shelf: &mut Shelf,
+        marks: &[u64],
+    ) -> bool
+        requires in_list { k < length nodes.now }
+        requires at { IsAt class (slice_index nodes.now k) (setup_at class (slice_index nodes.now k)) }
+        requires run { IsRunOf column class marks.now self.old }
+        requires shelf { IsShelf class shelf.old }
+        requires nodes { AreNodesMarked class marks.now }
+        ensures shelf { IsShelf class shelf.new }
+        ensures run { IsRunOf column class marks.now self.new }
+        ensures near { result ≡ true → IsNearTo class self.new (slice_index nodes.now k) }
+        ensures never { result ≡ true → NeverTargeted class }
+    {
+        laws();
+        a_class_without_targets_has_pawns_of_one_side();
+        let _number = class.number();
+        if has_target(class) {
+            return false;
+        }
+        let node = nodes[k];
+        if is_near(class, self.first, self.until, node) {
+            return true;
+        }
+        shelf.turn_to(class, node);
+        let until = end_of_run(class, shelf);
+        if k + 1 < nodes.len() && is_near(class, node, until, nodes[k + 1]) {
+            self.tell(column, class, shelf, until, marks);
+            true
+        } else {
+            false
+        }
     }
 }
 
-/// Adds the marked nodes from which moves that go on lead to the node. Men on the squares of `idle` came from none. The shelf goes on to the
-/// node, and what the node has is found first in a list that is lent.
+/// Where the numbers end, at most 64 from the shelf's node on, of which those with the same last digits differ from it by the last man's
+/// square alone.
+fn end_of_run(class: Class, shelf: &Shelf) -> u32
+    requires at { IsAt class shelf.now.node (setup_at class shelf.now.node) }
+    requires shelf { IsShelf class shelf.now }
+    ensures near { AreNear class shelf.now.node result }
+    ensures few { result ≤ shelf.now.node + 64 }
+{
+    let _number = class.number();
+    shelf.until.min(shelf.node + 64)
+}
+
+/// Adds the marked nodes from which moves that go on lead to the node. The shelf goes on to the node, and what the node has is found first in
+/// a list that is lent.
 fn add_marked_sources(
     column: Column,
     class: Class,
     node: u32,
-    idle: SquareSet,
     shelf: &mut Shelf,
     marks: &[u64],
     found: &mut ArrayVec<u32, 128>,
     list: &mut ArrayVec<u32, 8192>,
 )
     requires at { IsAt class node (setup_at class node) }
-    requires idle { AreIdle column class (setup_at class node) (Marked marks) idle }
     requires shelf { IsShelf class shelf.old }
     requires room { array_vec_len list.old + 128 ≤ 8192 }
     ensures shelf { IsShelf class shelf.new }
-    ensures members { (i : ℕ) → Contains list.new.items i ↔ (Contains list.old.items i ⊎ (Connects column class i node × IsMarked marks.now i)) }
+    ensures added { list.new.items ≡ list.old.items ++ marked_into column class marks.now node }
     ensures few { array_vec_len list.new ≤ array_vec_len list.old + 128 }
 {
+    laws();
+    let _number = class.number();
     shelf.turn_to(class, node);
     found.clear();
     sources(
@@ -280,7 +406,6 @@ fn add_marked_sources(
         node,
         &shelf.frame,
         shelf.passed,
-        idle,
         &Wanted::Marked(marks),
         found,
     );
@@ -302,73 +427,27 @@ fn add_sources_in_run(
     requires run { IsRunOf column class marks.now run.now }
     requires near { IsNearTo class run.now node }
     requires shelf { IsShelf class shelf.old }
+    requires never { NeverTargeted class }
+    requires nodes { AreNodesMarked class marks.now }
     requires room { array_vec_len list.old + 128 ≤ 8192 }
     ensures shelf { IsShelf class shelf.new }
-    ensures members { (i : ℕ) → Contains list.new.items i ↔ (Contains list.old.items i ⊎ (Connects column class i node × IsMarked marks.now i)) }
+    ensures added { list.new.items ≡ list.old.items ++ marked_into column class marks.now node }
     ensures few { array_vec_len list.new ≤ array_vec_len list.old + 128 }
 {
     laws();
     let _number = class.number();
     let distance = node - run.first;
-    if !run.misses(distance) {
-        let idle = run.missed(distance);
-        add_marked_sources(column, class, node, idle, shelf, marks, found, list);
-    }
-}
-
-/// Where the numbers end, at most 64 from the shelf's node on, of which those with the same last digits differ from it by the last man's
-/// square alone.
-fn end_of_run(class: Class, shelf: &Shelf) -> u32
-    requires at { IsAt class shelf.now.node (setup_at class shelf.now.node) }
-    requires shelf { IsShelf class shelf.now }
-    ensures near { AreNear class shelf.now.node result }
-    ensures few { result ≤ shelf.now.node + 64 }
-{
-    let _number = class.number();
-    shelf.until.min(shelf.node + 64)
-}
-
-/// The run that tells of the node at place `k`: the last one or a new one, for which the shelf goes on to the node. `None` where the node is
-/// alone, or the class has targets.
-fn run_at(
-    column: Column,
-    class: Class,
-    nodes: &[u32],
-    k: usize,
-    last: Option<Run>,
-    shelf: &mut Shelf,
-    marks: &[u64],
-) -> Option<Run>
-    requires in_list { k < length nodes.now }
-    requires at { IsAt class (slice_index nodes.now k) (setup_at class (slice_index nodes.now k)) }
-    requires last { IfSome last (IsRunOf column class marks.now) }
-    requires shelf { IsShelf class shelf.old }
-    ensures shelf { IsShelf class shelf.new }
-    ensures run { IfSome result (IsRunOf column class marks.now) }
-    ensures near { IfSome result (λ run. IsNearTo class run (slice_index nodes.now k)) }
-{
-    laws();
-    a_class_without_targets_has_pawns_of_one_side();
-    let _number = class.number();
-    if has_target(class) {
-        return None;
-    }
-    let node = nodes[k];
-    if let Some(run) = last {
-        if is_near(class, run.first, run.until, node) {
-            return Some(run);
-        }
+    if run.misses(distance) {
+        return;
     }
     shelf.turn_to(class, node);
-    let until = end_of_run(class, shelf);
-    if k + 1 < nodes.len() && is_near(class, node, until, nodes[k + 1]) {
-        Some(run_of(column, class, shelf, until, marks))
-    } else {
-        None
-    }
+    found.clear();
+    run.add_before(column, class, node, &shelf.frame, marks, found);
+    list.try_extend_from_slice(found.as_slice()).unwrap();
 }
 
-/// Fills the list, in the place of what it had, with the marked nodes from which moves that go on lead to one of these, perhaps more than once.
+/// Fills the list, in the place of what it had, with the marked nodes from which moves that go on lead to each of these, one after the other.
+/// Only nodes are marked.
 pub(crate) fn marked_sources(
     column: Column,
     class: Class,
@@ -378,7 +457,8 @@ pub(crate) fn marked_sources(
 )
     requires nodes { All (λ j. IsAt class j (setup_at class j)) nodes.now }
     requires few { length nodes.now ≤ 64 }
-    ensures { (i : ℕ) → Contains list.new.items i ↔ ((j : ℕ) × Contains nodes.now j × Connects column class i j × IsMarked marks.now i) }
+    requires marked { AreNodesMarked class marks.now }
+    ensures { list.new.items ≡ flat_map (marked_into column class marks.now) nodes.now }
 {
     list.clear();
     if nodes.is_empty() {
@@ -386,24 +466,15 @@ pub(crate) fn marked_sources(
     }
     let mut shelf = Shelf::at(class, nodes[0]);
     let mut found = ArrayVec::new();
-    let mut run = None;
+    let mut run = Run::nothing(column, class, marks);
     for k in 0..nodes.len() {
         let node = nodes[k];
-        run = run_at(column, class, nodes, k, run, &mut shelf, marks);
-        match &run {
-            Some(run) => add_sources_in_run(
-                column, class, node, run, &mut shelf, marks, &mut found, list,
-            ),
-            None => add_marked_sources(
-                column,
-                class,
-                node,
-                SquareSet::EMPTY,
-                &mut shelf,
-                marks,
-                &mut found,
-                list,
-            ),
+        if run.turn_to(column, class, nodes, k, &mut shelf, marks) {
+            add_sources_in_run(
+                column, class, node, &run, &mut shelf, marks, &mut found, list,
+            );
+        } else {
+            add_marked_sources(column, class, node, &mut shelf, marks, &mut found, list);
         }
     }
 }

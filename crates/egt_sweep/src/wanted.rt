@@ -50,7 +50,7 @@ fn word_at(marks: &[u64], at: usize) -> u64
 /// The bits of 64 numbers from that on.
 #[inline(always)]
 pub(crate) fn marks_from(marks: &[u64], from: u32) -> u64
-    ensures { (k : ℕ) → k < 64 → IsMarked marks.now (from + k) → bit_at result k ≡ 1 }
+    ensures { (k : ℕ) → k < 64 → IsMarked marks.now (from + k) ↔ (bit_at result k ≡ 1) }
 {
     let at = from as usize / 64;
     let words = u128::from(word_at(marks, at + 1)) << 64 | u128::from(word_at(marks, at));

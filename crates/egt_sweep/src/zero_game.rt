@@ -122,8 +122,8 @@ impl Game for ZeroGame<'_> {
         predecessors(Column::Zeroing, self.class, j, list);
     }
 
-    fn list_all_into(&self, nodes: &[u32], list: &mut ArrayVec<u32, 8192>) {
-        all_predecessors(Column::Zeroing, self.class, nodes, list);
+    fn list_all_into(&self, nodes: &[u32], known: &[u64], list: &mut ArrayVec<u32, 8192>) {
+        all_predecessors(Column::Zeroing, self.class, nodes, known, list);
     }
 
     fn list_marked_into(&self, nodes: &[u32], marks: &[u64], list: &mut ArrayVec<u32, 8192>) {

@@ -98,7 +98,7 @@ fn pawn_sources(man: Man, to: Square, held: SquareSet) -> SquareSet
 /// The squares from which the man may have come to `to`, past free squares, where all men stand on the squares of `held`. Where some stand
 /// elsewhere too, it came from these squares at most: a piece or king from those that are free, with no man elsewhere between.
 #[inline(always)]
-pub(crate) fn ways_back(man: Man, to: Square, held: SquareSet) -> SquareSet
+pub fn ways_back(man: Man, to: Square, held: SquareSet) -> SquareSet
     requires { MayStand man to }
     ensures found { (men : Placement) → AreTaken men held → Stands men to man → (s : ℕ) → s < 64 → HasWay men man to s → Has result s }
     ensures only { (men : Placement) → IsOccupied men held → Stands men to man → (s : ℕ) → s < 64 → Has result s → HasWay men man to s }

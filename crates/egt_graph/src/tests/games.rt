@@ -343,11 +343,13 @@ impl<'a, G: Game> Game for Backwards<'a, G> {
     }
 }
 
-/// The same game, which lists the sources of several nodes by itself, and counts how often it does.
+/// The same game, which lists the sources of several nodes by itself, and counts how often it does and how often it was not told exactly
+/// its nodes.
 #[derive(Drop)]
 pub(crate) struct Together<'a, G: Game> {
     game: &'a G,
     runs: Cell<u32>,
+    mistold: Cell<u32>,
 }
 
 impl<'a, G: Game> Together<'a, G> {
@@ -355,12 +357,18 @@ impl<'a, G: Game> Together<'a, G> {
         Together {
             game,
             runs: Cell::new(0),
+            mistold: Cell::new(0),
         }
     }
 
     /// How often it was asked for the sources of several nodes.
     pub(crate) fn runs(&self) -> u32 {
         self.runs.get()
+    }
+
+    /// How often it was told of other nodes than its own.
+    pub(crate) fn mistold(&self) -> u32 {
+        self.mistold.get()
     }
 }
 
@@ -397,13 +405,31 @@ impl<'a, G: Game> Game for Together<'a, G> {
         self.game.exits(i)
     }
 
-    fn list_all_into(&self, nodes: &[u32], list: &mut ArrayVec<u32, 8192>) {
+    fn list_all_into(&self, nodes: &[u32], known: &[u64], list: &mut ArrayVec<u32, 8192>) {
         self.runs.set(self.runs.get().wrapping_add(1));
+        if !are_nodes(self.game, known) {
+            self.mistold.set(self.mistold.get().wrapping_add(1));
+        }
         list.clear();
         for node in nodes {
             append(list, self.game.into(*node).as_slice());
         }
     }
+
+    fn list_marked_into(&self, nodes: &[u32], marks: &[u64], list: &mut ArrayVec<u32, 8192>) {
+        self.runs.set(self.runs.get().wrapping_add(1));
+        self.game.list_marked_into(nodes, marks, list);
+    }
+}
+
+/// Is each node's bit set, and no void number's?
+fn are_nodes<G: Game>(game: &G, known: &[u64]) -> bool {
+    for i in 0..game.size() {
+        if is_marked(known, i) == game.void(i) {
+            return false;
+        }
+    }
+    true
 }
 
 /// Adds the marked sources, the last first, as far as there is room.

@@ -83,9 +83,8 @@ fn limit_met_and_passed(rt: HostRuntime) -> Result<(), Fail> {
 // 0 and 1 lead to each other: draws. 2 has no move and is no checkmate: a draw. 3 is void. 4 is checkmate.
 // 5 leads to 4: a win in 1. 6 leads to 5 alone: a loss in 2. 7 leads to 5 and to 0: it keeps the draw.
 // 8 leads to 6, which is lost in 2, and to 4: a win in 1 and not in 3.
-#[test]
-fn moves_alone(rt: HostRuntime) -> Result<(), Fail> {
-    let game = Sample {
+fn with_a_void() -> Sample<'static> {
+    Sample {
         size: 9,
         voids: &[3],
         mates: &[4],
@@ -100,10 +99,27 @@ fn moves_alone(rt: HostRuntime) -> Result<(), Fail> {
             (8, 4),
         ],
         exits: &[],
-    };
+    }
+}
+
+#[test]
+fn moves_alone(rt: HostRuntime) -> Result<(), Fail> {
+    let game = with_a_void();
     let ranks = solve(rt.alloc(), &game, 2)?;
     assert_eq!(rt; ranks.entries(), [1, 1, 1, 0, 3, 4, 7, 1, 4].as_slice());
     assert!(rt; matches!(solve(rt.alloc(), &game, 1), Err(SolveFault::TooDeep)));
+    Ok(())
+}
+
+// One run of checkmates, one of won nodes and one of lost.
+#[test]
+fn told_of_the_nodes(rt: HostRuntime) -> Result<(), Fail> {
+    let game = with_a_void();
+    let together = Together::new(&game);
+    let ranks = solve(rt.alloc(), &together, 2)?;
+    assert_eq!(rt; ranks.entries(), [1, 1, 1, 0, 3, 4, 7, 1, 4].as_slice());
+    assert_eq!(rt; together.runs(), 3);
+    assert_eq!(rt; together.mistold(), 0);
     Ok(())
 }
 

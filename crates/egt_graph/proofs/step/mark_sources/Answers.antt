@@ -24,3 +24,6 @@ pub returns-clause-marked : goal.returns-clause-marked
 returns-clause-marked g c i one =
     let before = open_before c.args.entries.now c.mark_wins.new.entries c.list_marked_into.new.list.items c.args.plies i (rw c.as_slice.ensures.value at (c.mark_wins.ensures.marks)) one in
     c.unmark.ensures.others i (rw c.as_slice-2.ensures.value before.1) (c.requires.marked i before.0)
+
+pub returns-clause-of_nodes : goal.returns-clause-of_nodes
+returns-clause-of_nodes g c i marked = c.requires.of_nodes i (c.unmark.ensures.no_more i marked)

@@ -15,6 +15,7 @@ loop-k-init g c = record {
   amid = turns_begin (g.G.Game.graph c.args.game.now) (g.met.G.Game.lawful c.args.game.now) c.args.round c.args.posted.now c.args.nodes.now
       c.args.round c.args.round c.args.entries.now (told (g.G.Game.graph c.args.game.now) c.args.waits.now) c.requires.amid;
   coming = λ notes. notes;
+  of_nodes = c.requires.of_nodes;
   marked = c.requires.marked;
 }
 
@@ -64,6 +65,7 @@ loop-k-preserved-then-entries-node g c =
           (λ m low high. c.run_end-end.ensures.alike m low high ∙ c.if-entries-node.true))
           c.loop-k.invariant.amid c.take_sources.ensures.takes;
       coming = λ notes. c.take_sources.ensures.news (c.loop-k.invariant.coming notes);
+      of_nodes = c.loop-k.invariant.of_nodes;
       marked = still_marked _ _ _ _ _ _ _ c.take_sources.ensures.takes c.loop-k.invariant.marked;
     }
 
@@ -78,6 +80,7 @@ loop-k-preserved g c =
           c.requires.whole (omega (arith, some)) c.run_end-end.ensures.in_list c.loop-k.invariant.amid
           (λ m low high is. c.if-entries-node.false (sym (c.run_end-end.ensures.alike m low high) ∙ is)) c.mark_sources.ensures.marks;
       coming = λ notes. c.mark_sources.ensures.news (c.loop-k.invariant.coming notes);
+      of_nodes = c.mark_sources.ensures.of_nodes;
       marked = c.mark_sources.ensures.marked;
     }
 

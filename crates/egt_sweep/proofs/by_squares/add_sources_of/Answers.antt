@@ -1,11 +1,8 @@
 use Rattle.egt_sweep.specs.Edges.{WasOn}
 use Rattle.egt_sweep.specs.Nodes.{setup_at}
-use Rattle.egt_sweep.proofs.Collecting.{untrue, members_off, members_on}
+use Rattle.egt_sweep.proofs.Collecting.{untrue, members_on}
 use Rattle.egt_sweep.proofs.Returning.{among, came_moved, was_came, none_came}
 use Rattle.egt_sweep.proofs.by_squares.add_sources_of.Goals as goal
-
-pub returns-then-contains-clause-members : goal.returns-then-contains-clause-members
-returns-then-contains-clause-members c k = members_off (c.requires.idle c.args.to k (c.contains.ensures.0 c.if-contains.true))
 
 pub returns-then-not-goes_back_by-clause-members : goal.returns-then-not-goes_back_by-clause-members
 returns-then-not-goes_back_by-clause-members c =

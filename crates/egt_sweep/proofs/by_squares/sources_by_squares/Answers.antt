@@ -5,7 +5,7 @@ use Rattle.egt_board.specs.Setup.{IsKingOn}
 use Rattle.egt_board.specs.declared.man.Side.{Side}
 use Rattle.egt_index.specs.Steps.{AreSteps}
 use Rattle.egt_sweep.specs.Nodes.{setup_at}
-use Rattle.egt_sweep.proofs.Returning.{came_moved, was_came, came_beside, came_edges, king_back, in_part, beside_held}
+use Rattle.egt_sweep.proofs.Returning.{came_moved, was_came, came_edges, king_back, in_part, beside_held}
 use Rattle.egt_sweep.proofs.by_squares.sources_by_squares.Goals as goal
 
 pub squares_before-squares-requires-clause-men : goal.squares_before-squares-requires-clause-men
@@ -39,27 +39,8 @@ add_beside-requires-clause-men c = c.men_of-men.ensures _ c.requires.frame
 pub add_beside-requires-clause-waiting : goal.add_beside-requires-clause-waiting
 add_beside-requires-clause-waiting c = c.other-side.ensures ∙ ap other_side (c.side.ensures _ c.requires.frame)
 
-pub returns-then-contains-clause-exact : goal.returns-then-contains-clause-exact
-returns-then-contains-clause-exact c =
-    let q = setup_at c.args.class c.args.arrival in
-    let side = c.other-side.result in
-    let king = c.king-king.result in
-    let there = c.king-king.ensures q c.requires.frame in
-    let theirs : side ≡ other_side q.side = c.other-side.ensures ∙ ap other_side (c.side.ensures _ c.requires.frame) in
-    let men = c.men_of-men.ensures q c.requires.frame in
-    let below : c.args.class < 36 = subst (λ (n : ℕ). n < 36) c.number-number.ensures.value c.number-number.ensures.below in
-    came_beside c.laws.ensures c.args.class below c.args.column q c.args.wanted.now c.args.arrival c.requires.at king side c.men_of-men.result.one c.men_of-men.result.other
-    (beside_held q c.men_of-men.result.king king c.men_of-men.result.all c.men_of-men.result.one c.men_of-men.result.other side men theirs (subst (λ (x : Side). IsKingOn q.men x king) theirs there))
-    (λ k. c.requires.idle king k (c.contains.ensures.0 c.if-contains.true)) c.args.list.now.items c.add_beside.new.list.items c.requires.empty c.add_beside.ensures.members
-
-pub add_beside-requires-2-clause-men : goal.add_beside-requires-2-clause-men
-add_beside-requires-2-clause-men c = c.men_of-men.ensures _ c.requires.frame
-
-pub add_beside-requires-2-clause-waiting : goal.add_beside-requires-2-clause-waiting
-add_beside-requires-2-clause-waiting c = c.other-side.ensures ∙ ap other_side (c.side.ensures _ c.requires.frame)
-
-pub add_beside-requires-2-clause-room : goal.add_beside-requires-2-clause-room
-add_beside-requires-2-clause-room c =
+pub add_beside-requires-clause-room : goal.add_beside-requires-clause-room
+add_beside-requires-clause-room c =
     let none = ap (λ (xs : List ℕ). length xs) c.requires.empty in
     omega (arith, none, c.squares_before-squares.ensures.few, c.common-low.ensures.few, c.add_left.ensures.few)
 
@@ -77,7 +58,7 @@ add_left-requires-2-clause-moved c s on_board high =
 pub add_left-requires-2-clause-room : goal.add_left-requires-2-clause-room
 add_left-requires-2-clause-room c =
     let none = ap (λ (xs : List ℕ). length xs) c.requires.empty in
-    omega (arith, none, c.squares_before-squares.ensures.few, c.common-low.ensures.few, c.without-high.ensures.few, c.add_left.ensures.few, c.add_beside-2.ensures.few)
+    omega (arith, none, c.squares_before-squares.ensures.few, c.common-low.ensures.few, c.without-high.ensures.few, c.add_left.ensures.few, c.add_beside.ensures.few)
 
 pub returns-clause-exact : goal.returns-clause-exact
 returns-clause-exact c =
@@ -97,5 +78,5 @@ returns-clause-exact c =
     (beside_held q c.men_of-men.result.king king c.men_of-men.result.all c.men_of-men.result.one c.men_of-men.result.other side men theirs (subst (λ (x : Side). IsKingOn q.men x king) theirs there))
     (in_part all c.below.result low high c.common-low.ensures.squares c.without-high.ensures.squares)
     (was_came c.laws.ensures c.args.class q man king there.stands c.args.column all c.requires.before r.sound r.complete r.before (king_back c.args.column side))
-    c.args.list.now.items c.add_left.new.list.items c.add_beside-2.new.list.items c.add_left-2.new.list.items c.requires.empty
-    c.add_left.ensures.members c.add_beside-2.ensures.members c.add_left-2.ensures.members
+    c.args.list.now.items c.add_left.new.list.items c.add_beside.new.list.items c.add_left-2.new.list.items c.requires.empty
+    c.add_left.ensures.members c.add_beside.ensures.members c.add_left-2.ensures.members

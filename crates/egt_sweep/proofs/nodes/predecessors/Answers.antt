@@ -1,5 +1,4 @@
-use Rattle.std.proofs.Common.{ℕ, ◌<◌, arith, subst}
-use Rattle.std.proofs.lemmas.Nat.Bits.{bit_at-zero}
+use Rattle.std.proofs.Common.{ℕ, ◌<◌, subst}
 use Rattle.egt_sweep.proofs.Standing.{sources_told, at_setup, none_missing}
 use Rattle.egt_sweep.proofs.nodes.predecessors.Goals as goal
 
@@ -11,9 +10,6 @@ frame_at-frame-requires c = λ void. none_missing c.laws.ensures c.args.class c.
 
 pub sources-requires-clause-frame : goal.sources-requires-clause-frame
 sources-requires-clause-frame c = c.frame_at-frame.ensures.all _ (at_setup c.laws.ensures c.args.class c.args.index c.requires).spells
-
-pub sources-requires-clause-idle : goal.sources-requires-clause-idle
-sources-requires-clause-idle c s k has came = let none = bit_at-zero s in omega (arith, none, has)
 
 pub returns : goal.returns
 returns c = sources_told c.laws.ensures c.args.class c.args.index c.args.column c.sources.new.list.items (subst (λ (n : ℕ). n < 36) c.number-number.ensures.value c.number-number.ensures.below)

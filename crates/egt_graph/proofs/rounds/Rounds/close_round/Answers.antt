@@ -61,7 +61,8 @@ invariant_of-self g c =
     ) (
       finished_run (g.G.Game.graph c.self.inside.game.now) (g.met.G.Game.lawful c.self.inside.game.now) _ _ _ _ _ _ _ c.self.invariant.0 _ _ _ f none entries_long (told-long (g.G.Game.graph c.self.inside.game.now) c.self.inside.waits.items c.fall_due-unsettled.new.waits waits_long) later_long,
       finished_news _ _ _ _ _ _ _ _ c.self.invariant.1 coming_long,
-      record { room = c.self.invariant.2.room; marked = tt },
+      record { room = c.self.invariant.2.room; of_nodes = c.self.invariant.2.of_nodes; marked = tt },
+      c.self.invariant.3,
     )
 
 pub returns-then-not-unsettled-clause-closes : goal.returns-then-not-unsettled-clause-closes
@@ -95,7 +96,8 @@ invariant_of-self-then-self g c =
       past_run (g.G.Game.graph c.self.inside.game.now) _ _ _ _ _ _ _ c.self.invariant.0 _ _ _ entries_long
           (told-long (g.G.Game.graph c.self.inside.game.now) c.self.inside.waits.items c.fall_due-unsettled.new.waits waits_long) later_long,
       record { news_long = c.self.invariant.1.news_long; coming_long = coming_long ∙ c.self.invariant.1.coming_long; notes = tt },
-      record { room = c.self.invariant.2.room; marked = tt },
+      record { room = c.self.invariant.2.room; of_nodes = c.self.invariant.2.of_nodes; marked = tt },
+      c.self.invariant.3,
     )
 
 pub returns-then-self-clause-closes : goal.returns-then-self-clause-closes
@@ -150,9 +152,10 @@ invariant_of-self-2 g c =
           entries_long (told-long (g.G.Game.graph c.self.inside.game.now) c.self.inside.waits.items c.fall_due-unsettled.new.waits waits_long) later_long c.clear.new.flags cleared,
       next_news (g.G.Game.graph c.self.inside.game.now) _ _ _ _ _ _ _ _ _ running c.self.invariant.1 coming_long
           (rw (c.deref_mut.ensures.value, c.deref_mut-3.ensures.value) at c.fall_due-unsettled.ensures.coming) f.closed.entry turned blank,
-      marked_while _ _ _ _ running c.self.invariant.2.room (marked_due c.deref_mut.result.now due.0 (told (g.G.Game.graph c.self.inside.game.now) c.deref_mut-2.result.now) c.due.result.now c.due-2.result.now
+      marked_while _ _ _ _ running c.self.invariant.2.room c.self.invariant.2.of_nodes (marked_due c.deref_mut.result.now due.0 (told (g.G.Game.graph c.self.inside.game.now) c.deref_mut-2.result.now) c.due.result.now c.due-2.result.now
           c.fall_due-unsettled.new.entries (told (g.G.Game.graph c.self.inside.game.now) c.fall_due-unsettled.new.waits) c.self.inside.marks.items (c.self.inside.round + 1) due.1 due.2
           (rw c.deref_mut.ensures.value (marked_of _ _ _ _ c.self.invariant.2 running))),
+      c.self.invariant.3,
     )
 
 pub returns-clause-closes : goal.returns-clause-closes

@@ -2,8 +2,7 @@ use Rattle.std.proofs.Common.{◌≡◌, ◌<◌, ◌^◌, true, false, replicat
 use Rattle.std.proofs.lemmas.Grind.{common_steps}
 use Rattle.egt_graph.specs.Frontier.{blocks_of}
 use Rattle.egt_graph.specs.News.{parts_of}
-use Rattle.egt_graph.proofs.Beginning.{begun_run}
-use Rattle.egt_graph.proofs.Marking.{marks_begun}
+use Rattle.egt_graph.proofs.Beginning.{begun_run, begun_known, begun_marks}
 use Rattle.egt_graph.proofs.Noting.{begun_news}
 use Rattle.egt_graph.proofs.rounds.Rounds.counted.Goals as goal
 
@@ -15,6 +14,8 @@ invariant_of-rounds g c =
     let coming : c.in_ok-coming.coming.items ≡ replicate (parts_of (g.G.Game.graph c.args.game.now).size) false = grind (arith, common_steps) in (
       begun_run (g.G.Game.graph c.args.game.now) c.args.limit _ _ _ _ _ _ _ c.in_ok-entries.ensures.0 small c.requires flags,
       begun_news (g.G.Game.graph c.args.game.now) _ _ _ _ _ _ _ _ c.in_ok-entries.ensures.0 news coming,
-      marks_begun (g.G.Game.graph c.args.game.now).size _ _ c.in_ok-entries.ensures.0.entries_long
-          (rw c.deref.ensures.value at c.in_ok-marks.ensures.room) (rw c.deref.ensures.value at c.in_ok-marks.ensures.marks),
+      begun_marks (g.G.Game.graph c.args.game.now) _ _ _ _ _ _ c.in_ok-entries.ensures.0 _
+          (rw c.deref-2.ensures.value at c.in_ok-marks.ensures.room) (rw c.deref-2.ensures.value at c.in_ok-marks.ensures.marks),
+      begun_known (g.G.Game.graph c.args.game.now) _ _ _ _ _ _ c.in_ok-entries.ensures.0 _
+          (rw c.deref.ensures.value at c.in_ok-known.ensures.room) (rw c.deref.ensures.value at c.in_ok-known.ensures.marks),
     )

@@ -42,5 +42,7 @@ invariant_of-self g c =
           (told-long (g.G.Game.graph c.self.inside.game.now) c.self.inside.waits.items c.take_in.new.waits waits_long) c.take_in.ensures.amid,
       posted_news (g.G.Game.graph c.self.inside.game.now) (g.met.G.Game.lawful c.self.inside.game.now) _ _ _ _ _ _ _ _ _ _ _ running before.0 c.take_in.ensures.amid
           c.self.invariant.1 coming_long (rw (c.deref_mut.ensures.value, c.deref_mut-3.ensures.value) at c.take_in.ensures.coming),
-      marked_while _ _ _ _ running c.self.invariant.2.room (c.take_in.ensures.marked c.self.inside.marks.items (rw c.deref_mut.ensures.value (marked_of _ _ _ _ c.self.invariant.2 running))),
+      marked_while _ _ _ _ running c.self.invariant.2.room c.self.invariant.2.of_nodes
+          (c.take_in.ensures.marked c.self.inside.marks.items (rw c.deref_mut.ensures.value (marked_of _ _ _ _ c.self.invariant.2 running))),
+      c.self.invariant.3,
     )

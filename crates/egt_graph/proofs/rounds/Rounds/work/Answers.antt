@@ -50,5 +50,6 @@ invariant_of-self g c =
           (told-long (g.G.Game.graph c.self.inside.game.now) c.self.inside.waits.items c.take_block.new.waits waits_long) c.take_block.ensures.amid,
       posted_news (g.G.Game.graph c.self.inside.game.now) (g.met.G.Game.lawful c.self.inside.game.now) _ _ _ _ _ _ _ _ _ _ _ running before.0 c.take_block.ensures.amid
           c.self.invariant.1 coming_long (rw (c.deref_mut.ensures.value, c.deref_mut-4.ensures.value) at c.take_block.ensures.coming),
-      marked_while _ _ _ _ running (let room = c.self.invariant.2.room in rw marks_long room) c.take_block.ensures.marked,
+      marked_while _ _ _ _ running (let room = c.self.invariant.2.room in rw marks_long room) c.take_block.ensures.of_nodes c.take_block.ensures.marked,
+      c.self.invariant.3,
     )

@@ -1,6 +1,0 @@
-use Rattle.std.specs.Prelude.{◌≡◌, ◌<◌, ◌/◌, ◌%◌, ◌==◌, ℕ, slice_index, if◌then◌else◌}
-use Rattle.std.specs.Int.{bit_at}
-use Rattle.egt_graph.proofs.begin.undecided.Given as goal
-
-abbrev pub invariant-loop-part : goal.invariant-loop-part
-invariant-loop-part l = (i : ℕ) → i / 64 < l.part → bit_at (slice_index l.marks.items (i / 64)) (i % 64) ≡ (if slice_index l.entries i == 1 then 1 else 0)
