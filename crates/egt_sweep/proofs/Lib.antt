@@ -1,4 +1,5 @@
 pub mod Linked
+pub mod Popped
 pub mod Putting
 pub mod Staying
 pub mod Collecting

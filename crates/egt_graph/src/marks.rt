@@ -1,0 +1,25 @@
+//! Marks of numbers: where a number's bit is.
+ghost use Rattle.std.specs.Prelude.{◌≡◌, ◌<◌};
+ghost use Rattle.egt_graph.specs.Undecided.{bit_of, word_of};
+
+/// How many numbers have their bits in two words. The even ones of them have the first, the odd ones the second, since of neighbours often
+/// not both are asked for.
+pub(crate) const PAIR: usize = 128;
+
+/// In which word of the marks the number's bit is.
+#[inline(always)]
+pub fn word_of(i: u32) -> usize
+    ensures is { result ≡ word_of i }
+    ensures within { result < 67108864 }
+{
+    i as usize / PAIR * 2 + i as usize % 2
+}
+
+/// Which bit of that word it is.
+#[inline(always)]
+pub fn bit_of(i: u32) -> u32
+    ensures is { result ≡ bit_of i }
+    ensures within { result < 64 }
+{
+    i / 2 % 64
+}
