@@ -115,12 +115,12 @@ pub trait Game {
     }
 
     /// Fills the list, in the place of what it had, with what `into` answers of each of these nodes, one after the other.
-    /// `known` has the bits of the nodes: bit `bit_of(i)` of word `word_of(i)` is set exactly where `i` is one.
+    /// `known` has the bits of the nodes: bit `i % 64` of word `i / 64` is set exactly where `i` is one.
     fn list_all_into(&self, nodes: &[u32], known: &[u64], list: &mut ArrayVec<u32, 8192>)
         requires nodes { All (IsNode (graph self.now)) nodes.now }
         requires ascending { IsStrictlyIncreasing nodes.now }
         requires few { length nodes.now ≤ 64 }
-        requires room { (graph self.now).size + 128 ≤ 64 * length known.now }
+        requires room { (graph self.now).size ≤ 64 * length known.now }
         requires known { AreKnown (graph self.now) known.now }
         ensures { list.new.items ≡ into_all (graph self.now) nodes.now }
     {
@@ -134,13 +134,13 @@ pub trait Game {
     }
 
     /// Fills the list, in the place of what it had, with nodes from which a move leads to one of these, in any order and perhaps more
-    /// than once: with all that are marked, and perhaps with others. The mark of node `i` is bit `bit_of(i)` of word `word_of(i)`,
-    /// and nothing but nodes is marked. There is room for all moves into as many nodes as are asked of at once.
+    /// than once: with all that are marked, and perhaps with others. The mark of node `i` is bit `i % 64` of word `i / 64`, and
+    /// nothing but nodes is marked. There is room for all moves into as many nodes as are asked of at once.
     fn list_marked_into(&self, nodes: &[u32], marks: &[u64], list: &mut ArrayVec<u32, 8192>)
         requires nodes { All (IsNode (graph self.now)) nodes.now }
         requires ascending { IsStrictlyIncreasing nodes.now }
         requires few { length nodes.now ≤ 64 }
-        requires room { (graph self.now).size + 128 ≤ 64 * length marks.now }
+        requires room { (graph self.now).size ≤ 64 * length marks.now }
         requires known { AreOfNodes (graph self.now) marks.now }
         ensures { AreMarkedInto (graph self.now) nodes.now marks.now list.new.items }
     {

@@ -36,7 +36,7 @@ pub struct Rounds<'g, G: Game> {
     news: Vec<bool>,
     /// The same of the next round.
     coming: Vec<bool>,
-    /// The bits of the nodes are set, and no other: that of node `i` is bit `bit_of(i)` of word `word_of(i)`.
+    /// Bit `i % 64` of word `i / 64` is set where `i` is a node.
     known: Vec<u64>,
     /// The same where node `i` may be undecided.
     marks: Vec<u64>,

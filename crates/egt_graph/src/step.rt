@@ -11,7 +11,7 @@ ghost use Rattle.egt_graph.specs.Undecided.{AreKnown, AreMarked, AreOfNodes, IsM
 use crate::batch::Batch;
 use crate::columns::{any_open, count_down, mark_wins, take_back};
 use crate::game::Game;
-use crate::marks::{bit_of, word_of};
+use crate::scan::PART;
 use arrayvec::ArrayVec;
 
 /// Takes back the moves into the nodes of a batch, and ticks its block. The columns are of the game.
@@ -52,12 +52,13 @@ pub(crate) fn take_in<G: Game>(
 
 /// The nodes need no mark any more.
 fn unmark(marks: &mut [u64], nodes: &[u32])
-    requires room { All (λ i. i + 128 < 64 * length marks.old) nodes.now }
+    requires room { All (λ i. i < 64 * length marks.old) nodes.now }
     ensures others { (i : ℕ) → ¬ Contains nodes.now i → IsMarked marks.old i → IsMarked marks.new i }
     ensures no_more { (i : ℕ) → IsMarked marks.new i → IsMarked marks.old i }
 {
     for node in nodes {
-        marks[word_of(*node)] &= !(1 << bit_of(*node));
+        let at = *node as usize;
+        marks[at / PART] &= !(1 << (at % PART));
     }
 }
 
@@ -77,7 +78,7 @@ fn mark_sources<G: Game>(
     requires short { plies ≤ 32001 }
     requires entries_long { length entries.old ≡ (G.graph game.now).size }
     requires room { length entries.old ≤ 64 * length coming.old }
-    requires marks_room { length entries.old + 128 ≤ 64 * length marks.old }
+    requires marks_room { length entries.old ≤ 64 * length marks.old }
     requires of_nodes { AreOfNodes (G.graph game.now) marks.old }
     requires marked { AreMarked entries.old marks.old }
     ensures marks { Marks entries.old (into_all (G.graph game.now) nodes.now) plies entries.new }
@@ -109,7 +110,7 @@ fn take_sources<G: Game>(
     requires matched { length waits.old ≡ length entries.old }
     requires waited { (i : ℕ) → count_of i (into_all (G.graph game.now) nodes.now) ≤ slice_index (told (G.graph game.now) waits.old) i }
     requires room { length entries.old ≤ 64 * length coming.old }
-    requires known_room { length entries.old + 128 ≤ 64 * length known.now }
+    requires known_room { length entries.old ≤ 64 * length known.now }
     requires known { AreKnown (G.graph game.now) known.now }
     ensures takes { TakesBack entries.old (told (G.graph game.now) waits.old) (into_all (G.graph game.now) nodes.now) plies entries.new (told (G.graph game.now) waits.new) }
     ensures news { Notes plies entries.old coming.old → Notes plies entries.new coming.new }
@@ -165,9 +166,9 @@ pub(crate) fn take_block<G: Game>(
     requires waits_long { length waits.old ≡ (G.graph game.now).size }
     requires amid { Amid (G.graph game.now) round (done_of posted.old) round round entries.old (told (G.graph game.now) waits.old) }
     requires room { length entries.old ≤ 64 * length coming.old }
-    requires known_room { length entries.old + 128 ≤ 64 * length known.now }
+    requires known_room { length entries.old ≤ 64 * length known.now }
     requires known { AreKnown (G.graph game.now) known.now }
-    requires marks_room { length entries.old + 128 ≤ 64 * length marks.old }
+    requires marks_room { length entries.old ≤ 64 * length marks.old }
     requires of_nodes { AreOfNodes (G.graph game.now) marks.old }
     requires marked { AreMarked entries.old marks.old }
     ensures ticked { posted.new ≡ slice_set posted.old block true }

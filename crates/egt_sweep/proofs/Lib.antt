@@ -1,5 +1,4 @@
 pub mod Linked
-pub mod Popped
 pub mod Putting
 pub mod Staying
 pub mod Collecting

@@ -1,9 +1,7 @@
 -- What is told at once of nodes that differ by the last man's square alone.
-use Rattle.std.specs.Prelude.{◌≡◌, ℕ, ◌+◌, ◌-◌, ◌/◌, ◌<◌, ◌≤◌, ◌⊎◌, true, false, List, slice_index}
+use Rattle.std.specs.Prelude.{◌≡◌, ℕ, ◌+◌, ◌<◌, ◌≤◌, ◌⊎◌, true, false, List}
 use Rattle.egt_board.specs.Man.{other_side}
 use Rattle.egt_board.specs.Setup.{IsKingOn}
-use Rattle.egt_board.specs.SquareSet.{Has, size_of}
-use Rattle.egt_board.specs.declared.square_set.SquareSet.{SquareSet}
 use Rattle.egt_index.specs.Shelf.{AreAlike}
 use Rattle.egt_table.specs.declared.column.Column.{Column}
 use Rattle.egt_sweep.specs.Edges.{CameTo}
@@ -16,27 +14,14 @@ use Rattle.egt_sweep.specs.declared.together.Run.{Run}
 -- what a run of such nodes tells of them
 pub record IsRunOf (column : Column) (c : ℕ) (marks : List ℕ) (run : Run) : Type 0 where
   pub near : AreNear c run.first run.until
-  pub few : run.until ≤ run.first + 128
+  pub few : run.until ≤ run.first + 64
   pub king : IsTold column c run.first marks run.king
   pub one : IsTold column c run.first marks run.one
   pub king_there : run.king.told ≡ true → (j : ℕ) → IsAlikeNode c run.first j → IsKingOn (setup_at c j).men (other_side (setup_at c j).side) run.king.to
   pub beside : run.partial ≡ false → (j s i : ℕ) → IsAlikeNode c run.first j → CameTo column c (setup_at c j) s i → IsToldAt run.king s ⊎ IsToldAt run.one s
 
--- the node is less than 128 above the first of the run, and differs from it by the last man's square alone
+-- the node is less than 64 above the first of the run, and differs from it by the last man's square alone
 pub record IsNearTo (c : ℕ) (run : Run) (node : ℕ) : Type 0 where
   pub above : run.first ≤ node
-  pub near : node < run.first + 128
+  pub near : node < run.first + 64
   pub alike : AreAlike c run.first node
-
--- one of the men of whom the run tells came from i to the node
-abbrev pub CameAsTold : Column → ℕ → Run → ℕ → ℕ → Type 0
-CameAsTold column c run node i =
-    ((run.king.told ≡ true) × CameTo column c (setup_at c node) run.king.to i) ⊎ ((run.one.told ≡ true) × CameTo column c (setup_at c node) run.one.to i)
-
--- of the nodes from the one at k up to that at `end` the run tells, and these are their places
-pub record ArePlaces (c : ℕ) (run : Run) (nodes : List ℕ) (k end : ℕ) (places : SquareSet) : Type 0 where
-  pub above : k < end
-  pub near : (m : ℕ) → k ≤ m → m < end → IsNearTo c run (slice_index nodes m)
-  pub all : (m : ℕ) → k ≤ m → m < end → Has places ((slice_index nodes m - run.first) / 2)
-  pub of : (p : ℕ) → Has places p → (m : ℕ) × (k ≤ m) × (m < end) × (p ≡ (slice_index nodes m - run.first) / 2)
-  pub few : size_of places + k ≤ end

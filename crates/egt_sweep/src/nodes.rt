@@ -28,7 +28,6 @@ ghost use Rattle.egt_sweep.specs.Ways.{Counts, HasAnchor};
 
 use crate::aim::Aim;
 use crate::anchor::has_anchor;
-use crate::at_once::marked_sources_of_any;
 use crate::edges::edges;
 use crate::facing::start_facing_king;
 use crate::laws::laws;
@@ -111,7 +110,7 @@ pub(crate) fn predecessors(column: Column, class: Class, index: u32, list: &mut 
 }
 
 /// Fills the list, in the place of what it had, with the nodes from which moves that go on lead to each of these nodes, one after the other.
-/// The bits of the nodes alone are set: of node `i` bit `bit_of(i)` of word `word_of(i)`.
+/// The bits of the nodes alone are set: of node `i` bit `i % 64` of word `i / 64`.
 pub(crate) fn all_predecessors(
     column: Column,
     class: Class,
@@ -131,7 +130,7 @@ pub(crate) fn all_predecessors(
 }
 
 /// Fills the list, in the place of what it had, with the nodes whose bits are set and from which moves that go on lead to one of these nodes,
-/// perhaps more than once: of node `i` bit `bit_of(i)` of word `word_of(i)`. Only nodes have theirs set.
+/// perhaps more than once: of node `i` bit `i % 64` of word `i / 64`. Only nodes have theirs set.
 pub(crate) fn marked_predecessors(
     column: Column,
     class: Class,
@@ -146,7 +145,7 @@ pub(crate) fn marked_predecessors(
 {
     laws();
     let _number = class.number();
-    marked_sources_of_any(column, class, nodes, marks, list);
+    marked_sources(column, class, nodes, marks, list);
 }
 
 /// The values of where the moves lead that leave the game from a node, in the order of moves.

@@ -6,10 +6,9 @@ ghost use Rattle.std.specs.List.{Contains, flat_map};
 ghost use Rattle.std.specs.List.Sorted.{IsStrictlyIncreasing};
 ghost use Rattle.arrayvec.specs.ArrayVec.{array_vec_len};
 ghost use Rattle.egt_board.specs.Man.{other_side};
-ghost use Rattle.egt_board.specs.Placement.{IsFree, Stands};
+ghost use Rattle.egt_board.specs.Placement.{IsFree};
 ghost use Rattle.egt_board.specs.Setup.{Setup, IsKingOn};
 ghost use Rattle.egt_board.specs.SquareSet.{Has};
-ghost use Rattle.egt_board.specs.declared.man.Kind.TheVariants.{K};
 ghost use Rattle.egt_board.specs.declared.man.Man.{Man};
 ghost use Rattle.egt_class.specs.Material.{material_of};
 ghost use Rattle.egt_graph.specs.Undecided.{IsMarked};
@@ -23,7 +22,7 @@ ghost use Rattle.egt_sweep.specs.Nodes.{setup_at};
 ghost use Rattle.egt_sweep.specs.Shelves.{AreNear, IsShelf};
 ghost use Rattle.egt_sweep.specs.Runs.{IsNearTo, IsRunOf};
 ghost use Rattle.egt_sweep.specs.Together.{AreHeldThroughout, IsAlikeNode, NeverTargeted};
-ghost use Rattle.egt_sweep.specs.Told.{AreNodesMarked, CameOf, CameTold, GoesAlongThroughout, IsTold, IsToldAt, marked_into};
+ghost use Rattle.egt_sweep.specs.Told.{AreNodesMarked, CameOf, CameTold, IsTold, IsToldAt, marked_into};
 
 use crate::by_squares::{Men, goes_back_by, is_of, men_of};
 use crate::laws::laws;
@@ -51,8 +50,7 @@ fn moves_last(column: Column, last: Option<Man>, side: Side) -> bool
 
 /// The squares on which men stand at all of the nodes.
 fn held(fixed: &Fixed) -> SquareSet
-    ensures held { (p : Setup) → StandsFixed p fixed.now → (t : ℕ) → Has result t → ¬ IsFree p.men t }
-    ensures all { (p : Setup) → StandsFixed p fixed.now → (t : ℕ) (man : Man) → Stands p.men t man → (man.kind ≡ K) ⊎ (fixed.now.one ≡ Some (man, t)) → Has result t }
+    ensures { (p : Setup) → StandsFixed p fixed.now → (t : ℕ) → Has result t → ¬ IsFree p.men t }
 {
     let kings = SquareSet::EMPTY.with(fixed.white).with(fixed.black);
     match fixed.one {
@@ -88,7 +86,6 @@ fn tell_one(
     requires class { frame.now.class ≡ class }
     requires fixed { (j : ℕ) → IsAlikeNode class first j → StandsFixed (setup_at class j) fixed.now }
     requires held { AreHeldThroughout class first held }
-    requires along { GoesAlongThroughout class first held fixed.now.last_on }
     requires never { NeverTargeted class }
     requires targets { has_target (material_of class) ≡ false }
     requires nodes { AreNodesMarked class marks.now }
@@ -105,17 +102,7 @@ fn tell_one(
     if placed.0.kind == Kind::P {
         return false;
     }
-    told.tell(
-        column,
-        class,
-        first,
-        frame,
-        placed.0,
-        placed.1,
-        held,
-        fixed.last_on,
-        marks,
-    );
+    told.tell(column, class, first, frame, placed.0, placed.1, held, marks);
     told.told
 }
 
@@ -130,7 +117,7 @@ fn is_partial(king: bool, one: bool, last: bool) -> bool
 #[derive(Drop)]
 pub(crate) struct Run {
     pub(crate) first: u32,
-    /// Where they end, at most 128 above the first; at the first where there are none.
+    /// Where they end, at most 64 above the first; at the first where there are none.
     pub(crate) until: u32,
     /// The king of the side that waits.
     pub(crate) king: Told,
@@ -156,13 +143,13 @@ impl Run {
 
     /// Whether nobody came to the node so far above the first from a marked one.
     #[inline(always)]
-    fn misses(&self, place: u32) -> bool
-        requires { place < 64 }
+    fn misses(&self, distance: u32) -> bool
+        requires { distance < 64 }
         ensures closed { result ≡ true → self.now.partial ≡ false }
-        ensures king { result ≡ true → self.now.king.told ≡ true → bit_at self.now.king.any place ≡ 0 }
-        ensures one { result ≡ true → self.now.one.told ≡ true → bit_at self.now.one.any place ≡ 0 }
+        ensures king { result ≡ true → self.now.king.told ≡ true → bit_at self.now.king.any distance ≡ 0 }
+        ensures one { result ≡ true → self.now.one.told ≡ true → bit_at self.now.one.any distance ≡ 0 }
     {
-        !self.partial && self.king.misses(place) && self.one.misses(place)
+        !self.partial && self.king.misses(distance) && self.one.misses(distance)
     }
 
     /// Tells of the shelf's node and those above it up to `until` that differ by the last man's square alone.
@@ -170,7 +157,7 @@ impl Run {
         requires at { IsAt class shelf.now.node (setup_at class shelf.now.node) }
         requires shelf { IsShelf class shelf.now }
         requires near { AreNear class shelf.now.node until }
-        requires few { until ≤ shelf.now.node + 128 }
+        requires few { until ≤ shelf.now.node + 64 }
         requires never { NeverTargeted class }
         requires targets { has_target (material_of class) ≡ false }
         requires nodes { AreNodesMarked class marks.now }
@@ -192,17 +179,8 @@ impl Run {
         let to = king(&fixed, side);
         self.first = first;
         self.until = until;
-        self.king.tell(
-            column,
-            class,
-            first,
-            frame,
-            man,
-            to,
-            held,
-            fixed.last_on,
-            marks,
-        );
+        self.king
+            .tell(column, class, first, frame, man, to, held, marks);
         let one = tell_one(
             column,
             class,
@@ -217,7 +195,7 @@ impl Run {
     }
 
     /// Adds the marked nodes from which the king of the side that waits, on that square, came to a node of the run, whose frame this is.
-    pub(crate) fn add_king(
+    fn add_king(
         &self,
         column: Column,
         class: Class,
@@ -243,9 +221,9 @@ impl Run {
         ensures few { array_vec_len list.new ≤ 28 }
     {
         if self.king.told {
-            let place = (node - self.first) / 2;
+            let distance = node - self.first;
             self.king
-                .add_before(column, class, self.first, place, marks, list);
+                .add_before(column, class, self.first, distance, men.all, marks, list);
         } else {
             add_sources_of_king(column, class, node, frame, men, king, marks, list);
         }
@@ -257,12 +235,14 @@ impl Run {
         column: Column,
         class: Class,
         node: u32,
+        men: &Men,
         marks: &[u64],
         list: &mut ArrayVec<u32, 128>,
     )
         requires at { IsAt class node (setup_at class node) }
         requires run { IsRunOf column class marks.now self.now }
         requires near { IsNearTo class self.now node }
+        requires men { AreMenOf (setup_at class node) men.now.king men.now.all men.now.one men.now.other }
         requires nodes { AreNodesMarked class marks.now }
         requires ascending { IsStrictlyIncreasing list.old.items }
         requires room { array_vec_len list.old ≤ 28 }
@@ -271,14 +251,14 @@ impl Run {
         ensures few { array_vec_len list.new ≤ array_vec_len list.old + 28 }
     {
         if self.one.told {
-            let place = (node - self.first) / 2;
+            let distance = node - self.first;
             self.one
-                .add_before(column, class, self.first, place, marks, list);
+                .add_before(column, class, self.first, distance, men.all, marks, list);
         }
     }
 
     /// Adds the marked nodes from which the men beside the kings came of whom nothing is told: `told` is the square of the one who is told of.
-    pub(crate) fn add_rest(
+    fn add_rest(
         &self,
         column: Column,
         class: Class,
@@ -331,7 +311,7 @@ impl Run {
         let king = frame.king(frame.side().other());
         let men = men_of(frame);
         self.add_king(column, class, node, frame, &men, king, marks, list);
-        self.add_one(column, class, node, marks, list);
+        self.add_one(column, class, node, &men, marks, list);
         self.add_rest(
             column,
             class,
@@ -346,7 +326,7 @@ impl Run {
 
     /// Goes on to the node at place `k`, of which it tells then, or stays: whether it tells of it. It does not where the node is alone, or the class
     /// has targets.
-    pub(crate) fn turn_to(
+    fn turn_to(
         &mut self,
         column: Column,
         class: Class,
@@ -386,21 +366,21 @@ impl Run {
     }
 }
 
-/// Where the numbers end, at most 128 from the shelf's node on, of which those with the same last digits differ from it by the last man's
+/// Where the numbers end, at most 64 from the shelf's node on, of which those with the same last digits differ from it by the last man's
 /// square alone.
 fn end_of_run(class: Class, shelf: &Shelf) -> u32
     requires at { IsAt class shelf.now.node (setup_at class shelf.now.node) }
     requires shelf { IsShelf class shelf.now }
     ensures near { AreNear class shelf.now.node result }
-    ensures few { result ≤ shelf.now.node + 128 }
+    ensures few { result ≤ shelf.now.node + 64 }
 {
     let _number = class.number();
-    shelf.until.min(shelf.node + 128)
+    shelf.until.min(shelf.node + 64)
 }
 
 /// Adds the marked nodes from which moves that go on lead to the node. The shelf goes on to the node, and what the node has is found first in
 /// a list that is lent.
-pub(crate) fn add_marked_sources(
+fn add_marked_sources(
     column: Column,
     class: Class,
     node: u32,
@@ -456,8 +436,8 @@ fn add_sources_in_run(
 {
     laws();
     let _number = class.number();
-    let place = (node - run.first) / 2;
-    if run.misses(place) {
+    let distance = node - run.first;
+    if run.misses(distance) {
         return;
     }
     shelf.turn_to(class, node);

@@ -1,12 +1,11 @@
 //! A man who stands on one square at all nodes of a run: from which marked nodes he came there. Each square that he may have left moves all
-//! numbers of the run as far, so that one look at 64 marks tells of all nodes. Of these the place is k for the one 2k above the first.
-ghost use Rattle.std.specs.Prelude.{◌≡◌, ◌≢◌, ◌↔◌, ◌+◌, ◌*◌, ◌<◌, ◌≤◌, ◌⊎◌, ℕ, Bool, Some, true, false, IfSome, IsTrue, []};
+//! numbers of the run as far, so that one look at 64 marks tells of all nodes.
+ghost use Rattle.std.specs.Prelude.{◌≡◌, ◌≢◌, ◌↔◌, ◌+◌, ◌<◌, ◌≤◌, ◌⊎◌, ℕ, Bool, true, false, IfSome, IsTrue, []};
 ghost use Rattle.std.specs.Int.{bit_at};
 ghost use Rattle.std.specs.List.{Contains};
 ghost use Rattle.std.specs.List.Sorted.{IsStrictlyIncreasing};
 ghost use Rattle.arrayvec.specs.ArrayVec.{array_vec_len};
-ghost use Rattle.egt_board.specs.Placement.{IsFree};
-ghost use Rattle.egt_board.specs.Safety.{Stops};
+ghost use Rattle.egt_board.specs.Camps.{IsOccupied};
 ghost use Rattle.egt_board.specs.SquareSet.{Has, size_of};
 ghost use Rattle.egt_board.specs.declared.man.Kind.TheVariants.{P};
 ghost use Rattle.egt_class.specs.Material.{material_of};
@@ -17,16 +16,17 @@ ghost use Rattle.egt_index.specs.Size.{has_target};
 ghost use Rattle.egt_sweep.specs.Edges.{CameTo, IsAt};
 ghost use Rattle.egt_sweep.specs.Nodes.{setup_at};
 ghost use Rattle.egt_sweep.specs.Together.{AreHeldThroughout, IsAlikeNode, NeverTargeted, StandsThroughout};
-ghost use Rattle.egt_sweep.specs.Told.{AreAnyOf, AreLeft, AreNodesMarked, CameAtSome, GoesAlongThroughout, IsLeft, IsOpenFrom, IsTold, IsToldAt, SomeGives};
+ghost use Rattle.egt_sweep.specs.Told.{AreAnyOf, AreLeft, AreNodesMarked, Gives, IsLeft, IsTold, IsToldAt, SomeGives};
 
 use crate::ascending::put;
 use crate::laws::laws;
 use crate::wanted::marks_from;
 use arrayvec::ArrayVec;
-use egt_board::{Man, Square, SquareSet, gait};
+use egt_board::{Kind, Man, Side, Square, SquareSet};
 use egt_class::Class;
 use egt_index::{Frame, Shift};
 use egt_table::Column;
+use egt_unmoves::sources::ways_back;
 use egt_unmoves::squares_open;
 
 /// What is told of a square that the man left.
@@ -35,47 +35,33 @@ pub(crate) struct Left {
     pub(crate) from: Square,
     /// The number before the first node's.
     pub(crate) index: u32,
-    /// The places of the nodes to which he came from there, and from a marked one.
+    /// Which of the 64 numbers from that on are marked.
     pub(crate) bits: u64,
 }
 
 impl Left {
-    /// Whether he came from there to the node at the place.
+    /// Whether the number before the node so far above the first is marked.
     #[inline(always)]
-    fn has(&self, place: u32) -> bool
-        requires { place < 64 }
-        ensures { IsTrue result ↔ (bit_at self.now.bits place ≡ 1) }
+    fn has(&self, distance: u32) -> bool
+        requires { distance < 64 }
+        ensures { IsTrue result ↔ (bit_at self.now.bits distance ≡ 1) }
     {
-        (self.bits >> place) & 1 == 1
+        (self.bits >> distance) & 1 == 1
     }
 
-    /// Adds the number before the node at the place, if he came from there.
+    /// Adds the number before the node so far above the first, if it is marked and the man has a way from there: from one of these squares.
     #[inline(always)]
-    fn add_before(&self, place: u32, list: &mut ArrayVec<u32, 128>)
-        requires near { place < 64 }
-        requires fits { bit_at self.now.bits place ≡ 1 → self.now.index + 2 * place < 4294967296 }
+    fn add_before(&self, distance: u32, ways: SquareSet, list: &mut ArrayVec<u32, 128>)
+        requires near { distance < 64 }
+        requires fits { bit_at self.now.bits distance ≡ 1 → self.now.index + distance < 4294967296 }
         requires ascending { IsStrictlyIncreasing list.old.items }
         requires room { array_vec_len list.old < 128 }
         ensures ascending { IsStrictlyIncreasing list.new.items }
-        ensures members { (i : ℕ) → Contains list.new.items i ↔ (Contains list.old.items i ⊎ ((bit_at self.now.bits place ≡ 1) × (i ≡ self.now.index + 2 * place))) }
+        ensures members { (i : ℕ) → Contains list.new.items i ↔ (Contains list.old.items i ⊎ ((bit_at self.now.bits distance ≡ 1) × Has ways self.now.from × (i ≡ self.now.index + distance))) }
         ensures few { array_vec_len list.new ≤ array_vec_len list.old + 1 }
     {
-        if self.has(place) {
-            put(list, self.index + 2 * place);
-        }
-    }
-
-    /// Adds the numbers before the nodes at these places to which he came from there.
-    #[inline(always)]
-    fn add_all_before(&self, places: SquareSet, list: &mut ArrayVec<u32, 8192>)
-        requires fits { (k : ℕ) → bit_at self.now.bits k ≡ 1 → k < 64 → self.now.index + 2 * k < 4294967296 }
-        requires room { array_vec_len list.old + size_of places ≤ 8192 }
-        ensures members { (i : ℕ) → Contains list.new.items i ↔ (Contains list.old.items i ⊎ ((k : ℕ) × Has places k × (bit_at self.now.bits k ≡ 1) × (i ≡ self.now.index + 2 * k))) }
-        ensures few { array_vec_len list.new ≤ array_vec_len list.old + size_of places }
-    {
-        let mut rest = places.common(SquareSet { bits: self.bits });
-        while let Some(place) = rest.pop_first() {
-            list.push(self.index + 2 * u32::from(place.number()));
+        if self.has(distance) && ways.contains(self.from) {
+            put(list, self.index + distance);
         }
     }
 }
@@ -85,11 +71,12 @@ impl Left {
 pub(crate) struct Told {
     /// Whether anything is told.
     pub(crate) told: bool,
+    pub(crate) man: Man,
     /// Where he stands.
     pub(crate) to: Square,
-    /// The places of the nodes to which he came from a marked one.
+    /// To which of the 64 nodes he may have come from a marked one.
     pub(crate) any: u64,
-    /// The squares that he left.
+    /// The squares that he may have left.
     pub(crate) left: ArrayVec<Left, 28>,
 }
 
@@ -100,19 +87,20 @@ impl Told {
     {
         Told {
             told: false,
+            man: Side::White.pawn(),
             to: Square::at(0),
             any: 0,
             left: ArrayVec::new(),
         }
     }
 
-    /// Whether he is not told to have come to the node at the place from a marked one.
+    /// Whether he is not told to have come to the node so far above the first from a marked one.
     #[inline(always)]
-    pub(crate) fn misses(&self, place: u32) -> bool
-        requires { place < 64 }
-        ensures { result ≡ true → self.now.told ≡ true → bit_at self.now.any place ≡ 0 }
+    pub(crate) fn misses(&self, distance: u32) -> bool
+        requires { distance < 64 }
+        ensures { result ≡ true → self.now.told ≡ true → bit_at self.now.any distance ≡ 0 }
     {
-        !self.told || (self.any >> place) & 1 == 0
+        !self.told || (self.any >> distance) & 1 == 0
     }
 
     /// His square, if he is told of.
@@ -127,67 +115,41 @@ impl Told {
         }
     }
 
-    /// Adds the marked nodes from which he came to the node at the place.
+    /// Adds the marked nodes from which he came to the node so far above the first, where all men stand on these squares.
     pub(crate) fn add_before(
         &self,
         _column: Column,
         class: Class,
         first: u32,
-        place: u32,
+        distance: u32,
+        occupied: SquareSet,
         _marks: &[u64],
         list: &mut ArrayVec<u32, 128>,
     )
         requires told { self.now.told ≡ true }
         requires is { IsTold _column class first _marks.now self.now }
-        requires near { place < 64 }
-        requires alike { IsAlikeNode class first (first + 2 * place) }
+        requires near { distance < 64 }
+        requires alike { IsAlikeNode class first (first + distance) }
         requires nodes { AreNodesMarked class _marks.now }
+        requires occupied { IsOccupied (setup_at class (first + distance)).men occupied }
         requires ascending { IsStrictlyIncreasing list.old.items }
         requires room { array_vec_len list.old + 28 ≤ 128 }
         ensures ascending { IsStrictlyIncreasing list.new.items }
-        ensures members { (i : ℕ) → Contains list.new.items i ↔ (Contains list.old.items i ⊎ (CameTo _column class (setup_at class (first + 2 * place)) self.now.to i × IsMarked _marks.now i)) }
+        ensures members { (i : ℕ) → Contains list.new.items i ↔ (Contains list.old.items i ⊎ (CameTo _column class (setup_at class (first + distance)) self.now.to i × IsMarked _marks.now i)) }
         ensures few { array_vec_len list.new ≤ array_vec_len list.old + 28 }
     {
         laws();
         let _number = class.number();
-        if self.misses(place) {
+        if self.misses(distance) {
             return;
         }
+        let ways = ways_back(self.man, self.to, occupied);
         for left in self.left.as_slice() {
-            left.add_before(place, list);
+            left.add_before(distance, ways, list);
         }
     }
 
-    /// Adds the marked nodes from which he came to the nodes at these places, perhaps more than once.
-    pub(crate) fn add_all_before(
-        &self,
-        _column: Column,
-        class: Class,
-        first: u32,
-        places: SquareSet,
-        _marks: &[u64],
-        list: &mut ArrayVec<u32, 8192>,
-    )
-        requires is { IsTold _column class first _marks.now self.now }
-        requires alike { (k : ℕ) → Has places k → IsAlikeNode class first (first + 2 * k) }
-        requires nodes { AreNodesMarked class _marks.now }
-        requires room { array_vec_len list.old + 28 * size_of places ≤ 8192 }
-        ensures members { (i : ℕ) → Contains list.new.items i ↔ (Contains list.old.items i ⊎ ((self.now.told ≡ true) × CameAtSome _column class first places _marks.now self.now.to i)) }
-        ensures few { array_vec_len list.new ≤ array_vec_len list.old + 28 * size_of places }
-        ensures untold { self.now.told ≡ false → array_vec_len list.new ≡ array_vec_len list.old }
-    {
-        laws();
-        let _number = class.number();
-        if !self.told {
-            return;
-        }
-        for left in self.left.as_slice() {
-            left.add_all_before(places, list);
-        }
-    }
-
-    /// Tells of the man on the square, where men stand on the squares of `held` at all of the nodes, and the last man on `last` at the first, if there
-    /// is one; nothing where his steps are no sums.
+    /// Tells of the man on the square, where men stand on the squares of `held` at all of the nodes; nothing where his steps are no sums.
     pub(crate) fn tell(
         &mut self,
         column: Column,
@@ -197,7 +159,6 @@ impl Told {
         man: Man,
         to: Square,
         held: SquareSet,
-        last: Option<Square>,
         marks: &[u64],
     )
         requires at { IsAt class first (setup_at class first) }
@@ -206,7 +167,6 @@ impl Told {
         requires piece { man.kind ≢ P }
         requires stands { StandsThroughout class first man to }
         requires held { AreHeldThroughout class first held }
-        requires along { GoesAlongThroughout class first held last }
         requires never { NeverTargeted class }
         requires targets { has_target (material_of class) ≡ false }
         requires nodes { AreNodesMarked class marks.now }
@@ -216,53 +176,46 @@ impl Told {
         laws();
         let _number = class.number();
         self.told = false;
+        self.man = man;
         self.to = to;
         self.any = 0;
         self.left.clear();
         let Some(shift) = frame.shift(to) else {
             return;
         };
-        let squares = squares_open(man, to, held).without(SquareSet::EMPTY.with(to));
-        self.told = self.tell_squares(
-            column, class, first, &shift, man, squares, held, &last, marks,
-        );
+        let squares = squares_open(man, to, held);
+        self.told = self.tell_squares(column, class, first, &shift, squares, marks);
     }
 
-    /// Tells of these squares, which he may have left, if sums tell of all of them. The contract alone reads `_held`.
+    /// Tells of these squares, which he may have left, if sums tell of all of them.
     fn tell_squares(
         &mut self,
         column: Column,
         class: Class,
         first: u32,
         shift: &Shift,
-        man: Man,
         squares: SquareSet,
-        _held: SquareSet,
-        last: &Option<Square>,
         marks: &[u64],
     ) -> bool
         requires at { IsAt class first (setup_at class first) }
         requires shift { IsShift class first self.old.to shift.now }
-        requires piece { man.kind ≢ P }
-        requires stands { StandsThroughout class first man self.old.to }
-        requires along { GoesAlongThroughout class first _held last.now }
-        requires open { (s : ℕ) → s < 64 → Has squares s → IsOpenFrom class first _held man self.old.to s }
+        requires piece { self.old.man.kind ≢ P }
+        requires stands { StandsThroughout class first self.old.man self.old.to }
         requires never { NeverTargeted class }
         requires targets { has_target (material_of class) ≡ false }
         requires nodes { AreNodesMarked class marks.now }
         requires few { size_of squares ≤ 28 }
         requires empty { self.old.left.items ≡ [] }
-        ensures same { self.new.to ≡ self.old.to }
-        ensures left { result ≡ true → AreLeft column class first marks.now self.old.to self.new.left.items }
+        ensures same { (self.new.man ≡ self.old.man) × (self.new.to ≡ self.old.to) }
+        ensures left { result ≡ true → AreLeft column class first marks.now self.old.man self.old.to self.new.left.items }
         ensures any { result ≡ true → AreAnyOf self.new.left.items self.new.any }
-        ensures complete { result ≡ true → (k i : ℕ) → k < 64 → IsAlikeNode class first (first + 2 * k) → (came : CameTo column class (setup_at class (first + 2 * k)) self.old.to i) → Has squares came.move.from → IsMarked marks.now i
-            → SomeGives k self.new.left.items i }
+        ensures complete { result ≡ true → (k i : ℕ) → k < 64 → IsAlikeNode class first (first + k) → (came : CameTo column class (setup_at class (first + k)) self.old.to i) → Has squares came.move.from → IsMarked marks.now i
+            → SomeGives (setup_at class (first + k)).men self.old.man self.old.to k self.new.left.items i }
     {
         let mut rest = squares;
         while let Some(from) = rest.pop_first() {
-            let Some(left) = left_from(
-                column, class, first, shift, man, self.to, from, _held, last, marks,
-            ) else {
+            let Some(left) = left_from(column, class, first, shift, self.man, self.to, from, marks)
+            else {
                 return false;
             };
             if left.bits != 0 {
@@ -274,43 +227,28 @@ impl Told {
     }
 }
 
-/// The places of the nodes at which the last man keeps the man on `from` from `to`, if he stands on that square at the first.
-#[inline(always)]
-fn shut(man: Man, from: Square, to: Square, last: &Option<Square>) -> u64
-    ensures { (k : ℕ) → bit_at result k ≡ 1 ↔ ((t : ℕ) × (last.now ≡ Some t) × (t + k < 64) × Stops 0 man from to (t + k)) }
-{
-    match last {
-        Some(square) => gait::stops(man, from, to, SquareSet::EMPTY).bits >> square.number(),
-        None => 0,
-    }
-}
-
 /// What is told of the square `from`, which the man on `to` may have left. `None` where no sum tells it. The contract alone reads the column
-/// and the squares held.
+/// and the man.
 #[inline(always)]
 fn left_from(
     _column: Column,
     class: Class,
     first: u32,
     shift: &Shift,
-    man: Man,
+    _man: Man,
     to: Square,
     from: Square,
-    _held: SquareSet,
-    last: &Option<Square>,
     marks: &[u64],
 ) -> Option<Left>
     requires at { IsAt class first (setup_at class first) }
     requires shift { IsShift class first to shift.now }
-    requires piece { man.kind ≢ P }
-    requires stands { StandsThroughout class first man to }
-    requires along { GoesAlongThroughout class first _held last.now }
-    requires open { IsOpenFrom class first _held man to from }
+    requires piece { _man.kind ≢ P }
+    requires stands { StandsThroughout class first _man to }
     requires never { NeverTargeted class }
     requires targets { has_target (material_of class) ≡ false }
     requires nodes { AreNodesMarked class marks.now }
     ensures from { IfSome result (λ left. left.from ≡ from) }
-    ensures left { IfSome result (IsLeft _column class first marks.now to) }
+    ensures left { IfSome result (IsLeft _column class first marks.now _man to) }
 {
     laws();
     let _number = class.number();
@@ -318,6 +256,6 @@ fn left_from(
     Some(Left {
         from,
         index,
-        bits: marks_from(marks, index) & !shut(man, from, to, last),
+        bits: marks_from(marks, index),
     })
 }

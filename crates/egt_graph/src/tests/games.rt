@@ -6,7 +6,6 @@ ghost use Rattle.egt_graph.specs.Undecided.{IsMarked};
 ghost use Rattle.egt_graph.specs.Sample.{sample, sample_is_game, stairs, stairs_are_a_game, is_listed, is_pair, is_move, is_short};
 
 use crate::game::{Exit, Game, Start, append};
-use crate::marks::{bit_of, word_of};
 use arrayvec::ArrayVec;
 use std::cell::Cell;
 
@@ -450,8 +449,8 @@ fn push_marked(list: &mut ArrayVec<u32, 8192>, sources: &[u32], marks: &[u64])
 fn is_marked(marks: &[u64], i: u32) -> bool
     ensures { IsTrue result ↔ IsMarked marks.now i }
 {
-    match marks.get(word_of(i)) {
-        Some(word) => (*word >> bit_of(i)) & 1 == 1,
+    match marks.get(i as usize / 64) {
+        Some(word) => (*word >> (i % 64)) & 1 == 1,
         None => false,
     }
 }

@@ -1,5 +1,5 @@
-use Rattle.std.proofs.Common.{◌*◌, ◌-◌, arith, length}
-use Rattle.egt_graph.proofs.Marking.{room_within, sources_within, marks_all, open_before}
+use Rattle.std.proofs.Common.{◌*◌, arith, length}
+use Rattle.egt_graph.proofs.Marking.{sources_within, marks_all, open_before}
 use Rattle.egt_graph.proofs.step.mark_sources.Goals as goal
 
 pub mark_wins-requires-clause-within : goal.mark_wins-requires-clause-within
@@ -11,8 +11,8 @@ mark_wins-requires-clause-within g c =
 pub unmark-requires : goal.unmark-requires
 unmark-requires g c = record {
   room = rw c.as_slice-2.ensures.value
-      (room_within (length c.args.marks.now) c.list_marked_into.new.list.items (sources_within (g.G.Game.graph c.args.game.now) (g.met.G.Game.lawful c.args.game.now) (64 * length c.args.marks.now - 128) c.args.nodes.now c.args.marks.now c.list_marked_into.new.list.items
-      c.requires.are_nodes c.list_marked_into.ensures (omega (arith, c.requires.entries_long, c.requires.marks_room))));
+      (sources_within (g.G.Game.graph c.args.game.now) (g.met.G.Game.lawful c.args.game.now) (64 * length c.args.marks.now) c.args.nodes.now c.args.marks.now c.list_marked_into.new.list.items
+      c.requires.are_nodes c.list_marked_into.ensures (omega (arith, c.requires.entries_long, c.requires.marks_room)));
 }
 
 pub returns-clause-marks : goal.returns-clause-marks

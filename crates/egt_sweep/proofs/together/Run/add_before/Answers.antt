@@ -10,6 +10,9 @@ use Rattle.egt_sweep.proofs.together.Run.add_before.Goals as goal
 pub add_king-requires-clause-men : goal.add_king-requires-clause-men
 add_king-requires-clause-men c = c.men_of-men.ensures _ c.requires.frame
 
+pub add_one-requires-clause-men : goal.add_one-requires-clause-men
+add_one-requires-clause-men c = c.men_of-men.ensures _ c.requires.frame
+
 pub add_rest-requires-clause-men : goal.add_rest-requires-clause-men
 add_rest-requires-clause-men c = c.men_of-men.ensures _ c.requires.frame
 

@@ -1,5 +1,6 @@
-use Rattle.std.proofs.Common.{ℕ, ◌⊎◌, ◌↔◌, subst}
+use Rattle.std.proofs.Common.{ℕ, ◌⊎◌, ◌↔◌, sym, subst}
 use Rattle.std.specs.List.{Contains}
+use Rattle.egt_board.specs.Camps.{IsOccupied}
 use Rattle.egt_graph.specs.Undecided.{IsMarked}
 use Rattle.egt_sweep.specs.Edges.{CameTo}
 use Rattle.egt_sweep.specs.Nodes.{setup_at}
@@ -14,6 +15,10 @@ add_sources_of_king-requires-clause-untargeted c = (c.requires.never c.args.node
 
 pub add_before-requires-clause-alike : goal.add_before-requires-clause-alike
 add_before-requires-clause-alike c = alike_there c.args.class c.args.self.now c.args.node c.requires.near c.requires.at
+
+pub add_before-requires-clause-occupied : goal.add_before-requires-clause-occupied
+add_before-requires-clause-occupied c =
+    subst (λ (n : ℕ). IsOccupied (setup_at c.args.class n).men c.args.men.now.all) (sym (there c.args.class c.args.self.now c.args.node c.requires.near)) c.requires.men.occupied
 
 pub returns-then-self-clause-members : goal.returns-then-self-clause-members
 returns-then-self-clause-members c i =

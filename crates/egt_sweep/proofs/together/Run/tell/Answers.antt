@@ -5,7 +5,7 @@ use Rattle.egt_board.specs.declared.man.Side.{Side}
 use Rattle.egt_index.specs.Fixed.{StandsFixed}
 use Rattle.egt_sweep.specs.Nodes.{setup_at}
 use Rattle.egt_sweep.proofs.InRuns.{none_beside}
-use Rattle.egt_sweep.proofs.Runs.{goes_along, stands_throughout}
+use Rattle.egt_sweep.proofs.Runs.{stands_throughout}
 use Rattle.egt_sweep.proofs.together.Run.tell.Goals as goal
 
 pub tell-requires-clause-frame : goal.tell-requires-clause-frame
@@ -13,37 +13,25 @@ tell-requires-clause-frame c = (c.args.shelf.now.passed, c.requires.shelf.framed
 
 pub tell-requires-clause-stands : goal.tell-requires-clause-stands
 tell-requires-clause-stands c = λ j alike.
-    let there = stands_throughout c.args.class c.args.shelf.now.node c.args.shelf.now.frame c.args.shelf.now.passed c.fixed-fixed.result c.requires.shelf.class c.requires.shelf.framed c.fixed-fixed.ensures.fixed j alike in
+    let there = stands_throughout c.args.class c.args.shelf.now.node c.args.shelf.now.frame c.args.shelf.now.passed c.fixed-fixed.result c.requires.shelf.class c.requires.shelf.framed c.fixed-fixed.ensures j alike in
     ((c.king-to.ensures _ there).stands, c.other-side.ensures ∙ ap other_side (sym there.side_is))
 
 pub tell-requires-clause-held : goal.tell-requires-clause-held
 tell-requires-clause-held c = λ j alike.
-    c.held-held.ensures.held _ (stands_throughout c.args.class c.args.shelf.now.node c.args.shelf.now.frame c.args.shelf.now.passed c.fixed-fixed.result c.requires.shelf.class c.requires.shelf.framed c.fixed-fixed.ensures.fixed j alike)
+    c.held-held.ensures _ (stands_throughout c.args.class c.args.shelf.now.node c.args.shelf.now.frame c.args.shelf.now.passed c.fixed-fixed.result c.requires.shelf.class c.requires.shelf.framed c.fixed-fixed.ensures j alike)
 
 pub tell_one-one-requires-clause-fixed : goal.tell_one-one-requires-clause-fixed
 tell_one-one-requires-clause-fixed c =
-    stands_throughout c.args.class c.args.shelf.now.node c.args.shelf.now.frame c.args.shelf.now.passed c.fixed-fixed.result c.requires.shelf.class c.requires.shelf.framed c.fixed-fixed.ensures.fixed
+    stands_throughout c.args.class c.args.shelf.now.node c.args.shelf.now.frame c.args.shelf.now.passed c.fixed-fixed.result c.requires.shelf.class c.requires.shelf.framed c.fixed-fixed.ensures
 
 pub tell_one-one-requires-clause-held : goal.tell_one-one-requires-clause-held
 tell_one-one-requires-clause-held c = λ j alike.
-    c.held-held.ensures.held _ (stands_throughout c.args.class c.args.shelf.now.node c.args.shelf.now.frame c.args.shelf.now.passed c.fixed-fixed.result c.requires.shelf.class c.requires.shelf.framed c.fixed-fixed.ensures.fixed j alike)
-
-pub tell-requires-clause-along : goal.tell-requires-clause-along
-tell-requires-clause-along c =
-    goes_along c.args.class c.args.shelf.now.node c.args.shelf.now.frame c.args.shelf.now.passed c.fixed-fixed.result c.held-held.result c.requires.shelf.class c.requires.targets c.requires.shelf.framed c.fixed-fixed.ensures.along
-    (stands_throughout c.args.class c.args.shelf.now.node c.args.shelf.now.frame c.args.shelf.now.passed c.fixed-fixed.result c.requires.shelf.class c.requires.shelf.framed c.fixed-fixed.ensures.fixed)
-    c.held-held.ensures.all
-
-pub tell_one-one-requires-clause-along : goal.tell_one-one-requires-clause-along
-tell_one-one-requires-clause-along c =
-    goes_along c.args.class c.args.shelf.now.node c.args.shelf.now.frame c.args.shelf.now.passed c.fixed-fixed.result c.held-held.result c.requires.shelf.class c.requires.targets c.requires.shelf.framed c.fixed-fixed.ensures.along
-    (stands_throughout c.args.class c.args.shelf.now.node c.args.shelf.now.frame c.args.shelf.now.passed c.fixed-fixed.result c.requires.shelf.class c.requires.shelf.framed c.fixed-fixed.ensures.fixed)
-    c.held-held.ensures.all
+    c.held-held.ensures _ (stands_throughout c.args.class c.args.shelf.now.node c.args.shelf.now.frame c.args.shelf.now.passed c.fixed-fixed.result c.requires.shelf.class c.requires.shelf.framed c.fixed-fixed.ensures j alike)
 
 pub returns-clause-run : goal.returns-clause-run
 returns-clause-run c =
     let fixed = c.fixed-fixed.result in
-    let each = stands_throughout c.args.class c.args.shelf.now.node c.args.shelf.now.frame c.args.shelf.now.passed fixed c.requires.shelf.class c.requires.shelf.framed c.fixed-fixed.ensures.fixed in
+    let each = stands_throughout c.args.class c.args.shelf.now.node c.args.shelf.now.frame c.args.shelf.now.passed fixed c.requires.shelf.class c.requires.shelf.framed c.fixed-fixed.ensures in
     let king = λ (p : Setup) (stands : StandsFixed p fixed). subst (λ (t : ℕ). IsKingOn p.men (other_side fixed.side) t) (sym c.tell.ensures.to) (subst (λ (x : Side). IsKingOn p.men x c.king-to.result) c.other-side.ensures (c.king-to.ensures p stands)) in
     record {
       near = c.requires.near;
