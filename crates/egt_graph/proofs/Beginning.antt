@@ -1,14 +1,15 @@
 -- What a run begins with.
-use Rattle.std.proofs.Common.{◌≡◌, ◌≢◌, ℕ, zero, suc, ◌+◌, ◌*◌, ◌/◌, ◌%◌, ◌<◌, ◌≤◌, ◌^◌, Bool, true, false, cond, not, ◌&&◌, eqb, ltb, Option, Some, None, List, [], ◌∷◌, ◌++◌, length, slice_index, slice_index_or, get_or, set, take, IsFalse, IfSome, IfNone, refl, sym, ap, ap₂, ◌∙◌, inl, inr, subst, arith, count_by, replicate, if◌then◌else◌}
+use Rattle.std.proofs.Common.{◌≡◌, ◌≢◌, ℕ, zero, suc, ◌+◌, ◌*◌, ◌/◌, ◌%◌, ◌<◌, ◌≤◌, ◌^◌, Bool, true, false, cond, not, ◌&&◌, eqb, ltb, Option, Some, None, List, [], ◌∷◌, ◌++◌, length, slice_index, slice_index_or, get_or, set, take, IsFalse, IfSome, IfNone, refl, sym, ap, ap₂, ◌∙◌, inl, inr, subst, arith, count_by, replicate, nat_lt, ◌||◌, if◌then◌else◌}
 use Rattle.std.specs.Int.{bit_at}
 use Rattle.std.specs.List.{list_any}
-use Rattle.std.proofs.lemmas.Bool.{cases_Bool, cases_eq, cases_lt, eq-eqb, ne_eqb, and_left, and_right, le-ltb, or_from, eqb-true}
+use Rattle.std.proofs.lemmas.Bool.{cases_Bool, cases_eq, cases_lt, eq-eqb, ne_eqb, and_left, and_right, le-ltb, lt-ltb, le-leb, or_from, eqb-true}
 use Rattle.std.proofs.lemmas.List.{get_or_past, get_or-replicate, get_or-set_same, get_or-set_other, length-set, length-replicate}
 use Rattle.std.proofs.lemmas.List.Sums.{sum_by_more, sum_by_push}
-use Rattle.egt_graph.specs.Graph.{Graph, IsNode}
+use Rattle.egt_graph.specs.Graph.{Graph, IsNode, AreLike}
 use Rattle.egt_graph.specs.Value.{is_empty, is_lost_before, is_won_before, mated_within}
 use Rattle.egt_graph.specs.Begin.{Adds, IsFilled, IsBegun}
-use Rattle.egt_graph.specs.Counts.{IsCount, AreCounts}
+use Rattle.egt_graph.specs.Counts.{untold, is_draw, IsCount, AreCounts}
+use Rattle.egt_graph.specs.declared.counts.Count.{Count}
 use Rattle.egt_graph.specs.Columns.{outs, leaves, told_at, told, has_moves, count_of, decided, entry_at, later_at, is_loss, is_win_of, is_loss_of, waits_at, is_winning, is_win_from, done_of, Amid, Await}
 use Rattle.egt_graph.specs.declared.game.Exit.{Exit}
 use Rattle.egt_graph.specs.declared.game.Exit.TheVariants.{Win, Loss, Draw}
@@ -130,8 +131,50 @@ Begun_none g = record {
   won_exits = Filled_none g is_win_of;
 }
 
-pub Counts_none : (g : Graph) → AreCounts g (replicate g.size 255)
-Counts_none g = record { long = length-replicate g.size 255; each = λ i lt small. absurd (let e : slice_index (replicate g.size 255) i ≡ 255 = get_or-replicate g.size i 255 0 lt in omega arith) }
+pub Counts_none : (g : Graph) → AreCounts g (replicate g.size untold)
+Counts_none g = record {
+  long = length-replicate g.size untold;
+  each = λ i lt. rw (get_or-replicate g.size i untold untold lt) (λ small. absurd (omega (arith, small)));
+}
+
+-- ---- the same values in another order
+
+all_count : {X : Type 0} (p : X → Bool) → ((x : X) → p x ≡ true) → (xs : List X) → count_by p xs ≡ length xs
+all_count p e [] = refl
+all_count p e (x ∷ xs) =
+    let c = count_by-cons p x xs ∙ ap (λ b. cond b 1 0 + count_by p xs) (e x) in
+    let r = all_count p e xs in
+    omega arith
+
+pub like_long : (xs ys : List Exit) → AreLike xs ys → length xs ≡ length ys
+like_long xs ys like = sym (all_count (λ _. true) (λ x. refl) xs) ∙ like (λ _. true) ∙ all_count (λ _. true) (λ x. refl) ys
+
+-- some pass where their number is not 0
+any_counted : {X : Type 0} (p : X → Bool) (xs : List X) → list_any p xs ≡ nat_lt 0 (count_by p xs)
+any_counted p [] = refl
+any_counted p (x ∷ xs) = elim (cases_Bool (p x)) [
+  | inl t ↦ ap (λ b. b || list_any p xs) t ∙ sym (lt-ltb 0 (count_by p (x ∷ xs)) (let c = count_by-cons p x xs ∙ ap (λ b. cond b 1 0 + count_by p xs) t in omega (arith, c)))
+  | inr f ↦ ap (λ b. b || list_any p xs) f ∙ any_counted p xs ∙ ap (nat_lt 0) (let c = count_by-cons p x xs ∙ ap (λ b. cond b 1 0 + count_by p xs) f in let e : count_by p xs ≡ count_by p (x ∷ xs) = omega (arith, c) in e)
+]
+
+Adds_like : (test : ℕ → Exit → Bool) (a b : List (List ℕ)) (node : ℕ) (xs ys : List Exit) → AreLike xs ys → Adds test a b node xs → Adds test a b node ys
+Adds_like test a b node xs ys like adds n i = adds n i ∙ ap (λ k. count_of i (slice_index_or a n []) + cond (eqb node i) k 0) (like (test n))
+
+-- each is of one kind
+kinds_more : (x : Exit) → cond (is_win_from 0 x) 1 0 + cond (is_loss x) 1 0 + cond (is_draw x) 1 0 ≡ 1
+kinds_more (Win k) = ap (λ b. cond {A = ℕ} b 1 0 + 0 + 0) (le-leb 0 k (omega arith))
+kinds_more (Loss k) = refl
+kinds_more Draw = refl
+
+pub kinds_all : (xs : List Exit) → count_by (is_win_from 0) xs + count_by is_loss xs + count_by is_draw xs ≡ length xs
+kinds_all [] = refl
+kinds_all (x ∷ xs) =
+    let wins = count_by-cons (is_win_from 0) x xs in
+    let losses = count_by-cons is_loss x xs in
+    let draws = count_by-cons is_draw x xs in
+    let one = kinds_more x in
+    let rest = kinds_all xs in
+    omega (arith, wins, losses, draws, one, rest)
 
 -- ---- one number more
 
@@ -237,41 +280,43 @@ module _ (g : Graph) (m : ℕ) (below : m < g.size) (there : IsFalse (g.void m))
       (Adds_nothing is_win_of wd m (g.exits m) none)
 
   pub Begun_leaving : (es ws ls : List ℕ) (fs : List Bool) (ld wd : List (List ℕ)) → IsBegun g m es (told g ws) ls fs ld wd → (e : ℕ) (mated : Bool) → e ≡ (if mated then 3 else 1) → mated ≡ g.mated m → (w : ℕ) → told_at g m w ≡ length (outs g m) + length (leaves g m)
-      → (l : ℕ) (f : Bool) (ld' wd' : List (List ℕ)) → l ≡ count_by (is_win_from 0) (g.exits m) → f ≡ list_any is_loss (g.exits m) → Adds is_loss_of ld ld' m (g.exits m) → Adds is_win_of wd wd' m (g.exits m)
+      → (l n : ℕ) (f : Bool) (ld' wd' : List (List ℕ)) (exits : List Exit) → AreLike exits (g.exits m) → l ≡ count_by (is_win_from 0) exits → n ≡ count_by is_loss exits → f ≡ nat_lt 0 n → Adds is_loss_of ld ld' m exits → Adds is_win_of wd wd' m exits
       → IsBegun g (m + 1) (set es m e) (told g (set ws m w)) (set ls m l) (set fs m f) ld' wd'
-  Begun_leaving es ws ls fs ld wd h e mated shows is w waits l f ld' wd' wins losses t u =
+  Begun_leaving es ws ls fs ld wd h e mated shows is w waits l n f ld' wd' exits like wins losses some t u =
       let off = sym (leaves_at g m here) in
       Begun_node es ws ls fs ld wd h e mated shows is w waits _ _ ld' wd'
-      (put_set 0 ls m _ l (let long = h.later_long in omega arith) (wins ∙ ap (count_by (is_win_from 0)) off))
-      (put_set false fs m _ f (let long = h.lost_long in omega arith) (losses ∙ ap (list_any is_loss) off))
-      t u
+      (put_set 0 ls m _ l (let long = h.later_long in omega arith) (wins ∙ like (is_win_from 0) ∙ ap (count_by (is_win_from 0)) off))
+      (put_set false fs m _ f (let long = h.lost_long in omega arith) (some ∙ ap (nat_lt 0) (losses ∙ like is_loss) ∙ sym (any_counted is_loss (g.exits m)) ∙ ap (list_any is_loss) off))
+      (Adds_like is_loss_of ld ld' m exits (g.exits m) like t) (Adds_like is_win_of wd wd' m exits (g.exits m) like u)
 
-  -- what is told of a node without exits
-  pub Counts_more : (counts : List ℕ) → AreCounts g counts → (degree : Option ℕ) (n : ℕ) → IfSome degree (λ k. (k ≡ length (g.out m)) × (k ≤ 64)) → IfSome degree (λ k. n ≡ k) → IfNone degree (n ≡ 255) → g.exits m ≡ [] → AreCounts g (set counts m n)
-  Counts_more counts h degree n moves counted uncounted none = record {
-    long = length-set counts m n ∙ h.long;
+  -- what is told of a node
+  pub Counts_more : (counts : List Count) → AreCounts g counts → (degree : Option ℕ) (count : Count) (exits : List Exit) → AreLike exits (g.exits m) → IfSome degree (λ k. (k ≡ length (g.out m)) × (k ≤ 64)) → IfSome degree (λ k. count.moves ≡ k) → IfNone degree (count.moves ≡ 255)
+      → count.wins ≡ count_by (is_win_from 0) exits → count.losses ≡ count_by is_loss exits → count.draws ≡ count_by is_draw exits → count.wins + count.losses + count.draws ≤ 64 → AreCounts g (set counts m count)
+  Counts_more counts h degree count exits like moves counted uncounted wins losses draws few = record {
+    long = length-set counts m count ∙ h.long;
     each = λ i lt. elim (cases_eq i m) [
-      | inl e ↦ rw (e, get_or-set_same counts m n 0 (let long = h.long in omega arith)) (count_is degree moves counted uncounted)
-      | inr ne ↦ rw (get_or-set_other counts m i n 0 ne) (h.each i lt)
+      | inl e ↦ rw (e, get_or-set_same counts m count untold (let long = h.long in omega arith)) (count_is degree moves counted uncounted)
+      | inr ne ↦ rw (get_or-set_other counts m i count untold ne) (h.each i lt)
     ];
   }
     where
-      count_is : (degree : Option ℕ) → IfSome degree (λ k. (k ≡ length (g.out m)) × (k ≤ 64)) → IfSome degree (λ k. n ≡ k) → IfNone degree (n ≡ 255) → IsCount g m n
+      count_is : (degree : Option ℕ) → IfSome degree (λ k. (k ≡ length (g.out m)) × (k ≤ 64)) → IfSome degree (λ k. count.moves ≡ k) → IfNone degree (count.moves ≡ 255) → IsCount g m count
       count_is None moves counted uncounted small = absurd (let e = uncounted in omega arith)
-      count_is (Some k) moves counted uncounted small = (there, sym moves.0 ∙ sym counted, (let a = moves.1 in let e = counted in omega arith), none)
+      count_is (Some k) moves counted uncounted small = (
+        there,
+        sym moves.0 ∙ sym counted,
+        (let a = moves.1 in let e = counted in omega arith),
+        sym (like (is_win_from 0)) ∙ sym wins,
+        sym (like is_loss) ∙ sym losses,
+        sym (like is_draw) ∙ sym draws,
+        few,
+      )
 
 -- ---- the columns of round 0
 
 none_passes : {X : Type 0} (p : X → Bool) → ((x : X) → p x ≡ false) → (xs : List X) → list_any p xs ≡ false
 none_passes p e [] = refl
 none_passes p e (x ∷ xs) = or_from _ _ (e x) (none_passes p e xs)
-
-all_count : {X : Type 0} (p : X → Bool) → ((x : X) → p x ≡ true) → (xs : List X) → count_by p xs ≡ length xs
-all_count p e [] = refl
-all_count p e (x ∷ xs) =
-    let c = count_by-cons p x xs ∙ ap (λ b. cond b 1 0 + count_by p xs) (e x) in
-    let r = all_count p e xs in
-    omega arith
 
 not_lost_yet : (e : Exit) → is_lost_before 0 e ≡ false
 not_lost_yet (Win k) = refl

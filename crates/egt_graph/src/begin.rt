@@ -1,14 +1,14 @@
 //! What a run begins with.
 ghost use Rattle.std.specs.Prelude.{◌≡◌, ℕ, ◌+◌, ◌*◌, ◌<◌, ◌≤◌, length, slice_index, count_by, [], ◌∷◌, OnOk, IfOk, IfSome, IfNone, if◌then◌else◌};
 ghost use Rattle.std.specs.Int.{bit_at};
-ghost use Rattle.std.specs.List.{list_any};
 ghost use Rattle.egt_graph.specs.Columns.{outs, leaves, told_at, entry_at, is_loss, is_win_from, is_win_of, is_loss_of};
 ghost use Rattle.egt_graph.specs.Begin.{Adds, AreBegun};
+ghost use Rattle.egt_graph.specs.Counts.{is_draw};
 ghost use Rattle.egt_graph.specs.Graph.{IsStart};
 ghost use Rattle.egt_graph.specs.Undecided.{AreMarksUpTo, is_up_to};
 
 use crate::columns::DRAW;
-use crate::counts::UNTOLD;
+use crate::counts::Count;
 use crate::game::{Exit, Game, Start};
 use crate::scan::PART;
 use crate::schedule::Schedule;
@@ -25,7 +25,7 @@ pub(crate) struct Columns {
     pub(crate) lost: Vec<bool>,
     pub(crate) lost_due: Schedule,
     pub(crate) won_due: Schedule,
-    pub(crate) counts: Vec<u8>,
+    pub(crate) counts: Vec<Count>,
 }
 
 /// The columns before the first round. Each node's moves are counted, if the game counts them, and none is asked for.
@@ -40,7 +40,7 @@ pub(crate) fn begin<G: Game>(alloc: Global, game: &G) -> Result<Columns, AllocEr
         lost: vec![in alloc; false; size as usize]?,
         lost_due: Schedule::new(alloc),
         won_due: Schedule::new(alloc),
-        counts: vec![in alloc; UNTOLD; size as usize]?,
+        counts: vec![in alloc; Count::UNTOLD; size as usize]?,
     };
     let mut exits = ArrayVec::new();
     let mut next_exits = ArrayVec::new();
@@ -116,15 +116,18 @@ fn fill<G: Game>(
     };
     let i = node as usize;
     columns.entries[i] = first_entry(start.mated);
+    let moves = start.degree.unwrap_or(UNCOUNTED);
     if exits.is_empty() {
-        let moves = start.degree.unwrap_or(UNCOUNTED);
         columns.waits[i] = moves;
-        columns.counts[i] = moves;
+        columns.counts[i] = count_of(moves, exits, 0, 0);
         return Ok(());
     }
+    let wins = count_wins(exits);
+    let losses = count_losses(exits);
+    columns.counts[i] = count_of(moves, exits, wins, losses);
     columns.waits[i] = waits_for(start, exits);
-    columns.later[i] = count_wins(exits);
-    columns.lost[i] = any_loss(exits);
+    columns.later[i] = wins;
+    columns.lost[i] = losses > 0;
     schedule_exits(
         alloc,
         exits,
@@ -168,15 +171,37 @@ fn count_wins(exits: &[Exit]) -> u8
     wins
 }
 
-fn any_loss(exits: &[Exit]) -> bool
-    ensures { result ≡ list_any is_loss exits.now }
+fn count_losses(exits: &[Exit]) -> u8
+    requires { length exits.now ≤ 64 }
+    ensures { result ≡ count_by is_loss exits.now }
 {
+    let mut losses = 0;
     for exit in exits {
         if let Exit::Loss(_) = exit {
-            return true;
+            losses += 1;
         }
     }
-    false
+    losses
+}
+
+/// What is told of a node with so many moves to others, and with these exits, of which so many are wins and losses.
+#[inline(always)]
+fn count_of(moves: u8, exits: &[Exit], wins: u8, losses: u8) -> Count
+    requires few { length exits.now ≤ 64 }
+    requires wins { wins ≡ count_by (is_win_from 0) exits.now }
+    requires losses { losses ≡ count_by is_loss exits.now }
+    ensures moves { result.moves ≡ moves }
+    ensures wins { result.wins ≡ wins }
+    ensures losses { result.losses ≡ losses }
+    ensures draws { result.draws ≡ count_by is_draw exits.now }
+    ensures few { result.wins + result.losses + result.draws ≤ 64 }
+{
+    Count {
+        moves,
+        wins,
+        losses,
+        draws: exits.len() as u8 - wins - losses,
+    }
 }
 
 #[inline(always)]

@@ -2,7 +2,7 @@
 ghost use Rattle.std.specs.Prelude.{◌≡◌, ◌+◌, ◌*◌, ◌<◌, ◌≤◌, ◌++◌, length, [], true, All, IfSome, IfNone, IsFalse};
 ghost use Rattle.std.specs.List.Sorted.{IsStrictlyIncreasing};
 ghost use Rattle.arrayvec.specs.ArrayVec.{array_vec_len};
-ghost use Rattle.egt_graph.specs.Graph.{Graph, IsNode, IsGame, IsStart};
+ghost use Rattle.egt_graph.specs.Graph.{Graph, IsNode, IsGame, IsStart, AreLike};
 ghost use Rattle.egt_graph.specs.Columns.{into_all};
 ghost use Rattle.egt_graph.specs.Undecided.{AreKnown, AreOfNodes, AreMarkedInto};
 
@@ -70,13 +70,13 @@ pub trait Game {
         ensures { result.items ≡ (graph self.now).exits i };
 
     /// What `void`, `mated`, `degree` (if it counts) and `exits` answer of a number, at once; `None` where it is no node. The values of the
-    /// positions outside take the place of what `exits` had.
+    /// positions outside, in any order, take the place of what `exits` had.
     fn start(&self, i: u32, exits: &mut ArrayVec<Exit, 64>) -> Option<Start>
         requires { i < (graph self.now).size }
         ensures node { IfSome result (λ start. IsFalse ((graph self.now).void i)
             × (start.mated ≡ (graph self.now).mated i)
             × IfSome start.degree (λ n. (n ≡ length ((graph self.now).out i)) × (n ≤ 64))
-            × (exits.new.items ≡ (graph self.now).exits i)) }
+            × AreLike exits.new.items ((graph self.now).exits i)) }
         ensures void { IfNone result (((graph self.now).void i ≡ true) × (exits.new.items ≡ [])) }
     {
         if self.void(i) {

@@ -19,7 +19,7 @@ mod waiting;
 
 pub use answer::{Close, Post};
 pub use batch::Batch;
-pub use counts::UNTOLD;
+pub use counts::Count;
 pub use game::{Exit, Game, Start};
 pub use ranks::Ranks;
 pub use rounds::Rounds;

@@ -12,6 +12,7 @@ use crate::answer::{Close, Phase, Post};
 use crate::batch::Batch;
 use crate::begin::{Columns, begin, marks_up_to};
 use crate::columns::DRAW;
+use crate::counts::Count;
 use crate::game::Game;
 use crate::ranks::Ranks;
 use crate::scan::{BLOCK, PART, block_nodes, is_block_front};
@@ -88,7 +89,7 @@ impl<'g, G: Game> Rounds<'g, G> {
         alloc: Global,
         game: &'g G,
         limit: u16,
-    ) -> Result<(Self, Vec<u8>), AllocError>
+    ) -> Result<(Self, Vec<Count>), AllocError>
         requires { limit ≤ 32000 }
         ensures rounds { IfOk result
             (λ told. (told.0.game ≡ game.now) × (told.0.state ≡ begun (G.graph game.now) limit)) }

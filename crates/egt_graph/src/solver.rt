@@ -7,6 +7,7 @@ ghost use Rattle.egt_graph.specs.declared.answer.Phase.TheVariants.{Running};
 ghost use Rattle.egt_graph.specs.declared.solver.SolveFault.TheVariants.{NoMemory};
 
 use crate::answer::Close;
+use crate::counts::Count;
 use crate::game::Game;
 use crate::ranks::Ranks;
 use crate::rounds::Rounds;
@@ -63,13 +64,13 @@ pub fn solve<G: Game>(alloc: Global, game: &G, limit: u16) -> Result<Ranks, Solv
     finish(alloc, Rounds::new(alloc, game, limit)?)
 }
 
-/// What `solve` answers, with a byte a number: how many moves the node has, where none of them leaves the game, and else
-/// [`UNTOLD`](crate::UNTOLD). A game with the same moves need not count them again.
+/// What `solve` answers, with a count a number: how many moves the node has of each sort. A game with the same moves need not count them
+/// again.
 pub fn solve_and_count<G: Game>(
     alloc: Global,
     game: &G,
     limit: u16,
-) -> Result<(Ranks, Vec<u8>), SolveFault>
+) -> Result<(Ranks, Vec<Count>), SolveFault>
     requires { limit ≤ 32000 }
     ensures ok { IfOk result (λ told. AreRanks (G.graph game.now) limit told.0) }
     ensures counts { IfOk result (λ told. AreCounts (G.graph game.now) told.1.items) }

@@ -1,6 +1,6 @@
 //! Small games whose values were worked out by hand.
 use super::games::{Backwards, STAIRS, Sample, Stairs, Together, Uncounted, stair_entry};
-use crate::{Exit, Game, SolveFault, Start, UNTOLD, solve, solve_and_count};
+use crate::{Count, Exit, Game, SolveFault, Start, solve, solve_and_count};
 use arrayvec::ArrayVec;
 use std::test::*;
 
@@ -47,17 +47,35 @@ fn counted_when_waited_for(rt: HostRuntime) -> Result<(), Fail> {
     Ok(())
 }
 
-// 1 and 4 alone have moves and no exits.
+fn count(moves: u8, wins: u8, losses: u8, draws: u8) -> Count {
+    Count {
+        moves,
+        wins,
+        losses,
+        draws,
+    }
+}
+
 #[test]
 fn counts_told(rt: HostRuntime) -> Result<(), Fail> {
     let game = with_exits();
     let (_ranks, counts) = solve_and_count(rt.alloc(), &game, 8)?;
     assert_eq!(rt;
         counts.as_slice(),
-        [UNTOLD, 1, UNTOLD, UNTOLD, 1].as_slice()
+        [
+            count(0, 0, 1, 0),
+            count(1, 0, 0, 0),
+            count(0, 2, 0, 0),
+            count(0, 1, 0, 1),
+            count(1, 0, 0, 0),
+        ]
+        .as_slice()
     );
     let (_ranks, counts) = solve_and_count(rt.alloc(), &Uncounted { game: &game }, 8)?;
-    assert_eq!(rt; counts.as_slice(), [UNTOLD; 5].as_slice());
+    assert_eq!(rt; counts.len(), 5);
+    for told in &counts {
+        assert_eq!(rt; told.moves, Count::UNTOLD.moves);
+    }
     Ok(())
 }
 

@@ -1,6 +1,7 @@
 use Rattle.std.proofs.Common.{◌≡◌, ◌+◌, ◌*◌, ℕ, false, replicate, sym, subst, arith}
 use Rattle.std.proofs.lemmas.Grind.{common_steps}
 use Rattle.egt_graph.specs.Begin.{AreBegun}
+use Rattle.egt_graph.specs.Counts.{untold}
 use Rattle.egt_graph.proofs.Beginning.{Begun_none, Counts_none}
 use Rattle.egt_graph.proofs.begin.begin.Goals.{then-size-eq1+in_ok-fill_one, else-size-eq1}
 use Rattle.egt_graph.proofs.begin.begin.Goals as goal
@@ -30,7 +31,7 @@ loop-pair-init g c =
     let waits : c.in_ok-vec-2.field-0.items ≡ replicate graph.size 0 = grind (arith, common_steps) in
     let later : c.in_ok-vec-3.field-0.items ≡ replicate graph.size 0 = grind (arith, common_steps) in
     let lost : c.in_ok-vec-4.field-0.items ≡ replicate graph.size false = grind (arith, common_steps) in
-    let counts : c.in_ok-vec-5.field-0.items ≡ replicate graph.size 255 = grind (arith, common_steps) in
+    let counts : c.in_ok-vec-5.field-0.items ≡ replicate graph.size untold = grind (arith, common_steps) in
     rw (entries, waits, later, lost, counts, c.new.ensures, c.new-2.ensures) (Begun_none graph, Counts_none graph)
 
 pub loop-pair-preserved : goal.loop-pair-preserved
