@@ -18,6 +18,8 @@ pub mod BuiltTables
 pub mod Onward
 pub mod Counting
 pub mod Tallying
+pub mod OfPawns
+pub mod ExitKinds
 pub mod Led
 pub mod Starting
 pub mod Telling

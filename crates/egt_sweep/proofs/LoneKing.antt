@@ -1,5 +1,5 @@
 -- Where the side that waits has its king alone, nobody can be taken, and the side to move is not in check.
-use Rattle.std.proofs.Common.{◌≡◌, ◌≢◌, if◌then◌else◌, ℕ, ◌<◌, Bool, true, false, List, [], Option, Some, None, arith, refl, sym, ap, ◌∙◌, subst, inl, inr}
+use Rattle.std.proofs.Common.{◌≡◌, ◌≢◌, if◌then◌else◌, count_by, ℕ, ◌<◌, Bool, true, false, List, [], Option, Some, None, arith, refl, sym, ap, ◌∙◌, subst, inl, inr}
 use Rattle.std.proofs.lemmas.Bool.{cases_eq}
 use Rattle.std.specs.FinMap as map
 use Rattle.std.specs.Option.{option_to_list}
@@ -191,7 +191,7 @@ faced laws both tables column c i p at alone exits told =
         no_void laws c i p at,
         not_told (decided_checkmate p) (never_mated laws p at.spells.admissible alone both) ∙ sym (ap is_mated found),
         tt,
-        told ∙ ap (exits_from tables column c) (sym found),
+        λ test. ap (count_by test) (told ∙ ap (exits_from tables column c) (sym found)),
       );
       void = tt;
     }

@@ -1,5 +1,5 @@
 -- What a run begins with at a node.
-use Rattle.std.proofs.Common.{◌≡◌, ◌≢◌, ℕ, ◌+◌, ◌/◌, ◌%◌, ◌<◌, ◌≤◌, cond, not, Bool, true, false, List, [], length, slice_index, Option, Some, None, IfSome, arith, refl, sym, ap, ◌∙◌, subst, inl, inr}
+use Rattle.std.proofs.Common.{◌≡◌, ◌≢◌, ℕ, ◌+◌, ◌/◌, ◌%◌, ◌<◌, ◌≤◌, cond, count_by, not, Bool, true, false, List, [], length, slice_index, Option, Some, None, IfSome, arith, refl, sym, ap, ◌∙◌, subst, inl, inr}
 use Rattle.std.specs.Int.{bit_at}
 use Rattle.std.specs.Option.{is_some}
 use Rattle.egt_board.specs.Decided.{Decided, tells}
@@ -69,7 +69,7 @@ started laws tables aim c i p at start exits mate counted told =
         no_void laws c i p at,
         mate ∙ sym (ap is_mated found),
         counted,
-        told ∙ ap (exits_from (known tables c aim) (column_of aim) c) (sym found),
+        λ test. ap (count_by test) (told ∙ ap (exits_from (known tables c aim) (column_of aim) c) (sym found)),
       );
       void = tt;
     }

@@ -1,5 +1,5 @@
 -- Where all moves stay in the class and none is a pawn's, none zeroes: both games have the same edges there, and no exits.
-use Rattle.std.proofs.Common.{◌≡◌, if◌then◌else◌, ℕ, ◌<◌, ◌≤◌, ◌↔◌, Bool, true, false, not, List, [], ◌∷◌, length, Option, Some, None, IsFalse, arith, refl, sym, ap, ◌∙◌, subst, inl, inr}
+use Rattle.std.proofs.Common.{◌≡◌, if◌then◌else◌, ℕ, ◌+◌, ◌<◌, count_by, ◌≤◌, ◌↔◌, Bool, true, false, not, List, [], ◌∷◌, length, Option, Some, None, IsFalse, arith, refl, sym, ap, ◌∙◌, subst, inl, inr}
 use Rattle.std.proofs.lemmas.Bool.{false≢true}
 use Rattle.std.specs.List.{flat_map}
 use Rattle.std.specs.Option.{is_some, option_to_list}
@@ -16,8 +16,9 @@ use Rattle.egt_moves.specs.Chess.{Zeroes}
 use Rattle.egt_moves.specs.Legal.{Leads}
 use Rattle.egt_moves.specs.Moves.{moves_of, played}
 use Rattle.egt_moves.specs.declared.chess_move.Move.{Move}
-use Rattle.egt_graph.specs.Counts.{IsCount}
-use Rattle.egt_graph.specs.Graph.{IsStart}
+use Rattle.egt_graph.specs.Columns.{is_win_from, is_loss}
+use Rattle.egt_graph.specs.Counts.{is_draw, IsCount}
+use Rattle.egt_graph.specs.declared.counts.Count.{Count}
 use Rattle.egt_graph.specs.Passing.{passing_below, passing_is, passing_has, passing_passes, passing_is_below, passing_ascends}
 use Rattle.egt_table.specs.declared.column.Column.TheVariants.{Mate, Zeroing}
 use Rattle.egt_check.specs.Tables.{Tables}
@@ -45,27 +46,7 @@ module _ (laws : Laws) (tables : Tables) (c i : ℕ) (below : c < 36) (p : Setup
   of_class : (flipped : Bool) × IsOf c flipped p
   of_class = laws.indexed_class p c i at.spells.admissible at.index
 
-  -- a move without an exit stays in the class
-  stays : exits_at tables Mate c i ≡ [] → (m : Move) (q : Setup) → Leads p m q → GoesOn Mate c p m q
-  unfolding exits_at
-  stays none m q leads = of_test (goes_on Mate c p m q) refl
-    where
-      q_ok : IsAdmissible q
-      q_ok = laws.facts.step_admissible p q m at.spells.admissible leads
-
-      empty : exits_by tables Mate c p (moves_of p) ≡ []
-      empty = sym (ap (exits_from tables Mate c) ((position_is laws c i p).1 at)) ∙ none
-
-      of_test : (b : Bool) → goes_on Mate c p m q ≡ b → GoesOn Mate c p m q
-      of_test true e = (goes_is laws Mate c p q m q_ok).0 e
-      of_test false e =
-          let exit = exit_of Mate (shown_below tables 36 q) in
-          let here : exit_by tables Mate c p m (played p m) ≡ Some exit =
-          ap (exit_by tables Mate c p m) ((laws.played p q m).0 leads) ∙ ap (λ b. if b then None else Some exit) e in
-          let listed = contains_in m (moves_of p) ((laws.listed p m at.spells.admissible).1 (q, leads)) in
-          absurd (subst (In exit) empty (given_in (λ k. exit_by tables Mate c p k (played p k)) (moves_of p) m exit listed here))
-
-  -- and is no pawn's, so it does not zero
+  -- a move that stays in the class takes nothing, and where no pawn makes it it does not zero
   pub quiet : MovesNoPawn c i → (m : Move) (q : Setup) → Leads p m q → GoesOn Mate c p m q → Zeroes p m → ⊥
   quiet no_pawn m q leads on (inl taken) =
       let ok = laws.facts.step_admissible p q m at.spells.admissible leads in
@@ -98,52 +79,17 @@ passing_same n f g same = passing_is n g (passing_below n f) (passing_ascends n 
     (λ k has. let lt = passing_is_below n f k has in (lt, (same k lt).0 (passing_passes n f k has)))
     (λ k lt is. passing_has n f k lt ((same k lt).1 is))
 
--- what is told of a node of the game of mates is what that of zeroing moves begins with
-pub told_start : (laws : Laws) (tables other : Tables) (c i n : ℕ) → c < 36 → i < size_of c → IsCount (class_game tables Mate c) i n → n < 255 → 0 < n → MovesNoPawn c i
-    → IsStart (class_game other Zeroing c) i (Some (record { mated = false; degree = Some n })) []
-unfolding exits_at
-told_start laws tables other c i n below in_range count told some no_pawn = record {
-  node = (
-    count_is.0,
-    sym not_mated,
-    (sym (ap length edges ∙ count_is.1), count_is.2),
-    sym (ap (exits_from other Zeroing c) (sym here) ∙ nothing_of (λ m. option_to_list (exit_by other Zeroing c p m (played p m))) (λ m. nothing_told laws other Zeroing c p m at.spells.admissible (λ q leads. (all m q leads).1)) (moves_of p)),
-  );
-  void = tt;
-}
+-- a node that has moves is no checkmate
+pub unmated : (tables : Tables) (c i : ℕ) (count : Count) → i < size_of c → IsCount (class_game tables Mate c) i count → count.moves < 255 → 0 < count.moves + count.wins + count.losses + count.draws → is_mated (position_at c i) ≡ false
+unmated tables c i count in_range told small some = of_test (is_mated (position_at c i)) refl
   where
-    count_is : IsFalse (not (is_some (position_at c i))) × (length (passing_below (size_of c) (λ j. connects Mate c i j)) ≡ n) × (n ≤ 64) × (exits_at tables Mate c i ≡ [])
-    count_is = count told
-
-    found : (p : Setup) × (position_at c i ≡ Some p)
-    found = there (position_at c i) count_is.0
-
-    p : Setup
-    p = found.0
-
-    here : Some p ≡ position_at c i
-    here = sym found.1
-
-    at : IsAt c i p
-    at = (position_is laws c i p).0 found.1
-
-    all : (m : Move) (q : Setup) → Leads p m q → GoesOn Mate c p m q × (Zeroes p m → ⊥)
-    all m q leads = let on = stays laws tables c i below p at count_is.3 m q leads in (on, quiet laws tables c i below p at no_pawn m q leads on)
-
-    edges : passing_below (size_of c) (λ j. connects Zeroing c i j) ≡ passing_below (size_of c) (λ j. connects Mate c i j)
-    edges =
-        let same = same_edges laws tables c i below p at (λ m q leads on. (all m q leads).1) in
-        passing_same (size_of c) (λ j. connects Zeroing c i j) (λ j. connects Mate c i j) (λ k lt. (
-          λ is. (connects_is laws Mate c i k below).1 ((same k).1 ((connects_is laws Zeroing c i k below).0 is)),
-          λ is. (connects_is laws Zeroing c i k below).1 ((same k).0 ((connects_is laws Mate c i k below).0 is)),
-        ))
-
-    not_mated : is_mated (position_at c i) ≡ false
-    not_mated = of_test (is_mated (position_at c i)) refl
-      where
-        of_test : (b : Bool) → is_mated (position_at c i) ≡ b → is_mated (position_at c i) ≡ false
-        of_test false e = e
-        of_test true e =
-            let none = ((class_game_is_lawful tables Mate c).mate_ends i (record { in_range = in_range; not_void = count_is.0 }) e).0 in
-            let zero : 0 ≡ n = sym (ap length none) ∙ count_is.1 in
-            absurd (omega (arith, zero, some))
+    of_test : (b : Bool) → is_mated (position_at c i) ≡ b → is_mated (position_at c i) ≡ false
+    of_test false e = e
+    of_test true e =
+        let is = told small in
+        let ends = (class_game_is_lawful tables Mate c).mate_ends i (record { in_range = in_range; not_void = is.0 }) e in
+        let moves : 0 ≡ count.moves = sym (ap length ends.0) ∙ is.1 in
+        let wins : 0 ≡ count.wins = sym (ap (count_by (is_win_from 0)) ends.1) ∙ is.3 in
+        let losses : 0 ≡ count.losses = sym (ap (count_by is_loss) ends.1) ∙ is.4 in
+        let draws : 0 ≡ count.draws = sym (ap (count_by is_draw) ends.1) ∙ is.5 in
+        absurd (omega (arith, moves, wins, losses, draws, some))

@@ -19,7 +19,7 @@ use egt_check::Library;
 use egt_check::laws::rules_are_kept_by_true_tables_alone;
 use egt_class::{Class, children};
 use egt_graph::laws::alike_games_have_the_same_ranks;
-use egt_graph::{Ranks, SolveFault, solve, solve_and_count};
+use egt_graph::{Count, Ranks, SolveFault, solve, solve_and_count};
 use egt_index::laws::a_class_without_pawns_has_none;
 use egt_moves::laws::one_value;
 use egt_table::Table;
@@ -41,7 +41,7 @@ pub(crate) fn mate_ranks(
     class: Class,
     library: &Library,
     limit: u16,
-) -> Result<(Ranks, Vec<u8>), BuildFault>
+) -> Result<(Ranks, Vec<Count>), BuildFault>
     requires { limit ≤ 32000 }
     ensures children { IfOk result (λ _. HasChildren (table_at library.now) class) }
     ensures ranks { IfOk result (λ told. AreRanks (class_game (table_at library.now) Mate class) limit told.0) }
@@ -81,7 +81,7 @@ fn zeroing_ranks<'x>(
     class: Class,
     library: &'x Library,
     mates: &'x Ranks,
-    counts: &'x [u8],
+    counts: &'x [Count],
     limit: u16,
 ) -> Result<Ranks, BuildFault>
     requires limit { limit ≤ 32000 }

@@ -256,7 +256,7 @@ fn add_exit_of_step(
 }
 
 /// Adds the values of where the man's moves to the square, which leave the game, lead, in the order of moves.
-fn add_exits_to(
+pub(crate) fn add_exits_to(
     aim: &Aim<'_>,
     class: Class,
     library: &Library,

@@ -7,6 +7,7 @@ mod ascending;
 mod build_fault;
 mod building;
 mod by_squares;
+mod counted;
 mod drawn_children;
 mod edges;
 mod facing;

@@ -28,6 +28,7 @@ ghost use Rattle.egt_sweep.specs.Ways.{Counts, HasAnchor};
 
 use crate::aim::Aim;
 use crate::anchor::has_anchor;
+use crate::counted::{add_zeroed, leaves_room, start_counted, told_count};
 use crate::edges::edges;
 use crate::facing::start_facing_king;
 use crate::laws::laws;
@@ -40,7 +41,7 @@ use egt_board::safety::kings_attack_each_other;
 use egt_board::{Position, SquareSet};
 use egt_check::Library;
 use egt_class::Class;
-use egt_graph::{Exit, Ranks, Start, UNTOLD};
+use egt_graph::{Count, Exit, Ranks, Start};
 use egt_index::{
     Row, faces_king_alone, frame_at, indexed, may_move_pawn, position, position_of, row_of, size,
 };
@@ -305,30 +306,13 @@ pub(crate) fn start_two(
     )
 }
 
-/// To how many nodes moves lead in both games, where that was told: all of them stay in the class, and none is a pawn's, so none zeroes.
-#[inline(always)]
-fn told_degree(class: Class, counts: &[u8], index: u32) -> Option<u8>
-    ensures count { IfSome result (λ n. (index < length counts.now) × (n ≡ slice_index counts.now index) × (0 < n) × (n < 255)) }
-    ensures pawns { IfSome result (λ _. (p : Setup) → Spells class index p → (s : ℕ) → ¬ Stands p.men s (pawn_of p.side)) }
-{
-    let i = index as usize;
-    if i >= counts.len() {
-        return None;
-    }
-    let count = counts[i];
-    if count == 0 || count == UNTOLD || may_move_pawn(class, index) {
-        return None;
-    }
-    Some(count)
-}
-
 /// The same in the game of zeroing moves, where the mate ranks of the class tell which numbers are nodes. So nothing is asked of a number
 /// that no position has, and nothing is tested of the others: a row, which is tested, costs more than it spares. Of most nodes the game of
 /// mates has told the moves already.
 #[inline(always)]
 pub(crate) fn start_by_ranks(
     mates: &Ranks,
-    counts: &[u8],
+    counts: &[Count],
     class: Class,
     library: &Library,
     index: u32,
@@ -343,11 +327,20 @@ pub(crate) fn start_by_ranks(
     laws();
     let _number = class.number();
     exits.clear();
-    if let Some(degree) = told_degree(class, counts, index) {
-        return Some(Start {
-            mated: false,
-            degree: Some(degree),
-        });
+    if let Some(count) = told_count(counts, index) {
+        if !may_move_pawn(class, index) {
+            add_zeroed(count, exits);
+            return Some(Start {
+                mated: false,
+                degree: Some(count.moves),
+            });
+        }
+        if leaves_room(count) {
+            let position = position_of(class, index);
+            if has_anchor(class, &position) {
+                return Some(start_counted(mates, class, library, index, &position, count, exits));
+            }
+        }
     }
     if mates.entries()[index as usize] == 0 {
         return None;

@@ -45,7 +45,7 @@ pub(crate) struct Ways {
 
 /// How many squares the set has.
 #[tactic(auto, using(crate::proofs::Counting::ones_size))]
-fn count(set: SquareSet) -> u32
+pub(crate) fn count(set: SquareSet) -> u32
     ensures size { result ≡ size_of set }
     ensures few { result ≤ 64 }
 {

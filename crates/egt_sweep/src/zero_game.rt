@@ -16,7 +16,7 @@ use crate::nodes::{
 use arrayvec::ArrayVec;
 use egt_check::{Library, first_missing};
 use egt_class::Class;
-use egt_graph::{Exit, Game, Ranks, Start};
+use egt_graph::{Count, Exit, Game, Ranks, Start};
 use egt_index::size;
 use egt_table::Column;
 
@@ -28,7 +28,7 @@ pub struct ZeroGame<'l> {
     library: &'l Library,
     mates: &'l Ranks,
     /// What the game of mates has told of its nodes' moves; it may be empty.
-    counts: &'l [u8],
+    counts: &'l [Count],
     ghost children: { HasChildren (table_at library.now) class },
     ghost shows: { IsMateColumn class mates.now },
     ghost told: { CountsMoves (table_at library.now) class counts.now },
@@ -65,7 +65,7 @@ impl<'l> ZeroGame<'l> {
         class: Class,
         library: &'l Library,
         mates: &'l Ranks,
-        counts: &'l [u8],
+        counts: &'l [Count],
     ) -> Result<ZeroGame<'l>, Missing>
         requires ranks { HasChildren (table_at library.now) class → AreMateRanks (table_at library.now) class mates.now }
         requires counts { CountsMoves (table_at library.now) class counts.now }
