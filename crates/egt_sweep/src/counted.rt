@@ -188,7 +188,7 @@ fn with_pawn(
     let _side = position.side();
     let pawn = own_pawn(position);
     let targets = legal_targets_of(position, camps, pawn, from);
-    let squares = onward(Column::Mate, class, position, camps, from, targets);
+    let squares = onward(Column::Mate, class, position, camps, pawn, from, targets);
     add_staying(mates, class, library, index, position, from, squares, exits);
     moves + count(squares)
 }

@@ -79,7 +79,7 @@ fn add_edges(
     let man = position.at(from).unwrap();
     let targets = legal_targets_of(position, camps, man, from);
     let steps = frame.steps(from);
-    let mut rest = onward(column, class, position, camps, from, targets);
+    let mut rest = onward(column, class, position, camps, man, from, targets);
     while let Some(to) = rest.pop_first() {
         put(list, index_after(class, &steps, position, from, to));
     }

@@ -81,19 +81,20 @@ fn or_has_some(known: bool, set: SquareSet) -> bool
     known || has_some(set)
 }
 
-/// Those of the man's legal targets to which it goes on in the game. It is inlined so that what it asks of the position is asked once.
+/// Those of the legal targets of the man on the square to which it goes on in the game.
 #[inline(always)]
 pub(crate) fn onward(
     column: Column,
     class: Class,
     position: &Position,
     camps: Camps,
+    man: Man,
     from: Square,
     targets: SquareSet,
 ) -> SquareSet
     requires camps { AreCamps position.now camps }
     requires of { (flipped : Bool) × IsOf class flipped position.now }
-    requires held { IsHeld position.now.men from position.now.side }
+    requires stands { Stands position.now.men from man }
     requires targets { (t : ℕ) → Has targets t ↔ IsLegalTarget position.now from t }
     ensures sound { (t : ℕ) → Has result t → IsOnward column class position.now from t }
     ensures complete { (m : Move) (q : Setup) → m.from ≡ from → Leads position.now m q → GoesOn column class position.now m q → Has result m.to }
@@ -102,7 +103,6 @@ pub(crate) fn onward(
 {
     laws();
     let _number = class.number();
-    let man = position.at(from).unwrap();
     let _side = position.side();
     let free = targets.without(camps.enemy);
     match man.kind {
@@ -148,7 +148,7 @@ pub(crate) fn with_man(
     let _side = position.side();
     let man = position.at(from).unwrap();
     let targets = legal_targets_of(position, camps, man, from);
-    let onward = onward(aim.column(), class, position, camps, from, targets);
+    let onward = onward(aim.column(), class, position, camps, man, from, targets);
     let leaving = targets.without(onward);
     add_exits(aim, class, library, index, position, from, leaving, exits);
     Ways {

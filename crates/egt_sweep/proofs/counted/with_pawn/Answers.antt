@@ -14,8 +14,8 @@ legal_targets_of-targets-requires-clause-stands c = c.requires.pawn ∙ ap Some 
 pub legal_targets_of-targets-requires-clause-mine : goal.legal_targets_of-targets-requires-clause-mine
 legal_targets_of-targets-requires-clause-mine c = ap (λ (man : Man). man.side) c.own_pawn-pawn.ensures
 
-pub onward-squares-requires-clause-held : goal.onward-squares-requires-clause-held
-onward-squares-requires-clause-held c = record { man = pawn_of c.args.position.now.side; stands = c.requires.pawn; theirs = refl }
+pub onward-squares-requires-clause-stands : goal.onward-squares-requires-clause-stands
+onward-squares-requires-clause-stands c = c.requires.pawn ∙ ap Some (sym c.own_pawn-pawn.ensures)
 
 pub add_staying-requires-clause-targets : goal.add_staying-requires-clause-targets
 add_staying-requires-clause-targets c t has = (c.legal_targets_of-targets.ensures.legal t).0 (c.onward-squares.ensures.others t has)

@@ -20,7 +20,7 @@ returns-in-Mate-clause-sound c t has =
     let there : Has c.args.targets t = omega (arith, stays.0, squares) in
     let gone : bit_at c.args.camps.enemy.bits t ≡ 0 = omega (arith, stays.0, squares) in
     subst (λ (column : Column). IsOnward column c.args.class p c.args.from t) (sym c.in-Mate.is)
-    (pawn_onward c.laws.ensures c.args.class p (subst (λ (n : ℕ). n < 36) c.number-number.ensures.value c.number-number.ensures.below) c.side-side.ensures.admissible c.requires.of c.unwrap-man.result c.args.from t (sym c.at.ensures ∙ c.unwrap-man.ensures)
+    (pawn_onward c.laws.ensures c.args.class p (subst (λ (n : ℕ). n < 36) c.number-number.ensures.value c.number-number.ensures.below) c.side-side.ensures.admissible c.requires.of c.args.man c.args.from t c.requires.stands
     (λ held. let enemy : Has c.args.camps.enemy t = (c.requires.camps.enemy t).1 held in omega (arith, gone, enemy))
     stays.1 ((c.requires.targets t).0 there))
 
@@ -29,7 +29,7 @@ returns-in-Mate-clause-complete c m q is leads on =
     let p = c.args.position.now in
     let c_in = subst (λ (n : ℕ). n < 36) c.number-number.ensures.value c.number-number.ensures.below in
     let ok = c.side-side.ensures.admissible in
-    let stands : Stands p.men m.from c.unwrap-man.result = subst (λ s. Stands p.men s c.unwrap-man.result) (sym is) (sym c.at.ensures ∙ c.unwrap-man.ensures) in
+    let stands : Stands p.men m.from c.args.man = subst (λ s. Stands p.men s c.args.man) (sym is) c.requires.stands in
     let there : Has c.args.targets m.to = (c.requires.targets m.to).1 (targeted p m c.args.from is (q, leads)) in
     let squares = c.without-free.ensures.squares m.to in
     let quiet : Captures p m → _ = on_quiet c.laws.ensures c.args.class p c_in ok c.requires.of c.args.column q m leads on in
@@ -38,14 +38,14 @@ returns-in-Mate-clause-complete c m q is leads on =
       | inl enemy ↦ absurd (quiet (inl ((c.requires.camps.enemy m.to).0 enemy)))
       | inr none ↦ omega (arith, there, squares, bit, none)
     ] in
-    (c.staying.ensures m.to).1 (free, on_stays c.laws.ensures c.args.class p c_in ok c.requires.of c.args.column q m c.unwrap-man.result stands c.in-P.is leads on)
+    (c.staying.ensures m.to).1 (free, on_stays c.laws.ensures c.args.class p c_in ok c.requires.of c.args.column q m c.args.man stands c.in-P.is leads on)
 
 pub returns-in-Zeroing-clause-complete : goal.returns-in-Zeroing-clause-complete
 returns-in-Zeroing-clause-complete c m q is leads on =
     let p = c.args.position.now in
     let c_in = subst (λ (n : ℕ). n < 36) c.number-number.ensures.value c.number-number.ensures.below in
-    let stands : Stands p.men m.from c.unwrap-man.result = subst (λ s. Stands p.men s c.unwrap-man.result) (sym is) (sym c.at.ensures ∙ c.unwrap-man.ensures) in
-    absurd (no_pawn_on c.laws.ensures c.args.class p c_in c.side-side.ensures.admissible c.requires.of q m c.unwrap-man.result stands c.in-P.is
+    let stands : Stands p.men m.from c.args.man = subst (λ s. Stands p.men s c.args.man) (sym is) c.requires.stands in
+    absurd (no_pawn_on c.laws.ensures c.args.class p c_in c.side-side.ensures.admissible c.requires.of q m c.args.man stands c.in-P.is
     (subst (λ (column : Column). GoesOn column c.args.class p m q) c.in-Zeroing.is on))
 
 pub returns-in_default : goal.returns-in_default
@@ -57,7 +57,7 @@ returns-in_default c =
           let squares = c.without-free.ensures.squares t in
           let there : Has c.args.targets t = omega (arith, has, squares) in
           let gone : bit_at c.args.camps.enemy.bits t ≡ 0 = omega (arith, has, squares) in
-          piece_onward c.laws.ensures c.args.class p c_in ok c.requires.of c.args.column c.unwrap-man.result c.args.from t (sym c.at.ensures ∙ c.unwrap-man.ensures) c.in_default.not-P
+          piece_onward c.laws.ensures c.args.class p c_in ok c.requires.of c.args.column c.args.man c.args.from t c.requires.stands c.in_default.not-P
           (λ held. let enemy : Has c.args.camps.enemy t = (c.requires.camps.enemy t).1 held in omega (arith, gone, enemy))
           ((c.requires.targets t).0 there);
       complete = λ m q is leads on.
