@@ -1,5 +1,6 @@
 //! The scan for the nodes of a round.
-ghost use Rattle.std.specs.Prelude.{◌≡◌, ◌↔◌, ℕ, ◌+◌, ◌*◌, ◌^◌, ◌<◌, ◌≤◌, [], ◌∷◌, ◌++◌, length, min, slice_index, IsTrue, IsFalse, IfOk, OnOk};
+ghost use Rattle.std.specs.Prelude.{◌≡◌, ◌≢◌, ◌↔◌, ℕ, ◌+◌, ◌*◌, ◌^◌, ◌<◌, ◌≤◌, [], ◌∷◌, ◌++◌, length, min, slice_index, IsTrue, IsFalse, IfOk, OnOk, if◌then◌else◌};
+ghost use Rattle.std.specs.Int.{bit_at};
 ghost use Rattle.egt_graph.specs.Frontier.{frontier_of, places_from, is_entry_of_round, entry_front};
 ghost use Rattle.egt_graph.specs.News.{Notes};
 
@@ -35,6 +36,44 @@ pub fn frontier(entries: &[u16], round: u16) -> ArrayVec<u16, 4096>
     places
 }
 
+/// Which entries of the load are of the round: bit `k` is set where entry `from + k` is.
+#[inline(always)]
+fn found_lanes(entries: &[u16], from: usize, round: u16) -> u64
+    requires within { from + LANES ≤ length entries.now }
+    requires short { round ≤ 32000 }
+    ensures found { (k : ℕ) → k < 16 → bit_at result k ≡ (if is_entry_of_round round (slice_index entries.now (from + k)) then 1 else 0) }
+    ensures others { (k : ℕ) → 16 ≤ k → bit_at result k ≡ 0 }
+{
+    let load = u16x16::from_slice(&entries[from..]);
+    // A win and a loss in as many plies differ in the lowest bit alone.
+    let halves = load >> u16x16::splat(1);
+    halves.simd_eq(u16x16::splat(1 + round)).to_bitmask()
+}
+
+/// The place of the lowest bit that is set, of 16.
+#[inline(always)]
+fn first_lane(found: u64) -> u32
+    requires some { found ≢ 0 }
+    requires within { (k : ℕ) → 16 ≤ k → bit_at found k ≡ 0 }
+    ensures below { result < 16 }
+    ensures set { bit_at found result ≡ 1 }
+    ensures least { (k : ℕ) → k < result → bit_at found k ≡ 0 }
+{
+    found.trailing_zeros()
+}
+
+/// The bits without that one, which is set.
+#[inline(always)]
+fn without_lane(found: u64, lane: u32) -> u64
+    requires within { lane < 16 }
+    requires set { bit_at found lane ≡ 1 }
+    ensures same { bit_at result lane ≡ 0 }
+    ensures others { (k : ℕ) → k ≢ lane → bit_at result k ≡ bit_at found k }
+    ensures less { result < found }
+{
+    found & !(1 << lane)
+}
+
 /// How many entries of the load come before the first of the round: all of them where it has none.
 #[inline(always)]
 fn quiet_lanes(entries: &[u16], from: usize, round: u16) -> usize
@@ -44,14 +83,11 @@ fn quiet_lanes(entries: &[u16], from: usize, round: u16) -> usize
     ensures quiet { (k : ℕ) → from ≤ k → k < from + result → IsFalse (is_entry_of_round round (slice_index entries.now k)) }
     ensures found { result < LANES → IsTrue (is_entry_of_round round (slice_index entries.now (from + result))) }
 {
-    let load = u16x16::from_slice(&entries[from..]);
-    // A win and a loss in as many plies differ in the lowest bit alone.
-    let halves = load >> u16x16::splat(1);
-    let found = halves.simd_eq(u16x16::splat(1 + round)).to_bitmask();
+    let found = found_lanes(entries, from, round);
     if found == 0 {
         LANES
     } else {
-        found.trailing_zeros() as usize
+        first_lane(found) as usize
     }
 }
 
@@ -113,8 +149,30 @@ fn block_end(entries: &[u16], block: u32) -> usize
     entries.len().min(start + BLOCK)
 }
 
-/// Adds the places from `from` up to `end` whose entries are of the round.
-fn push_places(
+/// Adds the places of a load whose entries are of the round.
+#[inline(always)]
+fn push_load(
+    entries: &[u16],
+    from: usize,
+    round: u16,
+    nodes: &mut Vec<u32>,
+) -> Result<(), AllocError>
+    requires short { round ≤ 32000 }
+    requires within { from + LANES ≤ length entries.now }
+    requires few { length entries.now < 2 ^ 32 }
+    ensures { OnOk result (nodes.new.items ≡ nodes.old.items ++ places_from entries.now round from (from + LANES)) }
+{
+    let mut rest = found_lanes(entries, from, round);
+    while rest != 0 {
+        let lane = first_lane(rest);
+        nodes.push(from as u32 + lane)?;
+        rest = without_lane(rest, lane);
+    }
+    Ok(())
+}
+
+/// Adds the places from `from` up to `end` whose entries are of the round, one after the other.
+fn push_rest(
     entries: &[u16],
     from: usize,
     end: usize,
@@ -132,6 +190,29 @@ fn push_places(
         nodes.push(place as u32)?;
         place = next_place(entries, place + 1, end, round);
     }
+    Ok(())
+}
+
+/// Adds the places from `from` up to `end` whose entries are of the round, by whole loads as far as there are any.
+fn push_places(
+    entries: &[u16],
+    from: usize,
+    end: usize,
+    round: u16,
+    nodes: &mut Vec<u32>,
+) -> Result<(), AllocError>
+    requires short { round ≤ 32000 }
+    requires ordered { from ≤ end }
+    requires within { end ≤ length entries.now }
+    requires few { length entries.now < 2 ^ 32 }
+    ensures { OnOk result (nodes.new.items ≡ nodes.old.items ++ places_from entries.now round from end) }
+{
+    let mut place = from;
+    while place + LANES <= end {
+        push_load(entries, place, round, nodes)?;
+        place += LANES;
+    }
+    push_rest(entries, place, end, round, nodes)?;
     Ok(())
 }
 

@@ -1,12 +1,12 @@
-use Rattle.std.proofs.Common.{◌≡◌, ◌∷◌, ◌++◌, ◌+◌, ◌-◌, ◌<◌, ◌≤◌}
+use Rattle.std.proofs.Common.{◌≡◌, ◌++◌, ◌-◌, ◌≤◌}
 use Rattle.egt_graph.specs.Frontier.{places_from}
 use Rattle.egt_graph.proofs.scan.push_places.Given as goal
 
 abbrev pub invariant-loop-place : goal.invariant-loop-place
 invariant-loop-place l = record {
+  after : l.fn.from ≤ l.place;
   within : l.place ≤ l.end;
-  more : l.place < l.end → l.initial.nodes.items ++ places_from l.entries l.round l.from l.end ≡ l.nodes.items ++ l.place ∷ places_from l.entries l.round (l.place + 1) l.end;
-  all : l.place ≡ l.end → l.initial.nodes.items ++ places_from l.entries l.round l.from l.end ≡ l.nodes.items;
+  pushed : l.nodes.items ≡ l.initial.nodes.items ++ places_from l.entries l.round l.fn.from l.place;
 }
 
 abbrev pub decreases-loop-place : goal.decreases-loop-place
