@@ -8,7 +8,7 @@ use Rattle.std.proofs.lemmas.List.Sums.{sum_by_more, sum_by_push}
 use Rattle.egt_graph.specs.Graph.{Graph, IsNode, AreLike}
 use Rattle.egt_graph.specs.Value.{is_empty, is_lost_before, is_won_before, mated_within}
 use Rattle.egt_graph.specs.Begin.{Adds, IsFilled, IsBegun}
-use Rattle.egt_graph.specs.Counts.{untold, is_draw, IsCount, AreCounts}
+use Rattle.egt_graph.specs.Counts.{untold, is_draw, IsCount, CountsTell}
 use Rattle.egt_graph.specs.declared.counts.Count.{Count}
 use Rattle.egt_graph.specs.Columns.{outs, leaves, told_at, told, has_moves, count_of, decided, entry_at, later_at, is_loss, is_win_of, is_loss_of, waits_at, is_winning, is_win_from, done_of, Amid, Await}
 use Rattle.egt_graph.specs.declared.game.Exit.{Exit}
@@ -131,11 +131,8 @@ Begun_none g = record {
   won_exits = Filled_none g is_win_of;
 }
 
-pub Counts_none : (g : Graph) → AreCounts g (replicate g.size untold)
-Counts_none g = record {
-  long = length-replicate g.size untold;
-  each = λ i lt. rw (get_or-replicate g.size i untold untold lt) (λ small. absurd (omega (arith, small)));
-}
+pub Counts_none : (g : Graph) (n : ℕ) → CountsTell g (replicate n untold)
+Counts_none g n i lt = rw (get_or-replicate n i untold untold (subst (λ k. i < k) (length-replicate n untold) lt)) (λ small. absurd (omega (arith, small)))
 
 -- ---- the same values in another order
 
@@ -290,15 +287,14 @@ module _ (g : Graph) (m : ℕ) (below : m < g.size) (there : IsFalse (g.void m))
       (Adds_like is_loss_of ld ld' m exits (g.exits m) like t) (Adds_like is_win_of wd wd' m exits (g.exits m) like u)
 
   -- what is told of a node
-  pub Counts_more : (counts : List Count) → AreCounts g counts → (degree : Option ℕ) (count : Count) (exits : List Exit) → AreLike exits (g.exits m) → IfSome degree (λ k. (k ≡ length (g.out m)) × (k ≤ 64)) → IfSome degree (λ k. count.moves ≡ k) → IfNone degree (count.moves ≡ 255)
-      → count.wins ≡ count_by (is_win_from 0) exits → count.losses ≡ count_by is_loss exits → count.draws ≡ count_by is_draw exits → count.wins + count.losses + count.draws ≤ 64 → AreCounts g (set counts m count)
-  Counts_more counts h degree count exits like moves counted uncounted wins losses draws few = record {
-    long = length-set counts m count ∙ h.long;
-    each = λ i lt. elim (cases_eq i m) [
-      | inl e ↦ rw (e, get_or-set_same counts m count untold (let long = h.long in omega arith)) (count_is degree moves counted uncounted)
-      | inr ne ↦ rw (get_or-set_other counts m i count untold ne) (h.each i lt)
-    ];
-  }
+  pub Counts_more : (counts : List Count) → CountsTell g counts → (degree : Option ℕ) (count : Count) (exits : List Exit) → AreLike exits (g.exits m) → IfSome degree (λ k. (k ≡ length (g.out m)) × (k ≤ 64)) → IfSome degree (λ k. count.moves ≡ k) → IfNone degree (count.moves ≡ 255)
+      → count.wins ≡ count_by (is_win_from 0) exits → count.losses ≡ count_by is_loss exits → count.draws ≡ count_by is_draw exits → count.wins + count.losses + count.draws ≤ 64 → CountsTell g (set counts m count)
+  Counts_more counts h degree count exits like moves counted uncounted wins losses draws few i lt =
+      let within : i < length counts = subst (λ k. i < k) (length-set counts m count) lt in
+      elim (cases_eq i m) [
+        | inl e ↦ rw (e, get_or-set_same counts m count untold (omega (arith, within, e))) (count_is degree moves counted uncounted)
+        | inr ne ↦ rw (get_or-set_other counts m i count untold ne) (h i within)
+      ]
     where
       count_is : (degree : Option ℕ) → IfSome degree (λ k. (k ≡ length (g.out m)) × (k ≤ 64)) → IfSome degree (λ k. count.moves ≡ k) → IfNone degree (count.moves ≡ 255) → IsCount g m count
       count_is None moves counted uncounted small = absurd (let e = uncounted in omega arith)

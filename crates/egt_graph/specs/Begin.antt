@@ -2,7 +2,7 @@
 use Rattle.std.specs.Prelude.{◌≡◌, ℕ, ◌+◌, ◌<◌, ◌≤◌, ◌==◌, Bool, false, List, [], length, slice_index, slice_index_or, count_by, if◌then◌else◌}
 use Rattle.std.specs.List.{list_any}
 use Rattle.egt_graph.specs.Graph.{Graph}
-use Rattle.egt_graph.specs.Counts.{AreCounts}
+use Rattle.egt_graph.specs.Counts.{CountsTell}
 use Rattle.egt_graph.specs.Columns.{outs, leaves, told, count_of, entry_at, later_at, is_loss, is_win_of, is_loss_of}
 use Rattle.egt_graph.specs.declared.begin.Columns.{Columns}
 use Rattle.egt_graph.specs.declared.game.Exit.{Exit}
@@ -37,4 +37,4 @@ pub record IsBegun (g : Graph) (m : ℕ) (entries waits later : List ℕ) (lost 
 abbrev pub AreBegun : Graph → ℕ → Columns → Type 0
 AreBegun g m columns =
     IsBegun g m columns.entries.items (told g columns.waits.items) columns.later.items columns.lost.items columns.lost_due columns.won_due
-    × AreCounts g columns.counts.items
+    × CountsTell g columns.counts.items

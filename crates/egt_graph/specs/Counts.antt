@@ -21,6 +21,11 @@ IsCount g i count = count.moves < 255 → IsFalse (g.void i) × (length (g.out i
     × (count_by (is_win_from 0) (g.exits i) ≡ count.wins) × (count_by is_loss (g.exits i) ≡ count.losses) × (count_by is_draw (g.exits i) ≡ count.draws)
     × (count.wins + count.losses + count.draws ≤ 64)
 
+-- each count that there is tells of its number
+abbrev pub CountsTell : Graph → List Count → Type 0
+CountsTell g counts = (i : ℕ) → i < length counts → IsCount g i (slice_index_or counts i untold)
+
+-- there is one of each number
 pub record AreCounts (g : Graph) (counts : List Count) : Type 0 where
   pub long : length counts ≡ g.size
-  pub each : (i : ℕ) → i < g.size → IsCount g i (slice_index_or counts i untold)
+  pub each : CountsTell g counts

@@ -1,5 +1,5 @@
 //! What a run begins with.
-ghost use Rattle.std.specs.Prelude.{◌≡◌, ℕ, ◌+◌, ◌*◌, ◌<◌, ◌≤◌, length, slice_index, count_by, [], ◌∷◌, OnOk, IfOk, IfSome, IfNone, if◌then◌else◌};
+ghost use Rattle.std.specs.Prelude.{◌≡◌, ℕ, ◌+◌, ◌*◌, ◌<◌, ◌≤◌, length, slice_index, slice_set, true, count_by, [], ◌∷◌, OnOk, IfOk, IfSome, IfNone, if◌then◌else◌};
 ghost use Rattle.std.specs.Int.{bit_at};
 ghost use Rattle.egt_graph.specs.Columns.{outs, leaves, told_at, entry_at, is_loss, is_win_from, is_win_of, is_loss_of};
 ghost use Rattle.egt_graph.specs.Begin.{Adds, AreBegun};
@@ -28,11 +28,14 @@ pub(crate) struct Columns {
     pub(crate) counts: Vec<Count>,
 }
 
-/// The columns before the first round. Each node's moves are counted, if the game counts them, and none is asked for.
-pub(crate) fn begin<G: Game>(alloc: Global, game: &G) -> Result<Columns, AllocError>
-    ensures { IfOk result (AreBegun (G.graph game.now) (G.graph game.now).size) }
+/// The columns before the first round. Each node's moves are counted, if the game counts them, and none is asked for. The counts are told
+/// where `telling`.
+pub(crate) fn begin<G: Game>(alloc: Global, game: &G, telling: bool) -> Result<Columns, AllocError>
+    ensures begun { IfOk result (AreBegun (G.graph game.now) (G.graph game.now).size) }
+    ensures told { telling ≡ true → IfOk result (λ columns. length columns.counts.items ≡ (G.graph game.now).size) }
 {
     let size = game.size();
+    let told = counts_told(size, telling);
     let mut columns = Columns {
         entries: vec![in alloc; 0; size as usize]?,
         waits: vec![in alloc; 0; size as usize]?,
@@ -40,7 +43,7 @@ pub(crate) fn begin<G: Game>(alloc: Global, game: &G) -> Result<Columns, AllocEr
         lost: vec![in alloc; false; size as usize]?,
         lost_due: Schedule::new(alloc),
         won_due: Schedule::new(alloc),
-        counts: vec![in alloc; Count::UNTOLD; size as usize]?,
+        counts: vec![in alloc; Count::UNTOLD; told as usize]?,
     };
     let mut exits = ArrayVec::new();
     let mut next_exits = ArrayVec::new();
@@ -60,6 +63,13 @@ pub(crate) fn begin<G: Game>(alloc: Global, game: &G) -> Result<Columns, AllocEr
     Ok(columns)
 }
 
+/// Of how many numbers the counts are told.
+fn counts_told(size: u32, telling: bool) -> u32
+    ensures { telling ≡ true → result ≡ size }
+{
+    if telling { size } else { 0 }
+}
+
 /// Fills in a number and the next, of which the game is asked at once.
 fn fill_two<G: Game>(
     alloc: Global,
@@ -71,7 +81,8 @@ fn fill_two<G: Game>(
 ) -> Result<(), AllocError>
     requires in_range { node + 1 < (G.graph game.now).size }
     requires begun { AreBegun (G.graph game.now) node columns.old }
-    ensures { OnOk result (AreBegun (G.graph game.now) (node + 2) columns.new) }
+    ensures begun { OnOk result (AreBegun (G.graph game.now) (node + 2) columns.new) }
+    ensures told { OnOk result (length columns.new.counts.items ≡ length columns.old.counts.items) }
 {
     let _size = game.size();
     let (start, next) = game.start_two(node, exits, next_exits);
@@ -89,7 +100,8 @@ fn fill_one<G: Game>(
 ) -> Result<(), AllocError>
     requires in_range { node < (G.graph game.now).size }
     requires begun { AreBegun (G.graph game.now) node columns.old }
-    ensures { OnOk result (AreBegun (G.graph game.now) (node + 1) columns.new) }
+    ensures begun { OnOk result (AreBegun (G.graph game.now) (node + 1) columns.new) }
+    ensures told { OnOk result (length columns.new.counts.items ≡ length columns.old.counts.items) }
 {
     let start = game.start(node, exits);
     fill(alloc, game, node, start, exits.as_slice(), columns)
@@ -109,7 +121,8 @@ fn fill<G: Game>(
     requires started { IsStart (G.graph _game.now) node start exits.now }
     requires few { length exits.now ≤ 64 }
     requires begun { AreBegun (G.graph _game.now) node columns.old }
-    ensures { OnOk result (AreBegun (G.graph _game.now) (node + 1) columns.new) }
+    ensures begun { OnOk result (AreBegun (G.graph _game.now) (node + 1) columns.new) }
+    ensures told { OnOk result (length columns.new.counts.items ≡ length columns.old.counts.items) }
 {
     let Some(start) = start else {
         return Ok(());
@@ -119,12 +132,12 @@ fn fill<G: Game>(
     let moves = start.degree.unwrap_or(UNCOUNTED);
     if exits.is_empty() {
         columns.waits[i] = moves;
-        columns.counts[i] = count_of(moves, exits, 0, 0);
+        tell(&mut columns.counts, i, count_of(moves, exits, 0, 0));
         return Ok(());
     }
     let wins = count_wins(exits);
     let losses = count_losses(exits);
-    columns.counts[i] = count_of(moves, exits, wins, losses);
+    tell(&mut columns.counts, i, count_of(moves, exits, wins, losses));
     columns.waits[i] = waits_for(start, exits);
     columns.later[i] = wins;
     columns.lost[i] = losses > 0;
@@ -136,6 +149,16 @@ fn fill<G: Game>(
         &mut columns.won_due,
     )?;
     Ok(())
+}
+
+/// Tells the count of a number, where counts are told.
+#[inline(always)]
+fn tell(counts: &mut Vec<Count>, i: usize, count: Count)
+    ensures { counts.new.items ≡ slice_set counts.old.items i count }
+{
+    if i < counts.len() {
+        counts[i] = count;
+    }
 }
 
 /// The entry of a node before any rank but that of checkmates is known.

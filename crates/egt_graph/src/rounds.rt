@@ -80,20 +80,21 @@ impl<'g, G: Game> Rounds<'g, G> {
         requires { limit ≤ 32000 }
         ensures { IfOk result (λ rounds. (rounds.game ≡ game.now) × (rounds.state ≡ begun (G.graph game.now) limit)) }
     {
-        let (rounds, _counts) = Rounds::counted(alloc, game, limit)?;
+        let (rounds, _counts) = Rounds::counted(alloc, game, limit, false)?;
         Ok(rounds)
     }
 
-    /// The same, with what is told of the moves of each node.
+    /// The same, with what is told of the moves of each node, where `telling`.
     pub(crate) fn counted(
         alloc: Global,
         game: &'g G,
         limit: u16,
+        telling: bool,
     ) -> Result<(Self, Vec<Count>), AllocError>
         requires { limit ≤ 32000 }
         ensures rounds { IfOk result
             (λ told. (told.0.game ≡ game.now) × (told.0.state ≡ begun (G.graph game.now) limit)) }
-        ensures counts { IfOk result (λ told. AreCounts (G.graph game.now) told.1.items) }
+        ensures counts { telling ≡ true → IfOk result (λ told. AreCounts (G.graph game.now) told.1.items) }
     {
         let Columns {
             entries,
@@ -103,7 +104,7 @@ impl<'g, G: Game> Rounds<'g, G> {
             lost_due,
             won_due,
             counts,
-        } = begin(alloc, game)?;
+        } = begin(alloc, game, telling)?;
         let blocks = (game.size() as usize + (BLOCK - 1)) / BLOCK;
         let posted = vec![in alloc; false; blocks]?;
         let parts = (game.size() as usize + (PART - 1)) / PART;

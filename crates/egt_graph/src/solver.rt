@@ -76,7 +76,7 @@ pub fn solve_and_count<G: Game>(
     ensures counts { IfOk result (λ told. AreCounts (G.graph game.now) told.1.items) }
     ensures too_deep { result ≡ Err SolveFault.TooDeep → SomeAbove (G.graph game.now) limit }
 {
-    let (rounds, counts) = Rounds::counted(alloc, game, limit)?;
+    let (rounds, counts) = Rounds::counted(alloc, game, limit, true)?;
     let ranks = finish(alloc, rounds)?;
     Ok((ranks, counts))
 }
