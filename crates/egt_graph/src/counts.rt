@@ -1,8 +1,6 @@
 //! Moves and exits counted once, for the games that share them.
-ghost use Rattle.std.specs.Prelude.{◌≡◌};
-ghost use Rattle.egt_graph.specs.Counts.{untold};
 
-/// How many moves a node has, of each sort.
+/// How many moves a node has, of each sort; those that leave the game are at most 64 together.
 #[derive(Clone, Copy, PartialEq, Eq, Debug)]
 pub struct Count {
     /// To how many nodes moves lead, at most 64. 255 tells nothing: the number is no node, or its moves were not counted.
