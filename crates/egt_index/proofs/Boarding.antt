@@ -8,7 +8,7 @@ use Rattle.egt_index.specs.Stood.{Entry, IsOff, AllApart, with_entry}
 use Rattle.egt_index.proofs.Listing.{pushed}
 use Rattle.egt_index.proofs.Setups.{free_of}
 
-off_all : (list : List (Man × ℕ)) (e : Man × ℕ) → AllApart (list ++ e ∷ []) → IsOff list e.1
+pub off_all : (list : List (Man × ℕ)) (e : Man × ℕ) → AllApart (list ++ e ∷ []) → IsOff list e.1
 off_all [] e apart = tt
 off_all (d ∷ list) e apart = ((λ same. off d list e apart.0 (sym same)), off_all list e apart.1)
   where

@@ -31,7 +31,7 @@ use Rattle.egt_index.proofs.Beating.{no_index}
 use Rattle.egt_index.proofs.Counted.{man_told}
 use Rattle.egt_index.proofs.Exists.{index_below, index_settled}
 use Rattle.egt_index.proofs.FrameMen.{others_stood}
-use Rattle.egt_index.proofs.Rows.{list_in_row, stand_in_row}
+use Rattle.egt_index.proofs.RowMen.{list_in_row, stand_in_row}
 use Rattle.egt_index.proofs.Scaled.{code_told, entry_number, number_on, with_ends}
 use Rattle.egt_index.proofs.Swapping.{beaten_behind}
 

@@ -26,7 +26,7 @@ use Rattle.egt_index.specs.declared.frame.Frame.{Frame}
 use Rattle.egt_index.proofs.Decoded.{parts_told}
 use Rattle.egt_index.proofs.Exists.{index_settled}
 use Rattle.egt_index.proofs.IndexTotal.{NoKings, none_beside}
-use Rattle.egt_index.proofs.Rows.{ends_alike, ends_there}
+use Rattle.egt_index.proofs.RowMen.{ends_alike, ends_there}
 use Rattle.egt_index.proofs.Shelved.{IsOnShelf, all_bases, all_men, is_on_shelf, listed_with, no_third, on_shelf}
 
 -- the square of a digit

@@ -46,7 +46,9 @@ pub mod FrameMen
 pub mod Totals
 pub mod IndexTotal
 pub mod Framed
-pub mod Rows
+pub mod Fronts
+pub mod RowMen
+pub mod SameKings
 pub mod Touching
 pub mod Summed
 pub mod KingHome

@@ -15,7 +15,7 @@ use Rattle.egt_index.specs.Row.{row_len}
 use Rattle.egt_index.specs.Spelled.{SpellsMen}
 use Rattle.egt_index.specs.Stood.{AreNear, list_of}
 use Rattle.egt_index.specs.declared.stand.Stand.{Stand}
-use Rattle.egt_index.proofs.Rows.{apart_in_row, men_on_row}
+use Rattle.egt_index.proofs.RowMen.{apart_in_row, men_on_row}
 use Rattle.egt_index.proofs.Setups.{kings_spelled}
 
 -- the same, one more or one less

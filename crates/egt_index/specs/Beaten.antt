@@ -57,6 +57,11 @@ IsAsked (Some coded) side passed code = (coded.side ≡ side) × (coded.passed �
 abbrev pub AllAsked : ℕ → Stand → Option Coded → (Setup → ℕ → Type 0) → Type 0
 AllAsked c stand asked Holds = (p : Setup) (side : Side) (passed : Bool) (code : ℕ) → IsAsked asked side passed code → HasStand c false stand side passed p → SpellsAt c code stand p → Holds p code
 
+-- the men that answer for others: for all with their kings on the same squares, where nothing is asked about, and else for themselves alone
+abbrev pub AnswersFor : Option Coded → Stand → Stand → Type 0
+AnswersFor None stand other = (other.white ≡ stand.white) × (other.black ≡ stand.black)
+AnswersFor (Some coded) stand other = other ≡ stand
+
 -- what the turn makes of each position with these men, where it brings the king home, has a lesser code
 abbrev pub TurnBeats : ℕ → Stand → Option Coded → ℕ → Type 0
 TurnBeats c stand asked t = (p : Setup) (side : Side) (passed : Bool) (code : ℕ) → IsAsked asked side passed code → HasStand c (t / 8 == 1) stand side passed p → KeepsPlay (t % 8) p.men

@@ -9,7 +9,7 @@ use Rattle.egt_index.specs.Frame.{IsFrame}
 use Rattle.egt_index.specs.Index.{IsIndex, IsVoid}
 use Rattle.egt_index.specs.Scales.{ends_of}
 use Rattle.egt_index.specs.Spelled.{SpellsMen}
-use Rattle.egt_index.specs.Stood.{AllApart, HasStand, IsFilled, list_of}
+use Rattle.egt_index.specs.Stood.{AllApart, HasStand, IsFilled, IsInOrder, list_of}
 use Rattle.egt_index.specs.declared.frame.Frame.{Frame}
 use Rattle.egt_index.specs.declared.stand.Stand.{Stand}
 use Rattle.egt_index.specs.declared.row.Row.{Row}
@@ -37,6 +37,7 @@ pub record IsRow (n : ℕ) (row : Row) : Type 0 where
   pub men : SpellsMen (material_of row.class) n (list_of row.stand)
   pub filled : IsFilled row.stand
   pub apart : AllApart (list_of row.stand)
+  pub in_order : IsInOrder row.stand.next row.stand.last
   pub board : row.board ≡ men_of (list_of row.stand)
   pub few : map.len row.board ≤ 4
   pub least : row.tied ≡ false → AllAsked row.class row.stand None (IsIndex row.class)

@@ -32,6 +32,12 @@ rest_of s = (king_of Black, s.black) ∷ (option_to_list s.next ++ option_to_lis
 abbrev pub list_of : Stand → List (Man × ℕ)
 list_of s = (king_of White, s.white) ∷ rest_of s
 
+abbrev pub before_last : Stand → List (Man × ℕ)
+before_last s = (king_of White, s.white) ∷ (king_of Black, s.black) ∷ option_to_list s.next
+
+abbrev pub with_last : Stand → Entry → Stand
+with_last s last = record { white = s.white; black = s.black; next = s.next; last = last }
+
 -- the last man of the name is not there alone
 abbrev pub IsFilled : Stand → Type 0
 IsFilled s = s.next ≡ None → s.last ≡ None

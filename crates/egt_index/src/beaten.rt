@@ -3,9 +3,10 @@
 ghost use Rattle.std.specs.Prelude.{◌≡◌, ◌⊎◌, ◌+◌, ◌*◌, ◌<◌, true, false, None, if◌then◌else◌};
 ghost use Rattle.egt_board.specs.Setup.{Setup};
 ghost use Rattle.egt_class.specs.Material.{has_equal_sides};
-ghost use Rattle.egt_index.specs.Beaten.{SpellsAt, KeepsWith, IsBeaten, AllAsked, TurnBeats, TurnKeeps, is_less};
+ghost use Rattle.egt_index.specs.Beaten.{SpellsAt, KeepsWith, IsBeaten, AllAsked, AnswersFor, TurnBeats, TurnKeeps, is_less};
 ghost use Rattle.egt_index.specs.Index.{IsIndex};
-ghost use Rattle.egt_index.specs.Stood.{HasStand};
+ghost use Rattle.egt_index.specs.Stood.{HasStand, IsInOrder};
+ghost use Rattle.egt_index.specs.declared.stand.Stand.{Stand};
 ghost use Rattle.egt_index.specs.declared.beaten.Told.TheVariants.{Beaten, Least, Tied};
 
 use crate::facts::facts;
@@ -13,7 +14,7 @@ use crate::home::{home, still_home};
 use crate::indexing::code_after;
 use crate::men::{has_equal_sides, has_pawns};
 use crate::nearer::{kings_after, pair};
-use crate::stand::{Stand, exchanged, is_behind};
+use crate::stand::{Stand, exchanged};
 use egt_board::Side;
 use egt_class::Class;
 
@@ -87,8 +88,8 @@ fn both(one: Told, other: Told) -> Told
 #[inline(always)]
 fn told_by(class: Class, stand: &Stand, turn: u8, asked: Option<Coded>) -> Told
     requires { turn < 16 }
-    ensures beats { result ≡ Beaten → TurnBeats class stand.now asked turn }
-    ensures keeps { result ≡ Least → TurnKeeps class stand.now asked turn }
+    ensures beats { result ≡ Beaten → (other : Stand) → AnswersFor asked stand.now other → TurnBeats class other asked turn }
+    ensures keeps { result ≡ Least → (other : Stand) → AnswersFor asked stand.now other → TurnKeeps class other asked turn }
     ensures sure { result ≡ Tied → asked ≡ None }
 {
     facts();
@@ -110,18 +111,15 @@ fn told_by(class: Class, stand: &Stand, turn: u8, asked: Option<Coded>) -> Told
     }
 }
 
-/// What the order of equal men tells, and the images in the same colours.
+/// What the images in the same colours tell, where equal men stand in order.
 #[inline(always)]
 fn told_straight(class: Class, stand: &Stand, asked: Option<Coded>) -> Told
-    ensures beats { result ≡ Beaten → AllAsked class stand.now asked (IsBeaten class) }
-    ensures keeps { result ≡ Least → AllAsked class stand.now asked (λ p code. KeepsWith class p false code) }
+    ensures beats { result ≡ Beaten → (other : Stand) → AnswersFor asked stand.now other → AllAsked class other asked (IsBeaten class) }
+    ensures keeps { result ≡ Least → (other : Stand) → AnswersFor asked stand.now other → IsInOrder other.next other.last → AllAsked class other asked (λ p code. KeepsWith class p false code) }
     ensures sure { result ≡ Tied → asked ≡ None }
 {
     facts();
     let _number = class.number();
-    if is_behind(stand) {
-        return Told::Beaten;
-    }
     match still_home(has_pawns(class), stand.white) {
         Some(turn) => told_by(class, stand, turn, asked),
         None => Told::Least,
@@ -131,8 +129,8 @@ fn told_straight(class: Class, stand: &Stand, asked: Option<Coded>) -> Told
 /// What the images in exchanged colours tell, of a class whose sides have the same men.
 fn told_exchanged(class: Class, stand: &Stand, asked: Option<Coded>) -> Told
     requires { has_equal_sides class ≡ true }
-    ensures beats { result ≡ Beaten → AllAsked class stand.now asked (IsBeaten class) }
-    ensures keeps { result ≡ Least → AllAsked class stand.now asked (λ p code. KeepsWith class p true code) }
+    ensures beats { result ≡ Beaten → (other : Stand) → AnswersFor asked stand.now other → AllAsked class other asked (IsBeaten class) }
+    ensures keeps { result ≡ Least → (other : Stand) → AnswersFor asked stand.now other → AllAsked class other asked (λ p code. KeepsWith class p true code) }
     ensures sure { result ≡ Tied → asked ≡ None }
 {
     facts();
@@ -146,12 +144,12 @@ fn told_exchanged(class: Class, stand: &Stand, asked: Option<Coded>) -> Told
     }
 }
 
-/// Whether the codes that spell settled positions with these men on their squares are their indexes: the one that is asked about, or
-/// all of them.
+/// What the images tell of the codes that spell settled positions with these men on their squares, where equal men stand in order: of the
+/// one that is asked about, or, by the kings alone, of all of them.
 #[inline(always)]
-pub(crate) fn told_of_images(class: Class, stand: &Stand, asked: Option<Coded>) -> Told
-    ensures beaten { result ≡ Beaten → AllAsked class stand.now asked (λ p code. ¬ IsIndex class p code) }
-    ensures least { result ≡ Least → AllAsked class stand.now asked (IsIndex class) }
+pub(crate) fn told_in_order(class: Class, stand: &Stand, asked: Option<Coded>) -> Told
+    ensures beaten { result ≡ Beaten → (other : Stand) → AnswersFor asked stand.now other → AllAsked class other asked (λ p code. ¬ IsIndex class p code) }
+    ensures least { result ≡ Least → (other : Stand) → AnswersFor asked stand.now other → IsInOrder other.next other.last → AllAsked class other asked (IsIndex class) }
     ensures sure { result ≡ Tied → asked ≡ None }
 {
     facts();
@@ -167,11 +165,12 @@ pub(crate) fn told_of_images(class: Class, stand: &Stand, asked: Option<Coded>) 
 /// Whether the code that spells a settled position is its index.
 #[inline(always)]
 pub(crate) fn is_least(class: Class, stand: &Stand, side: Side, passed: bool, code: u32) -> bool
+    requires { IsInOrder stand.now.next stand.now.last }
     ensures least { result ≡ true → (p : Setup) → HasStand class false stand.now side passed p → SpellsAt class code stand.now p → IsIndex class p code }
     ensures beaten { result ≡ false → (p : Setup) → HasStand class false stand.now side passed p → SpellsAt class code stand.now p → ¬ IsIndex class p code }
 {
     let asked = Coded { side, passed, code };
-    match told_of_images(class, stand, Some(asked)) {
+    match told_in_order(class, stand, Some(asked)) {
         Told::Least => true,
         _ => false,
     }

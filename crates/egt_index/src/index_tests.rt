@@ -1,5 +1,5 @@
 //! Indexes of positions that were worked out by hand, and how many indexes a class has.
-use crate::{index, position, size};
+use crate::{Rows, index, position, size};
 use egt_board::{Kind, Man, Position, Side, Square};
 use egt_class::{Class, of};
 use std::test::Fail;
@@ -37,6 +37,37 @@ fn count(number: u8) -> Result<u32, Fail> {
             if own != class || index(own, &spelled) != code {
                 return Err(Fail::from("another index"));
             }
+            indexes = indexes.checked_add(1).ok_or("too many")?;
+        }
+    }
+    Ok(indexes)
+}
+
+/// How many of the first codes of the class are indexes, as the rows tell that are asked for one after the other.
+fn count_in_rows(number: u8, end: u32) -> Result<u32, Fail> {
+    let class = Class::new(number).ok_or("no class")?;
+    let mut rows = Rows::new(class);
+    let mut indexes: u32 = 0;
+    for code in 0..end {
+        if let Some(row) = rows.row_of(code) {
+            if let Some(spelled) = row.position_at(code) {
+                let (own, _) = of(&spelled);
+                if own != class || index(own, &spelled) != code {
+                    return Err(Fail::from("another index"));
+                }
+                indexes = indexes.checked_add(1).ok_or("too many")?;
+            }
+        }
+    }
+    Ok(indexes)
+}
+
+/// The same, as each code tells alone.
+fn count_alone(number: u8, end: u32) -> Result<u32, Fail> {
+    let class = Class::new(number).ok_or("no class")?;
+    let mut indexes: u32 = 0;
+    for code in 0..end {
+        if position(class, code).is_some() {
             indexes = indexes.checked_add(1).ok_or("too many")?;
         }
     }
@@ -127,6 +158,18 @@ fn void_codes_spell_nothing(rt: HostRuntime) -> Result<(), Fail> {
 #[test]
 fn two_kings_have_462_indexes(rt: HostRuntime) -> Result<(), Fail> {
     assert!(rt; count(0)? == 462);
+    Ok(())
+}
+
+/// KQK by rows; of KRRK, KQKR, KQPK and KPKP the first shelves, also those of kings that touch.
+#[test]
+fn rows_in_turn_have_the_indexes_of_their_class(rt: HostRuntime) -> Result<(), Fail> {
+    assert!(rt; count_in_rows(1, 81_920)? == 46_137);
+    for number in [10, 17, 26, 35] {
+        let indexes = count_in_rows(number, 40_000)?;
+        assert!(rt; indexes > 0);
+        assert!(rt; indexes == count_alone(number, 40_000)?);
+    }
     Ok(())
 }
 

@@ -6,18 +6,21 @@ ghost use Rattle.egt_board.specs.Setup.{Setup};
 ghost use Rattle.egt_index.specs.Beaten.{SpellsAt};
 ghost use Rattle.egt_index.specs.Code.{Spells};
 ghost use Rattle.egt_index.specs.Frame.{IsFrame};
+ghost use Rattle.egt_index.specs.Front.{IsFront, TellsLast};
 ghost use Rattle.egt_index.specs.Index.{IsIndex, IsVoid};
 ghost use Rattle.egt_index.specs.Row.{row_len, IsInRow, IsRow, IsTurnedTo, IsRowOf};
 ghost use Rattle.egt_index.specs.Stood.{HasStand};
 
-use crate::beaten::{Told, is_least, told_of_images};
+use crate::beaten::is_least;
 use crate::facts::facts;
 use crate::frame::Frame;
+use crate::front::{Front, front_of};
 use crate::men::has_target;
-use crate::spelling::{admitted, board_of, ends, is_passed, is_settled, stand_on, target_of};
-use crate::stand::{Stand, are_apart, are_kings_near};
-use egt_board::{Board, Position, Side};
+use crate::spelling::{admitted, ends, is_passed, is_settled, take_last, target_of, with_entry};
+use crate::stand::{Stand, is_behind, is_last_off, with_last};
+use egt_board::{Board, Man, Position, Side, Square};
 use egt_class::Class;
+use std::marker::Model;
 
 /// The codes of a class that differ in no more than the side to move and the target, and where the men stand in all of them.
 #[derive(Clone, Copy)]
@@ -43,34 +46,94 @@ pub fn begins_row(class: Class, code: u32) -> bool
     }
 }
 
+/// The row of the front's men and of the last one, if there is one; `None` where he tells that none of its codes is a position's index.
+#[inline(always)]
+fn row_behind(class: Class, front: &Front, last: Option<(Man, Square)>) -> Option<Row>
+    requires { (n high : ℕ) × IsFront class high front.now × TellsLast class n high last }
+    ensures { (n high : ℕ) → IsFront class high front.now → TellsLast class n high last → IsRowOf class n result }
+{
+    facts();
+    let _number = class.number();
+    let stand = with_last(&front.stand, last);
+    if !is_last_off(&stand) {
+        return None;
+    }
+    if is_behind(&stand) {
+        return None;
+    }
+    let board = with_entry(front.board.copied(), stand.last);
+    Some(Row {
+        class,
+        stand,
+        board,
+        tied: front.tied,
+        frame: None,
+    })
+}
+
 /// The row of the code; `None` where the men or their images tell that none of its codes is a position's index.
 #[inline(always)]
 pub fn row_of(class: Class, code: u32) -> Option<Row>
     ensures { IsRowOf class (code / row_len class) result }
 {
-    facts();
-    let _number = class.number();
     let (number, _, _) = ends(class, code);
-    let stand = stand_on(class, number)?;
-    if are_kings_near(&stand) {
-        return None;
+    let (high, last) = take_last(class, number);
+    match front_of(class, high) {
+        Some(front) => row_behind(class, &front, last),
+        None => None,
     }
-    if !are_apart(&stand) {
-        return None;
+}
+
+/// The rows of a class, for one who asks for rows that follow one another: what the men before the last one tell is kept for the next
+/// row.
+#[derive(Drop)]
+pub struct Rows {
+    class: Class,
+    /// The digits of the men of the front.
+    number: u32,
+    front: Option<Front>,
+}
+
+impl Model for Rows {
+    ghost use Rattle.std.specs.Prelude.{ℕ};
+    ghost use Rattle.egt_index.specs.Front.{IsFrontOf};
+
+    ghost Value = { ℕ };
+
+    ghost view = { λ rows. rows.class };
+
+    ghost invariant = { λ rows. IsFrontOf rows.class rows.number rows.front };
+}
+
+impl Rows {
+    /// The rows of the class.
+    pub fn new(class: Class) -> Rows
+        ensures { result ≡ class }
+    {
+        Rows {
+            class,
+            number: 0,
+            front: front_of(class, 0),
+        }
     }
-    let tied = match told_of_images(class, &stand, None) {
-        Told::Beaten => return None,
-        Told::Least => false,
-        Told::Tied => true,
-    };
-    let board = board_of(&stand);
-    Some(Row {
-        class,
-        stand,
-        board,
-        tied,
-        frame: None,
-    })
+
+    /// The row of the code, as `row_of` answers.
+    #[inline(always)]
+    pub fn row_of(&mut self, code: u32) -> Option<Row>
+        ensures row { IsRowOf self.old (code / row_len self.old) result }
+        ensures class { self.new ≡ self.old }
+    {
+        let (number, _, _) = ends(self.class, code);
+        let (high, last) = take_last(self.class, number);
+        if high != self.number {
+            self.front = front_of(self.class, high);
+            self.number = high;
+        }
+        match &self.front {
+            Some(front) => row_behind(self.class, front, last),
+            None => None,
+        }
+    }
 }
 
 impl Row {

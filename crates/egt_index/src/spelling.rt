@@ -13,6 +13,7 @@ ghost use Rattle.egt_class.specs.Material.{material_of};
 ghost use Rattle.egt_index.specs.AtIndex.{IsAtIndex, IsFramedAt};
 ghost use Rattle.egt_index.specs.Code.{Spells, king_square};
 ghost use Rattle.egt_index.specs.Frame.{IsFrame};
+ghost use Rattle.egt_index.specs.Front.{TellsLast, IsBefore, IsNoneBefore};
 ghost use Rattle.egt_index.specs.Home.{IsAtHome};
 ghost use Rattle.egt_index.specs.Index.{IsIndex, IsVoid};
 ghost use Rattle.egt_index.specs.Scales.{ends_of};
@@ -24,7 +25,7 @@ ghost use Rattle.egt_index.specs.Stood.{AllApart, IsFilled, list_of, with_entry,
 use crate::facts::facts;
 use crate::frame::Frame;
 use crate::men::{beside, has_pawns, has_target};
-use crate::stand::Stand;
+use crate::stand::{Stand, with_last};
 use crate::total::without_ends;
 use egt_board::{Board, Kind, Man, Position, Side, Square};
 use egt_class::Class;
@@ -88,23 +89,42 @@ fn take(number: u32, man: Option<Man>) -> (u32, Option<(Man, Square)>)
     }
 }
 
-/// Where the men of the class stand that the number spells, if it spells any.
-pub(crate) fn stand_on(class: Class, number: u32) -> Option<Stand>
-    ensures some { IfSome result (λ stand. SpellsMen (material_of class) number (list_of stand)) }
-    ensures filled { IfSome result IsFilled }
-    ensures none { IfNone result (SpellsNoMen (material_of class) number) }
+/// Takes the digit of the last man of the class off the number: none is last where fewer than two men stand beside the kings.
+#[inline(always)]
+pub(crate) fn take_last(class: Class, number: u32) -> (u32, Option<(Man, Square)>)
+    ensures { TellsLast class number result.0 result.1 }
 {
-    let (first, second) = beside(class);
-    let (before_last, last) = take(number, second);
-    let (before_next, next) = take(before_last, first);
+    let (_, last) = beside(class);
+    take(number, last)
+}
+
+/// Where the men of the class before the last one stand, whose digits are the number, if it spells any.
+#[inline(always)]
+pub(crate) fn stand_before(class: Class, number: u32) -> Option<Stand>
+    ensures some { IfSome result (IsBefore class number) }
+    ensures none { IfNone result (IsNoneBefore class number) }
+{
+    let (first, _) = beside(class);
+    let (before_next, next) = take(number, first);
     let (high, black) = split(before_next, BLACK_KING);
     let white = king_on(has_pawns(class), high)?;
     Some(Stand {
         white,
         black,
         next,
-        last,
+        last: None,
     })
+}
+
+/// Where the men of the class stand that the number spells, if it spells any.
+pub(crate) fn stand_on(class: Class, number: u32) -> Option<Stand>
+    ensures some { IfSome result (λ stand. SpellsMen (material_of class) number (list_of stand)) }
+    ensures filled { IfSome result IsFilled }
+    ensures none { IfNone result (SpellsNoMen (material_of class) number) }
+{
+    let (high, last) = take_last(class, number);
+    let before = stand_before(class, high)?;
+    Some(with_last(&before, last))
 }
 
 /// What stands before the digits of the side to move and the target, and what these are.
@@ -126,7 +146,7 @@ pub(crate) fn ends(class: Class, code: u32) -> (u32, Side, bool)
 
 /// The board with one man more, if there is one.
 #[inline(always)]
-fn with_entry(board: Board, entry: Option<(Man, Square)>) -> Board
+pub(crate) fn with_entry(board: Board, entry: Option<(Man, Square)>) -> Board
     requires free { IfSome entry (λ e. IsFree board e.1) }
     requires room { map.len board < 4 }
     ensures { result ≡ with_entry board entry }

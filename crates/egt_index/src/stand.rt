@@ -1,5 +1,5 @@
 //! The men of a class on their squares.
-ghost use Rattle.std.specs.Prelude.{◌≡◌, ◌<◌, ◌%◌, ◌/◌, ◌==◌, ◌++◌, ◌↔◌, IsTrue, Bool, true, false, if◌then◌else◌, None};
+ghost use Rattle.std.specs.Prelude.{◌≡◌, ◌<◌, ◌%◌, ◌/◌, ◌==◌, ◌++◌, ◌↔◌, IsTrue, IfSome, Bool, true, false, if◌then◌else◌, None};
 ghost use Rattle.std.specs.Option.{option_to_list, option_map};
 ghost use Rattle.egt_board.specs.AllMen.{HasAllMen};
 ghost use Rattle.egt_board.specs.Setup.{Setup, IsAdmissible};
@@ -9,7 +9,7 @@ ghost use Rattle.egt_class.specs.Membership.{IsOf};
 ghost use Rattle.egt_index.specs.Beaten.{AreBehind};
 ghost use Rattle.egt_index.specs.Scales.{IsOn};
 ghost use Rattle.egt_index.specs.Size.{men_beside};
-ghost use Rattle.egt_index.specs.Stood.{Stood, Holds, IsAmong, IsFirst, list_of, IsFilled, IsOff, AllApart, AreNear, entry_after, on_square_of, IsInOrder, IsOrdered, AreExchanged, IsTurned, IsStandAfter, square_or};
+ghost use Rattle.egt_index.specs.Stood.{Stood, Holds, IsAmong, IsFirst, list_of, before_last, with_last, IsFilled, IsOff, AllApart, AreNear, entry_after, on_square_of, IsInOrder, IsOrdered, AreExchanged, IsTurned, IsStandAfter, square_or};
 
 use crate::facts::facts;
 use crate::men::beside;
@@ -298,6 +298,32 @@ fn is_off(entry: Option<(Man, Square)>, square: Square) -> bool
 {
     match entry {
         Some((_, other)) => other != square,
+        None => true,
+    }
+}
+
+/// The men, with this one as the last, if there is one.
+#[inline(always)]
+pub(crate) fn with_last(stand: &Stand, last: Option<(Man, Square)>) -> Stand
+    ensures { result ≡ with_last stand.now last }
+{
+    Stand {
+        white: stand.white,
+        black: stand.black,
+        next: stand.next,
+        last,
+    }
+}
+
+/// Whether the last man, if there is one, stands off the squares of the others.
+#[inline(always)]
+pub(crate) fn is_last_off(stand: &Stand) -> bool
+    ensures { IsTrue result ↔ IfSome stand.now.last (λ e. IsOff (before_last stand.now) e.1) }
+{
+    match stand.last {
+        Some((_, square)) => {
+            (stand.white != square) & (stand.black != square) & is_off(stand.next, square)
+        }
         None => true,
     }
 }

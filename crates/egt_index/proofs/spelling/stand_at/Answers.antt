@@ -8,7 +8,7 @@ use Rattle.egt_index.specs.Stood.{list_of}
 use Rattle.egt_index.specs.declared.stand.Stand.{Stand}
 use Rattle.egt_index.proofs.Decoded.{has_pawns_list, no_men}
 use Rattle.egt_index.proofs.AtIndex.{at_index, indexed_by, taken}
-use Rattle.egt_index.proofs.Rows.{home_spelled, men_in_row}
+use Rattle.egt_index.proofs.RowMen.{home_spelled, men_in_row}
 use Rattle.egt_index.proofs.spelling.stand_at.Goals.{After-unwrap-stand}
 use Rattle.egt_index.proofs.spelling.stand_at.Goals as goal
 

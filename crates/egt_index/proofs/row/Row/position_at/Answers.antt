@@ -14,7 +14,7 @@ use Rattle.egt_index.specs.Size.{has_target}
 use Rattle.egt_index.specs.Stood.{list_of, HasStand}
 use Rattle.egt_index.proofs.Decoded.{has_pawns_list, list_spelled, spelled_setup}
 use Rattle.egt_index.proofs.Exists.{index_settled, index_spelled}
-use Rattle.egt_index.proofs.Rows.{ends_in_row}
+use Rattle.egt_index.proofs.RowMen.{ends_in_row}
 use Rattle.egt_index.proofs.Setups.{fits_apart, pawns_spelled, kings_spelled, stand_spelled, on_board_of, setup_spelled}
 use Rattle.egt_index.proofs.row.Row.position_at.Goals as goal
 use Rattle.egt_index.proofs.row.Row.position_at.Goals.{After-is_settled}

@@ -5,7 +5,7 @@ use Rattle.egt_index.specs.Stood.{HasStand}
 use Rattle.egt_index.specs.declared.frame.Frame.{Frame}
 use Rattle.egt_board.specs.declared.man.Side.{Side}
 use Rattle.egt_class.specs.Material.{material_of}
-use Rattle.egt_index.proofs.Rows.{turned_to, frame_turned, home_spelled}
+use Rattle.egt_index.proofs.RowMen.{turned_to, frame_turned, home_spelled}
 use Rattle.egt_index.proofs.row.Row.turn_to.Goals as goal
 
 pub of_stand-requires-clause-filled : goal.of_stand-requires-clause-filled
@@ -23,6 +23,7 @@ returns-in-Some-clause-row c = λ n row.
       men = row.men;
       filled = row.filled;
       apart = row.apart;
+      in_order = row.in_order;
       board = row.board;
       few = row.few;
       least = row.least;
@@ -51,6 +52,7 @@ returns-in-None-clause-row c = λ n row. record {
   men = row.men;
   filled = row.filled;
   apart = row.apart;
+  in_order = row.in_order;
   board = row.board;
   few = row.few;
   least = row.least;

@@ -41,7 +41,7 @@ number_with true code high Black false ends = let is = ends.is in omega arith
 number_with false code high White passed ends = let is = ends.is in omega arith
 number_with false code high Black passed ends = let is = ends.is in omega arith
 
-row_number : (m : Material) (code high : ℕ) (side : Side) (passed : Bool) → Ends m code high side passed → code / ends_of m ≡ high
+pub row_number : (m : Material) (code high : ℕ) (side : Side) (passed : Bool) → Ends m code high side passed → code / ends_of m ≡ high
 row_number m code high side passed ends = number_with (has_target m) code high side passed (record { is = ends.number_is; never = ends.never })
 
 pub ends_in_row : (m : Material) (code high : ℕ) (side : Side) (passed : Bool) → Ends m code high side passed → Ends m code (code / ends_of m) side passed
@@ -85,12 +85,11 @@ ends_alike m code other side passed ends same = record { number_is = of_test (ha
     of_test true s f is same = omega arith
     of_test false s f is same = omega arith
 
--- where what stands before the ends spells no men, no code of the row is an index
-pub void_without_men : (c code high : ℕ) (side : Side) (passed : Bool) → Ends (material_of c) code high side passed → SpellsNoMen (material_of c) high → IsVoidRow c (code / row_len c)
-void_without_men c code high side passed ends none = λ other same p ok index.
-    let there = ends_there (material_of c) other in
-    let row = same ∙ row_number (material_of c) code high side passed ends in
-    no_men (material_of c) other (other / row_len c) there.0 there.1 index.image there.2 (subst (SpellsNoMen (material_of c)) (sym row) none) index.spells
+-- where the row's number spells no men, no code of the row is an index
+pub void_row : (c n : ℕ) → SpellsNoMen (material_of c) n → IsVoidRow c n
+void_row c n none = λ code same p ok index.
+    let ends = ends_there (material_of c) code in
+    no_men (material_of c) code (code / row_len c) ends.0 ends.1 index.image ends.2 (subst (SpellsNoMen (material_of c)) (sym same) none) index.spells
 
 -- what a position has that a code of the row spells
 module _ (c n code : ℕ) (stand : Stand) (p : Setup) (row : code / row_len c ≡ n) (men : SpellsMen (material_of c) n (list_of stand)) (s : Spells c code p) where

@@ -1,0 +1,47 @@
+-- What the men before the last one tell of all codes that differ by no more than his square, the side to move and the target.
+use Rattle.std.specs.Prelude.{◌≡◌, ℕ, ◌<◌, Bool, false, Option, Some, None}
+use Rattle.std.specs.FinMap as map
+use Rattle.std.specs.Option.{option_to_list}
+use Rattle.egt_board.specs.Listed.{men_of}
+use Rattle.egt_class.specs.Material.{material_of}
+use Rattle.egt_index.specs.Beaten.{AllAsked}
+use Rattle.egt_index.specs.Index.{IsIndex}
+use Rattle.egt_index.specs.Row.{IsVoidRow}
+use Rattle.egt_index.specs.Shelf.{last_of}
+use Rattle.egt_index.specs.Size.{men_beside}
+use Rattle.egt_index.specs.Spelled.{Tells, SpellsMen, SpellsNoMen}
+use Rattle.egt_index.specs.Stood.{Entry, AllApart, IsFilled, IsInOrder, list_of, with_last}
+use Rattle.egt_index.specs.declared.front.Front.{Front}
+use Rattle.egt_index.specs.declared.stand.Stand.{Stand}
+
+-- the lowest digit of the number is that of the class's last man on his square, if it has two beside the kings, and `high` is what stands
+-- before it
+abbrev pub TellsLast : ℕ → ℕ → ℕ → Entry → Type 0
+TellsLast c n high last = (pawns : Bool) → Tells pawns n (option_to_list (last_of (men_beside (material_of c)))) high (option_to_list last)
+
+-- each number that goes on behind `high` spells these men and the last one
+pub record IsBefore (c high : ℕ) (stand : Stand) : Type 0 where
+  pub men : (n : ℕ) (last : Entry) → TellsLast c n high last → SpellsMen (material_of c) n (list_of (with_last stand last))
+  pub filled : (n : ℕ) (last : Entry) → TellsLast c n high last → IsFilled (with_last stand last)
+  pub no_last : stand.last ≡ None
+
+-- none of them spells men
+abbrev pub IsNoneBefore : ℕ → ℕ → Type 0
+IsNoneBefore c high = (n : ℕ) (last : Entry) → TellsLast c n high last → SpellsNoMen (material_of c) n
+
+-- where the men before the last one stand, and whether the index of each position that they and the last one make is to be compared
+pub record IsFront (c high : ℕ) (front : Front) : Type 0 where
+  pub before : IsBefore c high front.stand
+  pub apart : AllApart (list_of front.stand)
+  pub board : front.board ≡ men_of (list_of front.stand)
+  pub room : map.len front.board < 4
+  pub least : front.tied ≡ false → (last : Entry) → IsInOrder front.stand.next last → AllAsked c (with_last front.stand last) None (IsIndex c)
+
+-- all rows behind it are void
+abbrev pub IsVoidFront : ℕ → ℕ → Type 0
+IsVoidFront c high = (n : ℕ) (last : Entry) → TellsLast c n high last → IsVoidRow c n
+
+-- the front of the class with this number; there is none only where all codes behind it are void
+abbrev pub IsFrontOf : ℕ → ℕ → Option Front → Type 0
+IsFrontOf c high (Some front) = IsFront c high front
+IsFrontOf c high None = IsVoidFront c high
