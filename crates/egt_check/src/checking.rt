@@ -12,7 +12,7 @@ use crate::rule::Rule;
 use crate::uniform::is_uniform;
 use egt_class::laws::children_have_smaller_numbers;
 use egt_class::{Class, children};
-use egt_index::{begins_row, row_of, size};
+use egt_index::{Rows, begins_row, size};
 use egt_table::{Column, Table};
 
 /// The least child of the class that the library has no table of, if there is one.
@@ -52,10 +52,11 @@ fn judge_all(table: &Table, library: &Library) -> Result<(), Reject>
 {
     let uniform = is_uniform(table);
     let mut bad_zeroing = None;
+    let mut rows = Rows::new(table.class());
     let mut row = None;
     for index in 0..size(table.class()) {
         if begins_row(table.class(), index) {
-            row = row_of(table.class(), index);
+            row = rows.row_of(index);
         }
         let (mate, zeroing) = judge(table, library, uniform, &mut row, index);
         if let Some(rule) = mate {

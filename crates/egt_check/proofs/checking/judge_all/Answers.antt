@@ -16,7 +16,7 @@ judge-mate-requires-clause-row c =
     let class = c.args.table.now.class in
     let n = c.loop-index.index in
     elim c.if-begins_row.branch [
-      | then-begins_row w ↦ subst (IsRowOf class (n / row_len class)) (sym w.row-is) (subst (λ (k : ℕ). IsRowOf k (n / row_len k) w.row_of-row.result) w.class-then-begins_row.ensures.class w.row_of-row.ensures)
+      | then-begins_row w ↦ subst (IsRowOf class (n / row_len class)) (sym w.row-is) (subst (λ (k : ℕ). IsRowOf k (n / row_len k) w.row_of-row.result) c.loop-index.invariant.rows w.row_of-row.ensures.row)
       | else-begins_row w ↦ subst (IsRowOf class (n / row_len class)) (sym w.row-is) (c.loop-index.invariant.row
           (λ first. false≢true (sym w.if-begins_row.false ∙ c.begins_row.ensures.1 (ap (λ (k : ℕ). n % row_len k) c.class-in-loop-index.ensures.class ∙ first))))
     ]
@@ -28,6 +28,10 @@ loop-index-preserved c =
     record {
       mate = keeps_more tables c.args.table.now Mate c.loop-index.index c.loop-index.invariant.mate kept;
       zeroing = subst (IsFirstBad tables c.args.table.now (c.loop-index.index + 1)) (sym c.earlier-bad_zeroing.ensures) (first_bad_more tables c.args.table.now c.loop-index.index c.loop-index.bad_zeroing _ c.loop-index.invariant.zeroing c.judge-mate.ensures.zeroing);
+      rows = elim c.if-begins_row.branch [
+        | then-begins_row w ↦ w.rows-is ∙ w.row_of-row.ensures.class ∙ c.loop-index.invariant.rows
+        | else-begins_row w ↦ w.rows-is ∙ c.loop-index.invariant.rows
+      ];
       row = λ more. subst (λ (k : ℕ). IsRowOf c.args.table.now.class k c.judge-mate.new.row) (same_row c.args.table.now.class c.loop-index.index more) c.judge-mate.ensures.row;
     }
 
@@ -35,5 +39,5 @@ pub returns-in-None-clause-exact : goal.returns-in-None-clause-exact
 returns-in-None-clause-exact c =
     let tables = beside (table_at c.args.library.now) c.args.table.now in
     let zeroing = subst (IsFirstBad tables c.args.table.now c.loop-index.index) c.in-None.is c.loop-index.invariant.zeroing in
-    let all = subst (λ n. n ≤ c.loop-index.index) (c.size-index-end.ensures ∙ ap (λ (k : ℕ). size_of k) c.class.ensures.class) c.loop-index-test.false in
+    let all = subst (λ n. n ≤ c.loop-index.index) (c.size-index-end.ensures ∙ ap (λ (k : ℕ). size_of k) c.class-2.ensures.class) c.loop-index-test.false in
     ((λ ok. keeps_all tables c.args.table.now c.loop-index.index all c.loop-index.invariant.mate zeroing), (λ keeps. refl))

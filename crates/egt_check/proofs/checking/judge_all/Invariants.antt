@@ -1,4 +1,4 @@
-use Rattle.std.specs.Prelude.{◌≢◌, ◌%◌, ◌/◌}
+use Rattle.std.specs.Prelude.{◌≡◌, ◌≢◌, ◌%◌, ◌/◌}
 use Rattle.egt_index.specs.Row.{row_len, IsRowOf}
 use Rattle.egt_table.specs.declared.column.Column.TheVariants.{Mate}
 use Rattle.egt_check.specs.FirstBad.{IsFirstBad}
@@ -10,5 +10,6 @@ abbrev pub invariant-loop-index : goal.invariant-loop-index
 invariant-loop-index l = record {
   mate : KeepsBelow (beside (table_at l.library) l.table) l.table Mate l.index;
   zeroing : IsFirstBad (beside (table_at l.library) l.table) l.table l.index l.bad_zeroing;
+  rows : l.rows ≡ l.table.class;
   row : l.index % row_len l.table.class ≢ 0 → IsRowOf l.table.class (l.index / row_len l.table.class) l.row;
 }
