@@ -1,8 +1,9 @@
-use Rattle.std.proofs.Common.{◌≡◌, ◌/◌, ℕ, refl, sym, subst}
+use Rattle.std.proofs.Common.{◌≡◌, Option, ◌/◌, ℕ, refl, sym, subst}
 use Rattle.egt_class.specs.Material.{material_of}
 use Rattle.egt_index.specs.Front.{IsFrontOf, TellsLast}
 use Rattle.egt_index.specs.Row.{row_len, IsRowOf}
 use Rattle.egt_index.specs.Stood.{Entry}
+use Rattle.egt_index.specs.declared.front.Front.{Front}
 use Rattle.egt_index.specs.declared.row.Rows.TheInside.{Inside}
 use Rattle.egt_index.proofs.RowMen.{row_number}
 use Rattle.egt_index.proofs.row.Rows.row_of.Goals.{After-row_behind-arg-1, Joined-self, in-None, in-Some, then-high-self, else-high-self}
@@ -14,24 +15,23 @@ record IsKept (c high : ℕ) (rows : Inside) : Type 0 where
   number : rows.number ≡ high
   front : IsFrontOf c high rows.front
 
+made : (c high : ℕ) (front : Option Front) (rows : Inside) → rows ≡ record { class = c; number = high; front = front } → IsFrontOf c high front → IsKept c high rows
+made c high front rows is of = subst (IsKept c high) (sym is) (record { class = refl; number = refl; front = of })
+
+stayed : (high : ℕ) (before rows : Inside) → rows ≡ before → high ≡ before.number → IsFrontOf before.class before.number before.front → IsKept before.class high rows
+stayed high before rows is same of =
+    subst (IsKept before.class high) (sym is) (record { class = refl; number = sym same; front = subst (λ (n : ℕ). IsFrontOf before.class n before.front) (sym same) of })
+
 here : (c : After-row_behind-arg-1) → IsKept c.self.inside.class c.take_last-high.result.0 c.if-high-self.self-inside
 here c = elim c.if-high-self.branch [
-  | then-high-self w ↦ subst (IsKept c.self.inside.class c.take_last-high.result.0) (sym w.self-inside-is) (record { class = refl; number = refl; front = w.front_of-self-inside.ensures })
-  | else-high-self w ↦ subst (IsKept c.self.inside.class c.take_last-high.result.0) (sym w.self-inside-is) (record {
-    class = refl;
-    number = sym w.if-high-self.false;
-    front = subst (λ (n : ℕ). IsFrontOf c.self.inside.class n c.self.inside.front) (sym w.if-high-self.false) c.self.invariant;
-  })
+  | then-high-self w ↦ made c.self.inside.class c.take_last-high.result.0 w.front_of-self-inside.result c.if-high-self.self-inside w.self-inside-is w.front_of-self-inside.ensures
+  | else-high-self w ↦ stayed c.take_last-high.result.0 c.self.inside c.if-high-self.self-inside w.self-inside-is w.if-high-self.false c.self.invariant
 ]
 
 kept : (c : Joined-self) → IsKept c.self.inside.class c.take_last-high.result.0 c.if-high-self.self-inside
 kept c = elim c.if-high-self.branch [
-  | then-high-self w ↦ subst (IsKept c.self.inside.class c.take_last-high.result.0) (sym w.self-inside-is) (record { class = refl; number = refl; front = w.front_of-self-inside.ensures })
-  | else-high-self w ↦ subst (IsKept c.self.inside.class c.take_last-high.result.0) (sym w.self-inside-is) (record {
-    class = refl;
-    number = sym w.if-high-self.false;
-    front = subst (λ (n : ℕ). IsFrontOf c.self.inside.class n c.self.inside.front) (sym w.if-high-self.false) c.self.invariant;
-  })
+  | then-high-self w ↦ made c.self.inside.class c.take_last-high.result.0 w.front_of-self-inside.result c.if-high-self.self-inside w.self-inside-is w.front_of-self-inside.ensures
+  | else-high-self w ↦ stayed c.take_last-high.result.0 c.self.inside c.if-high-self.self-inside w.self-inside-is w.if-high-self.false c.self.invariant
 ]
 
 -- the digits before the last man's and his are those of the class that the rows have
