@@ -7,6 +7,7 @@ use crate::rule::{Told, said_by};
 use crate::setup::Setup;
 use crate::steps::{Step, steps};
 use crate::tables::mate_told;
+use crate::together::parts_agree;
 use arrayvec::ArrayVec;
 use egt_check::Library;
 use egt_class::Class;
@@ -249,6 +250,19 @@ pub fn mate_game_agrees(class: Class, library: &Library, step: u32) -> Result<u3
     }
 }
 
+/// At how many codes at these steps that game tells at once of the nodes before many what it tells of each; the first where it does not.
+pub fn mate_parts_agree(
+    alloc: Global,
+    class: Class,
+    library: &Library,
+    step: u32,
+) -> Result<u32, u32> {
+    match MateGame::new(class, library) {
+        Ok(game) => parts_agree(alloc, &game, step),
+        Err(_missing) => Err(0),
+    }
+}
+
 /// The ranks of the class's game of mates; none where a child has no table, and where memory is refused.
 fn mate_ranks(alloc: Global, class: Class, library: &Library) -> Result<Ranks, u32>
     ensures { IfOk result (AreMateRanks (table_at library.now) class) }
@@ -262,8 +276,10 @@ fn mate_ranks(alloc: Global, class: Class, library: &Library) -> Result<Ranks, u
     }
 }
 
-/// At how many codes at these steps the game of zeroing moves over these mate ranks tells right; the first where it does not.
+/// At how many codes at these steps the game of zeroing moves over these mate ranks tells right, of each node and of many at once; the first where
+/// it does not.
 fn zero_game_over<'x>(
+    alloc: Global,
     class: Class,
     library: &'x Library,
     ranks: &'x Ranks,
@@ -278,7 +294,10 @@ fn zero_game_over<'x>(
         mates: ranks.entries(),
     };
     match ZeroGame::new(class, library, ranks) {
-        Ok(game) => codes_agree(&game, &plain, step),
+        Ok(game) => {
+            codes_agree(&game, &plain, step)?;
+            parts_agree(alloc, &game, step)
+        }
         Err(_missing) => Err(0),
     }
 }
@@ -291,5 +310,5 @@ pub fn zero_game_agrees(
     step: u32,
 ) -> Result<u32, u32> {
     let ranks = mate_ranks(alloc, class, library)?;
-    zero_game_over(class, library, &ranks, step)
+    zero_game_over(alloc, class, library, &ranks, step)
 }

@@ -12,12 +12,13 @@ mod samples;
 mod setup;
 mod steps;
 mod tables;
+mod together;
 mod unmoves;
 
 use egt_check::Library;
 use egt_class::{Class, by_name, name};
 use folder::library_of;
-use games::{mate_game_agrees, zero_game_agrees};
+use games::{mate_game_agrees, mate_parts_agree, zero_game_agrees};
 use samples::{Held, agree};
 use std::process::ExitCode;
 use std::{env, io};
@@ -52,6 +53,9 @@ fn compare(
     }
     if let Err(code) = mate_game_agrees(class, library, walks) {
         return Err(("game of mates", code));
+    }
+    if let Err(code) = mate_parts_agree(rt.alloc(), class, library, walks) {
+        return Err(("game of mates at once", code));
     }
     match zero_game_agrees(rt.alloc(), class, library, walks) {
         Ok(codes) => Ok((entries, codes)),

@@ -1,5 +1,5 @@
 //! Samples of all classes. The tables of the first six are built.
-use crate::games::{mate_game_agrees, zero_game_agrees};
+use crate::games::{mate_game_agrees, mate_parts_agree, zero_game_agrees};
 use crate::samples::{Held, agree};
 use egt_check::Library;
 use egt_class::Class;
@@ -30,7 +30,7 @@ fn moves_are_the_plain_ones(rt: HostRuntime) -> Result<(), Fail> {
     let library = Library::new(rt.alloc())?;
     for number in 0..36 {
         let class = Class::new(number).ok_or("no class")?;
-        let held = agree(Held::Moves, &library, class, step(number, 1, 997));
+        let held = agree(Held::Moves, &library, class, step(number, 1, 499));
         assert!(rt; held.is_ok(), "{number}");
     }
     Ok(())
@@ -41,7 +41,7 @@ fn unmoves_are_the_plain_ones(rt: HostRuntime) -> Result<(), Fail> {
     let library = Library::new(rt.alloc())?;
     for number in 0..36 {
         let class = Class::new(number).ok_or("no class")?;
-        let held = agree(Held::Unmoves, &library, class, step(number, 11, 9973));
+        let held = agree(Held::Unmoves, &library, class, step(number, 7, 4_999));
         assert!(rt; held.is_ok(), "{number}");
     }
     Ok(())
@@ -66,20 +66,22 @@ fn games_of_mates_are_the_plain_ones(rt: HostRuntime) -> Result<(), Fail> {
     let library = library_of_first(rt.alloc(), 6)?;
     for number in 0..26 {
         let class = Class::new(number).ok_or("no class")?;
-        let told = mate_game_agrees(class, &library, step(number, 11, 9973));
+        let told = mate_game_agrees(class, &library, step(number, 11, 1_999));
         assert!(rt; told.is_ok(), "{number}");
     }
     Ok(())
 }
 
-// Two men of one kind, two of one side, two of one kind on either side, and others on either side.
+// The games of mates are asked here of many nodes at once. Two men of one kind, two of one side, two of one kind on either side, and others on either side.
 #[test]
 fn games_of_zeroing_moves_are_the_plain_ones(rt: HostRuntime) -> Result<(), Fail> {
     let library = library_of_first(rt.alloc(), 6)?;
     for number in [0, 1, 2, 3, 4, 5, 13, 14, 20, 22] {
         let class = Class::new(number).ok_or("no class")?;
-        let told = zero_game_agrees(rt.alloc(), class, &library, step(number, 11, 9973));
+        let told = zero_game_agrees(rt.alloc(), class, &library, step(number, 11, 1_999));
         assert!(rt; told.is_ok(), "{number}");
+        let at_once = mate_parts_agree(rt.alloc(), class, &library, step(number, 11, 1_999));
+        assert!(rt; at_once.is_ok(), "{number}");
     }
     Ok(())
 }
