@@ -276,8 +276,8 @@ fn mate_ranks(alloc: Global, class: Class, library: &Library) -> Result<Ranks, u
     }
 }
 
-/// At how many codes at these steps the game of zeroing moves over these mate ranks tells right, of each node and of many at once; the first where
-/// it does not.
+/// At how many codes at these steps the game of zeroing moves over these mate ranks tells right, and at once of many what it tells of each; the
+/// first where it does not.
 fn zero_game_over<'x>(
     alloc: Global,
     class: Class,
@@ -295,8 +295,9 @@ fn zero_game_over<'x>(
     };
     match ZeroGame::new(class, library, ranks) {
         Ok(game) => {
-            codes_agree(&game, &plain, step)?;
-            parts_agree(alloc, &game, step)
+            let codes = codes_agree(&game, &plain, step)?;
+            parts_agree(alloc, &game, step)?;
+            Ok(codes)
         }
         Err(_missing) => Err(0),
     }

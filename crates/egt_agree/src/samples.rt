@@ -2,6 +2,7 @@
 use crate::moves::moves_agree;
 use crate::tables::entries_agree;
 use crate::unmoves::unmoves_agree;
+use egt_board::Position;
 use egt_check::Library;
 use egt_class::Class;
 use egt_index::{position, size};
@@ -15,16 +16,22 @@ pub enum Held {
     Entries,
 }
 
+/// Whether it agrees with its plain form at the position, as it is and with colours exchanged.
+fn agrees_at(held: Held, position: &Position) -> bool {
+    let exchanged = position.flip_colours();
+    match held {
+        Held::Moves => moves_agree(position) && moves_agree(&exchanged),
+        _ => unmoves_agree(position) && unmoves_agree(&exchanged),
+    }
+}
+
 /// Whether it agrees with its plain form at the code.
 fn agrees(held: Held, library: &Library, class: Class, code: u32) -> bool {
     if let Held::Entries = held {
         return entries_agree(library, class, code);
     }
     match position(class, code) {
-        Some(position) => match held {
-            Held::Moves => moves_agree(&position),
-            _ => unmoves_agree(&position),
-        },
+        Some(position) => agrees_at(held, &position),
         None => true,
     }
 }
