@@ -180,7 +180,44 @@ fn plain(number: u8, position: &Position) -> Option<u32> {
     least
 }
 
-/// Whether the code spells a position, and it is the index of that one and of it with colours exchanged.
+/// What a turn makes of the position.
+fn image(position: &Position, turn: u8) -> Option<Position> {
+    let mut men = ArrayVec::<(Man, Square), 4>::new();
+    for &(man, square) in position.men().as_slice() {
+        let (man, square) = turned(turn, man, square);
+        men.try_push((man, Square::new(square)?)).ok()?;
+    }
+    let target = match position.target() {
+        Some(square) => {
+            let (_, square) = turned(turn, Man::default(), square);
+            Some(Square::new(square)?)
+        }
+        None => None,
+    };
+    let side = if turn / 8 == 1 {
+        position.side().other()
+    } else {
+        position.side()
+    };
+    Position::new(men.as_slice(), side, target).ok()
+}
+
+/// Whether the code is the index of all images of the position.
+fn is_index_of_images(class: Class, code: u32, position: &Position) -> Result<bool, Fail> {
+    for turn in 0..16 {
+        if has_pawns(class.number()) && turn % 8 >= 2 {
+            continue;
+        }
+        let image = image(position, turn).ok_or("no image")?;
+        let (own, _) = of(&image);
+        if own != class || index(own, &image) != code {
+            return Ok(false);
+        }
+    }
+    Ok(true)
+}
+
+/// Whether the code spells a position, and it is the index of all its images and the plain one in either colours.
 fn is_index(class: Class, code: u32) -> Result<bool, Fail> {
     if !is_spelled(class, code)? {
         return Ok(false);
@@ -188,14 +225,11 @@ fn is_index(class: Class, code: u32) -> Result<bool, Fail> {
     let Some(spelled) = position(class, code) else {
         return Err(Fail::from("no position"));
     };
-    for alike in [spelled, spelled.flip_colours()] {
-        let (own, _) = of(&alike);
-        if own != class
-            || index(own, &alike) != code
-            || plain(class.number(), &alike) != Some(code)
-        {
-            return Err(Fail::from("another index"));
-        }
+    if plain(class.number(), &spelled.flip_colours()) != Some(code) {
+        return Err(Fail::from("another plain index"));
+    }
+    if !is_index_of_images(class, code, &spelled)? {
+        return Err(Fail::from("another index"));
     }
     Ok(true)
 }
