@@ -1,0 +1,110 @@
+//! Holds what is fast against plain forms that walk the board. `egt_agree DIR CLASS` reads the tables of the class and of those below it
+//! from a folder and prints a line: that both entries of the class's codes are what those of the positions after each legal move give, and
+//! that legal moves, moves backwards and both games over the class are the plain ones; or the first code at which one of them differs, and then
+//! its status is 1. All codes of classes of two and three men are asked, and of the others every so many. The tests ask the same of fewer codes.
+#![tactic(auto)]
+
+mod folder;
+mod games;
+mod moves;
+mod rule;
+mod samples;
+mod setup;
+mod steps;
+mod tables;
+mod together;
+mod unmoves;
+
+use egt_check::Library;
+use egt_class::{Class, by_name, name};
+use folder::library_of;
+use games::{mate_game_agrees, mate_parts_agree, zero_game_agrees};
+use samples::{Held, agree};
+use std::process::ExitCode;
+use std::{env, io};
+
+/// The steps between the codes of a class of four men. They are odd, so that either side moves, with a target and without, and primes, so
+/// that no digit keeps to few values.
+const ENTRIES: u32 = 31;
+
+const WALKS: u32 = 997;
+
+/// The step of the class.
+fn step_of(class: Class, step: u32) -> u32 {
+    if class.number() < 6 { 1 } else { step }
+}
+
+/// At how many codes everything agrees: entries, moves, moves backwards and games. Else what differs, and the first code where.
+fn compare(
+    rt: &HostRuntime,
+    class: Class,
+    library: &Library,
+) -> Result<(u32, u32), (&'static str, u32)> {
+    let walks = step_of(class, WALKS);
+    let entries = match agree(Held::Entries, library, class, step_of(class, ENTRIES)) {
+        Ok(codes) => codes,
+        Err(code) => return Err(("entries", code)),
+    };
+    if let Err(code) = agree(Held::Moves, library, class, walks) {
+        return Err(("moves", code));
+    }
+    if let Err(code) = agree(Held::Unmoves, library, class, walks) {
+        return Err(("unmoves", code));
+    }
+    if let Err(code) = mate_game_agrees(class, library, walks) {
+        return Err(("game of mates", code));
+    }
+    if let Err(code) = mate_parts_agree(rt.alloc(), class, library, walks) {
+        return Err(("game of mates at once", code));
+    }
+    match zero_game_agrees(rt.alloc(), class, library, walks) {
+        Ok(codes) => Ok((entries, codes)),
+        Err(code) => Err(("game of zeroing moves", code)),
+    }
+}
+
+/// Compares all of the class, and prints a line; whether all agrees.
+fn print_class(rt: &HostRuntime, class: Class, library: &Library) -> io::Result<bool> {
+    let compared = compare(rt, class, library);
+    let class = name(class);
+    match compared {
+        Ok((entries, walks)) => {
+            println!(rt; "{class} agrees: entries at {entries} codes, moves and games at {walks}")?;
+            Ok(true)
+        }
+        Err((what, code)) => {
+            println!(rt; "{class} differs: {what} at code {code}")?;
+            Ok(false)
+        }
+    }
+}
+
+/// Reads the tables of the class of that name and of those below it, and compares all of the class; whether all agrees.
+fn run(rt: &HostRuntime, folder: &str, class: &str) -> io::Result<bool> {
+    let Some(class) = by_name(class) else {
+        println!(rt; "no class")?;
+        return Ok(false);
+    };
+    match library_of(rt, folder, class)? {
+        Some(library) => print_class(rt, class, &library),
+        None => {
+            println!(rt; "a table was refused")?;
+            Ok(false)
+        }
+    }
+}
+
+fn main(rt: HostRuntime) -> io::Result<ExitCode> {
+    let mut words = Vec::new(rt.alloc());
+    for word in env::args(&rt)? {
+        words.push(word)?;
+    }
+    let words = words.as_slice();
+    if words.len() == 3 && !run(&rt, words[1].as_str(), words[2].as_str())? {
+        return Ok(ExitCode::from(1));
+    }
+    Ok(ExitCode::from(0))
+}
+
+#[cfg(test)]
+mod tests;

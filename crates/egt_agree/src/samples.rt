@@ -1,0 +1,51 @@
+//! Samples of a class's codes: every so many of them.
+use crate::moves::moves_agree;
+use crate::tables::entries_agree;
+use crate::unmoves::unmoves_agree;
+use egt_board::Position;
+use egt_check::Library;
+use egt_class::Class;
+use egt_index::{position, size};
+
+/// What is held against its plain form.
+#[derive(Clone, Copy)]
+pub enum Held {
+    Moves,
+    Unmoves,
+    /// The entries of the class's table in the library.
+    Entries,
+}
+
+/// Whether it agrees with its plain form at the position, as it is and with colours exchanged.
+fn agrees_at(held: Held, position: &Position) -> bool {
+    let exchanged = position.flip_colours();
+    match held {
+        Held::Moves => moves_agree(position) && moves_agree(&exchanged),
+        _ => unmoves_agree(position) && unmoves_agree(&exchanged),
+    }
+}
+
+/// Whether it agrees with its plain form at the code.
+fn agrees(held: Held, library: &Library, class: Class, code: u32) -> bool {
+    if let Held::Entries = held {
+        return entries_agree(library, class, code);
+    }
+    match position(class, code) {
+        Some(position) => agrees_at(held, &position),
+        None => true,
+    }
+}
+
+/// At how many codes it was held against its plain form, one a step; the first at which it differs.
+pub fn agree(held: Held, library: &Library, class: Class, step: u32) -> Result<u32, u32> {
+    let mut codes = 0u32;
+    for code in 0..size(class) {
+        if code.checked_rem(step) == Some(0) {
+            if !agrees(held, library, class, code) {
+                return Err(code);
+            }
+            codes = codes.wrapping_add(1);
+        }
+    }
+    Ok(codes)
+}
