@@ -1,5 +1,6 @@
 //! The judgement of one index's entries.
-ghost use Rattle.std.specs.Prelude.{◌≡◌, ◌↔◌, ◌<◌, ◌/◌, ◌==◌, if◌then◌else◌, true, IsTrue};
+ghost use Rattle.std.specs.Prelude.{◌≡◌, ◌↔◌, ◌<◌, ◌/◌, ◌==◌, if◌then◌else◌, true, Some, IsTrue};
+ghost use Rattle.egt_index.specs.Index.{IsVoid};
 ghost use Rattle.egt_index.specs.Frame.{IsFrame};
 ghost use Rattle.egt_index.specs.Row.{row_len, IsRowOf};
 ghost use Rattle.egt_index.specs.Size.{size_of};
@@ -150,28 +151,42 @@ fn judge_voids(entries: &ByColumn) -> (Option<Rule>, Option<Rule>)
     (judge_void(entries.mate), judge_void(entries.zeroing))
 }
 
+/// The first rules that the mate entry and the zeroing entry at an index break that no position has, if they break one.
+#[inline(always)]
+pub(crate) fn judge_none(
+    table: &Table,
+    _library: &Library,
+    index: u32,
+) -> (Option<Rule>, Option<Rule>)
+    requires inside { index < size_of table.now.class }
+    requires void { IsVoid table.now.class index }
+    ensures mate { IsJudged (beside (table_at _library.now) table.now) table.now Mate index result.0 }
+    ensures zeroing { IsJudged (beside (table_at _library.now) table.now) table.now Zeroing index result.1 }
+{
+    let entries = entries_at(table, index);
+    judge_voids(&entries)
+}
+
 /// The first rules that the mate entry and the zeroing entry at an index of the row break, if they break one.
+#[inline(always)]
 pub(crate) fn judge(
     table: &Table,
     library: &Library,
     uniform: bool,
-    row: &mut Option<Row>,
+    row: &mut Row,
     index: u32,
 ) -> (Option<Rule>, Option<Rule>)
     requires uniform { uniform ≡ true → IsUniform table.now }
     requires inside { index < size_of table.now.class }
     requires children { HasChildren (table_at library.now) table.now.class }
-    requires row { IsRowOf table.now.class (index / row_len table.now.class) row.old }
-    ensures row { IsRowOf table.now.class (index / row_len table.now.class) row.new }
+    requires row { IsRowOf table.now.class (index / row_len table.now.class) (Some row.old) }
+    ensures row { IsRowOf table.now.class (index / row_len table.now.class) (Some row.new) }
     ensures mate { IsJudged (beside (table_at library.now) table.now) table.now Mate index result.0 }
     ensures zeroing { IsJudged (beside (table_at library.now) table.now) table.now Zeroing index result.1 }
 {
     codes_spell_one_position();
     spelled_positions_are_of_the_class();
     let entries = entries_at(table, index);
-    let Some(row) = row else {
-        return judge_voids(&entries);
-    };
     match row.position_at(index) {
         None => judge_voids(&entries),
         Some(position) => {
