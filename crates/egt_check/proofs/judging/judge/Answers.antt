@@ -44,11 +44,11 @@ returns-in-Some c =
     let mate = c.entries_at-entries.ensures Mate in
     record {
       row = (c.turn_to.ensures.class ∙ class, c.turn_to.ensures.row _ c.requires.row.1);
-      mate = judged tables t i p spelled alone index Mate c.due-due.result.mate (c.due-due.ensures Mate) c.judge_mate.result
-          (subst (λ (x : ℕ). Finds Mate x x c.due-due.result.mate c.judge_mate.result) mate c.judge_mate.ensures);
-      zeroing = judged tables t i p spelled alone index Zeroing c.due-due.result.zeroing (c.due-due.ensures Zeroing) c.judge_zeroing.result
-          (subst (λ (x : ℕ). Finds Zeroing (entry_at t Mate i) x c.due-due.result.zeroing c.judge_zeroing.result) (c.entries_at-entries.ensures Zeroing)
-          (subst (λ (x : ℕ). Finds Zeroing x c.entries_at-entries.result.zeroing c.due-due.result.zeroing c.judge_zeroing.result) mate c.judge_zeroing.ensures));
+      mate = judged tables t i p spelled alone index Mate c.due-due.result.mate (c.due-due.ensures Mate) c.judge_entries.result.0
+          (subst (λ (x : ℕ). Finds Mate x x c.due-due.result.mate c.judge_entries.result.0) mate c.judge_entries.ensures.mate);
+      zeroing = judged tables t i p spelled alone index Zeroing c.due-due.result.zeroing (c.due-due.ensures Zeroing) c.judge_entries.result.1
+          (subst (λ (x : ℕ). Finds Zeroing (entry_at t Mate i) x c.due-due.result.zeroing c.judge_entries.result.1) (c.entries_at-entries.ensures Zeroing)
+          (subst (λ (x : ℕ). Finds Zeroing x c.entries_at-entries.result.zeroing c.due-due.result.zeroing c.judge_entries.result.1) mate c.judge_entries.ensures.zeroing));
     }
 
 pub frame-requires : goal.frame-requires
