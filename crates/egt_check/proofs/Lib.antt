@@ -15,3 +15,4 @@ mod Scoring
 mod ScoreTable
 mod Uniformity
 mod Men
+pub mod Passing

@@ -1,5 +1,6 @@
 -- The men of one side: its king, and those of the men beside the kings who are of it.
-use Rattle.std.proofs.Common.{◌≡◌, ◌≢◌, ℕ, ◌⊎◌, ◌↔◌, Option, Some, None, inl, inr, refl, sym, subst}
+use Rattle.std.proofs.Common.{◌≡◌, ◌≢◌, ℕ, ◌⊎◌, ◌↔◌, Option, Some, None, IfSome, inl, inr, refl, sym, subst}
+use Rattle.egt_board.specs.AllMen.{AreApart, HasBeside}
 use Rattle.egt_board.specs.Attack.{king_of}
 use Rattle.egt_board.specs.Beside.{StandsBeside}
 use Rattle.egt_board.specs.Placement.{Placement, Stands, IsHeld}
@@ -70,3 +71,12 @@ camp_told men side king one other first two all home others t alone more most = 
     ]
   ],
 )
+
+-- the men beside the kings, each on a square of his own
+apart_each : (one other : Option (Man × ℕ)) → IfSome one (λ e. IfSome other (λ d. e.1 ≢ d.1)) → AreApart one other
+apart_each None other apart = tt
+apart_each (Some e) None apart = tt
+apart_each (Some e) (Some d) apart = apart
+
+pub beside_of : (men : Placement) (one other : Option (Man × ℕ)) → AreOthers men one other → HasBeside men one other
+beside_of men one other others = record { one = others.one; other = others.other; all = others.all; apart = apart_each one other others.apart }

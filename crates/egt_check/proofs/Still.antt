@@ -1,5 +1,5 @@
 -- A move that does not zero takes one man to a free square, and changes nothing else on the board.
-use Rattle.std.proofs.Common.{◌≡◌, ◌≢◌, ℕ, ◌+◌, ◌/◌, if◌then◌else◌, ◌==◌, ◌&&◌, Bool, true, false, Option, Some, None, refl, ap, ◌∙◌, inl, inr, ◌⊎◌, subst, sym, ◌||◌, ◌<◌, arith}
+use Rattle.std.proofs.Common.{◌≡◌, ◌≢◌, ℕ, ◌+◌, ◌/◌, if◌then◌else◌, ◌==◌, ◌&&◌, Bool, true, false, Option, Some, None, IfSome, refl, ap, ◌∙◌, inl, inr, ◌⊎◌, subst, sym, ◌||◌, ◌<◌, arith}
 use Rattle.std.specs.FinMap as map
 use Rattle.egt_board.specs.declared.man.Side.{Side}
 use Rattle.egt_board.specs.declared.man.Side.TheVariants.{White, Black}
@@ -20,7 +20,8 @@ use Rattle.egt_moves.specs.Legal.{Leads, men_left, is_target, is_two_ranks, IsLe
 use Rattle.egt_moves.specs.Promotion.{is_pawn, FitsPromotion}
 use Rattle.egt_moves.specs.declared.chess_move.Move.{Move}
 use Rattle.egt_moves.specs.Targets.{IsLegalTarget}
-use Rattle.egt_check.specs.Steps.{IsQuietTarget}
+use Rattle.egt_check.specs.Steps.{IsCapture, IsQuietTarget}
+use Rattle.egt_board.specs.Target.{IsTarget}
 use Rattle.std.proofs.lemmas.Bool.Decides.{eqb_tells}
 
 -- the law on moves that keep the class
@@ -104,11 +105,26 @@ module _ (p : Setup) (from t : ℕ) (man : Man) (stands : Stands p.men from man)
   plain_legal : ((m : Move) → m.from ≡ from → m.to ≡ t → IsLegal p m → m.promo ≡ None) → IsLegalTarget p from t → IsLegal p (plain from t)
   plain_legal none target = subst (λ (promo : Option Kind). IsLegal p (record { from = from; to = t; promo = promo })) (none (record { from = from; to = t; promo = target.0 }) refl refl target.1) target.1
 
+  piece_plain : man.kind ≢ P → (m : Move) → m.from ≡ from → m.to ≡ t → IsLegal p m → m.promo ≡ None
+  piece_plain piece m is to legal = piece_promo p legal.0 m legal.1 (λ pawn. piece (ap (λ (x : Man). x.kind) (man_is legal.0 m is legal.1) ∙ pawn))
+
+  -- a piece's move to a square where an enemy stands
+  pub capture_piece : IsAdmissible p → man.kind ≢ P → IsHeld p.men t (other_side p.side) → IsLegalTarget p from t → IsCapture p from t
+  capture_piece ok piece held target = record {
+    legal = plain_legal (piece_plain piece) target;
+    only = λ m is to legal. same_move m is to (piece_plain piece m is to legal);
+    zeroes = inl held;
+    told = λ q leads. (
+      λ is. let empty = (subst (λ o. IfSome o (IsTarget p.men p.side)) is ok.target).empty in absurd (let none = sym held.stands ∙ empty in cc),
+      ap (λ (s : Setup). s.target) leads.becomes ∙ piece_unpassed leads.man from t (λ pawn. piece (ap (λ (x : Man). x.kind) (man_is q (plain from t) refl leads) ∙ pawn)),
+    );
+  }
+
   -- a piece's move to a square where no enemy stands
   pub quiet_piece : man.kind ≢ P → ¬ IsHeld p.men t (other_side p.side) → IsLegalTarget p from t → IsQuietTarget p false from t
   quiet_piece piece free target = record {
-    legal = plain_legal promo_none target;
-    only = λ m is to legal. same_move m is to (promo_none m is to legal);
+    legal = plain_legal (piece_plain piece) target;
+    only = λ m is to legal. same_move m is to (piece_plain piece m is to legal);
     quiet = λ captures. elim captures [
       | inl held ↦ free held
       | inr passing ↦ piece (no_pawn_here passing.0)
@@ -117,9 +133,6 @@ module _ (p : Setup) (from t : ℕ) (man : Man) (stands : Stands p.men from man)
     zeroes = (λ no. absurd (let false = no in cc), λ zeroes. absurd (elim zeroes [ inl held ↦ free held | inr pawn ↦ piece (no_pawn_here pawn) ]));
   }
     where
-      promo_none : (m : Move) → m.from ≡ from → m.to ≡ t → IsLegal p m → m.promo ≡ None
-      promo_none m is to legal = piece_promo p legal.0 m legal.1 (λ pawn. piece (ap (λ (x : Man). x.kind) (man_is legal.0 m is legal.1) ∙ pawn))
-
       no_pawn_here : IsPawnOn p.men from → man.kind ≡ P
       no_pawn_here pawn = ap (λ (x : Man). x.kind) (one_man p.men from man pawn.man stands pawn.stands) ∙ pawn.pawn
 

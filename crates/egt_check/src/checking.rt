@@ -1,18 +1,22 @@
 //! The judgement of a whole table.
-ghost use Rattle.std.specs.Prelude.{◌≡◌, ◌↔◌, IsOk, IfErr, IfSome, IfNone};
+ghost use Rattle.std.specs.Prelude.{◌≡◌, ◌↔◌, ◌+◌, ◌%◌, ◌/◌, ◌≤◌, true, Some, None, IsOk, IfOk, IfErr, IfSome, IfNone};
+ghost use Rattle.egt_index.specs.Row.{row_len, IsRowOf};
+ghost use Rattle.egt_index.specs.Size.{size_of};
+ghost use Rattle.egt_table.specs.declared.column.Column.TheVariants.{Mate};
 ghost use Rattle.egt_check.specs.Tables.{table_at, beside, HasChildren};
-ghost use Rattle.egt_check.specs.Library.{IsAccepted, IsRefused, IsFirstMissing};
-ghost use Rattle.egt_check.specs.Rules.{KeepsRules};
-ghost use Rattle.egt_check.specs.FirstBad.{earlier};
+ghost use Rattle.egt_check.specs.Library.{IsAccepted, IsRefused, IsFirstBreak, IsFirstMissing};
+ghost use Rattle.egt_check.specs.Rules.{KeepsBelow, KeepsRules};
+ghost use Rattle.egt_check.specs.Uniform.{IsUniform};
+ghost use Rattle.egt_check.specs.FirstBad.{earlier, IsFirstBad};
 
-use crate::judging::judge;
+use crate::judging::{judge, judge_none};
 use crate::library::Library;
 use crate::reject::Reject;
 use crate::rule::Rule;
 use crate::uniform::is_uniform;
 use egt_class::laws::children_have_smaller_numbers;
 use egt_class::{Class, children};
-use egt_index::{Rows, begins_row, size};
+use egt_index::{Row, Rows, row_len, size};
 use egt_table::{Column, Table};
 
 /// The least child of the class that the library has no table of, if there is one.
@@ -43,6 +47,101 @@ fn earlier(known: Option<(u32, Rule)>, index: u32, rule: Option<Rule>) -> Option
     }
 }
 
+/// Judges the entries of the row that begins at `first`, where all before it are judged, of the zeroing column with the first bad one if
+/// there is one. It is no part of the loop over all rows, so that the row stays where it is made.
+///
+/// # Errors
+///
+/// The first bad entry of the mate column there, and the first rule that it breaks.
+#[inline(never)]
+fn judge_codes(
+    table: &Table,
+    library: &Library,
+    uniform: bool,
+    row: &mut Row,
+    first: u32,
+    bad_zeroing: Option<(u32, Rule)>,
+) -> Result<Option<(u32, Rule)>, (u32, Rule)>
+    requires uniform { uniform ≡ true → IsUniform table.now }
+    requires children { HasChildren (table_at library.now) table.now.class }
+    requires row { IsRowOf table.now.class (first / row_len table.now.class) (Some row.old) }
+    requires begins { first % row_len table.now.class ≡ 0 }
+    requires within { first + row_len table.now.class ≤ size_of table.now.class }
+    requires mate { KeepsBelow (beside (table_at library.now) table.now) table.now Mate first }
+    requires zeroing { IsFirstBad (beside (table_at library.now) table.now) table.now first bad_zeroing }
+    ensures kept { IfOk result (λ bad. KeepsBelow (beside (table_at library.now) table.now) table.now Mate (first + row_len table.now.class)) }
+    ensures zeroing { IfOk result (IsFirstBad (beside (table_at library.now) table.now) table.now (first + row_len table.now.class)) }
+    ensures broken { IfErr result (λ bad. IsFirstBreak (beside (table_at library.now) table.now) table.now Mate bad.0 bad.1) }
+{
+    let _size = size(table.class());
+    let mut bad = bad_zeroing;
+    for index in first..first + row_len(table.class()) {
+        let (mate, zeroing) = judge(table, library, uniform, row, index);
+        if let Some(rule) = mate {
+            return Err((index, rule));
+        }
+        bad = earlier(bad, index, zeroing);
+    }
+    Ok(bad)
+}
+
+/// The same of a row whose codes are no position's indexes.
+#[inline(always)]
+fn judge_void_codes(
+    table: &Table,
+    library: &Library,
+    first: u32,
+    bad_zeroing: Option<(u32, Rule)>,
+) -> Result<Option<(u32, Rule)>, (u32, Rule)>
+    requires void { IsRowOf table.now.class (first / row_len table.now.class) None }
+    requires begins { first % row_len table.now.class ≡ 0 }
+    requires within { first + row_len table.now.class ≤ size_of table.now.class }
+    requires mate { KeepsBelow (beside (table_at library.now) table.now) table.now Mate first }
+    requires zeroing { IsFirstBad (beside (table_at library.now) table.now) table.now first bad_zeroing }
+    ensures kept { IfOk result (λ bad. KeepsBelow (beside (table_at library.now) table.now) table.now Mate (first + row_len table.now.class)) }
+    ensures zeroing { IfOk result (IsFirstBad (beside (table_at library.now) table.now) table.now (first + row_len table.now.class)) }
+    ensures broken { IfErr result (λ bad. IsFirstBreak (beside (table_at library.now) table.now) table.now Mate bad.0 bad.1) }
+{
+    let _size = size(table.class());
+    let mut bad = bad_zeroing;
+    for index in first..first + row_len(table.class()) {
+        let (mate, zeroing) = judge_none(table, library, index);
+        if let Some(broken) = mate {
+            return Err((index, broken));
+        }
+        bad = earlier(bad, index, zeroing);
+    }
+    Ok(bad)
+}
+
+/// The same of the row that begins at `first`, whether or not some code there is an index.
+#[inline(always)]
+fn judge_row(
+    table: &Table,
+    library: &Library,
+    uniform: bool,
+    rows: &mut Rows,
+    first: u32,
+    bad_zeroing: Option<(u32, Rule)>,
+) -> Result<Option<(u32, Rule)>, (u32, Rule)>
+    requires uniform { uniform ≡ true → IsUniform table.now }
+    requires children { HasChildren (table_at library.now) table.now.class }
+    requires rows { rows.old ≡ table.now.class }
+    requires begins { first % row_len table.now.class ≡ 0 }
+    requires within { first + row_len table.now.class ≤ size_of table.now.class }
+    requires mate { KeepsBelow (beside (table_at library.now) table.now) table.now Mate first }
+    requires zeroing { IsFirstBad (beside (table_at library.now) table.now) table.now first bad_zeroing }
+    ensures rows { rows.new ≡ table.now.class }
+    ensures kept { IfOk result (λ bad. KeepsBelow (beside (table_at library.now) table.now) table.now Mate (first + row_len table.now.class)) }
+    ensures zeroing { IfOk result (IsFirstBad (beside (table_at library.now) table.now) table.now (first + row_len table.now.class)) }
+    ensures broken { IfErr result (λ bad. IsFirstBreak (beside (table_at library.now) table.now) table.now Mate bad.0 bad.1) }
+{
+    match rows.row_of(first) {
+        Some(mut row) => judge_codes(table, library, uniform, &mut row, first, bad_zeroing),
+        None => judge_void_codes(table, library, first, bad_zeroing),
+    }
+}
+
 /// Judges every entry of a table whose class's children have their tables: the mate column to its first bad entry, and the
 /// zeroing column beside it.
 fn judge_all(table: &Table, library: &Library) -> Result<(), Reject>
@@ -53,20 +152,20 @@ fn judge_all(table: &Table, library: &Library) -> Result<(), Reject>
     let uniform = is_uniform(table);
     let mut bad_zeroing = None;
     let mut rows = Rows::new(table.class());
-    let mut row = None;
-    for index in 0..size(table.class()) {
-        if begins_row(table.class(), index) {
-            row = rows.row_of(index);
+    let len = row_len(table.class());
+    let mut first = 0;
+    while first < size(table.class()) {
+        match judge_row(table, library, uniform, &mut rows, first, bad_zeroing) {
+            Ok(bad) => bad_zeroing = bad,
+            Err((index, rule)) => {
+                return Err(Reject::Rejected {
+                    column: Column::Mate,
+                    index,
+                    rule,
+                });
+            }
         }
-        let (mate, zeroing) = judge(table, library, uniform, &mut row, index);
-        if let Some(rule) = mate {
-            return Err(Reject::Rejected {
-                column: Column::Mate,
-                index,
-                rule,
-            });
-        }
-        bad_zeroing = earlier(bad_zeroing, index, zeroing);
+        first += len;
     }
     match bad_zeroing {
         Some((index, rule)) => Err(Reject::Rejected {

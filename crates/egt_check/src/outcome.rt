@@ -41,7 +41,7 @@ pub(crate) fn shown(entry: u16) -> Option<Outcome>
 }
 
 /// Whether the entry shows a win or a loss.
-fn is_decisive(entry: u16) -> bool
+pub(crate) fn is_decisive(entry: u16) -> bool
     ensures said { (said : Option Outcome) → IsShownBy entry said → result ≡ is_decisive said }
     ensures long { result ≡ true → 2 < entry }
     ensures short { result ≡ true → entry ≤ 64003 }

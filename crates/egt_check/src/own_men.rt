@@ -7,9 +7,11 @@ ghost use Rattle.egt_board.specs.SquareSet.{Has};
 ghost use Rattle.egt_board.specs.declared.man.Man.{Man};
 ghost use Rattle.egt_check.specs.Men.{IsEntryOn};
 ghost use Rattle.egt_index.specs.Frame.{IsFrame};
+ghost use Rattle.egt_moves.specs.AllMen.{AreMenOf};
 
 use egt_board::{Camps, Man, Side, Square, SquareSet};
 use egt_index::Frame;
+use egt_moves::Men;
 
 /// Whether the man is of that side.
 #[inline(always)]
@@ -52,4 +54,19 @@ pub(crate) fn camps_of(frame: &Frame) -> Camps
     let own = camp(frame, side);
     let enemy = camp(frame, side.other());
     Camps { own, enemy }
+}
+
+/// All men of the frame's position, and whose turn it is.
+#[inline(always)]
+pub(crate) fn men_of(frame: &Frame) -> Men
+    ensures { (p : Setup) → IsFrame p frame.now → AreMenOf p result }
+{
+    let (one, other) = frame.beside();
+    Men {
+        white: frame.king(Side::White),
+        black: frame.king(Side::Black),
+        one,
+        other,
+        side: frame.side(),
+    }
 }

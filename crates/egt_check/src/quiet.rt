@@ -1,5 +1,5 @@
 //! Moves that take nothing and let nothing be taken in passing.
-ghost use Rattle.std.specs.Prelude.{◌≡◌, ◌≢◌, ℕ, Some, true, IsFalse};
+ghost use Rattle.std.specs.Prelude.{◌≡◌, ◌≢◌, ◌⊎◌, ℕ, Some, true, false, IsFalse};
 ghost use Rattle.egt_board.specs.Camps.{AreCamps};
 ghost use Rattle.egt_board.specs.Pawn.{last_rank};
 ghost use Rattle.egt_board.specs.Placement.{Stands};
@@ -86,6 +86,7 @@ pub(crate) fn quiet_targets(
     requires stands { Stands position.now.men from man }
     requires targets { (t : ℕ) → Has targets t → IsLegalTarget position.now from t }
     ensures quiet { (t : ℕ) → Has result t → Has targets t × IsQuietTarget position.now (is_pawn_of man) from t }
+    ensures others { is_pawn_of man ≡ false → (t : ℕ) → Has targets t → Has result t ⊎ Has camps.enemy t }
 {
     if is_pawn(man) {
         quiet_step(position, camps, man, from, targets)

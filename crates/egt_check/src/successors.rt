@@ -20,14 +20,14 @@ ghost use Rattle.egt_table.specs.declared.column.Column.{Column};
 ghost use Rattle.egt_check.specs.Men.{IsEntryOn};
 ghost use Rattle.egt_check.specs.Raised.{AreRaised};
 ghost use Rattle.egt_check.specs.Score.{number_at, greater, Scores, IsBest};
-ghost use Rattle.egt_check.specs.Steps.{HasTable, IsInClass, IsQuietTarget, shown_by};
+ghost use Rattle.egt_check.specs.Steps.{HasTable, IsCapture, IsInClass, IsQuietTarget, shown_by};
 ghost use Rattle.egt_check.specs.Tables.{table_at, beside, entry_at, HasEntry, HasChildren};
 ghost use Rattle.egt_check.specs.Uniform.{IsUniform};
 
 use crate::by_column::ByColumn;
 use crate::facts::facts;
 use crate::library::Library;
-use crate::own_men::{camps_of, is_of};
+use crate::own_men::{camps_of, is_of, men_of};
 use crate::quiet::{QuietStep, is_pawn, quiet_targets};
 use crate::score_table::{scores_by, uniform_scores};
 use egt_board::{Camps, Kind, Man, Position, Side, Square, SquareSet};
@@ -290,6 +290,85 @@ fn best_to_each(
     best
 }
 
+/// The scores of the legal move from the one square to the other, which takes who stands there, by all men before it.
+#[inline(always)]
+fn capture_scores(
+    table: &Table,
+    library: &Library,
+    position: &Position,
+    men: &Men,
+    from: Square,
+    to: Square,
+) -> ByColumn
+    requires capture { IsCapture position.now from to }
+    requires own { IsInClass table.now.class position.now }
+    requires children { HasChildren (table_at library.now) table.now.class }
+    requires men { AreMenOf position.now men.now }
+    ensures { (column : Column) (q : Setup) (leads : Leads position.now (plain from to) q) →
+        Scores (shown_by library.now table.now) column position.now q (plain from to, leads) (number_at result column) }
+{
+    let chess_move = Move {
+        from,
+        to,
+        promo: None,
+    };
+    let entries = entries_after(table, library, position, men, true, &chess_move);
+    scores(table, library, position, &chess_move, entries, true)
+}
+
+/// The best score so far, and of the moves from the square to these, which take who stands there.
+#[inline(never)]
+fn best_of_captures(
+    table: &Table,
+    library: &Library,
+    frame: &Frame,
+    position: &Position,
+    from: Square,
+    targets: SquareSet,
+    best: Option<ByColumn>,
+) -> Option<ByColumn>
+    requires targets { (t : ℕ) → Has targets t → IsCapture position.now from t }
+    requires own { IsInClass table.now.class position.now }
+    requires children { HasChildren (table_at library.now) table.now.class }
+    requires frame { IsFrame position.now frame.now }
+    ensures { AreRaised (shown_by library.now table.now) position.now (λ m. (m.from ≡ from) × Has targets m.to) best result }
+{
+    let men = men_of(frame);
+    let mut best = best;
+    let mut rest = targets;
+    while let Some(to) = rest.pop_first() {
+        let scores = capture_scores(table, library, position, &men, from, to);
+        best = Some(raised(best, scores));
+    }
+    best
+}
+
+/// The best score so far, and of the moves from the square to these, which are a pawn's or take who stands there.
+#[inline(always)]
+fn best_of_others(
+    table: &Table,
+    library: &Library,
+    frame: &Frame,
+    position: &Position,
+    from: Square,
+    targets: SquareSet,
+    pawn: bool,
+    best: Option<ByColumn>,
+) -> Option<ByColumn>
+    requires targets { (t : ℕ) → Has targets t → IsLegalTarget position.now from t }
+    requires captures { pawn ≡ false → (t : ℕ) → Has targets t → IsCapture position.now from t }
+    requires own { IsInClass table.now.class position.now }
+    requires children { HasChildren (table_at library.now) table.now.class }
+    requires frame { IsFrame position.now frame.now }
+    ensures { AreRaised (shown_by library.now table.now) position.now (λ m. (m.from ≡ from) × Has targets m.to) best result }
+{
+    if pawn {
+        best_to_each(table, library, position, from, targets, best)
+    } else {
+        best_of_captures(table, library, frame, position, from, targets, best)
+    }
+}
+
 /// The best score so far, and of the moves from the square to these, which take nothing.
 #[inline(never)]
 fn best_to_each_quiet(
@@ -382,6 +461,12 @@ fn best_stepped(
     requires class { frame.now.class ≡ table.now.class }
     ensures { AreRaised (shown_by library.now table.now) position.now (λ m. (m.from ≡ from) × Has targets m.to) best result }
 {
+    if let Some(way) = frame.king_way(from) {
+        return best_to_each_uniform(table, library, &way, position, from, targets, best);
+    }
+    if let Some(way) = frame.black_way(from) {
+        return best_to_each_uniform(table, library, &way, position, from, targets, best);
+    }
     let steps = frame.steps(from);
     best_to_each_uniform(table, library, &steps, position, from, targets, best)
 }
@@ -462,6 +547,7 @@ fn best_of_man(
     requires class { frame.now.class ≡ table.now.class }
     ensures { AreRaised (shown_by library.now table.now) position.now (λ m. m.from ≡ from) best result }
 {
+    let _side = position.side();
     let targets = legal_targets_of(position, camps, man, from);
     let quiet = quiet_targets(position, camps, man, from, targets);
     let pawn = is_pawn(man);
@@ -473,7 +559,7 @@ fn best_of_man(
     if others.is_empty() {
         return best;
     }
-    best_to_each(table, library, position, from, others, best)
+    best_of_others(table, library, frame, position, from, others, pawn, best)
 }
 
 /// The same of the man beside the kings, if there is one and he is of the side to move.

@@ -59,3 +59,4 @@ pub mod Shelved
 pub mod Shifted
 pub mod LastMan
 pub mod ByMen
+pub mod WholeRows

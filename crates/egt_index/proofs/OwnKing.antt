@@ -1,5 +1,5 @@
 -- The codes after a king went, of a class whose sides have the same men, where the least is in the class's colours.
-use Rattle.std.proofs.Common.{◌≡◌, ◌≢◌, ℕ, ◌+◌, ◌*◌, ◌<◌, true, false, IfSome, Some, refl, sym, ap, ◌∙◌, subst}
+use Rattle.std.proofs.Common.{◌≡◌, ◌≢◌, ℕ, ◌+◌, ◌<◌, true, false, Some, refl, sym, ap, ◌∙◌, subst}
 use Rattle.egt_board.specs.Setup.{Setup}
 use Rattle.egt_board.specs.declared.man.Side.{Side}
 use Rattle.egt_class.specs.Material.{material_of, has_equal_sides}
@@ -7,7 +7,6 @@ use Rattle.egt_index.specs.Facts.{Facts}
 use Rattle.egt_index.specs.Frame.{IsMoved}
 use Rattle.egt_index.specs.Home.{IsAtHome}
 use Rattle.egt_index.specs.KingSums.{IsHomeSquare}
-use Rattle.egt_index.specs.Nearer.{TakesAway}
 use Rattle.egt_index.specs.Scales.{IsOn}
 use Rattle.egt_index.specs.Size.{has_pawns}
 use Rattle.egt_index.specs.Turns.{Best}
@@ -18,8 +17,8 @@ use Rattle.egt_index.specs.declared.ways.Homing.{Homing}
 use Rattle.egt_index.specs.declared.ways.Sum.{Sum}
 use Rattle.egt_index.proofs.Carried.{stayed, went}
 use Rattle.egt_index.proofs.HomeSquare.{nearer_home, own_square}
-use Rattle.egt_index.proofs.KingHome.{least_at_home}
-use Rattle.egt_index.proofs.Lined.{king_apart, king_went}
+use Rattle.egt_index.proofs.KingHome.{king_near}
+use Rattle.egt_index.proofs.Lined.{king_went}
 
 -- of the white king, who is at home there too, and comes to a lesser square than the black one would with colours exchanged
 pub white_near : Facts → (c : ℕ) (p : Setup) (before : Stand) (side : Side) (squares : Squares) (homing : Homing) (bound rest : ℕ) → c < 36 → has_equal_sides c ≡ true → IsSeen c false p before before.white side
@@ -33,8 +32,7 @@ white_near facts c p before side squares homing bound rest c_in equal seen black
     (subst (λ pawns. IsHomeSquare pawns false comes.after.white to) comes.pawns (subst (λ w. IsHomeSquare homing.pawns false w to) (sym comes.white) (record { first = 0; second = adds.second; home = adds.home; is = refl })))
     (subst (λ pawns. IsHomeSquare pawns true comes.after.black bound) comes.pawns (subst (λ b. IsHomeSquare homing.pawns true b bound) (sym (comes.black ∙ there)) other))
     less
-    (least_at_home facts c to adds.digit (n + rest) homing adds.second q c_in comes adds.below adds.is adds.home (subst (λ b. IfSome adds.second (TakesAway to b)) (sym there) adds.greater)
-    (ap (λ m. m + rest) adds.adds ∙ ap (λ r. adds.digit * homing.scales.king + r) (rest_is ∙ ap (λ (s : Squares). code_in_order homing.scales 0 s homing.pair) (sym is.squares_are)) ∙ king_apart homing.scales adds.digit _ _ _))
+    (king_near facts c p before side squares homing rest c_in seen black next last is rest_is to n q moved adds)
 
 -- of the black king, who would come to a greater square with colours exchanged than that of the white one
 pub black_near : Facts → (c : ℕ) (p : Setup) (before : Stand) (side : Side) (sum : Sum) → c < 36 → has_equal_sides c ≡ true → IsAtHome (has_pawns (material_of c)) before.white → before.white ≢ before.black

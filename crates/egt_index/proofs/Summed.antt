@@ -13,7 +13,7 @@ use Rattle.egt_index.specs.Size.{has_pawns}
 use Rattle.egt_index.specs.Total.{IsTotal}
 use Rattle.egt_index.specs.Turns.{CodeAfter}
 use Rattle.egt_index.specs.Ways.{IsGoer, IsMover, IsSeen, IsSingle, code_with, scale_by}
-use Rattle.egt_index.specs.Went.{IsWent}
+use Rattle.egt_index.specs.Went.{IsWent, moved_square}
 use Rattle.egt_index.specs.declared.scales.Scales.{Scales}
 use Rattle.egt_index.specs.declared.stand.Stand.{Stand}
 use Rattle.egt_index.specs.declared.ways.Mover.{Mover}
@@ -59,10 +59,14 @@ module _ (c from : ℕ) (stand : Stand) (side : Side) (total : ℕ) (scales : Sc
         let (after, gone) = seen.goes to q moved in
         least_stayed facts c from to false q stand after side scales (has_pawns (material_of c)) mover 0 None (Some (rest + share (scale_by scales mover) to)) None home goer gone (coded q to after) refl
 
-    -- where another takes the kings, who stay, to greater squares
-    pub least_where_first : stand.black ≢ from → IsFirst c stand.white stand.black → (to : ℕ) (q : Setup) → IsMoved c p from to q → LeastWith c q false (Some (rest + share (scale_by scales mover) to))
-    least_where_first stays first to q moved =
+    -- where another takes the kings then to greater squares
+    pub least_where_nearer : (to : ℕ) (q : Setup) → IsMoved c p from to q → IsFirst c stand.white (moved_square from to stand.black) → LeastWith c q false (Some (rest + share (scale_by scales mover) to))
+    least_where_nearer to q moved first =
         let (after, gone) = seen.goes to q moved in
         first_least facts c q after side false (rest + share (scale_by scales mover) to) gone.stand
-        (subst (λ s. IsFirst c s after.black) (sym (gone.moved.white ∙ stayed from to stand.white white)) (subst (IsFirst c stand.white) (sym (gone.moved.black ∙ stayed from to stand.black stays)) first))
+        (subst (λ s. IsFirst c s after.black) (sym (gone.moved.white ∙ stayed from to stand.white white)) (subst (IsFirst c stand.white) (sym gone.moved.black) first))
         (coded q to after goer gone (keeps_play c false q 0 gone.stand.admissible gone.stand.is_of first.home.one.keeps))
+
+    -- and they stay
+    pub least_where_first : stand.black ≢ from → IsFirst c stand.white stand.black → (to : ℕ) (q : Setup) → IsMoved c p from to q → LeastWith c q false (Some (rest + share (scale_by scales mover) to))
+    least_where_first stays first to q moved = least_where_nearer to q moved (subst (IsFirst c stand.white) (sym (stayed from to stand.black stays)) first)

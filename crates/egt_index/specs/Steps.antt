@@ -10,6 +10,7 @@ use Rattle.egt_index.specs.Turns.{Best}
 use Rattle.egt_index.specs.Ways.{sum_code, SumFits, KingWayFits, WayFits, Leads, LeadsHome}
 use Rattle.egt_index.specs.declared.steps.Steps.{Steps}
 use Rattle.egt_index.specs.declared.steps.Ways.{Ways}
+use Rattle.egt_index.specs.declared.ways.KingWay.{KingWay}
 use Rattle.egt_index.specs.declared.ways.Sum.{Sum}
 use Rattle.egt_index.specs.declared.steps.Ways.TheVariants.{Single, King, Own, Either}
 
@@ -37,6 +38,14 @@ pub record AreSteps (p : Setup) (c from : ℕ) (steps : Steps) : Type 0 where
   pub is_of : IsOf c false p
   pub fit : WaysFit steps.ways
   pub lead : AllLead c p from steps.ways
+
+-- this is the way of the white king on `from` in p, in whose colours the least code is
+pub record IsKingWay (p : Setup) (c from : ℕ) (way : KingWay) : Type 0 where
+  pub class_in : c < 36
+  pub is_of : IsOf c false p
+  pub fits : KingWayFits way
+  pub leads : LeadsHome c p from way
+  pub own : IsLeastOwn c p from
 
 -- wherever the man on `from` in p goes, the sum is the index
 abbrev pub AddsUp : Setup → ℕ → ℕ → Sum → Type 0

@@ -10,7 +10,7 @@ use Rattle.egt_index.specs.Code.{king_square}
 use Rattle.egt_index.specs.Home.{AreHome, LeastWith}
 use Rattle.egt_index.specs.Nearer.{TakesAway}
 use Rattle.egt_index.specs.Went.{IsWent}
-use Rattle.egt_index.specs.Scales.{share, code_by, man_at, AreScales, ScalesFit, IsOn, AreEqual}
+use Rattle.egt_index.specs.Scales.{share, code_by, man_at, AreScales, IsOn, AreEqual}
 use Rattle.egt_index.specs.Size.{has_pawns, king_base, men_in_order}
 use Rattle.egt_index.specs.Stood.{Entry, HasStand, IsFilled, IsOff, AllApart, list_of, men_among}
 use Rattle.egt_index.specs.declared.scales.Scale.{Scale}
@@ -98,12 +98,10 @@ pub record KingAdds (king : KingScale) (to n : ℕ) : Type 0 where
   pub greater : IfSome second (TakesAway to king.black)
   pub adds : n ≡ digit * king.stride
 
--- no turn that brings him home exchanges colours, and that is what the others add where they stand
+-- its sums are none past what a code holds
 pub record KingWayFits (way : KingWay) : Type 0 where
-  pub scales : ScalesFit way.homing.scales
-  pub flips_is : way.homing.flips ≡ false
-  pub rest : way.rest ≡ code_in_order way.homing.scales 0 way.homing.squares way.homing.pair
-  pub rest_few : way.rest ≤ 1073741824
+  pub stride : way.king.stride ≤ 1048576
+  pub rest : way.rest ≤ 1073741824
 
 abbrev pub WayFits : Way → Type 0
 WayFits (One line) = LineFits line
@@ -120,9 +118,12 @@ Leads c flips p from (OnePair pair) = (to : ℕ) (q : Setup) → IsMoved c p fro
 Leads c flips p from (TwoPairs first second) = (to : ℕ) (q : Setup) → IsMoved c p from to q → LeastWith c q flips (Some (min (pair_code first to) (pair_code second to)))
 Leads c flips p from Never = (to : ℕ) (q : Setup) → IsMoved c p from to q → LeastWith c q flips None
 
--- wherever the white king on `from` in p goes, the others stand as the way tells
-abbrev pub LeadsHome : ℕ → Setup → ℕ → KingWay → Type 0
-LeadsHome c p from way = (to : ℕ) (q : Setup) → IsMoved c p from to q → ComesHome c false way.homing to q
+-- wherever the white king on `from` in p goes, the others stand as the way tells, and where he is at home and the turn that changes nothing
+-- makes the least code, that is the sum
+pub record LeadsHome (c : ℕ) (p : Setup) (from : ℕ) (way : KingWay) : Type 0 where
+  pub class_is : way.class ≡ c
+  pub stays : (to : ℕ) (q : Setup) (homing : Homing) → IsMoved c p from to q → IsHoming c way.squares way.side false homing → ComesHome c false homing to q
+  pub near : (to n : ℕ) (q : Setup) → IsMoved c p from to q → KingAdds way.king to n → LeastWith c q false (Some (n + way.rest))
 
 -- a way of his own of a man beside him, where one turn in the class's colours alone brings the king home, and changes nothing
 abbrev pub LeadsBy : ℕ → Setup → ℕ → Sum → Type 0

@@ -4,10 +4,13 @@ ghost use Rattle.std.specs.Prelude.{◌≡◌, true, false};
 ghost use Rattle.egt_board.specs.Setup.{Setup};
 ghost use Rattle.egt_class.specs.Material.{has_equal_sides};
 ghost use Rattle.egt_index.specs.Either.{IsReached, LeadsEither};
+ghost use Rattle.egt_index.specs.Home.{LeastWith};
 ghost use Rattle.egt_index.specs.Turns.{Best};
 ghost use Rattle.egt_index.specs.Ways.{IsSeen};
 
-use crate::indexing::least_by_kings;
+use crate::home::{Turns, home};
+use crate::indexing::{least_by_kings, least_on};
+use crate::men::has_pawns;
 use crate::scales::{Squares, moved, squares_of};
 use crate::stand::Stand;
 use egt_board::{Side, Square};
@@ -49,5 +52,18 @@ impl EitherWay {
         let white = moved(self.from, to, self.white);
         let squares = self.squares.moved(self.from, to);
         least_by_kings(self.class, white, squares, self.side, false)
+    }
+
+    /// The same of the turns that exchange no colours, in whatever class.
+    #[inline(never)]
+    pub(crate) fn own_to(&self, to: Square) -> Option<u32>
+        ensures { (q : Setup) → IsReached self.now to q → LeastWith self.now.class q false result }
+    {
+        let _number = self.class.number();
+        let white = moved(self.from, to, self.white);
+        let others = self.squares.moved(self.from, to);
+        let (first, second) = home(has_pawns(self.class), false, white);
+        let turns = Turns { first, second };
+        least_on(self.class, white, others, self.side, false, turns)
     }
 }

@@ -4,15 +4,17 @@ ghost use Rattle.egt_board.specs.Setup.{Setup};
 ghost use Rattle.egt_board.specs.declared.man.Man.{Man};
 ghost use Rattle.egt_board.specs.Placement.{Stands};
 ghost use Rattle.egt_class.specs.Material.{material_of};
+ghost use Rattle.egt_index.specs.BlackWay.{IsBlackWay};
 ghost use Rattle.egt_index.specs.Frame.{IsFrame, IsFirstAfter, IsOwnAfter};
 ghost use Rattle.egt_index.specs.Home.{IsAtHome};
 ghost use Rattle.egt_index.specs.KingSums.{EitherFit, EitherLead};
 ghost use Rattle.egt_index.specs.Size.{has_pawns};
-ghost use Rattle.egt_index.specs.Steps.{AddsUp, AreSteps};
+ghost use Rattle.egt_index.specs.Steps.{AddsUp, AreSteps, IsKingWay};
 ghost use Rattle.egt_index.specs.Stood.{HasStand, IsFilled};
 ghost use Rattle.egt_index.specs.Total.{IsTotal};
 ghost use Rattle.egt_index.specs.Ways.{SumFits, WayFits, Leads, LeadsBy};
 
+use crate::black_way::BlackWay;
 use crate::either::EitherWay;
 use crate::facts::facts;
 use crate::home::{Turns, still_home};
@@ -110,6 +112,38 @@ impl Frame {
             return None;
         }
         self.single_sum(from)
+    }
+
+    /// The way of the man on the square, if he is the white king and the least code is in the class's colours wherever he went.
+    #[inline(always)]
+    pub fn king_way(&self, from: Square) -> Option<KingWay>
+        ensures { (p : Setup) → IsFrame p self.now → IfSome result (IsKingWay p self.now.class from) }
+    {
+        facts();
+        let _number = self.class.number();
+        if !self.is_own_after(from) {
+            return None;
+        }
+        if self.stand.white != from {
+            return None;
+        }
+        Some(KingWay::at_home(self.class, &self.stand, self.side.other()))
+    }
+
+    /// The same of the black king.
+    #[inline(always)]
+    pub fn black_way(&self, from: Square) -> Option<BlackWay>
+        ensures { (p : Setup) → IsFrame p self.now → IfSome result (IsBlackWay p self.now.class from) }
+    {
+        facts();
+        let _number = self.class.number();
+        if !self.is_own_after(from) {
+            return None;
+        }
+        if self.stand.black != from {
+            return None;
+        }
+        BlackWay::of(self.class, &self.stand, self.side.other(), self.total)
     }
 
     /// Whether the least code is in the class's colours wherever the man on the square went. A king who goes may come to lesser squares in

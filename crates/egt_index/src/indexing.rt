@@ -100,7 +100,7 @@ fn least_with_target(class: Class, stand: &Stand, side: Side, flips: bool) -> Op
 
 /// The same of one without a target, where the white king stands there, these turns bring him home, and the others stand on these squares.
 #[inline(always)]
-fn least_on(
+pub(crate) fn least_on(
     class: Class,
     white: Square,
     squares: Squares,

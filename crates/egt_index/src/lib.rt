@@ -4,6 +4,7 @@
 pub mod alike;
 pub mod axis;
 pub mod beaten;
+pub mod black_way;
 pub mod codes;
 pub mod digits;
 pub mod either;
@@ -32,18 +33,19 @@ pub mod turning;
 pub mod ways;
 
 pub use axis::is_on_axis;
+pub use black_way::BlackWay;
 pub use fixed::Fixed;
 pub use following::IndexAfter;
 pub use frame::Frame;
 pub use indexing::{index, indexed_by_men};
 pub use men::{has_pawns, has_target};
 pub use movers::{faces_king_alone, may_move_pawn};
-pub use row::{Row, Rows, begins_row, position, row_of};
+pub use row::{Row, Rows, begins_row, position, row_len, row_of};
 pub use shelf::{Shift, shelf_end};
 pub use sizes::size;
 pub use spelling::{frame_at, indexed, position_of};
 pub use steps::Steps;
-pub use ways::Sum;
+pub use ways::{KingWay, Sum};
 
 #[cfg(test)]
 mod alike_tests;

@@ -9,6 +9,7 @@ ghost use Rattle.egt_index.specs.Frame.{IsFrame};
 ghost use Rattle.egt_index.specs.Front.{IsFront, TellsLast};
 ghost use Rattle.egt_index.specs.Index.{IsIndex, IsVoid};
 ghost use Rattle.egt_index.specs.Row.{row_len, IsInRow, IsRow, IsTurnedTo, IsRowOf};
+ghost use Rattle.egt_index.specs.Size.{size_of};
 ghost use Rattle.egt_index.specs.Stood.{HasStand};
 
 use crate::beaten::is_least;
@@ -44,6 +45,16 @@ pub fn begins_row(class: Class, code: u32) -> bool
     } else {
         code % 2 == 0
     }
+}
+
+/// How many codes a row has: the rows of a class are whole.
+#[inline(always)]
+pub fn row_len(class: Class) -> u32
+    ensures is { result ≡ row_len class }
+    ensures whole { size_of class % row_len class ≡ 0 }
+{
+    let _number = class.number();
+    if has_target(class) { 4 } else { 2 }
 }
 
 /// The row of the front's men and of the last one, if there is one; `None` where he tells that none of its codes is a position's index.

@@ -6,6 +6,7 @@ ghost use Rattle.egt_index.specs.Index.{IsIndex};
 ghost use Rattle.egt_index.specs.Steps.{AreSteps, WaysFit};
 ghost use Rattle.egt_index.specs.Turns.{Best};
 
+use crate::black_way::BlackWay;
 use crate::facts::facts;
 use crate::following::IndexAfter;
 use crate::king_sums::EitherWays;
@@ -56,6 +57,30 @@ impl IndexAfter for Sum {
     #[inline(always)]
     fn index_to(&self, to: Square) -> u32 {
         self.code_to(to)
+    }
+}
+
+impl IndexAfter for KingWay {
+    ghost use Rattle.egt_index.specs.Steps.{IsKingWay};
+
+    ghost of_man = { λ way p c from. IsKingWay p c from way };
+
+    #[inline(always)]
+    fn index_to(&self, to: Square) -> u32 {
+        facts();
+        self.code_to(to).unwrap()
+    }
+}
+
+impl IndexAfter for BlackWay {
+    ghost use Rattle.egt_index.specs.BlackWay.{IsBlackWay};
+
+    ghost of_man = { λ way p c from. IsBlackWay p c from way };
+
+    #[inline(always)]
+    fn index_to(&self, to: Square) -> u32 {
+        facts();
+        self.code_to(to).unwrap()
     }
 }
 

@@ -15,7 +15,7 @@ ghost use Rattle.egt_index.specs.Total.{IsTotal};
 ghost use Rattle.egt_index.specs.Turns.{CodeAfter, lesser};
 ghost use Rattle.egt_index.specs.Ways.{sum_code, line_code, pair_code, code_with, code_in_order, SumFits, LineFits, PairFits, ComesHome, IsHoming, KingAdds, KingWayFits, WayFits, Leads, LeadsHome, LeadsBy, Goes, IsSeen, IsMover, IsGoer, IsSingle, IsOneOfTwo, IsPaired, other_square, scale_by};
 ghost use Rattle.egt_index.specs.declared.ways.Mover.{Mover};
-ghost use Rattle.egt_index.specs.Went.{IsWent};
+ghost use Rattle.egt_index.specs.Went.{IsWent, moved_square};
 ghost use Rattle.egt_index.specs.declared.stand.Stand.{Stand};
 
 use crate::digits::king_digit;
@@ -147,7 +147,7 @@ impl Homing {
     }
 
     /// The least code after he went to the square.
-    #[inline(never)]
+    #[inline(always)]
     fn code_to(&self, to: Square) -> Option<u32>
         requires { ScalesFit self.now.scales }
         ensures { (c : ℕ) (flips : Bool) (q : Setup) → c < 36 → ComesHome c flips self.now to q → LeastWith c q flips result }
@@ -184,51 +184,74 @@ impl KingScale {
 }
 
 /// The codes after the white king went, who was at home. In most of his steps he stays there and no other turn brings him home, or takes the
-/// kings to greater squares: then the code is what his digit adds to what the others add.
+/// kings to greater squares: then the code is what his digit adds to what the others add. What the other steps need is found for each, so that
+/// the way itself is small.
 #[derive(Clone, Copy)]
-pub(crate) struct KingWay {
-    pub(crate) homing: Homing,
+pub struct KingWay {
+    pub(crate) class: Class,
+    /// Who is to move then.
+    pub(crate) side: Side,
+    pub(crate) squares: Squares,
+    pub(crate) king: KingScale,
+    /// What the others add.
     pub(crate) rest: u32,
 }
 
 impl KingWay {
     /// The way of the white king, who is at home, of men in the class's colours.
-    #[inline(never)]
+    #[inline(always)]
     pub(crate) fn at_home(class: Class, stand: &Stand, side: Side) -> KingWay
         ensures fits { KingWayFits result }
         ensures leads { (p : Setup) → IsSeen class false p stand.now stand.now.white side → LeadsHome class p stand.now.white result }
     {
+        facts();
+        let _number = class.number();
         let squares = squares_of(stand);
         let homing = Homing::of(class, squares, side, false);
         let rest = homing.scales.code(0, &squares.ordered(homing.pair));
-        KingWay { homing, rest }
+        let king = KingScale {
+            pawns: homing.pawns,
+            black: squares.black,
+            stride: homing.scales.king,
+        };
+        KingWay {
+            class,
+            side,
+            squares,
+            king,
+            rest,
+        }
     }
 
-    /// The code after he went to the square, if he is at home there too and no other turn brings him home, or takes the kings to greater squares.
+    /// The least code after he went to the square, if he is at home there too and no other turn brings him home, or takes the kings to greater
+    /// squares.
     #[inline(always)]
-    fn code_at_home(&self, to: Square) -> Option<u32>
+    fn near_to(&self, to: Square) -> Option<u32>
         requires { KingWayFits self.now }
-        ensures { (c : ℕ) (flips : Bool) (q : Setup) → c < 36 → ComesHome c flips self.now.homing to q → IfSome result (λ code. LeastWith c q flips (Some code)) }
+        ensures { (c from : ℕ) (p q : Setup) → LeadsHome c p from self.now → IsMoved c p from to q → IfSome result (λ code. LeastWith c q false (Some code)) }
     {
-        facts();
-        let scale = KingScale {
-            pawns: self.homing.pawns,
-            black: self.homing.squares.black,
-            stride: self.homing.scales.king,
-        };
-        let adds = scale.adds(to)?;
+        let adds = self.king.adds(to)?;
         Some(adds + self.rest)
+    }
+
+    /// The least code after he went to the square, by the turns that bring him home from there.
+    #[inline(always)]
+    fn far_to(&self, to: Square) -> Option<u32>
+        ensures { (c from : ℕ) (p q : Setup) → LeadsHome c p from self.now → IsMoved c p from to q → LeastWith c q false result }
+    {
+        let _number = self.class.number();
+        Homing::of(self.class, self.squares, self.side, false).code_to(to)
     }
 
     /// The least code after he went to the square.
     #[inline(always)]
     pub(crate) fn code_to(&self, to: Square) -> Option<u32>
         requires { KingWayFits self.now }
-        ensures { (c : ℕ) (flips : Bool) (q : Setup) → c < 36 → ComesHome c flips self.now.homing to q → LeastWith c q flips result }
+        ensures { (c from : ℕ) (p q : Setup) → LeadsHome c p from self.now → IsMoved c p from to q → LeastWith c q false result }
     {
-        match self.code_at_home(to) {
+        match self.near_to(to) {
             Some(code) => Some(code),
-            None => self.homing.code_to(to),
+            None => self.far_to(to),
         }
     }
 }
@@ -545,6 +568,8 @@ pub(crate) fn sum_of(
         IfSome result (λ sum. LeadsBy class p from sum) }
     ensures first { (p : Setup) → IsTotal class stand.now total → stand.now.white ≢ from → stand.now.black ≢ from → IsFirst class stand.now.white stand.now.black → IsSeen class false p stand.now from side →
         IfSome result (λ sum. LeadsBy class p from sum) }
+    ensures nearer { (p : Setup) → IsTotal class stand.now total → stand.now.white ≢ from → IsSeen class false p stand.now from side →
+        IfSome result (λ sum. (to : ℕ) (q : Setup) → IsMoved class p from to q → IsFirst class stand.now.white (moved_square from to stand.now.black) → LeastWith class q false (Some (sum_code sum to))) }
 {
     facts();
     let _number = class.number();

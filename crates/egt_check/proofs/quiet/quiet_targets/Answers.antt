@@ -1,4 +1,5 @@
-use Rattle.std.proofs.Common.{◌≡◌, Bool, sym, ◌∙◌, subst, arith}
+use Rattle.std.proofs.Common.{◌≡◌, Bool, sym, ◌∙◌, subst, inl, inr, arith}
+use Rattle.std.proofs.lemmas.Bool.{cases_eq, false≢true}
 use Rattle.std.specs.Int.{bit_at}
 use Rattle.egt_board.specs.SquareSet.{Has}
 use Rattle.egt_check.specs.Steps.{IsQuietTarget}
@@ -21,4 +22,17 @@ returns-else-is_pawn c = record {
             (λ held. let enemy : Has c.args.camps.enemy t = (c.requires.camps.enemy t).1 held in omega (arith, gone, enemy))
             (c.requires.targets t there)),
       );
+  others = λ piece t has.
+      let squares = c.without.ensures.squares t in
+      elim (cases_eq (bit_at c.args.camps.enemy.bits t) 0) [
+        | inl gone ↦ inl (omega (arith, has, gone, squares))
+        | inr some ↦ inr (omega (arith, some))
+      ];
+}
+
+pub returns-then-is_pawn : goal.returns-then-is_pawn
+returns-then-is_pawn c = record {
+  quiet = λ t has.
+      subst (λ (b : Bool). Has c.args.targets t × IsQuietTarget c.args.position.now b c.args.from t) (sym (sym c.is_pawn.ensures ∙ c.if-is_pawn.true)) (c.quiet_step.ensures.quiet t has);
+  others = λ piece. absurd (false≢true (sym piece ∙ sym c.is_pawn.ensures ∙ c.if-is_pawn.true));
 }

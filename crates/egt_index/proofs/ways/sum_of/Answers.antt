@@ -7,7 +7,7 @@ use Rattle.egt_index.specs.Total.{IsTotal}
 use Rattle.egt_index.specs.Ways.{IsMover, IsSeen, IsSingle, scale_by}
 use Rattle.egt_index.specs.declared.scales.Scale.{Scale}
 use Rattle.egt_index.specs.declared.ways.Mover.{Mover}
-use Rattle.egt_index.proofs.Summed.{least_where_alone, least_where_first, share_within}
+use Rattle.egt_index.proofs.Summed.{least_where_alone, least_where_first, least_where_nearer, share_within}
 use Rattle.egt_index.proofs.Totals.{mover_of}
 use Rattle.egt_index.proofs.ways.sum_of.Goals.{After-total_without-rest}
 use Rattle.egt_index.proofs.ways.sum_of.Goals as goal
@@ -54,3 +54,9 @@ returns-clause-first c = λ p total white stays first seen to q moved.
     subst (λ (scale : Scale). LeastWith c.args.class q false (Some (c.total_without-rest.result + share scale to))) (sym (scale_is c p total white seen))
     (least_where_first c.args.class c.args.from c.args.stand.now c.args.side c.args.total c.class_scales-scales.result (mover c p total white seen) total (mover_is c p total white seen) (single c p total white seen) (are c p total white seen)
     c.facts.ensures (class_in c p total white seen) p c.total_without-rest.result seen white (sum c p total white seen) stays first to q moved)
+
+pub returns-clause-nearer : goal.returns-clause-nearer
+returns-clause-nearer c = λ p total white seen to q moved first.
+    subst (λ (scale : Scale). LeastWith c.args.class q false (Some (c.total_without-rest.result + share scale to))) (sym (scale_is c p total white seen))
+    (least_where_nearer c.args.class c.args.from c.args.stand.now c.args.side c.args.total c.class_scales-scales.result (mover c p total white seen) total (mover_is c p total white seen) (single c p total white seen) (are c p total white seen)
+    c.facts.ensures (class_in c p total white seen) p c.total_without-rest.result seen white (sum c p total white seen) to q moved first)

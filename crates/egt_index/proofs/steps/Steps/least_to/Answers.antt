@@ -12,7 +12,7 @@ returns-in-Single k = λ c from p q are moved.
 pub returns-in-King : goal.returns-in-King
 returns-in-King k = λ c from p q are moved.
     let (leads, all) = subst (λ (w : Ways). AllLead c p from w) k.in-King.is are.lead in
-    all k.args.to q k.code_to-in-King.result moved (k.code_to-in-King.ensures c false q are.class_in (leads k.args.to q moved))
+    all k.args.to q k.code_to-in-King.result moved (k.code_to-in-King.ensures c from p q leads moved)
 
 pub returns-in-Own : goal.returns-in-Own
 returns-in-Own k = λ c from p q are moved.

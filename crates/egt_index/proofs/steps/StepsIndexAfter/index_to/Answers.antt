@@ -11,7 +11,7 @@ unwrap-requires k =
     let (c, from, p, q, are, moved) = k.requires in
     let (leads, all) = subst (λ (w : Ways). AllLead c p from w) k.in-King.is are.lead in
     best_at_last k.facts.ensures c false q k.code_to-in-King.result moved.admissible (untargeted_settled q moved.target) (moved.class false are.is_of)
-    (all k.args.to q k.code_to-in-King.result moved (k.code_to-in-King.ensures c false q are.class_in (leads k.args.to q moved)))
+    (all k.args.to q k.code_to-in-King.result moved (k.code_to-in-King.ensures c from p q leads moved))
 
 pub unwrap-requires-in_default : goal.unwrap-requires-in_default
 unwrap-requires-in_default k =
@@ -28,7 +28,7 @@ pub returns-in-King : goal.returns-in-King
 returns-in-King k = λ c from p q are moved.
     let (leads, all) = subst (λ (w : Ways). AllLead c p from w) k.in-King.is are.lead in
     index_found k.facts.ensures c q q k.unwrap.result moved.admissible (settles_untargeted q moved.target) (subst (Best c q 16) k.unwrap.ensures
-    (all k.args.to q k.code_to-in-King.result moved (k.code_to-in-King.ensures c false q are.class_in (leads k.args.to q moved))))
+    (all k.args.to q k.code_to-in-King.result moved (k.code_to-in-King.ensures c from p q leads moved)))
 
 pub returns-in_default : goal.returns-in_default
 returns-in_default k = λ c from p q are moved.
