@@ -442,7 +442,7 @@ fn best_to_each_uniform<I: IndexAfter>(
     }
 }
 
-/// The same by the steps of the man. Few men need them, so they stay out of the way of the others.
+/// The same by the way of a king, or by the steps of another man. Few men need them, so they stay out of the way of the others.
 #[inline(never)]
 fn best_stepped(
     table: &Table,
