@@ -133,7 +133,7 @@ reach_nearer Bare most s t u (d ∷ ds) royal bare some b = elim some [
 ]
 
 -- a square between is neither end
-between_apart : (s t u : ℕ) → IsBetween s t u → u ≢ t
+pub between_apart : (s t u : ℕ) → IsBetween s t u → u ≢ t
 between_apart s t u b e =
     let some = b.some in
     let less = b.less in

@@ -1,5 +1,5 @@
 -- What a run begins with.
-use Rattle.std.proofs.Common.{◌≡◌, ◌≢◌, ℕ, zero, suc, ◌+◌, ◌*◌, ◌/◌, ◌%◌, ◌<◌, ◌≤◌, ◌^◌, Bool, true, false, cond, not, ◌&&◌, eqb, ltb, Option, Some, None, List, [], ◌∷◌, ◌++◌, length, slice_index, slice_index_or, get_or, set, take, IsFalse, IfSome, IfNone, refl, sym, ap, ap₂, ◌∙◌, inl, inr, subst, arith, count_by, replicate, nat_lt, ◌||◌, if◌then◌else◌}
+use Rattle.std.proofs.Common.{◌≡◌, ◌≢◌, ℕ, zero, suc, ◌+◌, ◌*◌, ◌<◌, ◌≤◌, ◌^◌, Bool, true, false, cond, not, ◌&&◌, eqb, ltb, Option, Some, None, List, [], ◌∷◌, ◌++◌, length, slice_index, slice_index_or, get_or, set, take, IsFalse, IfSome, IfNone, refl, sym, ap, ap₂, ◌∙◌, inl, inr, subst, arith, count_by, replicate, nat_lt, ◌||◌, if◌then◌else◌}
 use Rattle.std.specs.Int.{bit_at}
 use Rattle.std.specs.List.{list_any}
 use Rattle.std.proofs.lemmas.Bool.{cases_Bool, cases_eq, cases_lt, eq-eqb, ne_eqb, and_left, and_right, le-ltb, lt-ltb, le-leb, or_from, eqb-true}
@@ -15,7 +15,7 @@ use Rattle.egt_graph.specs.declared.game.Exit.{Exit}
 use Rattle.egt_graph.specs.declared.game.Exit.TheVariants.{Win, Loss, Draw}
 use Rattle.egt_graph.specs.Frontier.{is_node, blocks_of}
 use Rattle.egt_graph.specs.Run.{IsRun, IsSchedule}
-use Rattle.egt_graph.specs.Undecided.{is_up_to, AreMarksUpTo, HasKnown, HasMarks}
+use Rattle.egt_graph.specs.Undecided.{is_up_to, AreMarksUpTo, HasKnown, HasMarks, bit_of, word_of}
 use Rattle.egt_graph.specs.declared.answer.Phase.TheVariants.{Running}
 use Rattle.egt_graph.proofs.Lists.{count_by-cons}
 use Rattle.egt_graph.proofs.Holding.{decided_open, decided_shut}
@@ -419,16 +419,16 @@ node_marked g bit i exact node =
     ∙ elim (cases_Bool (g.mated i)) [ inl t ↦ rw t refl | inr f ↦ rw f refl ]
 
 module _ (g : Graph) (es ws ls : List ℕ) (fs : List Bool) (ld wd : List (List ℕ)) (h : IsBegun g g.size es ws ls fs ld wd) (bits : List ℕ) where
-  exact_at : (last : ℕ) → AreMarksUpTo last es bits → (i : ℕ) → bit_at (slice_index bits (i / 64)) (i % 64) ≡ cond (is_up_to last (entry_at g 0 i)) 1 0
+  exact_at : (last : ℕ) → AreMarksUpTo last es bits → (i : ℕ) → bit_at (slice_index bits (word_of i)) (bit_of i) ≡ cond (is_up_to last (entry_at g 0 i)) 1 0
   exact_at last exact i = exact i ∙ ap (λ e. cond (is_up_to last e) 1 0) (begun_entry g es ws ls fs ld wd h i)
 
-  pub begun_known : length es ≤ 64 * length bits → AreMarksUpTo 65535 es bits → HasKnown g bits
+  pub begun_known : length es + 128 ≤ 64 * length bits → AreMarksUpTo 65535 es bits → HasKnown g bits
   begun_known room exact = record {
     room = let long = h.entries_long in omega (arith, long, room);
     known = λ i. (marked_node g 65535 _ i (exact_at 65535 exact i), node_marked g _ i (exact_at 65535 exact i));
   }
 
-  pub begun_marks : length es ≤ 64 * length bits → AreMarksUpTo 1 es bits → HasMarks g Running es bits
+  pub begun_marks : length es + 128 ≤ 64 * length bits → AreMarksUpTo 1 es bits → HasMarks g Running es bits
   begun_marks room exact = record {
     room = let long = h.entries_long in omega (arith, long, room);
     of_nodes = λ i. marked_node g 1 _ i (exact_at 1 exact i);

@@ -13,6 +13,7 @@ pub mod Ending
 pub mod Lost
 pub mod Steps
 pub mod Growing
+pub mod Teeth
 pub mod Blocks
 pub mod Won
 pub mod Noting

@@ -105,16 +105,24 @@ abbrev pub Amid : Graph → ℕ → (ℕ → Bool) → ℕ → ℕ → List ℕ 
 Amid g r done lost won entries waits =
     Hold (entry_at g r) (has_moves g) (is_winning g r done lost) (waits_at g r done won) (r + 1) entries waits
 
--- the listed nodes were marked as wins in n plies
-abbrev pub Marks : List ℕ → List ℕ → ℕ → List ℕ → Type 0
-Marks entries nodes n entries' =
-    (i : ℕ) → slice_index entries' i ≡ decided (slice_index entries i) (nat_lt 0 (count_of i nodes)) false n
+-- the nodes that come so often were marked as wins in n plies
+abbrev pub MarksTimes : List ℕ → (ℕ → ℕ) → ℕ → List ℕ → Type 0
+MarksTimes entries times n entries' =
+    (i : ℕ) → slice_index entries' i ≡ decided (slice_index entries i) (nat_lt 0 (times i)) false n
 
--- each listed node waits for one move less, and has lost in n plies where it waits for none
-pub record TakesBack (entries waits nodes : List ℕ) (n : ℕ) (entries' waits' : List ℕ) : Type 0 where
+-- those of a list were
+abbrev pub Marks : List ℕ → List ℕ → ℕ → List ℕ → Type 0
+Marks entries nodes n entries' = MarksTimes entries (λ i. count_of i nodes) n entries'
+
+-- each node waits for as many moves less as it comes up, and has lost in n plies where it comes and waits for none
+pub record TakesTimes (entries waits : List ℕ) (times : ℕ → ℕ) (n : ℕ) (entries' waits' : List ℕ) : Type 0 where
   pub entry : (i : ℕ) → slice_index entries' i
-      ≡ decided (slice_index entries i) false (nat_lt 0 (count_of i nodes) && (slice_index waits' i == 0)) n
-  pub waiting : (i : ℕ) → slice_index waits' i + count_of i nodes ≡ slice_index waits i
+      ≡ decided (slice_index entries i) false (nat_lt 0 (times i) && (slice_index waits' i == 0)) n
+  pub waiting : (i : ℕ) → slice_index waits' i + times i ≡ slice_index waits i
+
+-- those of a list do
+abbrev pub TakesBack : List ℕ → List ℕ → List ℕ → ℕ → List ℕ → List ℕ → Type 0
+TakesBack entries waits nodes n entries' waits' = TakesTimes entries waits (λ i. count_of i nodes) n entries' waits'
 
 -- what is known of exits that are not due: how many may still turn out wins, and whether one is a loss
 pub record Await (g : Graph) (due : ℕ) (later : List ℕ) (lost : List Bool) : Type 0 where

@@ -6,6 +6,7 @@ pub mod Undecided
 pub mod Rounds
 pub mod Events
 pub mod Columns
+pub mod Combs
 pub mod Batch
 pub mod Run
 pub mod Begin

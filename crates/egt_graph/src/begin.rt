@@ -10,7 +10,7 @@ ghost use Rattle.egt_graph.specs.Undecided.{AreMarksUpTo, is_up_to};
 use crate::columns::DRAW;
 use crate::counts::Count;
 use crate::game::{Exit, Game, Start};
-use crate::scan::PART;
+use crate::marks::PAIR;
 use crate::schedule::Schedule;
 use crate::waiting::UNCOUNTED;
 use arrayvec::ArrayVec;
@@ -261,27 +261,28 @@ fn schedule_exit(
     }
 }
 
-/// The marks of the nodes with an entry up to `last`: bit `i % 64` of word `i / 64` is set where `i` is one, and no other bit.
+/// The marks of the nodes with an entry up to `last`: bit `bit_of(i)` of word `word_of(i)` is set where `i` is one, and no other bit.
 pub(crate) fn marks_up_to(alloc: Global, entries: &[u16], last: u16) -> Result<Vec<u64>, AllocError>
-    ensures room { IfOk result (λ marks. length entries.now ≤ 64 * length marks.items) }
+    ensures room { IfOk result (λ marks. length entries.now + 128 ≤ 64 * length marks.items) }
     ensures marks { IfOk result (λ marks. AreMarksUpTo last entries.now marks.items) }
 {
-    let mut marks = vec![in alloc; 0; entries.len().div_ceil(PART)]?;
-    for part in 0..marks.len() {
-        marks[part] = marks_in_part(entries, part * PART, last);
+    let mut marks = vec![in alloc; 0; 2 * entries.len().div_ceil(PAIR) + 2]?;
+    for word in 0..marks.len() {
+        marks[word] = marks_in_word(entries, word / 2 * PAIR + word % 2, last);
     }
     Ok(marks)
 }
 
-/// The marks of the entries from `from` on, of which there are 64, or fewer at the end.
-fn marks_in_part(entries: &[u16], from: usize, last: u16) -> u64
-    requires { from ≤ length entries.now }
-    ensures { (k : ℕ) → k < 64 → bit_at result k ≡ (if is_up_to last (slice_index entries.now (from + k)) then 1 else 0) }
+/// The marks of the 64 entries from `from` on of which every other one is left out; none past the end.
+fn marks_in_word(entries: &[u16], from: usize, last: u16) -> u64
+    requires { from ≤ length entries.now + 256 }
+    ensures { (k : ℕ) → k < 64 → bit_at result k ≡ (if is_up_to last (slice_index entries.now (from + 2 * k)) then 1 else 0) }
 {
     let mut marks = 0;
-    for i in from..entries.len().min(from + PART) {
-        if is_entry_up_to(entries[i], last) {
-            marks |= 1 << (i - from);
+    for k in 0..64 {
+        let i = from + 2 * k;
+        if i < entries.len() && is_entry_up_to(entries[i], last) {
+            marks |= 1 << k;
         }
     }
     marks

@@ -1,11 +1,15 @@
 //! One step of retrograde analysis over plain columns: an entry and a counter a node. Where an entry is decided is noted.
-ghost use Rattle.std.specs.Prelude.{◌≡◌, ◌==◌, true, false, ℕ, ◌+◌, ◌-◌, ◌*◌, ◌<◌, ◌≤◌, length, slice_index, slice_set, All, MatchBool, IsTrue, IsFalse};
+ghost use Rattle.std.specs.Prelude.{◌≡◌, ◌==◌, true, false, ℕ, ◌+◌, ◌-◌, ◌*◌, ◌<◌, ◌≤◌, ◌^◌, [], ◌∷◌, length, slice_index, All, MatchBool, IsTrue, IsFalse};
 ghost use Rattle.egt_graph.specs.Graph.{IsNode};
-ghost use Rattle.egt_graph.specs.Columns.{decided, told, told_at, Marks, TakesBack, count_of, is_open, is_open_at};
+ghost use Rattle.egt_graph.specs.Columns.{told, told_at, MarksTimes, Marks, TakesTimes, TakesBack, count_of, is_open, is_open_at};
+ghost use Rattle.egt_graph.specs.Combs.{has_tooth, tooth, times_in};
 ghost use Rattle.egt_graph.specs.Frontier.{is_entry_of_round};
 ghost use Rattle.egt_graph.specs.News.{Notes};
+ghost use Rattle.egt_graph.specs.Undecided.{AreMarked, IsMarked};
 
+use crate::comb::Comb;
 use crate::game::Game;
+use crate::marks::unmark;
 use crate::scan::{PART, is_of_round};
 use crate::waiting::waiting;
 
@@ -31,12 +35,57 @@ fn mark_win(entries: &mut [u16], news: &mut [bool], i: usize, plies: u16)
     requires short { plies ≤ 32001 }
     requires within { i < length entries.old }
     requires room { length entries.old ≤ 64 * length news.old }
-    ensures entries { entries.new ≡ slice_set entries.old i (decided (slice_index entries.old i) true false plies) }
+    ensures entries { Marks entries.old (i ∷ []) plies entries.new }
     ensures news { Notes plies entries.old news.old → Notes plies entries.new news.new }
 {
     if entries[i] == DRAW {
         entries[i] = 2 + 2 * plies;
         news[i / PART] = true;
+    }
+}
+
+/// The nodes of the combs win in `plies` plies, where they were not decided. They need no mark any more.
+pub(crate) fn mark_combs(
+    entries: &mut [u16],
+    marks: &mut [u64],
+    news: &mut [bool],
+    combs: &[Comb],
+    plies: u16,
+)
+    requires short { plies ≤ 32001 }
+    requires small { length entries.old < 2 ^ 32 }
+    requires within { (i : ℕ) → 0 < times_in i combs.now → i < length entries.old }
+    requires room { length entries.old ≤ 64 * length news.old }
+    requires marks_room { length entries.old + 128 ≤ 64 * length marks.old }
+    requires marked { AreMarked entries.old marks.old }
+    ensures marks { MarksTimes entries.old (λ i. times_in i combs.now) plies entries.new }
+    ensures news { Notes plies entries.old news.old → Notes plies entries.new news.new }
+    ensures marked { AreMarked entries.new marks.new }
+    ensures no_more { (i : ℕ) → IsMarked marks.new i → IsMarked marks.old i }
+{
+    for comb in combs {
+        mark_comb(entries, marks, news, *comb, plies);
+    }
+}
+
+/// Most often none of a comb's nodes is marked.
+#[inline(always)]
+fn mark_comb(entries: &mut [u16], marks: &mut [u64], news: &mut [bool], comb: Comb, plies: u16)
+    requires short { plies ≤ 32001 }
+    requires small { length entries.old < 2 ^ 32 }
+    requires within { (i : ℕ) → IsTrue (has_tooth i comb) → i < length entries.old }
+    requires room { length entries.old ≤ 64 * length news.old }
+    requires marks_room { length entries.old + 128 ≤ 64 * length marks.old }
+    requires marked { AreMarked entries.old marks.old }
+    ensures marks { MarksTimes entries.old (λ i. tooth i comb) plies entries.new }
+    ensures news { Notes plies entries.old news.old → Notes plies entries.new news.new }
+    ensures marked { AreMarked entries.new marks.new }
+    ensures no_more { (i : ℕ) → IsMarked marks.new i → IsMarked marks.old i }
+{
+    let mut rest = comb.marked(marks);
+    while let Some(node) = rest.pop_first() {
+        mark_win(entries, news, node as usize, plies);
+        unmark(marks, node);
     }
 }
 
@@ -76,14 +125,9 @@ fn take_back_move<G: Game>(
     requires node { IsNode (G.graph game.now) node }
     requires within { node < length entries.old }
     requires within_waits { node < length waits.old }
-    requires waited { 0 < told_at (G.graph game.now) node (slice_index waits.old node) }
+    requires waited { 0 < slice_index (told (G.graph game.now) waits.old) node }
     requires room { length entries.old ≤ 64 * length news.old }
-    ensures waits { (left : ℕ)
-        × (left ≡ told_at (G.graph game.now) node (slice_index waits.old node) - 1)
-        × (left < 255)
-        × (waits.new ≡ slice_set waits.old node left) }
-    ensures entries { entries.new
-        ≡ slice_set entries.old node (decided (slice_index entries.old node) false (told_at (G.graph game.now) node (slice_index waits.old node) - 1 == 0) plies) }
+    ensures takes { TakesBack entries.old (told (G.graph game.now) waits.old) (node ∷ []) plies entries.new (told (G.graph game.now) waits.new) }
     ensures news { Notes plies entries.old news.old → Notes plies entries.new news.new }
 {
     let i = node as usize;
@@ -92,6 +136,55 @@ fn take_back_move<G: Game>(
     if left == 0 && entries[i] == DRAW {
         entries[i] = 3 + 2 * plies;
         news[i / PART] = true;
+    }
+}
+
+/// Each of the combs' nodes waits for one move less, for every comb that has it.
+pub(crate) fn take_back_combs<G: Game>(
+    game: &G,
+    entries: &mut [u16],
+    waits: &mut [u8],
+    news: &mut [bool],
+    combs: &[Comb],
+    plies: u16,
+)
+    requires short { plies ≤ 32001 }
+    requires are_nodes { (i : ℕ) → 0 < times_in i combs.now → IsNode (G.graph game.now) i }
+    requires entries_long { length entries.old ≡ (G.graph game.now).size }
+    requires matched { length waits.old ≡ length entries.old }
+    requires waited { (i : ℕ) → times_in i combs.now ≤ slice_index (told (G.graph game.now) waits.old) i }
+    requires room { length entries.old ≤ 64 * length news.old }
+    ensures takes { TakesTimes entries.old (told (G.graph game.now) waits.old) (λ i. times_in i combs.now) plies entries.new (told (G.graph game.now) waits.new) }
+    ensures news { Notes plies entries.old news.old → Notes plies entries.new news.new }
+{
+    let _size = game.size();
+    for comb in combs {
+        take_back_comb(game, entries, waits, news, *comb, plies);
+    }
+}
+
+#[inline(always)]
+fn take_back_comb<G: Game>(
+    game: &G,
+    entries: &mut [u16],
+    waits: &mut [u8],
+    news: &mut [bool],
+    comb: Comb,
+    plies: u16,
+)
+    requires short { plies ≤ 32001 }
+    requires small { length entries.old < 2 ^ 32 }
+    requires are_nodes { (i : ℕ) → IsTrue (has_tooth i comb) → IsNode (G.graph game.now) i }
+    requires entries_long { length entries.old ≡ (G.graph game.now).size }
+    requires matched { length waits.old ≡ length entries.old }
+    requires waited { (i : ℕ) → tooth i comb ≤ slice_index (told (G.graph game.now) waits.old) i }
+    requires room { length entries.old ≤ 64 * length news.old }
+    ensures takes { TakesTimes entries.old (told (G.graph game.now) waits.old) (λ i. tooth i comb) plies entries.new (told (G.graph game.now) waits.new) }
+    ensures news { Notes plies entries.old news.old → Notes plies entries.new news.new }
+{
+    let mut rest = comb;
+    while let Some(node) = rest.pop_first() {
+        take_back_move(game, entries, waits, news, node, plies);
     }
 }
 

@@ -1,11 +1,14 @@
 //! A finite game: nodes, the moves between them, and the moves that leave it.
-ghost use Rattle.std.specs.Prelude.{◌≡◌, ◌+◌, ◌*◌, ◌<◌, ◌≤◌, ◌++◌, length, [], true, All, IfSome, IfNone, IsFalse};
+ghost use Rattle.std.specs.Prelude.{◌≡◌, ℕ, ◌+◌, ◌*◌, ◌<◌, ◌≤◌, ◌++◌, length, filter, [], true, All, IfSome, IfNone, IsFalse};
 ghost use Rattle.std.specs.List.Sorted.{IsStrictlyIncreasing};
 ghost use Rattle.arrayvec.specs.ArrayVec.{array_vec_len};
 ghost use Rattle.egt_graph.specs.Graph.{Graph, IsNode, IsGame, IsStart, AreLike};
-ghost use Rattle.egt_graph.specs.Columns.{into_all};
-ghost use Rattle.egt_graph.specs.Undecided.{AreKnown, AreOfNodes, AreMarkedInto};
+ghost use Rattle.egt_graph.specs.Columns.{count_of, into_all};
+ghost use Rattle.egt_graph.specs.Combs.{times_in};
+ghost use Rattle.egt_graph.specs.Undecided.{AreOfNodes, IsMarked, is_marked};
 
+use crate::comb::Comb;
+use crate::marks::is_marked;
 use arrayvec::ArrayVec;
 
 /// The value of a position outside the game, for the player who is to move there. Numbers are plies, at most 32,000.
@@ -114,54 +117,45 @@ pub trait Game {
         *list = self.into(j);
     }
 
-    /// Fills the list, in the place of what it had, with what `into` answers of each of these nodes, one after the other.
-    /// `known` has the bits of the nodes: bit `i % 64` of word `i / 64` is set exactly where `i` is one.
-    fn list_all_into(&self, nodes: &[u32], known: &[u64], list: &mut ArrayVec<u32, 8192>)
+    /// Fills both lists, in the place of what they had, with the marked nodes from which moves lead to these: each as often, in combs
+    /// and list together, as there are nodes among these that a move leads to from it. The mark of node `i` is bit `bit_of(i)` of word
+    /// `word_of(i)`, and nothing but nodes is marked.
+    fn combs_into(
+        &self,
+        nodes: &[u32],
+        marks: &[u64],
+        combs: &mut ArrayVec<Comb, 4096>,
+        list: &mut ArrayVec<u32, 8192>,
+    )
         requires nodes { All (IsNode (graph self.now)) nodes.now }
         requires ascending { IsStrictlyIncreasing nodes.now }
         requires few { length nodes.now ≤ 64 }
-        requires room { (graph self.now).size ≤ 64 * length known.now }
-        requires known { AreKnown (graph self.now) known.now }
-        ensures { list.new.items ≡ into_all (graph self.now) nodes.now }
+        requires room { (graph self.now).size + 128 ≤ 64 * length marks.now }
+        requires marked { AreOfNodes (graph self.now) marks.now }
+        ensures exact { (i : ℕ) → IsMarked marks.now i
+            → times_in i combs.new.items + count_of i list.new.items ≡ count_of i (into_all (graph self.now) nodes.now) }
+        ensures only { (i : ℕ) → 0 < times_in i combs.new.items + count_of i list.new.items → IsMarked marks.now i }
     {
-        let _words = known.len();
         let mut sources = ArrayVec::new();
+        combs.clear();
         list.clear();
         for node in nodes {
             self.list_into(*node, &mut sources);
-            append(list, sources.as_slice());
-        }
-    }
-
-    /// Fills the list, in the place of what it had, with nodes from which a move leads to one of these, in any order and perhaps more
-    /// than once: with all that are marked, and perhaps with others. The mark of node `i` is bit `i % 64` of word `i / 64`, and
-    /// nothing but nodes is marked. There is room for all moves into as many nodes as are asked of at once.
-    fn list_marked_into(&self, nodes: &[u32], marks: &[u64], list: &mut ArrayVec<u32, 8192>)
-        requires nodes { All (IsNode (graph self.now)) nodes.now }
-        requires ascending { IsStrictlyIncreasing nodes.now }
-        requires few { length nodes.now ≤ 64 }
-        requires room { (graph self.now).size ≤ 64 * length marks.now }
-        requires known { AreOfNodes (graph self.now) marks.now }
-        ensures { AreMarkedInto (graph self.now) nodes.now marks.now list.new.items }
-    {
-        let _words = marks.len();
-        let mut all = ArrayVec::new();
-        list.clear();
-        for node in nodes {
-            self.list_into(*node, &mut all);
-            append(list, all.as_slice());
+            append_marked(list, sources.as_slice(), marks);
         }
     }
 
     ghost lawful: { (game : Self) → IsGame (graph game) };
 }
 
-/// Adds the sources of one node to a list that has room for them.
-pub(crate) fn append(list: &mut ArrayVec<u32, 8192>, sources: &[u32])
+/// Adds the marked ones of these sources to a list that has room for them.
+pub(crate) fn append_marked(list: &mut ArrayVec<u32, 8192>, sources: &[u32], marks: &[u64])
     requires { array_vec_len list.old + length sources.now ≤ 8192 }
-    ensures { list.new.items ≡ list.old.items ++ sources.now }
+    ensures { list.new.items ≡ list.old.items ++ filter (is_marked marks.now) sources.now }
 {
     for source in sources {
-        list.push(*source);
+        if is_marked(marks, *source) {
+            list.push(*source);
+        }
     }
 }

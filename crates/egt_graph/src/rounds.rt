@@ -12,6 +12,7 @@ use crate::answer::{Close, Phase, Post};
 use crate::batch::Batch;
 use crate::begin::{Columns, begin, marks_up_to};
 use crate::columns::DRAW;
+use crate::comb::Comb;
 use crate::counts::Count;
 use crate::game::Game;
 use crate::ranks::Ranks;
@@ -37,7 +38,7 @@ pub struct Rounds<'g, G: Game> {
     news: Vec<bool>,
     /// The same of the next round.
     coming: Vec<bool>,
-    /// Bit `i % 64` of word `i / 64` is set where `i` is a node.
+    /// The bits of the nodes are set, and no other: that of node `i` is bit `bit_of(i)` of word `word_of(i)`.
     known: Vec<u64>,
     /// The same where node `i` may be undecided.
     marks: Vec<u64>,
@@ -218,12 +219,13 @@ impl<'g, G: Game> Rounds<'g, G> {
         Post::Posted
     }
 
-    /// Expands a block and posts what it found, without a batch: of lost nodes it asks for the undecided sources alone, which it
-    /// puts into the list that is lent.
+    /// Expands a block and posts what it found, without a batch: of lost nodes it asks for the undecided sources alone. They go into
+    /// the lists that are lent.
     pub(crate) fn work(
         &mut self,
         alloc: Global,
         block: u32,
+        combs: &mut ArrayVec<Comb, 4096>,
         sources: &mut ArrayVec<u32, 8192>,
     ) -> Result<Post, AllocError>
         requires running { self.old.state.phase ≡ Running }
@@ -248,6 +250,7 @@ impl<'g, G: Game> Rounds<'g, G> {
             block,
             &nodes,
             self.round,
+            combs,
             sources,
         );
         Ok(Post::Posted)

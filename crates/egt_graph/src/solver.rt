@@ -111,9 +111,10 @@ fn post_all<G: Game>(alloc: Global, rounds: &mut Rounds<'_, G>) -> Result<(), Al
     ensures same_round { OnOk result (rounds.new.state ≡ record rounds.old.state { posted = rounds.new.state.posted }) }
     ensures posted { OnOk result (AllPosted rounds.new.state) }
 {
+    let mut combs = ArrayVec::new();
     let mut sources = ArrayVec::new();
     for block in 0..rounds.blocks() {
-        rounds.work(alloc, block, &mut sources)?;
+        rounds.work(alloc, block, &mut combs, &mut sources)?;
     }
     Ok(())
 }

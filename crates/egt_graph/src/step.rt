@@ -9,9 +9,10 @@ ghost use Rattle.egt_graph.specs.News.{Notes};
 ghost use Rattle.egt_graph.specs.Undecided.{AreKnown, AreMarked, AreOfNodes, IsMarked};
 
 use crate::batch::Batch;
-use crate::columns::{any_open, count_down, mark_wins, take_back};
+use crate::columns::{any_open, count_down, mark_combs, mark_wins, take_back, take_back_combs};
+use crate::comb::Comb;
 use crate::game::Game;
-use crate::scan::PART;
+use crate::marks::unmark;
 use arrayvec::ArrayVec;
 
 /// Takes back the moves into the nodes of a batch, and ticks its block. The columns are of the game.
@@ -51,14 +52,13 @@ pub(crate) fn take_in<G: Game>(
 }
 
 /// The nodes need no mark any more.
-fn unmark(marks: &mut [u64], nodes: &[u32])
-    requires room { All (λ i. i < 64 * length marks.old) nodes.now }
+fn unmark_all(marks: &mut [u64], nodes: &[u32])
+    requires room { All (λ i. i + 128 < 64 * length marks.old) nodes.now }
     ensures others { (i : ℕ) → ¬ Contains nodes.now i → IsMarked marks.old i → IsMarked marks.new i }
     ensures no_more { (i : ℕ) → IsMarked marks.new i → IsMarked marks.old i }
 {
     for node in nodes {
-        let at = *node as usize;
-        marks[at / PART] &= !(1 << (at % PART));
+        unmark(marks, *node);
     }
 }
 
@@ -70,6 +70,7 @@ fn mark_sources<G: Game>(
     coming: &mut [bool],
     nodes: &[u32],
     plies: u16,
+    combs: &mut ArrayVec<Comb, 4096>,
     sources: &mut ArrayVec<u32, 8192>,
 )
     requires are_nodes { All (IsNode (G.graph game.now)) nodes.now }
@@ -78,7 +79,7 @@ fn mark_sources<G: Game>(
     requires short { plies ≤ 32001 }
     requires entries_long { length entries.old ≡ (G.graph game.now).size }
     requires room { length entries.old ≤ 64 * length coming.old }
-    requires marks_room { length entries.old ≤ 64 * length marks.old }
+    requires marks_room { length entries.old + 128 ≤ 64 * length marks.old }
     requires of_nodes { AreOfNodes (G.graph game.now) marks.old }
     requires marked { AreMarked entries.old marks.old }
     ensures marks { Marks entries.old (into_all (G.graph game.now) nodes.now) plies entries.new }
@@ -86,9 +87,11 @@ fn mark_sources<G: Game>(
     ensures of_nodes { AreOfNodes (G.graph game.now) marks.new }
     ensures marked { AreMarked entries.new marks.new }
 {
-    game.list_marked_into(nodes, marks, sources);
+    let _size = game.size();
+    game.combs_into(nodes, marks, combs, sources);
+    mark_combs(entries, marks, coming, combs.as_slice(), plies);
     mark_wins(entries, coming, sources.as_slice(), plies);
-    unmark(marks, sources.as_slice());
+    unmark_all(marks, sources.as_slice());
 }
 
 /// The sources of won nodes wait for one move less each, for every move into one of these.
@@ -100,6 +103,7 @@ fn take_sources<G: Game>(
     coming: &mut [bool],
     nodes: &[u32],
     plies: u16,
+    combs: &mut ArrayVec<Comb, 4096>,
     sources: &mut ArrayVec<u32, 8192>,
 )
     requires are_nodes { All (IsNode (G.graph game.now)) nodes.now }
@@ -110,12 +114,13 @@ fn take_sources<G: Game>(
     requires matched { length waits.old ≡ length entries.old }
     requires waited { (i : ℕ) → count_of i (into_all (G.graph game.now) nodes.now) ≤ slice_index (told (G.graph game.now) waits.old) i }
     requires room { length entries.old ≤ 64 * length coming.old }
-    requires known_room { length entries.old ≤ 64 * length known.now }
+    requires known_room { length entries.old + 128 ≤ 64 * length known.now }
     requires known { AreKnown (G.graph game.now) known.now }
     ensures takes { TakesBack entries.old (told (G.graph game.now) waits.old) (into_all (G.graph game.now) nodes.now) plies entries.new (told (G.graph game.now) waits.new) }
     ensures news { Notes plies entries.old coming.old → Notes plies entries.new coming.new }
 {
-    game.list_all_into(nodes, known, sources);
+    game.combs_into(nodes, known, combs, sources);
+    take_back_combs(game, entries, waits, coming, combs.as_slice(), plies);
     take_back(game, entries, waits, coming, sources.as_slice(), plies);
 }
 
@@ -143,7 +148,7 @@ fn run_end(entries: &[u16], nodes: &[u32], from: usize) -> usize
 }
 
 /// The same for a whole block, of which the game is asked for the moves into won nodes by the run, and into lost nodes too.
-/// The list is lent, since to make it takes as long as to write all of it; what it had is lost.
+/// The lists are lent, since to make them takes as long as to write all of them; what they had is lost.
 pub(crate) fn take_block<G: Game>(
     game: &G,
     entries: &mut [u16],
@@ -155,6 +160,7 @@ pub(crate) fn take_block<G: Game>(
     block: u32,
     nodes: &[u32],
     round: u16,
+    combs: &mut ArrayVec<Comb, 4096>,
     sources: &mut ArrayVec<u32, 8192>,
 )
     requires short { round ≤ 32000 }
@@ -166,9 +172,9 @@ pub(crate) fn take_block<G: Game>(
     requires waits_long { length waits.old ≡ (G.graph game.now).size }
     requires amid { Amid (G.graph game.now) round (done_of posted.old) round round entries.old (told (G.graph game.now) waits.old) }
     requires room { length entries.old ≤ 64 * length coming.old }
-    requires known_room { length entries.old ≤ 64 * length known.now }
+    requires known_room { length entries.old + 128 ≤ 64 * length known.now }
     requires known { AreKnown (G.graph game.now) known.now }
-    requires marks_room { length entries.old ≤ 64 * length marks.old }
+    requires marks_room { length entries.old + 128 ≤ 64 * length marks.old }
     requires of_nodes { AreOfNodes (G.graph game.now) marks.old }
     requires marked { AreMarked entries.old marks.old }
     ensures ticked { posted.new ≡ slice_set posted.old block true }
@@ -183,10 +189,29 @@ pub(crate) fn take_block<G: Game>(
         let end = run_end(entries, nodes, k);
         if entries[node as usize] == 2 + 2 * round {
             let won = &nodes[k..end];
-            take_sources(game, entries, waits, known, coming, won, round + 1, sources);
+            take_sources(
+                game,
+                entries,
+                waits,
+                known,
+                coming,
+                won,
+                round + 1,
+                combs,
+                sources,
+            );
         } else {
             let lost = &nodes[k..end];
-            mark_sources(game, entries, marks, coming, lost, round + 1, sources);
+            mark_sources(
+                game,
+                entries,
+                marks,
+                coming,
+                lost,
+                round + 1,
+                combs,
+                sources,
+            );
         }
         k = end;
     }

@@ -1,7 +1,7 @@
 -- The men of a position who stand on their squares wherever the last man of the class stands.
-use Rattle.std.specs.Prelude.{◌≡◌, ◌≢◌, ℕ, ◌⊎◌, Some}
+use Rattle.std.specs.Prelude.{◌≡◌, ◌≢◌, ◌+◌, ℕ, ◌⊎◌, Some}
 use Rattle.egt_board.specs.Beside.{StandsBeside}
-use Rattle.egt_board.specs.Placement.{Stands}
+use Rattle.egt_board.specs.Placement.{Stands, IsFree}
 use Rattle.egt_board.specs.Setup.{Setup, IsKingOn}
 use Rattle.egt_board.specs.declared.man.Kind.TheVariants.{K}
 use Rattle.egt_board.specs.declared.man.Man.{Man}
@@ -15,3 +15,8 @@ pub record StandsFixed (p : Setup) (fixed : Fixed) : Type 0 where
   pub black_there : IsKingOn p.men Black fixed.black
   pub one_there : StandsBeside p.men fixed.one
   pub others : (s : ℕ) (man : Man) → Stands p.men s man → man.kind ≢ K → (fixed.one ≡ Some (man, s)) ⊎ (fixed.last ≡ Some man)
+
+-- beside the kings and the man who stands there no man stands but the last, who stands k squares further than in the position of which these are
+pub record GoesAlong (p : Setup) (fixed : Fixed) (k : ℕ) : Type 0 where
+  pub stands : (t : ℕ) → fixed.last_on ≡ Some t → ¬ IsFree p.men (t + k)
+  pub others : (s : ℕ) (man : Man) → Stands p.men s man → man.kind ≢ K → (fixed.one ≡ Some (man, s)) ⊎ ((t : ℕ) × (fixed.last_on ≡ Some t) × (s ≡ t + k))

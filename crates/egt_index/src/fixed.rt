@@ -1,9 +1,12 @@
 //! The men of a position who stand on their squares at all indexes that differ from its own by the last man's square alone.
-ghost use Rattle.std.specs.Prelude.{◌≡◌, ℕ, Bool};
+ghost use Rattle.std.specs.Prelude.{◌≡◌, ◌+◌, ◌*◌, ℕ, Bool, false};
+ghost use Rattle.std.specs.Option.{option_map};
 ghost use Rattle.egt_board.specs.Setup.{Setup};
 ghost use Rattle.egt_index.specs.AtIndex.{IsFramedAt};
 ghost use Rattle.egt_index.specs.Code.{Spells};
-ghost use Rattle.egt_index.specs.Fixed.{StandsFixed};
+ghost use Rattle.egt_class.specs.Material.{material_of};
+ghost use Rattle.egt_index.specs.Fixed.{GoesAlong, StandsFixed};
+ghost use Rattle.egt_index.specs.Size.{has_target};
 ghost use Rattle.egt_index.specs.Index.{IsIndex};
 ghost use Rattle.egt_index.specs.Scales.{man_at};
 ghost use Rattle.egt_index.specs.Shelf.{AreAlike};
@@ -23,6 +26,18 @@ pub struct Fixed {
     pub one: Option<(Man, Square)>,
     /// The last of two men beside the kings, who stands somewhere else in each.
     pub last: Option<Man>,
+    /// Where he stands in the frame's own position.
+    pub last_on: Option<Square>,
+}
+
+/// Where the man stands, if there is one.
+fn square_of(entry: &Option<(Man, Square)>) -> Option<Square>
+    ensures { result ≡ option_map (λ e. e.1) entry.now }
+{
+    match entry {
+        Some(placed) => Some(placed.1),
+        None => None,
+    }
 }
 
 /// The man, if there is one.
@@ -36,11 +51,14 @@ fn man_of(entry: &Option<(Man, Square)>) -> Option<Man>
 }
 
 impl Frame {
-    /// The men who stand on their squares wherever the last man stands.
+    /// The men who stand on their squares wherever the last man stands. In a class without targets he stands so many squares further as the
+    /// index is twice as much above the frame's own.
     #[inline(always)]
     pub fn fixed(&self) -> Fixed
-        ensures { (i j : ℕ) (p q : Setup) (passed : Bool) → IsFramedAt self.now.class i p self.now passed → AreAlike self.now.class i j → Spells self.now.class j q → IsIndex self.now.class q j →
+        ensures fixed { (i j : ℕ) (p q : Setup) (passed : Bool) → IsFramedAt self.now.class i p self.now passed → AreAlike self.now.class i j → Spells self.now.class j q → IsIndex self.now.class q j →
             StandsFixed q result }
+        ensures along { (i k : ℕ) (p q : Setup) (passed : Bool) → has_target (material_of self.now.class) ≡ false → IsFramedAt self.now.class i p self.now passed → AreAlike self.now.class i (i + 2 * k) →
+            Spells self.now.class (i + 2 * k) q → IsIndex self.now.class q (i + 2 * k) → GoesAlong q result k }
     {
         facts();
         let _number = self.class.number();
@@ -51,6 +69,7 @@ impl Frame {
             black: stand.black,
             one: stand.next,
             last: man_of(&stand.last),
+            last_on: square_of(&stand.last),
         }
     }
 }

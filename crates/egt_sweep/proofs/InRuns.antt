@@ -1,28 +1,27 @@
 -- What is told at once of nodes that differ by the last man's square alone.
-use Rattle.std.proofs.Common.{◌≡◌, ◌≢◌, ℕ, zero, suc, ◌+◌, ◌-◌, ◌&&◌, ◌==◌, ◌/◌, ◌%◌, ◌<◌, ◌⊎◌, ◌↔◌, Bool, true, false, List, [], ◌∷◌, ◌++◌, length, take, Option, Some, None, arith, refl, sym, ap, ◌∙◌, subst, inl, inr}
+use Rattle.std.proofs.Common.{◌≡◌, ◌≢◌, ℕ, zero, suc, ◌+◌, ◌-◌, ◌*◌, ◌&&◌, ◌==◌, ◌/◌, ◌%◌, ◌<◌, ◌≤◌, ◌⊎◌, ◌↔◌, Bool, true, false, cond, List, [], ◌∷◌, ◌++◌, length, take, drop, Option, Some, None, arith, refl, sym, ap, ◌∙◌, subst, inl, inr}
 use Rattle.std.proofs.lemmas.Bool.{and_parts, cases_Bool, cases_eq, eq-eqb, eqb-true, false≢true}
-use Rattle.std.proofs.lemmas.List.{flat_map_more, take_more}
+use Rattle.std.proofs.lemmas.List.{flat_map_more, length-drop, length-take, take_more}
 use Rattle.std.proofs.lemmas.List.Concat.{flat_map-cons}
-use Rattle.std.proofs.lemmas.List.Elements.{Contains-append_left, Contains-append_right, Contains-append_cases}
+use Rattle.std.proofs.lemmas.List.Elements.{Contains-append_left, Contains-append_right, Contains-append_cases, Contains-get_or}
 use Rattle.std.specs.Prelude.{slice_index, not, IsFalse, IsTrue}
 use Rattle.std.specs.Option.{is_some}
 use Rattle.std.specs.Int.{bit_at}
-use Rattle.std.specs.List.{Contains, flat_map}
+use Rattle.std.specs.List.{Contains, flat_map, slice_range}
 use Rattle.std.specs.List.Sorted.{IsStrictlyIncreasing}
+use Rattle.egt_board.specs.Attack.{king_of}
 use Rattle.egt_board.specs.Man.{other_side}
-use Rattle.egt_board.specs.Placement.{Stands, IsHeld}
+use Rattle.egt_board.specs.Placement.{Stands, IsHeld, one_man}
 use Rattle.egt_board.specs.Pawn.{pawn_of}
 use Rattle.egt_board.specs.Setup.{Setup, IsAdmissible, IsKingOn}
 use Rattle.egt_board.specs.SquareSet.{Has}
-use Rattle.egt_board.specs.declared.man.Kind.{Kind}
-use Rattle.egt_board.specs.declared.man.Kind.TheVariants.{Q, R, B, N, P, K}
 use Rattle.egt_board.specs.declared.man.Man.{Man}
 use Rattle.egt_board.specs.declared.man.Side.{Side}
 use Rattle.egt_board.specs.declared.square_set.SquareSet.{SquareSet}
 use Rattle.egt_class.specs.Material.{material_of}
 use Rattle.egt_class.specs.Membership.{IsOf}
 use Rattle.egt_graph.specs.Passing.{passing_below, passing_ascends, passing_has, passing_is, passing_passes}
-use Rattle.egt_graph.specs.Undecided.{IsMarked}
+use Rattle.egt_graph.specs.Undecided.{IsMarked, bit_of, word_of}
 use Rattle.egt_index.specs.Fixed.{StandsFixed}
 use Rattle.egt_index.specs.Size.{has_target, size_of}
 use Rattle.egt_index.specs.declared.fixed.Fixed.{Fixed}
@@ -30,49 +29,52 @@ use Rattle.egt_table.specs.declared.column.Column.{Column}
 use Rattle.egt_sweep.specs.Edges.{AtEntry, CameTo, Connects, IsAt, IsTakenBack}
 use Rattle.egt_sweep.specs.Laws.{Laws}
 use Rattle.egt_sweep.specs.Nodes.{connects, position_at, setup_at}
-use Rattle.egt_sweep.specs.Runs.{IsNearTo, IsRunOf}
+use Rattle.egt_sweep.specs.Runs.{ArePlaces, IsNearTo, IsRunOf}
 use Rattle.egt_sweep.specs.Together.{IsAlikeNode, NeverTargeted}
-use Rattle.egt_sweep.specs.Told.{CameOf, CameTold, CameUntold, IsTold, IsToldAt, marked_into}
+use Rattle.egt_sweep.specs.Told.{CameOf, CameUntold, IsTold, IsToldAt, marked_into}
 use Rattle.egt_sweep.specs.declared.together.Run.{Run}
 use Rattle.egt_sweep.specs.declared.told.Told.{Told}
+use Rattle.std.proofs.lemmas.Nat.Bits.{bit_at-zero}
+use Rattle.egt_unmoves.proofs.Straight.{size_none, size_with}
 use Rattle.egt_sweep.proofs.Collecting.{none_ascend}
 use Rattle.egt_sweep.proofs.Linked.{connects_is, there_is}
 use Rattle.egt_sweep.proofs.Members.{both}
 use Rattle.egt_sweep.proofs.Returning.{came_connects, came_held, connects_came, no_taker, taken}
-use Rattle.egt_sweep.proofs.Standing.{sources_told}
-use Rattle.egt_sweep.proofs.ToldMen.{never_came}
+use Rattle.egt_sweep.proofs.Runs.{king_or_not}
+use Rattle.egt_sweep.proofs.Combed.{AreSpread, count_flat, sums_alike}
+use Rattle.egt_graph.proofs.Lists.{contains_counted, count_ascending, counted_contains}
+use Rattle.egt_graph.specs.Columns.{count_of}
+use Rattle.egt_graph.proofs.Lost.{run_ascends, run_at}
+
+-- equal remainders by an even number are of numbers both even or both odd
+same_parity : (has : Bool) (a b : ℕ) → a % cond {A = ℕ} has 4 2 ≡ b % cond {A = ℕ} has 4 2 → a % 2 ≡ b % 2
+same_parity true a b same = omega (arith, same)
+same_parity false a b same = same
+
+halved : (a b : ℕ) → b ≤ a → b % 2 ≡ a % 2 → b + 2 * ((a - b) / 2) ≡ a
+halved a b le same = omega (arith, le, same)
 
 module _ (c : ℕ) (run : Run) (node : ℕ) (near : IsNearTo c run node) where
-  pub there : run.first + (node - run.first) ≡ node
-  there = let le = near.above in omega arith
+  pub there : run.first + 2 * ((node - run.first) / 2) ≡ node
+  there = halved node run.first near.above (same_parity (has_target (material_of c)) run.first node near.alike.ends)
 
   module _ (at : IsAt c node (setup_at c node)) where
     pub is_alike : IsAlikeNode c run.first node
     is_alike = record { alike = near.alike; at = at }
 
-    pub alike_there : IsAlikeNode c run.first (run.first + (node - run.first))
+    pub alike_there : IsAlikeNode c run.first (run.first + 2 * ((node - run.first) / 2))
     alike_there = subst (IsAlikeNode c run.first) (sym there) is_alike
 
 -- of a man of whom nothing is told nothing said is wrong
 pub nothing_told : (column : Column) (c first : ℕ) (marks : List ℕ) (told : Told) → told.told ≡ false → IsTold column c first marks told
 nothing_told column c first marks told untold = record {
-  piece = λ yes'. absurd (none yes');
-  stands = λ yes'. absurd (none yes');
   left = λ yes'. absurd (none yes');
-  any = λ yes'. absurd (none yes');
+  ascends = λ yes'. absurd (none yes');
   complete = λ yes'. absurd (none yes');
 }
   where
     none : told.told ≡ true → ⊥
     none is = false≢true (sym untold ∙ is)
-
-king_or_not : (kind : Kind) → (kind ≡ K) ⊎ (kind ≢ K)
-king_or_not K = inl refl
-king_or_not Q = inr (λ e. cc)
-king_or_not R = inr (λ e. cc)
-king_or_not B = inr (λ e. cc)
-king_or_not N = inr (λ e. cc)
-king_or_not P = inr (λ e. cc)
 
 -- no position of a class without targets has one, nor had one before
 pub never_targeted : (laws : Laws) (c : ℕ) → has_target (material_of c) ≡ false
@@ -122,74 +124,58 @@ module _ (laws : Laws) (column : Column) (c : ℕ) where
       back = taken laws c q man s held.stands column i came
 
   module _ (below : c < 36) (marks : List ℕ) (run : Run) (node : ℕ) (is : IsRunOf column c marks run) (near : IsNearTo c run node) (at : IsAt c node (setup_at c node)) where
-    close : node - run.first < 64
+    close : (node - run.first) / 2 < 64
     close = let le = near.above in let lt = near.near in omega arith
-
-    unmarked : (told : Told) (s i : ℕ) → IsTold column c run.first marks told → (told.told ≡ true → bit_at told.any (node - run.first) ≡ 0) → IsToldAt told s → CameTo column c (setup_at c node) s i → IsMarked marks i → ⊥
-    unmarked told s i are missed his came marked =
-        never_came column c run.first marks told (node - run.first) i are his.0 (missed his.0) close (alike_there c run node near at)
-        (subst (λ n. CameTo column c (setup_at c n) told.to i) (sym (there c run node near)) (subst (λ t. CameTo column c (setup_at c node) t i) his.1 came)) marked
-
-    -- where all were missed there is no edge from a marked node
-    pub all_missed : run.partial ≡ false → (run.king.told ≡ true → bit_at run.king.any (node - run.first) ≡ 0) → (run.one.told ≡ true → bit_at run.one.any (node - run.first) ≡ 0) → (i : ℕ) → Connects column c i node → IsMarked marks i → ⊥
-    all_missed closed king one i edge marked =
-        let came = connects_came laws c below column (setup_at c node) node i at edge in
-        elim (is.beside closed node came.0 i (is_alike c run node near at) came.1) [
-          | inl his ↦ unmarked run.king came.0 i is.king king his came.1 marked
-          | inr his ↦ unmarked run.one came.0 i is.one one his came.1 marked
-        ]
 
     abbrev pub side : Side
     side = other_side (setup_at c node).side
 
-    came_to : (s i : ℕ) → CameTo column c (setup_at c node) s i → IsMarked marks i → Connects column c i node × IsMarked marks i
-    came_to s i came marked = (came_connects laws c below column (setup_at c node) node i s at came, marked)
-
-    entry_came : (told : SquareSet) (entry : Option (Man × ℕ)) (i : ℕ) → AtEntry side entry (CameUntold column c (setup_at c node) told marks) i → Connects column c i node × IsMarked marks i
-    entry_came told None i none = absurd none
-    entry_came told (Some e) i o = came_to e.1 i o.1.came o.1.marked
-
-    -- the king, the man who is told of and those of whom nothing is told: together the edges from marked nodes
-    pub run_edges : (king : ℕ) (told : SquareSet) (one other : Option (Man × ℕ)) → IsKingOn (setup_at c node).men side king → ((s : ℕ) → Has told s ↔ IsToldAt run.one s)
-        → ((s : ℕ) (goes : ℕ → ℕ → Type 0) (k : ℕ) → IsHeld (setup_at c node).men s side → s ≢ king → goes s k → AtEntry side one goes k ⊎ AtEntry side other goes k)
-        → (first second third fourth : List ℕ) → first ≡ []
-        → ((i : ℕ) → Contains second i ↔ (Contains first i ⊎ (CameTo column c (setup_at c node) king i × IsMarked marks i)))
-        → ((i : ℕ) → Contains third i ↔ (Contains second i ⊎ CameTold column c (setup_at c node) marks run.one i))
-        → ((i : ℕ) → Contains fourth i ↔ (Contains third i ⊎ CameOf column c (setup_at c node) told marks one other run.partial i))
-        → (i : ℕ) → Contains fourth i ↔ (Connects column c i node × IsMarked marks i)
-    run_edges king told one other on tells held first second third fourth none by_king by_one by_others i = (
-      λ has. elim ((by_others i).0 has) [
-        | inr rest ↦ elim rest.1 [
-          | inl e ↦ entry_came told one i e
-          | inr e ↦ entry_came told other i e
-        ]
-        | inl earlier ↦ elim ((by_one i).0 earlier) [
-          | inr his ↦ came_to run.one.to i his.1 his.2
-          | inl before ↦ elim ((by_king i).0 before) [
-            | inr his ↦ came_to king i his.0 his.1
-            | inl nothing ↦ absurd (let c = subst (λ (xs : List ℕ). Contains xs i) none nothing in omega (arith, c.1))
-          ]
-        ]
-      ],
-      λ edge. let came = connects_came laws c below column (setup_at c node) node i at edge.0 in found edge.1 came.0 came.1,
-    )
+    -- the king of whom nothing is told, and those beside him: who came as nobody tells
+    pub rest_sound : (king : ℕ) (told : SquareSet) (one other : Option (Man × ℕ)) (first second third : List ℕ) (i : ℕ) → IsKingOn (setup_at c node).men side king → ((s : ℕ) → IsToldAt run.king s ⊎ IsToldAt run.one s → Has told s) → first ≡ []
+        → (Contains second i → Contains first i ⊎ ((run.king.told ≡ false) × CameTo column c (setup_at c node) king i × IsMarked marks i))
+        → (Contains third i ↔ (Contains second i ⊎ CameOf column c (setup_at c node) told marks one other run.partial i))
+        → Contains third i → (s : ℕ) × CameTo column c (setup_at c node) s i × IsMarked marks i × (¬ IsToldAt run.king s) × (¬ IsToldAt run.one s)
+    rest_sound king told one other first second third i on tells none by_king by_others has = elim (by_others.0 has) [
+      | inr rest ↦ elim rest.1 [
+        | inl e ↦ entry one e
+        | inr e ↦ entry other e
+      ]
+      | inl before ↦ elim (by_king before) [
+        | inr his ↦ (king, his.1, his.2, (λ h. false≢true (sym his.0 ∙ h.0)), λ h. kingless h)
+        | inl nothing ↦ absurd (let c = subst (λ (xs : List ℕ). Contains xs i) none nothing in omega (arith, c.1))
+      ]
+    ]
       where
-        found : IsMarked marks i → (s : ℕ) → CameTo column c (setup_at c node) s i → Contains fourth i
-        found marked s came = elim (cases_eq s king) [
-          | inl e ↦ (by_others i).1 (inl ((by_one i).1 (inl ((by_king i).1 (inr (subst (λ t. CameTo column c (setup_at c node) t i) e came, marked))))))
-          | inr apart ↦ elim (cases_eq (bit_at told.bits s) 1) [
-            | inl has ↦ let is_his = (tells s).0 has in (by_others i).1 (inl ((by_one i).1 (inr (is_his.0, subst (λ t. CameTo column c (setup_at c node) t i) is_his.1 came, marked))))
-            | inr off ↦ elim (cases_Bool run.partial) [
-              | inl may ↦
-                  let here = subst (λ t. IsHeld (setup_at c node).men t side) came.here (came_held came.before (setup_at c node) came.move came.comes) in
-                  (by_others i).1 (inr (may, held s (CameUntold column c (setup_at c node) told marks) i here apart (record { off = off; came = came; marked = marked })))
-              | inr closed ↦ elim (is.beside closed node s i (is_alike c run node near at) came) [
-                | inl his ↦ absurd (apart (his.1 ∙ sym ((is.king_there his.0 node (is_alike c run node near at)).only king on.stands)))
-                | inr his ↦ absurd (off ((tells s).1 his))
-              ]
-            ]
-          ]
+        entry : (o : Option (Man × ℕ)) → AtEntry side o (CameUntold column c (setup_at c node) told marks) i → (s : ℕ) × CameTo column c (setup_at c node) s i × IsMarked marks i × (¬ IsToldAt run.king s) × (¬ IsToldAt run.one s)
+        entry None nobody = absurd nobody
+        entry (Some e) at_it = (e.1, at_it.1.came, at_it.1.marked, (λ h. at_it.1.off (tells e.1 (inl h))), λ h. at_it.1.off (tells e.1 (inr h)))
+
+        kingless : IsToldAt run.one king → ⊥
+        kingless h =
+            let his = is.one_there h.0 node (is_alike c run node near at) in
+            let same = one_man (setup_at c node).men run.one.to _ his.0 (subst (λ s. Stands (setup_at c node).men s (king_of side)) h.1 on.stands) his.1.0 in
+            his.1.1 (sym (ap (λ (x : Man). x.kind) same))
+
+    pub rest_complete : (king : ℕ) (told : SquareSet) (one other : Option (Man × ℕ)) (second third : List ℕ) (i : ℕ) → IsKingOn (setup_at c node).men side king → ((s : ℕ) → Has told s → IsToldAt run.king s ⊎ IsToldAt run.one s)
+        → ((s : ℕ) (goes : ℕ → ℕ → Type 0) (k : ℕ) → IsHeld (setup_at c node).men s side → s ≢ king → goes s k → AtEntry side one goes k ⊎ AtEntry side other goes k)
+        → (run.king.told ≡ false → CameTo column c (setup_at c node) king i → IsMarked marks i → Contains second i)
+        → (Contains third i ↔ (Contains second i ⊎ CameOf column c (setup_at c node) told marks one other run.partial i))
+        → (s : ℕ) → CameTo column c (setup_at c node) s i → IsMarked marks i → ¬ IsToldAt run.king s → ¬ IsToldAt run.one s → Contains third i
+    rest_complete king told one other second third i on tells held by_king by_others s came marked off away = elim (cases_eq s king) [
+      | inl e ↦ elim (cases_Bool run.king.told) [
+        | inl is_told ↦ absurd (off (is_told, e ∙ (is.king_there is_told node (is_alike c run node near at)).only king on.stands))
+        | inr untold ↦ by_others.1 (inl (by_king untold (subst (λ t. CameTo column c (setup_at c node) t i) e came) marked))
+      ]
+      | inr apart ↦ elim (cases_Bool run.partial) [
+        | inl may ↦
+            let here = subst (λ t. IsHeld (setup_at c node).men t side) came.here (came_held came.before (setup_at c node) came.move came.comes) in
+            by_others.1 (inr (may, held s (CameUntold column c (setup_at c node) told marks) i here apart (record { off = λ has. elim (tells s has) [ inl h ↦ off h | inr h ↦ away h ]; came = came; marked = marked })))
+        | inr closed ↦ elim (is.beside closed node s i (is_alike c run node near at) came) [
+          | inl his ↦ absurd (off his)
+          | inr his ↦ absurd (away his)
         ]
+      ]
+    ]
 
 -- two kinds of members more, where they may be any
 pub members_if : {A B M N : Type 0} {b : Bool} → (A ↔ ((B ⊎ M) ⊎ N)) → b ≡ true → A ↔ (B ⊎ ((b ≡ true) × (M ⊎ N)))
@@ -203,43 +189,6 @@ members_if there may = (
     | inr o ↦ elim o.1 [ inl m ↦ inl (inr m) | inr n ↦ inr n ]
   ]),
 )
-
--- ---- the lists of the graph
-
-module _ (laws : Laws) (column : Column) (c : ℕ) (below : c < 36) (marks : List ℕ) where
-  abbrev pub is_source : ℕ → ℕ → Bool
-  is_source j i = connects column c i j && (bit_at (slice_index marks (i / 64)) (i % 64) == 1)
-
-  -- an ascending list of exactly the marked nodes that lead there
-  pub marked_is : (j : ℕ) (xs : List ℕ) → IsStrictlyIncreasing xs → ((i : ℕ) → Contains xs i ↔ (Connects column c i j × IsMarked marks i)) → xs ≡ marked_into column c marks j
-  marked_is j xs ascends exact = passing_is (size_of c) (is_source j) xs ascends
-      (λ i has. let edge = (exact i).0 has in (laws.facts.index_below edge.0.from c i edge.0.at.index, both _ _ ((connects_is laws column c i j below).1 edge.0) (eq-eqb _ _ edge.1)))
-      (λ i lt t. let parts = and_parts _ _ t in (exact i).1 ((connects_is laws column c i j below).0 parts.0, eqb-true _ _ parts.1))
-
-  pub marked_none : (j : ℕ) → ((i : ℕ) → Connects column c i j → IsMarked marks i → ⊥) → [] ≡ marked_into column c marks j
-  marked_none j none = marked_is j [] none_ascend (λ i. (λ has. absurd (omega (arith, has.1)), λ edge. absurd (none i edge.0 edge.1)))
-
-  pub marked_listed : (j i : ℕ) → Contains (marked_into column c marks j) i ↔ (Connects column c i j × IsMarked marks i)
-  marked_listed j i = (
-    λ has. let parts = and_parts _ _ (passing_passes (size_of c) (is_source j) i has) in ((connects_is laws column c i j below).0 parts.0, eqb-true _ _ parts.1),
-    λ edge. passing_has (size_of c) (is_source j) i (laws.facts.index_below edge.0.from c i edge.0.at.index) (both _ _ ((connects_is laws column c i j below).1 edge.0) (eq-eqb _ _ edge.1)),
-  )
-
-  -- where all nodes are marked those are all that lead there
-  pub all_into : ((i : ℕ) → i < size_of c → IsFalse (not (is_some (position_at c i))) → IsMarked marks i) → (nodes : List ℕ) → flat_map (marked_into column c marks) nodes ≡ flat_map (λ j. passing_below (size_of c) (λ i. connects column c i j)) nodes
-  all_into all nodes = λ t. flat_map (λ j. here j t) nodes
-    where
-      marked : (i j : ℕ) → Connects column c i j → IsMarked marks i
-      marked i j edge = all i (laws.facts.index_below edge.from c i edge.at.index) (ap not (there_is laws c i edge.from edge.at))
-
-      here : (j : ℕ) → marked_into column c marks j ≡ passing_below (size_of c) (λ i. connects column c i j)
-      here j = sources_told laws c j column (marked_into column c marks j) below (passing_ascends (size_of c) (is_source j))
-          (λ i. (λ has. ((marked_listed j i).0 has).0, λ edge. (marked_listed j i).1 (edge, marked i j edge)))
-
--- one list more
-pub lists_more : (f : ℕ → List ℕ) (xs : List ℕ) (k : ℕ) (before after : List ℕ) → k < length xs → before ≡ flat_map f (take k xs) → after ≡ before ++ f (slice_index xs k) → after ≡ flat_map f (take (k + 1) xs)
-lists_more f xs k before after inside is grown =
-    grown ∙ ap (λ (ys : List ℕ). ys ++ f (slice_index xs k)) is ∙ flat_map_more f [] (take k xs) (slice_index xs k) ∙ sym (ap (flat_map f) (take_more xs k 0 inside))
 
 -- what is in a list of lists is in one of them
 pub in_one : (f : ℕ → List ℕ) (xs : List ℕ) (i : ℕ) → Contains (flat_map f xs) i ↔ ((j : ℕ) × Contains xs j × Contains (f j) i)
@@ -258,3 +207,132 @@ in_one f (x ∷ xs) i = (
     in_cons : (j x : ℕ) (xs : List ℕ) → Contains (x ∷ xs) j → (j ≡ x) ⊎ Contains xs j
     in_cons j x xs (zero, lt, is) = inl (sym is)
     in_cons j x xs (suc k, lt, is) = inr (k, omega (arith, lt), is)
+
+-- ---- the lists of the graph
+
+module _ (laws : Laws) (column : Column) (c : ℕ) (below : c < 36) (marks : List ℕ) where
+  abbrev pub is_source : ℕ → ℕ → Bool
+  is_source j i = connects column c i j && (bit_at (slice_index marks (word_of i)) (bit_of i) == 1)
+
+  -- an ascending list of exactly the marked nodes that lead there
+  pub marked_is : (j : ℕ) (xs : List ℕ) → IsStrictlyIncreasing xs → ((i : ℕ) → Contains xs i ↔ (Connects column c i j × IsMarked marks i)) → xs ≡ marked_into column c marks j
+  marked_is j xs ascends exact = passing_is (size_of c) (is_source j) xs ascends
+      (λ i has. let edge = (exact i).0 has in (laws.facts.index_below edge.0.from c i edge.0.at.index, both _ _ ((connects_is laws column c i j below).1 edge.0) (eq-eqb _ _ edge.1)))
+      (λ i lt t. let parts = and_parts _ _ t in (exact i).1 ((connects_is laws column c i j below).0 parts.0, eqb-true _ _ parts.1))
+
+  pub marked_ascends : (j : ℕ) → IsStrictlyIncreasing (marked_into column c marks j)
+  marked_ascends j = passing_ascends (size_of c) (is_source j)
+
+  pub marked_none : (j : ℕ) → ((i : ℕ) → Connects column c i j → IsMarked marks i → ⊥) → [] ≡ marked_into column c marks j
+  marked_none j none = marked_is j [] none_ascend (λ i. (λ has. absurd (omega (arith, has.1)), λ edge. absurd (none i edge.0 edge.1)))
+
+  pub marked_listed : (j i : ℕ) → Contains (marked_into column c marks j) i ↔ (Connects column c i j × IsMarked marks i)
+  marked_listed j i = (
+    λ has. let parts = and_parts _ _ (passing_passes (size_of c) (is_source j) i has) in ((connects_is laws column c i j below).0 parts.0, eqb-true _ _ parts.1),
+    λ edge. passing_has (size_of c) (is_source j) i (laws.facts.index_below edge.0.from c i edge.0.at.index) (both _ _ ((connects_is laws column c i j below).1 edge.0) (eq-eqb _ _ edge.1)),
+  )
+
+  -- a marked number is in each of these lists as in that of all that lead there
+  pub into_marked : (i : ℕ) → IsMarked marks i → (nodes : List ℕ) → count_of i (flat_map (marked_into column c marks) nodes) ≡ count_of i (flat_map (λ j. passing_below (size_of c) (λ k. connects column c k j)) nodes)
+  into_marked i marked nodes =
+      count_flat (marked_into column c marks) i nodes ∙ sums_alike (λ j. count_of i (marked_into column c marks j)) (λ j. count_of i (all_into j)) (λ j. Unit {0}) (λ j t. here j) nodes (λ j has. tt) ∙ sym (count_flat all_into i nodes)
+    where
+      all_into : ℕ → List ℕ
+      all_into j = passing_below (size_of c) (λ k. connects column c k j)
+
+      here : (j : ℕ) → count_of i (marked_into column c marks j) ≡ count_of i (all_into j)
+      here j = elim (cases_Bool (connects column c i j)) [
+        | inl t ↦
+            let edge = (connects_is laws column c i j below).0 t in
+            let a = contains_counted i (marked_into column c marks j) in
+            let in_marked = (marked_listed j i).1 (edge, marked) in
+            let in_all = passing_has (size_of c) (λ k. connects column c k j) i (laws.facts.index_below edge.from c i edge.at.index) t in
+            let x = contains_counted i (marked_into column c marks j) in_marked.0 in_marked.1 in_marked.2 in
+            let y = contains_counted i (all_into j) in_all.0 in_all.1 in_all.2 in
+            let x_one = count_ascending i (marked_into column c marks j) (marked_ascends j) in
+            let y_one = count_ascending i (all_into j) (passing_ascends (size_of c) (λ k. connects column c k j)) in
+            omega (arith, x, y, x_one, y_one)
+        | inr f ↦
+            none_there (marked_into column c marks j) (λ has. false≢true (sym f ∙ (connects_is laws column c i j below).1 ((marked_listed j i).0 has).0))
+            ∙ sym (none_there (all_into j) (λ has. false≢true (sym f ∙ passing_passes (size_of c) (λ k. connects column c k j) i has)))
+      ]
+        where
+          none_there : (xs : List ℕ) → ¬ Contains xs i → count_of i xs ≡ 0
+          none_there xs none = elim (cases_eq (count_of i xs) 0) [ inl e ↦ e | inr h ↦ absurd (none (counted_contains i xs (omega (arith, h)))) ]
+
+  -- and only marked numbers are in them
+  pub only_marked : (i : ℕ) (nodes : List ℕ) → 0 < count_of i (flat_map (marked_into column c marks) nodes) → IsMarked marks i
+  only_marked i nodes some =
+      let has = counted_contains i (flat_map (marked_into column c marks) nodes) some in
+      let found = (in_one (marked_into column c marks) nodes i).0 has in
+      ((marked_listed found.0 i).0 found.2).1
+
+-- one list more
+pub lists_more : (f : ℕ → List ℕ) (xs : List ℕ) (k : ℕ) (before after : List ℕ) → k < length xs → before ≡ flat_map f (take k xs) → after ≡ before ++ f (slice_index xs k) → after ≡ flat_map f (take (k + 1) xs)
+lists_more f xs k before after inside is grown =
+    grown ∙ ap (λ (ys : List ℕ). ys ++ f (slice_index xs k)) is ∙ flat_map_more f [] (take k xs) (slice_index xs k) ∙ sym (ap (flat_map f) (take_more xs k 0 inside))
+
+-- ---- the nodes of which a run tells, by their places
+
+module _ (c : ℕ) (run : Run) (nodes : List ℕ) (k : ℕ) where
+  abbrev place_at : ℕ → ℕ
+  place_at m = (slice_index nodes m - run.first) / 2
+
+  pub places_one : (places : SquareSet) → IsNearTo c run (slice_index nodes k) → Has places (place_at k) → ((t : ℕ) → t ≢ place_at k → bit_at places.bits t ≡ bit_at 0 t) → ArePlaces c run nodes k (k + 1) places
+  places_one places near has others = record {
+    above = omega arith;
+    near = λ m le lt. subst (λ n. IsNearTo c run (slice_index nodes n)) (one_left m le lt) near;
+    all = λ m le lt. subst (λ n. Has places (place_at n)) (one_left m le lt) has;
+    of = λ p in_it. elim (cases_eq p (place_at k)) [
+      | inl e ↦ (k, omega arith, omega arith, e)
+      | inr apart ↦ absurd (let none = others p apart in let zero = bit_at-zero p in omega (arith, in_it, none, zero))
+    ];
+    few = let one = size_with (record { bits = 0 }) places (place_at k) others in let none = size_none 0 in omega (arith, one, none);
+  }
+    where
+      one_left : (m : ℕ) → k ≤ m → m < k + 1 → k ≡ m
+      one_left m le lt = omega (arith, le, lt)
+
+  pub places_more : (end : ℕ) (old places : SquareSet) → ArePlaces c run nodes k end old → IsNearTo c run (slice_index nodes end) → Has places (place_at end) → ((t : ℕ) → t ≢ place_at end → bit_at places.bits t ≡ bit_at old.bits t)
+      → ArePlaces c run nodes k (end + 1) places
+  places_more end old places are near has others = record {
+    above = let lt = are.above in omega (arith, lt);
+    near = λ m le lt. elim (cases_eq m end) [
+      | inl e ↦ subst (λ n. IsNearTo c run (slice_index nodes n)) (sym e) near
+      | inr apart ↦ are.near m le (omega (arith, lt, apart))
+    ];
+    all = λ m le lt. elim (cases_eq (place_at m) (place_at end)) [
+      | inl e ↦ subst (λ p. Has places p) (sym e) has
+      | inr apart ↦ others (place_at m) apart ∙ are.all m le (elim (cases_eq m end) [ inl e ↦ absurd (apart (ap place_at e)) | inr ne ↦ omega (arith, lt, ne) ])
+    ];
+    of = λ p in_it. elim (cases_eq p (place_at end)) [
+      | inl e ↦ (end, (let lt = are.above in omega (arith, lt)), omega arith, e)
+      | inr apart ↦ let there = are.of p (sym (others p apart) ∙ in_it) in (there.0, there.1, (let lt = there.2 in omega (arith, lt)), there.3)
+    ];
+    few = let more = size_with old places (place_at end) others in let few = are.few in omega (arith, more, few);
+  }
+
+  module _ (end : ℕ) (places : SquareSet) (are : ArePlaces c run nodes k end places) (within : end ≤ length nodes) where
+    -- the node at a place
+    node_there : (p : ℕ) → Has places p → (m : ℕ) × (k ≤ m) × (m < end) × (run.first + 2 * p ≡ slice_index nodes m)
+    node_there p has = let at = are.of p has in (at.0, at.1, at.2, ap (λ q. run.first + 2 * q) at.3 ∙ there c run (slice_index nodes at.0) (are.near at.0 at.1 at.2))
+
+    -- they are spread over the places
+    pub places_spread : IsStrictlyIncreasing nodes → AreSpread run.first places (slice_range nodes k end)
+    places_spread ascends = record {
+      ascend = run_ascends nodes k end ascends;
+      along = λ n has. let m = listed n has in subst (λ x. run.first + 2 * ((x - run.first) / 2) ≡ x) m.3 (there c run (slice_index nodes m.0) (are.near m.0 m.1 m.2));
+      all = λ n has. let m = listed n has in subst (λ x. Has places ((x - run.first) / 2)) m.3 (are.all m.0 m.1 m.2);
+      of = λ p has. let at = are.of p has in (slice_index nodes at.0, in_slice at.0 at.1 at.2, sym at.3);
+    }
+      where
+        listed : (n : ℕ) → Contains (slice_range nodes k end) n → (m : ℕ) × (k ≤ m) × (m < end) × (slice_index nodes m ≡ n)
+        listed n has = let at = run_at nodes k end has.0 n has.1 in (k + has.0, omega arith, at.0, sym at.2 ∙ has.2)
+
+        in_slice : (m : ℕ) → k ≤ m → m < end → Contains (slice_range nodes k end) (slice_index nodes m)
+        in_slice m le lt =
+            let long = length-take (end - k) (drop k nodes) in
+            let rest = length-drop k nodes in
+            let inside : m - k < length (slice_range nodes k end) = omega (arith, long, rest, le, lt, within) in
+            let at = run_at nodes k end (m - k) (slice_index nodes m) inside in
+            (m - k, inside, at.2 ∙ ap (λ x. slice_index nodes x) (omega (arith, le)))

@@ -4,6 +4,7 @@
 mod aim;
 mod anchor;
 mod ascending;
+mod at_once;
 mod build_fault;
 mod building;
 mod by_squares;

@@ -6,13 +6,13 @@ ghost use Rattle.egt_sweep.specs.ClassGame.{class_game, class_game_is_lawful};
 use crate::aim::Aim;
 use crate::missing::Missing;
 use crate::nodes::{
-    all_predecessors, exits, is_mated, is_void, listed_degree, marked_predecessors, predecessors,
-    start, start_two, successors,
+    exits, is_mated, is_void, listed_degree, marked_predecessors, predecessors, start, start_two,
+    successors,
 };
 use arrayvec::ArrayVec;
 use egt_check::{Library, first_missing};
 use egt_class::Class;
-use egt_graph::{Exit, Game, Start};
+use egt_graph::{Comb, Exit, Game, Start};
 use egt_index::size;
 use egt_table::Column;
 
@@ -82,12 +82,14 @@ impl Game for MateGame<'_> {
         predecessors(Column::Mate, self.class, j, list);
     }
 
-    fn list_all_into(&self, nodes: &[u32], known: &[u64], list: &mut ArrayVec<u32, 8192>) {
-        all_predecessors(Column::Mate, self.class, nodes, known, list);
-    }
-
-    fn list_marked_into(&self, nodes: &[u32], marks: &[u64], list: &mut ArrayVec<u32, 8192>) {
-        marked_predecessors(Column::Mate, self.class, nodes, marks, list);
+    fn combs_into(
+        &self,
+        nodes: &[u32],
+        marks: &[u64],
+        combs: &mut ArrayVec<Comb, 4096>,
+        list: &mut ArrayVec<u32, 8192>,
+    ) {
+        marked_predecessors(Column::Mate, self.class, nodes, marks, combs, list);
     }
 
     fn exits(&self, i: u32) -> ArrayVec<Exit, 64> {

@@ -1,7 +1,8 @@
 //! The nodes of a class's game.
 ghost use Rattle.std.specs.Prelude.{All, ◌≡◌, ◌+◌, ◌%◌, ◌/◌, ◌<◌, ◌≤◌, ◌↔◌, ℕ, Some, IfSome, [], length, slice_index, not, false, true, IsTrue, IsFalse};
 ghost use Rattle.std.specs.Int.{bit_at};
-ghost use Rattle.std.specs.List.{Contains, flat_map};
+ghost use Rattle.std.specs.List.{flat_map};
+ghost use Rattle.std.specs.List.Sorted.{IsStrictlyIncreasing};
 ghost use Rattle.std.specs.Option.{is_some};
 ghost use Rattle.egt_board.specs.Decided.{tells};
 ghost use Rattle.egt_board.specs.Pawn.{pawn_of};
@@ -15,6 +16,8 @@ ghost use Rattle.egt_moves.specs.DecidedMoves.{decided_checkmate};
 ghost use Rattle.egt_moves.specs.Standing.{CanMove};
 ghost use Rattle.egt_graph.specs.Graph.{IsStart};
 ghost use Rattle.egt_graph.specs.Passing.{passing_below};
+ghost use Rattle.egt_graph.specs.Columns.{count_of};
+ghost use Rattle.egt_graph.specs.Combs.{times_in};
 ghost use Rattle.egt_graph.specs.Undecided.{IsMarked};
 ghost use Rattle.egt_table.specs.declared.column.Column.TheVariants.{Zeroing};
 ghost use Rattle.egt_check.specs.Tables.{table_at, beside, HasChildren};
@@ -28,12 +31,12 @@ ghost use Rattle.egt_sweep.specs.Ways.{Counts, HasAnchor};
 
 use crate::aim::Aim;
 use crate::anchor::has_anchor;
+use crate::at_once::combs_into;
 use crate::counted::{add_zeroed, leaves_room, start_counted, told_count};
 use crate::edges::edges;
 use crate::facing::start_facing_king;
 use crate::laws::laws;
 use crate::sources::sources;
-use crate::together::marked_sources;
 use crate::wanted::Wanted;
 use crate::ways::{Ways, ways_of};
 use arrayvec::ArrayVec;
@@ -41,7 +44,7 @@ use egt_board::safety::kings_attack_each_other;
 use egt_board::{Position, SquareSet};
 use egt_check::Library;
 use egt_class::Class;
-use egt_graph::{Count, Exit, Ranks, Start};
+use egt_graph::{Comb, Count, Exit, Ranks, Start};
 use egt_index::{
     Row, faces_king_alone, frame_at, indexed, may_move_pawn, position, position_of, row_of, size,
 };
@@ -110,43 +113,26 @@ pub(crate) fn predecessors(column: Column, class: Class, index: u32, list: &mut 
     sources(column, class, index, &frame, passed, &Wanted::All, list);
 }
 
-/// Fills the list, in the place of what it had, with the nodes from which moves that go on lead to each of these nodes, one after the other.
-/// The bits of the nodes alone are set: of node `i` bit `i % 64` of word `i / 64`.
-pub(crate) fn all_predecessors(
-    column: Column,
-    class: Class,
-    nodes: &[u32],
-    known: &[u64],
-    list: &mut ArrayVec<u32, 8192>,
-)
-    requires nodes { All (λ j. IsFalse (not (is_some (position_at class j)))) nodes.now }
-    requires few { length nodes.now ≤ 64 }
-    requires marked { (i : ℕ) → IsMarked known.now i → IsFalse (not (is_some (position_at class i))) }
-    requires known { (i : ℕ) → i < size_of class → IsFalse (not (is_some (position_at class i))) → IsMarked known.now i }
-    ensures { list.new.items ≡ flat_map (λ j. passing_below (size_of class) (λ i. connects column class i j)) nodes.now }
-{
-    laws();
-    let _number = class.number();
-    marked_sources(column, class, nodes, known, list);
-}
-
-/// Fills the list, in the place of what it had, with the nodes whose bits are set and from which moves that go on lead to one of these nodes,
-/// perhaps more than once: of node `i` bit `i % 64` of word `i / 64`. Only nodes have theirs set.
+/// Fills both lists, in the place of what they had, with the nodes whose bits are set and from which moves that go on lead to these nodes, each as
+/// often as there are nodes among these that it has such a move to. Only nodes have their bits set.
 pub(crate) fn marked_predecessors(
     column: Column,
     class: Class,
     nodes: &[u32],
     marks: &[u64],
+    combs: &mut ArrayVec<Comb, 4096>,
     list: &mut ArrayVec<u32, 8192>,
 )
     requires nodes { All (λ j. IsFalse (not (is_some (position_at class j)))) nodes.now }
+    requires ascending { IsStrictlyIncreasing nodes.now }
     requires few { length nodes.now ≤ 64 }
     requires marked { (i : ℕ) → IsMarked marks.now i → IsFalse (not (is_some (position_at class i))) }
-    ensures { (i : ℕ) → Contains list.new.items i ↔ ((j : ℕ) × Contains nodes.now j × Contains (passing_below (size_of class) (λ k. connects column class k j)) i × IsMarked marks.now i) }
+    ensures exact { (i : ℕ) → IsMarked marks.now i → times_in i combs.new.items + count_of i list.new.items ≡ count_of i (flat_map (λ j. passing_below (size_of class) (λ k. connects column class k j)) nodes.now) }
+    ensures only { (i : ℕ) → 0 < times_in i combs.new.items + count_of i list.new.items → IsMarked marks.now i }
 {
     laws();
     let _number = class.number();
-    marked_sources(column, class, nodes, marks, list);
+    combs_into(column, class, nodes, marks, combs, list);
 }
 
 /// The values of where the moves lead that leave the game from a node, in the order of moves.

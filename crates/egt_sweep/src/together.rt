@@ -1,41 +1,42 @@
 //! The moves that go on, backwards, of several nodes at once. Of nodes that differ by the last man's square alone each other man came from
 //! squares of one set, and from each such square from nodes as far from these as from the first: one look at 64 marks tells of all of them.
-ghost use Rattle.std.specs.Prelude.{◌≡◌, ◌↔◌, ◌+◌, ◌≤◌, ◌<◌, ◌⊎◌, ◌++◌, ℕ, Bool, true, false, All, Some, [], length, slice_index};
+ghost use Rattle.std.specs.Prelude.{◌≡◌, ◌≢◌, ◌↔◌, ◌*◌, ◌+◌, ◌≤◌, ◌<◌, ◌⊎◌, ◌++◌, ℕ, Bool, true, false, All, Some, [], length, slice_index};
 ghost use Rattle.std.specs.Int.{bit_at};
 ghost use Rattle.std.specs.List.{Contains, flat_map};
 ghost use Rattle.std.specs.List.Sorted.{IsStrictlyIncreasing};
 ghost use Rattle.arrayvec.specs.ArrayVec.{array_vec_len};
 ghost use Rattle.egt_board.specs.Man.{other_side};
-ghost use Rattle.egt_board.specs.Placement.{IsFree};
+ghost use Rattle.egt_board.specs.Placement.{IsFree, Stands};
 ghost use Rattle.egt_board.specs.Setup.{Setup, IsKingOn};
 ghost use Rattle.egt_board.specs.SquareSet.{Has};
+ghost use Rattle.egt_board.specs.declared.man.Kind.TheVariants.{K};
 ghost use Rattle.egt_board.specs.declared.man.Man.{Man};
 ghost use Rattle.egt_class.specs.Material.{material_of};
 ghost use Rattle.egt_graph.specs.Undecided.{IsMarked};
 ghost use Rattle.egt_index.specs.AtIndex.{IsFramedAt};
-ghost use Rattle.egt_index.specs.Fixed.{StandsFixed};
+ghost use Rattle.egt_index.specs.Fixed.{GoesAlong, StandsFixed};
 ghost use Rattle.egt_index.specs.Frame.{IsFrame};
 ghost use Rattle.egt_index.specs.Size.{has_target};
 ghost use Rattle.egt_unmoves.specs.Around.{AreMenOf};
 ghost use Rattle.egt_sweep.specs.Edges.{CameTo, Connects, IsAt, IsTakenBack};
 ghost use Rattle.egt_sweep.specs.Nodes.{setup_at};
 ghost use Rattle.egt_sweep.specs.Shelves.{AreNear, IsShelf};
-ghost use Rattle.egt_sweep.specs.Runs.{IsNearTo, IsRunOf};
+ghost use Rattle.egt_sweep.specs.Runs.{IsAside, IsNearTo, IsRunOf};
 ghost use Rattle.egt_sweep.specs.Together.{AreHeldThroughout, IsAlikeNode, NeverTargeted};
-ghost use Rattle.egt_sweep.specs.Told.{AreNodesMarked, CameOf, CameTold, IsTold, IsToldAt, marked_into};
+ghost use Rattle.egt_sweep.specs.Told.{AreNodesMarked, CameOf, GoesAlongThroughout, IsTold, IsToldAt, marked_into};
 
-use crate::by_squares::{Men, goes_back_by, is_of, men_of};
+use crate::by_squares::{Men, goes_back_by, is_of};
 use crate::laws::laws;
 use crate::shelves::{Shelf, is_near};
 use crate::sources::sources;
 use crate::told::Told;
-use crate::untold::{add_sources_of_king, add_untold};
+use crate::untold::add_untold;
 use crate::wanted::Wanted;
 use arrayvec::ArrayVec;
 use egt_board::{Kind, Man, Side, Square, SquareSet};
 use egt_class::Class;
 use egt_index::laws::a_class_without_targets_has_pawns_of_one_side;
-use egt_index::{Fixed, Frame, has_target};
+use egt_index::{Fixed, Frame, has_target, is_on_axis};
 use egt_table::Column;
 
 /// Whether moves of the last of two men go on, if he is of that side.
@@ -50,7 +51,8 @@ fn moves_last(column: Column, last: Option<Man>, side: Side) -> bool
 
 /// The squares on which men stand at all of the nodes.
 fn held(fixed: &Fixed) -> SquareSet
-    ensures { (p : Setup) → StandsFixed p fixed.now → (t : ℕ) → Has result t → ¬ IsFree p.men t }
+    ensures held { (p : Setup) → StandsFixed p fixed.now → (t : ℕ) → Has result t → ¬ IsFree p.men t }
+    ensures all { (p : Setup) → StandsFixed p fixed.now → (t : ℕ) (man : Man) → Stands p.men t man → (man.kind ≡ K) ⊎ (fixed.now.one ≡ Some (man, t)) → Has result t }
 {
     let kings = SquareSet::EMPTY.with(fixed.white).with(fixed.black);
     match fixed.one {
@@ -67,6 +69,36 @@ fn king(fixed: &Fixed, side: Side) -> Square
         Side::White => fixed.white,
         Side::Black => fixed.black,
     }
+}
+
+/// Whether that is the man.
+fn is_man(man: Option<Man>, other: Man) -> bool
+    ensures { result ≡ false → man ≢ Some other }
+{
+    match man {
+        Some(man) => man.side == other.side && man.kind == other.kind,
+        None => false,
+    }
+}
+
+/// Whether a man of the side to move, who stands on one square at all of the nodes and is alone of his kind, is on no axis. Then no mirror makes
+/// one index of two positions before a node.
+fn has_aside(class: Class, fixed: &Fixed) -> bool
+    ensures { result ≡ true → (p : Setup) → StandsFixed p fixed.now → IsAside class p }
+{
+    if !is_on_axis(class, king(fixed, fixed.side)) {
+        return true;
+    }
+    let Some(placed) = fixed.one else {
+        return false;
+    };
+    if !is_of(placed.0, fixed.side) {
+        return false;
+    }
+    if is_on_axis(class, placed.1) {
+        return false;
+    }
+    !is_man(fixed.last, placed.0)
 }
 
 /// Tells of the man beside the kings who stands on one square at all of the nodes, if he is of the side that waits and the game goes back by his
@@ -86,10 +118,12 @@ fn tell_one(
     requires class { frame.now.class ≡ class }
     requires fixed { (j : ℕ) → IsAlikeNode class first j → StandsFixed (setup_at class j) fixed.now }
     requires held { AreHeldThroughout class first held }
+    requires along { GoesAlongThroughout class first held fixed.now.last_on }
     requires never { NeverTargeted class }
     requires targets { has_target (material_of class) ≡ false }
     requires nodes { AreNodesMarked class marks.now }
     ensures told { IsTold column class first marks.now told.new }
+    ensures there { told.new.told ≡ true → (man : Man) × (fixed.now.one ≡ Some (man, told.new.to)) }
     ensures his { result ≡ true → (man : Man) (s : ℕ) → fixed.now.one ≡ Some (man, s) → man.side ≡ other_side fixed.now.side → IsTakenBack column man → IsToldAt told.new s }
 {
     told.told = false;
@@ -102,7 +136,17 @@ fn tell_one(
     if placed.0.kind == Kind::P {
         return false;
     }
-    told.tell(column, class, first, frame, placed.0, placed.1, held, marks);
+    told.tell(
+        column,
+        class,
+        first,
+        frame,
+        placed.0,
+        placed.1,
+        held,
+        fixed.last_on,
+        marks,
+    );
     told.told
 }
 
@@ -117,7 +161,7 @@ fn is_partial(king: bool, one: bool, last: bool) -> bool
 #[derive(Drop)]
 pub(crate) struct Run {
     pub(crate) first: u32,
-    /// Where they end, at most 64 above the first; at the first where there are none.
+    /// Where they end, at most 128 above the first; at the first where there are none.
     pub(crate) until: u32,
     /// The king of the side that waits.
     pub(crate) king: Told,
@@ -141,23 +185,23 @@ impl Run {
         }
     }
 
-    /// Whether nobody came to the node so far above the first from a marked one.
-    #[inline(always)]
-    fn misses(&self, distance: u32) -> bool
-        requires { distance < 64 }
-        ensures closed { result ≡ true → self.now.partial ≡ false }
-        ensures king { result ≡ true → self.now.king.told ≡ true → bit_at self.now.king.any distance ≡ 0 }
-        ensures one { result ≡ true → self.now.one.told ≡ true → bit_at self.now.one.any distance ≡ 0 }
-    {
-        !self.partial && self.king.misses(distance) && self.one.misses(distance)
-    }
-
     /// Tells of the shelf's node and those above it up to `until` that differ by the last man's square alone.
-    fn tell(&mut self, column: Column, class: Class, shelf: &Shelf, until: u32, marks: &[u64])
+    fn tell(
+        &mut self,
+        column: Column,
+        class: Class,
+        shelf: &Shelf,
+        fixed: &Fixed,
+        until: u32,
+        marks: &[u64],
+    )
         requires at { IsAt class shelf.now.node (setup_at class shelf.now.node) }
         requires shelf { IsShelf class shelf.now }
+        requires fixed { (j : ℕ) → IsAlikeNode class shelf.now.node j → StandsFixed (setup_at class j) fixed.now }
+        requires along { (k : ℕ) → IsAlikeNode class shelf.now.node (shelf.now.node + 2 * k) → GoesAlong (setup_at class (shelf.now.node + 2 * k)) fixed.now k }
+        requires aside { (p : Setup) → StandsFixed p fixed.now → IsAside class p }
         requires near { AreNear class shelf.now.node until }
-        requires few { until ≤ shelf.now.node + 64 }
+        requires few { until ≤ shelf.now.node + 128 }
         requires never { NeverTargeted class }
         requires targets { has_target (material_of class) ≡ false }
         requires nodes { AreNodesMarked class marks.now }
@@ -169,24 +213,32 @@ impl Run {
         let _number = class.number();
         let first = shelf.node;
         let frame = &shelf.frame;
-        let fixed = frame.fixed();
         let side = fixed.side.other();
         let man = Man {
             side,
             kind: Kind::K,
         };
-        let held = held(&fixed);
-        let to = king(&fixed, side);
+        let held = held(fixed);
+        let to = king(fixed, side);
         self.first = first;
         self.until = until;
-        self.king
-            .tell(column, class, first, frame, man, to, held, marks);
+        self.king.tell(
+            column,
+            class,
+            first,
+            frame,
+            man,
+            to,
+            held,
+            fixed.last_on,
+            marks,
+        );
         let one = tell_one(
             column,
             class,
             first,
             frame,
-            &fixed,
+            fixed,
             held,
             marks,
             &mut self.one,
@@ -194,71 +246,8 @@ impl Run {
         self.partial = is_partial(self.king.told, one, moves_last(column, fixed.last, side));
     }
 
-    /// Adds the marked nodes from which the king of the side that waits, on that square, came to a node of the run, whose frame this is.
-    fn add_king(
-        &self,
-        column: Column,
-        class: Class,
-        node: u32,
-        frame: &Frame,
-        men: &Men,
-        king: Square,
-        marks: &[u64],
-        list: &mut ArrayVec<u32, 128>,
-    )
-        requires at { IsAt class node (setup_at class node) }
-        requires run { IsRunOf column class marks.now self.now }
-        requires near { IsNearTo class self.now node }
-        requires frame { IsFrame (setup_at class node) frame.now }
-        requires class { frame.now.class ≡ class }
-        requires men { AreMenOf (setup_at class node) men.now.king men.now.all men.now.one men.now.other }
-        requires king { IsKingOn (setup_at class node).men (other_side (setup_at class node).side) king }
-        requires never { NeverTargeted class }
-        requires nodes { AreNodesMarked class marks.now }
-        requires empty { list.old.items ≡ [] }
-        ensures ascending { IsStrictlyIncreasing list.new.items }
-        ensures members { (i : ℕ) → Contains list.new.items i ↔ (Contains list.old.items i ⊎ (CameTo column class (setup_at class node) king i × IsMarked marks.now i)) }
-        ensures few { array_vec_len list.new ≤ 28 }
-    {
-        if self.king.told {
-            let distance = node - self.first;
-            self.king
-                .add_before(column, class, self.first, distance, men.all, marks, list);
-        } else {
-            add_sources_of_king(column, class, node, frame, men, king, marks, list);
-        }
-    }
-
-    /// Adds the marked nodes from which the other man who is told of came, if there is one.
-    fn add_one(
-        &self,
-        column: Column,
-        class: Class,
-        node: u32,
-        men: &Men,
-        marks: &[u64],
-        list: &mut ArrayVec<u32, 128>,
-    )
-        requires at { IsAt class node (setup_at class node) }
-        requires run { IsRunOf column class marks.now self.now }
-        requires near { IsNearTo class self.now node }
-        requires men { AreMenOf (setup_at class node) men.now.king men.now.all men.now.one men.now.other }
-        requires nodes { AreNodesMarked class marks.now }
-        requires ascending { IsStrictlyIncreasing list.old.items }
-        requires room { array_vec_len list.old ≤ 28 }
-        ensures ascending { IsStrictlyIncreasing list.new.items }
-        ensures members { (i : ℕ) → Contains list.new.items i ↔ (Contains list.old.items i ⊎ CameTold column class (setup_at class node) marks.now self.now.one i) }
-        ensures few { array_vec_len list.new ≤ array_vec_len list.old + 28 }
-    {
-        if self.one.told {
-            let distance = node - self.first;
-            self.one
-                .add_before(column, class, self.first, distance, men.all, marks, list);
-        }
-    }
-
     /// Adds the marked nodes from which the men beside the kings came of whom nothing is told: `told` is the square of the one who is told of.
-    fn add_rest(
+    pub(crate) fn add_rest(
         &self,
         column: Column,
         class: Class,
@@ -285,48 +274,9 @@ impl Run {
         }
     }
 
-    /// Adds the marked nodes from which moves that go on lead to a node of the run, whose frame this is.
-    fn add_before(
-        &self,
-        column: Column,
-        class: Class,
-        node: u32,
-        frame: &Frame,
-        marks: &[u64],
-        list: &mut ArrayVec<u32, 128>,
-    )
-        requires at { IsAt class node (setup_at class node) }
-        requires run { IsRunOf column class marks.now self.now }
-        requires near { IsNearTo class self.now node }
-        requires frame { IsFrame (setup_at class node) frame.now }
-        requires class { frame.now.class ≡ class }
-        requires never { NeverTargeted class }
-        requires nodes { AreNodesMarked class marks.now }
-        requires empty { list.old.items ≡ [] }
-        ensures ascending { IsStrictlyIncreasing list.new.items }
-        ensures exact { (i : ℕ) → Contains list.new.items i ↔ (Connects column class i node × IsMarked marks.now i) }
-    {
-        laws();
-        let _number = class.number();
-        let king = frame.king(frame.side().other());
-        let men = men_of(frame);
-        self.add_king(column, class, node, frame, &men, king, marks, list);
-        self.add_one(column, class, node, &men, marks, list);
-        self.add_rest(
-            column,
-            class,
-            node,
-            frame,
-            &men,
-            self.one.square(),
-            marks,
-            list,
-        );
-    }
-
-    /// Goes on to the node at place `k`, of which it tells then, or stays: whether it tells of it. It does not where the node is alone, or the class
-    /// has targets.
-    fn turn_to(
+    /// Goes on to the node at place `k`, of which it tells then, or stays: whether it tells of it. It does not where the node is alone, the class
+    /// has targets, or a mirror may make one index of two positions before.
+    pub(crate) fn turn_to(
         &mut self,
         column: Column,
         class: Class,
@@ -343,6 +293,7 @@ impl Run {
         ensures shelf { IsShelf class shelf.new }
         ensures run { IsRunOf column class marks.now self.new }
         ensures near { result ≡ true → IsNearTo class self.new (slice_index nodes.now k) }
+        ensures some { result ≡ true → self.new.first < self.new.until }
         ensures never { result ≡ true → NeverTargeted class }
     {
         laws();
@@ -357,30 +308,33 @@ impl Run {
         }
         shelf.turn_to(class, node);
         let until = end_of_run(class, shelf);
-        if k + 1 < nodes.len() && is_near(class, node, until, nodes[k + 1]) {
-            self.tell(column, class, shelf, until, marks);
-            true
-        } else {
-            false
+        if k + 1 == nodes.len() || !is_near(class, node, until, nodes[k + 1]) {
+            return false;
         }
+        let fixed = shelf.frame.fixed();
+        if !has_aside(class, &fixed) {
+            return false;
+        }
+        self.tell(column, class, shelf, &fixed, until, marks);
+        true
     }
 }
 
-/// Where the numbers end, at most 64 from the shelf's node on, of which those with the same last digits differ from it by the last man's
+/// Where the numbers end, at most 128 from the shelf's node on, of which those with the same last digits differ from it by the last man's
 /// square alone.
 fn end_of_run(class: Class, shelf: &Shelf) -> u32
     requires at { IsAt class shelf.now.node (setup_at class shelf.now.node) }
     requires shelf { IsShelf class shelf.now }
     ensures near { AreNear class shelf.now.node result }
-    ensures few { result ≤ shelf.now.node + 64 }
+    ensures few { result ≤ shelf.now.node + 128 }
 {
     let _number = class.number();
-    shelf.until.min(shelf.node + 64)
+    shelf.until.min(shelf.node + 128)
 }
 
 /// Adds the marked nodes from which moves that go on lead to the node. The shelf goes on to the node, and what the node has is found first in
 /// a list that is lent.
-fn add_marked_sources(
+pub(crate) fn add_marked_sources(
     column: Column,
     class: Class,
     node: u32,
@@ -410,71 +364,4 @@ fn add_marked_sources(
         found,
     );
     list.try_extend_from_slice(found.as_slice()).unwrap();
-}
-
-/// The same of a node of a run. The shelf stays where it is if nobody came to the node.
-fn add_sources_in_run(
-    column: Column,
-    class: Class,
-    node: u32,
-    run: &Run,
-    shelf: &mut Shelf,
-    marks: &[u64],
-    found: &mut ArrayVec<u32, 128>,
-    list: &mut ArrayVec<u32, 8192>,
-)
-    requires at { IsAt class node (setup_at class node) }
-    requires run { IsRunOf column class marks.now run.now }
-    requires near { IsNearTo class run.now node }
-    requires shelf { IsShelf class shelf.old }
-    requires never { NeverTargeted class }
-    requires nodes { AreNodesMarked class marks.now }
-    requires room { array_vec_len list.old + 128 ≤ 8192 }
-    ensures shelf { IsShelf class shelf.new }
-    ensures added { list.new.items ≡ list.old.items ++ marked_into column class marks.now node }
-    ensures few { array_vec_len list.new ≤ array_vec_len list.old + 128 }
-{
-    laws();
-    let _number = class.number();
-    let distance = node - run.first;
-    if run.misses(distance) {
-        return;
-    }
-    shelf.turn_to(class, node);
-    found.clear();
-    run.add_before(column, class, node, &shelf.frame, marks, found);
-    list.try_extend_from_slice(found.as_slice()).unwrap();
-}
-
-/// Fills the list, in the place of what it had, with the marked nodes from which moves that go on lead to each of these, one after the other.
-/// Only nodes are marked.
-pub(crate) fn marked_sources(
-    column: Column,
-    class: Class,
-    nodes: &[u32],
-    marks: &[u64],
-    list: &mut ArrayVec<u32, 8192>,
-)
-    requires nodes { All (λ j. IsAt class j (setup_at class j)) nodes.now }
-    requires few { length nodes.now ≤ 64 }
-    requires marked { AreNodesMarked class marks.now }
-    ensures { list.new.items ≡ flat_map (marked_into column class marks.now) nodes.now }
-{
-    list.clear();
-    if nodes.is_empty() {
-        return;
-    }
-    let mut shelf = Shelf::at(class, nodes[0]);
-    let mut found = ArrayVec::new();
-    let mut run = Run::nothing(column, class, marks);
-    for k in 0..nodes.len() {
-        let node = nodes[k];
-        if run.turn_to(column, class, nodes, k, &mut shelf, marks) {
-            add_sources_in_run(
-                column, class, node, &run, &mut shelf, marks, &mut found, list,
-            );
-        } else {
-            add_marked_sources(column, class, node, &mut shelf, marks, &mut found, list);
-        }
-    }
 }

@@ -1,14 +1,15 @@
 //! A man who stands on one square at all nodes of a run: from which marked nodes he came there. Each square that he may have left moves all
-//! numbers of the run as far, so that one look at 64 marks tells of all nodes.
-ghost use Rattle.std.specs.Prelude.{◌≡◌, ◌≢◌, ◌↔◌, ◌+◌, ◌<◌, ◌≤◌, ◌⊎◌, ℕ, Bool, true, false, IfSome, IsTrue, []};
+//! numbers of the run as far, so that one look at 64 marks tells of all nodes. Of these the place is k for the one 2k above the first.
+ghost use Rattle.std.specs.Prelude.{◌≡◌, ◌≢◌, ◌↔◌, ◌+◌, ◌*◌, ◌<◌, ◌≤◌, ◌⊎◌, ℕ, Bool, Some, true, false, IfSome, IsTrue, []};
 ghost use Rattle.std.specs.Int.{bit_at};
 ghost use Rattle.std.specs.List.{Contains};
-ghost use Rattle.std.specs.List.Sorted.{IsStrictlyIncreasing};
 ghost use Rattle.arrayvec.specs.ArrayVec.{array_vec_len};
-ghost use Rattle.egt_board.specs.Camps.{IsOccupied};
+ghost use Rattle.egt_board.specs.Placement.{IsFree};
+ghost use Rattle.egt_board.specs.Safety.{Stops};
 ghost use Rattle.egt_board.specs.SquareSet.{Has, size_of};
 ghost use Rattle.egt_board.specs.declared.man.Kind.TheVariants.{P};
 ghost use Rattle.egt_class.specs.Material.{material_of};
+ghost use Rattle.egt_graph.specs.Combs.{times_in};
 ghost use Rattle.egt_graph.specs.Undecided.{IsMarked};
 ghost use Rattle.egt_index.specs.AtIndex.{IsFramedAt};
 ghost use Rattle.egt_index.specs.Shelf.{IsShift};
@@ -16,17 +17,16 @@ ghost use Rattle.egt_index.specs.Size.{has_target};
 ghost use Rattle.egt_sweep.specs.Edges.{CameTo, IsAt};
 ghost use Rattle.egt_sweep.specs.Nodes.{setup_at};
 ghost use Rattle.egt_sweep.specs.Together.{AreHeldThroughout, IsAlikeNode, NeverTargeted, StandsThroughout};
-ghost use Rattle.egt_sweep.specs.Told.{AreAnyOf, AreLeft, AreNodesMarked, Gives, IsLeft, IsTold, IsToldAt, SomeGives};
+ghost use Rattle.egt_sweep.specs.Told.{AreLeft, AreNodesMarked, DoAscend, GoesAlongThroughout, IsLeft, IsOpenFrom, IsTold, IsToldAt, SomeGives, times_told};
 
-use crate::ascending::put;
 use crate::laws::laws;
 use crate::wanted::marks_from;
 use arrayvec::ArrayVec;
-use egt_board::{Kind, Man, Side, Square, SquareSet};
+use egt_board::{Man, Square, SquareSet, gait};
 use egt_class::Class;
+use egt_graph::Comb;
 use egt_index::{Frame, Shift};
 use egt_table::Column;
-use egt_unmoves::sources::ways_back;
 use egt_unmoves::squares_open;
 
 /// What is told of a square that the man left.
@@ -35,33 +35,20 @@ pub(crate) struct Left {
     pub(crate) from: Square,
     /// The number before the first node's.
     pub(crate) index: u32,
-    /// Which of the 64 numbers from that on are marked.
+    /// The places of the nodes to which he came from there, and from a marked one.
     pub(crate) bits: u64,
 }
 
 impl Left {
-    /// Whether the number before the node so far above the first is marked.
+    /// The numbers before the nodes at these places to which he came from there.
     #[inline(always)]
-    fn has(&self, distance: u32) -> bool
-        requires { distance < 64 }
-        ensures { IsTrue result ↔ (bit_at self.now.bits distance ≡ 1) }
+    fn comb(&self, places: SquareSet) -> Comb
+        ensures first { result.first ≡ self.now.index }
+        ensures bits { (k : ℕ) → bit_at result.bits k ≡ 1 ↔ ((bit_at self.now.bits k ≡ 1) × Has places k) }
     {
-        (self.bits >> distance) & 1 == 1
-    }
-
-    /// Adds the number before the node so far above the first, if it is marked and the man has a way from there: from one of these squares.
-    #[inline(always)]
-    fn add_before(&self, distance: u32, ways: SquareSet, list: &mut ArrayVec<u32, 128>)
-        requires near { distance < 64 }
-        requires fits { bit_at self.now.bits distance ≡ 1 → self.now.index + distance < 4294967296 }
-        requires ascending { IsStrictlyIncreasing list.old.items }
-        requires room { array_vec_len list.old < 128 }
-        ensures ascending { IsStrictlyIncreasing list.new.items }
-        ensures members { (i : ℕ) → Contains list.new.items i ↔ (Contains list.old.items i ⊎ ((bit_at self.now.bits distance ≡ 1) × Has ways self.now.from × (i ≡ self.now.index + distance))) }
-        ensures few { array_vec_len list.new ≤ array_vec_len list.old + 1 }
-    {
-        if self.has(distance) && ways.contains(self.from) {
-            put(list, self.index + distance);
+        Comb {
+            first: self.index,
+            bits: self.bits & places.bits,
         }
     }
 }
@@ -71,12 +58,9 @@ impl Left {
 pub(crate) struct Told {
     /// Whether anything is told.
     pub(crate) told: bool,
-    pub(crate) man: Man,
     /// Where he stands.
     pub(crate) to: Square,
-    /// To which of the 64 nodes he may have come from a marked one.
-    pub(crate) any: u64,
-    /// The squares that he may have left.
+    /// The squares that he left: the numbers before the first node's ascend.
     pub(crate) left: ArrayVec<Left, 28>,
 }
 
@@ -87,20 +71,9 @@ impl Told {
     {
         Told {
             told: false,
-            man: Side::White.pawn(),
             to: Square::at(0),
-            any: 0,
             left: ArrayVec::new(),
         }
-    }
-
-    /// Whether he is not told to have come to the node so far above the first from a marked one.
-    #[inline(always)]
-    pub(crate) fn misses(&self, distance: u32) -> bool
-        requires { distance < 64 }
-        ensures { result ≡ true → self.now.told ≡ true → bit_at self.now.any distance ≡ 0 }
-    {
-        !self.told || (self.any >> distance) & 1 == 0
     }
 
     /// His square, if he is told of.
@@ -115,41 +88,22 @@ impl Told {
         }
     }
 
-    /// Adds the marked nodes from which he came to the node so far above the first, where all men stand on these squares.
-    pub(crate) fn add_before(
-        &self,
-        _column: Column,
-        class: Class,
-        first: u32,
-        distance: u32,
-        occupied: SquareSet,
-        _marks: &[u64],
-        list: &mut ArrayVec<u32, 128>,
-    )
-        requires told { self.now.told ≡ true }
-        requires is { IsTold _column class first _marks.now self.now }
-        requires near { distance < 64 }
-        requires alike { IsAlikeNode class first (first + distance) }
-        requires nodes { AreNodesMarked class _marks.now }
-        requires occupied { IsOccupied (setup_at class (first + distance)).men occupied }
-        requires ascending { IsStrictlyIncreasing list.old.items }
-        requires room { array_vec_len list.old + 28 ≤ 128 }
-        ensures ascending { IsStrictlyIncreasing list.new.items }
-        ensures members { (i : ℕ) → Contains list.new.items i ↔ (Contains list.old.items i ⊎ (CameTo _column class (setup_at class (first + distance)) self.now.to i × IsMarked _marks.now i)) }
-        ensures few { array_vec_len list.new ≤ array_vec_len list.old + 28 }
+    /// Adds the marked nodes from which he came to the nodes at these places, if he is told of.
+    pub(crate) fn add_combs(&self, places: SquareSet, combs: &mut ArrayVec<Comb, 4096>)
+        requires room { array_vec_len combs.old + 28 ≤ 4096 }
+        ensures counted { (i : ℕ) → times_in i combs.new.items ≡ times_in i combs.old.items + times_told self.now places i }
+        ensures few { array_vec_len combs.new ≤ array_vec_len combs.old + 28 }
     {
-        laws();
-        let _number = class.number();
-        if self.misses(distance) {
+        if !self.told {
             return;
         }
-        let ways = ways_back(self.man, self.to, occupied);
         for left in self.left.as_slice() {
-            left.add_before(distance, ways, list);
+            combs.push(left.comb(places));
         }
     }
 
-    /// Tells of the man on the square, where men stand on the squares of `held` at all of the nodes; nothing where his steps are no sums.
+    /// Tells of the man on the square, where men stand on the squares of `held` at all of the nodes, and the last man on `last` at the first, if there
+    /// is one; nothing where his steps are no sums.
     pub(crate) fn tell(
         &mut self,
         column: Column,
@@ -159,6 +113,7 @@ impl Told {
         man: Man,
         to: Square,
         held: SquareSet,
+        last: Option<Square>,
         marks: &[u64],
     )
         requires at { IsAt class first (setup_at class first) }
@@ -167,6 +122,7 @@ impl Told {
         requires piece { man.kind ≢ P }
         requires stands { StandsThroughout class first man to }
         requires held { AreHeldThroughout class first held }
+        requires along { GoesAlongThroughout class first held last }
         requires never { NeverTargeted class }
         requires targets { has_target (material_of class) ≡ false }
         requires nodes { AreNodesMarked class marks.now }
@@ -176,50 +132,61 @@ impl Told {
         laws();
         let _number = class.number();
         self.told = false;
-        self.man = man;
         self.to = to;
-        self.any = 0;
         self.left.clear();
         let Some(shift) = frame.shift(to) else {
             return;
         };
-        let squares = squares_open(man, to, held);
-        self.told = self.tell_squares(column, class, first, &shift, squares, marks);
+        let squares = squares_open(man, to, held).without(SquareSet::EMPTY.with(to));
+        self.told = self.tell_squares(
+            column, class, first, &shift, man, squares, held, &last, marks,
+        );
     }
 
-    /// Tells of these squares, which he may have left, if sums tell of all of them.
+    /// Tells of these squares, which he may have left, if sums tell of all of them. The contract alone reads `_held`.
     fn tell_squares(
         &mut self,
         column: Column,
         class: Class,
         first: u32,
         shift: &Shift,
+        man: Man,
         squares: SquareSet,
+        _held: SquareSet,
+        last: &Option<Square>,
         marks: &[u64],
     ) -> bool
         requires at { IsAt class first (setup_at class first) }
         requires shift { IsShift class first self.old.to shift.now }
-        requires piece { self.old.man.kind ≢ P }
-        requires stands { StandsThroughout class first self.old.man self.old.to }
+        requires piece { man.kind ≢ P }
+        requires stands { StandsThroughout class first man self.old.to }
+        requires along { GoesAlongThroughout class first _held last.now }
+        requires open { (s : ℕ) → s < 64 → Has squares s → IsOpenFrom class first _held man self.old.to s }
         requires never { NeverTargeted class }
         requires targets { has_target (material_of class) ≡ false }
         requires nodes { AreNodesMarked class marks.now }
         requires few { size_of squares ≤ 28 }
         requires empty { self.old.left.items ≡ [] }
-        ensures same { (self.new.man ≡ self.old.man) × (self.new.to ≡ self.old.to) }
-        ensures left { result ≡ true → AreLeft column class first marks.now self.old.man self.old.to self.new.left.items }
-        ensures any { result ≡ true → AreAnyOf self.new.left.items self.new.any }
-        ensures complete { result ≡ true → (k i : ℕ) → k < 64 → IsAlikeNode class first (first + k) → (came : CameTo column class (setup_at class (first + k)) self.old.to i) → Has squares came.move.from → IsMarked marks.now i
-            → SomeGives (setup_at class (first + k)).men self.old.man self.old.to k self.new.left.items i }
+        ensures same { self.new.to ≡ self.old.to }
+        ensures left { result ≡ true → AreLeft column class first marks.now self.old.to self.new.left.items }
+        ensures ascends { result ≡ true → DoAscend self.new.left.items }
+        ensures complete { result ≡ true → (k i : ℕ) → k < 64 → IsAlikeNode class first (first + 2 * k) → (came : CameTo column class (setup_at class (first + 2 * k)) self.old.to i) → Has squares came.move.from → IsMarked marks.now i
+            → SomeGives k self.new.left.items i }
     {
         let mut rest = squares;
+        // All numbers so far are below it.
+        let mut floor = 0;
         while let Some(from) = rest.pop_first() {
-            let Some(left) = left_from(column, class, first, shift, self.man, self.to, from, marks)
-            else {
+            let Some(left) = left_from(
+                column, class, first, shift, man, self.to, from, _held, last, marks,
+            ) else {
                 return false;
             };
+            if u64::from(left.index) < floor {
+                return false;
+            }
+            floor = u64::from(left.index) + 1;
             if left.bits != 0 {
-                self.any |= left.bits;
                 self.left.push(left);
             }
         }
@@ -227,28 +194,43 @@ impl Told {
     }
 }
 
+/// The places of the nodes at which the last man keeps the man on `from` from `to`, if he stands on that square at the first.
+#[inline(always)]
+fn shut(man: Man, from: Square, to: Square, last: &Option<Square>) -> u64
+    ensures { (k : ℕ) → bit_at result k ≡ 1 ↔ ((t : ℕ) × (last.now ≡ Some t) × (t + k < 64) × Stops 0 man from to (t + k)) }
+{
+    match last {
+        Some(square) => gait::stops(man, from, to, SquareSet::EMPTY).bits >> square.number(),
+        None => 0,
+    }
+}
+
 /// What is told of the square `from`, which the man on `to` may have left. `None` where no sum tells it. The contract alone reads the column
-/// and the man.
+/// and the squares held.
 #[inline(always)]
 fn left_from(
     _column: Column,
     class: Class,
     first: u32,
     shift: &Shift,
-    _man: Man,
+    man: Man,
     to: Square,
     from: Square,
+    _held: SquareSet,
+    last: &Option<Square>,
     marks: &[u64],
 ) -> Option<Left>
     requires at { IsAt class first (setup_at class first) }
     requires shift { IsShift class first to shift.now }
-    requires piece { _man.kind ≢ P }
-    requires stands { StandsThroughout class first _man to }
+    requires piece { man.kind ≢ P }
+    requires stands { StandsThroughout class first man to }
+    requires along { GoesAlongThroughout class first _held last.now }
+    requires open { IsOpenFrom class first _held man to from }
     requires never { NeverTargeted class }
     requires targets { has_target (material_of class) ≡ false }
     requires nodes { AreNodesMarked class marks.now }
     ensures from { IfSome result (λ left. left.from ≡ from) }
-    ensures left { IfSome result (IsLeft _column class first marks.now _man to) }
+    ensures left { IfSome result (IsLeft _column class first marks.now to) }
 {
     laws();
     let _number = class.number();
@@ -256,6 +238,6 @@ fn left_from(
     Some(Left {
         from,
         index,
-        bits: marks_from(marks, index),
+        bits: marks_from(marks, index) & !shut(man, from, to, last),
     })
 }

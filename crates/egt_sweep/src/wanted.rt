@@ -1,14 +1,16 @@
 //! Which numbers a list is to have.
-ghost use Rattle.std.specs.Prelude.{◌≡◌, ◌↔◌, ◌+◌, ◌<◌, ℕ, slice_index, IsTrue};
+ghost use Rattle.std.specs.Prelude.{◌≡◌, ◌↔◌, ◌+◌, ◌*◌, ◌<◌, ℕ, slice_index, IsTrue};
 ghost use Rattle.std.specs.Int.{bit_at};
 ghost use Rattle.egt_graph.specs.Undecided.{IsMarked};
 ghost use Rattle.egt_sweep.specs.Wanted.{IsWanted};
+
+use egt_graph::{bit_of, word_of};
 
 /// The numbers that a list is asked for.
 #[derive(Clone, Copy)]
 pub(crate) enum Wanted<'l> {
     All,
-    /// Those whose bits are set: of number `i` bit `i % 64` of word `i / 64`.
+    /// Those whose bits are set: of number `i` bit `bit_of(i)` of word `word_of(i)`.
     Marked(&'l [u64]),
 }
 
@@ -30,8 +32,8 @@ impl Wanted<'_> {
 fn is_marked(marks: &[u64], number: u32) -> bool
     ensures { IsTrue result ↔ IsMarked marks.now number }
 {
-    match marks.get(number as usize / 64) {
-        Some(word) => (*word >> (number % 64)) & 1 == 1,
+    match marks.get(word_of(number)) {
+        Some(word) => (*word >> bit_of(number)) & 1 == 1,
         None => false,
     }
 }
@@ -47,12 +49,12 @@ fn word_at(marks: &[u64], at: usize) -> u64
     }
 }
 
-/// The bits of 64 numbers from that on.
+/// The bits of 64 numbers from that on, of which every other one is left out.
 #[inline(always)]
 pub(crate) fn marks_from(marks: &[u64], from: u32) -> u64
-    ensures { (k : ℕ) → k < 64 → IsMarked marks.now (from + k) ↔ (bit_at result k ≡ 1) }
+    ensures { (k : ℕ) → k < 64 → IsMarked marks.now (from + 2 * k) ↔ (bit_at result k ≡ 1) }
 {
-    let at = from as usize / 64;
-    let words = u128::from(word_at(marks, at + 1)) << 64 | u128::from(word_at(marks, at));
-    ((words >> (from % 64)) & u128::from(u64::MAX)) as u64
+    let at = word_of(from);
+    let words = u128::from(word_at(marks, at + 2)) << 64 | u128::from(word_at(marks, at));
+    ((words >> bit_of(from)) & u128::from(u64::MAX)) as u64
 }

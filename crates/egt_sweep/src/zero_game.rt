@@ -10,13 +10,13 @@ ghost use Rattle.egt_sweep.specs.MateColumn.{mate_table, IsMateColumn};
 use crate::aim::Aim;
 use crate::missing::Missing;
 use crate::nodes::{
-    all_predecessors, exits, is_mated, is_void, listed_degree, marked_predecessors, predecessors,
-    start_by_ranks, successors,
+    exits, is_mated, is_void, listed_degree, marked_predecessors, predecessors, start_by_ranks,
+    successors,
 };
 use arrayvec::ArrayVec;
 use egt_check::{Library, first_missing};
 use egt_class::Class;
-use egt_graph::{Count, Exit, Game, Ranks, Start};
+use egt_graph::{Comb, Count, Exit, Game, Ranks, Start};
 use egt_index::size;
 use egt_table::Column;
 
@@ -122,12 +122,14 @@ impl Game for ZeroGame<'_> {
         predecessors(Column::Zeroing, self.class, j, list);
     }
 
-    fn list_all_into(&self, nodes: &[u32], known: &[u64], list: &mut ArrayVec<u32, 8192>) {
-        all_predecessors(Column::Zeroing, self.class, nodes, known, list);
-    }
-
-    fn list_marked_into(&self, nodes: &[u32], marks: &[u64], list: &mut ArrayVec<u32, 8192>) {
-        marked_predecessors(Column::Zeroing, self.class, nodes, marks, list);
+    fn combs_into(
+        &self,
+        nodes: &[u32],
+        marks: &[u64],
+        combs: &mut ArrayVec<Comb, 4096>,
+        list: &mut ArrayVec<u32, 8192>,
+    ) {
+        marked_predecessors(Column::Zeroing, self.class, nodes, marks, combs, list);
     }
 
     fn exits(&self, i: u32) -> ArrayVec<Exit, 64> {

@@ -1,11 +1,15 @@
 //! Games for the tests.
-ghost use Rattle.std.specs.Prelude.{◌≡◌, ◌↔◌, ◌⊎◌, ℕ, ◌+◌, ◌<◌, ◌≤◌, length, filter, IsTrue};
-ghost use Rattle.std.specs.List.{range_with_len, Contains};
+ghost use Rattle.std.specs.Prelude.{◌≡◌, ℕ, ◌+◌, ◌<◌, ◌≤◌, [], ◌∷◌, length, filter, IsTrue, IsFalse, IfSome};
+ghost use Rattle.std.specs.List.{range_with_len};
 ghost use Rattle.arrayvec.specs.ArrayVec.{array_vec_len};
-ghost use Rattle.egt_graph.specs.Undecided.{IsMarked};
+ghost use Rattle.egt_graph.specs.Columns.{count_of};
+ghost use Rattle.egt_graph.specs.Combs.{times_in, tooth};
+ghost use Rattle.egt_graph.specs.Undecided.{is_marked};
 ghost use Rattle.egt_graph.specs.Sample.{sample, sample_is_game, stairs, stairs_are_a_game, is_listed, is_pair, is_move, is_short};
 
-use crate::game::{Exit, Game, Start, append};
+use crate::comb::Comb;
+use crate::game::{Exit, Game, Start};
+use crate::marks::is_marked;
 use arrayvec::ArrayVec;
 use std::cell::Cell;
 
@@ -295,13 +299,13 @@ impl<'a, G: Game> Game for Uncounted<'a, G> {
     }
 }
 
-/// The same game, which lists the marked sources of several nodes backwards, and again as far as there is room.
+/// The same game, which gathers the marked sources of several nodes into combs.
 #[derive(Drop)]
-pub(crate) struct Backwards<'a, G: Game> {
+pub(crate) struct Combed<'a, G: Game> {
     pub(crate) game: &'a G,
 }
 
-impl<'a, G: Game> Game for Backwards<'a, G> {
+impl<'a, G: Game> Game for Combed<'a, G> {
     ghost graph = { λ s. G.graph s.game.now };
 
     ghost lawful = { λ s. G.lawful s.game.now };
@@ -334,22 +338,102 @@ impl<'a, G: Game> Game for Backwards<'a, G> {
         self.game.exits(i)
     }
 
-    fn list_marked_into(&self, nodes: &[u32], marks: &[u64], list: &mut ArrayVec<u32, 8192>) {
-        let mut sources = ArrayVec::new();
-        self.game.list_marked_into(nodes, marks, &mut sources);
+    fn combs_into(
+        &self,
+        nodes: &[u32],
+        marks: &[u64],
+        combs: &mut ArrayVec<Comb, 4096>,
+        list: &mut ArrayVec<u32, 8192>,
+    ) {
+        combs.clear();
         list.clear();
-        push_marked(list, sources.as_slice(), marks);
-        push_marked(list, sources.as_slice(), marks);
+        for node in nodes {
+            gather(combs, list, self.game.into(*node).as_slice(), marks);
+        }
     }
 }
 
-/// The same game, which lists the sources of several nodes by itself, and counts how often it does and how often it was not told exactly
-/// its nodes.
+/// Adds the marked ones of these sources.
+fn gather(
+    combs: &mut ArrayVec<Comb, 4096>,
+    list: &mut ArrayVec<u32, 8192>,
+    sources: &[u32],
+    marks: &[u64],
+)
+    requires { array_vec_len list.old + length sources.now ≤ 8192 }
+    ensures few { array_vec_len list.new ≤ array_vec_len list.old + length sources.now }
+    ensures times { (i : ℕ) → times_in i combs.new.items + count_of i list.new.items
+        ≡ times_in i combs.old.items + count_of i list.old.items + count_of i (filter (is_marked marks.now) sources.now) }
+{
+    for source in sources {
+        if is_marked(marks, *source) {
+            add(combs, list, *source);
+        }
+    }
+}
+
+/// Adds one number to one of the last two combs, as a comb of its own, or to the list.
+fn add(combs: &mut ArrayVec<Comb, 4096>, list: &mut ArrayVec<u32, 8192>, source: u32)
+    requires { array_vec_len list.old < 8192 }
+    ensures few { array_vec_len list.new ≤ array_vec_len list.old + 1 }
+    ensures times { (i : ℕ) → times_in i combs.new.items + count_of i list.new.items
+        ≡ times_in i combs.old.items + count_of i list.old.items + count_of i (source ∷ []) }
+{
+    if join(combs, 1, source) || join(combs, 2, source) {
+        return;
+    }
+    if combs.is_full() {
+        list.push(source);
+        return;
+    }
+    combs.push(Comb {
+        first: source,
+        bits: 1,
+    });
+}
+
+/// Adds the number to the comb that is so far from the end, if it can.
+fn join(combs: &mut ArrayVec<Comb, 4096>, back: usize, source: u32) -> bool
+    requires { 0 < back }
+    ensures joined { IsTrue result → (i : ℕ) → times_in i combs.new.items ≡ times_in i combs.old.items + count_of i (source ∷ []) }
+    ensures same { IsFalse result → combs.new.items ≡ combs.old.items }
+{
+    if combs.len() < back {
+        return false;
+    }
+    let place = combs.len() - back;
+    match with(combs[place], source) {
+        Some(comb) => {
+            combs[place] = comb;
+            true
+        }
+        None => false,
+    }
+}
+
+/// The comb with one number more, which it does not have.
+fn with(comb: Comb, source: u32) -> Option<Comb>
+    ensures { IfSome result (λ more. (i : ℕ) → tooth i comb + count_of i (source ∷ []) ≡ tooth i more) }
+{
+    if source < comb.first || (source - comb.first) % 2 != 0 {
+        return None;
+    }
+    let k = (source - comb.first) / 2;
+    if k >= 64 || (comb.bits >> k) & 1 == 1 {
+        return None;
+    }
+    Some(Comb {
+        first: comb.first,
+        bits: comb.bits | 1 << k,
+    })
+}
+
+/// The same game, which counts how often it is asked for the sources of several nodes, and how often of all its nodes.
 #[derive(Drop)]
 pub(crate) struct Together<'a, G: Game> {
     game: &'a G,
     runs: Cell<u32>,
-    mistold: Cell<u32>,
+    whole: Cell<u32>,
 }
 
 impl<'a, G: Game> Together<'a, G> {
@@ -357,7 +441,7 @@ impl<'a, G: Game> Together<'a, G> {
         Together {
             game,
             runs: Cell::new(0),
-            mistold: Cell::new(0),
+            whole: Cell::new(0),
         }
     }
 
@@ -366,9 +450,9 @@ impl<'a, G: Game> Together<'a, G> {
         self.runs.get()
     }
 
-    /// How often it was told of other nodes than its own.
-    pub(crate) fn mistold(&self) -> u32 {
-        self.mistold.get()
+    /// How often each node was marked then, and nothing else.
+    pub(crate) fn whole(&self) -> u32 {
+        self.whole.get()
     }
 }
 
@@ -405,20 +489,18 @@ impl<'a, G: Game> Game for Together<'a, G> {
         self.game.exits(i)
     }
 
-    fn list_all_into(&self, nodes: &[u32], known: &[u64], list: &mut ArrayVec<u32, 8192>) {
+    fn combs_into(
+        &self,
+        nodes: &[u32],
+        marks: &[u64],
+        combs: &mut ArrayVec<Comb, 4096>,
+        list: &mut ArrayVec<u32, 8192>,
+    ) {
         self.runs.set(self.runs.get().wrapping_add(1));
-        if !are_nodes(self.game, known) {
-            self.mistold.set(self.mistold.get().wrapping_add(1));
+        if are_nodes(self.game, marks) {
+            self.whole.set(self.whole.get().wrapping_add(1));
         }
-        list.clear();
-        for node in nodes {
-            append(list, self.game.into(*node).as_slice());
-        }
-    }
-
-    fn list_marked_into(&self, nodes: &[u32], marks: &[u64], list: &mut ArrayVec<u32, 8192>) {
-        self.runs.set(self.runs.get().wrapping_add(1));
-        self.game.list_marked_into(nodes, marks, list);
+        self.game.combs_into(nodes, marks, combs, list);
     }
 }
 
@@ -430,27 +512,4 @@ fn are_nodes<G: Game>(game: &G, known: &[u64]) -> bool {
         }
     }
     true
-}
-
-/// Adds the marked sources, the last first, as far as there is room.
-fn push_marked(list: &mut ArrayVec<u32, 8192>, sources: &[u32], marks: &[u64])
-    ensures kept { (i : ℕ) → Contains list.old.items i → Contains list.new.items i }
-    ensures within { (i : ℕ) → Contains list.new.items i → Contains list.old.items i ⊎ Contains sources.now i }
-    ensures whole { array_vec_len list.old + length sources.now ≤ 8192 → (i : ℕ) → Contains sources.now i → IsMarked marks.now i → Contains list.new.items i }
-{
-    for k in 0..sources.len() {
-        let source = sources[sources.len() - 1 - k];
-        if is_marked(marks, source) && !list.is_full() {
-            list.push(source);
-        }
-    }
-}
-
-fn is_marked(marks: &[u64], i: u32) -> bool
-    ensures { IsTrue result ↔ IsMarked marks.now i }
-{
-    match marks.get(i as usize / 64) {
-        Some(word) => (*word >> (i % 64)) & 1 == 1,
-        None => false,
-    }
 }

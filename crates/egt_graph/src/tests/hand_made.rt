@@ -1,5 +1,5 @@
 //! Small games whose values were worked out by hand.
-use super::games::{Backwards, STAIRS, Sample, Stairs, Together, Uncounted, stair_entry};
+use super::games::{Combed, STAIRS, Sample, Stairs, Together, Uncounted, stair_entry};
 use crate::{Count, Exit, Game, SolveFault, Start, solve, solve_and_count};
 use arrayvec::ArrayVec;
 use std::test::*;
@@ -129,7 +129,7 @@ fn moves_alone(rt: HostRuntime) -> Result<(), Fail> {
     Ok(())
 }
 
-// One run of checkmates, one of won nodes and one of lost.
+// One run of checkmates, one of won nodes and one of lost: for the won it is asked of all nodes.
 #[test]
 fn told_of_the_nodes(rt: HostRuntime) -> Result<(), Fail> {
     let game = with_a_void();
@@ -137,7 +137,7 @@ fn told_of_the_nodes(rt: HostRuntime) -> Result<(), Fail> {
     let ranks = solve(rt.alloc(), &together, 2)?;
     assert_eq!(rt; ranks.entries(), [1, 1, 1, 0, 3, 4, 7, 1, 4].as_slice());
     assert_eq!(rt; together.runs(), 3);
-    assert_eq!(rt; together.mistold(), 0);
+    assert_eq!(rt; together.whole(), 1);
     Ok(())
 }
 
@@ -167,14 +167,14 @@ fn won_among_lost() -> Sample<'static> {
     }
 }
 
-// In whatever order, and however often, a game lists the marked sources of several nodes.
+// Whether a game lists the marked sources of several nodes or gathers them.
 #[test]
 fn sources_of_several_nodes(rt: HostRuntime) -> Result<(), Fail> {
     let game = won_among_lost();
     let want = [3, 3, 4, 4, 7, 6, 7, 8, 9, 8, 11];
     let ranks = solve(rt.alloc(), &game, 4)?;
     assert_eq!(rt; ranks.entries(), want.as_slice());
-    let ranks = solve(rt.alloc(), &Backwards { game: &game }, 4)?;
+    let ranks = solve(rt.alloc(), &Combed { game: &game }, 4)?;
     assert_eq!(rt; ranks.entries(), want.as_slice());
     let ranks = solve(rt.alloc(), &Together::new(&game), 4)?;
     assert_eq!(rt; ranks.entries(), want.as_slice());
@@ -183,7 +183,7 @@ fn sources_of_several_nodes(rt: HostRuntime) -> Result<(), Fail> {
 
 #[test]
 fn sources_of_many_nodes(rt: HostRuntime) -> Result<(), Fail> {
-    let ranks = solve(rt.alloc(), &Backwards { game: &STAIRS }, 4)?;
+    let ranks = solve(rt.alloc(), &Combed { game: &STAIRS }, 4)?;
     assert_eq!(rt; ranks.entries().len(), 10_000);
     for (node, entry) in ranks.entries().iter().enumerate() {
         assert_eq!(rt; *entry, stair_entry(node));

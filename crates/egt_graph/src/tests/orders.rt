@@ -261,6 +261,6 @@ fn what_is_asked_at_once(rt: HostRuntime) -> Result<(), Fail> {
         assert_eq!(rt; *entry, stair_entry(node));
     }
     assert_eq!(rt; game.runs(), 2 * 32 + 32 + (2 + 30) + (3 + 29));
-    assert_eq!(rt; game.mistold(), 0);
+    assert_eq!(rt; game.whole(), 2 * 32);
     Ok(())
 }

@@ -1,11 +1,14 @@
-use Rattle.std.proofs.Common.{ℕ, ap, sym, ◌∙◌, subst}
+use Rattle.std.proofs.Common.{◌≡◌, ◌<◌, ℕ, ap, sym, ◌∙◌, subst}
+use Rattle.egt_board.specs.Beside.{StandsBeside}
 use Rattle.egt_board.specs.Man.{other_side}
+use Rattle.egt_board.specs.Placement.{one_man}
 use Rattle.egt_board.specs.Setup.{Setup, IsKingOn}
+use Rattle.egt_board.specs.declared.man.Man.{Man}
 use Rattle.egt_board.specs.declared.man.Side.{Side}
 use Rattle.egt_index.specs.Fixed.{StandsFixed}
 use Rattle.egt_sweep.specs.Nodes.{setup_at}
 use Rattle.egt_sweep.proofs.InRuns.{none_beside}
-use Rattle.egt_sweep.proofs.Runs.{stands_throughout}
+use Rattle.egt_sweep.proofs.Runs.{goes_along}
 use Rattle.egt_sweep.proofs.together.Run.tell.Goals as goal
 
 pub tell-requires-clause-frame : goal.tell-requires-clause-frame
@@ -13,25 +16,25 @@ tell-requires-clause-frame c = (c.args.shelf.now.passed, c.requires.shelf.framed
 
 pub tell-requires-clause-stands : goal.tell-requires-clause-stands
 tell-requires-clause-stands c = λ j alike.
-    let there = stands_throughout c.args.class c.args.shelf.now.node c.args.shelf.now.frame c.args.shelf.now.passed c.fixed-fixed.result c.requires.shelf.class c.requires.shelf.framed c.fixed-fixed.ensures j alike in
+    let there = c.requires.fixed j alike in
     ((c.king-to.ensures _ there).stands, c.other-side.ensures ∙ ap other_side (sym there.side_is))
 
 pub tell-requires-clause-held : goal.tell-requires-clause-held
-tell-requires-clause-held c = λ j alike.
-    c.held-held.ensures _ (stands_throughout c.args.class c.args.shelf.now.node c.args.shelf.now.frame c.args.shelf.now.passed c.fixed-fixed.result c.requires.shelf.class c.requires.shelf.framed c.fixed-fixed.ensures j alike)
-
-pub tell_one-one-requires-clause-fixed : goal.tell_one-one-requires-clause-fixed
-tell_one-one-requires-clause-fixed c =
-    stands_throughout c.args.class c.args.shelf.now.node c.args.shelf.now.frame c.args.shelf.now.passed c.fixed-fixed.result c.requires.shelf.class c.requires.shelf.framed c.fixed-fixed.ensures
+tell-requires-clause-held c = λ j alike. c.held-held.ensures.held _ (c.requires.fixed j alike)
 
 pub tell_one-one-requires-clause-held : goal.tell_one-one-requires-clause-held
-tell_one-one-requires-clause-held c = λ j alike.
-    c.held-held.ensures _ (stands_throughout c.args.class c.args.shelf.now.node c.args.shelf.now.frame c.args.shelf.now.passed c.fixed-fixed.result c.requires.shelf.class c.requires.shelf.framed c.fixed-fixed.ensures j alike)
+tell_one-one-requires-clause-held c = λ j alike. c.held-held.ensures.held _ (c.requires.fixed j alike)
+
+pub tell-requires-clause-along : goal.tell-requires-clause-along
+tell-requires-clause-along c = goes_along c.args.class c.args.shelf.now.node c.args.fixed.now c.held-held.result c.requires.along c.requires.fixed c.held-held.ensures.all
+
+pub tell_one-one-requires-clause-along : goal.tell_one-one-requires-clause-along
+tell_one-one-requires-clause-along c = goes_along c.args.class c.args.shelf.now.node c.args.fixed.now c.held-held.result c.requires.along c.requires.fixed c.held-held.ensures.all
 
 pub returns-clause-run : goal.returns-clause-run
 returns-clause-run c =
-    let fixed = c.fixed-fixed.result in
-    let each = stands_throughout c.args.class c.args.shelf.now.node c.args.shelf.now.frame c.args.shelf.now.passed fixed c.requires.shelf.class c.requires.shelf.framed c.fixed-fixed.ensures in
+    let fixed = c.args.fixed.now in
+    let each = c.requires.fixed in
     let king = λ (p : Setup) (stands : StandsFixed p fixed). subst (λ (t : ℕ). IsKingOn p.men (other_side fixed.side) t) (sym c.tell.ensures.to) (subst (λ (x : Side). IsKingOn p.men x c.king-to.result) c.other-side.ensures (c.king-to.ensures p stands)) in
     record {
       near = c.requires.near;
@@ -39,6 +42,10 @@ returns-clause-run c =
       king = c.tell.ensures.told;
       one = c.tell_one-one.ensures.told;
       king_there = λ told j alike. let there = each j alike in subst (λ (x : Side). IsKingOn (setup_at c.args.class j).men (other_side x) c.tell.new.self.to) (sym there.side_is) (king _ there);
+      one_there = λ told j alike.
+          let one = c.tell_one-one.ensures.there told in
+          (one.0, subst (StandsBeside (setup_at c.args.class j).men) one.1 (each j alike).one_there);
+      aside = λ some j alike. c.requires.aside _ (each j alike);
       beside = λ closed. let parts = c.is_partial-self.ensures closed in
           none_beside c.laws.ensures c.args.column c.args.class c.args.shelf.now.node fixed c.tell.new.self c.tell_one-one.new.told each parts.0 king (c.tell_one-one.ensures.his parts.1)
           (λ man is theirs. c.moves_last.ensures parts.2 man is (theirs ∙ sym c.other-side.ensures));

@@ -1,0 +1,1 @@
+use Rattle.egt_sweep.proofs.together.is_man.Goals as goal
