@@ -17,7 +17,7 @@ use Rattle.egt_class.specs.Material.{Material, material_of}
 use Rattle.egt_index.specs.Code.{Spells, king_square}
 use Rattle.egt_index.specs.Others.{AreOthers}
 use Rattle.egt_index.specs.Scales.{AreScales, IsOn, code_by, ends_of, man_at, share}
-use Rattle.egt_index.specs.Shelf.{HasGone, HasNoPawnOn, IsShelved}
+use Rattle.egt_index.specs.Shelf.{HasGone}
 use Rattle.egt_index.specs.Size.{has_pawns, king_base, men_beside}
 use Rattle.egt_index.specs.Spelled.{Ends, IsListed, SpellsMen, Tells}
 use Rattle.egt_index.specs.Stood.{AllApart, Entry, HasDigit, HasStand, IsOff, list_of, men_among, rest_of}
@@ -117,9 +117,9 @@ module _ (from to : ℕ) (apart : to ≢ from) where
   list_moved : (s : Stand) → list_of (after_of from to s) ≡ moved_list (list_of s)
   list_moved s = ap (λ l. (king_of White, moved_square from to s.white) ∷ (king_of Black, moved_square from to s.black) ∷ l) (both_listed s.next s.last)
 
--- a code of the men of p, of whom the one on `from`, no pawn, stands on `to`, and of the other side's turn
+-- a code of the men of p, of whom the one on `from` stands on `to`, where he may, and of the other side's turn
 module _ (c code from to : ℕ) (p q : Setup) (stand : Stand) (old side : Side) (passed : Bool) (has : HasStand c false stand old passed p) (side_is : side ≡ other_side old) (scales : Scales)
-    (are : AreScales (material_of c) (man_at stand.next) (man_at stand.last) side scales) (to_in : to < 64) (other : to ≢ from) (no_pawn : HasNoPawnOn p from) (spells : Spells c code q) where
+    (are : AreScales (material_of c) (man_at stand.next) (man_at stand.last) side scales) (to_in : to < 64) (other : to ≢ from) (may : (man : Man) → Stands p.men from man → MayStand man to) (spells : Spells c code q) where
   abbrev m : Material
   m = material_of c
 
@@ -137,7 +137,7 @@ module _ (c code from to : ℕ) (p q : Setup) (stand : Stand) (old side : Side) 
 
   may_stand : (e : Man × ℕ) → Stands p.men e.1 e.0 → MayStand e.0 (moved_square from to e.1)
   may_stand e stands = elim (cases_eq e.1 from) [
-    | inl here ↦ λ pawn. absurd (no_pawn e.0 (subst (λ s. Stands p.men s e.0) here stands) pawn)
+    | inl here ↦ subst (MayStand e.0) (sym (went from to e.1 here)) (may e.0 (subst (λ s. Stands p.men s e.0) here stands))
     | inr stays ↦ subst (MayStand e.0) (sym (stayed from to e.1 stays)) (has.admissible.pawns e.1 e.0 stands)
   ]
 
@@ -204,6 +204,11 @@ module _ (c code from to : ℕ) (p q : Setup) (stand : Stand) (old side : Side) 
   next_listed None y there = absurd there
   next_listed (Some e) y there = (e.0, inl (refl, there))
 
+  last_listed : (x y : Entry) → IsThere y from → (man : Man) × IsListed (option_to_list x ++ option_to_list y) man from
+  last_listed x None there = absurd there
+  last_listed None (Some e) there = (e.0, inl (refl, there))
+  last_listed (Some d) (Some e) there = (e.0, inr (inl (refl, there)))
+
   module _ (whole : ℕ) (men : SpellsMen (material_of c) whole (list_of stand)) where
     is : Told (material_of c) whole stand
     is = told (material_of c) whole stand men (none_beside c stand old passed p has)
@@ -227,9 +232,9 @@ module _ (c code from to : ℕ) (p q : Setup) (stand : Stand) (old side : Side) 
         coded = let own = ap (λ d. d * scales.king) digit_same in omega (arith, sum, own, code_is)
 
     -- of a man beside him
-    pub beside_gone : (mover : Mover) → IsShelved stand from mover → IsMover stand from mover → IsSingle stand mover → stand.white ≢ from
+    pub beside_gone : (mover : Mover) → mover ≢ Nobody → IsMover stand from mover → IsSingle stand mover → stand.white ≢ from
         → code + share (scale_by scales mover) from ≡ whole * ends_of (material_of c) + scales.side + share (scale_by scales mover) to → HasGone p from to q
-    beside_gone mover shelved mover_is single white code_is = of_mover mover shelved coded
+    beside_gone mover some mover_is single white code_is = of_mover mover some mover_is coded
       where
         king : king_square (has_pawns (material_of c)) is.digit ≡ moved_square from to stand.white
         king = is.king ∙ sym (stayed from to stand.white white)
@@ -239,14 +244,17 @@ module _ (c code from to : ℕ) (p q : Setup) (stand : Stand) (old side : Side) 
             let own = own_square mover stand from (square_in stand.next) (square_in stand.last) false scales is.digit mover_is single (in_square stand.next) (in_square stand.last) (λ e. absurd (false≢true e)) in
             omega (arith, sum, own, code_is, sum_moves mover scales is.digit stand.black (square_in stand.next) (square_in stand.last) from to)
 
-        of_mover : (mover : Mover) → IsShelved stand from mover → code ≡ code_with mover scales is.digit stand.black (square_in stand.next) (square_in stand.last) to → HasGone p from to q
-        of_mover BlackKing there coded =
+        of_mover : (mover : Mover) → mover ≢ Nobody → IsMover stand from mover → code ≡ code_with mover scales is.digit stand.black (square_in stand.next) (square_in stand.last) to → HasGone p from to q
+        of_mover BlackKing some there coded =
             let offs = off_both stand.next stand.last from (subst (IsOff (option_to_list stand.next ++ option_to_list stand.last)) there apart.1.0) in
             gone is.digit (square_in stand.next) (square_in stand.last) is.below king (off_on stand.next (square_in stand.next) offs.0 (in_square stand.next)) (off_on stand.last (square_in stand.last) offs.1 (in_square stand.last))
             (coded ∙ ap (λ b. code_by scales is.digit b (square_in stand.next) (square_in stand.last)) (sym (went from to stand.black there))) (king_of Black) (inr (inl (refl, there)))
-        of_mover Next there coded =
+        of_mover Next some there coded =
             let next = next_listed stand.next stand.last there.1 in
             gone is.digit to (square_in stand.last) is.below king (there_on stand.next there.1) (off_on stand.last (square_in stand.last) (off_last stand.next stand.last from apart.1.1 there.1) (in_square stand.last))
             (coded ∙ ap (λ b. code_by scales is.digit b to (square_in stand.last)) (sym (stayed from to stand.black there.0))) next.0 (inr (inr next.1))
-        of_mover Last there coded = absurd there
-        of_mover Nobody there coded = absurd there
+        of_mover Last some there coded =
+            let last = last_listed stand.next stand.last there.2 in
+            gone is.digit (square_in stand.next) to is.below king (off_on stand.next (square_in stand.next) there.1 (in_square stand.next)) (there_on stand.last there.2)
+            (coded ∙ ap (λ b. code_by scales is.digit b (square_in stand.next) to) (sym (stayed from to stand.black there.0))) last.0 (inr (inr last.1))
+        of_mover Nobody some there coded = absurd (some refl)

@@ -91,7 +91,7 @@ same_quotient len i j some above below =
     next n = omega (arith, div-add-mod' n len)
 
 -- a step moves what stands before the ends as far as the code
-ends_moved : (has : Bool) (a k : ℕ) → a % cond {A = ℕ} has 4 2 ≡ (a + k) % cond {A = ℕ} has 4 2 → (a + k) / cond has 4 2 * cond has 4 2 ≡ a / cond has 4 2 * cond has 4 2 + k
+pub ends_moved : (has : Bool) (a k : ℕ) → a % cond {A = ℕ} has 4 2 ≡ (a + k) % cond {A = ℕ} has 4 2 → (a + k) / cond has 4 2 * cond has 4 2 ≡ a / cond has 4 2 * cond has 4 2 + k
 ends_moved true a k same = omega arith
 ends_moved false a k same = omega arith
 

@@ -37,7 +37,7 @@ use Rattle.egt_index.proofs.Shelved.{IsOnShelf, is_on_shelf, on_shelf}
 use Rattle.egt_index.proofs.Summed.{least_where_alone, least_where_first, share_within}
 
 -- wherever the last man stands, he who goes is the same
-equal_men : (x y z : Entry) → man_at y ≡ man_at z → AreEqual x y → AreEqual x z
+pub equal_men : (x y z : Entry) → man_at y ≡ man_at z → AreEqual x y → AreEqual x z
 equal_men None y z same equal = absurd equal
 equal_men (Some x) None z same equal = absurd equal
 equal_men (Some x) (Some y) None same equal = absurd (cc)
@@ -56,7 +56,13 @@ shelved_goes stand from Next shelved = ((shelved.0, shelved.1), shelved.2)
 shelved_goes stand from Last shelved = absurd shelved
 shelved_goes stand from Nobody shelved = absurd shelved
 
-abbrev CountSo : Frame → Side → Scales → Type 0
+shelved_some : (stand : Stand) (from : ℕ) (mover : Mover) → IsShelved stand from mover → mover ≢ Nobody
+shelved_some stand from Black shelved e = cc
+shelved_some stand from Next shelved e = cc
+shelved_some stand from Last shelved e = absurd shelved
+shelved_some stand from Nobody shelved e = absurd shelved
+
+abbrev pub CountSo : Frame → Side → Scales → Type 0
 CountSo frame side scales = (s : Stand) → men_among (list_of s) ≡ men_in_order (material_of frame.class) → IsFilled s → AreScales (material_of frame.class) (man_at s.next) (man_at s.last) side scales
 
 module _ (facts : Facts) (i : ℕ) (p : Setup) (frame : Frame) (passed : Bool) (c_in : frame.class < 36) (at : IsFramedAt frame.class i p frame passed) (from : ℕ) (own : IsOwnAfter frame from)
@@ -121,8 +127,8 @@ module _ (facts : Facts) (i : ℕ) (p : Setup) (frame : Frame) (passed : Bool) (
           (indexed j q here to _ r moved (least white first j to rest q r here moved (left (without_ends frame.class j + scales.side) (share (scale_by scales mover) from) enough)));
       comes = λ j to n code q r here to_in other no_pawn adds sum spells.
           let goes = goes j q here in
-          beside_gone frame.class code from to q r (there j q here).stand frame.side side (on j q here).is.passed (on j q here).is.stand side_is scales (are_there j q here) to_in other no_pawn spells
-          (j / ends_of (material_of frame.class)) (on j q here).men mover (still j q here) goes.0 goes.1 white
+          beside_gone frame.class code from to q r (there j q here).stand frame.side side (on j q here).is.passed (on j q here).is.stand side_is scales (are_there j q here) to_in other (λ his there pawn. absurd (no_pawn his there pawn)) spells
+          (j / ends_of (material_of frame.class)) (on j q here).men mover (shelved_some (there j q here).stand from mover (still j q here)) goes.0 goes.1 white
           (sums code taken (without_ends frame.class j + scales.side) n (share (scale_by scales mover) from) (share (scale_by scales mover) to) sum (taken_is ∙ share_is from) (adds ∙ share_is to));
     }
       where
@@ -205,7 +211,7 @@ module _ (facts : Facts) (i : ℕ) (p : Setup) (frame : Frame) (passed : Bool) (
         (least_at_home facts frame.class to adds.digit code (homing j q here) adds.second r c_in (comes j q here to r moved) adds.below adds.is adds.home adds.greater
         (code_is code (without_ends frame.class j) n adds.digit (next j q here) (last j q here) sum adds.adds (sum_there j q here))));
     comes = λ j to n code q r here to_in other no_pawn adds sum spells.
-        king_gone frame.class code frame.stand.white to q r (king_there j q here).stand frame.side side (king_on j q here).is.passed (king_on j q here).is.stand side_is scales (king_are j q here) to_in other no_pawn spells
+        king_gone frame.class code frame.stand.white to q r (king_there j q here).stand frame.side side (king_on j q here).is.passed (king_on j q here).is.stand side_is scales (king_are j q here) to_in other (λ his there pawn. absurd (no_pawn his there pawn)) spells
         (j / ends_of (material_of frame.class)) (king_on j q here).men refl digit adds.digit (below_class digit below) (square_class digit ∙ is) (below_class adds.digit adds.below) (square_class adds.digit ∙ adds.is)
         (sums code (without_ends frame.class j) n adds.digit sum adds.adds);
   }

@@ -5,7 +5,7 @@ ghost use Rattle.egt_board.specs.Setup.{Setup};
 ghost use Rattle.egt_index.specs.AtIndex.{IsFramedAt};
 ghost use Rattle.egt_index.specs.Code.{Spells};
 ghost use Rattle.egt_class.specs.Material.{material_of};
-ghost use Rattle.egt_index.specs.Fixed.{GoesAlong, StandsFixed};
+ghost use Rattle.egt_index.specs.Fixed.{AreOf, GoesAlong, StandsFixed};
 ghost use Rattle.egt_index.specs.Size.{has_target};
 ghost use Rattle.egt_index.specs.Index.{IsIndex};
 ghost use Rattle.egt_index.specs.Scales.{man_at};
@@ -55,6 +55,7 @@ impl Frame {
     /// index is twice as much above the frame's own.
     #[inline(always)]
     pub fn fixed(&self) -> Fixed
+        ensures of { AreOf self.now result }
         ensures fixed { (i j : ℕ) (p q : Setup) (passed : Bool) → IsFramedAt self.now.class i p self.now passed → AreAlike self.now.class i j → Spells self.now.class j q → IsIndex self.now.class q j →
             StandsFixed q result }
         ensures along { (i k : ℕ) (p q : Setup) (passed : Bool) → has_target (material_of self.now.class) ≡ false → IsFramedAt self.now.class i p self.now passed → AreAlike self.now.class i (i + 2 * k) →

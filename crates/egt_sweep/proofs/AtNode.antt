@@ -17,7 +17,8 @@ use Rattle.egt_table.specs.declared.column.Column.{Column}
 use Rattle.egt_sweep.specs.Edges.{CameTo, Connects, IsAt}
 use Rattle.egt_sweep.specs.Laws.{Laws}
 use Rattle.egt_sweep.specs.Nodes.{setup_at}
-use Rattle.egt_sweep.specs.Runs.{IsNearTo, IsRunOf, times_of}
+use Rattle.egt_sweep.specs.Last.{IsLastCounted, IsLastOn}
+use Rattle.egt_sweep.specs.Runs.{IsNearTo, IsRunOf, IsUntold, times_of}
 use Rattle.egt_sweep.specs.Together.{IsAlikeNode, NeverTargeted}
 use Rattle.egt_sweep.specs.Told.{IsTold, IsToldAt, gives_at, marked_into, times_at}
 use Rattle.egt_sweep.specs.declared.told.Left.{Left}
@@ -26,7 +27,7 @@ use Rattle.egt_sweep.specs.declared.together.Run.{Run}
 use Rattle.egt_sweep.proofs.Combed.{counted_gives, gives_counted, gives_once, sums_alike}
 use Rattle.egt_graph.proofs.Lost.{run_at}
 use Rattle.egt_sweep.proofs.Collecting.{none_ascend}
-use Rattle.egt_sweep.proofs.InRuns.{alike_there, is_alike, marked_ascends, marked_listed, there}
+use Rattle.egt_sweep.proofs.InRuns.{alike_there, is_alike, last_no_king, marked_ascends, marked_listed, there}
 use Rattle.egt_sweep.proofs.OneBefore.{OneSetup, came_once}
 use Rattle.egt_sweep.proofs.Returning.{came_connects, connects_came}
 use Rattle.egt_sweep.proofs.ToldMen.{told_gives}
@@ -80,17 +81,35 @@ module _ (laws : Laws) (one_setup : OneSetup) (column : Column) (c : ℕ) (below
       let same = one_man (setup_at c node).men run.one.to _ his.0 (subst (λ s. Stands (setup_at c node).men s (king_of (other_side (setup_at c node).side))) e stands) his.1.0 in
       his.1.1 (sym (ap (λ (x : Man). x.kind) same))
 
+  -- the last man came to the node
+  last_given : (before after : ℕ) → IsLastCounted column c run.first marks run.last ((node - run.first) / 2) i before after → before < after
+      → (run.last.told ≡ true) × CameTo column c (setup_at c node) (run.last.on + (node - run.first) / 2) i × IsMarked marks i
+  last_given before after counted h = let g = counted.given h in (g.0, subst (λ n. CameTo column c (setup_at c n) (run.last.on + (node - run.first) / 2) i) (there c run node near) g.1, g.2)
+
+  last_gives : (before after : ℕ) → IsLastCounted column c run.first marks run.last ((node - run.first) / 2) i before after → run.last.told ≡ true → CameTo column c (setup_at c node) (run.last.on + (node - run.first) / 2) i
+      → IsMarked marks i → before < after
+  last_gives before after counted told came marked = counted.gives told (subst (λ n. CameTo column c (setup_at c n) (run.last.on + (node - run.first) / 2) i) (sym (there c run node near)) came) marked
+
+  -- nor does the last stand where one of them does
+  king_last : run.king.told ≡ true → run.last.told ≡ true → run.king.to ≢ run.last.on + (node - run.first) / 2
+  king_last king last e =
+      last_no_king c run node near at is.last last (subst (λ s. Stands (setup_at c node).men s (king_of (other_side (setup_at c node).side))) e (is.king_there king node (is_alike c run node near at)).stands)
+
+  one_last : run.one.told ≡ true → run.last.told ≡ true → run.one.to ≢ run.last.on + (node - run.first) / 2
+  one_last one last = is.apart one last ((node - run.first) / 2) (alike_there c run node near at)
+
   -- together they are counted as the edge is
-  pub node_counted : (xs : List ℕ) → IsStrictlyIncreasing xs
-      → (Contains xs i → (s : ℕ) × CameTo column c (setup_at c node) s i × IsMarked marks i × (¬ IsToldAt run.king s) × (¬ IsToldAt run.one s))
-      → ((s : ℕ) → CameTo column c (setup_at c node) s i → IsMarked marks i → ¬ IsToldAt run.king s → ¬ IsToldAt run.one s → Contains xs i)
-      → times_of run i node + count_of i xs ≡ count_of i (marked_into column c marks node)
-  node_counted xs ascends sound complete = elim (cases_eq (count_of i (marked_into column c marks node)) 0) [
+  pub node_counted : (xs : List ℕ) (before after : ℕ) → IsStrictlyIncreasing xs → IsLastCounted column c run.first marks run.last ((node - run.first) / 2) i before after
+      → (Contains xs i → (s : ℕ) × IsUntold run node s × CameTo column c (setup_at c node) s i × IsMarked marks i)
+      → ((s : ℕ) → IsUntold run node s → CameTo column c (setup_at c node) s i → IsMarked marks i → Contains xs i)
+      → times_of run i node + (after + count_of i xs) ≡ before + count_of i (marked_into column c marks node)
+  node_counted xs before after ascends counted sound complete = elim (cases_eq (count_of i (marked_into column c marks node)) 0) [
     | inl none ↦
         let k = none_of (times_at run.king run.first i node) (λ h. let g = given run.king is.king h in no_edge none run.king.to g.1 g.2) in
         let o = none_of (times_at run.one run.first i node) (λ h. let g = given run.one is.one h in no_edge none run.one.to g.1 g.2) in
-        let x = none_of (count_of i xs) (λ h. let g = sound (counted_contains i xs h) in no_edge none g.0 g.1 g.2) in
-        omega (arith, k, o, x, none)
+        let l = no_more (λ h. let g = last_given before after counted h in no_edge none _ g.1 g.2) in
+        let x = none_of (count_of i xs) (λ h. let g = sound (counted_contains i xs h) in no_edge none g.0 g.2 g.3) in
+        omega (arith, k, o, l, x, none)
     | inr edged ↦
         let edge = (marked_listed laws column c below marks node i).0 (counted_contains i (marked_into column c marks node) (omega (arith, edged))) in
         let came = connects_came laws c below column (setup_at c node) node i at edge.0 in
@@ -101,34 +120,51 @@ module _ (laws : Laws) (one_setup : OneSetup) (column : Column) (c : ℕ) (below
       none_of : (n : ℕ) → (0 < n → ⊥) → n ≡ 0
       none_of n none = elim (cases_eq n 0) [ inl e ↦ e | inr h ↦ absurd (none (omega (arith, h))) ]
 
+      no_more : (before < after → ⊥) → after ≡ before
+      no_more none = elim (cases_eq after before) [ inl e ↦ e | inr h ↦ absurd (none (let more = counted.more in omega (arith, h))) ]
+
       no_edge : count_of i (marked_into column c marks node) ≡ 0 → (s : ℕ) → CameTo column c (setup_at c node) s i → IsMarked marks i → ⊥
       no_edge none s came marked =
           let some = has_counted i (marked_into column c marks node) ((marked_listed laws column c below marks node i).1 (came_connects laws c below column (setup_at c node) node i s at came, marked)) in
           omega (arith, none, some)
 
-      by_man : (s : ℕ) → CameTo column c (setup_at c node) s i → IsMarked marks i → count_of i (marked_into column c marks node) ≡ 1 → times_of run i node + count_of i xs ≡ count_of i (marked_into column c marks node)
+      by_man : (s : ℕ) → CameTo column c (setup_at c node) s i → IsMarked marks i → count_of i (marked_into column c marks node) ≡ 1
+          → times_of run i node + (after + count_of i xs) ≡ before + count_of i (marked_into column c marks node)
       by_man s came marked all = elim (told_at run.king s) [
         | inl king ↦
             let here = subst (λ t. CameTo column c (setup_at c node) t i) king.1 came in
             let k = gives run.king is.king king.0 here marked in
             let most_k = most run.king is.king in
             let o = none_of (times_at run.one run.first i node) (λ h. let g = given run.one is.one h in apart king.0 g.0 (once run.king.to run.one.to here g.1)) in
-            let x = none_of (count_of i xs) (λ h. let g = sound (counted_contains i xs h) in g.3 (king.0, once g.0 run.king.to g.1 here)) in
-            omega (arith, k, most_k, o, x, all)
+            let l = no_more (λ h. let g = last_given before after counted h in king_last king.0 g.0 (once run.king.to _ here g.1)) in
+            let x = none_of (count_of i xs) (λ h. let g = sound (counted_contains i xs h) in g.1.king (king.0, once g.0 run.king.to g.2 here)) in
+            omega (arith, k, most_k, o, l, x, all)
         | inr off ↦ elim (told_at run.one s) [
           | inl one ↦
               let here = subst (λ t. CameTo column c (setup_at c node) t i) one.1 came in
               let o = gives run.one is.one one.0 here marked in
               let most_o = most run.one is.one in
               let k = none_of (times_at run.king run.first i node) (λ h. let g = given run.king is.king h in apart g.0 one.0 (once run.king.to run.one.to g.1 here)) in
-              let x = none_of (count_of i xs) (λ h. let g = sound (counted_contains i xs h) in g.4 (one.0, once g.0 run.one.to g.1 here)) in
-              omega (arith, o, most_o, k, x, all)
-          | inr away ↦
-              let x = has_counted i xs (complete s came marked off away) in
-              let most_x = count_ascending i xs ascends in
-              let k = none_of (times_at run.king run.first i node) (λ h. let g = given run.king is.king h in off (g.0, once s run.king.to came g.1)) in
-              let o = none_of (times_at run.one run.first i node) (λ h. let g = given run.one is.one h in away (g.0, once s run.one.to came g.1)) in
-              omega (arith, x, most_x, k, o, all)
+              let l = no_more (λ h. let g = last_given before after counted h in one_last one.0 g.0 (once run.one.to _ here g.1)) in
+              let x = none_of (count_of i xs) (λ h. let g = sound (counted_contains i xs h) in g.1.one (one.0, once g.0 run.one.to g.2 here)) in
+              omega (arith, o, most_o, k, l, x, all)
+          | inr away ↦ elim (last_at s) [
+            | inl last ↦
+                let here = subst (λ t. CameTo column c (setup_at c node) t i) last.1 came in
+                let l = last_gives before after counted last.0 here marked in
+                let most_l = counted.most in
+                let k = none_of (times_at run.king run.first i node) (λ h. let g = given run.king is.king h in king_last g.0 last.0 (once run.king.to _ g.1 here)) in
+                let o = none_of (times_at run.one run.first i node) (λ h. let g = given run.one is.one h in one_last g.0 last.0 (once run.one.to _ g.1 here)) in
+                let x = none_of (count_of i xs) (λ h. let g = sound (counted_contains i xs h) in g.1.last (last.0, once g.0 _ g.2 here)) in
+                omega (arith, l, most_l, k, o, x, all)
+            | inr past ↦
+                let x = has_counted i xs (complete s (record { king = off; one = away; last = past }) came marked) in
+                let most_x = count_ascending i xs ascends in
+                let k = none_of (times_at run.king run.first i node) (λ h. let g = given run.king is.king h in off (g.0, once s run.king.to came g.1)) in
+                let o = none_of (times_at run.one run.first i node) (λ h. let g = given run.one is.one h in away (g.0, once s run.one.to came g.1)) in
+                let l = no_more (λ h. let g = last_given before after counted h in past (g.0, once s _ came g.1)) in
+                omega (arith, x, most_x, k, o, l, all)
+          ]
         ]
       ]
         where
@@ -141,19 +177,21 @@ module _ (laws : Laws) (one_setup : OneSetup) (column : Column) (c : ℕ) (below
             ]
           ]
 
--- where nothing is left untold the run tells all
-pub nodes_told : (laws : Laws) (one_setup : OneSetup) (column : Column) (c : ℕ) (below : c < 36) (marks : List ℕ) (run : Run) → IsRunOf column c marks run → run.first < run.until → NeverTargeted c → run.partial ≡ false → (i : ℕ)
-    (nodes : List ℕ) (k end : ℕ) → ((m : ℕ) → m < length nodes → IsAt c (slice_index nodes m) (setup_at c (slice_index nodes m))) → end ≤ length nodes → ((m : ℕ) → k ≤ m → m < end → IsNearTo c run (slice_index nodes m))
-    → sum_by (times_of run i) (slice_range nodes k end) ≡ sum_by (λ n. count_of i (marked_into column c marks n)) (slice_range nodes k end)
-nodes_told laws one_setup column c below marks run is some never closed i nodes k end each within near =
-    sums_alike (times_of run i) (λ n. count_of i (marked_into column c marks n)) (λ n. IsNearTo c run n × IsAt c n (setup_at c n)) there (slice_range nodes k end)
-    (λ n has. let at = run_at nodes k end has.0 n has.1 in
-    let m = k + has.0 in
-    let is_n : slice_index nodes m ≡ n = sym at.2 ∙ has.2 in
-    subst (λ x. IsNearTo c run x × IsAt c x (setup_at c x)) is_n (near m (omega arith) at.0, each m at.1))
-  where
-    there : (n : ℕ) → IsNearTo c run n × IsAt c n (setup_at c n) → times_of run i n ≡ count_of i (marked_into column c marks n)
-    there n h =
-        let all = node_counted laws one_setup column c below marks run n is some h.0 h.1 never i [] none_ascend (λ has. absurd (omega (arith, has.1)))
-        (λ s came marked off away. absurd (elim (is.beside closed n s i (is_alike c run n h.0 h.1) came) [ inl his ↦ off his | inr his ↦ away his ])) in
-        omega (arith, all)
+          last_at : (t : ℕ) → IsLastOn run.last ((node - run.first) / 2) t ⊎ (¬ IsLastOn run.last ((node - run.first) / 2) t)
+          last_at t = elim (cases_Bool run.last.told) [
+            | inr f ↦ inr (λ h. false≢true (sym f ∙ h.0))
+            | inl yes_told ↦ elim (cases_eq t (run.last.on + (node - run.first) / 2)) [
+              | inl e ↦ inl (yes_told, e)
+              | inr ne ↦ inr (λ h. ne h.1)
+            ]
+          ]
+
+  -- where nothing is left untold no man came of whom nothing is told
+  pub nobody_untold : run.partial ≡ false → (s : ℕ) → IsUntold run node s → CameTo column c (setup_at c node) s i → ⊥
+  nobody_untold closed s untold came =
+      none (is.beside closed ((node - run.first) / 2) s i (alike_there c run node near at) (subst (λ n. CameTo column c (setup_at c n) s i) (sym (there c run node near)) came))
+    where
+      none : IsToldAt run.king s ⊎ (IsToldAt run.one s ⊎ IsLastOn run.last ((node - run.first) / 2) s) → ⊥
+      none (inl h) = untold.king h
+      none (inr (inl h)) = untold.one h
+      none (inr (inr h)) = untold.last h

@@ -125,7 +125,7 @@ one_passes p v xs ascends only =
 gives_parts : (k i : ℕ) (left : Left) → gives_at k i left ≡ true → (bit_at left.bits k ≡ 1) × (left.index + 2 * k ≡ i)
 gives_parts k i left t = let parts = and_parts _ _ t in (eqb-true _ _ parts.0, eqb-true _ _ parts.1)
 
-both_true : (a b : Bool) → a ≡ true → b ≡ true → (a && b) ≡ true
+pub both_true : (a b : Bool) → a ≡ true → b ≡ true → (a && b) ≡ true
 both_true true b s t = t
 both_true false b s t = s
 
@@ -273,15 +273,14 @@ slice_more nodes k m le lt =
 pub slice_none : (nodes : List ℕ) (k : ℕ) → slice_range nodes k k ≡ []
 slice_none nodes k = ap (λ n. take n (drop k nodes)) (let e : k - k ≡ 0 = omega arith in e)
 
--- one node's list more
-pub counted_more : (f : ℕ → List ℕ) (t : ℕ → ℕ) (i : ℕ) (nodes : List ℕ) (k m start : ℕ) (list found more : List ℕ) → k ≤ m → m < length nodes → more ≡ list ++ found
-    → t (slice_index nodes m) + count_of i found ≡ count_of i (f (slice_index nodes m))
-    → sum_by t (slice_range nodes k m) + count_of i list ≡ start + count_of i (flat_map f (slice_range nodes k m))
-    → sum_by t (slice_range nodes k (m + 1)) + count_of i more ≡ start + count_of i (flat_map f (slice_range nodes k (m + 1)))
-counted_more f t i nodes k m start list found more le lt grown here before =
+-- what one node has more
+pub counted_more : (f : ℕ → List ℕ) (t : ℕ → ℕ) (i : ℕ) (nodes : List ℕ) (k m start old new : ℕ) → k ≤ m → m < length nodes
+    → t (slice_index nodes m) + new ≡ old + count_of i (f (slice_index nodes m))
+    → sum_by t (slice_range nodes k m) + old ≡ start + count_of i (flat_map f (slice_range nodes k m))
+    → sum_by t (slice_range nodes k (m + 1)) + new ≡ start + count_of i (flat_map f (slice_range nodes k (m + 1)))
+counted_more f t i nodes k m start old new le lt here before =
     let a = ap (sum_by t) (slice_more nodes k m le lt) ∙ sum_by_push t (slice_range nodes k m) (slice_index nodes m) in
     let b = ap (λ (xs : List ℕ). count_of i (flat_map f xs)) (slice_more nodes k m le lt) ∙ count_more f i (slice_range nodes k m) (slice_index nodes m) in
-    let d = ap (count_of i) grown ∙ count-append i list found in
     omega arith
 
 -- the parts of a list up to a place, and from there up to another

@@ -22,16 +22,18 @@ use Rattle.egt_class.specs.Material.{material_of}
 use Rattle.egt_class.specs.Membership.{IsOf}
 use Rattle.egt_graph.specs.Passing.{passing_below, passing_ascends, passing_has, passing_is, passing_passes}
 use Rattle.egt_graph.specs.Undecided.{IsMarked, bit_of, word_of}
-use Rattle.egt_index.specs.Fixed.{StandsFixed}
+use Rattle.egt_index.specs.Fixed.{GoesAlong, StandsFixed}
 use Rattle.egt_index.specs.Size.{has_target, size_of}
 use Rattle.egt_index.specs.declared.fixed.Fixed.{Fixed}
 use Rattle.egt_table.specs.declared.column.Column.{Column}
 use Rattle.egt_sweep.specs.Edges.{AtEntry, CameTo, Connects, IsAt, IsTakenBack}
 use Rattle.egt_sweep.specs.Laws.{Laws}
 use Rattle.egt_sweep.specs.Nodes.{connects, position_at, setup_at}
-use Rattle.egt_sweep.specs.Runs.{ArePlaces, IsNearTo, IsRunOf}
+use Rattle.egt_sweep.specs.Runs.{ArePlaces, IsNearTo, IsRunOf, IsUntold}
 use Rattle.egt_sweep.specs.Together.{IsAlikeNode, NeverTargeted}
-use Rattle.egt_sweep.specs.Told.{CameOf, CameUntold, IsTold, IsToldAt, marked_into}
+use Rattle.egt_sweep.specs.Last.{IsLastOn, IsLastTold}
+use Rattle.egt_sweep.specs.Told.{CameUntold, IsTold, IsToldAt, marked_into}
+use Rattle.egt_sweep.specs.declared.last.Last.{Last}
 use Rattle.egt_sweep.specs.declared.together.Run.{Run}
 use Rattle.egt_sweep.specs.declared.told.Told.{Told}
 use Rattle.std.proofs.lemmas.Nat.Bits.{bit_at-zero}
@@ -65,6 +67,18 @@ module _ (c : ℕ) (run : Run) (node : ℕ) (near : IsNearTo c run node) where
     pub alike_there : IsAlikeNode c run.first (run.first + 2 * ((node - run.first) / 2))
     alike_there = subst (IsAlikeNode c run.first) (sym there) is_alike
 
+-- the last man is no king
+pub last_no_king : (c : ℕ) (run : Run) (node : ℕ) → IsNearTo c run node → IsAt c node (setup_at c node) → {column : Column} {marks : List ℕ} → IsLastTold column c run.first marks run.last → run.last.told ≡ true
+    → {side : Side} → Stands (setup_at c node).men (run.last.on + (node - run.first) / 2) (king_of side) → ⊥
+last_no_king c run node near at is told king =
+    let there = is.there told ((node - run.first) / 2) (alike_there c run node near at) in
+    let stands = subst (λ n. Stands (setup_at c n).men (run.last.on + (node - run.first) / 2) run.last.man) (there_is c run node near) there.stands in
+    let same = one_man (setup_at c node).men _ _ _ stands king in
+    (is.opposite told).no_king (ap (λ (x : Man). x.kind) same)
+  where
+    there_is : (c : ℕ) (run : Run) (node : ℕ) (near : IsNearTo c run node) → run.first + 2 * ((node - run.first) / 2) ≡ node
+    there_is c run node near = there c run node near
+
 -- of a man of whom nothing is told nothing said is wrong
 pub nothing_told : (column : Column) (c first : ℕ) (marks : List ℕ) (told : Told) → told.told ≡ false → IsTold column c first marks told
 nothing_told column c first marks told untold = record {
@@ -92,24 +106,33 @@ never_targeted laws c never law = λ j at.
 
 module _ (laws : Laws) (column : Column) (c : ℕ) where
   -- the men of the side that waits are its king, the one man beside it, and the last
-  pub none_beside : (first : ℕ) (fixed : Fixed) (king one : Told) → ((j : ℕ) → IsAlikeNode c first j → StandsFixed (setup_at c j) fixed)
+  pub none_beside : (first : ℕ) (fixed : Fixed) (king one : Told) (last : Last) → ((j : ℕ) → IsAlikeNode c first j → StandsFixed (setup_at c j) fixed)
+      → ((k : ℕ) → IsAlikeNode c first (first + 2 * k) → GoesAlong (setup_at c (first + 2 * k)) fixed k)
       → king.told ≡ true → ((p : Setup) → StandsFixed p fixed → IsKingOn p.men (other_side fixed.side) king.to)
       → ((man : Man) (s : ℕ) → fixed.one ≡ Some (man, s) → man.side ≡ other_side fixed.side → IsTakenBack column man → IsToldAt one s)
-      → ((man : Man) → fixed.last ≡ Some man → man.side ≡ other_side fixed.side → IsTakenBack column man → ⊥)
-      → (j s i : ℕ) → IsAlikeNode c first j → CameTo column c (setup_at c j) s i → IsToldAt king s ⊎ IsToldAt one s
-  none_beside first fixed king one each told there his never j s i alike came = elim (king_or_not man.kind) [
+      → (last.told ≡ true → fixed.last_on ≡ Some last.on)
+      → ((man : Man) → fixed.last ≡ Some man → man.side ≡ other_side fixed.side → IsTakenBack column man → last.told ≡ true)
+      → (k s i : ℕ) → IsAlikeNode c first (first + 2 * k) → CameTo column c (setup_at c (first + 2 * k)) s i → IsToldAt king s ⊎ (IsToldAt one s ⊎ IsLastOn last k s)
+  none_beside first fixed king one last each along told there his on last_his k s i alike came = elim (king_or_not man.kind) [
     | inl is ↦ inl (told, (there q stands).only s (subst (λ (x : Man). Stands q.men s x) (λ k. record { side = theirs k; kind = is k }) held.stands))
     | inr piece ↦ elim (stands.others s man held.stands piece) [
-      | inl e ↦ inr (his man s e theirs back)
-      | inr e ↦ absurd (never man e theirs back)
+      | inl e ↦ inr (inl (his man s e theirs back))
+      | inr e ↦ elim ((along k alike).others s man held.stands piece) [
+        | inl one_there ↦ inr (inl (his man s one_there theirs back))
+        | inr h ↦
+            let of_him = last_his man e theirs back in
+            let same : Some h.0 ≡ Some last.on = sym h.1 ∙ on of_him in
+            let at : h.0 ≡ last.on = cc in
+            inr (inr (of_him, h.2 ∙ ap (λ (n : ℕ). n + k) at))
+      ]
     ]
   ]
     where
       q : Setup
-      q = setup_at c j
+      q = setup_at c (first + 2 * k)
 
       stands : StandsFixed q fixed
-      stands = each j alike
+      stands = each (first + 2 * k) alike
 
       held : IsHeld q.men s (other_side q.side)
       held = subst (λ t. IsHeld q.men t (other_side q.side)) came.here (came_held came.before q came.move came.comes)
@@ -130,25 +153,34 @@ module _ (laws : Laws) (column : Column) (c : ℕ) where
     abbrev pub side : Side
     side = other_side (setup_at c node).side
 
+    -- he stands on one of these squares of whom something is told
+    abbrev pub IsToldOf : ℕ → Type 0
+    IsToldOf s = IsToldAt run.king s ⊎ (IsToldAt run.one s ⊎ IsLastOn run.last ((node - run.first) / 2) s)
+
     -- the king of whom nothing is told, and those beside him: who came as nobody tells
-    pub rest_sound : (king : ℕ) (told : SquareSet) (one other : Option (Man × ℕ)) (first second third : List ℕ) (i : ℕ) → IsKingOn (setup_at c node).men side king → ((s : ℕ) → IsToldAt run.king s ⊎ IsToldAt run.one s → Has told s) → first ≡ []
+    pub rest_sound : (king : ℕ) (told : SquareSet) (one other : Option (Man × ℕ)) (first second third : List ℕ) (i : ℕ) → IsKingOn (setup_at c node).men side king → ((s : ℕ) → IsToldOf s → Has told s) → first ≡ []
         → (Contains second i → Contains first i ⊎ ((run.king.told ≡ false) × CameTo column c (setup_at c node) king i × IsMarked marks i))
-        → (Contains third i ↔ (Contains second i ⊎ CameOf column c (setup_at c node) told marks one other run.partial i))
-        → Contains third i → (s : ℕ) × CameTo column c (setup_at c node) s i × IsMarked marks i × (¬ IsToldAt run.king s) × (¬ IsToldAt run.one s)
+        → (Contains third i ↔ ((Contains second i ⊎ AtEntry side one (CameUntold column c (setup_at c node) told marks) i) ⊎ AtEntry side other (CameUntold column c (setup_at c node) told marks) i))
+        → Contains third i → (s : ℕ) × IsUntold run node s × CameTo column c (setup_at c node) s i × IsMarked marks i
     rest_sound king told one other first second third i on tells none by_king by_others has = elim (by_others.0 has) [
-      | inr rest ↦ elim rest.1 [
-        | inl e ↦ entry one e
-        | inr e ↦ entry other e
-      ]
-      | inl before ↦ elim (by_king before) [
-        | inr his ↦ (king, his.1, his.2, (λ h. false≢true (sym his.0 ∙ h.0)), λ h. kingless h)
-        | inl nothing ↦ absurd (let c = subst (λ (xs : List ℕ). Contains xs i) none nothing in omega (arith, c.1))
+      | inr e ↦ entry other e
+      | inl earlier ↦ elim earlier [
+        | inr e ↦ entry one e
+        | inl before ↦ elim (by_king before) [
+          | inr his ↦ (king, record { king = λ h. false≢true (sym his.0 ∙ h.0); one = λ h. kingless h; last = λ h. no_last h }, his.1, his.2)
+          | inl nothing ↦ absurd (let c = subst (λ (xs : List ℕ). Contains xs i) none nothing in omega (arith, c.1))
+        ]
       ]
     ]
       where
-        entry : (o : Option (Man × ℕ)) → AtEntry side o (CameUntold column c (setup_at c node) told marks) i → (s : ℕ) × CameTo column c (setup_at c node) s i × IsMarked marks i × (¬ IsToldAt run.king s) × (¬ IsToldAt run.one s)
+        entry : (o : Option (Man × ℕ)) → AtEntry side o (CameUntold column c (setup_at c node) told marks) i → (s : ℕ) × IsUntold run node s × CameTo column c (setup_at c node) s i × IsMarked marks i
         entry None nobody = absurd nobody
-        entry (Some e) at_it = (e.1, at_it.1.came, at_it.1.marked, (λ h. at_it.1.off (tells e.1 (inl h))), λ h. at_it.1.off (tells e.1 (inr h)))
+        entry (Some e) at_it = (
+          e.1,
+          record { king = λ h. at_it.1.off (tells e.1 (inl h)); one = λ h. at_it.1.off (tells e.1 (inr (inl h))); last = λ h. at_it.1.off (tells e.1 (inr (inr h))) },
+          at_it.1.came,
+          at_it.1.marked,
+        )
 
         kingless : IsToldAt run.one king → ⊥
         kingless h =
@@ -156,39 +188,31 @@ module _ (laws : Laws) (column : Column) (c : ℕ) where
             let same = one_man (setup_at c node).men run.one.to _ his.0 (subst (λ s. Stands (setup_at c node).men s (king_of side)) h.1 on.stands) his.1.0 in
             his.1.1 (sym (ap (λ (x : Man). x.kind) same))
 
-    pub rest_complete : (king : ℕ) (told : SquareSet) (one other : Option (Man × ℕ)) (second third : List ℕ) (i : ℕ) → IsKingOn (setup_at c node).men side king → ((s : ℕ) → Has told s → IsToldAt run.king s ⊎ IsToldAt run.one s)
+        no_last : IsLastOn run.last ((node - run.first) / 2) king → ⊥
+        no_last h = last_no_king c run node near at (is.last) h.0 (subst (λ s. Stands (setup_at c node).men s (king_of side)) h.1 on.stands)
+
+    pub rest_complete : (king : ℕ) (told : SquareSet) (one other : Option (Man × ℕ)) (second third : List ℕ) (i : ℕ) → IsKingOn (setup_at c node).men side king → ((s : ℕ) → Has told s → IsToldOf s)
         → ((s : ℕ) (goes : ℕ → ℕ → Type 0) (k : ℕ) → IsHeld (setup_at c node).men s side → s ≢ king → goes s k → AtEntry side one goes k ⊎ AtEntry side other goes k)
         → (run.king.told ≡ false → CameTo column c (setup_at c node) king i → IsMarked marks i → Contains second i)
-        → (Contains third i ↔ (Contains second i ⊎ CameOf column c (setup_at c node) told marks one other run.partial i))
-        → (s : ℕ) → CameTo column c (setup_at c node) s i → IsMarked marks i → ¬ IsToldAt run.king s → ¬ IsToldAt run.one s → Contains third i
-    rest_complete king told one other second third i on tells held by_king by_others s came marked off away = elim (cases_eq s king) [
+        → (Contains third i ↔ ((Contains second i ⊎ AtEntry side one (CameUntold column c (setup_at c node) told marks) i) ⊎ AtEntry side other (CameUntold column c (setup_at c node) told marks) i))
+        → (s : ℕ) → IsUntold run node s → CameTo column c (setup_at c node) s i → IsMarked marks i → Contains third i
+    rest_complete king told one other second third i on tells held by_king by_others s untold came marked = elim (cases_eq s king) [
       | inl e ↦ elim (cases_Bool run.king.told) [
-        | inl is_told ↦ absurd (off (is_told, e ∙ (is.king_there is_told node (is_alike c run node near at)).only king on.stands))
-        | inr untold ↦ by_others.1 (inl (by_king untold (subst (λ t. CameTo column c (setup_at c node) t i) e came) marked))
+        | inl is_told ↦ absurd (untold.king (is_told, e ∙ (is.king_there is_told node (is_alike c run node near at)).only king on.stands))
+        | inr unsaid ↦ by_others.1 (inl (inl (by_king unsaid (subst (λ t. CameTo column c (setup_at c node) t i) e came) marked)))
       ]
-      | inr apart ↦ elim (cases_Bool run.partial) [
-        | inl may ↦
-            let here = subst (λ t. IsHeld (setup_at c node).men t side) came.here (came_held came.before (setup_at c node) came.move came.comes) in
-            by_others.1 (inr (may, held s (CameUntold column c (setup_at c node) told marks) i here apart (record { off = λ has. elim (tells s has) [ inl h ↦ off h | inr h ↦ away h ]; came = came; marked = marked })))
-        | inr closed ↦ elim (is.beside closed node s i (is_alike c run node near at) came) [
-          | inl his ↦ absurd (off his)
-          | inr his ↦ absurd (away his)
-        ]
-      ]
+      | inr apart ↦
+          let here = subst (λ t. IsHeld (setup_at c node).men t side) came.here (came_held came.before (setup_at c node) came.move came.comes) in
+          elim (held s (CameUntold column c (setup_at c node) told marks) i here apart (record { off = λ has. none (tells s has); came = came; marked = marked })) [
+            | inl e ↦ by_others.1 (inl (inr e))
+            | inr e ↦ by_others.1 (inr e)
+          ]
     ]
-
--- two kinds of members more, where they may be any
-pub members_if : {A B M N : Type 0} {b : Bool} → (A ↔ ((B ⊎ M) ⊎ N)) → b ≡ true → A ↔ (B ⊎ ((b ≡ true) × (M ⊎ N)))
-members_if there may = (
-  λ a. elim (there.0 a) [
-    | inr n ↦ inr (may, inr n)
-    | inl earlier ↦ elim earlier [ inl b ↦ inl b | inr m ↦ inr (may, inl m) ]
-  ],
-  λ h. there.1 (elim h [
-    | inl b ↦ inl (inl b)
-    | inr o ↦ elim o.1 [ inl m ↦ inl (inr m) | inr n ↦ inr n ]
-  ]),
-)
+      where
+        none : IsToldOf s → ⊥
+        none (inl h) = untold.king h
+        none (inr (inl h)) = untold.one h
+        none (inr (inr h)) = untold.last h
 
 -- what is in a list of lists is in one of them
 pub in_one : (f : ℕ → List ℕ) (xs : List ℕ) (i : ℕ) → Contains (flat_map f xs) i ↔ ((j : ℕ) × Contains xs j × Contains (f j) i)

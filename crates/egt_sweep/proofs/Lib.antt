@@ -35,4 +35,5 @@ pub mod Runs
 pub mod Shelved
 pub mod Following
 pub mod ToldMen
+pub mod LastMen
 pub mod InRuns

@@ -14,4 +14,5 @@ pub mod Drawn
 pub mod Together
 pub mod Shelves
 pub mod Told
+pub mod Last
 pub mod Runs

@@ -1,5 +1,5 @@
 -- What is told at once of nodes that differ by the last man's square alone.
-use Rattle.std.specs.Prelude.{◌≡◌, ℕ, ◌+◌, ◌-◌, ◌/◌, ◌<◌, ◌≤◌, ◌⊎◌, true, false, List, Some, slice_index}
+use Rattle.std.specs.Prelude.{◌≡◌, ◌≢◌, ℕ, ◌+◌, ◌*◌, ◌-◌, ◌/◌, ◌<◌, ◌≤◌, ◌⊎◌, true, false, List, Some, slice_index}
 use Rattle.egt_board.specs.Beside.{StandsBeside}
 use Rattle.egt_board.specs.Man.{other_side}
 use Rattle.egt_board.specs.Setup.{Setup, IsKingOn}
@@ -10,6 +10,7 @@ use Rattle.egt_index.specs.Axis.{StandsAlone, is_on_axis}
 use Rattle.egt_index.specs.Shelf.{AreAlike}
 use Rattle.egt_table.specs.declared.column.Column.{Column}
 use Rattle.egt_sweep.specs.Edges.{CameTo}
+use Rattle.egt_sweep.specs.Last.{IsLastOn, IsLastTold}
 use Rattle.egt_sweep.specs.Nodes.{setup_at}
 use Rattle.egt_sweep.specs.Shelves.{AreNear}
 use Rattle.egt_sweep.specs.Together.{IsAlikeNode}
@@ -30,10 +31,12 @@ pub record IsRunOf (column : Column) (c : ℕ) (marks : List ℕ) (run : Run) : 
   pub few : run.until ≤ run.first + 128
   pub king : IsTold column c run.first marks run.king
   pub one : IsTold column c run.first marks run.one
+  pub last : IsLastTold column c run.first marks run.last
   pub king_there : run.king.told ≡ true → (j : ℕ) → IsAlikeNode c run.first j → IsKingOn (setup_at c j).men (other_side (setup_at c j).side) run.king.to
   pub one_there : run.one.told ≡ true → (j : ℕ) → IsAlikeNode c run.first j → (man : Man) × StandsBeside (setup_at c j).men (Some (man, run.one.to))
   pub aside : run.first < run.until → (j : ℕ) → IsAlikeNode c run.first j → IsAside c (setup_at c j)
-  pub beside : run.partial ≡ false → (j s i : ℕ) → IsAlikeNode c run.first j → CameTo column c (setup_at c j) s i → IsToldAt run.king s ⊎ IsToldAt run.one s
+  pub apart : run.one.told ≡ true → run.last.told ≡ true → (k : ℕ) → IsAlikeNode c run.first (run.first + 2 * k) → run.one.to ≢ run.last.on + k
+  pub beside : run.partial ≡ false → (k s i : ℕ) → IsAlikeNode c run.first (run.first + 2 * k) → CameTo column c (setup_at c (run.first + 2 * k)) s i → IsToldAt run.king s ⊎ (IsToldAt run.one s ⊎ IsLastOn run.last k s)
 
 -- the node is less than 128 above the first of the run, and differs from it by the last man's square alone
 pub record IsNearTo (c : ℕ) (run : Run) (node : ℕ) : Type 0 where
@@ -41,7 +44,13 @@ pub record IsNearTo (c : ℕ) (run : Run) (node : ℕ) : Type 0 where
   pub near : node < run.first + 128
   pub alike : AreAlike c run.first node
 
--- how often what the run tells gives i at the node
+-- at the node no man of whom the run tells stands on the square
+pub record IsUntold (run : Run) (node s : ℕ) : Type 0 where
+  pub king : ¬ IsToldAt run.king s
+  pub one : ¬ IsToldAt run.one s
+  pub last : ¬ IsLastOn run.last ((node - run.first) / 2) s
+
+-- how often what the run tells of the men who stand still gives i at the node
 abbrev pub times_of : Run → ℕ → ℕ → ℕ
 times_of run i node = times_at run.king run.first i node + times_at run.one run.first i node
 

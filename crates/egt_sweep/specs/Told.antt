@@ -73,11 +73,6 @@ pub record CameUntold (column : Column) (c : ℕ) (q : Setup) (told : SquareSet)
   pub came : CameTo column c q to i
   pub marked : IsMarked marks i
 
--- one of the two men beside the kings, of whom nothing is told, came from a marked one, if any such man may have moved
-abbrev pub CameOf : Column → ℕ → Setup → SquareSet → List ℕ → Option (Man × ℕ) → Option (Man × ℕ) → Bool → ℕ → Type 0
-CameOf column c q told marks one other may i =
-    (may ≡ true) × (AtEntry (other_side q.side) one (CameUntold column c q told marks) i ⊎ AtEntry (other_side q.side) other (CameUntold column c q told marks) i)
-
 -- the marked nodes from which moves that go on lead to the node
 abbrev pub marked_into : Column → ℕ → List ℕ → ℕ → List ℕ
 marked_into column c marks j = passing_below (size_of c) (λ i. connects column c i j && (bit_at (slice_index marks (word_of i)) (bit_of i) == 1))

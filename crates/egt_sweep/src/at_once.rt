@@ -1,15 +1,18 @@
 //! The marked nodes from which moves that go on lead to several nodes: each as often as it has such moves. Of the men of whom a run tells, the moves to
 //! all of its nodes are taken back at once, by combs.
-ghost use Rattle.std.specs.Prelude.{◌≡◌, ◌+◌, ◌*◌, ◌-◌, ◌≤◌, ◌<◌, ℕ, List, true, false, All, [], length, slice_index, sum_by};
-ghost use Rattle.std.specs.List.{flat_map, slice_range};
+ghost use Rattle.std.specs.Prelude.{◌≡◌, ◌+◌, ◌*◌, ◌-◌, ◌≤◌, ◌<◌, ◌++◌, ℕ, List, true, false, All, [], length, slice_index, sum_by};
+ghost use Rattle.std.specs.List.{Contains, flat_map, slice_range};
 ghost use Rattle.std.specs.List.Sorted.{IsStrictlyIncreasing};
 ghost use Rattle.arrayvec.specs.ArrayVec.{array_vec_len};
 ghost use Rattle.egt_graph.specs.Columns.{count_of};
 ghost use Rattle.egt_graph.specs.Combs.{times_in};
+ghost use Rattle.egt_class.specs.Material.{material_of};
 ghost use Rattle.egt_index.specs.Frame.{IsFrame};
-ghost use Rattle.egt_sweep.specs.Edges.{IsAt};
+ghost use Rattle.egt_index.specs.Size.{has_target};
+ghost use Rattle.egt_graph.specs.Undecided.{IsMarked};
+ghost use Rattle.egt_sweep.specs.Edges.{CameTo, IsAt};
 ghost use Rattle.egt_sweep.specs.Nodes.{setup_at};
-ghost use Rattle.egt_sweep.specs.Runs.{ArePlaces, IsNearTo, IsRunOf, times_of};
+ghost use Rattle.egt_sweep.specs.Runs.{ArePlaces, IsNearTo, IsRunOf, IsUntold, times_of};
 ghost use Rattle.egt_sweep.specs.Shelves.{IsShelf};
 ghost use Rattle.egt_sweep.specs.Together.{NeverTargeted};
 ghost use Rattle.egt_sweep.specs.Told.{AreNodesMarked, marked_into, times_told};
@@ -18,7 +21,7 @@ use crate::by_squares::men_of;
 use crate::laws::laws;
 use crate::shelves::{Shelf, is_near};
 use crate::together::{Run, add_marked_sources};
-use crate::untold::add_sources_of_king;
+use crate::untold::{add_sources_of_king, add_untold};
 use arrayvec::ArrayVec;
 use egt_board::{Square, SquareSet};
 use egt_class::Class;
@@ -56,8 +59,8 @@ impl Run {
         self.one.add_combs(places, combs);
     }
 
-    /// Fills the list, which is empty, with the marked nodes from which the other men came to a node of the run, whose frame this is.
-    fn add_others(
+    /// Fills the list, which is empty, with the marked nodes from which men came of whom nothing is told to a node of the run, whose frame this is.
+    fn find_untold(
         &self,
         column: Column,
         class: Class,
@@ -68,29 +71,97 @@ impl Run {
     )
         requires at { IsAt class node (setup_at class node) }
         requires run { IsRunOf column class marks.now self.now }
-        requires some { self.now.first < self.now.until }
         requires near { IsNearTo class self.now node }
         requires frame { IsFrame (setup_at class node) frame.now }
         requires class { frame.now.class ≡ class }
         requires never { NeverTargeted class }
-        requires nodes { AreNodesMarked class marks.now }
         requires empty { list.old.items ≡ [] }
-        ensures counted { (i : ℕ) → times_of self.now i node + count_of i list.new.items ≡ count_of i (marked_into column class marks.now node) }
+        ensures ascending { IsStrictlyIncreasing list.new.items }
+        ensures sound { (i : ℕ) → Contains list.new.items i → (s : ℕ) × IsUntold self.now node s × CameTo column class (setup_at class node) s i × IsMarked marks.now i }
+        ensures complete { (i s : ℕ) → IsUntold self.now node s → CameTo column class (setup_at class node) s i → IsMarked marks.now i → Contains list.new.items i }
         ensures few { array_vec_len list.new ≤ 84 }
+    {
+        laws();
+        let _number = class.number();
+        let king = frame.king(frame.side().other());
+        let men = men_of(frame);
+        let last = self.last.square_at(column, class, self.first, marks, (node - self.first) / 2);
+        let told = self.king.square().union(self.one.square()).union(last);
+        if !self.king.told {
+            add_sources_of_king(column, class, node, frame, &men, king, marks, list);
+        }
+        add_untold(column, class, node, frame, &men, told, marks, list);
+    }
+
+    /// Adds the marked nodes from which men came of whom nothing is told to a node of the run. They are found first in a list that is lent.
+    fn add_untold_of(
+        &self,
+        column: Column,
+        class: Class,
+        node: u32,
+        shelf: &mut Shelf,
+        marks: &[u64],
+        found: &mut ArrayVec<u32, 128>,
+        list: &mut ArrayVec<u32, 8192>,
+    )
+        requires at { IsAt class node (setup_at class node) }
+        requires run { IsRunOf column class marks.now self.now }
+        requires near { IsNearTo class self.now node }
+        requires shelf { IsShelf class shelf.old }
+        requires never { NeverTargeted class }
+        requires room { array_vec_len list.old + 84 ≤ 8192 }
+        ensures shelf { IsShelf class shelf.new }
+        ensures added { list.new.items ≡ list.old.items ++ found.new.items }
+        ensures ascending { IsStrictlyIncreasing found.new.items }
+        ensures sound { (i : ℕ) → Contains found.new.items i → (s : ℕ) × IsUntold self.now node s × CameTo column class (setup_at class node) s i × IsMarked marks.now i }
+        ensures complete { (i s : ℕ) → IsUntold self.now node s → CameTo column class (setup_at class node) s i → IsMarked marks.now i → Contains found.new.items i }
+        ensures few { array_vec_len list.new ≤ array_vec_len list.old + 84 }
+    {
+        let _number = class.number();
+        shelf.turn_to(class, node);
+        found.clear();
+        self.find_untold(column, class, node, &shelf.frame, marks, found);
+        list.try_extend_from_slice(found.as_slice()).unwrap();
+    }
+
+    /// Adds the marked nodes from which the other men came to a node of the run: the last, and those of whom nothing is told.
+    fn add_others(
+        &self,
+        column: Column,
+        class: Class,
+        node: u32,
+        shelf: &mut Shelf,
+        marks: &[u64],
+        found: &mut ArrayVec<u32, 128>,
+        combs: &mut ArrayVec<Comb, 4096>,
+        list: &mut ArrayVec<u32, 8192>,
+    )
+        requires at { IsAt class node (setup_at class node) }
+        requires run { IsRunOf column class marks.now self.now }
+        requires some { self.now.first < self.now.until }
+        requires near { IsNearTo class self.now node }
+        requires shelf { IsShelf class shelf.old }
+        requires never { NeverTargeted class }
+        requires targets { has_target (material_of class) ≡ false }
+        requires marked { AreNodesMarked class marks.now }
+        requires room { array_vec_len list.old + 84 ≤ 8192 }
+        requires combs_room { array_vec_len combs.old < 4096 }
+        ensures shelf { IsShelf class shelf.new }
+        ensures counted { (i : ℕ) → times_of self.now i node + (times_in i combs.new.items + count_of i list.new.items)
+            ≡ times_in i combs.old.items + count_of i list.old.items + count_of i (marked_into column class marks.now node) }
+        ensures few { array_vec_len list.new ≤ array_vec_len list.old + 84 }
+        ensures few_combs { array_vec_len combs.new ≤ array_vec_len combs.old + 1 }
     {
         laws();
         one_index_for_one_setup();
         let _number = class.number();
-        let king = frame.king(frame.side().other());
-        let men = men_of(frame);
-        let told = self.king.square().union(self.one.square());
-        if !self.king.told {
-            add_sources_of_king(column, class, node, frame, &men, king, marks, list);
+        self.last.add_comb(column, class, self.first, marks, (node - self.first) / 2, combs);
+        if self.partial {
+            self.add_untold_of(column, class, node, shelf, marks, found, list);
         }
-        self.add_rest(column, class, node, frame, &men, told, marks, list);
     }
 
-    /// Adds the same of all nodes of the run from the one at `k` up to that at `end`, which are found first in a list that is lent.
+    /// Adds the same of all nodes of the run from the one at `k` up to that at `end`.
     fn add_all_others(
         &self,
         column: Column,
@@ -101,6 +172,7 @@ impl Run {
         shelf: &mut Shelf,
         marks: &[u64],
         found: &mut ArrayVec<u32, 128>,
+        combs: &mut ArrayVec<Comb, 4096>,
         list: &mut ArrayVec<u32, 8192>,
     )
         requires nodes { All (λ j. IsAt class j (setup_at class j)) nodes.now }
@@ -111,19 +183,18 @@ impl Run {
         requires near { (m : ℕ) → k ≤ m → m < end → IsNearTo class self.now (slice_index nodes.now m) }
         requires shelf { IsShelf class shelf.old }
         requires never { NeverTargeted class }
+        requires targets { has_target (material_of class) ≡ false }
         requires marked { AreNodesMarked class marks.now }
         requires room { array_vec_len list.old + 84 * (end - k) ≤ 8192 }
+        requires combs_room { array_vec_len combs.old + (end - k) ≤ 4096 }
         ensures shelf { IsShelf class shelf.new }
-        ensures counted { (i : ℕ) → sum_by (times_of self.now i) (slice_range nodes.now k end) + count_of i list.new.items
-            ≡ count_of i list.old.items + count_of i (flat_map (marked_into column class marks.now) (slice_range nodes.now k end)) }
+        ensures counted { (i : ℕ) → sum_by (times_of self.now i) (slice_range nodes.now k end) + (times_in i combs.new.items + count_of i list.new.items)
+            ≡ times_in i combs.old.items + count_of i list.old.items + count_of i (flat_map (marked_into column class marks.now) (slice_range nodes.now k end)) }
         ensures few { array_vec_len list.new ≤ array_vec_len list.old + 84 * (end - k) }
+        ensures few_combs { array_vec_len combs.new ≤ array_vec_len combs.old + (end - k) }
     {
         for m in k..end {
-            let node = nodes[m];
-            shelf.turn_to(class, node);
-            found.clear();
-            self.add_others(column, class, node, &shelf.frame, marks, found);
-            list.try_extend_from_slice(found.as_slice()).unwrap();
+            self.add_others(column, class, nodes[m], shelf, marks, found, combs, list);
         }
     }
 
@@ -149,6 +220,7 @@ impl Run {
         requires near { IsNearTo class self.now (slice_index nodes.now k) }
         requires shelf { IsShelf class shelf.old }
         requires never { NeverTargeted class }
+        requires targets { has_target (material_of class) ≡ false }
         requires marked { AreNodesMarked class marks.now }
         requires room { array_vec_len list.old ≤ 128 * k }
         requires combs_room { array_vec_len combs.old ≤ 64 * k }
@@ -160,14 +232,11 @@ impl Run {
         ensures few { array_vec_len list.new ≤ 128 * result }
         ensures few_combs { array_vec_len combs.new ≤ 64 * result }
     {
-        laws();
-        one_index_for_one_setup();
-        let _number = class.number();
         let (places, end) = self.places(class, nodes, k);
         self.add_told(places, combs);
-        if self.partial {
-            self.add_all_others(column, class, nodes, k, end, shelf, marks, found, list);
-        }
+        self.add_all_others(
+            column, class, nodes, k, end, shelf, marks, found, combs, list,
+        );
         end
     }
 }

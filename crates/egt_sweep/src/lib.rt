@@ -12,6 +12,7 @@ mod counted;
 mod drawn_children;
 mod edges;
 mod facing;
+mod last;
 mod laws;
 mod leaving;
 mod mate_game;

@@ -14,7 +14,7 @@ ghost use Rattle.egt_board.specs.declared.man.Man.{Man};
 ghost use Rattle.egt_class.specs.Material.{material_of};
 ghost use Rattle.egt_graph.specs.Undecided.{IsMarked};
 ghost use Rattle.egt_index.specs.AtIndex.{IsFramedAt};
-ghost use Rattle.egt_index.specs.Fixed.{GoesAlong, StandsFixed};
+ghost use Rattle.egt_index.specs.Fixed.{AreOf, GoesAlong, StandsFixed};
 ghost use Rattle.egt_index.specs.Frame.{IsFrame};
 ghost use Rattle.egt_index.specs.Size.{has_target};
 ghost use Rattle.egt_unmoves.specs.Around.{AreMenOf};
@@ -23,14 +23,14 @@ ghost use Rattle.egt_sweep.specs.Nodes.{setup_at};
 ghost use Rattle.egt_sweep.specs.Shelves.{AreNear, IsShelf};
 ghost use Rattle.egt_sweep.specs.Runs.{IsAside, IsNearTo, IsRunOf};
 ghost use Rattle.egt_sweep.specs.Together.{AreHeldThroughout, IsAlikeNode, NeverTargeted};
-ghost use Rattle.egt_sweep.specs.Told.{AreNodesMarked, CameOf, GoesAlongThroughout, IsTold, IsToldAt, marked_into};
+ghost use Rattle.egt_sweep.specs.Told.{AreNodesMarked, GoesAlongThroughout, IsTold, IsToldAt, marked_into};
 
-use crate::by_squares::{Men, goes_back_by, is_of};
+use crate::by_squares::{goes_back_by, is_of};
+use crate::last::Last;
 use crate::laws::laws;
 use crate::shelves::{Shelf, is_near};
 use crate::sources::sources;
 use crate::told::Told;
-use crate::untold::add_untold;
 use crate::wanted::Wanted;
 use arrayvec::ArrayVec;
 use egt_board::{Kind, Man, Side, Square, SquareSet};
@@ -38,16 +38,6 @@ use egt_class::Class;
 use egt_index::laws::a_class_without_targets_has_pawns_of_one_side;
 use egt_index::{Fixed, Frame, has_target, is_on_axis};
 use egt_table::Column;
-
-/// Whether moves of the last of two men go on, if he is of that side.
-fn moves_last(column: Column, last: Option<Man>, side: Side) -> bool
-    ensures { result ≡ false → (man : Man) → last ≡ Some man → man.side ≡ side → IsTakenBack column man → ⊥ }
-{
-    match last {
-        Some(man) => is_of(man, side) && goes_back_by(column, man),
-        None => false,
-    }
-}
 
 /// The squares on which men stand at all of the nodes.
 fn held(fixed: &Fixed) -> SquareSet
@@ -150,11 +140,11 @@ fn tell_one(
     told.told
 }
 
-/// Whether men may have moved of whom nothing is told: `king` and `one` tell whether those two are, `last` whether the last may have moved.
+/// Whether men may have moved of whom nothing is told, where of these it is told or not.
 fn is_partial(king: bool, one: bool, last: bool) -> bool
-    ensures { result ≡ false → (king ≡ true) × (one ≡ true) × (last ≡ false) }
+    ensures { result ≡ false → (king ≡ true) × (one ≡ true) × (last ≡ true) }
 {
-    !king || !one || last
+    !king || !one || !last
 }
 
 /// What is told of nodes that differ by the last man's square alone.
@@ -167,6 +157,8 @@ pub(crate) struct Run {
     pub(crate) king: Told,
     /// The man of that side beside it who stands on one square at all of them.
     pub(crate) one: Told,
+    /// The last man, if he is of that side.
+    pub(crate) last: Last,
     /// Whether men may have moved of whom nothing is told.
     pub(crate) partial: bool,
 }
@@ -181,6 +173,7 @@ impl Run {
             until: 0,
             king: Told::nothing(),
             one: Told::nothing(),
+            last: Last::nothing(),
             partial: true,
         }
     }
@@ -197,6 +190,7 @@ impl Run {
     )
         requires at { IsAt class shelf.now.node (setup_at class shelf.now.node) }
         requires shelf { IsShelf class shelf.now }
+        requires of { AreOf shelf.now.frame fixed.now }
         requires fixed { (j : ℕ) → IsAlikeNode class shelf.now.node j → StandsFixed (setup_at class j) fixed.now }
         requires along { (k : ℕ) → IsAlikeNode class shelf.now.node (shelf.now.node + 2 * k) → GoesAlong (setup_at class (shelf.now.node + 2 * k)) fixed.now k }
         requires aside { (p : Setup) → StandsFixed p fixed.now → IsAside class p }
@@ -243,35 +237,8 @@ impl Run {
             marks,
             &mut self.one,
         );
-        self.partial = is_partial(self.king.told, one, moves_last(column, fixed.last, side));
-    }
-
-    /// Adds the marked nodes from which the men beside the kings came of whom nothing is told: `told` is the square of the one who is told of.
-    pub(crate) fn add_rest(
-        &self,
-        column: Column,
-        class: Class,
-        node: u32,
-        frame: &Frame,
-        men: &Men,
-        told: SquareSet,
-        marks: &[u64],
-        list: &mut ArrayVec<u32, 128>,
-    )
-        requires at { IsAt class node (setup_at class node) }
-        requires frame { IsFrame (setup_at class node) frame.now }
-        requires class { frame.now.class ≡ class }
-        requires men { AreMenOf (setup_at class node) men.now.king men.now.all men.now.one men.now.other }
-        requires never { NeverTargeted class }
-        requires ascending { IsStrictlyIncreasing list.old.items }
-        requires room { array_vec_len list.old ≤ 56 }
-        ensures ascending { IsStrictlyIncreasing list.new.items }
-        ensures members { (i : ℕ) → Contains list.new.items i ↔ (Contains list.old.items i ⊎ CameOf column class (setup_at class node) told marks.now men.now.one men.now.other self.now.partial i) }
-        ensures few { array_vec_len list.new ≤ array_vec_len list.old + 56 }
-    {
-        if self.partial {
-            add_untold(column, class, node, frame, men, told, marks, list);
-        }
+        let last = self.last.tell(column, class, first, frame, fixed, held, marks);
+        self.partial = is_partial(self.king.told, one, last);
     }
 
     /// Goes on to the node at place `k`, of which it tells then, or stays: whether it tells of it. It does not where the node is alone, the class
@@ -294,7 +261,7 @@ impl Run {
         ensures run { IsRunOf column class marks.now self.new }
         ensures near { result ≡ true → IsNearTo class self.new (slice_index nodes.now k) }
         ensures some { result ≡ true → self.new.first < self.new.until }
-        ensures never { result ≡ true → NeverTargeted class }
+        ensures never { result ≡ true → NeverTargeted class × (has_target (material_of class) ≡ false) }
     {
         laws();
         a_class_without_targets_has_pawns_of_one_side();

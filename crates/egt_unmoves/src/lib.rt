@@ -13,6 +13,7 @@ pub mod unmove;
 pub use around::Around;
 pub use leaving::{squares_left, squares_open};
 pub use listing::unmoves;
+pub use sources::ways_back;
 pub use targets::{may_have_had_target, target_before};
 pub use unmove::Unmove;
 

@@ -9,7 +9,10 @@ use Rattle.egt_sweep.proofs.Combed.{slice_more, slice_none}
 use Rattle.egt_sweep.proofs.at_once.add_sources_from.Goals as goal
 
 pub add_nodes-requires-clause-never : goal.add_nodes-requires-clause-never
-add_nodes-requires-clause-never c = c.turn_to.ensures.never c.if-turn_to.true
+add_nodes-requires-clause-never c = (c.turn_to.ensures.never c.if-turn_to.true).0
+
+pub add_nodes-requires-clause-targets : goal.add_nodes-requires-clause-targets
+add_nodes-requires-clause-targets c = (c.turn_to.ensures.never c.if-turn_to.true).1
 
 pub returns-clause-counted : goal.returns-clause-counted
 returns-clause-counted c i =

@@ -1,8 +1,8 @@
-use Rattle.std.proofs.Common.{◌≡◌, ℕ, ◌+◌, ◌<◌, ◌++◌, List, length, ap, ◌∙◌, subst, arith}
-use Rattle.std.specs.Prelude.{OnOk, sum_by}
+use Rattle.std.proofs.Common.{◌≡◌, ℕ, ◌+◌, ◌<◌, List, length, ap, ◌∙◌, subst, arith}
+use Rattle.std.specs.Prelude.{sum_by}
 use Rattle.std.specs.List.{flat_map, slice_range}
-use Rattle.std.proofs.lemmas.List.{length-append}
 use Rattle.egt_graph.specs.Columns.{count_of}
+use Rattle.egt_graph.specs.Combs.{times_in}
 use Rattle.egt_sweep.specs.Runs.{times_of}
 use Rattle.egt_sweep.specs.Told.{marked_into}
 use Rattle.egt_sweep.proofs.Combed.{counted_more, slice_none}
@@ -17,6 +17,7 @@ loop-m-init c = record {
       let b = ap (λ (xs : List ℕ). count_of i (flat_map (marked_into c.args.column c.args.class c.args.marks.now) xs)) none in
       omega (arith, a, b);
   few = omega arith;
+  few_combs = omega arith;
 }
 
 pub add_others-requires-clause-near : goal.add_others-requires-clause-near
@@ -25,23 +26,20 @@ add_others-requires-clause-near c = c.requires.near c.loop-m.m (omega (arith, c.
 pub loop-m-preserved : goal.loop-m-preserved
 loop-m-preserved c =
     let inv = c.loop-m.invariant in
-    let list = c.loop-m.list.items in
-    let found = c.add_others.new.list.items in
-    let more = c.try_extend_from_slice.new.self.items in
     let m = c.loop-m.m in
     let nodes = c.args.nodes.now in
-    let grown : more ≡ list ++ found = subst (λ r. OnOk r (more ≡ list ++ c.as_slice.result.now)) c.unwrap.ensures c.try_extend_from_slice.ensures.ok ∙ ap (λ (xs : List ℕ). list ++ xs) c.as_slice.ensures.value in
-    let long : length more ≡ length list + length found = ap length grown ∙ length-append list found in
     let inside : m < length nodes = omega (arith, c.loop-m-test.true, c.requires.within) in
     record {
-      shelf = c.turn_to.ensures.shelf;
-      counted = λ i. counted_more (marked_into c.args.column c.args.class c.args.marks.now) (times_of c.args.self.now i) i nodes c.args.k m (count_of i c.args.list.now.items) list found more
-          (omega (arith, c.loop-m.auto.m)) inside grown (c.add_others.ensures.counted i) (inv.counted i);
-      few = omega (arith, inv.few, c.add_others.ensures.few, long, c.loop-m.auto.m);
+      shelf = c.add_others.ensures.shelf;
+      counted = λ i. counted_more (marked_into c.args.column c.args.class c.args.marks.now) (times_of c.args.self.now i) i nodes c.args.k m (times_in i c.args.combs.now.items + count_of i c.args.list.now.items) _ _
+          (omega (arith, c.loop-m.auto.m)) inside (c.add_others.ensures.counted i) (inv.counted i);
+      few = omega (arith, inv.few, c.add_others.ensures.few, c.loop-m.auto.m);
+      few_combs = omega (arith, inv.few_combs, c.add_others.ensures.few_combs, c.loop-m.auto.m);
     }
 
 pub returns-clause-counted : goal.returns-clause-counted
 returns-clause-counted c i =
     let e : c.loop-m.m ≡ c.args.end = omega (arith, c.loop-m-test.false, c.loop-m.auto.m, c.loop-m.auto.m-end, c.requires.above) in
-    subst (λ (m : ℕ). sum_by (times_of c.args.self.now i) (slice_range c.args.nodes.now c.args.k m) + count_of i c.loop-m.list.items ≡ count_of i c.args.list.now.items + count_of i (flat_map (marked_into c.args.column c.args.class c.args.marks.now) (slice_range c.args.nodes.now c.args.k m)))
+    subst (λ (m : ℕ). sum_by (times_of c.args.self.now i) (slice_range c.args.nodes.now c.args.k m) + (times_in i c.loop-m.combs.items + count_of i c.loop-m.list.items)
+    ≡ times_in i c.args.combs.now.items + count_of i c.args.list.now.items + count_of i (flat_map (marked_into c.args.column c.args.class c.args.marks.now) (slice_range c.args.nodes.now c.args.k m)))
     e (c.loop-m.invariant.counted i)

@@ -5,13 +5,12 @@ use Rattle.egt_graph.specs.Columns.{count_of}
 use Rattle.egt_sweep.specs.Runs.{times_of}
 use Rattle.egt_sweep.specs.Told.{marked_into, times_at, times_told}
 use Rattle.egt_sweep.specs.declared.together.Run.{Run}
-use Rattle.egt_sweep.proofs.Combed.{count_flat, sum_both, told_nodes}
+use Rattle.egt_sweep.proofs.Combed.{sum_both, told_nodes}
 use Rattle.egt_sweep.proofs.InRuns.{places_spread}
-use Rattle.egt_sweep.proofs.AtNode.{nodes_told}
 use Rattle.egt_sweep.proofs.together.Run.add_nodes.Goals as goal
 
-pub returns-then-self-clause-counted : goal.returns-then-self-clause-counted
-returns-then-self-clause-counted c i =
+pub returns-clause-counted : goal.returns-clause-counted
+returns-clause-counted c i =
     let run = c.args.self.now in
     let places = c.places-end.result.0 in
     let end = c.places-end.result.1 in
@@ -22,19 +21,3 @@ returns-then-self-clause-counted c i =
     let told = c.add_told.ensures.counted i in
     let rest = c.add_all_others.ensures.counted i in
     omega (arith, king, one, all, told, rest)
-
-pub returns-else-self-clause-counted : goal.returns-else-self-clause-counted
-returns-else-self-clause-counted c i =
-    let run = c.args.self.now in
-    let places = c.places-end.result.0 in
-    let end = c.places-end.result.1 in
-    let below : c.args.class < 36 = subst (λ (n : ℕ). n < 36) c.number-number.ensures.value c.number-number.ensures.below in
-    let spread = places_spread c.args.class run c.args.nodes.now c.args.k end places c.places-end.ensures.places c.places-end.ensures.within c.requires.ascending in
-    let king = told_nodes run.first places (slice_range c.args.nodes.now c.args.k end) spread i run.king in
-    let one = told_nodes run.first places (slice_range c.args.nodes.now c.args.k end) spread i run.one in
-    let all = sum_both (times_at run.king run.first i) (times_at run.one run.first i) (slice_range c.args.nodes.now c.args.k end) in
-    let told = c.add_told.ensures.counted i in
-    let rest = nodes_told c.laws.ensures c.one_index_for_one_setup.ensures c.args.column c.args.class below c.args.marks.now run c.requires.run c.requires.some c.requires.never c.if-self.false i c.args.nodes.now c.args.k end
-    (λ m inside. c.requires.nodes m 0 inside) c.places-end.ensures.within c.places-end.ensures.places.near in
-    let flat = count_flat (marked_into c.args.column c.args.class c.args.marks.now) i (slice_range c.args.nodes.now c.args.k end) in
-    omega (arith, king, one, all, told, rest, flat)

@@ -45,8 +45,19 @@ returns-clause-run c =
       one_there = λ told j alike.
           let one = c.tell_one-one.ensures.there told in
           (one.0, subst (StandsBeside (setup_at c.args.class j).men) one.1 (each j alike).one_there);
+      last = c.tell-last.ensures.told;
       aside = λ some j alike. c.requires.aside _ (each j alike);
+      apart = λ one last k alike. let his = c.tell_one-one.ensures.there one in c.tell-last.ensures.off last his.0 c.tell_one-one.new.told.to his.1 k alike;
       beside = λ closed. let parts = c.is_partial-self.ensures closed in
-          none_beside c.laws.ensures c.args.column c.args.class c.args.shelf.now.node fixed c.tell.new.self c.tell_one-one.new.told each parts.0 king (c.tell_one-one.ensures.his parts.1)
-          (λ man is theirs. c.moves_last.ensures parts.2 man is (theirs ∙ sym c.other-side.ensures));
+          none_beside c.laws.ensures c.args.column c.args.class c.args.shelf.now.node fixed c.tell.new.self c.tell_one-one.new.told c.tell-last.new.self each c.requires.along parts.0 king (c.tell_one-one.ensures.his parts.1)
+          c.tell-last.ensures.on (c.tell-last.ensures.his parts.2);
     }
+
+pub tell-last-requires-clause-frame : goal.tell-last-requires-clause-frame
+tell-last-requires-clause-frame c = (c.args.shelf.now.passed, c.requires.shelf.framed)
+
+pub tell-last-requires-clause-held : goal.tell-last-requires-clause-held
+tell-last-requires-clause-held c = λ j alike. c.held-held.ensures.held _ (c.requires.fixed j alike)
+
+pub tell-last-requires-clause-along : goal.tell-last-requires-clause-along
+tell-last-requires-clause-along c = goes_along c.args.class c.args.shelf.now.node c.args.fixed.now c.held-held.result c.requires.along c.requires.fixed c.held-held.ensures.all

@@ -5,7 +5,7 @@ use Rattle.egt_sweep.proofs.Runs.{along_throughout, stands_throughout}
 use Rattle.egt_sweep.proofs.together.Run.turn_to.Goals as goal
 
 pub returns-then-is_near-clause-never : goal.returns-then-is_near-clause-never
-returns-then-is_near-clause-never c told = never_targeted c.laws.ensures c.args.class (sym c.has_target.ensures ∙ c.if-has_target.false) c.a_class_without_targets_has_pawns_of_one_side.ensures
+returns-then-is_near-clause-never c told = let none = sym c.has_target.ensures ∙ c.if-has_target.false in (never_targeted c.laws.ensures c.args.class none c.a_class_without_targets_has_pawns_of_one_side.ensures, none)
 
 pub is_near-requires-else-k-nodes : goal.is_near-requires-else-k-nodes
 is_near-requires-else-k-nodes c = subst (λ (n : ℕ). AreNear c.args.class n c.end_of_run-until.result) c.turn_to.ensures.node c.end_of_run-until.ensures.near
@@ -24,4 +24,7 @@ pub tell-requires-clause-never : goal.tell-requires-clause-never
 tell-requires-clause-never c = never_targeted c.laws.ensures c.args.class (sym c.has_target.ensures ∙ c.if-has_target.false) c.a_class_without_targets_has_pawns_of_one_side.ensures
 
 pub returns-clause-never : goal.returns-clause-never
-returns-clause-never c told = never_targeted c.laws.ensures c.args.class (sym c.has_target.ensures ∙ c.if-has_target.false) c.a_class_without_targets_has_pawns_of_one_side.ensures
+returns-clause-never c told = let none = sym c.has_target.ensures ∙ c.if-has_target.false in (never_targeted c.laws.ensures c.args.class none c.a_class_without_targets_has_pawns_of_one_side.ensures, none)
+
+pub tell-requires-clause-of : goal.tell-requires-clause-of
+tell-requires-clause-of c = c.fixed-fixed.ensures.of
