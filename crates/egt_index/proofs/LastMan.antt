@@ -199,7 +199,7 @@ goes_along facts i k p q frame passed c_in never at alike on s man is =
     shelf = subst (λ (d : ℕ). i / (d * digits_at (last_of men)) ≡ (i + 2 * k) / (d * digits_at (last_of men))) two alike.shelf
 
 -- where the last man is known to stand in one position he stands in the other
-last_there : (old last : Entry) → man_at last ≡ man_at old → (t : ℕ) → option_map (λ e. e.1) old ≡ Some t → (man : Man) × (s : ℕ) × (last ≡ Some (man, s))
+pub last_there : (old last : Entry) → man_at last ≡ man_at old → (t : ℕ) → option_map (λ e. e.1) old ≡ Some t → (man : Man) × (s : ℕ) × (last ≡ Some (man, s))
 last_there None last same t is = absurd (cc)
 last_there (Some e) None same t is = absurd (cc)
 last_there (Some e) (Some d) same t is = (d.0, d.1, refl)

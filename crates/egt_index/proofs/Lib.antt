@@ -58,5 +58,6 @@ pub mod Gone
 pub mod Shelved
 pub mod Shifted
 pub mod LastMan
+pub mod Led
 pub mod ByMen
 pub mod WholeRows

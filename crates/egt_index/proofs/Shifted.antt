@@ -37,7 +37,7 @@ use Rattle.egt_index.proofs.Shelved.{IsOnShelf, is_on_shelf, on_shelf}
 use Rattle.egt_index.proofs.Summed.{least_where_alone, least_where_first, share_within}
 
 -- wherever the last man stands, he who goes is the same
-equal_men : (x y z : Entry) → man_at y ≡ man_at z → AreEqual x y → AreEqual x z
+pub equal_men : (x y z : Entry) → man_at y ≡ man_at z → AreEqual x y → AreEqual x z
 equal_men None y z same equal = absurd equal
 equal_men (Some x) None z same equal = absurd equal
 equal_men (Some x) (Some y) None same equal = absurd (cc)
@@ -56,7 +56,7 @@ shelved_goes stand from Next shelved = ((shelved.0, shelved.1), shelved.2)
 shelved_goes stand from Last shelved = absurd shelved
 shelved_goes stand from Nobody shelved = absurd shelved
 
-abbrev CountSo : Frame → Side → Scales → Type 0
+abbrev pub CountSo : Frame → Side → Scales → Type 0
 CountSo frame side scales = (s : Stand) → men_among (list_of s) ≡ men_in_order (material_of frame.class) → IsFilled s → AreScales (material_of frame.class) (man_at s.next) (man_at s.last) side scales
 
 module _ (facts : Facts) (i : ℕ) (p : Setup) (frame : Frame) (passed : Bool) (c_in : frame.class < 36) (at : IsFramedAt frame.class i p frame passed) (from : ℕ) (own : IsOwnAfter frame from)
