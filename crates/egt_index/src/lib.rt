@@ -54,6 +54,8 @@ mod alike_tests;
 #[cfg(test)]
 mod index_tests;
 #[cfg(test)]
+mod led_home_tests;
+#[cfg(test)]
 mod plain_tests;
 #[cfg(test)]
 mod step_tests;
