@@ -44,16 +44,15 @@ fn nearest_turn(pawns: bool, white: Square, black: Square) -> Option<u8>
     }
 }
 
-/// The index after the white king went from home to another square, by the square of the last man, who stands somewhere else in each position
-/// of a shelf.
+/// The index after the white king went to one square, by the square of the last man, who stands somewhere else in each position of a shelf.
 #[derive(Clone, Copy)]
 pub struct LedHome {
     pub(crate) line: Line,
 }
 
 impl LedHome {
-    /// The index where the last man stands on the square: of the position to which the step leads from that of the index twice as many above the
-    /// frame's own as he stands squares further. A position that such a number spells tells that the step may be made there, if it is one.
+    /// The index after the step from the position where the last man stands on the square: that one's index is twice as much above the frame's own
+    /// as he stands squares further. Where the number spells any position, the king may go there, if it is another square than his.
     #[inline(always)]
     pub fn index_with(&self, last: Square) -> u32
         requires { (c i from on to : ℕ) × IsLedHome c i from on to self.now }

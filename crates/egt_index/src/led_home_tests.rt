@@ -141,11 +141,12 @@ fn count(number: u8, every: u32) -> Result<u32, Fail> {
     Ok(steps)
 }
 
-/// One code of so many of KBNK, KQKR, KQPK and KQKP.
+/// One code of so many of KBNK, KQKR, KQPK and KQKP: more than a thousand of each, every second with White to move. A hundred of those are indexes
+/// at the least, and each leads on as said.
 #[test]
 fn the_last_man_tells_the_index(rt: HostRuntime) -> Result<(), Fail> {
     for number in [14, 17, 26, 30] {
-        assert!(rt; count(number, 39_989)? > 0);
+        assert!(rt; count(number, 4999)? >= 3_100);
     }
     Ok(())
 }
@@ -180,7 +181,7 @@ fn is_never_told(number: u8, every: u32) -> Result<bool, Fail> {
 #[test]
 fn nothing_is_told_in_other_classes(rt: HostRuntime) -> Result<(), Fail> {
     for number in [1, 10, 16, 34, 35] {
-        assert!(rt; is_never_told(number, 997)?);
+        assert!(rt; is_never_told(number, 97)?);
     }
     Ok(())
 }
