@@ -37,10 +37,10 @@ use Rattle.egt_index.proofs.Standing.{turned_back}
 use Rattle.egt_index.proofs.Turned.{counted_of}
 
 -- the symmetry that undoes another
-inverse : ℕ → ℕ
+unfoldable pub inverse : ℕ → ℕ
 inverse n = slice_index (0 ∷ 1 ∷ 2 ∷ 3 ∷ 4 ∷ 6 ∷ 5 ∷ 7 ∷ []) n
 
-back : ℕ → Bool → ℕ → ℕ
+unfoldable pub back : ℕ → Bool → ℕ → ℕ
 back n flips s = square_of (inverse n) (square_if flips Colours s)
 
 goes_back : Bool → ℕ → ℕ → Bool
@@ -51,7 +51,7 @@ unfolding all_below goes_back back inverse
 all_go_back true = refl
 all_go_back false = refl
 
-went_back : (n : ℕ) (flips : Bool) (s : ℕ) → n < 8 → s < 64 → (turned_square n flips s < 64) × (back n flips (turned_square n flips s) ≡ s)
+pub went_back : (n : ℕ) (flips : Bool) (s : ℕ) → n < 8 → s < 64 → (turned_square n flips s < 64) × (back n flips (turned_square n flips s) ≡ s)
 unfolding goes_back
 went_back n flips s n_in s_in =
     let both = and_parts _ _ (passes_below (goes_back flips n) 64 s (passes_below (λ n. all_below (goes_back flips n) 64) 8 n (all_go_back flips) n_in) s_in) in

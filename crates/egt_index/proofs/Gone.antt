@@ -48,7 +48,7 @@ off_listed (e ∷ list) man s off (inr h) = off_listed list man s off.1 h
 
 -- men of whom the one on `from` goes to another square
 module _ (from to : ℕ) (apart : to ≢ from) where
-  abbrev moved_list : List (Man × ℕ) → List (Man × ℕ)
+  abbrev pub moved_list : List (Man × ℕ) → List (Man × ℕ)
   moved_list list = map (λ e. (e.0, moved_square from to e.1)) list
 
   stays_on : (s : ℕ) → s ≡ to → moved_square from to s ≡ to
@@ -75,7 +75,7 @@ module _ (from to : ℕ) (apart : to ≢ from) where
   listed_to (e ∷ list) man (inr h) = inr (listed_to list man h)
 
   -- where none shares his new square, none stood there
-  free_before : (list : List (Man × ℕ)) (man : Man) → AllApart (moved_list list) → IsListed list man from → IsOff list to
+  pub free_before : (list : List (Man × ℕ)) (man : Man) → AllApart (moved_list list) → IsListed list man from → IsOff list to
   free_before [] man all h = absurd h
   free_before (e ∷ list) man all (inl h) = ((λ same. apart (sym same ∙ h.1)), off_to list (subst (IsOff (moved_list list)) (went from to e.1 h.1) all.0))
   free_before (e ∷ list) man all (inr h) =
@@ -94,7 +94,7 @@ module _ (from to : ℕ) (apart : to ≢ from) where
     | inr later ↦ get_later (e.0, moved_square from to e.1) (moved_list list) s (not_there s e.1 off later) ∙ elsewhere list s other off ∙ sym (get_later e list s later)
   ]
 
-  men_moved : (list : List (Man × ℕ)) (man : Man) → AreApart (moved_list list) → IsListed list man from → men_of (moved_list list) ≡ placement.insert (placement.remove (men_of list) from) to man
+  pub men_moved : (list : List (Man × ℕ)) (man : Man) → AreApart (moved_list list) → IsListed list man from → men_of (moved_list list) ≡ placement.insert (placement.remove (men_of list) from) to man
   men_moved list man all h = same_men _ _ (λ s. elim (cases_eq s to) [
     | inl here ↦ ap (placement.get (men_of (moved_list list))) here ∙ listed_stands (moved_list list) man to all (listed_to list man h) ∙ sym (get-insert_same (placement.remove (men_of list) from) to man s here)
     | inr off ↦ elim (cases_eq s from) [
@@ -114,7 +114,7 @@ module _ (from to : ℕ) (apart : to ≢ from) where
   both_listed (Some e) None = refl
   both_listed (Some e) (Some d) = refl
 
-  list_moved : (s : Stand) → list_of (after_of from to s) ≡ moved_list (list_of s)
+  pub list_moved : (s : Stand) → list_of (after_of from to s) ≡ moved_list (list_of s)
   list_moved s = ap (λ l. (king_of White, moved_square from to s.white) ∷ (king_of Black, moved_square from to s.black) ∷ l) (both_listed s.next s.last)
 
 -- a code of the men of p, of whom the one on `from` stands on `to`, where he may, and of the other side's turn

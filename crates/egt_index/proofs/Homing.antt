@@ -150,3 +150,13 @@ still_told pawns king last digit second last_is seconds below is = turns_told pa
     right : is_right_at pawns false king 0 last ≡ true
     right = subst (λ n. is_right_at pawns false king 0 n ≡ true) (sym last_is)
         (subst (λ k. is_right_at pawns false k 0 (still pawns k) ≡ true) is (passes_below (λ d. is_right_at pawns false (king_square pawns d) 0 (still pawns (king_square pawns d))) (king_base pawns) digit (all_still pawns) below))
+
+-- the two turns in the other order
+pub other_first : (pawns flips : Bool) (king first second : ℕ) → AreHome pawns flips king first (Some second) → AreHome pawns flips king second (Some first)
+other_first pawns flips king first second home = record {
+  one = home.other;
+  other = home.one;
+  brings = home.other_brings;
+  other_brings = home.brings;
+  none = λ t turn apart others. home.none t turn others apart;
+}

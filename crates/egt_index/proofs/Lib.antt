@@ -59,5 +59,6 @@ pub mod Shelved
 pub mod Shifted
 pub mod LastMan
 pub mod Opposed
+pub mod Led
 pub mod ByMen
 pub mod WholeRows

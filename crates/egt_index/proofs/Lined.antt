@@ -50,7 +50,7 @@ record Ordered (x y : Entry) (n l : ℕ) : Type 0 where
   first_man : man_at first ≡ man_at x
   second_man : man_at second ≡ man_at y
 
-apart_in_order : (x y : Entry) → (AreEqual x y → ⊥) → IsInOrder x y
+pub apart_in_order : (x y : Entry) → (AreEqual x y → ⊥) → IsInOrder x y
 apart_in_order None y apart = tt
 apart_in_order (Some e) None apart = tt
 apart_in_order (Some e) (Some d) apart = λ same. absurd (apart same)
@@ -91,7 +91,7 @@ order true (Some e) (Some d) n l on_n on_l equal apart = elim (cases_lt d.1 e.1)
   }
 ]
 
-man_after : (n : ℕ) (flips : Bool) (e : Entry) → man_at (entry_after n flips e) ≡ man_at e
+pub man_after : (n : ℕ) (flips : Bool) (e : Entry) → man_at (entry_after n flips e) ≡ man_at e
 man_after n flips None = refl
 man_after n flips (Some e) = refl
 

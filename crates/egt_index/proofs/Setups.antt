@@ -40,7 +40,7 @@ off_of (e ∷ list) q free = ((λ same. not_here (sym same)), off_of list q (sym
     not_here : q ≡ e.1 → ⊥
     not_here same = let h = sym (get_here e list q same) ∙ free in cc
 
-apart_all : (list : List (Man × ℕ)) → AllApart list → AreApart list
+pub apart_all : (list : List (Man × ℕ)) → AllApart list → AreApart list
 apart_all [] apart = tt
 apart_all (e ∷ list) apart = (free_of list e.1 apart.0, apart_all list apart.1)
 

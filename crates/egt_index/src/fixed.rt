@@ -31,7 +31,7 @@ pub struct Fixed {
 }
 
 /// Where the man stands, if there is one.
-fn square_of(entry: &Option<(Man, Square)>) -> Option<Square>
+pub(crate) fn square_of(entry: &Option<(Man, Square)>) -> Option<Square>
     ensures { result ≡ option_map (λ e. e.1) entry.now }
 {
     match entry {

@@ -18,6 +18,7 @@ pub mod home;
 pub mod indexing;
 pub mod king_sums;
 pub mod laws;
+pub mod led_home;
 pub mod men;
 pub mod movers;
 pub mod nearer;
@@ -39,6 +40,7 @@ pub use fixed::Fixed;
 pub use following::IndexAfter;
 pub use frame::Frame;
 pub use indexing::{index, indexed_by_men};
+pub use led_home::LedHome;
 pub use men::{has_pawns, has_target};
 pub use movers::{faces_king_alone, may_move_pawn};
 pub use opposite::Opposite;
@@ -53,6 +55,8 @@ pub use ways::{KingWay, Sum};
 mod alike_tests;
 #[cfg(test)]
 mod index_tests;
+#[cfg(test)]
+mod led_home_tests;
 #[cfg(test)]
 mod plain_tests;
 #[cfg(test)]

@@ -20,7 +20,7 @@ use std::cmp::Ordering;
 use std::test::Fail;
 
 /// The position after the man on `from` went to `to`, where none stands.
-fn moved(position: &Position, from: Square, to: Square) -> Option<Position> {
+pub(crate) fn moved(position: &Position, from: Square, to: Square) -> Option<Position> {
     if position.at(to).is_some() {
         return None;
     }

@@ -286,7 +286,7 @@ impl Way {
 
 /// The man of a class who goes.
 #[derive(Clone, Copy)]
-enum Mover {
+pub(crate) enum Mover {
     Black,
     Next,
     Last,
@@ -332,7 +332,7 @@ fn parted(scales: &Scales, mover: Mover) -> (Scale, Scales)
 
 /// How codes add up where the man goes and the others stay on these squares, of two equal men the one on the lesser first.
 #[inline(always)]
-fn sum_by(scales: &Scales, high: u32, squares: &Squares, mover: Mover) -> Sum
+pub(crate) fn sum_by(scales: &Scales, high: u32, squares: &Squares, mover: Mover) -> Sum
     requires fit { ScalesFit scales.now }
     requires high { high < 32 }
     ensures fits { SumFits result }
