@@ -45,7 +45,7 @@ fn nearest_turn(pawns: bool, white: Square, black: Square) -> Option<u8>
 }
 
 /// The index after the white king went to one square, by the square of the last man, who stands somewhere else in each position of a shelf.
-#[derive(Clone, Copy)]
+#[derive(Clone, Copy, Default)]
 pub struct LedHome {
     pub(crate) line: Line,
 }

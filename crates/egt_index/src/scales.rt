@@ -17,7 +17,7 @@ use egt_board::{Man, Side, Square};
 use egt_class::Class;
 
 /// How a man's square counts: its number, of a pawn 8 less, is his digit, and the stride is what one more of it adds to the code.
-#[derive(Clone, Copy)]
+#[derive(Clone, Copy, Default)]
 pub(crate) struct Scale {
     pub(crate) stride: u32,
     pub(crate) less: u32,

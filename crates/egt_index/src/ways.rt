@@ -32,7 +32,7 @@ use egt_board::{Side, Square};
 use egt_class::Class;
 
 /// The code by the square of one man: what the others add, and how he counts.
-#[derive(Clone, Copy)]
+#[derive(Clone, Copy, Default)]
 pub struct Sum {
     pub(crate) scale: Scale,
     pub(crate) rest: u32,
@@ -50,7 +50,7 @@ impl Sum {
 }
 
 /// The same after a turn.
-#[derive(Clone, Copy)]
+#[derive(Clone, Copy, Default)]
 pub(crate) struct Line {
     pub(crate) turn: u8,
     pub(crate) sum: Sum,

@@ -27,7 +27,7 @@ use Rattle.egt_sweep.specs.declared.together.Run.{Run}
 use Rattle.egt_sweep.proofs.Combed.{counted_gives, gives_counted, gives_once, sums_alike}
 use Rattle.egt_graph.proofs.Lost.{run_at}
 use Rattle.egt_sweep.proofs.Collecting.{none_ascend}
-use Rattle.egt_sweep.proofs.InRuns.{alike_there, is_alike, last_no_king, marked_ascends, marked_listed, there}
+use Rattle.egt_sweep.proofs.InRuns.{alike_there, is_alike, last_no_king, marked_ascends, marked_listed, nobody_beside, there}
 use Rattle.egt_sweep.proofs.OneBefore.{OneSetup, came_once}
 use Rattle.egt_sweep.proofs.Returning.{came_connects, connects_came}
 use Rattle.egt_sweep.proofs.ToldMen.{told_gives}
@@ -76,7 +76,7 @@ module _ (laws : Laws) (one_setup : OneSetup) (column : Column) (c : ℕ) (below
   apart : run.king.told ≡ true → run.one.told ≡ true → run.king.to ≢ run.one.to
   apart king one e =
       let alike = is_alike c run node near at in
-      let stands = (is.king_there king node alike).stands in
+      let stands = (is.king_there some node alike).stands in
       let his = is.one_there one node alike in
       let same = one_man (setup_at c node).men run.one.to _ his.0 (subst (λ s. Stands (setup_at c node).men s (king_of (other_side (setup_at c node).side))) e stands) his.1.0 in
       his.1.1 (sym (ap (λ (x : Man). x.kind) same))
@@ -93,7 +93,7 @@ module _ (laws : Laws) (one_setup : OneSetup) (column : Column) (c : ℕ) (below
   -- nor does the last stand where one of them does
   king_last : run.king.told ≡ true → run.last.told ≡ true → run.king.to ≢ run.last.on + (node - run.first) / 2
   king_last king last e =
-      last_no_king c run node near at is.last last (subst (λ s. Stands (setup_at c node).men s (king_of (other_side (setup_at c node).side))) e (is.king_there king node (is_alike c run node near at)).stands)
+      last_no_king c run node near at is.last last (subst (λ s. Stands (setup_at c node).men s (king_of (other_side (setup_at c node).side))) e (is.king_there some node (is_alike c run node near at)).stands)
 
   one_last : run.one.told ≡ true → run.last.told ≡ true → run.one.to ≢ run.last.on + (node - run.first) / 2
   one_last one last = is.apart one last ((node - run.first) / 2) (alike_there c run node near at)
@@ -187,11 +187,8 @@ module _ (laws : Laws) (one_setup : OneSetup) (column : Column) (c : ℕ) (below
           ]
 
   -- where nothing is left untold no man came of whom nothing is told
-  pub nobody_untold : run.partial ≡ false → (s : ℕ) → IsUntold run node s → CameTo column c (setup_at c node) s i → ⊥
-  nobody_untold closed s untold came =
-      none (is.beside closed ((node - run.first) / 2) s i (alike_there c run node near at) (subst (λ n. CameTo column c (setup_at c n) s i) (sym (there c run node near)) came))
-    where
-      none : IsToldAt run.king s ⊎ (IsToldAt run.one s ⊎ IsLastOn run.last ((node - run.first) / 2) s) → ⊥
-      none (inl h) = untold.king h
-      none (inr (inl h)) = untold.one h
-      none (inr (inr h)) = untold.last h
+  pub nobody_untold : run.partial ≡ false → run.king.told ≡ true → (s : ℕ) → IsUntold run node s → CameTo column c (setup_at c node) s i → ⊥
+  nobody_untold closed king s untold came = elim (cases_eq s run.king.to) [
+    | inl e ↦ untold.king (king, e)
+    | inr apart ↦ nobody_beside laws column c below marks run node is near at some closed i s apart untold came
+  ]

@@ -108,13 +108,13 @@ module _ (laws : Laws) (column : Column) (c : ℕ) where
   -- the men of the side that waits are its king, the one man beside it, and the last
   pub none_beside : (first : ℕ) (fixed : Fixed) (king one : Told) (last : Last) → ((j : ℕ) → IsAlikeNode c first j → StandsFixed (setup_at c j) fixed)
       → ((k : ℕ) → IsAlikeNode c first (first + 2 * k) → GoesAlong (setup_at c (first + 2 * k)) fixed k)
-      → king.told ≡ true → ((p : Setup) → StandsFixed p fixed → IsKingOn p.men (other_side fixed.side) king.to)
+      → ((p : Setup) → StandsFixed p fixed → IsKingOn p.men (other_side fixed.side) king.to)
       → ((man : Man) (s : ℕ) → fixed.one ≡ Some (man, s) → man.side ≡ other_side fixed.side → IsTakenBack column man → IsToldAt one s)
       → (last.told ≡ true → fixed.last_on ≡ Some last.on)
       → ((man : Man) → fixed.last ≡ Some man → man.side ≡ other_side fixed.side → IsTakenBack column man → last.told ≡ true)
-      → (k s i : ℕ) → IsAlikeNode c first (first + 2 * k) → CameTo column c (setup_at c (first + 2 * k)) s i → IsToldAt king s ⊎ (IsToldAt one s ⊎ IsLastOn last k s)
-  none_beside first fixed king one last each along told there his on last_his k s i alike came = elim (king_or_not man.kind) [
-    | inl is ↦ inl (told, (there q stands).only s (subst (λ (x : Man). Stands q.men s x) (λ k. record { side = theirs k; kind = is k }) held.stands))
+      → (k s i : ℕ) → IsAlikeNode c first (first + 2 * k) → CameTo column c (setup_at c (first + 2 * k)) s i → (s ≡ king.to) ⊎ (IsToldAt one s ⊎ IsLastOn last k s)
+  none_beside first fixed king one last each along there his on last_his k s i alike came = elim (king_or_not man.kind) [
+    | inl is ↦ inl ((there q stands).only s (subst (λ (x : Man). Stands q.men s x) (λ k. record { side = theirs k; kind = is k }) held.stands))
     | inr piece ↦ elim (stands.others s man held.stands piece) [
       | inl e ↦ inr (inl (his man s e theirs back))
       | inr e ↦ elim ((along k alike).others s man held.stands piece) [
@@ -157,62 +157,69 @@ module _ (laws : Laws) (column : Column) (c : ℕ) where
     abbrev pub IsToldOf : ℕ → Type 0
     IsToldOf s = IsToldAt run.king s ⊎ (IsToldAt run.one s ⊎ IsLastOn run.last ((node - run.first) / 2) s)
 
-    -- the king of whom nothing is told, and those beside him: who came as nobody tells
-    pub rest_sound : (king : ℕ) (told : SquareSet) (one other : Option (Man × ℕ)) (first second third : List ℕ) (i : ℕ) → IsKingOn (setup_at c node).men side king → ((s : ℕ) → IsToldOf s → Has told s) → first ≡ []
-        → (Contains second i → Contains first i ⊎ ((run.king.told ≡ false) × CameTo column c (setup_at c node) king i × IsMarked marks i))
-        → (Contains third i ↔ ((Contains second i ⊎ AtEntry side one (CameUntold column c (setup_at c node) told marks) i) ⊎ AtEntry side other (CameUntold column c (setup_at c node) told marks) i))
-        → Contains third i → (s : ℕ) × IsUntold run node s × CameTo column c (setup_at c node) s i × IsMarked marks i
-    rest_sound king told one other first second third i on tells none by_king by_others has = elim (by_others.0 has) [
-      | inr e ↦ entry other e
-      | inl earlier ↦ elim earlier [
-        | inr e ↦ entry one e
-        | inl before ↦ elim (by_king before) [
-          | inr his ↦ (king, record { king = λ h. false≢true (sym his.0 ∙ h.0); one = λ h. kingless h; last = λ h. no_last h }, his.1, his.2)
-          | inl nothing ↦ absurd (let c = subst (λ (xs : List ℕ). Contains xs i) none nothing in omega (arith, c.1))
+    module _ (some : run.first < run.until) where
+      there_on : IsKingOn (setup_at c node).men (other_side (setup_at c node).side) run.king.to
+      there_on = is.king_there some node (is_alike c run node near at)
+
+      -- of the king nothing is told
+      pub king_untold : run.king.told ≡ false → IsUntold run node run.king.to
+      king_untold untold = record { king = λ h. false≢true (sym untold ∙ h.0); one = λ h. kingless h; last = λ h. no_last h }
+        where
+          kingless : IsToldAt run.one run.king.to → ⊥
+          kingless h =
+              let his = is.one_there h.0 node (is_alike c run node near at) in
+              let same = one_man (setup_at c node).men run.one.to _ his.0 (subst (λ s. Stands (setup_at c node).men s (king_of side)) h.1 there_on.stands) his.1.0 in
+              his.1.1 (sym (ap (λ (x : Man). x.kind) same))
+
+          no_last : IsLastOn run.last ((node - run.first) / 2) run.king.to → ⊥
+          no_last h = last_no_king c run node near at (is.last) h.0 (subst (λ s. Stands (setup_at c node).men s (king_of side)) h.1 there_on.stands)
+
+      -- those beside the kings of whom nothing is told
+      pub rest_sound : (told : SquareSet) (one other : Option (Man × ℕ)) (old new : List ℕ) (i : ℕ) → ((s : ℕ) → IsToldOf s → Has told s)
+          → (Contains new i ↔ ((Contains old i ⊎ AtEntry side one (CameUntold column c (setup_at c node) told marks) i) ⊎ AtEntry side other (CameUntold column c (setup_at c node) told marks) i))
+          → Contains new i → Contains old i ⊎ ((s : ℕ) × IsUntold run node s × CameTo column c (setup_at c node) s i × IsMarked marks i)
+      rest_sound told one other old new i tells by_others has = elim (by_others.0 has) [
+        | inr e ↦ inr (entry other e)
+        | inl earlier ↦ elim earlier [
+          | inr e ↦ inr (entry one e)
+          | inl before ↦ inl before
         ]
       ]
-    ]
-      where
-        entry : (o : Option (Man × ℕ)) → AtEntry side o (CameUntold column c (setup_at c node) told marks) i → (s : ℕ) × IsUntold run node s × CameTo column c (setup_at c node) s i × IsMarked marks i
-        entry None nobody = absurd nobody
-        entry (Some e) at_it = (
-          e.1,
-          record { king = λ h. at_it.1.off (tells e.1 (inl h)); one = λ h. at_it.1.off (tells e.1 (inr (inl h))); last = λ h. at_it.1.off (tells e.1 (inr (inr h))) },
-          at_it.1.came,
-          at_it.1.marked,
-        )
+        where
+          entry : (o : Option (Man × ℕ)) → AtEntry side o (CameUntold column c (setup_at c node) told marks) i → (s : ℕ) × IsUntold run node s × CameTo column c (setup_at c node) s i × IsMarked marks i
+          entry None nobody = absurd nobody
+          entry (Some e) at_it = (
+            e.1,
+            record { king = λ h. at_it.1.off (tells e.1 (inl h)); one = λ h. at_it.1.off (tells e.1 (inr (inl h))); last = λ h. at_it.1.off (tells e.1 (inr (inr h))) },
+            at_it.1.came,
+            at_it.1.marked,
+          )
 
-        kingless : IsToldAt run.one king → ⊥
-        kingless h =
-            let his = is.one_there h.0 node (is_alike c run node near at) in
-            let same = one_man (setup_at c node).men run.one.to _ his.0 (subst (λ s. Stands (setup_at c node).men s (king_of side)) h.1 on.stands) his.1.0 in
-            his.1.1 (sym (ap (λ (x : Man). x.kind) same))
-
-        no_last : IsLastOn run.last ((node - run.first) / 2) king → ⊥
-        no_last h = last_no_king c run node near at (is.last) h.0 (subst (λ s. Stands (setup_at c node).men s (king_of side)) h.1 on.stands)
-
-    pub rest_complete : (king : ℕ) (told : SquareSet) (one other : Option (Man × ℕ)) (second third : List ℕ) (i : ℕ) → IsKingOn (setup_at c node).men side king → ((s : ℕ) → Has told s → IsToldOf s)
-        → ((s : ℕ) (goes : ℕ → ℕ → Type 0) (k : ℕ) → IsHeld (setup_at c node).men s side → s ≢ king → goes s k → AtEntry side one goes k ⊎ AtEntry side other goes k)
-        → (run.king.told ≡ false → CameTo column c (setup_at c node) king i → IsMarked marks i → Contains second i)
-        → (Contains third i ↔ ((Contains second i ⊎ AtEntry side one (CameUntold column c (setup_at c node) told marks) i) ⊎ AtEntry side other (CameUntold column c (setup_at c node) told marks) i))
-        → (s : ℕ) → IsUntold run node s → CameTo column c (setup_at c node) s i → IsMarked marks i → Contains third i
-    rest_complete king told one other second third i on tells held by_king by_others s untold came marked = elim (cases_eq s king) [
-      | inl e ↦ elim (cases_Bool run.king.told) [
-        | inl is_told ↦ absurd (untold.king (is_told, e ∙ (is.king_there is_told node (is_alike c run node near at)).only king on.stands))
-        | inr unsaid ↦ by_others.1 (inl (inl (by_king unsaid (subst (λ t. CameTo column c (setup_at c node) t i) e came) marked)))
-      ]
-      | inr apart ↦
+      pub rest_complete : (told : SquareSet) (one other : Option (Man × ℕ)) (old new : List ℕ) (i : ℕ) → ((s : ℕ) → Has told s → IsToldOf s)
+          → ((s : ℕ) (goes : ℕ → ℕ → Type 0) (k : ℕ) → IsHeld (setup_at c node).men s side → s ≢ run.king.to → goes s k → AtEntry side one goes k ⊎ AtEntry side other goes k)
+          → (Contains new i ↔ ((Contains old i ⊎ AtEntry side one (CameUntold column c (setup_at c node) told marks) i) ⊎ AtEntry side other (CameUntold column c (setup_at c node) told marks) i))
+          → (s : ℕ) → s ≢ run.king.to → IsUntold run node s → CameTo column c (setup_at c node) s i → IsMarked marks i → Contains new i
+      rest_complete told one other old new i tells held by_others s apart untold came marked =
           let here = subst (λ t. IsHeld (setup_at c node).men t side) came.here (came_held came.before (setup_at c node) came.move came.comes) in
           elim (held s (CameUntold column c (setup_at c node) told marks) i here apart (record { off = λ has. none (tells s has); came = came; marked = marked })) [
             | inl e ↦ by_others.1 (inl (inr e))
             | inr e ↦ by_others.1 (inr e)
           ]
-    ]
-      where
-        none : IsToldOf s → ⊥
-        none (inl h) = untold.king h
-        none (inr (inl h)) = untold.one h
-        none (inr (inr h)) = untold.last h
+        where
+          none : IsToldOf s → ⊥
+          none (inl h) = untold.king h
+          none (inr (inl h)) = untold.one h
+          none (inr (inr h)) = untold.last h
+
+      -- where nothing is left untold but of the king, only he came of whom nothing is told
+      pub nobody_beside : run.partial ≡ false → (i s : ℕ) → s ≢ run.king.to → IsUntold run node s → CameTo column c (setup_at c node) s i → ⊥
+      nobody_beside closed i s apart untold came =
+          none (is.beside closed ((node - run.first) / 2) s i (alike_there c run node near at) (subst (λ n. CameTo column c (setup_at c n) s i) (sym (there c run node near)) came))
+        where
+          none : (s ≡ run.king.to) ⊎ (IsToldAt run.one s ⊎ IsLastOn run.last ((node - run.first) / 2) s) → ⊥
+          none (inl h) = apart h
+          none (inr (inl h)) = untold.one h
+          none (inr (inr h)) = untold.last h
 
 -- what is in a list of lists is in one of them
 pub in_one : (f : ℕ → List ℕ) (xs : List ℕ) (i : ℕ) → Contains (flat_map f xs) i ↔ ((j : ℕ) × Contains xs j × Contains (f j) i)

@@ -36,4 +36,5 @@ pub mod Shelved
 pub mod Following
 pub mod ToldMen
 pub mod LastMen
+pub mod LedKings
 pub mod InRuns

@@ -44,7 +44,7 @@ use Rattle.egt_sweep.proofs.Returning.{back_by}
 use Rattle.egt_sweep.proofs.Runs.{came_went, nobody}
 
 -- all games go back by the moves of a piece
-piece_back : (column : Column) (man : Man) → man.kind ≢ P → IsTakenBack column man
+pub piece_back : (column : Column) (man : Man) → man.kind ≢ P → IsTakenBack column man
 piece_back Mate man piece = tt
 piece_back Zeroing man piece = piece
 

@@ -15,4 +15,5 @@ pub mod Together
 pub mod Shelves
 pub mod Told
 pub mod Last
+pub mod Leds
 pub mod Runs

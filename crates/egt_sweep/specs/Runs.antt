@@ -1,10 +1,12 @@
 -- What is told at once of nodes that differ by the last man's square alone.
 use Rattle.std.specs.Prelude.{◌≡◌, ◌≢◌, ℕ, ◌+◌, ◌*◌, ◌-◌, ◌/◌, ◌<◌, ◌≤◌, ◌⊎◌, true, false, List, Some, slice_index}
+use Rattle.egt_board.specs.Attack.{king_of}
 use Rattle.egt_board.specs.Beside.{StandsBeside}
 use Rattle.egt_board.specs.Man.{other_side}
 use Rattle.egt_board.specs.Setup.{Setup, IsKingOn}
 use Rattle.egt_board.specs.SquareSet.{Has, size_of}
 use Rattle.egt_board.specs.declared.man.Man.{Man}
+use Rattle.egt_board.specs.declared.man.Side.TheVariants.{White}
 use Rattle.egt_board.specs.declared.square_set.SquareSet.{SquareSet}
 use Rattle.egt_index.specs.Axis.{StandsAlone, is_on_axis}
 use Rattle.egt_index.specs.Shelf.{AreAlike}
@@ -13,7 +15,8 @@ use Rattle.egt_sweep.specs.Edges.{CameTo}
 use Rattle.egt_sweep.specs.Last.{IsLastOn, IsLastTold}
 use Rattle.egt_sweep.specs.Nodes.{setup_at}
 use Rattle.egt_sweep.specs.Shelves.{AreNear}
-use Rattle.egt_sweep.specs.Together.{IsAlikeNode}
+use Rattle.egt_sweep.specs.Leds.{AreLeds}
+use Rattle.egt_sweep.specs.Together.{IsAlikeNode, StandsThroughout}
 use Rattle.egt_sweep.specs.Told.{IsTold, IsToldAt, times_at}
 use Rattle.egt_sweep.specs.declared.together.Run.{Run}
 
@@ -30,13 +33,15 @@ pub record IsRunOf (column : Column) (c : ℕ) (marks : List ℕ) (run : Run) : 
   pub near : AreNear c run.first run.until
   pub few : run.until ≤ run.first + 128
   pub king : IsTold column c run.first marks run.king
+  pub leds : AreLeds column c run.first run.king.to run.leds
   pub one : IsTold column c run.first marks run.one
   pub last : IsLastTold column c run.first marks run.last
-  pub king_there : run.king.told ≡ true → (j : ℕ) → IsAlikeNode c run.first j → IsKingOn (setup_at c j).men (other_side (setup_at c j).side) run.king.to
+  pub king_there : run.first < run.until → (j : ℕ) → IsAlikeNode c run.first j → IsKingOn (setup_at c j).men (other_side (setup_at c j).side) run.king.to
+  pub white_there : run.leds.told ≡ true → StandsThroughout c run.first (king_of White) run.king.to
   pub one_there : run.one.told ≡ true → (j : ℕ) → IsAlikeNode c run.first j → (man : Man) × StandsBeside (setup_at c j).men (Some (man, run.one.to))
   pub aside : run.first < run.until → (j : ℕ) → IsAlikeNode c run.first j → IsAside c (setup_at c j)
   pub apart : run.one.told ≡ true → run.last.told ≡ true → (k : ℕ) → IsAlikeNode c run.first (run.first + 2 * k) → run.one.to ≢ run.last.on + k
-  pub beside : run.partial ≡ false → (k s i : ℕ) → IsAlikeNode c run.first (run.first + 2 * k) → CameTo column c (setup_at c (run.first + 2 * k)) s i → IsToldAt run.king s ⊎ (IsToldAt run.one s ⊎ IsLastOn run.last k s)
+  pub beside : run.partial ≡ false → (k s i : ℕ) → IsAlikeNode c run.first (run.first + 2 * k) → CameTo column c (setup_at c (run.first + 2 * k)) s i → (s ≡ run.king.to) ⊎ (IsToldAt run.one s ⊎ IsLastOn run.last k s)
 
 -- the node is less than 128 above the first of the run, and differs from it by the last man's square alone
 pub record IsNearTo (c : ℕ) (run : Run) (node : ℕ) : Type 0 where

@@ -1,13 +1,12 @@
 //! The marked nodes from which moves that go on lead to several nodes: each as often as it has such moves. Of the men of whom a run tells, the moves to
 //! all of its nodes are taken back at once, by combs.
-ghost use Rattle.std.specs.Prelude.{◌≡◌, ◌+◌, ◌*◌, ◌-◌, ◌≤◌, ◌<◌, ◌++◌, ℕ, List, true, false, All, [], length, slice_index, sum_by};
+ghost use Rattle.std.specs.Prelude.{◌≡◌, ◌≢◌, ◌↔◌, ◌⊎◌, ◌+◌, ◌*◌, ◌-◌, ◌≤◌, ◌<◌, ◌++◌, ℕ, List, true, false, All, [], length, slice_index, sum_by};
 ghost use Rattle.std.specs.List.{Contains, flat_map, slice_range};
 ghost use Rattle.std.specs.List.Sorted.{IsStrictlyIncreasing};
 ghost use Rattle.arrayvec.specs.ArrayVec.{array_vec_len};
 ghost use Rattle.egt_graph.specs.Columns.{count_of};
 ghost use Rattle.egt_graph.specs.Combs.{times_in};
 ghost use Rattle.egt_class.specs.Material.{material_of};
-ghost use Rattle.egt_index.specs.Frame.{IsFrame};
 ghost use Rattle.egt_index.specs.Size.{has_target};
 ghost use Rattle.egt_graph.specs.Undecided.{IsMarked};
 ghost use Rattle.egt_sweep.specs.Edges.{CameTo, IsAt};
@@ -26,7 +25,6 @@ use arrayvec::ArrayVec;
 use egt_board::{Square, SquareSet};
 use egt_class::Class;
 use egt_graph::Comb;
-use egt_index::Frame;
 use egt_index::laws::one_index_for_one_setup;
 use egt_table::Column;
 
@@ -59,38 +57,88 @@ impl Run {
         self.one.add_combs(places, combs);
     }
 
-    /// Fills the list, which is empty, with the marked nodes from which men came of whom nothing is told to a node of the run, whose frame this is.
-    fn find_untold(
+    /// Fills the list, which is empty, with the marked nodes from which the king came to a node of the run, if nothing is told of him.
+    fn add_king(
         &self,
         column: Column,
         class: Class,
         node: u32,
-        frame: &Frame,
+        shelf: &mut Shelf,
         marks: &[u64],
         list: &mut ArrayVec<u32, 128>,
     )
         requires at { IsAt class node (setup_at class node) }
         requires run { IsRunOf column class marks.now self.now }
+        requires some { self.now.first < self.now.until }
         requires near { IsNearTo class self.now node }
-        requires frame { IsFrame (setup_at class node) frame.now }
-        requires class { frame.now.class ≡ class }
+        requires shelf { IsShelf class shelf.old }
         requires never { NeverTargeted class }
+        requires marked { AreNodesMarked class marks.now }
         requires empty { list.old.items ≡ [] }
+        ensures shelf { IsShelf class shelf.new }
         ensures ascending { IsStrictlyIncreasing list.new.items }
-        ensures sound { (i : ℕ) → Contains list.new.items i → (s : ℕ) × IsUntold self.now node s × CameTo column class (setup_at class node) s i × IsMarked marks.now i }
-        ensures complete { (i s : ℕ) → IsUntold self.now node s → CameTo column class (setup_at class node) s i → IsMarked marks.now i → Contains list.new.items i }
+        ensures members { (i : ℕ) → Contains list.new.items i ↔ ((self.now.king.told ≡ false) × CameTo column class (setup_at class node) self.now.king.to i × IsMarked marks.now i) }
+        ensures few { array_vec_len list.new ≤ 28 }
+    {
+        laws();
+        let _number = class.number();
+        if self.king.told {
+            return;
+        }
+        if self.leds.told {
+            let place = (node - self.first) / 2;
+            self.leds.add_sources(column, class, self.first, self.king.to, place, marks, list);
+            return;
+        }
+        shelf.turn_to(class, node);
+        let men = men_of(&shelf.frame);
+        add_sources_of_king(
+            column,
+            class,
+            node,
+            &shelf.frame,
+            &men,
+            self.king.to,
+            marks,
+            list,
+        );
+    }
+
+    /// Adds the marked nodes from which the men beside the kings came to a node of the run of whom nothing is told.
+    fn add_rest(
+        &self,
+        column: Column,
+        class: Class,
+        node: u32,
+        shelf: &mut Shelf,
+        marks: &[u64],
+        list: &mut ArrayVec<u32, 128>,
+    )
+        requires at { IsAt class node (setup_at class node) }
+        requires run { IsRunOf column class marks.now self.now }
+        requires some { self.now.first < self.now.until }
+        requires near { IsNearTo class self.now node }
+        requires shelf { IsShelf class shelf.old }
+        requires never { NeverTargeted class }
+        requires ascending { IsStrictlyIncreasing list.old.items }
+        requires room { array_vec_len list.old ≤ 28 }
+        ensures shelf { IsShelf class shelf.new }
+        ensures ascending { IsStrictlyIncreasing list.new.items }
+        ensures kept { (i : ℕ) → Contains list.old.items i → Contains list.new.items i }
+        ensures sound { (i : ℕ) → Contains list.new.items i → Contains list.old.items i ⊎ ((s : ℕ) × IsUntold self.now node s × CameTo column class (setup_at class node) s i × IsMarked marks.now i) }
+        ensures complete { (i s : ℕ) → s ≢ self.now.king.to → IsUntold self.now node s → CameTo column class (setup_at class node) s i → IsMarked marks.now i → Contains list.new.items i }
         ensures few { array_vec_len list.new ≤ 84 }
     {
         laws();
         let _number = class.number();
-        let king = frame.king(frame.side().other());
-        let men = men_of(frame);
+        if !self.partial {
+            return;
+        }
+        shelf.turn_to(class, node);
+        let men = men_of(&shelf.frame);
         let last = self.last.square_at(column, class, self.first, marks, (node - self.first) / 2);
         let told = self.king.square().union(self.one.square()).union(last);
-        if !self.king.told {
-            add_sources_of_king(column, class, node, frame, &men, king, marks, list);
-        }
-        add_untold(column, class, node, frame, &men, told, marks, list);
+        add_untold(column, class, node, &shelf.frame, &men, told, marks, list);
     }
 
     /// Adds the marked nodes from which men came of whom nothing is told to a node of the run. They are found first in a list that is lent.
@@ -106,9 +154,11 @@ impl Run {
     )
         requires at { IsAt class node (setup_at class node) }
         requires run { IsRunOf column class marks.now self.now }
+        requires some { self.now.first < self.now.until }
         requires near { IsNearTo class self.now node }
         requires shelf { IsShelf class shelf.old }
         requires never { NeverTargeted class }
+        requires marked { AreNodesMarked class marks.now }
         requires room { array_vec_len list.old + 84 ≤ 8192 }
         ensures shelf { IsShelf class shelf.new }
         ensures added { list.new.items ≡ list.old.items ++ found.new.items }
@@ -117,11 +167,20 @@ impl Run {
         ensures complete { (i s : ℕ) → IsUntold self.now node s → CameTo column class (setup_at class node) s i → IsMarked marks.now i → Contains found.new.items i }
         ensures few { array_vec_len list.new ≤ array_vec_len list.old + 84 }
     {
+        laws();
         let _number = class.number();
-        shelf.turn_to(class, node);
         found.clear();
-        self.find_untold(column, class, node, &shelf.frame, marks, found);
+        self.add_king(column, class, node, shelf, marks, found);
+        self.add_rest(column, class, node, shelf, marks, found);
         list.try_extend_from_slice(found.as_slice()).unwrap();
+    }
+
+    /// Whether nothing is left untold.
+    #[inline(always)]
+    fn is_whole(&self) -> bool
+        ensures { result ≡ true → (self.now.partial ≡ false) × (self.now.king.told ≡ true) }
+    {
+        !self.partial && self.king.told
     }
 
     /// Adds the marked nodes from which the other men came to a node of the run: the last, and those of whom nothing is told.
@@ -156,7 +215,7 @@ impl Run {
         one_index_for_one_setup();
         let _number = class.number();
         self.last.add_comb(column, class, self.first, marks, (node - self.first) / 2, combs);
-        if self.partial {
+        if !self.is_whole() {
             self.add_untold_of(column, class, node, shelf, marks, found, list);
         }
     }

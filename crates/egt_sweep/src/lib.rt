@@ -15,6 +15,7 @@ mod facing;
 mod last;
 mod laws;
 mod leaving;
+mod leds;
 mod mate_game;
 mod missing;
 mod nodes;

@@ -5,7 +5,9 @@ ghost use Rattle.std.specs.Int.{bit_at};
 ghost use Rattle.std.specs.List.{Contains, flat_map};
 ghost use Rattle.std.specs.List.Sorted.{IsStrictlyIncreasing};
 ghost use Rattle.arrayvec.specs.ArrayVec.{array_vec_len};
+ghost use Rattle.egt_board.specs.Attack.{king_of};
 ghost use Rattle.egt_board.specs.Man.{other_side};
+ghost use Rattle.egt_board.specs.declared.man.Side.TheVariants.{White};
 ghost use Rattle.egt_board.specs.Placement.{IsFree, Stands};
 ghost use Rattle.egt_board.specs.Setup.{Setup, IsKingOn};
 ghost use Rattle.egt_board.specs.SquareSet.{Has};
@@ -21,12 +23,14 @@ ghost use Rattle.egt_unmoves.specs.Around.{AreMenOf};
 ghost use Rattle.egt_sweep.specs.Edges.{CameTo, Connects, IsAt, IsTakenBack};
 ghost use Rattle.egt_sweep.specs.Nodes.{setup_at};
 ghost use Rattle.egt_sweep.specs.Shelves.{AreNear, IsShelf};
+ghost use Rattle.egt_sweep.specs.Leds.{AreLeds};
 ghost use Rattle.egt_sweep.specs.Runs.{IsAside, IsNearTo, IsRunOf};
-ghost use Rattle.egt_sweep.specs.Together.{AreHeldThroughout, IsAlikeNode, NeverTargeted};
+ghost use Rattle.egt_sweep.specs.Together.{AreHeldThroughout, IsAlikeNode, NeverTargeted, StandsThroughout};
 ghost use Rattle.egt_sweep.specs.Told.{AreNodesMarked, GoesAlongThroughout, IsTold, IsToldAt, marked_into};
 
 use crate::by_squares::{goes_back_by, is_of};
 use crate::last::Last;
+use crate::leds::Leds;
 use crate::laws::laws;
 use crate::shelves::{Shelf, is_near};
 use crate::sources::sources;
@@ -140,11 +144,44 @@ fn tell_one(
     told.told
 }
 
-/// Whether men may have moved of whom nothing is told, where of these it is told or not.
-fn is_partial(king: bool, one: bool, last: bool) -> bool
-    ensures { result ≡ false → (king ≡ true) × (one ≡ true) × (last ≡ true) }
+/// Tells of the king on the square by the last man's square, if he is white and nothing is told of him.
+fn tell_led(
+    column: Column,
+    class: Class,
+    first: u32,
+    frame: &Frame,
+    fixed: &Fixed,
+    side: Side,
+    to: Square,
+    held: SquareSet,
+    told: bool,
+    leds: &mut Leds,
+)
+    requires at { IsAt class first (setup_at class first) }
+    requires frame { (passed : Bool) × IsFramedAt class first (setup_at class first) frame.now passed }
+    requires class { frame.now.class ≡ class }
+    requires of { AreOf frame.now fixed.now }
+    requires stands { StandsThroughout class first (king_of side) to }
+    requires held { AreHeldThroughout class first held }
+    requires along { GoesAlongThroughout class first held fixed.now.last_on }
+    ensures leds { AreLeds column class first to leds.new }
+    ensures white { leds.new.told ≡ true → StandsThroughout class first (king_of White) to }
 {
-    !king || !one || !last
+    leds.told = false;
+    if told {
+        return;
+    }
+    match side {
+        Side::White => leds.tell(column, class, first, frame, fixed, to, held),
+        Side::Black => (),
+    }
+}
+
+/// Whether men beside the kings may have moved of whom nothing is told, where of these it is told or not.
+fn is_partial(one: bool, last: bool) -> bool
+    ensures { result ≡ false → (one ≡ true) × (last ≡ true) }
+{
+    !one || !last
 }
 
 /// What is told of nodes that differ by the last man's square alone.
@@ -155,11 +192,13 @@ pub(crate) struct Run {
     pub(crate) until: u32,
     /// The king of the side that waits.
     pub(crate) king: Told,
+    /// The same king, where he is white and the last man's square tells.
+    pub(crate) leds: Leds,
     /// The man of that side beside it who stands on one square at all of them.
     pub(crate) one: Told,
     /// The last man, if he is of that side.
     pub(crate) last: Last,
-    /// Whether men may have moved of whom nothing is told.
+    /// Whether men beside the kings may have moved of whom nothing is told.
     pub(crate) partial: bool,
 }
 
@@ -172,6 +211,7 @@ impl Run {
             first: 0,
             until: 0,
             king: Told::nothing(),
+            leds: Leds::nothing(),
             one: Told::nothing(),
             last: Last::nothing(),
             partial: true,
@@ -227,6 +267,18 @@ impl Run {
             fixed.last_on,
             marks,
         );
+        tell_led(
+            column,
+            class,
+            first,
+            frame,
+            fixed,
+            side,
+            to,
+            held,
+            self.king.told,
+            &mut self.leds,
+        );
         let one = tell_one(
             column,
             class,
@@ -238,7 +290,7 @@ impl Run {
             &mut self.one,
         );
         let last = self.last.tell(column, class, first, frame, fixed, held, marks);
-        self.partial = is_partial(self.king.told, one, last);
+        self.partial = is_partial(one, last);
     }
 
     /// Goes on to the node at place `k`, of which it tells then, or stays: whether it tells of it. It does not where the node is alone, the class

@@ -1,5 +1,5 @@
 -- The ways back.
-use Rattle.std.proofs.Common.{◌≡◌, ◌↔◌, ℕ, zero, suc, ◌+◌, ◌-◌, ◌*◌, ◌<◌, ◌≤◌, ◌⊎◌, ◌++◌, arith, refl, sym, ap, ◌∙◌, inl, inr, if◌then◌else◌, ◌==◌, Bool, true, false, subst, Some, None, ◌&&◌, ◌||◌, ◌/◌}
+use Rattle.std.proofs.Common.{◌≡◌, ◌↔◌, ℕ, List, [], ◌∷◌, zero, suc, ◌+◌, ◌-◌, ◌*◌, ◌<◌, ◌≤◌, ◌⊎◌, ◌++◌, arith, refl, sym, ap, ◌∙◌, inl, inr, if◌then◌else◌, ◌==◌, Bool, true, false, subst, Some, None, ◌&&◌, ◌||◌, ◌/◌}
 use Rattle.std.proofs.Math.Nat.{add-mul}
 use Rattle.std.specs.FinMap as map
 use Rattle.std.proofs.lemmas.Bool.{false≢true}
@@ -209,3 +209,24 @@ ahead_passed F man s t u pawn a e = by_count man.side a.rides.count a.rides.move
 -- a man that attacks a square past some squares does so past all that are free between
 pub past_free : (F G : ℕ → Type 0) (man : Man) (s t : ℕ) → ((u : ℕ) → IsBetween s t u → F u → G u) → Reaches F man s t → Reaches G man s t
 past_free F G man s t free r = clear_reach G man s t (Reaches-free F (Open 0) man s t (λ u u_in _. bit_at-zero u) r) (λ u between. free u between (free_between F man s t u r between))
+
+-- a king goes one step, and nothing is between
+king_bare : (F G : ℕ → Type 0) (s t : ℕ) (ds : List Step) → OneOf (Rides F 1 s t) ds → OneOf (Rides G 1 s t) ds
+king_bare F G s t [] none = none
+king_bare F G s t (d ∷ ds) some = elim some [
+  | inl r ↦
+      let within = r.within in
+      inl (record { count = r.count; moves = r.moves; within = r.within; away = r.away; clear = λ k u k_some less away. absurd (omega arith) })
+  | inr rest ↦ inr (king_bare F G s t ds rest)
+]
+
+pub none_between : (F : ℕ → Type 0) (man : Man) (s t u : ℕ) → man.kind ≡ K → Reaches F man s t → ¬ IsBetween s t u
+none_between F man s t u king reaches between = free_between (λ v. ⊥) man s t u (of_kind man.kind king reaches) between
+  where
+    of_kind : (kind : Kind) → kind ≡ K → OneOf (Rides F (farthest kind) s t) (steps_of man.side kind) → OneOf (Rides (λ v. ⊥) (farthest kind) s t) (steps_of man.side kind)
+    of_kind K e r = king_bare F (λ v. ⊥) s t (steps_of man.side K) r
+    of_kind Q e r = absurd (cc)
+    of_kind R e r = absurd (cc)
+    of_kind B e r = absurd (cc)
+    of_kind N e r = absurd (cc)
+    of_kind P e r = absurd (cc)

@@ -6,7 +6,7 @@ ghost use Rattle.egt_board.specs.Pawn.{HasPawnBeside, MayStand};
 ghost use Rattle.egt_board.specs.Placement.{Stands, IsFree};
 ghost use Rattle.egt_board.specs.Setup.{Setup, IsAdmissible};
 ghost use Rattle.egt_board.specs.SquareSet.{Has, size_of};
-ghost use Rattle.egt_board.specs.declared.man.Kind.TheVariants.{P};
+ghost use Rattle.egt_board.specs.declared.man.Kind.TheVariants.{K, P};
 ghost use Rattle.egt_moves.specs.declared.chess_move.Move.{Move};
 ghost use Rattle.egt_unmoves.specs.Around.{StandsAround, CameFrom};
 ghost use Rattle.egt_unmoves.specs.Unmoves.{ComesBy, HasWay, MayHaveLeft, Went};
@@ -55,12 +55,13 @@ pub fn squares_left(man: Man, to: Square, around: &Around) -> SquareSet
 
 /// Squares among which are all from which the man on `to`, one of the side that waits, came by a legal move that neither captures nor promotes,
 /// wherever other men stand beside those on the squares of `held`: those from which it has a way past the squares of `held` alone. A piece or king
-/// has a way from each of them that is free, with no man between but on squares of `held`.
+/// has a way from each of them that is free, with no man between but on squares of `held`; between a king and his is no square.
 pub fn squares_open(man: Man, to: Square, held: SquareSet) -> SquareSet
     ensures open { (q : Setup) → Stands q.men to man → man.side ≡ other_side q.side → ((t : ℕ) → Has held t → ¬ IsFree q.men t) →
         (b : Setup) (m : Move) → m.to ≡ to → ComesBy b m q → Has result m.from }
     ensures ways { (q : Setup) → Stands q.men to man → man.kind ≢ P → ((t : ℕ) → Has held t → ¬ IsFree q.men t)
         → (s : ℕ) → s < 64 → Has result s → IsFree q.men s → ((t : ℕ) → IsBetween s to t → ¬ Has held t → IsFree q.men t) → HasWay q.men man to s }
+    ensures near { man.kind ≡ K → (s : ℕ) → s < 64 → Has result s → (t : ℕ) → ¬ IsBetween s to t }
     ensures few { size_of result ≤ 28 }
 {
     if is_pawn(man) && !may_have_pawn(to) {

@@ -12,7 +12,7 @@ ghost use Rattle.egt_board.specs.Safety.{Stops};
 ghost use Rattle.egt_board.specs.Setup.{Setup, IsAdmissible};
 ghost use Rattle.egt_board.specs.Square.{rank_of};
 ghost use Rattle.egt_board.specs.SquareSet.{Has, size_of};
-ghost use Rattle.egt_board.specs.declared.man.Kind.TheVariants.{P};
+ghost use Rattle.egt_board.specs.declared.man.Kind.TheVariants.{K, P};
 ghost use Rattle.egt_board.specs.declared.man.Man.{Man};
 ghost use Rattle.egt_moves.specs.Room.{most_goals};
 ghost use Rattle.egt_unmoves.specs.Around.{AreTaken, StandsAround};
@@ -43,6 +43,7 @@ fn attackers(man: Man, square: Square, occupied: SquareSet) -> SquareSet
     ensures only { (men : Placement) → IsOccupied men occupied → (s : ℕ) → s < 64 → Has result s → Reaches (IsFree (map.insert men s man)) man s square }
     ensures past { (men : Placement) (s : ℕ) → s < 64 → Has result s → ((t : ℕ) → IsBetween s square t → ¬ Has occupied t → IsFree men t)
         → Reaches (IsFree (map.insert men s man)) man s square }
+    ensures near { man.kind ≡ K → (s : ℕ) → s < 64 → Has result s → (t : ℕ) → ¬ IsBetween s square t }
     ensures few { size_of result ≤ most_goals man.kind }
 {
     reach_passes_over_its_end();
@@ -57,6 +58,7 @@ fn piece_sources(man: Man, to: Square, held: SquareSet) -> SquareSet
     ensures found { (men : Placement) → AreTaken men held → (s : ℕ) → s < 64 → HasWay men man to s → Has result s }
     ensures only { (men : Placement) → IsOccupied men held → (s : ℕ) → s < 64 → Has result s → HasWay men man to s }
     ensures past { (men : Placement) (s : ℕ) → s < 64 → Has result s → IsFree men s → ((t : ℕ) → IsBetween s to t → ¬ Has held t → IsFree men t) → HasWay men man to s }
+    ensures near { man.kind ≡ K → (s : ℕ) → s < 64 → Has result s → (t : ℕ) → ¬ IsBetween s to t }
     ensures few { size_of result ≤ most_goals man.kind }
 {
     attackers(man, to, held.less(to)).without(held)
@@ -103,6 +105,7 @@ pub fn ways_back(man: Man, to: Square, held: SquareSet) -> SquareSet
     ensures found { (men : Placement) → AreTaken men held → Stands men to man → (s : ℕ) → s < 64 → HasWay men man to s → Has result s }
     ensures only { (men : Placement) → IsOccupied men held → Stands men to man → (s : ℕ) → s < 64 → Has result s → HasWay men man to s }
     ensures past { man.kind ≢ P → (men : Placement) (s : ℕ) → s < 64 → Has result s → IsFree men s → ((t : ℕ) → IsBetween s to t → ¬ Has held t → IsFree men t) → HasWay men man to s }
+    ensures near { man.kind ≡ K → (s : ℕ) → s < 64 → Has result s → (t : ℕ) → ¬ IsBetween s to t }
     ensures few { size_of result ≤ most_goals man.kind }
 {
     if is_pawn(man) {

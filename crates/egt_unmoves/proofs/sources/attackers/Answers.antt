@@ -5,7 +5,7 @@ use Rattle.egt_board.specs.Placement.{IsFree}
 use Rattle.egt_board.specs.declared.man.Man.{Man}
 use Rattle.egt_unmoves.specs.Unmoves.{facing}
 use Rattle.egt_unmoves.proofs.Men.{not_both}
-use Rattle.egt_unmoves.proofs.Ways.{Reaches-back, attacks_back, facing_twice, past_free}
+use Rattle.egt_unmoves.proofs.Ways.{Reaches-back, attacks_back, facing_twice, none_between, past_free}
 use Rattle.egt_unmoves.proofs.sources.attackers.Goals as goal
 
 pub returns-clause-found : goal.returns-clause-found
@@ -32,3 +32,12 @@ returns-clause-past c = λ men s s_in has between.
     subst (λ (x : Man). Reaches F x s square) same (Reaches-back F F c.facing.result square s (λ u free. free) (omega arith) ((c.reach_past.ensures.reached s s_in).0 has)) in
     let past = past_free F (IsFree men) man s square (λ u on_line (open_there : bit_at c.args.occupied.bits u ≡ 0). between u on_line (λ taken. not_both _ open_there taken)) told in
     (attacks_back men man s square c.reach_passes_over_its_end.ensures s_in (omega arith)).0 (Reaches-back (IsFree men) (IsFree men) man s square (λ u free. free) s_in past)
+
+pub returns-clause-near : goal.returns-clause-near
+returns-clause-near c = λ king s s_in has t.
+    let man = c.args.man in
+    let square = c.args.square in
+    let F : ℕ → Type 0 = λ u. bit_at c.args.occupied.bits u ≡ 0 in
+    let same : facing c.facing.result ≡ man = ap facing c.facing.ensures ∙ facing_twice man in
+    none_between F man s square t king
+    (subst (λ (x : Man). Reaches F x s square) same (Reaches-back F F c.facing.result square s (λ u free. free) (omega arith) ((c.reach_past.ensures.reached s s_in).0 has)))

@@ -35,3 +35,8 @@ returns-clause-past c = λ men s s_in has free between.
       | inr other ↦ get-remove_other men to u other ∙ between u on_line (λ taken. untaken (c.less.ensures.others u other ∙ taken))
     ]) in
     record { within = s_in; free = free; fits = λ pawn. absurd (c.requires pawn); goes = inl (c.requires, past) }
+
+pub returns-clause-near : goal.returns-clause-near
+returns-clause-near c = λ king s s_in has t.
+    let bits = kept_free _ _ _ (bit_at-lt c.attackers.result.bits s) (bit_at-lt c.args.held.bits s) (c.without.ensures.squares s) in
+    c.attackers.ensures.near king s s_in (bits.0 has).0 t
