@@ -1,5 +1,5 @@
 -- The frame that is kept from one node to another.
-use Rattle.std.proofs.Common.{◌<◌, ◌≡◌, ℕ, ◌≤◌, Bool, sym, ◌∙◌, subst, arith}
+use Rattle.std.proofs.Common.{◌≡◌, ℕ, ◌≤◌, Bool, sym, ◌∙◌, subst, arith}
 use Rattle.egt_board.specs.Setup.{Setup}
 use Rattle.egt_index.specs.AtIndex.{IsFramedAt}
 use Rattle.egt_index.specs.Code.{Spells}
@@ -17,10 +17,10 @@ near_on c first until node near above alike = λ j le lt ends.
     let there = near j (omega (arith, le, above)) lt (ends ∙ sym alike.ends) in
     record { shelf = sym alike.shelf ∙ there.shelf; ends = sym alike.ends ∙ there.ends }
 
-pub turned_to : (c node : ℕ) (shelf : Shelf) (frame : Frame) → IsShelf c shelf → IsAt c node (setup_at c node) → shelf.node ≤ node → node < shelf.until → AreAlike c shelf.node node → frame.class ≡ shelf.frame.class
+pub turned_to : (c node : ℕ) (shelf : Shelf) (frame : Frame) → IsShelf c shelf → IsAt c node (setup_at c node) → shelf.node ≤ node → AreAlike c shelf.node node → frame.class ≡ shelf.frame.class
     → ((i : ℕ) (p q : Setup) (passed : Bool) → IsFramedAt shelf.frame.class i p shelf.frame passed → AreAlike shelf.frame.class i node → Spells shelf.frame.class node q → IsIndex shelf.frame.class q node → IsFramedAt shelf.frame.class node q frame passed)
     → IsShelf c (record { node = node; until = shelf.until; frame = frame; passed = shelf.passed })
-turned_to c node shelf frame is at above below alike class tells = record {
+turned_to c node shelf frame is at above alike class tells = record {
   framed = subst (λ (d : ℕ). IsFramedAt d node (setup_at c node) frame shelf.passed) is.class
       (tells shelf.node (setup_at c shelf.node) (setup_at c node) shelf.passed
       (subst (λ (d : ℕ). IsFramedAt d shelf.node (setup_at c shelf.node) shelf.frame shelf.passed) (sym is.class) is.framed)
@@ -29,5 +29,4 @@ turned_to c node shelf frame is at above below alike class tells = record {
       (subst (λ (d : ℕ). IsIndex d (setup_at c node) node) (sym is.class) at.index));
   class = class ∙ is.class;
   near = near_on c shelf.node shelf.until node is.near above alike;
-  above = below;
 }

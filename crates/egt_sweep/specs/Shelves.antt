@@ -16,4 +16,3 @@ pub record IsShelf (c : ℕ) (shelf : Shelf) : Type 0 where
   pub framed : IsFramedAt c shelf.node (setup_at c shelf.node) shelf.frame shelf.passed
   pub class : shelf.frame.class ≡ c
   pub near : AreNear c shelf.node shelf.until
-  pub above : shelf.node < shelf.until

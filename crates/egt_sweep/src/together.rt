@@ -327,6 +327,9 @@ impl Run {
         }
         shelf.turn_to(class, node);
         let until = end_of_run(class, shelf);
+        if k + 1 == nodes.len() || !is_near(class, node, until, nodes[k + 1]) {
+            return false;
+        }
         let fixed = shelf.frame.fixed();
         if !has_aside(class, &fixed) {
             return false;
@@ -343,7 +346,6 @@ fn end_of_run(class: Class, shelf: &Shelf) -> u32
     requires shelf { IsShelf class shelf.now }
     ensures near { AreNear class shelf.now.node result }
     ensures few { result ≤ shelf.now.node + 128 }
-    ensures above { shelf.now.node < result }
 {
     let _number = class.number();
     shelf.until.min(shelf.node + 128)

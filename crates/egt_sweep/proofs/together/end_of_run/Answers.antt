@@ -12,6 +12,3 @@ overflow_add-shelf c =
 
 pub returns-clause-near : goal.returns-clause-near
 returns-clause-near c = λ j above below same. c.requires.shelf.near j above (omega (arith, below, c.min.ensures)) same
-
-pub returns-clause-above : goal.returns-clause-above
-returns-clause-above c = omega (arith, c.requires.shelf.above, c.min.ensures)

@@ -10,5 +10,4 @@ returns-clause-shelf c = record {
   framed = c.frame_at-frame.ensures.all _ c.requires.spells;
   class = c.frame_at-frame.ensures.class;
   near = c.shelf_end.ensures.alike;
-  above = c.shelf_end.ensures.above;
 }

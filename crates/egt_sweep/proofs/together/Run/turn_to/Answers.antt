@@ -1,4 +1,4 @@
-use Rattle.std.proofs.Common.{ℕ, sym, ◌∙◌, subst, arith}
+use Rattle.std.proofs.Common.{ℕ, sym, ◌∙◌, subst}
 use Rattle.egt_sweep.specs.Shelves.{AreNear}
 use Rattle.egt_sweep.proofs.InRuns.{never_targeted}
 use Rattle.egt_sweep.proofs.Runs.{along_throughout, stands_throughout}
@@ -6,6 +6,9 @@ use Rattle.egt_sweep.proofs.together.Run.turn_to.Goals as goal
 
 pub returns-then-is_near-clause-never : goal.returns-then-is_near-clause-never
 returns-then-is_near-clause-never c told = let none = sym c.has_target.ensures ∙ c.if-has_target.false in (never_targeted c.laws.ensures c.args.class none c.a_class_without_targets_has_pawns_of_one_side.ensures, none)
+
+pub is_near-requires-else-k-nodes : goal.is_near-requires-else-k-nodes
+is_near-requires-else-k-nodes c = subst (λ (n : ℕ). AreNear c.args.class n c.end_of_run-until.result) c.turn_to.ensures.node c.end_of_run-until.ensures.near
 
 pub tell-requires-clause-fixed : goal.tell-requires-clause-fixed
 tell-requires-clause-fixed c =
@@ -25,6 +28,3 @@ returns-clause-never c told = let none = sym c.has_target.ensures ∙ c.if-has_t
 
 pub tell-requires-clause-of : goal.tell-requires-clause-of
 tell-requires-clause-of c = c.fixed-fixed.ensures.of
-
-pub returns-clause-some : goal.returns-clause-some
-returns-clause-some c told = omega (arith, c.tell.ensures.first, c.tell.ensures.until, c.end_of_run-until.ensures.above)
