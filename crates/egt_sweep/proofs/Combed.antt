@@ -2,6 +2,7 @@
 use Rattle.std.proofs.Common.{◌≡◌, ◌≢◌, ℕ, zero, suc, ◌+◌, ◌-◌, ◌*◌, ◌/◌, ◌%◌, ◌<◌, ◌≤◌, ◌^◌, ◌↔◌, ◌&&◌, ◌==◌, Bool, true, false, cond, List, [], ◌∷◌, ◌++◌, length, map, take, take-add, drop, get_or, arith, refl, sym, ap, ap₂, ◌∙◌, subst, inl, inr}
 use Rattle.std.specs.Prelude.{count_by, sum_by, slice_index, nat_le, nat_lt}
 use Rattle.std.specs.Int.{bit_at}
+use Rattle.std.proofs.lemmas.Nat.Bits.{bit_at-zero}
 use Rattle.std.specs.List.{Contains, flat_map, slice_range}
 use Rattle.std.specs.List.Sorted.{IsStrictlyIncreasing}
 use Rattle.std.proofs.lemmas.Bool.{and_parts, cases_Bool, cases_eq, eq-eqb, eqb-true, false≢true, le-leb, leb-true, lt-ltb}
@@ -252,6 +253,26 @@ combs_more places i lefts k left start old new comb inside at grown same before 
     let c = ap (count_by (gives_in places i)) (take_more lefts k left inside) ∙ sum_by_push (λ (x : Left). cond {A = ℕ} (gives_in places i x) 1 0) (take k lefts) (get_or lefts k left) in
     let d = ap (λ (x : Left). cond {A = ℕ} (gives_in places i x) 1 0) at in
     omega arith
+
+-- a comb of no number is left out
+pub combs_same : (places : SquareSet) (i : ℕ) (lefts : List Left) (k : ℕ) (left : Left) (start old : List Comb) (comb : Comb) → k < length lefts → get_or lefts k left ≡ left → comb.bits ≡ 0
+    → has_tooth i comb ≡ gives_in places i left → times_in i old ≡ times_in i start + count_by (gives_in places i) (take k lefts) → times_in i old ≡ times_in i start + count_by (gives_in places i) (take (k + 1) lefts)
+combs_same places i lefts k left start old comb inside at none same before =
+    let a = ap (λ (t : Bool). cond {A = ℕ} t 1 0) (sym same ∙ toothless) in
+    let c = ap (count_by (gives_in places i)) (take_more lefts k left inside) ∙ sum_by_push (λ (x : Left). cond {A = ℕ} (gives_in places i x) 1 0) (take k lefts) (get_or lefts k left) in
+    let d = ap (λ (x : Left). cond {A = ℕ} (gives_in places i x) 1 0) at in
+    omega arith
+  where
+    toothless : has_tooth i comb ≡ false
+    toothless = elim (cases_Bool (has_tooth i comb)) [
+      | inr f ↦ f
+      | inl t ↦ absurd
+          (let parts = and_parts _ _ t in
+          let bit = eqb-true (bit_at comb.bits ((i - comb.first) / 2)) 1 parts.1 in
+          let zero = bit_at-zero ((i - comb.first) / 2) in
+          let both : bit_at comb.bits ((i - comb.first) / 2) ≡ bit_at 0 ((i - comb.first) / 2) = ap (λ n. bit_at n ((i - comb.first) / 2)) none in
+          omega (arith, bit, zero, both))
+    ]
 
 -- ---- one list of lists, part by part
 

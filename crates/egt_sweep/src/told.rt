@@ -98,7 +98,10 @@ impl Told {
             return;
         }
         for left in self.left.as_slice() {
-            combs.push(left.comb(places));
+            let comb = left.comb(places);
+            if comb.bits != 0 {
+                combs.push(comb);
+            }
         }
     }
 

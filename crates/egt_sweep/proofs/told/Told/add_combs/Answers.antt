@@ -1,25 +1,32 @@
-use Rattle.std.proofs.Common.{◌≡◌, ◌+◌, ◌<◌, ◌≤◌, Bool, List, length, get_or, ap, sym, ◌∙◌, subst, arith}
+use Rattle.std.proofs.Common.{◌≡◌, ◌+◌, ◌<◌, ◌≤◌, ℕ, Bool, List, length, get_or, ap, sym, ◌∙◌, subst, arith}
 use Rattle.std.specs.Prelude.{count_by, if◌then◌else◌}
 use Rattle.std.proofs.lemmas.List.{take_all}
 use Rattle.egt_graph.specs.Combs.{times_in}
 use Rattle.egt_sweep.specs.Told.{gives_in}
 use Rattle.egt_sweep.specs.declared.told.Left.{Left}
-use Rattle.egt_sweep.proofs.Combed.{combs_more, tooth_is}
+use Rattle.egt_sweep.proofs.Combed.{combs_more, combs_same, tooth_is}
 use Rattle.egt_sweep.proofs.told.Told.add_combs.Goals as goal
+use Rattle.egt_sweep.proofs.told.Told.add_combs.Goals.{then-comb-ne0, else-comb-ne0}
 
 pub loop-left-preserved : goal.loop-left-preserved
-loop-left-preserved c = record {
-  counted = λ i.
-      let left = c.left-item.result in
-      let list = c.as_slice-left-items.ensures.value in
-      combs_more c.args.places i c.args.self.now.left.items c.loop-left.left-index left c.args.combs.now.items c.loop-left.combs.items c.push.new.self.items c.comb.result
-      (subst (λ (xs : List Left). c.loop-left.left-index < length xs) list c.loop-left-test.true)
-      (sym (subst (λ (xs : List Left). left ≡ get_or xs c.loop-left.left-index left) list c.left-item.is))
-      c.push.ensures.items
-      (tooth_is c.args.places i left c.comb.result (omega arith) c.comb.ensures.first c.comb.ensures.bits)
-      (c.loop-left.invariant.counted i);
-  few = omega (arith, c.loop-left.invariant.few, c.push.ensures.len);
-}
+loop-left-preserved c =
+    let lefts = c.args.self.now.left.items in
+    let left = c.left-item.result in
+    let k = c.loop-left.left-index in
+    let list = c.as_slice-left-items.ensures.value in
+    let inside = subst (λ (xs : List Left). k < length xs) list c.loop-left-test.true in
+    let at = sym (subst (λ (xs : List Left). left ≡ get_or xs k left) list c.left-item.is) in
+    let tooth = λ (i : ℕ). tooth_is c.args.places i left c.comb-comb.result (omega arith) c.comb-comb.ensures.first c.comb-comb.ensures.bits in
+    elim c.if-comb-ne0.branch [
+      | then-comb-ne0 w ↦ rw w.combs-is (record {
+          counted = λ i. combs_more c.args.places i lefts k left c.args.combs.now.items c.loop-left.combs.items w.push.new.self.items c.comb-comb.result inside at w.push.ensures.items (tooth i) (c.loop-left.invariant.counted i);
+          few = omega (arith, c.loop-left.invariant.few, w.push.ensures.len);
+        })
+      | else-comb-ne0 w ↦ rw w.combs-is (record {
+          counted = λ i. combs_same c.args.places i lefts k left c.args.combs.now.items c.loop-left.combs.items c.comb-comb.result inside at w.if-comb-ne0.false (tooth i) (c.loop-left.invariant.counted i);
+          few = omega (arith, c.loop-left.invariant.few);
+        })
+    ]
 
 pub returns-clause-counted : goal.returns-clause-counted
 returns-clause-counted c i =
