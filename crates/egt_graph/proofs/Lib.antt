@@ -5,7 +5,6 @@ pub mod Lists
 pub mod Values
 pub mod Holding
 pub mod Nodes
-pub mod Uncounted
 pub mod Exits
 pub mod Closing
 pub mod Ranking
@@ -20,5 +19,6 @@ pub mod Noting
 pub mod Taking
 pub mod Marking
 pub mod Running
+pub mod Tallies
 pub mod Beginning
 pub mod Histories
