@@ -101,7 +101,7 @@ Filled_more g test m a b h adds = record {
 
 -- ---- before the first node
 
-none_at : {A : Type 0} (n : ℕ) (d : A) (i : ℕ) → get_or (replicate n d) i d ≡ d
+pub none_at : {A : Type 0} (n : ℕ) (d : A) (i : ℕ) → get_or (replicate n d) i d ≡ d
 none_at zero d i = refl
 none_at (suc n) d zero = refl
 none_at (suc n) d (suc i) = none_at n d i

@@ -13,11 +13,14 @@ pub mod Lost
 pub mod Steps
 pub mod Growing
 pub mod Teeth
+pub mod Planes
 pub mod Blocks
 pub mod Won
 pub mod Noting
 pub mod Taking
 pub mod Marking
+pub mod Words
+pub mod Spreading
 pub mod Running
 pub mod Tallies
 pub mod Beginning

@@ -1,9 +1,8 @@
 -- Moves out of nodes, counted by the moves into all nodes.
-use Rattle.std.proofs.Common.{◌≡◌, ℕ, zero, suc, ◌+◌, ◌%◌, ◌<◌, ◌≤◌, ◌&&◌, Bool, true, false, cond, eqb, ltb, List, [], ◌∷◌, length, filter, slice_index, set, refl, sym, ap, ◌∙◌, inl, inr, arith, count_by, All, add-one}
+use Rattle.std.proofs.Common.{◌≡◌, ℕ, zero, suc, ◌+◌, ◌%◌, ◌≤◌, ◌&&◌, Bool, true, false, cond, eqb, ltb, List, [], ◌∷◌, length, filter, slice_index, refl, sym, ap, ◌∙◌, inl, inr, arith, count_by, All, add-one}
 use Rattle.std.specs.List.{range_with_len}
 use Rattle.std.specs.List.Sorted.{IsStrictlyIncreasing}
 use Rattle.std.proofs.lemmas.Bool.{and_parts, cases_eq, cases_order, lt-ltb, le-ltb, eq-eqb, ne_eqb}
-use Rattle.std.proofs.lemmas.List.{get_or-set_same, get_or-set_other}
 use Rattle.std.proofs.lemmas.List.Kept.{IsStrictlyIncreasing-filter}
 use Rattle.std.proofs.lemmas.List.Sums.{count_by-le-length}
 use Rattle.egt_graph.specs.Begin.{shown}
@@ -14,7 +13,6 @@ use Rattle.egt_graph.specs.Passing.{passing}
 use Rattle.egt_graph.proofs.Lists.{count_no, count_split, count_same_on, all_count}
 use Rattle.egt_graph.proofs.Lost.{count-append}
 use Rattle.egt_graph.proofs.Nodes.{ins_none, moves_match, node_from_test, outs_are_nodes}
-use Rattle.egt_graph.proofs.Steps.{one_here, one_other}
 
 -- to how many of the numbers below n a move from i leads
 unfoldable pub moves_below : Graph → ℕ → ℕ → ℕ
@@ -125,11 +123,3 @@ halves g i (x ∷ xs) =
 -- the moves into both halves are those into the run
 pub moves_halves : (g : Graph) (a n i : ℕ) → moves_below g (a + n) i ≡ moves_below g a i + count_of i (into_all g (half_of g 0 a n)) + count_of i (into_all g (half_of g 1 a n))
 moves_halves g a n i = let run = moves_run g a n i in let both = halves g i (range_with_len a n) in omega (arith, run, both)
-
--- ---- one move more
-
-pub counted_move : (ws : List ℕ) (x more : ℕ) → x < length ws → more ≡ slice_index ws x + 1 → (i : ℕ) → slice_index (set ws x more) i ≡ slice_index ws i + count_of i (x ∷ [])
-counted_move ws x more lt is i = elim (cases_eq x i) [
-  | inl e ↦ rw (← e) (let here = get_or-set_same ws x more 0 lt in let one = one_here x in omega (arith, here, one, is))
-  | inr ne ↦ let same = get_or-set_other ws x i more 0 (λ e. ne (sym e)) in let none = one_other i x ne in omega (arith, same, none)
-]

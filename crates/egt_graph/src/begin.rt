@@ -40,7 +40,13 @@ pub(crate) fn begin<G: Game>(alloc: Global, game: &G, telling: bool) -> Result<C
 {
     let mut columns = with_exits(alloc, game, telling)?;
     columns.known = marks_up_to(alloc, &columns.entries, DRAW)?;
-    count_moves(game, &columns.entries, &columns.known, &mut columns.waits);
+    count_moves(
+        alloc,
+        game,
+        &columns.entries,
+        &columns.known,
+        &mut columns.waits,
+    )?;
     tell_mates(game, &mut columns.entries, &columns.waits);
     Ok(columns)
 }

@@ -18,6 +18,7 @@ mod scan;
 mod schedule;
 mod solver;
 mod step;
+mod tally;
 
 pub use answer::{Close, Post};
 pub use batch::Batch;

@@ -107,15 +107,16 @@ fn moves_alone(rt: HostRuntime) -> Result<(), Fail> {
     Ok(())
 }
 
-// One run of all nodes, one of checkmates, one of won nodes and one of lost: for the first and the won every node is marked.
+// Of all nodes one run of even ones and one of odd, and one run of checkmates, one of won nodes and one of lost: for the first two and the
+// won every node is marked.
 #[test]
 fn told_of_the_nodes(rt: HostRuntime) -> Result<(), Fail> {
     let game = with_a_void();
     let together = Together::new(&game);
     let ranks = solve(rt.alloc(), &together, 2)?;
     assert_eq!(rt; ranks.entries(), [1, 1, 1, 0, 3, 4, 7, 1, 4].as_slice());
-    assert_eq!(rt; together.runs(), 4);
-    assert_eq!(rt; together.whole(), 2);
+    assert_eq!(rt; together.runs(), 5);
+    assert_eq!(rt; together.whole(), 3);
     Ok(())
 }
 

@@ -251,7 +251,7 @@ fn what_a_whole_run_asks(rt: HostRuntime) -> Result<(), Fail> {
     Ok(())
 }
 
-// To count the moves all nodes of three blocks are asked of, 1,808 of them in the last. Of the won nodes 2,000 stand in each of two blocks, of the lost 2,000 in one, 96 and 1,904 in two, and 192 and 1,808 in two: runs of 64, the
+// To count the moves all nodes are asked of: 78 times 128 and 16, each time the even ones and the odd. Of the won nodes 2,000 stand in each of two blocks, of the lost 2,000 in one, 96 and 1,904 in two, and 192 and 1,808 in two: runs of 64, the
 // last of each block with what is left.
 #[test]
 fn what_is_asked_at_once(rt: HostRuntime) -> Result<(), Fail> {
@@ -261,7 +261,7 @@ fn what_is_asked_at_once(rt: HostRuntime) -> Result<(), Fail> {
     for (node, entry) in ranks.entries().iter().enumerate() {
         assert_eq!(rt; *entry, stair_entry(node));
     }
-    let counting = 64 + 64 + 29;
+    let counting = 2 * (78 + 1);
     assert_eq!(rt; game.runs(), counting + 2 * 32 + 32 + (2 + 30) + (3 + 29));
     assert_eq!(rt; game.whole(), counting + 2 * 32);
     Ok(())

@@ -1,7 +1,7 @@
-use Rattle.std.proofs.Common.{◌≡◌, ◌-◌, ◌+◌, ◌*◌, ◌%◌, ◌≤◌, ◌++◌, ◌&&◌, [], ◌∷◌, Bool, true, false, ℕ, List, cond, length, eqb, filter, slice_index, refl, sym, ap, ◌∙◌, inl, inr, arith}
+use Rattle.std.proofs.Common.{◌≡◌, ◌-◌, ◌%◌, ◌++◌, ◌&&◌, [], ◌∷◌, Bool, cond, length, eqb, filter, slice_index, sym, ap, ◌∙◌, inl, inr, arith}
 use Rattle.std.specs.List.{range_with_len}
 use Rattle.std.proofs.lemmas.Bool.{and_parts, cases_Bool, eqb-true}
-use Rattle.std.proofs.lemmas.List.{append-nil, length-append}
+use Rattle.std.proofs.lemmas.List.{length-append}
 use Rattle.egt_graph.proofs.Ranges.{filter_range_to}
 use Rattle.egt_graph.proofs.counting.fill_run.Goals as goal
 
