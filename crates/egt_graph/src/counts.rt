@@ -1,22 +1,19 @@
-//! Moves and exits counted once, for the games that share them.
+//! Moves that leave a game, counted once for the games that share them.
 
-/// How many moves a node has, of each sort; those that leave the game are at most 64 together.
+/// How many moves of a node leave the game, of each sort: at most 64 together. Of a number that is no node there are none.
 #[derive(Clone, Copy, PartialEq, Eq, Debug)]
 pub struct Count {
-    /// To how many nodes moves lead, at most 64. 255 tells nothing: the number is no node, or its moves were not counted.
-    pub moves: u8,
-    /// How many moves leave the game for a position that its mover wins.
+    /// How many lead to a position that its mover wins.
     pub wins: u8,
-    /// How many leave it for one that its mover loses.
+    /// How many lead to one that its mover loses.
     pub losses: u8,
-    /// How many leave it for a drawn one.
+    /// How many lead to a drawn one.
     pub draws: u8,
 }
 
 impl Count {
-    /// The count of a number of which nothing is told.
-    pub const UNTOLD: Count = Count {
-        moves: 255,
+    /// No move leaves.
+    pub const NONE: Count = Count {
         wins: 0,
         losses: 0,
         draws: 0,

@@ -3,3 +3,4 @@ mod hand_made;
 mod orders;
 mod places;
 mod refused;
+mod tallies;
