@@ -11,7 +11,7 @@ use crate::together::parts_agree;
 use arrayvec::ArrayVec;
 use egt_check::Library;
 use egt_class::Class;
-use egt_graph::{Exit, Game, Ranks, solve};
+use egt_graph::{Exit, Game, Ranks, Start, solve};
 use egt_index::position;
 use egt_sweep::{MateGame, ZeroGame};
 use egt_table::Column;
@@ -132,11 +132,18 @@ fn are_exits(list: &[Exit], exits: &[Exit]) -> bool {
     list.len() == exits.len()
 }
 
-/// Whether what is told of a number before any rank is known is right: is it a node, and with which exits?
-fn is_start(told: bool, exits: &[Exit], node: &Option<Node>) -> bool {
-    match node {
-        Some(node) => told && are_exits(exits, node.exits.as_slice()),
-        None => !told && exits.is_empty(),
+/// Whether what is told of a number before any rank is known is right.
+fn is_start(start: &Option<Start>, exits: &[Exit], node: &Option<Node>) -> bool {
+    match (start, node) {
+        (Some(start), Some(node)) => {
+            let counted = match start.degree {
+                Some(degree) => usize::from(degree) == node.nodes.len(),
+                None => true,
+            };
+            counted && start.mated == node.mated && are_exits(exits, node.exits.as_slice())
+        }
+        (None, None) => exits.is_empty(),
+        _ => false,
     }
 }
 
@@ -150,9 +157,9 @@ fn two_agree<G: Game>(game: &G, plain: &Plain<'_>, code: u32) -> bool {
     }
     let mut exits = ArrayVec::new();
     let mut next_exits = ArrayVec::new();
-    let (first, second) = game.start_two(code, &mut exits, &mut next_exits);
-    is_start(first, exits.as_slice(), &plain.node(code))
-        && is_start(second, next_exits.as_slice(), &plain.node(next))
+    let (start, next_start) = game.start_two(code, &mut exits, &mut next_exits);
+    is_start(&start, exits.as_slice(), &plain.node(code))
+        && is_start(&next_start, next_exits.as_slice(), &plain.node(next))
 }
 
 /// Whether the game has this node among those from which a move leads to the other.
@@ -201,9 +208,9 @@ fn code_agrees<G: Game>(game: &G, plain: &Plain<'_>, code: u32) -> bool {
         return false;
     }
     let mut exits = ArrayVec::new();
-    let told = game.start(code, &mut exits);
+    let start = game.start(code, &mut exits);
     let node = plain.node(code);
-    if !is_start(told, exits.as_slice(), &node) || !two_agree(game, plain, code) {
+    if !is_start(&start, exits.as_slice(), &node) || !two_agree(game, plain, code) {
         return false;
     }
     match node {

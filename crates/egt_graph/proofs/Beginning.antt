@@ -1,25 +1,26 @@
 -- What a run begins with.
-use Rattle.std.proofs.Common.{◌≡◌, ◌≢◌, ℕ, zero, suc, ◌+◌, ◌*◌, ◌<◌, ◌≤◌, ◌^◌, Bool, true, false, cond, not, ◌&&◌, eqb, ltb, List, [], ◌∷◌, ◌++◌, length, slice_index, slice_index_or, get_or, set, take, IsFalse, refl, sym, ap, ap₂, ◌∙◌, inl, inr, subst, arith, count_by, replicate, nat_lt, ◌||◌}
+use Rattle.std.proofs.Common.{◌≡◌, ◌≢◌, ℕ, zero, suc, ◌+◌, ◌*◌, ◌<◌, ◌≤◌, ◌^◌, Bool, true, false, cond, not, ◌&&◌, eqb, ltb, Option, Some, None, List, [], ◌∷◌, ◌++◌, length, slice_index, slice_index_or, get_or, set, take, IsFalse, IfSome, IfNone, refl, sym, ap, ap₂, ◌∙◌, inl, inr, subst, arith, count_by, replicate, nat_lt, ◌||◌, if◌then◌else◌}
 use Rattle.std.specs.Int.{bit_at}
 use Rattle.std.specs.List.{list_any}
-use Rattle.std.proofs.lemmas.Bool.{cases_Bool, cases_eq, cases_lt, eq-eqb, ne_eqb, and_left, and_right, le-ltb, lt-ltb, le-leb, or_from, eqb-true, false_from_ne_true}
-use Rattle.std.proofs.lemmas.List.{get_or_past, get_or-set_same, get_or-set_other, length-set, length-replicate, nil_from_length}
+use Rattle.std.proofs.lemmas.Bool.{cases_Bool, cases_eq, cases_lt, eq-eqb, ne_eqb, and_left, and_right, le-ltb, lt-ltb, le-leb, or_from, eqb-true}
+use Rattle.std.proofs.lemmas.List.{get_or_past, get_or-replicate, get_or-set_same, get_or-set_other, length-set, length-replicate}
 use Rattle.std.proofs.lemmas.List.Sums.{sum_by_more, sum_by_push}
-use Rattle.egt_graph.specs.Graph.{Graph, IsNode, IsGame, AreLike}
+use Rattle.egt_graph.specs.Graph.{Graph, IsNode, AreLike}
 use Rattle.egt_graph.specs.Value.{is_empty, is_lost_before, is_won_before, mated_within}
-use Rattle.egt_graph.specs.Begin.{Adds, IsFilled, IsFilling, IsBegun, shown}
-use Rattle.egt_graph.specs.Counts.{no_moves, is_draw, Counted, CountsTell, AreCounts}
+use Rattle.egt_graph.specs.Begin.{Adds, IsFilled, IsBegun}
+use Rattle.egt_graph.specs.Counts.{untold, is_draw, IsCount, CountsTell}
 use Rattle.egt_graph.specs.declared.counts.Count.{Count}
-use Rattle.egt_graph.specs.Columns.{outs, leaves, has_moves, count_of, decided, entry_at, later_at, is_loss, is_win_of, is_loss_of, waits_at, is_winning, is_win_from, done_of, Amid}
+use Rattle.egt_graph.specs.Columns.{outs, leaves, told_at, told, has_moves, count_of, decided, entry_at, later_at, is_loss, is_win_of, is_loss_of, waits_at, is_winning, is_win_from, done_of, Amid, Await}
 use Rattle.egt_graph.specs.declared.game.Exit.{Exit}
 use Rattle.egt_graph.specs.declared.game.Exit.TheVariants.{Win, Loss, Draw}
 use Rattle.egt_graph.specs.Frontier.{is_node, blocks_of}
 use Rattle.egt_graph.specs.Run.{IsRun, IsSchedule}
 use Rattle.egt_graph.specs.Undecided.{is_up_to, AreMarksUpTo, HasKnown, HasMarks, bit_of, word_of}
 use Rattle.egt_graph.specs.declared.answer.Phase.TheVariants.{Running}
-use Rattle.egt_graph.proofs.Lists.{count_by-cons, all_count}
+use Rattle.egt_graph.proofs.Lists.{count_by-cons}
 use Rattle.egt_graph.proofs.Holding.{decided_open, decided_shut}
-use Rattle.egt_graph.proofs.Nodes.{outs_at, leaves_at, leaves_none, node_from_test, test_from_node}
+use Rattle.egt_graph.proofs.Nodes.{outs_at, outs_none, leaves_at, leaves_none, node_from_test, test_from_node}
+use Rattle.egt_graph.proofs.Uncounted.{told-at, told-length, told-put}
 use Rattle.egt_graph.proofs.Closing.{entry_none}
 use Rattle.egt_graph.proofs.Running.{none_done}
 
@@ -101,15 +102,21 @@ Filled_more g test m a b h adds = record {
 
 -- ---- before the first node
 
-pub none_at : {A : Type 0} (n : ℕ) (d : A) (i : ℕ) → get_or (replicate n d) i d ≡ d
+none_at : {A : Type 0} (n : ℕ) (d : A) (i : ℕ) → get_or (replicate n d) i d ≡ d
 none_at zero d i = refl
 none_at (suc n) d zero = refl
 none_at (suc n) d (suc i) = none_at n d i
 
-pub Filling_none : (g : Graph) → IsFilling g 0 (replicate g.size 0) (replicate g.size 0) (replicate g.size 0) (replicate g.size false) [] []
-Filling_none g = record {
+told_none : (g : Graph) (n i : ℕ) → slice_index (told g (replicate n 0)) i ≡ 0
+told_none g n i = elim (cases_lt i n) [
+  | inl lt ↦ told-at g (replicate n 0) i (subst (λ k. i < k) (sym (length-replicate n 0)) lt) ∙ ap (told_at g i) (none_at n 0 i)
+  | inr le ↦ get_or_past (told g (replicate n 0)) i 0 (subst (λ k. k ≤ i) (sym (told-length g (replicate n 0) ∙ length-replicate n 0)) le)
+]
+
+pub Begun_none : (g : Graph) → IsBegun g 0 (replicate g.size 0) (told g (replicate g.size 0)) (replicate g.size 0) (replicate g.size false) [] []
+Begun_none g = record {
   entries_long = length-replicate g.size 0;
-  waits_long = length-replicate g.size 0;
+  waits_long = told-length g (replicate g.size 0) ∙ length-replicate g.size 0;
   later_long = length-replicate g.size 0;
   lost_long = length-replicate g.size false;
   entry = λ i lt. absurd (omega arith);
@@ -117,18 +124,24 @@ Filling_none g = record {
   wins = λ i lt. absurd (omega arith);
   losses = λ i lt. absurd (omega arith);
   no_entry = λ i le. none_at g.size 0 i;
-  none_waits = λ i le. none_at g.size 0 i;
+  none_waits = λ i le. told_none g g.size i;
   no_wins = λ i le. none_at g.size 0 i;
   no_losses = λ i le. none_at g.size false i;
-  few = λ i. let none = none_at {A = ℕ} g.size 0 i in omega (arith, none);
   lost_exits = Filled_none g is_loss_of;
   won_exits = Filled_none g is_win_of;
 }
 
-pub Counts_none : (g : Graph) (n : ℕ) → CountsTell g 0 (replicate n no_moves)
-Counts_none g n = record { before = λ i lt within. absurd (omega arith); after = λ i le. none_at n no_moves i }
+pub Counts_none : (g : Graph) (n : ℕ) → CountsTell g (replicate n untold)
+Counts_none g n i lt = rw (get_or-replicate n i untold untold (subst (λ k. i < k) (length-replicate n untold) lt)) (λ small. absurd (omega (arith, small)))
 
 -- ---- the same values in another order
+
+all_count : {X : Type 0} (p : X → Bool) → ((x : X) → p x ≡ true) → (xs : List X) → count_by p xs ≡ length xs
+all_count p e [] = refl
+all_count p e (x ∷ xs) =
+    let c = count_by-cons p x xs ∙ ap (λ b. cond b 1 0 + count_by p xs) (e x) in
+    let r = all_count p e xs in
+    omega arith
 
 pub like_long : (xs ys : List Exit) → AreLike xs ys → length xs ≡ length ys
 like_long xs ys like = sym (all_count (λ _. true) (λ x. refl) xs) ∙ like (λ _. true) ∙ all_count (λ _. true) (λ x. refl) ys
@@ -174,6 +187,10 @@ put_set d xs m x y lt is = record { long = length-set xs m y; here = get_or-set_
 pub put_none : {A : Type 0} (d : A) (xs : List A) (m : ℕ) (x : A) → get_or xs m d ≡ x → IsPut d xs m x xs
 put_none d xs m x is = record { long = refl; here = is; others = λ i other. refl }
 
+-- of what nodes wait for
+pub put_told : (g : Graph) (ws : List ℕ) (m x w : ℕ) → m < length (told g ws) → told_at g m w ≡ x → IsPut 0 (told g ws) m x (told g (set ws m w))
+put_told g ws m x w lt is = subst (IsPut 0 (told g ws) m x) (sym (told-put g ws m w)) (put_set 0 (told g ws) m x (told_at g m w) lt is)
+
 so_far : {A : Type 0} (d : A) (f : ℕ → A) (xs ys : List A) (m : ℕ) → IsPut d xs m (f m) ys → ((i : ℕ) → i < m → get_or xs i d ≡ f i) → (i : ℕ) → i < m + 1 → get_or ys i d ≡ f i
 so_far d f xs ys m put each i lt = elim (cases_eq i m) [
   | inl e ↦ rw e put.here
@@ -183,121 +200,113 @@ so_far d f xs ys m put each i lt = elim (cases_eq i m) [
 not_yet : {A : Type 0} (d x : A) (xs ys : List A) (m : ℕ) → IsPut d xs m x ys → ((i : ℕ) → m ≤ i → get_or xs i d ≡ d) → (i : ℕ) → m + 1 ≤ i → get_or ys i d ≡ d
 not_yet d x xs ys m put each i le = put.others i (λ e. absurd (omega arith)) ∙ each i (omega arith)
 
-pub Filling_more : (g : Graph) (m : ℕ) (es ws ls : List ℕ) (fs : List Bool) (ld wd : List (List ℕ)) → IsFilling g m es ws ls fs ld wd → length (leaves g m) ≤ 64
-    → (es' ws' ls' : List ℕ) (fs' : List Bool) (ld' wd' : List (List ℕ)) → IsPut 0 es m (shown g m) es' → IsPut 0 ws m (length (leaves g m)) ws'
+pub Begun_more : (g : Graph) (m : ℕ) (es ws ls : List ℕ) (fs : List Bool) (ld wd : List (List ℕ)) → IsBegun g m es ws ls fs ld wd
+    → (es' ws' ls' : List ℕ) (fs' : List Bool) (ld' wd' : List (List ℕ)) → IsPut 0 es m (entry_at g 0 m) es' → IsPut 0 ws m (length (outs g m) + length (leaves g m)) ws'
     → IsPut 0 ls m (later_at g 0 m) ls' → IsPut false fs m (list_any is_loss (leaves g m)) fs' → Adds is_loss_of ld ld' m (leaves g m) → Adds is_win_of wd wd' m (leaves g m)
-    → IsFilling g (m + 1) es' ws' ls' fs' ld' wd'
-Filling_more g m es ws ls fs ld wd h small es' ws' ls' fs' ld' wd' e w l f t u = record {
+    → IsBegun g (m + 1) es' ws' ls' fs' ld' wd'
+Begun_more g m es ws ls fs ld wd h es' ws' ls' fs' ld' wd' e w l f t u = record {
   entries_long = e.long ∙ h.entries_long;
   waits_long = w.long ∙ h.waits_long;
   later_long = l.long ∙ h.later_long;
   lost_long = f.long ∙ h.lost_long;
-  entry = so_far 0 (shown g) es es' m e h.entry;
-  waiting = so_far 0 (λ i. length (leaves g i)) ws ws' m w h.waiting;
+  entry = so_far 0 (entry_at g 0) es es' m e h.entry;
+  waiting = so_far 0 (λ i. length (outs g i) + length (leaves g i)) ws ws' m w h.waiting;
   wins = so_far 0 (later_at g 0) ls ls' m l h.wins;
   losses = so_far false (λ i. list_any is_loss (leaves g i)) fs fs' m f h.losses;
   no_entry = not_yet 0 _ es es' m e h.no_entry;
   none_waits = not_yet 0 _ ws ws' m w h.none_waits;
   no_wins = not_yet 0 _ ls ls' m l h.no_wins;
   no_losses = not_yet false _ fs fs' m f h.no_losses;
-  few = λ i. elim (cases_eq i m) [
-    | inl same ↦ rw same (let here = w.here in omega (arith, here, small))
-    | inr ne ↦ let kept = w.others i ne in let few = h.few i in omega (arith, kept, few)
-  ];
   lost_exits = Filled_more g is_loss_of m ld ld' h.lost_exits t;
   won_exits = Filled_more g is_win_of m wd wd' h.won_exits u;
 }
-
-no_node : (g : Graph) (i : ℕ) → g.void i ≡ true → is_node g i ≡ false
-no_node g i void = and_right (ltb i g.size) (not (g.void i)) (ap not void)
 
 -- no exit falls due
 pub Adds_nothing : (test : ℕ → Exit → Bool) (rounds : List (List ℕ)) (m : ℕ) (exits : List Exit) → exits ≡ [] → Adds test rounds rounds m exits
 Adds_nothing test rounds m exits none = subst (Adds test rounds rounds m) (sym none) (Adds_none test rounds m [])
 
--- a number without exits of which the entry alone is told
-pub Filling_alone : (g : Graph) (m : ℕ) (es es' ws ls : List ℕ) (fs : List Bool) (ld wd : List (List ℕ)) → IsFilling g m es ws ls fs ld wd → leaves g m ≡ [] → IsPut 0 es m (shown g m) es'
-    → IsFilling g (m + 1) es' ws ls fs ld wd
-Filling_alone g m es es' ws ls fs ld wd h off e =
-    Filling_more g m es ws ls fs ld wd h (let long = ap (λ (xs : List Exit). length xs) off in omega (arith, long)) es' ws ls fs ld wd e
-    (put_none 0 ws m _ (h.none_waits m (omega arith) ∙ sym (ap (λ (xs : List Exit). length xs) off)))
+-- a number that is no node
+pub Begun_void : (g : Graph) (m : ℕ) (es ws ls : List ℕ) (fs : List Bool) (ld wd : List (List ℕ)) → IsBegun g m es ws ls fs ld wd → g.void m ≡ true → IsBegun g (m + 1) es ws ls fs ld wd
+Begun_void g m es ws ls fs ld wd h void =
+    let none = and_right (ltb m g.size) (not (g.void m)) (ap not void) in
+    let out = outs_none g m none in
+    let off = leaves_none g m none in
+    Begun_more g m es ws ls fs ld wd h es ws ls fs ld wd
+    (put_none 0 es m _ (h.no_entry m (omega arith) ∙ sym (entry_none g 0 m none)))
+    (put_none 0 ws m _ (h.none_waits m (omega arith) ∙ sym (ap₂ (λ (a : List ℕ) (b : List Exit). length a + length b) out off)))
     (put_none 0 ls m _ (h.no_wins m (omega arith) ∙ sym (ap (count_by (is_win_from 0)) off)))
     (put_none false fs m _ (h.no_losses m (omega arith) ∙ sym (ap (list_any is_loss) off)))
     (Adds_nothing is_loss_of ld m (leaves g m) off)
     (Adds_nothing is_win_of wd m (leaves g m) off)
 
--- a number that is no node
-pub Filling_void : (g : Graph) (m : ℕ) (es ws ls : List ℕ) (fs : List Bool) (ld wd : List (List ℕ)) → IsFilling g m es ws ls fs ld wd → g.void m ≡ true → IsFilling g (m + 1) es ws ls fs ld wd
-Filling_void g m es ws ls fs ld wd h void =
-    Filling_alone g m es es ws ls fs ld wd h (leaves_none g m (no_node g m void))
-    (put_none 0 es m _ (h.no_entry m (omega arith) ∙ sym (ap (λ b. cond {A = ℕ} b 1 0) (no_node g m void))))
-
--- ---- the counts
-
-nothing_counted : Counted [] no_moves
-nothing_counted = record { wins = refl; losses = refl; draws = refl; few = omega arith }
-
-pub Counts_same : (g : Graph) (m : ℕ) (counts : List Count) → CountsTell g m counts → leaves g m ≡ [] → CountsTell g (m + 1) counts
-Counts_same g m counts h off = record {
-  before = λ i lt within. elim (cases_eq i m) [
-    | inl e ↦ rw (e, h.after m (omega arith), off) nothing_counted
-    | inr ne ↦ h.before i (omega (arith, lt, ne)) within
-  ];
-  after = λ i le. h.after i (omega (arith, le));
-}
-
-pub Counts_void : (g : Graph) (m : ℕ) (counts : List Count) → CountsTell g m counts → g.void m ≡ true → CountsTell g (m + 1) counts
-Counts_void g m counts h void = Counts_same g m counts h (leaves_none g m (no_node g m void))
-
-pub Counts_more : (g : Graph) (m : ℕ) (counts : List Count) (count : Count) → CountsTell g m counts → Counted (leaves g m) count → CountsTell g (m + 1) (set counts m count)
-Counts_more g m counts count h counted = record {
-  before = λ i lt within.
-      let long : i < length counts = subst (λ k. i < k) (length-set counts m count) within in
-      elim (cases_eq i m) [
-        | inl e ↦ rw (e, get_or-set_same counts m count no_moves (omega (arith, long, e))) counted
-        | inr ne ↦ rw (get_or-set_other counts m i count no_moves ne) (h.before i (omega (arith, lt, ne)) long)
-      ];
-  after = λ i le. get_or-set_other counts m i count no_moves (λ e. absurd (omega (arith, le, e))) ∙ h.after i (omega (arith, le));
-}
-
--- a node, with its exits in any order
-module _ (g : Graph) (m : ℕ) (below : m < g.size) (there : IsFalse (g.void m)) (exits : List Exit) (like : AreLike exits (g.exits m)) where
+-- a node, of which this was told
+module _ (g : Graph) (m : ℕ) (below : m < g.size) (there : IsFalse (g.void m)) where
   here : is_node g m ≡ true
   here = test_from_node g m (record { in_range = below; not_void = there })
 
-  off : leaves g m ≡ g.exits m
-  off = leaves_at g m here
+  first_entry : (mated : Bool) → mated ≡ g.mated m → (if mated then 3 else 1) ≡ entry_at g 0 m
+  first_entry mated is = ap (λ b. cond b 3 1) is ∙ sym (ap (λ b. cond b (cond (g.mated m) 3 1) 0) here)
 
-  long : length exits ≡ length (leaves g m)
-  long = like_long exits (g.exits m) like ∙ ap (λ (xs : List Exit). length xs) (sym off)
+  -- what it waits for
+  pub first_wait : (degree : Option ℕ) (w : ℕ) → IfSome degree (λ n. (n ≡ length (g.out m)) × (n ≤ 64)) → IfSome degree (λ n. w ≡ n + length (g.exits m)) → IfNone degree (w ≡ 255) → length (g.exits m) ≤ 64
+      → told_at g m w ≡ length (outs g m) + length (leaves g m)
+  first_wait None w moves counted uncounted few = ap (told_at g m) uncounted
+  first_wait (Some n) w moves counted uncounted few =
+      ap (λ b. cond b (length (outs g m) + length (leaves g m)) w) (ne_eqb w 255 (λ e. absurd (let a = moves.1 in let b = counted in omega arith)))
+      ∙ counted ∙ ap₂ (λ a b. a + b) (moves.0 ∙ ap (λ (xs : List ℕ). length xs) (sym (outs_at g m here))) (ap (λ (xs : List Exit). length xs) (sym (leaves_at g m here)))
 
-  told : (es : List ℕ) → m < length es → IsPut 0 es m (shown g m) (set es m 1)
-  told es lt = put_set 0 es m _ 1 lt (sym (ap (λ b. cond {A = ℕ} b 1 0) here))
+  -- that has exits, or none
+  pub Begun_node : (es ws ls : List ℕ) (fs : List Bool) (ld wd : List (List ℕ)) → IsBegun g m es (told g ws) ls fs ld wd → (e : ℕ) (mated : Bool) → e ≡ (if mated then 3 else 1) → mated ≡ g.mated m → (w : ℕ) → told_at g m w ≡ length (outs g m) + length (leaves g m)
+      → (ls' : List ℕ) (fs' : List Bool) (ld' wd' : List (List ℕ)) → IsPut 0 ls m (later_at g 0 m) ls' → IsPut false fs m (list_any is_loss (leaves g m)) fs'
+      → Adds is_loss_of ld ld' m (g.exits m) → Adds is_win_of wd wd' m (g.exits m)
+      → IsBegun g (m + 1) (set es m e) (told g (set ws m w)) ls' fs' ld' wd'
+  Begun_node es ws ls fs ld wd h e mated shows is w waits ls' fs' ld' wd' l f t u =
+      Begun_more g m es (told g ws) ls fs ld wd h _ _ ls' fs' ld' wd'
+      (put_set 0 es m _ e (let long = h.entries_long in omega arith) (shows ∙ first_entry mated is))
+      (put_told g ws m _ w (let long = h.waits_long in omega arith) waits)
+      l f (subst (Adds is_loss_of ld ld' m) (sym (leaves_at g m here)) t) (subst (Adds is_win_of wd wd' m) (sym (leaves_at g m here)) u)
 
-  pub no_leaves : exits ≡ [] → leaves g m ≡ []
-  no_leaves none = nil_from_length (leaves g m) (sym long ∙ ap (λ (xs : List Exit). length xs) none)
+  pub Begun_alone : (es ws ls : List ℕ) (fs : List Bool) (ld wd : List (List ℕ)) → IsBegun g m es (told g ws) ls fs ld wd → (e : ℕ) (mated : Bool) → e ≡ (if mated then 3 else 1) → mated ≡ g.mated m → (w : ℕ) → told_at g m w ≡ length (outs g m) + length (leaves g m)
+      → g.exits m ≡ [] → IsBegun g (m + 1) (set es m e) (told g (set ws m w)) ls fs ld wd
+  Begun_alone es ws ls fs ld wd h e mated shows is w waits none =
+      let off = leaves_at g m here ∙ none in
+      Begun_node es ws ls fs ld wd h e mated shows is w waits ls fs ld wd
+      (put_none 0 ls m _ (h.no_wins m (omega arith) ∙ sym (ap (count_by (is_win_from 0)) off)))
+      (put_none false fs m _ (h.no_losses m (omega arith) ∙ sym (ap (list_any is_loss) off)))
+      (Adds_nothing is_loss_of ld m (g.exits m) none)
+      (Adds_nothing is_win_of wd m (g.exits m) none)
 
-  pub Filling_node : (es ws ls : List ℕ) (fs : List Bool) (ld wd : List (List ℕ)) → IsFilling g m es ws ls fs ld wd → exits ≡ [] → IsFilling g (m + 1) (set es m 1) ws ls fs ld wd
-  Filling_node es ws ls fs ld wd h none = Filling_alone g m es (set es m 1) ws ls fs ld wd h (no_leaves none) (told es (let all = h.entries_long in omega (arith, all, below)))
+  pub Begun_leaving : (es ws ls : List ℕ) (fs : List Bool) (ld wd : List (List ℕ)) → IsBegun g m es (told g ws) ls fs ld wd → (e : ℕ) (mated : Bool) → e ≡ (if mated then 3 else 1) → mated ≡ g.mated m → (w : ℕ) → told_at g m w ≡ length (outs g m) + length (leaves g m)
+      → (l n : ℕ) (f : Bool) (ld' wd' : List (List ℕ)) (exits : List Exit) → AreLike exits (g.exits m) → l ≡ count_by (is_win_from 0) exits → n ≡ count_by is_loss exits → f ≡ nat_lt 0 n → Adds is_loss_of ld ld' m exits → Adds is_win_of wd wd' m exits
+      → IsBegun g (m + 1) (set es m e) (told g (set ws m w)) (set ls m l) (set fs m f) ld' wd'
+  Begun_leaving es ws ls fs ld wd h e mated shows is w waits l n f ld' wd' exits like wins losses some t u =
+      let off = sym (leaves_at g m here) in
+      Begun_node es ws ls fs ld wd h e mated shows is w waits _ _ ld' wd'
+      (put_set 0 ls m _ l (let long = h.later_long in omega arith) (wins ∙ like (is_win_from 0) ∙ ap (count_by (is_win_from 0)) off))
+      (put_set false fs m _ f (let long = h.lost_long in omega arith) (some ∙ ap (nat_lt 0) (losses ∙ like is_loss) ∙ sym (any_counted is_loss (g.exits m)) ∙ ap (list_any is_loss) off))
+      (Adds_like is_loss_of ld ld' m exits (g.exits m) like t) (Adds_like is_win_of wd wd' m exits (g.exits m) like u)
 
-  pub Filling_leaving : (es ws ls : List ℕ) (fs : List Bool) (ld wd : List (List ℕ)) → IsFilling g m es ws ls fs ld wd → length exits ≤ 64
-      → (w l n : ℕ) (f : Bool) (ld' wd' : List (List ℕ)) → w ≡ length exits → l ≡ count_by (is_win_from 0) exits → n ≡ count_by is_loss exits → f ≡ nat_lt 0 n → Adds is_loss_of ld ld' m exits → Adds is_win_of wd wd' m exits
-      → IsFilling g (m + 1) (set es m 1) (set ws m w) (set ls m l) (set fs m f) ld' wd'
-  Filling_leaving es ws ls fs ld wd h few w l n f ld' wd' waits wins losses some t u =
-      Filling_more g m es ws ls fs ld wd h (let same = long in omega (arith, same, few)) _ _ _ _ ld' wd'
-      (told es (let all = h.entries_long in omega (arith, all, below)))
-      (put_set 0 ws m _ w (let all = h.waits_long in omega (arith, all, below)) (waits ∙ long))
-      (put_set 0 ls m _ l (let all = h.later_long in omega (arith, all, below)) (wins ∙ like (is_win_from 0) ∙ sym (ap (count_by (is_win_from 0)) off)))
-      (put_set false fs m _ f (let all = h.lost_long in omega (arith, all, below)) (some ∙ ap (nat_lt 0) (losses ∙ like is_loss) ∙ sym (any_counted is_loss (g.exits m)) ∙ sym (ap (list_any is_loss) off)))
-      (subst (Adds is_loss_of ld ld' m) (sym off) (Adds_like is_loss_of ld ld' m exits (g.exits m) like t)) (subst (Adds is_win_of wd wd' m) (sym off) (Adds_like is_win_of wd wd' m exits (g.exits m) like u))
-
-  pub Counts_leaving : (counts : List Count) → CountsTell g m counts → (count : Count) → Counted exits count → CountsTell g (m + 1) (set counts m count)
-  Counts_leaving counts h count counted = Counts_more g m counts count h (subst (λ xs. Counted xs count) (sym off) (record {
-    wins = sym (like (is_win_from 0)) ∙ counted.wins;
-    losses = sym (like is_loss) ∙ counted.losses;
-    draws = sym (like is_draw) ∙ counted.draws;
-    few = counted.few;
-  }))
+  -- what is told of a node
+  pub Counts_more : (counts : List Count) → CountsTell g counts → (degree : Option ℕ) (count : Count) (exits : List Exit) → AreLike exits (g.exits m) → IfSome degree (λ k. (k ≡ length (g.out m)) × (k ≤ 64)) → IfSome degree (λ k. count.moves ≡ k) → IfNone degree (count.moves ≡ 255)
+      → count.wins ≡ count_by (is_win_from 0) exits → count.losses ≡ count_by is_loss exits → count.draws ≡ count_by is_draw exits → count.wins + count.losses + count.draws ≤ 64 → CountsTell g (set counts m count)
+  Counts_more counts h degree count exits like moves counted uncounted wins losses draws few i lt =
+      let within : i < length counts = subst (λ k. i < k) (length-set counts m count) lt in
+      elim (cases_eq i m) [
+        | inl e ↦ rw (e, get_or-set_same counts m count untold (omega (arith, within, e))) (count_is degree moves counted uncounted)
+        | inr ne ↦ rw (get_or-set_other counts m i count untold ne) (h i within)
+      ]
+    where
+      count_is : (degree : Option ℕ) → IfSome degree (λ k. (k ≡ length (g.out m)) × (k ≤ 64)) → IfSome degree (λ k. count.moves ≡ k) → IfNone degree (count.moves ≡ 255) → IsCount g m count
+      count_is None moves counted uncounted small = absurd (let e = uncounted in omega arith)
+      count_is (Some k) moves counted uncounted small = (
+        there,
+        sym moves.0 ∙ sym counted,
+        (let a = moves.1 in let e = counted in omega arith),
+        sym (like (is_win_from 0)) ∙ sym wins,
+        sym (like is_loss) ∙ sym losses,
+        sym (like is_draw) ∙ sym draws,
+        few,
+      )
 
 -- ---- the columns of round 0
 
@@ -320,7 +329,7 @@ some_wait [] [] = refl
 some_wait [] (y ∷ ys) = ne_eqb _ _ (λ e. absurd (omega arith))
 some_wait (x ∷ xs) ys = ne_eqb _ _ (λ e. absurd (omega arith))
 
-pub outside : (g : Graph) (i : ℕ) → g.size ≤ i → is_node g i ≡ false
+outside : (g : Graph) (i : ℕ) → g.size ≤ i → is_node g i ≡ false
 outside g i le = and_left (ltb i g.size) (not (g.void i)) (le-ltb i g.size le)
 
 begun_waits : (g : Graph) (done : ℕ → Bool) (i : ℕ) → waits_at g 0 done 0 i ≡ length (outs g i) + length (leaves g i)
@@ -335,102 +344,49 @@ same_draw b n = elim (cases_Bool (eqb b 1)) [
   | inr f ↦ sym (decided_shut b n false false f)
 ]
 
--- ---- all numbers filled in
-
-module _ (g : Graph) (es ws ls : List ℕ) (fs : List Bool) (ld wd : List (List ℕ)) (h : IsFilling g g.size es ws ls fs ld wd) where
-  pub filled_entry : (i : ℕ) → slice_index es i ≡ shown g i
-  filled_entry i = elim (cases_lt i g.size) [
-    | inl lt ↦ h.entry i lt
-    | inr le ↦ get_or_past es i 0 (let e = h.entries_long in omega arith) ∙ sym (ap (λ b. cond {A = ℕ} b 1 0) (outside g i le))
-  ]
-
-  pub filled_waits : (i : ℕ) → slice_index ws i ≡ length (leaves g i)
-  filled_waits i = elim (cases_lt i g.size) [
-    | inl lt ↦ h.waiting i lt
-    | inr le ↦ get_or_past ws i 0 (let e = h.waits_long in omega arith) ∙ sym (ap (λ (xs : List Exit). length xs) (leaves_none g i (outside g i le)))
-  ]
-
-  filled_exits : (test : ℕ → Exit → Bool) (rounds : List (List ℕ)) → IsFilled g test g.size rounds → IsSchedule g test rounds
-  filled_exits test rounds filled n i = elim (cases_lt i g.size) [
-    | inl lt ↦ filled.before n i lt
-    | inr le ↦ filled.after n i le ∙ sym (ap (count_by (test n)) (leaves_none g i (outside g i le)))
-  ]
-
-  -- with the moves counted and the checkmates told it is what a run begins with
-  pub Begun : (es' ws' : List ℕ) → length es' ≡ length es → length ws' ≡ length ws → ((i : ℕ) → slice_index es' i ≡ entry_at g 0 i) → ((i : ℕ) → slice_index ws' i ≡ slice_index ws i + length (outs g i))
-      → IsBegun g es' ws' ls fs ld wd
-  Begun es' ws' long_es long_ws shows waits = record {
-    entries_long = long_es ∙ h.entries_long;
-    waits_long = long_ws ∙ h.waits_long;
-    later_long = h.later_long;
-    lost_long = h.lost_long;
-    entry = shows;
-    waiting = λ i. let exits = filled_waits i in let all = waits i in omega (arith, exits, all);
-    wins = λ i. elim (cases_lt i g.size) [
-      | inl lt ↦ h.wins i lt
-      | inr le ↦ get_or_past ls i 0 (let e = h.later_long in omega arith) ∙ sym (ap (count_by (is_win_from 0)) (leaves_none g i (outside g i le)))
-    ];
-    losses = λ i. elim (cases_lt i g.size) [
-      | inl lt ↦ h.losses i lt
-      | inr le ↦ get_or_past fs i false (let e = h.lost_long in omega arith) ∙ sym (ap (list_any is_loss) (leaves_none g i (outside g i le)))
-    ];
-    lost_exits = filled_exits is_loss_of ld h.lost_exits;
-    won_exits = filled_exits is_win_of wd h.won_exits;
-  }
-
-zero_count : (count : Count) → Counted [] count → count ≡ no_moves
-zero_count count counted =
-    let wins : count.wins ≡ 0 = sym counted.wins in
-    let losses : count.losses ≡ 0 = sym counted.losses in
-    let draws : count.draws ≡ 0 = sym counted.draws in
-    (λ i. record { wins = wins i; losses = losses i; draws = draws i })
-
-pub all_counts : (g : Graph) (counts : List Count) → CountsTell g g.size counts → length counts ≡ g.size → AreCounts g counts
-all_counts g counts h long = record {
-  long = long;
-  nodes = λ i node. let lt = node.in_range in subst (λ xs. Counted xs (slice_index_or counts i no_moves)) (leaves_at g i (test_from_node g i node)) (h.before i lt (omega (arith, lt, long)));
-  voids = λ i lt void. zero_count (slice_index_or counts i no_moves)
-      (subst (λ xs. Counted xs (slice_index_or counts i no_moves)) (leaves_none g i (no_node g i void)) (h.before i lt (omega (arith, lt, long))));
-}
-
--- ---- the checkmates
-
--- where a node waits for something it is none
-pub no_mate : (g : Graph) → IsGame g → (i : ℕ) → is_node g i ≡ true → length (outs g i) + length (leaves g i) ≢ 0 → g.mated i ≡ false
-no_mate g law i here waits = false_from_ne_true (g.mated i) (λ mated.
-    let ends = law.mate_ends i (node_from_test g i here) mated in
-    let out = ap (λ (xs : List ℕ). length xs) (outs_at g i here ∙ ends.0) in
-    let off = ap (λ (xs : List Exit). length xs) (leaves_at g i here ∙ ends.1) in
-    waits (omega (arith, out, off)))
-
-pub entry_told : (g : Graph) (i : ℕ) (mated : Bool) → is_node g i ≡ true → g.mated i ≡ mated → entry_at g 0 i ≡ cond mated 3 1
-entry_told g i mated here is = ap₂ (λ b c. cond {A = ℕ} b (cond c 3 1) 0) here is
-
-pub shown_node : (g : Graph) (i : ℕ) → shown g i ≡ 1 → is_node g i ≡ true
-shown_node g i one = elim (cases_Bool (is_node g i)) [
-  | inl t ↦ t
-  | inr f ↦ absurd (let zero_is = ap (λ b. cond {A = ℕ} b 1 0) f in omega (arith, zero_is, one))
+begun_entry : (g : Graph) (es ws ls : List ℕ) (fs : List Bool) (ld wd : List (List ℕ)) → IsBegun g g.size es ws ls fs ld wd → (i : ℕ) → slice_index es i ≡ entry_at g 0 i
+begun_entry g es ws ls fs ld wd h i = elim (cases_lt i g.size) [
+  | inl lt ↦ h.entry i lt
+  | inr le ↦ get_or_past es i 0 (let e = h.entries_long in omega arith) ∙ sym (entry_none g 0 i (outside g i le))
 ]
 
-pub shown_other : (g : Graph) (i : ℕ) → shown g i ≢ 1 → shown g i ≡ entry_at g 0 i
-shown_other g i other = elim (cases_Bool (is_node g i)) [
-  | inl t ↦ absurd (other (ap (λ b. cond {A = ℕ} b 1 0) t))
-  | inr f ↦ ap (λ b. cond {A = ℕ} b 1 0) f ∙ sym (entry_none g 0 i f)
-]
-
--- ---- round 0
-
-pub begun_amid : (g : Graph) (es ws ls : List ℕ) (fs : List Bool) (ld wd : List (List ℕ)) → IsBegun g es ws ls fs ld wd
+pub begun_amid : (g : Graph) (es ws ls : List ℕ) (fs : List Bool) (ld wd : List (List ℕ)) → IsBegun g g.size es ws ls fs ld wd
     → (done : ℕ → Bool) → ((j : ℕ) → done j ≡ false) → Amid g 0 done 0 0 es ws
-begun_amid g es ws ls fs ld wd h done none = record {
-  entry = λ i.
-      h.entry i ∙ same_draw (entry_at g 0 i) (0 + 1)
-      ∙ ap₂ (λ w l. decided (entry_at g 0 i) w l (0 + 1)) (sym (begun_winning g done none i))
-      (sym (ap (λ k. has_moves g i && eqb k 0) (begun_waits g done i) ∙ some_wait (outs g i) (leaves g i)));
-  waiting = λ i. h.waiting i ∙ sym (begun_waits g done i);
+begun_amid g es ws ls fs ld wd h done none = record { entry = entry; waiting = waiting }
+  where
+    waiting : (i : ℕ) → slice_index ws i ≡ waits_at g 0 done 0 i
+    waiting i = elim (cases_lt i g.size) [
+      | inl lt ↦ h.waiting i lt ∙ sym (begun_waits g done i)
+      | inr le ↦
+          get_or_past ws i 0 (let e = h.waits_long in omega arith)
+          ∙ sym (begun_waits g done i ∙ ap₂ (λ (a : List ℕ) (b : List Exit). length a + length b) (outs_none g i (outside g i le)) (leaves_none g i (outside g i le)))
+    ]
+
+    entry : (i : ℕ) → slice_index es i ≡ decided (entry_at g 0 i) (is_winning g 0 done 0 i) (has_moves g i && eqb (waits_at g 0 done 0 i) 0) (0 + 1)
+    entry i =
+        begun_entry g es ws ls fs ld wd h i ∙ same_draw (entry_at g 0 i) (0 + 1)
+        ∙ ap₂ (λ w l. decided (entry_at g 0 i) w l (0 + 1)) (sym (begun_winning g done none i))
+        (sym (ap (λ k. has_moves g i && eqb k 0) (begun_waits g done i) ∙ some_wait (outs g i) (leaves g i)))
+
+pub begun_await : (g : Graph) (es ws ls : List ℕ) (fs : List Bool) (ld wd : List (List ℕ)) → IsBegun g g.size es ws ls fs ld wd → Await g 0 ls fs
+begun_await g es ws ls fs ld wd h = record {
+  wins = λ i. elim (cases_lt i g.size) [
+    | inl lt ↦ h.wins i lt
+    | inr le ↦ get_or_past ls i 0 (let e = h.later_long in omega arith) ∙ sym (ap (count_by (is_win_from 0)) (leaves_none g i (outside g i le)))
+  ];
+  losses = λ i. elim (cases_lt i g.size) [
+    | inl lt ↦ h.losses i lt
+    | inr le ↦ get_or_past fs i false (let e = h.lost_long in omega arith) ∙ sym (ap (list_any is_loss) (leaves_none g i (outside g i le)))
+  ];
 }
 
-pub begun_run : (g : Graph) (limit : ℕ) (posted : List Bool) (es ws ls : List ℕ) (fs : List Bool) (ld wd : List (List ℕ)) → IsBegun g es ws ls fs ld wd
+pub begun_schedule : (g : Graph) (test : ℕ → Exit → Bool) (rounds : List (List ℕ)) → IsFilled g test g.size rounds → IsSchedule g test rounds
+begun_schedule g test rounds h n i = elim (cases_lt i g.size) [
+  | inl lt ↦ h.before n i lt
+  | inr le ↦ h.after n i le ∙ sym (ap (count_by (test n)) (leaves_none g i (outside g i le)))
+]
+
+pub begun_run : (g : Graph) (limit : ℕ) (posted : List Bool) (es ws ls : List ℕ) (fs : List Bool) (ld wd : List (List ℕ)) → IsBegun g g.size es ws ls fs ld wd
     → g.size < 2 ^ 32 → limit ≤ 32000 → posted ≡ replicate (blocks_of g.size) false
     → IsRun g (record { limit = limit; round = 0; phase = Running; posted = posted }) es ws ls fs ld wd
 begun_run g limit posted es ws ls fs ld wd h small short is = record {
@@ -442,39 +398,39 @@ begun_run g limit posted es ws ls fs ld wd h small short is = record {
   waits_long = h.waits_long;
   later_long = h.later_long;
   lost_long = h.lost_long;
-  losses = h.lost_exits;
-  wins = h.won_exits;
-  columns = (
-    begun_amid g es ws ls fs ld wd h (done_of posted) (λ j. ap (λ p. done_of p j) is ∙ none_done g (blocks_of g.size) j),
-    record { wins = h.wins; losses = h.losses },
-  );
+  losses = begun_schedule g is_loss_of ld h.lost_exits;
+  wins = begun_schedule g is_win_of wd h.won_exits;
+  columns = (begun_amid g es ws ls fs ld wd h (done_of posted) (λ j. ap (λ p. done_of p j) is ∙ none_done g (blocks_of g.size) j), begun_await g es ws ls fs ld wd h);
 }
 
 -- ---- the bits of the nodes
 
-up_to_one : (b : Bool) → is_up_to 1 (cond b 1 0) ≡ b
-up_to_one true = refl
-up_to_one false = refl
+-- a mark is of a node
+marked_node : (g : Graph) (last bit i : ℕ) → bit ≡ cond (is_up_to last (entry_at g 0 i)) 1 0 → bit ≡ 1 → IsNode g i
+marked_node g last bit i exact one = elim (cases_Bool (is_node g i)) [
+  | inl t ↦ node_from_test g i t
+  | inr f ↦ absurd (let unset = exact ∙ ap (λ (e : ℕ). cond (is_up_to last e) 1 0) (entry_none g 0 i f) in omega (arith, unset, one))
+]
 
-pub filled_known : (g : Graph) (es bits : List ℕ) → length es ≡ g.size → ((i : ℕ) → slice_index es i ≡ shown g i) → length es + 128 ≤ 64 * length bits → AreMarksUpTo 1 es bits → HasKnown g bits
-filled_known g es bits long shows room exact = record { room = omega (arith, long, room); known = λ i. (of_node i, marked i) }
-  where
-    is : (i : ℕ) → bit_at (slice_index bits (word_of i)) (bit_of i) ≡ cond (is_node g i) 1 0
-    is i = exact i ∙ ap (λ (b : Bool). cond {A = ℕ} b 1 0) (ap (is_up_to 1) (shows i) ∙ up_to_one (is_node g i))
+-- each node has an entry, and it is small
+node_marked : (g : Graph) (bit i : ℕ) → bit ≡ cond (is_up_to 65535 (entry_at g 0 i)) 1 0 → IsNode g i → bit ≡ 1
+node_marked g bit i exact node =
+    exact ∙ ap (λ (e : ℕ). cond (is_up_to 65535 e) 1 0) (ap (λ b. cond b (cond (g.mated i) 3 1) 0) (test_from_node g i node))
+    ∙ elim (cases_Bool (g.mated i)) [ inl t ↦ rw t refl | inr f ↦ rw f refl ]
 
-    of_node : (i : ℕ) → bit_at (slice_index bits (word_of i)) (bit_of i) ≡ 1 → IsNode g i
-    of_node i one = node_from_test g i (shown_node g i (sym (is i) ∙ one))
+module _ (g : Graph) (es ws ls : List ℕ) (fs : List Bool) (ld wd : List (List ℕ)) (h : IsBegun g g.size es ws ls fs ld wd) (bits : List ℕ) where
+  exact_at : (last : ℕ) → AreMarksUpTo last es bits → (i : ℕ) → bit_at (slice_index bits (word_of i)) (bit_of i) ≡ cond (is_up_to last (entry_at g 0 i)) 1 0
+  exact_at last exact i = exact i ∙ ap (λ e. cond (is_up_to last e) 1 0) (begun_entry g es ws ls fs ld wd h i)
 
-    marked : (i : ℕ) → IsNode g i → bit_at (slice_index bits (word_of i)) (bit_of i) ≡ 1
-    marked i node = is i ∙ ap (λ (b : Bool). cond {A = ℕ} b 1 0) (test_from_node g i node)
+  pub begun_known : length es + 128 ≤ 64 * length bits → AreMarksUpTo 65535 es bits → HasKnown g bits
+  begun_known room exact = record {
+    room = let long = h.entries_long in omega (arith, long, room);
+    known = λ i. (marked_node g 65535 _ i (exact_at 65535 exact i), node_marked g _ i (exact_at 65535 exact i));
+  }
 
-pub begun_marks : (g : Graph) (es ws ls : List ℕ) (fs : List Bool) (ld wd : List (List ℕ)) → IsBegun g es ws ls fs ld wd → (bits : List ℕ)
-    → length es + 128 ≤ 64 * length bits → AreMarksUpTo 1 es bits → HasMarks g Running es bits
-begun_marks g es ws ls fs ld wd h bits room exact = record {
-  room = let long = h.entries_long in omega (arith, long, room);
-  of_nodes = λ i one. elim (cases_Bool (is_node g i)) [
-    | inl t ↦ node_from_test g i t
-    | inr f ↦ absurd (let unset = exact i ∙ ap (λ (e : ℕ). cond {A = ℕ} (is_up_to 1 e) 1 0) (h.entry i ∙ entry_none g 0 i f) in omega (arith, unset, one))
-  ];
-  marked = λ i one. exact i ∙ ap (λ e. cond {A = ℕ} (is_up_to 1 e) 1 0) one;
-}
+  pub begun_marks : length es + 128 ≤ 64 * length bits → AreMarksUpTo 1 es bits → HasMarks g Running es bits
+  begun_marks room exact = record {
+    room = let long = h.entries_long in omega (arith, long, room);
+    of_nodes = λ i. marked_node g 1 _ i (exact_at 1 exact i);
+    marked = λ i one. exact i ∙ ap (λ e. cond (is_up_to 1 e) 1 0) one;
+  }

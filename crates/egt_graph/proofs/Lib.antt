@@ -5,6 +5,7 @@ pub mod Lists
 pub mod Values
 pub mod Holding
 pub mod Nodes
+pub mod Uncounted
 pub mod Exits
 pub mod Closing
 pub mod Ranking
@@ -13,15 +14,11 @@ pub mod Lost
 pub mod Steps
 pub mod Growing
 pub mod Teeth
-pub mod Planes
 pub mod Blocks
 pub mod Won
 pub mod Noting
 pub mod Taking
 pub mod Marking
-pub mod Words
-pub mod Spreading
 pub mod Running
-pub mod Tallies
 pub mod Beginning
 pub mod Histories

@@ -67,14 +67,6 @@ count_yes p x xs h = count_by-cons p x xs ∙ ap (λ b. cond b 1 0 + count_by p 
 pub count_no : {X : Type 0} (p : X → Bool) (x : X) (xs : List X) → p x ≡ false → count_by p (x ∷ xs) ≡ count_by p xs
 count_no p x xs h = let e = count_by-cons p x xs ∙ ap (λ b. cond b 1 0 + count_by p xs) h in omega arith
 
--- each passes
-pub all_count : {X : Type 0} (p : X → Bool) → ((x : X) → p x ≡ true) → (xs : List X) → count_by p xs ≡ length xs
-all_count p e [] = refl
-all_count p e (x ∷ xs) =
-    let c = count_yes p x xs (e x) in
-    let r = all_count p e xs in
-    omega arith
-
 -- none fails where each passes
 pub none_fails : {X : Type 0} (p : X → Bool) (xs : List X) → eqb (count_by (λ x. not (p x)) xs) 0 ≡ list_all p xs
 none_fails p [] = refl

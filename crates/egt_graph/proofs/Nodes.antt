@@ -1,5 +1,5 @@
 -- The moves of a game, counted, and what one node changes whose moves are taken back.
-use Rattle.std.proofs.Common.{◌≡◌, ◌≢◌, ℕ, ◌+◌, ◌<◌, ◌≤◌, Bool, true, false, cond, not, ◌&&◌, ◌||◌, eqb, ltb, List, [], ◌∷◌, length, refl, sym, ap, ap₂, ◌∙◌, inl, inr, ⊎_elim, arith, All, count_by}
+use Rattle.std.proofs.Common.{◌≡◌, ◌≢◌, ℕ, ◌+◌, ◌<◌, ◌≤◌, Bool, true, false, cond, not, ◌&&◌, ◌||◌, eqb, ltb, List, [], ◌∷◌, refl, sym, ap, ap₂, ◌∙◌, inl, inr, ⊎_elim, arith, All, count_by}
 use Rattle.std.specs.List.{list_any}
 use Rattle.std.proofs.lemmas.Bool.{cases_Bool, lt-ltb, ltb-true, eqb-true, eq-eqb, ne_eqb, and_parts, and_from, and_left, not-true, not_from_false, or_cases, or_right, cases_eq, false_from_ne_true, both_ways}
 use Rattle.std.proofs.lemmas.List.Elements.{All-contains, All-nil}
@@ -28,13 +28,6 @@ leaves_at g i h = ap (λ b. cond b (g.exits i) []) h
 
 pub outs_none : (g : Graph) (i : ℕ) → is_node g i ≡ false → outs g i ≡ []
 outs_none g i h = ap (λ b. cond b (g.out i) []) h
-
--- what has moves is a node
-pub outs_some : (g : Graph) (i : ℕ) → 0 < length (outs g i) → IsNode g i
-outs_some g i some = elim (cases_Bool (is_node g i)) [
-  | inl t ↦ node_from_test g i t
-  | inr f ↦ absurd (let none = ap (λ (xs : List ℕ). length xs) (outs_none g i f) in omega (arith, none, some))
-]
 
 pub ins_none : (g : Graph) (i : ℕ) → is_node g i ≡ false → ins g i ≡ []
 ins_none g i h = ap (λ b. cond b (g.into i) []) h

@@ -111,7 +111,7 @@ pub news_room : (size : ℕ) (phase : Phase) (r : ℕ) (es es' : List ℕ) (news
     → (length es' ≤ 64 * length news) × (length es' ≤ 64 * length coming)
 news_room size phase r es es' news coming h long = let a = h.news_long in let b = h.coming_long in (omega arith, omega arith)
 
-pub begun_news : (g : Graph) (es ws ls : List ℕ) (fs : List Bool) (ld wd : List (List ℕ)) (news coming : List Bool) → IsBegun g es ws ls fs ld wd
+pub begun_news : (g : Graph) (es ws ls : List ℕ) (fs : List Bool) (ld wd : List (List ℕ)) (news coming : List Bool) → IsBegun g g.size es ws ls fs ld wd
     → news ≡ replicate (parts_of g.size) true → coming ≡ replicate (parts_of g.size) false → HasNews g.size Running 0 es news coming
 begun_news g es ws ls fs ld wd news coming h a b = record {
   news_long = ap length a ∙ length-replicate (parts_of g.size) true;
@@ -120,7 +120,10 @@ begun_news g es ws ls fs ld wd news coming h a b = record {
 }
   where
     below : (i : ℕ) → slice_index es i ≤ 3
-    below i = let e = h.entry i in let le = entry_bound g 0 i in omega arith
+    below i = elim (cases_lt i g.size) [
+      | inl lt ↦ let e = h.entry i lt in let le = entry_bound g 0 i in omega arith
+      | inr le ↦ let e = get_or_past es i 0 (let long = h.entries_long in omega arith) in omega arith
+    ]
 
 -- after a post no entry more is of the round
 pub posted_news : (g : Graph) → IsGame g → (phase : Phase) (r : ℕ) (done done' : ℕ → Bool) (es ws es' ws' : List ℕ) (news coming coming' : List Bool) → phase ≡ Running

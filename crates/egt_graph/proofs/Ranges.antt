@@ -17,13 +17,6 @@ range_with_len-append a (suc n) m =
 pub filter_range_more : (p : ℕ → Bool) (a n : ℕ) → filter p (range_with_len a (n + 1)) ≡ filter p (range_with_len a n) ++ cond (p (a + n)) ((a + n) ∷ []) []
 filter_range_more p a n = ap (filter p) (range_with_len-append a n 1) ∙ filter-append p (range_with_len a n) (range_with_len (a + n) 1)
 
--- the numbers from a on, with i the last of them
-pub filter_range_to : (p : ℕ → Bool) (a i : ℕ) → a ≤ i → filter p (range_with_len a (i + 1 - a)) ≡ filter p (range_with_len a (i - a)) ++ cond (p i) (i ∷ []) []
-filter_range_to p a i le =
-    let e : i + 1 - a ≡ i - a + 1 = omega arith in
-    let f : a + (i - a) ≡ i = omega arith in
-    ap (λ n. filter p (range_with_len a n)) e ∙ filter_range_more p a (i - a) ∙ ap (λ k. filter p (range_with_len a (i - a)) ++ cond (p k) (k ∷ []) []) f
-
 -- numbers that all fail
 pub filter_range_none : (p : ℕ → Bool) (a n : ℕ) → ((k : ℕ) → a ≤ k → k < a + n → p k ≡ false) → filter p (range_with_len a n) ≡ []
 filter_range_none p a zero h = refl

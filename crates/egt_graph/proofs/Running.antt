@@ -6,7 +6,7 @@ use Rattle.egt_graph.specs.Value.{SomeAbove, NoneAbove}
 use Rattle.egt_graph.specs.Frontier.{front, entry_front, blocks_of}
 use Rattle.egt_graph.specs.Rounds.{State, listed, listed_in}
 use Rattle.egt_graph.specs.Run.{IsRun, Holds, IsSchedule}
-use Rattle.egt_graph.specs.Columns.{leaves, count_of, done_of, Amid, Await, Marks, TakesBack, is_open_at}
+use Rattle.egt_graph.specs.Columns.{leaves, count_of, is_win_from, done_of, Amid, Await, Marks, TakesBack, is_open_at}
 use Rattle.egt_graph.specs.declared.answer.Phase.{Phase}
 use Rattle.egt_graph.specs.declared.answer.Phase.TheVariants.{Running, Finished, TooDeep}
 use Rattle.egt_graph.specs.declared.game.Exit.{Exit}
@@ -214,6 +214,13 @@ due_waited g v es ws ls fs ld wd h e i =
     let w = before.0.waiting i in
     let le = won_exits_waited g v.round (done_of v.posted) (slice_index_or wd v.round []) (h.wins v.round) i in
     omega arith
+
+-- what may yet be won leaves from nodes alone
+pub due_leaving : (g : Graph) (v : State) (es ws ls : List ℕ) (fs : List Bool) (ld wd : List (List ℕ)) → IsRun g v es ws ls fs ld wd → v.phase ≡ Running
+    → (i : ℕ) → 0 < slice_index ls i → IsNode g i
+due_leaving g v es ws ls fs ld wd h e i some =
+    let before = amid_of g v es ws ls fs ld wd h e in
+    leaving_node g (is_win_from v.round) i (let w = before.1.wins i in omega arith)
 
 pub due_counted : (g : Graph) (v : State) (es ws ls : List ℕ) (fs : List Bool) (ld wd : List (List ℕ)) → IsRun g v es ws ls fs ld wd → v.phase ≡ Running
     → (i : ℕ) → count_of i (slice_index_or wd v.round []) ≤ slice_index ls i

@@ -84,11 +84,8 @@ popped first bits left k lt one gone others i = elim (cases_eq (first + 2 * k) i
       omega (arith, same, none)
 ]
 
-plus_none : (n : ℕ) → n + 0 ≡ n
-plus_none n = omega arith
-
 -- the lowest bit
-pub lowest : (bits : ℕ) → bits ≢ 0 → bits < 2 ^ 64 → (trailing_zeros w64 bits < 64) × (bit_at bits (trailing_zeros w64 bits) ≡ 1)
+lowest : (bits : ℕ) → bits ≢ 0 → bits < 2 ^ 64 → (trailing_zeros w64 bits < 64) × (bit_at bits (trailing_zeros w64 bits) ≡ 1)
 lowest bits some small = let at = bit_at-trailing_zeros w64 bits (omega (arith, some)) small in (at.0, at.1)
 
 abbrev pub without_lowest : ℕ → ℕ
@@ -152,28 +149,28 @@ has_times combs k d lt i t = let le = tooth_le combs k d lt i in let one = once 
 
 -- ---- the marks of a comb's numbers
 
-pub parts : (n m : ℕ) → 0 < m → n / m * m + n % m ≡ n
+parts : (n m : ℕ) → 0 < m → n / m * m + n % m ≡ n
 parts n m some = omega (arith, some)
 
-pub within : (n m : ℕ) → 0 < m → n % m < m
+within : (n m : ℕ) → 0 < m → n % m < m
 within n m some = omega (arith, some)
 
-pub shifted_down : (n s k : ℕ) → bit_at (n / 2 ^ s) k ≡ bit_at n (s + k)
+shifted_down : (n s k : ℕ) → bit_at (n / 2 ^ s) k ≡ bit_at n (s + k)
 shifted_down n s k =
     ap (bit_at (n / 2 ^ s)) (let e : k ≡ s + k - s = omega arith in e)
     ∙ sym (bit_at_cat_high (n / 2 ^ s) s (n % 2 ^ s) (s + k) (within n (2 ^ s) (pow_pos s)) (omega arith))
     ∙ ap (λ m. bit_at m (s + k)) (parts n (2 ^ s) (pow_pos s))
 
-pub cut_at : (n w k : ℕ) → k < w → bit_at (n % 2 ^ w) k ≡ bit_at n k
-cut_at n w k lt = sym (bit_at_cat_low (n / 2 ^ w) w (n % 2 ^ w) k lt) ∙ ap (λ m. bit_at m k) (parts n (2 ^ w) (pow_pos w))
+cut : (n k : ℕ) → k < 64 → bit_at (n % 18446744073709551616) k ≡ bit_at n k
+cut n k lt = sym (bit_at_cat_low (n / 18446744073709551616) 64 (n % 18446744073709551616) k lt) ∙ ap (λ m. bit_at m k) (parts n 18446744073709551616 (omega arith))
 
-pub cut : (n k : ℕ) → k < 64 → bit_at (n % 18446744073709551616) k ≡ bit_at n k
-cut n k lt = cut_at n 64 k lt
+plus_none : (n : ℕ) → n + 0 ≡ n
+plus_none n = omega arith
 
-pub shifted_up_low : (n s k : ℕ) → k < s → bit_at (n * 2 ^ s) k ≡ 0
+shifted_up_low : (n s k : ℕ) → k < s → bit_at (n * 2 ^ s) k ≡ 0
 shifted_up_low n s k lt = ap (λ m. bit_at m k) (sym (plus_none (n * 2 ^ s))) ∙ bit_at_cat_low n s 0 k lt ∙ bit_at-zero k
 
-pub shifted_up : (n s k : ℕ) → s ≤ k → bit_at (n * 2 ^ s) k ≡ bit_at n (k - s)
+shifted_up : (n s k : ℕ) → s ≤ k → bit_at (n * 2 ^ s) k ≡ bit_at n (k - s)
 shifted_up n s k le = ap (λ m. bit_at m k) (sym (plus_none (n * 2 ^ s))) ∙ bit_at_cat_high n s 0 k (pow_pos s) le
 
 -- by one place
@@ -199,11 +196,11 @@ up_twice_high n s k small lt high =
     ∙ shifted_up n (63 - s) (k - 1) (omega (arith, small, high)) ∙ ap (bit_at n) (let e : k - 1 - (63 - s) ≡ s + k - 64 = omega (arith, small, high) in e)
 
 -- a comb's number has its mark in the word of the first, or in the second after that
-pub near_word : (first k : ℕ) → bit_of first + k < 64 → (word_of (first + 2 * k) ≡ word_of first) × (bit_of (first + 2 * k) ≡ bit_of first + k)
+near_word : (first k : ℕ) → bit_of first + k < 64 → (word_of (first + 2 * k) ≡ word_of first) × (bit_of (first + 2 * k) ≡ bit_of first + k)
 unfolding word_of bit_of
 near_word first k low = (omega (arith, low), omega (arith, low))
 
-pub next_word : (first k : ℕ) → k < 64 → 64 ≤ bit_of first + k → (word_of (first + 2 * k) ≡ word_of first + 2) × (bit_of (first + 2 * k) ≡ bit_of first + k - 64)
+next_word : (first k : ℕ) → k < 64 → 64 ≤ bit_of first + k → (word_of (first + 2 * k) ≡ word_of first + 2) × (bit_of (first + 2 * k) ≡ bit_of first + k - 64)
 unfolding word_of bit_of
 next_word first k lt high = (omega (arith, lt, high), omega (arith, lt, high))
 

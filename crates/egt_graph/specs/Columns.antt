@@ -1,6 +1,6 @@
 -- What the columns of a run hold: functions of the game, the round and the nodes whose moves were taken back, whatever
 -- the order in which that was done.
-use Rattle.std.specs.Prelude.{◌≡◌, ℕ, zero, suc, ◌+◌, ◌*◌, ◌/◌, Bool, true, false, not, ◌&&◌, ◌||◌, List, [], slice_index, slice_index_or, count_by, take, ◌==◌, nat_lt, nat_le, if◌then◌else◌}
+use Rattle.std.specs.Prelude.{◌≡◌, ℕ, zero, suc, ◌+◌, ◌*◌, ◌/◌, Bool, true, false, not, ◌&&◌, ◌||◌, List, [], ◌∷◌, length, slice_index, slice_index_or, count_by, take, ◌==◌, nat_lt, nat_le, if◌then◌else◌}
 use Rattle.std.specs.List.{list_any, flat_map}
 use Rattle.egt_graph.specs.Graph.{Graph}
 use Rattle.egt_graph.specs.Value.{is_empty, is_lost_before, is_won_before, mated_within, mates_within, mated_before, mates_before}
@@ -24,6 +24,17 @@ leaves g i = if is_node g i then g.exits i else []
 
 abbrev pub has_moves : Graph → ℕ → Bool
 has_moves g i = not (is_empty (outs g i) && is_empty (leaves g i))
+
+-- what a node waits for: 255 stands for all its moves and exits, before any was taken back
+abbrev pub told_at : Graph → ℕ → ℕ → ℕ
+told_at g i wait = if wait == 255 then length (outs g i) + length (leaves g i) else wait
+
+unfoldable pub told_from : Graph → ℕ → List ℕ → List ℕ
+told_from g i [] = []
+told_from g i (wait ∷ waits) = told_at g i wait ∷ told_from g (i + 1) waits
+
+abbrev pub told : Graph → List ℕ → List ℕ
+told g waits = told_from g 0 waits
 
 -- how often i stands in the list
 abbrev pub count_of : ℕ → List ℕ → ℕ

@@ -7,7 +7,6 @@ pub mod Rounds
 pub mod Events
 pub mod Columns
 pub mod Combs
-pub mod Tallies
 pub mod Batch
 pub mod Run
 pub mod Begin

@@ -1,25 +1,22 @@
 //! What a run begins with.
-ghost use Rattle.std.specs.Prelude.{◌≡◌, ℕ, ◌+◌, ◌*◌, ◌<◌, ◌≤◌, length, slice_index, slice_set, true, count_by, [], ◌∷◌, OnOk, IfOk, if◌then◌else◌};
+ghost use Rattle.std.specs.Prelude.{◌≡◌, ℕ, ◌+◌, ◌*◌, ◌<◌, ◌≤◌, length, slice_index, slice_set, true, count_by, [], ◌∷◌, OnOk, IfOk, IfSome, IfNone, if◌then◌else◌};
 ghost use Rattle.std.specs.Int.{bit_at};
-ghost use Rattle.egt_graph.specs.Begin.{Adds, AreFilling, AreBegun, shown};
-ghost use Rattle.egt_graph.specs.Columns.{outs, leaves, entry_at, is_loss, is_win_from, is_win_of, is_loss_of};
-ghost use Rattle.egt_graph.specs.Counts.{AreCounts, Counted};
+ghost use Rattle.egt_graph.specs.Columns.{outs, leaves, told_at, entry_at, is_loss, is_win_from, is_win_of, is_loss_of};
+ghost use Rattle.egt_graph.specs.Begin.{Adds, AreBegun};
+ghost use Rattle.egt_graph.specs.Counts.{is_draw};
 ghost use Rattle.egt_graph.specs.Graph.{IsStart};
-ghost use Rattle.egt_graph.specs.Undecided.{AreMarksUpTo, HasKnown, is_up_to};
+ghost use Rattle.egt_graph.specs.Undecided.{AreMarksUpTo, is_up_to};
 
 use crate::columns::DRAW;
-use crate::counting::count_moves;
 use crate::counts::Count;
-use crate::game::{Exit, Game};
+use crate::game::{Exit, Game, Start};
 use crate::marks::PAIR;
 use crate::schedule::Schedule;
+use crate::waiting::UNCOUNTED;
 use arrayvec::ArrayVec;
 use std::alloc::{AllocError, Global};
 
-/// The entry of a node whose mover is checkmated.
-const MATED: u16 = 3;
-
-/// The columns of a run, the marks of its nodes, and the nodes by the numbers of their exits.
+/// The columns of a run, and the nodes by the numbers of their exits.
 #[derive(Drop)]
 pub(crate) struct Columns {
     pub(crate) entries: Vec<u16>,
@@ -29,32 +26,12 @@ pub(crate) struct Columns {
     pub(crate) lost_due: Schedule,
     pub(crate) won_due: Schedule,
     pub(crate) counts: Vec<Count>,
-    pub(crate) known: Vec<u64>,
 }
 
-/// The columns before the first round. The counts are told where `telling`.
+/// The columns before the first round. Each node's moves are counted, if the game counts them, and none is asked for. The counts are told
+/// where `telling`.
 pub(crate) fn begin<G: Game>(alloc: Global, game: &G, telling: bool) -> Result<Columns, AllocError>
-    ensures begun { IfOk result (AreBegun (G.graph game.now)) }
-    ensures known { IfOk result (λ columns. HasKnown (G.graph game.now) columns.known.items) }
-    ensures told { telling ≡ true → IfOk result (λ columns. AreCounts (G.graph game.now) columns.counts.items) }
-{
-    let mut columns = with_exits(alloc, game, telling)?;
-    columns.known = marks_up_to(alloc, &columns.entries, DRAW)?;
-    count_moves(
-        alloc,
-        game,
-        &columns.entries,
-        &columns.known,
-        &mut columns.waits,
-    )?;
-    tell_mates(game, &mut columns.entries, &columns.waits);
-    Ok(columns)
-}
-
-/// The columns with what the game tells of each number: whether it is a node, and its exits. No checkmate is told, and no move to a node
-/// is counted.
-fn with_exits<G: Game>(alloc: Global, game: &G, telling: bool) -> Result<Columns, AllocError>
-    ensures filled { IfOk result (AreFilling (G.graph game.now) (G.graph game.now).size) }
+    ensures begun { IfOk result (AreBegun (G.graph game.now) (G.graph game.now).size) }
     ensures told { telling ≡ true → IfOk result (λ columns. length columns.counts.items ≡ (G.graph game.now).size) }
 {
     let size = game.size();
@@ -66,8 +43,7 @@ fn with_exits<G: Game>(alloc: Global, game: &G, telling: bool) -> Result<Columns
         lost: vec![in alloc; false; size as usize]?,
         lost_due: Schedule::new(alloc),
         won_due: Schedule::new(alloc),
-        counts: vec![in alloc; Count::NONE; told as usize]?,
-        known: Vec::new(alloc),
+        counts: vec![in alloc; Count::UNTOLD; told as usize]?,
     };
     let mut exits = ArrayVec::new();
     let mut next_exits = ArrayVec::new();
@@ -104,8 +80,8 @@ fn fill_two<G: Game>(
     columns: &mut Columns,
 ) -> Result<(), AllocError>
     requires in_range { node + 1 < (G.graph game.now).size }
-    requires filled { AreFilling (G.graph game.now) node columns.old }
-    ensures filled { OnOk result (AreFilling (G.graph game.now) (node + 2) columns.new) }
+    requires begun { AreBegun (G.graph game.now) node columns.old }
+    ensures begun { OnOk result (AreBegun (G.graph game.now) (node + 2) columns.new) }
     ensures told { OnOk result (length columns.new.counts.items ≡ length columns.old.counts.items) }
 {
     let _size = game.size();
@@ -123,8 +99,8 @@ fn fill_one<G: Game>(
     columns: &mut Columns,
 ) -> Result<(), AllocError>
     requires in_range { node < (G.graph game.now).size }
-    requires filled { AreFilling (G.graph game.now) node columns.old }
-    ensures filled { OnOk result (AreFilling (G.graph game.now) (node + 1) columns.new) }
+    requires begun { AreBegun (G.graph game.now) node columns.old }
+    ensures begun { OnOk result (AreBegun (G.graph game.now) (node + 1) columns.new) }
     ensures told { OnOk result (length columns.new.counts.items ≡ length columns.old.counts.items) }
 {
     let start = game.start(node, exits);
@@ -137,29 +113,32 @@ fn fill<G: Game>(
     alloc: Global,
     _game: &G,
     node: u32,
-    start: bool,
+    start: Option<Start>,
     exits: &[Exit],
     columns: &mut Columns,
 ) -> Result<(), AllocError>
     requires in_range { node < (G.graph _game.now).size }
     requires started { IsStart (G.graph _game.now) node start exits.now }
     requires few { length exits.now ≤ 64 }
-    requires filled { AreFilling (G.graph _game.now) node columns.old }
-    ensures filled { OnOk result (AreFilling (G.graph _game.now) (node + 1) columns.new) }
+    requires begun { AreBegun (G.graph _game.now) node columns.old }
+    ensures begun { OnOk result (AreBegun (G.graph _game.now) (node + 1) columns.new) }
     ensures told { OnOk result (length columns.new.counts.items ≡ length columns.old.counts.items) }
 {
-    if !start {
+    let Some(start) = start else {
         return Ok(());
-    }
+    };
     let i = node as usize;
-    columns.entries[i] = DRAW;
+    columns.entries[i] = first_entry(start.mated);
+    let moves = start.degree.unwrap_or(UNCOUNTED);
     if exits.is_empty() {
+        columns.waits[i] = moves;
+        tell(&mut columns.counts, i, count_of(moves, exits, 0, 0));
         return Ok(());
     }
     let wins = count_wins(exits);
     let losses = count_losses(exits);
-    tell(&mut columns.counts, i, count_of(exits, wins, losses));
-    columns.waits[i] = exits.len() as u8;
+    tell(&mut columns.counts, i, count_of(moves, exits, wins, losses));
+    columns.waits[i] = waits_for(start, exits);
     columns.later[i] = wins;
     columns.lost[i] = losses > 0;
     schedule_exits(
@@ -182,19 +161,23 @@ fn tell(counts: &mut Vec<Count>, i: usize, count: Count)
     }
 }
 
-/// Tells which nodes are checkmates. The game is asked of those that wait for nothing, since no other can be one.
-fn tell_mates<G: Game>(game: &G, entries: &mut [u16], waits: &[u8])
-    requires entries_long { length entries.old ≡ (G.graph game.now).size }
-    requires waits_long { length waits.now ≡ (G.graph game.now).size }
-    requires nodes { (i : ℕ) → slice_index entries.old i ≡ shown (G.graph game.now) i }
-    requires waiting { (i : ℕ) → slice_index waits.now i ≡ length (outs (G.graph game.now) i) + length (leaves (G.graph game.now) i) }
-    ensures { (i : ℕ) → slice_index entries.new i ≡ entry_at (G.graph game.now) 0 i }
+/// The entry of a node before any rank but that of checkmates is known.
+fn first_entry(mated: bool) -> u16
+    ensures { result ≡ (if mated then 3 else 1) }
 {
-    for node in 0..game.size() {
-        let i = node as usize;
-        if entries[i] == DRAW && waits[i] == 0 && game.mated(node) {
-            entries[i] = MATED;
-        }
+    if mated { 3 } else { DRAW }
+}
+
+/// What the node waits for at first.
+fn waits_for(start: Start, exits: &[Exit]) -> u8
+    requires few { length exits.now ≤ 64 }
+    requires moves { IfSome start.degree (λ n. n ≤ 64) }
+    ensures counted { IfSome start.degree (λ n. result ≡ n + length exits.now) }
+    ensures uncounted { IfNone start.degree (result ≡ 255) }
+{
+    match start.degree {
+        Some(moves) => moves + exits.len() as u8,
+        None => UNCOUNTED,
     }
 }
 
@@ -224,15 +207,20 @@ fn count_losses(exits: &[Exit]) -> u8
     losses
 }
 
-/// How many of the exits there are of each sort, of which so many are wins and losses.
+/// What is told of a node with so many moves to others, and with these exits, of which so many are wins and losses.
 #[inline(always)]
-fn count_of(exits: &[Exit], wins: u8, losses: u8) -> Count
+fn count_of(moves: u8, exits: &[Exit], wins: u8, losses: u8) -> Count
     requires few { length exits.now ≤ 64 }
     requires wins { wins ≡ count_by (is_win_from 0) exits.now }
     requires losses { losses ≡ count_by is_loss exits.now }
-    ensures { Counted exits.now result }
+    ensures moves { result.moves ≡ moves }
+    ensures wins { result.wins ≡ wins }
+    ensures losses { result.losses ≡ losses }
+    ensures draws { result.draws ≡ count_by is_draw exits.now }
+    ensures few { result.wins + result.losses + result.draws ≤ 64 }
 {
     Count {
+        moves,
         wins,
         losses,
         draws: exits.len() as u8 - wins - losses,

@@ -1,5 +1,5 @@
 //! A finite game: nodes, the moves between them, and the moves that leave it.
-ghost use Rattle.std.specs.Prelude.{◌≡◌, ℕ, ◌+◌, ◌*◌, ◌<◌, ◌≤◌, ◌++◌, length, filter, [], true, All, IsTrue, IsFalse};
+ghost use Rattle.std.specs.Prelude.{◌≡◌, ℕ, ◌+◌, ◌*◌, ◌<◌, ◌≤◌, ◌++◌, length, filter, [], true, All, IfSome, IfNone, IsFalse};
 ghost use Rattle.std.specs.List.Sorted.{IsStrictlyIncreasing};
 ghost use Rattle.arrayvec.specs.ArrayVec.{array_vec_len};
 ghost use Rattle.egt_graph.specs.Graph.{Graph, IsNode, IsGame, IsStart, AreLike};
@@ -20,6 +20,16 @@ pub enum Exit {
     Loss(u16),
     #[default]
     Draw,
+}
+
+/// What a node is before any rank is known.
+#[derive(Clone, Copy, PartialEq, Eq, Debug)]
+pub struct Start {
+    /// Is the mover checkmated?
+    pub mated: bool,
+    /// How many nodes moves lead to, where they were counted. `None` is for a node that hardly will wait for any move: a run asks for `degree`
+    /// where it does.
+    pub degree: Option<u8>,
 }
 
 /// A game over the nodes from 0 up to `size`. Some of the numbers may be void: they are no nodes.
@@ -62,19 +72,25 @@ pub trait Game {
         requires { IsNode (graph self.now) i }
         ensures { result.items ≡ (graph self.now).exits i };
 
-    /// Whether the number is a node. The values of the positions outside that moves from it lead to, in any order, take the place of
-    /// what `exits` had; none where it is no node.
-    fn start(&self, i: u32, exits: &mut ArrayVec<Exit, 64>) -> bool
+    /// What `void`, `mated`, `degree` (if it counts) and `exits` answer of a number, at once; `None` where it is no node. The values of the
+    /// positions outside, in any order, take the place of what `exits` had.
+    fn start(&self, i: u32, exits: &mut ArrayVec<Exit, 64>) -> Option<Start>
         requires { i < (graph self.now).size }
-        ensures node { IsTrue result → IsFalse ((graph self.now).void i) × AreLike exits.new.items ((graph self.now).exits i) }
-        ensures void { IsFalse result → ((graph self.now).void i ≡ true) × (exits.new.items ≡ []) }
+        ensures node { IfSome result (λ start. IsFalse ((graph self.now).void i)
+            × (start.mated ≡ (graph self.now).mated i)
+            × IfSome start.degree (λ n. (n ≡ length ((graph self.now).out i)) × (n ≤ 64))
+            × AreLike exits.new.items ((graph self.now).exits i)) }
+        ensures void { IfNone result (((graph self.now).void i ≡ true) × (exits.new.items ≡ [])) }
     {
         if self.void(i) {
             exits.clear();
-            return false;
+            return None;
         }
         *exits = self.exits(i);
-        true
+        Some(Start {
+            mated: self.mated(i),
+            degree: Some(self.degree(i) as u8),
+        })
     }
 
     /// What `start` answers of two neighbours, which may have much in common.
@@ -83,7 +99,7 @@ pub trait Game {
         i: u32,
         exits: &mut ArrayVec<Exit, 64>,
         next_exits: &mut ArrayVec<Exit, 64>,
-    ) -> (bool, bool)
+    ) -> (Option<Start>, Option<Start>)
         requires { i + 1 < (graph self.now).size }
         ensures first { IsStart (graph self.now) i result.0 exits.new.items }
         ensures second { IsStart (graph self.now) (i + 1) result.1 next_exits.new.items }

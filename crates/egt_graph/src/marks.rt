@@ -1,5 +1,5 @@
 //! Marks of numbers: where a number's bit is.
-ghost use Rattle.std.specs.Prelude.{◌≡◌, ◌≢◌, ◌+◌, ◌*◌, ◌/◌, ◌%◌, ◌^◌, ◌<◌, ℕ, length};
+ghost use Rattle.std.specs.Prelude.{◌≡◌, ◌≢◌, ◌+◌, ◌*◌, ◌<◌, ℕ, length};
 ghost use Rattle.egt_graph.specs.Undecided.{bit_of, word_of, is_marked, IsMarked};
 
 /// How many numbers have their bits in two words. The even ones of them have the first, the odd ones the second, since of neighbours often
@@ -22,15 +22,6 @@ pub fn bit_of(i: u32) -> u32
     ensures within { result < 64 }
 {
     i / 2 % 64
-}
-
-/// The least number whose bit is in the word.
-#[inline(always)]
-pub(crate) fn first_of(word: usize) -> usize
-    requires { word < 2 ^ 58 }
-    ensures { result ≡ word / 2 * 128 + word % 2 }
-{
-    word / 2 * PAIR + word % 2
 }
 
 /// Is the number's bit set?

@@ -42,7 +42,8 @@ pub struct Rounds<'g, G: Game> {
     known: Vec<u64>,
     /// The same where node `i` may be undecided.
     marks: Vec<u64>,
-    /// For each node the moves and exits that it waits for: at first all, and one less for each that is found won.
+    /// For each node the moves and exits that it waits for: at first all, which were not counted where it is `UNCOUNTED`, and one less
+    /// for each that is found won.
     waits: Vec<u8>,
     /// For each node the exits into positions won for the opponent that have not fallen due.
     later: Vec<u8>,
@@ -53,6 +54,7 @@ pub struct Rounds<'g, G: Game> {
 }
 
 impl<'g, G: Game> Model for Rounds<'g, G> {
+    ghost use Rattle.egt_graph.specs.Columns.{told};
     ghost use Rattle.egt_graph.specs.News.{HasNews};
     ghost use Rattle.egt_graph.specs.Run.{Run, IsRun};
     ghost use Rattle.egt_graph.specs.Undecided.{HasKnown, HasMarks};
@@ -66,7 +68,7 @@ impl<'g, G: Game> Model for Rounds<'g, G> {
 
     ghost invariant = { λ s. IsRun (G.graph s.game.now)
         (record { limit = s.limit; round = s.round; phase = s.phase; posted = s.posted.items })
-        s.entries.items s.waits.items s.later.items s.lost.items s.lost_due s.won_due
+        s.entries.items (told (G.graph s.game.now) s.waits.items) s.later.items s.lost.items s.lost_due s.won_due
         × HasNews (G.graph s.game.now).size s.phase s.round s.entries.items s.news.items s.coming.items
         × HasMarks (G.graph s.game.now) s.phase s.entries.items s.marks.items
         × HasKnown (G.graph s.game.now) s.known.items };
@@ -83,7 +85,7 @@ impl<'g, G: Game> Rounds<'g, G> {
         Ok(rounds)
     }
 
-    /// The same, with a count a number of the moves that leave the game, where `telling`.
+    /// The same, with what is told of the moves of each node, where `telling`.
     pub(crate) fn counted(
         alloc: Global,
         game: &'g G,
@@ -103,13 +105,13 @@ impl<'g, G: Game> Rounds<'g, G> {
             lost_due,
             won_due,
             counts,
-            known,
         } = begin(alloc, game, telling)?;
         let blocks = (game.size() as usize + (BLOCK - 1)) / BLOCK;
         let posted = vec![in alloc; false; blocks]?;
         let parts = (game.size() as usize + (PART - 1)) / PART;
         let news = vec![in alloc; true; parts]?;
         let coming = vec![in alloc; false; parts]?;
+        let known = marks_up_to(alloc, &entries, u16::MAX)?;
         let marks = marks_up_to(alloc, &entries, DRAW)?;
         let rounds = Rounds {
             game,
@@ -287,6 +289,7 @@ impl<'g, G: Game> Rounds<'g, G> {
             return Close::NotAll;
         }
         let unsettled = fall_due(
+            self.game,
             &mut self.entries,
             &mut self.waits,
             &mut self.coming,

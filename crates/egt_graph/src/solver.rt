@@ -55,7 +55,7 @@ impl From<AllocError> for SolveFault {
 }
 
 /// The rank of every node, where none is above `limit`, which is at most 32,000. The game is asked for the moves into a
-/// node twice at most, to count them and to take them back, and for no moves out of one.
+/// node once, and for no moves out of one.
 pub fn solve<G: Game>(alloc: Global, game: &G, limit: u16) -> Result<Ranks, SolveFault>
     requires { limit ≤ 32000 }
     ensures ok { IfOk result (AreRanks (G.graph game.now) limit) }
@@ -64,8 +64,8 @@ pub fn solve<G: Game>(alloc: Global, game: &G, limit: u16) -> Result<Ranks, Solv
     finish(alloc, Rounds::new(alloc, game, limit)?)
 }
 
-/// What `solve` answers, with a count a number: how many moves of the node leave the game, of each sort. A game with the same moves need
-/// not count them again.
+/// What `solve` answers, with a count a number: how many moves the node has of each sort. A game with the same moves need not count them
+/// again.
 pub fn solve_and_count<G: Game>(
     alloc: Global,
     game: &G,

@@ -4,7 +4,7 @@ ghost use Rattle.std.specs.List.{Contains};
 ghost use Rattle.std.specs.List.Sorted.{IsStrictlyIncreasing};
 ghost use Rattle.egt_graph.specs.Graph.{IsAlike, IsNode};
 ghost use Rattle.egt_graph.specs.Frontier.{front};
-ghost use Rattle.egt_graph.specs.Columns.{into_all, Amid, Marks, TakesBack, count_of, done_of, is_open_at};
+ghost use Rattle.egt_graph.specs.Columns.{told, into_all, Amid, Marks, TakesBack, count_of, done_of, is_open_at};
 ghost use Rattle.egt_graph.specs.News.{Notes};
 ghost use Rattle.egt_graph.specs.Undecided.{AreKnown, AreMarked, AreOfNodes, IsMarked};
 
@@ -15,9 +15,9 @@ use crate::game::Game;
 use crate::marks::unmark;
 use arrayvec::ArrayVec;
 
-/// Takes back the moves into the nodes of a batch, and ticks its block. The columns are of `_game`, which the contract alone reads.
+/// Takes back the moves into the nodes of a batch, and ticks its block. The columns are of the game.
 pub(crate) fn take_in<G: Game>(
-    _game: &G,
+    game: &G,
     entries: &mut [u16],
     waits: &mut [u8],
     coming: &mut [bool],
@@ -26,16 +26,16 @@ pub(crate) fn take_in<G: Game>(
     round: u16,
 )
     requires short { round ≤ 32000 }
-    requires alike { IsAlike (G.graph _game.now) (G.graph batch.now.game) }
-    requires whole { batch.now.nodes ≡ front (G.graph _game.now) round batch.now.block }
+    requires alike { IsAlike (G.graph game.now) (G.graph batch.now.game) }
+    requires whole { batch.now.nodes ≡ front (G.graph game.now) round batch.now.block }
     requires in_range { batch.now.block < length posted.old }
     requires fresh { IsFalse (slice_index_or posted.old batch.now.block false) }
-    requires entries_long { length entries.old ≡ (G.graph _game.now).size }
-    requires waits_long { length waits.old ≡ (G.graph _game.now).size }
-    requires amid { Amid (G.graph _game.now) round (done_of posted.old) round round entries.old waits.old }
+    requires entries_long { length entries.old ≡ (G.graph game.now).size }
+    requires waits_long { length waits.old ≡ (G.graph game.now).size }
+    requires amid { Amid (G.graph game.now) round (done_of posted.old) round round entries.old (told (G.graph game.now) waits.old) }
     requires room { length entries.old ≤ 64 * length coming.old }
     ensures ticked { posted.new ≡ slice_set posted.old batch.now.block true }
-    ensures amid { Amid (G.graph _game.now) round (done_of posted.new) round round entries.new waits.new }
+    ensures amid { Amid (G.graph game.now) round (done_of posted.new) round round entries.new (told (G.graph game.now) waits.new) }
     ensures coming { Notes (round + 1) entries.old coming.old → Notes (round + 1) entries.new coming.new }
     ensures marked { (marks : List ℕ) → AreMarked entries.old marks → AreMarked entries.new marks }
 {
@@ -43,7 +43,7 @@ pub(crate) fn take_in<G: Game>(
     for k in 0..nodes.len() {
         let sources = batch.targets(k);
         if entries[nodes[k] as usize] == 2 + 2 * round {
-            take_back(entries, waits, coming, sources, round + 1);
+            take_back(game, entries, waits, coming, sources, round + 1);
         } else {
             mark_wins(entries, coming, sources, round + 1);
         }
@@ -112,17 +112,16 @@ fn take_sources<G: Game>(
     requires short { plies ≤ 32001 }
     requires entries_long { length entries.old ≡ (G.graph game.now).size }
     requires matched { length waits.old ≡ length entries.old }
-    requires waited { (i : ℕ) → count_of i (into_all (G.graph game.now) nodes.now) ≤ slice_index waits.old i }
+    requires waited { (i : ℕ) → count_of i (into_all (G.graph game.now) nodes.now) ≤ slice_index (told (G.graph game.now) waits.old) i }
     requires room { length entries.old ≤ 64 * length coming.old }
     requires known_room { length entries.old + 128 ≤ 64 * length known.now }
     requires known { AreKnown (G.graph game.now) known.now }
-    ensures takes { TakesBack entries.old waits.old (into_all (G.graph game.now) nodes.now) plies entries.new waits.new }
+    ensures takes { TakesBack entries.old (told (G.graph game.now) waits.old) (into_all (G.graph game.now) nodes.now) plies entries.new (told (G.graph game.now) waits.new) }
     ensures news { Notes plies entries.old coming.old → Notes plies entries.new coming.new }
 {
-    let _size = game.size();
     game.combs_into(nodes, known, combs, sources);
-    take_back_combs(entries, waits, coming, combs.as_slice(), plies);
-    take_back(entries, waits, coming, sources.as_slice(), plies);
+    take_back_combs(game, entries, waits, coming, combs.as_slice(), plies);
+    take_back(game, entries, waits, coming, sources.as_slice(), plies);
 }
 
 /// The most nodes of which the game is asked at once.
@@ -171,7 +170,7 @@ pub(crate) fn take_block<G: Game>(
     requires fresh { IsFalse (slice_index_or posted.old block false) }
     requires entries_long { length entries.old ≡ (G.graph game.now).size }
     requires waits_long { length waits.old ≡ (G.graph game.now).size }
-    requires amid { Amid (G.graph game.now) round (done_of posted.old) round round entries.old waits.old }
+    requires amid { Amid (G.graph game.now) round (done_of posted.old) round round entries.old (told (G.graph game.now) waits.old) }
     requires room { length entries.old ≤ 64 * length coming.old }
     requires known_room { length entries.old + 128 ≤ 64 * length known.now }
     requires known { AreKnown (G.graph game.now) known.now }
@@ -179,7 +178,7 @@ pub(crate) fn take_block<G: Game>(
     requires of_nodes { AreOfNodes (G.graph game.now) marks.old }
     requires marked { AreMarked entries.old marks.old }
     ensures ticked { posted.new ≡ slice_set posted.old block true }
-    ensures amid { Amid (G.graph game.now) round (done_of posted.new) round round entries.new waits.new }
+    ensures amid { Amid (G.graph game.now) round (done_of posted.new) round round entries.new (told (G.graph game.now) waits.new) }
     ensures coming { Notes (round + 1) entries.old coming.old → Notes (round + 1) entries.new coming.new }
     ensures of_nodes { AreOfNodes (G.graph game.now) marks.new }
     ensures marked { AreMarked entries.new marks.new }
@@ -220,7 +219,8 @@ pub(crate) fn take_block<G: Game>(
 }
 
 /// The exits of number `round` fall due. Is some node then decided in one ply more, or yet to be decided by its exits?
-pub(crate) fn fall_due(
+pub(crate) fn fall_due<G: Game>(
+    game: &G,
     entries: &mut [u16],
     waits: &mut [u8],
     coming: &mut [bool],
@@ -232,26 +232,28 @@ pub(crate) fn fall_due(
 ) -> bool
     requires short { round ≤ 32000 }
     requires losses_within { All (λ i. i < length entries.old) losses.now }
-    requires wins_within { All (λ i. i < length entries.old) wins.now }
+    requires wins_are_nodes { All (IsNode (G.graph game.now)) wins.now }
+    requires leaving { (i : ℕ) → 0 < slice_index later.old i → IsNode (G.graph game.now) i }
+    requires entries_long { length entries.old ≡ (G.graph game.now).size }
     requires waits_long { length waits.old ≡ length entries.old }
     requires later_long { length later.old ≡ length entries.old }
     requires lost_long { length lost.now ≡ length entries.old }
-    requires waited { (i : ℕ) → count_of i wins.now ≤ slice_index waits.old i }
+    requires waited { (i : ℕ) → count_of i wins.now ≤ slice_index (told (G.graph game.now) waits.old) i }
     requires counted { (i : ℕ) → count_of i wins.now ≤ slice_index later.old i }
     requires room { length entries.old ≤ 64 * length coming.old }
     ensures columns { (middle : List ℕ)
         × Marks entries.old losses.now (round + 1) middle
-        × TakesBack middle waits.old wins.now (round + 1) entries.new waits.new }
+        × TakesBack middle (told (G.graph game.now) waits.old) wins.now (round + 1) entries.new (told (G.graph game.now) waits.new) }
     ensures later { (i : ℕ) → slice_index later.new i + count_of i wins.now ≡ slice_index later.old i }
     ensures coming { Notes (round + 1) entries.old coming.old → Notes (round + 1) entries.new coming.new }
     ensures still_open { MatchBool result
-        ((i : ℕ) × IsTrue (is_open_at (round + 1) entries.new waits.new later.new lost.now i))
-        ((i : ℕ) → i < length entries.new → IsFalse (is_open_at (round + 1) entries.new waits.new later.new lost.now i)) }
+        ((i : ℕ) × IsTrue (is_open_at (round + 1) entries.new (told (G.graph game.now) waits.new) later.new lost.now i))
+        ((i : ℕ) → i < length entries.new → IsFalse (is_open_at (round + 1) entries.new (told (G.graph game.now) waits.new) later.new lost.now i)) }
 {
     mark_wins(entries, coming, losses, round + 1);
-    take_back(entries, waits, coming, wins, round + 1);
+    take_back(game, entries, waits, coming, wins, round + 1);
     count_down(later, wins);
-    any_open(entries, waits, later, lost, coming, round + 1)
+    any_open(game, entries, waits, later, lost, coming, round + 1)
 }
 
 /// Are all flags set?

@@ -3,4 +3,3 @@ mod hand_made;
 mod orders;
 mod places;
 mod refused;
-mod tallies;

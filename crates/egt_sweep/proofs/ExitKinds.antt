@@ -19,10 +19,8 @@ use Rattle.egt_board.specs.declared.man.Kind.{Kind}
 use Rattle.egt_board.specs.declared.man.Kind.TheVariants.{Q, R, B, N, P, K}
 use Rattle.egt_moves.specs.declared.chess_move.Move.{Move}
 use Rattle.egt_graph.specs.Columns.{is_win_from, is_loss}
-use Rattle.egt_graph.specs.Counts.{is_draw}
-use Rattle.egt_graph.specs.Counts.{IsCount}
-use Rattle.egt_graph.specs.Graph.{AreLike}
-use Rattle.egt_graph.specs.Graph.{IsStart}
+use Rattle.egt_graph.specs.Counts.{is_draw, IsCount}
+use Rattle.egt_graph.specs.Graph.{IsStart, AreLike}
 use Rattle.egt_graph.specs.Passing.{passing_below}
 use Rattle.egt_graph.specs.declared.counts.Count.{Count}
 use Rattle.egt_graph.specs.declared.game.Exit.{Exit}
@@ -40,7 +38,7 @@ use Rattle.egt_sweep.proofs.Linked.{position_is, goes_is, connects_is}
 use Rattle.egt_sweep.proofs.OutOfClass.{shown_is, beside_other}
 use Rattle.egt_sweep.proofs.Starting.{here}
 use Rattle.egt_sweep.proofs.Staying.{quiet_goes_on}
-use Rattle.egt_sweep.proofs.Telling.{MovesNoPawn, quiet, nothing_of}
+use Rattle.egt_sweep.proofs.Telling.{MovesNoPawn, there, quiet, same_edges, passing_same, unmated, nothing_of}
 
 -- ---- lists of exits
 
@@ -266,14 +264,15 @@ module _ (laws : Laws) (tables : Tables) (c : ℕ) (c_in : c < 36) (mates : List
           ∙ sym (ap (λ (o : Option Setup). map zeroed (option_to_list (exit_by tables Mate c p m o)) ++ option_to_list (staying_exit other c p m o)) e)
 
   -- the exits of a position, by what the game of mates told of it
-  module _ (i : ℕ) (at : IsAt c i p) (count : Count) (told : IsCount (class_game tables Mate c) i count) where
+  module _ (i : ℕ) (at : IsAt c i p) (count : Count) (told : IsCount (class_game tables Mate c) i count) (small : count.moves < 255) where
     zeroed_told : (test : Exit → Bool) → count_by test (map zeroed (exits_by tables Mate c p (moves_of p))) ≡ count_by test (zeroed_exits count)
     unfolding exits_at
     zeroed_told test =
+        let is = told small in
         let mine : exits_at tables Mate c i ≡ exits_by tables Mate c p (moves_of p) = ap (exits_from tables Mate c) (here laws c i p at) in
-        let wins = same_if (test (Win 0)) _ _ (sym (ap (count_by (is_win_from 0)) mine) ∙ told.wins) in
-        let losses = same_if (test (Loss 0)) _ _ (sym (ap (count_by is_loss) mine) ∙ told.losses) in
-        let draws = same_if (test Draw) _ _ (sym (ap (count_by is_draw) mine) ∙ told.draws) in
+        let wins = same_if (test (Win 0)) _ _ (sym (ap (count_by (is_win_from 0)) mine) ∙ is.3) in
+        let losses = same_if (test (Loss 0)) _ _ (sym (ap (count_by is_loss) mine) ∙ is.4) in
+        let draws = same_if (test Draw) _ _ (sym (ap (count_by is_draw) mine) ∙ is.5) in
         let kinds = kinds_counted test (exits_by tables Mate c p (moves_of p)) in
         let counted = count_zeroed test count in
         omega (arith, wins, losses, draws, kinds, counted)
@@ -288,8 +287,27 @@ module _ (laws : Laws) (tables : Tables) (c : ℕ) (c_in : c < 36) (mates : List
         omega (arith, both, told_here, apart, mine)
 
     -- where no pawn may move nothing stays and zeroes
-    pub told_start : MovesNoPawn c i → AreLike (zeroed_exits count) (exits_at other Zeroing c i)
-    told_start no_pawn = λ test. ap (count_by test) (sym (append-nil (zeroed_exits count)) ∙ ap (λ es. zeroed_exits count ++ es) (sym none)) ∙ exits_like test
+    pub told_start : 0 < count.moves + count.wins + count.losses + count.draws → MovesNoPawn c i → IsStart (class_game other Zeroing c) i (Some (record { mated = false; degree = Some count.moves })) (zeroed_exits count)
+    told_start some no_pawn = record {
+      node = (
+        (told small).0,
+        sym (unmated tables c i count (laws.facts.index_below p c i at.index) told small some),
+        (sym (told small).1 ∙ sym (ap length edges), (told small).2),
+        λ test. ap (count_by test) (sym (append-nil (zeroed_exits count)) ∙ ap (λ es. zeroed_exits count ++ es) (sym none)) ∙ exits_like test,
+      );
+      void = tt;
+    }
       where
+        all : (m : Move) (q : Setup) → Leads p m q → GoesOn Mate c p m q → GoesOn Zeroing c p m q
+        all = quiet laws tables c i c_in p at no_pawn
+
         none : staying_exits other c p (moves_of p) ≡ []
-        none = nothing_of (λ m. option_to_list (staying_exit other c p m (played p m))) (λ m. no_stay laws c p ok other m (quiet laws tables c i c_in p at no_pawn m)) (moves_of p)
+        none = nothing_of (λ m. option_to_list (staying_exit other c p m (played p m))) (λ m. no_stay laws c p ok other m (all m)) (moves_of p)
+
+        edges : passing_below (size_of c) (λ j. connects Zeroing c i j) ≡ passing_below (size_of c) (λ j. connects Mate c i j)
+        edges =
+            let alike = same_edges laws tables c i c_in p at all in
+            passing_same (size_of c) (λ j. connects Zeroing c i j) (λ j. connects Mate c i j) (λ k lt. (
+              λ is. (connects_is laws Mate c i k c_in).1 ((alike k).1 ((connects_is laws Zeroing c i k c_in).0 is)),
+              λ is. (connects_is laws Zeroing c i k c_in).1 ((alike k).0 ((connects_is laws Mate c i k c_in).0 is)),
+            ))

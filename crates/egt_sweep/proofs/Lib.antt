@@ -2,7 +2,6 @@ pub mod Linked
 pub mod OneBefore
 pub mod Combed
 pub mod AtNode
-pub mod StaysIn
 pub mod Putting
 pub mod Staying
 pub mod Collecting

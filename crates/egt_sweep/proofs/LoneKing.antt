@@ -36,13 +36,22 @@ use Rattle.egt_sweep.specs.Ways.{Stays, WaitsAlone}
 use Rattle.egt_table.specs.declared.column.Column.TheVariants.{Mate}
 use Rattle.egt_sweep.proofs.Onward.{unpromoted, pawn_stays}
 use Rattle.egt_sweep.proofs.OutOfClass.{nothing_told}
+use Rattle.egt_sweep.proofs.Starting.{not_told, here, no_void}
 use Rattle.egt_sweep.proofs.Staying.{quiet_goes_on}
 use Rattle.egt_sweep.proofs.Telling.{nothing_of}
 use Rattle.egt_sweep.proofs.Walked.{from_none}
 
+-- kings attack each other
+abbrev pub BothAttack : Type 0
+BothAttack = (men others : Placement) (side other : Side) (s t : ℕ) → s < 64 → Reaches (IsFree men) (king_of side) s t → Reaches (IsFree others) (king_of other) t s
+
 sides_differ : (a : Side) → a ≡ other_side a → ⊥
 sides_differ White e = let no = e in cc
 sides_differ Black e = let no = e in cc
+
+side_twice : (a : Side) → a ≡ other_side (other_side a)
+side_twice White = refl
+side_twice Black = refl
 
 pawn_is_no_king : P ≡ K → ⊥
 pawn_is_no_king e = let n = ap kind_number e in omega (arith, n)
@@ -105,10 +114,61 @@ module _ (laws : Laws) (p : Setup) (ok : IsAdmissible p) (alone : WaitsAlone p) 
   no_capture m q leads (inl held) = king_stays m q leads held
   no_capture m q leads (inr passing) = target_none p.target refl m.to passing.1
 
+  -- and attacks no king
+  never_mated : BothAttack → IsCheckmate p → ⊥
+  never_mated both mate =
+      let attack = mate.check.attacked in
+      let waits = king_held attack.from attack.man attack.stands attack.theirs in
+      let is = one_man p.men attack.from attack.man (king_of (other_side p.side)) attack.stands waits in
+      let reaches : Reaches (IsFree p.men) (king_of (other_side p.side)) attack.from mate.check.square =
+      subst (λ (x : Man). Reaches (IsFree p.men) x attack.from mate.check.square) is attack.reaches in
+      ok.quiet (record {
+        square = attack.from;
+        stands = waits;
+        attacked = record {
+          from = mate.check.square;
+          man = king_of p.side;
+          stands = mate.check.stands;
+          theirs = side_twice p.side;
+          reaches = both p.men p.men (other_side p.side) p.side attack.from mate.check.square (ok.on_board attack.from attack.man attack.stands) reaches;
+        };
+      })
+
   -- so what no pawn moves goes on
   module _ (c : ℕ) (c_in : c < 36) (of : (flipped : Bool) × IsOf c flipped p) (tables : Tables) (column : Column) where
     piece_goes_on : (m : Move) (q : Setup) → Leads p m q → (IsPawnOn p.men m.from → ⊥) → GoesOn column c p m q
     piece_goes_on m q leads piece = quiet_goes_on laws c column p q m c_in ok of leads (λ zeroes. elim zeroes [ inl held ↦ king_stays m q leads held | inr pawn ↦ piece pawn ])
+
+    pub piece_stays_in : (from : ℕ) (man : Man) → Stands p.men from man → man.kind ≢ P → exits_by tables column c p (moves_from from 64) ≡ []
+    piece_stays_in from man stands piece =
+        from_none (λ m. option_to_list (exit_by tables column c p m (played p m))) from (λ to promo. nothing_told laws tables column c p (record { from = from; to = to; promo = promo }) ok
+        (λ q leads. piece_goes_on (record { from = from; to = to; promo = promo }) q leads (λ pawn. piece (ap (λ (x : Man). x.kind) (one_man p.men from man pawn.man stands pawn.stands) ∙ pawn.pawn))))
+
+    -- and a pawn that none of its advances promotes
+    pub pawn_stays_in : (from : ℕ) (man : Man) → Stands p.men from man → man.kind ≡ P → column ≡ Mate → ((t : ℕ) → Advances (IsFree p.men) man.side from t → Stays p man t)
+        → exits_by tables column c p (moves_from from 64) ≡ []
+    pawn_stays_in from man stands pawn mate stays =
+        from_none (λ m. option_to_list (exit_by tables column c p m (played p m))) from (λ to promo. nothing_told laws tables column c p (record { from = from; to = to; promo = promo }) ok
+        (λ q leads. subst (λ (col : Column). GoesOn col c p (record { from = from; to = to; promo = promo }) q) (sym mate) (goes_on_by (record { from = from; to = to; promo = promo }) q leads
+        (one_man p.men from man leads.man stands leads.stands) refl)))
+      where
+        arrives : (m : Move) (q : Setup) (leads : Leads p m q) → man ≡ leads.man → m.from ≡ from → Stays p man m.to
+        arrives m q leads same here = elim leads.goes [
+          | inl piece ↦ absurd (piece.piece (ap (λ (x : Man). x.kind) (sym same) ∙ pawn))
+          | inr goes ↦ elim goes [
+            | inl advances ↦ stays m.to (subst (λ s. Advances (IsFree p.men) man.side s m.to) here (subst (λ (x : Man). Advances (IsFree p.men) x.side m.from m.to) (sym same) advances.advances))
+            | inr takes ↦ absurd (elim takes.takes [
+              | inl held ↦ king_stays m q leads held
+              | inr passed ↦ target_none p.target refl m.to passed
+            ])
+          ]
+        ]
+
+        goes_on_by : (m : Move) (q : Setup) (leads : Leads p m q) → man ≡ leads.man → m.from ≡ from → GoesOn Mate c p m q
+        goes_on_by m q leads same here =
+            let rank = (arrives m q leads same here).0 in
+            let none = unpromoted (promotes leads.man m.to) m.promo (subst (λ (x : Man). promotes x m.to ≡ false) same (pawn_stays man m.to rank)) leads.promotion in
+            laws.facts.some_index q c of.0 c_in (laws.facts.step_admissible p q m ok leads) (laws.quiet_class p q m c of.0 ok of.1 leads (no_capture m q leads) none)
 
     pub pieces_stay_in : ((s : ℕ) → Stands p.men s (pawn_of p.side) → ⊥) → exits_from tables column c (Some p) ≡ []
     pieces_stay_in none =
@@ -119,3 +179,19 @@ module _ (laws : Laws) (p : Setup) (ok : IsAdmissible p) (alone : WaitsAlone p) 
       where
         pawn_told : (man : Man) (side : Side) → man.side ≡ side → man.kind ≡ P → man ≡ pawn_of side
         pawn_told man side e f = ap (λ (s : Side). record { side = s; kind = man.kind }) e ∙ ap (λ (k : Kind). record { side = side; kind = k }) f
+
+-- what is told of such a node
+pub faced : (laws : Laws) → BothAttack → (tables : Tables) (column : Column) (c i : ℕ) (p : Setup) → IsAt c i p → WaitsAlone p → (exits : List _) → exits ≡ exits_from tables column c (Some p)
+    → IsStart (class_game tables column c) i (Some (record { mated = false; degree = None })) exits
+unfolding exits_at
+faced laws both tables column c i p at alone exits told =
+    let found = here laws c i p at in
+    record {
+      node = (
+        no_void laws c i p at,
+        not_told (decided_checkmate p) (never_mated laws p at.spells.admissible alone both) ∙ sym (ap is_mated found),
+        tt,
+        λ test. ap (count_by test) (told ∙ ap (exits_from tables column c) (sym found)),
+      );
+      void = tt;
+    }

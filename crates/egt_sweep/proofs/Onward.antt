@@ -29,7 +29,7 @@ use Rattle.egt_table.specs.declared.column.Column.{Column}
 use Rattle.egt_table.specs.declared.column.Column.TheVariants.{Mate, Zeroing}
 use Rattle.egt_sweep.specs.Edges.{GoesOn, LeadsOn}
 use Rattle.egt_sweep.specs.Laws.{Laws}
-use Rattle.egt_sweep.specs.Ways.{Stays, IsStep, IsOnward}
+use Rattle.egt_sweep.specs.Ways.{Stays, IsStep, IsOnward, HasAnchor}
 use Rattle.egt_sweep.proofs.Staying.{quiet_goes_on, no_promotion}
 
 -- ---- what is promoted
@@ -292,3 +292,51 @@ module _ (laws : Laws) (c : ℕ) (p : Setup) (c_in : c < 36) (ok : IsAdmissible 
   -- in the game of zeroing moves no pawn's move goes on
   pub no_pawn_on : (q : Setup) (m : Move) (man : Man) → Stands p.men m.from man → man.kind ≡ P → GoesOn Zeroing c p m q → ⊥
   no_pawn_on q m man stands pawn on = on (inr (record { man = man; stands = stands; pawn = pawn }))
+
+  -- ---- two moves, two indexes
+
+  module _ (column : Column) (anchor : HasAnchor c p)
+      (one : (c i k : ℕ) (flipped : Bool) (man : Man) (p q : Setup) → IsAdmissible p → IsAdmissible q → IsOf c flipped p → IsIndex c p i → IsIndex c q i →
+      p.side ≡ q.side → StandsAlone p.men man k → StandsAlone q.men man k → is_on_axis c k ≡ false → (r : Setup) × SettlesTo p r × SettlesTo q r) where
+    settled_men : (q r : Setup) → SettlesTo q r → r.men ≡ q.men
+    settled_men q r (inl settled) = ap (λ (x : Setup). x.men) settled.1
+    settled_men q r (inr other) = ap (λ (x : Setup). x.men) other.1
+
+    anchor_there : (q : Setup) (m : Move) → (leads : Leads p m q) → GoesOn column c p m q → StandsAlone q.men anchor.man anchor.square
+    anchor_there q m leads on = subst (λ (men : Placement). StandsAlone men anchor.man anchor.square) (sym (men_moved p q m leads (on_quiet column q m leads on) (on_plain column q m leads on)))
+        (stays_alone p.men m.from m.to leads.man leads.stands (arrives_free p q m leads (on_quiet column q m leads on)) anchor.man anchor.square (λ e. others_differ p.side (sym leads.mine ∙ e ∙ anchor.waits)) anchor.alone)
+
+    same_men : (q r : Setup) (m n : Move) (i : ℕ) → (leads : Leads p m q) → GoesOn column c p m q → IsIndex c q i → (leads' : Leads p n r) → GoesOn column c p n r → IsIndex c r i → q.men ≡ r.men
+    same_men q r m n i leads on is leads' on' is' =
+        let q_ok = laws.facts.step_admissible p q m ok leads in
+        let r_ok = laws.facts.step_admissible p r n ok leads' in
+        let own = laws.indexed_class q c i q_ok is in
+        let settled = one c i anchor.square own.0 anchor.man q r q_ok r_ok own.1 is is' (ap (λ (x : Setup). x.side) leads.becomes ∙ sym (ap (λ (x : Setup). x.side) leads'.becomes))
+        (anchor_there q m leads on) (anchor_there r n leads' on') anchor.aside in
+        sym (settled_men q settled.0 settled.1) ∙ settled_men r settled.0 settled.2
+
+    -- moves that lead on to one index leave one square
+    pub one_from : (m n : Move) (i : ℕ) → LeadsOn column c p m i → LeadsOn column c p n i → m.from ≢ n.from → ⊥
+    one_from m n i (q, leads, on, is) (r, leads', on', is') apart =
+        let same = same_men q r m n i leads on is leads' on' is' in
+        let free = arrives_free p q m leads (on_quiet column q m leads on) in
+        let free' = arrives_free p r n leads' (on_quiet column r n leads' on') in
+        let here : map.get q.men m.from ≡ None = ap (λ (men : Placement). map.get men m.from) (men_moved p q m leads (on_quiet column q m leads on) (on_plain column q m leads on)) ∙ gone_from p.men m.from m.to leads.man leads.stands free in
+        let there : map.get r.men m.from ≡ Some leads.man = ap (λ (men : Placement). map.get men m.from) (men_moved p r n leads' (on_quiet column r n leads' on') (on_plain column r n leads' on'))
+        ∙ elsewhere p.men n.from n.to leads'.man leads'.stands free' m.from apart (λ e. let both : Some leads.man ≡ None = sym leads.stands ∙ ap (map.get p.men) e ∙ free' in cc) ∙ leads.stands in
+        let both : None ≡ Some leads.man = sym here ∙ ap (λ (men : Placement). map.get men m.from) same ∙ there in cc
+
+    -- and arrive on one
+    pub one_to : (m n : Move) (i : ℕ) → LeadsOn column c p m i → LeadsOn column c p n i → m.to ≢ n.to → ⊥
+    one_to m n i (q, leads, on, is) (r, leads', on', is') apart =
+        let same = same_men q r m n i leads on is leads' on' is' in
+        let free = arrives_free p q m leads (on_quiet column q m leads on) in
+        let free' = arrives_free p r n leads' (on_quiet column r n leads' on') in
+        let here : map.get q.men m.to ≡ Some leads.man = ap (λ (men : Placement). map.get men m.to) (men_moved p q m leads (on_quiet column q m leads on) (on_plain column q m leads on)) ∙ come_to p.men m.from m.to leads.man leads.stands free in
+        let there : map.get r.men m.to ≡ None = ap (λ (men : Placement). map.get men m.to) (men_moved p r n leads' (on_quiet column r n leads' on') (on_plain column r n leads' on'))
+        ∙ still_free p.men n.from n.to leads'.man leads'.stands free' m.to apart free in
+        let both : Some leads.man ≡ None = sym here ∙ ap (λ (men : Placement). map.get men m.to) same ∙ there in cc
+
+-- a side with a legal target can move
+pub can_move : (p : Setup) (from t : ℕ) → IsLegalTarget p from t → CanMove p
+can_move p from t target = record { move = record { from = from; to = t; promo = target.0 }; legal = target.1 }

@@ -14,13 +14,11 @@ use Rattle.egt_moves.specs.DecidedMoves.{decided_checkmate}
 use Rattle.egt_moves.specs.Legal.{Leads}
 use Rattle.egt_moves.specs.Standing.{IsCheckmate, CanMove}
 use Rattle.egt_moves.specs.declared.chess_move.Move.{Move}
-use Rattle.egt_graph.specs.Graph.{AreLike}
 use Rattle.egt_graph.specs.Graph.{IsStart}
 use Rattle.egt_graph.specs.Passing.{passing_below}
 use Rattle.egt_graph.specs.declared.game.Exit.{Exit}
+use Rattle.egt_graph.specs.declared.game.Start.{Start}
 use Rattle.egt_table.specs.declared.column.Column.{Column}
-use Rattle.std.proofs.lemmas.Bool.{false≢true}
-use Rattle.egt_sweep.specs.ClassGame.{class_game}
 use Rattle.egt_check.specs.Tables.{Tables}
 use Rattle.egt_sweep.specs.Aiming.{column_of, game_of, known}
 use Rattle.egt_sweep.specs.declared.aim.Aim.{Aim}
@@ -28,6 +26,7 @@ use Rattle.egt_sweep.specs.Edges.{IsAt, GoesOn, LeadsOn, Connects}
 use Rattle.egt_sweep.specs.Laws.{Laws}
 use Rattle.egt_sweep.specs.MateColumn.{IsMateColumn}
 use Rattle.egt_sweep.specs.Nodes.{position_at, is_mated, connects, exits_at, exits_from}
+use Rattle.egt_sweep.specs.Ways.{Counts}
 use Rattle.egt_sweep.proofs.Linked.{position_is, there_is, void_is}
 use Rattle.egt_sweep.proofs.Standing.{edges_told}
 
@@ -35,30 +34,49 @@ pub not_told : {P : Type 0} (d : Decided P) → (P → ⊥) → false ≡ tells 
 not_told (inl h) never = absurd (never h)
 not_told (inr h) never = refl
 
+pub no_mate_with_a_move : (p : Setup) → CanMove p → IsCheckmate p → ⊥
+no_mate_with_a_move p can mate = mate.stuck can.move can.legal
+
 module _ (laws : Laws) (c i : ℕ) (p : Setup) (at : IsAt c i p) where
+  -- so many indexes as moves lead on to are those of the edges
+  pub counted_edges : (column : Column) (n : ℕ) → c < 36 → (none : SquareSet) → ((s : ℕ) → bit_at none.bits s ≡ 0) → Counts column c p none n → n ≡ length (passing_below (size_of c) (λ j. connects column c i j))
+  counted_edges column n below none empty counts =
+      sym counts.length_is ∙ ap length (edges_told laws c i column counts.list below counts.ascends (λ k. (
+        λ has. let m = (counts.members k).0 has in record { from = p; at = at; move = m.0; to = m.2.0; leads = m.2.1; on = m.2.2; index = m.2.3 },
+        λ edge. (counts.members k).1 (led k edge),
+      )))
+    where
+      led : (k : ℕ) → Connects column c i k → (m : Move) × (bit_at none.bits m.from ≡ 0) × LeadsOn column c p m k
+      led k edge =
+          let e : edge.from ≡ p = laws.one_spelled c i edge.from p edge.at.spells at.spells in
+          (edge.move, empty edge.move.from, (edge.to, subst (λ x. Leads x edge.move edge.to) e edge.leads, subst (λ x. GoesOn column c x edge.move edge.to) e edge.on, edge.index))
+
   pub here : position_at c i ≡ Some p
   here = (position_is laws c i p).1 at
 
   pub no_void : not (is_some (position_at c i)) ≡ false
   no_void = ap not (there_is laws c i p at)
 
--- exits like those of the position at a node are what the graph tells of the node
-pub started_like : (laws : Laws) (tables : Tables) (column : Column) (c i : ℕ) (p : Setup) → IsAt c i p → (exits : List Exit) → AreLike exits (exits_at tables column c i) → IsStart (class_game tables column c) i true exits
-started_like laws tables column c i p at exits like = record {
-  node = λ is. (no_void laws c i p at, like);
-  void = λ is. absurd (false≢true (sym is));
-}
-
-pub started : (laws : Laws) (tables : Tables) (aim : Aim) (c i : ℕ) (p : Setup) → IsAt c i p → (exits : List Exit) →
-    exits ≡ exits_from (known tables c aim) (column_of aim) c (Some p) → IsStart (game_of tables c aim) i true exits
+-- what is told of the position at a node is what the graph tells of the node
+pub started : (laws : Laws) (tables : Tables) (aim : Aim) (c i : ℕ) (p : Setup) → IsAt c i p → (start : Start) (exits : List Exit) →
+    start.mated ≡ tells (decided_checkmate p) → IfSome start.degree (λ n. (n ≡ length (passing_below (size_of c) (λ j. connects (column_of aim) c i j))) × (n ≤ 64)) →
+    exits ≡ exits_from (known tables c aim) (column_of aim) c (Some p) → IsStart (game_of tables c aim) i (Some start) exits
 unfolding exits_at
-started laws tables aim c i p at exits told =
-    started_like laws (known tables c aim) (column_of aim) c i p at exits
-    (λ test. ap (count_by test) (told ∙ ap (exits_from (known tables c aim) (column_of aim) c) (sym (here laws c i p at))))
+started laws tables aim c i p at start exits mate counted told =
+    let found = here laws c i p at in
+    record {
+      node = (
+        no_void laws c i p at,
+        mate ∙ sym (ap is_mated found),
+        counted,
+        λ test. ap (count_by test) (told ∙ ap (exits_from (known tables c aim) (column_of aim) c) (sym found)),
+      );
+      void = tt;
+    }
 
 -- nothing is told where no position is
-pub unstarted : (tables : Tables) (aim : Aim) (c i : ℕ) → not (is_some (position_at c i)) ≡ true → (exits : List Exit) → exits ≡ [] → IsStart (game_of tables c aim) i false exits
-unstarted tables aim c i void exits empty = record { node = λ is. absurd (false≢true is); void = λ is. (void, empty) }
+pub unstarted : (tables : Tables) (aim : Aim) (c i : ℕ) → not (is_some (position_at c i)) ≡ true → (exits : List Exit) → exits ≡ [] → IsStart (game_of tables c aim) i None exits
+unstarted tables aim c i void exits empty = record { node = tt; void = (void, empty) }
 
 pub no_node : (laws : Laws) (c i : ℕ) → IsVoid c i → not (is_some (position_at c i)) ≡ true
 no_node laws c i void = ap not (void_is laws c i void)

@@ -1,4 +1,4 @@
--- A man's moves that go on, and who moves none.
+-- One man's moves, counted beside those of the men before.
 use Rattle.std.proofs.Common.{◌≡◌, ◌≢◌, ℕ, ◌+◌, ◌<◌, Bool, false, refl, sym, ◌∙◌, subst, [], arith}
 use Rattle.std.specs.Int.{bit_at}
 use Rattle.egt_board.specs.declared.man.Man.{Man}
@@ -15,8 +15,28 @@ use Rattle.egt_moves.specs.declared.chess_move.Move.{Move}
 use Rattle.egt_table.specs.declared.column.Column.{Column}
 use Rattle.egt_sweep.specs.Edges.{GoesOn}
 use Rattle.egt_sweep.specs.Laws.{Laws}
-use Rattle.egt_sweep.specs.Ways.{IsOnward}
-use Rattle.egt_sweep.proofs.Onward.{one_plain}
+use Rattle.egt_sweep.specs.Ways.{IsOnward, Counts, HasAnchor}
+use Rattle.egt_sweep.proofs.Collecting.{leads_on_once, none_ascend}
+use Rattle.egt_sweep.proofs.Counting.{counts_more}
+use Rattle.egt_sweep.proofs.Onward.{on_index, one_plain, one_from, one_to}
+
+module _ (laws : Laws) (c : ℕ) (p : Setup) (c_in : c < 36) (ok : IsAdmissible p) (of : (flipped : Bool) × IsOf c flipped p) (column : Column) where
+  pub man_counted : HasAnchor c p →
+      ((c i k : ℕ) (flipped : Bool) (man : Man) (p q : Setup) → IsAdmissible p → IsAdmissible q → IsOf c flipped p → IsIndex c p i → IsIndex c q i →
+      p.side ≡ q.side → StandsAlone p.men man k → StandsAlone q.men man k → is_on_axis c k ≡ false → (r : Setup) × SettlesTo p r × SettlesTo q r) →
+      (from : ℕ) (set before after : SquareSet) → ((t : ℕ) → Has set t → IsOnward column c p from t) →
+      ((m : Move) (q : Setup) → m.from ≡ from → Leads p m q → GoesOn column c p m q → Has set m.to) →
+      Has before from → bit_at after.bits from ≡ 0 → ((s : ℕ) → s ≢ from → bit_at after.bits s ≡ bit_at before.bits s) →
+      (count more : ℕ) → more ≡ size_of set → Counts column c p before count → Counts column c p after (count + more)
+  man_counted anchor one from set before after sound complete had gone others count more is so_far =
+      subst (λ n. Counts column c p after (count + n)) (sym is)
+      (counts_more column c p from set before
+      (λ m q i x leads on led. leads_on_once laws column c p m led.0 i x ok led.1 led.2 led.3)
+      (λ m q leads on. let i = on_index laws c p c_in ok of column q m leads on in (i.0, (q, leads, on, i.1)))
+      (one_from laws c p c_in ok of column anchor one) (one_to laws c p c_in ok of column anchor one)
+      sound had after gone others
+      (λ m x here led. let has = complete m led.0 here led.1 led.2 in (has, one_plain p led.0 (sound m.to has).to m from here led.1 (sound m.to has).leads))
+      count so_far)
 
 -- a legal move to one of the squares to which the man goes on goes on
 pub man_goes_on : (laws : Laws) (c : ℕ) (p : Setup) (column : Column) (from : ℕ) (set : SquareSet) → ((t : ℕ) → Has set t → IsOnward column c p from t) →
@@ -32,3 +52,12 @@ man_goes_on laws c p column from set sound m q here has leads =
 pub not_held : (p : Setup) (set : SquareSet) → ((s : ℕ) → IsHeld p.men s p.side → Has set s) → (m : Move) (q : Setup) → bit_at set.bits m.from ≡ 0 → Leads p m q → ⊥
 not_held p set held m q none leads =
     let has = held m.from (record { man = leads.man; stands = leads.stands; theirs = leads.mine }) in omega (arith, none, has)
+
+-- so no move leads from there
+pub none_counted : (column : Column) (c : ℕ) (p : Setup) (set : SquareSet) → ((s : ℕ) → IsHeld p.men s p.side → Has set s) → Counts column c p set 0
+none_counted column c p set held = record {
+  list = [];
+  ascends = none_ascend;
+  length_is = refl;
+  members = λ k. (λ has. absurd (omega (arith, has.1)), λ m. absurd (not_held p set held m.0 m.2.0 m.1 m.2.1));
+}

@@ -17,8 +17,7 @@ use Rattle.egt_moves.specs.Legal.{Leads}
 use Rattle.egt_moves.specs.Moves.{moves_of, played}
 use Rattle.egt_moves.specs.declared.chess_move.Move.{Move}
 use Rattle.egt_graph.specs.Columns.{is_win_from, is_loss}
-use Rattle.egt_graph.specs.Counts.{is_draw}
-use Rattle.egt_graph.specs.Counts.{IsCount}
+use Rattle.egt_graph.specs.Counts.{is_draw, IsCount}
 use Rattle.egt_graph.specs.declared.counts.Count.{Count}
 use Rattle.egt_graph.specs.Passing.{passing_below, passing_is, passing_has, passing_passes, passing_is_below, passing_ascends}
 use Rattle.egt_table.specs.declared.column.Column.TheVariants.{Mate, Zeroing}
@@ -79,3 +78,18 @@ pub passing_same : (n : ℕ) (f g : ℕ → Bool) → ((k : ℕ) → k < n → (
 passing_same n f g same = passing_is n g (passing_below n f) (passing_ascends n f)
     (λ k has. let lt = passing_is_below n f k has in (lt, (same k lt).0 (passing_passes n f k has)))
     (λ k lt is. passing_has n f k lt ((same k lt).1 is))
+
+-- a node that has moves is no checkmate
+pub unmated : (tables : Tables) (c i : ℕ) (count : Count) → i < size_of c → IsCount (class_game tables Mate c) i count → count.moves < 255 → 0 < count.moves + count.wins + count.losses + count.draws → is_mated (position_at c i) ≡ false
+unmated tables c i count in_range told small some = of_test (is_mated (position_at c i)) refl
+  where
+    of_test : (b : Bool) → is_mated (position_at c i) ≡ b → is_mated (position_at c i) ≡ false
+    of_test false e = e
+    of_test true e =
+        let is = told small in
+        let ends = (class_game_is_lawful tables Mate c).mate_ends i (record { in_range = in_range; not_void = is.0 }) e in
+        let moves : 0 ≡ count.moves = sym (ap length ends.0) ∙ is.1 in
+        let wins : 0 ≡ count.wins = sym (ap (count_by (is_win_from 0)) ends.1) ∙ is.3 in
+        let losses : 0 ≡ count.losses = sym (ap (count_by is_loss) ends.1) ∙ is.4 in
+        let draws : 0 ≡ count.draws = sym (ap (count_by is_draw) ends.1) ∙ is.5 in
+        absurd (omega (arith, moves, wins, losses, draws, some))

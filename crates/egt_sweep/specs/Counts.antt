@@ -1,9 +1,9 @@
--- Exits counted in the game of mates, told to the game of zeroing moves.
-use Rattle.std.specs.Prelude.{◌≡◌, ℕ, ◌<◌, ◌++◌, false, not, List, length, replicate, slice_index_or, Option, Some, None, if◌then◌else◌}
+-- Moves counted in the game of mates, told to the game of zeroing moves.
+use Rattle.std.specs.Prelude.{ℕ, ◌<◌, ◌++◌, List, length, replicate, slice_index_or, Option, Some, None, if◌then◌else◌}
 use Rattle.std.specs.List.{flat_map}
-use Rattle.std.specs.Option.{is_some, option_to_list}
+use Rattle.std.specs.Option.{option_to_list}
 use Rattle.egt_board.specs.Setup.{Setup}
-use Rattle.egt_graph.specs.Counts.{no_moves, IsCount}
+use Rattle.egt_graph.specs.Counts.{untold, IsCount}
 use Rattle.egt_graph.specs.declared.counts.Count.{Count}
 use Rattle.egt_graph.specs.declared.game.Exit.{Exit}
 use Rattle.egt_graph.specs.declared.game.Exit.TheVariants.{Win, Loss, Draw}
@@ -12,11 +12,11 @@ use Rattle.egt_moves.specs.declared.chess_move.Move.{Move}
 use Rattle.egt_table.specs.declared.column.Column.TheVariants.{Mate, Zeroing}
 use Rattle.egt_check.specs.Tables.{Tables}
 use Rattle.egt_sweep.specs.ClassGame.{class_game}
-use Rattle.egt_sweep.specs.Nodes.{goes_on, exit_of, position_at, shown_below}
+use Rattle.egt_sweep.specs.Nodes.{goes_on, exit_of, shown_below}
 
--- each count that there is tells of the exits of its node in the class's game of mates
-abbrev pub CountsExits : Tables → ℕ → List Count → Type 0
-CountsExits tables c counts = (i : ℕ) → i < length counts → not (is_some (position_at c i)) ≡ false → IsCount (class_game tables Mate c) i (slice_index_or counts i no_moves)
+-- each count that there is tells of its node in the class's game of mates
+abbrev pub CountsMoves : Tables → ℕ → List Count → Type 0
+CountsMoves tables c counts = (i : ℕ) → i < length counts → IsCount (class_game tables Mate c) i (slice_index_or counts i untold)
 
 -- as many exits of each kind as the count has, all of which have just zeroed
 abbrev pub zeroed_exits : Count → List Exit

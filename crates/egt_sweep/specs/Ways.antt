@@ -37,6 +37,13 @@ pub record IsOnward (column : Column) (c : ℕ) (p : Setup) (from t : ℕ) : Typ
   pub leads : Leads p (plain from t) to
   pub on : GoesOn column c p (plain from t) to
 
+-- the moves from squares outside the set lead on to n indexes
+pub record Counts (column : Column) (c : ℕ) (p : Setup) (rest : SquareSet) (n : ℕ) : Type 0 where
+  pub list : List ℕ
+  pub ascends : IsStrictlyIncreasing list
+  pub length_is : length list ≡ n
+  pub members : (k : ℕ) → Contains list k ↔ ((m : Move) × (bit_at rest.bits m.from ≡ 0) × LeadsOn column c p m k)
+
 -- the legal moves from the square to these leave the game
 abbrev pub AllLeave : Column → ℕ → Setup → ℕ → SquareSet → Type 0
 AllLeave column c p from set = (m : Move) (q : Setup) → m.from ≡ from → Has set m.to → Leads p m q → ¬ GoesOn column c p m q
@@ -48,3 +55,11 @@ OthersGoOn column c p from set = (m : Move) (q : Setup) → m.from ≡ from → 
 -- the side that waits has its king alone
 abbrev pub WaitsAlone : Setup → Type 0
 WaitsAlone p = (s : ℕ) (man : Man) → Stands p.men s man → man.side ≡ other_side p.side → man.kind ≡ K
+
+-- a man of the side that waits whom no mirror keeps in place: he is alone of his kind, and on no axis
+pub record HasAnchor (c : ℕ) (p : Setup) : Type 0 where
+  pub man : Man
+  pub square : ℕ
+  pub waits : man.side ≡ other_side p.side
+  pub alone : StandsAlone p.men man square
+  pub aside : is_on_axis c square ≡ false

@@ -5,7 +5,7 @@ ghost use Rattle.egt_table.specs.declared.column.Column.TheVariants.{Mate, Zeroi
 ghost use Rattle.egt_check.specs.Tables.{table_at, beside, HasChildren};
 ghost use Rattle.egt_sweep.specs.Built.{IsBuilt, IsNotBuilt, HasNoFalseChild};
 ghost use Rattle.egt_sweep.specs.ClassGame.{class_game};
-ghost use Rattle.egt_sweep.specs.Counts.{CountsExits};
+ghost use Rattle.egt_sweep.specs.Counts.{CountsMoves};
 ghost use Rattle.egt_sweep.specs.MateColumn.{mate_table};
 ghost use Rattle.egt_sweep.specs.declared.build_fault.BuildFault.TheVariants.{NoMemory};
 
@@ -35,7 +35,7 @@ fn children_are_true(class: Class, library: &Library)
     }
 }
 
-/// The ranks of the class's game of mates, and what is told of the exits of its nodes.
+/// The ranks of the class's game of mates, and what is told of the moves of its nodes.
 pub(crate) fn mate_ranks(
     alloc: Global,
     class: Class,
@@ -45,7 +45,7 @@ pub(crate) fn mate_ranks(
     requires { limit ≤ 32000 }
     ensures children { IfOk result (λ _. HasChildren (table_at library.now) class) }
     ensures ranks { IfOk result (λ told. AreRanks (class_game (table_at library.now) Mate class) limit told.0) }
-    ensures counts { IfOk result (λ told. CountsExits (table_at library.now) class told.1.items) }
+    ensures counts { IfOk result (λ told. CountsMoves (table_at library.now) class told.1.items) }
     ensures refused { IfErr result (IsNotBuilt (table_at library.now) class limit) }
 {
     laws();
@@ -87,7 +87,7 @@ fn zeroing_ranks<'x>(
     requires limit { limit ≤ 32000 }
     requires children { HasChildren (table_at library.now) class }
     requires mates { AreRanks (class_game (table_at library.now) Mate class) limit mates.now }
-    requires counts { CountsExits (table_at library.now) class counts.now }
+    requires counts { CountsMoves (table_at library.now) class counts.now }
     ensures ranks { IfOk result (AreRanks (class_game (beside (table_at library.now) (mate_table class mates.now)) Zeroing class) limit) }
     ensures refused { IfErr result (IsNotBuilt (table_at library.now) class limit) }
 {

@@ -2,15 +2,16 @@
 #![tactic(auto)]
 
 mod aim;
+mod anchor;
 mod ascending;
 mod at_once;
 mod build_fault;
 mod building;
 mod by_squares;
 mod counted;
-mod departing;
 mod drawn_children;
 mod edges;
+mod facing;
 mod last;
 mod laws;
 mod leaving;

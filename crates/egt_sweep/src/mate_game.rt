@@ -12,7 +12,7 @@ use crate::nodes::{
 use arrayvec::ArrayVec;
 use egt_check::{Library, first_missing};
 use egt_class::Class;
-use egt_graph::{Comb, Exit, Game};
+use egt_graph::{Comb, Exit, Game, Start};
 use egt_index::size;
 use egt_table::Column;
 
@@ -96,7 +96,7 @@ impl Game for MateGame<'_> {
         exits(&Aim::Mate, self.class, self.library, i)
     }
 
-    fn start(&self, i: u32, exits: &mut ArrayVec<Exit, 64>) -> bool {
+    fn start(&self, i: u32, exits: &mut ArrayVec<Exit, 64>) -> Option<Start> {
         start(&Aim::Mate, self.class, self.library, i, exits)
     }
 
@@ -105,7 +105,7 @@ impl Game for MateGame<'_> {
         i: u32,
         exits: &mut ArrayVec<Exit, 64>,
         next_exits: &mut ArrayVec<Exit, 64>,
-    ) -> (bool, bool) {
+    ) -> (Option<Start>, Option<Start>) {
         start_two(&Aim::Mate, self.class, self.library, i, exits, next_exits)
     }
 }

@@ -1,5 +1,6 @@
 //! The nodes of a class's game.
-ghost use Rattle.std.specs.Prelude.{All, ◌≡◌, ◌+◌, ◌/◌, ◌<◌, ◌≤◌, ℕ, IfSome, [], length, slice_index_or, not, true, false, IsFalse};
+ghost use Rattle.std.specs.Prelude.{All, ◌≡◌, ◌+◌, ◌%◌, ◌/◌, ◌<◌, ◌≤◌, ◌↔◌, ℕ, Some, IfSome, [], length, slice_index, not, false, true, IsTrue, IsFalse};
+ghost use Rattle.std.specs.Int.{bit_at};
 ghost use Rattle.std.specs.List.{flat_map};
 ghost use Rattle.std.specs.List.Sorted.{IsStrictlyIncreasing};
 ghost use Rattle.std.specs.Option.{is_some};
@@ -7,40 +8,43 @@ ghost use Rattle.egt_board.specs.Decided.{tells};
 ghost use Rattle.egt_board.specs.Pawn.{pawn_of};
 ghost use Rattle.egt_board.specs.Placement.{Stands};
 ghost use Rattle.egt_board.specs.Setup.{Setup};
+ghost use Rattle.egt_board.specs.declared.square_set.SquareSet.{SquareSet};
 ghost use Rattle.egt_index.specs.Code.{Spells};
 ghost use Rattle.egt_index.specs.Row.{row_len, IsRowOf};
 ghost use Rattle.egt_index.specs.Size.{size_of};
 ghost use Rattle.egt_moves.specs.DecidedMoves.{decided_checkmate};
+ghost use Rattle.egt_moves.specs.Standing.{CanMove};
 ghost use Rattle.egt_graph.specs.Graph.{IsStart};
 ghost use Rattle.egt_graph.specs.Passing.{passing_below};
 ghost use Rattle.egt_graph.specs.Columns.{count_of};
 ghost use Rattle.egt_graph.specs.Combs.{times_in};
 ghost use Rattle.egt_graph.specs.Undecided.{IsMarked};
-ghost use Rattle.egt_table.specs.declared.column.Column.TheVariants.{Mate, Zeroing};
+ghost use Rattle.egt_table.specs.declared.column.Column.TheVariants.{Zeroing};
 ghost use Rattle.egt_check.specs.Tables.{table_at, beside, HasChildren};
 ghost use Rattle.egt_sweep.specs.Aiming.{column_of, game_of, known, KnowsOwn};
 ghost use Rattle.egt_sweep.specs.ClassGame.{class_game};
-ghost use Rattle.egt_sweep.specs.Counts.{CountsExits};
-ghost use Rattle.egt_graph.specs.Counts.{IsCount};
-ghost use Rattle.egt_graph.specs.Counts.{no_moves};
+ghost use Rattle.egt_sweep.specs.Counts.{CountsMoves};
 ghost use Rattle.egt_sweep.specs.Edges.{IsAt};
-ghost use Rattle.egt_sweep.specs.Ways.{WaitsAlone};
 ghost use Rattle.egt_sweep.specs.MateColumn.{mate_table, IsMateColumn};
 ghost use Rattle.egt_sweep.specs.Nodes.{position_at, is_mated, connects, exits_at};
+ghost use Rattle.egt_sweep.specs.Ways.{Counts, HasAnchor};
 
 use crate::aim::Aim;
+use crate::anchor::has_anchor;
 use crate::at_once::combs_into;
-use crate::counted::{add_counted, add_zeroed, leaves_room};
-use crate::departing::add_all_exits;
+use crate::counted::{add_zeroed, leaves_room, start_counted, told_count};
 use crate::edges::edges;
+use crate::facing::start_facing_king;
 use crate::laws::laws;
 use crate::sources::sources;
 use crate::wanted::Wanted;
+use crate::ways::{Ways, ways_of};
 use arrayvec::ArrayVec;
-use egt_board::Position;
+use egt_board::safety::kings_attack_each_other;
+use egt_board::{Position, SquareSet};
 use egt_check::Library;
 use egt_class::Class;
-use egt_graph::{Comb, Count, Exit, Ranks};
+use egt_graph::{Comb, Count, Exit, Ranks, Start};
 use egt_index::{
     Row, faces_king_alone, frame_at, indexed, may_move_pawn, position, position_of, row_of, size,
 };
@@ -147,8 +151,19 @@ pub(crate) fn exits(
     let _number = class.number();
     let mut list = ArrayVec::new();
     let position = position_of(class, index);
-    add_all_exits(aim, class, library, index, &position, &mut list);
+    let _ways = ways_of(aim, class, library, index, &position, &mut list);
     list
+}
+
+/// Whether the side to move, whose moves are known, is checkmated.
+fn is_checkmate_by(position: &Position, ways: &Ways) -> bool
+    requires { IsTrue ways.now.any → CanMove position.now }
+    ensures { result ≡ tells (decided_checkmate position.now) }
+{
+    if ways.any {
+        return false;
+    }
+    is_checkmate(position)
 }
 
 /// To how many nodes the moves that go on lead: they are listed, since a mirror may take two of them to one index. Few nodes are such,
@@ -162,17 +177,23 @@ pub(crate) fn listed_degree(column: Column, class: Class, index: u32) -> usize
     successors(column, class, index).len()
 }
 
-/// Whether it is plain that no move from the node leaves a game: a side without pawns faces a king alone.
-#[inline(always)]
-fn has_no_exits(class: Class, index: u32) -> bool
-    ensures alone { result ≡ true → (p : Setup) → Spells class index p → WaitsAlone p }
-    ensures pawnless { result ≡ true → (p : Setup) → Spells class index p → (s : ℕ) → ¬ Stands p.men s (pawn_of p.side) }
+/// To how many nodes the moves that go on lead from the position at the index. Where no mirror can take two of them to one index, each
+/// has its own.
+fn degree(column: Column, class: Class, index: u32, position: &Position, ways: &Ways) -> usize
+    requires at { IsAt class index position.now }
+    requires counts { HasAnchor class position.now → (none : SquareSet) × ((s : ℕ) → bit_at none.bits s ≡ 0) × Counts column class position.now none ways.now.onward }
+    ensures value { result ≡ length (passing_below (size_of class) (λ j. connects column class index j)) }
+    ensures few { result ≤ 64 }
 {
+    laws();
     let _number = class.number();
-    faces_king_alone(class, index) && !may_move_pawn(class, index)
+    if ways.onward <= 64 && has_anchor(class, position) {
+        return ways.onward as usize;
+    }
+    listed_degree(column, class, index)
 }
 
-/// Fills the list with the exits of the node of the position. Where a side that has no pawn faces a king alone there are none.
+/// What a run begins with at the node of the position.
 fn start_at(
     aim: &Aim<'_>,
     class: Class,
@@ -180,23 +201,27 @@ fn start_at(
     index: u32,
     position: &Position,
     exits: &mut ArrayVec<Exit, 64>,
-)
+) -> Start
     requires knows { KnowsOwn class aim.now }
     requires children { HasChildren (table_at library.now) class }
     requires at { IsAt class index position.now }
     requires empty { exits.old.items ≡ [] }
-    ensures { IsStart (game_of (table_at library.now) class aim.now) index true exits.new.items }
+    ensures { IsStart (game_of (table_at library.now) class aim.now) index (Some result) exits.new.items }
 {
     laws();
     let _number = class.number();
-    if has_no_exits(class, index) {
-        return;
+    if faces_king_alone(class, index) {
+        return start_facing_king(aim, class, library, index, position, exits);
     }
-    add_all_exits(aim, class, library, index, position, exits);
+    let ways = ways_of(aim, class, library, index, position, exits);
+    Start {
+        mated: is_checkmate_by(position, &ways),
+        degree: Some(degree(aim.column(), class, index, position, &ways) as u8),
+    }
 }
 
-/// What a run begins with at a number of the row: whether a position has it, and the values of the positions outside, in the place of
-/// what `exits` had.
+/// What a run begins with at a number of the row: nothing where no position has it. The values of the positions outside take the place
+/// of what `exits` had.
 #[inline(always)]
 fn start_in(
     aim: &Aim<'_>,
@@ -205,7 +230,7 @@ fn start_in(
     row: &Option<Row>,
     index: u32,
     exits: &mut ArrayVec<Exit, 64>,
-) -> bool
+) -> Option<Start>
     requires knows { KnowsOwn class aim.now }
     requires children { HasChildren (table_at library.now) class }
     requires row { IsRowOf class (index / row_len class) row.now }
@@ -214,16 +239,11 @@ fn start_in(
     laws();
     let _number = class.number();
     exits.clear();
-    match row {
-        Some(row) => match row.position_at(index) {
-            Some(position) => {
-                start_at(aim, class, library, index, &position, exits);
-                true
-            }
-            None => false,
-        },
-        None => false,
-    }
+    let Some(row) = row else {
+        return None;
+    };
+    let position = row.position_at(index)?;
+    Some(start_at(aim, class, library, index, &position, exits))
 }
 
 /// What a run begins with at a number, by its row.
@@ -233,7 +253,7 @@ pub(crate) fn start(
     library: &Library,
     index: u32,
     exits: &mut ArrayVec<Exit, 64>,
-) -> bool
+) -> Option<Start>
     requires knows { KnowsOwn class aim.now }
     requires children { HasChildren (table_at library.now) class }
     ensures { IsStart (game_of (table_at library.now) class aim.now) index result exits.new.items }
@@ -251,7 +271,7 @@ pub(crate) fn start_two(
     index: u32,
     exits: &mut ArrayVec<Exit, 64>,
     next_exits: &mut ArrayVec<Exit, 64>,
-) -> (bool, bool)
+) -> (Option<Start>, Option<Start>)
     requires below { index + 1 < size_of class }
     requires knows { KnowsOwn class aim.now }
     requires children { HasChildren (table_at library.now) class }
@@ -272,70 +292,9 @@ pub(crate) fn start_two(
     )
 }
 
-/// What the game of mates has told of a number, if it has told of any.
-#[inline(always)]
-fn told_count(counts: &[Count], index: u32) -> Option<Count>
-    ensures { IfSome result (λ n. (index < length counts.now) × (n ≡ slice_index_or counts.now index no_moves)) }
-{
-    let i = index as usize;
-    if i < counts.len() { Some(counts[i]) } else { None }
-}
-
-/// Fills the list with the exits of a node of the game of zeroing moves, of which nothing is told.
-fn start_untold(
-    mates: &Ranks,
-    class: Class,
-    library: &Library,
-    index: u32,
-    exits: &mut ArrayVec<Exit, 64>,
-)
-    requires node { not (is_some (position_at class index)) ≡ false }
-    requires knows { IsMateColumn class mates.now }
-    requires children { HasChildren (table_at library.now) class }
-    requires empty { exits.old.items ≡ [] }
-    ensures { IsStart (class_game (beside (table_at library.now) (mate_table class mates.now)) Zeroing class) index true exits.new.items }
-{
-    laws();
-    let _number = class.number();
-    let position = position_of(class, index);
-    let aim = Aim::Zeroing(mates);
-    start_at(&aim, class, library, index, &position, exits);
-}
-
-/// The same, where its exits in the game of mates are so many of each kind.
-#[inline(always)]
-fn start_told(
-    mates: &Ranks,
-    class: Class,
-    library: &Library,
-    index: u32,
-    count: Count,
-    exits: &mut ArrayVec<Exit, 64>,
-)
-    requires node { not (is_some (position_at class index)) ≡ false }
-    requires count { IsCount (class_game (table_at library.now) Mate class) index count }
-    requires knows { IsMateColumn class mates.now }
-    requires children { HasChildren (table_at library.now) class }
-    requires empty { exits.old.items ≡ [] }
-    ensures { IsStart (class_game (beside (table_at library.now) (mate_table class mates.now)) Zeroing class) index true exits.new.items }
-{
-    laws();
-    let _number = class.number();
-    if !may_move_pawn(class, index) {
-        add_zeroed(count, exits);
-        return;
-    }
-    if !leaves_room(count) {
-        start_untold(mates, class, library, index, exits);
-        return;
-    }
-    let position = position_of(class, index);
-    add_counted(mates, class, library, index, &position, count, exits);
-}
-
 /// The same in the game of zeroing moves, where the mate ranks of the class tell which numbers are nodes. So nothing is asked of a number
 /// that no position has, and nothing is tested of the others: a row, which is tested, costs more than it spares. Of most nodes the game of
-/// mates has told the exits already.
+/// mates has told the moves already.
 #[inline(always)]
 pub(crate) fn start_by_ranks(
     mates: &Ranks,
@@ -344,9 +303,9 @@ pub(crate) fn start_by_ranks(
     library: &Library,
     index: u32,
     exits: &mut ArrayVec<Exit, 64>,
-) -> bool
+) -> Option<Start>
     requires below { index < size_of class }
-    requires counts { CountsExits (table_at library.now) class counts.now }
+    requires counts { CountsMoves (table_at library.now) class counts.now }
     requires knows { IsMateColumn class mates.now }
     requires children { HasChildren (table_at library.now) class }
     ensures { IsStart (class_game (beside (table_at library.now) (mate_table class mates.now)) Zeroing class) index result exits.new.items }
@@ -354,12 +313,32 @@ pub(crate) fn start_by_ranks(
     laws();
     let _number = class.number();
     exits.clear();
+    if let Some(count) = told_count(counts, index) {
+        if !may_move_pawn(class, index) {
+            add_zeroed(count, exits);
+            return Some(Start {
+                mated: false,
+                degree: Some(count.moves),
+            });
+        }
+        if leaves_room(count) {
+            let position = position_of(class, index);
+            if has_anchor(class, &position) {
+                return Some(start_counted(mates, class, library, index, &position, count, exits));
+            }
+        }
+    }
     if mates.entries()[index as usize] == 0 {
-        return false;
+        return None;
     }
-    match told_count(counts, index) {
-        Some(count) => start_told(mates, class, library, index, count, exits),
-        None => start_untold(mates, class, library, index, exits),
+    kings_attack_each_other();
+    if faces_king_alone(class, index) && !may_move_pawn(class, index) {
+        return Some(Start {
+            mated: false,
+            degree: None,
+        });
     }
-    true
+    let position = position_of(class, index);
+    let aim = Aim::Zeroing(mates);
+    Some(start_at(&aim, class, library, index, &position, exits))
 }

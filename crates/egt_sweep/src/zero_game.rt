@@ -4,7 +4,7 @@ ghost use Rattle.std.specs.Option.{is_some};
 ghost use Rattle.egt_check.specs.Tables.{table_at, beside, HasChildren};
 ghost use Rattle.egt_table.specs.declared.column.Column.TheVariants.{Zeroing};
 ghost use Rattle.egt_sweep.specs.ClassGame.{class_game, class_game_is_lawful};
-ghost use Rattle.egt_sweep.specs.Counts.{CountsExits};
+ghost use Rattle.egt_sweep.specs.Counts.{CountsMoves};
 ghost use Rattle.egt_sweep.specs.MateColumn.{mate_table, IsMateColumn};
 
 use crate::aim::Aim;
@@ -16,7 +16,7 @@ use crate::nodes::{
 use arrayvec::ArrayVec;
 use egt_check::{Library, first_missing};
 use egt_class::Class;
-use egt_graph::{Comb, Count, Exit, Game, Ranks};
+use egt_graph::{Comb, Count, Exit, Game, Ranks, Start};
 use egt_index::size;
 use egt_table::Column;
 
@@ -27,11 +27,11 @@ pub struct ZeroGame<'l> {
     class: Class,
     library: &'l Library,
     mates: &'l Ranks,
-    /// What the game of mates has told of its nodes' exits; it may be empty.
+    /// What the game of mates has told of its nodes' moves; it may be empty.
     counts: &'l [Count],
     ghost children: { HasChildren (table_at library.now) class },
     ghost shows: { IsMateColumn class mates.now },
-    ghost told: { CountsExits (table_at library.now) class counts.now },
+    ghost told: { CountsMoves (table_at library.now) class counts.now },
 }
 
 impl<'l> ZeroGame<'l> {
@@ -60,7 +60,7 @@ impl<'l> ZeroGame<'l> {
         ZeroGame::counted(class, library, mates, &[])
     }
 
-    /// The same, with what the game of mates has told of its nodes' exits.
+    /// The same, with what the game of mates has told of its nodes' moves.
     pub(crate) fn counted(
         class: Class,
         library: &'l Library,
@@ -68,7 +68,7 @@ impl<'l> ZeroGame<'l> {
         counts: &'l [Count],
     ) -> Result<ZeroGame<'l>, Missing>
         requires ranks { HasChildren (table_at library.now) class → AreMateRanks (table_at library.now) class mates.now }
-        requires counts { CountsExits (table_at library.now) class counts.now }
+        requires counts { CountsMoves (table_at library.now) class counts.now }
         ensures exact { IsOk result ↔ HasChildren (table_at library.now) class }
         ensures class { IfOk result (λ g. g.class ≡ class) }
         ensures library { IfOk result (λ g. g.library.now ≡ library.now) }
@@ -137,7 +137,7 @@ impl Game for ZeroGame<'_> {
     }
 
     #[inline(always)]
-    fn start(&self, i: u32, exits: &mut ArrayVec<Exit, 64>) -> bool {
+    fn start(&self, i: u32, exits: &mut ArrayVec<Exit, 64>) -> Option<Start> {
         start_by_ranks(self.mates, self.counts, self.class, self.library, i, exits)
     }
 }

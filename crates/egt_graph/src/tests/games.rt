@@ -8,7 +8,7 @@ ghost use Rattle.egt_graph.specs.Undecided.{is_marked};
 ghost use Rattle.egt_graph.specs.Sample.{sample, sample_is_game, stairs, stairs_are_a_game, is_listed, is_pair, is_move, is_short};
 
 use crate::comb::Comb;
-use crate::game::{Exit, Game};
+use crate::game::{Exit, Game, Start};
 use crate::marks::is_marked;
 use arrayvec::ArrayVec;
 use std::cell::Cell;
@@ -244,6 +244,58 @@ impl<'a, G: Game> Game for Counted<'a, G> {
 
     fn exits(&self, i: u32) -> ArrayVec<Exit, 64> {
         self.game.exits(i)
+    }
+}
+
+/// The same game, which counts no moves before it is asked.
+#[derive(Drop)]
+pub(crate) struct Uncounted<'a, G: Game> {
+    pub(crate) game: &'a G,
+}
+
+impl<'a, G: Game> Game for Uncounted<'a, G> {
+    ghost graph = { λ s. G.graph s.game.now };
+
+    ghost lawful = { λ s. G.lawful s.game.now };
+
+    fn size(&self) -> u32 {
+        self.game.size()
+    }
+
+    fn void(&self, i: u32) -> bool {
+        self.game.void(i)
+    }
+
+    fn mated(&self, i: u32) -> bool {
+        self.game.mated(i)
+    }
+
+    fn out(&self, i: u32) -> ArrayVec<u32, 64> {
+        self.game.out(i)
+    }
+
+    fn degree(&self, i: u32) -> usize {
+        self.game.degree(i)
+    }
+
+    fn into(&self, j: u32) -> ArrayVec<u32, 128> {
+        self.game.into(j)
+    }
+
+    fn exits(&self, i: u32) -> ArrayVec<Exit, 64> {
+        self.game.exits(i)
+    }
+
+    fn start(&self, i: u32, exits: &mut ArrayVec<Exit, 64>) -> Option<Start> {
+        if self.game.void(i) {
+            exits.clear();
+            return None;
+        }
+        *exits = self.game.exits(i);
+        Some(Start {
+            mated: self.game.mated(i),
+            degree: None,
+        })
     }
 }
 

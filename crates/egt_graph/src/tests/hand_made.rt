@@ -1,6 +1,6 @@
 //! Small games whose values were worked out by hand.
-use super::games::{Combed, STAIRS, Sample, Stairs, Together, stair_entry};
-use crate::{Count, Exit, Game, SolveFault, solve, solve_and_count};
+use super::games::{Combed, STAIRS, Sample, Stairs, Together, Uncounted, stair_entry};
+use crate::{Count, Exit, Game, SolveFault, Start, solve, solve_and_count};
 use arrayvec::ArrayVec;
 use std::test::*;
 
@@ -32,8 +32,24 @@ fn exits_that_fall_due(rt: HostRuntime) -> Result<(), Fail> {
     Ok(())
 }
 
-fn count(wins: u8, losses: u8, draws: u8) -> Count {
+// What is not counted at first is counted where it is waited for, in nodes with exits and in others.
+#[test]
+fn counted_when_waited_for(rt: HostRuntime) -> Result<(), Fail> {
+    let game = with_exits();
+    let ranks = solve(rt.alloc(), &Uncounted { game: &game }, 8)?;
+    assert_eq!(rt; ranks.entries(), [10, 13, 17, 1, 18].as_slice());
+    assert!(rt;
+        matches!(
+            solve(rt.alloc(), &Uncounted { game: &game }, 7),
+            Err(SolveFault::TooDeep)
+        )
+    );
+    Ok(())
+}
+
+fn count(moves: u8, wins: u8, losses: u8, draws: u8) -> Count {
     Count {
+        moves,
         wins,
         losses,
         draws,
@@ -42,18 +58,24 @@ fn count(wins: u8, losses: u8, draws: u8) -> Count {
 
 #[test]
 fn counts_told(rt: HostRuntime) -> Result<(), Fail> {
-    let (_ranks, counts) = solve_and_count(rt.alloc(), &with_exits(), 8)?;
+    let game = with_exits();
+    let (_ranks, counts) = solve_and_count(rt.alloc(), &game, 8)?;
     assert_eq!(rt;
         counts.as_slice(),
         [
-            count(0, 1, 0),
-            count(0, 0, 0),
-            count(2, 0, 0),
-            count(1, 0, 1),
-            count(0, 0, 0),
+            count(0, 0, 1, 0),
+            count(1, 0, 0, 0),
+            count(0, 2, 0, 0),
+            count(0, 1, 0, 1),
+            count(1, 0, 0, 0),
         ]
         .as_slice()
     );
+    let (_ranks, counts) = solve_and_count(rt.alloc(), &Uncounted { game: &game }, 8)?;
+    assert_eq!(rt; counts.len(), 5);
+    for told in &counts {
+        assert_eq!(rt; told.moves, Count::UNTOLD.moves);
+    }
     Ok(())
 }
 
@@ -107,16 +129,15 @@ fn moves_alone(rt: HostRuntime) -> Result<(), Fail> {
     Ok(())
 }
 
-// Of all nodes one run of even ones and one of odd, and one run of checkmates, one of won nodes and one of lost: for the first two and the
-// won every node is marked.
+// One run of checkmates, one of won nodes and one of lost: for the won it is asked of all nodes.
 #[test]
 fn told_of_the_nodes(rt: HostRuntime) -> Result<(), Fail> {
     let game = with_a_void();
     let together = Together::new(&game);
     let ranks = solve(rt.alloc(), &together, 2)?;
     assert_eq!(rt; ranks.entries(), [1, 1, 1, 0, 3, 4, 7, 1, 4].as_slice());
-    assert_eq!(rt; together.runs(), 5);
-    assert_eq!(rt; together.whole(), 3);
+    assert_eq!(rt; together.runs(), 3);
+    assert_eq!(rt; together.whole(), 1);
     Ok(())
 }
 
@@ -218,16 +239,21 @@ fn two_neighbours(rt: HostRuntime) {
     };
     let mut exits = ArrayVec::new();
     let mut next_exits = ArrayVec::new();
+    let zero = Some(Start {
+        mated: false,
+        degree: Some(1),
+    });
     assert_eq!(rt;
         game.start_two(0, &mut exits, &mut next_exits),
-        (true, false)
+        (zero, None)
     );
     assert_eq!(rt; exits.as_slice(), [Exit::Draw].as_slice());
     assert_eq!(rt; next_exits.len(), 0);
-    assert_eq!(rt;
-        game.start_two(1, &mut exits, &mut next_exits),
-        (false, true)
-    );
+    let two = Some(Start {
+        mated: true,
+        degree: Some(0),
+    });
+    assert_eq!(rt; game.start_two(1, &mut exits, &mut next_exits), (None, two));
     assert_eq!(rt; exits.len(), 0);
     assert_eq!(rt; next_exits.len(), 0);
 }

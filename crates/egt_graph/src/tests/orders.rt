@@ -222,22 +222,21 @@ fn targets_are_the_moves_into_a_node(rt: HostRuntime) -> Result<(), Fail> {
     Ok(())
 }
 
-// The work lies in the batches: once the moves are counted, a run learns of them through the batches alone.
+// The work lies in the batches: a run learns of moves through them alone.
 #[test]
 fn what_the_game_is_asked(rt: HostRuntime) -> Result<(), Fail> {
     let game = Counted::new(&STAIRS);
     let mut rounds = Rounds::new(rt.alloc(), &game, 4)?;
-    // To count the moves it asks of each node once.
-    assert_eq!(rt; game.asked(), (0, 10_000));
+    assert_eq!(rt; game.asked(), (0, 0));
     // The nodes of round 0 stand in block 0.
     post_block(rt.alloc(), &mut rounds, 2)?;
-    assert_eq!(rt; game.asked(), (0, 10_000));
+    assert_eq!(rt; game.asked(), (0, 0));
     post_block(rt.alloc(), &mut rounds, 0)?;
-    assert_eq!(rt; game.asked(), (0, 12_000));
+    assert_eq!(rt; game.asked(), (0, 2_000));
     post_block(rt.alloc(), &mut rounds, 1)?;
     assert_eq!(rt; close(&mut rounds), Close::Next);
     assert!(rt; rounds.into_ranks().is_err());
-    assert_eq!(rt; game.asked(), (0, 12_000));
+    assert_eq!(rt; game.asked(), (0, 2_000));
     Ok(())
 }
 
@@ -246,12 +245,12 @@ fn what_a_whole_run_asks(rt: HostRuntime) -> Result<(), Fail> {
     let game = Counted::new(&STAIRS);
     let ranks = solve(rt.alloc(), &game, 4)?;
     assert_eq!(rt; ranks.entries().len(), 10_000);
-    // Every node has a rank here, and the moves into it are asked for twice.
-    assert_eq!(rt; game.asked(), (0, 20_000));
+    // Every node has a rank here, and its moves are asked for once.
+    assert_eq!(rt; game.asked(), (0, 10_000));
     Ok(())
 }
 
-// To count the moves all nodes are asked of: 78 times 128 and 16, each time the even ones and the odd. Of the won nodes 2,000 stand in each of two blocks, of the lost 2,000 in one, 96 and 1,904 in two, and 192 and 1,808 in two: runs of 64, the
+// Of the won nodes 2,000 stand in each of two blocks, of the lost 2,000 in one, 96 and 1,904 in two, and 192 and 1,808 in two: runs of 64, the
 // last of each block with what is left.
 #[test]
 fn what_is_asked_at_once(rt: HostRuntime) -> Result<(), Fail> {
@@ -261,8 +260,7 @@ fn what_is_asked_at_once(rt: HostRuntime) -> Result<(), Fail> {
     for (node, entry) in ranks.entries().iter().enumerate() {
         assert_eq!(rt; *entry, stair_entry(node));
     }
-    let counting = 2 * (78 + 1);
-    assert_eq!(rt; game.runs(), counting + 2 * 32 + 32 + (2 + 30) + (3 + 29));
-    assert_eq!(rt; game.whole(), counting + 2 * 32);
+    assert_eq!(rt; game.runs(), 2 * 32 + 32 + (2 + 30) + (3 + 29));
+    assert_eq!(rt; game.whole(), 2 * 32);
     Ok(())
 }

@@ -1,15 +1,13 @@
-use Rattle.std.proofs.Common.{◌<◌, length, sym, arith}
-use Rattle.egt_graph.specs.Columns.{count_of, into_all}
+use Rattle.std.proofs.Common.{sym, arith}
+use Rattle.egt_graph.specs.Columns.{count_of, into_all, told}
 use Rattle.egt_graph.specs.Combs.{times_in}
+use Rattle.egt_graph.specs.Graph.{IsNode}
 use Rattle.egt_graph.proofs.Marking.{asked_all, each_counted}
 use Rattle.egt_graph.proofs.Steps.{Takes_both}
 use Rattle.egt_graph.proofs.step.take_sources.Goals as goal
 
-pub take_back_combs-requires-clause-within : goal.take_back_combs-requires-clause-within
-take_back_combs-requires-clause-within g c i some =
-    let node = (c.requires.known i).0 (c.combs_into.ensures.only i (let times = rw c.as_slice.ensures.value at some in omega (arith, times))) in
-    let lt = node.in_range in
-    omega (arith, lt, c.requires.entries_long)
+pub take_back_combs-requires-clause-are_nodes : goal.take_back_combs-requires-clause-are_nodes
+take_back_combs-requires-clause-are_nodes g c i some = (c.requires.known i).0 (c.combs_into.ensures.only i (let times = rw c.as_slice.ensures.value at some in omega (arith, times)))
 
 pub take_back_combs-requires-clause-waited : goal.take_back_combs-requires-clause-waited
 take_back_combs-requires-clause-waited g c i =
@@ -18,11 +16,9 @@ take_back_combs-requires-clause-waited g c i =
     let waited = c.requires.waited i in
     rw c.as_slice.ensures.value (omega (arith, all, waited))
 
-pub take_back-requires-clause-within : goal.take_back-requires-clause-within
-take_back-requires-clause-within g c = each_counted (λ i. i < length c.take_back_combs.new.entries) c.as_slice-2.result.now (λ i some.
-    let node = (c.requires.known i).0 (c.combs_into.ensures.only i (let times = rw c.as_slice-2.ensures.value at some in omega (arith, times))) in
-    let lt = node.in_range in
-    omega (arith, lt, c.requires.entries_long, c.take_back_combs.auto.entries))
+pub take_back-requires-clause-are_nodes : goal.take_back-requires-clause-are_nodes
+take_back-requires-clause-are_nodes g c = each_counted (IsNode (g.G.Game.graph c.args.game.now)) c.as_slice-2.result.now (λ i some.
+    (c.requires.known i).0 (c.combs_into.ensures.only i (let times = rw c.as_slice-2.ensures.value at some in omega (arith, times))))
 
 pub take_back-requires-clause-waited : goal.take_back-requires-clause-waited
 take_back-requires-clause-waited g c i =
@@ -40,6 +36,6 @@ returns-clause-takes g c =
     let graph = g.G.Game.graph c.args.game.now in
     let all = asked_all graph (g.met.G.Game.lawful c.args.game.now) c.args.nodes.now c.args.known.now combs list c.requires.known
     (record { exact = c.combs_into.ensures.exact; only = c.combs_into.ensures.only }) in
-    Takes_both c.args.entries.now c.args.waits.now c.take_back_combs.new.entries c.take_back_combs.new.waits c.take_back.new.entries c.take_back.new.waits
+    Takes_both c.args.entries.now (told graph c.args.waits.now) c.take_back_combs.new.entries (told graph c.take_back_combs.new.waits) c.take_back.new.entries (told graph c.take_back.new.waits)
     (λ i. times_in i combs) (λ i. count_of i list) (λ i. count_of i (into_all graph c.args.nodes.now)) c.args.plies
     (rw c.as_slice.ensures.value at c.take_back_combs.ensures.takes) (rw c.as_slice-2.ensures.value at c.take_back.ensures.takes) (λ i. sym (all i))

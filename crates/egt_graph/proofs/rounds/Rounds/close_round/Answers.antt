@@ -2,7 +2,9 @@ use Rattle.std.proofs.Common.{◌≡◌, length, All, IsTrue, false, replicate, 
 use Rattle.egt_graph.specs.declared.answer.Phase.TheVariants.{Running}
 use Rattle.egt_graph.proofs.Marking.{marked_of, marked_while, marked_due}
 use Rattle.egt_graph.proofs.Noting.{finished_news, next_news}
-use Rattle.egt_graph.proofs.Running.{written, due_within, due_waited, due_counted, falls_from, finished_run, past_run, next_run, found_open, found_shut}
+use Rattle.egt_graph.proofs.Uncounted.{told-length, told-long}
+use Rattle.egt_graph.specs.Columns.{told}
+use Rattle.egt_graph.proofs.Running.{written, due_nodes, due_within, due_leaving, due_waited, due_counted, falls_from, finished_run, past_run, next_run, found_open, found_shut}
 use Rattle.egt_graph.proofs.rounds.Rounds.close_round.Goals as goal
 
 pub fall_due-unsettled-requires-clause-losses_within : goal.fall_due-unsettled-requires-clause-losses_within
@@ -10,15 +12,19 @@ fall_due-unsettled-requires-clause-losses_within g c =
     rw (c.due.ensures, c.deref_mut.ensures.value)
     (due_within (g.G.Game.graph c.self.inside.game.now) _ c.self.inside.lost_due c.self.invariant.0.losses c.self.inside.round _ c.self.invariant.0.entries_long)
 
-pub fall_due-unsettled-requires-clause-wins_within : goal.fall_due-unsettled-requires-clause-wins_within
-fall_due-unsettled-requires-clause-wins_within g c =
-    rw (c.due-2.ensures, c.deref_mut.ensures.value)
-    (due_within (g.G.Game.graph c.self.inside.game.now) _ c.self.inside.won_due c.self.invariant.0.wins c.self.inside.round _ c.self.invariant.0.entries_long)
+pub fall_due-unsettled-requires-clause-wins_are_nodes : goal.fall_due-unsettled-requires-clause-wins_are_nodes
+fall_due-unsettled-requires-clause-wins_are_nodes g c =
+    rw c.due-2.ensures (due_nodes (g.G.Game.graph c.self.inside.game.now) _ c.self.inside.won_due c.self.invariant.0.wins c.self.inside.round)
+
+pub fall_due-unsettled-requires-clause-leaving : goal.fall_due-unsettled-requires-clause-leaving
+fall_due-unsettled-requires-clause-leaving g c =
+    let running : c.self.inside.phase ≡ Running = search rules in
+    rw c.deref_mut-4.ensures.value (due_leaving (g.G.Game.graph c.self.inside.game.now) _ _ _ _ _ _ _ c.self.invariant.0 running)
 
 pub fall_due-unsettled-requires-clause-waits_long : goal.fall_due-unsettled-requires-clause-waits_long
 fall_due-unsettled-requires-clause-waits_long g c =
     rw (c.deref_mut.ensures.value, c.deref_mut-2.ensures.value)
-    (c.self.invariant.0.waits_long ∙ sym c.self.invariant.0.entries_long)
+    (sym (told-length (g.G.Game.graph c.self.inside.game.now) c.self.inside.waits.items) ∙ c.self.invariant.0.waits_long ∙ sym c.self.invariant.0.entries_long)
 
 pub fall_due-unsettled-requires-clause-waited : goal.fall_due-unsettled-requires-clause-waited
 fall_due-unsettled-requires-clause-waited g c =
@@ -39,7 +45,7 @@ invariant_of-self g c =
     let later_len : c.self.inside.later.len ≡ length c.self.inside.later.items = search rules in
     let all : All IsTrue c.self.inside.posted.items = rw c.deref.ensures.value at c.if-not-all_set.ensures in
     let f = falls_from (g.G.Game.graph c.self.inside.game.now) (g.met.G.Game.lawful c.self.inside.game.now) _ _ _ _ _ _ _ c.self.invariant.0 running all
-    _ _ _ _ _ _ _ _ c.deref_mut.ensures.value c.deref_mut-2.ensures.value c.deref_mut-4.ensures.value c.due.ensures c.due-2.ensures
+    _ _ _ _ _ _ _ _ c.deref_mut.ensures.value (ap (told (g.G.Game.graph c.self.inside.game.now)) c.deref_mut-2.ensures.value) c.deref_mut-4.ensures.value c.due.ensures c.due-2.ensures
     c.fall_due-unsettled.ensures.columns c.fall_due-unsettled.ensures.later in
     let entries_long = c.fall_due-unsettled.auto.entries ∙ ap length c.deref_mut.ensures.value in
     let waits_long = c.fall_due-unsettled.auto.waits ∙ ap length c.deref_mut-2.ensures.value in
@@ -53,7 +59,7 @@ invariant_of-self g c =
       written c.self.inside.waits.len c.fall_due-unsettled.new.waits c.self.inside.waits.items waits_long waits_len,
       written c.self.inside.later.len c.fall_due-unsettled.new.later c.self.inside.later.items later_long later_len,
     ) (
-      finished_run (g.G.Game.graph c.self.inside.game.now) (g.met.G.Game.lawful c.self.inside.game.now) _ _ _ _ _ _ _ c.self.invariant.0 _ _ _ f none entries_long waits_long later_long,
+      finished_run (g.G.Game.graph c.self.inside.game.now) (g.met.G.Game.lawful c.self.inside.game.now) _ _ _ _ _ _ _ c.self.invariant.0 _ _ _ f none entries_long (told-long (g.G.Game.graph c.self.inside.game.now) c.self.inside.waits.items c.fall_due-unsettled.new.waits waits_long) later_long,
       finished_news _ _ _ _ _ _ _ _ c.self.invariant.1 coming_long,
       record { room = c.self.invariant.2.room; of_nodes = c.self.invariant.2.of_nodes; marked = tt },
       c.self.invariant.3,
@@ -64,7 +70,7 @@ returns-then-not-unsettled-clause-closes g c =
     let running : c.self.inside.phase ≡ Running = search rules in
     let all : All IsTrue c.self.inside.posted.items = rw c.deref.ensures.value at c.if-not-all_set.ensures in
     let f = falls_from (g.G.Game.graph c.self.inside.game.now) (g.met.G.Game.lawful c.self.inside.game.now) _ _ _ _ _ _ _ c.self.invariant.0 running all
-    _ _ _ _ _ _ _ _ c.deref_mut.ensures.value c.deref_mut-2.ensures.value c.deref_mut-4.ensures.value c.due.ensures c.due-2.ensures
+    _ _ _ _ _ _ _ _ c.deref_mut.ensures.value (ap (told (g.G.Game.graph c.self.inside.game.now)) c.deref_mut-2.ensures.value) c.deref_mut-4.ensures.value c.due.ensures c.due-2.ensures
     c.fall_due-unsettled.ensures.columns c.fall_due-unsettled.ensures.later in
     let entries_long = c.fall_due-unsettled.auto.entries ∙ ap length c.deref_mut.ensures.value in
     let none = found_shut (g.G.Game.graph c.self.inside.game.now) (g.met.G.Game.lawful c.self.inside.game.now) _ _ _ _ _ c.self.invariant.0.flags all f
@@ -88,7 +94,7 @@ invariant_of-self-then-self g c =
       written c.self.inside.later.len c.fall_due-unsettled.new.later c.self.inside.later.items later_long later_len,
     ) (
       past_run (g.G.Game.graph c.self.inside.game.now) _ _ _ _ _ _ _ c.self.invariant.0 _ _ _ entries_long
-          waits_long later_long,
+          (told-long (g.G.Game.graph c.self.inside.game.now) c.self.inside.waits.items c.fall_due-unsettled.new.waits waits_long) later_long,
       record { news_long = c.self.invariant.1.news_long; coming_long = coming_long ∙ c.self.invariant.1.coming_long; notes = tt },
       record { room = c.self.invariant.2.room; of_nodes = c.self.invariant.2.of_nodes; marked = tt },
       c.self.invariant.3,
@@ -99,7 +105,7 @@ returns-then-self-clause-closes g c =
     let running : c.self.inside.phase ≡ Running = search rules in
     let all : All IsTrue c.self.inside.posted.items = rw c.deref.ensures.value at c.if-not-all_set.ensures in
     let f = falls_from (g.G.Game.graph c.self.inside.game.now) (g.met.G.Game.lawful c.self.inside.game.now) _ _ _ _ _ _ _ c.self.invariant.0 running all
-    _ _ _ _ _ _ _ _ c.deref_mut.ensures.value c.deref_mut-2.ensures.value c.deref_mut-4.ensures.value c.due.ensures c.due-2.ensures
+    _ _ _ _ _ _ _ _ c.deref_mut.ensures.value (ap (told (g.G.Game.graph c.self.inside.game.now)) c.deref_mut-2.ensures.value) c.deref_mut-4.ensures.value c.due.ensures c.due-2.ensures
     c.fall_due-unsettled.ensures.columns c.fall_due-unsettled.ensures.later in
     let entries_long = c.fall_due-unsettled.auto.entries ∙ ap length c.deref_mut.ensures.value in
     let some = found_open (g.G.Game.graph c.self.inside.game.now) (g.met.G.Game.lawful c.self.inside.game.now) _ _ _ _ _ c.self.invariant.0.flags all f
@@ -117,7 +123,7 @@ invariant_of-self-2 g c =
     let posted_len : c.self.inside.posted.len ≡ length c.self.inside.posted.items = search rules in
     let all : All IsTrue c.self.inside.posted.items = rw c.deref.ensures.value at c.if-not-all_set.ensures in
     let f = falls_from (g.G.Game.graph c.self.inside.game.now) (g.met.G.Game.lawful c.self.inside.game.now) _ _ _ _ _ _ _ c.self.invariant.0 running all
-    _ _ _ _ _ _ _ _ c.deref_mut.ensures.value c.deref_mut-2.ensures.value c.deref_mut-4.ensures.value c.due.ensures c.due-2.ensures
+    _ _ _ _ _ _ _ _ c.deref_mut.ensures.value (ap (told (g.G.Game.graph c.self.inside.game.now)) c.deref_mut-2.ensures.value) c.deref_mut-4.ensures.value c.due.ensures c.due-2.ensures
     c.fall_due-unsettled.ensures.columns c.fall_due-unsettled.ensures.later in
     let entries_long = c.fall_due-unsettled.auto.entries ∙ ap length c.deref_mut.ensures.value in
     let waits_long = c.fall_due-unsettled.auto.waits ∙ ap length c.deref_mut-2.ensures.value in
@@ -143,11 +149,11 @@ invariant_of-self-2 g c =
       written c.self.inside.later.len c.fall_due-unsettled.new.later c.self.inside.later.items later_long later_len,
     ) (
       next_run (g.G.Game.graph c.self.inside.game.now) (g.met.G.Game.lawful c.self.inside.game.now) _ _ _ _ _ _ _ c.self.invariant.0 running all _ _ _ f c.if-self.false
-          entries_long waits_long later_long c.clear.new.flags cleared,
+          entries_long (told-long (g.G.Game.graph c.self.inside.game.now) c.self.inside.waits.items c.fall_due-unsettled.new.waits waits_long) later_long c.clear.new.flags cleared,
       next_news (g.G.Game.graph c.self.inside.game.now) _ _ _ _ _ _ _ _ _ running c.self.invariant.1 coming_long
           (rw (c.deref_mut.ensures.value, c.deref_mut-3.ensures.value) at c.fall_due-unsettled.ensures.coming) f.closed.entry turned blank,
-      marked_while _ _ _ _ running c.self.invariant.2.room c.self.invariant.2.of_nodes (marked_due c.deref_mut.result.now due.0 c.deref_mut-2.result.now c.due.result.now c.due-2.result.now
-          c.fall_due-unsettled.new.entries c.fall_due-unsettled.new.waits c.self.inside.marks.items (c.self.inside.round + 1) due.1 due.2
+      marked_while _ _ _ _ running c.self.invariant.2.room c.self.invariant.2.of_nodes (marked_due c.deref_mut.result.now due.0 (told (g.G.Game.graph c.self.inside.game.now) c.deref_mut-2.result.now) c.due.result.now c.due-2.result.now
+          c.fall_due-unsettled.new.entries (told (g.G.Game.graph c.self.inside.game.now) c.fall_due-unsettled.new.waits) c.self.inside.marks.items (c.self.inside.round + 1) due.1 due.2
           (rw c.deref_mut.ensures.value (marked_of _ _ _ _ c.self.invariant.2 running))),
       c.self.invariant.3,
     )
@@ -158,7 +164,7 @@ returns-clause-closes g c =
     let posted_len : c.self.inside.posted.len ≡ length c.self.inside.posted.items = search rules in
     let all : All IsTrue c.self.inside.posted.items = rw c.deref.ensures.value at c.if-not-all_set.ensures in
     let f = falls_from (g.G.Game.graph c.self.inside.game.now) (g.met.G.Game.lawful c.self.inside.game.now) _ _ _ _ _ _ _ c.self.invariant.0 running all
-    _ _ _ _ _ _ _ _ c.deref_mut.ensures.value c.deref_mut-2.ensures.value c.deref_mut-4.ensures.value c.due.ensures c.due-2.ensures
+    _ _ _ _ _ _ _ _ c.deref_mut.ensures.value (ap (told (g.G.Game.graph c.self.inside.game.now)) c.deref_mut-2.ensures.value) c.deref_mut-4.ensures.value c.due.ensures c.due-2.ensures
     c.fall_due-unsettled.ensures.columns c.fall_due-unsettled.ensures.later in
     let entries_long = c.fall_due-unsettled.auto.entries ∙ ap length c.deref_mut.ensures.value in
     let some = found_open (g.G.Game.graph c.self.inside.game.now) (g.met.G.Game.lawful c.self.inside.game.now) _ _ _ _ _ c.self.invariant.0.flags all f

@@ -1,13 +1,15 @@
-use Rattle.std.proofs.Common.{◌≡◌, length, set, true, ap, ◌∙◌, rules}
+use Rattle.std.proofs.Common.{◌≡◌, length, set, true, sym, ap, ◌∙◌, rules}
 use Rattle.egt_graph.specs.declared.answer.Phase.TheVariants.{Running}
 use Rattle.egt_graph.proofs.Marking.{marked_of, marked_while}
 use Rattle.egt_graph.proofs.Noting.{posted_news}
+use Rattle.egt_graph.proofs.Uncounted.{told-length, told-long}
+use Rattle.egt_graph.specs.Columns.{told}
 use Rattle.egt_graph.proofs.Running.{written, amid_of, posted_run}
 use Rattle.egt_graph.proofs.rounds.Rounds.take.Goals as goal
 
 pub take_in-requires-clause-waits_long : goal.take_in-requires-clause-waits_long
 take_in-requires-clause-waits_long g c =
-    rw c.deref_mut-2.ensures.value c.self.invariant.0.waits_long
+    rw c.deref_mut-2.ensures.value (sym (told-length (g.G.Game.graph c.self.inside.game.now) c.self.inside.waits.items) ∙ c.self.invariant.0.waits_long)
 
 pub take_in-requires-clause-amid : goal.take_in-requires-clause-amid
 take_in-requires-clause-amid g c =
@@ -36,8 +38,8 @@ invariant_of-self g c =
       written c.self.inside.waits.len c.take_in.new.waits c.self.inside.waits.items waits_long waits_len,
     ) (
       posted_run (g.G.Game.graph c.self.inside.game.now) _ _ _ _ _ _ _ c.self.invariant.0 running c.args.batch.now.block
-          c.take_in.new.entries c.take_in.new.waits c.take_in.new.posted ticked entries_long
-          waits_long c.take_in.ensures.amid,
+          c.take_in.new.entries (told (g.G.Game.graph c.self.inside.game.now) c.take_in.new.waits) c.take_in.new.posted ticked entries_long
+          (told-long (g.G.Game.graph c.self.inside.game.now) c.self.inside.waits.items c.take_in.new.waits waits_long) c.take_in.ensures.amid,
       posted_news (g.G.Game.graph c.self.inside.game.now) (g.met.G.Game.lawful c.self.inside.game.now) _ _ _ _ _ _ _ _ _ _ _ running before.0 c.take_in.ensures.amid
           c.self.invariant.1 coming_long (rw (c.deref_mut.ensures.value, c.deref_mut-3.ensures.value) at c.take_in.ensures.coming),
       marked_while _ _ _ _ running c.self.invariant.2.room c.self.invariant.2.of_nodes
