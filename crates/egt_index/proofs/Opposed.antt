@@ -1,5 +1,5 @@
 -- The codes to which the last man's steps lead.
-use Rattle.std.proofs.Common.{◌≡◌, ◌≢◌, ℕ, zero, suc, ◌+◌, ◌-◌, ◌*◌, ◌/◌, ◌%◌, ◌<◌, ◌≤◌, ◌++◌, Bool, true, false, cond, Option, Some, None, arith, refl, sym, ap, ◌∙◌, subst, inl, inr}
+use Rattle.std.proofs.Common.{◌≡◌, ◌≢◌, ℕ, ◌+◌, ◌-◌, ◌*◌, ◌/◌, ◌<◌, ◌≤◌, ◌++◌, Bool, false, cond, Some, None, arith, refl, sym, ap, ◌∙◌, subst, inl, inr}
 use Rattle.std.specs.Option.{option_map, option_to_list}
 use Rattle.egt_board.specs.Beside.{StandsBeside}
 use Rattle.egt_board.specs.Man.{other_side}
@@ -15,22 +15,18 @@ use Rattle.egt_class.specs.Material.{material_of}
 use Rattle.egt_index.specs.AtIndex.{IsFramedAt}
 use Rattle.egt_index.specs.Code.{Spells}
 use Rattle.egt_index.specs.Facts.{Facts}
-use Rattle.egt_index.specs.Fixed.{AreOf}
 use Rattle.egt_index.specs.Frame.{IsFirstAfter, IsMoved, IsOwnAfter}
 use Rattle.egt_index.specs.Home.{LeastWith}
 use Rattle.egt_index.specs.Index.{IsIndex}
-use Rattle.egt_index.specs.Opposite.{IsOpposite, IsOppositeOf}
+use Rattle.egt_index.specs.Opposite.{IsOpposite}
 use Rattle.egt_index.specs.Scales.{AreEqual, AreScales, ScalesFit, ends_of, kind_less, less_at, man_at, share, stride_at}
-use Rattle.egt_index.specs.Shelf.{AreAlike, HasGone, IsAlikeIndex, without_ends}
+use Rattle.egt_index.specs.Shelf.{HasGone, IsAlikeIndex, without_ends}
 use Rattle.egt_index.specs.Size.{has_target}
-use Rattle.egt_index.specs.Stood.{AllApart, Entry, IsOff, list_of}
+use Rattle.egt_index.specs.Stood.{AllApart, Entry, IsOff}
 use Rattle.egt_index.specs.Ways.{IsMover, IsSeen, IsThere}
-use Rattle.egt_index.specs.declared.fixed.Fixed.{Fixed}
 use Rattle.egt_index.specs.declared.frame.Frame.{Frame}
-use Rattle.egt_index.specs.declared.opposite.Opposite.{Opposite}
 use Rattle.egt_index.specs.declared.scales.Scales.{Scales}
-use Rattle.egt_index.specs.declared.ways.Mover.{Mover}
-use Rattle.egt_index.specs.declared.ways.Mover.TheVariants.{Black, Next, Last, Nobody}
+use Rattle.egt_index.specs.declared.ways.Mover.TheVariants.{Last}
 use Rattle.egt_index.proofs.Best.{index_found}
 use Rattle.egt_index.proofs.FrameMen.{others_stood}
 use Rattle.egt_index.proofs.Framed.{least_own, own_seen}

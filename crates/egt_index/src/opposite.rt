@@ -61,7 +61,11 @@ impl Frame {
         let on = self.last_alone()?;
         let scales = class_scales(self.class, self.side.other());
         Some(Opposite {
-            first: total_without(without_ends(false, index), scales.side, scales.last.share(on)),
+            first: total_without(
+                without_ends(false, index),
+                scales.side,
+                scales.last.share(on),
+            ),
             less: scales.last.less,
         })
     }

@@ -1,32 +1,27 @@
 -- How often what a run tells, and what is found beside it, gives a number at a node: once where an edge leads there from a marked node, else never.
-use Rattle.std.proofs.Common.{◌≡◌, ◌≢◌, ℕ, ◌+◌, ◌-◌, ◌*◌, ◌/◌, ◌<◌, ◌≤◌, ◌⊎◌, Bool, true, false, List, [], length, Some, refl, sym, ap, ◌∙◌, subst, inl, inr, arith}
-use Rattle.std.specs.Prelude.{slice_index, sum_by}
-use Rattle.std.specs.List.{Contains, slice_range}
+use Rattle.std.proofs.Common.{◌≡◌, ◌≢◌, ℕ, ◌+◌, ◌-◌, ◌/◌, ◌<◌, ◌≤◌, ◌⊎◌, true, false, List, sym, ap, ◌∙◌, subst, inl, inr, arith}
+use Rattle.std.specs.List.{Contains}
 use Rattle.std.specs.List.Sorted.{IsStrictlyIncreasing}
 use Rattle.std.proofs.lemmas.Bool.{cases_Bool, cases_eq, false≢true}
 use Rattle.egt_board.specs.Attack.{king_of}
 use Rattle.egt_board.specs.Man.{other_side}
 use Rattle.egt_board.specs.Placement.{Stands, one_man}
 use Rattle.egt_board.specs.Setup.{Setup}
-use Rattle.egt_board.specs.declared.man.Kind.{Kind}
 use Rattle.egt_board.specs.declared.man.Man.{Man}
 use Rattle.egt_graph.specs.Columns.{count_of}
 use Rattle.egt_graph.specs.Undecided.{IsMarked}
 use Rattle.egt_graph.proofs.Lists.{contains_counted, count_ascending, counted_contains}
 use Rattle.egt_table.specs.declared.column.Column.{Column}
-use Rattle.egt_sweep.specs.Edges.{CameTo, Connects, IsAt}
+use Rattle.egt_sweep.specs.Edges.{CameTo, IsAt}
 use Rattle.egt_sweep.specs.Laws.{Laws}
 use Rattle.egt_sweep.specs.Nodes.{setup_at}
 use Rattle.egt_sweep.specs.Last.{IsLastCounted, IsLastOn}
 use Rattle.egt_sweep.specs.Runs.{IsNearTo, IsRunOf, IsUntold, times_of}
-use Rattle.egt_sweep.specs.Together.{IsAlikeNode, NeverTargeted}
-use Rattle.egt_sweep.specs.Told.{IsTold, IsToldAt, gives_at, marked_into, times_at}
-use Rattle.egt_sweep.specs.declared.told.Left.{Left}
+use Rattle.egt_sweep.specs.Together.{NeverTargeted}
+use Rattle.egt_sweep.specs.Told.{IsTold, IsToldAt, marked_into, times_at}
 use Rattle.egt_sweep.specs.declared.told.Told.{Told}
 use Rattle.egt_sweep.specs.declared.together.Run.{Run}
-use Rattle.egt_sweep.proofs.Combed.{counted_gives, gives_counted, gives_once, sums_alike}
-use Rattle.egt_graph.proofs.Lost.{run_at}
-use Rattle.egt_sweep.proofs.Collecting.{none_ascend}
+use Rattle.egt_sweep.proofs.Combed.{counted_gives, gives_counted, gives_once}
 use Rattle.egt_sweep.proofs.InRuns.{alike_there, is_alike, last_no_king, marked_ascends, marked_listed, nobody_beside, there}
 use Rattle.egt_sweep.proofs.OneBefore.{OneSetup, came_once}
 use Rattle.egt_sweep.proofs.Returning.{came_connects, connects_came}

@@ -1,15 +1,14 @@
 -- The exits of the game of zeroing moves, by kinds: those of the game of mates, with no plies left, and those of moves that stay in the class.
-use Rattle.std.proofs.Common.{◌≡◌, ◌≢◌, if◌then◌else◌, ℕ, zero, suc, ◌+◌, ◌<◌, ◌≤◌, ◌↔◌, cond, not, Bool, true, false, List, [], ◌∷◌, ◌++◌, map, length, count_by, replicate, Option, Some, None, IsSome, IsFalse, arith, refl, sym, ap, ap₂, ◌∙◌, subst, inl, inr}
+use Rattle.std.proofs.Common.{◌≡◌, ◌≢◌, if◌then◌else◌, ℕ, zero, suc, ◌+◌, ◌<◌, cond, Bool, true, false, List, [], ◌∷◌, ◌++◌, map, length, count_by, replicate, Option, Some, None, IsSome, arith, refl, sym, ap, ◌∙◌}
 use Rattle.std.proofs.Math.Logic.{⊎_elim}
 use Rattle.std.proofs.lemmas.Bool.{false≢true, le-leb}
 use Rattle.std.proofs.lemmas.List.{map-append, append-nil, length-append, length-replicate}
 use Rattle.std.proofs.lemmas.List.Sums.{sum_by-append, sum_by-cons}
 use Rattle.std.specs.List.{flat_map, Contains}
-use Rattle.std.specs.Option.{is_some, option_to_list}
+use Rattle.std.specs.Option.{option_to_list}
 use Rattle.egt_board.specs.Setup.{Setup, IsAdmissible}
 use Rattle.egt_class.specs.Children.{children_of}
 use Rattle.egt_class.specs.Membership.{IsOf}
-use Rattle.egt_index.specs.Index.{IsIndex}
 use Rattle.egt_index.specs.Size.{size_of}
 use Rattle.egt_moves.specs.Arena.{Value}
 use Rattle.egt_moves.specs.Arena as arena
@@ -33,8 +32,8 @@ use Rattle.egt_sweep.specs.Counts.{zeroed_exits, staying_exit, staying_exits}
 use Rattle.egt_sweep.specs.Edges.{IsAt, GoesOn}
 use Rattle.egt_sweep.specs.Laws.{Laws}
 use Rattle.egt_sweep.specs.MateColumn.{mate_table}
-use Rattle.egt_sweep.specs.Nodes.{position_at, connects, exits_at, exits_from, exits_by, exit_by, exit_of, shown_below, goes_on}
-use Rattle.egt_sweep.proofs.Linked.{position_is, goes_is, connects_is}
+use Rattle.egt_sweep.specs.Nodes.{connects, exits_at, exits_from, exits_by, exit_by, exit_of, shown_below, goes_on}
+use Rattle.egt_sweep.proofs.Linked.{goes_is, connects_is}
 use Rattle.egt_sweep.proofs.OutOfClass.{shown_is, beside_other}
 use Rattle.egt_sweep.proofs.Starting.{here}
 use Rattle.egt_sweep.proofs.Staying.{quiet_goes_on}

@@ -3,9 +3,8 @@ use Rattle.std.proofs.Common.{◌≡◌, ◌≢◌, ℕ, zero, suc, ◌+◌, ◌
 use Rattle.std.proofs.lemmas.Bool.{and_parts, cases_Bool, cases_eq, eq-eqb, eqb-true, false≢true}
 use Rattle.std.proofs.lemmas.List.{flat_map_more, length-drop, length-take, take_more}
 use Rattle.std.proofs.lemmas.List.Concat.{flat_map-cons}
-use Rattle.std.proofs.lemmas.List.Elements.{Contains-append_left, Contains-append_right, Contains-append_cases, Contains-get_or}
-use Rattle.std.specs.Prelude.{slice_index, not, IsFalse, IsTrue}
-use Rattle.std.specs.Option.{is_some}
+use Rattle.std.proofs.lemmas.List.Elements.{Contains-append_left, Contains-append_right, Contains-append_cases}
+use Rattle.std.specs.Prelude.{slice_index, IsTrue}
 use Rattle.std.specs.Int.{bit_at}
 use Rattle.std.specs.List.{Contains, flat_map, slice_range}
 use Rattle.std.specs.List.Sorted.{IsStrictlyIncreasing}
@@ -28,7 +27,7 @@ use Rattle.egt_index.specs.declared.fixed.Fixed.{Fixed}
 use Rattle.egt_table.specs.declared.column.Column.{Column}
 use Rattle.egt_sweep.specs.Edges.{AtEntry, CameTo, Connects, IsAt, IsTakenBack}
 use Rattle.egt_sweep.specs.Laws.{Laws}
-use Rattle.egt_sweep.specs.Nodes.{connects, position_at, setup_at}
+use Rattle.egt_sweep.specs.Nodes.{connects, setup_at}
 use Rattle.egt_sweep.specs.Runs.{ArePlaces, IsNearTo, IsRunOf, IsUntold}
 use Rattle.egt_sweep.specs.Together.{IsAlikeNode, NeverTargeted}
 use Rattle.egt_sweep.specs.Last.{IsLastOn, IsLastTold}
@@ -39,9 +38,9 @@ use Rattle.egt_sweep.specs.declared.told.Told.{Told}
 use Rattle.std.proofs.lemmas.Nat.Bits.{bit_at-zero}
 use Rattle.egt_unmoves.proofs.Straight.{size_none, size_with}
 use Rattle.egt_sweep.proofs.Collecting.{none_ascend}
-use Rattle.egt_sweep.proofs.Linked.{connects_is, there_is}
+use Rattle.egt_sweep.proofs.Linked.{connects_is}
 use Rattle.egt_sweep.proofs.Members.{both}
-use Rattle.egt_sweep.proofs.Returning.{came_connects, came_held, connects_came, no_taker, taken}
+use Rattle.egt_sweep.proofs.Returning.{came_held, no_taker, taken}
 use Rattle.egt_sweep.proofs.Runs.{king_or_not}
 use Rattle.egt_sweep.proofs.Combed.{AreSpread, count_flat, sums_alike}
 use Rattle.egt_graph.proofs.Lists.{contains_counted, count_ascending, counted_contains}

@@ -1,6 +1,6 @@
 -- The last man: from which marked nodes he came to a node of a run.
-use Rattle.std.proofs.Common.{◌≡◌, ◌≢◌, ◌↔◌, ◌⊎◌, ℕ, zero, suc, ◌+◌, ◌-◌, ◌*◌, ◌/◌, ◌%◌, ◌^◌, ◌<◌, ◌≤◌, Bool, true, false, List, Option, Some, None, refl, sym, ap, ◌∙◌, subst, inl, inr, arith}
-use Rattle.std.specs.Prelude.{IsTrue, nat_le, nat_lt}
+use Rattle.std.proofs.Common.{◌≡◌, ◌≢◌, ◌↔◌, ◌⊎◌, ℕ, ◌+◌, ◌-◌, ◌*◌, ◌/◌, ◌%◌, ◌<◌, ◌≤◌, Bool, true, false, List, Some, None, refl, sym, ap, ◌∙◌, subst, inl, inr, arith}
+use Rattle.std.specs.Prelude.{IsTrue}
 use Rattle.std.specs.Int.{bit_at}
 use Rattle.std.proofs.lemmas.Nat.Bits.{bit_at-lt}
 use Rattle.std.specs.FinMap as map
@@ -8,7 +8,7 @@ use Rattle.std.proofs.lemmas.Bool.{and_parts, cases_eq, eq-eqb, eqb-true, le-leb
 use Rattle.egt_board.specs.Attack.{IsInCheck}
 use Rattle.egt_board.specs.Camps.{IsOccupied}
 use Rattle.egt_board.specs.Man.{other_side}
-use Rattle.egt_board.specs.Pawn.{HasPawnBeside, MayStand, pawn_of}
+use Rattle.egt_board.specs.Pawn.{HasPawnBeside, pawn_of}
 use Rattle.egt_board.specs.Placement.{IsFree, Stands, one_man}
 use Rattle.egt_board.specs.Setup.{Setup, IsAdmissible}
 use Rattle.egt_board.specs.SquareSet.{Has}
@@ -22,15 +22,12 @@ use Rattle.egt_class.specs.Membership.{IsOf}
 use Rattle.egt_graph.specs.Combs.{has_tooth}
 use Rattle.egt_graph.specs.Undecided.{IsMarked}
 use Rattle.egt_graph.specs.declared.comb.Comb.{Comb}
-use Rattle.egt_index.specs.Frame.{IsMoved}
-use Rattle.egt_index.specs.Index.{IsIndex}
 use Rattle.egt_index.specs.Fixed.{AreOf, StandsFixed}
 use Rattle.egt_index.specs.Opposite.{IsOpposite, IsOppositeOf}
 use Rattle.egt_index.specs.declared.fixed.Fixed.{Fixed}
 use Rattle.egt_index.specs.declared.frame.Frame.{Frame}
 use Rattle.egt_index.specs.declared.opposite.Opposite.{Opposite}
-use Rattle.egt_index.specs.Scales.{kind_less}
-use Rattle.egt_index.specs.Shelf.{HasGone, IsAlikeIndex}
+use Rattle.egt_index.specs.Shelf.{IsAlikeIndex}
 use Rattle.egt_index.specs.Size.{has_target}
 use Rattle.egt_index.proofs.Opposed.{less_above, less_below}
 use Rattle.egt_moves.specs.Legal.{plain}

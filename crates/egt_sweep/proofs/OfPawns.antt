@@ -1,6 +1,6 @@
 -- Moves of pawns that stay in a class, counted beside those of the other men, which do not zero there.
-use Rattle.std.proofs.Common.{◌≡◌, ℕ, ◌+◌, ◌<◌, ◌≤◌, ◌↔◌, ◌++◌, not, Bool, false, true, List, [], length, Option, Some, None, arith, refl, sym, ap, ◌∙◌, subst, inl, inr}
-use Rattle.std.proofs.lemmas.Bool.{cases_eq, false≢true}
+use Rattle.std.proofs.Common.{◌≡◌, ℕ, ◌+◌, ◌<◌, ◌≤◌, ◌↔◌, Bool, false, List, [], length, Some, arith, refl, sym, ap, ◌∙◌, subst, inl, inr}
+use Rattle.std.proofs.lemmas.Bool.{cases_eq}
 use Rattle.std.proofs.lemmas.Nat.Bits.{bit_at-lt}
 use Rattle.std.specs.Int.{bit_at}
 use Rattle.std.specs.List.{Contains}
@@ -18,7 +18,7 @@ use Rattle.egt_class.specs.Membership.{IsOf}
 use Rattle.egt_index.specs.Index.{IsIndex}
 use Rattle.egt_index.specs.Size.{size_of}
 use Rattle.egt_moves.specs.Legal.{Leads}
-use Rattle.egt_moves.specs.Moves.{moves_from, moves_of, played}
+use Rattle.egt_moves.specs.Moves.{moves_from, played}
 use Rattle.egt_moves.specs.declared.chess_move.Move.{Move}
 use Rattle.egt_graph.specs.Counts.{IsCount}
 use Rattle.egt_graph.specs.Graph.{IsStart, AreLike}
@@ -29,14 +29,14 @@ use Rattle.egt_table.specs.declared.column.Column.TheVariants.{Mate, Zeroing}
 use Rattle.egt_check.specs.Tables.{Tables}
 use Rattle.egt_sweep.specs.ClassGame.{class_game}
 use Rattle.egt_sweep.specs.Counts.{staying_exit, staying_exits}
-use Rattle.egt_sweep.specs.Edges.{IsAt, GoesOn, LeadsOn, Connects}
+use Rattle.egt_sweep.specs.Edges.{IsAt, GoesOn, Connects}
 use Rattle.egt_sweep.specs.Laws.{Laws}
 use Rattle.egt_sweep.specs.Nodes.{connects, exits_at}
 use Rattle.egt_sweep.specs.Ways.{Counts}
 use Rattle.egt_sweep.proofs.ExitKinds.{no_stay}
 use Rattle.egt_sweep.proofs.Linked.{connects_is}
 use Rattle.egt_sweep.proofs.Onward.{on_quiet}
-use Rattle.egt_sweep.proofs.Starting.{counted_edges, no_void}
+use Rattle.egt_sweep.proofs.Starting.{counted_edges}
 use Rattle.egt_sweep.proofs.Staying.{quiet_goes_on}
 use Rattle.egt_sweep.proofs.Telling.{unmated}
 use Rattle.egt_sweep.proofs.Walked.{from_none}

@@ -1,9 +1,9 @@
 -- Where no mirror keeps some man of the side to move in place, one index is of one position before, and so of one man's move.
-use Rattle.std.proofs.Common.{◌≡◌, ◌≢◌, ℕ, Bool, false, Option, Some, None, refl, sym, ap, ◌∙◌, subst, inl, inr}
+use Rattle.std.proofs.Common.{◌≡◌, ℕ, Bool, false, Some, None, sym, ap, ◌∙◌, subst, inl, inr}
 use Rattle.std.proofs.lemmas.Bool.{cases_eq}
 use Rattle.std.specs.FinMap as map
 use Rattle.egt_board.specs.Man.{other_side}
-use Rattle.egt_board.specs.Placement.{Placement, Stands, IsFree, IsHeld}
+use Rattle.egt_board.specs.Placement.{Placement, IsHeld}
 use Rattle.egt_board.specs.Settled.{SettlesTo}
 use Rattle.egt_board.specs.Setup.{Setup, IsAdmissible}
 use Rattle.egt_board.specs.declared.man.Man.{Man}

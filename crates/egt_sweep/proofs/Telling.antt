@@ -1,11 +1,11 @@
 -- Where all moves stay in the class and none is a pawn's, none zeroes: both games have the same edges there, and no exits.
-use Rattle.std.proofs.Common.{◌≡◌, if◌then◌else◌, ℕ, ◌+◌, ◌<◌, count_by, ◌≤◌, ◌↔◌, Bool, true, false, not, List, [], ◌∷◌, length, Option, Some, None, IsFalse, arith, refl, sym, ap, ◌∙◌, subst, inl, inr}
+use Rattle.std.proofs.Common.{◌≡◌, ℕ, ◌+◌, ◌<◌, count_by, ◌↔◌, Bool, true, false, not, List, [], ◌∷◌, length, Option, Some, None, arith, refl, sym, ap, ◌∙◌, subst, inl, inr}
 use Rattle.std.proofs.lemmas.Bool.{false≢true}
 use Rattle.std.specs.List.{flat_map}
-use Rattle.std.specs.Option.{is_some, option_to_list}
+use Rattle.std.specs.Option.{is_some}
 use Rattle.egt_board.specs.Pawn.{pawn_of}
 use Rattle.egt_board.specs.Placement.{Stands, one_man}
-use Rattle.egt_board.specs.Setup.{Setup, IsAdmissible}
+use Rattle.egt_board.specs.Setup.{Setup}
 use Rattle.egt_board.specs.declared.man.Kind.{Kind}
 use Rattle.egt_board.specs.declared.man.Man.{Man}
 use Rattle.egt_board.specs.declared.man.Side.{Side}
@@ -14,7 +14,6 @@ use Rattle.egt_index.specs.Code.{Spells}
 use Rattle.egt_index.specs.Size.{size_of}
 use Rattle.egt_moves.specs.Chess.{Zeroes}
 use Rattle.egt_moves.specs.Legal.{Leads}
-use Rattle.egt_moves.specs.Moves.{moves_of, played}
 use Rattle.egt_moves.specs.declared.chess_move.Move.{Move}
 use Rattle.egt_graph.specs.Columns.{is_win_from, is_loss}
 use Rattle.egt_graph.specs.Counts.{is_draw, IsCount}
@@ -25,10 +24,7 @@ use Rattle.egt_check.specs.Tables.{Tables}
 use Rattle.egt_sweep.specs.ClassGame.{class_game, class_game_is_lawful}
 use Rattle.egt_sweep.specs.Edges.{IsAt, GoesOn, Connects}
 use Rattle.egt_sweep.specs.Laws.{Laws}
-use Rattle.egt_sweep.specs.Nodes.{position_at, is_mated, connects, exits_at, exits_from, exits_by, exit_by, exit_of, shown_below, goes_on}
-use Rattle.egt_sweep.proofs.Linked.{position_is, goes_is, connects_is}
-use Rattle.egt_sweep.proofs.Members.{In, contains_in, given_in}
-use Rattle.egt_sweep.proofs.OutOfClass.{nothing_told}
+use Rattle.egt_sweep.specs.Nodes.{position_at, is_mated}
 
 -- no pawn of the side to move stands where the code spells a position
 abbrev pub MovesNoPawn : ℕ → ℕ → Type 0

@@ -19,7 +19,6 @@ use Rattle.egt_board.specs.declared.man.Man.{Man}
 use Rattle.egt_board.specs.declared.man.Side.{Side}
 use Rattle.egt_board.specs.declared.square_set.SquareSet.{SquareSet}
 use Rattle.egt_board.specs.SquareSet.{Has}
-use Rattle.egt_board.proofs.Bits.{bit_at-within}
 use Rattle.egt_graph.specs.Undecided.{IsMarked}
 use Rattle.egt_index.specs.Code.{Spells}
 use Rattle.egt_index.specs.Frame.{IsMoved}

@@ -7,7 +7,7 @@ use Rattle.egt_graph.specs.Counts.{untold, IsCount}
 use Rattle.egt_graph.specs.declared.counts.Count.{Count}
 use Rattle.egt_graph.specs.declared.game.Exit.{Exit}
 use Rattle.egt_graph.specs.declared.game.Exit.TheVariants.{Win, Loss, Draw}
-use Rattle.egt_moves.specs.Moves.{moves_of, played}
+use Rattle.egt_moves.specs.Moves.{played}
 use Rattle.egt_moves.specs.declared.chess_move.Move.{Move}
 use Rattle.egt_table.specs.declared.column.Column.TheVariants.{Mate, Zeroing}
 use Rattle.egt_check.specs.Tables.{Tables}

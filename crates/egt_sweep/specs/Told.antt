@@ -4,7 +4,6 @@ use Rattle.std.specs.Int.{bit_at}
 use Rattle.std.specs.List.{Contains}
 use Rattle.std.specs.List.Sorted.{IsStrictlyIncreasing}
 use Rattle.egt_board.specs.Between.{IsBetween}
-use Rattle.egt_board.specs.Man.{other_side}
 use Rattle.egt_board.specs.Placement.{IsFree}
 use Rattle.egt_board.specs.declared.man.Man.{Man}
 use Rattle.egt_board.specs.Setup.{Setup}
@@ -15,7 +14,7 @@ use Rattle.egt_graph.specs.Undecided.{IsMarked, bit_of, word_of}
 use Rattle.egt_index.specs.Size.{size_of}
 use Rattle.egt_table.specs.declared.column.Column.{Column}
 use Rattle.egt_unmoves.specs.Unmoves.{HasWay}
-use Rattle.egt_sweep.specs.Edges.{AtEntry, CameTo, IsAt}
+use Rattle.egt_sweep.specs.Edges.{CameTo, IsAt}
 use Rattle.egt_sweep.specs.Nodes.{connects, setup_at}
 use Rattle.egt_sweep.specs.Together.{IsAlikeNode}
 use Rattle.egt_sweep.specs.declared.told.Left.{Left}

@@ -136,7 +136,9 @@ impl Run {
         }
         shelf.turn_to(class, node);
         let men = men_of(&shelf.frame);
-        let last = self.last.square_at(column, class, self.first, marks, (node - self.first) / 2);
+        let last = self
+            .last
+            .square_at(column, class, self.first, marks, (node - self.first) / 2);
         let told = self.king.square().union(self.one.square()).union(last);
         add_untold(column, class, node, &shelf.frame, &men, told, marks, list);
     }
@@ -214,7 +216,14 @@ impl Run {
         laws();
         one_index_for_one_setup();
         let _number = class.number();
-        self.last.add_comb(column, class, self.first, marks, (node - self.first) / 2, combs);
+        self.last.add_comb(
+            column,
+            class,
+            self.first,
+            marks,
+            (node - self.first) / 2,
+            combs,
+        );
         if !self.is_whole() {
             self.add_untold_of(column, class, node, shelf, marks, found, list);
         }

@@ -30,8 +30,8 @@ ghost use Rattle.egt_sweep.specs.Told.{AreNodesMarked, GoesAlongThroughout, IsTo
 
 use crate::by_squares::{goes_back_by, is_of};
 use crate::last::Last;
-use crate::leds::Leds;
 use crate::laws::laws;
+use crate::leds::Leds;
 use crate::shelves::{Shelf, is_near};
 use crate::sources::sources;
 use crate::told::Told;
@@ -289,7 +289,9 @@ impl Run {
             marks,
             &mut self.one,
         );
-        let last = self.last.tell(column, class, first, frame, fixed, held, marks);
+        let last = self
+            .last
+            .tell(column, class, first, frame, fixed, held, marks);
         self.partial = is_partial(one, last);
     }
 

@@ -1,4 +1,4 @@
-use Rattle.std.proofs.Common.{ℕ, ◌+◌, ◌*◌, ◌<◌, ◌≤◌, ◌++◌, refl, sym, ap, ◌∙◌, subst, inl, inr, arith}
+use Rattle.std.proofs.Common.{◌+◌, ◌≤◌, ◌++◌, refl, sym, ap, ◌∙◌, subst, inl, inr, arith}
 use Rattle.arrayvec.specs.ArrayVec.{array_vec_len}
 use Rattle.std.specs.Int.{bit_at}
 use Rattle.std.specs.Option.{option_to_list}
@@ -7,10 +7,10 @@ use Rattle.egt_board.specs.Pawn.{pawn_of}
 use Rattle.egt_board.specs.Placement.{Stands, one_man}
 use Rattle.egt_board.specs.SquareSet.{Has}
 use Rattle.egt_board.specs.declared.man.Man.{Man}
-use Rattle.egt_moves.specs.Moves.{played, moves_between}
+use Rattle.egt_moves.specs.Moves.{played}
 use Rattle.egt_moves.specs.Room.{most_choices}
 use Rattle.egt_check.specs.Tables.{table_at, beside}
-use Rattle.egt_sweep.specs.Counts.{staying_exit, staying_exits}
+use Rattle.egt_sweep.specs.Counts.{staying_exit}
 use Rattle.egt_sweep.specs.MateColumn.{mate_table}
 use Rattle.egt_sweep.proofs.ExitKinds.{no_stay, all_stay}
 use Rattle.egt_sweep.proofs.Walked.{walked_none, walked_more, walked_all, between_none, from_told}

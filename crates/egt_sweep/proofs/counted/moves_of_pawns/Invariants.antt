@@ -1,4 +1,4 @@
-use Rattle.std.specs.Prelude.{◌≡◌, ℕ, ◌+◌, ◌*◌, ◌≤◌}
+use Rattle.std.specs.Prelude.{ℕ, ◌+◌, ◌*◌, ◌≤◌}
 use Rattle.arrayvec.specs.ArrayVec.{array_vec_len}
 use Rattle.egt_board.specs.Pawn.{pawn_of}
 use Rattle.egt_board.specs.Placement.{Stands}

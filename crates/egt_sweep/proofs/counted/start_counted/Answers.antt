@@ -1,4 +1,4 @@
-use Rattle.std.proofs.Common.{ℕ, ◌<◌, ◌≡◌, ◌+◌, ◌-◌, ◌++◌, length, ap, ◌∙◌, List, sym, subst, arith}
+use Rattle.std.proofs.Common.{ℕ, ◌<◌, ◌-◌, ◌++◌, length, ap, ◌∙◌, List, sym, subst, arith}
 use Rattle.egt_graph.specs.Graph.{AreLike}
 use Rattle.egt_graph.specs.declared.game.Exit.{Exit}
 use Rattle.egt_check.specs.Tables.{table_at, beside}

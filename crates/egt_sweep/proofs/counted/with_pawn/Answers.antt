@@ -1,5 +1,4 @@
-use Rattle.std.proofs.Common.{ℕ, ◌+◌, ◌<◌, ◌≤◌, Some, refl, sym, ap, ◌∙◌, subst, arith}
-use Rattle.egt_board.specs.Pawn.{pawn_of}
+use Rattle.std.proofs.Common.{ℕ, ◌+◌, ◌<◌, ◌≤◌, Some, sym, ap, ◌∙◌, subst, arith}
 use Rattle.egt_board.specs.SquareSet.{size_of}
 use Rattle.egt_board.specs.declared.man.Man.{Man}
 use Rattle.egt_moves.specs.Room.{most_goals}

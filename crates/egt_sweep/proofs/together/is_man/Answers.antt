@@ -1,1 +1,0 @@
-use Rattle.egt_sweep.proofs.together.is_man.Goals as goal

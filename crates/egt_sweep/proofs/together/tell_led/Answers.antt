@@ -1,4 +1,4 @@
-use Rattle.std.proofs.Common.{ℕ, subst}
+use Rattle.std.proofs.Common.{subst}
 use Rattle.egt_board.specs.Attack.{king_of}
 use Rattle.egt_board.specs.declared.man.Side.{Side}
 use Rattle.egt_sweep.specs.Together.{StandsThroughout}

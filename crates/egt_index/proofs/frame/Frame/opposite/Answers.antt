@@ -1,4 +1,4 @@
-use Rattle.std.proofs.Common.{◌≡◌, ℕ, ◌+◌, ◌*◌, ◌/◌, ◌<◌, ◌≤◌, cond, sym, ap, ◌∙◌, subst, arith}
+use Rattle.std.proofs.Common.{◌≡◌, ◌*◌, ◌/◌, ◌<◌, cond, sym, ap, ◌∙◌, arith}
 use Rattle.egt_index.specs.Shelf.{without_ends}
 use Rattle.egt_index.proofs.Exists.{index_below}
 use Rattle.egt_index.proofs.IndexTotal.{few}

@@ -1,12 +1,10 @@
-use Rattle.std.proofs.Common.{◌≡◌, ℕ, ◌+◌, ◌<◌, ◌≤◌, ◌++◌, ◌/◌, ◌-◌, Bool, true, false, cond, List, [], ◌∷◌, sym, ap, ◌∙◌, subst, inl, inr, arith}
-use Rattle.std.specs.Prelude.{IsTrue}
+use Rattle.std.proofs.Common.{◌≡◌, ℕ, ◌+◌, ◌/◌, ◌-◌, Bool, cond, sym, ap, ◌∙◌, inl, inr, arith}
 use Rattle.std.specs.Int.{bit_at}
 use Rattle.std.proofs.lemmas.Bool.{cases_Bool, false≢true}
 use Rattle.std.proofs.lemmas.List.Sums.{sum_by_push}
 use Rattle.std.proofs.lemmas.Nat.Bits.{bit_at-zero}
 use Rattle.egt_graph.specs.Combs.{has_tooth, times_in}
 use Rattle.egt_graph.specs.declared.comb.Comb.{Comb}
-use Rattle.egt_sweep.specs.Last.{IsLastCounted}
 use Rattle.egt_sweep.proofs.LastMen.{tooth_parts}
 use Rattle.egt_sweep.proofs.last.Last.add_comb.Goals as goal
 

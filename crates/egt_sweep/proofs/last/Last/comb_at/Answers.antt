@@ -1,15 +1,8 @@
-use Rattle.std.proofs.Common.{◌≡◌, ℕ, ◌+◌, ◌*◌, ◌/◌, ◌^◌, ◌<◌, ◌≤◌, ◌⊎◌, ◌↔◌, min, refl, sym, ap, ◌∙◌, subst, inl, inr, arith}
-use Rattle.std.proofs.lemmas.Bool.{cases_eq}
+use Rattle.std.proofs.Common.{◌≡◌, ℕ, ◌+◌, ◌*◌, ◌/◌, ◌^◌, ◌<◌, ◌↔◌, min, refl, sym, ap, ◌∙◌, subst, arith}
 use Rattle.std.proofs.lemmas.Nat.Bits.{bit_at-lt, bit_at_and}
-use Rattle.std.specs.Int.{bit_at}
 use Rattle.egt_board.proofs.Bits.{bit_at-within}
-use Rattle.egt_board.specs.Camps.{IsOccupied}
 use Rattle.egt_board.specs.Pawn.{MayStand}
 use Rattle.egt_board.specs.Placement.{Stands}
-use Rattle.egt_board.specs.SquareSet.{Has}
-use Rattle.egt_board.specs.declared.square_set.SquareSet.{SquareSet}
-use Rattle.egt_unmoves.specs.Around.{AreTaken}
-use Rattle.egt_sweep.specs.Last.{IsLastAt}
 use Rattle.egt_sweep.specs.Nodes.{setup_at}
 use Rattle.egt_unmoves.specs.Unmoves.{HasWay}
 use Rattle.egt_sweep.proofs.LastMen.{men_are, tooth_exact}

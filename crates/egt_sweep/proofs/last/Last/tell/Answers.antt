@@ -1,8 +1,6 @@
-use Rattle.std.proofs.Common.{◌≡◌, ◌↔◌, ℕ, ◌+◌, ◌*◌, Option, Some, refl, sym, ap, ◌∙◌, subst}
-use Rattle.egt_board.specs.Man.{other_side}
-use Rattle.egt_board.specs.declared.man.Man.{Man}
+use Rattle.std.proofs.Common.{◌≡◌, ℕ, ◌+◌, ◌*◌, Some, sym, ap, ◌∙◌, subst}
 use Rattle.egt_index.specs.AtIndex.{IsFramedAt}
-use Rattle.egt_index.specs.Opposite.{IsOpposite, IsOppositeOf}
+use Rattle.egt_index.specs.Opposite.{IsOpposite}
 use Rattle.egt_sweep.specs.Nodes.{setup_at}
 use Rattle.egt_sweep.proofs.LastMen.{last_told}
 use Rattle.egt_sweep.proofs.last.Last.tell.Goals as goal

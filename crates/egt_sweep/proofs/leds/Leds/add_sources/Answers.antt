@@ -1,6 +1,5 @@
-use Rattle.std.proofs.Common.{◌≡◌, ℕ, ◌+◌, ◌*◌, ◌<◌, ◌≤◌, ◌⊎◌, List, take, length, get_or, sym, ap, ◌∙◌, subst, inl, inr, arith}
+use Rattle.std.proofs.Common.{◌≡◌, ℕ, ◌+◌, ◌*◌, ◌<◌, ◌≤◌, List, take, length, get_or, sym, ap, ◌∙◌, subst, inl, inr, arith}
 use Rattle.std.specs.List.{Contains}
-use Rattle.std.specs.List.Sorted.{IsStrictlyIncreasing}
 use Rattle.std.proofs.lemmas.Bool.{false≢true}
 use Rattle.std.proofs.lemmas.List.{take_all}
 use Rattle.std.proofs.lemmas.List.Elements.{Contains-get_or}
@@ -57,41 +56,43 @@ loop-led-preserved c =
     let passed = λ (x : Led) (has : Contains (take (c.loop-led.led-index + 1) leds.all.items) x). passed_more leds.all.items c.loop-led.led-index led x inside (sym at) has in
     elim c.if-has.branch [
       | then-has w ↦ rw w.list-is (record {
-          ascending = w.put.ensures.ascending;
-          sound = λ i has. elim ((w.put.ensures.members i).0 has) [
-            | inl old ↦ inv.sound i old
-            | inr e ↦ let marked = c.has.ensures.0 w.if-has.true in inr (subst (CameTo c.args._column class (setup_at class (first + 2 * place)) c.args._to) (sym e) (sound marked), subst (IsMarked marks) (sym e) marked)
-          ];
-          kept = λ i has. (w.put.ensures.members i).1 (inl (inv.kept i has));
-          complete = λ x has i came e marked. elim (passed x has) [
-            | inl old ↦ (w.put.ensures.members i).1 (inl (inv.complete x old i came e marked))
-            | inr same ↦ (w.put.ensures.members i).1 (inr (complete i came (ap (λ (y : Led). y.from) same ∙ e)))
-          ];
-          few = omega (arith, inv.few, w.put.ensures.few);
-        })
+        ascending = w.put.ensures.ascending;
+        sound = λ i has. elim ((w.put.ensures.members i).0 has) [
+          | inl old ↦ inv.sound i old
+          | inr e ↦ let marked = c.has.ensures.0 w.if-has.true in inr (subst (CameTo c.args._column class (setup_at class (first + 2 * place)) c.args._to) (sym e) (sound marked), subst (IsMarked marks) (sym e) marked)
+        ];
+        kept = λ i has. (w.put.ensures.members i).1 (inl (inv.kept i has));
+        complete = λ x has i came e marked. elim (passed x has) [
+          | inl old ↦ (w.put.ensures.members i).1 (inl (inv.complete x old i came e marked))
+          | inr same ↦ (w.put.ensures.members i).1 (inr (complete i came (ap (λ (y : Led). y.from) same ∙ e)))
+        ];
+        few = omega (arith, inv.few, w.put.ensures.few);
+      })
       | else-has w ↦ rw w.list-is (record {
-          ascending = inv.ascending;
-          sound = inv.sound;
-          kept = inv.kept;
-          complete = λ x has i came e marked. elim (passed x has) [
-            | inl old ↦ inv.complete x old i came e marked
-            | inr same ↦ absurd
-                (let is_i = complete i came (ap (λ (y : Led). y.from) same ∙ e) in
-                false≢true (sym w.if-has.false ∙ c.has.ensures.1 (subst (IsMarked marks) is_i marked)))
-          ];
-          few = omega (arith, inv.few);
-        })
+        ascending = inv.ascending;
+        sound = inv.sound;
+        kept = inv.kept;
+        complete = λ x has i came e marked. elim (passed x has) [
+          | inl old ↦ inv.complete x old i came e marked
+          | inr same ↦ absurd
+              (let is_i = complete i came (ap (λ (y : Led). y.from) same ∙ e) in
+              false≢true (sym w.if-has.false ∙ c.has.ensures.1 (subst (IsMarked marks) is_i marked)))
+        ];
+        few = omega (arith, inv.few);
+      })
     ]
 
 pub returns-clause-members : goal.returns-clause-members
 returns-clause-members c = λ i.
     let inv = c.loop-led.invariant in
     let items = c.args.self.now.all.items in
-    let list = c.as_slice-led-items.ensures.value in
-    (inv.sound i, λ h. elim h [
-      | inl old ↦ inv.kept i old
-      | inr came ↦
-          let left = c.requires.leds.all c.requires.told c.args.place i c.requires.node came.0 in
-          let passed = subst (λ (xs : List Led). Contains xs left.led) (sym (take_all c.loop-led.led-index items (subst (λ (xs : List Led). length xs ≤ c.loop-led.led-index) list c.loop-led-test.false))) left.has in
-          inv.complete left.led passed i came.0 left.is came.1
-    ])
+    let list = c.as_slice-led-items.ensures.value in (
+      inv.sound i,
+      λ h. elim h [
+        | inl old ↦ inv.kept i old
+        | inr came ↦
+            let left = c.requires.leds.all c.requires.told c.args.place i c.requires.node came.0 in
+            let passed = subst (λ (xs : List Led). Contains xs left.led) (sym (take_all c.loop-led.led-index items (subst (λ (xs : List Led). length xs ≤ c.loop-led.led-index) list c.loop-led-test.false))) left.has in
+            inv.complete left.led passed i came.0 left.is came.1
+      ],
+    )

@@ -1,7 +1,6 @@
-use Rattle.std.proofs.Common.{◌≡◌, ◌≢◌, ◌+◌, ◌-◌, ◌*◌, ◌<◌, ℕ, min, Some, refl, sym, ap, ◌∙◌, subst, arith}
+use Rattle.std.proofs.Common.{◌≡◌, ◌+◌, ◌-◌, ◌*◌, ◌<◌, ℕ, min, refl, sym, ◌∙◌, subst, arith}
 use Rattle.std.proofs.lemmas.Nat.Bits.{bit_at-lt, bit_at-zero}
 use Rattle.std.specs.Int.{bit_at}
-use Rattle.egt_board.specs.Placement.{IsFree}
 use Rattle.egt_board.specs.declared.man.Side.TheVariants.{White}
 use Rattle.egt_sweep.specs.Nodes.{setup_at}
 use Rattle.egt_sweep.proofs.LedKings.{king_piece, stands_on_board}

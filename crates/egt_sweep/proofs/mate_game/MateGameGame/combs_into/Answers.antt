@@ -1,4 +1,4 @@
-use Rattle.std.proofs.Common.{◌∙◌, ap, sym}
+use Rattle.std.proofs.Common.{◌∙◌, ap}
 use Rattle.egt_graph.specs.Columns.{count_of}
 use Rattle.egt_sweep.proofs.Following.{into_all_is}
 use Rattle.egt_sweep.proofs.mate_game.MateGameGame.combs_into.Goals as goal

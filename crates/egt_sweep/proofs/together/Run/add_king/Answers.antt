@@ -1,11 +1,10 @@
-use Rattle.std.proofs.Common.{◌≡◌, ◌+◌, ◌-◌, ◌*◌, ◌/◌, ◌⊎◌, ◌↔◌, ℕ, List, [], ap, sym, ◌∙◌, subst, inl, inr, arith}
+use Rattle.std.proofs.Common.{◌≡◌, ℕ, List, [], sym, ◌∙◌, subst, inl, inr, arith}
 use Rattle.std.proofs.lemmas.Bool.{false≢true}
 use Rattle.std.specs.List.{Contains}
 use Rattle.egt_index.specs.Frame.{IsFrame}
-use Rattle.egt_unmoves.specs.Around.{AreMenOf}
 use Rattle.egt_sweep.specs.Edges.{CameTo}
 use Rattle.egt_sweep.specs.Nodes.{setup_at}
-use Rattle.egt_sweep.proofs.InRuns.{alike_there, is_alike, there}
+use Rattle.egt_sweep.proofs.InRuns.{alike_there, there}
 use Rattle.egt_sweep.proofs.together.Run.add_king.Goals as goal
 
 none_in : (xs : List ℕ) (i : ℕ) → xs ≡ [] → Contains xs i → ⊥

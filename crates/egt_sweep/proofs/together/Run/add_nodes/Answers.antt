@@ -1,10 +1,6 @@
-use Rattle.std.proofs.Common.{◌≡◌, ◌+◌, ◌<◌, ℕ, List, [], sym, ◌∙◌, subst, inl, inr, ap, arith}
-use Rattle.std.specs.Prelude.{sum_by}
+use Rattle.std.proofs.Common.{arith}
 use Rattle.std.specs.List.{slice_range}
-use Rattle.egt_graph.specs.Columns.{count_of}
-use Rattle.egt_sweep.specs.Runs.{times_of}
-use Rattle.egt_sweep.specs.Told.{marked_into, times_at, times_told}
-use Rattle.egt_sweep.specs.declared.together.Run.{Run}
+use Rattle.egt_sweep.specs.Told.{times_at}
 use Rattle.egt_sweep.proofs.Combed.{sum_both, told_nodes}
 use Rattle.egt_sweep.proofs.InRuns.{places_spread}
 use Rattle.egt_sweep.proofs.together.Run.add_nodes.Goals as goal

@@ -1,5 +1,4 @@
-use Rattle.std.proofs.Common.{◌≡◌, ◌+◌, ◌<◌, ℕ, List, [], subst, ap, ◌∙◌, arith}
-use Rattle.std.specs.List.{Contains}
+use Rattle.std.proofs.Common.{◌<◌, ℕ, [], subst, ap, ◌∙◌, arith}
 use Rattle.egt_graph.specs.Columns.{count_of}
 use Rattle.egt_graph.proofs.Lost.{count-append}
 use Rattle.egt_sweep.proofs.AtNode.{node_counted, nobody_untold}

@@ -1,11 +1,9 @@
-use Rattle.std.proofs.Common.{◌≡◌, ◌<◌, ℕ, ap, sym, ◌∙◌, subst}
+use Rattle.std.proofs.Common.{ℕ, ap, sym, ◌∙◌, subst}
 use Rattle.egt_board.specs.Beside.{StandsBeside}
 use Rattle.egt_board.specs.Attack.{king_of}
 use Rattle.egt_board.specs.Man.{other_side}
 use Rattle.egt_board.specs.declared.man.Side.TheVariants.{White}
-use Rattle.egt_board.specs.Placement.{one_man}
 use Rattle.egt_board.specs.Setup.{Setup, IsKingOn}
-use Rattle.egt_board.specs.declared.man.Man.{Man}
 use Rattle.egt_board.specs.declared.man.Side.{Side}
 use Rattle.egt_index.specs.Fixed.{StandsFixed}
 use Rattle.egt_sweep.specs.Leds.{AreLeds}

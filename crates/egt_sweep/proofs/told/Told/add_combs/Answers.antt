@@ -19,13 +19,13 @@ loop-left-preserved c =
     let tooth = λ (i : ℕ). tooth_is c.args.places i left c.comb-comb.result (omega arith) c.comb-comb.ensures.first c.comb-comb.ensures.bits in
     elim c.if-comb-ne0.branch [
       | then-comb-ne0 w ↦ rw w.combs-is (record {
-          counted = λ i. combs_more c.args.places i lefts k left c.args.combs.now.items c.loop-left.combs.items w.push.new.self.items c.comb-comb.result inside at w.push.ensures.items (tooth i) (c.loop-left.invariant.counted i);
-          few = omega (arith, c.loop-left.invariant.few, w.push.ensures.len);
-        })
+        counted = λ i. combs_more c.args.places i lefts k left c.args.combs.now.items c.loop-left.combs.items w.push.new.self.items c.comb-comb.result inside at w.push.ensures.items (tooth i) (c.loop-left.invariant.counted i);
+        few = omega (arith, c.loop-left.invariant.few, w.push.ensures.len);
+      })
       | else-comb-ne0 w ↦ rw w.combs-is (record {
-          counted = λ i. combs_same c.args.places i lefts k left c.args.combs.now.items c.loop-left.combs.items c.comb-comb.result inside at w.if-comb-ne0.false (tooth i) (c.loop-left.invariant.counted i);
-          few = omega (arith, c.loop-left.invariant.few);
-        })
+        counted = λ i. combs_same c.args.places i lefts k left c.args.combs.now.items c.loop-left.combs.items c.comb-comb.result inside at w.if-comb-ne0.false (tooth i) (c.loop-left.invariant.counted i);
+        few = omega (arith, c.loop-left.invariant.few);
+      })
     ]
 
 pub returns-clause-counted : goal.returns-clause-counted
