@@ -56,7 +56,7 @@ with_none : (next : Entry) → option_to_list next ++ [] ≡ option_to_list next
 with_none None = refl
 with_none (Some e) = refl
 
-list_before : (stand : Stand) → stand.last ≡ None → list_of stand ≡ before_last stand
+pub list_before : (stand : Stand) → stand.last ≡ None → list_of stand ≡ before_last stand
 list_before stand none =
     ap (λ (last : Entry). kings (option_to_list stand.next ++ option_to_list last)) none ∙ ap kings (with_none stand.next)
   where

@@ -12,7 +12,7 @@ pub mod Turned
 pub mod Best
 pub mod MenTable
 pub mod ScaleTable
-pub mod Places
+pub mod TrianglePlaces
 pub mod Found
 pub mod Classes
 pub mod Exists
@@ -62,3 +62,5 @@ pub mod Opposed
 pub mod Led
 pub mod ByMen
 pub mod WholeRows
+pub mod Facing
+pub mod Placing

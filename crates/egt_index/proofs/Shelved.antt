@@ -59,6 +59,15 @@ all_whole = refl
 pub whole_shelves : (c : ℕ) → c < 36 → size_of c % shelf_len c ≡ 0
 whole_shelves c c_in = eqb-true (size_of c % shelf_len c) 0 (passes_below (λ c. size_of c % shelf_len c == 0) 36 c all_whole c_in)
 
+-- and a shelf with a row
+pub whole_rows : (c : ℕ) → shelf_len c % ends_of (material_of c) ≡ 0
+unfolding shelf_len
+whole_rows c = of_test (has_target (material_of c)) (digits_at (last_of (men_beside (material_of c))))
+  where
+    of_test : (b : Bool) (d : ℕ) → cond {A = ℕ} b 4 2 * d % cond {A = ℕ} b 4 2 ≡ 0
+    of_test true d = omega arith
+    of_test false d = omega arith
+
 -- the next multiple is within a greater one
 pub next_within : (len i n : ℕ) → 0 < len → i < n → n % len ≡ 0 → i - i % len + len ≤ n
 next_within len i n some below whole =

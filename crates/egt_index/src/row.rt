@@ -6,7 +6,7 @@ ghost use Rattle.egt_board.specs.Setup.{Setup};
 ghost use Rattle.egt_index.specs.Beaten.{SpellsAt};
 ghost use Rattle.egt_index.specs.Code.{Spells};
 ghost use Rattle.egt_index.specs.Frame.{IsFrame};
-ghost use Rattle.egt_index.specs.Front.{IsFront, TellsLast};
+ghost use Rattle.egt_index.specs.Front.{IsFront, IsFrontOf, TellsLast};
 ghost use Rattle.egt_index.specs.Index.{IsIndex, IsVoid};
 ghost use Rattle.egt_index.specs.Row.{row_len, IsInRow, IsRow, IsTurnedTo, IsRowOf};
 ghost use Rattle.egt_index.specs.Size.{size_of};
@@ -126,6 +126,26 @@ impl Rows {
             number: 0,
             front: front_of(class, 0),
         }
+    }
+
+    /// The class.
+    #[inline(always)]
+    pub(crate) fn class(&self) -> Class
+        ensures { result ≡ self.now }
+    {
+        self.class
+    }
+
+    /// The front whose men have these digits, as `front_of` answers. It is kept.
+    pub(crate) fn front_at(&mut self, number: u32) -> Option<Front>
+        ensures front { IsFrontOf self.old number result }
+        ensures class { self.new ≡ self.old }
+    {
+        if number != self.number {
+            self.front = front_of(self.class, number);
+            self.number = number;
+        }
+        self.front
     }
 
     /// The row of the code, as `row_of` answers.

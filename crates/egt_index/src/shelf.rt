@@ -6,6 +6,7 @@ ghost use Rattle.egt_index.specs.AtIndex.{IsFramedAt};
 ghost use Rattle.egt_index.specs.Code.{Spells};
 ghost use Rattle.egt_index.specs.Frame.{IsMoved, IsOwnAfter, IsFirstAfter};
 ghost use Rattle.egt_index.specs.Index.{IsIndex, IsVoid};
+ghost use Rattle.egt_index.specs.Row.{row_len};
 ghost use Rattle.egt_index.specs.Scales.{ScalesFit, ends_of};
 ghost use Rattle.egt_index.specs.Shelf.{Adds, AreAlike, GoerFits, HasGone, HasNoPawnOn, IsShelved, IsShift, shelf_len};
 ghost use Rattle.egt_index.specs.Size.{size_of};
@@ -29,12 +30,16 @@ static LENS: [u8; 36] = [
     128, 128, 128, 128, 128, 96, 96, 96, 96, 96, 96, 96, 96, 96, 192,
 ];
 
-/// The same of the class.
-fn shelf_len(class: Class) -> u32
+/// How many codes of the class differ by no more than the last man's digit and those behind it: its codes are so many shelves, each of
+/// whole rows.
+pub fn shelf_len(class: Class) -> u32
     ensures is { result ≡ shelf_len class }
     ensures some { 0 < result }
     ensures few { result < 256 }
+    ensures whole { size_of class % shelf_len class ≡ 0 }
+    ensures rows { shelf_len class % row_len class ≡ 0 }
 {
+    let _number = class.number();
     u32::from(LENS[usize::from(class.number())])
 }
 

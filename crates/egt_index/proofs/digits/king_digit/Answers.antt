@@ -1,7 +1,7 @@
 use Rattle.std.proofs.Common.{◌≡◌, sym, subst, Bool, false, Option, ℕ, IfSome, IfNone, ◌<◌, ◌≢◌}
 use Rattle.egt_index.specs.Code.{king_square}
 use Rattle.egt_index.specs.Size.{king_base}
-use Rattle.egt_index.proofs.Places.{Place, place_told}
+use Rattle.egt_index.proofs.TrianglePlaces.{Place, place_told}
 use Rattle.egt_index.proofs.digits.king_digit.Goals as goal
 
 -- of a class without pawns

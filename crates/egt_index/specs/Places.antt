@@ -1,0 +1,57 @@
+-- Which codes of a shelf are positions' indexes, and where the last man of a position may stand.
+use Rattle.std.specs.Prelude.{◌≡◌, ℕ, ◌+◌, ◌*◌, ◌<◌, Bool, true, false}
+use Rattle.std.specs.Int.{bit_at}
+use Rattle.egt_board.specs.Man.{other_side}
+use Rattle.egt_board.specs.Pawn.{pawn_of}
+use Rattle.egt_board.specs.Placement.{IsFree}
+use Rattle.egt_board.specs.Safety.{IsKeptFrom}
+use Rattle.egt_board.specs.declared.man.Kind.{Kind}
+use Rattle.egt_board.specs.declared.man.Kind.TheVariants.{Q, R, B, N, P, K}
+use Rattle.egt_board.specs.declared.man.Man.{Man}
+use Rattle.egt_board.specs.declared.man.Side.{Side}
+use Rattle.egt_board.specs.declared.man.Side.TheVariants.{White, Black}
+use Rattle.egt_index.specs.Index.{IsVoid}
+use Rattle.egt_index.specs.Scales.{kind_digits, kind_less}
+use Rattle.egt_index.specs.Shelf.{shelf_len}
+use Rattle.egt_index.specs.Size.{man_of}
+use Rattle.egt_index.specs.declared.front.Front.{Front}
+use Rattle.egt_index.specs.declared.places.Places.{Places}
+use Rattle.egt_index.specs.declared.stand.Stand.{Stand}
+
+-- the bits are of every other code from `first` on, up to `end`: 1 exactly where the code is a position's index
+pub record AreBitsOf (c first end bits : ℕ) : Type 0 where
+  pub nodes : (k : ℕ) → bit_at bits k ≡ 1 → (first + 2 * k < end) × ¬ IsVoid c (first + 2 * k)
+  pub voids : (k : ℕ) → first + 2 * k < end → bit_at bits k ≡ 0 → IsVoid c (first + 2 * k)
+
+-- so are those of the shelf that begins with `first`, by the side to move
+pub record ArePlaces (c first : ℕ) (places : Places) : Type 0 where
+  pub white : AreBitsOf c first (first + shelf_len c) places.white
+  pub black : AreBitsOf c (first + 1) (first + shelf_len c) places.black
+
+-- the answer is right whether the code is a position's index
+pub record TellsIndex (there : Bool) (c code : ℕ) : Type 0 where
+  pub node : there ≡ true → ¬ IsVoid c code
+  pub void : there ≡ false → IsVoid c code
+
+-- the man who attacks the squares from which this one attacks his: of a pawn the enemy's, of another man the same
+abbrev pub facing_by : Side → Kind → Man
+facing_by side P = pawn_of (other_side side)
+facing_by side Q = man_of side Q
+facing_by side R = man_of side R
+facing_by side B = man_of side B
+facing_by side N = man_of side N
+facing_by side K = man_of side K
+
+abbrev pub facing : Man → Man
+facing man = facing_by man.side man.kind
+
+-- the square of the king of the side that waits
+abbrev pub waiting : Side → Stand → ℕ
+waiting White stand = stand.black
+waiting Black stand = stand.white
+
+-- the last man may stand on the square of the digit, and leaves the king of the side that waits unattacked
+pub record IsPlaced (front : Front) (man : Man) (mover : Side) (k : ℕ) : Type 0 where
+  pub below : k < kind_digits man.kind
+  pub free : IsFree front.board (k + kind_less man.kind)
+  pub kept : IsKeptFrom front.board (k + kind_less man.kind) man (waiting mover front.stand) mover

@@ -1,0 +1,202 @@
+//! Which codes of a shelf are positions' indexes, told of all of them at once by sets of squares.
+ghost use Rattle.std.specs.Prelude.{◌≡◌, ◌≢◌, ℕ, ◌+◌, ◌*◌, ◌/◌, ◌%◌, ◌^◌, ◌<◌, ◌↔◌, true, false, Some, IfSome, Option};
+ghost use Rattle.std.specs.Int.{bit_at};
+ghost use Rattle.egt_board.specs.Attack.{king_of};
+ghost use Rattle.egt_board.specs.Placement.{Stands};
+ghost use Rattle.egt_board.specs.Safety.{IsKeptFrom};
+ghost use Rattle.egt_board.specs.SquareSet.{Has};
+ghost use Rattle.egt_board.specs.declared.man.Side.TheVariants.{White, Black};
+ghost use Rattle.egt_class.specs.Material.{material_of};
+ghost use Rattle.egt_index.specs.Front.{IsFront, IsFrontOf};
+ghost use Rattle.egt_index.specs.Index.{IsVoid};
+ghost use Rattle.egt_index.specs.Places.{ArePlaces, IsPlaced, TellsIndex, facing, waiting};
+ghost use Rattle.egt_index.specs.Row.{row_len, IsRowOf};
+ghost use Rattle.egt_index.specs.Scales.{AreEqual, kind_digits, kind_less};
+ghost use Rattle.egt_index.specs.Shelf.{last_of, shelf_len};
+ghost use Rattle.egt_index.specs.Size.{has_target, men_beside, size_of};
+ghost use Rattle.egt_index.specs.Stood.{Entry};
+
+use crate::front::Front;
+use crate::men::beside;
+use crate::row::{Row, Rows};
+use crate::shelf::shelf_len;
+use crate::stand::Stand;
+use egt_board::gait::reach_past;
+use egt_board::safety::reach_passes_over_its_end;
+use egt_board::{Board, Kind, Man, Side, Square, SquareSet};
+use egt_class::Class;
+
+/// Of a shelf's codes, which are positions' indexes: bit `k` is of the code with the last man's digit `k`.
+#[derive(Clone, Copy, PartialEq, Eq, Debug, Default)]
+pub struct Places {
+    /// Those with White to move.
+    pub white: u64,
+    /// Those with Black to move.
+    pub black: u64,
+}
+
+/// The man who attacks the squares from which this one attacks his: of a pawn the enemy's, of another man the same.
+fn facing(man: Man) -> Man
+    ensures { result ≡ facing man }
+{
+    match man.kind {
+        Kind::P => man.side.other().pawn(),
+        _ => man,
+    }
+}
+
+/// The squares on which the man, come to the board, leaves `to` unattacked by men of that side, which may be his.
+fn kept_from(board: &Board, man: Man, to: Square, side: Side) -> SquareSet
+    ensures { (t : ℕ) → t < 64 → Has result t ↔ IsKeptFrom board.now t man to side }
+{
+    let sheltered = board.shelter(to, side);
+    if man.side != side {
+        return sheltered;
+    }
+    reach_passes_over_its_end();
+    let _number = to.number();
+    let occupied = board.occupied();
+    let attacking = reach_past(facing(man), to, occupied);
+    sheltered.without(attacking)
+}
+
+/// The digits of the man on these squares, as bits.
+fn digits_on(man: Man, squares: SquareSet) -> u64
+    ensures { (k : ℕ) → (bit_at result k ≡ 1) ↔ ((k < kind_digits man.kind) × Has squares (k + kind_less man.kind)) }
+{
+    match man.kind {
+        Kind::P => (squares.bits >> 8) & 0xFFFF_FFFF_FFFF,
+        _ => squares.bits,
+    }
+}
+
+/// The square of the king of the side that waits.
+fn waiting(mover: Side, stand: &Stand) -> Square
+    ensures { result ≡ waiting mover stand.now }
+{
+    match mover {
+        Side::White => stand.black,
+        Side::Black => stand.white,
+    }
+}
+
+/// The digits of the last man, as bits, where he makes a position with the men of the front and that side to move.
+fn places_of(front: &Front, man: Man, mover: Side) -> u64
+    ensures bits { (k : ℕ) → (bit_at result k ≡ 1) ↔ IsPlaced front.now man mover k }
+    ensures on_board { (s : ℕ) (other : Man) → Stands front.now.board s other → s < 64 }
+{
+    let king = waiting(mover, &front.stand);
+    let kept = kept_from(&front.board, man, king, mover);
+    let occupied = front.board.occupied();
+    digits_on(man, kept.without(occupied))
+}
+
+/// Whether the entry is of this man.
+fn is_equal(entry: &Option<(Man, Square)>, man: Man) -> bool
+    ensures { result ≡ false → (s : ℕ) → ¬ AreEqual entry.now (Some (man, s)) }
+{
+    match entry {
+        Some((other, _)) => *other == man,
+        None => false,
+    }
+}
+
+/// The places of the shelf behind the front, whose last man this is; `None` where each code is to be compared with those of images.
+fn places_behind(class: Class, front: &Front, man: Man) -> Option<Places>
+    requires targets { has_target (material_of class) ≡ false }
+    requires last { last_of (men_beside (material_of class)) ≡ Some man }
+    requires other { man ≢ king_of White }
+    requires front { (high : ℕ) × IsFront class high front.now }
+    ensures { IfSome result (λ places. (high : ℕ) → IsFront class high front.now → ArePlaces class (high * shelf_len class) places) }
+{
+    let _number = class.number();
+    if front.tied || is_equal(&front.stand.next, man) {
+        return None;
+    }
+    Some(Places {
+        white: places_of(front, man, Side::White),
+        black: places_of(front, man, Side::Black),
+    })
+}
+
+/// The places of the shelf with this number, where its front and the class tell all of them; there is no front only where all are void.
+fn told(class: Class, number: u32, front: &Option<Front>) -> Option<Places>
+    requires targets { has_target (material_of class) ≡ false }
+    requires front { IsFrontOf class number front.now }
+    ensures { IfSome result (ArePlaces class (number * shelf_len class)) }
+{
+    let _number = class.number();
+    let (_, last) = beside(class);
+    let man = last?;
+    match front {
+        Some(front) => places_behind(class, front, man),
+        None => Some(Places::default()),
+    }
+}
+
+/// Whether the code of the row, if there is one, is a position's index.
+fn is_index(row: &Option<Row>, code: u32) -> bool
+    requires { (c : ℕ) × IsRowOf c (code / row_len c) row.now }
+    ensures { (c : ℕ) → IsRowOf c (code / row_len c) row.now → TellsIndex result c code }
+{
+    match row {
+        Some(row) => row.position_at(code).is_some(),
+        None => false,
+    }
+}
+
+impl Rows {
+    /// Whether the two codes of the row that begins with this one are positions' indexes.
+    fn are_indexes(&mut self, code: u32) -> (bool, bool)
+        requires begins { code % 2 ≡ 0 }
+        requires room { code + 1 < 2 ^ 32 }
+        requires targets { has_target (material_of self.old) ≡ false }
+        ensures class { self.new ≡ self.old }
+        ensures white { TellsIndex result.0 self.old code }
+        ensures black { TellsIndex result.1 self.old (code + 1) }
+    {
+        let row = self.row_of(code);
+        (is_index(&row, code), is_index(&row, code + 1))
+    }
+
+    /// The places of the shelf that begins with `first`, each code asked about alone.
+    fn asked(&mut self, first: u32) -> Places
+        requires begins { first % 2 ≡ 0 }
+        requires room { first + shelf_len self.old < 2 ^ 32 }
+        requires targets { has_target (material_of self.old) ≡ false }
+        ensures class { self.new ≡ self.old }
+        ensures places { ArePlaces self.old first result }
+    {
+        let digits = shelf_len(self.class()) / 2;
+        let mut white = SquareSet::EMPTY;
+        let mut black = SquareSet::EMPTY;
+        for digit in 0..digits {
+            let (is_white, is_black) = self.are_indexes(first + 2 * digit);
+            let bit = Square::at(digit as u8);
+            white = white.changed(bit, is_white);
+            black = black.changed(bit, is_black);
+        }
+        Places {
+            white: white.bits,
+            black: black.bits,
+        }
+    }
+
+    /// Which codes of the shelf that begins with `first` are positions' indexes, in a class without targets.
+    pub fn places(&mut self, first: u32) -> Places
+        requires begins { first % shelf_len self.old ≡ 0 }
+        requires within { first < size_of self.old }
+        requires targets { has_target (material_of self.old) ≡ false }
+        ensures class { self.new ≡ self.old }
+        ensures places { ArePlaces self.old first result }
+    {
+        let class = self.class();
+        let _number = class.number();
+        let number = first / shelf_len(class);
+        let front = self.front_at(number);
+        match told(class, number, &front) {
+            Some(places) => places,
+            None => self.asked(first),
+        }
+    }
+}
