@@ -1,5 +1,5 @@
 -- A man attacks the squares from which it is attacked: of a pawn the enemy's attacks his.
-use Rattle.std.proofs.Common.{◌≡◌, ◌≢◌, ◌↔◌, ◌⊎◌, ℕ, ◌+◌, ◌-◌, ◌*◌, ◌<◌, ◌++◌, min, arith, refl, sym, ap, ◌∙◌, inl, inr, Some, None, subst}
+use Rattle.std.proofs.Common.{◌≡◌, ◌≢◌, ◌↔◌, ◌⊎◌, ℕ, ◌+◌, ◌-◌, ◌*◌, ◌<◌, ◌++◌, min, arith, refl, sym, ap, ◌∙◌, inl, inr, subst}
 use Rattle.std.specs.FinMap as map
 use Rattle.std.specs.Int.{bit_at}
 use Rattle.std.proofs.Math.Nat.{add-mul}
@@ -16,7 +16,6 @@ use Rattle.egt_board.specs.declared.step.Step.{Step}
 use Rattle.egt_board.specs.Attack.{IsAttacked}
 use Rattle.egt_board.specs.Coordinate.{Further}
 use Rattle.egt_board.specs.Gait.{OneOf, Rides, Reaches, Reaches-free, straight_steps, diagonal_steps, knight_steps, pawn_steps, steps_of, farthest}
-use Rattle.egt_board.specs.Images.{side_number}
 use Rattle.egt_board.specs.Man.{other_side}
 use Rattle.egt_board.specs.Pawn.{pawn_of}
 use Rattle.egt_board.specs.Placement.{Placement, Stands, IsFree, get-insert_same, get-insert_other, one_man}

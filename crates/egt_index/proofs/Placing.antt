@@ -1,5 +1,5 @@
 -- Which codes of a shelf are positions' indexes, by where the last man may stand.
-use Rattle.std.proofs.Common.{◌≡◌, ◌≢◌, ◌↔◌, ◌⊎◌, ℕ, ◌+◌, ◌-◌, ◌*◌, ◌/◌, ◌%◌, ◌^◌, ◌<◌, ◌≤◌, Bool, true, false, cond, if◌then◌else◌, List, [], ◌∷◌, Option, Some, None, bit_and, min, arith, refl, sym, ap, ◌∙◌, subst, inl, inr}
+use Rattle.std.proofs.Common.{◌≡◌, ◌≢◌, ◌↔◌, ℕ, ◌+◌, ◌-◌, ◌*◌, ◌/◌, ◌%◌, ◌^◌, ◌<◌, ◌≤◌, Bool, true, false, cond, if◌then◌else◌, List, [], ◌∷◌, Option, Some, None, bit_and, min, arith, refl, sym, ap, ◌∙◌, subst, inl, inr}
 use Rattle.std.specs.FinMap as map
 use Rattle.std.specs.Int.{bit_at}
 use Rattle.std.specs.Option.{option_to_list}
@@ -12,8 +12,7 @@ use Rattle.egt_board.specs.Listed.{men_of, setup_of}
 use Rattle.egt_board.specs.Man.{other_side}
 use Rattle.egt_board.specs.Placement.{Placement, Stands, IsFree, get-insert_other}
 use Rattle.egt_board.specs.Safety.{IsKeptFrom}
-use Rattle.egt_board.specs.Settled.{IsSettled}
-use Rattle.egt_board.specs.Setup.{Setup, IsAdmissible}
+use Rattle.egt_board.specs.Setup.{IsAdmissible}
 use Rattle.egt_board.specs.declared.man.Kind.{Kind}
 use Rattle.egt_board.specs.declared.man.Kind.TheVariants.{Q, R, B, N, P, K}
 use Rattle.egt_board.specs.declared.man.Man.{Man}
@@ -30,7 +29,7 @@ use Rattle.egt_index.specs.Scales.{AreEqual, digits_at, kind_digits, kind_less}
 use Rattle.egt_index.specs.Shelf.{last_of, shelf_len}
 use Rattle.egt_index.specs.Size.{base_by, has_target, man_of, men_beside}
 use Rattle.egt_index.specs.Spelled.{Ends, Splits, SpellsMen, Tells}
-use Rattle.egt_index.specs.Stood.{AllApart, Entry, IsInOrder, IsOff, before_last, list_of, with_last}
+use Rattle.egt_index.specs.Stood.{AllApart, Entry, IsInOrder, IsOff, list_of, with_last}
 use Rattle.egt_index.specs.declared.front.Front.{Front}
 use Rattle.egt_index.specs.declared.stand.Stand.{Stand}
 use Rattle.egt_index.proofs.Decoded.{list_spelled, spelled_setup}

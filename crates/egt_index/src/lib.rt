@@ -60,6 +60,8 @@ mod index_tests;
 #[cfg(test)]
 mod led_home_tests;
 #[cfg(test)]
+mod places_tests;
+#[cfg(test)]
 mod plain_tests;
 #[cfg(test)]
 mod step_tests;

@@ -214,6 +214,25 @@ impl Row {
         }
     }
 
+    /// The settled position that the code of the row spells: what `position_at` answers, where the caller knows that the code is an index. No
+    /// test is made.
+    #[inline(always)]
+    pub fn known_position(&self, code: u32) -> Position
+        requires row { IsRow (code / row_len self.now.class) self.now }
+        requires index { ¬ IsVoid self.now.class code }
+        ensures spells { Spells self.now.class code result }
+        ensures settled { IsSettled result }
+        ensures index { IsIndex self.now.class result code }
+        ensures row { IsInRow self.now.class self.now.stand result }
+    {
+        facts();
+        let _number = self.class.number();
+        let Row { board, stand, .. } = *self;
+        let (_, side, passed) = ends(self.class, code);
+        let target = target_of(side, passed, &stand);
+        Position::with_kings(board, side, target, stand.white, stand.black)
+    }
+
     /// Turns the frame to a position that a code of the row spells. It is made for the first one alone.
     #[inline(always)]
     pub fn turn_to(&mut self, position: &Position)

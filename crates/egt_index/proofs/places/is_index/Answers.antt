@@ -1,4 +1,4 @@
-use Rattle.std.proofs.Common.{◌/◌, ℕ, Option, None, refl, subst}
+use Rattle.std.proofs.Common.{◌/◌, Option, refl, subst}
 use Rattle.std.proofs.lemmas.Bool.{false≢true}
 use Rattle.egt_index.specs.Row.{IsRowOf, row_len}
 use Rattle.egt_index.specs.declared.row.Row.{Row}

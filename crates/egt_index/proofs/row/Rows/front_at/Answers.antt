@@ -1,4 +1,4 @@
-use Rattle.std.proofs.Common.{◌≡◌, sym, subst}
+use Rattle.std.proofs.Common.{sym, subst}
 use Rattle.egt_index.specs.Front.{IsFrontOf}
 use Rattle.egt_index.specs.declared.row.Rows.TheInside.{Inside}
 use Rattle.egt_index.proofs.row.Rows.front_at.Goals.{then-number-self, else-number-self}

@@ -1,4 +1,4 @@
-use Rattle.std.proofs.Common.{◌≡◌, ◌/◌, ◌*◌, ◌%◌, ℕ, arith, ap, sym, ◌∙◌, subst}
+use Rattle.std.proofs.Common.{◌≡◌, ◌/◌, ◌*◌, ℕ, arith, ap, ◌∙◌, subst}
 use Rattle.egt_index.specs.Places.{ArePlaces}
 use Rattle.egt_index.specs.Shelf.{shelf_len}
 use Rattle.egt_index.specs.Size.{size_of}
@@ -23,5 +23,5 @@ pub returns-in-Some-clause-places : goal.returns-in-Some-clause-places
 returns-in-Some-clause-places c =
     let len = ap shelf_len c.class-class.ensures in
     let is : c.args.first / c.shelf_len.result * shelf_len c.class-class.result ≡ c.args.first =
-        ap (λ n. c.args.first / n * shelf_len c.class-class.result) (c.shelf_len.ensures.is ∙ len) ∙ ap (λ n. c.args.first / shelf_len c.args.self.now * n) len ∙ whole_first c.args.first (shelf_len c.args.self.now) c.requires.begins in
+    ap (λ n. c.args.first / n * shelf_len c.class-class.result) (c.shelf_len.ensures.is ∙ len) ∙ ap (λ n. c.args.first / shelf_len c.args.self.now * n) len ∙ whole_first c.args.first (shelf_len c.args.self.now) c.requires.begins in
     subst (λ (k : ℕ). ArePlaces k c.args.first c.in-Some.places) c.class-class.ensures (subst (λ (n : ℕ). ArePlaces c.class-class.result n c.in-Some.places) is c.in-Some.ensures)
