@@ -57,19 +57,19 @@ fn are_told(number: u8, each: u32) -> Result<bool, Fail> {
     Ok(true)
 }
 
-/// KK, KQK and KPK, whose shelves are rows, whole.
+/// KK and KQK, whose shelves are rows.
 #[test]
-fn shelves_of_three_men(rt: HostRuntime) -> Result<(), Fail> {
-    for number in [0, 1, 5] {
+fn all_shelves(rt: HostRuntime) -> Result<(), Fail> {
+    for number in [0, 1] {
         assert!(rt; are_told(number, 1)?);
     }
     Ok(())
 }
 
-/// KRRK, KBNK, KQKQ, KQKR, KQPK, KQKP and KPPK: equal men and others, pieces and pawns, of one side and of both.
+/// KPK, KRRK, KBNK, KQKQ, KQKR, KQPK, KQKP and KPPK: equal men and others, pieces and pawns, of one side and of both.
 #[test]
-fn shelves_of_four_men(rt: HostRuntime) -> Result<(), Fail> {
-    for number in [10, 14, 16, 17, 26, 30, 34] {
+fn shelves_here_and_there(rt: HostRuntime) -> Result<(), Fail> {
+    for number in [5, 10, 14, 16, 17, 26, 30, 34] {
         assert!(rt; are_told(number, 97)?);
     }
     Ok(())
