@@ -14,5 +14,16 @@ pub mod Raising
 mod Scoring
 mod ScoreTable
 mod Uniformity
+mod Marks
 mod Men
 pub mod Passing
+pub mod Fanned
+pub mod Spreading
+mod Roaming
+pub mod QuietBest
+pub mod QuietWays
+mod Pushing
+mod Spreads
+mod ShelfBest
+mod ShelfJudged
+mod ToldBest

@@ -30,7 +30,7 @@ IsOneOf side king one other t = ((t ≡ king) ⊎ IsEntryOn side one t) ⊎ IsEn
 entry_is : (side : Side) (entry : Option (Man × ℕ)) (man : Man) (t : ℕ) → man.side ≡ side → entry ≡ Some (man, t) → IsEntryOn side entry t
 entry_is side entry man t theirs is = subst (λ (o : Option (Man × ℕ)). IsEntryOn side o t) (sym is) (theirs, refl)
 
-king_is : (man : Man) (side : Side) → man.kind ≡ K → man.side ≡ side → man ≡ king_of side
+pub king_is : (man : Man) (side : Side) → man.kind ≡ K → man.side ≡ side → man ≡ king_of side
 king_is man side king theirs = λ i. record { side = theirs i; kind = king i }
 
 module _ (men : Placement) (side : Side) (king : ℕ) (one other : Option (Man × ℕ)) (home : IsKingOn men side king) (others : AreOthers men one other) where

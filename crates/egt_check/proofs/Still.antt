@@ -66,7 +66,7 @@ no_promotion false None e fits = refl
 no_promotion false (Some kind) e fits = absurd fits
 
 -- a man is of the one side or of the other
-one_or_other : (a b : Side) → (a ≡ b) ⊎ (a ≡ other_side b)
+pub one_or_other : (a b : Side) → (a ≡ b) ⊎ (a ≡ other_side b)
 one_or_other White White = inl refl
 one_or_other White Black = inr refl
 one_or_other Black White = inr refl

@@ -15,3 +15,10 @@ pub mod Raised
 pub mod Judged
 pub mod Uniform
 pub mod Men
+pub mod Fan
+pub mod Roamer
+pub mod Voids
+pub mod QuietBest
+pub mod Spread
+pub mod Pusher
+pub mod ShelfBest

@@ -1,22 +1,27 @@
 //! The judgement of a whole table.
-ghost use Rattle.std.specs.Prelude.{◌≡◌, ◌↔◌, ◌+◌, ◌%◌, ◌/◌, ◌≤◌, true, Some, None, IsOk, IfOk, IfErr, IfSome, IfNone};
+ghost use Rattle.std.specs.Prelude.{◌≡◌, ◌↔◌, ◌+◌, ◌%◌, ◌/◌, ◌≤◌, true, false, Some, None, IsOk, IfOk, IfErr, IfSome, IfNone};
 ghost use Rattle.egt_index.specs.Row.{row_len, IsRowOf};
-ghost use Rattle.egt_index.specs.Size.{size_of};
+ghost use Rattle.egt_class.specs.Material.{material_of};
+ghost use Rattle.egt_index.specs.Size.{has_target, size_of};
 ghost use Rattle.egt_table.specs.declared.column.Column.TheVariants.{Mate};
 ghost use Rattle.egt_check.specs.Tables.{table_at, beside, HasChildren};
 ghost use Rattle.egt_check.specs.Library.{IsAccepted, IsRefused, IsFirstBreak, IsFirstMissing};
 ghost use Rattle.egt_check.specs.Rules.{KeepsBelow, KeepsRules};
 ghost use Rattle.egt_check.specs.Uniform.{IsUniform};
+ghost use Rattle.egt_check.specs.Voids.{TellsVoids};
 ghost use Rattle.egt_check.specs.FirstBad.{earlier, IsFirstBad};
 
 use crate::judging::{judge, judge_none};
 use crate::library::Library;
 use crate::reject::Reject;
 use crate::rule::Rule;
+use crate::shelf_judging::judge_shelf;
+use crate::spread::Spread;
 use crate::uniform::is_uniform;
+use crate::voids::tells_voids;
 use egt_class::laws::children_have_smaller_numbers;
 use egt_class::{Class, children};
-use egt_index::{Row, Rows, row_len, size};
+use egt_index::{Row, Rows, row_len, shelf_len, size};
 use egt_table::{Column, Table};
 
 /// The least child of the class that the library has no table of, if there is one.
@@ -35,7 +40,11 @@ pub fn first_missing(class: Class, library: &Library) -> Option<Class>
 }
 
 /// The first bad entry and its rule: the one that is known, or that of this index.
-fn earlier(known: Option<(u32, Rule)>, index: u32, rule: Option<Rule>) -> Option<(u32, Rule)>
+pub(crate) fn earlier(
+    known: Option<(u32, Rule)>,
+    index: u32,
+    rule: Option<Rule>,
+) -> Option<(u32, Rule)>
     ensures { result ≡ earlier known index rule }
 {
     match known {
@@ -142,14 +151,22 @@ fn judge_row(
     }
 }
 
-/// Judges every entry of a table whose class's children have their tables: the mate column to its first bad entry, and the
-/// zeroing column beside it.
-fn judge_all(table: &Table, library: &Library) -> Result<(), Reject>
-    requires { HasChildren (table_at library.now) table.now.class }
-    ensures exact { IsOk result ↔ KeepsRules (beside (table_at library.now) table.now) table.now }
-    ensures reason { IfErr result (IsRefused (table_at library.now) table.now) }
+/// Judges all entries row by row, of the zeroing column with the first bad one if there is one.
+///
+/// # Errors
+///
+/// The first bad entry of the mate column, and the first rule that it breaks.
+fn judge_by_rows(
+    table: &Table,
+    library: &Library,
+    uniform: bool,
+) -> Result<Option<(u32, Rule)>, (u32, Rule)>
+    requires uniform { uniform ≡ true → IsUniform table.now }
+    requires children { HasChildren (table_at library.now) table.now.class }
+    ensures kept { IfOk result (λ bad. KeepsBelow (beside (table_at library.now) table.now) table.now Mate (size_of table.now.class)) }
+    ensures zeroing { IfOk result (IsFirstBad (beside (table_at library.now) table.now) table.now (size_of table.now.class)) }
+    ensures broken { IfErr result (λ bad. IsFirstBreak (beside (table_at library.now) table.now) table.now Mate bad.0 bad.1) }
 {
-    let uniform = is_uniform(table);
     let mut bad_zeroing = None;
     let mut rows = Rows::new(table.class());
     let len = row_len(table.class());
@@ -157,23 +174,81 @@ fn judge_all(table: &Table, library: &Library) -> Result<(), Reject>
     while first < size(table.class()) {
         match judge_row(table, library, uniform, &mut rows, first, bad_zeroing) {
             Ok(bad) => bad_zeroing = bad,
-            Err((index, rule)) => {
-                return Err(Reject::Rejected {
-                    column: Column::Mate,
-                    index,
-                    rule,
-                });
-            }
+            Err(broken) => return Err(broken),
         }
         first += len;
     }
-    match bad_zeroing {
-        Some((index, rule)) => Err(Reject::Rejected {
+    Ok(bad_zeroing)
+}
+
+/// The same shelf by shelf.
+fn judge_by_shelves(table: &Table, library: &Library) -> Result<Option<(u32, Rule)>, (u32, Rule)>
+    requires uniform { IsUniform table.now }
+    requires voids { TellsVoids table.now }
+    requires targets { has_target (material_of table.now.class) ≡ false }
+    requires children { HasChildren (table_at library.now) table.now.class }
+    ensures kept { IfOk result (λ bad. KeepsBelow (beside (table_at library.now) table.now) table.now Mate (size_of table.now.class)) }
+    ensures zeroing { IfOk result (IsFirstBad (beside (table_at library.now) table.now) table.now (size_of table.now.class)) }
+    ensures broken { IfErr result (λ bad. IsFirstBreak (beside (table_at library.now) table.now) table.now Mate bad.0 bad.1) }
+{
+    let mut bad_zeroing = None;
+    let mut rows = Rows::new(table.class());
+    let mut white = Spread::nothing();
+    let mut black = Spread::nothing();
+    let len = shelf_len(table.class());
+    let mut first = 0;
+    while first < size(table.class()) {
+        match judge_shelf(
+            table,
+            library,
+            &mut rows,
+            &mut white,
+            &mut black,
+            first,
+            bad_zeroing,
+        ) {
+            Ok(bad) => bad_zeroing = bad,
+            Err(broken) => return Err(broken),
+        }
+        first += len;
+    }
+    Ok(bad_zeroing)
+}
+
+/// Judges all entries, by shelves where the entries tell which codes are indexes.
+fn judge_table(table: &Table, library: &Library) -> Result<Option<(u32, Rule)>, (u32, Rule)>
+    requires { HasChildren (table_at library.now) table.now.class }
+    ensures kept { IfOk result (λ bad. KeepsBelow (beside (table_at library.now) table.now) table.now Mate (size_of table.now.class)) }
+    ensures zeroing { IfOk result (IsFirstBad (beside (table_at library.now) table.now) table.now (size_of table.now.class)) }
+    ensures broken { IfErr result (λ bad. IsFirstBreak (beside (table_at library.now) table.now) table.now Mate bad.0 bad.1) }
+{
+    let uniform = is_uniform(table);
+    if uniform && tells_voids(table) {
+        judge_by_shelves(table, library)
+    } else {
+        judge_by_rows(table, library, uniform)
+    }
+}
+
+/// Judges every entry of a table whose class's children have their tables: the mate column to its first bad entry, and the
+/// zeroing column beside it.
+fn judge_all(table: &Table, library: &Library) -> Result<(), Reject>
+    requires { HasChildren (table_at library.now) table.now.class }
+    ensures exact { IsOk result ↔ KeepsRules (beside (table_at library.now) table.now) table.now }
+    ensures reason { IfErr result (IsRefused (table_at library.now) table.now) }
+{
+    match judge_table(table, library) {
+        Err((index, rule)) => Err(Reject::Rejected {
+            column: Column::Mate,
+            index,
+            rule,
+        }),
+        Ok(Some((index, rule))) => Err(Reject::Rejected {
             column: Column::Zeroing,
             index,
             rule,
         }),
-        None => Ok(()),
+        Ok(None) => Ok(()),
     }
 }
 

@@ -102,7 +102,7 @@ fn judge_zeroing(mate: u16, zeroing: u16, due: u16) -> Option<Rule>
 
 /// Whether both entries show a win, or both a loss, and are due.
 #[inline(always)]
-fn are_due(entries: &ByColumn, due: &ByColumn) -> bool
+pub(crate) fn are_due(entries: &ByColumn, due: &ByColumn) -> bool
     ensures mate { result ≡ true → Finds Mate entries.now.mate entries.now.mate due.now.mate None }
     ensures zeroing { result ≡ true → Finds Zeroing entries.now.mate entries.now.zeroing due.now.zeroing None }
 {
@@ -117,7 +117,7 @@ fn are_due(entries: &ByColumn, due: &ByColumn) -> bool
 
 /// Whether both entries show a draw, and it is due.
 #[inline(always)]
-fn are_drawn(entries: &ByColumn, due: &ByColumn) -> bool
+pub(crate) fn are_drawn(entries: &ByColumn, due: &ByColumn) -> bool
     ensures mate { result ≡ true → Finds Mate entries.now.mate entries.now.mate due.now.mate None }
     ensures zeroing { result ≡ true → Finds Zeroing entries.now.mate entries.now.zeroing due.now.zeroing None }
 {
@@ -130,7 +130,7 @@ fn are_drawn(entries: &ByColumn, due: &ByColumn) -> bool
 /// The first rules that the mate entry and the zeroing entry of a position break beside those that are due, if they break one. In true tables
 /// nearly all entries pass at once.
 #[inline(always)]
-fn judge_entries(entries: &ByColumn, due: &ByColumn) -> (Option<Rule>, Option<Rule>)
+pub(crate) fn judge_entries(entries: &ByColumn, due: &ByColumn) -> (Option<Rule>, Option<Rule>)
     ensures mate { Finds Mate entries.now.mate entries.now.mate due.now.mate result.0 }
     ensures zeroing { Finds Zeroing entries.now.mate entries.now.zeroing due.now.zeroing result.1 }
 {
@@ -147,7 +147,7 @@ fn judge_entries(entries: &ByColumn, due: &ByColumn) -> (Option<Rule>, Option<Ru
 }
 
 /// The entry of a position without a legal move.
-fn entry_at_end(position: &Position) -> u16
+pub(crate) fn entry_at_end(position: &Position) -> u16
     requires { NoMove chess position.now }
     ensures { IsAtEnd position.now result }
 {

@@ -5,17 +5,26 @@
 pub mod by_column;
 pub mod checking;
 pub mod facts;
+pub mod fan;
 pub mod judging;
 pub mod laws;
 pub mod library;
 pub mod outcome;
 pub mod own_men;
+pub mod pusher;
 pub mod quiet;
+pub mod quiet_best;
 pub mod reject;
+pub mod roamer;
 pub mod rule;
 pub mod score_table;
+pub mod shelf_best;
+pub mod shelf_judging;
+pub mod spread;
 pub mod successors;
+pub mod told_best;
 pub mod uniform;
+pub mod voids;
 
 pub use checking::{check, first_missing};
 pub use library::Library;

@@ -149,7 +149,7 @@ fn higher(best: ByColumn, scores: ByColumn) -> ByColumn
 
 /// In each column the greater of two scores, if there are two.
 #[inline(always)]
-fn raised(best: Option<ByColumn>, scores: ByColumn) -> ByColumn
+pub(crate) fn raised(best: Option<ByColumn>, scores: ByColumn) -> ByColumn
     ensures { (column : Column) →
         number_at result column ≡ greater (option_map (λ numbers. number_at numbers column) best) (number_at scores column) }
 {
@@ -345,7 +345,7 @@ fn best_of_captures(
 
 /// The best score so far, and of the moves from the square to these, which are a pawn's or take who stands there.
 #[inline(always)]
-fn best_of_others(
+pub(crate) fn best_of_others(
     table: &Table,
     library: &Library,
     frame: &Frame,
@@ -526,7 +526,7 @@ fn best_of_quiet(
 
 /// The best score so far, and of the legal moves of the man on the square.
 #[inline(always)]
-fn best_of_man(
+pub(crate) fn best_of_man(
     table: &Table,
     library: &Library,
     uniform: bool,

@@ -5,3 +5,4 @@ mod plain;
 mod reference;
 mod refused;
 mod shelved;
+mod voids;

@@ -5,7 +5,7 @@ use Rattle.egt_table.specs.declared.column.Column.TheVariants.{Mate}
 use Rattle.egt_check.specs.FirstBad.{IsFirstBad}
 use Rattle.egt_check.specs.Rules.{KeepsBelow}
 use Rattle.egt_check.specs.Tables.{table_at, beside}
-use Rattle.egt_check.proofs.checking.judge_all.Given as goal
+use Rattle.egt_check.proofs.checking.judge_by_rows.Given as goal
 
 abbrev pub invariant-loop-first : goal.invariant-loop-first
 invariant-loop-first l = record {
