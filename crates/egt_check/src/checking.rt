@@ -20,7 +20,7 @@ use crate::spread::Spread;
 use crate::uniform::is_uniform;
 use crate::voids::tells_voids;
 use egt_class::laws::children_have_smaller_numbers;
-use egt_class::{Class, children};
+use egt_class::{Class, children, name};
 use egt_index::{Row, Rows, row_len, shelf_len, size};
 use egt_table::{Column, Table};
 
@@ -215,7 +215,13 @@ fn judge_by_shelves(table: &Table, library: &Library) -> Result<Option<(u32, Rul
     Ok(bad_zeroing)
 }
 
-/// Judges all entries, by shelves where the entries tell which codes are indexes.
+/// Whether one side has two equal men beside its king: no sum tells of their steps, so that nothing is won by shelves.
+fn has_equal_men(class: Class) -> bool {
+    let name = name(class);
+    matches!(name.as_str(), "KQQK" | "KRRK" | "KBBK" | "KNNK" | "KPPK")
+}
+
+/// Judges all entries, by shelves where that pays and the entries tell which codes are indexes.
 fn judge_table(table: &Table, library: &Library) -> Result<Option<(u32, Rule)>, (u32, Rule)>
     requires { HasChildren (table_at library.now) table.now.class }
     ensures kept { IfOk result (λ bad. KeepsBelow (beside (table_at library.now) table.now) table.now Mate (size_of table.now.class)) }
@@ -223,7 +229,7 @@ fn judge_table(table: &Table, library: &Library) -> Result<Option<(u32, Rule)>, 
     ensures broken { IfErr result (λ bad. IsFirstBreak (beside (table_at library.now) table.now) table.now Mate bad.0 bad.1) }
 {
     let uniform = is_uniform(table);
-    if uniform && tells_voids(table) {
+    if uniform && !has_equal_men(table.class()) && tells_voids(table) {
         judge_by_shelves(table, library)
     } else {
         judge_by_rows(table, library, uniform)
