@@ -215,10 +215,12 @@ fn judge_by_shelves(table: &Table, library: &Library) -> Result<Option<(u32, Rul
     Ok(bad_zeroing)
 }
 
-/// Whether one side has two equal men beside its king: no sum tells of their steps, so that nothing is won by shelves.
-fn has_equal_men(class: Class) -> bool {
+/// Whether nothing is won by shelves: where fewer than two men stand beside the kings they are single rows, and of two equal men beside one king
+/// no sum tells.
+fn goes_by_rows(class: Class) -> bool {
     let name = name(class);
-    matches!(name.as_str(), "KQQK" | "KRRK" | "KBBK" | "KNNK" | "KPPK")
+    let name = name.as_str();
+    name.len() < 4 || matches!(name, "KQQK" | "KRRK" | "KBBK" | "KNNK" | "KPPK")
 }
 
 /// Judges all entries, by shelves where that pays and the entries tell which codes are indexes.
@@ -229,7 +231,7 @@ fn judge_table(table: &Table, library: &Library) -> Result<Option<(u32, Rule)>, 
     ensures broken { IfErr result (λ bad. IsFirstBreak (beside (table_at library.now) table.now) table.now Mate bad.0 bad.1) }
 {
     let uniform = is_uniform(table);
-    if uniform && !has_equal_men(table.class()) && tells_voids(table) {
+    if uniform && !goes_by_rows(table.class()) && tells_voids(table) {
         judge_by_shelves(table, library)
     } else {
         judge_by_rows(table, library, uniform)
