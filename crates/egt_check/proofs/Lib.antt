@@ -22,6 +22,7 @@ pub mod Spreading
 mod Roaming
 pub mod QuietBest
 pub mod QuietWays
+mod Leaping
 mod Pushing
 mod Spreads
 mod ShelfBest

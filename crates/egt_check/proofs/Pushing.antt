@@ -1,5 +1,5 @@
 -- The last man of a shelf's positions, a pawn: his legal moves at each place.
-use Rattle.std.proofs.Common.{◌≡◌, ◌≢◌, ◌↔◌, ◌⊎◌, ℕ, ◌+◌, ◌*◌, ◌<◌, ◌≤◌, ◌==◌, ◌&&◌, ◌/◌, ◌%◌, if◌then◌else◌, Bool, true, false, Option, Some, None, refl, sym, ap, ◌∙◌, subst, inl, inr, arith}
+use Rattle.std.proofs.Common.{◌≡◌, ◌≢◌, ◌↔◌, ◌⊎◌, ℕ, ◌+◌, ◌*◌, ◌<◌, ◌≤◌, ◌==◌, ◌/◌, ◌%◌, if◌then◌else◌, Bool, true, false, Option, Some, None, refl, sym, ap, ◌∙◌, subst, inl, inr, arith}
 use Rattle.std.specs.Int.{bit_at}
 use Rattle.std.specs.FinMap as map
 use Rattle.std.proofs.lemmas.Bool.{false≢true}
@@ -8,8 +8,8 @@ use Rattle.egt_board.specs.Attack.{IsInCheck}
 use Rattle.egt_board.specs.Camps.{IsOccupied}
 use Rattle.egt_board.specs.Gait.{Reaches, Reaches-free, Reaches-on_board}
 use Rattle.egt_board.specs.Man.{other_side}
-use Rattle.egt_board.specs.Pawn.{ahead, last_rank, Advances}
-use Rattle.egt_board.specs.Placement.{IsFree, IsHeld, Stands, one_man}
+use Rattle.egt_board.specs.Pawn.{ahead, home_rank, last_rank, Advances}
+use Rattle.egt_board.specs.Placement.{Placement, IsFree, IsHeld, Stands, one_man}
 use Rattle.egt_board.specs.Setup.{Setup, IsAdmissible}
 use Rattle.egt_board.specs.Square.{rank_of}
 use Rattle.egt_board.specs.SquareSet.{Has}
@@ -31,30 +31,21 @@ use Rattle.egt_index.specs.Shelf.{AreAlike, HasGone, IsAlikeIndex}
 use Rattle.egt_index.specs.Size.{has_target, size_of}
 use Rattle.egt_index.specs.declared.fixed.Fixed.{Fixed}
 use Rattle.egt_index.specs.declared.frame.Frame.{Frame}
-use Rattle.egt_moves.specs.DecidedMoves.{leads_to_one}
 use Rattle.egt_moves.specs.Going.{Goes, PawnAdvances, PawnTakes}
-use Rattle.egt_moves.specs.Legal.{Leads, is_target, is_two_ranks, men_after, passed, plain, takes_in_passing}
+use Rattle.egt_moves.specs.Legal.{IsLegal, Leads, after, is_target, men_after, plain, takes_in_passing}
 use Rattle.egt_moves.specs.Promotion.{is_pawn, promotes, FitsPromotion}
 use Rattle.egt_moves.specs.Targets.{IsLegalTarget}
 use Rattle.egt_check.specs.Facts.{Facts}
-use Rattle.egt_check.specs.Pusher.{IsPusher, IsPushing, as_roamer, code_at}
+use Rattle.egt_check.specs.Pusher.{IsPusher, IsPushing, IsTwoAhead, as_roamer, code_at}
 use Rattle.egt_check.specs.Roamer.{IsAmong}
 use Rattle.egt_check.specs.Steps.{IsQuietTarget}
 use Rattle.egt_check.specs.declared.pusher.Pusher.{Pusher}
+use Rattle.egt_check.proofs.Leaping.{LeapsTo, PawnsOfOneSide, advances_by, advances_two, and_false, leads_to_index, no_target_on, two_ahead_stays}
 use Rattle.egt_check.proofs.Roaming.{IndexOrVoid, is_among, side_twice}
-use Rattle.egt_check.proofs.Still.{KeepsClass, is_moved, next_rank, quiet_pawn}
+use Rattle.egt_check.proofs.Still.{KeepsClass, next_rank, no_promotion, quiet_pawn}
 
 untold : (a b : ℕ) → a ≢ b → (a == b) ≡ false
 untold a b apart = elim (eqb_tells a b) [ inl same ↦ absurd (apart same.1) | inr told ↦ told.0 ]
-
-and_false : (a b : Bool) → b ≡ false → (a && b) ≡ false
-and_false true b e = e
-and_false false b e = refl
-
--- no square is the target where there is none
-untargeted : (target : Option ℕ) (t : ℕ) → target ≡ None → is_target target t ≡ false
-untargeted None t none = refl
-untargeted (Some s) t none = absurd (let some = none in cc)
 
 by_one : (b : Bool) (n : ℕ) → b ≡ false → n ≤ (if b then 2 else 1) → n ≤ 1
 by_one true n e few = absurd (false≢true (sym e))
@@ -175,112 +166,160 @@ module _ (c base k : ℕ) (p : Setup) (pusher : Pusher) (is : IsPusher c base pu
       by (inl piece) = absurd (piece.piece is.pawn)
       by (inr pawn) = pawn
 
-  module _ (t : ℕ) (next : t ≡ ahead pusher.man.side from) (low : 8 ≤ t) (high : t < 56) (free : IsFree p.men t) where
-    near : is_two_ranks from t ≡ false
-    near = next_rank pusher.man.side from t next ranks.0
+  -- he is not promoted on such a square
+  unpromoted : (man : Man) (t : ℕ) → 8 ≤ t → t < 56 → promotes man t ≡ false
+  unpromoted man t low high = and_false (is_pawn man.kind) (rank_of t == last_rank man.side) (untold (rank_of t) (last_rank man.side) (unlast man.side t low high))
 
-    -- where his code is that of a position, the step is legal and leads there
-    leads_there : (q : Setup) → Spells c (code_at pusher t) q → Leads p (plain from t) q
-    leads_there q spells = record {
-      man = pusher.man;
-      stands = stands;
-      mine = among.mine;
-      goes = inr (inl (record { pawn = is.pawn; advances = advances_ahead (IsFree p.men) pusher.man.side from t (omega (arith, ranks.0)) (omega (arith, ranks.1)) next free }));
-      promotion = subst (λ b. FitsPromotion b None) (sym not_last) tt;
-      becomes = λ i. record { men = men i; side = gone.side i; target = target i };
-      safe = subst (λ (side : Side). ¬ IsInCheck q.men side) (ap other_side gone.side ∙ side_twice p.side) spells.admissible.quiet;
-    }
-      where
-        not_last : promotes pusher.man t ≡ false
-        not_last = and_false (is_pawn pusher.man.kind) (rank_of t == last_rank pusher.man.side) (untold (rank_of t) (last_rank pusher.man.side) (unlast pusher.man.side t low high))
+  -- so his move there is a plain one
+  plain_target : (t : ℕ) → 8 ≤ t → t < 56 → IsLegalTarget p from t → IsLegal p (plain from t)
+  plain_target t low high target =
+      let leads = target.1.1 in
+      subst (λ (promo : Option Kind). IsLegal p (record { from = from; to = t; promo = promo })) (no_promotion (promotes leads.man t) target.0 (unpromoted leads.man t low high) leads.promotion) target.1
 
-        less : pusher.opposite.less ≡ 8
-        less = is.goes.less_is ∙ ap kind_less is.pawn
+  -- his step to the next square is quiet
+  quiet : (t : ℕ) → t ≡ ahead pusher.man.side from → 8 ≤ t → t < 56 → IsFree p.men t → IsLegalTarget p from t → IsQuietTarget p true from t
+  quiet t next low high free target =
+      quiet_pawn p from t pusher.man stands is.pawn (unheld t (other_side p.side) free) (unpassed t) (unlast pusher.man.side t low high) (next_rank pusher.man.side from t next ranks.0) target
 
-        apart : t ≢ pusher.on + k
-        apart e = let both : Some pusher.man ≡ None = sym stands ∙ subst (IsFree p.men) (e ∙ sym here) free in cc
+  -- where his code is that of a position, an advance is legal
+  module _ (t : ℕ) (low : 8 ≤ t) (high : t < 56) (advances : Advances (IsFree p.men) pusher.man.side from t) (q : Setup) (spells : Spells c (code_at pusher t) q) where
+    less : pusher.opposite.less ≡ 8
+    less = is.goes.less_is ∙ ap kind_less is.pawn
 
-        gone : HasGone p (pusher.on + k) t q
-        gone = is.goes.comes k t p q alike apart (omega (arith, less, low)) (omega (arith, less, high)) spells
+    apart : t ≢ pusher.on + k
+    apart e = let both : Some pusher.man ≡ None = sym stands ∙ subst (IsFree p.men) (e ∙ sym here) advances.free in cc
 
-        his : gone.man ≡ pusher.man
-        his = one_man p.men (pusher.on + k) gone.man pusher.man gone.stands (is.goes.stands k p alike)
+    gone : HasGone p (pusher.on + k) t q
+    gone = is.goes.comes k t p q alike apart (omega (arith, less, low)) (omega (arith, less, high)) spells
 
-        takes_none : takes_in_passing p pusher.man t ≡ false
-        takes_none = and_false (is_pawn pusher.man.kind) (is_target p.target t) (untargeted p.target t no_target)
+    his : gone.man ≡ pusher.man
+    his = one_man p.men (pusher.on + k) gone.man pusher.man gone.stands (is.goes.stands k p alike)
 
-        men : q.men ≡ men_after p pusher.man (plain from t)
-        men = gone.men ∙ ap (λ (x : Man). map.insert (map.remove p.men (pusher.on + k)) t x) his ∙ ap (λ s. map.insert (map.remove p.men s) t pusher.man) (sym here)
-            ∙ ap (λ b. map.insert (map.remove (if b then map.remove p.men (ahead (other_side p.side) t) else p.men) from) t pusher.man) (sym takes_none)
+    takes_none : takes_in_passing p pusher.man t ≡ false
+    takes_none = and_false (is_pawn pusher.man.kind) (is_target p.target t) (no_target_on p.target t no_target)
 
-        target : q.target ≡ passed pusher.man from t
-        target = gone.target ∙ ap (λ b. if b then Some ((from + t) / 2) else None) (sym (and_false (is_pawn pusher.man.kind) (is_two_ranks from t) near))
+    men : q.men ≡ men_after p pusher.man (plain from t)
+    men = gone.men ∙ ap (λ (x : Man). map.insert (map.remove p.men (pusher.on + k)) t x) his ∙ ap (λ s. map.insert (map.remove p.men s) t pusher.man) (sym here)
+        ∙ ap (λ b. map.insert (map.remove (if b then map.remove p.men (ahead (other_side p.side) t) else p.men) from) t pusher.man) (sym takes_none)
 
-    -- the step is quiet
-    quiet : IsLegalTarget p from t → IsQuietTarget p true from t
-    quiet target = quiet_pawn p from t pusher.man stands is.pawn (unheld t (other_side p.side) free) (unpassed t) (unlast pusher.man.side t low high) near target
+    unchecked : ¬ IsInCheck q.men p.side
+    unchecked = subst (λ (side : Side). ¬ IsInCheck q.men side) (ap other_side gone.side ∙ side_twice p.side) spells.admissible.quiet
 
-  module _ (facts : Facts) (keeps : KeepsClass) (law : IndexOrVoid) (all : SquareSet) (reach : SquareSet) (next : SquareSet) (alone : Bool) (occupied : IsOccupied p.men all)
-      (reached : (t : ℕ) → t < 64 → Has reach t ↔ Reaches (λ u. bit_at all.bits u ≡ 0) pusher.man from t)
-      (is_next : (t : ℕ) → Has next t → t ≡ ahead pusher.man.side from) (is_free : (t : ℕ) → Has next t → bit_at all.bits t ≡ 0) (stays : (t : ℕ) → Has next t → (8 ≤ t) × (t < 56))
-      (has_next : (t : ℕ) → t ≡ ahead pusher.man.side from → bit_at all.bits t ≡ 0 → 8 ≤ t → t < 56 → Has next t)
-      (amid : alone ≡ true → (16 ≤ from) × (from < 48)) where
-    reaches_there : (t : ℕ) → Reaches (IsFree p.men) pusher.man from t → Has reach t
-    reaches_there t reaches =
-        (reached t (Reaches-on_board (IsFree p.men) pusher.man from t reaches)).1
-        (Reaches-free (IsFree p.men) (λ u. bit_at all.bits u ≡ 0) pusher.man from t (λ u on there. (occupied u).1 there) reaches)
+    legal_there : IsLegal p (plain from t)
+    legal_there = (
+      after p pusher.man (plain from t),
+      record {
+        man = pusher.man;
+        stands = stands;
+        mine = among.mine;
+        goes = inr (inl (record { pawn = is.pawn; advances = advances }));
+        promotion = subst (λ b. FitsPromotion b None) (sym (unpromoted pusher.man t low high)) tt;
+        becomes = refl;
+        safe = subst (λ (placed : Placement). ¬ IsInCheck placed p.side) men unchecked;
+      },
+    )
 
-    -- a quiet step leads to the square's code
-    leads_to : (t : ℕ) → IsQuietTarget p true from t → (q : Setup) → IsAdmissible q → Leads p (plain from t) q → IsIndex c q (code_at pusher t)
-    leads_to t still q fine leads = is.goes.leads k t p q alike (subst (λ s. IsMoved c p s t q) here (is_moved keeps c p q true from t ok fine leads still))
+  module _ (facts : Facts) (keeps : KeepsClass) (pawns : PawnsOfOneSide) (law : IndexOrVoid) where
+    -- his plain moves to free squares lead to the square's code
+    index_after : (t : ℕ) → IsFree p.men t → (q : Setup) → Leads p (plain from t) q → IsIndex c q (code_at pusher t)
+    index_after t free q leads =
+        let of = facts.spelled_class c (base + 2 * k) p alike.spells in
+        leads_to_index facts keeps pawns c is.never p q from t pusher.man ok of.0 of.1 stands is.pawn among.mine no_target free leads (code_at pusher t)
+        (λ r moved. is.goes.leads k t p r alike (subst (λ s. IsMoved c p s t r) here moved))
 
-    goes_ahead : (t : ℕ) → Has next t → ¬ IsVoid c (code_at pusher t) → IsQuietTarget p true from t × ((q : Setup) → Leads p (plain from t) q → IsIndex c q (code_at pusher t))
-    goes_ahead t has there = elim (law c (code_at pusher t) is.class_in) [
+    -- the code of a square to which he may go is an index
+    some_code : (t : ℕ) → 8 ≤ t → t < 56 → IsFree p.men t → IsLegalTarget p from t → ¬ IsVoid c (code_at pusher t)
+    some_code t low high free target void =
+        let legal = plain_target t low high target in
+        void legal.0 (facts.step_admissible p legal.0 (plain from t) ok legal.1) (index_after t free legal.0 legal.1)
+
+    -- an advance to a square whose code is an index is legal
+    legal_to : (t : ℕ) → 8 ≤ t → t < 56 → Advances (IsFree p.men) pusher.man.side from t → ¬ IsVoid c (code_at pusher t) → IsLegal p (plain from t)
+    legal_to t low high advances there = elim (law c (code_at pusher t) is.class_in) [
       | inr void ↦ absurd (there void)
-      | inl at ↦
-          let bounds = stays t has in
+      | inl at ↦ legal_there t low high advances at.0 at.1
+    ]
+
+    module _ (all : SquareSet) (occupied : IsOccupied p.men all) (reach : SquareSet) (reached : (t : ℕ) → t < 64 → Has reach t ↔ Reaches (λ u. bit_at all.bits u ≡ 0) pusher.man from t)
+        (next : SquareSet) (is_next : (t : ℕ) → Has next t → t ≡ ahead pusher.man.side from) (is_free : (t : ℕ) → Has next t → bit_at all.bits t ≡ 0) (on_board : (t : ℕ) → Has next t → (8 ≤ t) × (t < 56))
+        (has_next : (t : ℕ) → t ≡ ahead pusher.man.side from → bit_at all.bits t ≡ 0 → 8 ≤ t → t < 56 → Has next t)
+        (beyond : SquareSet) (is_beyond : (t : ℕ) → Has beyond t → (rank_of from ≡ home_rank pusher.man.side) × IsTwoAhead pusher.man.side from t)
+        (both_free : (t : ℕ) → Has beyond t → (bit_at all.bits (ahead pusher.man.side from) ≡ 0) × (bit_at all.bits t ≡ 0))
+        (has_beyond : (t : ℕ) → rank_of from ≡ home_rank pusher.man.side → IsTwoAhead pusher.man.side from t → bit_at all.bits (ahead pusher.man.side from) ≡ 0 → bit_at all.bits t ≡ 0 → Has beyond t)
+        (stays : Bool) (stays_is : (stays ≡ true) ↔ ((8 ≤ ahead pusher.man.side from) × (ahead pusher.man.side from < 56))) (alone : Bool) (amid : alone ≡ true → (16 ≤ from) × (from < 48)) where
+      reaches_there : (t : ℕ) → Reaches (IsFree p.men) pusher.man from t → Has reach t
+      reaches_there t reaches =
+          (reached t (Reaches-on_board (IsFree p.men) pusher.man from t reaches)).1
+          (Reaches-free (IsFree p.men) (λ u. bit_at all.bits u ≡ 0) pusher.man from t (λ u on there. (occupied u).1 there) reaches)
+
+      goes_ahead : (t : ℕ) → Has next t → ¬ IsVoid c (code_at pusher t) → IsQuietTarget p true from t × ((q : Setup) → Leads p (plain from t) q → IsIndex c q (code_at pusher t))
+      goes_ahead t has there =
+          let ahead_is = is_next t has in
+          let bounds = on_board t has in
           let free = (occupied t).0 (is_free t has) in
-          let leads = leads_there t (is_next t has) bounds.0 bounds.1 free at.0 at.1 in (
-            quiet t (is_next t has) bounds.0 bounds.1 free (None, (at.0, leads)),
-            λ q led. subst (λ (x : Setup). IsIndex c x (code_at pusher t)) (leads_to_one p at.0 q (plain from t) leads led) at.2,
-          )
-    ]
+          let advances = advances_ahead (IsFree p.men) pusher.man.side from t (omega (arith, ranks.0)) (omega (arith, ranks.1)) ahead_is free in
+          let legal = legal_to t bounds.0 bounds.1 advances there in
+          (quiet t ahead_is bounds.0 bounds.1 free (None, legal), index_after t free)
 
-    -- he takes a man where he attacks
-    reach_all : (t : ℕ) → IsLegalTarget p from t → ¬ IsFree p.men t → Has reach t
-    reach_all t target full = elim (goes_as target.1.0 target.0 t target.1.1) [
-      | inl steps ↦ absurd (full steps.advances.free)
-      | inr takes ↦ reaches_there t takes.reaches
-    ]
+      leaps_on_board : (t : ℕ) → Has beyond t → (8 ≤ t) × (t < 56)
+      leaps_on_board t has = two_ahead_stays pusher.man.side from t (is_beyond t has).0 (is_beyond t has).1
 
-    -- he comes to a free square by an advance alone
-    to_free : (t : ℕ) → IsLegalTarget p from t → IsFree p.men t → Advances (IsFree p.men) pusher.man.side from t
-    to_free t target free = elim (goes_as target.1.0 target.0 t target.1.1) [
-      | inl steps ↦ steps.advances
-      | inr takes ↦ absurd (elim takes.takes [ inl held ↦ unheld t (other_side p.side) free held | inr passing ↦ unpassed t passing ])
-    ]
+      leaps_beyond : (t : ℕ) → Has beyond t → ¬ IsVoid c (code_at pusher t) → IsLegal p (plain from t) × ((q : Setup) → Leads p (plain from t) q → IsIndex c q (code_at pusher t))
+      leaps_beyond t has there =
+          let two = is_beyond t has in
+          let bounds = leaps_on_board t has in
+          let free = (occupied t).0 (both_free t has).1 in
+          let leaps : LeapsTo (IsFree p.men) pusher.man.side from t = record { home = two.0; away = two.1; between = (occupied (ahead pusher.man.side from)).0 (both_free t has).0 } in
+          (legal_to t bounds.0 bounds.1 (advances_two (IsFree p.men) pusher.man.side from t leaps free) there, index_after t free)
 
-    complete : alone ≡ true → (t : ℕ) → IsLegalTarget p from t → IsFree p.men t → Has next t × ¬ IsVoid c (code_at pusher t)
-    complete lone t target free =
-        let low = (amid lone).0 in
-        let high = (amid lone).1 in
-        let ahead_is = advances_alone (IsFree p.men) pusher.man.side from t low high (to_free t target free) in
-        let bounds = ahead_stays pusher.man.side from t low high ahead_is in (
-          has_next t ahead_is ((occupied t).1 free) bounds.0 bounds.1,
-          λ void.
-              let still = quiet t ahead_is bounds.0 bounds.1 free target in
-              let fine = facts.step_admissible p still.legal.0 (plain from t) ok still.legal.1 in
-              void still.legal.0 fine (leads_to t still still.legal.0 fine still.legal.1),
-        )
+      -- he takes a man where he attacks
+      reach_all : (t : ℕ) → IsLegalTarget p from t → ¬ IsFree p.men t → Has reach t
+      reach_all t target full = elim (goes_as target.1.0 target.0 t target.1.1) [
+        | inl steps ↦ absurd (full steps.advances.free)
+        | inr takes ↦ reaches_there t takes.reaches
+      ]
 
-    pub is_pushing : IsPushing c p pusher (record { from = from; ahead = next; reach = reach; alone = alone })
-    is_pushing = record {
-      mine = record { man = pusher.man; stands = stands; theirs = among.mine };
-      pawn = λ man there. ap (λ (x : Man). x.kind) (one_man p.men from man pusher.man there stands) ∙ is.pawn;
-      on_board = stays;
-      goes = goes_ahead;
-      reach = reach_all;
-      complete = complete;
-      others = among.others;
-      taken = among.taken;
-    }
+      -- he comes to a free square by an advance alone
+      to_free : (t : ℕ) → IsLegalTarget p from t → IsFree p.men t → Advances (IsFree p.men) pusher.man.side from t
+      to_free t target free = elim (goes_as target.1.0 target.0 t target.1.1) [
+        | inl steps ↦ steps.advances
+        | inr takes ↦ absurd (elim takes.takes [ inl held ↦ unheld t (other_side p.side) free held | inr passing ↦ unpassed t passing ])
+      ]
+
+      complete : alone ≡ true → (t : ℕ) → IsLegalTarget p from t → IsFree p.men t → Has next t × ¬ IsVoid c (code_at pusher t)
+      complete lone t target free =
+          let low = (amid lone).0 in
+          let high = (amid lone).1 in
+          let ahead_is = advances_alone (IsFree p.men) pusher.man.side from t low high (to_free t target free) in
+          let bounds = ahead_stays pusher.man.side from t low high ahead_is in
+          (has_next t ahead_is ((occupied t).1 free) bounds.0 bounds.1, some_code t bounds.0 bounds.1 free target)
+
+      whole : stays ≡ true → (t : ℕ) → IsLegalTarget p from t → IsFree p.men t → (Has next t ⊎ Has beyond t) × ¬ IsVoid c (code_at pusher t)
+      whole stay t target free = elim (advances_by (IsFree p.men) pusher.man.side from t (omega (arith, ranks.0)) (omega (arith, ranks.1)) (to_free t target free)) [
+        | inl ahead_is ↦
+            let within = stays_is.0 stay in
+            let low : 8 ≤ t = subst (λ n. 8 ≤ n) (sym ahead_is) within.0 in
+            let high : t < 56 = subst (λ n. n < 56) (sym ahead_is) within.1 in
+            (inl (has_next t ahead_is ((occupied t).1 free) low high), some_code t low high free target)
+        | inr leaps ↦
+            let bounds = two_ahead_stays pusher.man.side from t leaps.home leaps.away in
+            (inr (has_beyond t leaps.home leaps.away ((occupied (ahead pusher.man.side from)).1 leaps.between) ((occupied t).1 free)), some_code t bounds.0 bounds.1 free target)
+      ]
+
+      pub is_pushing : IsPushing c p pusher (record { from = from; ahead = next; beyond = beyond; stays = stays; reach = reach; alone = alone })
+      is_pushing = record {
+        mine = record { man = pusher.man; stands = stands; theirs = among.mine };
+        pawn = λ man there. ap (λ (x : Man). x.kind) (one_man p.men from man pusher.man there stands) ∙ is.pawn;
+        on_board = on_board;
+        goes = goes_ahead;
+        ahead_is = is_next;
+        beyond_is = λ t has. (is_beyond t has).1;
+        leaps_on_board = leaps_on_board;
+        leaps = leaps_beyond;
+        stays_is = stays_is;
+        whole = whole;
+        reach = reach_all;
+        complete = complete;
+        others = among.others;
+        taken = among.taken;
+      }

@@ -60,7 +60,7 @@ pub next_rank : (side : Side) (from to : ℕ) → to ≡ ahead side from → 0 <
 next_rank White from to is up = neither _ _ (untold (rank_of to) (rank_of from + 2) (λ e. omega (arith, is, e))) (untold (rank_of from) (rank_of to + 2) (λ e. omega (arith, is, e)))
 next_rank Black from to is up = neither _ _ (untold (rank_of to) (rank_of from + 2) (λ e. omega (arith, is, e))) (untold (rank_of from) (rank_of to + 2) (λ e. omega (arith, is, e, up)))
 
-no_promotion : (b : Bool) (promo : Option Kind) → b ≡ false → FitsPromotion b promo → promo ≡ None
+pub no_promotion : (b : Bool) (promo : Option Kind) → b ≡ false → FitsPromotion b promo → promo ≡ None
 no_promotion true promo e fits = let not = e in cc
 no_promotion false None e fits = refl
 no_promotion false (Some kind) e fits = absurd fits

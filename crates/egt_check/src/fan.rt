@@ -29,25 +29,26 @@ use egt_index::{Fixed, Frame, LedHome, Shift, size};
 
 /// Where a step of the man leads in all positions of a shelf.
 #[derive(Clone, Copy, Default)]
-pub(crate) struct Way {
-    pub(crate) to: Square,
+pub struct Way {
+    pub to: Square,
     /// The index after it from the base; 2k above it is the one from the place k.
-    pub(crate) index: u32,
+    pub index: u32,
     /// The places at which the last man stands between: bit k for the place k.
-    pub(crate) off: u64,
+    pub off: u64,
 }
 
 /// A step of the white king after which a turn brings him home.
 #[derive(Clone, Copy, Default)]
-pub(crate) struct Led {
-    pub(crate) to: Square,
-    pub(crate) led: LedHome,
+pub struct Led {
+    pub to: Square,
+    /// The index after it, by the last man's square.
+    pub led: LedHome,
 }
 
 impl Led {
     /// The index after the step from the position where the last man stands on the square; no position's index where the step is not legal.
     #[inline(always)]
-    pub(crate) fn index_with(&self, last: Square) -> u32
+    pub fn index_with(&self, last: Square) -> u32
         requires { (c base from on : ℕ) × IsLed c base from on self.now }
         ensures { (c base from on : ℕ) → IsLed c base from on self.now → (k : ℕ) (p : Setup) → last ≡ on + k → IsAlikeIndex c base (base + 2 * k) p → Follows c p from self.now.to result }
     {
@@ -57,13 +58,15 @@ impl Led {
 
 /// The quiet moves of a man in all positions of a shelf.
 #[derive(Drop)]
-pub(crate) struct Fan {
+pub struct Fan {
     /// Where he stands.
-    pub(crate) from: Square,
-    pub(crate) ways: ArrayVec<Way, 28>,
-    pub(crate) leds: ArrayVec<Led, 8>,
+    pub from: Square,
+    /// The steps whose numbers are as far above one another as those that they come from.
+    pub ways: ArrayVec<Way, 28>,
+    /// The steps of the white king after which a turn brings him home.
+    pub leds: ArrayVec<Led, 8>,
     /// All squares that he attacks past the men who stand still.
-    pub(crate) reach: SquareSet,
+    pub reach: SquareSet,
 }
 
 impl Fan {

@@ -27,9 +27,13 @@ pub mod uniform;
 pub mod voids;
 
 pub use checking::{check, first_missing};
+pub use fan::{Fan, Led, Way};
 pub use library::Library;
+pub use pusher::{Pusher, Pushes};
 pub use reject::Reject;
+pub use roamer::{Roamer, Roams};
 pub use rule::Rule;
+pub use spread::Spread;
 
 #[cfg(test)]
 mod tests;

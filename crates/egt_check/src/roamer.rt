@@ -25,24 +25,24 @@ use egt_index::{Fixed, Frame, Opposite, size};
 
 /// The last man of a shelf's positions, a piece of the side to move, who stands on another square in each, and the men who stand still.
 #[derive(Clone, Copy)]
-pub(crate) struct Roamer {
-    pub(crate) man: Man,
+pub struct Roamer {
+    pub man: Man,
     /// Where he stands in the base position.
-    on: Square,
+    pub on: Square,
     /// The squares of the men who stand still.
-    held: SquareSet,
+    pub held: SquareSet,
     /// The codes after he went, by his square.
-    opposite: Opposite,
+    pub opposite: Opposite,
 }
 
 /// The last man at one place of the shelf.
 #[derive(Clone, Copy)]
-pub(crate) struct Roams {
-    pub(crate) from: Square,
+pub struct Roams {
+    pub from: Square,
     /// All squares that he attacks.
-    pub(crate) reach: SquareSet,
+    pub reach: SquareSet,
     /// Those that are free.
-    pub(crate) free: SquareSet,
+    pub free: SquareSet,
 }
 
 /// The squares on which men stand wherever the last man stands.
@@ -89,7 +89,7 @@ impl Roamer {
 
     /// Where he stands and what he attacks in the position of the index `2 * k` above the base.
     #[inline(always)]
-    pub(crate) fn at(&self, k: u32) -> Roams
+    pub fn at(&self, k: u32) -> Roams
         requires { (c base : ℕ) × (p : Setup) × IsRoamer c base self.now × IsAlikeIndex c base (base + 2 * k) p }
         ensures from { result.from ≡ self.now.on + k }
         ensures roaming { (c base : ℕ) (p : Setup) → IsRoamer c base self.now → IsAlikeIndex c base (base + 2 * k) p →
@@ -110,7 +110,7 @@ impl Roamer {
 
     /// The code of the position after he went to the square, wherever he stood.
     #[inline(always)]
-    pub(crate) fn index_to(&self, to: Square) -> u32
+    pub fn index_to(&self, to: Square) -> u32
         requires { (c base : ℕ) × IsRoamer c base self.now }
         ensures code { result ≡ code_at self.now to }
         ensures below { (c base : ℕ) → IsRoamer c base self.now → result < size_of c }

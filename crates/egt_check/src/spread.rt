@@ -26,28 +26,28 @@ use egt_index::{Fixed, Frame, frame_at, shelf_end};
 
 /// What is told of the positions whose indexes differ from the base by the last man's square alone.
 #[derive(Drop)]
-pub(crate) struct Spread {
+pub struct Spread {
     /// Whether all men of the side to move are told of.
-    pub(crate) told: bool,
+    pub told: bool,
     /// The least index of the shelf with this side to move.
-    pub(crate) base: u32,
+    pub base: u32,
     /// Up to it the numbers with this side to move differ so.
-    pub(crate) until: u32,
+    pub until: u32,
     /// Where the last man stands in the base position.
-    pub(crate) on: Square,
-    pub(crate) king: Fan,
+    pub on: Square,
+    pub king: Fan,
     /// Whether the man beside the kings who stands still is of the side to move.
-    pub(crate) goes: bool,
+    pub goes: bool,
     /// His fan, if he is.
-    pub(crate) one: Fan,
+    pub one: Fan,
     /// The last man, if he is a piece of the side to move.
-    pub(crate) roamer: Option<Roamer>,
+    pub roamer: Option<Roamer>,
     /// The same if he is a pawn.
-    pub(crate) pusher: Option<Pusher>,
+    pub pusher: Option<Pusher>,
     /// The squares of the other side's men who stand still.
-    pub(crate) foes: SquareSet,
+    pub foes: SquareSet,
     /// Whether the last man is of the other side.
-    pub(crate) foe: bool,
+    pub foe: bool,
 }
 
 /// The king's square of that side.
@@ -88,8 +88,8 @@ fn own_one(fixed: &Fixed) -> Option<(Man, Square)>
 }
 
 impl Spread {
-    /// Nothing is told.
-    pub(crate) fn nothing() -> Spread
+    /// A spread that tells nothing yet.
+    pub fn nothing() -> Spread
         ensures { result.told ≡ false }
     {
         Spread {
@@ -107,8 +107,8 @@ impl Spread {
         }
     }
 
-    /// Tells of the positions whose indexes differ from this one by the last man's square alone.
-    pub(crate) fn turn_to(&mut self, class: Class, base: u32)
+    /// Tells of the positions whose indexes differ from this one, the base, by the last man's square alone, from it on. Whether it does so is in `told`.
+    pub fn turn_to(&mut self, class: Class, base: u32)
         requires index { ¬ IsVoid class base }
         requires inside { base < size_of class }
         requires targets { has_target (material_of class) ≡ false }
