@@ -19,7 +19,7 @@ below_next k r = elim (cases_order k r) [
   ]
 ]
 
-lost_next : (r : ℕ) (e : Exit) → is_lost_before (r + 1) e ≡ (is_lost_before r e || is_loss_of r e)
+pub lost_next : (r : ℕ) (e : Exit) → is_lost_before (r + 1) e ≡ (is_lost_before r e || is_loss_of r e)
 lost_next r (Win k) = refl
 lost_next r (Loss k) = below_next k r
 lost_next r Draw = refl
@@ -29,7 +29,7 @@ loss_is_no_win r n (Win k) h = absurd (false≢true h)
 loss_is_no_win r n (Loss k) h = refl
 loss_is_no_win r n Draw h = absurd (false≢true h)
 
-waits_next : (r : ℕ) (e : Exit) → cond (not (is_won_before r e)) 1 0 ≡ cond (not (is_won_before (r + 1) e)) 1 0 + cond (is_win_of r e) 1 0
+pub waits_next : (r : ℕ) (e : Exit) → cond (not (is_won_before r e)) 1 0 ≡ cond (not (is_won_before (r + 1) e)) 1 0 + cond (is_win_of r e) 1 0
 waits_next r (Loss k) = refl
 waits_next r Draw = refl
 waits_next r (Win k) = elim (cases_order k r) [

@@ -22,3 +22,13 @@ pub mod Marking
 pub mod Running
 pub mod Beginning
 pub mod Histories
+pub mod WordBits
+pub mod WordRounds
+pub mod WordSweeps
+pub mod WordMarks
+pub mod WordEnding
+pub mod WordDue
+pub mod WordBeginning
+pub mod WordSettling
+pub mod Leading
+pub mod Turning

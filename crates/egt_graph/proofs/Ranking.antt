@@ -63,7 +63,7 @@ final g r limit i le none node Draw s = (Draw, never, tt, opened g r i s.entry f
     never : (m : ℕ) → IsFalse (mates_within g m i) × IsFalse (mated_within g m i)
     never m = (false_from_ne_true _ (λ t. undecided m (or_left _ _ t)), false_from_ne_true _ (λ t. undecided m (or_right (mates_within g m i) _ t)))
 
-void_is_no_node : (g : Graph) (i : ℕ) → g.void i ≡ true → is_node g i ≡ false
+pub void_is_no_node : (g : Graph) (i : ℕ) → g.void i ≡ true → is_node g i ≡ false
 void_is_no_node g i v = false_from_ne_true _ (λ t. let node = node_from_test g i t in both_ways (g.void i) node.not_void v)
 
 pub final_ranks : (g : Graph) (r limit : ℕ) → r ≤ limit → NoneAbove g r → (es : List ℕ) → length es ≡ g.size

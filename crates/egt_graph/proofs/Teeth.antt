@@ -85,7 +85,7 @@ popped first bits left k lt one gone others i = elim (cases_eq (first + 2 * k) i
 ]
 
 -- the lowest bit
-lowest : (bits : ℕ) → bits ≢ 0 → bits < 2 ^ 64 → (trailing_zeros w64 bits < 64) × (bit_at bits (trailing_zeros w64 bits) ≡ 1)
+pub lowest : (bits : ℕ) → bits ≢ 0 → bits < 2 ^ 64 → (trailing_zeros w64 bits < 64) × (bit_at bits (trailing_zeros w64 bits) ≡ 1)
 lowest bits some small = let at = bit_at-trailing_zeros w64 bits (omega (arith, some)) small in (at.0, at.1)
 
 abbrev pub without_lowest : ℕ → ℕ

@@ -14,4 +14,7 @@ pub mod Counts
 pub mod Fault
 pub mod Laws
 pub mod Passing
+pub mod Words
+pub mod WordRound
 pub mod Sample
+pub mod WordMoves

@@ -228,7 +228,7 @@ fn count_of(moves: u8, exits: &[Exit], wins: u8, losses: u8) -> Count
 }
 
 #[inline(always)]
-fn schedule_exits(
+pub(crate) fn schedule_exits(
     alloc: Global,
     exits: &[Exit],
     node: u32,

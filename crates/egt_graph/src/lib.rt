@@ -18,6 +18,13 @@ mod schedule;
 mod solver;
 mod step;
 mod waiting;
+mod word_begin;
+mod word_exits;
+mod word_moves;
+mod word_round;
+mod word_run;
+mod word_solver;
+mod words;
 
 pub use answer::{Close, Post};
 pub use batch::Batch;
@@ -30,6 +37,9 @@ pub use rounds::Rounds;
 pub use scan::frontier;
 pub use solver::{SolveFault, solve, solve_and_count};
 pub use std::alloc::AllocError as NoMemory;
+pub use word_moves::{Pushes, TurnedWay, Way, lead_by, lead_by_pushes, turned_eights};
+pub use word_solver::solve_by_words;
+pub use words::{Shelved, WordStart, any_in, is_in, number_at, place_in, word_in, words_of};
 
 #[cfg(test)]
 mod tests;

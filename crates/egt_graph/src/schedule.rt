@@ -1,5 +1,5 @@
 //! Nodes by the round in which something falls due for them.
-ghost use Rattle.std.specs.Prelude.{◌≡◌, ◌==◌, ℕ, ◌≤◌, ◌++◌, ◌∷◌, [], length, map, slice_index_or, OnOk, if◌then◌else◌};
+ghost use Rattle.std.specs.Prelude.{◌≡◌, ◌==◌, ℕ, ◌<◌, ◌≤◌, ◌++◌, ◌∷◌, [], length, map, slice_index_or, OnOk, IsFalse, if◌then◌else◌};
 
 use std::alloc::{AllocError, Global};
 use std::marker::Model;
@@ -48,6 +48,13 @@ impl Schedule {
         } else {
             &[]
         }
+    }
+
+    /// May some node fall due in a later round than this? Where not, none does.
+    pub(crate) fn goes_past(&self, round: u16) -> bool
+        ensures { IsFalse result → (r : ℕ) → round < r → slice_index_or self.now r [] ≡ [] }
+    {
+        self.rounds.len() > usize::from(round) + 1
     }
 }
 

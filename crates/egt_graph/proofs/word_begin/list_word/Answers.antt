@@ -1,0 +1,39 @@
+use Rattle.std.proofs.Common.{◌≡◌, ◌≢◌, ◌+◌, ◌*◌, ◌<◌, ◌≤◌, ℕ, List, length, refl, sym, ap, subst, ◌∙◌, arith}
+use Rattle.std.proofs.lemmas.List.{length-set, with_items_is}
+use Rattle.std.specs.Vec.{with_items}
+use Rattle.egt_graph.specs.Words.{IsWordOf}
+use Rattle.egt_graph.specs.WordRound.{AreListed, IsToldOf, is_leaving, is_due, is_ready, is_unwon}
+use Rattle.egt_graph.proofs.WordSweeps.{word_here}
+use Rattle.egt_graph.proofs.word_begin.list_word.Goals as goal
+
+pub returns : goal.returns
+returns g c =
+    let graph = g.G.Game.graph c.args.game.now in
+    let span = g.G.Shelved.span c.args.game.now in
+    let run = c.args.run.now in
+    let word = c.args.word in
+    let h = c.requires.listed in
+    let long = h.long in
+    let within = c.requires.word in
+    let bits = c.in_ok-bits.ensures.bits in
+    let pending_long : length c.list_nodes.new.pending ≡ run.pending.len = let a = c.list_nodes.auto.pending in let b = ap (λ (xs : List ℕ). length xs) c.deref_mut.ensures.value in let own = run.pending.ok.0 in omega (arith, a, b, own) in
+    let pending_is = with_items_is run.pending c.list_nodes.new.pending pending_long in
+    record {
+      long = record {
+        entries = long.entries;
+        pending = ap (λ (xs : List ℕ). length xs) pending_is ∙ pending_long ∙ run.pending.ok.0 ∙ long.pending;
+        undecided = length-set run.undecided.items word _ ∙ long.undecided;
+        unwon = length-set run.unwon.items word _ ∙ long.unwon;
+        lost = long.lost;
+        ready = length-set run.ready.items word _ ∙ long.ready;
+        due = length-set run.due.items word _ ∙ long.due;
+        next_unwon = long.next_unwon;
+        next_lost = long.next_lost;
+      };
+      entries = h.entries;
+      listed = subst (λ (xs : List ℕ). AreListed graph span ((word + 1) * 64) xs c.list_nodes.new.lost_due c.list_nodes.new.won_due) (sym pending_is) c.in_ok-bits.ensures.listed;
+      leaving = word_here (λ w. IsWordOf span w (is_leaving graph)) run.undecided.items word _ (let l = long.undecided in omega (arith, l, within)) bits.leaving h.leaving;
+      unwon = word_here (λ w. IsWordOf span w (is_unwon graph 0)) run.unwon.items word _ (let l = long.unwon in omega (arith, l, within)) bits.nodes h.unwon;
+      due = word_here (λ w. IsToldOf span w (is_due graph 0)) run.due.items word _ (let l = long.due in omega (arith, l, within)) bits.due h.due;
+      ready = word_here (λ w. IsToldOf span w (is_ready graph 0)) run.ready.items word _ (let l = long.ready in omega (arith, l, within)) bits.ready h.ready;
+    }

@@ -1,0 +1,94 @@
+use Rattle.std.proofs.Common.{◌≡◌, ◌<◌, ◌≤◌, ◌+◌, ◌-◌, ◌&&◌, ◌||◌, ℕ, List, [], suc, length, slice_index, slice_index_or, eqb, ltb, All, refl, sym, ap, ap₂, subst, ◌∙◌, arith, add-one}
+use Rattle.std.proofs.lemmas.List.{with_items_is}
+use Rattle.std.proofs.lemmas.List.Elements.{All-weaker}
+use Rattle.std.specs.Vec.{with_items}
+use Rattle.egt_graph.specs.Columns.{count_of}
+use Rattle.egt_graph.specs.Graph.{IsNode}
+use Rattle.egt_graph.specs.Words.{word_in, words_of, word_in-within}
+use Rattle.egt_graph.specs.WordRound.{is_marked_in, is_undecided, is_unwon, is_lost_at}
+use Rattle.egt_graph.proofs.WordDue.{due_next, losing_nodes, winning_nodes, ready_next, exits_next}
+use Rattle.egt_graph.proofs.WordSweeps.{all_words, swept_entries, undecided_nodes, unwon_nodes, lost_nodes}
+use Rattle.egt_graph.proofs.word_round.next_round.Goals as goal
+
+pub lose_exits-requires-clause-within : goal.lose_exits-requires-clause-within
+lose_exits-requires-clause-within g c =
+    let graph = g.G.Game.graph c.args.game.now in
+    let span = c.span-span.result in
+    let some = c.span-span.ensures.few.0 in
+    let is = c.span-span.ensures.is in
+    let len = ap (λ (xs : List ℕ). length xs) c.deref_mut.ensures.value in
+    let long = c.requires.swept.long.due in
+    let words = ap (λ s. words_of s graph.size) is in
+    let nodes = losing_nodes graph c.args.round c.args.run.lost_due (λ i. (c.requires.swept.exits i).losses) in
+    subst (All (λ i. word_in span i < length c.deref_mut.result.now)) (sym (rw add-one at c.due.ensures))
+    (All-weaker (IsNode graph) (λ i. word_in span i < length c.deref_mut.result.now) (λ i node. let within = word_in-within span graph.size i some node.in_range in omega (arith, within, len, long, words)) _ nodes)
+
+pub win_exits-requires-clause-within : goal.win_exits-requires-clause-within
+win_exits-requires-clause-within g c =
+    let graph = g.G.Game.graph c.args.game.now in
+    let span = c.span-span.result in
+    let some = c.span-span.ensures.few.0 in
+    let is = c.span-span.ensures.is in
+    let len = ap (λ (xs : List ℕ). length xs) c.deref_mut-3.ensures.value in
+    let long = c.requires.swept.long.ready in
+    let words = ap (λ s. words_of s graph.size) is in
+    let nodes = winning_nodes graph c.args.round c.args.run.pending.items c.args.run.won_due (λ i. (c.requires.swept.exits i).wins) in
+    subst (All (λ i. word_in span i < length c.deref_mut-3.result.now)) (sym (rw add-one at c.due-2.ensures))
+    (All-weaker (IsNode graph) (λ i. word_in span i < length c.deref_mut-3.result.now) (λ i node. let within = word_in-within span graph.size i some node.in_range in omega (arith, within, len, long, words)) _ nodes)
+
+pub win_exits-requires-clause-nodes_within : goal.win_exits-requires-clause-nodes_within
+win_exits-requires-clause-nodes_within g c =
+    let graph = g.G.Game.graph c.args.game.now in
+    let len = ap (λ (xs : List ℕ). length xs) c.deref_mut-2.ensures.value in
+    let long = c.requires.swept.long.pending in
+    let nodes = winning_nodes graph c.args.round c.args.run.pending.items c.args.run.won_due (λ i. (c.requires.swept.exits i).wins) in
+    subst (All (λ i. i < length c.deref_mut-2.result.now)) (sym (rw add-one at c.due-2.ensures))
+    (All-weaker (IsNode graph) (λ i. i < length c.deref_mut-2.result.now) (λ i node. let within = node.in_range in omega (arith, within, len, long)) _ nodes)
+
+pub returns : goal.returns
+returns g c =
+    let graph = g.G.Game.graph c.args.game.now in
+    let law = g.met.G.Game.lawful c.args.game.now in
+    let span = g.G.Shelved.span c.args.game.now in
+    let is = c.span-span.ensures.is in
+    let some : 0 < span = let few = c.span-span.ensures.few in omega (arith, few.0, is) in
+    let run = c.args.run in
+    let r = c.args.round in
+    let swept = c.requires.swept in
+    let long = swept.long in
+    let due_long : length c.lose_exits.new.due ≡ run.due.len = let a = c.lose_exits.auto.due in let b = ap (λ (xs : List ℕ). length xs) c.deref_mut.ensures.value in let own = run.due.ok.0 in omega (arith, a, b, own) in
+    let pending_long : length c.win_exits.new.pending ≡ run.pending.len = let a = c.win_exits.auto.pending in let b = ap (λ (xs : List ℕ). length xs) c.deref_mut-2.ensures.value in let own = run.pending.ok.0 in omega (arith, a, b, own) in
+    let ready_long : length c.win_exits.new.ready ≡ run.ready.len = let a = c.win_exits.auto.ready in let b = ap (λ (xs : List ℕ). length xs) c.deref_mut-3.ensures.value in let own = run.ready.ok.0 in omega (arith, a, b, own) in
+    let due_is = with_items_is run.due c.lose_exits.new.due due_long in
+    let pending_is = with_items_is run.pending c.win_exits.new.pending pending_long in
+    let ready_is = with_items_is run.ready c.win_exits.new.ready ready_long in
+    let losing = rw add-one at c.due.ensures in
+    let winning = rw add-one at c.due-2.ensures in
+    let losses = subst (λ s. (i : ℕ) → is_marked_in s c.lose_exits.new.due i ≡ (is_marked_in s run.due.items i || ltb 0 (count_of i (slice_index_or run.lost_due (suc r) [])))) is
+    (λ i. c.lose_exits.ensures i ∙ ap₂ (λ (xs ys : List ℕ). is_marked_in c.span-span.result xs i || ltb 0 (count_of i ys)) c.deref_mut.ensures.value losing) in
+    let less : (i : ℕ) → slice_index c.win_exits.new.pending i ≡ slice_index run.pending.items i - count_of i (slice_index_or run.won_due (suc r) [])
+    = λ i. c.win_exits.ensures.pending i ∙ ap₂ (λ (xs ys : List ℕ). slice_index xs i - count_of i ys) c.deref_mut-2.ensures.value winning in
+    let wins = subst (λ s. (i : ℕ) → is_marked_in s c.win_exits.new.ready i ≡ (is_marked_in s run.ready.items i || (ltb 0 (count_of i (slice_index_or run.won_due (suc r) [])) && eqb (slice_index c.win_exits.new.pending i) 0))) is
+    (λ i. c.win_exits.ensures.ready i ∙ ap₂ (λ (xs ys : List ℕ). is_marked_in c.span-span.result xs i || (ltb 0 (count_of i ys) && eqb (slice_index c.win_exits.new.pending i) 0)) c.deref_mut-3.ensures.value winning) in
+    rw add-one (record {
+      long = record {
+        entries = long.entries;
+        pending = ap (λ (xs : List ℕ). length xs) pending_is ∙ pending_long ∙ run.pending.ok.0 ∙ long.pending;
+        undecided = long.undecided;
+        unwon = long.next_unwon;
+        lost = long.next_lost;
+        ready = ap (λ (xs : List ℕ). length xs) ready_is ∙ ready_long ∙ run.ready.ok.0 ∙ long.ready;
+        due = ap (λ (xs : List ℕ). length xs) due_is ∙ due_long ∙ run.due.ok.0 ∙ long.due;
+        next_unwon = long.unwon;
+        next_lost = long.lost;
+      };
+      entries = swept_entries graph span r run.entries.items some long.entries swept.entries_done;
+      undecided = all_words graph span (is_undecided graph (suc r)) run.undecided.items some (undecided_nodes graph law (suc r)) long.undecided swept.undecided_done;
+      unwon = all_words graph span (is_unwon graph (suc r)) run.next_unwon.items some (unwon_nodes graph (suc r)) long.next_unwon swept.next_unwon;
+      lost = all_words graph span (is_lost_at graph (suc r)) run.next_lost.items some (lost_nodes graph (suc r)) long.next_lost swept.next_lost;
+      ready = λ i. ap (λ (xs : List ℕ). is_marked_in span xs i) ready_is ∙ wins i
+          ∙ ap (λ b. b || (ltb 0 (count_of i (slice_index_or run.won_due (suc r) [])) && eqb (slice_index c.win_exits.new.pending i) 0)) (swept.ready i)
+          ∙ ready_next graph r i run.pending.items c.win_exits.new.pending run.won_due (less i) (swept.exits i).wins;
+      due = λ i. ap (λ (xs : List ℕ). is_marked_in span xs i) due_is ∙ due_next graph span r run.lost_due run.due.items c.lose_exits.new.due swept.due (λ j. (swept.exits j).losses) losses i;
+      exits = exits_next graph r run.pending.items (with_items run.pending c.win_exits.new.pending).items run.lost_due run.won_due (λ i. ap (λ (xs : List ℕ). slice_index xs i) pending_is ∙ less i) swept.exits;
+    })

@@ -1,0 +1,43 @@
+//! What a run by words keeps.
+ghost use Rattle.std.specs.Prelude.{◌≡◌, ◌≢◌, ◌⊎◌, ℕ, ◌<◌, [], slice_index_or, IsTrue, IsFalse};
+
+use crate::schedule::Schedule;
+
+/// The entries of a run, and what each word of nodes waits for. All but `pending` and the two schedules is by words of bits.
+#[derive(Drop)]
+pub(crate) struct WordRun {
+    pub(crate) entries: Vec<u16>,
+    /// How many exits of a node are not won yet. Of nodes whose exits the game tells by words it says nothing.
+    pub(crate) pending: Vec<u8>,
+    /// The nodes that are not decided and have a move.
+    pub(crate) undecided: Vec<u64>,
+    /// The nodes that are not won.
+    pub(crate) unwon: Vec<u64>,
+    /// The nodes that were lost in this round.
+    pub(crate) lost: Vec<u64>,
+    /// The nodes that wait for no exit.
+    pub(crate) ready: Vec<u64>,
+    /// The nodes with an exit that is lost by now.
+    pub(crate) due: Vec<u64>,
+    /// `unwon` and `lost` of the next round.
+    pub(crate) next_unwon: Vec<u64>,
+    pub(crate) next_lost: Vec<u64>,
+    pub(crate) lost_due: Schedule,
+    pub(crate) won_due: Schedule,
+}
+
+/// No exit is of more plies.
+const LAST: u16 = 32_000;
+
+impl WordRun {
+    /// Is it clear that no exit falls due in a later round than this?
+    pub(crate) fn is_over(&self, round: u16) -> bool
+        ensures over { IsTrue result → (round ≡ 32000) ⊎ ((n : ℕ) → round < n → (slice_index_or self.now.lost_due n [] ≡ []) × (slice_index_or self.now.won_due n [] ≡ [])) }
+        ensures more { IsFalse result → round ≢ 32000 }
+    {
+        if round == LAST {
+            return true;
+        }
+        !self.lost_due.goes_past(round) && !self.won_due.goes_past(round)
+    }
+}
