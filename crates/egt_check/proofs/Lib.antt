@@ -25,6 +25,6 @@ pub mod QuietWays
 mod Leaping
 mod Pushing
 mod Spreads
-mod ShelfBest
+pub mod ShelfBest
 mod ShelfJudged
 mod ToldBest

@@ -38,3 +38,13 @@ pub mod ToldMen
 pub mod LastMen
 pub mod LedKings
 pub mod InRuns
+pub mod WordPlaces
+pub mod WordWays
+pub mod WordFans
+pub mod PawnPlaces
+pub mod InClass
+pub mod PawnWords
+pub mod LaidWords
+pub mod ToldWords
+pub mod ClassWords
+pub mod OneFound

@@ -17,3 +17,8 @@ pub mod Told
 pub mod Last
 pub mod Leds
 pub mod Runs
+pub mod ShelfMoves
+pub mod WordParts
+pub mod PawnMoves
+pub mod WordLists
+pub mod ClassWords
