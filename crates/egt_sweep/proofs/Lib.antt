@@ -48,3 +48,4 @@ pub mod LaidWords
 pub mod ToldWords
 pub mod ClassWords
 pub mod OneFound
+pub mod WordGames

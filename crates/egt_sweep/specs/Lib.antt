@@ -22,3 +22,4 @@ pub mod WordParts
 pub mod PawnMoves
 pub mod WordLists
 pub mod ClassWords
+pub mod WordGames

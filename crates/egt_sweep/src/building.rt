@@ -1,5 +1,5 @@
 //! The builder of tables.
-ghost use Rattle.std.specs.Prelude.{◌≡◌, ◌≤◌, IfOk, IfErr};
+ghost use Rattle.std.specs.Prelude.{◌≡◌, ◌≤◌, ℕ, IfOk, IfErr, IfSome};
 ghost use Rattle.egt_graph.specs.Value.{AreRanks};
 ghost use Rattle.egt_table.specs.declared.column.Column.TheVariants.{Mate, Zeroing};
 ghost use Rattle.egt_check.specs.Tables.{table_at, beside, HasChildren};
@@ -10,16 +10,20 @@ ghost use Rattle.egt_sweep.specs.MateColumn.{mate_table};
 ghost use Rattle.egt_sweep.specs.declared.build_fault.BuildFault.TheVariants.{NoMemory};
 
 use crate::build_fault::BuildFault;
+use crate::class_words::ClassWords;
 use crate::drawn_children::has_one_game;
 use crate::laws::laws;
 use crate::mate_game::MateGame;
+use crate::mate_words::solve_mates;
+use crate::missing::Missing;
 use crate::ranks::{mate_ranks_are_values, zeroing_ranks_are_distances};
 use crate::zero_game::ZeroGame;
-use egt_check::Library;
+use crate::zero_words::solve_zeroing;
 use egt_check::laws::rules_are_kept_by_true_tables_alone;
+use egt_check::{Library, first_missing};
 use egt_class::{Class, children};
 use egt_graph::laws::alike_games_have_the_same_ranks;
-use egt_graph::{Count, Ranks, SolveFault, solve, solve_and_count};
+use egt_graph::{Count, Ranks, SolveFault};
 use egt_index::laws::a_class_without_pawns_has_none;
 use egt_moves::laws::one_value;
 use egt_table::Table;
@@ -35,12 +39,23 @@ fn children_are_true(class: Class, library: &Library)
     }
 }
 
+/// What is told of the class by words, if that is told.
+fn words_of(words: &Option<ClassWords>, class: Class) -> Option<&ClassWords>
+    ensures { IfSome result (λ told. told.now.class ≡ class) }
+{
+    match words {
+        Some(told) if told.class == class => Some(told),
+        _ => None,
+    }
+}
+
 /// The ranks of the class's game of mates, and what is told of the moves of its nodes.
 pub(crate) fn mate_ranks(
     alloc: Global,
     class: Class,
     library: &Library,
     limit: u16,
+    words: &Option<ClassWords>,
 ) -> Result<(Ranks, Vec<Count>), BuildFault>
     requires { limit ≤ 32000 }
     ensures children { IfOk result (λ _. HasChildren (table_at library.now) class) }
@@ -56,7 +71,7 @@ pub(crate) fn mate_ranks(
         Ok(game) => game,
         Err(missing) => return Err(BuildFault::from(missing)),
     };
-    match solve_and_count(alloc, &game, limit) {
+    match solve_mates(alloc, &game, words_of(words, class), limit) {
         Ok(told) => Ok(told),
         Err(SolveFault::NoMemory) => Err(BuildFault::NoMemory),
         Err(SolveFault::TooDeep) => Err(BuildFault::TooDeep(limit)),
@@ -76,13 +91,14 @@ fn copied(alloc: Global, ranks: &Ranks) -> Result<Ranks, BuildFault>
 
 /// The ranks of its game of zeroing moves. None is above the limit, since none is above the mate rank. Where nothing zeroes but captures into
 /// draws, both games are one, and so are their ranks.
-fn zeroing_ranks<'x>(
+pub(crate) fn zeroing_ranks<'x>(
     alloc: Global,
     class: Class,
     library: &'x Library,
     mates: &'x Ranks,
     counts: &'x [Count],
     limit: u16,
+    words: &'x Option<ClassWords>,
 ) -> Result<Ranks, BuildFault>
     requires limit { limit ≤ 32000 }
     requires children { HasChildren (table_at library.now) class }
@@ -105,16 +121,34 @@ fn zeroing_ranks<'x>(
         Ok(game) => game,
         Err(missing) => return Err(BuildFault::from(missing)),
     };
-    match solve(alloc, &game, limit) {
+    match solve_zeroing(alloc, &game, words_of(words, class), limit) {
         Ok(ranks) => Ok(ranks),
         Err(SolveFault::NoMemory) => Err(BuildFault::NoMemory),
         Err(SolveFault::TooDeep) => unreachable!(),
     }
 }
 
+/// What is told of the class by words, if that is told. That a child lacks its table is said before that memory does.
+fn told_words(
+    alloc: Global,
+    class: Class,
+    library: &Library,
+) -> Result<Option<ClassWords>, BuildFault>
+    ensures { (limit : ℕ) → IfErr result (IsNotBuilt (table_at library.now) class limit) }
+{
+    if let Some(child) = first_missing(class, library) {
+        return Err(BuildFault::from(Missing { class: child }));
+    }
+    match ClassWords::of(alloc, class) {
+        Ok(words) => Ok(words),
+        Err(_refused) => Err(BuildFault::NoMemory),
+    }
+}
+
 /// The table of a class whose children have their tables in the library, with no mate distance above `limit`, which is at most
-/// 32,000. It is made by retrograde analysis (Thompson 1986): first the mate column, then the zeroing column. No check is run, and none
-/// is needed: every entry is true, and the library takes the table unless it has one of the class.
+/// 32,000. First the mate column is made, then the zeroing column: by retrograde analysis (Thompson 1986), or, where the quiet moves of the
+/// class are told by words, in rounds over the words of positions whose values are still open. No check is run, and none is needed: every
+/// entry is true, and the library takes the table unless it has one of the class.
 ///
 /// # Errors
 ///
@@ -137,8 +171,9 @@ pub fn build(
     one_value();
     children_are_true(class, library);
     let _number = class.number();
-    let (mate, counts) = mate_ranks(alloc, class, library, limit)?;
-    let zeroing = zeroing_ranks(alloc, class, library, &mate, &counts, limit)?;
+    let words = told_words(alloc, class, library)?;
+    let (mate, counts) = mate_ranks(alloc, class, library, limit, &words)?;
+    let zeroing = zeroing_ranks(alloc, class, library, &mate, &counts, limit, &words)?;
     match Table::from_ranks(class, mate, zeroing) {
         Ok(table) => Ok(table),
         Err(_columns) => unreachable!(),

@@ -18,6 +18,7 @@ mod laws;
 mod leaving;
 mod leds;
 mod mate_game;
+mod mate_words;
 mod missing;
 mod nodes;
 mod pawn_moves;
@@ -35,6 +36,7 @@ mod word_fans;
 mod word_places;
 mod word_turns;
 mod zero_game;
+mod zero_words;
 
 pub use build_fault::BuildFault;
 pub use building::build;

@@ -20,8 +20,8 @@ use egt_table::Column;
 /// value of where they lead.
 #[derive(Drop)]
 pub struct MateGame<'l> {
-    class: Class,
-    library: &'l Library,
+    pub(crate) class: Class,
+    pub(crate) library: &'l Library,
     ghost children: { HasChildren (table_at library.now) class },
 }
 

@@ -24,9 +24,9 @@ use egt_table::Column;
 /// a loss in 0 or a draw, as where they lead is won, lost or drawn for the side to move there.
 #[derive(Drop)]
 pub struct ZeroGame<'l> {
-    class: Class,
-    library: &'l Library,
-    mates: &'l Ranks,
+    pub(crate) class: Class,
+    pub(crate) library: &'l Library,
+    pub(crate) mates: &'l Ranks,
     /// What the game of mates has told of its nodes' moves; it may be empty.
     counts: &'l [Count],
     ghost children: { HasChildren (table_at library.now) class },

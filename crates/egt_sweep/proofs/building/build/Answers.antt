@@ -1,4 +1,4 @@
-use Rattle.std.proofs.Common.{ℕ, ◌<◌, refl, sym, subst}
+use Rattle.std.proofs.Common.{ℕ, ◌<◌, refl, sym, subst, rules}
 use Rattle.egt_moves.specs.Arena.{HasValue}
 use Rattle.egt_moves.specs.Chess.{chess}
 use Rattle.egt_moves.specs.Zeroing.{HasZeroing}
@@ -10,6 +10,9 @@ use Rattle.egt_sweep.specs.MateColumn.{mate_table}
 use Rattle.egt_sweep.proofs.BuiltTables.{RanksTell, mates_show_values, values_within, built_is_true, built_is_accepted}
 use Rattle.egt_sweep.proofs.TrueChildren.{true_children}
 use Rattle.egt_sweep.proofs.building.build.Goals as goal
+
+pub returns-in_err-words-clause-refused : goal.returns-in_err-words-clause-refused
+returns-in_err-words-clause-refused c = let refused = c.in_err-words.ensures c.args.limit in search rules
 
 pub returns-clause-built : goal.returns-clause-built
 returns-clause-built c =

@@ -24,7 +24,7 @@ unreachable-requires c =
     let children = true_children tables class c.children_are_true.ensures c.requires.children in
     let told : RanksTell (class_game tables Mate class) class (HasValue chess) = λ i p v ok is rank. c.mate_ranks_are_values.ensures.values tables class i p v below children ok is rank in
     let shows = mates_show_values c.laws.ensures class below tables limit c.requires.limit mates c.requires.mates told in
-    let above = c.solve.ensures.too_deep (c.in-Err-TooDeep.is ∙ ap Err c.in-Err-TooDeep.field-0-is) in
+    let above = c.solve_zeroing.ensures.too_deep (c.in-Err-TooDeep.is ∙ ap Err c.in-Err-TooDeep.field-0-is) in
     let here = subst (λ (xs : List ℕ). SomeAbove (class_game (beside tables (mate_table class xs)) Zeroing class) limit) made.mates
     (subst (λ (xs : List (Option TableValue)). SomeAbove (class_game (beside (table_at xs) (mate_table class game.mates.now)) Zeroing class) limit) made.library
     (subst (λ (k : ℕ). SomeAbove (class_game (beside (table_at game.library.now) (mate_table k game.mates.now)) Zeroing k) limit) made.class above)) in
