@@ -13,6 +13,7 @@ pub mod Still
 pub mod Raising
 mod Scoring
 mod ScoreTable
+mod Peaks
 mod Uniformity
 mod Marks
 mod Men

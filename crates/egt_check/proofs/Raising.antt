@@ -121,11 +121,20 @@ still_there rest left s gone others t has = elim (cases_eq t s) [
   | inr other ↦ sym (others t other) ∙ has
 ]
 
+-- a column's best after a move with this score
+pub raised_of : (shows : Shown) (column : Column) (p : Setup) (m : Move) (old new : Option ℕ) (score : ℕ) → new ≡ Some (greater old score) → IsLegal p m
+    → ((q : Setup) (leads : Leads p m q) → Scores shows column p q (m, leads) score) → IsRaised shows column p (λ x. x ≡ m) old new
+raised_of shows column p m old new score is legal scored = subst (IsRaised shows column p (λ x. x ≡ m) old) (sym is) (raised_by_one shows column p m old score legal scored)
+
 -- a column's best after a move with these scores
 pub raised_is : (shows : Shown) (column : Column) (p : Setup) (m : Move) (old : Option ByColumn) (scores result : ByColumn) → number_at result column ≡ greater (column_of column old) (number_at scores column) → IsLegal p m
     → ((q : Setup) (leads : Leads p m q) → Scores shows column p q (m, leads) (number_at scores column)) → IsRaised shows column p (λ x. x ≡ m) (column_of column old) (column_of column (Some result))
 raised_is shows column p m old scores result is legal scored =
     subst (IsRaised shows column p (λ x. x ≡ m) (column_of column old)) (ap Some (sym is)) (raised_by_one shows column p m (column_of column old) (number_at scores column) legal scored)
+
+-- scores that are the same are raised alike
+pub raised_same : (shows : Shown) (p : Setup) (Among : Move → Type 0) (old before new after : Option ByColumn) → old ≡ before → new ≡ after → AreRaised shows p Among old new → AreRaised shows p Among before after
+raised_same shows p Among old before new after first then raised = subst (λ o. AreRaised shows p Among o after) first (subst (λ o. AreRaised shows p Among old o) then raised)
 
 -- moves whose squares are no longer left in a set
 module _ (shows : Shown) (p : Setup) (place : Move → ℕ) (Base : Move → Type 0) where

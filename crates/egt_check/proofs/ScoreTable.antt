@@ -1,12 +1,14 @@
 -- The tables of scores are right at each entry.
-use Rattle.std.proofs.Common.{◌≡◌, ◌≢◌, ℕ, ◌+◌, ◌-◌, ◌/◌, ◌%◌, ◌<◌, ◌≤◌, ◌==◌, Bool, true, false, leb, List, map, Option, Some, None, arith, refl, ap, sym, ◌∙◌}
+use Rattle.std.proofs.Common.{◌≡◌, ◌≢◌, ℕ, zero, suc, ◌+◌, ◌-◌, ◌/◌, ◌%◌, ◌^◌, ◌<◌, ◌≤◌, ◌==◌, Bool, true, false, leb, List, map, Option, Some, None, arith, refl, ap, sym, ◌∙◌}
 use Rattle.std.specs.Prelude.{slice_index}
+use Rattle.std.specs.Int.Bits.{bit_and, and_zero_r}
 use Rattle.std.specs.List.{range_with_len}
 use Rattle.std.proofs.lemmas.Bool.{eqb-true, eqb-false, leb-true, leb-false}
+use Rattle.std.proofs.lemmas.Nat.{and_mask}
 use Rattle.std.proofs.lemmas.List.FromFn.{get_or-map-range_with_len}
 use Rattle.egt_check.specs.declared.outcome.Outcome.{Outcome}
 use Rattle.egt_check.specs.declared.outcome.Outcome.TheVariants as outcomes
-use Rattle.egt_check.specs.declared.score_table.TheConstants.{MATE, ZEROING, KIND}
+use Rattle.egt_check.specs.declared.score_table.TheConstants.{MATE, ZEROING, RAISED_MATE, RAISED_ZEROING, MASK, KIND}
 use Rattle.egt_check.specs.Score.{IsShownBy, value_of, score_of, zeroing_said}
 use Rattle.egt_check.proofs.Due.{same_value}
 use Rattle.egt_check.proofs.Scoring.{low_none}
@@ -130,3 +132,64 @@ pub unlike_told : (mate zeroing : ℕ) → mate < 256 → zeroing < 256 → slic
     → 32001 ≡ score_of (zeroing_said said other false)
 unlike_told mate zeroing mate_known zeroing_known differ said other mate_shown zeroing_shown =
     unlike said other (λ same. differ (row_is kind_of KIND kind_rows mate mate_known said mate_shown ∙ same ∙ sym (row_is kind_of KIND kind_rows zeroing zeroing_known other zeroing_shown)))
+
+-- one more, but 0 at the entry 0
+raised_at : ℕ → ℕ → ℕ
+raised_at zero score = 0
+raised_at (suc x) score = score + 1
+
+raised_mate_rows : RAISED_MATE ≡ map (λ x. raised_at x (score_of (shown_at x))) (range_with_len 0 256)
+unfolding raised_at shown_at shown_where
+raised_mate_rows = refl
+
+raised_zeroing_rows : RAISED_ZEROING ≡ rows_of (λ said. score_of (decided_in said) + 1)
+unfolding rows_of shown_at shown_where decided_in
+raised_zeroing_rows = refl
+
+raised_mate_is : (x : ℕ) → x < 256 → slice_index RAISED_MATE x ≡ raised_at x (score_of (shown_at x))
+raised_mate_is x known = ap (λ ns. slice_index ns x) raised_mate_rows ∙ get_or-map-range_with_len (λ k. raised_at k (score_of (shown_at k))) 0 256 x x 0 known (omega arith)
+
+raised_more : (x score : ℕ) → x ≢ 0 → raised_at x score ≡ score + 1
+unfolding raised_at
+raised_more zero score some = absurd (some refl)
+raised_more (suc x) score some = refl
+
+pub raised_mate_none : (x : ℕ) → x ≡ 0 → slice_index RAISED_MATE x ≡ 0
+raised_mate_none x none = ap (slice_index RAISED_MATE) none
+
+pub raised_mate_told : (x : ℕ) → x < 256 → x ≢ 0 → (said : Option Outcome) → IsShownBy x said → slice_index RAISED_MATE x ≡ score_of said + 1
+raised_mate_told x known some said shown = raised_mate_is x known ∙ raised_more x (score_of (shown_at x)) some ∙ ap (λ o. score_of o + 1) (shown_is x known said shown)
+
+-- entries of one kind
+pub raised_zeroing_told : (mate zeroing : ℕ) → mate < 256 → zeroing < 256 → slice_index KIND mate ≡ slice_index KIND zeroing → (said other : Option Outcome) → IsShownBy mate said → IsShownBy zeroing other
+    → slice_index RAISED_ZEROING zeroing ≡ score_of (zeroing_said said other false) + 1
+raised_zeroing_told mate zeroing mate_known zeroing_known same said other mate_shown zeroing_shown =
+    row_is (λ o. score_of (decided_in o) + 1) RAISED_ZEROING raised_zeroing_rows zeroing zeroing_known other zeroing_shown
+    ∙ ap (λ n. n + 1) (alike said other (sym (row_is kind_of KIND kind_rows mate mate_known said mate_shown) ∙ same ∙ row_is kind_of KIND kind_rows zeroing zeroing_known other zeroing_shown))
+
+-- all bits, but none at the entry 0
+mask_at : ℕ → ℕ
+mask_at zero = 0
+mask_at (suc x) = 65535
+
+mask_rows : MASK ≡ map mask_at (range_with_len 0 256)
+unfolding mask_at
+mask_rows = refl
+
+mask_is : (x : ℕ) → x < 256 → slice_index MASK x ≡ mask_at x
+mask_is x known = ap (λ ns. slice_index ns x) mask_rows ∙ get_or-map-range_with_len mask_at 0 256 x x 0 known (omega arith)
+
+mask_all : (x : ℕ) → x ≢ 0 → mask_at x ≡ 65535
+unfolding mask_at
+mask_all zero some = absurd (some refl)
+mask_all (suc x) some = refl
+
+-- a number below 65536 without its masked bits
+pub masked_none : (x n : ℕ) → x ≡ 0 → bit_and n (slice_index MASK x) ≡ 0
+masked_none x n none = ap (λ k. bit_and n (slice_index MASK k)) none ∙ and_zero_r n
+
+pub masked_some : (x n : ℕ) → x < 256 → x ≢ 0 → n < 65536 → bit_and n (slice_index MASK x) ≡ n
+masked_some x n known some few = ap (bit_and n) (mask_is x known ∙ mask_all x some) ∙ and_mask n 16 ∙ small
+  where
+    small : n % (2 ^ 16) ≡ n
+    small = omega (arith, few)

@@ -22,3 +22,4 @@ pub mod QuietBest
 pub mod Spread
 pub mod Pusher
 pub mod ShelfBest
+pub mod Peak

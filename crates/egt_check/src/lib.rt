@@ -11,6 +11,7 @@ pub mod laws;
 pub mod library;
 pub mod outcome;
 pub mod own_men;
+pub mod peak;
 pub mod pusher;
 pub mod quiet;
 pub mod quiet_best;

@@ -1,5 +1,5 @@
 //! The best of the quiet steps that a shelf tells, in a uniform table whose entries tell which numbers are indexes.
-ghost use Rattle.std.specs.Prelude.{◌≡◌, ℕ, ◌+◌, ◌*◌, ◌<◌, ◌≤◌, ◌==◌, true, Option, Some};
+ghost use Rattle.std.specs.Prelude.{◌≡◌, ℕ, ◌+◌, ◌*◌, ◌<◌, ◌≤◌, ◌==◌, true, false, Some};
 ghost use Rattle.std.specs.Int.{bit_at};
 ghost use Rattle.std.specs.List.{Contains};
 ghost use Rattle.egt_board.specs.Setup.{Setup, IsAdmissible};
@@ -12,54 +12,48 @@ ghost use Rattle.egt_check.specs.QuietBest.{GoesBy, GoesFree, GoesHome};
 ghost use Rattle.egt_check.specs.Pusher.{IsPusher, IsPushing};
 ghost use Rattle.egt_check.specs.Roamer.{IsRoamer, IsRoaming};
 ghost use Rattle.egt_check.specs.Raised.{AreRaised};
-ghost use Rattle.egt_check.specs.Score.{IsShownBy, score_of, zeroing_said};
 ghost use Rattle.egt_check.specs.Steps.{IsInClass, IsQuietTarget, shown_by};
-ghost use Rattle.egt_check.specs.Uniform.{AreUniform, IsUniform};
+ghost use Rattle.egt_check.specs.Uniform.{IsUniform};
 ghost use Rattle.egt_check.specs.Voids.{TellsVoids};
 ghost use Rattle.egt_check.specs.declared.fan.Way.{Way};
-ghost use Rattle.egt_check.specs.declared.outcome.Outcome.{Outcome};
 
-use crate::by_column::ByColumn;
 use crate::facts::facts;
 use crate::fan::{Fan, Led, Way};
 use crate::library::Library;
+use crate::peak::Peak;
 use crate::pusher::{Pusher, Pushes};
 use crate::roamer::{Roamer, Roams};
-use crate::score_table::{scores_by, uniform_scores};
-use crate::successors::{entries_at, raised};
+use crate::score_table::scores_by;
+use crate::successors::entries_at;
 use egt_board::Square;
 use egt_class::laws::moves_lead_into_the_class_or_a_child as quiet_moves_keep_the_class;
 use egt_index::size;
 use egt_table::Table;
 
-/// The scores of a step to a position with such entries, which zeroes where it is a pawn's.
+/// The best score so far, and of a piece's quiet step that leads to the number, if that is an index: if it is none, there is no such step.
 #[inline(always)]
-fn step_scores(entries: ByColumn, pawn: bool) -> ByColumn
-    requires { AreUniform entries.mate entries.zeroing }
-    ensures mate { (said : Option Outcome) → IsShownBy entries.mate said → result.mate ≡ score_of said }
-    ensures zeroing { (said other : Option Outcome) → IsShownBy entries.mate said → IsShownBy entries.zeroing other → result.zeroing ≡ score_of (zeroing_said said other pawn) }
-{
-    if pawn {
-        scores_by(entries, true)
-    } else {
-        uniform_scores(entries)
-    }
-}
-
-/// The best score so far, and of the quiet step that leads to the number, if that is an index: if it is none, there is no such step.
-#[inline(always)]
-fn best_at(
-    table: &Table,
-    _library: &Library,
-    index: u32,
-    pawn: bool,
-    best: Option<ByColumn>,
-) -> Option<ByColumn>
+fn best_at(table: &Table, _library: &Library, index: u32, best: Peak) -> Peak
     requires uniform { IsUniform table.now }
     requires voids { TellsVoids table.now }
     requires inside { index < size_of table.now.class }
     ensures void { IsVoid table.now.class index → result ≡ best }
-    ensures step { (p : Setup) (from to : ℕ) → IsAdmissible p → IsInClass table.now.class p → ¬ IsVoid table.now.class index → IsQuietTarget p pawn from to → ((q : Setup) → Leads p (plain from to) q → IsIndex table.now.class q index) →
+    ensures step { (p : Setup) (from to : ℕ) → IsAdmissible p → IsInClass table.now.class p → ¬ IsVoid table.now.class index → IsQuietTarget p false from to → ((q : Setup) → Leads p (plain from to) q → IsIndex table.now.class q index) →
+        AreRaised (shown_by _library.now table.now) p (λ m. m ≡ plain from to) best result }
+{
+    facts();
+    quiet_moves_keep_the_class();
+    let _class = table.class();
+    let entries = entries_at(table, index);
+    best.raised_by(entries)
+}
+
+/// The same of a pawn's step, which zeroes.
+#[inline(always)]
+fn best_at_push(table: &Table, _library: &Library, index: u32, best: Peak) -> Peak
+    requires voids { TellsVoids table.now }
+    requires inside { index < size_of table.now.class }
+    ensures void { IsVoid table.now.class index → result ≡ best }
+    ensures step { (p : Setup) (from to : ℕ) → IsAdmissible p → IsInClass table.now.class p → ¬ IsVoid table.now.class index → IsQuietTarget p true from to → ((q : Setup) → Leads p (plain from to) q → IsIndex table.now.class q index) →
         AreRaised (shown_by _library.now table.now) p (λ m. m ≡ plain from to) best result }
 {
     facts();
@@ -69,8 +63,8 @@ fn best_at(
     if entries.mate == 0 {
         return best;
     }
-    let scores = step_scores(entries, pawn);
-    Some(raised(best, scores))
+    let scores = scores_by(entries, true);
+    best.with(scores)
 }
 
 impl Way {
@@ -86,13 +80,7 @@ impl Way {
 
 /// The best score so far, and of the steps by these ways at the place.
 #[inline(always)]
-fn best_of_ways(
-    table: &Table,
-    library: &Library,
-    ways: &[Way],
-    k: u32,
-    best: Option<ByColumn>,
-) -> Option<ByColumn>
+fn best_of_ways(table: &Table, library: &Library, ways: &[Way], k: u32, best: Peak) -> Peak
     requires uniform { IsUniform table.now }
     requires voids { TellsVoids table.now }
     requires few { k < 64 }
@@ -105,7 +93,7 @@ fn best_of_ways(
     let mut best = best;
     for way in ways {
         if way.is_open(k) {
-            best = best_at(table, library, way.index + 2 * k, false, best);
+            best = best_at(table, library, way.index + 2 * k, best);
         }
     }
     best
@@ -113,13 +101,7 @@ fn best_of_ways(
 
 /// The same of the white king's steps after which a turn brings him home, where the last man stands on this square.
 #[inline(always)]
-fn best_of_leds(
-    table: &Table,
-    library: &Library,
-    leds: &[Led],
-    last: Square,
-    best: Option<ByColumn>,
-) -> Option<ByColumn>
+fn best_of_leds(table: &Table, library: &Library, leds: &[Led], last: Square, best: Peak) -> Peak
     requires uniform { IsUniform table.now }
     requires voids { TellsVoids table.now }
     requires leds { (base from on : ℕ) × AreLeds table.now.class base from (Some on) leds.now }
@@ -133,7 +115,7 @@ fn best_of_leds(
         let index = led.index_with(last);
         // Beyond the class no number is an index.
         if index < size {
-            best = best_at(table, library, index, false, best);
+            best = best_at(table, library, index, best);
         }
     }
     best
@@ -147,8 +129,8 @@ pub(crate) fn best_of_fan(
     fan: &Fan,
     k: u32,
     last: Square,
-    best: Option<ByColumn>,
-) -> Option<ByColumn>
+    best: Peak,
+) -> Peak
     requires uniform { IsUniform table.now }
     requires voids { TellsVoids table.now }
     requires few { k < 64 }
@@ -167,8 +149,8 @@ pub(crate) fn best_of_roamer(
     library: &Library,
     roamer: &Roamer,
     roams: Roams,
-    best: Option<ByColumn>,
-) -> Option<ByColumn>
+    best: Peak,
+) -> Peak
     requires uniform { IsUniform table.now }
     requires voids { TellsVoids table.now }
     requires roamer { (base : ℕ) × IsRoamer table.now.class base roamer.now }
@@ -179,7 +161,7 @@ pub(crate) fn best_of_roamer(
     let mut best = best;
     let mut rest = roams.free;
     while let Some(to) = rest.pop_first() {
-        best = best_at(table, library, roamer.index_to(to), false, best);
+        best = best_at(table, library, roamer.index_to(to), best);
     }
     best
 }
@@ -191,8 +173,8 @@ pub(crate) fn best_of_pusher(
     library: &Library,
     pusher: &Pusher,
     pushes: Pushes,
-    best: Option<ByColumn>,
-) -> Option<ByColumn>
+    best: Peak,
+) -> Peak
     requires uniform { IsUniform table.now }
     requires voids { TellsVoids table.now }
     requires pusher { (base : ℕ) × IsPusher table.now.class base pusher.now }
@@ -205,7 +187,7 @@ pub(crate) fn best_of_pusher(
     let mut best = best;
     let mut rest = pushes.ahead;
     while let Some(to) = rest.pop_first() {
-        best = best_at(table, library, pusher.index_to(to), true, best);
+        best = best_at_push(table, library, pusher.index_to(to), best);
     }
     best
 }

@@ -14,6 +14,7 @@ ghost use Rattle.egt_check.specs.Voids.{TellsVoids};
 
 use crate::by_column::ByColumn;
 use crate::library::Library;
+use crate::peak::Peak;
 use crate::quiet_best::{best_of_fan, best_of_pusher, best_of_roamer};
 use crate::spread::Spread;
 use egt_board::{Square, SquareSet};
@@ -47,13 +48,7 @@ impl Spread {
 
 /// The best score of the quiet moves of the men who stand still, at the place where the last man stands on this square.
 #[inline(always)]
-fn best_of_still(
-    table: &Table,
-    library: &Library,
-    spread: &Spread,
-    k: u32,
-    last: Square,
-) -> Option<ByColumn>
+fn best_of_still(table: &Table, library: &Library, spread: &Spread, k: u32, last: Square) -> Peak
     requires uniform { IsUniform table.now }
     requires voids { TellsVoids table.now }
     requires few { k < 64 }
@@ -61,7 +56,7 @@ fn best_of_still(
     requires last { last ≡ spread.now.on + k }
     ensures { (p : Setup) → IsPlaced table.now.class spread.now k p → AreRaised (shown_by library.now table.now) p (GoesStill p spread.now) None result }
 {
-    let of_king = best_of_fan(table, library, &spread.king, k, last, None);
+    let of_king = best_of_fan(table, library, &spread.king, k, last, Peak::none());
     if spread.goes {
         best_of_fan(table, library, &spread.one, k, last, of_king)
     } else {
@@ -97,7 +92,7 @@ pub(crate) fn best_at_place(
             return None;
         }
         let still = best_of_still(table, library, spread, k, last);
-        return best_of_roamer(table, library, roamer, roams, still);
+        return best_of_roamer(table, library, roamer, roams, still).scores();
     }
     if let Some(pusher) = &spread.pusher {
         let pushes = pusher.at(k);
@@ -105,7 +100,7 @@ pub(crate) fn best_at_place(
             return None;
         }
         let still = best_of_still(table, library, spread, k, last);
-        return best_of_pusher(table, library, pusher, pushes, still);
+        return best_of_pusher(table, library, pusher, pushes, still).scores();
     }
-    best_of_still(table, library, spread, k, last)
+    best_of_still(table, library, spread, k, last).scores()
 }

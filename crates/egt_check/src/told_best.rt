@@ -23,6 +23,7 @@ use crate::by_column::ByColumn;
 use crate::fan::Fan;
 use crate::library::Library;
 use crate::own_men::{camps_of, is_of};
+use crate::peak::Peak;
 use crate::quiet::is_pawn;
 use crate::quiet_best::{best_of_fan, best_of_roamer};
 use crate::roamer::Roamer;
@@ -108,8 +109,8 @@ fn best_of_fanned(
     fan: &Fan,
     k: u32,
     last: Square,
-    best: Option<ByColumn>,
-) -> Option<ByColumn>
+    best: Peak,
+) -> Peak
     requires uniform { IsUniform table.now }
     requires voids { TellsVoids table.now }
     requires few { k < 64 }
@@ -125,7 +126,9 @@ fn best_of_fanned(
     if fan.reach.common(camps.enemy).is_empty() {
         return quiet;
     }
-    best_of_takes_from(table, library, frame, position, camps, fan.from, quiet)
+    let quiet = quiet.scores();
+    let taken = best_of_takes_from(table, library, frame, position, camps, fan.from, quiet);
+    Peak::of(taken)
 }
 
 /// The same of the last man, a piece.
@@ -138,8 +141,8 @@ fn best_of_roamed(
     camps: Camps,
     roamer: &Roamer,
     k: u32,
-    best: Option<ByColumn>,
-) -> Option<ByColumn>
+    best: Peak,
+) -> Peak
     requires uniform { IsUniform table.now }
     requires voids { TellsVoids table.now }
     requires roamer { (base : ℕ) × IsRoamer table.now.class base roamer.now × IsAlikeIndex table.now.class base (base + 2 * k) position.now }
@@ -157,7 +160,9 @@ fn best_of_roamed(
     if attacked.is_empty() {
         return quiet;
     }
-    best_of_takes_from(table, library, frame, position, camps, from, quiet)
+    let quiet = quiet.scores();
+    let taken = best_of_takes_from(table, library, frame, position, camps, from, quiet);
+    Peak::of(taken)
 }
 
 /// The best score so far, and of all moves of the man on the square, whatever he is and if he is of the side to move.
@@ -199,7 +204,7 @@ fn best_of_still_men(
     camps: Camps,
     k: u32,
     last: Square,
-) -> Option<ByColumn>
+) -> Peak
     requires uniform { IsUniform table.now }
     requires voids { TellsVoids table.now }
     requires few { k < 64 }
@@ -221,7 +226,7 @@ fn best_of_still_men(
         &spread.king,
         k,
         last,
-        None,
+        Peak::none(),
     );
     if spread.goes {
         best_of_fanned(
@@ -266,7 +271,9 @@ pub(crate) fn best_told(
     let last = Square::at(spread.on.number() + k as u8);
     let still = best_of_still_men(table, library, spread, frame, position, camps, k, last);
     match &spread.roamer {
-        Some(roamer) => best_of_roamed(table, library, frame, position, camps, roamer, k, still),
-        None => best_from(table, library, frame, position, camps, last, still),
+        Some(roamer) => {
+            best_of_roamed(table, library, frame, position, camps, roamer, k, still).scores()
+        }
+        None => best_from(table, library, frame, position, camps, last, still.scores()),
     }
 }

@@ -46,8 +46,8 @@ loop-to-preserved c =
           elim (cases_eq (entry_at c.args.table.now Mate i) 0) [
             | inl zero ↦
                 let void = (c.requires.voids i below).void zero in
-                let same = c.best_at-best.ensures.void void in
-                grown c.best_at-best.result (λ m. m ≢ m)
+                let same = c.best_at_push-best.ensures.void void in
+                grown c.best_at_push-best.result (λ m. m ≢ m)
                 (subst (λ (o : Option ByColumn). AreRaised shows p (λ m. m ≢ m) c.loop-to.best o) (sym same) (λ column. raised_by_none shows column p (λ m. m ≢ m) (column_of column c.loop-to.best) (λ m legal no. no refl)))
                 (λ m legal goes here.
                 let none = (roams.complete c.requires.alone m.to (targeted p m c.args.pushes.from goes.from_is legal) goes.free).1 in
@@ -57,8 +57,8 @@ loop-to-preserved c =
                 let has : Has c.args.pushes.ahead to = c.loop-to.invariant.left to c.in-Some.ensures.had in
                 let (quiet, index) = roams.goes to has (subst (λ n. ¬ IsVoid class n) c.index_to.ensures.code some) in
                 let (flipped, is_of) = c.facts.ensures.spelled_class class (base + 2 * k) p placed.spells in
-                grown c.best_at-best.result (λ m. m ≡ plain c.args.pushes.from to)
-                (c.best_at-best.ensures.step p c.args.pushes.from to placed.spells.admissible (flipped, is_of) some quiet (λ q leads. subst (IsIndex class q) (sym c.index_to.ensures.code) (index q leads)))
+                grown c.best_at_push-best.result (λ m. m ≡ plain c.args.pushes.from to)
+                (c.best_at_push-best.ensures.step p c.args.pushes.from to placed.spells.admissible (flipped, is_of) some quiet (λ q leads. subst (IsIndex class q) (sym c.index_to.ensures.code) (index q leads)))
                 (λ m legal free here. quiet.only m free.from_is here legal)
           ];
       left = λ t has. c.loop-to.invariant.left t (still_there c.loop-to.rest left to c.in-Some.ensures.gone c.in-Some.ensures.others t has);

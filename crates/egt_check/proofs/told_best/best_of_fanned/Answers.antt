@@ -1,10 +1,10 @@
-use Rattle.std.proofs.Common.{◌≡◌, inl, inr}
+use Rattle.std.proofs.Common.{◌≡◌, inl, inr, sym}
 use Rattle.egt_board.specs.Man.{other_side}
 use Rattle.egt_board.specs.Placement.{IsHeld}
 use Rattle.egt_check.specs.QuietBest.{GoesFree}
 use Rattle.egt_check.specs.Raised.{column_of}
 use Rattle.egt_check.specs.Steps.{shown_by}
-use Rattle.egt_check.proofs.Raising.{raised_alike, raised_by_both}
+use Rattle.egt_check.proofs.Raising.{raised_alike, raised_by_both, raised_same}
 use Rattle.egt_check.proofs.ShelfBest.{off_foes}
 use Rattle.egt_check.proofs.Still.{targeted}
 use Rattle.egt_check.proofs.ToldBest.{free_or_taken}
@@ -33,8 +33,10 @@ returns c = λ column.
     let p = c.args.position.now in
     let from = c.args.fan.now.from in
     let (base, on, fan, last, placed) = c.requires.fan in
-    raised_by_both (shown_by c.args.library.now c.args.table.now) column p (GoesFree p from) (λ m. (m.from ≡ from) × IsHeld p.men m.to (other_side p.side)) (λ m. m.from ≡ from) (column_of column c.args.best) (column_of column c.best_of_fan-quiet.result) (column_of column c.best_of_takes_from.result)
-    (c.best_of_fan-quiet.ensures base on p fan last placed column) (c.best_of_takes_from.ensures column)
+    raised_by_both (shown_by c.args.library.now c.args.table.now) column p (GoesFree p from) (λ m. (m.from ≡ from) × IsHeld p.men m.to (other_side p.side)) (λ m. m.from ≡ from) (column_of column c.args.best) (column_of column c.best_of_fan-quiet.result) (column_of column c.of.result)
+    (c.best_of_fan-quiet.ensures base on p fan last placed column)
+    (raised_same (shown_by c.args.library.now c.args.table.now) p (λ m. (m.from ≡ from) × IsHeld p.men m.to (other_side p.side)) c.scores-quiet.result c.best_of_fan-quiet.result c.best_of_takes_from-taken.result c.of.result c.scores-quiet.ensures (sym c.of.ensures)
+    c.best_of_takes_from-taken.ensures column)
     (λ m legal is. elim (free_or_taken p c.side-side.ensures.admissible m legal) [
       | inl free ↦ inl (record { from_is = is; free = free })
       | inr enemy ↦ inr (is, enemy)

@@ -1,7 +1,7 @@
-use Rattle.std.proofs.Common.{◌+◌, IfSome, refl, sym, ap, subst, ◌∙◌, arith}
+use Rattle.std.proofs.Common.{◌≡◌, ◌+◌, IfSome, refl, sym, ap, subst, ◌∙◌, arith}
 use Rattle.egt_check.specs.Spread.{IsPiece}
 use Rattle.egt_check.specs.Steps.{shown_by}
-use Rattle.egt_check.proofs.Raising.{best_found, none_found}
+use Rattle.egt_check.proofs.Raising.{best_found, none_found, raised_same}
 use Rattle.egt_check.proofs.ToldBest.{told_by}
 use Rattle.egt_check.proofs.told_best.best_told.Goals as goal
 
@@ -22,24 +22,28 @@ pub returns-in-Some-clause-some : goal.returns-in-Some-clause-some
 returns-in-Some-clause-some c =
     let spread = c.args.spread.now in
     let last = subst (λ o. IfSome o (IsPiece c.args.table.now.class spread.base spread.on)) c.in-Some.is c.requires.spread.roamer in
-    best_found (shown_by c.args.library.now c.args.table.now) c.args.position.now (λ m. Unit {0}) (λ m legal. tt) c.best_of_roamed.result
-    (told_by (shown_by c.args.library.now c.args.table.now) c.args.table.now.class spread c.requires.spread c.args.k c.args.position.now c.requires.placed (c.in-Some.roamer.on + c.args.k) (ap (λ n. n + c.args.k) (sym last.at)) c.best_of_still_men-still.result c.best_of_roamed.result c.best_of_still_men-still.ensures c.best_of_roamed.ensures)
+    best_found (shown_by c.args.library.now c.args.table.now) c.args.position.now (λ m. Unit {0}) (λ m legal. tt) c.scores.result
+    (told_by (shown_by c.args.library.now c.args.table.now) c.args.table.now.class spread c.requires.spread c.args.k c.args.position.now c.requires.placed (c.in-Some.roamer.on + c.args.k) (ap (λ n. n + c.args.k) (sym last.at)) c.best_of_still_men-still.result c.scores.result c.best_of_still_men-still.ensures
+    (raised_same (shown_by c.args.library.now c.args.table.now) c.args.position.now (λ m. m.from ≡ c.in-Some.roamer.on + c.args.k) c.best_of_still_men-still.result c.best_of_still_men-still.result c.best_of_roamed.result c.scores.result refl (sym c.scores.ensures) c.best_of_roamed.ensures))
 
 pub returns-in-Some-clause-none : goal.returns-in-Some-clause-none
 returns-in-Some-clause-none c =
     let spread = c.args.spread.now in
     let last = subst (λ o. IfSome o (IsPiece c.args.table.now.class spread.base spread.on)) c.in-Some.is c.requires.spread.roamer in
-    none_found (shown_by c.args.library.now c.args.table.now) c.args.position.now (λ m. Unit {0}) (λ m legal. tt) c.best_of_roamed.result
-    (told_by (shown_by c.args.library.now c.args.table.now) c.args.table.now.class spread c.requires.spread c.args.k c.args.position.now c.requires.placed (c.in-Some.roamer.on + c.args.k) (ap (λ n. n + c.args.k) (sym last.at)) c.best_of_still_men-still.result c.best_of_roamed.result c.best_of_still_men-still.ensures c.best_of_roamed.ensures)
+    none_found (shown_by c.args.library.now c.args.table.now) c.args.position.now (λ m. Unit {0}) (λ m legal. tt) c.scores.result
+    (told_by (shown_by c.args.library.now c.args.table.now) c.args.table.now.class spread c.requires.spread c.args.k c.args.position.now c.requires.placed (c.in-Some.roamer.on + c.args.k) (ap (λ n. n + c.args.k) (sym last.at)) c.best_of_still_men-still.result c.scores.result c.best_of_still_men-still.ensures
+    (raised_same (shown_by c.args.library.now c.args.table.now) c.args.position.now (λ m. m.from ≡ c.in-Some.roamer.on + c.args.k) c.best_of_still_men-still.result c.best_of_still_men-still.result c.best_of_roamed.result c.scores.result refl (sym c.scores.ensures) c.best_of_roamed.ensures))
 
 pub returns-in-None-clause-some : goal.returns-in-None-clause-some
 returns-in-None-clause-some c =
     let spread = c.args.spread.now in
     best_found (shown_by c.args.library.now c.args.table.now) c.args.position.now (λ m. Unit {0}) (λ m legal. tt) c.best_from.result
-    (told_by (shown_by c.args.library.now c.args.table.now) c.args.table.now.class spread c.requires.spread c.args.k c.args.position.now c.requires.placed c.at-last.result (sym (c.at-last.ensures ∙ ap (λ n. n + c.args.k) c.number.ensures.value)) c.best_of_still_men-still.result c.best_from.result c.best_of_still_men-still.ensures c.best_from.ensures)
+    (told_by (shown_by c.args.library.now c.args.table.now) c.args.table.now.class spread c.requires.spread c.args.k c.args.position.now c.requires.placed c.at-last.result (sym (c.at-last.ensures ∙ ap (λ n. n + c.args.k) c.number.ensures.value)) c.best_of_still_men-still.result c.best_from.result c.best_of_still_men-still.ensures
+    (raised_same (shown_by c.args.library.now c.args.table.now) c.args.position.now (λ m. m.from ≡ c.at-last.result) c.scores-in-None.result c.best_of_still_men-still.result c.best_from.result c.best_from.result c.scores-in-None.ensures refl c.best_from.ensures))
 
 pub returns-in-None-clause-none : goal.returns-in-None-clause-none
 returns-in-None-clause-none c =
     let spread = c.args.spread.now in
     none_found (shown_by c.args.library.now c.args.table.now) c.args.position.now (λ m. Unit {0}) (λ m legal. tt) c.best_from.result
-    (told_by (shown_by c.args.library.now c.args.table.now) c.args.table.now.class spread c.requires.spread c.args.k c.args.position.now c.requires.placed c.at-last.result (sym (c.at-last.ensures ∙ ap (λ n. n + c.args.k) c.number.ensures.value)) c.best_of_still_men-still.result c.best_from.result c.best_of_still_men-still.ensures c.best_from.ensures)
+    (told_by (shown_by c.args.library.now c.args.table.now) c.args.table.now.class spread c.requires.spread c.args.k c.args.position.now c.requires.placed c.at-last.result (sym (c.at-last.ensures ∙ ap (λ n. n + c.args.k) c.number.ensures.value)) c.best_of_still_men-still.result c.best_from.result c.best_of_still_men-still.ensures
+    (raised_same (shown_by c.args.library.now c.args.table.now) c.args.position.now (λ m. m.from ≡ c.at-last.result) c.scores-in-None.result c.best_of_still_men-still.result c.best_from.result c.best_from.result c.scores-in-None.ensures refl c.best_from.ensures))
