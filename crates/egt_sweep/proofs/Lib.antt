@@ -2,6 +2,7 @@ pub mod Linked
 pub mod OneBefore
 pub mod Combed
 pub mod AtNode
+pub mod AttackingNobody
 pub mod Putting
 pub mod Staying
 pub mod Collecting

@@ -1,14 +1,14 @@
 -- The games of a class by words.
-use Rattle.std.proofs.Common.{◌≡◌, ◌≢◌, ◌==◌, ℕ, zero, suc, ◌+◌, ◌*◌, ◌-◌, ◌/◌, ◌%◌, ◌<◌, ◌≤◌, ◌^◌, ◌⊎◌, ◌↔◌, bit_or, w64, if◌then◌else◌, not, Bool, true, false, List, [], ◌∷◌, length, slice_index, get_or, set, Option, Some, None, eqb, refl, sym, ap, ◌∙◌, subst, inl, inr, arith}
+use Rattle.std.proofs.Common.{◌≡◌, ◌==◌, ℕ, suc, ◌+◌, ◌*◌, ◌-◌, ◌%◌, ◌<◌, ◌≤◌, ◌^◌, ◌⊎◌, ◌↔◌, bit_or, w64, if◌then◌else◌, not, Bool, true, false, List, [], ◌∷◌, length, slice_index, Option, Some, None, refl, sym, ap, ◌∙◌, subst, inl, inr, arith}
 use Rattle.std.proofs.Math.Bool.{Bool-set}
 use Rattle.std.proofs.Math.Logic.{⊎_elim, ∥∥₁_elim, ∥∥₁_prop}
 use Rattle.std.proofs.Math.Nat.{ℕ_set}
 use Rattle.std.proofs.Props.{props}
 use Rattle.std.proofs.lemmas.Bool.{cases_eq, cases_lt, false≢true, eqb-true, eq-eqb, lt-ltb}
-use Rattle.std.proofs.lemmas.List.{get_or_past, get_or-set_same, get_or-set_other}
+use Rattle.std.proofs.lemmas.List.{get_or_past}
 use Rattle.std.proofs.lemmas.Nat.Bits.{bit_at-lt, bit_at-zero, bit_at_set_same, bit_at_set_other}
 use Rattle.std.specs.Int.{bit_at}
-use Rattle.std.specs.List.{Contains, list_any, list_all, flat_map}
+use Rattle.std.specs.List.{Contains, list_any, list_all}
 use Rattle.std.specs.Option.{is_some, option_to_list}
 use Rattle.egt_board.specs.Decided.{Decided}
 use Rattle.egt_board.specs.Setup.{Setup, IsAdmissible}
@@ -22,7 +22,7 @@ use Rattle.egt_moves.specs.DecidedMoves.{decided_zeroes}
 use Rattle.egt_moves.specs.Legal.{Leads}
 use Rattle.egt_moves.specs.Moves.{moves_of, played}
 use Rattle.egt_moves.specs.declared.chess_move.Move.{Move}
-use Rattle.egt_graph.specs.Passing.{passing_below, passing_has, passing_passes}
+use Rattle.egt_graph.specs.Passing.{passing_has, passing_passes}
 use Rattle.egt_graph.specs.Value.{is_empty, is_lost_before, is_won_before}
 use Rattle.egt_graph.specs.WordMoves.{FitsPushes, GoesPushed, GoesSome, IsAhead}
 use Rattle.egt_graph.specs.Words.{number_at, word_in, place_in, words_of, IsIn, TellsExits, IsWordStart, number_at-places, place_in-small, word_in-within}
@@ -45,7 +45,7 @@ use Rattle.egt_sweep.specs.Nodes.{position_at, connects, exit_of, exit_by, exits
 use Rattle.egt_sweep.specs.ShelfMoves.{places, PushesTo, TellsWord}
 use Rattle.egt_sweep.specs.WordLists.{IsTold}
 use Rattle.egt_sweep.specs.declared.class_words.Lists.{Lists}
-use Rattle.egt_sweep.specs.WordGames.{IsOddAbove, AreOddAbove, AreOddMarks}
+use Rattle.egt_sweep.specs.WordGames.{IsOddAbove, AreOddMarks}
 use Rattle.egt_sweep.proofs.Linked.{node_at, there_is, void_is, spelled_there, connects_is, goes_is}
 use Rattle.egt_sweep.proofs.Members.{In, in_given, given_in, contains_in, any_in, in_any, all_in, in_all}
 use Rattle.egt_sweep.proofs.OutOfClass.{shown_is, beside_own, nothing_told}
@@ -503,6 +503,17 @@ nodes_marked : (d c : ℕ) (lists : Lists) (all : List ℕ) → d ≡ c → all 
 nodes_marked d c lists all same is long told =
     subst (λ (e : ℕ). AreMarksOf (size_of e) (λ j. ¬ IsVoid e j) all) same
     (long, λ word lt. subst (λ (xs : List ℕ). (k : ℕ) → bit_at (slice_index xs word) k ≡ 1 ↔ ((k < places) × ¬ IsVoid d (number_at places word k))) (sym is) (nodes_here d word (slice_index lists.nodes.items word) (slice_index lists.staying.items word) _ _ _ (told.holds.each word lt).tells))
+
+-- so they tell where a position is
+pub node_marked : (laws : Laws) (c : ℕ) (lists : Lists) (all : List ℕ) (i : ℕ) (b : Bool) → IsTold c lists → all ≡ lists.nodes.items → length all ≡ words_of places (size_of c) → i < size_of c
+    → b ≡ true ↔ IsIn places all i → b ≡ is_some (position_at c i)
+node_marked laws c lists all i b told is long lt marked =
+    same_test b (is_some (position_at c i))
+    (λ t. let at = full_at laws c told.class_in i (in_marked (size_of c) (λ j. ¬ IsVoid c j) all are i (marked.0 t)) in there_is laws c i at.0 at.1)
+    (λ some. marked.1 (marked_in (size_of c) (λ j. ¬ IsVoid c j) all are i lt (λ void. false≢true (sym (void_is laws c i void) ∙ some))))
+  where
+    are : AreMarksOf (size_of c) (λ j. ¬ IsVoid c j) all
+    are = nodes_marked c c lists all refl is long told
 
 odd_marked : (size n : ℕ) (entries marks : List ℕ) → AreOddMarks (words_of places size) n entries marks → AreMarksOf size (λ j. IsOddAbove n (slice_index entries j)) marks
 odd_marked size n entries marks are = (are.long, are.each)

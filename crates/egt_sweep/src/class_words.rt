@@ -1,11 +1,12 @@
 //! The quiet moves of a whole class by words, told once for both of its games.
 ghost use Rattle.egt_sweep.specs.WordLists.{IsTold};
 
+use crate::laws::laws;
 use crate::shelf_moves::ShelfMoves;
 use crate::word_places::PLACES;
 use egt_check::Spread;
 use egt_class::Class;
-use egt_graph::{Pushes, TurnedWay, Way};
+use egt_graph::{Pushes, TurnedWay, Way, is_in};
 use egt_index::{Rows, has_target, shelf_len, size};
 use std::alloc::{AllocError, Global};
 
@@ -154,9 +155,11 @@ impl Lists {
 
 impl ClassWords {
     ghost use Rattle.std.specs.Prelude.{◌≡◌, ◌<◌, length, IfOk, IfSome};
+    ghost use Rattle.std.specs.Option.{is_some};
     ghost use Rattle.egt_graph.specs.Words.{words_of};
     ghost use Rattle.egt_index.specs.Size.{size_of};
     ghost use Rattle.egt_sweep.specs.ClassWords.{nodes_in, staying_in};
+    ghost use Rattle.egt_sweep.specs.Nodes.{position_at};
     ghost use Rattle.egt_sweep.specs.ShelfMoves.{TellsWord, places};
 
     /// The quiet moves of the class; `None` where they are not told by words: its last man is no pawn, or some index after a move is no sum.
@@ -180,6 +183,15 @@ impl ClassWords {
         ensures { result ≡ nodes_in self.now word }
     {
         self.lists.nodes[word as usize]
+    }
+
+    /// Whether a position has the index.
+    pub(crate) fn is_node(&self, index: u32) -> bool
+        requires { index < size_of self.now.class }
+        ensures { result ≡ is_some (position_at self.now.class index) }
+    {
+        laws();
+        is_in(PLACES, self.all_nodes(), index)
     }
 
     /// The nodes of all words.

@@ -51,7 +51,7 @@ fn advances_stay(position: &Position, pawn: Man, from: Square) -> bool
 }
 
 /// Whether all moves of the pawn go on in the game: none is promoted, and moves of pawns do.
-fn pawn_stays(column: Column, position: &Position, pawn: Man, from: Square) -> bool
+pub(crate) fn pawn_stays(column: Column, position: &Position, pawn: Man, from: Square) -> bool
     ensures { IsTrue result → (column ≡ Mate) × ((t : ℕ) → Advances (IsFree position.now.men) pawn.side from t → Stays position.now pawn t) }
 {
     match column {

@@ -12,6 +12,7 @@ mod class_words;
 mod counted;
 mod drawn_children;
 mod edges;
+mod exits;
 mod facing;
 mod last;
 mod laws;

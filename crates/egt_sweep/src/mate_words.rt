@@ -6,7 +6,9 @@ ghost use Rattle.egt_table.specs.declared.column.Column.TheVariants.{Mate};
 ghost use Rattle.egt_sweep.specs.ClassGame.{class_game, class_game_is_lawful};
 ghost use Rattle.egt_sweep.specs.Counts.{CountsMoves};
 
+use crate::aim::Aim;
 use crate::class_words::ClassWords;
+use crate::exits::start_exits;
 use crate::laws::laws;
 use crate::mate_game::MateGame;
 use crate::word_places::PLACES;
@@ -59,7 +61,9 @@ impl Game for MateWords<'_> {
     }
 
     fn start(&self, i: u32, exits: &mut ArrayVec<Exit, 64>) -> Option<Start> {
-        self.game.start(i, exits)
+        let game = self.game;
+        let is_node = self.words.is_node(i);
+        start_exits(&Aim::Mate, game.class, game.library, i, is_node, exits)
     }
 }
 

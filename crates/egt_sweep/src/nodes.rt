@@ -70,7 +70,7 @@ fn node(class: Class, index: u32) -> Position
 }
 
 /// Whether the side to move is checkmated.
-fn is_checkmate(position: &Position) -> bool
+pub(crate) fn is_checkmate(position: &Position) -> bool
     ensures { result ≡ tells (decided_checkmate position.now) }
 {
     match standing(position) {

@@ -10,7 +10,9 @@ ghost use Rattle.egt_sweep.specs.MateColumn.{mate_table};
 ghost use Rattle.egt_sweep.specs.ShelfMoves.{places};
 ghost use Rattle.egt_sweep.specs.WordGames.{IsOddAbove, AreOddAbove, AreOddMarks};
 
+use crate::aim::Aim;
 use crate::class_words::ClassWords;
+use crate::exits::start_exits;
 use crate::laws::laws;
 use crate::word_places::PLACES;
 use crate::zero_game::ZeroGame;
@@ -122,8 +124,12 @@ impl Game for ZeroWords<'_> {
         self.game.exits(i)
     }
 
+    /// The mate ranks tell which numbers are nodes.
     fn start(&self, i: u32, exits: &mut ArrayVec<Exit, 64>) -> Option<Start> {
-        self.game.start(i, exits)
+        let game = self.game;
+        let is_node = game.mates.entries()[i as usize] != 0;
+        let aim = Aim::Zeroing(game.mates);
+        start_exits(&aim, game.class, game.library, i, is_node, exits)
     }
 }
 
