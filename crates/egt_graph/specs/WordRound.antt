@@ -1,14 +1,15 @@
 -- What the words of a run hold before round r: all that is won or lost in r plies at most is known, and the exits of r plies at most are due.
-use Rattle.std.specs.Prelude.{◌≡◌, ◌==◌, ℕ, zero, suc, ◌+◌, ◌*◌, ◌<◌, ◌≤◌, ◌&&◌, ◌||◌, ◌⊎◌, ◌↔◌, not, Bool, List, [], length, slice_index, slice_index_or, nat_lt, count_by, IsTrue, IsFalse, if◌then◌else◌}
+use Rattle.std.specs.Prelude.{◌≡◌, ◌==◌, ℕ, suc, ◌+◌, ◌*◌, ◌%◌, ◌<◌, ◌≤◌, ◌&&◌, ◌||◌, ◌⊎◌, ◌↔◌, not, Bool, List, [], length, slice_index, slice_index_or, nat_lt, count_by, IsTrue, IsFalse}
 use Rattle.std.specs.Int.{bit_at}
-use Rattle.std.specs.List.{list_any, list_all}
-use Rattle.egt_graph.specs.Graph.{Graph}
+use Rattle.std.specs.List.{Contains, list_any, list_all}
+use Rattle.egt_graph.specs.Graph.{Graph, IsNode}
 use Rattle.egt_graph.specs.Value.{is_empty, is_lost_before, is_won_before, mated_within, mates_within, mated_before}
 use Rattle.egt_graph.specs.Frontier.{is_node}
-use Rattle.egt_graph.specs.Columns.{leaves, has_moves, count_of, entry_at, is_loss_of, is_win_of}
+use Rattle.egt_graph.specs.Columns.{leaves, has_moves, count_of, entry_at, is_win_of}
 use Rattle.egt_graph.specs.Words.{AreMarks, IsWordOf, number_at, word_in, place_in, words_of}
 use Rattle.egt_graph.specs.declared.word_begin.ExitBits.{ExitBits}
 use Rattle.egt_graph.specs.declared.word_round.News.{News}
+use Rattle.egt_graph.specs.declared.word_round.Parities.{Parities}
 use Rattle.egt_graph.specs.declared.word_run.WordRun.{WordRun}
 
 -- the bit of the number is set
@@ -46,6 +47,19 @@ is_due g r i = list_any (is_lost_before (suc r)) (leaves g i)
 
 abbrev pub is_leaving : Graph → ℕ → Bool
 is_leaving g i = not (is_empty (leaves g i))
+
+-- a move leads to a node lost in exactly r plies
+abbrev pub LeadsToLost : Graph → ℕ → ℕ → Type 0
+LeadsToLost g r i = (j : ℕ) × Contains (g.out i) j × IsTrue (is_lost_at g r j)
+
+-- from the nodes whose numbers have that last bit no move leads there
+abbrev pub NoneLeads : Graph → ℕ → ℕ → Type 0
+NoneLeads g r bit = (i : ℕ) → IsNode g i → i % 2 ≡ bit → ¬ LeadsToLost g r i
+
+-- from nodes with even numbers a move may lead there, and from those with odd ones
+pub record TellsLeading (g : Graph) (r : ℕ) (leading : Parities) : Type 0 where
+  pub even : IsFalse leading.even → NoneLeads g r 0
+  pub odd : IsFalse leading.odd → NoneLeads g r 1
 
 -- what the round finds
 abbrev pub is_found_won : Graph → ℕ → ℕ → Bool
@@ -116,11 +130,12 @@ pub record IsSwept (g : Graph) (span r m : ℕ) (run : WordRun) : Type 0 where
 abbrev pub is_found : Graph → ℕ → ℕ → Bool
 is_found g r i = is_found_won g r i || is_found_lost g r i
 
--- whether the words below m tell of anything that the round finds, and of a loss
+-- whether the words below m tell of anything that the round finds, of an even node that is lost, and of an odd one
 pub record IsNews (g : Graph) (span r m : ℕ) (news : News) : Type 0 where
   pub found : IsTrue news.some → (i : ℕ) × IsTrue (is_found g r i)
   pub none : IsFalse news.some → (i : ℕ) → word_in span i < m → IsFalse (is_found g r i)
-  pub no_losses : IsFalse news.losses → (i : ℕ) → word_in span i < m → IsFalse (is_found_lost g r i)
+  pub no_even : IsFalse news.even_lost → (i : ℕ) → word_in span i < m → i % 2 ≡ 0 → IsFalse (is_found_lost g r i)
+  pub no_odd : IsFalse news.odd_lost → (i : ℕ) → word_in span i < m → i % 2 ≡ 1 → IsFalse (is_found_lost g r i)
 
 -- ---- before round 0
 

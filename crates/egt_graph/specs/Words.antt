@@ -1,8 +1,8 @@
 -- Nodes by words of up to 64, and what a game tells of a word at once.
-use Rattle.std.specs.Prelude.{◌≡◌, ◌==◌, ◌↔◌, ℕ, suc, ◌+◌, ◌-◌, ◌*◌, ◌/◌, ◌%◌, ◌<◌, ◌≤◌, ◌&&◌, Bool, List, slice_index, IsTrue, if◌then◌else◌}
+use Rattle.std.specs.Prelude.{◌≡◌, ◌==◌, ◌↔◌, ℕ, suc, ◌+◌, ◌-◌, ◌*◌, ◌/◌, ◌%◌, ◌<◌, Bool, List, slice_index, IsTrue, if◌then◌else◌}
 use Rattle.std.specs.Int.{bit_at}
 use Rattle.std.specs.List.{list_any, list_all}
-use Rattle.std.proofs.Common.{ap, subst, sym, ◌∙◌, arith}
+use Rattle.std.proofs.Common.{ap, sym, ◌∙◌, arith}
 use Rattle.std.proofs.lemmas.Nat.{div-add-mod', div-mul-add, div_below, mod_below, mod-mul-add}
 use Rattle.egt_graph.specs.Graph.{Graph, IsNode}
 use Rattle.egt_graph.specs.Value.{is_empty, is_lost_before, is_won_before}
@@ -71,7 +71,7 @@ even_more a b c e lt = omega (arith, e, lt)
 parity : (q span b k i : ℕ) → i ≡ q * (2 * span) + b + 2 * k → b < 2 → i % 2 ≡ b
 parity q span b k i e lt = even_more i (q * span + k) b (omega (arith, e)) lt
 
-parity_of_number : (span word k : ℕ) → number_at span word k % 2 ≡ word % 2
+pub parity_of_number : (span word k : ℕ) → number_at span word k % 2 ≡ word % 2
 unfolding number_at
 parity_of_number span word k = parity (word / 2) span (word % 2) k (word / 2 * (2 * span) + word % 2 + 2 * k) (omega arith) (omega arith)
 
@@ -81,6 +81,11 @@ word_in-number_at span word k lt =
     let block = block_of_number span word k lt in
     let odd = parity_of_number span word k in
     omega (arith, block, odd)
+
+-- a number and its word are both even or both odd
+pub parity_of_word : (span i : ℕ) → word_in span i % 2 ≡ i % 2
+unfolding word_in
+parity_of_word span i = even_more (i / (2 * span) * 2 + i % 2) (i / (2 * span)) (i % 2) (omega arith) (omega arith)
 
 pub place_in-number_at : (span word k : ℕ) → k < span → place_in span (number_at span word k) ≡ k
 unfolding place_in

@@ -5,7 +5,7 @@ ghost use Rattle.egt_graph.specs.Value.{AreRanks, SomeAbove};
 use crate::ranks::Ranks;
 use crate::solver::SolveFault;
 use crate::word_begin::begin_words;
-use crate::word_round::{next_round, sweep};
+use crate::word_round::{Parities, next_leading, next_round, sweep};
 use crate::words::Shelved;
 use std::alloc::Global;
 
@@ -16,11 +16,15 @@ pub fn solve_by_words<G: Shelved>(alloc: Global, game: &G, limit: u16) -> Result
     ensures too_deep { result ≡ Err SolveFault.TooDeep → SomeAbove (G.graph game.now) limit }
 {
     let _span = game.span();
+    let alternates = game.alternates();
     let mut run = begin_words(alloc, game)?;
     let mut round = 0;
-    let mut any_lost = true;
+    let mut leading = Parities {
+        even: true,
+        odd: true,
+    };
     'rounds: loop {
-        let news = sweep(game, &mut run, round, any_lost);
+        let news = sweep(game, &mut run, round, leading);
         if news.some {
             if round >= limit {
                 return Err(SolveFault::TooDeep);
@@ -30,6 +34,6 @@ pub fn solve_by_words<G: Shelved>(alloc: Global, game: &G, limit: u16) -> Result
         }
         run = next_round(game, run, round);
         round += 1;
-        any_lost = news.losses;
+        leading = next_leading(alternates, news);
     }
 }

@@ -1,5 +1,5 @@
 //! Nodes by words of up to 64, and games that tell of a word at once.
-ghost use Rattle.std.specs.Prelude.{◌≡◌, ◌↔◌, ℕ, ◌+◌, ◌*◌, ◌^◌, ◌<◌, ◌≤◌, length, IsTrue};
+ghost use Rattle.std.specs.Prelude.{◌≡◌, ◌≢◌, ◌↔◌, ℕ, ◌+◌, ◌*◌, ◌%◌, ◌^◌, ◌<◌, ◌≤◌, true, length, IsTrue};
 ghost use Rattle.std.specs.Int.{bit_at};
 ghost use Rattle.std.specs.List.{Contains};
 ghost use Rattle.egt_graph.specs.Graph.{IsNode};
@@ -31,6 +31,13 @@ pub trait Shelved: Game {
     fn span(&self) -> u32
         ensures is { result ≡ span self.now }
         ensures few { (0 < result) × (result ≤ 64) };
+
+    /// Whether each move leads from an even number to an odd one, or from an odd one to an even one.
+    fn alternates(&self) -> bool
+        ensures { result ≡ true → (i j : ℕ) → IsNode (Self.graph self.now) i → Contains ((Self.graph self.now).out i) j → i % 2 ≢ j % 2 }
+    {
+        false
+    }
 
     /// What the word begins with.
     fn start_of(&self, word: u32) -> WordStart

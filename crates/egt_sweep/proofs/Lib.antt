@@ -50,3 +50,4 @@ pub mod ToldWords
 pub mod ClassWords
 pub mod OneFound
 pub mod WordGames
+pub mod Alternating

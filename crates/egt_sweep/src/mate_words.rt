@@ -9,7 +9,7 @@ ghost use Rattle.egt_sweep.specs.Counts.{CountsMoves};
 use crate::aim::Aim;
 use crate::class_words::ClassWords;
 use crate::exits::start_exits;
-use crate::laws::laws;
+use crate::laws::{laws, moves_alternate};
 use crate::mate_game::MateGame;
 use crate::word_places::PLACES;
 use arrayvec::ArrayVec;
@@ -72,6 +72,13 @@ impl Shelved for MateWords<'_> {
 
     fn span(&self) -> u32 {
         PLACES
+    }
+
+    /// The last digit of an index tells the side to move.
+    fn alternates(&self) -> bool {
+        laws();
+        moves_alternate();
+        true
     }
 
     /// Where no move leaves the class there is no exit.

@@ -13,7 +13,7 @@ ghost use Rattle.egt_sweep.specs.WordGames.{IsOddAbove, AreOddAbove, AreOddMarks
 use crate::aim::Aim;
 use crate::class_words::ClassWords;
 use crate::exits::start_exits;
-use crate::laws::laws;
+use crate::laws::{laws, moves_alternate};
 use crate::word_places::PLACES;
 use crate::zero_game::ZeroGame;
 use arrayvec::ArrayVec;
@@ -138,6 +138,13 @@ impl Shelved for ZeroWords<'_> {
 
     fn span(&self) -> u32 {
         PLACES
+    }
+
+    /// The last digit of an index tells the side to move.
+    fn alternates(&self) -> bool {
+        laws();
+        moves_alternate();
+        true
     }
 
     /// Where no move leaves the class those that zero are the pawn's, and the mate ranks say of each where it leads.

@@ -1,5 +1,7 @@
 //! The solver by words, on games by lists.
-ghost use Rattle.std.specs.Prelude.{◌<◌, ◌≤◌};
+ghost use Rattle.std.specs.Prelude.{◌≡◌, ◌≢◌, ℕ, ◌%◌, ◌<◌, ◌≤◌, true};
+ghost use Rattle.std.specs.List.{Contains};
+ghost use Rattle.egt_graph.specs.Graph.{IsNode};
 
 use super::games::{Sample, Stairs};
 use crate::{Exit, Game, Shelved, SolveFault, solve, solve_by_words};
@@ -13,8 +15,10 @@ use std::test::*;
 struct By<'a, G: Game> {
     game: &'a G,
     span: u32,
+    alternates: bool,
     ghost some: { 0 < span },
     ghost few: { span ≤ 64 },
+    ghost turns: { alternates ≡ true → (i j : ℕ) → IsNode (G.graph game.now) i → Contains ((G.graph game.now).out i) j → i % 2 ≢ j % 2 },
 }
 
 impl<'a, G: Game> Game for By<'a, G> {
@@ -57,6 +61,10 @@ impl<'a, G: Game> Shelved for By<'a, G> {
     fn span(&self) -> u32 {
         self.span
     }
+
+    fn alternates(&self) -> bool {
+        self.alternates
+    }
 }
 
 /// Both solvers answer alike, with words of several lengths.
@@ -65,7 +73,15 @@ fn alike<G: Game>(rt: &impl Abort, alloc: Global, game: &G, limit: u16) -> Resul
 {
     let ranks = solve(alloc, game, limit)?;
     for span in [64, 48, 3, 2, 1] {
-        let told = solve_by_words(alloc, &By { game, span }, limit)?;
+        let told = solve_by_words(
+            alloc,
+            &By {
+                game,
+                span,
+                alternates: false,
+            },
+            limit,
+        )?;
         assert_eq!(rt; told.entries(), ranks.entries());
     }
     Ok(())
@@ -77,7 +93,15 @@ fn too_deep<G: Game>(rt: &impl Abort, alloc: Global, game: &G, limit: u16)
     for span in [64, 48, 3, 2, 1] {
         assert!(rt;
             matches!(
-                solve_by_words(alloc, &By { game, span }, limit),
+                solve_by_words(
+                    alloc,
+                    &By {
+                        game,
+                        span,
+                        alternates: false,
+                    },
+                    limit
+                ),
                 Err(SolveFault::TooDeep)
             )
         );
@@ -109,6 +133,7 @@ fn exits_of_several_plies(rt: HostRuntime) -> Result<(), Fail> {
         &By {
             game: &game,
             span: 2,
+            alternates: false,
         },
         8,
     )?;
@@ -143,6 +168,7 @@ fn draws_and_stalemates(rt: HostRuntime) -> Result<(), Fail> {
         &By {
             game: &game,
             span: 3,
+            alternates: false,
         },
         2,
     )?;
@@ -176,6 +202,7 @@ fn moves_beside_exits(rt: HostRuntime) -> Result<(), Fail> {
         &By {
             game: &game,
             span: 64,
+            alternates: false,
         },
         3,
     )?;
@@ -197,4 +224,42 @@ fn many_words(rt: HostRuntime) -> Result<(), Fail> {
     alike(&rt, rt.alloc(), &game, 142)?;
     too_deep(&rt, rt.alloc(), &game, 141);
     Ok(())
+}
+
+/// On steps of odd height each move leads to a number of the other parity, and lost nodes are not looked for where none is.
+#[tactic(auto, using(crate::specs::Sample::stairs_alternate))]
+fn alike_alternating(rt: &impl Abort, alloc: Global, game: &Stairs, limit: u16) -> Result<(), Fail>
+    requires odd { game.now.step % 2 ≡ 1 }
+    requires short { limit ≤ 32000 }
+{
+    let ranks = solve(alloc, game, limit)?;
+    for span in [64, 48, 3, 2, 1] {
+        let alternates = true;
+        let told = solve_by_words(
+            alloc,
+            &By {
+                game,
+                span,
+                alternates,
+            },
+            limit,
+        )?;
+        assert_eq!(rt; told.entries(), ranks.entries());
+    }
+    Ok(())
+}
+
+// On the steps of height 1 the lost nodes are all even, on the others each round loses nodes of both parities.
+#[test]
+fn odd_steps(rt: HostRuntime) -> Result<(), Fail> {
+    alike_alternating(&rt, rt.alloc(), &Stairs { size: 300, step: 1 }, 299)?;
+    alike_alternating(
+        &rt,
+        rt.alloc(),
+        &Stairs {
+            size: 1000,
+            step: 7,
+        },
+        142,
+    )
 }

@@ -1,4 +1,4 @@
-use Rattle.std.proofs.Common.{◌≡◌, ◌<◌, ◌≤◌, ◌^◌, ◌-◌, ◌&&◌, ℕ, not, bit_and, bit_or, refl, sym, ap, subst, ◌∙◌, arith}
+use Rattle.std.proofs.Common.{◌<◌, ◌≤◌, ◌^◌, ◌-◌, ◌&&◌, not, bit_and, bit_or, arith}
 use Rattle.std.proofs.lemmas.Bool.{and_parts}
 use Rattle.std.proofs.lemmas.Nat.{and_le_l, or_lt}
 use Rattle.egt_graph.specs.Frontier.{is_node}
@@ -8,7 +8,7 @@ use Rattle.egt_graph.specs.WordRound.{is_lost_at, is_unwon}
 use Rattle.egt_graph.proofs.Nodes.{node_from_test}
 use Rattle.egt_graph.proofs.WordBits.{both_set}
 use Rattle.egt_graph.proofs.WordRounds.{draw_node, undecided_parts}
-use Rattle.egt_graph.proofs.WordSweeps.{leads_of, of_won, of_lost, mark_is}
+use Rattle.egt_graph.proofs.WordSweeps.{leads_by, leads_of, of_won, of_lost, mark_is}
 use Rattle.egt_graph.proofs.word_round.decide_word.Goals as goal
 
 pub leading-moved-requires-clause-asked : goal.leading-moved-requires-clause-asked
@@ -25,6 +25,14 @@ leading-moved-requires-clause-marks g c i one =
     let some : 0 < span = let few = c.span-span.ensures.few in let is = c.span-span.ensures.is in omega (arith, few.0, is) in
     node_from_test graph i (and_parts (is_node graph i) (mated_within graph c.args._round i && not (mated_before graph c.args._round i))
     ((mark_is span (is_lost_at graph c.args._round) c.args.lost.now some c.requires.lost i).0 one)).0
+
+pub leading-moved-requires-clause-any : goal.leading-moved-requires-clause-any
+leading-moved-requires-clause-any g c clear k one to =
+    let graph = g.G.Game.graph c.args.game.now in
+    let span = g.G.Shelved.span c.args.game.now in
+    let some : 0 < span = let few = c.span-span.ensures.few in let is = c.span-span.ensures.is in omega (arith, few.0, is) in
+    c.requires.none_leads clear k (leading-moved-requires-clause-asked g c k one).1
+    ((leads_by graph span (is_lost_at graph c.args._round) c.args.lost.now some c.requires.lost (number_at span c.args.word k)).0 to)
 
 pub leading-saved-requires-clause-asked : goal.leading-saved-requires-clause-asked
 leading-saved-requires-clause-asked g c k one =

@@ -1,7 +1,5 @@
-use Rattle.std.proofs.Common.{◌≡◌, ◌<◌, ◌≤◌, ◌+◌, ℕ, sym, ap, subst, ◌∙◌, ⊎_elim, arith}
-use Rattle.std.proofs.lemmas.Bool.{false≢true, both_ways}
-use Rattle.egt_graph.specs.WordRound.{IsNews, IsSwept}
-use Rattle.egt_graph.specs.Words.{words_of}
+use Rattle.std.proofs.Common.{◌<◌, ⊎_elim, arith}
+use Rattle.std.proofs.lemmas.Bool.{false≢true}
 use Rattle.egt_graph.proofs.WordSweeps.{news_found, news_lost, news_none}
 use Rattle.egt_graph.proofs.word_round.sweep.Goals as goal
 
@@ -26,7 +24,8 @@ loop-word-init g c =
       news = record {
         found = λ t. absurd (false≢true t);
         none = λ f i lt. absurd (omega (arith, lt));
-        no_losses = λ f i lt. absurd (omega (arith, lt));
+        no_even = λ f i lt. absurd (omega (arith, lt));
+        no_odd = λ f i lt. absurd (omega (arith, lt));
       };
     }
 
@@ -47,6 +46,7 @@ loop-word-preserved g c =
       news = record {
         found = λ t. ⊎_elim before.found (news_found graph law c.args.round span c.loop-word.word won lost some found.won found.lost) (news.some t);
         none = λ f. let p = news.none f in news_none graph law c.args.round span c.loop-word.word won lost some found.won found.lost p.1 p.2 (before.none p.0);
-        no_losses = λ f. let p = news.losses f in news_lost graph law c.args.round span c.loop-word.word won lost some found.won found.lost p.1 (before.no_losses p.0);
+        no_even = λ f. let p = news.no_even f in news_lost graph law c.args.round span c.loop-word.word won lost some found.won found.lost 0 p.1 (before.no_even p.0);
+        no_odd = λ f. let p = news.no_odd f in news_lost graph law c.args.round span c.loop-word.word won lost some found.won found.lost 1 p.1 (before.no_odd p.0);
       };
     }

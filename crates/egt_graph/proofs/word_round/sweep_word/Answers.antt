@@ -1,12 +1,36 @@
-use Rattle.std.proofs.Common.{◌≡◌, ◌≢◌, ◌+◌, ◌*◌, ◌<◌, ◌≤◌, ◌^◌, ℕ, List, suc, cond, length, slice_index, get_or, refl, sym, ap, subst, ◌∙◌, arith}
+use Rattle.std.proofs.Common.{◌≡◌, ◌+◌, ◌*◌, ◌<◌, ◌≤◌, ◌^◌, ℕ, List, suc, cond, length, slice_index, sym, ap, subst, ◌∙◌, ⊎_elim, arith}
 use Rattle.std.proofs.lemmas.List.{get_or_default, length-set, with_items_is}
 use Rattle.std.specs.Vec.{with_items}
 use Rattle.egt_graph.specs.Columns.{entry_at}
-use Rattle.egt_graph.specs.Words.{number_at, word_in, IsWordOf, words_of}
-use Rattle.egt_graph.specs.WordRound.{is_undecided, is_unwon, is_lost_at, is_ready, is_due, is_found_won, is_found_lost}
+use Rattle.egt_graph.specs.Words.{AreMarks, number_at, parity_of_number, word_in, IsWordOf}
+use Rattle.egt_graph.specs.WordRound.{is_undecided, is_unwon, is_lost_at, is_ready, is_due}
 use Rattle.egt_graph.proofs.WordRounds.{found_won_parts, found_lost_parts}
 use Rattle.egt_graph.proofs.WordSweeps.{told_word, put_at, entries_put, entries_kept, entries_done_more, word_here, word_past, next_undecided, next_unwon, next_lost}
 use Rattle.egt_graph.proofs.word_round.sweep_word.Goals as goal
+
+pub decide_word-found-requires-clause-undecided : goal.decide_word-found-requires-clause-undecided
+decide_word-found-requires-clause-undecided g c =
+    subst (IsWordOf (g.G.Shelved.span c.args.game.now) c.args.word (is_undecided (g.G.Game.graph c.args.game.now) c.args.round))
+    (sym (c.index-undecided.ensures ∙ get_or_default c.args.run.now.undecided.items c.args.word _ 0 (let l = c.requires.swept.long.undecided in let within = c.requires.word in omega (arith, l, within))))
+    (c.requires.swept.undecided_left c.args.word (omega arith))
+
+pub decide_word-found-requires-clause-lost : goal.decide_word-found-requires-clause-lost
+decide_word-found-requires-clause-lost g c =
+    subst (AreMarks (g.G.Shelved.span c.args.game.now) (is_lost_at (g.G.Game.graph c.args.game.now) c.args.round)) (sym c.deref.ensures.value) c.requires.swept.lost
+
+pub decide_word-found-requires-clause-unwon : goal.decide_word-found-requires-clause-unwon
+decide_word-found-requires-clause-unwon g c =
+    subst (AreMarks (g.G.Shelved.span c.args.game.now) (is_unwon (g.G.Game.graph c.args.game.now) c.args.round)) (sym c.deref-2.ensures.value) c.requires.swept.unwon
+
+-- the numbers of the word are as even as the word
+pub decide_word-found-requires-clause-none_leads : goal.decide_word-found-requires-clause-none_leads
+decide_word-found-requires-clause-none_leads g c clear k node =
+    let span = g.G.Shelved.span c.args.game.now in
+    let number = number_at span c.args.word k in
+    ⊎_elim
+    (λ even. c.requires.leading.even even.1 number node (parity_of_number span c.args.word k ∙ even.0))
+    (λ odd. c.requires.leading.odd odd.1 number node (parity_of_number span c.args.word k ∙ odd.0))
+    (c.may_lead.ensures clear)
 
 pub decide_word-found-requires-clause-due : goal.decide_word-found-requires-clause-due
 decide_word-found-requires-clause-due g c =
