@@ -20,6 +20,7 @@ mod Men
 pub mod Passing
 pub mod Fanned
 pub mod Spreading
+pub mod Attacking
 mod Roaming
 pub mod QuietBest
 pub mod QuietWays

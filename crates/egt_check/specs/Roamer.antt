@@ -1,10 +1,13 @@
 -- The last man of a shelf's positions, who stands on another square in each: where his legal moves lead.
 use Rattle.std.specs.Prelude.{◌≡◌, ◌≢◌, ℕ, ◌+◌, ◌*◌, ◌<◌, false}
+use Rattle.std.specs.Int.{bit_at}
+use Rattle.egt_board.specs.Gait.{Reaches}
 use Rattle.egt_board.specs.Placement.{IsFree, IsHeld, Stands}
 use Rattle.egt_board.specs.Setup.{Setup}
 use Rattle.egt_board.specs.SquareSet.{Has}
 use Rattle.egt_board.specs.declared.man.Kind.TheVariants.{P}
 use Rattle.egt_board.specs.declared.man.Man.{Man}
+use Rattle.egt_board.specs.declared.square_set.SquareSet.{SquareSet}
 use Rattle.egt_index.specs.Index.{IsIndex, IsVoid}
 use Rattle.egt_index.specs.Opposite.{IsOppositeOf}
 use Rattle.egt_index.specs.Shelf.{IsAlikeIndex}
@@ -18,6 +21,10 @@ use Rattle.egt_check.specs.declared.roamer.Roams.{Roams}
 -- the code of the position after he went to the square
 abbrev pub code_at : Roamer → ℕ → ℕ
 code_at roamer t = roamer.opposite.first + 2 * t
+
+-- past the men who stand still on the squares held he attacks from s the free square t
+abbrev pub GoesFree : SquareSet → Man → (s t : ℕ) → Type 0
+GoesFree held man s t = Reaches (λ u. (u ≢ s) × (bit_at held.bits u ≡ 0)) man s t × ((t ≢ s) × (bit_at held.bits t ≡ 0))
 
 -- in p, where he stands on s, he is of the side to move, and all others stand on the squares held
 pub record IsAmong (p : Setup) (roamer : Roamer) (s : ℕ) : Type 0 where

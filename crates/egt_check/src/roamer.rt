@@ -1,5 +1,5 @@
 //! The last man of a shelf's positions, which differ by his square alone: wherever he stands, his steps lead to one shelf of the other side.
-ghost use Rattle.std.specs.Prelude.{◌≡◌, ◌⊎◌, ℕ, ◌+◌, ◌*◌, ◌<◌, Bool, false, Some, IfSome};
+ghost use Rattle.std.specs.Prelude.{◌≡◌, ◌↔◌, ◌⊎◌, ℕ, ◌+◌, ◌*◌, ◌<◌, Bool, false, Some, IfSome};
 ghost use Rattle.egt_board.specs.Placement.{IsFree, Stands};
 ghost use Rattle.egt_board.specs.Setup.{Setup};
 ghost use Rattle.egt_board.specs.SquareSet.{Has};
@@ -11,7 +11,7 @@ ghost use Rattle.egt_index.specs.Fixed.{StandsFixed};
 ghost use Rattle.egt_index.specs.LedHome.{last_square};
 ghost use Rattle.egt_index.specs.Shelf.{IsAlikeIndex};
 ghost use Rattle.egt_index.specs.Size.{has_target, size_of};
-ghost use Rattle.egt_check.specs.Roamer.{IsRoamer, IsRoaming, code_at};
+ghost use Rattle.egt_check.specs.Roamer.{GoesFree, IsRoamer, IsRoaming, code_at};
 
 use crate::facts::facts;
 use crate::own_men::is_of;
@@ -94,6 +94,7 @@ impl Roamer {
         ensures from { result.from ≡ self.now.on + k }
         ensures roaming { (c base : ℕ) (p : Setup) → IsRoamer c base self.now → IsAlikeIndex c base (base + 2 * k) p →
             IsRoaming c p self.now result }
+        ensures free { (t : ℕ) → Has result.free t ↔ GoesFree self.now.held self.now.man result.from t }
     {
         facts();
         quiet_moves_keep_the_class();

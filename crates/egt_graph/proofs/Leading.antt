@@ -1,18 +1,18 @@
 -- From which places of a word moves lead into a set.
 use Rattle.std.proofs.Common.{◌≡◌, ◌≢◌, ◌↔◌, ℕ, ◌+◌, ◌-◌, ◌*◌, ◌/◌, ◌%◌, ◌<◌, ◌≤◌, ◌^◌, ◌⊎◌, Bool, true, false, Option, List, [], ◌∷◌, length, slice_index, get_or, take, drop, refl, sym, ap, subst, ◌∙◌, inl, inr, arith, bit_and, bit_or, w64}
 use Rattle.std.specs.Int.{bit_at, bit_not}
-use Rattle.std.specs.List.{Contains}
+use Rattle.std.specs.List.{All, Contains}
 use Rattle.std.proofs.lemmas.Bool.{cases_eq, cases_lt}
 use Rattle.std.proofs.lemmas.List.{take_more, take_all, take-append-drop}
-use Rattle.std.proofs.lemmas.List.Elements.{Contains-push, Contains-push_cases, Contains-append_left}
+use Rattle.std.proofs.lemmas.List.Elements.{All-contains, Contains-push, Contains-push_cases, Contains-append_left}
 use Rattle.std.proofs.lemmas.Nat.Bits.{bit_at-lt, bit_at-zero, bit_at_and, bit_at_or, bit_at_not, bit_at_above}
 use Rattle.std.proofs.lemmas.Nat.{div-mul-add, div-add-mod'}
-use Rattle.egt_graph.specs.WordMoves.{FitsPushes, GoesPushed, GoesPushedIf, GoesSome, GoesStraight, GoesTurned, IsAhead, LeadsByOne, LeadsStraight, LeadsTurned, PushesTo, turned_place}
+use Rattle.egt_graph.specs.WordMoves.{FitsPushes, FitsTurns, GoesPushed, GoesPushedIf, GoesByWord, GoesStraight, GoesTurned, IsAhead, LeadsByOne, LeadsStraight, LeadsTurned, PushesTo, turned_place}
 use Rattle.egt_graph.specs.Words.{IsIn, number_at, place_in, word_in}
 use Rattle.egt_graph.specs.declared.word_moves.Pushes.{Pushes}
 use Rattle.egt_graph.specs.declared.word_moves.TurnedWay.{TurnedWay}
 use Rattle.egt_graph.specs.declared.word_moves.Way.{Way}
-use Rattle.egt_graph.proofs.Turning.{shifted_down, shifted_up, shifted_up_low, turned_within}
+use Rattle.egt_graph.proofs.Turning.{shifted_down, shifted_up, shifted_up_low, turned_within_eights, turned_within_word}
 
 -- ---- sets of places by bits
 
@@ -141,7 +141,14 @@ abbrev pub no_way : Way
 no_way = record { word = 0; off = 0 }
 
 abbrev pub no_turned_way : TurnedWay
-no_turned_way = record { word = 0 }
+no_turned_way = record { word = 0; turn = 0 }
+
+-- turned ways of a whole word, and those of any eights that only stand the other way round
+pub fits_turns_of_a_word : (turned : List TurnedWay) → FitsTurns 64 turned
+fits_turns_of_a_word turned way has k lt = turned_within_word way.turn k lt
+
+pub fits_turns_of_eights : (span : ℕ) (turned : List TurnedWay) → span % 8 ≡ 0 → All (λ (way : TurnedWay). way.turn < 2) turned → FitsTurns span turned
+fits_turns_of_eights span turned eights each way has k lt = turned_within_eights span way.turn k eights (All-contains (λ (way : TurnedWay). way.turn < 2) turned way each has) lt
 
 pub way_bits : (marks : List ℕ) (way : Way) → way.off < 2 ^ 64 → (k : ℕ) → k < 64 → (bit_at (bit_and (slice_index marks way.word) (bit_not w64 way.off)) k ≡ 1) ↔ LeadsStraight marks k way
 way_bits marks way small k lt = (
@@ -249,12 +256,11 @@ module _ (span : ℕ) (marks : List ℕ) (k : ℕ) (within : k < span) where
     λ (j, (way, has, unshut, is), one). (way, has, (unshut, (bit_there span way.word k within marks).0 (subst (IsIn span marks) is one))),
   )
 
-  pub turned_in : span % 8 ≡ 0 → (turned : List TurnedWay) → LeadsByOne (LeadsTurned marks k) turned ↔ IntoSet span marks (λ j. GoesTurned span k j turned)
-  turned_in eights turned =
-      let near = turned_within span k eights within in (
-        λ (way, has, one). (number_at span way.word (turned_place k), (way, has, refl), (bit_there span way.word (turned_place k) near marks).1 one),
-        λ (j, (way, has, is), one). (way, has, (bit_there span way.word (turned_place k) near marks).0 (subst (IsIn span marks) is one)),
-      )
+  pub turned_in : (turned : List TurnedWay) → FitsTurns span turned → LeadsByOne (LeadsTurned marks k) turned ↔ IntoSet span marks (λ j. GoesTurned span k j turned)
+  turned_in turned fits = (
+    λ (way, has, one). (number_at span way.word (turned_place way.turn k), (way, has, refl), (bit_there span way.word (turned_place way.turn k) (fits way has k within) marks).1 one),
+    λ (j, (way, has, is), one). (way, has, (bit_there span way.word (turned_place way.turn k) (fits way has k within) marks).0 (subst (IsIn span marks) is one)),
+  )
 
 one_ahead : (up : Bool) (n k t u : ℕ) → IsAhead up n k t → IsAhead up n k u → t ≡ u
 one_ahead true n k t u h i = h ∙ sym i
@@ -308,16 +314,16 @@ module _ (span : ℕ) (marks : List ℕ) (asked : ℕ) (small : asked < 2 ^ 64) 
   )
 
 -- the sorts of moves together
-module _ (span : ℕ) (marks : List ℕ) (asked : ℕ) (small : asked < 2 ^ 64) (eights : span % 8 ≡ 0) (within : (k : ℕ) → bit_at asked k ≡ 1 → k < span)
-    (ways : List Way) (turned : List TurnedWay) (pushes : Option Pushes) where
+module _ (span : ℕ) (marks : List ℕ) (asked : ℕ) (small : asked < 2 ^ 64) (within : (k : ℕ) → bit_at asked k ≡ 1 → k < span)
+    (ways : List Way) (turned : List TurnedWay) (turns : FitsTurns span turned) (pushes : Option Pushes) where
   abbrev pub Leads : ℕ → Type 0
-  Leads k = IntoSet span marks (λ j. GoesSome span k j ways turned pushes)
+  Leads k = IntoSet span marks (λ j. GoesByWord span k j ways turned pushes)
 
   by_way : (k : ℕ) → k < span → LeadsByOne (LeadsStraight marks k) ways → Leads k
   by_way k lt h = let (j, goes, one) = (straight_in span marks k lt ways).0 h in (j, inl goes, one)
 
   by_turned : (k : ℕ) → k < span → LeadsByOne (LeadsTurned marks k) turned → Leads k
-  by_turned k lt h = let (j, goes, one) = (turned_in span marks k lt eights turned).0 h in (j, inr (inl goes), one)
+  by_turned k lt h = let (j, goes, one) = (turned_in span marks k lt turned turns).0 h in (j, inr (inl goes), one)
 
   by_push : (k : ℕ) → IntoSet span marks (λ j. GoesPushedIf span k j pushes) → Leads k
   by_push k (j, goes, one) = (j, inr (inr goes), one)
@@ -326,7 +332,7 @@ module _ (span : ℕ) (marks : List ℕ) (asked : ℕ) (small : asked < 2 ^ 64) 
   by_some k lt (j, goes, one) = elim goes [
     | inl way ↦ inl ((straight_in span marks k lt ways).1 (j, way, one))
     | inr other ↦ elim other [
-      | inl way ↦ inr (inr ((turned_in span marks k lt eights turned).1 (j, way, one)))
+      | inl way ↦ inr (inr ((turned_in span marks k lt turned turns).1 (j, way, one)))
       | inr push ↦ inr (inl (j, push, one))
     ]
   ]

@@ -31,4 +31,5 @@ pub mod WordDue
 pub mod WordBeginning
 pub mod WordSettling
 pub mod Leading
+pub mod Listing
 pub mod Turning

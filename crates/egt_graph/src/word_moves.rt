@@ -1,8 +1,8 @@
 //! Moves that are told of all places of a word at once, and from which places they lead into a set of numbers. A word has the marks of numbers
 //! two apart.
-ghost use Rattle.std.specs.Prelude.{◌≡◌, ◌↔◌, ◌%◌, ◌<◌, ℕ, Contains, IfSome, length};
+ghost use Rattle.std.specs.Prelude.{◌≡◌, ◌↔◌, ◌+◌, ◌/◌, ◌<◌, ◌≤◌, ℕ, Contains, IfSome, IsTrue, length, slice_index};
 ghost use Rattle.std.specs.Int.{bit_at};
-ghost use Rattle.egt_graph.specs.WordMoves.{FitsPushes, GoesPushed, GoesPushedIf, GoesSome, LeadsByOne, LeadsStraight, LeadsTurned, turned_place};
+ghost use Rattle.egt_graph.specs.WordMoves.{FitsLists, FitsPushes, FitsTurns, GoesByWord, GoesListed, GoesListedIf, GoesPushed, GoesPushedIf, GoesSome, IsCodeIn, LeadsByOne, LeadsStraight, LeadsTurned, codes_at, eights_reversed, eights_turned, exchanged, turned_place};
 ghost use Rattle.egt_graph.specs.Words.{IsIn};
 ghost use Rattle.egt_graph.specs.declared.word_moves.TurnedWay.{TurnedWay};
 ghost use Rattle.egt_graph.specs.declared.word_moves.Way.{Way};
@@ -25,10 +25,12 @@ impl Way {
     }
 }
 
-/// A move from all places of a word to another word, in which each eight places stand the other way round.
+/// A move from all places of a word to another word, in which the places are turned. Of `turn`, bit 0 says that each eight of them stand the
+/// other way round, bit 1 that the eights stand in the other order, bit 2 that eight and place in it are exchanged, one after the other.
 #[derive(Clone, Copy, PartialEq, Eq, Debug, Default)]
 pub struct TurnedWay {
     pub word: u32,
+    pub turn: u8,
 }
 
 impl TurnedWay {
@@ -39,7 +41,11 @@ impl TurnedWay {
         ensures { (k : ℕ) → k < 64 → bit_at result k ≡ 1 ↔ LeadsTurned marks.now k self }
     {
         let there = marks[self.word as usize];
-        if there == 0 { 0 } else { turned_eights(there) }
+        if there == 0 {
+            0
+        } else {
+            turned(there, self.turn)
+        }
     }
 }
 
@@ -52,6 +58,30 @@ pub struct Pushes {
     pub up: bool,
 }
 
+/// Moves that are told of each place alone, since no sum tells them: of place `k` those from `starts[k]` up to `starts[k + 1]` of `codes`.
+/// A code has 64 times a word and a place of that word, so that no division finds its mark.
+#[derive(Clone, Copy)]
+pub struct Listed<'l> {
+    pub starts: &'l [u32],
+    pub codes: &'l [u32],
+}
+
+impl Listed<'_> {
+    /// Does a move from the place lead into the marks?
+    #[inline(always)]
+    fn leads_from(&self, place: u32, marks: &[u64]) -> bool
+        requires start { place + 1 < length self.now.starts.now }
+        requires run { slice_index self.now.starts.now place ≤ slice_index self.now.starts.now (place + 1) }
+        requires end { slice_index self.now.starts.now (place + 1) ≤ length self.now.codes.now }
+        requires words { (code : ℕ) → Contains (codes_at self.now place) code → code / 64 < length marks.now }
+        ensures { IsTrue result ↔ LeadsByOne (IsCodeIn marks.now) (codes_at self.now place) }
+    {
+        let start = self.starts[place as usize] as usize;
+        let end = self.starts[place as usize + 1] as usize;
+        any_code_in(&self.codes[start..end], marks)
+    }
+}
+
 /// From which of the places asked for some move leads into the marks. Once all of them are found the later sorts of moves are not looked at.
 /// The contract alone reads `_span`, how many places a word has.
 #[inline(always)]
@@ -60,15 +90,38 @@ pub fn lead_by(
     ways: &[Way],
     turned: &[TurnedWay],
     pushes: &Option<Pushes>,
+    lists: &Option<Listed>,
     asked: u64,
     marks: &[u64],
 ) -> u64
-    requires eights { _span % 8 ≡ 0 }
+    requires turns { FitsTurns _span turned.now }
     requires asked { (k : ℕ) → bit_at asked k ≡ 1 → k < _span }
     requires ways { (way : Way) → Contains ways.now way → way.word < length marks.now }
     requires turned { (way : TurnedWay) → Contains turned.now way → way.word < length marks.now }
     requires pushes { IfSome pushes.now (λ some. (some.word < length marks.now) × FitsPushes _span some) }
-    ensures { (k : ℕ) → bit_at result k ≡ 1 ↔ ((bit_at asked k ≡ 1) × ((j : ℕ) × GoesSome _span k j ways.now turned.now pushes.now × IsIn _span marks.now j)) }
+    requires lists { IfSome lists.now (FitsLists _span (length marks.now)) }
+    ensures { (k : ℕ) → bit_at result k ≡ 1 ↔ ((bit_at asked k ≡ 1) × ((j : ℕ) × GoesSome _span k j ways.now turned.now pushes.now lists.now × IsIn _span marks.now j)) }
+{
+    let found = lead_by_word(_span, ways, turned, pushes, asked, marks);
+    found | lead_by_lists_if(_span, lists, asked & !found, marks)
+}
+
+/// From which of the places asked for a move that is told of all places at once leads into the marks.
+#[inline(always)]
+fn lead_by_word(
+    _span: u32,
+    ways: &[Way],
+    turned: &[TurnedWay],
+    pushes: &Option<Pushes>,
+    asked: u64,
+    marks: &[u64],
+) -> u64
+    requires turns { FitsTurns _span turned.now }
+    requires asked { (k : ℕ) → bit_at asked k ≡ 1 → k < _span }
+    requires ways { (way : Way) → Contains ways.now way → way.word < length marks.now }
+    requires turned { (way : TurnedWay) → Contains turned.now way → way.word < length marks.now }
+    requires pushes { IfSome pushes.now (λ some. (some.word < length marks.now) × FitsPushes _span some) }
+    ensures { (k : ℕ) → bit_at result k ≡ 1 ↔ ((bit_at asked k ≡ 1) × ((j : ℕ) × GoesByWord _span k j ways.now turned.now pushes.now × IsIn _span marks.now j)) }
 {
     let straight = lead_by_ways(ways, asked, marks);
     if straight == asked {
@@ -144,12 +197,106 @@ fn lead_by_pushes_if(_span: u32, pushes: &Option<Pushes>, asked: u64, marks: &[u
     }
 }
 
+/// From which of the places asked for a listed move leads into the marks.
+pub fn lead_by_lists(_span: u32, lists: &Listed, asked: u64, marks: &[u64]) -> u64
+    requires asked { (k : ℕ) → bit_at asked k ≡ 1 → k < _span }
+    requires fits { FitsLists _span (length marks.now) lists.now }
+    ensures { (k : ℕ) → bit_at result k ≡ 1 ↔ ((bit_at asked k ≡ 1) × ((j : ℕ) × GoesListed _span k j lists.now × IsIn _span marks.now j)) }
+{
+    let mut found = asked;
+    let mut rest = asked;
+    while rest != 0 {
+        let place = rest.trailing_zeros();
+        if !lists.leads_from(place, marks) {
+            found &= !(1 << place);
+        }
+        rest &= !(1 << place);
+    }
+    found
+}
+
+/// The same where nothing may be listed.
+#[inline(always)]
+fn lead_by_lists_if(_span: u32, lists: &Option<Listed>, asked: u64, marks: &[u64]) -> u64
+    requires asked { (k : ℕ) → bit_at asked k ≡ 1 → k < _span }
+    requires fits { IfSome lists.now (FitsLists _span (length marks.now)) }
+    ensures { (k : ℕ) → bit_at result k ≡ 1 ↔ ((bit_at asked k ≡ 1) × ((j : ℕ) × GoesListedIf _span k j lists.now × IsIn _span marks.now j)) }
+{
+    match lists {
+        Some(some) => lead_by_lists(_span, some, asked, marks),
+        None => 0,
+    }
+}
+
+/// Does one of the codes have its mark?
+#[inline(always)]
+fn any_code_in(codes: &[u32], marks: &[u64]) -> bool
+    requires { (code : ℕ) → Contains codes.now code → code / 64 < length marks.now }
+    ensures { IsTrue result ↔ LeadsByOne (IsCodeIn marks.now) codes.now }
+{
+    for code in codes {
+        if (marks[(*code / 64) as usize] >> (*code % 64)) & 1 == 1 {
+            return true;
+        }
+    }
+    false
+}
+
+/// The bits of a word at its places turned.
+#[inline(always)]
+pub fn turned(bits: u64, turn: u8) -> u64
+    ensures { (k : ℕ) → k < 64 → bit_at result k ≡ bit_at bits (turned_place turn k) }
+{
+    let changed = if turn / 4 % 2 == 0 {
+        bits
+    } else {
+        exchanged(bits)
+    };
+    let ordered = if turn / 2 % 2 == 0 {
+        changed
+    } else {
+        reversed_eights(changed)
+    };
+    if turn % 2 == 0 {
+        ordered
+    } else {
+        turned_eights(ordered)
+    }
+}
+
 /// The bits of a word with each eight of them the other way round: neighbours change places, then pairs, then fours.
 #[inline(always)]
 pub fn turned_eights(bits: u64) -> u64
-    ensures { (k : ℕ) → k < 64 → bit_at result k ≡ bit_at bits (turned_place k) }
+    ensures { (k : ℕ) → k < 64 → bit_at result k ≡ bit_at bits (eights_turned k) }
 {
     let ones = bits >> 1 & 0x5555_5555_5555_5555 | (bits & 0x5555_5555_5555_5555) << 1;
     let twos = ones >> 2 & 0x3333_3333_3333_3333 | (ones & 0x3333_3333_3333_3333) << 2;
     twos >> 4 & 0x0f0f_0f0f_0f0f_0f0f | (twos & 0x0f0f_0f0f_0f0f_0f0f) << 4
+}
+
+/// The bits of a word with its eights in the other order: neighbours change places, then pairs, then fours.
+#[inline(always)]
+fn reversed_eights(bits: u64) -> u64
+    ensures { (k : ℕ) → k < 64 → bit_at result k ≡ bit_at bits (eights_reversed k) }
+{
+    let ones = bits >> 8 & 0x00ff_00ff_00ff_00ff | (bits & 0x00ff_00ff_00ff_00ff) << 8;
+    let twos = ones >> 16 & 0x0000_ffff_0000_ffff | (ones & 0x0000_ffff_0000_ffff) << 16;
+    twos >> 32 & 0x0000_0000_ffff_ffff | (twos & 0x0000_0000_ffff_ffff) << 32
+}
+
+/// The bits of a word with eight and place in it exchanged: as a square of eights it is mirrored at a diagonal, first each square of four bits,
+/// then those of 16 as squares of four squares, then the whole.
+#[inline(always)]
+fn exchanged(bits: u64) -> u64
+    ensures { (k : ℕ) → k < 64 → bit_at result k ≡ bit_at bits (exchanged k) }
+{
+    let ones = bits & 0xaa55_aa55_aa55_aa55
+        | bits >> 7 & 0x00aa_00aa_00aa_00aa
+        | (bits & 0x00aa_00aa_00aa_00aa) << 7;
+    let twos = ones & 0xcccc_3333_cccc_3333
+        | ones >> 14 & 0x0000_cccc_0000_cccc
+        | (ones & 0x0000_cccc_0000_cccc) << 14;
+    twos & 0xf0f0_f0f0_0f0f_0f0f
+        | twos >> 28 & 0x0000_0000_f0f0_f0f0
+        | (twos & 0x0000_0000_f0f0_f0f0) << 28
 }

@@ -1,5 +1,5 @@
 -- Where the sides differ and there is no target, the last digit of an index tells the side to move, and each move changes it.
-use Rattle.std.proofs.Common.{◌≡◌, ◌≢◌, ℕ, ◌%◌, ◌<◌, ◌⊎◌, ◌||◌, not, cond, eqb, Bool, true, false, [], ◌∷◌, refl, sym, ap, ◌∙◌, subst, inl, inr, arith}
+use Rattle.std.proofs.Common.{◌≡◌, ◌≢◌, ℕ, ◌*◌, ◌%◌, ◌<◌, ◌⊎◌, ◌||◌, not, cond, eqb, Bool, true, false, [], ◌∷◌, refl, sym, ap, ◌∙◌, subst, inl, inr, arith}
 use Rattle.std.specs.Prelude.{IsTrue}
 use Rattle.std.specs.List.{Contains}
 use Rattle.std.proofs.lemmas.Bool.{false≢true, eq-eqb}
@@ -24,7 +24,10 @@ use Rattle.egt_table.specs.declared.column.Column.{Column}
 use Rattle.egt_sweep.specs.Edges.{Connects}
 use Rattle.egt_sweep.specs.Laws.{Laws}
 use Rattle.egt_sweep.specs.Nodes.{connects}
+use Rattle.egt_sweep.specs.Shapes.{places_of}
 use Rattle.egt_sweep.specs.WordLists.{IsTold}
+use Rattle.egt_sweep.specs.declared.shape.Shape.{Shape}
+use Rattle.egt_sweep.specs.declared.shape.Shape.TheVariants.{Pawn}
 use Rattle.egt_sweep.specs.declared.class_words.Lists.{Lists}
 use Rattle.egt_sweep.proofs.Linked.{connects_is}
 
@@ -113,11 +116,11 @@ differ_where true true true h is none = absurd (false≢true (sym none))
 pub told_differ : (c : ℕ) → c < 36 → shelf_len c ≡ 96 → has_target (material_of c) ≡ false → has_equal_sides c ≡ false
 told_differ c c_in len none = differ_where (has_equal_sides c) (eqb (shelf_len c) 96) (has_target (material_of c)) (passes_below sides_differ 36 c all_differ c_in) (eq-eqb (shelf_len c) 96 len) none
 
--- each move of the game leads from an even number to an odd one, or from an odd one to an even one
+-- each move of the game leads from an even number to an odd one, or from an odd one to an even one, where the last man is a pawn
 pub out_alternates : Laws → ((column : Column) (c i j : ℕ) → c < 36 → has_target (material_of c) ≡ false → has_equal_sides c ≡ false → Connects column c i j → i % 2 ≢ j % 2)
-    → (column : Column) (d c : ℕ) (lists : Lists) → IsTold d lists → d ≡ c → (i j : ℕ) → Contains (passing_below (size_of c) (λ k. connects column c i k)) j → i % 2 ≢ j % 2
-out_alternates laws alternate column d c lists told same i j has =
+    → (column : Column) (d c : ℕ) (shape : Shape) (lists : Lists) → IsTold d shape lists → shape ≡ Pawn → d ≡ c → (i j : ℕ) → Contains (passing_below (size_of c) (λ k. connects column c i k)) j → i % 2 ≢ j % 2
+out_alternates laws alternate column d c shape lists told pawn same i j has =
     let c_in = subst (λ (e : ℕ). e < 36) same told.class_in in
     let none = subst (λ (e : ℕ). has_target (material_of e) ≡ false) same told.never in
-    let len = subst (λ (e : ℕ). shelf_len e ≡ 96) same told.len in
+    let len = subst (λ (e : ℕ). shelf_len e ≡ 96) same (subst (λ (of : Shape). shelf_len d ≡ 2 * places_of of) pawn told.shaped.len) in
     alternate column c i j c_in none (told_differ c c_in len none) ((connects_is laws column c i j c_in).0 (passing_passes (size_of c) (λ k. connects column c i k) j has))

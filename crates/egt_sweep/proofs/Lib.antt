@@ -50,4 +50,8 @@ pub mod ToldWords
 pub mod ClassWords
 pub mod OneFound
 pub mod WordGames
+pub mod Comes
+pub mod RoamWords
+pub mod Shaped
+pub mod Turns
 pub mod Alternating

@@ -32,8 +32,10 @@ use Rattle.egt_moves.specs.declared.chess_move.Move.{Move}
 use Rattle.egt_unmoves.proofs.Straight.{came_straight}
 use Rattle.egt_sweep.specs.Laws.{Laws}
 use Rattle.egt_sweep.specs.PawnMoves.{AddsPawn, GoesAhead, IsPawnTold, goes_up}
+use Rattle.egt_sweep.specs.Shapes.{IsShape}
 use Rattle.egt_sweep.specs.ShelfMoves.{places}
 use Rattle.egt_sweep.specs.WordParts.{IsPlacedIn}
+use Rattle.egt_sweep.specs.declared.shape.Shape.TheVariants.{Pawn}
 use Rattle.egt_sweep.proofs.InClass.{takes_nothing, to_free}
 use Rattle.egt_sweep.proofs.Onward.{pawn_stays, unpromoted}
 use Rattle.egt_sweep.proofs.WordPlaces.{number_from}
@@ -74,7 +76,7 @@ one_ahead false n k t u first then = omega (arith, first, then)
 
 -- ---- one position
 
-module _ (laws : Laws) (c base word first nodes k : ℕ) (p : Setup) (placed : IsPlacedIn c base first nodes k p) (pusher : Pusher) (foes : SquareSet) (is : IsPusher c base pusher) (on : pusher.on ≡ first + 8)
+module _ (laws : Laws) (c base word first nodes k : ℕ) (shaped : IsShape c Pawn) (p : Setup) (placed : IsPlacedIn c base first nodes k p) (pusher : Pusher) (foes : SquareSet) (is : IsPusher c base pusher) (on : pusher.on ≡ first + 8)
     (old : ℕ) (pushes : WordPushes) (staying : ℕ) (adds : AddsPawn c base word first nodes pusher foes old pushes staying) where
   told : IsPawnTold c base first pusher foes adds.moves k
   told = adds.told k placed.node
@@ -95,13 +97,13 @@ module _ (laws : Laws) (c base word first nodes k : ℕ) (p : Setup) (placed : I
   pawn_here = record { man = pusher.man; stands = stands; pawn = is.pawn }
 
   inside : (8 ≤ k + 8) × (k + 8 < 56)
-  inside = let few = placed.few in (omega (arith), omega (arith, few))
+  inside = let few = placed.few in let span = shaped.places in (omega (arith), omega (arith, few, span))
 
-  code : (t : ℕ) → 8 ≤ t → code_at pusher t ≡ number_at places pushes.word (t - 8)
+  code : (t : ℕ) → 8 ≤ t → code_at pusher t ≡ number_at (places c) pushes.word (t - 8)
   code t low =
       let less : pusher.opposite.less ≡ 8 = is.goes.less_is ∙ ap kind_less is.pawn in
       let least = adds.code in
-      let on_from = number_from pushes.word 0 (t - 8) (omega arith) in
+      let on_from = number_from (places c) pushes.word 0 (t - 8) (omega arith) in
       omega (arith, less, least, on_from, low)
 
   -- his legal move
@@ -186,18 +188,18 @@ module _ (laws : Laws) (c base word first nodes k : ℕ) (p : Setup) (placed : I
   double_told : bit_at pushes.double k ≡ 1 → (t : ℕ) × Has told.goes.beyond t
   double_told bit = told.double.0 (ap (λ n. bit_at n k) (sym adds.double) ∙ bit)
 
-  pub single_fits : bit_at pushes.single k ≡ 1 → (t : ℕ) × (t < places) × IsAhead pushes.up 8 k t
-  single_fits bit = let one = single_told bit in let board = pushing.on_board one.0 one.1 in (one.0 - 8, omega (arith, board.0, board.1), single_at one.0 one.1)
+  pub single_fits : bit_at pushes.single k ≡ 1 → (t : ℕ) × (t < places c) × IsAhead pushes.up 8 k t
+  single_fits bit = let span = shaped.places in let one = single_told bit in let board = pushing.on_board one.0 one.1 in (one.0 - 8, omega (arith, span, board.0, board.1), single_at one.0 one.1)
 
-  pub double_fits : bit_at pushes.double k ≡ 1 → (t : ℕ) × (t < places) × IsAhead pushes.up 16 k t
-  double_fits bit = let two = double_told bit in let board = pushing.leaps_on_board two.0 two.1 in (two.0 - 8, omega (arith, board.0, board.1), double_at two.0 two.1)
+  pub double_fits : bit_at pushes.double k ≡ 1 → (t : ℕ) × (t < places c) × IsAhead pushes.up 16 k t
+  double_fits bit = let span = shaped.places in let two = double_told bit in let board = pushing.leaps_on_board two.0 two.1 in (two.0 - 8, omega (arith, span, board.0, board.1), double_at two.0 two.1)
 
   -- the number of a place ahead is the code of the square there
-  code_of : (j t u : ℕ) → j ≡ number_at places pushes.word t → t ≡ u - 8 → 8 ≤ u → j ≡ code_at pusher u
-  code_of j t u is_number same low = is_number ∙ ap (number_at places pushes.word) same ∙ sym (code u low)
+  code_of : (j t u : ℕ) → j ≡ number_at (places c) pushes.word t → t ≡ u - 8 → 8 ≤ u → j ≡ code_at pusher u
+  code_of j t u is_number same low = is_number ∙ ap (number_at (places c) pushes.word) same ∙ sym (code u low)
 
   module _ (j : ℕ) (some : ¬ IsVoid c j) where
-    pub pushed_ahead : GoesPushed places k j pushes → GoesAhead c p (k + 8) j
+    pub pushed_ahead : GoesPushed (places c) k j pushes → GoesAhead c p (k + 8) j
     pushed_ahead (t, at, by) = elim by [
       | inl single ↦
           let one = single_told single.0 in
@@ -219,7 +221,7 @@ module _ (laws : Laws) (c base word first nodes k : ℕ) (p : Setup) (placed : I
           }
     ]
 
-    pub ahead_pushed : GoesAhead c p (k + 8) j → GoesPushed places k j pushes
+    pub ahead_pushed : GoesAhead c p (k + 8) j → GoesPushed (places c) k j pushes
     ahead_pushed ahead_to =
         let q = ahead_to.legal.0 in
         let m = plain (k + 8) ahead_to.to in

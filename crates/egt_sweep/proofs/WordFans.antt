@@ -17,7 +17,7 @@ use Rattle.egt_moves.specs.Targets.{IsLegalTarget}
 use Rattle.egt_moves.specs.declared.chess_move.Move.{Move}
 use Rattle.egt_check.proofs.Still.{targeted}
 use Rattle.egt_sweep.specs.Laws.{Laws}
-use Rattle.egt_sweep.specs.ShelfMoves.{places}
+use Rattle.egt_sweep.specs.ShelfMoves.{least, places}
 use Rattle.egt_sweep.specs.WordParts.{AddsLeds, AddsWays, GoesInWord, IsPlacedIn, StepsTo}
 
 -- a quiet step of a piece does not zero, and goes to a free square
@@ -37,17 +37,17 @@ module _ (laws : Laws) (c base first nodes k : ℕ) (p : Setup) (placed : IsPlac
       let legal = goes.quiet.legal in
       (laws.quiet_moved c p legal.0 (plain from to) placed.alike.spells.admissible legal.1 (zeroes_not c p from to i goes)).free
 
-  module _ (fan : Fan) (is : IsFan c base (Some (first + 8)) fan) where
+  module _ (fan : Fan) (is : IsFan c base (Some (first + least c)) fan) where
     -- each way and each led step that the fan has at the place is a quiet step
     way_goes : (t : ℕ) (way : SomeWay c (k - first) t fan.ways.items) → GoesQuietly c p fan.from t (way.way.index + 2 * (k - first))
     way_goes t way =
         subst (λ s. GoesQuietly c p fan.from s (way.way.index + 2 * (k - first))) way.to
-        ((is.ways way.way way.has).goes (k - first) p (let few = placed.few in omega (arith, few)) placed.alike way.unshut way.some)
+        ((is.ways way.way way.has).goes (k - first) p (let near = placed.near in omega (arith, near)) placed.alike way.unshut way.some)
 
     led_goes : (t i : ℕ) (led : SomeLed c p fan.from t fan.leds.items) → Follows c p fan.from led.led.to i → GoesQuietly c p fan.from t i
     led_goes t i led follows =
         subst (λ s. GoesQuietly c p fan.from s i) led.to
-        ((is.leds led.led led.has).is.goes (k - first) i p (let few = placed.few in omega (arith, few)) placed.alike follows (led.some i (subst (λ s. Follows c p fan.from s i) led.to follows)))
+        ((is.leds led.led led.has).is.goes (k - first) i p (let near = placed.near in omega (arith, near)) placed.alike follows (led.some i (subst (λ s. Follows c p fan.from s i) led.to follows)))
 
     -- the number after a led step
     led_number : (t : ℕ) → SomeLed c p fan.from t fan.leds.items → ℕ
@@ -64,7 +64,7 @@ module _ (laws : Laws) (c base first nodes k : ℕ) (p : Setup) (placed : IsPlac
 
     -- all of his legal steps to free squares are quiet, and lead to an index
     pub fan_quiet : (t : ℕ) → IsLegalTarget p fan.from t → IsFree p.men t → (i : ℕ) × GoesQuietly c p fan.from t i
-    fan_quiet t target free = elim (is.complete (k - first) t p (let few = placed.few in omega (arith, few)) placed.alike target free) [
+    fan_quiet t target free = elim (is.complete (k - first) t p (let near = placed.near in omega (arith, near)) placed.alike target free) [
       | inl way ↦ (way.way.index + 2 * (k - first), way_goes t way)
       | inr led ↦ (led_number t led, led_goes t (led_number t led) led (led_follows t led))
     ]
@@ -86,49 +86,49 @@ module _ (laws : Laws) (c base first nodes k : ℕ) (p : Setup) (placed : IsPlac
         goes = subst (GoesQuietly c p fan.from m.to) (laws.facts.one_index q c step_of.0 j (laws.facts.step_admissible p q m placed.alike.spells.admissible leads) leads_quietly index) step_of.1;
       }
 
-    module _ (old_ways new_ways : List WordWay) (old_turned new_turned : List TurnedWay) (ways : AddsWays first fan.ways.items old_ways new_ways) (leds : AddsLeds c base first nodes fan.from fan.leds.items old_turned new_turned)
+    module _ (old_ways new_ways : List WordWay) (old_turned new_turned : List TurnedWay) (ways : AddsWays (places c) first fan.ways.items old_ways new_ways) (leds : AddsLeds c base first nodes fan.from fan.leds.items old_turned new_turned)
         (j : ℕ) (some : ¬ IsVoid c j) where
-      sound : GoesInWord k j new_ways new_turned → GoesInWord k j old_ways old_turned ⊎ StepsTo c p fan.from j
-      sound (inl straight) = elim ((ways.goes k j placed.after (let few = placed.few in omega (arith, few))).0 straight) [
+      sound : GoesInWord c k j new_ways new_turned → GoesInWord c k j old_ways old_turned ⊎ StepsTo c p fan.from j
+      sound (inl straight) = elim ((ways.goes k j placed.after (let near = placed.near in omega (arith, near))).0 straight) [
         | inl old ↦ inl (inl old)
         | inr by ↦ inr (record {
           to = by.way.to;
           goes = subst (GoesQuietly c p fan.from by.way.to) (sym by.goes.is)
-              ((is.ways by.way by.has).goes (k - first) p (let few = placed.few in omega (arith, few)) placed.alike by.goes.unshut (subst (λ n. ¬ IsVoid c n) by.goes.is some));
+              ((is.ways by.way by.has).goes (k - first) p (let near = placed.near in omega (arith, near)) placed.alike by.goes.unshut (subst (λ n. ¬ IsVoid c n) by.goes.is some));
         })
       ]
       sound (inr turned) = elim (leds.only k j p placed turned) [
         | inl old ↦ inl (inr old)
-        | inr by ↦ inr (record { to = by.led.to; goes = (is.leds by.led by.has).is.goes (k - first) j p (let few = placed.few in omega (arith, few)) placed.alike by.follows some })
+        | inr by ↦ inr (record { to = by.led.to; goes = (is.leds by.led by.has).is.goes (k - first) j p (let near = placed.near in omega (arith, near)) placed.alike by.follows some })
       ]
 
-      by_way : (steps : StepsTo c p fan.from j) → SomeWay c (k - first) steps.to fan.ways.items → GoesInWord k j new_ways new_turned
-      by_way steps way = inl ((ways.goes k j placed.after (let few = placed.few in omega (arith, few))).1 (inr (record {
+      by_way : (steps : StepsTo c p fan.from j) → SomeWay c (k - first) steps.to fan.ways.items → GoesInWord c k j new_ways new_turned
+      by_way steps way = inl ((ways.goes k j placed.after (let near = placed.near in omega (arith, near))).1 (inr (record {
         way = way.way;
         has = way.has;
         goes = record { unshut = way.unshut; is = one_step fan.from steps.to j _ steps.goes (way_goes steps.to way) };
       })))
 
-      by_led : (steps : StepsTo c p fan.from j) → SomeLed c p fan.from steps.to fan.leds.items → GoesInWord k j new_ways new_turned
+      by_led : (steps : StepsTo c p fan.from j) → SomeLed c p fan.from steps.to fan.leds.items → GoesInWord c k j new_ways new_turned
       by_led steps led =
           let told = leds.told k p led.led placed led.has in
-          inr (subst (λ n. GoesTurned places k n new_turned) (sym (one_step fan.from steps.to j told.0 steps.goes (led_goes steps.to told.0 led told.2))) told.1)
+          inr (subst (λ n. GoesTurned (places c) k n new_turned) (sym (one_step fan.from steps.to j told.0 steps.goes (led_goes steps.to told.0 led told.2))) told.1)
 
-      complete : GoesInWord k j old_ways old_turned ⊎ StepsTo c p fan.from j → GoesInWord k j new_ways new_turned
-      complete (inl (inl straight)) = inl ((ways.goes k j placed.after (let few = placed.few in omega (arith, few))).1 (inl straight))
+      complete : GoesInWord c k j old_ways old_turned ⊎ StepsTo c p fan.from j → GoesInWord c k j new_ways new_turned
+      complete (inl (inl straight)) = inl ((ways.goes k j placed.after (let near = placed.near in omega (arith, near))).1 (inl straight))
       complete (inl (inr turned)) = inr (leds.kept k j turned)
-      complete (inr steps) = elim (is.complete (k - first) steps.to p (let few = placed.few in omega (arith, few)) placed.alike (None, steps.goes.quiet.legal) (free_there fan.from steps.to j steps.goes)) [
+      complete (inr steps) = elim (is.complete (k - first) steps.to p (let near = placed.near in omega (arith, near)) placed.alike (None, steps.goes.quiet.legal) (free_there fan.from steps.to j steps.goes)) [
         | inl way ↦ by_way steps way
         | inr led ↦ by_led steps led
       ]
 
-      pub fan_added : GoesInWord k j new_ways new_turned ↔ (GoesInWord k j old_ways old_turned ⊎ StepsTo c p fan.from j)
+      pub fan_added : GoesInWord c k j new_ways new_turned ↔ (GoesInWord c k j old_ways old_turned ⊎ StepsTo c p fan.from j)
       fan_added = (sound, complete)
 
 -- nothing goes by no ways
-pub goes_nowhere : (k j : ℕ) (ways : List WordWay) (turned : List TurnedWay) → ways ≡ [] → turned ≡ [] → GoesInWord k j ways turned → ⊥
-goes_nowhere k j ways turned no_ways no_turned (inl straight) = let has = subst (λ (xs : List WordWay). Contains xs straight.0) no_ways straight.1 in let lt = has.1 in omega (arith, lt)
-goes_nowhere k j ways turned no_ways no_turned (inr by) = let has = subst (λ (xs : List TurnedWay). Contains xs by.0) no_turned by.1 in let lt = has.1 in omega (arith, lt)
+pub goes_nowhere : (c k j : ℕ) (ways : List WordWay) (turned : List TurnedWay) → ways ≡ [] → turned ≡ [] → GoesInWord c k j ways turned → ⊥
+goes_nowhere c k j ways turned no_ways no_turned (inl straight) = let has = subst (λ (xs : List WordWay). Contains xs straight.0) no_ways straight.1 in let lt = has.1 in omega (arith, lt)
+goes_nowhere c k j ways turned no_ways no_turned (inr by) = let has = subst (λ (xs : List TurnedWay). Contains xs by.0) no_turned by.1 in let lt = has.1 in omega (arith, lt)
 
 -- the steps of one man or of two
 pub of_one : (A B C D : Type 0) → (A → ⊥) → B ↔ (A ⊎ C) → (D → ⊥) → B ↔ (C ⊎ D)

@@ -1,5 +1,5 @@
 -- The games of a class by words.
-use Rattle.std.proofs.Common.{◌≡◌, ◌==◌, ℕ, suc, ◌+◌, ◌*◌, ◌-◌, ◌%◌, ◌<◌, ◌≤◌, ◌^◌, ◌⊎◌, ◌↔◌, bit_or, w64, if◌then◌else◌, not, Bool, true, false, List, [], ◌∷◌, length, slice_index, Option, Some, None, refl, sym, ap, ◌∙◌, subst, inl, inr, arith}
+use Rattle.std.proofs.Common.{◌≡◌, ◌≢◌, ◌==◌, ℕ, zero, suc, ◌+◌, ◌*◌, ◌-◌, ◌/◌, ◌%◌, ◌<◌, ◌≤◌, ◌^◌, ◌⊎◌, ◌↔◌, bit_or, w64, if◌then◌else◌, not, Bool, true, false, List, [], ◌∷◌, length, slice_index, get_or, set, Option, Some, None, IfSome, eqb, refl, sym, ap, ◌∙◌, subst, inl, inr, arith}
 use Rattle.std.proofs.Math.Bool.{Bool-set}
 use Rattle.std.proofs.Math.Logic.{⊎_elim, ∥∥₁_elim, ∥∥₁_prop}
 use Rattle.std.proofs.Math.Nat.{ℕ_set}
@@ -24,7 +24,7 @@ use Rattle.egt_moves.specs.Moves.{moves_of, played}
 use Rattle.egt_moves.specs.declared.chess_move.Move.{Move}
 use Rattle.egt_graph.specs.Passing.{passing_has, passing_passes}
 use Rattle.egt_graph.specs.Value.{is_empty, is_lost_before, is_won_before}
-use Rattle.egt_graph.specs.WordMoves.{FitsPushes, GoesPushed, GoesSome, IsAhead}
+use Rattle.egt_graph.specs.WordMoves.{FitsPushes, FitsTurns, GoesPushed, IsAhead, turned_place}
 use Rattle.egt_graph.specs.Words.{number_at, word_in, place_in, words_of, IsIn, TellsExits, IsWordStart, number_at-places, place_in-small, word_in-within}
 use Rattle.egt_graph.specs.declared.game.Exit.{Exit}
 use Rattle.egt_graph.specs.Graph.{Graph, IsNode}
@@ -43,9 +43,14 @@ use Rattle.egt_sweep.specs.Laws.{Laws}
 use Rattle.egt_sweep.specs.MateColumn.{mate_table, IsMateColumn}
 use Rattle.egt_sweep.specs.Nodes.{position_at, connects, exit_of, exit_by, exits_at, exits_from, goes_on, shown_below}
 use Rattle.egt_sweep.specs.ShelfMoves.{places, PushesTo, TellsWord}
+use Rattle.egt_sweep.specs.ShelfMoves.{RoamsFit}
+use Rattle.egt_sweep.specs.Shapes.{IsShape}
 use Rattle.egt_sweep.specs.WordLists.{IsTold}
+use Rattle.egt_sweep.specs.declared.roaming.Roaming.{Roaming}
+use Rattle.egt_sweep.specs.declared.shape.Shape.{Shape}
 use Rattle.egt_sweep.specs.declared.class_words.Lists.{Lists}
-use Rattle.egt_sweep.specs.WordGames.{IsOddAbove, AreOddMarks}
+use Rattle.egt_sweep.specs.WordGames.{GoesAny, IsOddAbove, AreOddAbove, AreOddMarks, MovesFit, RoamsWithin}
+use Rattle.egt_sweep.proofs.ClassWords.{some_places}
 use Rattle.egt_sweep.proofs.Linked.{node_at, there_is, void_is, spelled_there, connects_is, goes_is}
 use Rattle.egt_sweep.proofs.Members.{In, in_given, given_in, contains_in, any_in, in_any, all_in, in_all}
 use Rattle.egt_sweep.proofs.OutOfClass.{shown_is, beside_own, nothing_told}
@@ -92,23 +97,23 @@ gathers_kept P k bits fails h m = (
 -- ---- marks of all numbers
 
 -- the bits of so many words are of the numbers for which P holds
-abbrev pub AreMarksOf : (size : ℕ) → (ℕ → Type 0) → List ℕ → Type 0
-AreMarksOf size P marks = (length marks ≡ words_of places size)
-    × ((word : ℕ) → word < words_of places size → (k : ℕ) → bit_at (slice_index marks word) k ≡ 1 ↔ ((k < places) × P (number_at places word k)))
+abbrev pub AreMarksOf : (span size : ℕ) → (ℕ → Type 0) → List ℕ → Type 0
+AreMarksOf span size P marks = (length marks ≡ words_of span size)
+    × ((word : ℕ) → word < words_of span size → (k : ℕ) → bit_at (slice_index marks word) k ≡ 1 ↔ ((k < span) × P (number_at span word k)))
 
-module _ (size : ℕ) (P : ℕ → Type 0) (marks : List ℕ) (are : AreMarksOf size P marks) where
-  pub in_marked : (j : ℕ) → IsIn places marks j → P j
-  in_marked j is = elim (cases_lt (word_in places j) (words_of places size)) [
-    | inl lt ↦ subst P (number_at-places places j (omega arith)) ((are.1 (word_in places j) lt (place_in places j)).0 is).1
+module _ (span size : ℕ) (some : 0 < span) (P : ℕ → Type 0) (marks : List ℕ) (are : AreMarksOf span size P marks) where
+  pub in_marked : (j : ℕ) → IsIn span marks j → P j
+  in_marked j is = elim (cases_lt (word_in span j) (words_of span size)) [
+    | inl lt ↦ subst P (number_at-places span j some) ((are.1 (word_in span j) lt (place_in span j)).0 is).1
     | inr le ↦
-        let past = get_or_past marks (word_in places j) 0 (let long = are.0 in omega (arith, long, le)) in
-        absurd (none_set (place_in places j) (sym (ap (λ w. bit_at w (place_in places j)) past) ∙ is))
+        let past = get_or_past marks (word_in span j) 0 (let long = are.0 in omega (arith, long, le)) in
+        absurd (none_set (place_in span j) (sym (ap (λ w. bit_at w (place_in span j)) past) ∙ is))
   ]
 
-  pub marked_in : (j : ℕ) → j < size → P j → IsIn places marks j
+  pub marked_in : (j : ℕ) → j < size → P j → IsIn span marks j
   marked_in j lt holds =
-      (are.1 (word_in places j) (word_in-within places size j (omega arith) lt) (place_in places j)).1
-      (place_in-small places j (omega arith), subst P (sym (number_at-places places j (omega arith))) holds)
+      (are.1 (word_in span j) (word_in-within span size j some lt) (place_in span j)).1
+      (place_in-small span j some, subst P (sym (number_at-places span j some)) holds)
 
 -- ---- what a truncated fact still tells
 
@@ -128,6 +133,17 @@ fits_from span pushes h = record {
   single = λ k one. ahead_from pushes.up 8 span k (∥∥₁_elim h ∥∥₁_prop (λ fits. ∣ fits.single k one ∣₁));
   double = λ k one. ahead_from pushes.up 16 span k (∥∥₁_elim h ∥∥₁_prop (λ fits. ∣ fits.double k one ∣₁));
 }
+
+pub turns_from : (span : ℕ) (turned : List TurnedWay) → ∥ FitsTurns span turned ∥₁ → FitsTurns span turned
+turns_from span turned h way has k lt = ∥∥₁_elim h (below_prop (turned_place way.turn k) span) (λ fits. fits way has k lt)
+
+pub roams_from : (span words : ℕ) (roams : Option Roaming) → ∥ RoamsWithin span words roams ∥₁ → RoamsWithin span words roams
+roams_from span words None h = _
+roams_from span words (Some roaming) h = (∥∥₁_elim h (ℕ_set span 64) (λ fit. fit.0), ∥∥₁_elim h (below_prop roaming.word words) (λ fit. fit.1))
+
+more_words : (span words n : ℕ) (roams : Option Roaming) → words ≤ n → RoamsWithin span words roams → RoamsWithin span n roams
+more_words span words n None le fit = fit
+more_words span words n (Some roaming) le fit = (fit.0, let lt = fit.1 in omega (arith, lt, le))
 
 -- ---- nodes and edges
 
@@ -181,96 +197,126 @@ module _ (laws : Laws) (c : ℕ) (c_in : c < 36) where
   -- ---- the moves of a word
 
   -- these are the edges from the word's nodes in the game of the column
-  abbrev pub TellsEdges : Column → (word nodes : ℕ) → List Way → List TurnedWay → Option Pushes → Type 0
-  TellsEdges column word nodes ways turned pushes = (k j : ℕ) → bit_at nodes k ≡ 1 → Connects column c (number_at places word k) j ↔ (¬ IsVoid c j × GoesSome places k j ways turned pushes)
+  abbrev pub TellsEdges : Column → (word nodes : ℕ) → List Way → List TurnedWay → Option Pushes → Option Roaming → Type 0
+  TellsEdges column word nodes ways turned pushes roams = (k j : ℕ) → bit_at nodes k ≡ 1 → Connects column c (number_at (places c) word k) j ↔ (¬ IsVoid c j × GoesAny (places c) k j ways turned pushes roams)
 
-  mate_edges : (word nodes staying : ℕ) (ways : List Way) (turned : List TurnedWay) (pushes : Pushes) → TellsWord c word nodes staying ways turned pushes → TellsEdges Mate word nodes ways turned (Some pushes)
-  mate_edges word nodes staying ways turned pushes tells k j node =
-      let i = number_at places word k in (
+  mate_edges : (word nodes staying : ℕ) (ways : List Way) (turned : List TurnedWay) (pushes : Pushes) (roams : Option Roaming) → TellsWord c word nodes staying ways turned pushes roams → TellsEdges Mate word nodes ways turned (Some pushes) roams
+  mate_edges word nodes staying ways turned pushes roams tells k j node =
+      let i = number_at (places c) word k in (
         λ edge. elim (mate_parts i j edge) [
-          | inl quiet ↦ let goes = (tells.quiet k j node).0 quiet in (goes.0, elim goes.1 [ inl straight ↦ inl straight | inr turn ↦ inr (inl turn) ])
-          | inr push ↦ let goes = (tells.pushed k j node).0 push in (goes.0, inr (inr goes.1))
+          | inl quiet ↦ let goes = (tells.quiet k j node).0 quiet in (goes.0, elim goes.1 [ inl (inl straight) ↦ inl (inl (inl straight)) | inl (inr turn) ↦ inl (inl (inr (inl turn))) | inr roam ↦ inr roam ])
+          | inr push ↦ let goes = (tells.pushed k j node).0 push in (goes.0, inl (inl (inr (inr goes.1))))
         ],
         λ goes. elim goes.1 [
-          | inl straight ↦ quiet_mate i j ((tells.quiet k j node).1 (goes.0, inl straight))
-          | inr (inl turn) ↦ quiet_mate i j ((tells.quiet k j node).1 (goes.0, inr turn))
-          | inr (inr push) ↦ push_mate i j ((tells.pushed k j node).1 (goes.0, push))
+          | inl (inl (inl straight)) ↦ quiet_mate i j ((tells.quiet k j node).1 (goes.0, inl (inl straight)))
+          | inl (inl (inr (inl turn))) ↦ quiet_mate i j ((tells.quiet k j node).1 (goes.0, inl (inr turn)))
+          | inl (inl (inr (inr push))) ↦ push_mate i j ((tells.pushed k j node).1 (goes.0, push))
+          | inl (inr none) ↦ absurd none
+          | inr roam ↦ quiet_mate i j ((tells.quiet k j node).1 (goes.0, inr roam))
         ],
       )
 
-  zero_edges : (word nodes staying : ℕ) (ways : List Way) (turned : List TurnedWay) (pushes : Pushes) → TellsWord c word nodes staying ways turned pushes → TellsEdges Zeroing word nodes ways turned None
-  zero_edges word nodes staying ways turned pushes tells k j node = (
-    λ edge. let goes = (tells.quiet k j node).0 edge in (goes.0, elim goes.1 [ inl straight ↦ inl straight | inr turn ↦ inr (inl turn) ]),
-    λ goes. (tells.quiet k j node).1 (goes.0, elim goes.1 [ inl straight ↦ inl straight | inr (inl turn) ↦ inr turn | inr (inr none) ↦ absurd none ]),
+  zero_edges : (word nodes staying : ℕ) (ways : List Way) (turned : List TurnedWay) (pushes : Pushes) (roams : Option Roaming) → TellsWord c word nodes staying ways turned pushes roams → TellsEdges Zeroing word nodes ways turned None roams
+  zero_edges word nodes staying ways turned pushes roams tells k j node = (
+    λ edge. let goes = (tells.quiet k j node).0 edge in (goes.0, elim goes.1 [ inl (inl straight) ↦ inl (inl (inl straight)) | inl (inr turn) ↦ inl (inl (inr (inl turn))) | inr roam ↦ inr roam ]),
+    λ goes. (tells.quiet k j node).1 (
+      goes.0,
+      elim goes.1 [
+        | inl (inl (inl straight)) ↦ inl (inl straight)
+        | inl (inl (inr (inl turn))) ↦ inl (inr turn)
+        | inl (inl (inr (inr none))) ↦ absurd none
+        | inl (inr none) ↦ absurd none
+        | inr roam ↦ inr roam
+      ],
+    ),
   )
 
   -- those of the asked nodes from which they lead into marks of nodes
-  module _ (tables : Tables) (column : Column) (word nodes : ℕ) (ways : List Way) (turned : List TurnedWay) (pushes : Option Pushes)
-      (are : ∥ ((k : ℕ) → bit_at nodes k ≡ 1 ↔ ((k < places) × ¬ IsVoid c (number_at places word k))) × TellsEdges column word nodes ways turned pushes ∥₁) where
+  module _ (tables : Tables) (column : Column) (word nodes : ℕ) (ways : List Way) (turned : List TurnedWay) (pushes : Option Pushes) (roams : Option Roaming)
+      (are : ∥ ((k : ℕ) → bit_at nodes k ≡ 1 ↔ ((k < (places c)) × ¬ IsVoid c (number_at (places c) word k))) × TellsEdges column word nodes ways turned pushes roams ∥₁) where
     pub leads_there : (asked result : ℕ) (marks : List ℕ)
-        → ((k : ℕ) → bit_at asked k ≡ 1 → (k < places) × IsNode (class_game tables column c) (number_at places word k))
-        → ((i : ℕ) → IsIn places marks i → IsNode (class_game tables column c) i)
-        → ((k : ℕ) → bit_at result k ≡ 1 ↔ ((bit_at asked k ≡ 1) × ((j : ℕ) × GoesSome places k j ways turned pushes × IsIn places marks j)))
-        → (k : ℕ) → bit_at result k ≡ 1 ↔ ((bit_at asked k ≡ 1) × ((j : ℕ) × Contains ((class_game tables column c).out (number_at places word k)) j × IsIn places marks j))
+        → ((k : ℕ) → bit_at asked k ≡ 1 → (k < (places c)) × IsNode (class_game tables column c) (number_at (places c) word k))
+        → ((i : ℕ) → IsIn (places c) marks i → IsNode (class_game tables column c) i)
+        → ((k : ℕ) → bit_at result k ≡ 1 ↔ ((bit_at asked k ≡ 1) × ((j : ℕ) × GoesAny (places c) k j ways turned pushes roams × IsIn (places c) marks j)))
+        → (k : ℕ) → bit_at result k ≡ 1 ↔ ((bit_at asked k ≡ 1) × ((j : ℕ) × Contains ((class_game tables column c).out (number_at (places c) word k)) j × IsIn (places c) marks j))
     leads_there asked result marks asked_nodes marked led k = (
-      λ one. let (bit, (j, goes, is)) = (led k).0 one in (bit, (j, passing_has (size_of c) (λ n. connects column c (number_at places word k) n) j (marked j is).in_range (edge bit j goes is), is)),
-      λ h. let (bit, (j, has, is)) = h in lead bit j (passing_passes (size_of c) (λ n. connects column c (number_at places word k) n) j has) is,
+      λ one. let (bit, (j, goes, is)) = (led k).0 one in (bit, (j, passing_has (size_of c) (λ n. connects column c (number_at (places c) word k) n) j (marked j is).in_range (edge bit j goes is), is)),
+      λ h. let (bit, (j, has, is)) = h in lead bit j (passing_passes (size_of c) (λ n. connects column c (number_at (places c) word k) n) j has) is,
     )
       where
-        node : bit_at asked k ≡ 1 → ((m : ℕ) → bit_at nodes m ≡ 1 ↔ ((m < places) × ¬ IsVoid c (number_at places word m))) → bit_at nodes k ≡ 1
-        node bit bits = let at = asked_nodes k bit in (bits k).1 (at.0, node_full (number_at places word k) at.1.not_void)
+        node : bit_at asked k ≡ 1 → ((m : ℕ) → bit_at nodes m ≡ 1 ↔ ((m < (places c)) × ¬ IsVoid c (number_at (places c) word m))) → bit_at nodes k ≡ 1
+        node bit bits = let at = asked_nodes k bit in (bits k).1 (at.0, node_full (number_at (places c) word k) at.1.not_void)
 
-        edge : bit_at asked k ≡ 1 → (j : ℕ) → GoesSome places k j ways turned pushes → IsIn places marks j → connects column c (number_at places word k) j ≡ true
-        edge bit j goes is = ∥∥₁_elim are (Bool-set (connects column c (number_at places word k) j) true)
-            (λ told. (connects_is laws column c (number_at places word k) j c_in).1 ((told.1 k j (node bit told.0)).1 (node_full j (marked j is).not_void, goes)))
+        edge : bit_at asked k ≡ 1 → (j : ℕ) → GoesAny (places c) k j ways turned pushes roams → IsIn (places c) marks j → connects column c (number_at (places c) word k) j ≡ true
+        edge bit j goes is = ∥∥₁_elim are (Bool-set (connects column c (number_at (places c) word k) j) true)
+            (λ told. (connects_is laws column c (number_at (places c) word k) j c_in).1 ((told.1 k j (node bit told.0)).1 (node_full j (marked j is).not_void, goes)))
 
-        lead : bit_at asked k ≡ 1 → (j : ℕ) → connects column c (number_at places word k) j ≡ true → IsIn places marks j → bit_at result k ≡ 1
+        lead : bit_at asked k ≡ 1 → (j : ℕ) → connects column c (number_at (places c) word k) j ≡ true → IsIn (places c) marks j → bit_at result k ≡ 1
         lead bit j t is = ∥∥₁_elim are (ℕ_set (bit_at result k) 1)
-            (λ told. (led k).1 (bit, (j, ((told.1 k j (node bit told.0)).0 ((connects_is laws column c (number_at places word k) j c_in).0 t)).1, is)))
+            (λ told. (led k).1 (bit, (j, ((told.1 k j (node bit told.0)).0 ((connects_is laws column c (number_at (places c) word k) j c_in).0 t)).1, is)))
 
 -- ---- what is told of a word, at the game's class
 
-module _ (d c : ℕ) (lists : Lists) (told : IsTold d lists) (same : d ≡ c) where
+module _ (d c : ℕ) (shape : Shape) (lists : Lists) (told : IsTold d shape lists) (same : d ≡ c) where
   pub class_below : c < 36
   class_below = subst (λ (e : ℕ). e < 36) same told.class_in
 
-  pub word_told : (word : ℕ) → word < words_of places (size_of c)
-      → ∥ ((ways : List Way) × (turned : List TurnedWay) × (pushes : Pushes) × TellsWord d word (slice_index lists.nodes.items word) (slice_index lists.staying.items word) ways turned pushes) ∥₁
-  word_told word lt = ∥∥₁_elim (told.holds.each word (subst (λ (e : ℕ). word < words_of places (size_of e)) (sym same) lt)).tells ∥∥₁_prop (λ tells. ∣ (_, _, _, tells) ∣₁)
+  pub span_some : 0 < places c
+  span_some = subst (λ (e : ℕ). 0 < places e) same (some_places d shape told.shaped).0
 
-module _ (d c word nodes staying : ℕ) (ways : List Way) (turned : List TurnedWay) (pushes : Pushes) (told : ∥ TellsWord d word nodes staying ways turned pushes ∥₁) (same : d ≡ c) where
-  pub at_class : ∥ TellsWord c word nodes staying ways turned pushes ∥₁
-  at_class = subst (λ (e : ℕ). ∥ TellsWord e word nodes staying ways turned pushes ∥₁) same told
+  pub word_told : (word : ℕ) → word < words_of (places c) (size_of c)
+      → ∥ ((ways : List Way) × (turned : List TurnedWay) × (pushes : Pushes) × (roams : Option Roaming) × TellsWord d word (slice_index lists.nodes.items word) (slice_index lists.staying.items word) ways turned pushes roams) ∥₁
+  word_told word lt = ∥∥₁_elim (told.holds.each word (subst (λ (e : ℕ). word < words_of (places e) (size_of e)) (sym same) lt)).tells ∥∥₁_prop (λ tells. ∣ (_, _, _, _, tells) ∣₁)
 
-  module _ (n : ℕ) (long : words_of places (size_of c) ≤ n) where
-    pub ways_within : (way : Way) → Contains ways way → way.word < n
-    ways_within way has = ∥∥₁_elim at_class (below_prop way.word n) (λ tells. let fit = tells.ways_fit way has in omega (arith, fit, long))
+module _ (d c word nodes staying : ℕ) (ways : List Way) (turned : List TurnedWay) (pushes : Pushes) (roams : Option Roaming) (told : ∥ TellsWord d word nodes staying ways turned pushes roams ∥₁) (same : d ≡ c) where
+  pub at_class : ∥ TellsWord c word nodes staying ways turned pushes roams ∥₁
+  at_class = subst (λ (e : ℕ). ∥ TellsWord e word nodes staying ways turned pushes roams ∥₁) same told
 
-    pub turned_within : (way : TurnedWay) → Contains turned way → way.word < n
-    turned_within way has = ∥∥₁_elim at_class (below_prop way.word n) (λ tells. let fit = tells.turned_fit way has in omega (arith, fit, long))
+  module _ (n : ℕ) (long : words_of (places c) (size_of c) ≤ n) where
+    pub pushes_in : (pushes.word < n) × FitsPushes (places c) pushes
+    pushes_in = (
+      ∥∥₁_elim at_class (below_prop pushes.word n) (λ tells. let fit = tells.pushes_fit in omega (arith, fit, long)),
+      fits_from (places c) pushes (∥∥₁_elim at_class ∥∥₁_prop (λ tells. ∣ tells.pushes_stay ∣₁)),
+    )
 
-    pub pushes_within : pushes.word < n
-    pushes_within = ∥∥₁_elim at_class (below_prop pushes.word n) (λ tells. let fit = tells.pushes_fit in omega (arith, fit, long))
+    pub pushes_fit : (span : ℕ) → span ≡ places c → (pushes.word < n) × FitsPushes span pushes
+    pushes_fit span is = subst (λ (s : ℕ). (pushes.word < n) × FitsPushes s pushes) (sym is) pushes_in
 
-    pub pushes_in : (pushes.word < n) × FitsPushes places pushes
-    pushes_in = (pushes_within, fits_from places pushes (∥∥₁_elim at_class ∥∥₁_prop (λ tells. ∣ tells.pushes_stay ∣₁)))
+    fit_by : (some : Option Pushes) → IfSome some (λ here. (here.word < n) × FitsPushes (places c) here) → MovesFit (places c) n ways turned some roams
+    fit_by some pushes_fit = record {
+      turns = turns_from (places c) turned (∥∥₁_elim at_class ∥∥₁_prop (λ tells. ∣ tells.turned_stay ∣₁));
+      ways_in = λ way has. ∥∥₁_elim at_class (below_prop way.word n) (λ tells. let fit = tells.ways_fit way has in omega (arith, fit, long));
+      turned_in = λ way has. ∥∥₁_elim at_class (below_prop way.word n) (λ tells. let fit = tells.turned_fit way has in omega (arith, fit, long));
+      pushes_in = pushes_fit;
+      roams_in = more_words (places c) (words_of (places c) (size_of c)) n roams long (roams_from (places c) (words_of (places c) (size_of c)) roams (∥∥₁_elim at_class ∥∥₁_prop (λ tells. ∣ tells.roams_fit ∣₁)));
+    }
+
+    -- with the moves of pawns
+    pub mate_fit : (span : ℕ) → span ≡ places c → MovesFit span n ways turned (Some pushes) roams
+    mate_fit span is = subst (λ (s : ℕ). MovesFit s n ways turned (Some pushes) roams) (sym is) (fit_by (Some pushes) pushes_in)
+
+    -- without them
+    pub zero_fit : (span : ℕ) → span ≡ places c → MovesFit span n ways turned None roams
+    zero_fit span is = subst (λ (s : ℕ). MovesFit s n ways turned None roams) (sym is) (fit_by None _)
 
   module _ (laws : Laws) (c_in : c < 36) where
-    pub mate_leads : (tables : Tables) (asked result : ℕ) (marks : List ℕ)
-        → ((k : ℕ) → bit_at asked k ≡ 1 → (k < places) × IsNode (class_game tables Mate c) (number_at places word k))
-        → ((i : ℕ) → IsIn places marks i → IsNode (class_game tables Mate c) i)
-        → ((k : ℕ) → bit_at result k ≡ 1 ↔ ((bit_at asked k ≡ 1) × ((j : ℕ) × GoesSome places k j ways turned (Some pushes) × IsIn places marks j)))
-        → (k : ℕ) → bit_at result k ≡ 1 ↔ ((bit_at asked k ≡ 1) × ((j : ℕ) × Contains ((class_game tables Mate c).out (number_at places word k)) j × IsIn places marks j))
-    mate_leads tables = leads_there laws c c_in tables Mate word nodes ways turned (Some pushes)
-        (∥∥₁_elim at_class ∥∥₁_prop (λ tells. ∣ (tells.nodes_are, mate_edges laws c c_in word nodes staying ways turned pushes tells) ∣₁))
+    pub mate_leads : (tables : Tables) (span asked result : ℕ) (marks : List ℕ) → span ≡ places c
+        → ((k : ℕ) → bit_at asked k ≡ 1 → (k < places c) × IsNode (class_game tables Mate c) (number_at (places c) word k))
+        → ((i : ℕ) → IsIn (places c) marks i → IsNode (class_game tables Mate c) i)
+        → ((k : ℕ) → bit_at result k ≡ 1 ↔ ((bit_at asked k ≡ 1) × ((j : ℕ) × GoesAny span k j ways turned (Some pushes) roams × IsIn span marks j)))
+        → (k : ℕ) → bit_at result k ≡ 1 ↔ ((bit_at asked k ≡ 1) × ((j : ℕ) × Contains ((class_game tables Mate c).out (number_at (places c) word k)) j × IsIn (places c) marks j))
+    mate_leads tables span asked result marks is asked_nodes marked led = leads_there laws c c_in tables Mate word nodes ways turned (Some pushes) roams
+        (∥∥₁_elim at_class ∥∥₁_prop (λ tells. ∣ (tells.nodes_are, mate_edges laws c c_in word nodes staying ways turned pushes roams tells) ∣₁)) asked result marks asked_nodes marked
+        (subst (λ (s : ℕ). (k : ℕ) → bit_at result k ≡ 1 ↔ ((bit_at asked k ≡ 1) × ((j : ℕ) × GoesAny s k j ways turned (Some pushes) roams × IsIn s marks j))) is led)
 
-    pub zero_leads : (tables : Tables) (asked result : ℕ) (marks : List ℕ)
-        → ((k : ℕ) → bit_at asked k ≡ 1 → (k < places) × IsNode (class_game tables Zeroing c) (number_at places word k))
-        → ((i : ℕ) → IsIn places marks i → IsNode (class_game tables Zeroing c) i)
-        → ((k : ℕ) → bit_at result k ≡ 1 ↔ ((bit_at asked k ≡ 1) × ((j : ℕ) × GoesSome places k j ways turned None × IsIn places marks j)))
-        → (k : ℕ) → bit_at result k ≡ 1 ↔ ((bit_at asked k ≡ 1) × ((j : ℕ) × Contains ((class_game tables Zeroing c).out (number_at places word k)) j × IsIn places marks j))
-    zero_leads tables = leads_there laws c c_in tables Zeroing word nodes ways turned None
-        (∥∥₁_elim at_class ∥∥₁_prop (λ tells. ∣ (tells.nodes_are, zero_edges laws c c_in word nodes staying ways turned pushes tells) ∣₁))
+    pub zero_leads : (tables : Tables) (span asked result : ℕ) (marks : List ℕ) → span ≡ places c
+        → ((k : ℕ) → bit_at asked k ≡ 1 → (k < places c) × IsNode (class_game tables Zeroing c) (number_at (places c) word k))
+        → ((i : ℕ) → IsIn (places c) marks i → IsNode (class_game tables Zeroing c) i)
+        → ((k : ℕ) → bit_at result k ≡ 1 ↔ ((bit_at asked k ≡ 1) × ((j : ℕ) × GoesAny span k j ways turned None roams × IsIn span marks j)))
+        → (k : ℕ) → bit_at result k ≡ 1 ↔ ((bit_at asked k ≡ 1) × ((j : ℕ) × Contains ((class_game tables Zeroing c).out (number_at (places c) word k)) j × IsIn (places c) marks j))
+    zero_leads tables span asked result marks is asked_nodes marked led = leads_there laws c c_in tables Zeroing word nodes ways turned None roams
+        (∥∥₁_elim at_class ∥∥₁_prop (λ tells. ∣ (tells.nodes_are, zero_edges laws c c_in word nodes staying ways turned pushes roams tells) ∣₁)) asked result marks asked_nodes marked
+        (subst (λ (s : ℕ). (k : ℕ) → bit_at result k ≡ 1 ↔ ((bit_at asked k ≡ 1) × ((j : ℕ) × GoesAny s k j ways turned None roams × IsIn s marks j))) is led)
 
 -- ---- what a word begins with
 
@@ -294,33 +340,33 @@ module _ (laws : Laws) (c : ℕ) (c_in : c < 36) where
       ap (exits_from tables Mate c) (here laws c i p at)
       ∙ nothing_of (λ m. option_to_list (exit_by tables Mate c p m (played p m))) (λ m. nothing_told laws tables Mate c p m at.spells.admissible (λ q leads. stays q m leads)) (moves_of p)
 
-  module _ (word nodes staying : ℕ) (ways : List Way) (turned : List TurnedWay) (pushes : Pushes) (tells : TellsWord c word nodes staying ways turned pushes) where
-    full_nodes : (tables : Tables) (column : Column) (k : ℕ) → bit_at nodes k ≡ 1 ↔ ((k < places) × IsNode (class_game tables column c) (number_at places word k))
+  module _ (word nodes staying : ℕ) (ways : List Way) (turned : List TurnedWay) (pushes : Pushes) (roams : Option Roaming) (tells : TellsWord c word nodes staying ways turned pushes roams) where
+    full_nodes : (tables : Tables) (column : Column) (k : ℕ) → bit_at nodes k ≡ 1 ↔ ((k < (places c)) × IsNode (class_game tables column c) (number_at (places c) word k))
     full_nodes tables column k = (
-      λ one. let h = (tells.nodes_are k).0 one in (h.0, full_node laws c c_in tables column (number_at places word k) h.1),
-      λ h. (tells.nodes_are k).1 (h.0, node_full laws c c_in (number_at places word k) h.1.not_void),
+      λ one. let h = (tells.nodes_are k).0 one in (h.0, full_node laws c c_in tables column (number_at (places c) word k) h.1),
+      λ h. (tells.nodes_are k).1 (h.0, node_full laws c c_in (number_at (places c) word k) h.1.not_void),
     )
 
     -- the position at a place of those that stay
-    place_at : (k : ℕ) → bit_at staying k ≡ 1 → (p : Setup) × IsAt c (number_at places word k) p
-    place_at k one = full_at laws c c_in (number_at places word k) ((tells.nodes_are k).0 (tells.staying_nodes k one)).1
+    place_at : (k : ℕ) → bit_at staying k ≡ 1 → (p : Setup) × IsAt c (number_at (places c) word k) p
+    place_at k one = full_at laws c c_in (number_at (places c) word k) ((tells.nodes_are k).0 (tells.staying_nodes k one)).1
 
-    pub mate_begins : (tables : Tables) → IsWordStart (class_game tables Mate c) places word (record { nodes = nodes; told = staying; leaving = 0; lost = 0; held = 0 })
+    pub mate_begins : (tables : Tables) → IsWordStart (class_game tables Mate c) (places c) word (record { nodes = nodes; told = staying; leaving = 0; lost = 0; held = 0 })
     mate_begins tables = record {
       nodes = full_nodes tables Mate;
       told_nodes = tells.staying_nodes;
       told = λ k one.
           let at = place_at k one in
-          tells_none (exits_at tables Mate c (number_at places word k)) (bit_at 0 k)
-          (no_exits tables (number_at places word k) at.0 at.1 (λ q m leads. tells.stays k at.0 q m one at.1 leads)) (bit_at-zero k);
+          tells_none (exits_at tables Mate c (number_at (places c) word k)) (bit_at 0 k)
+          (no_exits tables (number_at (places c) word k) at.0 at.1 (λ q m leads. tells.stays k at.0 q m one at.1 leads)) (bit_at-zero k);
     }
 
 pub mate_start : (laws : Laws) (d c word nodes staying : ℕ) → c < 36 → d ≡ c → (tables : Tables)
-    → ∥ ((ways : List Way) × (turned : List TurnedWay) × (pushes : Pushes) × TellsWord d word nodes staying ways turned pushes) ∥₁
-    → IsWordStart (class_game tables Mate c) places word (record { nodes = nodes; told = staying; leaving = 0; lost = 0; held = 0 })
+    → ∥ ((ways : List Way) × (turned : List TurnedWay) × (pushes : Pushes) × (roams : Option Roaming) × TellsWord d word nodes staying ways turned pushes roams) ∥₁
+    → IsWordStart (class_game tables Mate c) (places c) word (record { nodes = nodes; told = staying; leaving = 0; lost = 0; held = 0 })
 mate_start laws d c word nodes staying c_in same tables told =
-    ∥∥₁_elim told (start_prop (class_game tables Mate c) places word (record { nodes = nodes; told = staying; leaving = 0; lost = 0; held = 0 }))
-    (λ h. mate_begins laws c c_in word nodes staying h.0 h.1 h.2 (subst (λ (e : ℕ). TellsWord e word nodes staying h.0 h.1 h.2) same h.3) tables)
+    ∥∥₁_elim told (start_prop (class_game tables Mate c) (places c) word (record { nodes = nodes; told = staying; leaving = 0; lost = 0; held = 0 }))
+    (λ h. mate_begins laws c c_in word nodes staying h.0 h.1 h.2 h.3 (subst (λ (e : ℕ). TellsWord e word nodes staying h.0 h.1 h.2 h.3) same h.4) tables)
 
 -- ---- exits of moves that zero and stay
 
@@ -379,7 +425,7 @@ module _ (exits : List Exit) (Goes : ℕ → Type 0) (entry : ℕ → ℕ) (ther
         ∙ (won_told n (entry h.0) (shows h.0 h.1)).1 (λ odd. let one = held.1 (h.0, h.1, odd) in let none = eqb-true holding 0 t in omega (arith, one, none))));
   }
 
-module _ (laws : Laws) (c : ℕ) (c_in : c < 36) (tables : Tables) (mates : List ℕ) (column : IsMateColumn c mates) where
+module _ (laws : Laws) (c : ℕ) (c_in : c < 36) (tables : Tables) (mates : List ℕ) (column : IsMateColumn c mates) (some : 0 < places c) where
   abbrev others : Tables
   others = beside tables (mate_table c mates)
 
@@ -453,34 +499,34 @@ module _ (laws : Laws) (c : ℕ) (c_in : c < 36) (tables : Tables) (mates : List
     push_shows : (j : ℕ) → PushesTo c i j → (v : Value) × Shows (slice_index mates j) v
     push_shows j push = entry_shows push.to j (laws.facts.step_admissible push.from push.to push.move push.at.spells.admissible push.leads) push.index
 
-  module _ (word nodes staying : ℕ) (ways : List Way) (turned : List TurnedWay) (pushes : Pushes) (tells : TellsWord c word nodes staying ways turned pushes) where
-    -- from which places pushes lead to marked numbers
-    pushed_into : (P : ℕ → Type 0) (marks : List ℕ) → AreMarksOf (size_of c) P marks → ((j : ℕ) → P j → ¬ IsVoid c j) → (bits : ℕ)
-        → ((k : ℕ) → bit_at bits k ≡ 1 ↔ ((bit_at staying k ≡ 1) × ((j : ℕ) × GoesPushed places k j pushes × IsIn places marks j)))
-        → (k : ℕ) → bit_at staying k ≡ 1 → bit_at bits k ≡ 1 ↔ ((j : ℕ) × PushesTo c (number_at places word k) j × P j)
+  module _ (word nodes staying : ℕ) (ways : List Way) (turned : List TurnedWay) (pushes : Pushes) (roams : Option Roaming) (tells : TellsWord c word nodes staying ways turned pushes roams) where
+    -- from which (places c) pushes lead to marked numbers
+    pushed_into : (P : ℕ → Type 0) (marks : List ℕ) → AreMarksOf (places c) (size_of c) P marks → ((j : ℕ) → P j → ¬ IsVoid c j) → (bits : ℕ)
+        → ((k : ℕ) → bit_at bits k ≡ 1 ↔ ((bit_at staying k ≡ 1) × ((j : ℕ) × GoesPushed (places c) k j pushes × IsIn (places c) marks j)))
+        → (k : ℕ) → bit_at staying k ≡ 1 → bit_at bits k ≡ 1 ↔ ((j : ℕ) × PushesTo c (number_at (places c) word k) j × P j)
     pushed_into P marks are full bits led k one = (
       λ bit.
           let (_, (j, goes, is)) = (led k).0 bit in
-          let holds = in_marked (size_of c) P marks are j is in
+          let holds = in_marked (places c) (size_of c) some P marks are j is in
           (j, (tells.pushed k j (tells.staying_nodes k one)).1 (full j holds, goes), holds),
       λ h.
           let (j, push, holds) = h in
-          (led k).1 (one, (j, ((tells.pushed k j (tells.staying_nodes k one)).0 push).1, marked_in (size_of c) P marks are j (laws.facts.index_below push.to c j push.index) holds)),
+          (led k).1 (one, (j, ((tells.pushed k j (tells.staying_nodes k one)).0 push).1, marked_in (places c) (size_of c) some P marks are j (laws.facts.index_below push.to c j push.index) holds)),
     )
 
     -- the three answers of the pushes are what a word begins with
     zero_begins : (all lost unwon : List ℕ) (leaving losing holding : ℕ)
-        → AreMarksOf (size_of c) (λ j. ¬ IsVoid c j) all → AreMarksOf (size_of c) (λ j. IsOddAbove 1 (slice_index mates j)) lost → AreMarksOf (size_of c) (λ j. IsOddAbove 0 (slice_index mates j)) unwon
-        → ((k : ℕ) → bit_at leaving k ≡ 1 ↔ ((bit_at staying k ≡ 1) × ((j : ℕ) × GoesPushed places k j pushes × IsIn places all j)))
-        → ((k : ℕ) → bit_at losing k ≡ 1 ↔ ((bit_at staying k ≡ 1) × ((j : ℕ) × GoesPushed places k j pushes × IsIn places lost j)))
-        → ((k : ℕ) → bit_at holding k ≡ 1 ↔ ((bit_at staying k ≡ 1) × ((j : ℕ) × GoesPushed places k j pushes × IsIn places unwon j)))
-        → IsWordStart (class_game others Zeroing c) places word (record { nodes = nodes; told = staying; leaving = leaving; lost = losing; held = holding })
+        → AreMarksOf (places c) (size_of c) (λ j. ¬ IsVoid c j) all → AreMarksOf (places c) (size_of c) (λ j. IsOddAbove 1 (slice_index mates j)) lost → AreMarksOf (places c) (size_of c) (λ j. IsOddAbove 0 (slice_index mates j)) unwon
+        → ((k : ℕ) → bit_at leaving k ≡ 1 ↔ ((bit_at staying k ≡ 1) × ((j : ℕ) × GoesPushed (places c) k j pushes × IsIn (places c) all j)))
+        → ((k : ℕ) → bit_at losing k ≡ 1 ↔ ((bit_at staying k ≡ 1) × ((j : ℕ) × GoesPushed (places c) k j pushes × IsIn (places c) lost j)))
+        → ((k : ℕ) → bit_at holding k ≡ 1 ↔ ((bit_at staying k ≡ 1) × ((j : ℕ) × GoesPushed (places c) k j pushes × IsIn (places c) unwon j)))
+        → IsWordStart (class_game others Zeroing c) (places c) word (record { nodes = nodes; told = staying; leaving = leaving; lost = losing; held = holding })
     zero_begins all lost unwon leaving losing holding all_are lost_are unwon_are leaving_led losing_led holding_led = record {
-      nodes = full_nodes laws c c_in word nodes staying ways turned pushes tells others Zeroing;
+      nodes = full_nodes laws c c_in word nodes staying ways turned pushes roams tells others Zeroing;
       told_nodes = tells.staying_nodes;
       told = λ k one.
-          let i = number_at places word k in
-          let at = place_at laws c c_in word nodes staying ways turned pushes tells k one in
+          let i = number_at (places c) word k in
+          let at = place_at laws c c_in word nodes staying ways turned pushes roams tells k one in
           let stays : (q : Setup) (m : Move) → Leads at.0 m q → GoesOn Mate c at.0 m q = (λ q m leads. tells.stays k at.0 q m one at.1 leads) in
           let into = pushed_into (λ j. ¬ IsVoid c j) all all_are (λ j full. full) leaving leaving_led k one in
           tells_entries (exits_at others Zeroing c i) (PushesTo c i) (slice_index mates) (exits_told i at.0 at.1 stays) (push_exit i at.0 at.1 stays) (push_shows i at.0 at.1 stays)
@@ -491,44 +537,53 @@ module _ (laws : Laws) (c : ℕ) (c_in : c < 36) (tables : Tables) (mates : List
     }
 
 -- the nodes of a word, though it is not told how its moves are found
-nodes_here : (d word nodes : ℕ) (staying : ℕ) (ways : List Way) (turned : List TurnedWay) (pushes : Pushes) → ∥ TellsWord d word nodes staying ways turned pushes ∥₁
-    → (k : ℕ) → bit_at nodes k ≡ 1 ↔ ((k < places) × ¬ IsVoid d (number_at places word k))
-nodes_here d word nodes staying ways turned pushes told k = ∥∥₁_elim told prop (λ tells. tells.nodes_are k)
+nodes_here : (d word nodes : ℕ) (staying : ℕ) (ways : List Way) (turned : List TurnedWay) (pushes : Pushes) (roams : Option Roaming) → ∥ TellsWord d word nodes staying ways turned pushes roams ∥₁
+    → (k : ℕ) → bit_at nodes k ≡ 1 ↔ ((k < (places d)) × ¬ IsVoid d (number_at (places d) word k))
+nodes_here d word nodes staying ways turned pushes roams told k = ∥∥₁_elim told prop (λ tells. tells.nodes_are k)
   where
-    prop : IsProp (bit_at nodes k ≡ 1 ↔ ((k < places) × ¬ IsVoid d (number_at places word k)))
+    prop : IsProp (bit_at nodes k ≡ 1 ↔ ((k < (places d)) × ¬ IsVoid d (number_at (places d) word k)))
     prop = hlevel (props, ℕ_set)
 
 -- the nodes of all words mark what is not void
-nodes_marked : (d c : ℕ) (lists : Lists) (all : List ℕ) → d ≡ c → all ≡ lists.nodes.items → length all ≡ words_of places (size_of d) → IsTold d lists → AreMarksOf (size_of c) (λ j. ¬ IsVoid c j) all
-nodes_marked d c lists all same is long told =
-    subst (λ (e : ℕ). AreMarksOf (size_of e) (λ j. ¬ IsVoid e j) all) same
-    (long, λ word lt. subst (λ (xs : List ℕ). (k : ℕ) → bit_at (slice_index xs word) k ≡ 1 ↔ ((k < places) × ¬ IsVoid d (number_at places word k))) (sym is) (nodes_here d word (slice_index lists.nodes.items word) (slice_index lists.staying.items word) _ _ _ (told.holds.each word lt).tells))
+nodes_marked : (d c : ℕ) (shape : Shape) (lists : Lists) (all : List ℕ) → d ≡ c → all ≡ lists.nodes.items → length all ≡ words_of (places d) (size_of d) → IsTold d shape lists → AreMarksOf (places c) (size_of c) (λ j. ¬ IsVoid c j) all
+nodes_marked d c shape lists all same is long told =
+    subst (λ (e : ℕ). AreMarksOf (places e) (size_of e) (λ j. ¬ IsVoid e j) all) same
+    (long, λ word lt. subst (λ (xs : List ℕ). (k : ℕ) → bit_at (slice_index xs word) k ≡ 1 ↔ ((k < (places d)) × ¬ IsVoid d (number_at (places d) word k))) (sym is) (nodes_here d word (slice_index lists.nodes.items word) (slice_index lists.staying.items word) _ _ _ _ (told.holds.each word lt).tells))
 
 -- so they tell where a position is
-pub node_marked : (laws : Laws) (c : ℕ) (lists : Lists) (all : List ℕ) (i : ℕ) (b : Bool) → IsTold c lists → all ≡ lists.nodes.items → length all ≡ words_of places (size_of c) → i < size_of c
-    → b ≡ true ↔ IsIn places all i → b ≡ is_some (position_at c i)
-node_marked laws c lists all i b told is long lt marked =
+pub node_marked : (laws : Laws) (c : ℕ) (shape : Shape) (lists : Lists) (all : List ℕ) (i : ℕ) (b : Bool) → IsTold c shape lists → all ≡ lists.nodes.items → length all ≡ words_of (places c) (size_of c) → i < size_of c
+    → b ≡ true ↔ IsIn (places c) all i → b ≡ is_some (position_at c i)
+node_marked laws c shape lists all i b told is long lt marked =
     same_test b (is_some (position_at c i))
-    (λ t. let at = full_at laws c told.class_in i (in_marked (size_of c) (λ j. ¬ IsVoid c j) all are i (marked.0 t)) in there_is laws c i at.0 at.1)
-    (λ some. marked.1 (marked_in (size_of c) (λ j. ¬ IsVoid c j) all are i lt (λ void. false≢true (sym (void_is laws c i void) ∙ some))))
+    (λ t. let at = full_at laws c told.class_in i (in_marked (places c) (size_of c) some (λ j. ¬ IsVoid c j) all are i (marked.0 t)) in there_is laws c i at.0 at.1)
+    (λ there. marked.1 (marked_in (places c) (size_of c) some (λ j. ¬ IsVoid c j) all are i lt (λ void. false≢true (sym (void_is laws c i void) ∙ there))))
   where
-    are : AreMarksOf (size_of c) (λ j. ¬ IsVoid c j) all
-    are = nodes_marked c c lists all refl is long told
+    some : 0 < places c
+    some = span_some c c shape lists told refl
 
-odd_marked : (size n : ℕ) (entries marks : List ℕ) → AreOddMarks (words_of places size) n entries marks → AreMarksOf size (λ j. IsOddAbove n (slice_index entries j)) marks
-odd_marked size n entries marks are = (are.long, are.each)
+    are : AreMarksOf (places c) (size_of c) (λ j. ¬ IsVoid c j) all
+    are = nodes_marked c c shape lists all refl is long told
 
-pub zero_start : (laws : Laws) (d c word nodes staying : ℕ) (lists : Lists) (ways : List Way) (turned : List TurnedWay) (pushes : Pushes) (tables : Tables) (mates all lost unwon : List ℕ) (leaving losing holding : ℕ)
-    → d ≡ c → IsTold d lists → ∥ TellsWord d word nodes staying ways turned pushes ∥₁ → IsMateColumn c mates
-    → all ≡ lists.nodes.items → length all ≡ words_of places (size_of d) → AreOddMarks (words_of places (size_of c)) 1 mates lost → AreOddMarks (words_of places (size_of c)) 0 mates unwon
-    → ((k : ℕ) → bit_at leaving k ≡ 1 ↔ ((bit_at staying k ≡ 1) × ((j : ℕ) × GoesPushed places k j pushes × IsIn places all j)))
-    → ((k : ℕ) → bit_at losing k ≡ 1 ↔ ((bit_at staying k ≡ 1) × ((j : ℕ) × GoesPushed places k j pushes × IsIn places lost j)))
-    → ((k : ℕ) → bit_at holding k ≡ 1 ↔ ((bit_at staying k ≡ 1) × ((j : ℕ) × GoesPushed places k j pushes × IsIn places unwon j)))
-    → IsWordStart (class_game (beside tables (mate_table c mates)) Zeroing c) places word (record { nodes = nodes; told = staying; leaving = leaving; lost = losing; held = holding })
-zero_start laws d c word nodes staying lists ways turned pushes tables mates all lost unwon leaving losing holding same told tells column is long lost_are unwon_are leaving_led losing_led holding_led =
-    ∥∥₁_elim (at_class d c word nodes staying ways turned pushes tells same) prop (λ told_word.
-    zero_begins laws c (class_below d c lists told same) tables mates column word nodes staying ways turned pushes told_word all lost unwon leaving losing holding
-    (nodes_marked d c lists all same is long told) (odd_marked (size_of c) 1 mates lost lost_are) (odd_marked (size_of c) 0 mates unwon unwon_are) leaving_led losing_led holding_led)
+odd_marked : (span size n : ℕ) (entries marks : List ℕ) → AreOddMarks span (words_of span size) n entries marks → AreMarksOf span size (λ j. IsOddAbove n (slice_index entries j)) marks
+odd_marked span size n entries marks are = (are.long, are.each)
+
+-- of these places the bits are of those from which a push leads into the marks
+abbrev pub PushesLed : (span asked bits : ℕ) → Pushes → List ℕ → Type 0
+PushesLed span asked bits pushes marks = (k : ℕ) → bit_at bits k ≡ 1 ↔ ((bit_at asked k ≡ 1) × ((j : ℕ) × GoesPushed span k j pushes × IsIn span marks j))
+
+pub zero_start : (laws : Laws) (d c word nodes staying : ℕ) (shape : Shape) (lists : Lists) (ways : List Way) (turned : List TurnedWay) (pushes : Pushes) (roams : Option Roaming) (tables : Tables) (mates all lost unwon : List ℕ) (leaving losing holding : ℕ)
+    → d ≡ c → IsTold d shape lists → ∥ TellsWord d word nodes staying ways turned pushes roams ∥₁ → IsMateColumn c mates
+    → all ≡ lists.nodes.items → length all ≡ words_of (places d) (size_of d) → AreOddMarks (places c) (words_of (places c) (size_of c)) 1 mates lost → AreOddMarks (places c) (words_of (places c) (size_of c)) 0 mates unwon
+    → (span : ℕ) → span ≡ places c
+    → PushesLed span staying leaving pushes all
+    → PushesLed span staying losing pushes lost
+    → PushesLed span staying holding pushes unwon
+    → IsWordStart (class_game (beside tables (mate_table c mates)) Zeroing c) (places c) word (record { nodes = nodes; told = staying; leaving = leaving; lost = losing; held = holding })
+zero_start laws d c word nodes staying shape lists ways turned pushes roams tables mates all lost unwon leaving losing holding same told tells column is long lost_are unwon_are span span_is leaving_led losing_led holding_led =
+    ∥∥₁_elim (at_class d c word nodes staying ways turned pushes roams tells same) prop (λ told_word.
+    zero_begins laws c (class_below d c shape lists told same) tables mates column (span_some d c shape lists told same) word nodes staying ways turned pushes roams told_word all lost unwon leaving losing holding
+    (nodes_marked d c shape lists all same is long told) (odd_marked (places c) (size_of c) 1 mates lost lost_are) (odd_marked (places c) (size_of c) 0 mates unwon unwon_are)
+    (subst (λ (s : ℕ). PushesLed s staying leaving pushes all) span_is leaving_led) (subst (λ (s : ℕ). PushesLed s staying losing pushes lost) span_is losing_led) (subst (λ (s : ℕ). PushesLed s staying holding pushes unwon) span_is holding_led))
   where
-    prop : IsProp (IsWordStart (class_game (beside tables (mate_table c mates)) Zeroing c) places word (record { nodes = nodes; told = staying; leaving = leaving; lost = losing; held = holding }))
-    prop = start_prop (class_game (beside tables (mate_table c mates)) Zeroing c) places word (record { nodes = nodes; told = staying; leaving = leaving; lost = losing; held = holding })
+    prop : IsProp (IsWordStart (class_game (beside tables (mate_table c mates)) Zeroing c) (places c) word (record { nodes = nodes; told = staying; leaving = leaving; lost = losing; held = holding }))
+    prop = start_prop (class_game (beside tables (mate_table c mates)) Zeroing c) (places c) word (record { nodes = nodes; told = staying; leaving = leaving; lost = losing; held = holding })

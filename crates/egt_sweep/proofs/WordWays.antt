@@ -14,7 +14,7 @@ use Rattle.egt_graph.specs.declared.word_moves.TurnedWay.{TurnedWay}
 use Rattle.egt_graph.specs.declared.word_moves.Way.{Way as WordWay}
 use Rattle.egt_index.specs.Size.{size_of}
 use Rattle.egt_sweep.specs.ShelfMoves.{places}
-use Rattle.egt_sweep.specs.WordParts.{AddsLeds, AddsWays, GoesBy, LeadsToWord, TurnsFit, WaysFit}
+use Rattle.egt_sweep.specs.WordParts.{AddsLeds, AddsWays, GoesBy, LeadsToWord, TurnFits, TurnsFit, WaysFit}
 use Rattle.egt_sweep.proofs.WordPlaces.{number_from}
 
 -- bits that were moved up
@@ -51,27 +51,27 @@ has_only one x has = elim (Contains-push_cases [] one x has) [
   | inr e ↦ e
 ]
 
-pub way_fits : (c : ℕ) (old new : List WordWay) (one : WordWay) → new ≡ old ++ one ∷ [] → WaysFit c old → one.word < words_of places (size_of c) → WaysFit c new
+pub way_fits : (c : ℕ) (old new : List WordWay) (one : WordWay) → new ≡ old ++ one ∷ [] → WaysFit c old → one.word < words_of (places c) (size_of c) → WaysFit c new
 way_fits c old new one is fit near way has = elim (old_or_one old new one is way has) [
   | inl before ↦ fit way before
-  | inr e ↦ subst (λ (x : WordWay). x.word < words_of places (size_of c)) e near
+  | inr e ↦ subst (λ (x : WordWay). x.word < words_of (places c) (size_of c)) e near
 ]
 
-pub turn_fits : (c : ℕ) (old new : List TurnedWay) (one : TurnedWay) → new ≡ old ++ one ∷ [] → TurnsFit c old → one.word < words_of places (size_of c) → TurnsFit c new
+pub turn_fits : (c : ℕ) (old new : List TurnedWay) (one : TurnedWay) → new ≡ old ++ one ∷ [] → TurnsFit c old → TurnFits c one → TurnsFit c new
 turn_fits c old new one is fit near way has = elim (old_or_one old new one is way has) [
   | inl before ↦ fit way before
-  | inr e ↦ subst (λ (x : TurnedWay). x.word < words_of places (size_of c)) e near
+  | inr e ↦ subst (TurnFits c) e near
 ]
 
 -- the way of the word that goes by the shelf's
-module _ (first : ℕ) (way : Way) (one : WordWay) (at : number_at places one.word first ≡ way.index) (off : one.off ≡ way.off * 2 ^ first % 2 ^ 64) (old new : List WordWay) (is : new ≡ old ++ one ∷ []) where
-  numbers : (k : ℕ) → first ≤ k → number_at places one.word k ≡ way.index + 2 * (k - first)
-  numbers k le = number_from one.word first k le ∙ ap (λ n. n + 2 * (k - first)) at
+module _ (span first : ℕ) (way : Way) (one : WordWay) (at : number_at span one.word first ≡ way.index) (off : one.off ≡ way.off * 2 ^ first % 2 ^ 64) (old new : List WordWay) (is : new ≡ old ++ one ∷ []) where
+  numbers : (k : ℕ) → first ≤ k → number_at span one.word k ≡ way.index + 2 * (k - first)
+  numbers k le = number_from span one.word first k le ∙ ap (λ n. n + 2 * (k - first)) at
 
   bits : (k : ℕ) → first ≤ k → k < 64 → bit_at one.off k ≡ bit_at way.off (k - first)
   bits k le below = ap (λ n. bit_at n k) off ∙ raised_bit way.off first k le below
 
-  pub adds_way : AddsWays first (way ∷ []) old new
+  pub adds_way : AddsWays span first (way ∷ []) old new
   adds_way = record {
     goes = λ k j le below. (
       λ g. elim (old_or_one old new one is g.0 g.1) [
@@ -81,7 +81,7 @@ module _ (first : ℕ) (way : Way) (one : WordWay) (at : number_at places one.wo
           has = (0, omega arith, refl);
           goes = record {
             unshut = sym (bits k le below) ∙ ap (λ (x : WordWay). bit_at x.off k) e ∙ g.2;
-            is = g.3 ∙ sym (ap (λ (x : WordWay). number_at places x.word k) e) ∙ numbers k le;
+            is = g.3 ∙ sym (ap (λ (x : WordWay). number_at span x.word k) e) ∙ numbers k le;
           };
         })
       ],
@@ -94,12 +94,12 @@ module _ (first : ℕ) (way : Way) (one : WordWay) (at : number_at places one.wo
   }
 
 -- no way adds nothing
-pub adds_no_way : (first : ℕ) (old : List WordWay) → AddsWays first [] old old
-adds_no_way first old = record { goes = λ k j le below. (λ g. inl g, λ h. elim h [ inl before ↦ before | inr by ↦ absurd (let lt = by.has.1 in omega (arith, lt)) ]) }
+pub adds_no_way : (span first : ℕ) (old : List WordWay) → AddsWays span first [] old old
+adds_no_way span first old = record { goes = λ k j le below. (λ g. inl g, λ h. elim h [ inl before ↦ before | inr by ↦ absurd (let lt = by.has.1 in omega (arith, lt)) ]) }
 
 -- one way more is added
-pub adds_more_ways : (first : ℕ) (some more : List Way) (way : Way) (old mid new : List WordWay) → more ≡ some ++ way ∷ [] → AddsWays first some old mid → AddsWays first (way ∷ []) mid new → AddsWays first more old new
-adds_more_ways first some more way old mid new is some_added one_added = record {
+pub adds_more_ways : (span first : ℕ) (some more : List Way) (way : Way) (old mid new : List WordWay) → more ≡ some ++ way ∷ [] → AddsWays span first some old mid → AddsWays span first (way ∷ []) mid new → AddsWays span first more old new
+adds_more_ways span first some more way old mid new is some_added one_added = record {
   goes = λ k j le below.
       let before = some_added.goes k j le below in
       let here = one_added.goes k j le below in (
@@ -121,7 +121,7 @@ adds_more_ways first some more way old mid new is some_added one_added = record 
 }
 
 -- the turned way by which the led step goes
-module _ (c base first nodes from : ℕ) (led : Led) (one : TurnedWay) (leads : LeadsToWord c base first nodes from led one.word) (old new : List TurnedWay) (is : new ≡ old ++ one ∷ []) where
+module _ (c base first nodes from : ℕ) (led : Led) (one : TurnedWay) (leads : LeadsToWord c base first nodes from led one) (old new : List TurnedWay) (is : new ≡ old ++ one ∷ []) where
   pub adds_led : AddsLeds c base first nodes from (led ∷ []) old new
   adds_led = record {
     kept = λ k j g. (g.0, has_old old new one is g.0 g.1, g.2);
@@ -130,10 +130,10 @@ module _ (c base first nodes from : ℕ) (led : Led) (one : TurnedWay) (leads : 
       | inr e ↦ inr (record {
         led = led;
         has = (0, omega arith, refl);
-        follows = subst (Follows c p from led.to) (ap (λ (x : TurnedWay). number_at places x.word (turned_place k)) e ∙ sym g.2) (leads k p placed);
+        follows = subst (Follows c p from led.to) (ap (λ (x : TurnedWay). number_at (places c) x.word (turned_place x.turn k)) e ∙ sym g.2) (leads k p placed);
       })
     ];
-    told = λ k p other placed has. (number_at places one.word (turned_place k), (one, has_one old new one is, refl), subst (λ (x : Led). Follows c p from x.to (number_at places one.word (turned_place k))) (has_only led other has) (leads k p placed));
+    told = λ k p other placed has. (number_at (places c) one.word (turned_place one.turn k), (one, has_one old new one is, refl), subst (λ (x : Led). Follows c p from x.to (number_at (places c) one.word (turned_place one.turn k))) (has_only led other has) (leads k p placed));
   }
 
 pub adds_no_led : (c base first nodes from : ℕ) (old : List TurnedWay) → AddsLeds c base first nodes from [] old old

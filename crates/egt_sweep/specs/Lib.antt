@@ -23,3 +23,5 @@ pub mod PawnMoves
 pub mod WordLists
 pub mod ClassWords
 pub mod WordGames
+pub mod Roaming
+pub mod Shapes

@@ -1,5 +1,5 @@
 -- The moves of a word's last man, a pawn of the side to move, from all of its positions.
-use Rattle.std.specs.Prelude.{◌≡◌, ℕ, ◌+◌, ◌-◌, ◌*◌, ◌<◌, ◌⊎◌, ◌↔◌, Bool, true, false}
+use Rattle.std.specs.Prelude.{◌≡◌, ℕ, ◌+◌, ◌-◌, ◌*◌, ◌<◌, ◌⊎◌, ◌↔◌, Bool, true, false, IsSome}
 use Rattle.std.specs.Int.{bit_at}
 use Rattle.egt_board.specs.Man.{other_side}
 use Rattle.egt_board.specs.Placement.{IsHeld}
@@ -9,7 +9,6 @@ use Rattle.egt_board.specs.declared.man.Side.{Side}
 use Rattle.egt_board.specs.declared.man.Side.TheVariants.{White, Black}
 use Rattle.egt_board.specs.declared.square_set.SquareSet.{SquareSet}
 use Rattle.egt_check.specs.Pusher.{IsPushing, code_at}
-use Rattle.egt_check.specs.Spread.{TellsLast}
 use Rattle.egt_check.specs.declared.pusher.Pusher.{Pusher}
 use Rattle.egt_check.specs.declared.pusher.Pushes.{Pushes}
 use Rattle.egt_check.specs.declared.spread.Spread.{Spread}
@@ -21,7 +20,7 @@ use Rattle.egt_index.specs.Shelf.{IsAlikeIndex}
 use Rattle.egt_index.specs.Size.{size_of}
 use Rattle.egt_moves.specs.Legal.{IsLegal, Leads, plain}
 use Rattle.egt_moves.specs.declared.chess_move.Move.{Move}
-use Rattle.egt_sweep.specs.ShelfMoves.{places}
+use Rattle.egt_sweep.specs.ShelfMoves.{least, places}
 use Rattle.egt_sweep.specs.WordParts.{IsPlacedIn}
 use Rattle.egt_sweep.specs.declared.pawn_moves.PawnMoves.{PawnMoves}
 
@@ -59,7 +58,7 @@ pub record AddsPawn (c base word first nodes : ℕ) (pusher : Pusher) (foes : Sq
   pub double : pushes.double ≡ moves.double.bits
   pub up : pushes.up ≡ goes_up pusher.man.side
   pub below : (n : ℕ) → word < 2 * n → pushes.word < 2 * n
-  pub code : code_at pusher 8 ≡ number_at places pushes.word 0
+  pub code : code_at pusher 8 ≡ number_at (places c) pushes.word 0
   pub kept : (k : ℕ) → bit_at staying k ≡ 1 → bit_at old k ≡ 1
   pub stays : (k : ℕ) → bit_at staying k ≡ 1 → Has moves.staying k
 
@@ -71,11 +70,12 @@ pub record GoesAhead (c : ℕ) (p : Setup) (from j : ℕ) : Type 0 where
 
 -- from each of the nodes they lead where the last man, a pawn, goes in the class
 pub record TellsPushes (c : ℕ) (spread : Spread) (first nodes : ℕ) (pushes : WordPushes) : Type 0 where
-  pub goes : (k j : ℕ) (p : Setup) → IsPlacedIn c spread.base first nodes k p → ¬ IsVoid c j → GoesPushed places k j pushes ↔ (TellsLast spread × GoesAhead c p (k + 8) j)
-  pub fit : FitsPushes places pushes
-  pub word : pushes.word < words_of places (size_of c)
+  pub goes : (k j : ℕ) (p : Setup) → IsPlacedIn c spread.base first nodes k p → ¬ IsVoid c j → GoesPushed (places c) k j pushes ↔ (IsSome spread.pusher × GoesAhead c p (k + least c) j)
+  pub fit : FitsPushes (places c) pushes
+  pub word : pushes.word < words_of (places c) (size_of c)
 
--- at the places of `staying` no move of the last man, a pawn, leaves the class, if each man whom he takes stands on one of the squares of `foes`
-abbrev pub StaysWithLast : (c : ℕ) → Spread → (first nodes staying : ℕ) → Type 0
-StaysWithLast c spread first nodes staying = (k : ℕ) (p q : Setup) (m : Move) → bit_at staying k ≡ 1 → IsPlacedIn c spread.base first nodes k p → TellsLast spread → m.from ≡ k + 8 → Leads p m q
+-- if the last man is told so, at the places of `staying` no move of his leaves the class where each man whom he takes stands on one of the squares of
+-- `foes`
+abbrev pub StaysWithLast : (Told : Type 0) (c : ℕ) → Spread → (first nodes staying : ℕ) → Type 0
+StaysWithLast Told c spread first nodes staying = (k : ℕ) (p q : Setup) (m : Move) → bit_at staying k ≡ 1 → IsPlacedIn c spread.base first nodes k p → Told → m.from ≡ k + least c → Leads p m q
     → (IsHeld p.men m.to (other_side p.side) → Has spread.foes m.to) → (i : ℕ) × IsIndex c q i

@@ -25,6 +25,8 @@ mod nodes;
 mod pawn_moves;
 mod quiet;
 pub mod ranks;
+mod roaming;
+mod shape;
 mod shelf_moves;
 mod shelves;
 mod sources;

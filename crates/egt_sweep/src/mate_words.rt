@@ -5,16 +5,16 @@ ghost use Rattle.egt_check.specs.Tables.{table_at};
 ghost use Rattle.egt_table.specs.declared.column.Column.TheVariants.{Mate};
 ghost use Rattle.egt_sweep.specs.ClassGame.{class_game, class_game_is_lawful};
 ghost use Rattle.egt_sweep.specs.Counts.{CountsMoves};
+ghost use Rattle.egt_sweep.specs.ShelfMoves.{places};
 
 use crate::aim::Aim;
 use crate::class_words::ClassWords;
 use crate::exits::start_exits;
 use crate::laws::{laws, moves_alternate};
 use crate::mate_game::MateGame;
-use crate::word_places::PLACES;
 use arrayvec::ArrayVec;
 use egt_graph::{
-    Count, Exit, Game, Ranks, Shelved, SolveFault, Start, WordStart, lead_by, solve_and_count,
+    Count, Exit, Game, Ranks, Shelved, SolveFault, Start, WordStart, solve_and_count,
     solve_by_words,
 };
 use std::alloc::Global;
@@ -68,17 +68,17 @@ impl Game for MateWords<'_> {
 }
 
 impl Shelved for MateWords<'_> {
-    ghost span = { λ g. 48 };
+    ghost span = { λ g. places g.game.now.class };
 
     fn span(&self) -> u32 {
-        PLACES
+        self.words.places()
     }
 
-    /// The last digit of an index tells the side to move.
+    /// The last digit of an index tells the side to move where the sides differ; of a class with one pawn they do.
     fn alternates(&self) -> bool {
         laws();
         moves_alternate();
-        true
+        self.words.shape.is_pawn()
     }
 
     /// Where no move leaves the class there is no exit.
@@ -97,14 +97,7 @@ impl Shelved for MateWords<'_> {
     fn lead_to(&self, word: u32, asked: u64, marks: &[u64]) -> u64 {
         laws();
         let moves = self.words.moves(word);
-        lead_by(
-            PLACES,
-            moves.ways,
-            moves.turned,
-            &Some(moves.pushes),
-            asked,
-            marks,
-        )
+        moves.lead(self.words.places(), &Some(moves.pushes), asked, marks)
     }
 }
 

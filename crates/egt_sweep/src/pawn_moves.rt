@@ -6,7 +6,6 @@ ghost use Rattle.egt_board.specs.SquareSet.{Has};
 ghost use Rattle.egt_check.specs.Pusher.{IsPusher};
 ghost use Rattle.egt_index.specs.Shelf.{IsAlikeIndex};
 ghost use Rattle.egt_sweep.specs.PawnMoves.{AreSameAt, IsPawnTold, IsToldAt, goes_up};
-ghost use Rattle.egt_sweep.specs.ShelfMoves.{places};
 
 use egt_board::{Side, Square, SquareSet};
 use egt_check::{Pusher, Pushes};
@@ -34,7 +33,7 @@ pub(crate) fn goes_up(side: Side) -> bool
 }
 
 /// Whether the set has a square.
-fn has_square(set: SquareSet) -> bool
+pub(crate) fn has_square(set: SquareSet) -> bool
     ensures some { result ≡ true → (t : ℕ) × Has set t }
     ensures all { (t : ℕ) → Has set t → result ≡ true }
 {

@@ -14,12 +14,11 @@ use crate::aim::Aim;
 use crate::class_words::ClassWords;
 use crate::exits::start_exits;
 use crate::laws::{laws, moves_alternate};
-use crate::word_places::PLACES;
 use crate::zero_game::ZeroGame;
 use arrayvec::ArrayVec;
 use egt_graph::{
-    Exit, Game, Ranks, Shelved, SolveFault, Start, WordStart, lead_by, lead_by_pushes, number_at,
-    solve, solve_by_words, words_of,
+    Exit, Game, Ranks, Shelved, SolveFault, Start, WordStart, lead_by_pushes, number_at, solve,
+    solve_by_words, words_of,
 };
 use std::alloc::{AllocError, Global};
 
@@ -32,8 +31,8 @@ pub(crate) struct ZeroWords<'l> {
     /// Those that are not won.
     pub(crate) unwon: Vec<u64>,
     ghost same: { words.now.class ≡ game.now.class },
-    ghost lost_are: { AreOddMarks (words_of places (size_of game.now.class)) 1 game.now.mates.now lost.items },
-    ghost unwon_are: { AreOddMarks (words_of places (size_of game.now.class)) 0 game.now.mates.now unwon.items },
+    ghost lost_are: { AreOddMarks (places game.now.class) (words_of (places game.now.class) (size_of game.now.class)) 1 game.now.mates.now lost.items },
+    ghost unwon_are: { AreOddMarks (places game.now.class) (words_of (places game.now.class) (size_of game.now.class)) 0 game.now.mates.now unwon.items },
 }
 
 /// Is the entry odd and above so much: not won above 0, lost above 1?
@@ -47,12 +46,13 @@ fn is_odd_above(above: u16, entries: &[u16], i: usize) -> bool
 }
 
 /// The marks of the word's numbers with such entries.
-fn odd_in(above: u16, entries: &[u16], word: u32) -> u64
-    ensures { AreOddAbove above entries.now word result }
+fn odd_in(span: u32, above: u16, entries: &[u16], word: u32) -> u64
+    requires { span ≤ 64 }
+    ensures { AreOddAbove span above entries.now word result }
 {
     let mut marks = 0;
-    for place in 0..PLACES {
-        if is_odd_above(above, entries, number_at(PLACES, word, place)) {
+    for place in 0..span {
+        if is_odd_above(above, entries, number_at(span, word, place)) {
             marks |= 1 << place;
         }
     }
@@ -60,12 +60,21 @@ fn odd_in(above: u16, entries: &[u16], word: u32) -> u64
 }
 
 /// The marks of all words of so many numbers.
-fn odd_marks(alloc: Global, above: u16, entries: &[u16], size: u32) -> Result<Vec<u64>, AllocError>
-    ensures { IfOk result (λ marks. AreOddMarks (words_of places size) above entries.now marks.items) }
+fn odd_marks(
+    alloc: Global,
+    span: u32,
+    above: u16,
+    entries: &[u16],
+    size: u32,
+) -> Result<Vec<u64>, AllocError>
+    requires some { 0 < span }
+    requires few { span ≤ 64 }
+    ensures { IfOk result (λ marks. AreOddMarks span (words_of span size) above entries.now marks.items) }
 {
-    let mut marks = vec![in alloc; 0; words_of(PLACES, size)]?;
-    for word in 0..words_of(PLACES, size) {
-        marks[word] = odd_in(above, entries, word as u32);
+    let words = words_of(span, size);
+    let mut marks = vec![in alloc; 0; words]?;
+    for word in 0..words {
+        marks[word] = odd_in(span, above, entries, word as u32);
     }
     Ok(marks)
 }
@@ -80,8 +89,9 @@ impl<'l> ZeroWords<'l> {
         ensures { IfOk result (λ made. made.game.now ≡ game.now) }
     {
         let entries = game.mates.entries();
-        let lost = odd_marks(alloc, 1, entries, game.size())?;
-        let unwon = odd_marks(alloc, 0, entries, game.size())?;
+        let span = words.places();
+        let lost = odd_marks(alloc, span, 1, entries, game.size())?;
+        let unwon = odd_marks(alloc, span, 0, entries, game.size())?;
         Ok(ZeroWords {
             game,
             words,
@@ -134,30 +144,31 @@ impl Game for ZeroWords<'_> {
 }
 
 impl Shelved for ZeroWords<'_> {
-    ghost span = { λ g. 48 };
+    ghost span = { λ g. places g.game.now.class };
 
     fn span(&self) -> u32 {
-        PLACES
+        self.words.places()
     }
 
-    /// The last digit of an index tells the side to move.
+    /// The last digit of an index tells the side to move where the sides differ; of a class with one pawn they do.
     fn alternates(&self) -> bool {
         laws();
         moves_alternate();
-        true
+        self.words.shape.is_pawn()
     }
 
     /// Where no move leaves the class those that zero are the pawn's, and the mate ranks say of each where it leads.
     fn start_of(&self, word: u32) -> WordStart {
         laws();
+        let span = self.words.places();
         let told = self.words.staying(word);
         let pushes = self.words.moves(word).pushes;
         WordStart {
             nodes: self.words.nodes(word),
             told,
-            leaving: lead_by_pushes(PLACES, &pushes, told, self.words.all_nodes()),
-            lost: lead_by_pushes(PLACES, &pushes, told, &self.lost),
-            held: lead_by_pushes(PLACES, &pushes, told, &self.unwon),
+            leaving: lead_by_pushes(span, &pushes, told, self.words.all_nodes()),
+            lost: lead_by_pushes(span, &pushes, told, &self.lost),
+            held: lead_by_pushes(span, &pushes, told, &self.unwon),
         }
     }
 
@@ -165,7 +176,7 @@ impl Shelved for ZeroWords<'_> {
     fn lead_to(&self, word: u32, asked: u64, marks: &[u64]) -> u64 {
         laws();
         let moves = self.words.moves(word);
-        lead_by(PLACES, moves.ways, moves.turned, &None, asked, marks)
+        moves.lead(self.words.places(), &None, asked, marks)
     }
 }
 

@@ -15,9 +15,9 @@ returns-then-spread-clause-quiet c k t one reaches foe =
     elim foe [
       | inl still ↦ both _ _ _ (c.common.ensures.squares t) (c.if-not-is_empty.ensures.0 refl t) has still
       | inr last ↦
-          let bit : bit_at (c.reach_of-reach.result.bits / 2 ^ 8) k ≡ 1 = moved_bit c.reach_of-reach.result.bits 8 k ∙ ap (bit_at c.reach_of-reach.result.bits) (sym (last.1 ∙ turned k)) ∙ has in
+          let bit : bit_at (c.reach_of-reach.result.bits / 2 ^ c.least.result) k ≡ 1 = moved_bit c.reach_of-reach.result.bits c.least.result k ∙ ap (bit_at c.reach_of-reach.result.bits) (sym (last.1 ∙ turned k _ _ c.least.ensures.is)) ∙ has in
           lacks _ _ _ (c.without.ensures.squares k) one bit
     ]
   where
-    turned : (k : ℕ) → k + 8 ≡ 8 + k
-    turned k = omega arith
+    turned : (k shift least : ℕ) → shift ≡ least → k + least ≡ shift + k
+    turned k shift least e = omega (arith, e)

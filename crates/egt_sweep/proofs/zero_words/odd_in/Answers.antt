@@ -1,7 +1,6 @@
 use Rattle.std.proofs.Common.{◌≡◌, ◌<◌, ℕ, slice_index, sym, ap, subst, arith}
 use Rattle.std.proofs.lemmas.Bool.{both_ways}
 use Rattle.egt_graph.specs.Words.{number_at}
-use Rattle.egt_sweep.specs.ShelfMoves.{places}
 use Rattle.egt_sweep.specs.WordGames.{IsOddAbove}
 use Rattle.egt_sweep.proofs.WordGames.{gathers_none, gathers_set, gathers_kept}
 use Rattle.egt_sweep.proofs.zero_words.odd_in.Goals as goal
@@ -10,12 +9,12 @@ use Rattle.egt_sweep.proofs.zero_words.odd_in.Goals.{then-is_odd_above, else-is_
 pub loop-place-preserved : goal.loop-place-preserved
 loop-place-preserved c =
     let entries = c.args.entries.now in
-    let P : ℕ → Type 0 = λ k. IsOddAbove c.args.above (slice_index entries (number_at places c.args.word k)) in
+    let P : ℕ → Type 0 = λ k. IsOddAbove c.args.above (slice_index entries (number_at c.args.span c.args.word k)) in
     let place_in = c.loop-place-test.true in
     let at = c.number_at.ensures.is in
     elim c.if-is_odd_above.branch [
       | then-is_odd_above w ↦
-          rw w.marks-is (gathers_set P c.loop-place.place c.loop-place.marks (omega (arith, place_in))
+          rw w.marks-is (gathers_set P c.loop-place.place c.loop-place.marks (let few = c.requires in omega (arith, place_in, few))
           (subst (λ (i : ℕ). IsOddAbove c.args.above (slice_index entries i)) at (c.is_odd_above.ensures.0 w.if-is_odd_above.true)) c.loop-place.invariant)
       | else-is_odd_above w ↦
           rw w.marks-is (gathers_kept P c.loop-place.place c.loop-place.marks

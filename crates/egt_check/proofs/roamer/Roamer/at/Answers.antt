@@ -1,5 +1,6 @@
 use Rattle.std.proofs.Common.{◌≡◌, ◌+◌, ap, ◌∙◌, arith}
 use Rattle.egt_board.proofs.Bits.{bit_at-within}
+use Rattle.egt_check.proofs.Attacking.{goes_free_if}
 use Rattle.egt_check.proofs.Roaming.{among, is_roaming, men_are, stands}
 use Rattle.egt_check.proofs.roamer.Roamer.at.Goals as goal
 
@@ -38,3 +39,7 @@ returns-clause-roaming c = λ class base p is alike.
     let men = men_are p roamer from there (among facts keeps law class base c.args.k p roamer is alike from here) all c.with-all.ensures.same c.with-all.ensures.others in
     is_roaming facts keeps law class base c.args.k p roamer is alike from here all reach c.without.result men c.reach_past-reach.ensures.reached c.without.ensures.squares
     (λ t has. bit_at-within reach.bits t (omega arith) has)
+
+pub returns-clause-free : goal.returns-clause-free
+returns-clause-free c t = goes_free_if c.args.self.now.held c.with-all.result c.at-from.result c.with-all.ensures.same c.with-all.ensures.others c.args.self.now.man c.reach_past-reach.result c.without.result c.reach_past-reach.ensures.reached
+    c.without.ensures.squares (λ u has. bit_at-within c.reach_past-reach.result.bits u (omega arith) has) t

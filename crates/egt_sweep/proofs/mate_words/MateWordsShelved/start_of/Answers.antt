@@ -9,5 +9,5 @@ returns c =
     let game = c.args.self.now in
     let words = game.words.now in
     rw (c.nodes.ensures, c.staying.ensures)
-    (mate_start c.laws.ensures words.class game.game.now.class c.args.word (nodes_in words c.args.word) (staying_in words c.args.word) (class_below words.class game.game.now.class words.lists words.told game.same) game.same (table_at game.game.now.library.now)
-    (word_told words.class game.game.now.class words.lists words.told game.same c.args.word c.requires))
+    (mate_start c.laws.ensures words.class game.game.now.class c.args.word (nodes_in words c.args.word) (staying_in words c.args.word) (class_below words.class game.game.now.class words.shape words.lists words.told game.same) game.same (table_at game.game.now.library.now)
+    (word_told words.class game.game.now.class words.shape words.lists words.told game.same c.args.word c.requires))

@@ -4,6 +4,7 @@ use Rattle.egt_check.specs.declared.fan.Led.{Led}
 use Rattle.egt_check.specs.declared.fan.Way.{Way}
 use Rattle.egt_graph.specs.declared.word_moves.TurnedWay.{TurnedWay}
 use Rattle.egt_graph.specs.declared.word_moves.Way.{Way as WordWay}
+use Rattle.egt_sweep.specs.ShelfMoves.{places}
 use Rattle.egt_sweep.specs.WordParts.{AddsLeds, AddsWays, TurnsFit, WaysFit}
 use Rattle.egt_sweep.specs.declared.shelf_moves.ShelfMoves.{ShelfMoves}
 use Rattle.egt_sweep.proofs.WordFans.{fan_added}
@@ -30,9 +31,9 @@ returns-then-add_ways-clause-goes c told k j p placed some =
     let fan = c.args.fan.now in
     let old = c.args.self.now in
     let new = c.add_turns.new.self in
-    let ways : AddsWays first fan.ways.items old.ways.items new.ways.items
-    = subst (λ (ws : List WordWay). AddsWays first fan.ways.items old.ways.items ws) (sym (ap (λ (s : ShelfMoves). s.ways.items) c.add_turns.ensures.same))
-    (subst (λ (xs : List Way). AddsWays first xs old.ways.items c.add_ways.new.self.ways.items) c.as_slice.ensures.value (c.if-add_ways.ensures.added refl)) in
+    let ways : AddsWays (places class) first fan.ways.items old.ways.items new.ways.items
+    = subst (λ (ws : List WordWay). AddsWays (places class) first fan.ways.items old.ways.items ws) (sym (ap (λ (s : ShelfMoves). s.ways.items) c.add_turns.ensures.same))
+    (subst (λ (xs : List Way). AddsWays (places class) first xs old.ways.items c.add_ways.new.self.ways.items) c.as_slice.ensures.value (c.if-add_ways.ensures.added refl)) in
     let leds : AddsLeds class base first nodes fan.from fan.leds.items old.turned.items new.turned.items
     = subst (λ (ts : List TurnedWay). AddsLeds class base first nodes fan.from fan.leds.items ts new.turned.items) (ap (λ (s : ShelfMoves). s.turned.items) c.add_ways.ensures.same)
     (subst (λ (xs : List Led). AddsLeds class base first nodes fan.from xs c.add_ways.new.self.turned.items new.turned.items) c.as_slice-then-add_ways.ensures.value (c.add_turns.ensures.added told)) in

@@ -1,11 +1,12 @@
 use Rattle.std.proofs.Common.{◌+◌, refl, ap, ◌∙◌, take, arith}
+use Rattle.egt_sweep.specs.ShelfMoves.{least}
 use Rattle.egt_sweep.specs.declared.shelf_moves.ShelfMoves.{ShelfMoves}
 use Rattle.egt_sweep.proofs.WordWays.{adds_more_leds, led_here, taken_here, taken_more}
 use Rattle.egt_sweep.proofs.shelf_moves.ShelfMoves.add_turns.Goals as goal
 
 pub add_turn-requires-clause-led : goal.add_turn-requires-clause-led
 add_turn-requires-clause-led c =
-    led_here c.args.class c.args.base c.args.from (c.args.first + 8) c.led-item.result (c.requires.leds c.led-item.result (taken_here c.args.leds.now c.loop-led.led-index c.led-item.result c.loop-led-test.true c.led-item.is))
+    led_here c.args.class c.args.base c.args.from (c.args.first + least c.args.class) c.led-item.result (c.requires.leds c.led-item.result (taken_here c.args.leds.now c.loop-led.led-index c.led-item.result c.loop-led-test.true c.led-item.is))
 
 pub loop-led-preserved : goal.loop-led-preserved
 loop-led-preserved c =

@@ -1,14 +1,7 @@
-use Rattle.std.proofs.Common.{◌<◌, subst}
-use Rattle.egt_sweep.proofs.LaidWords.{placed_some, pushes_told, stays_told}
+use Rattle.std.proofs.Common.{refl}
+use Rattle.egt_sweep.proofs.ToldWords.{stays_with_either}
 use Rattle.egt_sweep.proofs.shelf_moves.ShelfMoves.tell_last.Goals as goal
 
-pub tell_pawn-requires-clause-at : goal.tell_pawn-requires-clause-at
-tell_pawn-requires-clause-at c = placed_some c.laws.ensures c.args.class c.args.word c.args.nodes c.args.first c.args.spread.now (subst (λ n. n < 36) c.number-number.ensures.value c.number-number.ensures.below) c.requires.targets c.requires.laid
-
-pub returns-in-Some-clause-pushes : goal.returns-in-Some-clause-pushes
-returns-in-Some-clause-pushes c told =
-    pushes_told c.laws.ensures c.args.class c.args.word c.args.nodes c.args.first c.args.spread.now (subst (λ n. n < 36) c.number-number.ensures.value c.number-number.ensures.below) c.requires.targets c.requires.laid c.in-Some.pusher c.in-Some.is _ _ _ (c.tell_pawn.ensures.adds told) c.requires.word
-
-pub returns-in-Some-clause-stays : goal.returns-in-Some-clause-stays
-returns-in-Some-clause-stays c told =
-    stays_told c.laws.ensures c.args.class c.args.word c.args.nodes c.args.first c.args.spread.now (subst (λ n. n < 36) c.number-number.ensures.value c.number-number.ensures.below) c.requires.targets c.requires.laid c.in-Some.pusher c.in-Some.is _ _ _ (c.tell_pawn.ensures.adds told)
+pub returns-then-tell_last_pawn-clause-stays : goal.returns-then-tell_last_pawn-clause-stays
+returns-then-tell_last_pawn-clause-stays c told =
+    stays_with_either c.args.class c.args.spread.now c.args.first c.args.nodes _ _ (c.tell_last_piece.ensures.staying told) (c.if-tell_last_pawn.ensures.stays refl) (c.tell_last_piece.ensures.stays told)

@@ -6,4 +6,4 @@ pub returns : goal.returns
 returns c =
     let game = c.args.self.now in
     let words = game.words.now in
-    λ is i j node has. out_alternates c.laws.ensures c.moves_alternate.ensures Zeroing words.class game.game.now.class words.lists words.told game.same i j has
+    λ is i j node has. out_alternates c.laws.ensures c.moves_alternate.ensures Zeroing words.class game.game.now.class words.shape words.lists words.told (c.is_pawn.ensures is) game.same i j has

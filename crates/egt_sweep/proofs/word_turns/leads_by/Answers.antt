@@ -1,5 +1,5 @@
 use Rattle.std.proofs.Common.{inl, inr, arith}
-use Rattle.egt_sweep.proofs.word_turns.leads_to_word.Goals as goal
+use Rattle.egt_sweep.proofs.word_turns.leads_by.Goals as goal
 
 pub returns : goal.returns
 returns c told k p placed = elim (c.loop-place.invariant.leads k p placed) [
