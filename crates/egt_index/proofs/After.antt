@@ -26,6 +26,7 @@ use Rattle.egt_index.specs.Facts.{Facts}
 use Rattle.egt_index.specs.Picked.{AreCounted, Picks, Goes}
 use Rattle.egt_index.specs.Size.{king_base, base_of, men_beside, has_pawns, has_target}
 use Rattle.egt_index.specs.Spelled.{IsListed, Tells}
+use Rattle.egt_index.specs.StepCodes.{turned_stand}
 use Rattle.egt_index.specs.Stood.{Entry, men_among, rest_of, list_of, IsOff, AllStand, Stood, entry_after, IsInOrder, IsOrdered, IsStandAfter, HasDigit}
 use Rattle.egt_index.specs.Turns.{IsTurn, TurnCode}
 use Rattle.egt_index.specs.declared.stand.Stand.{Stand}
@@ -135,6 +136,16 @@ stood_after c n flips p q before after n_in set stood is = record {
       (subst (λ b. AllStand false q.men ((king_of White, turned_square n flips before.white) ∷ (king_of Black, b) ∷ map (turn_one n flips) (option_to_list before.next ++ option_to_list before.last))) (sym is.black)
       (all_after n flips p q (list_of before) n_in set stood.all))));
 }
+
+-- where a symmetry takes the men of a stand, each in his place
+pub stood_turned : (c n : ℕ) (p q : Setup) (stand : Stand) → n < 8 → IsSetBy n false p q → Stood c false p.men (list_of stand) → Stood c false q.men (list_of (turned_stand n stand))
+stood_turned c n p q stand n_in set stood = record {
+  are = ap men_among (sym list_is) ∙ turned_men n false (list_of stand) ∙ stood.are;
+  all = subst (AllStand false q.men) list_is (all_after n false p q (list_of stand) n_in set stood.all);
+}
+  where
+    list_is : map (turn_one n false) (list_of stand) ≡ list_of (turned_stand n stand)
+    list_is = ap (λ l. (king_of White, turned_square n false stand.white) ∷ (king_of Black, turned_square n false stand.black) ∷ l) (both_to_list n false stand.next stand.last)
 
 still : (f : Bool) (men : Placement) (s : ℕ) (list : List (Man × ℕ)) → IsOff list s → AllStand f men list → AllStand f (placement.remove men s) list
 still f men s [] off all = tt

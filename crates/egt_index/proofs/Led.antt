@@ -29,6 +29,7 @@ use Rattle.egt_index.specs.Scales.{AreEqual, AreScales, IsOn, code_by, man_at}
 use Rattle.egt_index.specs.Shelf.{IsAlikeIndex, without_ends}
 use Rattle.egt_index.specs.Size.{has_pawns, has_target, king_base, men_beside}
 use Rattle.egt_index.specs.Spelled.{Ends, SpellsMen, Tells}
+use Rattle.egt_index.specs.StepCodes.{turned_stand}
 use Rattle.egt_index.specs.Stood.{AllApart, Entry, HasDigit, HasStand, IsOff, IsStandAfter, Stood, entry_after, list_of, men_among, rest_of}
 use Rattle.egt_index.specs.Turns.{CodeAfter}
 use Rattle.egt_index.specs.Ways.{IsPaired, LineFits, code_with, line_code, sum_code}
@@ -66,17 +67,17 @@ unfolding all_below inverse
 all_undone true = refl
 all_undone false = refl
 
-undone : (pawns : Bool) (n : ℕ) → n < symmetries pawns → inverse n < symmetries pawns
+pub undone : (pawns : Bool) (n : ℕ) → n < symmetries pawns → inverse n < symmetries pawns
 undone pawns n n_in = ltb-true _ _ (passes_below (λ n. ltb (inverse n) (symmetries pawns)) (symmetries pawns) n (all_undone pawns) n_in)
 
-eight : (pawns : Bool) (n : ℕ) → n < symmetries pawns → n < 8
+pub eight : (pawns : Bool) (n : ℕ) → n < symmetries pawns → n < 8
 eight true n n_in = omega arith
 eight false n n_in = n_in
 
 on_board_after : (n s : ℕ) → n < 8 → s < 64 → turned_square n false s < 64
 on_board_after n s n_in s_in = (went_back n false s n_in s_in).0
 
-back_again : (n s : ℕ) → n < 8 → s < 64 → s ≡ turned_square (inverse n) false (turned_square n false s)
+pub back_again : (n s : ℕ) → n < 8 → s < 64 → s ≡ turned_square (inverse n) false (turned_square n false s)
 unfolding back
 back_again n s n_in s_in = sym (went_back n false s n_in s_in).1
 
@@ -84,7 +85,7 @@ entry_below : (n : ℕ) (e : Entry) → n < 8 → IfSome e (λ e. e.1 < 64) → 
 entry_below n None n_in e_in = tt
 entry_below n (Some e) n_in e_in = on_board_after n e.1 n_in e_in
 
-entry_back : (n : ℕ) (e : Entry) → n < 8 → IfSome e (λ e. e.1 < 64) → e ≡ entry_after (inverse n) false (entry_after n false e)
+pub entry_back : (n : ℕ) (e : Entry) → n < 8 → IfSome e (λ e. e.1 < 64) → e ≡ entry_after (inverse n) false (entry_after n false e)
 entry_back n None n_in e_in = refl
 entry_back n (Some e) n_in e_in = ap (λ s. Some (e.0, s)) (back_again n e.1 n_in e_in)
 
@@ -112,10 +113,6 @@ has_digit p n (Some e) keeps e_in there may = ((λ king. there.1 (ap (λ (man : 
 -- men after the white king went
 abbrev with_white : ℕ → Stand → Stand
 with_white to s = record { white = to; black = s.black; next = s.next; last = s.last }
-
--- where a symmetry takes them
-abbrev turned_stand : ℕ → Stand → Stand
-turned_stand n s = record { white = turned_square n false s.white; black = turned_square n false s.black; next = entry_after n false s.next; last = entry_after n false s.last }
 
 beside_listed : (n : ℕ) (x y : Entry) → men_among (option_to_list (entry_after n false x) ++ option_to_list (entry_after n false y)) ≡ men_among (option_to_list x ++ option_to_list y)
 beside_listed n None None = refl

@@ -60,7 +60,9 @@ pub mod Shifted
 pub mod LastMan
 pub mod Opposed
 pub mod Led
+pub mod StepCodes
 pub mod ByMen
 pub mod WholeRows
 pub mod Facing
 pub mod Placing
+pub mod ShelfCodes

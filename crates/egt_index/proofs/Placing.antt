@@ -12,7 +12,7 @@ use Rattle.egt_board.specs.Listed.{men_of, setup_of}
 use Rattle.egt_board.specs.Man.{other_side}
 use Rattle.egt_board.specs.Placement.{Placement, Stands, IsFree, get-insert_other}
 use Rattle.egt_board.specs.Safety.{IsKeptFrom}
-use Rattle.egt_board.specs.Setup.{IsAdmissible}
+use Rattle.egt_board.specs.Setup.{Setup, IsAdmissible}
 use Rattle.egt_board.specs.declared.man.Kind.{Kind}
 use Rattle.egt_board.specs.declared.man.Kind.TheVariants.{Q, R, B, N, P, K}
 use Rattle.egt_board.specs.declared.man.Man.{Man}
@@ -27,6 +27,7 @@ use Rattle.egt_index.specs.Places.{AreBitsOf, IsPlaced, TellsIndex, waiting}
 use Rattle.egt_index.specs.Row.{row_len}
 use Rattle.egt_index.specs.Scales.{AreEqual, digits_at, kind_digits, kind_less}
 use Rattle.egt_index.specs.Shelf.{last_of, shelf_len}
+use Rattle.egt_index.specs.ShelfCodes.{AreSpelled, SpellsNothing}
 use Rattle.egt_index.specs.Size.{base_by, has_target, man_of, men_beside}
 use Rattle.egt_index.specs.Spelled.{Ends, Splits, SpellsMen, Tells}
 use Rattle.egt_index.specs.Stood.{AllApart, Entry, IsInOrder, IsOff, list_of, with_last}
@@ -157,7 +158,7 @@ module _ (c high : ℕ) (man : Man) (c_in : c < 36) (none : has_target (material
   unfolding shelf_len
   len = ap (λ b. cond {A = ℕ} b 4 2 * digits_at (last_of (men_beside m))) none ∙ ap (λ (o : Option Man). 2 * digits_at o) last
 
-  tells : (k : ℕ) → k < kind_digits man.kind → TellsLast c (number k) high (entry k)
+  pub tells : (k : ℕ) → k < kind_digits man.kind → TellsLast c (number k) high (entry k)
   tells k below = λ pawns. subst (λ (o : Option Man). Tells pawns (number k) (option_to_list o) high ((man, square k) ∷ [])) (sym last) (tells_one pawns (number k) man high (square k) splits)
     where
       splits : Splits (number k) man high (square k)
@@ -171,7 +172,7 @@ module _ (c high : ℕ) (man : Man) (c_in : c < 36) (none : has_target (material
   twice : (a d : ℕ) → a * (2 * d) ≡ 2 * (a * d)
   twice a d = omega arith
 
-  ends : (k code : ℕ) (mover : Side) → code ≡ high * shelf_len c + side_number mover + 2 * k → Ends m code (number k) mover false
+  pub ends : (k code : ℕ) (mover : Side) → code ≡ high * shelf_len c + side_number mover + 2 * k → Ends m code (number k) mover false
   ends k code mover is = record {
     number_is = subst (λ b. code ≡ number_from (number k) (2 ∷ cond b (2 ∷ []) []) (side_number mover ∷ cond b (0 ∷ []) [])) (sym none) (doubled (side_number mover) is);
     never = λ e. refl;
@@ -212,16 +213,19 @@ module _ (c high : ℕ) (man : Man) (c_in : c < 36) (none : has_target (material
         (subst (λ s. IsAttacked (men_of (list_of stand)) s Black) ((kings_spelled c (number k) stand c_in men apart).white.only check.square check.stands) check.attacked)
 
     -- a position that the code spells has the last man where he may stand
-    void_unless : ¬ IsPlaced front man mover k → IsVoid c code
-    void_unless not = λ p ok index.
-        let setup = spelled_setup c code (number k) mover false (list_of stand) None index.image (ends k code mover code_is) men refl index.spells in
+    placed_where : (p : Setup) → Spells c code p → IsPlaced front man mover k
+    placed_where p spelled =
+        let setup = spelled_setup c code (number k) mover false (list_of stand) None p (ends k code mover code_is) men refl spelled in
         let apart = fits_apart (list_of stand) setup.0 in
-        let here : IsAdmissible (setup_of (list_of stand) mover None) = subst IsAdmissible setup.1 index.spells.admissible in
-        not (record {
+        let here : IsAdmissible (setup_of (list_of stand) mover None) = subst IsAdmissible setup.1 spelled.admissible in
+        record {
           below = below;
           free = subst (λ (men : Placement). IsFree men (square k)) (sym is.board) (free_before front.stand (entry k) is.before.no_last apart);
           kept = λ attacked. here.quiet (in_check apart mover attacked);
-        })
+        }
+
+    void_unless : ¬ IsPlaced front man mover k → IsVoid c code
+    void_unless not = λ p ok index. not (placed_where index.image index.spells)
 
     -- and where he may stand there is one
     module _ (on_board : (s : ℕ) (m : Man) → Stands front.board s m → s < 64) (placed : IsPlaced front man mover k) where
@@ -276,6 +280,24 @@ module _ (c high : ℕ) (man : Man) (c_in : c < 36) (none : has_target (material
         );
     voids = λ k lt zero. void_unless front is k (first + 2 * k) mover ((inside k first mover first_is).0 lt) (omega arith) (λ h. not_both (bit_at word k) zero ((placed k).1 h));
   }
+
+  -- the same of all codes that spell positions, whether they are least or not
+  pub spelled_behind : (front : Front) → IsFront c high front → ((s : ℕ) (m : Man) → Stands front.board s m → s < 64)
+      → (mover : Side) (first word : ℕ) → ((k : ℕ) → (bit_at word k ≡ 1) ↔ IsPlaced front man mover k) → first ≡ high * shelf_len c + side_number mover → AreSpelled c first (high * shelf_len c + shelf_len c) word
+  spelled_behind front is on_board mover first word placed first_is k = (
+    λ one.
+        let h = (placed k).0 one in
+        ((inside k first mover first_is).1 h.below, (_, spells front is k (first + 2 * k) mover h.below (omega arith) on_board h)),
+    λ there. (placed k).1 (placed_where front is k (first + 2 * k) mover ((inside k first mover first_is).0 there.0) (omega arith) there.1.0 there.1.1),
+  )
+
+  pub none_spelled : SpellsNothing c high → (mover : Side) (first : ℕ) → first ≡ high * shelf_len c + side_number mover → AreSpelled c first (high * shelf_len c + shelf_len c) 0
+  none_spelled nothing mover first first_is k = (
+    λ one. not_both (bit_at 0 k) (bit_at-zero k) one,
+    λ there.
+        let below = (inside k first mover first_is).0 there.0 in
+        absurd (nothing (number k) (entry k) (first + 2 * k) there.1.0 (tells k below) (row_number m (first + 2 * k) (number k) mover false (ends k (first + 2 * k) mover (omega arith))) there.1.1),
+  )
 
   pub bits_of_none : IsVoidFront c high → (mover : Side) (first : ℕ) → first ≡ high * shelf_len c + side_number mover → AreBitsOf c first (high * shelf_len c + shelf_len c) 0
   bits_of_none void mover first first_is = record {

@@ -85,11 +85,15 @@ ends_alike m code other side passed ends same = record { number_is = of_test (ha
     of_test true s f is same = omega arith
     of_test false s f is same = omega arith
 
--- where the row's number spells no men, no code of the row is an index
-pub void_row : (c n : ℕ) → SpellsNoMen (material_of c) n → IsVoidRow c n
-void_row c n none = λ code same p ok index.
+-- where the row's number spells no men, no code of the row spells a position
+pub nothing_in_row : (c n code : ℕ) (p : Setup) → SpellsNoMen (material_of c) n → code / row_len c ≡ n → Spells c code p → ⊥
+nothing_in_row c n code p none same spells =
     let ends = ends_there (material_of c) code in
-    no_men (material_of c) code (code / row_len c) ends.0 ends.1 index.image ends.2 (subst (SpellsNoMen (material_of c)) (sym same) none) index.spells
+    no_men (material_of c) code (code / row_len c) ends.0 ends.1 p ends.2 (subst (SpellsNoMen (material_of c)) (sym same) none) spells
+
+-- and none is an index
+pub void_row : (c n : ℕ) → SpellsNoMen (material_of c) n → IsVoidRow c n
+void_row c n none = λ code same p ok index. nothing_in_row c n code index.image none same index.spells
 
 -- what a position has that a code of the row spells
 module _ (c n code : ℕ) (stand : Stand) (p : Setup) (row : code / row_len c ≡ n) (men : SpellsMen (material_of c) n (list_of stand)) (s : Spells c code p) where

@@ -13,6 +13,9 @@ ghost use Rattle.egt_index.specs.Axis.{is_on_axis, StandsAlone};
 ghost use Rattle.egt_index.specs.Code.{Spells};
 ghost use Rattle.egt_index.specs.Index.{IsIndex, IsVoid, SettleAlike};
 ghost use Rattle.egt_index.specs.Size.{has_pawns, has_target, size_of};
+ghost use Rattle.egt_index.specs.StepCodes.{FollowsStep, IsStepCode, TellsMen};
+ghost use Rattle.egt_index.specs.Stood.{HasStand};
+ghost use Rattle.egt_index.specs.declared.stand.Stand.{Stand};
 
 use crate::facts::facts;
 
@@ -77,6 +80,15 @@ pub fn a_class_without_pawns_has_none()
 pub fn a_class_without_targets_has_pawns_of_one_side()
     ensures { (c : ℕ) (flipped : Bool) (p : Setup) → IsAdmissible p → IsOf c flipped p → has_target (material_of c) ≡ false →
         (side : Side) (s t : ℕ) → Stands p.men s (pawn_of side) → ¬ Stands p.men t (pawn_of (other_side side)) }
+{
+    facts();
+}
+
+/// The code that tells where a symmetry of the class takes the men, once one of them went to a free square, spells an image of the position then,
+/// and no other position; and what a code spells has the men that it tells.
+pub fn codes_follow_steps()
+    ensures follows { (c code n from to : ℕ) (p : Setup) → IsStepCode c code n from to p → FollowsStep c code from to p }
+    ensures stands { (c code : ℕ) (p : Setup) (stand : Stand) (side : Side) → Spells c code p → TellsMen c code stand side → HasStand c false stand side false p }
 {
     facts();
 }

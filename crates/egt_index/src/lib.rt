@@ -27,6 +27,7 @@ pub mod places;
 pub mod row;
 pub mod scales;
 pub mod shelf;
+pub mod shelf_codes;
 pub mod sizes;
 pub mod spelling;
 pub mod stand;
@@ -48,8 +49,9 @@ pub use opposite::Opposite;
 pub use places::Places;
 pub use row::{Row, Rows, begins_row, position, row_len, row_of};
 pub use shelf::{Shift, shelf_end, shelf_len};
+pub use shelf_codes::{ShelfMen, home_turn, positions_of, shelf_men, shelf_of};
 pub use sizes::size;
-pub use spelling::{frame_at, indexed, position_of};
+pub use spelling::{frame_at, indexed, position_of, spelled_position};
 pub use steps::Steps;
 pub use ways::{KingWay, Sum};
 

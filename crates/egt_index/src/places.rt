@@ -81,7 +81,7 @@ fn waiting(mover: Side, stand: &Stand) -> Square
 }
 
 /// The digits of the last man, as bits, where he makes a position with the men of the front and that side to move.
-fn places_of(front: &Front, man: Man, mover: Side) -> u64
+pub(crate) fn places_of(front: &Front, man: Man, mover: Side) -> u64
     ensures bits { (k : ℕ) → (bit_at result k ≡ 1) ↔ IsPlaced front.now man mover k }
     ensures on_board { (s : ℕ) (other : Man) → Stands front.now.board s other → s < 64 }
 {

@@ -17,9 +17,10 @@ ghost use Rattle.egt_index.specs.Front.{TellsLast, IsBefore, IsNoneBefore};
 ghost use Rattle.egt_index.specs.Home.{IsAtHome};
 ghost use Rattle.egt_index.specs.Index.{IsIndex, IsVoid};
 ghost use Rattle.egt_index.specs.Scales.{ends_of};
-ghost use Rattle.egt_index.specs.Size.{king_base, has_pawns};
+ghost use Rattle.egt_index.specs.Size.{king_base, has_pawns, has_target};
 ghost use Rattle.std.specs.Option.{option_to_list};
 ghost use Rattle.egt_index.specs.Spelled.{Splits, Tells, SpellsMen, SpellsNoMen, Ends, HasPawns, IsTold};
+ghost use Rattle.egt_index.specs.StepCodes.{TellsMen};
 ghost use Rattle.egt_index.specs.Stood.{AllApart, IsFilled, list_of, with_entry, HasStand};
 
 use crate::facts::facts;
@@ -324,4 +325,29 @@ pub fn frame_at(class: Class, index: u32) -> (Frame, bool)
     let (stand, side, passed) = stand_at(class, index);
     let total = without_ends(has_target(class), index);
     (Frame::with_total(class, &stand, side, total), passed)
+}
+
+/// Where the men stand of the position that the code of a class without targets spells, and the side to move.
+fn spelled_stand(class: Class, code: u32) -> (Stand, Side)
+    requires targets { has_target (material_of class) ≡ false }
+    requires spells { (p : Setup) × Spells class code p }
+    ensures tells { TellsMen class code result.0 result.1 }
+    ensures home { IsAtHome (has_pawns (material_of class)) result.0.white }
+{
+    let _number = class.number();
+    let (number, side, _passed) = ends(class, code);
+    let stand = stand_on(class, number).unwrap();
+    (stand, side)
+}
+
+/// The position that the code of a class without targets spells, where the caller knows that it spells one.
+pub fn spelled_position(class: Class, code: u32) -> Position
+    requires targets { has_target (material_of class) ≡ false }
+    requires spells { (p : Setup) × Spells class code p }
+    ensures { Spells class code result }
+{
+    let _number = class.number();
+    let (stand, side) = spelled_stand(class, code);
+    let board = board_of(&stand);
+    Position::with_kings(board, side, None, stand.white, stand.black)
 }

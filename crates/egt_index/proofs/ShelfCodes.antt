@@ -1,0 +1,140 @@
+-- The men of a shelf's codes.
+use Rattle.std.proofs.Common.{◌≡◌, ◌≢◌, ℕ, ◌+◌, ◌-◌, ◌*◌, ◌/◌, ◌<◌, ◌≤◌, Bool, false, cond, List, [], ◌∷◌, ◌++◌, Option, Some, None, IfSome, arith, refl, sym, ap, ◌∙◌, subst}
+use Rattle.std.specs.Option.{option_to_list}
+use Rattle.egt_board.specs.Attack.{king_of}
+use Rattle.egt_board.specs.Images.{side_number}
+use Rattle.egt_board.specs.Pawn.{MayStand}
+use Rattle.egt_board.specs.declared.man.Kind.{Kind}
+use Rattle.egt_board.specs.declared.man.Kind.TheVariants.{Q, R, B, N, P, K}
+use Rattle.egt_board.specs.declared.man.Man.{Man}
+use Rattle.egt_board.specs.declared.man.Side.{Side}
+use Rattle.egt_board.specs.declared.man.Side.TheVariants.{White, Black}
+use Rattle.egt_class.specs.Material.{Material, material_of}
+use Rattle.egt_index.specs.Code.{king_square}
+use Rattle.egt_index.specs.Front.{IsBefore}
+use Rattle.egt_index.specs.Scales.{kind_digits, kind_less}
+use Rattle.egt_index.specs.Shelf.{last_of, shelf_len}
+use Rattle.egt_index.specs.ShelfCodes.{AreMenOf, IsShelf, code_in, stand_with}
+use Rattle.egt_index.specs.Size.{has_pawns, has_target, king_base, men_beside, men_in_order}
+use Rattle.egt_index.specs.Spelled.{Ends, SpellsMen, Tells}
+use Rattle.egt_index.specs.StepCodes.{TellsMen}
+use Rattle.egt_index.specs.Stood.{Entry, list_of, men_among, rest_of, with_last}
+use Rattle.egt_index.specs.declared.shelf_codes.ShelfMen.{ShelfMen}
+use Rattle.egt_index.specs.declared.stand.Stand.{Stand}
+use Rattle.egt_index.proofs.Opposed.{may_stand}
+use Rattle.egt_index.proofs.Placing.{ends, len, tells, within}
+use Rattle.egt_index.proofs.Scaled.{number_on, number_told}
+use Rattle.egt_index.proofs.Setups.{men_spelled}
+use Rattle.egt_index.proofs.Splitting.{spells_men}
+
+twice_within : (kind : Kind) → kind_digits kind + 2 * kind_less kind ≤ 64
+twice_within Q = omega arith
+twice_within R = omega arith
+twice_within B = omega arith
+twice_within N = omega arith
+twice_within P = omega arith
+twice_within K = omega arith
+
+module _ (c high : ℕ) (men : ShelfMen) (c_in : c < 36) (none : has_target (material_of c) ≡ false) (last : last_of (men_beside (material_of c)) ≡ Some men.last) (other : men.last ≢ king_of White) where
+  -- a code tells the men where the digits of the men do
+  told_code : (side : Side) (digit : ℕ) → digit < kind_digits men.last.kind → SpellsMen (material_of c) (high * kind_digits men.last.kind + digit) (list_of (stand_with men (digit + kind_less men.last.kind)))
+      → TellsMen c (code_in c high side digit) (stand_with men (digit + kind_less men.last.kind)) side
+  told_code side digit below spells = record {
+    number = high * kind_digits men.last.kind + digit;
+    men = spells;
+    filled = λ e. absurd (cc);
+    ends = ends c high men.last c_in none last other digit (code_in c high side digit) side refl;
+  }
+
+  -- the men who are found before the last one
+  module _ (one_other : men.one ∷ men.last ∷ [] ≡ men_beside (material_of c) → men.one ≢ king_of White) (stand : Stand) (before : IsBefore c high stand) (white : stand.white ≡ men.white) (black : stand.black ≡ men.black) (next : stand.next ≡ Some (men.one, men.on)) where
+    spelled : (digit : ℕ) → digit < kind_digits men.last.kind → SpellsMen (material_of c) (high * kind_digits men.last.kind + digit) (list_of (stand_with men (digit + kind_less men.last.kind)))
+    spelled digit below =
+        subst (λ (s : Stand). SpellsMen (material_of c) (high * kind_digits men.last.kind + digit) (list_of s)) same
+        (before.men (high * kind_digits men.last.kind + digit) (Some (men.last, digit + kind_less men.last.kind)) (tells c high men.last c_in none last other digit below))
+      where
+        same : with_last stand (Some (men.last, digit + kind_less men.last.kind)) ≡ stand_with men (digit + kind_less men.last.kind)
+        same =
+            ap (λ (s : ℕ). record { white = s; black = stand.black; next = stand.next; last = Some (men.last, digit + kind_less men.last.kind) }) white
+            ∙ ap (λ (s : ℕ). record { white = men.white; black = s; next = stand.next; last = Some (men.last, digit + kind_less men.last.kind) }) black
+            ∙ ap (λ (e : Entry). record { white = men.white; black = men.black; next = e; last = Some (men.last, digit + kind_less men.last.kind) }) next
+
+    some : (man : Man) → 0 < kind_digits man.kind
+    some man = of man.kind
+      where
+        of : (kind : Kind) → 0 < kind_digits kind
+        of Q = omega arith
+        of R = omega arith
+        of B = omega arith
+        of N = omega arith
+        of P = omega arith
+        of K = omega arith
+
+    all_men : king_of White ∷ king_of Black ∷ men.one ∷ men.last ∷ [] ≡ men_in_order (material_of c)
+    all_men = men_spelled c (high * kind_digits men.last.kind + 0) (list_of (stand_with men (0 + kind_less men.last.kind))) (spelled 0 (some men.last))
+
+    rest : {a b : Man} {x y : List Man} → a ∷ x ≡ b ∷ y → x ≡ y
+    rest e = cc
+
+    pub shelf_before : IsShelf c high men
+    shelf_before = record {
+      men_of = record {
+        are = all_men;
+        one_beside = one_other (rest (rest all_men));
+        last_beside = other;
+      };
+      len = len c high men.last c_in none last other;
+      tells = λ side digit below. told_code side digit below (spelled digit below);
+    }
+
+  -- those of these squares
+  module _ (is_of : AreMenOf c men) (king digit : ℕ) (king_in : king < king_base (has_pawns (material_of c))) (king_is : king_square (has_pawns (material_of c)) king ≡ men.white) (black_in : men.black < 64) (on_in : men.on < 64)
+      (may : MayStand men.one men.on) (digit_is : digit ≡ men.on - kind_less men.one.kind) (high_is : high ≡ (king * 64 + men.black) * kind_digits men.one.kind + digit) where
+    tails : {a b : Man} {x y : List Man} → a ∷ x ≡ b ∷ y → x ≡ y
+    tails e = cc
+
+    spelled_on : (d : ℕ) → d < kind_digits men.last.kind → SpellsMen (material_of c) (high * kind_digits men.last.kind + d) (list_of (stand_with men (d + kind_less men.last.kind)))
+    spelled_on d below =
+        subst (λ n. SpellsMen (material_of c) n (list_of stand)) number
+        (spells_men (material_of c) (number_on king stand) king men.white (rest_of stand) king_in (sym king_is)
+        (subst (λ l. Tells (has_pawns (material_of c)) (number_on king stand) l king (rest_of stand)) (tails is_of.are)
+        (number_told (has_pawns (material_of c)) king stand (is_of.one_beside, may) (other, may_stand men.last (d + kind_less men.last.kind) (omega arith) (let twice = twice_within men.last.kind in omega (arith, below, twice))) black_in on_in (omega (arith, below, few)))))
+      where
+        stand : Stand
+        stand = stand_with men (d + kind_less men.last.kind)
+
+        few : kind_digits men.last.kind + kind_less men.last.kind ≤ 64
+        few = within men.last.kind
+
+        number : number_on king stand ≡ high * kind_digits men.last.kind + d
+        number =
+            let back : d + kind_less men.last.kind - kind_less men.last.kind ≡ d = omega arith in
+            ap (λ n. ((king * 64 + men.black) * kind_digits men.one.kind + (men.on - kind_less men.one.kind)) * kind_digits men.last.kind + n) back
+            ∙ ap (λ n. ((king * 64 + men.black) * kind_digits men.one.kind + n) * kind_digits men.last.kind + d) (sym digit_is)
+            ∙ ap (λ n. n * kind_digits men.last.kind + d) (sym high_is)
+
+    pub shelf_on : IsShelf c high men
+    shelf_on = record {
+      men_of = is_of;
+      len = len c high men.last c_in none last other;
+      tells = λ side d below. told_code side d below (spelled_on d below);
+    }
+
+-- the class's last man is theirs
+pub last_told : (c : ℕ) (men : ShelfMen) → AreMenOf c men → last_of (men_beside (material_of c)) ≡ Some men.last
+last_told c men is_of = sym (ap last_of (tails (tails is_of.are)))
+  where
+    tails : {a b : Man} {x y : List Man} → a ∷ x ≡ b ∷ y → x ≡ y
+    tails e = cc
+
+-- of the men beside the kings the first is none
+pub first_beside : (x y : Option Man) (one last : Man) (men : List Man) → option_to_list x ++ option_to_list y ≡ men → IfSome x (λ man. man ≢ king_of White) → (x ≡ None → y ≡ None) → one ∷ last ∷ [] ≡ men → one ≢ king_of White
+first_beside None y one last men are not none is = absurd (of y (none refl) are)
+  where
+    of : (o : Option Man) → o ≡ None → option_to_list o ≡ men → ⊥
+    of None e are = let h : [] ≡ one ∷ last ∷ [] = are ∙ sym is in cc
+    of (Some man) e are = cc
+first_beside (Some man) y one last men are not none is = λ same. not (heads (are ∙ sym is) ∙ same)
+  where
+    heads : {a b : Man} {x y : List Man} → a ∷ x ≡ b ∷ y → a ≡ b
+    heads e = cc

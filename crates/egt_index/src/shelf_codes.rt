@@ -1,0 +1,199 @@
+//! The men of a shelf of codes, of a class without targets: but for the last one they stand on the same squares in all of its codes. A code tells
+//! its men by their digits, whether it is the least for its position or not, so what is told here needs no comparison of codes.
+ghost use Rattle.std.specs.Prelude.{◌≡◌, ◌+◌, ◌-◌, ◌*◌, ◌/◌, ◌<◌, ℕ, Some, false, IfSome, IfNone};
+ghost use Rattle.egt_board.specs.Attack.{king_of};
+ghost use Rattle.egt_board.specs.Images.{side_number};
+ghost use Rattle.egt_board.specs.Pawn.{MayStand};
+ghost use Rattle.egt_board.specs.Setup.{Setup};
+ghost use Rattle.egt_board.specs.declared.man.Man.{Man};
+ghost use Rattle.egt_board.specs.declared.man.Side.TheVariants.{White};
+ghost use Rattle.egt_class.specs.Material.{material_of};
+ghost use Rattle.egt_index.specs.Code.{Spells};
+ghost use Rattle.egt_index.specs.Front.{IsFront, TellsLast};
+ghost use Rattle.egt_index.specs.Home.{symmetries};
+ghost use Rattle.egt_index.specs.Scales.{kind_digits, kind_less};
+ghost use Rattle.egt_index.specs.Shelf.{last_of, shelf_len};
+ghost use Rattle.egt_index.specs.ShelfCodes.{AreMenOf, ArePositions, IsShelf, IsWithin, SpellsNothing, moved_men, turned_men};
+ghost use Rattle.egt_index.specs.Size.{has_pawns, has_target, men_beside};
+ghost use Rattle.egt_index.specs.Row.{row_len};
+ghost use Rattle.egt_index.specs.Went.{moved_square};
+ghost use Rattle.egt_index.specs.Stood.{AllApart, Entry, list_of, with_last};
+
+use crate::digits::king_digit;
+use crate::front::Front;
+use crate::home::home;
+use crate::men::{beside, has_pawns};
+use crate::places::{Places, places_of};
+use crate::shelf::shelf_len;
+use crate::sizes::size;
+use crate::spelling::{board_of, stand_before};
+use crate::stand::{are_apart, are_kings_near};
+use crate::turning::turned_square;
+use egt_board::{Kind, Man, Side, Square};
+use egt_class::Class;
+
+/// Where the men of a shelf stand, and who its last man is, whose square is his digit's.
+#[derive(Clone, Copy)]
+pub struct ShelfMen {
+    pub white: Square,
+    pub black: Square,
+    /// The man beside the kings who stands still.
+    pub one: Man,
+    /// Where he stands.
+    pub on: Square,
+    pub last: Man,
+}
+
+/// The man on the square after the one on `from` went to `to`.
+fn moved(from: Square, to: Square, square: Square) -> Square
+    ensures { result ≡ moved_square from to square }
+{
+    if square == from { to } else { square }
+}
+
+/// The digit of a man beside the white king on the square. `None` of a pawn on the first rank or the last.
+fn digit_on(man: Man, square: Square) -> Option<u32>
+    ensures may { IfSome result (λ _. MayStand man square) }
+    ensures is { IfSome result (λ digit. digit ≡ square - kind_less man.kind) }
+    ensures below { IfSome result (λ digit. digit < 64) }
+{
+    let number = u32::from(square.number());
+    match man.kind {
+        Kind::P => {
+            if number < 8 || number >= 56 {
+                return None;
+            }
+            Some(number - 8)
+        }
+        _ => Some(number),
+    }
+}
+
+/// How many digits a man beside the white king has.
+fn digits_of(man: Man) -> u32
+    ensures is { result ≡ kind_digits man.kind }
+    ensures few { result < 65 }
+{
+    match man.kind {
+        Kind::P => 48,
+        _ => 64,
+    }
+}
+
+/// The men of the shelf with this number, of a class with two men beside the kings. `None` of other classes, and past the last shelf.
+pub fn shelf_men(class: Class, shelf: u32) -> Option<ShelfMen>
+    requires { has_target (material_of class) ≡ false }
+    ensures { IfSome result (IsShelf class shelf) }
+{
+    let _number = class.number();
+    let (_, last) = beside(class);
+    let last = last?;
+    let stand = stand_before(class, shelf)?;
+    let (one, on) = stand.next?;
+    Some(ShelfMen {
+        white: stand.white,
+        black: stand.black,
+        one,
+        on,
+        last,
+    })
+}
+
+/// The number of the shelf with these men. `None` where the white king is not at home, a pawn stands on the first rank or the last, and past the last
+/// shelf.
+pub fn shelf_of(class: Class, men: &ShelfMen) -> Option<u32>
+    requires targets { has_target (material_of class) ≡ false }
+    requires men { AreMenOf class men.now }
+    ensures shelf { IfSome result (λ shelf. IsShelf class shelf men.now) }
+    ensures within { IfSome result (IsWithin class) }
+{
+    let _number = class.number();
+    let _black = men.black.number();
+    let _on = men.on.number();
+    let high = king_digit(has_pawns(class), men.white)?;
+    let digit = digit_on(men.one, men.on)?;
+    let kings = u32::from(high) * 64 + u32::from(men.black.number());
+    let shelf = kings * digits_of(men.one) + digit;
+    if shelf < size(class) / shelf_len(class) {
+        Some(shelf)
+    } else {
+        None
+    }
+}
+
+/// A symmetry that keeps the class's play and brings the white king home, by its number.
+pub fn home_turn(class: Class, white: Square) -> u8
+    ensures { result < symmetries (has_pawns (material_of class)) }
+{
+    let _number = class.number();
+    home(has_pawns(class), false, white).0
+}
+
+impl ShelfMen {
+    /// The men where the symmetry takes them.
+    pub fn turned(&self, symmetry: u8) -> ShelfMen
+        requires { symmetry < 8 }
+        ensures { result ≡ turned_men symmetry self.now }
+    {
+        ShelfMen {
+            white: turned_square(symmetry, self.white),
+            black: turned_square(symmetry, self.black),
+            one: self.one,
+            on: turned_square(symmetry, self.on),
+            last: self.last,
+        }
+    }
+
+    /// The men after the one on `from` went to `to`.
+    pub fn moved(&self, from: Square, to: Square) -> ShelfMen
+        ensures { result ≡ moved_men from to self.now }
+    {
+        ShelfMen {
+            white: moved(from, to, self.white),
+            black: moved(from, to, self.black),
+            one: self.one,
+            on: moved(from, to, self.on),
+            last: self.last,
+        }
+    }
+}
+
+/// The men before the last one of the shelf, on a board of their own, whether codes are least or not. `None` where none of its codes spells a
+/// position.
+fn spelled_front(class: Class, shelf: u32) -> Option<Front>
+    ensures some { IfSome result (IsFront class shelf) }
+    ensures none { IfNone result (SpellsNothing class shelf) }
+{
+    let _number = class.number();
+    let stand = stand_before(class, shelf)?;
+    if are_kings_near(&stand) {
+        return None;
+    }
+    if !are_apart(&stand) {
+        return None;
+    }
+    let board = board_of(&stand);
+    Some(Front {
+        stand,
+        board,
+        tied: true,
+    })
+}
+
+/// Which codes of the shelf spell positions: bit `k` is of the code with the last man's digit `k`.
+pub fn positions_of(class: Class, shelf: u32) -> Places
+    requires targets { has_target (material_of class) ≡ false }
+    requires last { (man : Man) × (last_of (men_beside (material_of class)) ≡ Some man) }
+    ensures { ArePositions class shelf result }
+{
+    let _number = class.number();
+    let (_, last) = beside(class);
+    let man = last.unwrap();
+    let Some(front) = spelled_front(class, shelf) else {
+        return Places::default();
+    };
+    Places {
+        white: places_of(&front, man, Side::White),
+        black: places_of(&front, man, Side::Black),
+    }
+}
