@@ -60,7 +60,7 @@ king_bare F G s t (d ∷ ds) some = elim some [
   | inr rest ↦ inr (king_bare F G s t ds rest)
 ]
 
-king_reaches : (F G : ℕ → Type 0) (man : Man) (s t : ℕ) → man.kind ≡ K → Reaches F man s t → Reaches G man s t
+pub king_reaches : (F G : ℕ → Type 0) (man : Man) (s t : ℕ) → man.kind ≡ K → Reaches F man s t → Reaches G man s t
 king_reaches F G man s t king r = of_kind man.kind king r
   where
     of_kind : (kind : Kind) → kind ≡ K → OneOf (Rides F (farthest kind) s t) (steps_of man.side kind) → OneOf (Rides G (farthest kind) s t) (steps_of man.side kind)

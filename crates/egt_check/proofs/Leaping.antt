@@ -216,10 +216,10 @@ module _ (facts : Facts) (keeps : KeepsClass) (pawns : PawnsOfOneSide) (c : ℕ)
   pawnless : (s : ℕ) → ¬ Stands q.men s (pawn_of q.side)
   pawnless s other = pawns c flipped q fine (class flipped of) never p.side t s pawn_there (subst (λ (x : Side). Stands q.men s (pawn_of x)) side other)
 
-  bare : SettlesTo q (untargeted q)
+  pub bare : SettlesTo q (untargeted q)
   bare = settles_bare q pawnless
 
-  moved : IsMoved c p from t (untargeted q)
+  pub moved : IsMoved c p from t (untargeted q)
   moved = record {
     man = man;
     stands = stands;

@@ -24,8 +24,8 @@ pub mod Attacking
 mod Roaming
 pub mod QuietBest
 pub mod QuietWays
-mod Leaping
-mod Pushing
+pub mod Leaping
+pub mod Pushing
 mod Spreads
 pub mod ShelfBest
 mod ShelfJudged

@@ -44,7 +44,7 @@ use Rattle.egt_check.proofs.Leaping.{LeapsTo, PawnsOfOneSide, advances_by, advan
 use Rattle.egt_check.proofs.Roaming.{IndexOrVoid, is_among, side_twice}
 use Rattle.egt_check.proofs.Still.{KeepsClass, next_rank, no_promotion, quiet_pawn}
 
-untold : (a b : ℕ) → a ≢ b → (a == b) ≡ false
+pub untold : (a b : ℕ) → a ≢ b → (a == b) ≡ false
 untold a b apart = elim (eqb_tells a b) [ inl same ↦ absurd (apart same.1) | inr told ↦ told.0 ]
 
 by_one : (b : Bool) (n : ℕ) → b ≡ false → n ≤ (if b then 2 else 1) → n ≤ 1
@@ -56,7 +56,7 @@ one_at_least true = omega arith
 one_at_least false = omega arith
 
 -- a free next square is one to which a pawn advances
-advances_ahead : (men : ℕ → Type 0) (side : Side) (from t : ℕ) → 8 ≤ from → from < 56 → t ≡ ahead side from → men t → Advances men side from t
+pub advances_ahead : (men : ℕ → Type 0) (side : Side) (from t : ℕ) → 8 ≤ from → from < 56 → t ≡ ahead side from → men t → Advances men side from t
 advances_ahead men White from t low high next free = record {
   rides = record {
     count = 1;
@@ -99,7 +99,7 @@ ahead_stays White from t low high next = (omega (arith, next), omega (arith, nex
 ahead_stays Black from t low high next = (omega (arith, next, low), omega (arith, next, high))
 
 -- no pawn is promoted on such a square
-unlast : (side : Side) (t : ℕ) → 8 ≤ t → t < 56 → rank_of t ≢ last_rank side
+pub unlast : (side : Side) (t : ℕ) → 8 ≤ t → t < 56 → rank_of t ≢ last_rank side
 unlast White t low high e = omega (arith, high, e)
 unlast Black t low high e = omega (arith, low, e)
 

@@ -28,7 +28,7 @@ use Rattle.std.proofs.lemmas.Bool.Decides.{eqb_tells}
 abbrev pub KeepsClass : Type 0
 KeepsClass = (p q : Setup) (m : Move) (c : ℕ) (flipped : Bool) → IsAdmissible p → IsOf c flipped p → Leads p m q → ¬ Captures p m → m.promo ≡ None → IsOf c flipped q
 
-no_pawn : (kind : Kind) → kind ≢ P → is_pawn kind ≡ false
+pub no_pawn : (kind : Kind) → kind ≢ P → is_pawn kind ≡ false
 no_pawn Q not = refl
 no_pawn R not = refl
 no_pawn B not = refl

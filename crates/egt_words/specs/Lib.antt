@@ -1,0 +1,5 @@
+pub mod Told
+pub mod Standing
+pub mod Steps
+pub mod Pushing
+pub mod Staying

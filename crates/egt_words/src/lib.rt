@@ -1,0 +1,18 @@
+//! The moves from all positions of a word at once: the codes of a shelf with one side to move. A code stands for the position that it spells, whether
+//! it is the least for that position or not.
+#![tactic(auto)]
+
+mod pawn_steps;
+mod pushes;
+mod roaming;
+mod standing;
+mod staying;
+mod steps;
+mod told;
+mod word;
+
+pub use roaming::Roaming;
+pub use told::Told;
+
+#[cfg(test)]
+mod tests;
