@@ -25,6 +25,7 @@ pub mod Histories
 pub mod WordBits
 pub mod WordRounds
 pub mod WordSweeps
+pub mod WordTouches
 pub mod WordMarks
 pub mod WordEnding
 pub mod WordDue
@@ -33,3 +34,4 @@ pub mod WordSettling
 pub mod Leading
 pub mod Listing
 pub mod Turning
+pub mod StandIns

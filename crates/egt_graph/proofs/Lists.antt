@@ -75,6 +75,15 @@ none_fails p (x ∷ xs) = elim (cases_Bool (p x)) [
   | inr f ↦ rw (count_yes (λ y. not (p y)) x xs (ap not f), f) (ne_eqb _ _ (λ e. absurd (omega arith)))
 ]
 
+-- some element fails where not each passes
+pub some_fails : {X : Type 0} (p : X → Bool) (xs : List X) → list_any (λ x. not (p x)) xs ≡ not (list_all p xs)
+some_fails p [] = refl
+some_fails p (x ∷ xs) = ap (λ b. not (p x) || b) (some_fails p xs) ∙ not_both (p x) (list_all p xs)
+  where
+    not_both : (a b : Bool) → (not a || not b) ≡ not (a && b)
+    not_both true b = refl
+    not_both false b = refl
+
 pub some_counts : {X : Type 0} (p : X → Bool) (xs : List X) → list_any p xs ≡ ltb 0 (count_by p xs)
 some_counts p [] = refl
 some_counts p (x ∷ xs) = elim (cases_Bool (p x)) [

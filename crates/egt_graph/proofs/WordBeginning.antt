@@ -1,25 +1,24 @@
 -- What a run by words begins with.
-use Rattle.std.proofs.Common.{◌≡◌, ◌≢◌, ◌↔◌, ◌⊎◌, ℕ, zero, suc, ◌+◌, ◌-◌, ◌*◌, ◌%◌, ◌<◌, ◌≤◌, ◌^◌, Bool, true, false, cond, not, ◌&&◌, ◌||◌, eqb, ltb, List, [], ◌∷◌, length, get_or, set, slice_index, slice_index_or, refl, sym, ap, ap₂, subst, ◌∙◌, inl, inr, ⊎_elim, arith, count_by, bit_and, bit_or, w64, add-one, Contains, Option, Some, None, IfSome, IfNone, IsFalse}
+use Rattle.std.proofs.Common.{◌≡◌, ◌≢◌, ◌↔◌, ◌⊎◌, ℕ, suc, ◌+◌, ◌-◌, ◌*◌, ◌%◌, ◌<◌, ◌≤◌, ◌^◌, Bool, true, false, cond, not, ◌&&◌, ◌||◌, eqb, ltb, List, [], ◌∷◌, length, slice_index, slice_index_or, refl, sym, ap, ap₂, subst, ◌∙◌, inl, inr, ⊎_elim, arith, count_by, bit_and, bit_or, w64, add-one, All}
 use Rattle.std.specs.Int.{bit_at}
 use Rattle.std.specs.List.{list_any, list_all}
-use Rattle.std.proofs.lemmas.Bool.{cases_Bool, cases_eq, cases_lt, false≢true, both_ways, or_left, or_right, or_cases, and_parts, and_from, and_left, and_right, eq-eqb, eqb-true, eqb-false, ne_eqb, lt-ltb, le-ltb, not-true, not_from_false, not_from_true, false_from_ne_true}
+use Rattle.std.proofs.lemmas.Bool.{cases_eq, false≢true, both_ways, and_parts, and_from, and_left, eq-eqb, eqb-true, eqb-false, ne_eqb, lt-ltb, le-ltb, not-true, not_from_false, false_from_ne_true}
 use Rattle.std.proofs.lemmas.Nat.Bits.{bit_at-lt, bit_at_set_same, bit_at_set_other}
-use Rattle.egt_graph.specs.Graph.{Graph, IsNode, IsGame, AreLike}
-use Rattle.egt_graph.specs.Value.{is_empty, is_lost_before, is_won_before, mated_within, mates_within}
+use Rattle.egt_graph.specs.Graph.{Graph, IsNode, IsGame, AreLike, HasShortDistance}
+use Rattle.egt_graph.specs.Value.{is_empty, is_lost_before, is_won_before}
 use Rattle.egt_graph.specs.Begin.{Adds}
 use Rattle.egt_graph.specs.Frontier.{is_node}
-use Rattle.egt_graph.specs.Columns.{leaves, outs, count_of, has_moves, entry_at, is_loss_of, is_win_of}
-use Rattle.egt_graph.specs.Words.{IsWordOf, IsWordStart, AreMarks, TellsExits, number_at, word_in, place_in, words_of, word_in-number_at, place_in-number_at, place_in-small, number_at-places, word_in-within}
-use Rattle.egt_graph.specs.WordRound.{is_marked_in, is_undecided, is_lost_at, is_unwon, is_leaving, is_due, is_ready, turn_of, AreListed, AreTold, IsToldOf, HasExits, TellsLosses, WaitsFor, WaitsForNone}
+use Rattle.egt_graph.specs.Columns.{leaves, count_of, is_loss, is_win, is_loss_of, is_win_of}
+use Rattle.egt_graph.specs.Words.{IsWordOf, IsWordStart, TellsExits, number_at, word_in, place_in, word_in-number_at, place_in-number_at, place_in-small, number_at-places}
+use Rattle.egt_graph.specs.WordRound.{is_unwon, is_leaving, has_lost_exit, has_held_exit, is_due, is_ready, turn_of, AreListed, IsToldOf, HasExits}
 use Rattle.egt_graph.specs.declared.game.Exit.{Exit}
-use Rattle.egt_graph.specs.declared.game.Start.{Start}
+use Rattle.egt_graph.specs.declared.game.Exit.TheVariants.{Win, Loss, Draw}
 use Rattle.egt_graph.specs.declared.words.WordStart.{WordStart}
-use Rattle.egt_graph.proofs.Lists.{any_or, some_counts, none_fails}
-use Rattle.egt_graph.proofs.Nodes.{node_from_test, test_from_node, leaves_at, leaves_none, outs_at}
+use Rattle.egt_graph.proofs.Lists.{any_or, any_same_on, all_same_on, some_counts, some_fails, none_fails}
+use Rattle.egt_graph.proofs.Nodes.{node_from_test, test_from_node, leaves_at, leaves_none}
 use Rattle.egt_graph.proofs.Exits.{lost_next}
 use Rattle.egt_graph.proofs.Beginning.{like_long}
-use Rattle.egt_graph.proofs.WordBits.{both_set, set_both, either_set, set_first, set_second, not_set, set_not, none_set}
-use Rattle.egt_graph.proofs.WordRounds.{LeadsTo, contains_any, has_move_at}
+use Rattle.egt_graph.proofs.WordBits.{both_set, set_both, not_set, set_not}
 
 -- ---- one bit more
 
@@ -105,6 +104,17 @@ empty_by [] (y ∷ ys) e = absurd (omega (arith, e))
 empty_by (x ∷ xs) [] e = absurd (omega (arith, e))
 empty_by (x ∷ xs) (y ∷ ys) e = refl
 
+-- a short exit that is lost or won is so in fewer plies than any number above 32,000
+lost_short : (n : ℕ) → 32000 ≤ n → (e : Exit) → HasShortDistance e → is_lost_before (suc n) e ≡ is_loss e
+lost_short n long (Win k) short = refl
+lost_short n long (Loss k) short = lt-ltb k (suc n) (omega (arith, long, short))
+lost_short n long Draw short = refl
+
+won_short : (n : ℕ) → 32000 ≤ n → (e : Exit) → HasShortDistance e → is_won_before (suc n) e ≡ is_win e
+won_short n long (Win k) short = lt-ltb k (suc n) (omega (arith, long, short))
+won_short n long (Loss k) short = refl
+won_short n long Draw short = refl
+
 module _ (g : Graph) (i : ℕ) (node : IsNode g i) where
   at : leaves g i ≡ g.exits i
   at = leaves_at g i (test_from_node g i node)
@@ -113,9 +123,17 @@ module _ (g : Graph) (i : ℕ) (node : IsNode g i) where
     pub leaving_like : not (is_empty exits) ≡ is_leaving g i
     leaving_like = ap not (empty_by exits (g.exits i) (like_long exits (g.exits i) like) ∙ ap (λ (xs : List Exit). is_empty xs) (sym at))
 
+    any_like : (test : Exit → Bool) → list_any test exits ≡ list_any test (leaves g i)
+    any_like test = some_counts test exits ∙ ap (ltb 0) (like test) ∙ sym (some_counts test (g.exits i)) ∙ ap (list_any test) (sym at)
+
     pub due_like : list_any (is_lost_before 1) exits ≡ is_due g 0 i
-    due_like =
-        some_counts (is_lost_before 1) exits ∙ ap (ltb 0) (like (is_lost_before 1)) ∙ sym (some_counts (is_lost_before 1) (g.exits i)) ∙ ap (list_any (is_lost_before 1)) (sym at)
+    due_like = any_like (is_lost_before 1)
+
+    pub losing_like : list_any is_loss exits ≡ has_lost_exit g i
+    losing_like = any_like is_loss
+
+    pub holding_like : list_any (λ e. not (is_win e)) exits ≡ has_held_exit g i
+    holding_like = any_like (λ e. not (is_win e))
 
     pub ready_like : eqb (count_by (λ e. not (is_won_before 1 e)) exits) 0 ≡ is_ready g 0 i
     ready_like =
@@ -146,6 +164,21 @@ module _ (g : Graph) (i : ℕ) (node : IsNode g i) where
 
     pub ready_told : (holding ≡ 0) ↔ (is_ready g 0 i ≡ true)
     ready_told = (λ none. ready_is ∙ eq-eqb holding 0 none, λ t. eqb-true holding 0 (sym ready_is ∙ t))
+
+    -- what is told holds of all plies, and so of exits that are lost or won in however many
+    pub losing_told : All HasShortDistance (g.exits i) → losing ≡ 1 ↔ (has_lost_exit g i ≡ true)
+    losing_told short =
+        let is = ap (list_any is_loss) at ∙ sym (any_same_on HasShortDistance (is_lost_before 32001) is_loss (lost_short 32000 (omega arith)) (g.exits i) short) ∙ tells.lost 32000 in
+        (λ one. is ∙ eq-eqb losing 1 one, λ t. eqb-true losing 1 (sym is ∙ t))
+
+    pub holding_told : All HasShortDistance (g.exits i) → holding < 2 → holding ≡ 1 ↔ (has_held_exit g i ≡ true)
+    holding_told short few =
+        let is : has_held_exit g i ≡ not (eqb holding 0)
+        = ap (list_any (λ e. not (is_win e))) at ∙ some_fails is_win (g.exits i)
+        ∙ ap not (sym (all_same_on HasShortDistance (is_won_before 32001) is_win (won_short 32000 (omega arith)) (g.exits i) short) ∙ tells.held 32000) in (
+          λ one. is ∙ not_from_false _ (ne_eqb holding 0 (λ none. absurd (omega (arith, one, none)))),
+          λ t. let some = eqb-false holding 0 (not-true _ (sym is ∙ t)) in omega (arith, some, few),
+        )
 
 -- ---- exits that are listed
 
@@ -268,14 +301,6 @@ module _ (span : ℕ) (some : 0 < span) (few : span ≤ 64) where
     no_wins = λ n i after. h.no_wins n i (omega (arith, after, low));
   }
 
--- ---- what is asked of a node alone
-
-pub like_of : (g : Graph) (i : ℕ) (start : Option Start) (exits : List Exit) → IsFalse (g.void i)
-    → IfSome start (λ s. IsFalse (g.void i) × (s.mated ≡ g.mated i) × IfSome s.degree (λ n. (n ≡ length (g.out i)) × (n ≤ 64)) × AreLike exits (g.exits i))
-    → IfNone start ((g.void i ≡ true) × (exits ≡ [])) → AreLike exits (g.exits i)
-like_of g i (Some s) exits there node void = node.3
-like_of g i None exits there node void = absurd (both_ways (g.void i) there void.0)
-
 -- ---- the words of a start
 
 module _ (g : Graph) (span word : ℕ) (start : WordStart) (starts : IsWordStart g span word start) where
@@ -299,6 +324,14 @@ module _ (g : Graph) (span word : ℕ) (start : WordStart) (starts : IsWordStart
         λ bit. is.0 (let bound = bit_at-lt start.held j in let unset = not_set start.held j small below bit in omega (arith, bound, unset)),
         λ t. set_not start.held j small below (λ held. let none = is.1 t in omega (arith, none, held)),
       ))
+
+  pub first_losing : IsGame g → IsFilling span word (has_lost_exit g) start.told 0 (bit_and start.told start.lost)
+  first_losing law = filling_told span word (has_lost_exit g) start.told start.lost told_within (λ j one.
+      let node = told_node j one in losing_told g (number_at span word j) node _ _ _ (starts.told j one) (law.short_exits (number_at span word j) node))
+
+  pub first_holding : IsGame g → IsFilling span word (has_held_exit g) start.told 0 (bit_and start.told start.held)
+  first_holding law = filling_told span word (has_held_exit g) start.told start.held told_within (λ j one.
+      let node = told_node j one in holding_told g (number_at span word j) node _ _ _ (starts.told j one) (law.short_exits (number_at span word j) node) (bit_at-lt start.held j))
 
   pub start_nodes : IsWordOf span word (is_unwon g 0) start.nodes
   start_nodes k = (
@@ -327,6 +360,12 @@ module _ (g : Graph) (span word : ℕ) (start : WordStart) (starts : IsWordStart
 
     pub skip_due : (k : ℕ) → (bit_at start.told k ≡ 1) ⊎ (is_node g (number_at span word k) ≡ false) → (bit_at start.told k ≡ 1) ⊎ (is_due g 0 (number_at span word k) ≡ false)
     skip_due = skipped (is_due g 0) (λ i f. ap (list_any (is_lost_before 1)) (leaves_none g i f))
+
+    pub skip_losing : (k : ℕ) → (bit_at start.told k ≡ 1) ⊎ (is_node g (number_at span word k) ≡ false) → (bit_at start.told k ≡ 1) ⊎ (has_lost_exit g (number_at span word k) ≡ false)
+    skip_losing = skipped (has_lost_exit g) (λ i f. ap (list_any is_loss) (leaves_none g i f))
+
+    pub skip_holding : (k : ℕ) → (bit_at start.told k ≡ 1) ⊎ (is_node g (number_at span word k) ≡ false) → (bit_at start.told k ≡ 1) ⊎ (has_held_exit g (number_at span word k) ≡ false)
+    skip_holding = skipped (has_held_exit g) (λ i f. ap (list_any (λ e. not (is_win e))) (leaves_none g i f))
 
     pub skip_ready : (k : ℕ) → (bit_at start.told k ≡ 1) ⊎ (is_node g (number_at span word k) ≡ false) → (bit_at start.told k ≡ 1) ⊎ (is_ready g 0 (number_at span word k) ≡ false)
     skip_ready = skipped (is_ready g 0) (λ i f. and_left (is_node g i) _ f)

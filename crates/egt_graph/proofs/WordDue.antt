@@ -1,14 +1,12 @@
 -- What the exits of the next round change.
-use Rattle.std.proofs.Common.{◌≡◌, ◌≢◌, ◌⊎◌, ℕ, zero, suc, ◌+◌, ◌-◌, ◌<◌, ◌≤◌, Bool, true, false, cond, not, ◌&&◌, ◌||◌, eqb, ltb, List, [], ◌∷◌, length, slice_index, slice_index_or, refl, sym, ap, ap₂, subst, ◌∙◌, inl, inr, ⊎_elim, arith, count_by, All, add-one}
+use Rattle.std.proofs.Common.{◌≡◌, ◌⊎◌, ℕ, zero, suc, ◌+◌, ◌-◌, ◌<◌, Bool, true, false, not, ◌&&◌, ◌||◌, eqb, ltb, List, [], slice_index, slice_index_or, refl, sym, ap, ap₂, ◌∙◌, inl, inr, ⊎_elim, arith, count_by, All}
 use Rattle.std.specs.List.{list_any, list_all}
-use Rattle.std.proofs.lemmas.Bool.{cases_Bool, cases_eq, cases_lt, false≢true, both_ways, or_right, and_left, and_right, and_from, lt-ltb, le-ltb, eq-eqb, ne_eqb, false_from_ne_true}
+use Rattle.std.proofs.lemmas.Bool.{cases_Bool, false≢true, or_right, and_left, lt-ltb, ne_eqb}
 use Rattle.egt_graph.specs.Graph.{Graph, IsNode}
 use Rattle.egt_graph.specs.Value.{is_lost_before, is_won_before}
 use Rattle.egt_graph.specs.Frontier.{is_node}
 use Rattle.egt_graph.specs.Columns.{leaves, count_of, is_win_of}
-use Rattle.egt_graph.specs.Words.{word_in, words_of, word_in-within}
 use Rattle.egt_graph.specs.WordRound.{is_marked_in, is_ready, is_due, AreTold, TellsLosses, WaitsFor, WaitsForNone, HasExits}
-use Rattle.egt_graph.specs.declared.game.Exit.{Exit}
 use Rattle.egt_graph.proofs.Lists.{none_fails}
 use Rattle.egt_graph.proofs.Nodes.{node_from_test, leaves_none}
 use Rattle.egt_graph.proofs.Marking.{each_counted}

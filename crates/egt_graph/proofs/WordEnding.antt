@@ -1,12 +1,11 @@
 -- When a run by words is over: the round finds nothing, and no exit falls due any more.
-use Rattle.std.proofs.Common.{◌≡◌, ◌≢◌, ◌⊎◌, ℕ, zero, suc, ◌+◌, ◌-◌, ◌*◌, ◌<◌, ◌≤◌, Bool, true, false, cond, not, ◌&&◌, ◌||◌, eqb, ltb, List, [], ◌∷◌, length, slice_index, slice_index_or, refl, sym, ap, ap₂, subst, ◌∙◌, inl, inr, ⊎_elim, arith, count_by, IsTrue, IsFalse, All, add-one}
+use Rattle.std.proofs.Common.{◌≡◌, ◌⊎◌, ℕ, zero, suc, ◌+◌, ◌-◌, ◌<◌, ◌≤◌, Bool, true, false, not, ◌&&◌, ◌||◌, eqb, ltb, List, [], length, slice_index, slice_index_or, refl, sym, ap, subst, ◌∙◌, inl, inr, ⊎_elim, arith, count_by, IsFalse, add-one}
 use Rattle.std.specs.List.{list_any, list_all}
-use Rattle.std.proofs.lemmas.Bool.{cases_Bool, cases_lt, false≢true, both_ways, or_cases, or_left, or_right, or_from, or_parts, and_parts, and_from, lt-ltb, ltb-true, false_from_ne_true}
+use Rattle.std.proofs.lemmas.Bool.{cases_Bool, cases_lt, both_ways, or_cases, or_left, or_right, or_from, and_parts, and_from, lt-ltb, false_from_ne_true}
 use Rattle.egt_graph.specs.Graph.{Graph, IsNode, IsGame, HasShortDistance}
 use Rattle.egt_graph.specs.Value.{has_move, is_lost_before, is_won_before, mated_within, mates_within, decided_within, HasRank, IsWithin, entry_of, AreRanks, SomeAbove, NoneAbove}
-use Rattle.egt_graph.specs.Frontier.{is_node}
 use Rattle.egt_graph.specs.Columns.{leaves, count_of, entry_at, is_win_of}
-use Rattle.egt_graph.specs.WordRound.{is_found, is_found_won, is_found_lost, TellsLosses, WaitsFor, WaitsForNone, HasExits}
+use Rattle.egt_graph.specs.WordRound.{is_found, is_found_won, is_found_lost, TellsLosses, WaitsFor, WaitsForNone}
 use Rattle.egt_graph.specs.declared.game.Exit.{Exit}
 use Rattle.egt_graph.specs.declared.game.Exit.TheVariants.{Win, Loss, Draw}
 use Rattle.egt_graph.proofs.Lists.{all_weaker_on, any_weaker_on, count_split, none_fails}

@@ -1,8 +1,7 @@
 -- Exits that fall due by words.
-use Rattle.std.proofs.Common.{◌≡◌, ◌≢◌, ℕ, zero, suc, ◌+◌, ◌-◌, ◌*◌, ◌%◌, ◌<◌, ◌≤◌, ◌^◌, Bool, true, false, cond, not, ◌&&◌, ◌||◌, eqb, ltb, List, [], ◌∷◌, length, get_or, set, take, slice_index, slice_index_or, refl, sym, ap, ap₂, subst, ◌∙◌, inl, inr, ⊎_elim, ◌⊎◌, arith, count_by, All, Contains, bit_or, w64}
+use Rattle.std.proofs.Common.{◌≡◌, ℕ, zero, suc, ◌+◌, ◌-◌, ◌*◌, ◌%◌, ◌<◌, ◌≤◌, ◌^◌, Bool, true, false, cond, ◌&&◌, ◌||◌, eqb, ltb, List, length, get_or, set, take, slice_index, refl, sym, ap, ap₂, ◌∙◌, inl, inr, arith, bit_or, w64}
 use Rattle.std.specs.Int.{bit_at}
-use Rattle.std.specs.List.{list_any, list_all}
-use Rattle.std.proofs.lemmas.Bool.{cases_Bool, cases_eq, cases_lt, both_ways, or_left, or_right, or_cases, and_parts, and_from, and_left, and_right, eqb-true, eq-eqb, ne_eqb, lt-ltb, ltb-true, le-ltb, false_from_ne_true, false≢true, not_from_false}
+use Rattle.std.proofs.lemmas.Bool.{cases_eq, or_left, or_right, and_from, and_right, eq-eqb, ne_eqb, lt-ltb}
 use Rattle.std.proofs.lemmas.List.{get_or-set_same, get_or-set_other}
 use Rattle.std.proofs.lemmas.List.Sums.{sum_by_more}
 use Rattle.std.proofs.lemmas.Nat.Bits.{bit_at_set_same, bit_at_set_other}

@@ -1,18 +1,17 @@
 -- One round by words: what is found where, and what it makes of the entries and the words.
-use Rattle.std.proofs.Common.{◌≡◌, ◌≢◌, ◌⊎◌, ℕ, zero, suc, ◌+◌, ◌*◌, ◌<◌, ◌≤◌, Bool, true, false, cond, not, ◌&&◌, ◌||◌, eqb, ltb, List, [], ◌∷◌, length, get_or, refl, sym, ap, ap₂, subst, ◌∙◌, inl, inr, ⊎_elim, arith, All, Contains}
+use Rattle.std.proofs.Common.{◌≡◌, ◌≢◌, ◌⊎◌, ℕ, zero, suc, ◌+◌, ◌*◌, Bool, true, false, cond, not, ◌&&◌, ◌||◌, eqb, List, [], ◌∷◌, refl, sym, ap, ap₂, ◌∙◌, inl, inr, ⊎_elim, arith, Contains}
 use Rattle.std.specs.List.{list_any, list_all}
-use Rattle.std.proofs.lemmas.Bool.{cases_Bool, false≢true, both_ways, or_cases, or_left, or_right, or_from, or_parts, and_parts, and_from, and_left, and_right, not-true, not_from_false, not_from_true, eqb-true, eq-eqb, ne_eqb, false_from_ne_true}
-use Rattle.std.proofs.lemmas.List.Elements.{All-head, All-tail, All-contains}
+use Rattle.std.proofs.lemmas.Bool.{cases_Bool, false≢true, both_ways, or_cases, or_left, or_right, and_parts, and_from, and_left, and_right, not-true, not_from_false, not_from_true, eqb-true, eq-eqb, false_from_ne_true}
+use Rattle.std.proofs.lemmas.List.Elements.{All-contains}
 use Rattle.egt_graph.specs.Graph.{Graph, IsNode, IsGame}
-use Rattle.egt_graph.specs.Value.{is_empty, has_move, is_lost_before, is_won_before, mated_within, mates_within, mated_before, decided_within}
+use Rattle.egt_graph.specs.Value.{is_empty, has_move, is_lost_before, is_won_before, mated_within, mates_within, mated_before}
 use Rattle.egt_graph.specs.Frontier.{is_node}
-use Rattle.egt_graph.specs.Columns.{outs, leaves, has_moves, decided, entry_at}
-use Rattle.egt_graph.specs.WordRound.{is_undecided, is_unwon, is_lost_at, is_ready, is_due, is_found_won, is_found_lost}
+use Rattle.egt_graph.specs.Columns.{leaves, has_moves, entry_at}
+use Rattle.egt_graph.specs.WordRound.{is_undecided, is_unwon, is_lost_at, is_ready, is_due, is_found_won, is_found_lost, LeadsTo}
 use Rattle.egt_graph.specs.declared.game.Exit.{Exit}
 use Rattle.egt_graph.specs.declared.game.Exit.TheVariants.{Win, Loss, Draw}
-use Rattle.egt_graph.proofs.Lists.{any_weaker}
-use Rattle.egt_graph.proofs.Values.{mates_more, mated_more, mated_le, mates_le, never_both, never_both_ever}
-use Rattle.egt_graph.proofs.Nodes.{node_from_test, test_from_node, outs_at, leaves_at, leaves_none, outs_none}
+use Rattle.egt_graph.proofs.Values.{mates_more, mated_more, mated_le, mates_le, never_both}
+use Rattle.egt_graph.proofs.Nodes.{node_from_test, test_from_node, outs_at, leaves_at}
 use Rattle.egt_graph.proofs.Holding.{decided_open, decided_shut, win_is_no_draw, loss_is_no_draw}
 use Rattle.egt_graph.proofs.Closing.{entry_none, entry_mated}
 use Rattle.egt_graph.proofs.Ranking.{spelled, Spells}
@@ -46,10 +45,6 @@ all_contains : (p : ℕ → Bool) (xs : List ℕ) (j : ℕ) → list_all p xs �
 all_contains p [] j h (k, lt, is) = absurd (omega (arith, lt))
 all_contains p (x ∷ xs) j h (zero, lt, is) = sym (ap p is) ∙ (and_parts (p x) (list_all p xs) h).0
 all_contains p (x ∷ xs) j h (suc k, lt, is) = all_contains p xs j (and_parts (p x) (list_all p xs) h).1 (k, omega (arith, lt), is)
-
--- a move leads to a node for which the test holds
-abbrev pub LeadsTo : Graph → (ℕ → Bool) → ℕ → Type 0
-LeadsTo g test i = (j : ℕ) × Contains (g.out i) j × (test j ≡ true)
 
 -- ---- a node that is not decided
 
@@ -149,6 +144,17 @@ module _ (g : Graph) (law : IsGame g) (r i : ℕ) where
         | inr some ↦ absurd (none (some.0, some.1, and_from (is_node g some.0) _ (test_from_node g some.0 (All-contains (IsNode g) (g.out i) some.0 (law.out_nodes i node) some.1)) (not_from_false _ some.2)))
       ])
       (sym (ap (list_all (is_won_before (suc r))) (leaves_at g i (test_from_node g i node))) ∙ exits)))
+
+  -- a ready node that is not lost
+  pub saved_by : is_undecided g r i ≡ true → is_ready g r i ≡ true → mated_within g (suc r) i ≡ false → LeadsTo g (is_unwon g r) i
+  saved_by undecided ready kept =
+      let node = draw_node g law r i (undecided_parts g law r i undecided).0 in
+      elim (all_or_some (mates_within g r) (g.out i)) [
+        | inr some ↦ (some.0, some.1, and_from (is_node g some.0) _ (test_from_node g some.0 (All-contains (IsNode g) (g.out i) some.0 (law.out_nodes i node) some.1)) (not_from_false _ some.2))
+        | inl all ↦ absurd (both_ways _ kept (lost_by undecided ready (λ to.
+            let unwon = not-true (mates_within g r to.0) (and_parts (is_node g to.0) (not (mates_within g r to.0)) to.2).1 in
+            both_ways (mates_within g r to.0) unwon (all_contains (mates_within g r) (g.out i) to.0 all to.1))))
+      ]
 
   pub loss_parts : entry_at g r i ≡ 1 → mated_within g (suc r) i ≡ true → (is_ready g r i ≡ true) × (LeadsTo g (is_unwon g r) i → ⊥) × (has_moves g i ≡ true)
   loss_parts is loss =

@@ -1,23 +1,25 @@
 -- Which nodes have moves, and which of the others are checkmates, by words.
-use Rattle.std.proofs.Common.{◌≡◌, ◌≢◌, ◌↔◌, ◌⊎◌, ℕ, zero, suc, ◌+◌, ◌-◌, ◌*◌, ◌<◌, ◌≤◌, ◌^◌, Bool, true, false, cond, not, ◌&&◌, eqb, List, [], ◌∷◌, length, slice_index, refl, sym, ap, ap₂, subst, ◌∙◌, inl, inr, ⊎_elim, arith, bit_and, bit_or, Contains}
+use Rattle.std.proofs.Common.{◌≡◌, ◌↔◌, ℕ, suc, ◌-◌, ◌*◌, ◌<◌, ◌≤◌, ◌^◌, Bool, true, false, cond, not, ◌&&◌, List, [], ◌∷◌, length, slice_index, refl, sym, ap, ap₂, subst, ◌∙◌, inl, inr, ⊎_elim, arith, bit_and, bit_or, Contains}
 use Rattle.std.specs.Int.{bit_at}
 use Rattle.std.specs.List.{list_any, list_all}
-use Rattle.std.proofs.lemmas.Bool.{cases_Bool, cases_lt, ne_eqb, false≢true, both_ways, and_parts, and_from, and_left, and_right, eq-eqb, eqb-true, not-true, not_from_false, not_from_true, false_from_ne_true}
+use Rattle.std.proofs.lemmas.Bool.{cases_Bool, cases_lt, ne_eqb, false≢true, both_ways, and_parts, and_from, and_left, and_right, eq-eqb, not-true, not_from_false, false_from_ne_true}
 use Rattle.std.proofs.lemmas.List.{get_or_past}
 use Rattle.std.proofs.lemmas.List.Elements.{All-contains}
 use Rattle.egt_graph.specs.Graph.{Graph, IsNode, IsGame}
-use Rattle.egt_graph.specs.Value.{is_empty, has_move, is_lost_before, is_won_before}
+use Rattle.egt_graph.specs.Value.{is_empty, is_lost_before, is_won_before}
 use Rattle.egt_graph.specs.Frontier.{is_node}
-use Rattle.egt_graph.specs.Columns.{leaves, outs, has_moves, entry_at}
+use Rattle.egt_graph.specs.Columns.{leaves, outs, has_moves, entry_at, is_loss, is_win}
 use Rattle.egt_graph.specs.Words.{IsWordOf, number_at, word_in, place_in, words_of, place_in-small, number_at-places, word_in-within}
-use Rattle.egt_graph.specs.WordRound.{is_undecided, is_lost_at, is_unwon, is_leaving, is_due, is_ready, AreListed, AreTold, IsToldOf, HasExits}
+use Rattle.egt_graph.specs.WordRound.{is_undecided, is_lost_at, is_unwon, is_leaving, has_lost_exit, has_held_exit, is_due, is_ready, LeadsTo, AreListed, AreTold, IsToldOf, HasExits}
+use Rattle.egt_graph.specs.ExitMarks.{AreExitMarks, AreExitMarksBelow}
+use Rattle.egt_graph.specs.declared.exit_marks.ExitMarks.{ExitMarks}
 use Rattle.egt_graph.specs.declared.game.Exit.{Exit}
 use Rattle.egt_graph.proofs.Closing.{entry_none}
 use Rattle.egt_graph.proofs.Nodes.{node_from_test, test_from_node, leaves_at, leaves_none, outs_at}
 use Rattle.egt_graph.proofs.WordBeginning.{has_void}
-use Rattle.egt_graph.proofs.WordBits.{both_set, set_both, either_set, set_first, set_second, not_set, set_not, none_set}
-use Rattle.egt_graph.proofs.WordRounds.{LeadsTo, has_move_at, undecided_parts, draw_node}
-use Rattle.egt_graph.proofs.WordSweeps.{Leads, put_at, put_is, entries_kept}
+use Rattle.egt_graph.proofs.WordBits.{both_set, set_both, either_set, set_first, set_second, set_not, none_set}
+use Rattle.egt_graph.proofs.WordRounds.{undecided_parts, draw_node}
+use Rattle.egt_graph.proofs.WordSweeps.{Leads, put_at, put_is, all_words}
 
 -- ---- one node
 
@@ -179,14 +181,28 @@ all_told g span test marks some nodes long each i = elim (cases_lt (word_in span
       ∙ sym (false_from_ne_true (test i) (λ t. let node = node_from_test g i (nodes i t) in let within = word_in-within span g.size i some node.in_range in omega (arith, within, past)))
 ]
 
-pub due_nodes : (g : Graph) (r i : ℕ) → is_due g r i ≡ true → is_node g i ≡ true
-due_nodes g r i t = elim (cases_Bool (is_node g i)) [
+-- nothing but a node has an exit
+exit_nodes : (test : Exit → Bool) (g : Graph) (i : ℕ) → list_any test (leaves g i) ≡ true → is_node g i ≡ true
+exit_nodes test g i t = elim (cases_Bool (is_node g i)) [
   | inl n ↦ n
-  | inr f ↦ absurd (false≢true (sym (ap (list_any (is_lost_before (suc r))) (leaves_none g i f)) ∙ t))
+  | inr f ↦ absurd (false≢true (sym (ap (list_any test) (leaves_none g i f)) ∙ t))
 ]
+
+pub due_nodes : (g : Graph) (r i : ℕ) → is_due g r i ≡ true → is_node g i ≡ true
+due_nodes g r = exit_nodes (is_lost_before (suc r)) g
 
 pub ready_nodes : (g : Graph) (r i : ℕ) → is_ready g r i ≡ true → is_node g i ≡ true
 ready_nodes g r i t = (and_parts (is_node g i) (list_all (is_won_before (suc r)) (leaves g i)) t).0
+
+pub marks_all : (g : Graph) → IsGame g → (span m : ℕ) (marks : ExitMarks) → 0 < span → words_of span g.size ≤ m → AreExitMarksBelow g span m marks → AreExitMarks g span marks
+marks_all g law span m marks some all h = record {
+  leaving_long = h.leaving_long;
+  lost_long = h.lost_long;
+  held_long = h.held_long;
+  leaving = all_words g span (is_leaving g) marks.leaving.items some (λ i t. test_from_node g i (leaving_node g law i t)) h.leaving_long (λ w lt. h.leaving w (omega (arith, lt, all)));
+  lost = all_words g span (has_lost_exit g) marks.lost.items some (exit_nodes is_loss g) h.lost_long (λ w lt. h.lost w (omega (arith, lt, all)));
+  held = all_words g span (has_held_exit g) marks.held.items some (exit_nodes (λ e. not (is_win e)) g) h.held_long (λ w lt. h.held w (omega (arith, lt, all)));
+}
 
 pub listed_all : (g : Graph) (span : ℕ) → 0 < span → span ≤ 64 → (pending : List ℕ) (lost_due won_due : List (List ℕ)) → AreListed g span (words_of span g.size * 64) pending lost_due won_due
     → (i : ℕ) → HasExits g 0 pending lost_due won_due i

@@ -8,12 +8,12 @@ use Rattle.egt_graph.specs.Graph.{Graph, IsNode, IsGame}
 use Rattle.egt_graph.specs.Value.{mated_within, mates_within, mated_before}
 use Rattle.egt_graph.specs.Frontier.{is_node}
 use Rattle.egt_graph.specs.Columns.{entry_at}
-use Rattle.egt_graph.specs.Words.{number_at, word_in, place_in, IsIn, IsWordOf, AreMarks, words_of, word_in-number_at, place_in-number_at, place_in-small, number_at-places, parity_of_word, word_in-within}
-use Rattle.egt_graph.specs.WordRound.{is_undecided, is_unwon, is_lost_at, is_ready, is_due, is_found_won, is_found_lost, is_found, is_marked_in, NoneLeads, IsToldOf, AreTold}
+use Rattle.egt_graph.specs.Words.{number_at, word_in, place_in, IsIn, IsWordOf, AreMarks, words_of, word_in-number_at, place_in-number_at, place_in-small, number_at-places, word_in-within}
+use Rattle.egt_graph.specs.WordRound.{is_undecided, is_unwon, is_lost_at, is_ready, is_due, is_found_won, is_found_lost, is_found, is_marked_in, LeadsTo, IsToldOf, AreTold}
 use Rattle.egt_graph.proofs.Closing.{entry_none}
 use Rattle.egt_graph.proofs.Nodes.{node_from_test, test_from_node}
 use Rattle.egt_graph.proofs.WordBits.{both_set, set_both, either_set, set_first, set_second, not_set, set_not, none_set}
-use Rattle.egt_graph.proofs.WordRounds.{LeadsTo, draw_node, undecided_parts, wins_by_move, wins_by_exit, win_by, lost_by, loss_parts, found_entry, undecided_next, unwon_next, lost_next, found_won_parts, found_lost_parts}
+use Rattle.egt_graph.proofs.WordRounds.{draw_node, undecided_parts, wins_by_move, wins_by_exit, win_by, lost_by, loss_parts, found_entry, undecided_next, unwon_next, lost_next, found_won_parts, found_lost_parts}
 
 -- ---- marks and tests
 
@@ -340,13 +340,6 @@ module _ (g : Graph) (law : IsGame g) (r span word won lost : ℕ) (some : 0 < s
       let same : number_at span word (place_in span i) ≡ i = ap (λ w. number_at span w (place_in span i)) (sym here) ∙ number_at-places span i some in
       none_set (place_in span i) (sym (ap (λ n. bit_at n (place_in span i)) clear) ∙ (of (place_in span i)).1 (place_in-small span i some, ap test same ∙ t)))
 
-  pub news_lost : (bit : ℕ) → (word % 2 ≡ bit → lost ≡ 0) → ((i : ℕ) → word_in span i < word → i % 2 ≡ bit → is_found_lost g r i ≡ false)
-      → (i : ℕ) → word_in span i < word + 1 → i % 2 ≡ bit → is_found_lost g r i ≡ false
-  news_lost bit clear before i lt last = elim (cases_eq (word_in span i) word) [
-    | inl e ↦ empty_word (is_found_lost g r) lost of_lost (clear (sym (ap (λ w. w % 2) e) ∙ parity_of_word span i ∙ last)) i e
-    | inr ne ↦ before i (omega (arith, lt, ne)) last
-  ]
-
   pub news_none : won ≡ 0 → lost ≡ 0 → ((i : ℕ) → word_in span i < word → is_found g r i ≡ false) → (i : ℕ) → word_in span i < word + 1 → is_found g r i ≡ false
   news_none no_win no_loss before i lt = elim (cases_eq (word_in span i) word) [
     | inl e ↦ or_from _ _ (empty_word (is_found_won g r) won of_won no_win i e) (empty_word (is_found_lost g r) lost of_lost no_loss i e)
@@ -360,21 +353,4 @@ found_within g law r span i some each = elim (cases_lt i g.size) [
   | inr past ↦ false_from_ne_true _ (λ t.
       let in_range : IsNode g i = ⊎_elim (λ w. (found_won_parts g law r i w).0) (λ l. (found_lost_parts g law r i l).0) (or_cases (is_found_won g r i) (is_found_lost g r i) t) in
       absurd (let below = in_range.in_range in omega (arith, below, past)))
-]
-
-pub found_lost_within : (g : Graph) → IsGame g → (r span i : ℕ) → 0 < span → ((j : ℕ) → word_in span j < words_of span g.size → j % 2 ≡ i % 2 → is_found_lost g r j ≡ false) → is_lost_at g (suc r) i ≡ false
-found_lost_within g law r span i some each = false_from_ne_true _ (λ t.
-    let found = (lost_next g law r i).0 t in
-    let node = (found_lost_parts g law r i found).0 in
-    both_ways _ (each i (word_in-within span g.size i some node.in_range) refl) found)
-
--- No move leads to a lost node from the numbers of one last bit where none is lost of the other, and none of the same unless the game alternates.
-pub none_leads : (g : Graph) (r bit other : ℕ) → bit + other ≡ 1 → ((j : ℕ) → j % 2 ≡ other → is_lost_at g r j ≡ false)
-    → ((i j : ℕ) → IsNode g i → Contains (g.out i) j → i % 2 ≢ j % 2) ⊎ ((j : ℕ) → j % 2 ≡ bit → is_lost_at g r j ≡ false) → NoneLeads g r bit
-none_leads g r bit other one none (inl alternates) i node last to =
-    let turned = alternates i to.0 node to.1 in
-    both_ways _ (none to.0 (omega (arith, one, last, turned))) to.2
-none_leads g r bit other one none (inr same) i node last to = elim (cases_eq (to.0 % 2) bit) [
-  | inl e ↦ both_ways _ (same to.0 e) to.2
-  | inr ne ↦ both_ways _ (none to.0 (omega (arith, one, ne, last))) to.2
 ]

@@ -16,5 +16,7 @@ pub mod Laws
 pub mod Passing
 pub mod Words
 pub mod WordRound
+pub mod ExitMarks
 pub mod Sample
 pub mod WordMoves
+pub mod StandIns

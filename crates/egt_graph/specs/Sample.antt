@@ -1,6 +1,6 @@
 -- Games given by lists, as tests make them. Whatever the lists, the game is lawful: moves from or to what is no node, and
 -- moves on from a checkmate, do not count, and a move that is given twice counts once.
-use Rattle.std.specs.Prelude.{◌≡◌, ℕ, zero, suc, ◌+◌, ◌-◌, ◌%◌, ◌<◌, ◌≢◌, ◌==◌, Bool, true, false, not, ◌&&◌, cond, List, [], ◌∷◌, map, filter, nat_lt, nat_le, if◌then◌else◌, refl, All, Contains}
+use Rattle.std.specs.Prelude.{◌≡◌, ℕ, zero, suc, ◌+◌, ◌-◌, ◌<◌, ◌==◌, Bool, true, false, not, ◌&&◌, cond, List, [], ◌∷◌, map, filter, nat_lt, nat_le, if◌then◌else◌, refl, All, Contains}
 use Rattle.std.specs.List.{list_any, range_with_len}
 use Rattle.std.specs.List.Sorted.{IsStrictlyIncreasing}
 use Rattle.std.proofs.Common.{arith, ap, ltb, get_or}
@@ -174,12 +174,3 @@ stairs_are_a_game size step = record {
         let is : i - step ≡ j = omega arith in
         rw (le-ltb i step (omega arith)) (here (i - step) j is)
     forth i j false e c = absurd (let lt = c.1 in omega arith)
-
--- steps of odd height lead from even numbers to odd ones and back
-pub stairs_alternate : (size step : ℕ) → step % 2 ≡ 1 → (i j : ℕ) → IsNode (stairs size step) i → Contains ((stairs size step).out i) j → i % 2 ≢ j % 2
-stairs_alternate size step odd i j node c = at (ltb i step) refl c
-  where
-    at : (b : Bool) → ltb i step ≡ b → Contains (cond b [] ((i - step) ∷ [])) j → i % 2 ≢ j % 2
-    at true e c = absurd (let lt = c.1 in omega (arith, lt))
-    at false e (zero, lt, is) = λ same. let above = ltb-false i step e in omega (arith, odd, above, is, same)
-    at false e (suc k, lt, is) = absurd (omega (arith, lt))

@@ -1,15 +1,13 @@
 -- What the words of a run hold before round r: all that is won or lost in r plies at most is known, and the exits of r plies at most are due.
-use Rattle.std.specs.Prelude.{◌≡◌, ◌==◌, ℕ, suc, ◌+◌, ◌*◌, ◌%◌, ◌<◌, ◌≤◌, ◌&&◌, ◌||◌, ◌⊎◌, ◌↔◌, not, Bool, List, [], length, slice_index, slice_index_or, nat_lt, count_by, IsTrue, IsFalse}
+use Rattle.std.specs.Prelude.{◌≡◌, ◌==◌, ℕ, suc, ◌+◌, ◌*◌, ◌<◌, ◌≤◌, ◌&&◌, ◌||◌, ◌⊎◌, ◌↔◌, not, Bool, List, [], length, slice_index, slice_index_or, nat_lt, count_by, IsTrue, IsFalse}
 use Rattle.std.specs.Int.{bit_at}
 use Rattle.std.specs.List.{Contains, list_any, list_all}
 use Rattle.egt_graph.specs.Graph.{Graph, IsNode}
 use Rattle.egt_graph.specs.Value.{is_empty, is_lost_before, is_won_before, mated_within, mates_within, mated_before}
 use Rattle.egt_graph.specs.Frontier.{is_node}
-use Rattle.egt_graph.specs.Columns.{leaves, has_moves, count_of, entry_at, is_win_of}
-use Rattle.egt_graph.specs.Words.{AreMarks, IsWordOf, number_at, word_in, place_in, words_of}
+use Rattle.egt_graph.specs.Columns.{leaves, has_moves, count_of, entry_at, is_loss, is_win, is_win_of}
+use Rattle.egt_graph.specs.Words.{AllTouched, AreMarks, IsTouched, IsWordOf, number_at, word_in, place_in, words_of}
 use Rattle.egt_graph.specs.declared.word_begin.ExitBits.{ExitBits}
-use Rattle.egt_graph.specs.declared.word_round.News.{News}
-use Rattle.egt_graph.specs.declared.word_round.Parities.{Parities}
 use Rattle.egt_graph.specs.declared.word_run.WordRun.{WordRun}
 
 -- the bit of the number is set
@@ -48,18 +46,16 @@ is_due g r i = list_any (is_lost_before (suc r)) (leaves g i)
 abbrev pub is_leaving : Graph → ℕ → Bool
 is_leaving g i = not (is_empty (leaves g i))
 
--- a move leads to a node lost in exactly r plies
-abbrev pub LeadsToLost : Graph → ℕ → ℕ → Type 0
-LeadsToLost g r i = (j : ℕ) × Contains (g.out i) j × IsTrue (is_lost_at g r j)
+-- an exit is lost, and one is no win, in however many plies
+abbrev pub has_lost_exit : Graph → ℕ → Bool
+has_lost_exit g i = list_any is_loss (leaves g i)
 
--- from the nodes whose numbers have that last bit no move leads there
-abbrev pub NoneLeads : Graph → ℕ → ℕ → Type 0
-NoneLeads g r bit = (i : ℕ) → IsNode g i → i % 2 ≡ bit → ¬ LeadsToLost g r i
+abbrev pub has_held_exit : Graph → ℕ → Bool
+has_held_exit g i = list_any (λ e. not (is_win e)) (leaves g i)
 
--- from nodes with even numbers a move may lead there, and from those with odd ones
-pub record TellsLeading (g : Graph) (r : ℕ) (leading : Parities) : Type 0 where
-  pub even : IsFalse leading.even → NoneLeads g r 0
-  pub odd : IsFalse leading.odd → NoneLeads g r 1
+-- a move leads to a node that passes the test
+abbrev pub LeadsTo : Graph → (ℕ → Bool) → ℕ → Type 0
+LeadsTo g test i = (j : ℕ) × Contains (g.out i) j × IsTrue (test j)
 
 -- what the round finds
 abbrev pub is_found_won : Graph → ℕ → ℕ → Bool
@@ -67,6 +63,20 @@ is_found_won g r i = is_undecided g r i && mates_within g (suc r) i
 
 abbrev pub is_found_lost : Graph → ℕ → ℕ → Bool
 is_found_lost g r i = is_undecided g r i && (not (mates_within g (suc r) i) && mated_within g (suc r) i)
+
+-- ---- words that are to be asked
+
+-- the words are marked from which a move leads to a node that passes the test
+abbrev pub AreTouched : Graph → ℕ → (ℕ → Bool) → List ℕ → Type 0
+AreTouched g span test touched = (i j : ℕ) → IsNode g i → Contains (g.out i) j → IsTrue (test j) → IsTouched touched (word_in span i)
+
+-- if it is of a word below m
+abbrev pub AreTouchedBelow : Graph → ℕ → ℕ → (ℕ → Bool) → List ℕ → Type 0
+AreTouchedBelow g span m test touched = (i j : ℕ) → IsNode g i → Contains (g.out i) j → word_in span j < m → IsTrue (test j) → IsTouched touched (word_in span i)
+
+-- in the words that are not marked each undecided node that is ready has a move to a node that is not won
+abbrev pub AreSaved : Graph → ℕ → ℕ → List ℕ → Type 0
+AreSaved g span r ask = (i : ℕ) → IsTrue (is_undecided g r i) → IsTrue (is_ready g r i) → IsTouched ask (word_in span i) ⊎ LeadsTo g (is_unwon g r) i
 
 -- ---- exits that are not due
 
@@ -101,6 +111,10 @@ pub record AreLong (g : Graph) (span : ℕ) (run : WordRun) : Type 0 where
   pub due : length run.due.items ≡ words_of span g.size
   pub next_unwon : length run.next_unwon.items ≡ words_of span g.size
   pub next_lost : length run.next_lost.items ≡ words_of span g.size
+  pub lost_touched : words_of span g.size ≤ 64 * length run.lost_touched.items
+  pub ask : words_of span g.size ≤ 64 * length run.ask.items
+  pub next_lost_touched : words_of span g.size ≤ 64 * length run.next_lost_touched.items
+  pub next_ask : words_of span g.size ≤ 64 * length run.next_ask.items
 
 pub record IsAt (g : Graph) (span r : ℕ) (run : WordRun) : Type 0 where
   pub long : AreLong g span run
@@ -111,6 +125,8 @@ pub record IsAt (g : Graph) (span r : ℕ) (run : WordRun) : Type 0 where
   pub ready : AreTold span (is_ready g r) run.ready.items
   pub due : AreTold span (is_due g r) run.due.items
   pub exits : (i : ℕ) → HasExits g r run.pending.items run.lost_due run.won_due i
+  pub lost_touched : AreTouched g span (is_lost_at g r) run.lost_touched.items
+  pub saved : AreSaved g span r run.ask.items
 
 -- the run within the round: the words below m are done
 pub record IsSwept (g : Graph) (span r m : ℕ) (run : WordRun) : Type 0 where
@@ -126,16 +142,20 @@ pub record IsSwept (g : Graph) (span r m : ℕ) (run : WordRun) : Type 0 where
   pub ready : AreTold span (is_ready g r) run.ready.items
   pub due : AreTold span (is_due g r) run.due.items
   pub exits : (i : ℕ) → HasExits g r run.pending.items run.lost_due run.won_due i
+  pub lost_touched : AreTouched g span (is_lost_at g r) run.lost_touched.items
+  pub saved : AreSaved g span r run.ask.items
+  pub next_lost_touched : AreTouchedBelow g span m (is_found_lost g r) run.next_lost_touched.items
+  pub next_ask : AreTouchedBelow g span m (is_found_won g r) run.next_ask.items
+  pub lost_full : AllTouched (64 * run.lost_full) run.next_lost_touched.items
+  pub ask_full : AllTouched (64 * run.ask_full) run.next_ask.items
 
 abbrev pub is_found : Graph → ℕ → ℕ → Bool
 is_found g r i = is_found_won g r i || is_found_lost g r i
 
--- whether the words below m tell of anything that the round finds, of an even node that is lost, and of an odd one
-pub record IsNews (g : Graph) (span r m : ℕ) (news : News) : Type 0 where
-  pub found : IsTrue news.some → (i : ℕ) × IsTrue (is_found g r i)
-  pub none : IsFalse news.some → (i : ℕ) → word_in span i < m → IsFalse (is_found g r i)
-  pub no_even : IsFalse news.even_lost → (i : ℕ) → word_in span i < m → i % 2 ≡ 0 → IsFalse (is_found_lost g r i)
-  pub no_odd : IsFalse news.odd_lost → (i : ℕ) → word_in span i < m → i % 2 ≡ 1 → IsFalse (is_found_lost g r i)
+-- whether the words below m tell of anything that the round finds
+pub record IsNews (g : Graph) (span r m : ℕ) (news : Bool) : Type 0 where
+  pub found : IsTrue news → (i : ℕ) × IsTrue (is_found g r i)
+  pub none : IsFalse news → (i : ℕ) → word_in span i < m → IsFalse (is_found g r i)
 
 -- ---- before round 0
 
@@ -154,6 +174,8 @@ pub record IsListedWord (g : Graph) (span word : ℕ) (bits : ExitBits) : Type 0
   pub leaving : IsWordOf span word (is_leaving g) bits.leaving
   pub due : IsToldOf span word (is_due g 0) bits.due
   pub ready : IsToldOf span word (is_ready g 0) bits.ready
+  pub losing : IsWordOf span word (has_lost_exit g) bits.losing
+  pub holding : IsWordOf span word (has_held_exit g) bits.holding
 
 -- nothing is listed
 pub record IsBare (g : Graph) (span : ℕ) (run : WordRun) : Type 0 where

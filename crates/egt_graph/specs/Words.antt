@@ -25,6 +25,14 @@ place_in span i = i % (2 * span) / 2
 abbrev pub IsIn : ℕ → List ℕ → ℕ → Type 0
 IsIn span marks i = bit_at (slice_index marks (word_in span i)) (place_in span i) ≡ 1
 
+-- the word is marked in a list with a bit a word
+abbrev pub IsTouched : List ℕ → ℕ → Type 0
+IsTouched touched w = bit_at (slice_index touched (w / 64)) (w % 64) ≡ 1
+
+-- the words below n are
+abbrev pub AllTouched : ℕ → List ℕ → Type 0
+AllTouched n touched = (w : ℕ) → w < n → IsTouched touched w
+
 -- how many words there are
 abbrev pub words_of : ℕ → ℕ → ℕ
 words_of span size = 2 * ((size + (2 * span - 1)) / (2 * span))
@@ -81,11 +89,6 @@ word_in-number_at span word k lt =
     let block = block_of_number span word k lt in
     let odd = parity_of_number span word k in
     omega (arith, block, odd)
-
--- a number and its word are both even or both odd
-pub parity_of_word : (span i : ℕ) → word_in span i % 2 ≡ i % 2
-unfolding word_in
-parity_of_word span i = even_more (i / (2 * span) * 2 + i % 2) (i / (2 * span)) (i % 2) (omega arith) (omega arith)
 
 pub place_in-number_at : (span word k : ℕ) → k < span → place_in span (number_at span word k) ≡ k
 unfolding place_in

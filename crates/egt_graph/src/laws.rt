@@ -1,6 +1,7 @@
 //! Laws over the definitions alone. Each is the contract of a function that does nothing.
 ghost use Rattle.egt_graph.specs.Events.{EventsLeave, EachRoundIsOfItsRank, FinishedRunsAgree};
 ghost use Rattle.egt_graph.specs.Laws.{MorePliesDoNoHarm, EachNodeHasOneValue, AlikeGamesHaveTheSameRanks};
+ghost use Rattle.egt_graph.specs.StandIns.{StandInsAreAsDeep, StandInsShareEntries, StandInsTellRanks};
 
 /// A mate within n plies is a mate within more.
 pub fn more_plies_do_no_harm()
@@ -32,4 +33,11 @@ pub fn finished_runs_agree()
 /// Games whose calls all answer alike have the same ranks.
 pub fn alike_games_have_the_same_ranks()
     ensures { AlikeGamesHaveTheSameRanks }
+{}
+
+/// Of a game whose nodes stand for those of another, each of which stands for itself, the ranks of these are the ranks of the other.
+pub fn stand_ins_tell_ranks()
+    ensures ranks { StandInsTellRanks }
+    ensures deep { StandInsAreAsDeep }
+    ensures entries { StandInsShareEntries }
 {}

@@ -8,6 +8,7 @@ mod begin;
 mod columns;
 mod comb;
 mod counts;
+mod exit_marks;
 mod game;
 pub mod laws;
 mod marks;
@@ -17,6 +18,7 @@ mod scan;
 mod schedule;
 mod solver;
 mod step;
+mod touched;
 mod waiting;
 mod word_begin;
 mod word_exits;
@@ -30,6 +32,7 @@ pub use answer::{Close, Post};
 pub use batch::Batch;
 pub use comb::Comb;
 pub use counts::Count;
+pub use exit_marks::ExitMarks;
 pub use game::{Exit, Game, Start};
 pub use marks::{bit_of, word_of};
 pub use ranks::Ranks;
@@ -37,11 +40,12 @@ pub use rounds::Rounds;
 pub use scan::frontier;
 pub use solver::{SolveFault, solve, solve_and_count};
 pub use std::alloc::AllocError as NoMemory;
+pub use touched::touch_word;
 pub use word_moves::{
     Listed, Pushes, TurnedWay, Way, lead_by, lead_by_lists, lead_by_pushes, turned, turned_eights,
 };
 pub use word_solver::solve_by_words;
-pub use words::{Shelved, WordStart, any_in, is_in, number_at, place_in, word_in, words_of};
+pub use words::{Shelved, WordStart, is_in, number_at, place_in, word_in, words_of};
 
 #[cfg(test)]
 mod tests;

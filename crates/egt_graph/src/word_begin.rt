@@ -3,29 +3,38 @@ ghost use Rattle.std.specs.Prelude.{◌≡◌, ◌==◌, ◌↔◌, ◌⊎◌, �
 ghost use Rattle.std.specs.Int.{bit_at};
 ghost use Rattle.std.specs.List.{list_any};
 ghost use Rattle.egt_graph.specs.Graph.{IsNode};
+ghost use Rattle.egt_graph.specs.Columns.{is_loss, is_win};
+ghost use Rattle.egt_graph.specs.ExitMarks.{AreExitMarks, AreExitMarksBelow};
 ghost use Rattle.egt_graph.specs.Value.{is_empty, is_lost_before, is_won_before};
 ghost use Rattle.egt_graph.specs.Words.{number_at, place_in, word_in, words_of};
 ghost use Rattle.egt_graph.specs.WordRound.{IsAt, IsBare, IsListed, IsListedWord, IsSettled, AreListed};
 
 use crate::begin::schedule_exits;
 use crate::columns::DRAW;
+use crate::exit_marks::ExitMarks;
 use crate::game::Exit;
 use crate::schedule::Schedule;
-use crate::word_exits::{count_waiting, has_lost};
+use crate::touched::{marks_of, touch_all};
+use crate::word_exits::{any_held, any_lost, count_waiting, has_lost};
 use crate::word_round::leading;
 use crate::word_run::WordRun;
 use crate::words::{Shelved, number_at, words_of};
 use arrayvec::ArrayVec;
 use std::alloc::{AllocError, Global};
 
-/// The run before round 0, with the exits of 0 plies.
-pub(crate) fn begin_words<G: Shelved>(alloc: Global, game: &G) -> Result<WordRun, AllocError>
-    ensures { IfOk result (IsAt (G.graph game.now) (G.span game.now) 0) }
+/// The run before round 0, with the exits of 0 plies, and what all exits are.
+pub(crate) fn begin_words<G: Shelved>(
+    alloc: Global,
+    game: &G,
+) -> Result<(WordRun, ExitMarks), AllocError>
+    ensures run { IfOk result (λ begun. IsAt (G.graph game.now) (G.span game.now) 0 begun.0) }
+    ensures marks { IfOk result (λ begun. AreExitMarks (G.graph game.now) (G.span game.now) begun.1) }
 {
     let mut run = empty_run(alloc, game)?;
-    list_exits(alloc, game, &mut run)?;
+    let mut marks = empty_marks(alloc, game)?;
+    list_exits(alloc, game, &mut run, &mut marks)?;
     settle(game, &mut run);
-    Ok(run)
+    Ok((run, marks))
 }
 
 /// A run that knows nothing.
@@ -34,6 +43,7 @@ fn empty_run<G: Shelved>(alloc: Global, game: &G) -> Result<WordRun, AllocError>
 {
     let size = game.size();
     let words = words_of(game.span(), size);
+    let marks = marks_of(words);
     Ok(WordRun {
         entries: vec![in alloc; 0; size as usize]?,
         pending: vec![in alloc; 0; size as usize]?,
@@ -44,20 +54,45 @@ fn empty_run<G: Shelved>(alloc: Global, game: &G) -> Result<WordRun, AllocError>
         due: vec![in alloc; 0; words]?,
         next_unwon: vec![in alloc; 0; words]?,
         next_lost: vec![in alloc; 0; words]?,
+        lost_touched: vec![in alloc; 0; marks]?,
+        ask: vec![in alloc; 0; marks]?,
+        next_lost_touched: vec![in alloc; 0; marks]?,
+        next_ask: vec![in alloc; 0; marks]?,
+        lost_full: 0,
+        ask_full: 0,
         lost_due: Schedule::new(alloc),
         won_due: Schedule::new(alloc),
     })
 }
 
+/// Marks that tell of no word.
+fn empty_marks<G: Shelved>(alloc: Global, game: &G) -> Result<ExitMarks, AllocError>
+    ensures { IfOk result (AreExitMarksBelow (G.graph game.now) (G.span game.now) 0) }
+{
+    let words = words_of(game.span(), game.size());
+    Ok(ExitMarks {
+        leaving: vec![in alloc; 0; words]?,
+        lost: vec![in alloc; 0; words]?,
+        held: vec![in alloc; 0; words]?,
+    })
+}
+
 /// Which numbers are nodes, and what their exits are.
-fn list_exits<G: Shelved>(alloc: Global, game: &G, run: &mut WordRun) -> Result<(), AllocError>
-    requires { IsBare (G.graph game.now) (G.span game.now) run.old }
-    ensures { OnOk result (IsListed (G.graph game.now) (G.span game.now) (words_of (G.span game.now) (G.graph game.now).size) run.new) }
+fn list_exits<G: Shelved>(
+    alloc: Global,
+    game: &G,
+    run: &mut WordRun,
+    marks: &mut ExitMarks,
+) -> Result<(), AllocError>
+    requires bare { IsBare (G.graph game.now) (G.span game.now) run.old }
+    requires empty { AreExitMarksBelow (G.graph game.now) (G.span game.now) 0 marks.old }
+    ensures listed { OnOk result (IsListed (G.graph game.now) (G.span game.now) (words_of (G.span game.now) (G.graph game.now).size) run.new) }
+    ensures marked { OnOk result (AreExitMarks (G.graph game.now) (G.span game.now) marks.new) }
 {
     let words = words_of(game.span(), game.size());
     let mut exits = ArrayVec::new();
     for word in 0..words {
-        list_word(alloc, game, word as u32, &mut exits, run)?;
+        list_word(alloc, game, word as u32, &mut exits, run, marks)?;
     }
     Ok(())
 }
@@ -73,6 +108,10 @@ pub(crate) struct ExitBits {
     pub(crate) due: u64,
     /// Those whose exits are all won in 0 plies.
     pub(crate) ready: u64,
+    /// Those with an exit that is lost, in however many plies.
+    pub(crate) losing: u64,
+    /// Those with an exit that is no win.
+    pub(crate) holding: u64,
 }
 
 /// One word more.
@@ -82,10 +121,13 @@ fn list_word<G: Shelved>(
     word: u32,
     exits: &mut ArrayVec<Exit, 64>,
     run: &mut WordRun,
+    marks: &mut ExitMarks,
 ) -> Result<(), AllocError>
     requires word { word < words_of (G.span game.now) (G.graph game.now).size }
     requires listed { IsListed (G.graph game.now) (G.span game.now) word run.old }
-    ensures { OnOk result (IsListed (G.graph game.now) (G.span game.now) (word + 1) run.new) }
+    requires marked { AreExitMarksBelow (G.graph game.now) (G.span game.now) word marks.old }
+    ensures listed { OnOk result (IsListed (G.graph game.now) (G.span game.now) (word + 1) run.new) }
+    ensures marked { OnOk result (AreExitMarksBelow (G.graph game.now) (G.span game.now) (word + 1) marks.new) }
 {
     let bits = list_nodes(
         alloc,
@@ -101,6 +143,9 @@ fn list_word<G: Shelved>(
     run.undecided[w] = bits.leaving;
     run.due[w] = bits.due;
     run.ready[w] = bits.ready;
+    marks.leaving[w] = bits.leaving;
+    marks.lost[w] = bits.losing;
+    marks.held[w] = bits.holding;
     Ok(())
 }
 
@@ -128,11 +173,13 @@ fn list_nodes<G: Shelved>(
         leaving: start.told & start.leaving,
         due: start.told & start.lost,
         ready: start.told & !start.held,
+        losing: start.told & start.lost,
+        holding: start.told & start.held,
     };
     for k in 0..span {
         if ((start.nodes & !start.told) >> k) & 1 == 1 {
             let i = number_at(span, word, k) as u32;
-            let _start = game.start(i, exits);
+            game.list_exits(i, exits);
             let node_exits = exits.as_slice();
             pending[i as usize] = count_waiting(node_exits);
             schedule_exits(alloc, node_exits, i, lost_due, won_due)?;
@@ -150,12 +197,16 @@ fn with_exits(bits: ExitBits, k: u32, exits: &[Exit]) -> ExitBits
     ensures leaving { (j : ℕ) → bit_at result.leaving j ≡ 1 ↔ ((bit_at bits.leaving j ≡ 1) ⊎ ((j ≡ k) × IsTrue (not (is_empty exits.now)))) }
     ensures due { (j : ℕ) → bit_at result.due j ≡ 1 ↔ ((bit_at bits.due j ≡ 1) ⊎ ((j ≡ k) × IsTrue (list_any (is_lost_before 1) exits.now))) }
     ensures ready { (j : ℕ) → bit_at result.ready j ≡ 1 ↔ ((bit_at bits.ready j ≡ 1) ⊎ ((j ≡ k) × IsTrue (count_by (λ e. not (is_won_before 1 e)) exits.now == 0))) }
+    ensures losing { (j : ℕ) → bit_at result.losing j ≡ 1 ↔ ((bit_at bits.losing j ≡ 1) ⊎ ((j ≡ k) × IsTrue (list_any is_loss exits.now))) }
+    ensures holding { (j : ℕ) → bit_at result.holding j ≡ 1 ↔ ((bit_at bits.holding j ≡ 1) ⊎ ((j ≡ k) × IsTrue (list_any (λ e. not (is_win e)) exits.now))) }
 {
     ExitBits {
         nodes: bits.nodes,
         leaving: with_bit(bits.leaving, k, !exits.is_empty()),
         due: with_bit(bits.due, k, has_lost(exits)),
         ready: with_bit(bits.ready, k, count_waiting(exits) == 0),
+        losing: with_bit(bits.losing, k, any_lost(exits)),
+        holding: with_bit(bits.holding, k, any_held(exits)),
     }
 }
 
@@ -171,7 +222,7 @@ fn with_bit(bits: u64, k: u32, set: bool) -> u64
     bits
 }
 
-/// Which nodes have moves, and which of the others are checkmates.
+/// Which nodes have moves, and which of the others are checkmates. Each word is to be asked in round 0.
 fn settle<G: Shelved>(game: &G, run: &mut WordRun)
     requires { IsListed (G.graph game.now) (G.span game.now) (words_of (G.span game.now) (G.graph game.now).size) run.old }
     ensures { IsAt (G.graph game.now) (G.span game.now) 0 run.new }
@@ -180,6 +231,8 @@ fn settle<G: Shelved>(game: &G, run: &mut WordRun)
     for word in 0..words {
         settle_word(game, word as u32, run);
     }
+    touch_all(&mut run.lost_touched);
+    touch_all(&mut run.ask);
 }
 
 fn settle_word<G: Shelved>(game: &G, word: u32, run: &mut WordRun)

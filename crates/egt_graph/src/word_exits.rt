@@ -1,12 +1,13 @@
 //! Exits of nodes, where the game tells of a node alone.
-ghost use Rattle.std.specs.Prelude.{◌≡◌, ◌==◌, ◌-◌, ◌&&◌, ◌||◌, ℕ, ◌<◌, ◌≤◌, not, length, slice_index, count_by, nat_lt, All, if◌then◌else◌};
+ghost use Rattle.std.specs.Prelude.{◌≡◌, ◌==◌, ◌-◌, ◌*◌, ◌&&◌, ◌||◌, ◌⊎◌, ℕ, ◌<◌, ◌≤◌, IsTrue, not, length, slice_index, count_by, nat_lt, All, if◌then◌else◌};
 ghost use Rattle.std.specs.List.{list_any};
-ghost use Rattle.egt_graph.specs.Columns.{count_of};
+ghost use Rattle.egt_graph.specs.Columns.{count_of, is_loss, is_win};
 ghost use Rattle.egt_graph.specs.Value.{is_lost_before, is_won_before};
 ghost use Rattle.egt_graph.specs.WordRound.{is_marked_in};
-ghost use Rattle.egt_graph.specs.Words.{place_in, word_in, words_of};
+ghost use Rattle.egt_graph.specs.Words.{IsTouched, place_in, word_in};
 
 use crate::game::Exit;
+use crate::touched::touch_word;
 use crate::words::{place_in, word_in};
 
 /// Is some exit lost in 0 plies?
@@ -48,6 +49,20 @@ fn is_won(exit: Exit) -> bool
     }
 }
 
+/// Is some exit lost, in however many plies?
+pub(crate) fn any_lost(exits: &[Exit]) -> bool
+    ensures { result ≡ list_any is_loss exits.now }
+{
+    exits.iter().any(|exit| matches!(*exit, Exit::Loss(_)))
+}
+
+/// Is some exit no win, in however many plies?
+pub(crate) fn any_held(exits: &[Exit]) -> bool
+    ensures { result ≡ list_any (λ e. not (is_win e)) exits.now }
+{
+    exits.iter().any(|exit| !matches!(*exit, Exit::Win(_)))
+}
+
 /// Sets the number's bit.
 #[inline(always)]
 fn mark_in(span: u32, marks: &mut [u64], i: u32)
@@ -71,34 +86,47 @@ pub(crate) fn lose_exits(span: u32, due: &mut [u64], nodes: &[u32])
     }
 }
 
-/// Won exits of these nodes fall due, for each as often as it comes. Those for which none is left are ready.
-pub(crate) fn win_exits(span: u32, pending: &mut [u8], ready: &mut [u64], nodes: &[u32])
+/// Won exits of these nodes fall due, for each as often as it comes. Those for which none is left are ready, and their words are to be asked.
+pub(crate) fn win_exits(
+    span: u32,
+    pending: &mut [u8],
+    ready: &mut [u64],
+    ask: &mut [u64],
+    nodes: &[u32],
+)
     requires some { 0 < span }
     requires few { span ≤ 64 }
     requires within { All (λ i. word_in span i < length ready.old) nodes.now }
     requires nodes_within { All (λ i. i < length pending.old) nodes.now }
+    requires ask_within { All (λ i. word_in span i < 64 * length ask.old) nodes.now }
     ensures pending { (i : ℕ) → slice_index pending.new i ≡ slice_index pending.old i - count_of i nodes.now }
     ensures ready { (i : ℕ) → is_marked_in span ready.new i
         ≡ (is_marked_in span ready.old i || (nat_lt 0 (count_of i nodes.now) && (slice_index pending.new i == 0))) }
+    ensures kept { (w : ℕ) → IsTouched ask.old w → IsTouched ask.new w }
+    ensures asked { (i : ℕ) → IsTrue (is_marked_in span ready.new i) → IsTrue (is_marked_in span ready.old i) ⊎ IsTouched ask.new (word_in span i) }
 {
     for node in nodes {
-        win_exit(span, pending, ready, *node);
+        win_exit(span, pending, ready, ask, *node);
     }
 }
 
 #[inline(always)]
-fn win_exit(span: u32, pending: &mut [u8], ready: &mut [u64], node: u32)
+fn win_exit(span: u32, pending: &mut [u8], ready: &mut [u64], ask: &mut [u64], node: u32)
     requires some { 0 < span }
     requires few { span ≤ 64 }
     requires within { word_in span node < length ready.old }
     requires node_within { node < length pending.old }
+    requires ask_within { word_in span node < 64 * length ask.old }
     ensures pending { (i : ℕ) → slice_index pending.new i ≡ slice_index pending.old i - (if node == i then 1 else 0) }
     ensures ready { (i : ℕ) → is_marked_in span ready.new i
         ≡ (is_marked_in span ready.old i || ((node == i) && (slice_index pending.new i == 0))) }
+    ensures kept { (w : ℕ) → IsTouched ask.old w → IsTouched ask.new w }
+    ensures asked { (i : ℕ) → IsTrue (is_marked_in span ready.new i) → IsTrue (is_marked_in span ready.old i) ⊎ IsTouched ask.new (word_in span i) }
 {
     let left = pending[node as usize].saturating_sub(1);
     pending[node as usize] = left;
     if left == 0 {
         mark_in(span, ready, node);
+        touch_word(ask, word_in(span, node));
     }
 }

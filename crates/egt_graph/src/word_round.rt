@@ -1,12 +1,12 @@
 //! One round of a run by words.
-ghost use Rattle.std.specs.Prelude.{◌≡◌, ◌==◌, ◌↔◌, ◌⊎◌, ℕ, suc, ◌+◌, ◌*◌, ◌%◌, ◌<◌, ◌≤◌, length, slice_index, IsFalse, IsTrue};
+ghost use Rattle.std.specs.Prelude.{◌≡◌, ◌==◌, ◌↔◌, ◌⊎◌, ℕ, suc, ◌+◌, ◌*◌, ◌<◌, ◌≤◌, length, slice_index, IsFalse, IsTrue};
 ghost use Rattle.std.specs.Int.{bit_at};
 ghost use Rattle.std.specs.List.{Contains};
 ghost use Rattle.egt_graph.specs.Graph.{IsNode};
-ghost use Rattle.egt_graph.specs.Words.{AreMarks, IsIn, IsWordOf, number_at, words_of};
-ghost use Rattle.egt_graph.specs.WordRound.{is_undecided, is_due, is_ready, is_lost_at, is_unwon, is_found_won, is_found_lost, LeadsToLost, TellsLeading, IsToldOf, IsAt, IsSwept, IsNews};
+ghost use Rattle.egt_graph.specs.Words.{AllTouched, AreMarks, IsIn, IsTouched, IsWordOf, number_at, place_in, word_in, words_of};
+ghost use Rattle.egt_graph.specs.WordRound.{is_undecided, is_due, is_ready, is_lost_at, is_unwon, is_found_won, is_found_lost, LeadsTo, IsToldOf, IsAt, IsSwept, IsNews};
 
-use crate::game::Game;
+use crate::touched::{full_from, is_touched};
 use crate::word_begin::put_entries;
 use crate::word_exits::{lose_exits, win_exits};
 use crate::word_run::WordRun;
@@ -19,24 +19,6 @@ pub(crate) struct Found {
     pub(crate) won: u64,
     /// Those that lose in one ply more.
     pub(crate) lost: u64,
-}
-
-/// What is found in a round.
-#[derive(Clone, Copy)]
-pub(crate) struct News {
-    /// Is anything?
-    pub(crate) some: bool,
-    /// Is a lost node of an even number?
-    pub(crate) even_lost: bool,
-    /// Is one of an odd number?
-    pub(crate) odd_lost: bool,
-}
-
-/// Whether something may hold of a node with an even number, and whether of one with an odd number.
-#[derive(Clone, Copy)]
-pub(crate) struct Parities {
-    pub(crate) even: bool,
-    pub(crate) odd: bool,
 }
 
 /// What `lead_to` answers, which is not asked where that is clear.
@@ -59,8 +41,28 @@ pub(crate) fn leading<G: Shelved>(game: &G, word: u32, asked: u64, marks: &[u64]
     }
 }
 
-/// Which undecided nodes of the word are decided in one ply more. The nodes that were lost in this round are not looked for where
-/// it is clear that no move leads to one.
+/// The same, where a move leads to a marked node from each of the asked nodes if the game is not to be asked.
+#[inline(always)]
+fn still_leading<G: Shelved>(game: &G, word: u32, asked: u64, marks: &[u64], ask: bool) -> u64
+    requires word { word < words_of (G.span game.now) (G.graph game.now).size }
+    requires asked { (k : ℕ) → bit_at asked k ≡ 1
+        → (k < G.span game.now) × IsNode (G.graph game.now) (number_at (G.span game.now) word k) }
+    requires long { words_of (G.span game.now) (G.graph game.now).size ≤ length marks.now }
+    requires marks { (i : ℕ) → IsIn (G.span game.now) marks.now i → IsNode (G.graph game.now) i }
+    requires all { IsFalse ask → (k : ℕ) → bit_at asked k ≡ 1
+        → (j : ℕ) × Contains ((G.graph game.now).out (number_at (G.span game.now) word k)) j × IsIn (G.span game.now) marks.now j }
+    ensures { (k : ℕ) → bit_at result k ≡ 1 ↔ ((bit_at asked k ≡ 1)
+        × ((j : ℕ) × Contains ((G.graph game.now).out (number_at (G.span game.now) word k)) j × IsIn (G.span game.now) marks.now j)) }
+{
+    if ask {
+        leading(game, word, asked, marks, true)
+    } else {
+        asked
+    }
+}
+
+/// Which undecided nodes of the word are decided in one ply more. The nodes that were lost in this round are not looked for where it is clear
+/// that no move leads to one, nor those that are not won where it is clear that from each ready node one still does.
 #[inline(always)]
 fn decide_word<G: Shelved>(
     game: &G,
@@ -71,6 +73,7 @@ fn decide_word<G: Shelved>(
     lost: &[u64],
     unwon: &[u64],
     leading_lost: bool,
+    ask: bool,
     _round: u16,
 ) -> Found
     requires word { word < words_of (G.span game.now) (G.graph game.now).size }
@@ -81,8 +84,11 @@ fn decide_word<G: Shelved>(
     requires unwon_long { length unwon.now ≡ words_of (G.span game.now) (G.graph game.now).size }
     requires lost { AreMarks (G.span game.now) (is_lost_at (G.graph game.now) _round) lost.now }
     requires unwon { AreMarks (G.span game.now) (is_unwon (G.graph game.now) _round) unwon.now }
-    requires none_leads { IsFalse leading_lost → (k : ℕ) → IsNode (G.graph game.now) (number_at (G.span game.now) word k)
-        → ¬ LeadsToLost (G.graph game.now) _round (number_at (G.span game.now) word k) }
+    requires none_leads { IsFalse leading_lost → (k : ℕ) → k < G.span game.now → IsNode (G.graph game.now) (number_at (G.span game.now) word k)
+        → ¬ LeadsTo (G.graph game.now) (is_lost_at (G.graph game.now) _round) (number_at (G.span game.now) word k) }
+    requires saved { IsFalse ask → (k : ℕ) → k < G.span game.now → IsTrue (is_undecided (G.graph game.now) _round (number_at (G.span game.now) word k))
+        → IsTrue (is_ready (G.graph game.now) _round (number_at (G.span game.now) word k))
+        → LeadsTo (G.graph game.now) (is_unwon (G.graph game.now) _round) (number_at (G.span game.now) word k) }
     ensures won { IsWordOf (G.span game.now) word (is_found_won (G.graph game.now) _round) result.won }
     ensures lost { IsWordOf (G.span game.now) word (is_found_lost (G.graph game.now) _round) result.lost }
 {
@@ -90,108 +96,84 @@ fn decide_word<G: Shelved>(
     let moved = leading(game, word, undecided & !due, lost, leading_lost);
     let won = (undecided & due) | moved;
     let rest = undecided & !won & ready;
-    let saved = leading(game, word, rest, unwon, true);
+    let saved = still_leading(game, word, rest, unwon, ask);
     Found {
         won,
         lost: rest & !saved,
     }
 }
 
-/// The words of the next round, and the entries of what is found in this.
-pub(crate) fn sweep<G: Shelved>(game: &G, run: &mut WordRun, round: u16, leading: Parities) -> News
+/// The words of the next round, and the entries of what is found in this. Is anything?
+pub(crate) fn sweep<G: Shelved>(game: &G, run: &mut WordRun, round: u16) -> bool
     requires short { round ≤ 32000 }
     requires at { IsAt (G.graph game.now) (G.span game.now) round run.old }
-    requires leading { TellsLeading (G.graph game.now) round leading }
     ensures swept { IsSwept (G.graph game.now) (G.span game.now) round (words_of (G.span game.now) (G.graph game.now).size) run.new }
     ensures news { IsNews (G.graph game.now) (G.span game.now) round (words_of (G.span game.now) (G.graph game.now).size) result }
 {
     let span = game.span();
-    let mut news = News {
-        some: false,
-        even_lost: false,
-        odd_lost: false,
-    };
+    run.next_lost_touched.fill(0);
+    run.next_ask.fill(0);
+    run.lost_full = 0;
+    run.ask_full = 0;
+    let mut news = false;
     for word in 0..words_of(span, game.size()) {
-        let found = sweep_word(game, run, word as u32, round, leading);
-        news = with_found(news, word as u32, found);
+        let found = sweep_word(game, run, word as u32, round);
+        news = with_found(news, found);
     }
     news
 }
 
-/// What was found before, and in one word more.
+/// Was anything found before, or in one word more?
 #[inline(always)]
-fn with_found(news: News, word: u32, found: Found) -> News
-    ensures some { IsTrue result.some → IsTrue news.some ⊎ ((k : ℕ) × ((bit_at found.won k ≡ 1) ⊎ (bit_at found.lost k ≡ 1))) }
-    ensures none { IsFalse result.some → IsFalse news.some × (found.won ≡ 0) × (found.lost ≡ 0) }
-    ensures no_even { IsFalse result.even_lost → IsFalse news.even_lost × (word % 2 ≡ 0 → found.lost ≡ 0) }
-    ensures no_odd { IsFalse result.odd_lost → IsFalse news.odd_lost × (word % 2 ≡ 1 → found.lost ≡ 0) }
+fn with_found(news: bool, found: Found) -> bool
+    ensures some { IsTrue result → IsTrue news ⊎ ((k : ℕ) × ((bit_at found.won k ≡ 1) ⊎ (bit_at found.lost k ≡ 1))) }
+    ensures none { IsFalse result → IsFalse news × (found.won ≡ 0) × (found.lost ≡ 0) }
 {
-    if found.lost != 0 {
-        if word % 2 == 0 {
-            return News {
-                some: true,
-                even_lost: true,
-                odd_lost: news.odd_lost,
-            };
-        }
-        return News {
-            some: true,
-            even_lost: news.even_lost,
-            odd_lost: true,
-        };
-    }
-    if found.won != 0 {
-        return News {
-            some: true,
-            even_lost: news.even_lost,
-            odd_lost: news.odd_lost,
-        };
+    if found.lost != 0 || found.won != 0 {
+        return true;
     }
     news
 }
 
-/// Which nodes may have a move to one that the round found lost. Where the game alternates they are of the other parity.
-pub(crate) fn next_leading(alternates: bool, news: News) -> Parities
-    ensures even { IsFalse result.even → IsFalse news.odd_lost × (IsTrue alternates ⊎ IsFalse news.even_lost) }
-    ensures odd { IsFalse result.odd → IsFalse news.even_lost × (IsTrue alternates ⊎ IsFalse news.odd_lost) }
+/// Marks the words from which a move leads to a node of this word. Where all are marked the game is not asked: one that does not tell marks all of
+/// them for each word.
+fn touch_more<G: Shelved>(game: &G, word: u32, touched: &mut [u64], full: &mut usize)
+    requires word { word < words_of (G.span game.now) (G.graph game.now).size }
+    requires long { words_of (G.span game.now) (G.graph game.now).size ≤ 64 * length touched.old }
+    requires full { AllTouched (64 * full.old) touched.old }
+    ensures full { AllTouched (64 * full.new) touched.new }
+    ensures kept { (w : ℕ) → IsTouched touched.old w → IsTouched touched.new w }
+    ensures touched { (i j : ℕ) → IsNode (G.graph game.now) i → Contains ((G.graph game.now).out i) j → word_in (G.span game.now) j ≡ word
+        → IsTouched touched.new (word_in (G.span game.now) i) }
 {
-    if alternates {
-        return Parities {
-            even: news.odd_lost,
-            odd: news.even_lost,
-        };
-    }
-    let any = news.even_lost || news.odd_lost;
-    Parities {
-        even: any,
-        odd: any,
+    let _span = game.span();
+    if *full < touched.len() {
+        game.touch(word, touched);
+        *full = full_from(touched, *full);
     }
 }
 
-/// May a node of the word have such a move? The numbers of an even word are even, those of an odd one odd.
+/// Marks the words from which a move leads to one of these nodes of the word.
 #[inline(always)]
-fn may_lead(leading: Parities, word: u32) -> bool
-    ensures { IsFalse result → ((word % 2 ≡ 0) × IsFalse leading.even) ⊎ ((word % 2 ≡ 1) × IsFalse leading.odd) }
+fn touch_from<G: Shelved>(game: &G, word: u32, nodes: u64, touched: &mut [u64], full: &mut usize)
+    requires word { word < words_of (G.span game.now) (G.graph game.now).size }
+    requires long { words_of (G.span game.now) (G.graph game.now).size ≤ 64 * length touched.old }
+    requires full { AllTouched (64 * full.old) touched.old }
+    ensures full { AllTouched (64 * full.new) touched.new }
+    ensures kept { (w : ℕ) → IsTouched touched.old w → IsTouched touched.new w }
+    ensures touched { (i j : ℕ) → IsNode (G.graph game.now) i → Contains ((G.graph game.now).out i) j → word_in (G.span game.now) j ≡ word
+        → bit_at nodes (place_in (G.span game.now) j) ≡ 1 → IsTouched touched.new (word_in (G.span game.now) i) }
 {
-    if word % 2 == 0 {
-        leading.even
-    } else {
-        leading.odd
+    if nodes != 0 {
+        touch_more(game, word, touched, full);
     }
 }
 
 #[inline(always)]
-fn sweep_word<G: Shelved>(
-    game: &G,
-    run: &mut WordRun,
-    word: u32,
-    round: u16,
-    leading: Parities,
-) -> Found
+fn sweep_word<G: Shelved>(game: &G, run: &mut WordRun, word: u32, round: u16) -> Found
     requires short { round ≤ 32000 }
     requires word { word < words_of (G.span game.now) (G.graph game.now).size }
     requires swept { IsSwept (G.graph game.now) (G.span game.now) round word run.old }
-    requires leading { TellsLeading (G.graph game.now) round leading }
     ensures swept { IsSwept (G.graph game.now) (G.span game.now) round (word + 1) run.new }
     ensures won { IsWordOf (G.span game.now) word (is_found_won (G.graph game.now) round) result.won }
     ensures lost { IsWordOf (G.span game.now) word (is_found_lost (G.graph game.now) round) result.lost }
@@ -207,7 +189,8 @@ fn sweep_word<G: Shelved>(
         run.ready[w],
         &run.lost,
         &run.unwon,
-        may_lead(leading, word),
+        is_touched(&run.lost_touched, w),
+        is_touched(&run.ask, w),
         round,
     );
     run.undecided[w] = undecided & !found.won & !found.lost;
@@ -215,6 +198,14 @@ fn sweep_word<G: Shelved>(
     run.next_lost[w] = found.lost;
     put_entries(&mut run.entries, span, word, found.won, 4 + 2 * round);
     put_entries(&mut run.entries, span, word, found.lost, 5 + 2 * round);
+    touch_from(
+        game,
+        word,
+        found.lost,
+        &mut run.next_lost_touched,
+        &mut run.lost_full,
+    );
+    touch_from(game, word, found.won, &mut run.next_ask, &mut run.ask_full);
     found
 }
 
@@ -233,13 +224,25 @@ pub(crate) fn next_round<G: Shelved>(game: &G, run: WordRun, round: u16) -> Word
         lost,
         mut ready,
         mut due,
+        lost_touched,
+        ask,
         next_unwon,
         next_lost,
+        next_lost_touched,
+        mut next_ask,
+        lost_full,
+        ask_full,
         lost_due,
         won_due,
     } = run;
     lose_exits(span, &mut due, lost_due.due(round + 1));
-    win_exits(span, &mut pending, &mut ready, won_due.due(round + 1));
+    win_exits(
+        span,
+        &mut pending,
+        &mut ready,
+        &mut next_ask,
+        won_due.due(round + 1),
+    );
     WordRun {
         entries,
         pending,
@@ -248,8 +251,14 @@ pub(crate) fn next_round<G: Shelved>(game: &G, run: WordRun, round: u16) -> Word
         lost: next_lost,
         ready,
         due,
+        lost_touched: next_lost_touched,
+        ask: next_ask,
         next_unwon: unwon,
         next_lost: lost,
+        next_lost_touched: lost_touched,
+        next_ask: ask,
+        lost_full,
+        ask_full,
         lost_due,
         won_due,
     }

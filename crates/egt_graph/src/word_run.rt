@@ -3,7 +3,7 @@ ghost use Rattle.std.specs.Prelude.{◌≡◌, ◌≢◌, ◌⊎◌, ℕ, ◌<�
 
 use crate::schedule::Schedule;
 
-/// The entries of a run, and what each word of nodes waits for. All but `pending` and the two schedules is by words of bits.
+/// The entries of a run, and what each word of nodes waits for. All lists but `entries` and `pending` are of bits.
 #[derive(Drop)]
 pub(crate) struct WordRun {
     pub(crate) entries: Vec<u16>,
@@ -19,9 +19,20 @@ pub(crate) struct WordRun {
     pub(crate) ready: Vec<u64>,
     /// The nodes with an exit that is lost by now.
     pub(crate) due: Vec<u64>,
-    /// `unwon` and `lost` of the next round.
+    /// The words from which a move may lead to a node that was lost in this round, as marks.
+    pub(crate) lost_touched: Vec<u64>,
+    /// The words in which a node may be lost next, as marks: a move of it may lead to a node that was won in the last round, or the last exit that
+    /// it waited for is due, or nothing is known of it yet. Each ready node of the other words still has a move to a node that is not won.
+    pub(crate) ask: Vec<u64>,
+    /// `unwon`, `lost`, `lost_touched` and `ask` of the next round.
     pub(crate) next_unwon: Vec<u64>,
     pub(crate) next_lost: Vec<u64>,
+    pub(crate) next_lost_touched: Vec<u64>,
+    pub(crate) next_ask: Vec<u64>,
+    /// So many numbers at the head of `next_lost_touched` have all their bits set.
+    pub(crate) lost_full: usize,
+    /// So many at the head of `next_ask` do.
+    pub(crate) ask_full: usize,
     pub(crate) lost_due: Schedule,
     pub(crate) won_due: Schedule,
 }

@@ -1,11 +1,13 @@
 //! Nodes by words of up to 64, and games that tell of a word at once.
-ghost use Rattle.std.specs.Prelude.{◌≡◌, ◌≢◌, ◌↔◌, ℕ, ◌+◌, ◌*◌, ◌%◌, ◌^◌, ◌<◌, ◌≤◌, true, length, IsTrue};
+ghost use Rattle.std.specs.Prelude.{◌≡◌, ◌↔◌, ℕ, ◌*◌, ◌^◌, ◌<◌, ◌≤◌, length, IsTrue};
 ghost use Rattle.std.specs.Int.{bit_at};
 ghost use Rattle.std.specs.List.{Contains};
-ghost use Rattle.egt_graph.specs.Graph.{IsNode};
-ghost use Rattle.egt_graph.specs.Words.{number_at, word_in, place_in, IsIn, words_of, IsWordStart};
+ghost use Rattle.egt_graph.specs.Graph.{Graph, IsNode, IsGame, AreLike};
+ghost use Rattle.egt_graph.specs.Words.{number_at, word_in, place_in, IsIn, IsTouched, words_of, IsWordStart};
 
-use crate::game::Game;
+use crate::game::Exit;
+use crate::touched::touch_all;
+use arrayvec::ArrayVec;
 
 /// What a game tells of a word of nodes before any rank is known: each field has a bit a node.
 #[derive(Clone, Copy, PartialEq, Eq, Debug, Default)]
@@ -23,68 +25,63 @@ pub struct WordStart {
 }
 
 /// A game that tells of up to 64 nodes at once: those whose bits stand in one word. Of `2 * span` numbers that follow one another the even
-/// ones have their bits in one word, from the lowest bit on, and the odd ones in the next.
-pub trait Shelved: Game {
+/// ones have their bits in one word, from the lowest bit on, and the odd ones in the next. As in a `Game` the nodes are numbers below `size`,
+/// of which some may be void; but no moves are listed, and none is gone back by: `touch` alone tells back, of whole words. A node has at most
+/// 64 moves that leave the game.
+pub trait Shelved {
+    ghost graph: { Self → Graph };
+
     ghost span: { Self → ℕ };
+
+    /// One more than the last number.
+    fn size(&self) -> u32
+        ensures { result ≡ (graph self.now).size };
+
+    /// Is the mover of the node checkmated?
+    fn mated(&self, i: u32) -> bool
+        requires { IsNode (graph self.now) i }
+        ensures { result ≡ (graph self.now).mated i };
+
+    /// The values of the positions outside that moves from the node lead to, in any order, in the place of what the list had.
+    fn list_exits(&self, i: u32, exits: &mut ArrayVec<Exit, 64>)
+        requires { IsNode (graph self.now) i }
+        ensures { AreLike exits.new.items ((graph self.now).exits i) };
 
     /// How many nodes have their bits in a word, at most 64.
     fn span(&self) -> u32
         ensures is { result ≡ span self.now }
         ensures few { (0 < result) × (result ≤ 64) };
 
-    /// Whether each move leads from an even number to an odd one, or from an odd one to an even one.
-    fn alternates(&self) -> bool
-        ensures { result ≡ true → (i j : ℕ) → IsNode (Self.graph self.now) i → Contains ((Self.graph self.now).out i) j → i % 2 ≢ j % 2 }
-    {
-        false
-    }
-
     /// What the word begins with.
     fn start_of(&self, word: u32) -> WordStart
-        requires { word < words_of (span self.now) (Self.graph self.now).size }
-        ensures { IsWordStart (Self.graph self.now) (span self.now) word result }
-    {
-        let span = self.span();
-        let size = self.size() as usize;
-        let mut nodes = 0;
-        for k in 0..span {
-            let i = number_at(span, word, k);
-            if i < size && !self.void(i as u32) {
-                nodes |= 1 << k;
-            }
-        }
-        WordStart {
-            nodes,
-            told: 0,
-            leaving: 0,
-            lost: 0,
-            held: 0,
-        }
-    }
+        requires { word < words_of (span self.now) (graph self.now).size }
+        ensures { IsWordStart (graph self.now) (span self.now) word result };
 
     /// Those of the asked nodes of the word from which a move leads to a marked node.
     fn lead_to(&self, word: u32, asked: u64, marks: &[u64]) -> u64
-        requires word { word < words_of (span self.now) (Self.graph self.now).size }
+        requires word { word < words_of (span self.now) (graph self.now).size }
         requires asked { (k : ℕ) → bit_at asked k ≡ 1
-            → (k < span self.now) × IsNode (Self.graph self.now) (number_at (span self.now) word k) }
-        requires long { words_of (span self.now) (Self.graph self.now).size ≤ length marks.now }
-        requires marks { (i : ℕ) → IsIn (span self.now) marks.now i → IsNode (Self.graph self.now) i }
+            → (k < span self.now) × IsNode (graph self.now) (number_at (span self.now) word k) }
+        requires long { words_of (span self.now) (graph self.now).size ≤ length marks.now }
+        requires marks { (i : ℕ) → IsIn (span self.now) marks.now i → IsNode (graph self.now) i }
         ensures { (k : ℕ) → bit_at result k ≡ 1 ↔ ((bit_at asked k ≡ 1)
-            × ((j : ℕ) × Contains ((Self.graph self.now).out (number_at (span self.now) word k)) j × IsIn (span self.now) marks.now j)) }
+            × ((j : ℕ) × Contains ((graph self.now).out (number_at (span self.now) word k)) j × IsIn (span self.now) marks.now j)) };
+
+    /// Marks the words from whose nodes a move leads to a node of this word; others may be marked too. The mark of word `w` is bit `w % 64` of
+    /// the list's word `w / 64`.
+    fn touch(&self, word: u32, touched: &mut [u64])
+        requires word { word < words_of (span self.now) (graph self.now).size }
+        requires long { words_of (span self.now) (graph self.now).size ≤ 64 * length touched.old }
+        ensures long { length touched.new ≡ length touched.old }
+        ensures kept { (w : ℕ) → IsTouched touched.old w → IsTouched touched.new w }
+        ensures touched { (i j : ℕ) → IsNode (graph self.now) i → Contains ((graph self.now).out i) j → word_in (span self.now) j ≡ word
+            → IsTouched touched.new (word_in (span self.now) i) }
     {
-        let span = self.span();
-        let _size = self.size();
-        let mut leading = 0;
-        for k in 0..span {
-            if (asked >> k) & 1 == 1 {
-                let nodes = self.out(number_at(span, word, k) as u32);
-                if any_in(span, marks, nodes.as_slice()) {
-                    leading |= 1 << k;
-                }
-            }
-        }
-        leading
+        let _span = self.span();
+        touch_all(touched);
     }
+
+    ghost lawful: { (game : Self) → IsGame (graph game) };
 }
 
 /// The number whose bit is the `k`-th of the word.
@@ -141,18 +138,4 @@ pub fn is_in(span: u32, marks: &[u64], i: u32) -> bool
         Some(word) => (*word >> place_in(span, i)) & 1 == 1,
         None => false,
     }
-}
-
-/// Is the bit of one of these set?
-pub fn any_in(span: u32, marks: &[u64], nodes: &[u32]) -> bool
-    requires some { 0 < span }
-    requires few { span ≤ 64 }
-    ensures { IsTrue result ↔ ((j : ℕ) × Contains nodes.now j × IsIn span marks.now j) }
-{
-    for node in nodes {
-        if is_in(span, marks, *node) {
-            return true;
-        }
-    }
-    false
 }

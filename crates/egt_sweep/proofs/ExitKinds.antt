@@ -42,7 +42,7 @@ use Rattle.egt_sweep.proofs.Telling.{MovesNoPawn, there, quiet, same_edges, pass
 -- ---- lists of exits
 
 -- no plies are left
-abbrev zeroed : Exit → Exit
+abbrev pub zeroed : Exit → Exit
 zeroed (Win k) = Win 0
 zeroed (Loss k) = Loss 0
 zeroed Draw = Draw
@@ -160,7 +160,7 @@ counted_apart test f g h each (m ∷ ms) =
 
 -- ---- the exits of a move
 
-zeroed_is : (v : Value) → zeroed (exit_of Mate v) ≡ exit_of Zeroing v
+pub zeroed_is : (v : Value) → zeroed (exit_of Mate v) ≡ exit_of Zeroing v
 zeroed_is (arena.Win n) = refl
 zeroed_is (arena.Loss n) = refl
 zeroed_is arena.Draw = refl
@@ -247,7 +247,7 @@ module _ (laws : Laws) (tables : Tables) (c : ℕ) (c_in : c < 36) (mates : List
     same : goes_on Mate c p m q ≡ false → zeroed (exit_of Mate (shown_below tables 36 q)) ≡ exit_of Zeroing (shown_below other 36 q)
     same off = zeroed_is (shown_below tables 36 q) ∙ ap (exit_of Zeroing) (shown_alike (λ on. false≢true (sym off ∙ (goes_is laws Mate c p q m q_ok).1 on)))
 
-  exit_apart : (m : Move) → option_to_list (exit_by other Zeroing c p m (played p m))
+  pub exit_apart : (m : Move) → option_to_list (exit_by other Zeroing c p m (played p m))
       ≡ map zeroed (option_to_list (exit_by tables Mate c p m (played p m))) ++ option_to_list (staying_exit other c p m (played p m))
   exit_apart m = of_played (played p m) refl
     where

@@ -1,5 +1,5 @@
 -- Members of lists, one by one.
-use Rattle.std.proofs.Common.{◌≡◌, zero, suc, ◌⊎◌, ◌&&◌, ◌||◌, Bool, true, false, List, [], ◌∷◌, ◌++◌, Option, Some, None, refl, sym, ◌∙◌, inl, inr, arith}
+use Rattle.std.proofs.Common.{◌≡◌, zero, suc, ◌⊎◌, ◌&&◌, ◌||◌, Bool, true, false, List, [], ◌∷◌, ◌++◌, map, Option, Some, None, refl, sym, ◌∙◌, subst, inl, inr, arith}
 use Rattle.std.proofs.Math.Logic.{⊎_elim, ⊎_map}
 use Rattle.std.proofs.lemmas.Bool.{false≢true, and_parts}
 use Rattle.std.specs.List.{Contains, list_all, list_any, flat_map}
@@ -65,24 +65,43 @@ append_in x (z ∷ zs) ys (inl (inl e)) = inl e
 append_in x (z ∷ zs) ys (inl (inr h)) = inr (append_in x zs ys (inl h))
 append_in x (z ∷ zs) ys (inr h) = inr (append_in x zs ys (inr h))
 
--- an element of a list of options
-pub in_given : {X Y : Type 0} (f : X → Option Y) (xs : List X) (y : Y) → In y (flat_map (λ x. option_to_list (f x)) xs) → (x : X) × In x xs × (f x ≡ Some y)
-in_given f [] y h = absurd h
-in_given {X} {Y} f (x ∷ xs) y h = ⊎_elim
-    (λ (i : In y (option_to_list (f x))). (x, inl refl, of_option (f x) i))
-    (λ (i : In y (flat_map (λ z. option_to_list (f z)) xs)). let r = in_given f xs y i in (r.0, inr r.1, r.2))
-    (in_append y (option_to_list (f x)) (flat_map (λ z. option_to_list (f z)) xs) h)
-  where
-    of_option : (o : Option Y) → In y (option_to_list o) → o ≡ Some y
-    of_option None i = absurd i
-    of_option (Some z) (inl e) = λ j. Some (sym e j)
-    of_option (Some z) (inr i) = absurd i
+-- an element of what a function gives
+pub in_map : {X Y : Type 0} (f : X → Y) (xs : List X) (y : Y) → In y (map f xs) → (x : X) × In x xs × (y ≡ f x)
+in_map f [] y h = absurd h
+in_map f (x ∷ xs) y (inl e) = (x, inl refl, e)
+in_map f (x ∷ xs) y (inr on) = let r = in_map f xs y on in (r.0, inr r.1, r.2)
 
-listed : {Y : Type 0} (o : Option Y) (y : Y) → o ≡ Some y → In y (option_to_list o)
-listed {Y} None y i = absurd (let c : None ≡ Some y = i in cc)
-listed (Some w) y i = inl (sym (let c : Some w ≡ Some y = i in cc))
+pub map_in : {X Y : Type 0} (f : X → Y) (xs : List X) (x : X) → In x xs → In (f x) (map f xs)
+map_in f [] x h = absurd h
+map_in f (y ∷ ys) x (inl e) = inl (λ j. f (e j))
+map_in f (y ∷ ys) x (inr on) = inr (map_in f ys x on)
+
+-- of the lists that it gives
+pub in_flat : {X Y : Type 0} (f : X → List Y) (xs : List X) (y : Y) → In y (flat_map f xs) → (x : X) × In x xs × In y (f x)
+in_flat f [] y h = absurd h
+in_flat {X} {Y} f (x ∷ xs) y h = ⊎_elim
+    (λ (i : In y (f x)). (x, inl refl, i))
+    (λ (i : In y (flat_map f xs)). let r = in_flat f xs y i in (r.0, inr r.1, r.2))
+    (in_append y (f x) (flat_map f xs) h)
+
+pub flat_in : {X Y : Type 0} (f : X → List Y) (xs : List X) (x : X) (y : Y) → In x xs → In y (f x) → In y (flat_map f xs)
+flat_in f [] x y h i = absurd h
+flat_in f (z ∷ zs) x y (inl same) i = append_in y (f z) (flat_map f zs) (inl (subst (λ w. In y (f w)) same i))
+flat_in f (z ∷ zs) x y (inr on) i = append_in y (f z) (flat_map f zs) (inr (flat_in f zs x y on i))
+
+-- of an option
+pub in_option : {Y : Type 0} (o : Option Y) (y : Y) → In y (option_to_list o) → o ≡ Some y
+in_option None y i = absurd i
+in_option (Some z) y (inl e) = λ j. Some (sym e j)
+in_option (Some z) y (inr i) = absurd i
+
+option_in : {Y : Type 0} (o : Option Y) (y : Y) → o ≡ Some y → In y (option_to_list o)
+option_in {Y} None y i = absurd (let c : None ≡ Some y = i in cc)
+option_in (Some w) y i = inl (sym (let c : Some w ≡ Some y = i in cc))
+
+-- of the options that it gives
+pub in_given : {X Y : Type 0} (f : X → Option Y) (xs : List X) (y : Y) → In y (flat_map (λ x. option_to_list (f x)) xs) → (x : X) × In x xs × (f x ≡ Some y)
+in_given f xs y h = let r = in_flat (λ x. option_to_list (f x)) xs y h in (r.0, r.1, in_option (f r.0) y r.2)
 
 pub given_in : {X Y : Type 0} (f : X → Option Y) (xs : List X) (x : X) (y : Y) → In x xs → f x ≡ Some y → In y (flat_map (λ x. option_to_list (f x)) xs)
-given_in f [] x y h e = absurd h
-given_in f (z ∷ zs) x y (inl same) e = append_in y (option_to_list (f z)) (flat_map (λ w. option_to_list (f w)) zs) (inl (listed (f z) y ((λ j. f (sym same j)) ∙ e)))
-given_in f (z ∷ zs) x y (inr on) e = append_in y (option_to_list (f z)) (flat_map (λ w. option_to_list (f w)) zs) (inr (given_in f zs x y on e))
+given_in f xs x y h e = flat_in (λ z. option_to_list (f z)) xs x y h (option_in (f x) y e)

@@ -128,7 +128,7 @@ module _ (tables : Tables) (column : Column) (c : ℕ) where
   and_false true x e = e
   and_false false x e = refl
 
-  stuck_edge : (i j : ℕ) → is_mated (position_at c i) ≡ true → connects column c i j ≡ false
+  pub stuck_edge : (i j : ℕ) → is_mated (position_at c i) ≡ true → connects column c i j ≡ false
   unfolding connects
   stuck_edge i j t = and_false (is_some (position_at c j)) (connects_from column c j (position_at c i)) (stuck_from j (position_at c i) t)
 
@@ -136,11 +136,11 @@ module _ (tables : Tables) (column : Column) (c : ℕ) where
   stuck_exits None t = refl
   stuck_exits (Some p) t = rw (no_moves p (mated_stuck p t)) refl
 
-  exits_short : (i : ℕ) → All HasShortDistance (exits_at tables column c i)
+  pub exits_short : (i : ℕ) → All HasShortDistance (exits_at tables column c i)
   unfolding exits_at
   exits_short i = short_exits_from tables column c (position_at c i)
 
-  exits_none : (i : ℕ) → is_mated (position_at c i) ≡ true → exits_at tables column c i ≡ []
+  pub exits_none : (i : ℕ) → is_mated (position_at c i) ≡ true → exits_at tables column c i ≡ []
   unfolding exits_at
   exits_none i t = stuck_exits (position_at c i) t
 

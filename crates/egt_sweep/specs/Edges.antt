@@ -89,3 +89,13 @@ AtEntry side (Some e) goes k = (e.0.side ≡ side) × goes e.1 k
 -- with the man of the one square back on the other, the position before has the index k
 abbrev pub WasOn : ℕ → Setup → Man → ℕ → ℕ → ℕ → Type 0
 WasOn c q man to s k = (s < 64) × IsIndex c (setup_before q man to s None) k
+
+-- a pawn's move leads from the position at i to one of the class, whose index is j
+pub record PushesTo (c i j : ℕ) : Type 0 where
+  pub from : Setup
+  pub at : IsAt c i from
+  pub move : Move
+  pub to : Setup
+  pub leads : Leads from move to
+  pub pawn : IsPawnOn from.men move.from
+  pub index : IsIndex c to j

@@ -17,11 +17,10 @@ pub mod Told
 pub mod Last
 pub mod Leds
 pub mod Runs
-pub mod ShelfMoves
-pub mod WordParts
-pub mod PawnMoves
-pub mod WordLists
-pub mod ClassWords
-pub mod WordGames
 pub mod Roaming
-pub mod Shapes
+pub mod CodeGame
+pub mod CodeTests
+pub mod CodeLists
+pub mod CodeSources
+pub mod OddMarks
+pub mod CodeMates

@@ -7,23 +7,24 @@ ghost use Rattle.egt_sweep.specs.Built.{IsBuilt, IsNotBuilt, HasNoFalseChild};
 ghost use Rattle.egt_sweep.specs.ClassGame.{class_game};
 ghost use Rattle.egt_sweep.specs.Counts.{CountsMoves};
 ghost use Rattle.egt_sweep.specs.MateColumn.{mate_table};
+ghost use Rattle.egt_sweep.specs.CodeMates.{CodesTell};
 ghost use Rattle.egt_sweep.specs.declared.build_fault.BuildFault.TheVariants.{NoMemory};
 
 use crate::build_fault::BuildFault;
-use crate::class_words::ClassWords;
+use crate::code_words::CodeWords;
 use crate::drawn_children::has_one_game;
 use crate::laws::laws;
 use crate::mate_game::MateGame;
-use crate::mate_words::solve_mates;
+use crate::mates::{Mates, solve_mates};
 use crate::missing::Missing;
 use crate::ranks::{mate_ranks_are_values, zeroing_ranks_are_distances};
 use crate::zero_game::ZeroGame;
-use crate::zero_words::solve_zeroing;
+use crate::zeroing::solve_zeroing;
 use egt_check::laws::rules_are_kept_by_true_tables_alone;
 use egt_check::{Library, first_missing};
 use egt_class::{Class, children};
 use egt_graph::laws::alike_games_have_the_same_ranks;
-use egt_graph::{Count, Ranks, SolveFault};
+use egt_graph::{Ranks, SolveFault};
 use egt_index::laws::a_class_without_pawns_has_none;
 use egt_moves::laws::one_value;
 use egt_table::Table;
@@ -39,28 +40,19 @@ fn children_are_true(class: Class, library: &Library)
     }
 }
 
-/// What is told of the class by words, if that is told.
-fn words_of(words: &Option<ClassWords>, class: Class) -> Option<&ClassWords>
-    ensures { IfSome result (λ told. told.now.class ≡ class) }
-{
-    match words {
-        Some(told) if told.class == class => Some(told),
-        _ => None,
-    }
-}
-
-/// The ranks of the class's game of mates, and what is told of the moves of its nodes.
+/// The class's game of mates, solved.
 pub(crate) fn mate_ranks(
     alloc: Global,
     class: Class,
     library: &Library,
     limit: u16,
-    words: &Option<ClassWords>,
-) -> Result<(Ranks, Vec<Count>), BuildFault>
+    words: &Option<CodeWords>,
+) -> Result<Mates, BuildFault>
     requires { limit ≤ 32000 }
     ensures children { IfOk result (λ _. HasChildren (table_at library.now) class) }
-    ensures ranks { IfOk result (λ told. AreRanks (class_game (table_at library.now) Mate class) limit told.0) }
-    ensures counts { IfOk result (λ told. CountsMoves (table_at library.now) class told.1.items) }
+    ensures ranks { IfOk result (λ told. AreRanks (class_game (table_at library.now) Mate class) limit told.ranks) }
+    ensures counts { IfOk result (λ told. CountsMoves (table_at library.now) class told.counts.items) }
+    ensures codes { IfOk result (CodesTell (table_at library.now) class words.now) }
     ensures refused { IfErr result (IsNotBuilt (table_at library.now) class limit) }
 {
     laws();
@@ -71,7 +63,7 @@ pub(crate) fn mate_ranks(
         Ok(game) => game,
         Err(missing) => return Err(BuildFault::from(missing)),
     };
-    match solve_mates(alloc, &game, words_of(words, class), limit) {
+    match solve_mates(alloc, &game, words, limit) {
         Ok(told) => Ok(told),
         Err(SolveFault::NoMemory) => Err(BuildFault::NoMemory),
         Err(SolveFault::TooDeep) => Err(BuildFault::TooDeep(limit)),
@@ -95,16 +87,16 @@ pub(crate) fn zeroing_ranks<'x>(
     alloc: Global,
     class: Class,
     library: &'x Library,
-    mates: &'x Ranks,
-    counts: &'x [Count],
+    mates: &'x Mates,
     limit: u16,
-    words: &'x Option<ClassWords>,
+    words: &'x Option<CodeWords>,
 ) -> Result<Ranks, BuildFault>
     requires limit { limit ≤ 32000 }
     requires children { HasChildren (table_at library.now) class }
-    requires mates { AreRanks (class_game (table_at library.now) Mate class) limit mates.now }
-    requires counts { CountsMoves (table_at library.now) class counts.now }
-    ensures ranks { IfOk result (AreRanks (class_game (beside (table_at library.now) (mate_table class mates.now)) Zeroing class) limit) }
+    requires mates { AreRanks (class_game (table_at library.now) Mate class) limit mates.now.ranks }
+    requires counts { CountsMoves (table_at library.now) class mates.now.counts.items }
+    requires codes { CodesTell (table_at library.now) class words.now mates.now }
+    ensures ranks { IfOk result (AreRanks (class_game (beside (table_at library.now) (mate_table class mates.now.ranks)) Zeroing class) limit) }
     ensures refused { IfErr result (IsNotBuilt (table_at library.now) class limit) }
 {
     laws();
@@ -115,31 +107,31 @@ pub(crate) fn zeroing_ranks<'x>(
     children_are_true(class, library);
     let _number = class.number();
     if has_one_game(class, library) {
-        return copied(alloc, mates);
+        return copied(alloc, &mates.ranks);
     }
-    let game = match ZeroGame::counted(class, library, mates, counts) {
+    let game = match ZeroGame::counted(class, library, &mates.ranks, &mates.counts) {
         Ok(game) => game,
         Err(missing) => return Err(BuildFault::from(missing)),
     };
-    match solve_zeroing(alloc, &game, words_of(words, class), limit) {
+    match solve_zeroing(alloc, &game, mates, words, limit) {
         Ok(ranks) => Ok(ranks),
         Err(SolveFault::NoMemory) => Err(BuildFault::NoMemory),
         Err(SolveFault::TooDeep) => unreachable!(),
     }
 }
 
-/// What is told of the class by words, if that is told. That a child lacks its table is said before that memory does.
+/// The moves between the class's codes, if they are told by words. That a child lacks its table is said before that memory does.
 fn told_words(
     alloc: Global,
     class: Class,
     library: &Library,
-) -> Result<Option<ClassWords>, BuildFault>
+) -> Result<Option<CodeWords>, BuildFault>
     ensures { (limit : ℕ) → IfErr result (IsNotBuilt (table_at library.now) class limit) }
 {
     if let Some(child) = first_missing(class, library) {
         return Err(BuildFault::from(Missing { class: child }));
     }
-    match ClassWords::of(alloc, class) {
+    match CodeWords::of(alloc, class) {
         Ok(words) => Ok(words),
         Err(_refused) => Err(BuildFault::NoMemory),
     }
@@ -172,9 +164,9 @@ pub fn build(
     children_are_true(class, library);
     let _number = class.number();
     let words = told_words(alloc, class, library)?;
-    let (mate, counts) = mate_ranks(alloc, class, library, limit, &words)?;
-    let zeroing = zeroing_ranks(alloc, class, library, &mate, &counts, limit, &words)?;
-    match Table::from_ranks(class, mate, zeroing) {
+    let mates = mate_ranks(alloc, class, library, limit, &words)?;
+    let zeroing = zeroing_ranks(alloc, class, library, &mates, limit, &words)?;
+    match Table::from_ranks(class, mates.ranks, zeroing) {
         Ok(table) => Ok(table),
         Err(_columns) => unreachable!(),
     }

@@ -1,23 +1,19 @@
-//! What a run by words begins with at a node of which its word does not tell. Such a run counts no moves, so legal moves are found for those men
-//! alone that may leave the game.
-ghost use Rattle.std.specs.Prelude.{◌≡◌, ◌+◌, ◌++◌, ◌≤◌, ℕ, Bool, Some, [], IsTrue};
+//! The exits of a node alone, where its word does not tell of them: legal moves are found for those men alone that may leave the game.
+ghost use Rattle.std.specs.Prelude.{◌≡◌, ◌+◌, ◌++◌, ◌≤◌, ℕ, Bool, Some, [], IsTrue, true};
 ghost use Rattle.std.specs.Option.{is_some};
 ghost use Rattle.arrayvec.specs.ArrayVec.{array_vec_len};
 ghost use Rattle.egt_board.specs.Camps.{AreCamps};
-ghost use Rattle.egt_board.specs.Decided.{tells};
 ghost use Rattle.egt_board.specs.Gait.{Reaches};
 ghost use Rattle.egt_board.specs.Man.{other_side};
 ghost use Rattle.egt_board.specs.Placement.{Stands, IsFree, IsHeld};
 ghost use Rattle.egt_board.specs.Setup.{Setup};
 ghost use Rattle.egt_board.specs.declared.man.Man.{Man};
 ghost use Rattle.egt_class.specs.Membership.{IsOf};
-ghost use Rattle.egt_moves.specs.DecidedMoves.{decided_checkmate};
 ghost use Rattle.egt_moves.specs.Legal.{Leads};
 ghost use Rattle.egt_moves.specs.Moves.{moves_from};
 ghost use Rattle.egt_moves.specs.Room.{most_moves};
-ghost use Rattle.egt_moves.specs.Standing.{IsCheckmate};
 ghost use Rattle.egt_moves.specs.declared.chess_move.Move.{Move};
-ghost use Rattle.egt_graph.specs.Graph.{IsStart};
+ghost use Rattle.egt_graph.specs.Graph.{AreLike};
 ghost use Rattle.egt_check.specs.Tables.{table_at, HasChildren};
 ghost use Rattle.egt_sweep.specs.Aiming.{column_of, game_of, known, KnowsOwn};
 ghost use Rattle.egt_sweep.specs.Edges.{IsAt, GoesOn};
@@ -26,13 +22,12 @@ ghost use Rattle.egt_sweep.specs.Nodes.{position_at, exits_by, exits_from};
 use crate::aim::Aim;
 use crate::facing::{pawn_stays, start_facing_king};
 use crate::laws::laws;
-use crate::nodes::is_checkmate;
 use crate::ways::{Ways, with_man};
 use arrayvec::ArrayVec;
 use egt_board::{Camps, Kind, Man, Position, Square};
 use egt_check::Library;
 use egt_class::Class;
-use egt_graph::{Exit, Start};
+use egt_graph::Exit;
 use egt_index::{faces_king_alone, position_of};
 use egt_table::Column;
 
@@ -140,69 +135,46 @@ fn add_exits_of_side(
     }
 }
 
-/// Whether the side to move is checkmated, where it has these exits: a checkmated side has none. Seldom is a king in check, so that is asked first.
-fn is_mated(position: &Position, exits: &ArrayVec<Exit, 64>) -> bool
-    requires { IsCheckmate position.now → exits.now.items ≡ [] }
-    ensures { result ≡ tells (decided_checkmate position.now) }
-{
-    if !exits.is_empty() {
-        return false;
-    }
-    let side = position.side();
-    if !position.board().is_in_check(position.king(side), side) {
-        return false;
-    }
-    is_checkmate(position)
-}
-
-/// What a run begins with at the node of the position.
-fn start_at(
+/// Adds the exits of the node of the position.
+fn add_exits_at(
     aim: &Aim<'_>,
     class: Class,
     library: &Library,
     index: u32,
     position: &Position,
     exits: &mut ArrayVec<Exit, 64>,
-) -> Start
+)
     requires knows { KnowsOwn class aim.now }
     requires children { HasChildren (table_at library.now) class }
     requires at { IsAt class index position.now }
     requires empty { exits.old.items ≡ [] }
-    ensures { IsStart (game_of (table_at library.now) class aim.now) index (Some result) exits.new.items }
+    ensures { AreLike exits.new.items ((game_of (table_at library.now) class aim.now).exits index) }
 {
     laws();
     let _number = class.number();
     if faces_king_alone(class, index) {
-        return start_facing_king(aim, class, library, index, position, exits);
-    }
-    add_exits_of_side(aim, class, library, index, position, exits);
-    Start {
-        mated: is_mated(position, exits),
-        degree: None,
+        let _start = start_facing_king(aim, class, library, index, position, exits);
+    } else {
+        add_exits_of_side(aim, class, library, index, position, exits);
     }
 }
 
-/// What a run begins with at a number, where the caller knows whether it is a node: nothing where it is none. The values of the positions
-/// outside take the place of what `exits` had, and no moves are counted.
-pub(crate) fn start_exits(
+/// The values of the positions outside that moves from the node lead to, in any order, in the place of what `exits` had.
+pub(crate) fn exits_alone(
     aim: &Aim<'_>,
     class: Class,
     library: &Library,
     index: u32,
-    is_node: bool,
     exits: &mut ArrayVec<Exit, 64>,
-) -> Option<Start>
+)
     requires knows { KnowsOwn class aim.now }
     requires children { HasChildren (table_at library.now) class }
-    requires node { is_node ≡ is_some (position_at class index) }
-    ensures { IsStart (game_of (table_at library.now) class aim.now) index result exits.new.items }
+    requires node { is_some (position_at class index) ≡ true }
+    ensures { AreLike exits.new.items ((game_of (table_at library.now) class aim.now).exits index) }
 {
     laws();
     let _number = class.number();
     exits.clear();
-    if !is_node {
-        return None;
-    }
     let position = position_of(class, index);
-    Some(start_at(aim, class, library, index, &position, exits))
+    add_exits_at(aim, class, library, index, &position, exits);
 }

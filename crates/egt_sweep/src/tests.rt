@@ -1,4 +1,5 @@
 mod builds;
+mod code_words;
 mod games;
 mod orders;
 mod refused;

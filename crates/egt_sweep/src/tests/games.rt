@@ -25,7 +25,7 @@ fn count(ranks: &Ranks, number: u16) -> usize {
 fn mates(alloc: Global, class: Class, library: &Library) -> Result<Ranks, Fail>
     ensures { IfOk result (AreMateRanks (table_at library.now) class) }
 {
-    Ok(mate_ranks(alloc, class, library, 32_000, &None)?.0)
+    Ok(mate_ranks(alloc, class, library, 32_000, &None)?.ranks)
 }
 
 /// What solving the class's game of mates within a limit answers.

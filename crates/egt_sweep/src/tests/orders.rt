@@ -248,8 +248,8 @@ fn zeroing<'x>(
 /// The file of the table with a queen, made by rounds in this order.
 fn file(alloc: Global, library: &Library, order: &[u32]) -> Result<MemorySink, Fail> {
     let class = named("KQK")?;
-    let (known, _counts) = mate_ranks(alloc, class, library, 32_000, &None)?;
-    let zeroing = zeroing(alloc, class, library, &known, order)?;
+    let known = mate_ranks(alloc, class, library, 32_000, &None)?;
+    let zeroing = zeroing(alloc, class, library, &known.ranks, order)?;
     let mate = match MateGame::new(class, library) {
         Ok(game) => played(alloc, &game, order)?,
         Err(_missing) => return Err(Fail::from("two kings are there")),

@@ -1,4 +1,4 @@
-use Rattle.std.proofs.Common.{◌≡◌, ◌≢◌, ◌<◌, ◌≤◌, ◌^◌, ◌+◌, ◌-◌, ◌&&◌, ◌↔◌, ℕ, List, not, false, suc, cond, length, slice_index, bit_and, refl, sym, ap, subst, ◌∙◌, arith}
+use Rattle.std.proofs.Common.{◌≡◌, ◌<◌, ◌≤◌, ◌^◌, ◌-◌, ◌↔◌, ℕ, List, not, false, cond, length, slice_index, bit_and, sym, ap, subst, ◌∙◌, arith}
 use Rattle.std.proofs.lemmas.Bool.{and_parts}
 use Rattle.std.proofs.lemmas.List.{get_or_default, get_or-set_other, length-set, with_items_is}
 use Rattle.std.specs.Int.{bit_at}
@@ -6,17 +6,17 @@ use Rattle.std.specs.List.{Contains}
 use Rattle.std.specs.Vec.{with_items}
 use Rattle.egt_graph.specs.Columns.{entry_at}
 use Rattle.egt_graph.specs.Frontier.{is_node}
-use Rattle.egt_graph.specs.Words.{number_at, word_in, words_of, IsIn, IsWordOf}
+use Rattle.egt_graph.specs.Words.{number_at, word_in, IsIn, IsWordOf}
 use Rattle.egt_graph.specs.WordRound.{is_undecided, is_unwon, is_lost_at, is_leaving}
 use Rattle.egt_graph.proofs.Nodes.{node_from_test}
 use Rattle.egt_graph.proofs.WordBits.{both_set}
-use Rattle.egt_graph.proofs.WordSettling.{of_undecided, of_lost, entries_settled, lost_parts}
+use Rattle.egt_graph.proofs.WordSettling.{of_undecided, of_lost, entries_settled}
 use Rattle.egt_graph.proofs.WordSweeps.{put_at, entries_kept, entries_done_more, word_here, leads_of, mark_is}
 use Rattle.egt_graph.proofs.word_begin.settle_word.Goals as goal
 
 pub leading-moving-requires-clause-asked : goal.leading-moving-requires-clause-asked
 leading-moving-requires-clause-asked g c k one =
-    let graph = g.G.Game.graph c.args.game.now in
+    let graph = g.G.Shelved.graph c.args.game.now in
     let span = g.G.Shelved.span c.args.game.now in
     let run = c.args.run.now in
     let within = c.requires.word in
@@ -26,7 +26,7 @@ leading-moving-requires-clause-asked g c k one =
 
 pub leading-moving-requires-clause-marks : goal.leading-moving-requires-clause-marks
 leading-moving-requires-clause-marks g c i one =
-    let graph = g.G.Game.graph c.args.game.now in
+    let graph = g.G.Shelved.graph c.args.game.now in
     let span = g.G.Shelved.span c.args.game.now in
     let some : 0 < span = let few = c.span-span.ensures.few in let is = c.span-span.ensures.is in omega (arith, few.0, is) in
     node_from_test graph i (and_parts (is_node graph i) (not false)
@@ -34,7 +34,7 @@ leading-moving-requires-clause-marks g c i one =
 
 pub mated_among-mated-requires : goal.mated_among-mated-requires
 mated_among-mated-requires g c k one =
-    let graph = g.G.Game.graph c.args.game.now in
+    let graph = g.G.Shelved.graph c.args.game.now in
     let span = g.G.Shelved.span c.args.game.now in
     let run = c.args.run.now in
     let within = c.requires.word in
@@ -45,7 +45,7 @@ mated_among-mated-requires g c k one =
 
 pub put_entries-requires-clause-within : goal.put_entries-requires-clause-within
 put_entries-requires-clause-within g c k one =
-    let graph = g.G.Game.graph c.args.game.now in
+    let graph = g.G.Shelved.graph c.args.game.now in
     let span = g.G.Shelved.span c.args.game.now in
     let run = c.args.run.now in
     let within = c.requires.word in
@@ -59,7 +59,7 @@ put_entries-requires-clause-within g c k one =
 
 pub put_entries-requires-2-clause-within : goal.put_entries-requires-2-clause-within
 put_entries-requires-2-clause-within g c k one =
-    let graph = g.G.Game.graph c.args.game.now in
+    let graph = g.G.Shelved.graph c.args.game.now in
     let span = g.G.Shelved.span c.args.game.now in
     let run = c.args.run.now in
     let within = c.requires.word in
@@ -78,8 +78,8 @@ put_entries-requires-2-clause-within g c k one =
 
 pub returns : goal.returns
 returns g c =
-    let graph = g.G.Game.graph c.args.game.now in
-    let law = g.met.G.Game.lawful c.args.game.now in
+    let graph = g.G.Shelved.graph c.args.game.now in
+    let law = g.met.G.Shelved.lawful c.args.game.now in
     let span = g.G.Shelved.span c.args.game.now in
     let is = c.span-span.ensures.is in
     let some : 0 < span = let few = c.span-span.ensures.few in omega (arith, few.0, is) in
@@ -124,6 +124,10 @@ returns g c =
         due = long.due;
         next_unwon = long.next_unwon;
         next_lost = long.next_lost;
+        lost_touched = long.lost_touched;
+        ask = long.ask;
+        next_lost_touched = long.next_lost_touched;
+        next_ask = long.next_ask;
       };
       entries_done = λ i lt. ap (λ (xs : List ℕ). slice_index xs i) twice ∙ entries_done_more (word_in span) word run.entries.items c.put_entries-2.new.entries (entry_at graph 0) kept
           (λ j here. entries_settled graph law span word some few nodes leaving moving mated leaving_small moving_small of_nodes of_leaving leads c.mated_among-mated.ensures run.entries.items c.put_entries.new.entries c.put_entries-2.new.entries first second j here

@@ -1,4 +1,4 @@
-use Rattle.std.proofs.Common.{◌≡◌, ◌<◌, ◌||◌, ℕ, List, length, ltb, sym, ap, refl, ◌∙◌, arith}
+use Rattle.std.proofs.Common.{◌||◌, ℕ, List, ltb, sym, ap, refl, ◌∙◌, arith}
 use Rattle.std.proofs.lemmas.List.{take_all, get_or_default}
 use Rattle.egt_graph.specs.Columns.{count_of}
 use Rattle.egt_graph.specs.WordRound.{is_marked_in}

@@ -1,18 +1,19 @@
-use Rattle.std.proofs.Common.{◌≡◌, ◌<◌, ◌≤◌, ◌+◌, ◌-◌, ◌&&◌, ◌||◌, ℕ, List, [], suc, length, slice_index, slice_index_or, eqb, ltb, All, refl, sym, ap, ap₂, subst, ◌∙◌, arith, add-one}
+use Rattle.std.proofs.Common.{◌≡◌, ◌<◌, ◌-◌, ◌&&◌, ◌||◌, ◌⊎◌, ◌*◌, ℕ, true, List, [], suc, length, slice_index, slice_index_or, eqb, ltb, All, sym, ap, ap₂, subst, ◌∙◌, arith, add-one}
 use Rattle.std.proofs.lemmas.List.{with_items_is}
 use Rattle.std.proofs.lemmas.List.Elements.{All-weaker}
 use Rattle.std.specs.Vec.{with_items}
 use Rattle.egt_graph.specs.Columns.{count_of}
 use Rattle.egt_graph.specs.Graph.{IsNode}
-use Rattle.egt_graph.specs.Words.{word_in, words_of, word_in-within}
-use Rattle.egt_graph.specs.WordRound.{is_marked_in, is_undecided, is_unwon, is_lost_at}
+use Rattle.egt_graph.specs.Words.{IsTouched, word_in, words_of, word_in-within}
+use Rattle.egt_graph.specs.WordRound.{is_marked_in, is_undecided, is_unwon, is_lost_at, is_ready, AreSaved, AreTold}
 use Rattle.egt_graph.proofs.WordDue.{due_next, losing_nodes, winning_nodes, ready_next, exits_next}
 use Rattle.egt_graph.proofs.WordSweeps.{all_words, swept_entries, undecided_nodes, unwon_nodes, lost_nodes}
+use Rattle.egt_graph.proofs.WordTouches.{lost_touched_next, saved_next}
 use Rattle.egt_graph.proofs.word_round.next_round.Goals as goal
 
 pub lose_exits-requires-clause-within : goal.lose_exits-requires-clause-within
 lose_exits-requires-clause-within g c =
-    let graph = g.G.Game.graph c.args.game.now in
+    let graph = g.G.Shelved.graph c.args.game.now in
     let span = c.span-span.result in
     let some = c.span-span.ensures.few.0 in
     let is = c.span-span.ensures.is in
@@ -25,7 +26,7 @@ lose_exits-requires-clause-within g c =
 
 pub win_exits-requires-clause-within : goal.win_exits-requires-clause-within
 win_exits-requires-clause-within g c =
-    let graph = g.G.Game.graph c.args.game.now in
+    let graph = g.G.Shelved.graph c.args.game.now in
     let span = c.span-span.result in
     let some = c.span-span.ensures.few.0 in
     let is = c.span-span.ensures.is in
@@ -38,17 +39,30 @@ win_exits-requires-clause-within g c =
 
 pub win_exits-requires-clause-nodes_within : goal.win_exits-requires-clause-nodes_within
 win_exits-requires-clause-nodes_within g c =
-    let graph = g.G.Game.graph c.args.game.now in
+    let graph = g.G.Shelved.graph c.args.game.now in
     let len = ap (λ (xs : List ℕ). length xs) c.deref_mut-2.ensures.value in
     let long = c.requires.swept.long.pending in
     let nodes = winning_nodes graph c.args.round c.args.run.pending.items c.args.run.won_due (λ i. (c.requires.swept.exits i).wins) in
     subst (All (λ i. i < length c.deref_mut-2.result.now)) (sym (rw add-one at c.due-2.ensures))
     (All-weaker (IsNode graph) (λ i. i < length c.deref_mut-2.result.now) (λ i node. let within = node.in_range in omega (arith, within, len, long)) _ nodes)
 
+pub win_exits-requires-clause-ask_within : goal.win_exits-requires-clause-ask_within
+win_exits-requires-clause-ask_within g c =
+    let graph = g.G.Shelved.graph c.args.game.now in
+    let span = c.span-span.result in
+    let some = c.span-span.ensures.few.0 in
+    let is = c.span-span.ensures.is in
+    let len = ap (λ (xs : List ℕ). length xs) c.deref_mut-4.ensures.value in
+    let long = c.requires.swept.long.next_ask in
+    let words = ap (λ s. words_of s graph.size) is in
+    let nodes = winning_nodes graph c.args.round c.args.run.pending.items c.args.run.won_due (λ i. (c.requires.swept.exits i).wins) in
+    subst (All (λ i. word_in span i < 64 * length c.deref_mut-4.result.now)) (sym (rw add-one at c.due-2.ensures))
+    (All-weaker (IsNode graph) (λ i. word_in span i < 64 * length c.deref_mut-4.result.now) (λ i node. let within = word_in-within span graph.size i some node.in_range in omega (arith, within, len, long, words)) _ nodes)
+
 pub returns : goal.returns
 returns g c =
-    let graph = g.G.Game.graph c.args.game.now in
-    let law = g.met.G.Game.lawful c.args.game.now in
+    let graph = g.G.Shelved.graph c.args.game.now in
+    let law = g.met.G.Shelved.lawful c.args.game.now in
     let span = g.G.Shelved.span c.args.game.now in
     let is = c.span-span.ensures.is in
     let some : 0 < span = let few = c.span-span.ensures.few in omega (arith, few.0, is) in
@@ -70,6 +84,15 @@ returns g c =
     = λ i. c.win_exits.ensures.pending i ∙ ap₂ (λ (xs ys : List ℕ). slice_index xs i - count_of i ys) c.deref_mut-2.ensures.value winning in
     let wins = subst (λ s. (i : ℕ) → is_marked_in s c.win_exits.new.ready i ≡ (is_marked_in s run.ready.items i || (ltb 0 (count_of i (slice_index_or run.won_due (suc r) [])) && eqb (slice_index c.win_exits.new.pending i) 0))) is
     (λ i. c.win_exits.ensures.ready i ∙ ap₂ (λ (xs ys : List ℕ). is_marked_in c.span-span.result xs i || (ltb 0 (count_of i ys) && eqb (slice_index c.win_exits.new.pending i) 0)) c.deref_mut-3.ensures.value winning) in
+    let ready_now : AreTold span (is_ready graph (suc r)) c.win_exits.new.ready
+    = λ i. wins i ∙ ap (λ b. b || (ltb 0 (count_of i (slice_index_or run.won_due (suc r) [])) && eqb (slice_index c.win_exits.new.pending i) 0)) (swept.ready i)
+    ∙ ready_next graph r i run.pending.items c.win_exits.new.pending run.won_due (less i) (swept.exits i).wins in
+    let ask_long : length c.win_exits.new.ask ≡ run.next_ask.len = let a = c.win_exits.auto.ask in let b = ap (λ (xs : List ℕ). length xs) c.deref_mut-4.ensures.value in let own = run.next_ask.ok.0 in omega (arith, a, b, own) in
+    let ask_is = with_items_is run.next_ask c.win_exits.new.ask ask_long in
+    let kept : (w : ℕ) → IsTouched run.next_ask.items w → IsTouched c.win_exits.new.ask w
+    = λ w one. c.win_exits.ensures.kept w (subst (λ (xs : List ℕ). IsTouched xs w) (sym c.deref_mut-4.ensures.value) one) in
+    let asked = subst (λ s. (i : ℕ) → is_marked_in s c.win_exits.new.ready i ≡ true → (is_marked_in s run.ready.items i ≡ true) ⊎ IsTouched c.win_exits.new.ask (word_in s i)) is
+    (λ i t. subst (λ (xs : List ℕ). (is_marked_in c.span-span.result xs i ≡ true) ⊎ IsTouched c.win_exits.new.ask (word_in c.span-span.result i)) c.deref_mut-3.ensures.value (c.win_exits.ensures.asked i t)) in
     rw add-one (record {
       long = record {
         entries = long.entries;
@@ -81,14 +104,19 @@ returns g c =
         due = ap (λ (xs : List ℕ). length xs) due_is ∙ due_long ∙ run.due.ok.0 ∙ long.due;
         next_unwon = long.unwon;
         next_lost = long.lost;
+        lost_touched = long.next_lost_touched;
+        ask = (let l = long.next_ask in let own = run.next_ask.ok.0 in let same = ap (λ (xs : List ℕ). length xs) ask_is in omega (arith, l, own, same, ask_long));
+        next_lost_touched = long.lost_touched;
+        next_ask = long.ask;
       };
       entries = swept_entries graph span r run.entries.items some long.entries swept.entries_done;
       undecided = all_words graph span (is_undecided graph (suc r)) run.undecided.items some (undecided_nodes graph law (suc r)) long.undecided swept.undecided_done;
       unwon = all_words graph span (is_unwon graph (suc r)) run.next_unwon.items some (unwon_nodes graph (suc r)) long.next_unwon swept.next_unwon;
       lost = all_words graph span (is_lost_at graph (suc r)) run.next_lost.items some (lost_nodes graph (suc r)) long.next_lost swept.next_lost;
-      ready = λ i. ap (λ (xs : List ℕ). is_marked_in span xs i) ready_is ∙ wins i
-          ∙ ap (λ b. b || (ltb 0 (count_of i (slice_index_or run.won_due (suc r) [])) && eqb (slice_index c.win_exits.new.pending i) 0)) (swept.ready i)
-          ∙ ready_next graph r i run.pending.items c.win_exits.new.pending run.won_due (less i) (swept.exits i).wins;
+      ready = λ i. ap (λ (xs : List ℕ). is_marked_in span xs i) ready_is ∙ ready_now i;
       due = λ i. ap (λ (xs : List ℕ). is_marked_in span xs i) due_is ∙ due_next graph span r run.lost_due run.due.items c.lose_exits.new.due swept.due (λ j. (swept.exits j).losses) losses i;
+      lost_touched = lost_touched_next graph span some law r run.next_lost_touched.items swept.next_lost_touched;
+      saved = subst (AreSaved graph span (suc r)) (sym ask_is)
+          (saved_next graph span some law r run.next_ask.items c.win_exits.new.ask run.ready.items c.win_exits.new.ready swept.next_ask kept swept.ready ready_now asked);
       exits = exits_next graph r run.pending.items (with_items run.pending c.win_exits.new.pending).items run.lost_due run.won_due (λ i. ap (λ (xs : List ℕ). slice_index xs i) pending_is ∙ less i) swept.exits;
     })

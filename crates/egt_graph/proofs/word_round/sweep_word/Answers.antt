@@ -1,52 +1,76 @@
 use Rattle.std.proofs.Common.{◌≡◌, ◌+◌, ◌*◌, ◌<◌, ◌≤◌, ◌^◌, ℕ, List, suc, cond, length, slice_index, sym, ap, subst, ◌∙◌, ⊎_elim, arith}
+use Rattle.std.proofs.lemmas.Bool.{both_ways}
 use Rattle.std.proofs.lemmas.List.{get_or_default, length-set, with_items_is}
 use Rattle.std.specs.Vec.{with_items}
 use Rattle.egt_graph.specs.Columns.{entry_at}
-use Rattle.egt_graph.specs.Words.{AreMarks, number_at, parity_of_number, word_in, IsWordOf}
-use Rattle.egt_graph.specs.WordRound.{is_undecided, is_unwon, is_lost_at, is_ready, is_due}
+use Rattle.egt_graph.specs.Words.{AllTouched, AreMarks, IsTouched, number_at, word_in, word_in-number_at, IsWordOf}
+use Rattle.egt_graph.specs.WordRound.{is_undecided, is_unwon, is_lost_at, is_ready, is_due, is_found_won, is_found_lost, AreTouchedBelow}
 use Rattle.egt_graph.proofs.WordRounds.{found_won_parts, found_lost_parts}
 use Rattle.egt_graph.proofs.WordSweeps.{told_word, put_at, entries_put, entries_kept, entries_done_more, word_here, word_past, next_undecided, next_unwon, next_lost}
+use Rattle.egt_graph.proofs.WordTouches.{touched_more}
 use Rattle.egt_graph.proofs.word_round.sweep_word.Goals as goal
 
 pub decide_word-found-requires-clause-undecided : goal.decide_word-found-requires-clause-undecided
 decide_word-found-requires-clause-undecided g c =
-    subst (IsWordOf (g.G.Shelved.span c.args.game.now) c.args.word (is_undecided (g.G.Game.graph c.args.game.now) c.args.round))
+    subst (IsWordOf (g.G.Shelved.span c.args.game.now) c.args.word (is_undecided (g.G.Shelved.graph c.args.game.now) c.args.round))
     (sym (c.index-undecided.ensures ∙ get_or_default c.args.run.now.undecided.items c.args.word _ 0 (let l = c.requires.swept.long.undecided in let within = c.requires.word in omega (arith, l, within))))
     (c.requires.swept.undecided_left c.args.word (omega arith))
 
 pub decide_word-found-requires-clause-lost : goal.decide_word-found-requires-clause-lost
 decide_word-found-requires-clause-lost g c =
-    subst (AreMarks (g.G.Shelved.span c.args.game.now) (is_lost_at (g.G.Game.graph c.args.game.now) c.args.round)) (sym c.deref.ensures.value) c.requires.swept.lost
+    subst (AreMarks (g.G.Shelved.span c.args.game.now) (is_lost_at (g.G.Shelved.graph c.args.game.now) c.args.round)) (sym c.deref.ensures.value) c.requires.swept.lost
 
 pub decide_word-found-requires-clause-unwon : goal.decide_word-found-requires-clause-unwon
 decide_word-found-requires-clause-unwon g c =
-    subst (AreMarks (g.G.Shelved.span c.args.game.now) (is_unwon (g.G.Game.graph c.args.game.now) c.args.round)) (sym c.deref-2.ensures.value) c.requires.swept.unwon
+    subst (AreMarks (g.G.Shelved.span c.args.game.now) (is_unwon (g.G.Shelved.graph c.args.game.now) c.args.round)) (sym c.deref-2.ensures.value) c.requires.swept.unwon
 
--- the numbers of the word are as even as the word
+pub is_touched-requires : goal.is_touched-requires
+is_touched-requires g c =
+    let within = c.requires.word in
+    let long = c.requires.swept.long.lost_touched in
+    let len = ap (λ (xs : List ℕ). length xs) c.deref-3.ensures.value in
+    omega (arith, within, long, len)
+
+pub is_touched-requires-2 : goal.is_touched-requires-2
+is_touched-requires-2 g c =
+    let within = c.requires.word in
+    let long = c.requires.swept.long.ask in
+    let len = ap (λ (xs : List ℕ). length xs) c.deref-4.ensures.value in
+    omega (arith, within, long, len)
+
 pub decide_word-found-requires-clause-none_leads : goal.decide_word-found-requires-clause-none_leads
-decide_word-found-requires-clause-none_leads g c clear k node =
+decide_word-found-requires-clause-none_leads g c clear k lt node to =
+    let span = g.G.Shelved.span c.args.game.now in
+    let number = number_at span c.args.word k in
+    let one = subst (IsTouched c.args.run.now.lost_touched.items) (word_in-number_at span c.args.word k lt) (c.requires.swept.lost_touched number to.0 node to.1 to.2) in
+    both_ways c.is_touched.result clear (c.is_touched.ensures.1 (subst (λ (xs : List ℕ). IsTouched xs c.args.word) (sym c.deref-3.ensures.value) one))
+
+pub decide_word-found-requires-clause-saved : goal.decide_word-found-requires-clause-saved
+decide_word-found-requires-clause-saved g c clear k lt undecided ready =
     let span = g.G.Shelved.span c.args.game.now in
     let number = number_at span c.args.word k in
     ⊎_elim
-    (λ even. c.requires.leading.even even.1 number node (parity_of_number span c.args.word k ∙ even.0))
-    (λ odd. c.requires.leading.odd odd.1 number node (parity_of_number span c.args.word k ∙ odd.0))
-    (c.may_lead.ensures clear)
+    (λ asked.
+    let one = subst (IsTouched c.args.run.now.ask.items) (word_in-number_at span c.args.word k lt) asked in
+    absurd (both_ways c.is_touched-2.result clear (c.is_touched-2.ensures.1 (subst (λ (xs : List ℕ). IsTouched xs c.args.word) (sym c.deref-4.ensures.value) one))))
+    (λ to. to)
+    (c.requires.swept.saved number undecided ready)
 
 pub decide_word-found-requires-clause-due : goal.decide_word-found-requires-clause-due
 decide_word-found-requires-clause-due g c =
-    told_word (g.G.Shelved.span c.args.game.now) (is_due (g.G.Game.graph c.args.game.now) c.args.round) c.args.run.now.due.items c.requires.swept.due c.args.word c.index.result.now
+    told_word (g.G.Shelved.span c.args.game.now) (is_due (g.G.Shelved.graph c.args.game.now) c.args.round) c.args.run.now.due.items c.requires.swept.due c.args.word c.index.result.now
     (c.index.ensures ∙ get_or_default c.args.run.now.due.items c.args.word _ 0 (let l = c.requires.swept.long.due in let within = c.requires.word in omega (arith, l, within)))
 
 pub decide_word-found-requires-clause-ready : goal.decide_word-found-requires-clause-ready
 decide_word-found-requires-clause-ready g c =
-    told_word (g.G.Shelved.span c.args.game.now) (is_ready (g.G.Game.graph c.args.game.now) c.args.round) c.args.run.now.ready.items c.requires.swept.ready c.args.word c.index-2.result.now
+    told_word (g.G.Shelved.span c.args.game.now) (is_ready (g.G.Shelved.graph c.args.game.now) c.args.round) c.args.run.now.ready.items c.requires.swept.ready c.args.word c.index-2.result.now
     (c.index-2.ensures ∙ get_or_default c.args.run.now.ready.items c.args.word _ 0 (let l = c.requires.swept.long.ready in let within = c.requires.word in omega (arith, l, within)))
 
 pub put_entries-requires-clause-within : goal.put_entries-requires-clause-within
 put_entries-requires-clause-within g c k one =
-    let graph = g.G.Game.graph c.args.game.now in
+    let graph = g.G.Shelved.graph c.args.game.now in
     let won = (c.decide_word-found.ensures.won k).0 one in
-    let node = found_won_parts graph (g.met.G.Game.lawful c.args.game.now) c.args.round (number_at (g.G.Shelved.span c.args.game.now) c.args.word k) won.1 in
+    let node = found_won_parts graph (g.met.G.Shelved.lawful c.args.game.now) c.args.round (number_at (g.G.Shelved.span c.args.game.now) c.args.word k) won.1 in
     let below = node.0.in_range in
     let len = ap (λ (xs : List ℕ). length xs) c.deref_mut.ensures.value in
     let long = c.requires.swept.long.entries in
@@ -54,9 +78,9 @@ put_entries-requires-clause-within g c k one =
 
 pub put_entries-requires-2-clause-within : goal.put_entries-requires-2-clause-within
 put_entries-requires-2-clause-within g c k one =
-    let graph = g.G.Game.graph c.args.game.now in
+    let graph = g.G.Shelved.graph c.args.game.now in
     let lost = (c.decide_word-found.ensures.lost k).0 one in
-    let node = found_lost_parts graph (g.met.G.Game.lawful c.args.game.now) c.args.round (number_at (g.G.Shelved.span c.args.game.now) c.args.word k) lost.1 in
+    let node = found_lost_parts graph (g.met.G.Shelved.lawful c.args.game.now) c.args.round (number_at (g.G.Shelved.span c.args.game.now) c.args.word k) lost.1 in
     let below = node.0.in_range in
     let run = c.args.run.now in
     let first_long : length c.put_entries.new.entries ≡ run.entries.len
@@ -66,10 +90,28 @@ put_entries-requires-2-clause-within g c k one =
     let long = c.requires.swept.long.entries in
     rw c.span-span.ensures.is (lost.0, omega (arith, below, len, first_long, own, long))
 
+pub touch_from-requires-clause-long : goal.touch_from-requires-clause-long
+touch_from-requires-clause-long g c =
+    let long = c.requires.swept.long.next_lost_touched in
+    let len = ap (λ (xs : List ℕ). length xs) c.deref_mut-3.ensures.value in
+    omega (arith, long, len)
+
+pub touch_from-requires-2-clause-long : goal.touch_from-requires-2-clause-long
+touch_from-requires-2-clause-long g c =
+    let long = c.requires.swept.long.next_ask in
+    let len = ap (λ (xs : List ℕ). length xs) c.deref_mut-4.ensures.value in
+    omega (arith, long, len)
+
+pub touch_from-requires-clause-full : goal.touch_from-requires-clause-full
+touch_from-requires-clause-full g c = subst (AllTouched (64 * c.args.run.now.lost_full)) (sym c.deref_mut-3.ensures.value) c.requires.swept.lost_full
+
+pub touch_from-requires-2-clause-full : goal.touch_from-requires-2-clause-full
+touch_from-requires-2-clause-full g c = subst (AllTouched (64 * c.args.run.now.ask_full)) (sym c.deref_mut-4.ensures.value) c.requires.swept.ask_full
+
 pub returns-clause-swept : goal.returns-clause-swept
 returns-clause-swept g c =
-    let graph = g.G.Game.graph c.args.game.now in
-    let law = g.met.G.Game.lawful c.args.game.now in
+    let graph = g.G.Shelved.graph c.args.game.now in
+    let law = g.met.G.Shelved.lawful c.args.game.now in
     let span = g.G.Shelved.span c.args.game.now in
     let is = c.span-span.ensures.is in
     let some : 0 < span = let few = c.span-span.ensures.few in omega (arith, few.0, is) in
@@ -99,6 +141,12 @@ returns-clause-swept g c =
     let second = subst (λ (s : ℕ). (i : ℕ) → slice_index c.put_entries-2.new.entries i ≡ cond (put_at s word lost i) (5 + 2 * r) (slice_index c.put_entries.new.entries i)) is
     (λ i. c.put_entries-2.ensures i ∙ ap (λ (xs : List ℕ). cond (put_at c.span-span.result word lost i) (5 + 2 * r) (slice_index xs i)) again) in
     let kept = entries_kept span word won lost run.entries.items c.put_entries.new.entries c.put_entries-2.new.entries (4 + 2 * r) (5 + 2 * r) first second in
+    let lost_long : length c.touch_from.new.touched ≡ run.next_lost_touched.len
+    = (let d = c.touch_from.auto.touched in let e = ap (λ (xs : List ℕ). length xs) c.deref_mut-3.ensures.value in let l = run.next_lost_touched.ok.0 in omega (arith, d, e, l)) in
+    let lost_is = with_items_is run.next_lost_touched c.touch_from.new.touched lost_long in
+    let ask_long : length c.touch_from-2.new.touched ≡ run.next_ask.len
+    = (let d = c.touch_from-2.auto.touched in let e = ap (λ (xs : List ℕ). length xs) c.deref_mut-4.ensures.value in let l = run.next_ask.ok.0 in omega (arith, d, e, l)) in
+    let ask_is = with_items_is run.next_ask c.touch_from-2.new.touched ask_long in
     record {
       long = record {
         entries = ap (λ (xs : List ℕ). length xs) twice ∙ second_long ∙ run.entries.ok.0 ∙ long.entries;
@@ -110,6 +158,10 @@ returns-clause-swept g c =
         due = long.due;
         next_unwon = length-set run.next_unwon.items word _ ∙ long.next_unwon;
         next_lost = length-set run.next_lost.items word _ ∙ long.next_lost;
+        lost_touched = long.lost_touched;
+        ask = long.ask;
+        next_lost_touched = (let l = long.next_lost_touched in let own = run.next_lost_touched.ok.0 in let same = ap (λ (xs : List ℕ). length xs) lost_is in omega (arith, l, own, same, lost_long));
+        next_ask = (let l = long.next_ask in let own = run.next_ask.ok.0 in let same = ap (λ (xs : List ℕ). length xs) ask_is in omega (arith, l, own, same, ask_long));
       };
       entries_done = λ i lt. ap (λ (xs : List ℕ). slice_index xs i) twice ∙ entries_done_more (word_in span) word run.entries.items c.put_entries-2.new.entries (entry_at graph (suc r)) kept
           (λ i here. entries_put graph law r span word won lost some of_won of_lost run.entries.items c.put_entries.new.entries c.put_entries-2.new.entries (4 + 2 * r) (5 + 2 * r) (omega arith) (omega arith) first second i here
@@ -124,4 +176,14 @@ returns-clause-swept g c =
       ready = c.requires.swept.ready;
       due = c.requires.swept.due;
       exits = c.requires.swept.exits;
+      lost_touched = c.requires.swept.lost_touched;
+      saved = c.requires.swept.saved;
+      next_lost_touched = subst (AreTouchedBelow graph span (word + 1) (is_found_lost graph r)) (sym lost_is)
+          (touched_more graph span some word (is_found_lost graph r) lost of_lost run.next_lost_touched.items c.touch_from.new.touched
+          (λ w one. c.touch_from.ensures.kept w (subst (λ (xs : List ℕ). IsTouched xs w) (sym c.deref_mut-3.ensures.value) one)) c.touch_from.ensures.touched c.requires.swept.next_lost_touched);
+      next_ask = subst (AreTouchedBelow graph span (word + 1) (is_found_won graph r)) (sym ask_is)
+          (touched_more graph span some word (is_found_won graph r) won of_won run.next_ask.items c.touch_from-2.new.touched
+          (λ w one. c.touch_from-2.ensures.kept w (subst (λ (xs : List ℕ). IsTouched xs w) (sym c.deref_mut-4.ensures.value) one)) c.touch_from-2.ensures.touched c.requires.swept.next_ask);
+      lost_full = subst (AllTouched (64 * c.touch_from.new.full)) (sym lost_is) c.touch_from.ensures.full;
+      ask_full = subst (AllTouched (64 * c.touch_from-2.new.full)) (sym ask_is) c.touch_from-2.ensures.full;
     }

@@ -1,14 +1,13 @@
 use Rattle.std.proofs.Common.{◌≤◌, ◌-◌}
-use Rattle.egt_graph.specs.WordRound.{IsAt, TellsLeading}
+use Rattle.egt_graph.specs.WordRound.{IsAt}
 use Rattle.egt_graph.proofs.WordEnding.{IsQuiet}
 use Rattle.egt_graph.proofs.word_solver.solve_by_words.Given as goal
 
 abbrev pub invariant-rounds : goal.invariant-rounds
 invariant-rounds g l = record {
-  at : IsAt (g.G.Game.graph l.game) (g.G.Shelved.span l.game) l.round l.run;
+  at : IsAt (g.G.Shelved.graph l.game) (g.G.Shelved.span l.game) l.round l.run;
   short : l.round ≤ 32000;
-  leading : TellsLeading (g.G.Game.graph l.game) l.round l.leading;
-  quiet : IsQuiet (g.G.Game.graph l.game) l.limit l.round;
+  quiet : IsQuiet (g.G.Shelved.graph l.game) l.limit l.round;
 }
 
 abbrev pub decreases-rounds : goal.decreases-rounds

@@ -1,4 +1,4 @@
-use Rattle.std.proofs.Common.{◌≡◌, ◌/◌, ◌*◌, ◌≤◌, refl, arith}
+use Rattle.std.proofs.Common.{◌/◌, ◌*◌, ◌≤◌, refl, arith}
 use Rattle.std.proofs.Math.Nat.{mul-le-mul_left}
 use Rattle.egt_graph.specs.Words.{number_at}
 use Rattle.egt_graph.proofs.words.number_at.Goals as goal

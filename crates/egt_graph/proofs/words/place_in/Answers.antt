@@ -1,4 +1,4 @@
-use Rattle.std.proofs.Common.{◌≡◌, ◌%◌, ◌*◌, ◌<◌, refl, arith}
+use Rattle.std.proofs.Common.{◌*◌, refl, arith}
 use Rattle.std.proofs.lemmas.Nat.{mod_below}
 use Rattle.egt_graph.specs.Words.{place_in}
 use Rattle.egt_graph.proofs.words.place_in.Goals as goal

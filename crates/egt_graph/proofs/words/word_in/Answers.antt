@@ -1,4 +1,4 @@
-use Rattle.std.proofs.Common.{◌≡◌, ◌/◌, ◌*◌, ◌≤◌, refl, arith}
+use Rattle.std.proofs.Common.{refl}
 use Rattle.egt_graph.specs.Words.{word_in}
 use Rattle.egt_graph.proofs.words.word_in.Goals as goal
 

@@ -19,19 +19,19 @@ returns-clause-built c =
     let tables : Tables = table_at c.args.library.now in
     let class = c.args.class in
     let limit = c.args.limit in
-    let mate = c.in_ok-mate.mate in
+    let mate = c.in_ok-mates.mates.ranks in
     let zeroing = c.in_ok-zeroing.zeroing in
     let other : Tables = beside tables (mate_table class mate) in
     let below = subst (λ (n : ℕ). n < 36) c.number-number.ensures.value c.number-number.ensures.below in
-    let children = true_children tables class c.children_are_true.ensures c.in_ok-mate.ensures.children in
+    let children = true_children tables class c.children_are_true.ensures c.in_ok-mates.ensures.children in
     let told : RanksTell (class_game tables Mate class) class (HasValue chess) = λ i p v ok is rank. c.mate_ranks_are_values.ensures.values tables class i p v below children ok is rank in
-    let shows = mates_show_values c.laws.ensures class below tables limit c.requires mate c.in_ok-mate.ensures.ranks told in
+    let shows = mates_show_values c.laws.ensures class below tables limit c.requires mate c.in_ok-mates.ensures.ranks told in
     let told_zeroing : RanksTell (class_game other Zeroing class) class (HasZeroing chess) =
     λ i p v ok is rank. c.zeroing_ranks_are_distances.ensures.distances tables (mate_table class mate) i p v below children shows ok is rank in
     subst (IsBuilt tables class limit) (sym c.in-Ok.ensures.table) (record {
       class = refl;
-      true = built_is_true c.laws.ensures class below tables limit c.requires mate c.in_ok-mate.ensures.ranks told other zeroing c.in_ok-zeroing.ensures.ranks told_zeroing;
-      accepted = built_is_accepted c.laws.ensures class below tables limit c.requires mate c.in_ok-mate.ensures.ranks told other zeroing c.in_ok-zeroing.ensures.ranks told_zeroing
-          c.in_ok-mate.ensures.children children c.rules_are_kept_by_true_tables_alone.ensures;
-      within = values_within c.laws.ensures class below tables limit c.requires mate c.in_ok-mate.ensures.ranks told c.one_value.ensures.one;
+      true = built_is_true c.laws.ensures class below tables limit c.requires mate c.in_ok-mates.ensures.ranks told other zeroing c.in_ok-zeroing.ensures.ranks told_zeroing;
+      accepted = built_is_accepted c.laws.ensures class below tables limit c.requires mate c.in_ok-mates.ensures.ranks told other zeroing c.in_ok-zeroing.ensures.ranks told_zeroing
+          c.in_ok-mates.ensures.children children c.rules_are_kept_by_true_tables_alone.ensures;
+      within = values_within c.laws.ensures class below tables limit c.requires mate c.in_ok-mates.ensures.ranks told c.one_value.ensures.one;
     })

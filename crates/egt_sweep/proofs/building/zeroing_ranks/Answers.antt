@@ -17,7 +17,7 @@ unreachable-requires c =
     let tables = table_at c.args.library.now in
     let class = c.args.class in
     let limit = c.args.limit in
-    let mates = c.args.mates.now in
+    let mates = c.args.mates.now.ranks in
     let game = c.in-Ok.game in
     let made = c.in-Ok.ensures in
     let below = subst (λ (n : ℕ). n < 36) c.number-number.ensures.value c.number-number.ensures.below in
@@ -35,7 +35,7 @@ pub returns-then-has_one_game-clause-ranks : goal.returns-then-has_one_game-clau
 returns-then-has_one_game-clause-ranks c =
     let tables = table_at c.args.library.now in
     let class = c.args.class in
-    let mates = c.args.mates.now in
+    let mates = c.args.mates.now.ranks in
     let other = beside tables (mate_table class mates) in
     let below = subst (λ (n : ℕ). n < 36) c.number-number.ensures.value c.number-number.ensures.below in
     let children = true_children tables class c.children_are_true.ensures c.requires.children in

@@ -1,4 +1,4 @@
-use Rattle.std.proofs.Common.{◌≡◌, ◌+◌, ◌++◌, ap, filter, slice_index, take, ◌∙◌, arith}
+use Rattle.std.proofs.Common.{ap, filter, slice_index, take, ◌∙◌, arith}
 use Rattle.std.proofs.lemmas.List.{take_all}
 use Rattle.std.proofs.lemmas.List.Elements.{filter-append}
 use Rattle.egt_graph.specs.Columns.{count_of, into_all}

@@ -1,0 +1,407 @@
+//! The moves of a whole class between its codes by words, told once for both of its games.
+ghost use Rattle.std.specs.Prelude.{◌≡◌, ◌^◌, ◌<◌, ◌≤◌, ◌⊎◌, true, false};
+ghost use Rattle.egt_class.specs.Material.{material_of};
+ghost use Rattle.egt_graph.specs.Words.{words_of};
+ghost use Rattle.egt_index.specs.Shelf.{shelf_len};
+ghost use Rattle.egt_index.specs.Size.{has_target, size_of};
+ghost use Rattle.egt_sweep.specs.CodeLists.{IsTold};
+ghost use Rattle.egt_sweep.specs.CodeSources.{AreSources};
+ghost use Rattle.egt_words.specs.Told.{places};
+
+use crate::code_roaming::lead_roaming;
+use crate::code_sources::CodeSources;
+use egt_board::Side;
+use egt_class::Class;
+use egt_graph::{Pushes, TurnedWay, Way, is_in, lead_by, words_of};
+use egt_index::{Rows, ShelfMen, has_target, positions_of, shelf_len, shelf_men, size};
+use egt_words::{Roaming, Told};
+use std::alloc::{AllocError, Global};
+
+/// Where a word's moves begin in the lists of all words; they end where those of the next begin.
+#[derive(Clone, Copy, PartialEq, Eq, Debug, Default)]
+pub(crate) struct CodeStart {
+    pub(crate) ways: usize,
+    pub(crate) turned: usize,
+    pub(crate) pawn_ways: usize,
+}
+
+/// What is told of the first words of a class.
+#[derive(Drop)]
+pub(crate) struct CodeLists {
+    /// The codes that spell positions.
+    pub(crate) nodes: Vec<u64>,
+    /// Those that are the least for their positions.
+    pub(crate) indexes: Vec<u64>,
+    pub(crate) staying: Vec<u64>,
+    pub(crate) pushes: Vec<Pushes>,
+    pub(crate) roams: Vec<Option<Roaming>>,
+    pub(crate) starts: Vec<CodeStart>,
+    pub(crate) ways: Vec<Way>,
+    pub(crate) turned: Vec<TurnedWay>,
+    pub(crate) pawn_ways: Vec<Way>,
+}
+
+/// The moves of a class between its codes by words.
+#[derive(Drop)]
+pub(crate) struct CodeWords {
+    pub(crate) class: Class,
+    pub(crate) lists: CodeLists,
+    pub(crate) sources: CodeSources,
+    ghost told: { IsTold class lists },
+    ghost sourced: { AreSources class lists sources },
+}
+
+/// The moves from all places of a word.
+#[derive(Clone, Copy)]
+pub(crate) struct WordCodes<'w> {
+    pub(crate) ways: &'w [Way],
+    pub(crate) turned: &'w [TurnedWay],
+    pub(crate) pawn_ways: &'w [Way],
+    pub(crate) pushes: Pushes,
+    pub(crate) roams: Option<Roaming>,
+}
+
+impl CodeLists {
+    ghost use Rattle.std.specs.Prelude.{◌≡◌, ◌+◌, ◌*◌, ◌<◌, true, false, IfOk, IfSome};
+    ghost use Rattle.egt_class.specs.Material.{material_of};
+    ghost use Rattle.egt_index.specs.Shelf.{shelf_len};
+    ghost use Rattle.egt_index.specs.ShelfCodes.{IsShelf, IsWithin};
+    ghost use Rattle.egt_index.specs.Size.{has_target, size_of};
+    ghost use Rattle.egt_graph.specs.Words.{words_of};
+    ghost use Rattle.egt_sweep.specs.CodeLists.{AreIndexes, HoldsBelow, IsAdded, IsTold, pawn_ways_at, pushes_at, roams_at, turned_at, ways_at};
+    ghost use Rattle.egt_words.specs.Told.{AreNodes, places, word_of};
+
+    /// The lists of no words. The contract alone reads the class.
+    fn nothing(alloc: Global, _class: Class) -> Result<CodeLists, AllocError>
+        ensures { IfOk result (HoldsBelow _class 0) }
+    {
+        let mut starts = Vec::new(alloc);
+        starts.push(CodeStart::default())?;
+        Ok(CodeLists {
+            nodes: Vec::new(alloc),
+            indexes: Vec::new(alloc),
+            staying: Vec::new(alloc),
+            pushes: Vec::new(alloc),
+            roams: Vec::new(alloc),
+            starts,
+            ways: Vec::new(alloc),
+            turned: Vec::new(alloc),
+            pawn_ways: Vec::new(alloc),
+        })
+    }
+
+    /// Adds what is told of the next word.
+    fn add(&mut self, nodes: u64, indexes: u64, told: &Told) -> Result<(), AllocError>
+        ensures { IfOk result (λ _. IsAdded self.old self.new nodes indexes told.now) }
+    {
+        self.ways.extend_from_slice(told.ways.as_slice())?;
+        self.turned.extend_from_slice(told.turned.as_slice())?;
+        self.pawn_ways.extend_from_slice(told.pawn_ways.as_slice())?;
+        self.nodes.push(nodes)?;
+        self.indexes.push(indexes)?;
+        self.staying.push(told.staying)?;
+        self.pushes.push(told.pushes)?;
+        self.roams.push(told.roams)?;
+        self.starts.push(CodeStart {
+            ways: self.ways.len(),
+            turned: self.turned.len(),
+            pawn_ways: self.pawn_ways.len(),
+        })?;
+        Ok(())
+    }
+
+    /// Tells of the shelf's word with that side to move, which is the next. False where something is not told. What is told of a word is lent.
+    fn tell(
+        &mut self,
+        told: &mut Told,
+        class: Class,
+        shelf: u32,
+        men: &ShelfMen,
+        side: Side,
+        nodes: u64,
+        indexes: u64,
+    ) -> Result<bool, AllocError>
+        requires targets { has_target (material_of class) ≡ false }
+        requires within { IsWithin class shelf }
+        requires men { IsShelf class shelf men.now }
+        requires nodes { AreNodes class (word_of shelf side) nodes }
+        requires indexes { AreIndexes class (word_of shelf side) indexes }
+        requires holds { HoldsBelow class (word_of shelf side) self.old }
+        ensures { IfOk result (λ done. done ≡ true → HoldsBelow class (word_of shelf side + 1) self.new) }
+    {
+        if !told.tell(class, shelf, men, side, nodes) {
+            return Ok(false);
+        }
+        self.add(nodes, indexes, told)?;
+        Ok(true)
+    }
+
+    /// Tells of both words of the shelf.
+    fn tell_shelf(
+        &mut self,
+        told: &mut Told,
+        rows: &mut Rows,
+        class: Class,
+        shelf: u32,
+    ) -> Result<bool, AllocError>
+        requires rows { rows.old ≡ class }
+        requires targets { has_target (material_of class) ≡ false }
+        requires within { IsWithin class shelf }
+        requires holds { HoldsBelow class (2 * shelf) self.old }
+        ensures rows { rows.new ≡ class }
+        ensures told { IfOk result (λ done. done ≡ true → HoldsBelow class (2 * (shelf + 1)) self.new) }
+    {
+        let _size = size(class);
+        let Some(men) = shelf_men(class, shelf) else {
+            return Ok(false);
+        };
+        let nodes = positions_of(class, shelf);
+        let indexes = rows.places(shelf * shelf_len(class));
+        if !self.tell(
+            told,
+            class,
+            shelf,
+            &men,
+            Side::White,
+            nodes.white,
+            indexes.white,
+        )? {
+            return Ok(false);
+        }
+        self.tell(
+            told,
+            class,
+            shelf,
+            &men,
+            Side::Black,
+            nodes.black,
+            indexes.black,
+        )
+    }
+
+    /// Tells of all words of the class, of which there are twice so many as shelves.
+    fn tell_shelves(&mut self, class: Class, shelves: u32) -> Result<bool, AllocError>
+        requires targets { has_target (material_of class) ≡ false }
+        requires shelves { shelves * shelf_len class ≡ size_of class }
+        requires holds { HoldsBelow class 0 self.old }
+        ensures { IfOk result (λ done. done ≡ true → HoldsBelow class (2 * shelves) self.new) }
+    {
+        let mut rows = Rows::new(class);
+        let mut told = Told::nothing();
+        for shelf in 0..shelves {
+            if !self.tell_shelf(&mut told, &mut rows, class, shelf)? {
+                return Ok(false);
+            }
+        }
+        Ok(true)
+    }
+
+    /// What is told of all words of the class; `None` where it is not told by words.
+    fn of(alloc: Global, class: Class) -> Result<Option<CodeLists>, AllocError>
+        ensures { IfOk result (λ found. IfSome found (λ lists. IsTold class lists)) }
+    {
+        let _number = class.number();
+        if !has_words(class) {
+            return Ok(None);
+        }
+        let mut lists = CodeLists::nothing(alloc, class)?;
+        if !lists.tell_shelves(class, size(class) / shelf_len(class))? {
+            return Ok(None);
+        }
+        Ok(Some(lists))
+    }
+
+    /// The moves from all places of the word. The contract alone reads the class.
+    #[inline(always)]
+    pub(crate) fn moves(&self, _class: Class, word: u32) -> WordCodes<'_>
+        requires told { IsTold _class self.now }
+        requires word { word < words_of (places _class) (size_of _class) }
+        ensures ways { result.ways.now ≡ ways_at self.now word }
+        ensures turned { result.turned.now ≡ turned_at self.now word }
+        ensures pawn_ways { result.pawn_ways.now ≡ pawn_ways_at self.now word }
+        ensures pushes { result.pushes ≡ pushes_at self.now word }
+        ensures roams { result.roams ≡ roams_at self.now word }
+    {
+        let at = word as usize;
+        let from = self.starts[at];
+        let to = self.starts[at + 1];
+        WordCodes {
+            ways: &self.ways[from.ways..to.ways],
+            turned: &self.turned[from.turned..to.turned],
+            pawn_ways: &self.pawn_ways[from.pawn_ways..to.pawn_ways],
+            pushes: self.pushes[at],
+            roams: self.roams[at],
+        }
+    }
+}
+
+/// Whether a word has a place for each square of a last man: the class has two men beside the kings, and no targets.
+fn has_words(class: Class) -> bool
+    ensures targets { result ≡ true → has_target (material_of class) ≡ false }
+    ensures len { result ≡ true → (shelf_len class ≡ 96) ⊎ (shelf_len class ≡ 128) }
+{
+    let len = shelf_len(class);
+    !has_target(class) && (len == 96 || len == 128)
+}
+
+/// How many words the class has.
+pub(crate) fn word_count(class: Class) -> usize
+    requires some { 0 < places class }
+    requires few { places class ≤ 64 }
+    ensures is { result ≡ words_of (places class) (size_of class) }
+    ensures few { result ≤ 2 ^ 32 }
+{
+    words_of(shelf_len(class) / 2, size(class))
+}
+
+impl CodeWords {
+    ghost use Rattle.std.specs.Prelude.{◌≡◌, ◌↔◌, ◌*◌, ◌<◌, ◌≤◌, ℕ, length, IfOk, IfSome, IsTrue};
+    ghost use Rattle.egt_graph.specs.Words.{IsTouched, words_of};
+    ghost use Rattle.egt_index.specs.Index.{IsVoid};
+    ghost use Rattle.egt_index.specs.Size.{size_of};
+    ghost use Rattle.egt_sweep.specs.CodeSources.{IsSource};
+    ghost use Rattle.egt_sweep.specs.CodeLists.{nodes_at, pawn_ways_at, pushes_at, roams_at, staying_at, turned_at, ways_at};
+    ghost use Rattle.egt_words.specs.Told.{places};
+
+    /// The moves of the class between its codes; `None` where they are not told by words: it has targets, or not two men beside the kings, or some
+    /// code after a move is no sum.
+    pub(crate) fn of(alloc: Global, class: Class) -> Result<Option<CodeWords>, AllocError>
+        ensures { IfOk result (λ found. IfSome found (λ words. words.class ≡ class)) }
+    {
+        let Some(lists) = CodeLists::of(alloc, class)? else {
+            return Ok(None);
+        };
+        let sources = CodeSources::of(alloc, class, &lists)?;
+        if !sources.are_of(class, &lists) {
+            return Ok(None);
+        }
+        Ok(Some(CodeWords {
+            class,
+            lists,
+            sources,
+        }))
+    }
+
+    /// How many places a word has.
+    #[inline(always)]
+    pub(crate) fn places(&self) -> u32
+        ensures is { result ≡ places self.now.class }
+        ensures some { 0 < result }
+        ensures few { result ≤ 64 }
+    {
+        shelf_len(self.class) / 2
+    }
+
+    /// Which codes of the word spell positions, by their places.
+    #[inline(always)]
+    pub(crate) fn nodes(&self, word: u32) -> u64
+        requires { word < words_of (places self.now.class) (size_of self.now.class) }
+        ensures { result ≡ nodes_at self.now.lists word }
+    {
+        self.lists.nodes[word as usize]
+    }
+
+    /// At which places of the word no move takes or promotes; there may be others.
+    #[inline(always)]
+    pub(crate) fn staying(&self, word: u32) -> u64
+        requires { word < words_of (places self.now.class) (size_of self.now.class) }
+        ensures { result ≡ staying_at self.now.lists word }
+    {
+        self.lists.staying[word as usize]
+    }
+
+    /// The codes of all words that spell positions.
+    pub(crate) fn all_nodes(&self) -> &[u64]
+        ensures is { result.now ≡ self.now.lists.nodes.items }
+        ensures len { length result.now ≡ words_of (places self.now.class) (size_of self.now.class) }
+    {
+        self.lists.nodes.as_slice()
+    }
+
+    /// Those that are indexes.
+    pub(crate) fn all_indexes(&self) -> &[u64]
+        ensures is { result.now ≡ self.now.lists.indexes.items }
+        ensures len { length result.now ≡ words_of (places self.now.class) (size_of self.now.class) }
+    {
+        self.lists.indexes.as_slice()
+    }
+
+    /// Whether the code is a position's index.
+    pub(crate) fn is_index(&self, code: u32) -> bool
+        requires { code < size_of self.now.class }
+        ensures { IsTrue result ↔ ¬ IsVoid self.now.class code }
+    {
+        is_in(self.places(), self.all_indexes(), code)
+    }
+
+    /// The moves from all places of the word.
+    #[inline(always)]
+    pub(crate) fn moves(&self, word: u32) -> WordCodes<'_>
+        requires { word < words_of (places self.now.class) (size_of self.now.class) }
+        ensures ways { result.ways.now ≡ ways_at self.now.lists word }
+        ensures turned { result.turned.now ≡ turned_at self.now.lists word }
+        ensures pawn_ways { result.pawn_ways.now ≡ pawn_ways_at self.now.lists word }
+        ensures pushes { result.pushes ≡ pushes_at self.now.lists word }
+        ensures roams { result.roams ≡ roams_at self.now.lists word }
+    {
+        self.lists.moves(self.class, word)
+    }
+
+    /// Marks the words whose moves lead to the word.
+    pub(crate) fn touch(&self, word: u32, touched: &mut [u64])
+        requires { word < words_of (places self.now.class) (size_of self.now.class) }
+        ensures long { length touched.new ≡ length touched.old }
+        ensures kept { (w : ℕ) → IsTouched touched.old w → IsTouched touched.new w }
+        ensures touched { (from : ℕ) → from < 64 * length touched.old → IsSource self.now.sources word from → IsTouched touched.new from }
+    {
+        self.sources.touch(word, touched);
+    }
+}
+
+impl WordCodes<'_> {
+    ghost use Rattle.std.specs.Prelude.{◌≡◌, ◌↔◌, ◌<◌, ℕ, true, length};
+    ghost use Rattle.std.specs.Int.{bit_at};
+    ghost use Rattle.egt_graph.specs.WordMoves.{GoesStraight};
+    ghost use Rattle.egt_graph.specs.Words.{IsIn};
+    ghost use Rattle.egt_sweep.specs.CodeLists.{CodesFit, GoesWith, RoamsTo};
+    ghost use Rattle.egt_words.specs.Told.{GoesRoamingIf};
+
+    /// From which of the places asked for a pawn who stands on the same square in all positions goes into the marks.
+    #[inline(always)]
+    fn lead_pawn(&self, span: u32, pawns: bool, asked: u64, marks: &[u64]) -> u64
+        requires fits { CodesFit span (length marks.now) self.now.ways.now self.now.turned.now self.now.pawn_ways.now self.now.pushes self.now.roams }
+        requires asked { (k : ℕ) → bit_at asked k ≡ 1 → k < span }
+        ensures { (k : ℕ) → bit_at result k ≡ 1 ↔ ((bit_at asked k ≡ 1) × ((j : ℕ) × ((pawns ≡ true) × GoesStraight span k j self.now.pawn_ways.now) × IsIn span marks.now j)) }
+    {
+        if pawns && !self.pawn_ways.is_empty() {
+            lead_by(span, self.pawn_ways, &[], &None, &None, asked, marks)
+        } else {
+            0
+        }
+    }
+
+    /// From which of them the last man, if he roams, does.
+    #[inline(always)]
+    fn lead_last(&self, _span: u32, asked: u64, marks: &[u64]) -> u64
+        requires { RoamsTo _span (length marks.now) self.now.roams }
+        ensures { (k : ℕ) → bit_at result k ≡ 1 ↔ ((bit_at asked k ≡ 1) × ((j : ℕ) × GoesRoamingIf _span k j self.now.roams × IsIn _span marks.now j)) }
+    {
+        match &self.roams {
+            Some(roaming) => lead_roaming(roaming, asked, marks),
+            None => 0,
+        }
+    }
+
+    /// From which of the places asked for some move leads into the marks: one that does not zero, or where those of pawns are asked for too, a pawn's.
+    #[inline(always)]
+    pub(crate) fn lead(&self, span: u32, pawns: bool, asked: u64, marks: &[u64]) -> u64
+        requires fits { CodesFit span (length marks.now) self.now.ways.now self.now.turned.now self.now.pawn_ways.now self.now.pushes self.now.roams }
+        requires asked { (k : ℕ) → bit_at asked k ≡ 1 → k < span }
+        ensures { (k : ℕ) → bit_at result k ≡ 1 ↔ ((bit_at asked k ≡ 1) × ((j : ℕ) × GoesWith pawns span k j self.now.ways.now self.now.turned.now self.now.pawn_ways.now self.now.pushes self.now.roams × IsIn span marks.now j)) }
+    {
+        let pushes = if pawns { Some(self.pushes) } else { None };
+        let first = lead_by(span, self.ways, self.turned, &pushes, &None, asked, marks);
+        let found = first | self.lead_pawn(span, pawns, asked & !first, marks);
+        found | self.lead_last(span, asked & !found, marks)
+    }
+}

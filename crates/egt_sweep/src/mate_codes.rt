@@ -1,0 +1,115 @@
+//! The game of mates over the codes of a class, by words.
+ghost use Rattle.std.specs.Prelude.{◌≡◌, ◌≤◌, IfOk};
+ghost use Rattle.egt_graph.specs.Value.{AreRanks, SomeAbove};
+ghost use Rattle.egt_check.specs.Tables.{table_at, HasChildren};
+ghost use Rattle.egt_table.specs.declared.column.Column.TheVariants.{Mate};
+ghost use Rattle.egt_words.specs.Told.{places};
+ghost use Rattle.egt_sweep.specs.ClassGame.{class_game};
+ghost use Rattle.egt_sweep.specs.CodeGame.{code_game_is_lawful};
+ghost use Rattle.egt_sweep.specs.CodeLists.{moves_told};
+ghost use Rattle.egt_sweep.specs.CodeMates.{TellMates, game_by};
+
+use crate::aim::Aim;
+use crate::code_words::CodeWords;
+use crate::exits::exits_alone;
+use crate::kept::kept_ranks;
+use crate::laws::{codes_stand_for_indexes, laws};
+use crate::nodes::is_mated;
+use arrayvec::ArrayVec;
+use egt_check::Library;
+use egt_graph::laws::stand_ins_tell_ranks;
+use egt_graph::{Exit, ExitMarks, Ranks, Shelved, SolveFault, WordStart, solve_by_words};
+use egt_index::size;
+use std::alloc::Global;
+
+/// The game of mates over the codes of a class whose children have their tables in the library.
+#[derive(Drop)]
+pub(crate) struct MateCodes<'l> {
+    pub(crate) library: &'l Library,
+    pub(crate) words: &'l CodeWords,
+    ghost children: { HasChildren (table_at library.now) words.now.class },
+}
+
+impl Shelved for MateCodes<'_> {
+    ghost graph = { λ g. game_by (table_at g.library.now) Mate g.words.now.class g.words.now.lists };
+
+    ghost span = { λ g. places g.words.now.class };
+
+    ghost lawful = { λ g. code_game_is_lawful (table_at g.library.now) Mate g.words.now.class (moves_told g.words.now.class g.words.now.lists) };
+
+    fn size(&self) -> u32 {
+        size(self.words.class)
+    }
+
+    fn mated(&self, i: u32) -> bool {
+        laws();
+        is_mated(self.words.class, self.words.index_of(i))
+    }
+
+    /// Those of the index.
+    fn list_exits(&self, i: u32, exits: &mut ArrayVec<Exit, 64>) {
+        laws();
+        let class = self.words.class;
+        let _number = class.number();
+        let index = self.words.index_of(i);
+        exits_alone(&Aim::Mate, class, self.library, index, exits);
+    }
+
+    fn span(&self) -> u32 {
+        self.words.places()
+    }
+
+    /// Where no move takes or promotes there is no exit.
+    fn start_of(&self, word: u32) -> WordStart {
+        laws();
+        WordStart {
+            nodes: self.words.nodes(word),
+            told: self.words.staying(word),
+            leaving: 0,
+            lost: 0,
+            held: 0,
+        }
+    }
+
+    #[inline(always)]
+    fn lead_to(&self, word: u32, asked: u64, marks: &[u64]) -> u64 {
+        laws();
+        let span = self.words.places();
+        self.words.moves(word).lead(span, true, asked, marks)
+    }
+
+    fn touch(&self, word: u32, touched: &mut [u64]) {
+        laws();
+        self.words.touch(word, touched);
+    }
+}
+
+/// What the codes of a class tell its game of zeroing moves.
+#[derive(Drop)]
+pub(crate) struct CodeEntries {
+    /// The ranks of all codes in the game of mates.
+    pub(crate) entries: Ranks,
+    /// What their exits are there.
+    pub(crate) exits: ExitMarks,
+}
+
+/// The ranks of the class's game of mates, and what its codes tell.
+pub(crate) fn solve_mate_codes(
+    alloc: Global,
+    library: &Library,
+    words: &CodeWords,
+    limit: u16,
+) -> Result<(Ranks, CodeEntries), SolveFault>
+    requires limit { limit ≤ 32000 }
+    requires children { HasChildren (table_at library.now) words.now.class }
+    ensures ranks { IfOk result (λ told. AreRanks (class_game (table_at library.now) Mate words.now.class) limit told.0) }
+    ensures codes { IfOk result (λ told. TellMates (table_at library.now) words.now.class words.now.lists told.0 told.1) }
+    ensures too_deep { result ≡ Err SolveFault.TooDeep → SomeAbove (class_game (table_at library.now) Mate words.now.class) limit }
+{
+    laws();
+    codes_stand_for_indexes();
+    stand_ins_tell_ranks();
+    let (entries, exits) = solve_by_words(alloc, &MateCodes { library, words }, limit)?;
+    let ranks = kept_ranks(alloc, words, entries.entries())?;
+    Ok((ranks, CodeEntries { entries, exits }))
+}

@@ -1,0 +1,59 @@
+//! A class's game of mates, solved: over its codes by words where these are told, else by moves backward.
+ghost use Rattle.std.specs.Prelude.{◌≡◌, ◌≤◌, IfOk};
+ghost use Rattle.egt_graph.specs.Value.{AreRanks, SomeAbove};
+ghost use Rattle.egt_check.specs.Tables.{table_at};
+ghost use Rattle.egt_table.specs.declared.column.Column.TheVariants.{Mate};
+ghost use Rattle.egt_sweep.specs.ClassGame.{class_game};
+ghost use Rattle.egt_sweep.specs.CodeMates.{CodesTell};
+ghost use Rattle.egt_sweep.specs.Counts.{CountsMoves};
+
+use crate::code_words::CodeWords;
+use crate::laws::laws;
+use crate::mate_codes::{CodeEntries, solve_mate_codes};
+use crate::mate_game::MateGame;
+use egt_graph::{Count, Ranks, SolveFault, solve_and_count};
+use std::alloc::Global;
+
+/// The ranks of a class's game of mates, and what it tells the game of zeroing moves.
+#[derive(Drop)]
+pub(crate) struct Mates {
+    pub(crate) ranks: Ranks,
+    /// What is told of its nodes' moves; it may be empty.
+    pub(crate) counts: Vec<Count>,
+    /// What its codes tell, where the game was solved over them.
+    pub(crate) codes: Option<CodeEntries>,
+}
+
+/// The game solved, over the codes where their moves are told.
+pub(crate) fn solve_mates(
+    alloc: Global,
+    game: &MateGame<'_>,
+    words: &Option<CodeWords>,
+    limit: u16,
+) -> Result<Mates, SolveFault>
+    requires limit { limit ≤ 32000 }
+    ensures ok { IfOk result (λ told. AreRanks (class_game (table_at game.now.library.now) Mate game.now.class) limit told.ranks) }
+    ensures counts { IfOk result (λ told. CountsMoves (table_at game.now.library.now) game.now.class told.counts.items) }
+    ensures codes { IfOk result (CodesTell (table_at game.now.library.now) game.now.class words.now) }
+    ensures too_deep { result ≡ Err SolveFault.TooDeep → SomeAbove (class_game (table_at game.now.library.now) Mate game.now.class) limit }
+{
+    laws();
+    match words {
+        Some(words) if words.class == game.class => {
+            let (ranks, codes) = solve_mate_codes(alloc, game.library, words, limit)?;
+            Ok(Mates {
+                ranks,
+                counts: Vec::new(alloc),
+                codes: Some(codes),
+            })
+        }
+        _ => {
+            let (ranks, counts) = solve_and_count(alloc, game, limit)?;
+            Ok(Mates {
+                ranks,
+                counts,
+                codes: None,
+            })
+        }
+    }
+}

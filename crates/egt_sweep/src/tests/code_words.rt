@@ -1,0 +1,26 @@
+//! Of which classes the moves between codes are told by words.
+use super::shelf::named;
+use crate::code_words::CodeWords;
+use std::alloc::Global;
+use std::test::*;
+
+/// Whether the moves of the class of that name are told.
+fn is_told(alloc: Global, name: &str) -> Result<bool, Fail> {
+    Ok(CodeWords::of(alloc, named(name)?)?.is_some())
+}
+
+#[test]
+fn two_men_beside_the_kings_are_told(rt: HostRuntime) -> Result<(), Fail> {
+    for name in ["KQKR", "KRRK", "KPPK", "KQKQ"] {
+        assert!(rt; is_told(rt.alloc(), name)?);
+    }
+    Ok(())
+}
+
+#[test]
+fn targets_and_a_man_alone_are_not_told(rt: HostRuntime) -> Result<(), Fail> {
+    for name in ["KPKP", "KQK"] {
+        assert!(rt; !is_told(rt.alloc(), name)?);
+    }
+    Ok(())
+}

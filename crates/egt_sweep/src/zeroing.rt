@@ -1,0 +1,39 @@
+//! A class's game of zeroing moves, solved: over its codes by words where the game of mates was, else by moves backward.
+ghost use Rattle.std.specs.Prelude.{◌≡◌, ◌≤◌, IfOk};
+ghost use Rattle.egt_graph.specs.Value.{AreRanks, SomeAbove};
+ghost use Rattle.egt_check.specs.Tables.{table_at, beside};
+ghost use Rattle.egt_table.specs.declared.column.Column.TheVariants.{Zeroing};
+ghost use Rattle.egt_sweep.specs.ClassGame.{class_game};
+ghost use Rattle.egt_sweep.specs.CodeMates.{CodesTell};
+ghost use Rattle.egt_sweep.specs.MateColumn.{mate_table};
+
+use crate::code_words::CodeWords;
+use crate::laws::laws;
+use crate::mates::Mates;
+use crate::zero_codes::solve_zero_codes;
+use crate::zero_game::ZeroGame;
+use egt_graph::{Ranks, SolveFault, solve};
+use std::alloc::Global;
+
+/// The game solved, over the codes where their moves are told and the game of mates was solved over them.
+pub(crate) fn solve_zeroing(
+    alloc: Global,
+    game: &ZeroGame<'_>,
+    mates: &Mates,
+    words: &Option<CodeWords>,
+    limit: u16,
+) -> Result<Ranks, SolveFault>
+    requires limit { limit ≤ 32000 }
+    requires mates { mates.now.ranks ≡ game.now.mates.now }
+    requires codes { CodesTell (table_at game.now.library.now) game.now.class words.now mates.now }
+    ensures ok { IfOk result (AreRanks (class_game (beside (table_at game.now.library.now) (mate_table game.now.class game.now.mates.now)) Zeroing game.now.class) limit) }
+    ensures too_deep { result ≡ Err SolveFault.TooDeep → SomeAbove (class_game (beside (table_at game.now.library.now) (mate_table game.now.class game.now.mates.now)) Zeroing game.now.class) limit }
+{
+    laws();
+    match (words, &mates.codes) {
+        (Some(words), Some(codes)) if words.class == game.class => {
+            solve_zero_codes(alloc, game.library, words, &mates.ranks, codes, limit)
+        }
+        _ => solve(alloc, game, limit),
+    }
+}
