@@ -2,7 +2,7 @@ use Rattle.std.proofs.Common.{ℕ, slice_index, sym, subst, arith}
 use Rattle.std.proofs.lemmas.Bool.{both_ways}
 use Rattle.egt_graph.specs.Words.{number_at}
 use Rattle.egt_sweep.specs.OddMarks.{IsOddAbove}
-use Rattle.egt_sweep.proofs.CodeMarks.{gathers_set, gathers_kept}
+use Rattle.egt_graph.proofs.WordBits.{gathers_set, gathers_kept}
 use Rattle.egt_sweep.proofs.odd_marks.odd_in.Goals as goal
 use Rattle.egt_sweep.proofs.odd_marks.odd_in.Goals.{then-is_odd_above, else-is_odd_above}
 

@@ -1,7 +1,7 @@
 use Rattle.std.proofs.Common.{slice_index}
 use Rattle.egt_graph.specs.Words.{number_at}
 use Rattle.egt_sweep.specs.OddMarks.{IsOddAbove}
-use Rattle.egt_sweep.proofs.CodeMarks.{Gathers}
+use Rattle.egt_graph.proofs.WordBits.{Gathers}
 use Rattle.egt_sweep.proofs.odd_marks.odd_in.Given as goal
 
 abbrev pub invariant-loop-place : goal.invariant-loop-place
