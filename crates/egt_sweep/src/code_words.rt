@@ -264,7 +264,7 @@ impl CodeWords {
     ghost use Rattle.egt_words.specs.Told.{places};
 
     /// The moves of the class between its codes; `None` where they are not told by words: it has targets, or not two men beside the kings, or some
-    /// code after a move is no sum.
+    /// word is not told.
     pub(crate) fn of(alloc: Global, class: Class) -> Result<Option<CodeWords>, AllocError>
         ensures { IfOk result (λ found. IfSome found (λ words. words.class ≡ class)) }
     {
