@@ -7,7 +7,7 @@ use Rattle.std.proofs.lemmas.List.{take_more, take_all, take-append-drop}
 use Rattle.std.proofs.lemmas.List.Elements.{All-contains, Contains-push, Contains-push_cases, Contains-append_left}
 use Rattle.std.proofs.lemmas.Nat.Bits.{bit_at-lt, bit_at-zero, bit_at_and, bit_at_or, bit_at_not, bit_at_above}
 use Rattle.std.proofs.lemmas.Nat.{div-mul-add, div-add-mod'}
-use Rattle.egt_graph.specs.WordMoves.{FitsPushes, FitsTurns, GoesPushed, GoesPushedIf, GoesByWord, GoesStraight, GoesTurned, IsAhead, LeadsByOne, LeadsStraight, LeadsTurned, PushesTo, turned_place}
+use Rattle.egt_graph.specs.WordMoves.{FitsPushes, FitsTurns, GoesByWord, GoesLeaping, GoesPushed, GoesPushedIf, GoesStraight, GoesTurned, GoesWithin, IsAhead, LeadsByOne, LeadsStraight, LeadsTurned, LeapsTo, PushesInto, PushesTo, turned_place}
 use Rattle.egt_graph.specs.Words.{IsIn, number_at, place_in, word_in}
 use Rattle.egt_graph.specs.declared.word_moves.Pushes.{Pushes}
 use Rattle.egt_graph.specs.declared.word_moves.TurnedWay.{TurnedWay}
@@ -158,12 +158,6 @@ way_bits marks way small k lt = (
 
 -- ---- pushes
 
-abbrev pub PushesBy : Bool → ℕ → ℕ → ℕ → ℕ → Type 0
-PushesBy up single double k t = ((bit_at single k ≡ 1) × IsAhead up 8 k t) ⊎ ((bit_at double k ≡ 1) × IsAhead up 16 k t)
-
-abbrev pub PushesInto : Bool → ℕ → ℕ → ℕ → ℕ → Type 0
-PushesInto up single double there k = (t : ℕ) × PushesBy up single double k t × (bit_at there t ≡ 1)
-
 pub up_bits : (single double there k : ℕ)
     → (bit_at (bit_or (bit_and (there / 2 ^ 8) single) (bit_and (there / 2 ^ 16) double)) k ≡ 1) ↔ PushesInto true single double there k
 up_bits single double there k = (
@@ -266,17 +260,22 @@ one_ahead : (up : Bool) (n k t u : ℕ) → IsAhead up n k t → IsAhead up n k 
 one_ahead true n k t u h i = h ∙ sym i
 one_ahead false n k t u h i = omega (arith, h, i)
 
+-- a place ahead is a place of a word if one so far ahead is
+ahead_within : (span : ℕ) (up : Bool) (n k t : ℕ) → (u : ℕ) × (u < span) × IsAhead up n k u → IsAhead up n k t → t < span
+ahead_within span up n k t (u, lt, at) ahead = subst (λ v. v < span) (one_ahead up n k u t at ahead) lt
+
 push_within : (span : ℕ) (pushes : Pushes) → FitsPushes span pushes → (k t : ℕ) → PushesTo pushes k t → t < span
 push_within span pushes fits k t to = elim to [
-  | inl p ↦ let at = fits.single k p.0 in subst (λ u. u < span) (one_ahead pushes.up 8 k at.0 t at.2 p.1) at.1
-  | inr p ↦ let at = fits.double k p.0 in subst (λ u. u < span) (one_ahead pushes.up 16 k at.0 t at.2 p.1) at.1
+  | inl p ↦ ahead_within span pushes.up 8 k t (fits.single k p.0) p.1
+  | inr p ↦ ahead_within span pushes.up 16 k t (fits.double k p.0) p.1
 ]
 
-pub pushed_in : (span : ℕ) (marks : List ℕ) (k : ℕ) (pushes : Pushes) → FitsPushes span pushes
-    → PushesInto pushes.up pushes.single pushes.double (slice_index marks pushes.word) k ↔ IntoSet span marks (λ j. GoesPushed span k j pushes)
-pushed_in span marks k pushes fits = (
-  λ (t, to, one). (number_at span pushes.word t, (t, refl, to), (bit_there span pushes.word t (push_within span pushes fits k t to) marks).1 one),
-  λ (j, (t, is, to), one). (t, to, (bit_there span pushes.word t (push_within span pushes fits k t to) marks).0 (subst (IsIn span marks) is one)),
+-- moves to the places To of one word
+places_in : (span word : ℕ) (marks : List ℕ) (To : ℕ → Type 0) → ((t : ℕ) → To t → t < span)
+    → ((t : ℕ) × To t × (bit_at (slice_index marks word) t ≡ 1)) ↔ IntoSet span marks (λ j. (t : ℕ) × (j ≡ number_at span word t) × To t)
+places_in span word marks To within = (
+  λ (t, to, one). (number_at span word t, (t, refl, to), (bit_there span word t (within t to) marks).1 one),
+  λ (j, (t, is, to), one). (t, to, (bit_there span word t (within t to) marks).0 (subst (IsIn span marks) is one)),
 )
 
 -- ---- of the places asked for
@@ -284,34 +283,65 @@ pushed_in span marks k pushes fits = (
 abbrev pub IsFound : ℕ → ℕ → ℕ → Type 0 → Type 0
 IsFound found asked k Leads = (bit_at found k ≡ 1) ↔ ((bit_at asked k ≡ 1) × Leads)
 
-module _ (span : ℕ) (marks : List ℕ) (asked : ℕ) (small : asked < 2 ^ 64) (pushes : Pushes) (fits : FitsPushes span pushes) where
-  -- bits that tell the pushes into the word tell those into the set
-  told_pushes : (up : Bool) → pushes.up ≡ up → (bits k : ℕ) → (k < 64 → (bit_at bits k ≡ 1) ↔ PushesInto up pushes.single pushes.double (slice_index marks pushes.word) k)
-      → IsFound (bit_and asked bits) asked k (IntoSet span marks (λ j. GoesPushed span k j pushes))
-  told_pushes up is bits k told = (
-    λ one.
-        let both = (bit_of_both asked bits k).0 one in
-        (both.0, (pushed_in span marks k pushes fits).0 (subst (λ u. PushesInto u pushes.single pushes.double (slice_index marks pushes.word) k) (sym is) ((told (bit_within asked 64 k small both.0)).0 both.1))),
-    λ h. (bit_of_both asked bits k).1
-        (h.0, (told (bit_within asked 64 k small h.0)).1 (subst (λ u. PushesInto u pushes.single pushes.double (slice_index marks pushes.word) k) is ((pushed_in span marks k pushes fits).1 h.1))),
+found_same : (found asked k : ℕ) {A B : Type 0} → A ↔ B → IsFound found asked k A → IsFound found asked k B
+found_same found asked k same is = (λ one. let h = is.0 one in (h.0, same.0 h.1), λ h. is.1 (h.0, same.1 h.1))
+
+module _ (asked : ℕ) (small : asked < 2 ^ 64) (up : Bool) (single double there k : ℕ) where
+  -- of bits that tell the moves along the places
+  told_along : (up' : Bool) → up ≡ up' → (bits : ℕ) → (k < 64 → (bit_at bits k ≡ 1) ↔ PushesInto up' single double there k) → IsFound (bit_and asked bits) asked k (PushesInto up single double there k)
+  told_along up' is bits told = (
+    λ one. let both = (bit_of_both asked bits k).0 one in (both.0, subst (λ u. PushesInto u single double there k) (sym is) ((told (bit_within asked 64 k small both.0)).0 both.1)),
+    λ h. (bit_of_both asked bits k).1 (h.0, (told (bit_within asked 64 k small h.0)).1 (subst (λ u. PushesInto u single double there k) is h.1)),
   )
 
-  pub pushed_up : pushes.up ≡ true → (k : ℕ)
-      → IsFound (bit_and asked (bit_or (bit_and (slice_index marks pushes.word / 2 ^ 8) pushes.single) (bit_and (slice_index marks pushes.word / 2 ^ 16) pushes.double))) asked k
-      (IntoSet span marks (λ j. GoesPushed span k j pushes))
-  pushed_up is k = told_pushes true is _ k (λ lt. up_bits pushes.single pushes.double (slice_index marks pushes.word) k)
+  pub along_up : up ≡ true → IsFound (bit_and asked (bit_or (bit_and (there / 2 ^ 8) single) (bit_and (there / 2 ^ 16) double))) asked k (PushesInto up single double there k)
+  along_up is = told_along true is _ (λ lt. up_bits single double there k)
 
-  pub pushed_down : pushes.up ≡ false → (k : ℕ)
-      → IsFound (bit_and asked (bit_or (bit_and (slice_index marks pushes.word * 2 ^ 8 % 18446744073709551616) pushes.single) (bit_and (slice_index marks pushes.word * 2 ^ 16 % 18446744073709551616) pushes.double))) asked k
-      (IntoSet span marks (λ j. GoesPushed span k j pushes))
-  pushed_down is k = told_pushes false is _ k (λ lt. down_bits pushes.single pushes.double (slice_index marks pushes.word) k lt)
+  pub along_down : up ≡ false
+      → IsFound (bit_and asked (bit_or (bit_and (there * 2 ^ 8 % 18446744073709551616) single) (bit_and (there * 2 ^ 16 % 18446744073709551616) double))) asked k (PushesInto up single double there k)
+  along_down is = told_along false is _ (λ lt. down_bits single double there k lt)
 
-  -- no push leads into a word without marks
-  pub pushed_nowhere : slice_index marks pushes.word ≡ 0 → (k : ℕ) → IsFound 0 asked k (IntoSet span marks (λ j. GoesPushed span k j pushes))
-  pushed_nowhere none k = (
-    λ one. absurd (no_bit k one),
-    λ h. let into = (pushed_in span marks k pushes fits).1 h.1 in absurd (no_bit into.0 (subst (λ n. bit_at n into.0 ≡ 1) none into.2)),
-  )
+  -- none leads into a word without marks
+  pub along_to_none : there ≡ 0 → IsFound 0 asked k (PushesInto up single double there k)
+  along_to_none none = (λ one. absurd (no_bit k one), λ (asks, (t, to, one)). absurd (no_bit t (subst (λ n. bit_at n t ≡ 1) none one)))
+
+-- pushes, and leaps if there are any
+module _ (span : ℕ) (marks : List ℕ) (asked : ℕ) (pushes : Pushes) (fits : FitsPushes span pushes)
+    (pushed : ℕ) (is : (k : ℕ) → IsFound pushed asked k (PushesInto pushes.up pushes.single pushes.double (slice_index marks pushes.word) k)) where
+  within_found : (k : ℕ) → IsFound pushed asked k (IntoSet span marks (λ j. GoesWithin span k j pushes))
+  within_found k = found_same pushed asked k (places_in span pushes.word marks (PushesTo pushes k) (push_within span pushes fits k)) (is k)
+
+  pub pushed_alone : pushes.leaps ≡ 0 → (k : ℕ) → IsFound pushed asked k (IntoSet span marks (λ j. GoesPushed span k j pushes))
+  pushed_alone none k = found_same pushed asked k same (within_found k)
+    where
+      same : IntoSet span marks (λ j. GoesWithin span k j pushes) ↔ IntoSet span marks (λ j. GoesPushed span k j pushes)
+      same = (
+        λ (j, goes, one). (j, inl goes, one),
+        λ (j, goes, one). (j, elim goes [ inl g ↦ g | inr g ↦ absurd (no_bit k (subst (λ n. bit_at n k ≡ 1) none g.2.0)) ], one),
+      )
+
+  module _ (leaping : ℕ) (is_leaping : (k : ℕ) → IsFound leaping asked k (PushesInto pushes.up 0 pushes.leaps (slice_index marks pushes.leap_word) k)) where
+    leaps_found : (k : ℕ) → IsFound leaping asked k (IntoSet span marks (λ j. GoesLeaping span k j pushes))
+    leaps_found k = found_same leaping asked k (places_in span pushes.leap_word marks (LeapsTo pushes k) (λ t to. ahead_within span pushes.up 16 k t (fits.leaps k to.0) to.1))
+        (found_same leaping asked k sixteen (is_leaping k))
+      where
+        sixteen : PushesInto pushes.up 0 pushes.leaps (slice_index marks pushes.leap_word) k ↔ ((t : ℕ) × LeapsTo pushes k t × (bit_at (slice_index marks pushes.leap_word) t ≡ 1))
+        sixteen = (
+          λ (t, to, one). (t, elim to [ inl p ↦ absurd (no_bit k p.0) | inr p ↦ p ], one),
+          λ (t, to, one). (t, inr to, one),
+        )
+
+    pub pushed_or_leaping : (k : ℕ) → IsFound (bit_or pushed leaping) asked k (IntoSet span marks (λ j. GoesPushed span k j pushes))
+    pushed_or_leaping k = (
+      λ one. elim ((bit_of_either pushed leaping k).0 one) [
+        | inl e ↦ let (asks, (j, goes, there)) = (within_found k).0 e in (asks, (j, inl goes, there))
+        | inr e ↦ let (asks, (j, goes, there)) = (leaps_found k).0 e in (asks, (j, inr goes, there))
+      ],
+      λ (asks, (j, goes, there)). (bit_of_either pushed leaping k).1 (elim goes [
+        | inl g ↦ inl ((within_found k).1 (asks, (j, g, there)))
+        | inr g ↦ inr ((leaps_found k).1 (asks, (j, g, there)))
+      ]),
+    )
 
 -- the sorts of moves together
 module _ (span : ℕ) (marks : List ℕ) (asked : ℕ) (small : asked < 2 ^ 64) (within : (k : ℕ) → bit_at asked k ≡ 1 → k < span)
@@ -379,3 +409,30 @@ module _ (span : ℕ) (marks : List ℕ) (asked : ℕ) (small : asked < 2 ^ 64) 
           left k one ne =
               let p = bit_at-lt (bit_or straight pushed) k in
               (bit_of_both asked (bit_not w64 (bit_or straight pushed)) k).1 (one, (bit_of_not (bit_or straight pushed) k few (bit_within asked 64 k small one)).1 (omega (arith, p, ne)))
+
+-- ---- two sorts of moves, of which the second is asked for what the first does not find
+
+module _ (span : ℕ) (marks : List ℕ) (asked found last : ℕ) (small : asked < 2 ^ 64) (few : found < 2 ^ 64) (First Second : ℕ → ℕ → Type 0)
+    (is_first : (k : ℕ) → IsFound found asked k (IntoSet span marks (First k))) (is_second : (k : ℕ) → IsFound last (bit_and asked (bit_not w64 found)) k (IntoSet span marks (Second k))) where
+  pub by_both : (k : ℕ) → IsFound (bit_or found last) asked k (IntoSet span marks (λ j. First k j ⊎ Second k j))
+  by_both k = (
+    λ one. elim ((bit_of_either found last k).0 one) [
+      | inl e ↦ let h = (is_first k).0 e in (h.0, (h.1.0, inl h.1.1, h.1.2))
+      | inr e ↦ let h = (is_second k).0 e in (((bit_of_both asked (bit_not w64 found) k).0 h.0).0, (h.1.0, inr h.1.1, h.1.2))
+    ],
+    λ (one, (j, goes, there)). (bit_of_either found last k).1 (elim goes [
+      | inl first ↦ inl ((is_first k).1 (one, (j, first, there)))
+      | inr second ↦ elim (cases_eq (bit_at found k) 1) [
+        | inl e ↦ inl e
+        | inr ne ↦ inr ((is_second k).1 (left one ne, (j, second, there)))
+      ]
+    ]),
+  )
+    where
+      left : bit_at asked k ≡ 1 → bit_at found k ≢ 1 → bit_at (bit_and asked (bit_not w64 found)) k ≡ 1
+      left one ne =
+          let p = bit_at-lt found k in
+          (bit_of_both asked (bit_not w64 found) k).1 (one, (bit_of_not found k few (bit_within asked 64 k small one)).1 (omega (arith, p, ne)))
+
+pub left_within : (asked found span : ℕ) → ((k : ℕ) → bit_at asked k ≡ 1 → k < span) → (k : ℕ) → bit_at (bit_and asked (bit_not w64 found)) k ≡ 1 → k < span
+left_within asked found span within k one = within k ((bit_of_both asked (bit_not w64 found) k).0 one).0

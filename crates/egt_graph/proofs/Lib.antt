@@ -26,12 +26,12 @@ pub mod WordBits
 pub mod WordRounds
 pub mod WordSweeps
 pub mod WordTouches
+pub mod Passed
 pub mod WordMarks
 pub mod WordEnding
 pub mod WordDue
 pub mod WordBeginning
 pub mod WordSettling
 pub mod Leading
-pub mod Listing
 pub mod Turning
 pub mod StandIns

@@ -78,14 +78,14 @@ module _ (g h : Graph) (f : ℕ → ℕ) (law : IsGame g) (stands : StandsFor g 
   rank i node (Loss n) r = (sym (within n i node).1 ∙ r.0, sym (mated_sooner n i node) ∙ r.1)
   rank i node Draw r = λ n. (sym (within n i node).0 ∙ (r n).0, sym (within n i node).1 ∙ (r n).1)
 
-  pub ranks_told : (limit : ℕ) (entries kept : List ℕ) → AreKept g h f entries kept → AreRanks g limit entries → AreRanks h limit kept
-  ranks_told limit entries kept are r = record {
+  pub ranks_told : (s : ℕ → ℕ) (limit : ℕ) (entries kept : List ℕ) → AreKept g h f s entries kept → AreRanks g limit entries → AreRanks h limit kept
+  ranks_told s limit entries kept are r = record {
     all = are.all;
     voids = are.voids;
     ranks = λ i node.
         let here = are.nodes i node in
-        let p = r.ranks i here in
-        (p.0, subst (λ (k : ℕ). HasRank h k p.0) (are.themselves i node) (rank i here p.0 p.1), p.2, are.same i node ∙ p.3);
+        let p = r.ranks (s i) here in
+        (p.0, subst (λ (k : ℕ). HasRank h k p.0) (are.stand i node) (rank (s i) here p.0 p.1), p.2, are.same i node ∙ p.3);
   }
 
   pub as_deep : (limit : ℕ) → SomeAbove g limit → SomeAbove h limit
@@ -93,8 +93,8 @@ module _ (g h : Graph) (f : ℕ → ℕ) (law : IsGame g) (stands : StandsFor g 
       let (i, node, (m, is), not_yet) = some in
       (f i, stands.node i node, (m, sym (decided m i node) ∙ is), sym (decided limit i node) ∙ not_yet)
 
-  pub entries_shared : IsGame h → (limit : ℕ) (entries kept : List ℕ) → AreKept g h f entries kept → AreRanks g limit entries → (i : ℕ) → IsNode g i → slice_index entries i ≡ slice_index kept (f i)
-  entries_shared h_law limit entries kept are r i node =
+  pub entries_shared : IsGame h → (s : ℕ → ℕ) (limit : ℕ) (entries kept : List ℕ) → AreKept g h f s entries kept → AreRanks g limit entries → (i : ℕ) → IsNode g i → slice_index entries i ≡ slice_index kept (f i)
+  entries_shared h_law s limit entries kept are r i node =
       let here = r.ranks i node in
-      let there = (ranks_told limit entries kept are r).ranks (f i) (stands.node i node) in
+      let there = (ranks_told s limit entries kept are r).ranks (f i) (stands.node i node) in
       here.3 ∙ ap entry_of (one_value h h_law (f i) (stands.node i node) here.0 there.0 (rank i node here.0 here.1) there.1) ∙ sym there.3

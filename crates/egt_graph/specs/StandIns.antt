@@ -14,17 +14,17 @@ pub record StandsFor (g h : Graph) (f : ℕ → ℕ) : Type 0 where
   pub back : (i k : ℕ) → IsNode g i → Contains (h.out (f i)) k → (j : ℕ) × Contains (g.out i) j × (f j ≡ k)
   pub exits : (i : ℕ) → IsNode g i → (test : Exit → Bool) → list_any test (g.exits i) ≡ list_any test (h.exits (f i))
 
--- each node of h stands for itself in g, and of the entries of g those of the nodes of h are kept
-pub record AreKept (g h : Graph) (f : ℕ → ℕ) (entries kept : List ℕ) : Type 0 where
+-- each node i of h has one of g that stands for it, with the number s i, and of the entries of g those of these nodes are kept
+pub record AreKept (g h : Graph) (f s : ℕ → ℕ) (entries kept : List ℕ) : Type 0 where
   pub all : length kept ≡ h.size
-  pub nodes : (i : ℕ) → IsNode h i → IsNode g i
-  pub themselves : (i : ℕ) → IsNode h i → f i ≡ i
-  pub same : (i : ℕ) → IsNode h i → slice_index kept i ≡ slice_index entries i
+  pub nodes : (i : ℕ) → IsNode h i → IsNode g (s i)
+  pub stand : (i : ℕ) → IsNode h i → f (s i) ≡ i
+  pub same : (i : ℕ) → IsNode h i → slice_index kept i ≡ slice_index entries (s i)
   pub voids : (i : ℕ) → i < h.size → IsTrue (h.void i) → slice_index kept i ≡ 0
 
 -- they are the ranks of h
 abbrev pub StandInsTellRanks : Type 0
-StandInsTellRanks = (g h : Graph) (f : ℕ → ℕ) → IsGame g → StandsFor g h f → (limit : ℕ) (entries kept : List ℕ) → AreKept g h f entries kept → AreRanks g limit entries → AreRanks h limit kept
+StandInsTellRanks = (g h : Graph) (f s : ℕ → ℕ) → IsGame g → StandsFor g h f → (limit : ℕ) (entries kept : List ℕ) → AreKept g h f s entries kept → AreRanks g limit entries → AreRanks h limit kept
 
 -- and a rank past the limit in g is one in h
 abbrev pub StandInsAreAsDeep : Type 0
@@ -32,5 +32,5 @@ StandInsAreAsDeep = (g h : Graph) (f : ℕ → ℕ) → IsGame g → StandsFor g
 
 -- the entry of each node of g is that of the node for which it stands
 abbrev pub StandInsShareEntries : Type 0
-StandInsShareEntries = (g h : Graph) (f : ℕ → ℕ) → IsGame g → IsGame h → StandsFor g h f → (limit : ℕ) (entries kept : List ℕ) → AreKept g h f entries kept → AreRanks g limit entries →
+StandInsShareEntries = (g h : Graph) (f s : ℕ → ℕ) → IsGame g → IsGame h → StandsFor g h f → (limit : ℕ) (entries kept : List ℕ) → AreKept g h f s entries kept → AreRanks g limit entries →
     (i : ℕ) → IsNode g i → slice_index entries i ≡ slice_index kept (f i)

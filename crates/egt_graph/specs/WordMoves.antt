@@ -1,8 +1,7 @@
 -- Moves that are told of all places of a word at once.
-use Rattle.std.specs.Prelude.{◌≡◌, ◌+◌, ◌-◌, ◌*◌, ◌/◌, ◌%◌, ◌<◌, ◌≤◌, ◌⊎◌, ℕ, zero, suc, Bool, true, false, Option, Some, None, List, Contains, length, slice_index, slice_range}
+use Rattle.std.specs.Prelude.{◌≡◌, ◌+◌, ◌-◌, ◌*◌, ◌/◌, ◌%◌, ◌<◌, ◌⊎◌, ℕ, zero, suc, Bool, true, false, Option, Some, None, List, Contains, slice_index}
 use Rattle.std.specs.Int.{bit_at}
 use Rattle.egt_graph.specs.Words.{number_at}
-use Rattle.egt_graph.specs.declared.word_moves.Listed.{Listed}
 use Rattle.egt_graph.specs.declared.word_moves.Pushes.{Pushes}
 use Rattle.egt_graph.specs.declared.word_moves.TurnedWay.{TurnedWay}
 use Rattle.egt_graph.specs.declared.word_moves.Way.{Way}
@@ -43,49 +42,51 @@ abbrev pub IsAhead : Bool → ℕ → ℕ → ℕ → Type 0
 IsAhead true n k t = t ≡ k + n
 IsAhead false n k t = k ≡ t + n
 
+-- the place t is eight places further than the place k of single, or sixteen further than that of double
+abbrev pub PushesBy : Bool → ℕ → ℕ → ℕ → ℕ → Type 0
+PushesBy up single double k t = ((bit_at single k ≡ 1) × IsAhead up 8 k t) ⊎ ((bit_at double k ≡ 1) × IsAhead up 16 k t)
+
+-- and is marked
+abbrev pub PushesInto : Bool → ℕ → ℕ → ℕ → ℕ → Type 0
+PushesInto up single double there k = (t : ℕ) × PushesBy up single double k t × (bit_at there t ≡ 1)
+
 -- a push from the place leads to the place t of its word
 abbrev pub PushesTo : Pushes → ℕ → ℕ → Type 0
-PushesTo pushes k t = ((bit_at pushes.single k ≡ 1) × IsAhead pushes.up 8 k t) ⊎ ((bit_at pushes.double k ≡ 1) × IsAhead pushes.up 16 k t)
+PushesTo pushes k t = PushesBy pushes.up pushes.single pushes.double k t
 
+-- a leap from the place leads to the place t of the other word
+abbrev pub LeapsTo : Pushes → ℕ → ℕ → Type 0
+LeapsTo pushes k t = (bit_at pushes.leaps k ≡ 1) × IsAhead pushes.up 16 k t
+
+abbrev pub GoesWithin : ℕ → ℕ → ℕ → Pushes → Type 0
+GoesWithin span k j pushes = (t : ℕ) × (j ≡ number_at span pushes.word t) × PushesTo pushes k t
+
+abbrev pub GoesLeaping : ℕ → ℕ → ℕ → Pushes → Type 0
+GoesLeaping span k j pushes = (t : ℕ) × (j ≡ number_at span pushes.leap_word t) × LeapsTo pushes k t
+
+-- a push or a leap leads from the place to the number
 abbrev pub GoesPushed : ℕ → ℕ → ℕ → Pushes → Type 0
-GoesPushed span k j pushes = (t : ℕ) × (j ≡ number_at span pushes.word t) × PushesTo pushes k t
+GoesPushed span k j pushes = GoesWithin span k j pushes ⊎ GoesLeaping span k j pushes
 
 -- where there are pushes
 abbrev pub GoesPushedIf : ℕ → ℕ → ℕ → Option Pushes → Type 0
 GoesPushedIf span k j None = ⊥
 GoesPushedIf span k j (Some pushes) = GoesPushed span k j pushes
 
--- the codes that are listed for the place
-abbrev pub codes_at : Listed → ℕ → List ℕ
-codes_at lists k = slice_range lists.codes.now (slice_index lists.starts.now k) (slice_index lists.starts.now (k + 1))
-
--- a listed move leads from the place to the number
-abbrev pub GoesListed : ℕ → ℕ → ℕ → Listed → Type 0
-GoesListed span k j lists = (code : ℕ) × Contains (codes_at lists k) code × (j ≡ number_at span (code / 64) (code % 64))
-
--- where there are lists
-abbrev pub GoesListedIf : ℕ → ℕ → ℕ → Option Listed → Type 0
-GoesListedIf span k j None = ⊥
-GoesListedIf span k j (Some lists) = GoesListed span k j lists
-
--- one of the moves that are told of all places at once leads from the place to the number
+-- one of the moves leads from the place to the number
 abbrev pub GoesByWord : ℕ → ℕ → ℕ → List Way → List TurnedWay → Option Pushes → Type 0
 GoesByWord span k j ways turned pushes = GoesStraight span k j ways ⊎ (GoesTurned span k j turned ⊎ GoesPushedIf span k j pushes)
 
--- one of the moves does
-abbrev pub GoesSome : ℕ → ℕ → ℕ → List Way → List TurnedWay → Option Pushes → Option Listed → Type 0
-GoesSome span k j ways turned pushes lists = GoesByWord span k j ways turned pushes ⊎ GoesListedIf span k j lists
-
--- no push leads past the first place or the last
+-- no push and no leap leads past the first place or the last
 pub record FitsPushes (span : ℕ) (pushes : Pushes) : Type 0 where
   pub single : (k : ℕ) → bit_at pushes.single k ≡ 1 → (t : ℕ) × (t < span) × IsAhead pushes.up 8 k t
   pub double : (k : ℕ) → bit_at pushes.double k ≡ 1 → (t : ℕ) × (t < span) × IsAhead pushes.up 16 k t
+  pub leaps : (k : ℕ) → bit_at pushes.leaps k ≡ 1 → (t : ℕ) × (t < span) × IsAhead pushes.up 16 k t
 
--- the lists of the places stand in the list of codes, and each code is that of a place of a word that there is
-pub record FitsLists (span words : ℕ) (lists : Listed) : Type 0 where
-  pub starts : span < length lists.starts.now
-  pub runs : (k : ℕ) → k < span → (slice_index lists.starts.now k ≤ slice_index lists.starts.now (k + 1)) × (slice_index lists.starts.now (k + 1) ≤ length lists.codes.now)
-  pub codes : (k : ℕ) → k < span → (code : ℕ) → Contains (codes_at lists k) code → (code / 64 < words) × (code % 64 < span)
+-- both words that pushes and leaps lead to are among so many words
+pub record HasWords (words : ℕ) (pushes : Pushes) : Type 0 where
+  pub word : pushes.word < words
+  pub leap_word : pushes.leap_word < words
 
 -- the way leads from the place to a place that is marked
 abbrev pub LeadsStraight : List ℕ → ℕ → Way → Type 0
@@ -93,10 +94,6 @@ LeadsStraight marks k way = (bit_at way.off k ≡ 0) × (bit_at (slice_index mar
 
 abbrev pub LeadsTurned : List ℕ → ℕ → TurnedWay → Type 0
 LeadsTurned marks k way = bit_at (slice_index marks way.word) (turned_place way.turn k) ≡ 1
-
--- the place that the code tells is marked
-abbrev pub IsCodeIn : List ℕ → ℕ → Type 0
-IsCodeIn marks code = bit_at (slice_index marks (code / 64)) (code % 64) ≡ 1
 
 -- one of the ways leads there
 abbrev pub LeadsByOne : {X : Type 0} → (X → Type 0) → List X → Type 0

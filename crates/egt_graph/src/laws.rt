@@ -35,7 +35,7 @@ pub fn alike_games_have_the_same_ranks()
     ensures { AlikeGamesHaveTheSameRanks }
 {}
 
-/// Of a game whose nodes stand for those of another, each of which stands for itself, the ranks of these are the ranks of the other.
+/// Of a game whose nodes stand for those of another, at least one for each, the entries of one for each are the ranks of the other.
 pub fn stand_ins_tell_ranks()
     ensures ranks { StandInsTellRanks }
     ensures deep { StandInsAreAsDeep }

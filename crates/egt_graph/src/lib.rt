@@ -41,9 +41,7 @@ pub use scan::frontier;
 pub use solver::{SolveFault, solve, solve_and_count};
 pub use std::alloc::AllocError as NoMemory;
 pub use touched::touch_word;
-pub use word_moves::{
-    Listed, Pushes, TurnedWay, Way, lead_by, lead_by_lists, lead_by_pushes, turned, turned_eights,
-};
+pub use word_moves::{Pushes, TurnedWay, Way, lead_by, lead_by_pushes, turned, turned_eights};
 pub use word_solver::solve_by_words;
 pub use words::{Shelved, WordStart, is_in, number_at, place_in, word_in, words_of};
 

@@ -1,8 +1,8 @@
 //! Moves that are told of all places of a word at once, and from which places they lead into a set of numbers. A word has the marks of numbers
 //! two apart.
-ghost use Rattle.std.specs.Prelude.{◌≡◌, ◌↔◌, ◌+◌, ◌/◌, ◌<◌, ◌≤◌, ℕ, Contains, IfSome, IsTrue, length, slice_index};
+ghost use Rattle.std.specs.Prelude.{◌≡◌, ◌↔◌, ◌<◌, ℕ, Contains, IfSome, length};
 ghost use Rattle.std.specs.Int.{bit_at};
-ghost use Rattle.egt_graph.specs.WordMoves.{FitsLists, FitsPushes, FitsTurns, GoesByWord, GoesListed, GoesListedIf, GoesPushed, GoesPushedIf, GoesSome, IsCodeIn, LeadsByOne, LeadsStraight, LeadsTurned, codes_at, eights_reversed, eights_turned, exchanged, turned_place};
+ghost use Rattle.egt_graph.specs.WordMoves.{FitsPushes, FitsTurns, GoesByWord, GoesPushed, GoesPushedIf, HasWords, LeadsByOne, LeadsStraight, LeadsTurned, PushesInto, eights_reversed, eights_turned, exchanged, turned_place};
 ghost use Rattle.egt_graph.specs.Words.{IsIn};
 ghost use Rattle.egt_graph.specs.declared.word_moves.TurnedWay.{TurnedWay};
 ghost use Rattle.egt_graph.specs.declared.word_moves.Way.{Way};
@@ -50,36 +50,15 @@ impl TurnedWay {
 }
 
 /// Moves along the places, to another word: from the places of `single` eight places further, from those of `double` sixteen, up or down.
+/// Those from the places of `leaps` go sixteen places further too, but to `leap_word`.
 #[derive(Clone, Copy, PartialEq, Eq, Debug, Default)]
 pub struct Pushes {
     pub word: u32,
+    pub leap_word: u32,
     pub single: u64,
     pub double: u64,
+    pub leaps: u64,
     pub up: bool,
-}
-
-/// Moves that are told of each place alone, since no sum tells them: of place `k` those from `starts[k]` up to `starts[k + 1]` of `codes`.
-/// A code has 64 times a word and a place of that word, so that no division finds its mark.
-#[derive(Clone, Copy)]
-pub struct Listed<'l> {
-    pub starts: &'l [u32],
-    pub codes: &'l [u32],
-}
-
-impl Listed<'_> {
-    /// Does a move from the place lead into the marks?
-    #[inline(always)]
-    fn leads_from(&self, place: u32, marks: &[u64]) -> bool
-        requires start { place + 1 < length self.now.starts.now }
-        requires run { slice_index self.now.starts.now place ≤ slice_index self.now.starts.now (place + 1) }
-        requires end { slice_index self.now.starts.now (place + 1) ≤ length self.now.codes.now }
-        requires words { (code : ℕ) → Contains (codes_at self.now place) code → code / 64 < length marks.now }
-        ensures { IsTrue result ↔ LeadsByOne (IsCodeIn marks.now) (codes_at self.now place) }
-    {
-        let start = self.starts[place as usize] as usize;
-        let end = self.starts[place as usize + 1] as usize;
-        any_code_in(&self.codes[start..end], marks)
-    }
 }
 
 /// From which of the places asked for some move leads into the marks. Once all of them are found the later sorts of moves are not looked at.
@@ -90,7 +69,6 @@ pub fn lead_by(
     ways: &[Way],
     turned: &[TurnedWay],
     pushes: &Option<Pushes>,
-    lists: &Option<Listed>,
     asked: u64,
     marks: &[u64],
 ) -> u64
@@ -98,29 +76,7 @@ pub fn lead_by(
     requires asked { (k : ℕ) → bit_at asked k ≡ 1 → k < _span }
     requires ways { (way : Way) → Contains ways.now way → way.word < length marks.now }
     requires turned { (way : TurnedWay) → Contains turned.now way → way.word < length marks.now }
-    requires pushes { IfSome pushes.now (λ some. (some.word < length marks.now) × FitsPushes _span some) }
-    requires lists { IfSome lists.now (FitsLists _span (length marks.now)) }
-    ensures { (k : ℕ) → bit_at result k ≡ 1 ↔ ((bit_at asked k ≡ 1) × ((j : ℕ) × GoesSome _span k j ways.now turned.now pushes.now lists.now × IsIn _span marks.now j)) }
-{
-    let found = lead_by_word(_span, ways, turned, pushes, asked, marks);
-    found | lead_by_lists_if(_span, lists, asked & !found, marks)
-}
-
-/// From which of the places asked for a move that is told of all places at once leads into the marks.
-#[inline(always)]
-fn lead_by_word(
-    _span: u32,
-    ways: &[Way],
-    turned: &[TurnedWay],
-    pushes: &Option<Pushes>,
-    asked: u64,
-    marks: &[u64],
-) -> u64
-    requires turns { FitsTurns _span turned.now }
-    requires asked { (k : ℕ) → bit_at asked k ≡ 1 → k < _span }
-    requires ways { (way : Way) → Contains ways.now way → way.word < length marks.now }
-    requires turned { (way : TurnedWay) → Contains turned.now way → way.word < length marks.now }
-    requires pushes { IfSome pushes.now (λ some. (some.word < length marks.now) × FitsPushes _span some) }
+    requires pushes { IfSome pushes.now (λ some. HasWords (length marks.now) some × FitsPushes _span some) }
     ensures { (k : ℕ) → bit_at result k ≡ 1 ↔ ((bit_at asked k ≡ 1) × ((j : ℕ) × GoesByWord _span k j ways.now turned.now pushes.now × IsIn _span marks.now j)) }
 {
     let straight = lead_by_ways(ways, asked, marks);
@@ -167,28 +123,26 @@ fn lead_by_turned(turned: &[TurnedWay], asked: u64, marks: &[u64]) -> u64
     asked & !left
 }
 
-/// From which of the places asked for a push leads into the marks. A word without marks costs one look.
+/// From which of the places asked for a push or a leap leads into the marks. Where none leaps that costs one look.
 #[inline(always)]
 pub fn lead_by_pushes(_span: u32, pushes: &Pushes, asked: u64, marks: &[u64]) -> u64
-    requires word { pushes.now.word < length marks.now }
+    requires words { HasWords (length marks.now) pushes.now }
     requires fits { FitsPushes _span pushes.now }
     ensures { (k : ℕ) → bit_at result k ≡ 1 ↔ ((bit_at asked k ≡ 1) × ((j : ℕ) × GoesPushed _span k j pushes.now × IsIn _span marks.now j)) }
 {
     let there = marks[pushes.word as usize];
-    if there == 0 {
-        return 0;
+    let pushed = lead_along(pushes.up, pushes.single, pushes.double, asked, there);
+    if pushes.leaps == 0 {
+        return pushed;
     }
-    if pushes.up {
-        asked & (there >> 8 & pushes.single | there >> 16 & pushes.double)
-    } else {
-        asked & (there << 8 & pushes.single | there << 16 & pushes.double)
-    }
+    let beyond = marks[pushes.leap_word as usize];
+    pushed | lead_along(pushes.up, 0, pushes.leaps, asked, beyond)
 }
 
 /// The same where there may be no pushes.
 #[inline(always)]
 fn lead_by_pushes_if(_span: u32, pushes: &Option<Pushes>, asked: u64, marks: &[u64]) -> u64
-    requires fits { IfSome pushes.now (λ some. (some.word < length marks.now) × FitsPushes _span some) }
+    requires fits { IfSome pushes.now (λ some. HasWords (length marks.now) some × FitsPushes _span some) }
     ensures { (k : ℕ) → bit_at result k ≡ 1 ↔ ((bit_at asked k ≡ 1) × ((j : ℕ) × GoesPushedIf _span k j pushes.now × IsIn _span marks.now j)) }
 {
     match pushes {
@@ -197,49 +151,20 @@ fn lead_by_pushes_if(_span: u32, pushes: &Option<Pushes>, asked: u64, marks: &[u
     }
 }
 
-/// From which of the places asked for a listed move leads into the marks.
-pub fn lead_by_lists(_span: u32, lists: &Listed, asked: u64, marks: &[u64]) -> u64
-    requires asked { (k : ℕ) → bit_at asked k ≡ 1 → k < _span }
-    requires fits { FitsLists _span (length marks.now) lists.now }
-    ensures { (k : ℕ) → bit_at result k ≡ 1 ↔ ((bit_at asked k ≡ 1) × ((j : ℕ) × GoesListed _span k j lists.now × IsIn _span marks.now j)) }
-{
-    let mut found = asked;
-    let mut rest = asked;
-    while rest != 0 {
-        let place = rest.trailing_zeros();
-        if !lists.leads_from(place, marks) {
-            found &= !(1 << place);
-        }
-        rest &= !(1 << place);
-    }
-    found
-}
-
-/// The same where nothing may be listed.
+/// From which of the places asked for one leads along the places to a mark of the word, eight further from `single`, sixteen from `double`.
+/// A word without marks costs one look.
 #[inline(always)]
-fn lead_by_lists_if(_span: u32, lists: &Option<Listed>, asked: u64, marks: &[u64]) -> u64
-    requires asked { (k : ℕ) → bit_at asked k ≡ 1 → k < _span }
-    requires fits { IfSome lists.now (FitsLists _span (length marks.now)) }
-    ensures { (k : ℕ) → bit_at result k ≡ 1 ↔ ((bit_at asked k ≡ 1) × ((j : ℕ) × GoesListedIf _span k j lists.now × IsIn _span marks.now j)) }
+fn lead_along(up: bool, single: u64, double: u64, asked: u64, there: u64) -> u64
+    ensures { (k : ℕ) → bit_at result k ≡ 1 ↔ ((bit_at asked k ≡ 1) × PushesInto up single double there k) }
 {
-    match lists {
-        Some(some) => lead_by_lists(_span, some, asked, marks),
-        None => 0,
+    if there == 0 {
+        return 0;
     }
-}
-
-/// Does one of the codes have its mark?
-#[inline(always)]
-fn any_code_in(codes: &[u32], marks: &[u64]) -> bool
-    requires { (code : ℕ) → Contains codes.now code → code / 64 < length marks.now }
-    ensures { IsTrue result ↔ LeadsByOne (IsCodeIn marks.now) codes.now }
-{
-    for code in codes {
-        if (marks[(*code / 64) as usize] >> (*code % 64)) & 1 == 1 {
-            return true;
-        }
+    if up {
+        asked & (there >> 8 & single | there >> 16 & double)
+    } else {
+        asked & (there << 8 & single | there << 16 & double)
     }
-    false
 }
 
 /// The bits of a word at its places turned.

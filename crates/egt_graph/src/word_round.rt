@@ -1,5 +1,5 @@
 //! One round of a run by words.
-ghost use Rattle.std.specs.Prelude.{◌≡◌, ◌==◌, ◌↔◌, ◌⊎◌, ℕ, suc, ◌+◌, ◌*◌, ◌<◌, ◌≤◌, length, slice_index, IsFalse, IsTrue};
+ghost use Rattle.std.specs.Prelude.{◌≡◌, ◌==◌, ◌↔◌, ◌⊎◌, ℕ, suc, ◌+◌, ◌*◌, ◌<◌, ◌≤◌, length, slice_index, slice_set, IsFalse, IsTrue};
 ghost use Rattle.std.specs.Int.{bit_at};
 ghost use Rattle.std.specs.List.{Contains};
 ghost use Rattle.egt_graph.specs.Graph.{IsNode};
@@ -169,6 +169,34 @@ fn touch_from<G: Shelved>(game: &G, word: u32, nodes: u64, touched: &mut [u64], 
     }
 }
 
+/// Puts the word where it is not yet: what stays as it was is not written.
+#[inline(always)]
+fn put_word(words: &mut [u64], at: usize, word: u64)
+    requires { at < length words.old }
+    ensures { words.new ≡ slice_set words.old at word }
+{
+    if words[at] != word {
+        words[at] = word;
+    }
+}
+
+/// Passes a word whose nodes are all decided: nothing is found in it, and its nodes that are not won are the same in the next round.
+#[inline(always)]
+fn pass_word<G: Shelved>(_game: &G, run: &mut WordRun, word: u32, _round: u16)
+    requires word { word < words_of (G.span _game.now) (G.graph _game.now).size }
+    requires swept { IsSwept (G.graph _game.now) (G.span _game.now) _round word run.old }
+    requires decided { slice_index run.old.undecided.items word ≡ 0 }
+    ensures swept { IsSwept (G.graph _game.now) (G.span _game.now) _round (word + 1) run.new }
+    ensures won { IsWordOf (G.span _game.now) word (is_found_won (G.graph _game.now) _round) 0 }
+    ensures lost { IsWordOf (G.span _game.now) word (is_found_lost (G.graph _game.now) _round) 0 }
+{
+    let _span = _game.span();
+    let w = word as usize;
+    let unwon = run.unwon[w];
+    put_word(&mut run.next_unwon, w, unwon);
+    put_word(&mut run.next_lost, w, 0);
+}
+
 #[inline(always)]
 fn sweep_word<G: Shelved>(game: &G, run: &mut WordRun, word: u32, round: u16) -> Found
     requires short { round ≤ 32000 }
@@ -178,9 +206,13 @@ fn sweep_word<G: Shelved>(game: &G, run: &mut WordRun, word: u32, round: u16) ->
     ensures won { IsWordOf (G.span game.now) word (is_found_won (G.graph game.now) round) result.won }
     ensures lost { IsWordOf (G.span game.now) word (is_found_lost (G.graph game.now) round) result.lost }
 {
-    let span = game.span();
     let w = word as usize;
     let undecided = run.undecided[w];
+    if undecided == 0 {
+        pass_word(game, run, word, round);
+        return Found { won: 0, lost: 0 };
+    }
+    let span = game.span();
     let found = decide_word(
         game,
         word,
@@ -193,9 +225,6 @@ fn sweep_word<G: Shelved>(game: &G, run: &mut WordRun, word: u32, round: u16) ->
         is_touched(&run.ask, w),
         round,
     );
-    run.undecided[w] = undecided & !found.won & !found.lost;
-    run.next_unwon[w] = run.unwon[w] & !found.won;
-    run.next_lost[w] = found.lost;
     put_entries(&mut run.entries, span, word, found.won, 4 + 2 * round);
     put_entries(&mut run.entries, span, word, found.lost, 5 + 2 * round);
     touch_from(
@@ -206,6 +235,14 @@ fn sweep_word<G: Shelved>(game: &G, run: &mut WordRun, word: u32, round: u16) ->
         &mut run.lost_full,
     );
     touch_from(game, word, found.won, &mut run.next_ask, &mut run.ask_full);
+    let unwon = run.unwon[w] & !found.won;
+    put_word(
+        &mut run.undecided,
+        w,
+        undecided & !found.won & !found.lost,
+    );
+    put_word(&mut run.next_unwon, w, unwon);
+    put_word(&mut run.next_lost, w, found.lost);
     found
 }
 

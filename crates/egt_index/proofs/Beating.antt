@@ -33,7 +33,7 @@ use Rattle.egt_index.proofs.Coding.{all_digits}
 use Rattle.egt_index.proofs.Exchanged.{stood_exchanged}
 use Rattle.egt_index.proofs.LeastTurn.{keeps_play, none_away, none_exchanged}
 use Rattle.egt_index.proofs.Listing.{AreApart, apart_of, get_here, listed_stands}
-use Rattle.egt_index.proofs.Numbers.{number_from-lt}
+use Rattle.egt_index.proofs.MixedDigits.{number_from-lt}
 use Rattle.egt_index.proofs.Picking.{lesser_digit, same_digit}
 use Rattle.egt_index.proofs.Standing.{turned_back}
 

@@ -17,7 +17,7 @@ use Rattle.egt_class.specs.Material.{Material, material_of, materials}
 use Rattle.egt_index.specs.Digits.{number_from, number_of, AreDigits}
 use Rattle.egt_index.specs.Size.{base_of, bases, men_bases, men_in_order, has_pawns, has_target}
 use Rattle.egt_index.specs.Code.{SpellsBy, HasTargetDigit, placed, men_at, target_digits}
-use Rattle.egt_index.proofs.Numbers.{number_from-lt}
+use Rattle.egt_index.proofs.MixedDigits.{number_from-lt}
 use Rattle.egt_index.proofs.Listing.{apart_of, fits_of}
 use Rattle.egt_index.specs.Picked.{Least, AreCounted, Picks, DigitOf, Fits, IsLeastCode}
 use Rattle.egt_index.proofs.Counted.{counted_rest, first_is_there}

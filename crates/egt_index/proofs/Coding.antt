@@ -9,7 +9,7 @@ use Rattle.egt_class.specs.Material.{Material, material_of}
 use Rattle.egt_index.specs.Digits.{AreDigits, product}
 use Rattle.egt_index.specs.Size.{size_of, bases, men_bases, has_target}
 use Rattle.egt_index.specs.Code.{Spells, SpellsBy, men_at, target_digit, target_digits}
-use Rattle.egt_index.proofs.Numbers.{number_of-below, number_from-same}
+use Rattle.egt_index.proofs.MixedDigits.{number_of-below, number_from-same}
 
 pub AreDigits-append : (bases digits others more : List ℕ) → AreDigits bases digits → AreDigits others more → AreDigits (bases ++ others) (digits ++ more)
 AreDigits-append [] [] others more here behind = behind

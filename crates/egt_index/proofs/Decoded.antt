@@ -16,7 +16,7 @@ use Rattle.egt_index.specs.Digits.{number_from, number_of, AreDigits}
 use Rattle.egt_index.specs.Size.{bases, men_bases, has_target}
 use Rattle.egt_index.specs.Code.{Spells, SpellsBy, HasTargetDigit, men_at, target_digit, target_digits}
 use Rattle.egt_index.specs.Spelled.{SpellsMen, SpellsNoMen, Ends, HasPawns, IsBehind, IsTold, IsListed}
-use Rattle.egt_index.proofs.Numbers.{number_from-same}
+use Rattle.egt_index.proofs.MixedDigits.{number_from-same}
 use Rattle.egt_index.proofs.Coding.{last_digits, side_told}
 use Rattle.egt_index.proofs.Coded.{number_append}
 use Rattle.egt_index.proofs.Listing.{listed}

@@ -1,5 +1,5 @@
 pub mod SizeTable
-pub mod Numbers
+pub mod MixedDigits
 pub mod Coding
 pub mod Listing
 pub mod OnePosition
@@ -60,9 +60,12 @@ pub mod Shifted
 pub mod LastMan
 pub mod Opposed
 pub mod Led
+pub mod Halves
 pub mod StepCodes
 pub mod ByMen
 pub mod WholeRows
 pub mod Facing
 pub mod Placing
+pub mod Passing
+pub mod Numbered
 pub mod ShelfCodes

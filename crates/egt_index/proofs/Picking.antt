@@ -13,7 +13,7 @@ use Rattle.egt_class.specs.Below.{all_below, passes_below}
 use Rattle.egt_index.specs.Digits.{number_from, AreDigits}
 use Rattle.egt_index.specs.Size.{base_by, base_of}
 use Rattle.egt_index.specs.Code.{king_square, square_by_digit, square_of, placed}
-use Rattle.egt_index.proofs.Numbers.{number_from-lt}
+use Rattle.egt_index.proofs.MixedDigits.{number_from-lt}
 use Rattle.egt_index.proofs.Listing.{AreApart, first_back, remove_first, get_here}
 use Rattle.egt_index.specs.Picked.{AreCounted, Picks}
 use Rattle.egt_index.proofs.Counted.{counted_rest, none_left}

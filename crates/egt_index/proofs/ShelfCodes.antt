@@ -1,28 +1,32 @@
 -- The men of a shelf's codes.
-use Rattle.std.proofs.Common.{◌≡◌, ◌≢◌, ℕ, ◌+◌, ◌-◌, ◌*◌, ◌/◌, ◌<◌, ◌≤◌, Bool, false, cond, List, [], ◌∷◌, ◌++◌, Option, Some, None, IfSome, arith, refl, sym, ap, ◌∙◌, subst}
+use Rattle.std.proofs.Common.{◌≡◌, ◌≢◌, ◌↔◌, ℕ, ◌+◌, ◌-◌, ◌*◌, ◌%◌, ◌<◌, ◌≤◌, Bool, true, false, cond, inl, inr, List, [], ◌∷◌, ◌++◌, Option, Some, None, IfSome, arith, refl, sym, ap, ◌∙◌, subst}
 use Rattle.std.specs.Option.{option_to_list}
+use Rattle.std.proofs.lemmas.Bool.{cases_lt}
 use Rattle.egt_board.specs.Attack.{king_of}
-use Rattle.egt_board.specs.Images.{side_number}
 use Rattle.egt_board.specs.Pawn.{MayStand}
 use Rattle.egt_board.specs.declared.man.Kind.{Kind}
 use Rattle.egt_board.specs.declared.man.Kind.TheVariants.{Q, R, B, N, P, K}
 use Rattle.egt_board.specs.declared.man.Man.{Man}
 use Rattle.egt_board.specs.declared.man.Side.{Side}
 use Rattle.egt_board.specs.declared.man.Side.TheVariants.{White, Black}
-use Rattle.egt_class.specs.Material.{Material, material_of}
+use Rattle.egt_class.specs.Material.{material_of}
 use Rattle.egt_index.specs.Code.{king_square}
+use Rattle.egt_index.specs.Digits.{number_from}
 use Rattle.egt_index.specs.Front.{IsBefore}
 use Rattle.egt_index.specs.Scales.{kind_digits, kind_less}
-use Rattle.egt_index.specs.Shelf.{last_of, shelf_len}
-use Rattle.egt_index.specs.ShelfCodes.{AreMenOf, IsShelf, code_in, stand_with}
+use Rattle.egt_index.specs.Numbers.{code_of, half_of, places}
+use Rattle.egt_index.specs.Shelf.{last_of}
+use Rattle.egt_index.specs.ShelfCodes.{AreMenOf, IsShelf, IsShelfBehind, IsShelfOf, number_in, stand_with}
 use Rattle.egt_index.specs.Size.{has_pawns, has_target, king_base, men_beside, men_in_order}
-use Rattle.egt_index.specs.Spelled.{Ends, SpellsMen, Tells}
+use Rattle.egt_index.specs.Spelled.{SpellsMen, Tells}
 use Rattle.egt_index.specs.StepCodes.{TellsMen}
-use Rattle.egt_index.specs.Stood.{Entry, list_of, men_among, rest_of, with_last}
+use Rattle.egt_index.specs.Stood.{Entry, list_of, rest_of, with_last}
 use Rattle.egt_index.specs.declared.shelf_codes.ShelfMen.{ShelfMen}
 use Rattle.egt_index.specs.declared.stand.Stand.{Stand}
+use Rattle.egt_index.proofs.Halves.{code_high, code_low, places_of_last}
+use Rattle.egt_index.proofs.Numbered.{ends}
 use Rattle.egt_index.proofs.Opposed.{may_stand}
-use Rattle.egt_index.proofs.Placing.{ends, len, tells, within}
+use Rattle.egt_index.proofs.Placing.{tells, within}
 use Rattle.egt_index.proofs.Scaled.{number_on, number_told}
 use Rattle.egt_index.proofs.Setups.{men_spelled}
 use Rattle.egt_index.proofs.Splitting.{spells_men}
@@ -35,15 +39,15 @@ twice_within N = omega arith
 twice_within P = omega arith
 twice_within K = omega arith
 
-module _ (c high : ℕ) (men : ShelfMen) (c_in : c < 36) (none : has_target (material_of c) ≡ false) (last : last_of (men_beside (material_of c)) ≡ Some men.last) (other : men.last ≢ king_of White) where
-  -- a code tells the men where the digits of the men do
+module _ (passed : Bool) (c shelf high : ℕ) (men : ShelfMen) (c_in : c < 36) (last : last_of (men_beside (material_of c)) ≡ Some men.last) (other : men.last ≢ king_of White) (at : IsShelfBehind passed c shelf high) where
+  -- a number's code tells the men where the digits of the men do
   told_code : (side : Side) (digit : ℕ) → digit < kind_digits men.last.kind → SpellsMen (material_of c) (high * kind_digits men.last.kind + digit) (list_of (stand_with men (digit + kind_less men.last.kind)))
-      → TellsMen c (code_in c high side digit) (stand_with men (digit + kind_less men.last.kind)) side
+      → TellsMen passed c (code_of c (number_in c shelf side digit)) (stand_with men (digit + kind_less men.last.kind)) side
   told_code side digit below spells = record {
     number = high * kind_digits men.last.kind + digit;
     men = spells;
     filled = λ e. absurd (cc);
-    ends = ends c high men.last c_in none last other digit (code_in c high side digit) side refl;
+    ends = ends passed c shelf high men.last c_in last other at side digit below;
   }
 
   -- the men who are found before the last one
@@ -51,7 +55,7 @@ module _ (c high : ℕ) (men : ShelfMen) (c_in : c < 36) (none : has_target (mat
     spelled : (digit : ℕ) → digit < kind_digits men.last.kind → SpellsMen (material_of c) (high * kind_digits men.last.kind + digit) (list_of (stand_with men (digit + kind_less men.last.kind)))
     spelled digit below =
         subst (λ (s : Stand). SpellsMen (material_of c) (high * kind_digits men.last.kind + digit) (list_of s)) same
-        (before.men (high * kind_digits men.last.kind + digit) (Some (men.last, digit + kind_less men.last.kind)) (tells c high men.last c_in none last other digit below))
+        (before.men (high * kind_digits men.last.kind + digit) (Some (men.last, digit + kind_less men.last.kind)) (tells c high men.last c_in last other digit below))
       where
         same : with_last stand (Some (men.last, digit + kind_less men.last.kind)) ≡ stand_with men (digit + kind_less men.last.kind)
         same =
@@ -76,14 +80,15 @@ module _ (c high : ℕ) (men : ShelfMen) (c_in : c < 36) (none : has_target (mat
     rest : {a b : Man} {x y : List Man} → a ∷ x ≡ b ∷ y → x ≡ y
     rest e = cc
 
-    pub shelf_before : IsShelf c high men
+    pub shelf_before : IsShelf c shelf men
     shelf_before = record {
       men_of = record {
         are = all_men;
         one_beside = one_other (rest (rest all_men));
         last_beside = other;
       };
-      len = len c high men.last c_in none last other;
+      len = places_of_last c men.last last;
+      passed = passed;
       tells = λ side digit below. told_code side digit below (spelled digit below);
     }
 
@@ -113,12 +118,16 @@ module _ (c high : ℕ) (men : ShelfMen) (c_in : c < 36) (none : has_target (mat
             ∙ ap (λ n. ((king * 64 + men.black) * kind_digits men.one.kind + n) * kind_digits men.last.kind + d) (sym digit_is)
             ∙ ap (λ n. n * kind_digits men.last.kind + d) (sym high_is)
 
-    pub shelf_on : IsShelf c high men
-    shelf_on = record {
-      men_of = is_of;
-      len = len c high men.last c_in none last other;
-      tells = λ side d below. told_code side d below (spelled_on d below);
-    }
+    pub shelf_on : IsShelfOf passed c shelf men
+    shelf_on = (
+      record {
+        men_of = is_of;
+        len = places_of_last c men.last last;
+        passed = passed;
+        tells = λ side d below. told_code side d below (spelled_on d below);
+      },
+      refl,
+    )
 
 -- the class's last man is theirs
 pub last_told : (c : ℕ) (men : ShelfMen) → AreMenOf c men → last_of (men_beside (material_of c)) ≡ Some men.last
@@ -138,3 +147,43 @@ first_beside (Some man) y one last men are not none is = λ same. not (heads (ar
   where
     heads : {a b : Man} {x y : List Man} → a ∷ x ≡ b ∷ y → a ≡ b
     heads e = cc
+
+-- the positions of the upper shelves have a target, and no others
+pub halves : (c shelf : ℕ) (men : ShelfMen) (is : IsShelf c shelf men) → has_target (material_of c) ≡ true → (is.passed ≡ true) ↔ (half_of c ≤ shelf * (2 * places c))
+halves c shelf men is has = (there, back)
+  where
+    some : (kind : Kind) → 0 < kind_digits kind
+    some Q = omega arith
+    some R = omega arith
+    some B = omega arith
+    some N = omega arith
+    some P = omega arith
+    some K = omega arith
+
+    tells : TellsMen is.passed c (code_of c (number_in c shelf White 0)) (stand_with men (0 + kind_less men.last.kind)) White
+    tells = is.tells White 0 (some men.last.kind)
+
+    same : number_in c shelf White 0 ≡ shelf * (2 * places c)
+    same = omega arith
+
+    coded : code_of c (shelf * (2 * places c)) ≡ tells.number * 4 + cond is.passed 1 0
+    coded =
+        ap (code_of c) (sym same)
+        ∙ subst (λ b. code_of c (number_in c shelf White 0) ≡ number_from tells.number (2 ∷ cond b (2 ∷ []) []) (0 ∷ cond b (cond is.passed 1 0 ∷ []) [])) has tells.ends.number_is
+        ∙ last_two tells.number (cond is.passed 1 0)
+      where
+        last_two : (n f : ℕ) → (n * 2 + 0) * 2 + f ≡ n * 4 + f
+        last_two n f = omega arith
+
+    flag : (b : Bool) → cond {A = ℕ} b 1 0 % 2 ≡ 1 → b ≡ true
+    flag true odd = refl
+    flag false odd = absurd (omega arith)
+
+    there : is.passed ≡ true → half_of c ≤ shelf * (2 * places c)
+    there passed = elim (cases_lt (shelf * (2 * places c)) (half_of c)) [
+      | inl lt ↦ let low = code_low c (shelf * (2 * places c)) has lt in let code = coded in let one = ap (λ b. cond {A = ℕ} b 1 0) passed in absurd (omega arith)
+      | inr ge ↦ ge
+    ]
+
+    back : half_of c ≤ shelf * (2 * places c) → is.passed ≡ true
+    back ge = flag is.passed (let high = code_high c (shelf * (2 * places c)) has ge in let code = coded in omega arith)

@@ -31,7 +31,7 @@ use Rattle.egt_index.proofs.AtIndex.{indexed_by}
 use Rattle.egt_index.proofs.Decoded.{Parts, parts_told}
 use Rattle.egt_index.proofs.Exists.{index_below, index_settled}
 use Rattle.egt_index.proofs.IndexTotal.{NoKings, ends_less, few, none_beside, one_digit, total_at}
-use Rattle.egt_index.proofs.Numbers.{number_from-same}
+use Rattle.egt_index.proofs.MixedDigits.{number_from-same}
 use Rattle.egt_index.proofs.RowMen.{ends_alike, ends_there, stand_in_row}
 
 abbrev is_right : ℕ → Bool

@@ -12,7 +12,7 @@ use Rattle.egt_index.specs.Code.{king_square, square_by_digit, square_of, placed
 use Rattle.egt_index.specs.Spelled.{Splits, Tells, SpellsMen, SpellsNoMen}
 use Rattle.egt_board.specs.Attack.{king_of}
 use Rattle.egt_class.specs.Material.{Material}
-use Rattle.egt_index.proofs.Numbers.{number_from-same}
+use Rattle.egt_index.proofs.MixedDigits.{number_from-same}
 use Rattle.egt_index.proofs.Coding.{AreDigits-append}
 use Rattle.egt_index.proofs.Coded.{number_append}
 

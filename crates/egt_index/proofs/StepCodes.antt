@@ -1,15 +1,17 @@
 -- What the codes of steps spell.
-use Rattle.std.proofs.Common.{◌≡◌, ◌≢◌, ℕ, ◌/◌, ◌%◌, ◌<◌, Bool, true, false, eqb, List, ◌∷◌, ◌++◌, map, Option, Some, None, IfSome, arith, refl, sym, ap, ◌∙◌, inl, inr, subst}
+use Rattle.std.proofs.Common.{◌≡◌, ◌≢◌, ℕ, ◌+◌, ◌-◌, ◌/◌, ◌%◌, ◌<◌, Bool, true, false, eqb, List, Option, Some, None, IfSome, arith, refl, sym, ap, ◌∙◌, inl, inr, subst}
 use Rattle.std.specs.FinMap as placement
-use Rattle.std.specs.Option.{is_some, option_map, option_to_list}
+use Rattle.std.specs.Option.{is_some, option_map}
 use Rattle.std.proofs.lemmas.Bool.{cases_eq, false≢true}
-use Rattle.egt_board.specs.Attack.{king_of}
 use Rattle.egt_board.specs.Images.{AreImages}
 use Rattle.egt_board.specs.Listed.{FitsBoard, men_of, setup_of}
 use Rattle.egt_board.specs.Man.{other_side}
-use Rattle.egt_board.specs.Placement.{Placement, Stands}
+use Rattle.egt_board.specs.Pawn.{pawn_of}
+use Rattle.egt_board.specs.Placement.{IsFree, Placement, Stands}
+use Rattle.egt_board.specs.Settled.{IsSettled, untargeted}
 use Rattle.egt_board.specs.Setup.{Setup}
 use Rattle.egt_board.specs.Symmetry.{KeepsPlay}
+use Rattle.egt_board.specs.Target.{FitsTarget, IsTarget}
 use Rattle.egt_board.specs.Turned.{IsSetBy, IsTurnedBy, turned_square}
 use Rattle.egt_board.specs.declared.man.Man.{Man}
 use Rattle.egt_board.specs.declared.man.Side.{Side}
@@ -21,9 +23,9 @@ use Rattle.egt_index.specs.Facts.{Facts}
 use Rattle.egt_index.specs.Frame.{IsMoved}
 use Rattle.egt_index.specs.Home.{symmetries}
 use Rattle.egt_index.specs.Size.{has_pawns}
-use Rattle.egt_index.specs.Spelled.{IsListed}
-use Rattle.egt_index.specs.StepCodes.{FollowsStep, IsStepCode, TellsMen, moved_stand, turned_stand}
-use Rattle.egt_index.specs.Stood.{AllApart, AllStand, Entry, HasStand, Stood, entry_after, list_of, men_among}
+use Rattle.egt_index.specs.Spelled.{HasPawns, IsListed, IsTold}
+use Rattle.egt_index.specs.StepCodes.{FollowsLeap, FollowsStep, IsLeapCode, IsLeapt, IsStepCode, TellsMen, moved_stand, turned_stand}
+use Rattle.egt_index.specs.Stood.{AllApart, Entry, HasStand, list_of}
 use Rattle.egt_index.specs.Turns.{IsTurn}
 use Rattle.egt_index.specs.Went.{AreOnBoard, moved_entry, moved_square}
 use Rattle.egt_index.specs.declared.stand.Stand.{Stand}
@@ -31,9 +33,11 @@ use Rattle.egt_index.proofs.After.{inverse, stood_turned}
 use Rattle.egt_index.proofs.Best.{turn_number}
 use Rattle.egt_index.proofs.Carried.{stayed, went}
 use Rattle.egt_index.proofs.Classes.{image_in_colours}
-use Rattle.egt_index.proofs.Decoded.{spelled_setup}
+use Rattle.egt_index.proofs.AtIndex.{target_exists}
+use Rattle.egt_index.proofs.Decoded.{has_pawns_list, spelled_setup}
 use Rattle.egt_index.proofs.FrameMen.{free_off, men_are}
 use Rattle.egt_index.proofs.Gone.{free_before, list_moved, men_moved, moved_list}
+use Rattle.egt_index.proofs.Halves.{of_targets}
 use Rattle.egt_index.proofs.LeastTurn.{keeps_play}
 use Rattle.egt_index.proofs.Led.{back_again, eight, entry_back, undone}
 use Rattle.egt_index.proofs.Lined.{all_apart}
@@ -41,31 +45,66 @@ use Rattle.egt_index.proofs.Listing.{listed}
 use Rattle.egt_index.proofs.Moved.{is_after, on_board_of, stand_moved, untargeted_settled}
 use Rattle.egt_index.proofs.Setups.{apart_all, fits_apart, setup_spelled, stand_spelled}
 
+-- where a target is told of there is a pawn each
+pub pawns_told : (passed : Bool) (c code : ℕ) (stand : Stand) (side : Side) → TellsMen passed c code stand side → passed ≡ true → HasPawns (list_of stand)
+pawns_told passed c code stand side tells e =
+    of_targets c (λ none. absurd (false≢true (sym (tells.ends.never none) ∙ e))) (λ has. has_pawns_list c tells.number (list_of stand) has tells.men)
+
 no_target : (o : Option ℕ) → is_some o ≡ false → o ≡ None
 no_target None is = refl
 no_target (Some t) is = absurd (false≢true (sym is))
 
+-- the setup of these men, that side to move and the target that the code tells of
+record IsSetup (passed : Bool) (stand : Stand) (side : Side) (p : Setup) : Type 0 where
+  target : Option ℕ
+  told : IsTold passed side (list_of stand) target
+  fits : FitsBoard (list_of stand)
+  is : p ≡ setup_of (list_of stand) side target
+
 -- what a code spells is the setup of the men that it tells
-pub told_setup : (c code : ℕ) (p : Setup) (stand : Stand) (side : Side) → Spells c code p → TellsMen c code stand side → FitsBoard (list_of stand) × (p ≡ setup_of (list_of stand) side None)
-told_setup c code p stand side spells tells = spelled_setup c code tells.number side false (list_of stand) None p tells.ends tells.men refl spells
+told_setup : (passed : Bool) (c code : ℕ) (p : Setup) (stand : Stand) (side : Side) → Spells c code p → TellsMen passed c code stand side → IsSetup passed stand side p
+told_setup passed c code p stand side spells tells =
+    let target = target_exists passed side (list_of stand) (pawns_told passed c code stand side tells) in
+    let found = spelled_setup c code tells.number side passed (list_of stand) target.0 p tells.ends tells.men target.1 spells in
+    record { target = target.0; told = target.1; fits = found.0; is = found.1 }
 
 -- and has them
-pub told_stands : (c code : ℕ) (p : Setup) (stand : Stand) (side : Side) → Spells c code p → TellsMen c code stand side → HasStand c false stand side false p
-told_stands c code p stand side spells tells =
-    let found = told_setup c code p stand side spells tells in
-    subst (λ (x : Setup). HasStand c false stand side false x) (sym found.1)
-    (stand_spelled c code tells.number stand side false None tells.men (fits_apart (list_of stand) found.0) refl (subst (Spells c code) found.1 spells) (untargeted_settled (setup_of (list_of stand) side None) refl))
+pub told_stands : (passed : Bool) (c code : ℕ) (p : Setup) (stand : Stand) (side : Side) → Spells c code p → IsSettled p → TellsMen passed c code stand side → HasStand c false stand side passed p
+told_stands passed c code p stand side spells settled tells =
+    let found = told_setup passed c code p stand side spells tells in
+    subst (HasStand c false stand side passed) (sym found.is)
+    (stand_spelled c code tells.number stand side passed found.target tells.men (fits_apart (list_of stand) found.fits) found.told (subst (Spells c code) found.is spells) (subst IsSettled found.is settled))
+
+untargeted_stands : (c code : ℕ) (p : Setup) (stand : Stand) (side : Side) → Spells c code p → TellsMen false c code stand side → HasStand c false stand side false p
+untargeted_stands c code p stand side spells tells =
+    let found = told_setup false c code p stand side spells tells in
+    told_stands false c code p stand side spells (untargeted_settled p (ap (λ (q : Setup). q.target) found.is ∙ found.told)) tells
+
+-- the target of a position is what the digits tell of
+target_listed : (side : Side) (men : Placement) (list : List (Man × ℕ)) (t : ℕ) → men ≡ men_of list → IsTarget men side t → IsTold true side list (Some t)
+target_listed White men list t is target = let rank = target.rank in (t - 8, listed list (pawn_of Black) (t - 8) (subst (λ (m : Placement). Stands m (t - 8) (pawn_of Black)) is target.advanced), (omega arith))
+target_listed Black men list t is target = (t + 8, listed list (pawn_of White) (t + 8) (subst (λ (m : Placement). Stands m (t + 8) (pawn_of White)) is target.advanced), (omega arith))
+
+target_told : (passed : Bool) (side : Side) (men : Placement) (list : List (Man × ℕ)) (target : Option ℕ) → men ≡ men_of list → FitsTarget men side target → is_some target ≡ passed → IsTold passed side list target
+target_told false side men list target is fits none = no_target target none
+target_told true side men list None is fits some = absurd (false≢true some)
+target_told true side men list (Some t) is fits some = target_listed side men list t is fits
 
 -- and a position with these men is what it spells
-pub stands_told : (c code : ℕ) (p : Setup) (stand : Stand) (side : Side) → HasStand c false stand side false p → TellsMen c code stand side → Spells c code p
-stands_told c code p stand side has tells =
-    setup_spelled c code tells.number side false (list_of stand) None p tells.ends tells.men refl (all_apart false p.men (list_of stand) has.stood.all) same has.admissible
+pub stands_told : (passed : Bool) (c code : ℕ) (p : Setup) (stand : Stand) (side : Side) → HasStand c false stand side passed p → TellsMen passed c code stand side → Spells c code p
+stands_told passed c code p stand side has tells =
+    setup_spelled c code tells.number side passed (list_of stand) p.target p tells.ends tells.men told (all_apart false p.men (list_of stand) has.stood.all) same has.admissible
   where
-    same : p ≡ setup_of (list_of stand) side None
+    men : p.men ≡ men_of (list_of stand)
+    men = men_are c stand side passed p has
+
+    told : IsTold passed side (list_of stand) p.target
+    told = target_told passed side p.men (list_of stand) p.target men (subst (λ (s : Side). FitsTarget p.men s p.target) has.side_is has.admissible.target) has.target_is
+
+    same : p ≡ setup_of (list_of stand) side p.target
     same =
-        ap (λ (men : Placement). record { men = men; side = p.side; target = p.target }) (men_are c stand side false p has)
+        ap (λ (men : Placement). record { men = men; side = p.side; target = p.target }) men
         ∙ ap (λ (s : Side). record { men = men_of (list_of stand); side = s; target = p.target }) has.side_is
-        ∙ ap (λ (o : Option ℕ). record { men = men_of (list_of stand); side = side; target = o }) (no_target p.target has.target_is)
 
 -- an image by a symmetry, with the men where it takes them
 record IsTurnedTo (c n : ℕ) (stand : Stand) (side : Side) (q r : Setup) : Type 0 where
@@ -112,6 +151,32 @@ turned_to facts c n stand side q c_in n_in has = (
       subst (λ k. IsTurnedBy k (eqb (t.0 / 8) 1) q made.0) (sym t.2) (subst (λ f. IsTurnedBy n f q made.0) (sym t.3) made.1),
     )
 
+-- what a position has in which the men of p stand so after the one on `from` went to `to`
+record HasCome (c : ℕ) (p : Setup) (from to : ℕ) (man : Man) (q : Setup) : Type 0 where
+  free : IsFree p.men to
+  men : q.men ≡ placement.insert (placement.remove p.men from) to man
+  side : q.side ≡ other_side p.side
+  class : (flipped : Bool) → IsOf c flipped p → IsOf c flipped q
+
+has_come : Facts → (c : ℕ) (stand : Stand) (side : Side) (before passed : Bool) (p : Setup) → c < 36 → HasStand c false stand side before p → (from to : ℕ) (man : Man) → to ≢ from → Stands p.men from man
+    → (q : Setup) → HasStand c false (moved_stand from to stand) (other_side side) passed q → HasCome c p from to man q
+has_come facts c stand side before passed p c_in has from to man other stands q there = record {
+  free = (free_off c stand side before p has to).1 (free_before from to other (list_of stand) man apart his);
+  men = men_are c (moved_stand from to stand) (other_side side) passed q there ∙ ap men_of (list_moved from to other stand) ∙ men_moved from to other (list_of stand) man (apart_all (moved_list from to other (list_of stand)) apart) his
+      ∙ ap (λ (men : Placement). placement.insert (placement.remove men from) to man) (sym (men_are c stand side before p has));
+  side = there.side_is ∙ ap other_side (sym has.side_is);
+  class = λ flipped is_of. elim (facts.one_flip p c flipped false c_in is_of has.is_of) [
+    | inl same ↦ subst (λ f. IsOf c f q) (sym same) there.is_of
+    | inr equal ↦ facts.both_flips q c false flipped c_in equal there.is_of
+  ];
+}
+  where
+    his : IsListed (list_of stand) man from
+    his = listed (list_of stand) man from (subst (λ (men : Placement). Stands men from man) (men_are c stand side before p has) stands)
+
+    apart : AllApart (moved_list from to other (list_of stand))
+    apart = subst AllApart (list_moved from to other stand) (all_apart false q.men (list_of (moved_stand from to stand)) there.stood.all)
+
 module _ (facts : Facts) (c code n from to : ℕ) (p : Setup) (is : IsStepCode c code n from to p) where
   abbrev after : Stand
   after = moved_stand from to is.stand
@@ -122,11 +187,11 @@ module _ (facts : Facts) (c code n from to : ℕ) (p : Setup) (is : IsStepCode c
   few : n < 8
   few = eight (has_pawns (material_of c)) n is.keeps
 
-  leads : (q : Setup) → IsMoved c p from to q → (r : Setup) × Spells c code r × AreImages q r
+  leads : (q : Setup) → IsMoved c p from to q → (r : Setup) × Spells c code r × (r.target ≡ None) × AreImages q r
   leads q moved =
       let has = stand_moved c false is.passed p q from to is.stand after is.side (other_side is.side) is.has moved (untargeted_settled q moved.target) refl (is_after from to is.stand) in
       let turned = turned_to facts c n after (other_side is.side) q is.class_in is.keeps has in
-      (turned.0, stands_told c code turned.0 lane (other_side is.side) turned.1.has is.tells, turned.1.images)
+      (turned.0, stands_told false c code turned.0 lane (other_side is.side) turned.1.has is.tells, no_target turned.0.target turned.1.has.target_is, turned.1.images)
 
   module _ (r : Setup) (man : Man) (to_in : to < 64) (other : to ≢ from) (stands : Stands p.men from man) (spells : Spells c code r) where
     board : AreOnBoard is.stand
@@ -146,7 +211,7 @@ module _ (facts : Facts) (c code n from to : ℕ) (p : Setup) (is : IsStepCode c
     undo_in = undone (has_pawns (material_of c)) n is.keeps
 
     undo : (i : Setup) × IsTurnedTo c (inverse n) lane (other_side is.side) r i
-    undo = turned_to facts c (inverse n) lane (other_side is.side) r is.class_in undo_in (told_stands c code r lane (other_side is.side) spells is.tells)
+    undo = turned_to facts c (inverse n) lane (other_side is.side) r is.class_in undo_in (untargeted_stands c code r lane (other_side is.side) spells is.tells)
 
     abbrev image : Setup
     image = undo.0
@@ -161,30 +226,20 @@ module _ (facts : Facts) (c code n from to : ℕ) (p : Setup) (is : IsStepCode c
     has : HasStand c false after (other_side is.side) false image
     has = subst (λ (s : Stand). HasStand c false s (other_side is.side) false image) again undo.1.has
 
-    his : IsListed (list_of is.stand) man from
-    his = listed (list_of is.stand) man from (subst (λ (men : Placement). Stands men from man) (men_are c is.stand is.side is.passed p is.has) stands)
-
-    apart_after : AllApart (moved_list from to other (list_of is.stand))
-    apart_after = subst AllApart (list_moved from to other is.stand) (all_apart false image.men (list_of after) has.stood.all)
-
-    class_kept : (flipped : Bool) → IsOf c flipped p → IsOf c flipped image
-    class_kept flipped is_of = elim (facts.one_flip p c flipped false is.class_in is_of is.has.is_of) [
-      | inl same ↦ subst (λ f. IsOf c f image) (sym same) has.is_of
-      | inr equal ↦ facts.both_flips image c false flipped is.class_in equal has.is_of
-    ]
+    came : HasCome c p from to man image
+    came = has_come facts c is.stand is.side is.passed false p is.class_in is.has from to man other stands image has
 
     moved : IsMoved c p from to image
     moved = record {
       man = man;
       stands = stands;
-      free = (free_off c is.stand is.side is.passed p is.has to).1 (free_before from to other (list_of is.stand) man apart_after his);
+      free = came.free;
       on_board = to_in;
-      men = men_are c after (other_side is.side) false image has ∙ ap men_of (list_moved from to other is.stand) ∙ men_moved from to other (list_of is.stand) man (apart_all (moved_list from to other (list_of is.stand)) apart_after) his
-          ∙ ap (λ (men : Placement). placement.insert (placement.remove men from) to man) (sym (men_are c is.stand is.side is.passed p is.has));
-      side = has.side_is ∙ ap other_side (sym is.has.side_is);
+      men = came.men;
+      side = came.side;
       target = no_target image.target has.target_is;
       admissible = has.admissible;
-      class = class_kept;
+      class = came.class;
     }
 
     comes : (q : Setup) × IsMoved c p from to q × AreImages q r
@@ -192,3 +247,59 @@ module _ (facts : Facts) (c code n from to : ℕ) (p : Setup) (is : IsStepCode c
 
   pub follows_step : FollowsStep c code from to p
   follows_step = record { leads = leads; comes = comes }
+
+-- a leap is a move but for the target
+leap_moves : (c from to : ℕ) (p q : Setup) → IsLeapt c p from to q → IsMoved c p from to (untargeted q)
+leap_moves c from to p q leapt = record {
+  man = leapt.man;
+  stands = leapt.stands;
+  free = leapt.free;
+  on_board = leapt.on_board;
+  men = leapt.men;
+  side = leapt.side;
+  target = refl;
+  admissible = record {
+    few = leapt.admissible.few;
+    on_board = leapt.admissible.on_board;
+    kings = leapt.admissible.kings;
+    pawns = leapt.admissible.pawns;
+    target = tt;
+    quiet = leapt.admissible.quiet;
+  };
+  class = λ flipped is_of. record { men = (leapt.class flipped is_of).men };
+}
+
+module _ (facts : Facts) (c code from to : ℕ) (p : Setup) (is : IsLeapCode c code from to p) where
+  abbrev leapt : Stand
+  leapt = moved_stand from to is.stand
+
+  leap_leads : (q : Setup) → IsLeapt c p from to q → Spells c code q
+  leap_leads q there =
+      let moved = leap_moves c from to p q there in
+      let has = stand_moved c false is.passed p (untargeted q) from to is.stand leapt is.side (other_side is.side) is.has moved (untargeted_settled (untargeted q) refl) refl (is_after from to is.stand) in
+      stands_told true c code q leapt (other_side is.side)
+      (record { admissible = there.admissible; settled = there.settled; is_of = there.class false is.has.is_of; stood = record { are = has.stood.are; all = has.stood.all }; side_is = has.side_is; target_is = there.target }) is.tells
+
+  module _ (r : Setup) (man : Man) (to_in : to < 64) (other : to ≢ from) (stands : Stands p.men from man) (spells : Spells c code r) (settled : IsSettled r) where
+    stood : HasStand c false leapt (other_side is.side) true r
+    stood = told_stands true c code r leapt (other_side is.side) spells settled is.tells
+
+    leap_comes : IsLeapt c p from to r
+    leap_comes = record {
+      man = man;
+      stands = stands;
+      free = came.free;
+      on_board = to_in;
+      men = came.men;
+      side = came.side;
+      target = stood.target_is;
+      settled = settled;
+      admissible = spells.admissible;
+      class = came.class;
+    }
+      where
+        came : HasCome c p from to man r
+        came = has_come facts c is.stand is.side is.passed true p is.class_in is.has from to man other stands r stood
+
+  pub follows_leap : FollowsLeap c code from to p
+  follows_leap = record { leads = leap_leads; comes = leap_comes }

@@ -22,7 +22,7 @@ use Rattle.egt_index.proofs.After.{AreSorted, all_there, listed_there, ordered, 
 use Rattle.egt_index.proofs.Coded.{few_men, number_append, picks_code, placed_few}
 use Rattle.egt_index.proofs.Coding.{last_digits}
 use Rattle.egt_index.proofs.Listing.{AreApart, fits_of}
-use Rattle.egt_index.proofs.Numbers.{number_from-lt}
+use Rattle.egt_index.proofs.MixedDigits.{number_from-lt}
 use Rattle.egt_index.proofs.Picking.{lesser_digit}
 use Rattle.egt_index.proofs.Turned.{counted_of}
 

@@ -1,19 +1,24 @@
 -- Which codes of a shelf are positions' indexes, and where the last man of a position may stand.
-use Rattle.std.specs.Prelude.{◌≡◌, ℕ, ◌+◌, ◌*◌, ◌<◌, Bool, true, false}
+use Rattle.std.specs.Prelude.{◌≡◌, ◌≢◌, ◌↔◌, ℕ, ◌+◌, ◌*◌, ◌<◌, Bool, true, false, Some}
 use Rattle.std.specs.Int.{bit_at}
+use Rattle.egt_board.specs.Attack.{king_of}
 use Rattle.egt_board.specs.Man.{other_side}
 use Rattle.egt_board.specs.Pawn.{pawn_of}
 use Rattle.egt_board.specs.Placement.{IsFree}
 use Rattle.egt_board.specs.Safety.{IsKeptFrom}
+use Rattle.egt_board.specs.Setup.{Setup}
 use Rattle.egt_board.specs.declared.man.Kind.{Kind}
 use Rattle.egt_board.specs.declared.man.Kind.TheVariants.{Q, R, B, N, P, K}
 use Rattle.egt_board.specs.declared.man.Man.{Man}
 use Rattle.egt_board.specs.declared.man.Side.{Side}
 use Rattle.egt_board.specs.declared.man.Side.TheVariants.{White, Black}
+use Rattle.egt_class.specs.Material.{material_of}
+use Rattle.egt_index.specs.Front.{IsFront}
 use Rattle.egt_index.specs.Index.{IsVoid}
 use Rattle.egt_index.specs.Scales.{kind_digits, kind_less}
-use Rattle.egt_index.specs.Shelf.{shelf_len}
-use Rattle.egt_index.specs.Size.{man_of}
+use Rattle.egt_index.specs.Shelf.{last_of, shelf_len}
+use Rattle.egt_index.specs.Size.{man_of, men_beside}
+use Rattle.egt_index.specs.Stood.{HasStand, with_last}
 use Rattle.egt_index.specs.declared.front.Front.{Front}
 use Rattle.egt_index.specs.declared.places.Places.{Places}
 use Rattle.egt_index.specs.declared.stand.Stand.{Stand}
@@ -55,3 +60,32 @@ pub record IsPlaced (front : Front) (man : Man) (mover : Side) (k : ℕ) : Type 
   pub below : k < kind_digits man.kind
   pub free : IsFree front.board (k + kind_less man.kind)
   pub kept : IsKeptFrom front.board (k + kind_less man.kind) man (waiting mover front.stand) mover
+
+-- the front is one of the class's, and the man the last one behind it
+pub record IsFrontBefore (c : ℕ) (front : Front) (man : Man) : Type 0 where
+  pub last : last_of (men_beside (material_of c)) ≡ Some man
+  pub other : man ≢ king_of White
+  pub high : ℕ
+  pub is : IsFront c high front
+
+-- the last man, on the square of the digit, makes a settled position with the men before him, with that side to move and a target where one was passed
+pub record IsMade (passed : Bool) (c : ℕ) (stand : Stand) (man : Man) (mover : Side) (k : ℕ) : Type 0 where
+  pub below : k < kind_digits man.kind
+  pub position : Setup
+  pub has : HasStand c false (with_last stand (Some (man, k + kind_less man.kind))) mover passed position
+
+-- the bits are of his digits: 1 exactly where he makes one
+pub record AreMade (passed : Bool) (c : ℕ) (stand : Stand) (man : Man) (found : Places) : Type 0 where
+  pub white : (k : ℕ) → (bit_at found.white k ≡ 1) ↔ IsMade passed c stand man White k
+  pub black : (k : ℕ) → (bit_at found.black k ≡ 1) ↔ IsMade passed c stand man Black k
+
+-- the digit is this one, which is there, and he makes a position with a target by it
+pub record IsNewDigit (c : ℕ) (stand : Stand) (man : Man) (mover : Side) (there : Bool) (digit k : ℕ) : Type 0 where
+  pub there_is : there ≡ true
+  pub same : k ≡ digit
+  pub made : IsMade true c stand man mover k
+
+-- the rank on which pawns stand side by side where that side may take one that has just advanced
+abbrev pub taking_rank : Side → ℕ
+taking_rank White = 4
+taking_rank Black = 3

@@ -1,8 +1,9 @@
--- The men of a shelf of codes, of a class without targets: the same men in all of its codes but for the last man's square.
-use Rattle.std.specs.Prelude.{◌≡◌, ◌≢◌, ◌↔◌, ℕ, ◌+◌, ◌*◌, ◌/◌, ◌<◌, ◌≤◌, false, [], ◌∷◌, Some}
+-- The men of a shelf of numbers: the same men in all of its codes but for the last man's square.
+use Rattle.std.specs.Prelude.{◌≡◌, ◌≢◌, ◌↔◌, ℕ, ◌+◌, ◌*◌, ◌/◌, ◌<◌, ◌≤◌, Bool, true, false, if◌then◌else◌, [], ◌∷◌, Some}
 use Rattle.std.specs.Int.{bit_at}
 use Rattle.egt_board.specs.Attack.{king_of}
 use Rattle.egt_board.specs.Images.{side_number}
+use Rattle.egt_board.specs.Settled.{IsSettled}
 use Rattle.egt_board.specs.Setup.{Setup}
 use Rattle.egt_board.specs.Turned.{turned_square}
 use Rattle.egt_board.specs.declared.man.Side.{Side}
@@ -10,10 +11,12 @@ use Rattle.egt_board.specs.declared.man.Side.TheVariants.{White, Black}
 use Rattle.egt_class.specs.Material.{material_of}
 use Rattle.egt_index.specs.Code.{Spells}
 use Rattle.egt_index.specs.Front.{TellsLast}
+use Rattle.egt_index.specs.Index.{IsVoid}
+use Rattle.egt_index.specs.Numbers.{IsNumbered, code_of, half_of, places}
 use Rattle.egt_index.specs.Row.{row_len}
 use Rattle.egt_index.specs.Scales.{kind_digits, kind_less}
-use Rattle.egt_index.specs.Shelf.{shelf_len}
-use Rattle.egt_index.specs.Size.{men_in_order, size_of}
+use Rattle.egt_index.specs.Size.{has_target, men_in_order, size_of}
+use Rattle.egt_index.specs.Spelled.{Ends}
 use Rattle.egt_index.specs.StepCodes.{TellsMen}
 use Rattle.egt_index.specs.Stood.{Entry}
 use Rattle.egt_index.specs.Went.{moved_square}
@@ -25,9 +28,9 @@ use Rattle.egt_index.specs.declared.stand.Stand.{Stand}
 abbrev pub stand_with : ShelfMen → ℕ → Stand
 stand_with men s = record { white = men.white; black = men.black; next = Some (men.one, men.on); last = Some (men.last, s) }
 
--- the shelf's code with that side to move and this digit of the last man
-abbrev pub code_in : (c shelf : ℕ) → Side → ℕ → ℕ
-code_in c shelf side digit = shelf * shelf_len c + side_number side + 2 * digit
+-- the shelf's number with that side to move and this digit of the last man
+abbrev pub number_in : (c shelf : ℕ) → Side → ℕ → ℕ
+number_in c shelf side digit = shelf * (2 * places c) + side_number side + 2 * digit
 
 -- they are the class's men
 pub record AreMenOf (c : ℕ) (men : ShelfMen) : Type 0 where
@@ -35,15 +38,25 @@ pub record AreMenOf (c : ℕ) (men : ShelfMen) : Type 0 where
   pub one_beside : men.one ≢ king_of White
   pub last_beside : men.last ≢ king_of White
 
--- the codes of the shelf tell them, and the last one by his digit
+-- the numbers of the shelf stand for codes that tell them, and the last one by his digit; `passed` tells whether its positions have a target
 pub record IsShelf (c shelf : ℕ) (men : ShelfMen) : Type 0 where
   pub men_of : AreMenOf c men
-  pub len : shelf_len c ≡ 2 * kind_digits men.last.kind
-  pub tells : (side : Side) (digit : ℕ) → digit < kind_digits men.last.kind → TellsMen c (code_in c shelf side digit) (stand_with men (digit + kind_less men.last.kind)) side
+  pub len : places c ≡ kind_digits men.last.kind
+  pub passed : Bool
+  pub tells : (side : Side) (digit : ℕ) → digit < kind_digits men.last.kind → TellsMen passed c (code_of c (number_in c shelf side digit)) (stand_with men (digit + kind_less men.last.kind)) side
+
+abbrev pub IsShelfOf : (passed : Bool) (c shelf : ℕ) → ShelfMen → Type 0
+IsShelfOf passed c shelf men = (is : IsShelf c shelf men) × (is.passed ≡ passed)
 
 -- the shelf is one of the class's
 abbrev pub IsWithin : (c shelf : ℕ) → Type 0
-IsWithin c shelf = (shelf + 1) * shelf_len c ≤ size_of c
+IsWithin c shelf = (shelf + 1) * (2 * places c) ≤ size_of c
+
+-- the shelf is the one behind the front with this number, of positions with a target or without
+pub record IsShelfBehind (passed : Bool) (c shelf high : ℕ) : Type 0 where
+  pub first : shelf * (2 * places c) ≡ high * (2 * places c) + (if passed then half_of c else 0)
+  pub within : (high + 1) * (2 * places c) ≤ half_of c
+  pub may : has_target (material_of c) ≡ false → passed ≡ false
 
 -- the men where a symmetry takes them, and after the one on `from` went to `to`
 abbrev pub turned_men : ℕ → ShelfMen → ShelfMen
@@ -52,15 +65,28 @@ turned_men n men = record { white = turned_square n false men.white; black = tur
 abbrev pub moved_men : (from to : ℕ) → ShelfMen → ShelfMen
 moved_men from to men = record { white = moved_square from to men.white; black = moved_square from to men.black; one = men.one; on = moved_square from to men.on; last = men.last }
 
--- the bits are of every other code from `first` on, up to `end`: 1 exactly where the code spells a position
-abbrev pub AreSpelled : (c first end bits : ℕ) → Type 0
-AreSpelled c first end bits = (k : ℕ) → bit_at bits k ≡ 1 ↔ ((first + 2 * k < end) × ((p : Setup) × Spells c (first + 2 * k) p))
+-- the bits are of every other number from `first` on: 1 exactly where the number stands for a settled position
+abbrev pub AreNumbered : (c first bits : ℕ) → Type 0
+AreNumbered c first bits = (k : ℕ) → bit_at bits k ≡ 1 ↔ ((k < places c) × ((p : Setup) × IsNumbered c (first + 2 * k) p))
 
 -- so are those of a shelf, by the side to move
-pub record ArePositions (c shelf : ℕ) (places : Places) : Type 0 where
-  pub white : AreSpelled c (shelf * shelf_len c) (shelf * shelf_len c + shelf_len c) places.white
-  pub black : AreSpelled c (shelf * shelf_len c + 1) (shelf * shelf_len c + shelf_len c) places.black
+pub record ArePositions (c shelf : ℕ) (found : Places) : Type 0 where
+  pub white : AreNumbered c (shelf * (2 * places c)) found.white
+  pub black : AreNumbered c (shelf * (2 * places c) + 1) found.black
+
+-- the bits are of every other number from `first` on: 1 exactly where the code of the number is a position's index
+abbrev pub AreIndexed : (c first bits : ℕ) → Type 0
+AreIndexed c first bits = (k : ℕ) → bit_at bits k ≡ 1 ↔ ((k < places c) × ¬ IsVoid c (code_of c (first + 2 * k)))
+
+-- so are those of a shelf, by the side to move
+pub record AreIndexes (c shelf : ℕ) (found : Places) : Type 0 where
+  pub white : AreIndexed c (shelf * (2 * places c)) found.white
+  pub black : AreIndexed c (shelf * (2 * places c) + 1) found.black
 
 -- none of the codes behind these men spells a position
 abbrev pub SpellsNothing : (c high : ℕ) → Type 0
 SpellsNothing c high = (n : ℕ) (last : Entry) (code : ℕ) (p : Setup) → TellsLast c n high last → code / row_len c ≡ n → ¬ Spells c code p
+
+-- none of the codes behind these men that tell of a target spells a settled position
+abbrev pub PassesNothing : (c high : ℕ) → Type 0
+PassesNothing c high = (n : ℕ) (last : Entry) (code : ℕ) (side : Side) (p : Setup) → TellsLast c n high last → Ends (material_of c) code n side true → Spells c code p → ¬ IsSettled p

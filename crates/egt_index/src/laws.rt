@@ -1,19 +1,22 @@
 //! What holds of codes and indexes. These functions do nothing: a caller calls one to know what it ensures.
-ghost use Rattle.std.specs.Prelude.{◌≡◌, ◌↔◌, ◌⊎◌, ℕ, ◌<◌, Bool, false};
+ghost use Rattle.std.specs.Prelude.{◌≡◌, ◌↔◌, ◌⊎◌, ℕ, ◌*◌, ◌<◌, ◌≤◌, Bool, false, true};
 ghost use Rattle.egt_board.specs.declared.man.Man.{Man};
 ghost use Rattle.egt_board.specs.declared.man.Side.{Side};
 ghost use Rattle.egt_board.specs.Man.{other_side};
 ghost use Rattle.egt_board.specs.Pawn.{pawn_of, HasNoPawn};
 ghost use Rattle.egt_board.specs.Placement.{Stands};
-ghost use Rattle.egt_board.specs.Settled.{SettlesTo};
+ghost use Rattle.egt_board.specs.Settled.{IsSettled, SettlesTo};
 ghost use Rattle.egt_board.specs.Setup.{Setup, IsAdmissible};
 ghost use Rattle.egt_class.specs.Material.{material_of};
 ghost use Rattle.egt_class.specs.Membership.{IsOf};
 ghost use Rattle.egt_index.specs.Axis.{is_on_axis, StandsAlone};
 ghost use Rattle.egt_index.specs.Code.{Spells};
 ghost use Rattle.egt_index.specs.Index.{IsIndex, IsVoid, SettleAlike};
+ghost use Rattle.egt_index.specs.Numbers.{code_of, half_of, number_of, places};
+ghost use Rattle.egt_index.specs.ShelfCodes.{IsShelf};
+ghost use Rattle.egt_index.specs.declared.shelf_codes.ShelfMen.{ShelfMen};
 ghost use Rattle.egt_index.specs.Size.{has_pawns, has_target, size_of};
-ghost use Rattle.egt_index.specs.StepCodes.{FollowsStep, IsStepCode, TellsMen};
+ghost use Rattle.egt_index.specs.StepCodes.{FollowsLeap, FollowsStep, IsLeapCode, IsStepCode, TellsMen};
 ghost use Rattle.egt_index.specs.Stood.{HasStand};
 ghost use Rattle.egt_index.specs.declared.stand.Stand.{Stand};
 
@@ -85,10 +88,27 @@ pub fn a_class_without_targets_has_pawns_of_one_side()
 }
 
 /// The code that tells where a symmetry of the class takes the men, once one of them went to a free square, spells an image of the position then,
-/// and no other position; and what a code spells has the men that it tells.
+/// and no other position; the code of the men and a target spells the position after a leap over it, and no other settled one; and a settled position that a
+/// code spells has the men that it tells.
 pub fn codes_follow_steps()
     ensures follows { (c code n from to : ℕ) (p : Setup) → IsStepCode c code n from to p → FollowsStep c code from to p }
-    ensures stands { (c code : ℕ) (p : Setup) (stand : Stand) (side : Side) → Spells c code p → TellsMen c code stand side → HasStand c false stand side false p }
+    ensures leaps { (c code from to : ℕ) (p : Setup) → IsLeapCode c code from to p → FollowsLeap c code from to p }
+    ensures stands { (passed : Bool) (c code : ℕ) (p : Setup) (stand : Stand) (side : Side) → c < 36 → Spells c code p → IsSettled p → TellsMen passed c code stand side →
+        HasStand c false stand side passed p }
+{
+    facts();
+}
+
+/// Each code of a class has a number, which stands for it alone; the positions of the upper half of all shelves have a target, and no others; and what an
+/// index spells is settled, so that its number stands for that.
+pub fn numbers_stand_for_codes()
+    ensures code { (c code : ℕ) → c < 36 → code < size_of c → code_of c (number_of c code) ≡ code }
+    ensures within { (c code : ℕ) → c < 36 → code < size_of c → number_of c code < size_of c }
+    ensures below { (c n : ℕ) → c < 36 → code_of c n < size_of c → n < size_of c }
+    ensures coded { (c n : ℕ) → c < 36 → n < size_of c → code_of c n < size_of c }
+    ensures number { (c n : ℕ) → c < 36 → n < size_of c → number_of c (code_of c n) ≡ n }
+    ensures halves { (c shelf : ℕ) (men : ShelfMen) (is : IsShelf c shelf men) → c < 36 → has_target (material_of c) ≡ true → (is.passed ≡ true) ↔ (half_of c ≤ shelf * (2 * places c)) }
+    ensures indexes_are_settled { (c i : ℕ) (p q : Setup) → IsAdmissible p → IsIndex c p i → Spells c i q → IsSettled q }
 {
     facts();
 }

@@ -22,7 +22,9 @@ pub mod led_home;
 pub mod men;
 pub mod movers;
 pub mod nearer;
+pub mod numbers;
 pub mod opposite;
+pub mod passed;
 pub mod places;
 pub mod row;
 pub mod scales;
@@ -45,10 +47,11 @@ pub use indexing::{index, indexed_by_men};
 pub use led_home::LedHome;
 pub use men::{has_pawns, has_target};
 pub use movers::{faces_king_alone, may_move_pawn};
+pub use numbers::code_of;
 pub use opposite::Opposite;
 pub use places::Places;
 pub use row::{Row, Rows, begins_row, position, row_len, row_of};
-pub use shelf::{Shift, shelf_end, shelf_len};
+pub use shelf::{Shift, last_digits, shelf_end, shelf_len};
 pub use shelf_codes::{ShelfMen, home_turn, positions_of, shelf_men, shelf_of};
 pub use sizes::size;
 pub use spelling::{frame_at, indexed, position_of, spelled_position};
@@ -61,6 +64,8 @@ mod alike_tests;
 mod index_tests;
 #[cfg(test)]
 mod led_home_tests;
+#[cfg(test)]
+mod numbers_tests;
 #[cfg(test)]
 mod places_tests;
 #[cfg(test)]

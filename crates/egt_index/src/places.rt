@@ -1,37 +1,40 @@
-//! Which codes of a shelf are positions' indexes, told of all of them at once by sets of squares.
-ghost use Rattle.std.specs.Prelude.{◌≡◌, ◌≢◌, ℕ, ◌+◌, ◌*◌, ◌/◌, ◌%◌, ◌^◌, ◌<◌, ◌↔◌, true, false, Some, IfSome, Option};
+//! Which numbers of a shelf stand for positions' indexes, told of all of them at once by sets of squares.
+ghost use Rattle.std.specs.Prelude.{◌≡◌, ℕ, ◌+◌, ◌/◌, ◌%◌, ◌<◌, ◌↔◌, Bool, true, false, Some, IfSome};
 ghost use Rattle.std.specs.Int.{bit_at};
-ghost use Rattle.egt_board.specs.Attack.{king_of};
 ghost use Rattle.egt_board.specs.Placement.{Stands};
 ghost use Rattle.egt_board.specs.Safety.{IsKeptFrom};
 ghost use Rattle.egt_board.specs.SquareSet.{Has};
-ghost use Rattle.egt_board.specs.declared.man.Side.TheVariants.{White, Black};
+ghost use Rattle.egt_board.specs.declared.man.Man.{Man};
 ghost use Rattle.egt_class.specs.Material.{material_of};
 ghost use Rattle.egt_index.specs.Front.{IsFront, IsFrontOf};
 ghost use Rattle.egt_index.specs.Index.{IsVoid};
-ghost use Rattle.egt_index.specs.Places.{ArePlaces, IsPlaced, TellsIndex, facing, waiting};
+ghost use Rattle.egt_index.specs.Numbers.{code_of};
+ghost use Rattle.egt_index.specs.Places.{AreMade, ArePlaces, IsFrontBefore, IsPlaced, TellsIndex, facing, waiting};
 ghost use Rattle.egt_index.specs.Row.{row_len, IsRowOf};
 ghost use Rattle.egt_index.specs.Scales.{AreEqual, kind_digits, kind_less};
-ghost use Rattle.egt_index.specs.Shelf.{last_of, shelf_len};
-ghost use Rattle.egt_index.specs.Size.{has_target, men_beside, size_of};
-ghost use Rattle.egt_index.specs.Stood.{Entry};
+ghost use Rattle.egt_index.specs.Shelf.{shelf_len};
+ghost use Rattle.egt_index.specs.ShelfCodes.{AreIndexes, IsShelfBehind, IsWithin};
+ghost use Rattle.egt_index.specs.Size.{has_target, size_of};
 
+use crate::facts::facts;
 use crate::front::Front;
 use crate::men::beside;
+use crate::numbers::{code_of, front_number};
+use crate::passed::{may_pass, passed_places};
 use crate::row::{Row, Rows};
-use crate::shelf::shelf_len;
+use crate::shelf::{last_digits, shelf_len};
 use crate::stand::Stand;
 use egt_board::gait::reach_past;
 use egt_board::safety::reach_passes_over_its_end;
 use egt_board::{Board, Kind, Man, Side, Square, SquareSet};
 use egt_class::Class;
 
-/// Of a shelf's codes, which are positions' indexes: bit `k` is of the code with the last man's digit `k`.
+/// Some places of a shelf, by the side to move: bit `k` is of the last man's digit `k`.
 #[derive(Clone, Copy, PartialEq, Eq, Debug, Default)]
 pub struct Places {
-    /// Those with White to move.
+    /// With White to move.
     pub white: u64,
-    /// Those with Black to move.
+    /// With Black to move.
     pub black: u64,
 }
 
@@ -101,35 +104,56 @@ fn is_equal(entry: &Option<(Man, Square)>, man: Man) -> bool
     }
 }
 
-/// The places of the shelf behind the front, whose last man this is; `None` where each code is to be compared with those of images.
-fn places_behind(class: Class, front: &Front, man: Man) -> Option<Places>
-    requires targets { has_target (material_of class) ≡ false }
-    requires last { last_of (men_beside (material_of class)) ≡ Some man }
-    requires other { man ≢ king_of White }
-    requires front { (high : ℕ) × IsFront class high front.now }
-    ensures { IfSome result (λ places. (high : ℕ) → IsFront class high front.now → ArePlaces class (high * shelf_len class) places) }
+/// The last man's digits where he makes a position without a target with the men of the front.
+fn plain_places(class: Class, front: &Front, man: Man) -> Places
+    requires { IsFrontBefore class front.now man }
+    ensures { AreMade false class front.now.stand man result }
 {
+    let _number = class.number();
+    Places {
+        white: places_of(front, man, Side::White),
+        black: places_of(front, man, Side::Black),
+    }
+}
+
+/// The last man's digits where he makes a settled position with the men of the front, with a target where one was passed.
+pub(crate) fn settled_places(class: Class, front: &Front, man: Man, passed: bool) -> Places
+    requires before { IsFrontBefore class front.now man }
+    requires targets { has_target (material_of class) ≡ false → passed ≡ false }
+    ensures { AreMade passed class front.now.stand man result }
+{
+    if passed {
+        passed_places(class, front, man)
+    } else {
+        plain_places(class, front, man)
+    }
+}
+
+/// The indexes of the shelf behind the front, whose last man this is; `None` where each code is to be compared with those of images.
+fn places_behind(class: Class, front: &Front, man: Man, passed: bool) -> Option<Places>
+    requires before { IsFrontBefore class front.now man }
+    requires targets { has_target (material_of class) ≡ false → passed ≡ false }
+    ensures { IfSome result (λ found. (shelf high : ℕ) → IsFront class high front.now → IsShelfBehind passed class shelf high → AreIndexes class shelf found) }
+{
+    facts();
     let _number = class.number();
     if front.tied || is_equal(&front.stand.next, man) {
         return None;
     }
-    Some(Places {
-        white: places_of(front, man, Side::White),
-        black: places_of(front, man, Side::Black),
-    })
+    Some(settled_places(class, front, man, passed))
 }
 
-/// The places of the shelf with this number, where its front and the class tell all of them; there is no front only where all are void.
-fn told(class: Class, number: u32, front: &Option<Front>) -> Option<Places>
-    requires targets { has_target (material_of class) ≡ false }
+/// The indexes of the shelf behind the front with this number, where that and the class tell all of them; there is no front only where all are void.
+fn told(class: Class, number: u32, passed: bool, front: &Option<Front>) -> Option<Places>
     requires front { IsFrontOf class number front.now }
-    ensures { IfSome result (ArePlaces class (number * shelf_len class)) }
+    requires targets { has_target (material_of class) ≡ false → passed ≡ false }
+    ensures { IfSome result (λ found. (shelf : ℕ) → IsShelfBehind passed class shelf number → AreIndexes class shelf found) }
 {
     let _number = class.number();
     let (_, last) = beside(class);
     let man = last?;
     match front {
-        Some(front) => places_behind(class, front, man),
+        Some(front) => places_behind(class, front, man, passed),
         None => Some(Places::default()),
     }
 }
@@ -146,28 +170,32 @@ fn is_index(row: &Option<Row>, code: u32) -> bool
 }
 
 impl Rows {
-    /// Whether the two codes of the row that begins with this one are positions' indexes.
-    fn are_indexes(&mut self, code: u32) -> (bool, bool)
-        requires begins { code % 2 ≡ 0 }
-        requires room { code + 1 < 2 ^ 32 }
-        requires targets { has_target (material_of self.old) ≡ false }
+    /// Whether the codes of the number and of the next one, which are of one row, are positions' indexes.
+    fn are_indexes(&mut self, number: u32) -> (bool, bool)
+        requires within { number + 1 < size_of self.old }
+        requires row { code_of self.old number / row_len self.old ≡ code_of self.old (number + 1) / row_len self.old }
         ensures class { self.new ≡ self.old }
-        ensures white { TellsIndex result.0 self.old code }
-        ensures black { TellsIndex result.1 self.old (code + 1) }
+        ensures white { TellsIndex result.0 self.old (code_of self.old number) }
+        ensures black { TellsIndex result.1 self.old (code_of self.old (number + 1)) }
     {
-        let row = self.row_of(code);
-        (is_index(&row, code), is_index(&row, code + 1))
+        let class = self.class();
+        let _number = class.number();
+        let white = code_of(class, number);
+        let black = code_of(class, number + 1);
+        let row = self.row_of(white);
+        (is_index(&row, white), is_index(&row, black))
     }
 
-    /// The places of the shelf that begins with `first`, each code asked about alone.
-    fn asked(&mut self, first: u32) -> Places
-        requires begins { first % 2 ≡ 0 }
-        requires room { first + shelf_len self.old < 2 ^ 32 }
-        requires targets { has_target (material_of self.old) ≡ false }
+    /// The indexes of the shelf, each code asked about alone.
+    fn asked(&mut self, shelf: u32) -> Places
+        requires { (passed : Bool) × (high : ℕ) × IsShelfBehind passed self.old shelf high }
         ensures class { self.new ≡ self.old }
-        ensures places { ArePlaces self.old first result }
+        ensures indexes { AreIndexes self.old shelf result }
     {
-        let digits = shelf_len(self.class()) / 2;
+        let class = self.class();
+        let _number = class.number();
+        let digits = last_digits(class);
+        let first = shelf * (2 * digits);
         let mut white = SquareSet::EMPTY;
         let mut black = SquareSet::EMPTY;
         for digit in 0..digits {
@@ -182,6 +210,26 @@ impl Rows {
         }
     }
 
+    /// Which numbers of the shelf stand for positions' indexes: bit `k` is of the number with the last man's digit `k`.
+    pub fn indexes(&mut self, shelf: u32) -> Places
+        requires { IsWithin self.old shelf }
+        ensures class { self.new ≡ self.old }
+        ensures indexes { AreIndexes self.old shelf result }
+    {
+        facts();
+        let class = self.class();
+        let _number = class.number();
+        let (number, passed) = front_number(class, shelf).unwrap();
+        if passed && !may_pass(class, number) {
+            return Places::default();
+        }
+        let front = self.front_at(number);
+        match told(class, number, passed, &front) {
+            Some(places) => places,
+            None => self.asked(shelf),
+        }
+    }
+
     /// Which codes of the shelf that begins with `first` are positions' indexes, in a class without targets.
     pub fn places(&mut self, first: u32) -> Places
         requires begins { first % shelf_len self.old ≡ 0 }
@@ -192,11 +240,6 @@ impl Rows {
     {
         let class = self.class();
         let _number = class.number();
-        let number = first / shelf_len(class);
-        let front = self.front_at(number);
-        match told(class, number, &front) {
-            Some(places) => places,
-            None => self.asked(first),
-        }
+        self.indexes(first / shelf_len(class))
     }
 }

@@ -299,7 +299,7 @@ fn passed_by(men: &[(Man, Square)], side: Side) -> Option<Square> {
 }
 
 /// The position that the digits of the code spell, from the last one on, worked out plainly.
-fn spelled_plainly(number: u8, code: u32) -> Option<Position> {
+pub(crate) fn spelled_plainly(number: u8, code: u32) -> Option<Position> {
     let (white, black) = kinds(number)?;
     let mut rest = code;
     let passed = number == 35 && taken_off(&mut rest, 2)? == 1;
@@ -354,7 +354,7 @@ fn alike(one: &Position, other: &Position) -> bool {
 }
 
 /// Whether both are the same position, or there is neither.
-fn agrees(spelled: &Option<Position>, wanted: &Option<Position>) -> bool {
+pub(crate) fn agrees(spelled: &Option<Position>, wanted: &Option<Position>) -> bool {
     match (spelled, wanted) {
         (Some(one), Some(other)) => alike(one, other),
         (None, None) => true,

@@ -1,13 +1,14 @@
 //! Indexes that differ by the last man's square alone: a step of another man moves all of them as far.
-ghost use Rattle.std.specs.Prelude.{◌≡◌, ◌≢◌, ℕ, ◌+◌, ◌%◌, ◌<◌, ◌≤◌, Bool, IfSome};
+ghost use Rattle.std.specs.Prelude.{◌≡◌, ◌≢◌, ℕ, ◌+◌, ◌*◌, ◌%◌, ◌<◌, ◌≤◌, Bool, IfSome};
 ghost use Rattle.egt_board.specs.Setup.{Setup};
 ghost use Rattle.egt_class.specs.Material.{material_of};
 ghost use Rattle.egt_index.specs.AtIndex.{IsFramedAt};
 ghost use Rattle.egt_index.specs.Code.{Spells};
 ghost use Rattle.egt_index.specs.Frame.{IsMoved, IsOwnAfter, IsFirstAfter};
 ghost use Rattle.egt_index.specs.Index.{IsIndex, IsVoid};
+ghost use Rattle.egt_index.specs.Numbers.{places};
 ghost use Rattle.egt_index.specs.Row.{row_len};
-ghost use Rattle.egt_index.specs.Scales.{ScalesFit, ends_of};
+ghost use Rattle.egt_index.specs.Scales.{ScalesFit, ends_of, kind_digits};
 ghost use Rattle.egt_index.specs.Shelf.{Adds, AreAlike, GoerFits, HasGone, HasNoPawnOn, IsShelved, IsShift, shelf_len};
 ghost use Rattle.egt_index.specs.Size.{size_of};
 ghost use Rattle.egt_index.specs.Ways.{IsPaired, scale_by};
@@ -16,12 +17,12 @@ ghost use Rattle.egt_index.specs.declared.ways.Mover.{Mover};
 use crate::digits::king_digit;
 use crate::facts::facts;
 use crate::frame::Frame;
-use crate::men::{has_pawns, has_target, is_paired};
+use crate::men::{beside, has_pawns, has_target, is_paired};
 use crate::scales::{Scale, Scales, class_scales};
 use crate::stand::Stand;
 use crate::total::{total_without, without_ends};
 use crate::ways::KingScale;
-use egt_board::Square;
+use egt_board::{Kind, Man, Square};
 use egt_class::Class;
 
 /// How many codes of each class differ by no more than the last man's digit and those behind it.
@@ -29,6 +30,18 @@ static LENS: [u8; 36] = [
     2, 2, 2, 2, 2, 2, 128, 128, 128, 128, 128, 128, 128, 128, 128, 128, 128, 128, 128, 128, 128,
     128, 128, 128, 128, 128, 96, 96, 96, 96, 96, 96, 96, 96, 96, 192,
 ];
+
+/// How many digits a man beside the white king has.
+pub(crate) fn digits_of(man: Man) -> u32
+    ensures is { result ≡ kind_digits man.kind }
+    ensures some { 0 < result }
+    ensures few { result ≤ 64 }
+{
+    match man.kind {
+        Kind::P => 48,
+        _ => 64,
+    }
+}
 
 /// How many codes of the class differ by no more than the last man's digit and those behind it: its codes are so many shelves, each of
 /// whole rows.
@@ -41,6 +54,20 @@ pub fn shelf_len(class: Class) -> u32
 {
     let _number = class.number();
     u32::from(LENS[usize::from(class.number())])
+}
+
+/// How many digits the last man of the class has; 1 where fewer than two men stand beside the kings.
+pub fn last_digits(class: Class) -> u32
+    ensures is { result ≡ places class }
+    ensures some { 0 < result }
+    ensures few { result ≤ 64 }
+    ensures whole { size_of class % (2 * places class) ≡ 0 }
+{
+    let _number = class.number();
+    match beside(class).1 {
+        Some(man) => digits_of(man),
+        None => 1,
+    }
 }
 
 /// The end of the index's shelf, within the class: up to it the codes with the same last digits differ from the index by the last man's square

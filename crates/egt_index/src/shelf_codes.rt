@@ -1,31 +1,25 @@
-//! The men of a shelf of codes, of a class without targets: but for the last one they stand on the same squares in all of its codes. A code tells
-//! its men by their digits, whether it is the least for its position or not, so what is told here needs no comparison of codes.
-ghost use Rattle.std.specs.Prelude.{◌≡◌, ◌+◌, ◌-◌, ◌*◌, ◌/◌, ◌<◌, ℕ, Some, false, IfSome, IfNone};
-ghost use Rattle.egt_board.specs.Attack.{king_of};
-ghost use Rattle.egt_board.specs.Images.{side_number};
+//! The men of a shelf of numbers: but for the last one they stand on the same squares in all of its positions. A code tells its men by their digits,
+//! whether it is the least for its position or not, so what is told here needs no comparison of codes.
+ghost use Rattle.std.specs.Prelude.{◌≡◌, ◌+◌, ◌-◌, ◌*◌, ◌/◌, ◌<◌, ◌≤◌, ℕ, Some, false, IfSome, IfNone};
 ghost use Rattle.egt_board.specs.Pawn.{MayStand};
-ghost use Rattle.egt_board.specs.Setup.{Setup};
 ghost use Rattle.egt_board.specs.declared.man.Man.{Man};
-ghost use Rattle.egt_board.specs.declared.man.Side.TheVariants.{White};
 ghost use Rattle.egt_class.specs.Material.{material_of};
-ghost use Rattle.egt_index.specs.Code.{Spells};
-ghost use Rattle.egt_index.specs.Front.{IsFront, TellsLast};
+ghost use Rattle.egt_index.specs.Front.{IsFront};
 ghost use Rattle.egt_index.specs.Home.{symmetries};
-ghost use Rattle.egt_index.specs.Scales.{kind_digits, kind_less};
-ghost use Rattle.egt_index.specs.Shelf.{last_of, shelf_len};
-ghost use Rattle.egt_index.specs.ShelfCodes.{AreMenOf, ArePositions, IsShelf, IsWithin, SpellsNothing, moved_men, turned_men};
-ghost use Rattle.egt_index.specs.Size.{has_pawns, has_target, men_beside};
-ghost use Rattle.egt_index.specs.Row.{row_len};
+ghost use Rattle.egt_index.specs.Scales.{kind_less};
+ghost use Rattle.egt_index.specs.Shelf.{last_of};
+ghost use Rattle.egt_index.specs.ShelfCodes.{AreMenOf, ArePositions, IsShelf, IsShelfOf, IsWithin, SpellsNothing, moved_men, turned_men};
+ghost use Rattle.egt_index.specs.Size.{has_pawns, men_beside};
 ghost use Rattle.egt_index.specs.Went.{moved_square};
-ghost use Rattle.egt_index.specs.Stood.{AllApart, Entry, list_of, with_last};
 
 use crate::digits::king_digit;
 use crate::front::Front;
 use crate::home::home;
 use crate::men::{beside, has_pawns};
-use crate::places::{Places, places_of};
-use crate::shelf::shelf_len;
-use crate::sizes::size;
+use crate::numbers::{front_number, shelf_behind};
+use crate::passed::may_pass;
+use crate::places::{Places, settled_places};
+use crate::shelf::digits_of;
 use crate::spelling::{board_of, stand_before};
 use crate::stand::{are_apart, are_kings_near};
 use crate::turning::turned_square;
@@ -69,26 +63,15 @@ fn digit_on(man: Man, square: Square) -> Option<u32>
     }
 }
 
-/// How many digits a man beside the white king has.
-fn digits_of(man: Man) -> u32
-    ensures is { result ≡ kind_digits man.kind }
-    ensures few { result < 65 }
-{
-    match man.kind {
-        Kind::P => 48,
-        _ => 64,
-    }
-}
-
 /// The men of the shelf with this number, of a class with two men beside the kings. `None` of other classes, and past the last shelf.
 pub fn shelf_men(class: Class, shelf: u32) -> Option<ShelfMen>
-    requires { has_target (material_of class) ≡ false }
     ensures { IfSome result (IsShelf class shelf) }
 {
     let _number = class.number();
     let (_, last) = beside(class);
     let last = last?;
-    let stand = stand_before(class, shelf)?;
+    let (front, _) = front_number(class, shelf)?;
+    let stand = stand_before(class, front)?;
     let (one, on) = stand.next?;
     Some(ShelfMen {
         white: stand.white,
@@ -99,12 +82,11 @@ pub fn shelf_men(class: Class, shelf: u32) -> Option<ShelfMen>
     })
 }
 
-/// The number of the shelf with these men. `None` where the white king is not at home, a pawn stands on the first rank or the last, and past the last
-/// shelf.
-pub fn shelf_of(class: Class, men: &ShelfMen) -> Option<u32>
-    requires targets { has_target (material_of class) ≡ false }
+/// The number of the shelf with these men, of positions with a target where one was passed. `None` where the white king is not at home, a pawn stands on
+/// the first rank or the last, and where the class has no targets but one was passed.
+pub fn shelf_of(class: Class, men: &ShelfMen, passed: bool) -> Option<u32>
     requires men { AreMenOf class men.now }
-    ensures shelf { IfSome result (λ shelf. IsShelf class shelf men.now) }
+    ensures shelf { IfSome result (λ shelf. IsShelfOf passed class shelf men.now) }
     ensures within { IfSome result (IsWithin class) }
 {
     let _number = class.number();
@@ -113,12 +95,8 @@ pub fn shelf_of(class: Class, men: &ShelfMen) -> Option<u32>
     let high = king_digit(has_pawns(class), men.white)?;
     let digit = digit_on(men.one, men.on)?;
     let kings = u32::from(high) * 64 + u32::from(men.black.number());
-    let shelf = kings * digits_of(men.one) + digit;
-    if shelf < size(class) / shelf_len(class) {
-        Some(shelf)
-    } else {
-        None
-    }
+    let front = kings * digits_of(men.one) + digit;
+    shelf_behind(class, front, passed)
 }
 
 /// A symmetry that keeps the class's play and brings the white king home, by its number.
@@ -180,20 +158,22 @@ fn spelled_front(class: Class, shelf: u32) -> Option<Front>
     })
 }
 
-/// Which codes of the shelf spell positions: bit `k` is of the code with the last man's digit `k`.
+/// Which numbers of the shelf stand for settled positions: bit `k` is of the number with the last man's digit `k`. None past the last shelf.
 pub fn positions_of(class: Class, shelf: u32) -> Places
-    requires targets { has_target (material_of class) ≡ false }
     requires last { (man : Man) × (last_of (men_beside (material_of class)) ≡ Some man) }
     ensures { ArePositions class shelf result }
 {
     let _number = class.number();
     let (_, last) = beside(class);
     let man = last.unwrap();
-    let Some(front) = spelled_front(class, shelf) else {
+    let Some((number, passed)) = front_number(class, shelf) else {
         return Places::default();
     };
-    Places {
-        white: places_of(&front, man, Side::White),
-        black: places_of(&front, man, Side::Black),
+    if passed && !may_pass(class, number) {
+        return Places::default();
     }
+    let Some(front) = spelled_front(class, number) else {
+        return Places::default();
+    };
+    settled_places(class, &front, man, passed)
 }

@@ -327,27 +327,26 @@ pub fn frame_at(class: Class, index: u32) -> (Frame, bool)
     (Frame::with_total(class, &stand, side, total), passed)
 }
 
-/// Where the men stand of the position that the code of a class without targets spells, and the side to move.
-fn spelled_stand(class: Class, code: u32) -> (Stand, Side)
-    requires targets { has_target (material_of class) ≡ false }
-    requires spells { (p : Setup) × Spells class code p }
-    ensures tells { TellsMen class code result.0 result.1 }
-    ensures home { IsAtHome (has_pawns (material_of class)) result.0.white }
+/// Where the men stand of the position that the code spells, the side to move, and whether there is a target.
+fn spelled_stand(class: Class, code: u32) -> (Stand, Side, bool)
+    requires { (p : Setup) × Spells class code p }
+    ensures tells { TellsMen result.2 class code result.0 result.1 }
+    ensures pawns { result.2 ≡ true → HasPawns (list_of result.0) }
 {
     let _number = class.number();
-    let (number, side, _passed) = ends(class, code);
+    let (number, side, passed) = ends(class, code);
     let stand = stand_on(class, number).unwrap();
-    (stand, side)
+    (stand, side, passed)
 }
 
-/// The position that the code of a class without targets spells, where the caller knows that it spells one.
+/// The position that the code spells, where the caller knows that it spells one.
 pub fn spelled_position(class: Class, code: u32) -> Position
-    requires targets { has_target (material_of class) ≡ false }
-    requires spells { (p : Setup) × Spells class code p }
+    requires { (p : Setup) × Spells class code p }
     ensures { Spells class code result }
 {
     let _number = class.number();
-    let (stand, side) = spelled_stand(class, code);
+    let (stand, side, passed) = spelled_stand(class, code);
+    let target = target_of(side, passed, &stand);
     let board = board_of(&stand);
-    Position::with_kings(board, side, None, stand.white, stand.black)
+    Position::with_kings(board, side, target, stand.white, stand.black)
 }

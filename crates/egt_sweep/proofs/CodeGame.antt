@@ -1,4 +1,4 @@
--- The game over the codes of a class stands for that over its indexes.
+-- The game over the numbers of a class stands for that over its indexes.
 use Rattle.std.proofs.Common.{◌≡◌, ℕ, ◌<◌, ◌⊎◌, ◌↔◌, ◌&&◌, ◌||◌, not, Bool, true, false, eqb, Option, Some, None, Contains, refl, sym, ap, ◌∙◌, subst, inl, inr, arith}
 use Rattle.std.proofs.Math.Bool.{Bool-set}
 use Rattle.std.proofs.Math.Logic.{⊎_elim, ∥∥₁_elim}
@@ -11,9 +11,9 @@ use Rattle.egt_board.specs.Images.{AreImages}
 use Rattle.egt_board.specs.Setup.{Setup, IsAdmissible}
 use Rattle.egt_class.specs.Membership.{IsOf}
 use Rattle.egt_index.specs.Code.{Spells}
+use Rattle.egt_index.specs.Numbers.{IsNumbered, code_of}
 use Rattle.egt_index.specs.Index.{IsIndex, IsVoid}
 use Rattle.egt_index.specs.Size.{size_of}
-use Rattle.egt_index.proofs.Coding.{code_below}
 use Rattle.egt_moves.specs.Chess.{IsPawnOn, Zeroes}
 use Rattle.egt_moves.specs.DecidedMoves.{decided_zeroes}
 use Rattle.egt_moves.specs.Exchange.{Captures}
@@ -29,19 +29,12 @@ use Rattle.egt_check.specs.Alike.{StepAlike}
 use Rattle.egt_check.specs.Tables.{Tables}
 use Rattle.egt_words.specs.Told.{Advances, Quietly}
 use Rattle.egt_sweep.specs.ClassGame.{class_game, stuck_edge}
-use Rattle.egt_sweep.specs.CodeGame.{CodeMoves, TellsGame, code_game, goes_by, index_from, index_of, is_mate, leads_by, number_or}
+use Rattle.egt_sweep.specs.CodeGame.{CodeMoves, TellsGame, code_game, goes_by, index_from, index_of, is_mate, leads_by, number_or, numbered}
 use Rattle.egt_sweep.specs.Edges.{Connects, GoesOn, IsAt}
 use Rattle.egt_sweep.specs.Laws.{Laws}
-use Rattle.egt_sweep.specs.Nodes.{connects, position_at, spelled}
-use Rattle.egt_sweep.proofs.Linked.{connects_is, index_is, spelled_is, there_is}
-
-spelled_some : (o : Option Setup) → is_some o ≡ true → (p : Setup) × (o ≡ Some p)
-spelled_some None t = absurd (false≢true t)
-spelled_some (Some p) t = (p, refl)
-
-not_not : (b : Bool) → not b ≡ false → b ≡ true
-not_not true t = refl
-not_not false t = absurd (false≢true (sym t))
+use Rattle.egt_sweep.specs.Nodes.{connects, position_at}
+use Rattle.egt_sweep.proofs.Linked.{connects_is, index_is, there_is}
+use Rattle.egt_sweep.proofs.Numbered.{node_told, number_below, numbered_is, some_numbered, told_node}
 
 pub or_either : (a b : Bool) → (a || b) ≡ true → (a ≡ true) ⊎ (b ≡ true)
 or_either true b t = inl refl
@@ -75,23 +68,23 @@ module _ (laws : Laws) (c : ℕ) (c_in : c < 36) where
       let turned = laws.facts.image_class p q c flipped ok images is_of in
       laws.facts.some_index q c turned.0 c_in (laws.facts.image_admissible p q ok images) turned.1
 
-  -- the index of what a code spells
-  pub index_at : (i : ℕ) (p : Setup) → Spells c i p → IsIndex c p (index_of c i)
+  -- the index of the position for which a number stands
+  pub index_at : (i : ℕ) (p : Setup) → IsNumbered c i p → IsIndex c p (index_of c i)
   unfolding index_of
   index_at i p spells =
-      let is_of = laws.facts.spelled_class c i p spells in
-      let found = laws.facts.some_index p c is_of.0 c_in spells.admissible is_of.1 in
+      let is_of = laws.facts.spelled_class c (code_of c i) p spells.spells in
+      let found = laws.facts.some_index p c is_of.0 c_in spells.spells.admissible is_of.1 in
       subst (IsIndex c p)
-      (sym (ap (index_from c i) ((spelled_is laws c i p).1 spells) ∙ ap (number_or i) ((index_is laws c found.0 p spells.admissible).1 found.1))) found.1
+      (sym (ap (index_from c i) ((numbered_is laws c i p).1 spells) ∙ ap (number_or i) ((index_is laws c found.0 p spells.spells.admissible).1 found.1))) found.1
 
-  -- the position for which the code stands
-  pub stood_for : (i : ℕ) (p : Setup) → Spells c i p → (p' : Setup) × IsAt c (index_of c i) p' × StepAlike p p'
+  -- the position of that index
+  pub stood_for : (i : ℕ) (p : Setup) → IsNumbered c i p → (p' : Setup) × IsAt c (index_of c i) p' × StepAlike p p'
   stood_for i p spells =
       let index = index_at i p spells in
       ⊎_elim
       (λ (h : (p' : Setup) × Spells c (index_of c i) p' × IsIndex c p' (index_of c i)).
-      (h.0, record { spells = h.1; index = h.2 }, laws.plays_alike p h.0 c (index_of c i) spells.admissible index h.1))
-      (λ (void : IsVoid c (index_of c i)). absurd (void p spells.admissible index)) (laws.index_or_void c (index_of c i) c_in)
+      (h.0, record { spells = h.1; index = h.2 }, laws.plays_alike p h.0 c (index_of c i) spells.spells.admissible index h.1))
+      (λ (void : IsVoid c (index_of c i)). absurd (void p spells.spells.admissible index)) (laws.index_or_void c (index_of c i) c_in)
 
   -- what stays in the class and zeroes is a pawn's move
   pub pawns : (p q : Setup) (m : Move) (j : ℕ) → IsAdmissible p → (flipped : Bool) × IsOf c flipped p → Leads p m q → IsIndex c q j → Zeroes p m → IsPawnOn p.men m.from
@@ -126,23 +119,14 @@ module _ (laws : Laws) (c : ℕ) (c_in : c < 36) where
     h : Graph
     h = class_game tables column c
 
-    -- the position of a node
-    pub node_spells : (i : ℕ) → not (is_some (spelled c i)) ≡ false → (p : Setup) × Spells c i p
-    node_spells i void =
-        let some = spelled_some (spelled c i) (not_not (is_some (spelled c i)) void) in
-        (some.0, (spelled_is laws c i some.0).0 some.1)
-
-    pub spells_node : (i : ℕ) (p : Setup) → Spells c i p → is_some (spelled c i) ≡ true
-    spells_node i p spells = ap is_some ((spelled_is laws c i p).1 spells)
-
-    -- from the codes of p and r to what stands for them
-    module _ (i j : ℕ) (p r : Setup) (here : Spells c i p) (there : Spells c j r) where
+    -- from the numbers of p and r to what stands for them
+    module _ (i j : ℕ) (p r : Setup) (here : IsNumbered c i p) (there : IsNumbered c j r) where
       connects_by : (m : Move) (q : Setup) → Leads p m q → (IsIndex c q (index_of c j)) → ((m' : Move) (p' q' : Setup) → (Zeroes p m ↔ Zeroes p' m') → Leads p' m' q' → IsIndex c q' (index_of c j) → GoesOn column c p' m' q')
           → Connects column c (index_of c i) (index_of c j)
       connects_by m q leads index on =
           let (p', at, alike) = stood_for i p here in
           let (q', (m', leads'), zeroes, images) = alike.there q (m, leads) in
-          let q_ok = laws.facts.step_admissible p q m here.admissible leads in
+          let q_ok = laws.facts.step_admissible p q m here.spells.admissible leads in
           let is_of = laws.indexed_class q c (index_of c j) q_ok index in
           let (k, index') = image_has q q' is_of.0 q_ok images is_of.1 in
           let there' = subst (IsIndex c q') (sym (image_index q q' (index_of c j) k q_ok images index index')) index' in
@@ -151,11 +135,11 @@ module _ (laws : Laws) (c : ℕ) (c_in : c < 36) where
       -- a quiet move
       by_quiet : Quietly p r → ((column' : Column) → column' ≡ column → Connects column c (index_of c i) (index_of c j))
       by_quiet quiet = λ column' is.
-          let q_ok = laws.facts.step_admissible p quiet.to quiet.move here.admissible quiet.leads in
+          let q_ok = laws.facts.step_admissible p quiet.to quiet.move here.spells.admissible quiet.leads in
           let back = laws.facts.images_back quiet.to r q_ok quiet.image in
-          let is_of = laws.facts.spelled_class c j r there in
-          let (k, index) = image_has r quiet.to is_of.0 there.admissible back is_of.1 in
-          let same = image_index r quiet.to (index_of c j) k there.admissible back (index_at j r there) index in
+          let is_of = laws.facts.spelled_class c (code_of c j) r there.spells in
+          let (k, index) = image_has r quiet.to is_of.0 there.spells.admissible back is_of.1 in
+          let same = image_index r quiet.to (index_of c j) k there.spells.admissible back (index_at j r there) index in
           let index' = subst (IsIndex c quiet.to) (sym same) index in
           connects_by quiet.move quiet.to quiet.leads index' (λ m' p' q' zeroes leads' there'. goes column m' p' q' zeroes there')
         where
@@ -166,28 +150,26 @@ module _ (laws : Laws) (c : ℕ) (c_in : c < 36) where
       -- a pawn's
       by_pawn : Advances p r → column ≡ Mate → Connects column c (index_of c i) (index_of c j)
       by_pawn pawn is =
-          let p_of = laws.facts.spelled_class c i p here in
-          let q_ok = laws.facts.step_admissible p pawn.to pawn.move here.admissible pawn.leads in
-          let q_of = laws.quiet_class p pawn.to pawn.move c p_of.0 here.admissible p_of.1 pawn.leads pawn.still pawn.plain in
+          let p_of = laws.facts.spelled_class c (code_of c i) p here.spells in
+          let q_ok = laws.facts.step_admissible p pawn.to pawn.move here.spells.admissible pawn.leads in
+          let q_of = laws.quiet_class p pawn.to pawn.move c p_of.0 here.spells.admissible p_of.1 pawn.leads pawn.still pawn.plain in
           let (k, index) = laws.facts.some_index pawn.to c p_of.0 c_in q_ok q_of in
-          let same = (laws.facts.like_index pawn.to r c k (index_of c j) q_ok there.admissible index (index_at j r there)).1 pawn.image in
+          let same = (laws.facts.like_index pawn.to r c k (index_of c j) q_ok there.spells.admissible index (index_at j r there)).1 pawn.image in
           connects_by pawn.move pawn.to pawn.leads (subst (IsIndex c pawn.to) same index)
           (λ m' p' q' zeroes leads' there'. subst (λ (col : Column). GoesOn col c p' m' q') (sym is) (index_of c j, there'))
 
-    moved : (i j : ℕ) → leads_by column c moves i j ≡ true → (is_mate c i ≡ false) × ((p : Setup) × Spells c i p) × ((r : Setup) × Spells c j r) × (goes_by column moves i j ≡ true)
+    moved : (i j : ℕ) → leads_by column c moves i j ≡ true → (is_mate c i ≡ false) × ((p : Setup) × IsNumbered c i p) × ((r : Setup) × IsNumbered c j r) × (goes_by column moves i j ≡ true)
     moved i j t =
-        let first = and_parts (not (is_mate c i)) (is_some (spelled c i) && (is_some (spelled c j) && goes_by column moves i j)) t in
-        let second = and_parts (is_some (spelled c i)) (is_some (spelled c j) && goes_by column moves i j) first.1 in
-        let third = and_parts (is_some (spelled c j)) (goes_by column moves i j) second.1 in
-        let here = spelled_some (spelled c i) second.0 in
-        let there = spelled_some (spelled c j) third.0 in
-        (no (is_mate c i) first.0, (here.0, (spelled_is laws c i here.0).0 here.1), (there.0, (spelled_is laws c j there.0).0 there.1), third.1)
+        let first = and_parts (not (is_mate c i)) (is_some (numbered c i) && (is_some (numbered c j) && goes_by column moves i j)) t in
+        let second = and_parts (is_some (numbered c i)) (is_some (numbered c j) && goes_by column moves i j) first.1 in
+        let third = and_parts (is_some (numbered c j)) (goes_by column moves i j) second.1 in
+        (no (is_mate c i) first.0, some_numbered laws c i second.0, some_numbered laws c j third.0, third.1)
       where
         no : (b : Bool) → not b ≡ true → b ≡ false
         no true t = absurd (false≢true t)
         no false t = refl
 
-    connected : (i j : ℕ) (p r : Setup) → Spells c i p → Spells c j r → (col : Column) → col ≡ column → goes_by col moves i j ≡ true → Connects column c (index_of c i) (index_of c j)
+    connected : (i j : ℕ) (p r : Setup) → IsNumbered c i p → IsNumbered c j r → (col : Column) → col ≡ column → goes_by col moves i j ≡ true → Connects column c (index_of c i) (index_of c j)
     connected i j p r here there Mate is t = elim (or_either (moves.quiet i j) (moves.pawn i j) t) [
       | inl quiet ↦ by_quiet i j p r here there (tells.quiet i j p r here quiet there) column refl
       | inr pawn ↦ by_pawn i j p r here there (tells.pawn i j p r here pawn there) (sym is)
@@ -195,7 +177,7 @@ module _ (laws : Laws) (c : ℕ) (c_in : c < 36) where
     connected i j p r here there Zeroing is t = by_quiet i j p r here there (tells.quiet i j p r here t there) column refl
 
     -- what a connection is told by
-    told_by : (i k : ℕ) (p : Setup) → Spells c i p → (col : Column) → col ≡ column → Connects column c (index_of c i) k → (j : ℕ) × ((r : Setup) × Spells c j r) × (goes_by col moves i j ≡ true) × (index_of c j ≡ k)
+    told_by : (i k : ℕ) (p : Setup) → IsNumbered c i p → (col : Column) → col ≡ column → Connects column c (index_of c i) k → (j : ℕ) × ((r : Setup) × IsNumbered c j r) × (goes_by col moves i j ≡ true) × (index_of c j ≡ k)
     told_by i k p here col is edge = of_zeroing (decided_zeroes p step.1.0)
       where
         stood : (p' : Setup) × IsAt c (index_of c i) p' × StepAlike p p'
@@ -211,7 +193,7 @@ module _ (laws : Laws) (c : ℕ) (c_in : c < 36) where
         to_ok = laws.facts.step_admissible edge.from edge.to edge.move edge.at.spells.admissible edge.leads
 
         q_ok : IsAdmissible step.0
-        q_ok = laws.facts.step_admissible p step.0 step.1.0 here.admissible step.1.1
+        q_ok = laws.facts.step_admissible p step.0 step.1.0 here.spells.admissible step.1.1
 
         index : IsIndex c step.0 k
         index =
@@ -220,14 +202,14 @@ module _ (laws : Laws) (c : ℕ) (c_in : c < 36) where
             subst (IsIndex c step.0) (sym (image_index edge.to step.0 k n to_ok step.3 edge.index other)) other
 
         is_of : (flipped : Bool) × IsOf c flipped p
-        is_of = laws.facts.spelled_class c i p here
+        is_of = laws.facts.spelled_class c (code_of c i) p here.spells
 
-        by_pawn_there : (col' : Column) → col' ≡ column → GoesOn column c edge.from edge.move edge.to → Zeroes p step.1.0 → (j : ℕ) × ((r : Setup) × Spells c j r) × (goes_by col' moves i j ≡ true) × (index_of c j ≡ k)
+        by_pawn_there : (col' : Column) → col' ≡ column → GoesOn column c edge.from edge.move edge.to → Zeroes p step.1.0 → (j : ℕ) × ((r : Setup) × IsNumbered c j r) × (goes_by col' moves i j ≡ true) × (index_of c j ≡ k)
         by_pawn_there Mate same on zeroes =
-            let plain = stays_plain p step.0 step.1.0 k is_of.0 here.admissible is_of.1 step.1.1 index in
-            let pawn = pawns p step.0 step.1.0 k here.admissible is_of step.1.1 index zeroes in
+            let plain = stays_plain p step.0 step.1.0 k is_of.0 here.spells.admissible is_of.1 step.1.1 index in
+            let pawn = pawns p step.0 step.1.0 k here.spells.admissible is_of step.1.1 index zeroes in
             let (j, goes, (r, there, alike)) = tells.all_pawn i p step.0 step.1.0 here step.1.1 pawn plain.0 plain.1 in
-            (j, (r, there), either_or (moves.quiet i j) (moves.pawn i j) (inr goes), sym ((laws.facts.like_index step.0 r c k (index_of c j) q_ok there.admissible index (index_at j r there)).1 alike))
+            (j, (r, there), either_or (moves.quiet i j) (moves.pawn i j) (inr goes), sym ((laws.facts.like_index step.0 r c k (index_of c j) q_ok there.spells.admissible index (index_at j r there)).1 alike))
         by_pawn_there Zeroing same on zeroes =
             let quiet : ¬ Zeroes edge.from edge.move = subst (λ (x : Column). GoesOn x c edge.from edge.move edge.to) (sym same) on in
             absurd (quiet (subst (λ (x : Setup). Zeroes x edge.move) (sym from_is) (step.2.1 zeroes)))
@@ -236,7 +218,7 @@ module _ (laws : Laws) (c : ℕ) (c_in : c < 36) where
         goes_on Mate j goes = either_or (moves.quiet i j) (moves.pawn i j) (inl goes)
         goes_on Zeroing j goes = goes
 
-        of_zeroing : Decided (Zeroes p step.1.0) → (j : ℕ) × ((r : Setup) × Spells c j r) × (goes_by col moves i j ≡ true) × (index_of c j ≡ k)
+        of_zeroing : Decided (Zeroes p step.1.0) → (j : ℕ) × ((r : Setup) × IsNumbered c j r) × (goes_by col moves i j ≡ true) × (index_of c j ≡ k)
         of_zeroing (inl zeroes) = by_pawn_there col is edge.on zeroes
         of_zeroing (inr quiet) =
             let (j, goes, (r, there, images)) = tells.all_quiet i p step.0 step.1.0 here step.1.1 quiet in
@@ -246,7 +228,7 @@ module _ (laws : Laws) (c : ℕ) (c_in : c < 36) where
     unfolding g h
     stands_for = record {
       node = λ i node.
-          let (p, spells) = node_spells i node.not_void in
+          let (p, spells) = node_told laws c i node.not_void in
           let (p', at, alike) = stood_for i p spells in
           record { in_range = laws.facts.index_below p' c (index_of c i) at.index; not_void = ap not (there_is laws c (index_of c i) p' at) };
       mated = λ i node. refl;
@@ -256,12 +238,12 @@ module _ (laws : Laws) (c : ℕ) (c_in : c < 36) where
           passing_has (size_of c) (λ k. connects column c (index_of c i) k) (index_of c j) (laws.facts.index_below r c (index_of c j) (index_at j r there))
           ((connects_is laws column c (index_of c i) (index_of c j) c_in).1 (connected i j p r here there column refl goes));
       back = λ i k node edge.
-          let (p, here) = node_spells i node.not_void in
+          let (p, here) = node_told laws c i node.not_void in
           let t = passing_passes (size_of c) (λ n. connects column c (index_of c i) n) k edge in
           let (j, (r, there), goes, is) = told_by i k p here column refl ((connects_is laws column c (index_of c i) k c_in).0 t) in (
             j,
-            passing_has (size_of c) (λ n. leads_by column c moves i n) j (code_below c j r there)
-                (all_of (is_mate c i) (is_some (spelled c i)) (is_some (spelled c j)) (goes_by column moves i j) (alive i k t) (spells_node i p here) (spells_node j r there) goes),
+            passing_has (size_of c) (λ n. leads_by column c moves i n) j (number_below laws c c_in j r there)
+                (all_of (is_mate c i) (is_some (numbered c i)) (is_some (numbered c j)) (goes_by column moves i j) (alive i k t) (told_node laws c i p here) (told_node laws c j r there) goes),
             is,
           );
       exits = λ i node test. refl;

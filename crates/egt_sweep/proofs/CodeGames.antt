@@ -1,5 +1,5 @@
--- The games over the codes of a class, by words.
-use Rattle.std.proofs.Common.{◌≡◌, ℕ, ◌<◌, ◌⊎◌, ◌↔◌, ◌&&◌, not, Bool, true, false, List, [], Option, Some, None, Contains, refl, sym, ap, ◌∙◌, subst, inl, inr}
+-- The games over the numbers of a class, by words.
+use Rattle.std.proofs.Common.{◌≡◌, ℕ, ◌<◌, ◌⊎◌, ◌↔◌, ◌&&◌, not, Bool, true, false, List, [], Option, Some, Contains, refl, sym, ap, ◌∙◌, subst, inl, inr}
 use Rattle.std.proofs.Math.Bool.{Bool-set}
 use Rattle.std.proofs.Math.Logic.{∥∥₁_elim}
 use Rattle.std.proofs.Math.Nat.{ℕ_set}
@@ -10,9 +10,7 @@ use Rattle.std.specs.Int.{bit_at}
 use Rattle.std.specs.Option.{is_some}
 use Rattle.egt_board.specs.Decided.{tells_so}
 use Rattle.egt_board.specs.Setup.{Setup}
-use Rattle.egt_index.specs.Code.{Spells}
 use Rattle.egt_index.specs.Size.{size_of}
-use Rattle.egt_index.proofs.Coding.{code_below}
 use Rattle.egt_moves.specs.DecidedMoves.{decided_checkmate}
 use Rattle.egt_moves.specs.Standing.{IsCheckmate}
 use Rattle.egt_graph.specs.Graph.{IsNode}
@@ -24,18 +22,20 @@ use Rattle.egt_graph.specs.declared.word_moves.Way.{Way}
 use Rattle.egt_table.specs.declared.column.Column.{Column}
 use Rattle.egt_table.specs.declared.column.Column.TheVariants.{Mate, Zeroing}
 use Rattle.egt_check.specs.Tables.{Tables}
-use Rattle.egt_words.specs.Told.{GoesByPawnBy, GoesQuietlyBy, TellsLists, places}
+use Rattle.egt_index.specs.Numbers.{IsNumbered, code_of, places}
+use Rattle.egt_words.specs.Told.{GoesByPawnBy, GoesQuietlyBy, TellsLists}
 use Rattle.egt_words.specs.declared.roaming.Roaming.{Roaming}
-use Rattle.egt_sweep.specs.CodeGame.{CodeMoves, TellsGame, code_game, goes_by, index_of, is_mate, leads_by}
+use Rattle.egt_sweep.specs.CodeGame.{CodeMoves, TellsGame, code_game, goes_by, index_of, is_mate, leads_by, numbered}
 use Rattle.egt_sweep.specs.CodeLists.{GoesWith, IsTold, moves_told, nodes_at, pawn_ways_at, pushes_at, roams_at, staying_at, turned_at, ways_at}
 use Rattle.egt_sweep.specs.CodeTests.{pawn_test, quiet_test}
 use Rattle.egt_sweep.specs.Laws.{Laws}
-use Rattle.egt_sweep.specs.Nodes.{exits_at, is_mated, position_at, spelled}
+use Rattle.egt_sweep.specs.Nodes.{exits_at, is_mated, position_at}
 use Rattle.egt_sweep.specs.declared.code_words.CodeLists.{CodeLists}
 use Rattle.egt_sweep.proofs.CodeGame.{all_of, either_or, or_either, stood_for}
 use Rattle.egt_sweep.proofs.CodeLists.{told_game}
 use Rattle.egt_sweep.proofs.CodeTests.{pawn_is, quiet_is}
-use Rattle.egt_sweep.proofs.Linked.{position_is, spelled_is}
+use Rattle.egt_sweep.proofs.Linked.{position_is}
+use Rattle.egt_sweep.proofs.Numbered.{node_told, number_below, some_numbered, told_node}
 use Rattle.egt_sweep.proofs.CodeStarts.{no_exits, start_prop, tells_none}
 
 -- in the game of mates a pawn's moves go on too
@@ -62,14 +62,14 @@ module _ (laws : Laws) (c : ℕ) (lists : CodeLists) (told : IsTold c lists) whe
   moves = moves_told c lists
 
   game : ∥ TellsGame c moves ∥₁
-  game = told_game c lists told
+  game = told_game laws c lists told
 
   word_lists : (word : ℕ) → word < words_of (places c) (size_of c)
       → ∥ TellsLists c word (nodes_at lists word) (staying_at lists word) (ways_at lists word) (turned_at lists word) (pawn_ways_at lists word) (pushes_at lists word) (roams_at lists word) ∥₁
   word_lists word lt = (told.holds.each word lt).tells
 
   -- a position from which a told move leads is no checkmate
-  alive : (i j : ℕ) (column : Column) → is_some (spelled c i) ≡ true → is_some (spelled c j) ≡ true → goes_by column moves i j ≡ true → is_mate c i ≡ false
+  alive : (i j : ℕ) (column : Column) → is_some (numbered c i) ≡ true → is_some (numbered c j) ≡ true → goes_by column moves i j ≡ true → is_mate c i ≡ false
   alive i j column here there goes = ∥∥₁_elim game (Bool-set (is_mate c i) false) (λ tells. elim (cases_Bool (is_mate c i)) [
     | inr f ↦ f
     | inl mate ↦ absurd (stuck tells mate)
@@ -78,29 +78,22 @@ module _ (laws : Laws) (c : ℕ) (lists : CodeLists) (told : IsTold c lists) whe
       stuck : TellsGame c moves → is_mate c i ≡ true → ⊥
       stuck tells mate = of_column column goes
         where
-          some : (o : Option Setup) → is_some o ≡ true → (p : Setup) × (o ≡ Some p)
-          some None t = absurd (false≢true t)
-          some (Some p) t = (p, refl)
+          p : (p : Setup) × IsNumbered c i p
+          p = some_numbered laws c i here
 
-          p : (p : Setup) × (spelled c i ≡ Some p)
-          p = some (spelled c i) here
-
-          r : (r : Setup) × (spelled c j ≡ Some r)
-          r = some (spelled c j) there
-
-          spells : Spells c i p.0
-          spells = (spelled_is laws c i p.0).0 p.1
+          r : (r : Setup) × IsNumbered c j r
+          r = some_numbered laws c j there
 
           mated : IsCheckmate p.0
           mated =
-              let (p', at, alike) = stood_for laws c c_in i p.0 spells in
+              let (p', at, alike) = stood_for laws c c_in i p.0 p.1 in
               alike.checkmate.1 (mated_told (position_at c (index_of c i)) p' ((position_is laws c (index_of c i) p').1 at) mate)
 
           of_column : (column : Column) → goes_by column moves i j ≡ true → ⊥
-          of_column Zeroing t = let quiet = tells.quiet i j p.0 r.0 spells t ((spelled_is laws c j r.0).0 r.1) in mated.stuck quiet.move (quiet.to, quiet.leads)
+          of_column Zeroing t = let quiet = tells.quiet i j p.0 r.0 p.1 t r.1 in mated.stuck quiet.move (quiet.to, quiet.leads)
           of_column Mate t = elim (or_either (moves.quiet i j) (moves.pawn i j) t) [
-            | inl q ↦ let quiet = tells.quiet i j p.0 r.0 spells q ((spelled_is laws c j r.0).0 r.1) in mated.stuck quiet.move (quiet.to, quiet.leads)
-            | inr w ↦ let pawn = tells.pawn i j p.0 r.0 spells w ((spelled_is laws c j r.0).0 r.1) in mated.stuck pawn.move (pawn.to, pawn.leads)
+            | inl q ↦ let quiet = tells.quiet i j p.0 r.0 p.1 q r.1 in mated.stuck quiet.move (quiet.to, quiet.leads)
+            | inr w ↦ let pawn = tells.pawn i j p.0 r.0 p.1 w r.1 in mated.stuck pawn.move (pawn.to, pawn.leads)
           ]
 
   module _ (word k : ℕ) (k_in : k < places c) where
@@ -149,13 +142,13 @@ module _ (laws : Laws) (c : ℕ) (lists : CodeLists) (told : IsTold c lists) whe
         let (k_in, node) = asked_nodes k bit in
         let there = marked j is in
         let t = goes_there word k k_in column j goes in
-        let here = not_not (is_some (spelled c (number_at (places c) word k))) node.not_void in
-        let has = not_not (is_some (spelled c j)) there.not_void in (
+        let here = not_not (is_some (numbered c (number_at (places c) word k))) node.not_void in
+        let has = not_not (is_some (numbered c j)) there.not_void in (
           bit,
           (
             j,
             passing_has (size_of c) (λ n. leads_by column c moves (number_at (places c) word k) n) j there.in_range
-                (all_of (is_mate c (number_at (places c) word k)) (is_some (spelled c (number_at (places c) word k))) (is_some (spelled c j)) (goes_by column moves (number_at (places c) word k) j)
+                (all_of (is_mate c (number_at (places c) word k)) (is_some (numbered c (number_at (places c) word k))) (is_some (numbered c j)) (goes_by column moves (number_at (places c) word k) j)
                 (alive (number_at (places c) word k) j column here has t) here has t),
             is,
           ),
@@ -173,9 +166,9 @@ module _ (laws : Laws) (c : ℕ) (lists : CodeLists) (told : IsTold c lists) whe
 
       goes_of : (i j : ℕ) → leads_by column c moves i j ≡ true → goes_by column moves i j ≡ true
       goes_of i j t =
-          let first = and_parts (not (is_mate c i)) (is_some (spelled c i) && (is_some (spelled c j) && goes_by column moves i j)) t in
-          let second = and_parts (is_some (spelled c i)) (is_some (spelled c j) && goes_by column moves i j) first.1 in
-          (and_parts (is_some (spelled c j)) (goes_by column moves i j) second.1).1
+          let first = and_parts (not (is_mate c i)) (is_some (numbered c i) && (is_some (numbered c j) && goes_by column moves i j)) t in
+          let second = and_parts (is_some (numbered c i)) (is_some (numbered c j) && goes_by column moves i j) first.1 in
+          (and_parts (is_some (numbered c j)) (goes_by column moves i j) second.1).1
 
   -- the same, told of the word's moves under other names
   pub codes_lead_by : (tables : Tables) (column : Column) (word asked result : ℕ) (marks : List ℕ)
@@ -203,19 +196,12 @@ module _ (laws : Laws) (c : ℕ) (lists : CodeLists) (told : IsTold c lists) whe
   code_nodes tables column word lt k = ∥∥₁_elim (word_lists word lt) prop (λ tells. (
     λ one.
         let (k_in, (p, spells)) = (tells.nodes_are k).0 one in
-        (k_in, record { in_range = code_below c (number_at (places c) word k) p spells; not_void = ap not (ap is_some ((spelled_is laws c (number_at (places c) word k) p).1 spells)) }),
-    λ h. (tells.nodes_are k).1 (h.0, spelled_node (number_at (places c) word k) h.1.not_void),
+        (k_in, record { in_range = number_below laws c c_in (number_at (places c) word k) p spells; not_void = ap not (told_node laws c (number_at (places c) word k) p spells) }),
+    λ h. (tells.nodes_are k).1 (h.0, node_told laws c (number_at (places c) word k) h.1.not_void),
   ))
     where
       prop : IsProp (bit_at (nodes_at lists word) k ≡ 1 ↔ ((k < places c) × IsNode (code_game tables column c moves) (number_at (places c) word k)))
       prop = hlevel (props, ℕ_set, Bool-set)
-
-      spelled_node : (i : ℕ) → not (is_some (spelled c i)) ≡ false → (p : Setup) × Spells c i p
-      spelled_node i void = of_some (spelled c i) refl void
-        where
-          of_some : (o : Option Setup) → spelled c i ≡ o → not (is_some o) ≡ false → (p : Setup) × Spells c i p
-          of_some None is t = absurd (false≢true (sym t))
-          of_some (Some p) is t = (p, (spelled_is laws c i p).0 is)
 
   -- where no move takes or promotes the node has no exits in the game of mates
   module _ (tables : Tables) (word : ℕ) (tells : TellsLists c word (nodes_at lists word) (staying_at lists word) (ways_at lists word) (turned_at lists word) (pawn_ways_at lists word) (pushes_at lists word) (roams_at lists word)) where
@@ -226,10 +212,10 @@ module _ (laws : Laws) (c : ℕ) (lists : CodeLists) (told : IsTold c lists) whe
         no_exits laws c c_in tables (index_of c (number_at (places c) word k)) p' at (λ q' m' leads'.
         let (q, (m, leads), zeroes, images) = alike.back q' (m', leads') in
         let (still, plain) = tells.stays k p q m one spells leads in
-        let is_of = laws.facts.spelled_class c (number_at (places c) word k) p spells in
-        let q_of = laws.quiet_class p q m c is_of.0 spells.admissible is_of.1 leads still plain in
+        let is_of = laws.facts.spelled_class c (code_of c (number_at (places c) word k)) p spells.spells in
+        let q_of = laws.quiet_class p q m c is_of.0 spells.spells.admissible is_of.1 leads still plain in
         let q'_ok = laws.facts.step_admissible p' q' m' at.spells.admissible leads' in
-        let turned = laws.facts.image_class q q' c is_of.0 (laws.facts.step_admissible p q m spells.admissible leads) (laws.facts.images_back q' q q'_ok images) q_of in
+        let turned = laws.facts.image_class q q' c is_of.0 (laws.facts.step_admissible p q m spells.spells.admissible leads) (laws.facts.images_back q' q q'_ok images) q_of in
         laws.facts.some_index q' c turned.0 c_in q'_ok turned.1)
 
   pub mate_codes_begin : (tables : Tables) (word : ℕ) → word < words_of (places c) (size_of c)

@@ -1,4 +1,4 @@
--- The ranks of a class by those of its codes.
+-- The ranks of a class by those of its numbers.
 use Rattle.std.proofs.Common.{◌≡◌, ℕ, ◌<◌, not, true, List, Result, Ok, Err, slice_index, sym, ap, ◌∙◌, inl, inr, arith}
 use Rattle.std.proofs.Math.Logic.{⊎_elim}
 use Rattle.std.proofs.lemmas.Bool.{cases_Bool, cases_lt, false≢true}
@@ -16,7 +16,7 @@ use Rattle.egt_graph.specs.declared.solver.SolveFault.TheVariants.{TooDeep}
 use Rattle.egt_table.specs.declared.column.Column.{Column}
 use Rattle.egt_table.specs.declared.column.Column.TheVariants.{Mate}
 use Rattle.egt_check.specs.Tables.{Tables}
-use Rattle.egt_words.specs.Told.{places}
+use Rattle.egt_index.specs.Numbers.{number_of, places}
 use Rattle.egt_sweep.specs.ClassGame.{class_game, class_game_is_lawful}
 use Rattle.egt_sweep.specs.CodeGame.{CodeMoves, TellsGame, code_game, code_game_is_lawful, index_of}
 use Rattle.egt_sweep.specs.CodeLists.{IsTold, moves_told}
@@ -26,9 +26,10 @@ use Rattle.egt_sweep.specs.Nodes.{position_at}
 use Rattle.egt_sweep.specs.OddMarks.{IsOddAbove}
 use Rattle.egt_sweep.specs.declared.code_words.CodeLists.{CodeLists}
 use Rattle.egt_sweep.specs.declared.mate_codes.CodeEntries.{CodeEntries}
-use Rattle.egt_sweep.proofs.CodeIndexes.{own_index}
+use Rattle.egt_sweep.proofs.CodeIndexes.{indexed_number, numbered_at, stands_for_itself}
 use Rattle.egt_sweep.proofs.CodeLists.{told_game}
-use Rattle.egt_sweep.proofs.Linked.{node_at, spelled_is, there_is}
+use Rattle.egt_sweep.proofs.Linked.{node_at, there_is}
+use Rattle.egt_sweep.proofs.Numbered.{number_below, told_node}
 
 -- one failed run has one fault
 pub same_fault : {T : Type 0} (x y : SolveFault) → ◌≡◌ {A = Result T SolveFault} (Err x) (Err y) → x ≡ y
@@ -54,13 +55,14 @@ module _ (laws : Laws) (c : ℕ) (c_in : c < 36) where
     abbrev h : Graph
     h = class_game tables column c
 
-    pub kept_nodes : (entries ranks : List ℕ) → AreOfIndexes c entries ranks → AreKept g h (index_of c) entries ranks
+    pub kept_nodes : (entries ranks : List ℕ) → AreOfIndexes c entries ranks → AreKept g h (index_of c) (number_of c) entries ranks
     kept_nodes entries ranks are = record {
       all = are.all;
       nodes = λ i node.
           let (p, at) = node_at laws c i node.not_void in
-          record { in_range = node.in_range; not_void = ap not (ap is_some ((spelled_is laws c i p).1 at.spells)) };
-      themselves = λ i node. let (p, at) = node_at laws c i node.not_void in own_index laws c c_in i p at;
+          let numbered = indexed_number laws c c_in (number_of c i) p (numbered_at laws c c_in i p at) in
+          record { in_range = number_below laws c c_in (number_of c i) p numbered; not_void = ap not (told_node laws c (number_of c i) p numbered) };
+      stand = λ i node. let (p, at) = node_at laws c i node.not_void in stands_for_itself laws c c_in i p at;
       same = λ i node. let (p, at) = node_at laws c i node.not_void in are.same i (λ void. void p at.spells.admissible at.index);
       voids = λ i lt void. are.voids i (void_told i void);
     }
@@ -80,11 +82,11 @@ odd_node g limit entries ranks n j odd = elim (cases_lt j g.size) [
 
 module _ (laws : Laws) (c : ℕ) (lists : CodeLists) (told : IsTold c lists) (tables : Tables) (column : Column) (stand : CodesStand) where
   stands : StandsFor (game_by tables column c lists) (class_game tables column c) (index_of c)
-  stands = stand tables column c (moves_told c lists) told.class_in (told_game c lists told)
+  stands = stand tables column c (moves_told c lists) told.class_in (told_game laws c lists told)
 
   pub ranks_kept : StandInsTellRanks → (limit : ℕ) (entries ranks : List ℕ) → AreRanks (game_by tables column c lists) limit entries → AreOfIndexes c entries ranks → AreRanks (class_game tables column c) limit ranks
   ranks_kept law limit entries ranks are kept =
-      law (game_by tables column c lists) (class_game tables column c) (index_of c) (code_game_is_lawful tables column c (moves_told c lists)) stands limit entries ranks
+      law (game_by tables column c lists) (class_game tables column c) (index_of c) (number_of c) (code_game_is_lawful tables column c (moves_told c lists)) stands limit entries ranks
       (kept_nodes laws c told.class_in tables column (moves_told c lists) entries ranks kept) are
 
   pub too_deep_too : StandInsAreAsDeep → (limit : ℕ) → SomeAbove (game_by tables column c lists) limit → SomeAbove (class_game tables column c) limit
@@ -96,7 +98,7 @@ module _ (laws : Laws) (c : ℕ) (lists : CodeLists) (told : IsTold c lists) (ta
   mates_told limit ranks codes are kept exits = record {
     long = are.all;
     same = λ j node.
-        shared (game_by tables Mate c lists) (class_game tables Mate c) (index_of c) (code_game_is_lawful tables Mate c (moves_told c lists)) (class_game_is_lawful tables Mate c)
+        shared (game_by tables Mate c lists) (class_game tables Mate c) (index_of c) (number_of c) (code_game_is_lawful tables Mate c (moves_told c lists)) (class_game_is_lawful tables Mate c)
         (stands laws c lists told tables Mate stand) limit codes.entries ranks (kept_nodes laws c told.class_in tables Mate (moves_told c lists) codes.entries ranks kept) are j node;
     nodes = odd_node (game_by tables Mate c lists) limit codes.entries are;
     exits = exits;

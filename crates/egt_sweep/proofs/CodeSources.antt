@@ -8,7 +8,7 @@ use Rattle.std.specs.Prelude.{◌&&◌, not}
 use Rattle.std.specs.Option.{is_some}
 use Rattle.egt_graph.specs.Graph.{IsNode}
 use Rattle.egt_graph.specs.Passing.{passing_passes}
-use Rattle.egt_graph.specs.WordMoves.{FitsPushes, FitsTurns, GoesPushed, GoesStraight, GoesTurned, IsAhead, PushesTo, turned_place}
+use Rattle.egt_graph.specs.WordMoves.{FitsPushes, FitsTurns, GoesPushed, GoesStraight, GoesTurned, IsAhead, LeapsTo, PushesTo, turned_place}
 use Rattle.egt_graph.specs.Words.{IsTouched, number_at, number_at-places, place_in, place_in-small, word_in, word_in-number_at, word_in-within, words_of}
 use Rattle.egt_graph.specs.declared.word_moves.Pushes.{Pushes}
 use Rattle.egt_graph.specs.declared.word_moves.TurnedWay.{TurnedWay}
@@ -16,13 +16,13 @@ use Rattle.egt_graph.specs.declared.word_moves.Way.{Way}
 use Rattle.egt_index.specs.Size.{size_of}
 use Rattle.egt_table.specs.declared.column.Column.{Column}
 use Rattle.egt_check.specs.Tables.{Tables}
-use Rattle.egt_words.specs.Told.{GoesRoamingIf, places}
+use Rattle.egt_index.specs.Numbers.{places}
+use Rattle.egt_words.specs.Told.{GoesRoamingIf}
 use Rattle.egt_words.specs.declared.roaming.Roaming.{Roaming}
-use Rattle.egt_sweep.specs.CodeGame.{code_game, goes_by, is_mate, leads_by}
+use Rattle.egt_sweep.specs.CodeGame.{code_game, goes_by, is_mate, leads_by, numbered}
 use Rattle.egt_sweep.specs.CodeLists.{CodesFit, IsTold, RoamsTo, moves_told, pawn_ways_at, pushes_at, roams_at, turned_at, ways_at}
 use Rattle.egt_sweep.specs.CodeSources.{AreSources, IsSource, KnowsMoves, KnowsWord}
 use Rattle.egt_sweep.specs.Laws.{Laws}
-use Rattle.egt_sweep.specs.Nodes.{spelled}
 use Rattle.egt_sweep.specs.declared.code_sources.CodeSources.{CodeSources}
 use Rattle.egt_sweep.specs.declared.code_words.CodeLists.{CodeLists}
 use Rattle.egt_sweep.proofs.CodeGames.{GoesAt, there_goes}
@@ -40,6 +40,12 @@ pushed_within span k t pushes fits (inl (one, ahead)) =
     subst (λ n. n < span) (same_ahead pushes.up 8 k r t is ahead) lt
 pushed_within span k t pushes fits (inr (one, ahead)) =
     let (r, lt, is) = fits.double k one in
+    subst (λ n. n < span) (same_ahead pushes.up 16 k r t is ahead) lt
+
+-- nor does a leap lead past those of the other word
+leapt_within : (span k t : ℕ) (pushes : Pushes) → FitsPushes span pushes → LeapsTo pushes k t → t < span
+leapt_within span k t pushes fits (one, ahead) =
+    let (r, lt, is) = fits.leaps k one in
     subst (λ n. n < span) (same_ahead pushes.up 16 k r t is ahead) lt
 
 is_pushed : (k t : ℕ) (pushes : Pushes) → PushesTo pushes k t → (bit_at pushes.single k ≡ 1) ⊎ (bit_at pushes.double k ≡ 1)
@@ -63,9 +69,10 @@ module _ (sources : CodeSources) (span from k j : ℕ) where
       → IsSource sources (word_in span j) from
   turned_there lt turned fits known (way, has, is) = at_word way.word (turned_place way.turn k) (fits way has k lt) is (known way has)
 
-  pushed_there : (pushes : Pushes) → FitsPushes span pushes → ((n : ℕ) → (bit_at pushes.single n ≡ 1) ⊎ (bit_at pushes.double n ≡ 1) → IsSource sources pushes.word from) → GoesPushed span k j pushes
-      → IsSource sources (word_in span j) from
-  pushed_there pushes fits known (t, is, to) = at_word pushes.word t (pushed_within span k t pushes fits to) is (known k (is_pushed k t pushes to))
+  pushed_there : (pushes : Pushes) → FitsPushes span pushes → ((n : ℕ) → (bit_at pushes.single n ≡ 1) ⊎ (bit_at pushes.double n ≡ 1) → IsSource sources pushes.word from)
+      → ((n : ℕ) → bit_at pushes.leaps n ≡ 1 → IsSource sources pushes.leap_word from) → GoesPushed span k j pushes → IsSource sources (word_in span j) from
+  pushed_there pushes fits known leaps (inl (t, is, to)) = at_word pushes.word t (pushed_within span k t pushes fits to) is (known k (is_pushed k t pushes to))
+  pushed_there pushes fits known leaps (inr (t, is, to)) = at_word pushes.leap_word t (leapt_within span k t pushes fits to) is (leaps k to.0)
 
 -- what is known of the word's moves, under other names
 pub known_told : (sources : CodeSources) (lists : CodeLists) (from : ℕ) (ways : List Way) (turned : List TurnedWay) (pawn_ways : List Way) (pushes : Pushes) (roams : Option Roaming)
@@ -91,7 +98,7 @@ module _ (laws : Laws) (c : ℕ) (lists : CodeLists) (told : IsTold c lists) (so
       by (inl (inl (inr way))) = turned_there sources (places c) word k j k_in (turned_at lists word) fits.turns known.by_turned way
       by (inl (inr roams)) = roamed sources (places c) word k j (words_of (places c) (size_of c)) (roams_at lists word) fits.roams_in known.by_roams roams
       by (inr (pawns, inl way)) = straight sources (places c) word k j k_in (pawn_ways_at lists word) known.by_pawn_ways way
-      by (inr (pawns, inr pushes)) = pushed_there sources (places c) word k j (pushes_at lists word) fits.pushes_stay known.by_pushes pushes
+      by (inr (pawns, inr pushes)) = pushed_there sources (places c) word k j (pushes_at lists word) fits.pushes_stay known.by_pushes known.by_leaps pushes
 
   -- so marks of them are marks of all words from which an edge leads to the word
   pub codes_touch : (tables : Tables) (column : Column) (word n : ℕ) (touched : List ℕ) → words_of (places c) (size_of c) ≤ 64 * n
@@ -116,9 +123,9 @@ module _ (laws : Laws) (c : ℕ) (lists : CodeLists) (told : IsTold c lists) (so
 
       goes_of : leads_by column c (moves_told c lists) i j ≡ true → goes_by column (moves_told c lists) i j ≡ true
       goes_of t =
-          let first = and_parts (not (is_mate c i)) (is_some (spelled c i) && (is_some (spelled c j) && goes_by column (moves_told c lists) i j)) t in
-          let second = and_parts (is_some (spelled c i)) (is_some (spelled c j) && goes_by column (moves_told c lists) i j) first.1 in
-          (and_parts (is_some (spelled c j)) (goes_by column (moves_told c lists) i j) second.1).1
+          let first = and_parts (not (is_mate c i)) (is_some (numbered c i) && (is_some (numbered c j) && goes_by column (moves_told c lists) i j)) t in
+          let second = and_parts (is_some (numbered c i)) (is_some (numbered c j) && goes_by column (moves_told c lists) i j) first.1 in
+          (and_parts (is_some (numbered c j)) (goes_by column (moves_told c lists) i j) second.1).1
 
       goes : GoesAt column c lists (places c) from (place_in (places c) i) j
       goes =

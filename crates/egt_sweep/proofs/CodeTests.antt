@@ -6,7 +6,7 @@ use Rattle.std.specs.Int.{bit_at}
 use Rattle.std.specs.List.{Contains, list_any}
 use Rattle.egt_board.specs.Decided.{tells_so, tells_where}
 use Rattle.egt_board.specs.Gait.{Reaches-on_board}
-use Rattle.egt_graph.specs.WordMoves.{GoesPushed, GoesPushedIf, GoesSome, GoesStraight, GoesTurned, IsAhead, turned_place}
+use Rattle.egt_graph.specs.WordMoves.{GoesByWord, GoesLeaping, GoesPushed, GoesPushedIf, GoesStraight, GoesTurned, GoesWithin, IsAhead, turned_place}
 use Rattle.egt_graph.specs.Words.{number_at}
 use Rattle.egt_graph.specs.declared.word_moves.Pushes.{Pushes}
 use Rattle.egt_graph.specs.declared.word_moves.TurnedWay.{TurnedWay}
@@ -14,7 +14,7 @@ use Rattle.egt_graph.specs.declared.word_moves.Way.{Way}
 use Rattle.egt_words.specs.Told.{GoesByPawnBy, GoesQuietlyBy, GoesRoamingIf}
 use Rattle.egt_words.specs.declared.roaming.Roaming.{Roaming}
 use Rattle.egt_sweep.specs.CodeLists.{GoesWith}
-use Rattle.egt_sweep.specs.CodeTests.{ahead_test, decided_roaming, pawn_test, pushed_test, quiet_test, roaming_test, straight_test, turned_test}
+use Rattle.egt_sweep.specs.CodeTests.{ahead_test, decided_roaming, leapt_test, pawn_test, pushed_test, quiet_test, roaming_test, straight_test, turned_test}
 
 -- ---- tests that are joined
 
@@ -68,8 +68,9 @@ ahead_is false span word n k j = (
 by_bits : (bits : ℕ) (up : Bool) (span word n k j : ℕ) → (((bit_at bits k == 1) && ahead_test up span word n k j) ≡ true) ↔ ((bit_at bits k ≡ 1) × ((t : ℕ) × (j ≡ number_at span word t) × IsAhead up n k t))
 by_bits bits up span word n k j = both_is (bit_at bits k == 1) (ahead_test up span word n k j) (eq_is (bit_at bits k) 1) (ahead_is up span word n k j)
 
-pub pushed_is : (span k j : ℕ) (pushes : Pushes) → (pushed_test span k j pushes ≡ true) ↔ GoesPushed span k j pushes
-pushed_is span k j pushes =
+within_is : (span k j : ℕ) (pushes : Pushes)
+    → ((((bit_at pushes.single k == 1) && ahead_test pushes.up span pushes.word 8 k j) || ((bit_at pushes.double k == 1) && ahead_test pushes.up span pushes.word 16 k j)) ≡ true) ↔ GoesWithin span k j pushes
+within_is span k j pushes =
     let tested = either_is ((bit_at pushes.single k == 1) && ahead_test pushes.up span pushes.word 8 k j) ((bit_at pushes.double k == 1) && ahead_test pushes.up span pushes.word 16 k j)
     (by_bits pushes.single pushes.up span pushes.word 8 k j) (by_bits pushes.double pushes.up span pushes.word 16 k j) in (
       λ t. elim (tested.0 t) [
@@ -81,6 +82,16 @@ pushed_is span k j pushes =
         | inr two ↦ inr (two.0, (h.0, h.1, two.1))
       ]),
     )
+
+leaping_is : (span k j : ℕ) (pushes : Pushes) → (leapt_test span k j pushes ≡ true) ↔ GoesLeaping span k j pushes
+leaping_is span k j pushes =
+    let tested = by_bits pushes.leaps pushes.up span pushes.leap_word 16 k j in
+    (λ t. let h = tested.0 t in (h.1.0, h.1.1, (h.0, h.1.2)), λ h. tested.1 (h.2.0, (h.0, h.1, h.2.1)))
+
+pub pushed_is : (span k j : ℕ) (pushes : Pushes) → (pushed_test span k j pushes ≡ true) ↔ GoesPushed span k j pushes
+pushed_is span k j pushes =
+    either_is (((bit_at pushes.single k == 1) && ahead_test pushes.up span pushes.word 8 k j) || ((bit_at pushes.double k == 1) && ahead_test pushes.up span pushes.word 16 k j)) (leapt_test span k j pushes)
+    (within_is span k j pushes) (leaping_is span k j pushes)
 
 -- ---- the last man, a piece
 
@@ -112,20 +123,19 @@ module _ (pawns : Bool) (span k j : ℕ) (ways : List Way) (turned : List Turned
   pushed : GoesPushedIf span k j some ↔ ((pawns ≡ true) × GoesPushed span k j pushes)
   pushed = pushed_if pawns pushes some span k j is
 
-  pub goes_sorts : ((GoesSome span k j ways turned some None ⊎ ((pawns ≡ true) × GoesStraight span k j pawn_ways)) ⊎ GoesRoamingIf span k j roams) ↔ GoesWith pawns span k j ways turned pawn_ways pushes roams
+  pub goes_sorts : ((GoesByWord span k j ways turned some ⊎ ((pawns ≡ true) × GoesStraight span k j pawn_ways)) ⊎ GoesRoamingIf span k j roams) ↔ GoesWith pawns span k j ways turned pawn_ways pushes roams
   goes_sorts = (
     λ h. elim h [
-      | inl (inl (inl (inl straight))) ↦ inl (inl (inl straight))
-      | inl (inl (inl (inr (inl turn)))) ↦ inl (inl (inr turn))
-      | inl (inl (inl (inr (inr push)))) ↦ let p = pushed.0 push in inr (p.0, inr p.1)
-      | inl (inl (inr none)) ↦ absurd none
+      | inl (inl (inl straight)) ↦ inl (inl (inl straight))
+      | inl (inl (inr (inl turn))) ↦ inl (inl (inr turn))
+      | inl (inl (inr (inr push))) ↦ let p = pushed.0 push in inr (p.0, inr p.1)
       | inl (inr pawn) ↦ inr (pawn.0, inl pawn.1)
       | inr roam ↦ inl (inr roam)
     ],
     λ h. elim h [
-      | inl (inl (inl straight)) ↦ inl (inl (inl (inl straight)))
-      | inl (inl (inr turn)) ↦ inl (inl (inl (inr (inl turn))))
+      | inl (inl (inl straight)) ↦ inl (inl (inl straight))
+      | inl (inl (inr turn)) ↦ inl (inl (inr (inl turn)))
       | inl (inr roam) ↦ inr roam
-      | inr pawn ↦ elim pawn.1 [ inl way ↦ inl (inr (pawn.0, way)) | inr push ↦ inl (inl (inl (inr (inr (pushed.1 (pawn.0, push)))))) ]
+      | inr pawn ↦ elim pawn.1 [ inl way ↦ inl (inr (pawn.0, way)) | inr push ↦ inl (inl (inr (inr (pushed.1 (pawn.0, push))))) ]
     ],
   )

@@ -22,6 +22,7 @@ pub fits_from : (span : ℕ) (pushes : Pushes) → ∥ FitsPushes span pushes �
 fits_from span pushes h = record {
   single = λ k one. ahead_from pushes.up 8 span k (∥∥₁_elim h ∥∥₁_prop (λ fits. ∣ fits.single k one ∣₁));
   double = λ k one. ahead_from pushes.up 16 span k (∥∥₁_elim h ∥∥₁_prop (λ fits. ∣ fits.double k one ∣₁));
+  leaps = λ k one. ahead_from pushes.up 16 span k (∥∥₁_elim h ∥∥₁_prop (λ fits. ∣ fits.leaps k one ∣₁));
 }
 
 pub turns_from : (span : ℕ) (turned : List TurnedWay) → ∥ FitsTurns span turned ∥₁ → FitsTurns span turned

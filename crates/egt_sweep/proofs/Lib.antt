@@ -40,6 +40,7 @@ pub mod LedKings
 pub mod InRuns
 pub mod ZeroExits
 pub mod Comes
+pub mod Numbered
 pub mod CodeGame
 pub mod CodeIndexes
 pub mod CodeTests

@@ -7,12 +7,9 @@ use Rattle.std.proofs.Props.{props}
 use Rattle.std.proofs.lemmas.Nat.Bits.{bit_at-lt}
 use Rattle.std.specs.Int.{bit_at}
 use Rattle.std.specs.List.{list_any}
-use Rattle.std.specs.Option.{is_some}
 use Rattle.egt_board.specs.Setup.{Setup}
-use Rattle.egt_index.specs.Code.{Spells}
 use Rattle.egt_index.specs.Index.{IsIndex}
 use Rattle.egt_index.specs.Size.{size_of}
-use Rattle.egt_index.proofs.Coding.{code_below}
 use Rattle.egt_moves.specs.Chess.{IsPawnOn}
 use Rattle.egt_moves.specs.Legal.{Leads}
 use Rattle.egt_graph.specs.Columns.{is_loss, is_win}
@@ -25,7 +22,8 @@ use Rattle.egt_graph.specs.declared.word_moves.Way.{Way}
 use Rattle.egt_graph.specs.declared.words.WordStart.{WordStart}
 use Rattle.egt_table.specs.declared.column.Column.TheVariants.{Mate, Zeroing}
 use Rattle.egt_check.specs.Tables.{HasChildren, Tables, beside}
-use Rattle.egt_words.specs.Told.{GoesByPawnBy, places}
+use Rattle.egt_index.specs.Numbers.{IsNumbered, code_of, places}
+use Rattle.egt_words.specs.Told.{GoesByPawnBy}
 use Rattle.egt_sweep.specs.CodeGame.{CodeMoves, TellsGame, code_game, index_of}
 use Rattle.egt_sweep.specs.CodeLists.{IsTold, moves_told, nodes_at, pawn_ways_at, pushes_at}
 use Rattle.egt_sweep.specs.Edges.{PushesTo}
@@ -35,25 +33,24 @@ use Rattle.egt_sweep.specs.Nodes.{exits_at}
 use Rattle.egt_sweep.specs.OddMarks.{IsOddAbove}
 use Rattle.egt_sweep.specs.declared.code_words.CodeLists.{CodeLists}
 use Rattle.egt_sweep.proofs.CodeGame.{image_has, image_index, index_at, pawns, stays_plain, stood_for}
-use Rattle.egt_sweep.proofs.CodeIndexes.{node_told}
+use Rattle.egt_sweep.proofs.Numbered.{node_told, number_below, told_node}
 use Rattle.egt_sweep.proofs.CodeGames.{code_nodes, pawn_here}
 use Rattle.egt_sweep.proofs.CodeLists.{told_game}
 use Rattle.egt_sweep.proofs.CodeTests.{pawn_is}
-use Rattle.egt_sweep.proofs.Linked.{spelled_is}
 use Rattle.egt_sweep.proofs.CodeMarks.{AreMarksOf, in_marked, marked_in}
 use Rattle.egt_sweep.proofs.ZeroExits.{either_told, marked_exits, some_exit, tells_exits}
 
 -- ---- pawns' moves between codes are those between their indexes
 
 module _ (laws : Laws) (c : ℕ) (c_in : c < 36) (moves : CodeMoves) (tells : TellsGame c moves) where
-  pub push_there : (i j : ℕ) (p r : Setup) → Spells c i p → Spells c j r → moves.pawn i j ≡ true → PushesTo c (index_of c i) (index_of c j)
+  pub push_there : (i j : ℕ) (p r : Setup) → IsNumbered c i p → IsNumbered c j r → moves.pawn i j ≡ true → PushesTo c (index_of c i) (index_of c j)
   push_there i j p r here there goes =
       let push = tells.pawn i j p r here goes there in
-      let p_of = laws.facts.spelled_class c i p here in
-      let q_ok = laws.facts.step_admissible p push.to push.move here.admissible push.leads in
-      let q_of = laws.quiet_class p push.to push.move c p_of.0 here.admissible p_of.1 push.leads push.still push.plain in
+      let p_of = laws.facts.spelled_class c (code_of c i) p here.spells in
+      let q_ok = laws.facts.step_admissible p push.to push.move here.spells.admissible push.leads in
+      let q_of = laws.quiet_class p push.to push.move c p_of.0 here.spells.admissible p_of.1 push.leads push.still push.plain in
       let (k, index) = laws.facts.some_index push.to c p_of.0 c_in q_ok q_of in
-      let same = (laws.facts.like_index push.to r c k (index_of c j) q_ok there.admissible index (index_at laws c c_in j r there)).1 push.image in
+      let same = (laws.facts.like_index push.to r c k (index_of c j) q_ok there.spells.admissible index (index_at laws c c_in j r there)).1 push.image in
       let (p', at, alike) = stood_for laws c c_in i p here in
       let (q', (m', leads'), zeroes, images) = alike.there push.to (push.move, push.leads) in
       let (n, index') = image_has laws c c_in push.to q' p_of.0 q_ok images q_of in
@@ -70,22 +67,22 @@ module _ (laws : Laws) (c : ℕ) (c_in : c < 36) (moves : CodeMoves) (tells : Te
         index = to_index;
       }
 
-  pub there_push : (i k : ℕ) (p : Setup) → Spells c i p → PushesTo c (index_of c i) k → (j : ℕ) × ((r : Setup) × Spells c j r) × (moves.pawn i j ≡ true) × (index_of c j ≡ k)
+  pub there_push : (i k : ℕ) (p : Setup) → IsNumbered c i p → PushesTo c (index_of c i) k → (j : ℕ) × ((r : Setup) × IsNumbered c j r) × (moves.pawn i j ≡ true) × (index_of c j ≡ k)
   there_push i k p here push =
       let (p', at, alike) = stood_for laws c c_in i p here in
       let from_is : push.from ≡ p' = laws.one_spelled c (index_of c i) push.from p' push.at.spells at.spells in
       let (q, (m, leads), zeroes, images) = alike.back push.to (push.move, subst (λ (x : Setup). Leads x push.move push.to) from_is push.leads) in
       let to_ok = laws.facts.step_admissible push.from push.to push.move push.at.spells.admissible push.leads in
-      let q_ok = laws.facts.step_admissible p q m here.admissible leads in
+      let q_ok = laws.facts.step_admissible p q m here.spells.admissible leads in
       let to_of = laws.indexed_class push.to c k to_ok push.index in
       let (n, other) = image_has laws c c_in push.to q to_of.0 to_ok images to_of.1 in
       let index = subst (IsIndex c q) (sym (image_index laws c c_in push.to q k n to_ok images push.index other)) other in
-      let p_of = laws.facts.spelled_class c i p here in
-      let plain = stays_plain laws c c_in p q m k p_of.0 here.admissible p_of.1 leads index in
+      let p_of = laws.facts.spelled_class c (code_of c i) p here.spells in
+      let plain = stays_plain laws c c_in p q m k p_of.0 here.spells.admissible p_of.1 leads index in
       let zeroing = zeroes.0 (inr (subst (λ (x : Setup). IsPawnOn x.men push.move.from) from_is push.pawn)) in
-      let pawn = pawns laws c c_in p q m k here.admissible p_of leads index zeroing in
+      let pawn = pawns laws c c_in p q m k here.spells.admissible p_of leads index zeroing in
       let (j, goes, (r, there, like)) = tells.all_pawn i p q m here leads pawn plain.0 plain.1 in
-      (j, (r, there), goes, sym ((laws.facts.like_index q r c k (index_of c j) q_ok there.admissible index (index_at laws c c_in j r there)).1 like))
+      (j, (r, there), goes, sym ((laws.facts.like_index q r c k (index_of c j) q_ok there.spells.admissible index (index_at laws c c_in j r there)).1 like))
 
 -- ---- what a word begins with
 
@@ -146,8 +143,8 @@ module _ (laws : Laws) (c : ℕ) (lists : CodeLists) (told : IsTold c lists) (ta
           let (n, push, holds) = h in
           let (p, here) = node_told laws c (number_at (places c) word k) at.1.not_void in
           let (j, (r, there), goes, is) = there_push laws c told.class_in moves tells (number_at (places c) word k) n p here push in
-          let below = code_below c j r there in
-          let node : IsNode game j = record { in_range = below; not_void = ap not (ap is_some ((spelled_is laws c j r).1 there)) } in
+          let below = number_below laws c told.class_in j r there in
+          let node : IsNode game j = record { in_range = below; not_void = ap not (told_node laws c j r there) } in
           (led k).1 (
             one,
             (
@@ -212,7 +209,7 @@ module _ (laws : Laws) (c : ℕ) (lists : CodeLists) (told : IsTold c lists) (ta
       nodes = λ k. subst (λ n. bit_at n k ≡ 1 ↔ ((k < places c) × IsNode (code_game (beside tables (mate_table c mates)) Zeroing c moves) (number_at (places c) word k))) (sym nodes_are)
           (code_nodes laws c lists told (beside tables (mate_table c mates)) Zeroing word word_in_class k);
       told_nodes = λ k one. one;
-      told = λ k one. ∥∥₁_elim (told_game c lists told) (prop k)
+      told = λ k one. ∥∥₁_elim (told_game laws c lists told) (prop k)
           (λ tells. tells_node word nodes word_in_class nodes_are tells leaving losing holding leaving_are losing_are holding_are all lost unwon all_are lost_are unwon_are pushed losing_pushed holding_pushed led losing_led holding_led k one);
     }
       where

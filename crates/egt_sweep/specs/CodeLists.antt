@@ -1,15 +1,15 @@
--- Lists of what is told of a class's moves between codes, word by word, and the moves that they tell.
+-- Lists of what is told of a class's moves between numbers, word by word, and the moves that they tell.
 use Rattle.std.specs.Prelude.{◌≡◌, ℕ, ◌+◌, ◌<◌, ◌≤◌, ◌↔◌, ◌⊎◌, Bool, true, false, List, Contains, Option, None, IfSome, [], ◌∷◌, ◌++◌, length, slice_index, slice_index_or, slice_range}
 use Rattle.std.specs.Int.{bit_at}
-use Rattle.egt_class.specs.Material.{material_of}
-use Rattle.egt_graph.specs.WordMoves.{FitsPushes, FitsTurns}
+use Rattle.egt_graph.specs.WordMoves.{FitsPushes, FitsTurns, HasWords}
 use Rattle.egt_graph.specs.Words.{number_at, place_in, word_in, words_of}
 use Rattle.egt_graph.specs.declared.word_moves.Pushes.{Pushes}
 use Rattle.egt_graph.specs.declared.word_moves.TurnedWay.{TurnedWay}
 use Rattle.egt_graph.specs.declared.word_moves.Way.{Way}
 use Rattle.egt_index.specs.Index.{IsVoid}
-use Rattle.egt_index.specs.Size.{has_target, size_of}
-use Rattle.egt_words.specs.Told.{GoesByPawnBy, GoesQuietlyBy, TellsLists, places}
+use Rattle.egt_index.specs.Size.{size_of}
+use Rattle.egt_index.specs.Numbers.{code_of, places}
+use Rattle.egt_words.specs.Told.{GoesByPawnBy, GoesQuietlyBy, TellsLists}
 use Rattle.egt_words.specs.declared.roaming.Roaming.{Roaming}
 use Rattle.egt_words.specs.declared.told.Told.{Told}
 use Rattle.egt_sweep.specs.CodeGame.{CodeMoves}
@@ -41,14 +41,14 @@ abbrev pub pawn_ways_at : CodeLists → ℕ → List Way
 pawn_ways_at lists word = slice_range lists.pawn_ways.items (begin_of lists word).pawn_ways (begin_of lists (word + 1)).pawn_ways
 
 abbrev pub pushes_at : CodeLists → ℕ → Pushes
-pushes_at lists word = slice_index_or lists.pushes.items word (record { word = 0; single = 0; double = 0; up = false })
+pushes_at lists word = slice_index_or lists.pushes.items word (record { word = 0; single = 0; double = 0; up = false; leap_word = 0; leaps = 0 })
 
 abbrev pub roams_at : CodeLists → ℕ → Option Roaming
 roams_at lists word = slice_index_or lists.roams.items word None
 
--- the bits are of the word's codes that are indexes
+-- the bits are of the word's numbers whose codes are indexes
 abbrev pub AreIndexes : (c word indexes : ℕ) → Type 0
-AreIndexes c word indexes = (k : ℕ) → bit_at indexes k ≡ 1 ↔ ((k < places c) × ¬ IsVoid c (number_at (places c) word k))
+AreIndexes c word indexes = (k : ℕ) → bit_at indexes k ≡ 1 ↔ ((k < places c) × ¬ IsVoid c (code_of c (number_at (places c) word k)))
 
 -- the lists hold what is told of the word
 pub record HoldsWord (c : ℕ) (lists : CodeLists) (word : ℕ) : Type 0 where
@@ -89,7 +89,6 @@ pub record IsAdded (old new : CodeLists) (nodes indexes : ℕ) (told : Told) : T
 -- they hold all words of the class, of which each has as many places as the last man has digits
 pub record IsTold (c : ℕ) (lists : CodeLists) : Type 0 where
   pub class_in : c < 36
-  pub never : has_target (material_of c) ≡ false
   pub some : 0 < places c
   pub few : places c ≤ 64
   pub holds : HoldsBelow c (words_of (places c) (size_of c)) lists
@@ -117,6 +116,6 @@ pub record CodesFit (span words : ℕ) (ways : List Way) (turned : List TurnedWa
   pub turned_in : (way : TurnedWay) → Contains turned way → way.word < words
   pub turns : FitsTurns span turned
   pub pawn_ways_in : (way : Way) → Contains pawn_ways way → way.word < words
-  pub pushes_in : pushes.word < words
+  pub pushes_in : HasWords words pushes
   pub pushes_stay : FitsPushes span pushes
   pub roams_in : RoamsTo span words roams

@@ -6,7 +6,7 @@ use Rattle.egt_graph.specs.declared.word_moves.Pushes.{Pushes}
 use Rattle.egt_graph.specs.declared.word_moves.TurnedWay.{TurnedWay}
 use Rattle.egt_graph.specs.declared.word_moves.Way.{Way}
 use Rattle.egt_index.specs.Size.{size_of}
-use Rattle.egt_words.specs.Told.{places}
+use Rattle.egt_index.specs.Numbers.{places}
 use Rattle.egt_words.specs.declared.roaming.Roaming.{Roaming}
 use Rattle.egt_sweep.specs.CodeLists.{pawn_ways_at, pushes_at, roams_at, turned_at, ways_at}
 use Rattle.egt_sweep.specs.declared.code_sources.CodeSources.{CodeSources}
@@ -35,6 +35,7 @@ pub record KnowsMoves (sources : CodeSources) (from : ℕ) (ways : List Way) (tu
   pub by_turned : (way : TurnedWay) → Contains turned way → IsSource sources way.word from
   pub by_pawn_ways : (way : Way) → Contains pawn_ways way → IsSource sources way.word from
   pub by_pushes : (k : ℕ) → (bit_at pushes.single k ≡ 1) ⊎ (bit_at pushes.double k ≡ 1) → IsSource sources pushes.word from
+  pub by_leaps : (k : ℕ) → bit_at pushes.leaps k ≡ 1 → IsSource sources pushes.leap_word from
   pub by_roams : IfSome roams (λ roaming. IsSource sources roaming.word from)
 
 abbrev pub KnowsWord : CodeSources → CodeLists → ℕ → Type 0

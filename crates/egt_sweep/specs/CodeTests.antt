@@ -23,9 +23,12 @@ abbrev pub ahead_test : (up : Bool) → (span word n k j : ℕ) → Bool
 ahead_test true span word n k j = j == number_at span word (k + n)
 ahead_test false span word n k j = not (nat_lt k n) && (j == number_at span word (k - n))
 
+abbrev pub leapt_test : (span k j : ℕ) → Pushes → Bool
+leapt_test span k j pushes = (bit_at pushes.leaps k == 1) && ahead_test pushes.up span pushes.leap_word 16 k j
+
 abbrev pub pushed_test : (span k j : ℕ) → Pushes → Bool
 pushed_test span k j pushes =
-    ((bit_at pushes.single k == 1) && ahead_test pushes.up span pushes.word 8 k j) || ((bit_at pushes.double k == 1) && ahead_test pushes.up span pushes.word 16 k j)
+    (((bit_at pushes.single k == 1) && ahead_test pushes.up span pushes.word 8 k j) || ((bit_at pushes.double k == 1) && ahead_test pushes.up span pushes.word 16 k j)) || leapt_test span k j pushes
 
 -- the squares past which a piece that stands on k goes
 decided_open : (held k u : ℕ) → Decided ((u ≢ k) × (bit_at held u ≡ 0))

@@ -49,13 +49,19 @@ fn link_word(links: &mut Vec<Link>, moves: &WordCodes, from: u32) -> Result<(), 
     link_ways(links, moves.ways, from)?;
     link_turned(links, moves.turned, from)?;
     link_ways(links, moves.pawn_ways, from)?;
-    if are_some(&moves.pushes) {
+    if are_some(moves.pushes) {
         links.push(Link {
             to: moves.pushes.word,
             from,
         })?;
     }
-    if let Some(roaming) = &moves.roams {
+    if moves.pushes.leaps != 0 {
+        links.push(Link {
+            to: moves.pushes.leap_word,
+            from,
+        })?;
+    }
+    if let Some(roaming) = moves.roams {
         links.push(Link {
             to: roaming.word,
             from,
@@ -107,7 +113,7 @@ impl CodeSources {
     ghost use Rattle.egt_index.specs.Size.{size_of};
     ghost use Rattle.egt_sweep.specs.CodeLists.{IsTold};
     ghost use Rattle.egt_sweep.specs.CodeSources.{AreSources, IsCut, IsSource, KnowsMoves, sources_at};
-    ghost use Rattle.egt_words.specs.Told.{places};
+    ghost use Rattle.egt_index.specs.Numbers.{places};
 
     /// The sources of all words of the class.
     pub(crate) fn of(
@@ -182,6 +188,23 @@ impl CodeSources {
         !are_some(pushes) || self.is_source(pushes.word, from)
     }
 
+    fn know_leaps(&self, pushes: &Pushes, from: u32) -> bool
+        ensures { result ≡ true → (k : ℕ) → bit_at pushes.now.leaps k ≡ 1 → IsSource self.now pushes.now.leap_word from }
+    {
+        pushes.leaps == 0 || self.is_source(pushes.leap_word, from)
+    }
+
+    /// Whether the word is a source of those that pawns' moves lead to.
+    fn know_pawns(&self, pawn_ways: &[Way], pushes: &Pushes, from: u32) -> bool
+        ensures ways { result ≡ true → (way : Way) → Contains pawn_ways.now way → IsSource self.now way.word from }
+        ensures pushes { result ≡ true → (k : ℕ) → (bit_at pushes.now.single k ≡ 1) ⊎ (bit_at pushes.now.double k ≡ 1) → IsSource self.now pushes.now.word from }
+        ensures leaps { result ≡ true → (k : ℕ) → bit_at pushes.now.leaps k ≡ 1 → IsSource self.now pushes.now.leap_word from }
+    {
+        self.know_ways(pawn_ways, from)
+            && self.know_pushes(pushes, from)
+            && self.know_leaps(pushes, from)
+    }
+
     fn know_roaming(&self, roams: &Option<Roaming>, from: u32) -> bool
         ensures { result ≡ true → IfSome roams.now (λ roaming. IsSource self.now roaming.word from) }
     {
@@ -193,13 +216,18 @@ impl CodeSources {
 
     /// Whether the word is a source of each word that its moves lead to.
     fn know_moves(&self, moves: &WordCodes, from: u32) -> bool
-        ensures { result ≡ true → KnowsMoves self.now from moves.now.ways.now moves.now.turned.now moves.now.pawn_ways.now moves.now.pushes moves.now.roams }
+        ensures { result ≡ true → KnowsMoves self.now from moves.now.ways.now moves.now.turned.now moves.now.pawn_ways.now moves.now.pushes.now moves.now.roams.now }
     {
-        self.know_ways(moves.ways, from)
-            && self.know_turned(moves.turned, from)
-            && self.know_ways(moves.pawn_ways, from)
-            && self.know_pushes(&moves.pushes, from)
-            && self.know_roaming(&moves.roams, from)
+        if !self.know_ways(moves.ways, from) {
+            return false;
+        }
+        if !self.know_turned(moves.turned, from) {
+            return false;
+        }
+        if !self.know_pawns(moves.pawn_ways, moves.pushes, from) {
+            return false;
+        }
+        self.know_roaming(moves.roams, from)
     }
 
     /// Whether each word of the class is a source of those that its moves lead to.

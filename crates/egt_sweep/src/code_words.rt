@@ -1,4 +1,4 @@
-//! The moves of a whole class between its codes by words, told once for both of its games.
+//! The moves of a whole class between its numbers by words, told once for both of its games.
 ghost use Rattle.std.specs.Prelude.{◌≡◌, ◌^◌, ◌<◌, ◌≤◌, ◌⊎◌, true, false};
 ghost use Rattle.egt_class.specs.Material.{material_of};
 ghost use Rattle.egt_graph.specs.Words.{words_of};
@@ -6,14 +6,14 @@ ghost use Rattle.egt_index.specs.Shelf.{shelf_len};
 ghost use Rattle.egt_index.specs.Size.{has_target, size_of};
 ghost use Rattle.egt_sweep.specs.CodeLists.{IsTold};
 ghost use Rattle.egt_sweep.specs.CodeSources.{AreSources};
-ghost use Rattle.egt_words.specs.Told.{places};
+ghost use Rattle.egt_index.specs.Numbers.{places};
 
 use crate::code_roaming::lead_roaming;
 use crate::code_sources::CodeSources;
 use egt_board::Side;
 use egt_class::Class;
 use egt_graph::{Pushes, TurnedWay, Way, is_in, lead_by, words_of};
-use egt_index::{Rows, ShelfMen, has_target, positions_of, shelf_len, shelf_men, size};
+use egt_index::{Rows, ShelfMen, last_digits, positions_of, shelf_men, size};
 use egt_words::{Roaming, Told};
 use std::alloc::{AllocError, Global};
 
@@ -28,9 +28,9 @@ pub(crate) struct CodeStart {
 /// What is told of the first words of a class.
 #[derive(Drop)]
 pub(crate) struct CodeLists {
-    /// The codes that spell positions.
+    /// The numbers that stand for positions.
     pub(crate) nodes: Vec<u64>,
-    /// Those that are the least for their positions.
+    /// Those whose codes are indexes.
     pub(crate) indexes: Vec<u64>,
     pub(crate) staying: Vec<u64>,
     pub(crate) pushes: Vec<Pushes>,
@@ -41,12 +41,15 @@ pub(crate) struct CodeLists {
     pub(crate) pawn_ways: Vec<Way>,
 }
 
-/// The moves of a class between its codes by words.
+/// The moves of a class between its numbers by words.
 #[derive(Drop)]
 pub(crate) struct CodeWords {
     pub(crate) class: Class,
+    /// How many places a word has.
+    span: u32,
     pub(crate) lists: CodeLists,
     pub(crate) sources: CodeSources,
+    ghost span_is: { span ≡ places class },
     ghost told: { IsTold class lists },
     ghost sourced: { AreSources class lists sources },
 }
@@ -57,8 +60,8 @@ pub(crate) struct WordCodes<'w> {
     pub(crate) ways: &'w [Way],
     pub(crate) turned: &'w [TurnedWay],
     pub(crate) pawn_ways: &'w [Way],
-    pub(crate) pushes: Pushes,
-    pub(crate) roams: Option<Roaming>,
+    pub(crate) pushes: &'w Pushes,
+    pub(crate) roams: &'w Option<Roaming>,
 }
 
 impl CodeLists {
@@ -69,7 +72,8 @@ impl CodeLists {
     ghost use Rattle.egt_index.specs.Size.{has_target, size_of};
     ghost use Rattle.egt_graph.specs.Words.{words_of};
     ghost use Rattle.egt_sweep.specs.CodeLists.{AreIndexes, HoldsBelow, IsAdded, IsTold, pawn_ways_at, pushes_at, roams_at, turned_at, ways_at};
-    ghost use Rattle.egt_words.specs.Told.{AreNodes, places, word_of};
+    ghost use Rattle.egt_index.specs.Numbers.{places};
+    ghost use Rattle.egt_words.specs.Told.{AreNodes, word_of};
 
     /// The lists of no words. The contract alone reads the class.
     fn nothing(alloc: Global, _class: Class) -> Result<CodeLists, AllocError>
@@ -121,7 +125,6 @@ impl CodeLists {
         nodes: u64,
         indexes: u64,
     ) -> Result<bool, AllocError>
-        requires targets { has_target (material_of class) ≡ false }
         requires within { IsWithin class shelf }
         requires men { IsShelf class shelf men.now }
         requires nodes { AreNodes class (word_of shelf side) nodes }
@@ -145,7 +148,6 @@ impl CodeLists {
         shelf: u32,
     ) -> Result<bool, AllocError>
         requires rows { rows.old ≡ class }
-        requires targets { has_target (material_of class) ≡ false }
         requires within { IsWithin class shelf }
         requires holds { HoldsBelow class (2 * shelf) self.old }
         ensures rows { rows.new ≡ class }
@@ -156,7 +158,7 @@ impl CodeLists {
             return Ok(false);
         };
         let nodes = positions_of(class, shelf);
-        let indexes = rows.places(shelf * shelf_len(class));
+        let indexes = rows.indexes(shelf);
         if !self.tell(
             told,
             class,
@@ -181,8 +183,7 @@ impl CodeLists {
 
     /// Tells of all words of the class, of which there are twice so many as shelves.
     fn tell_shelves(&mut self, class: Class, shelves: u32) -> Result<bool, AllocError>
-        requires targets { has_target (material_of class) ≡ false }
-        requires shelves { shelves * shelf_len class ≡ size_of class }
+        requires shelves { shelves * (2 * places class) ≡ size_of class }
         requires holds { HoldsBelow class 0 self.old }
         ensures { IfOk result (λ done. done ≡ true → HoldsBelow class (2 * shelves) self.new) }
     {
@@ -201,11 +202,12 @@ impl CodeLists {
         ensures { IfOk result (λ found. IfSome found (λ lists. IsTold class lists)) }
     {
         let _number = class.number();
-        if !has_words(class) {
+        let digits = last_digits(class);
+        if digits == 1 {
             return Ok(None);
         }
         let mut lists = CodeLists::nothing(alloc, class)?;
-        if !lists.tell_shelves(class, size(class) / shelf_len(class))? {
+        if !lists.tell_shelves(class, size(class) / (2 * digits))? {
             return Ok(None);
         }
         Ok(Some(lists))
@@ -219,8 +221,8 @@ impl CodeLists {
         ensures ways { result.ways.now ≡ ways_at self.now word }
         ensures turned { result.turned.now ≡ turned_at self.now word }
         ensures pawn_ways { result.pawn_ways.now ≡ pawn_ways_at self.now word }
-        ensures pushes { result.pushes ≡ pushes_at self.now word }
-        ensures roams { result.roams ≡ roams_at self.now word }
+        ensures pushes { result.pushes.now ≡ pushes_at self.now word }
+        ensures roams { result.roams.now ≡ roams_at self.now word }
     {
         let at = word as usize;
         let from = self.starts[at];
@@ -229,29 +231,18 @@ impl CodeLists {
             ways: &self.ways[from.ways..to.ways],
             turned: &self.turned[from.turned..to.turned],
             pawn_ways: &self.pawn_ways[from.pawn_ways..to.pawn_ways],
-            pushes: self.pushes[at],
-            roams: self.roams[at],
+            pushes: &self.pushes[at],
+            roams: &self.roams[at],
         }
     }
 }
 
-/// Whether a word has a place for each square of a last man: the class has two men beside the kings, and no targets.
-fn has_words(class: Class) -> bool
-    ensures targets { result ≡ true → has_target (material_of class) ≡ false }
-    ensures len { result ≡ true → (shelf_len class ≡ 96) ⊎ (shelf_len class ≡ 128) }
-{
-    let len = shelf_len(class);
-    !has_target(class) && (len == 96 || len == 128)
-}
-
 /// How many words the class has.
 pub(crate) fn word_count(class: Class) -> usize
-    requires some { 0 < places class }
-    requires few { places class ≤ 64 }
     ensures is { result ≡ words_of (places class) (size_of class) }
     ensures few { result ≤ 2 ^ 32 }
 {
-    words_of(shelf_len(class) / 2, size(class))
+    words_of(last_digits(class), size(class))
 }
 
 impl CodeWords {
@@ -260,11 +251,11 @@ impl CodeWords {
     ghost use Rattle.egt_index.specs.Index.{IsVoid};
     ghost use Rattle.egt_index.specs.Size.{size_of};
     ghost use Rattle.egt_sweep.specs.CodeSources.{IsSource};
-    ghost use Rattle.egt_sweep.specs.CodeLists.{nodes_at, pawn_ways_at, pushes_at, roams_at, staying_at, turned_at, ways_at};
-    ghost use Rattle.egt_words.specs.Told.{places};
+    ghost use Rattle.egt_sweep.specs.CodeLists.{indexes_at, nodes_at, pawn_ways_at, pushes_at, roams_at, staying_at, turned_at, ways_at};
+    ghost use Rattle.egt_index.specs.Numbers.{code_of, places};
 
-    /// The moves of the class between its codes; `None` where they are not told by words: it has targets, or not two men beside the kings, or some
-    /// word is not told.
+    /// The moves of the class between its numbers; `None` where they are not told by words: it has not two men beside the kings, or some word is not
+    /// told.
     pub(crate) fn of(alloc: Global, class: Class) -> Result<Option<CodeWords>, AllocError>
         ensures { IfOk result (λ found. IfSome found (λ words. words.class ≡ class)) }
     {
@@ -277,6 +268,7 @@ impl CodeWords {
         }
         Ok(Some(CodeWords {
             class,
+            span: last_digits(class),
             lists,
             sources,
         }))
@@ -289,10 +281,10 @@ impl CodeWords {
         ensures some { 0 < result }
         ensures few { result ≤ 64 }
     {
-        shelf_len(self.class) / 2
+        self.span
     }
 
-    /// Which codes of the word spell positions, by their places.
+    /// Which numbers of the word stand for positions, by their places.
     #[inline(always)]
     pub(crate) fn nodes(&self, word: u32) -> u64
         requires { word < words_of (places self.now.class) (size_of self.now.class) }
@@ -310,7 +302,7 @@ impl CodeWords {
         self.lists.staying[word as usize]
     }
 
-    /// The codes of all words that spell positions.
+    /// The numbers of all words that stand for positions.
     pub(crate) fn all_nodes(&self) -> &[u64]
         ensures is { result.now ≡ self.now.lists.nodes.items }
         ensures len { length result.now ≡ words_of (places self.now.class) (size_of self.now.class) }
@@ -318,7 +310,7 @@ impl CodeWords {
         self.lists.nodes.as_slice()
     }
 
-    /// Those that are indexes.
+    /// Those whose codes are indexes.
     pub(crate) fn all_indexes(&self) -> &[u64]
         ensures is { result.now ≡ self.now.lists.indexes.items }
         ensures len { length result.now ≡ words_of (places self.now.class) (size_of self.now.class) }
@@ -326,12 +318,21 @@ impl CodeWords {
         self.lists.indexes.as_slice()
     }
 
-    /// Whether the code is a position's index.
-    pub(crate) fn is_index(&self, code: u32) -> bool
-        requires { code < size_of self.now.class }
-        ensures { IsTrue result ↔ ¬ IsVoid self.now.class code }
+    /// Which numbers of the word have indexes for codes, by their places.
+    #[inline(always)]
+    pub(crate) fn indexes(&self, word: u32) -> u64
+        requires { word < words_of (places self.now.class) (size_of self.now.class) }
+        ensures { result ≡ indexes_at self.now.lists word }
     {
-        is_in(self.places(), self.all_indexes(), code)
+        self.lists.indexes[word as usize]
+    }
+
+    /// Whether the number's code is a position's index.
+    pub(crate) fn is_index(&self, number: u32) -> bool
+        requires { number < size_of self.now.class }
+        ensures { IsTrue result ↔ ¬ IsVoid self.now.class (code_of self.now.class number) }
+    {
+        is_in(self.places(), self.all_indexes(), number)
     }
 
     /// The moves from all places of the word.
@@ -341,8 +342,8 @@ impl CodeWords {
         ensures ways { result.ways.now ≡ ways_at self.now.lists word }
         ensures turned { result.turned.now ≡ turned_at self.now.lists word }
         ensures pawn_ways { result.pawn_ways.now ≡ pawn_ways_at self.now.lists word }
-        ensures pushes { result.pushes ≡ pushes_at self.now.lists word }
-        ensures roams { result.roams ≡ roams_at self.now.lists word }
+        ensures pushes { result.pushes.now ≡ pushes_at self.now.lists word }
+        ensures roams { result.roams.now ≡ roams_at self.now.lists word }
     {
         self.lists.moves(self.class, word)
     }
@@ -369,24 +370,27 @@ impl WordCodes<'_> {
     /// From which of the places asked for a pawn who stands on the same square in all positions goes into the marks.
     #[inline(always)]
     fn lead_pawn(&self, span: u32, pawns: bool, asked: u64, marks: &[u64]) -> u64
-        requires fits { CodesFit span (length marks.now) self.now.ways.now self.now.turned.now self.now.pawn_ways.now self.now.pushes self.now.roams }
+        requires fits { CodesFit span (length marks.now) self.now.ways.now self.now.turned.now self.now.pawn_ways.now self.now.pushes.now self.now.roams.now }
         requires asked { (k : ℕ) → bit_at asked k ≡ 1 → k < span }
         ensures { (k : ℕ) → bit_at result k ≡ 1 ↔ ((bit_at asked k ≡ 1) × ((j : ℕ) × ((pawns ≡ true) × GoesStraight span k j self.now.pawn_ways.now) × IsIn span marks.now j)) }
     {
         if pawns && !self.pawn_ways.is_empty() {
-            lead_by(span, self.pawn_ways, &[], &None, &None, asked, marks)
+            lead_by(span, self.pawn_ways, &[], &None, asked, marks)
         } else {
             0
         }
     }
 
-    /// From which of them the last man, if he roams, does.
+    /// From which of them the last man, if he roams, does: each place is a square then.
     #[inline(always)]
-    fn lead_last(&self, _span: u32, asked: u64, marks: &[u64]) -> u64
-        requires { RoamsTo _span (length marks.now) self.now.roams }
-        ensures { (k : ℕ) → bit_at result k ≡ 1 ↔ ((bit_at asked k ≡ 1) × ((j : ℕ) × GoesRoamingIf _span k j self.now.roams × IsIn _span marks.now j)) }
+    fn lead_last(&self, span: u32, asked: u64, marks: &[u64]) -> u64
+        requires { RoamsTo span (length marks.now) self.now.roams.now }
+        ensures { (k : ℕ) → bit_at result k ≡ 1 ↔ ((bit_at asked k ≡ 1) × ((j : ℕ) × GoesRoamingIf span k j self.now.roams.now × IsIn span marks.now j)) }
     {
-        match &self.roams {
+        if span < 64 {
+            return 0;
+        }
+        match self.roams {
             Some(roaming) => lead_roaming(roaming, asked, marks),
             None => 0,
         }
@@ -395,12 +399,12 @@ impl WordCodes<'_> {
     /// From which of the places asked for some move leads into the marks: one that does not zero, or where those of pawns are asked for too, a pawn's.
     #[inline(always)]
     pub(crate) fn lead(&self, span: u32, pawns: bool, asked: u64, marks: &[u64]) -> u64
-        requires fits { CodesFit span (length marks.now) self.now.ways.now self.now.turned.now self.now.pawn_ways.now self.now.pushes self.now.roams }
+        requires fits { CodesFit span (length marks.now) self.now.ways.now self.now.turned.now self.now.pawn_ways.now self.now.pushes.now self.now.roams.now }
         requires asked { (k : ℕ) → bit_at asked k ≡ 1 → k < span }
-        ensures { (k : ℕ) → bit_at result k ≡ 1 ↔ ((bit_at asked k ≡ 1) × ((j : ℕ) × GoesWith pawns span k j self.now.ways.now self.now.turned.now self.now.pawn_ways.now self.now.pushes self.now.roams × IsIn span marks.now j)) }
+        ensures { (k : ℕ) → bit_at result k ≡ 1 ↔ ((bit_at asked k ≡ 1) × ((j : ℕ) × GoesWith pawns span k j self.now.ways.now self.now.turned.now self.now.pawn_ways.now self.now.pushes.now self.now.roams.now × IsIn span marks.now j)) }
     {
-        let pushes = if pawns { Some(self.pushes) } else { None };
-        let first = lead_by(span, self.ways, self.turned, &pushes, &None, asked, marks);
+        let pushes = if pawns { Some(*self.pushes) } else { None };
+        let first = lead_by(span, self.ways, self.turned, &pushes, asked, marks);
         let found = first | self.lead_pawn(span, pawns, asked & !first, marks);
         found | self.lead_last(span, asked & !found, marks)
     }

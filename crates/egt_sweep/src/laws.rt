@@ -16,7 +16,9 @@ use egt_check::laws::{
     an_indexed_position_is_of_the_class,
 };
 use egt_class::laws::moves_lead_into_the_class_or_a_child;
-use egt_index::laws::{a_code_is_an_index_or_void, codes_spell_one_position};
+use egt_index::laws::{
+    a_code_is_an_index_or_void, codes_spell_one_position, numbers_stand_for_codes,
+};
 use egt_moves::laws::{moves_are_listed, moves_lead_to_one};
 use egt_unmoves::laws::images_have_like_unmoves;
 
@@ -38,9 +40,10 @@ pub(crate) fn laws()
     a_quiet_move_moves_one_man();
     moves_lead_into_the_class_or_a_child();
     images_have_like_unmoves();
+    numbers_stand_for_codes();
 }
 
-/// The codes of a class, by told moves, stand for its indexes: each for that of the position that it spells.
+/// The numbers of a class, by told moves, stand for its indexes: each for that of the position for which it stands.
 pub(crate) fn codes_stand_for_indexes()
     ensures { (tables : Tables) (column : Column) (c : ℕ) (moves : CodeMoves) → c < 36 → ∥ TellsGame c moves ∥₁ → StandsFor (code_game tables column c moves) (class_game tables column c) (index_of c) }
 {

@@ -3,7 +3,7 @@ ghost use Rattle.std.specs.Prelude.{◌≡◌, ◌≤◌, IfOk};
 ghost use Rattle.egt_graph.specs.Value.{AreRanks, SomeAbove};
 ghost use Rattle.egt_check.specs.Tables.{table_at, HasChildren};
 ghost use Rattle.egt_table.specs.declared.column.Column.TheVariants.{Mate};
-ghost use Rattle.egt_words.specs.Told.{places};
+ghost use Rattle.egt_index.specs.Numbers.{places};
 ghost use Rattle.egt_sweep.specs.ClassGame.{class_game};
 ghost use Rattle.egt_sweep.specs.CodeGame.{code_game_is_lawful};
 ghost use Rattle.egt_sweep.specs.CodeLists.{moves_told};

@@ -5,7 +5,7 @@ ghost use Rattle.egt_graph.specs.Words.{words_of};
 ghost use Rattle.egt_index.specs.Size.{size_of};
 ghost use Rattle.egt_check.specs.Tables.{table_at, beside, HasChildren};
 ghost use Rattle.egt_table.specs.declared.column.Column.TheVariants.{Mate, Zeroing};
-ghost use Rattle.egt_words.specs.Told.{places};
+ghost use Rattle.egt_index.specs.Numbers.{places};
 ghost use Rattle.egt_sweep.specs.ClassGame.{class_game};
 ghost use Rattle.egt_sweep.specs.CodeGame.{code_game_is_lawful};
 ghost use Rattle.egt_sweep.specs.CodeLists.{moves_told};

@@ -1,17 +1,18 @@
 -- Who stands where at the places of a word.
-use Rattle.std.proofs.Common.{◌≡◌, ◌≢◌, ◌⊎◌, ℕ, ◌+◌, ◌<◌, false, Option, Some, None, refl, sym, ◌∙◌, subst, inl, inr}
+use Rattle.std.proofs.Common.{◌≡◌, ◌≢◌, ◌⊎◌, ℕ, ◌+◌, ◌<◌, false, Option, Some, None, refl, sym, ap, ◌∙◌, subst, inl, inr}
 use Rattle.std.specs.FinMap as map
-use Rattle.std.specs.Option.{is_some}
-use Rattle.std.proofs.lemmas.Bool.{cases_eq, false≢true}
+use Rattle.std.proofs.lemmas.Bool.{cases_eq}
 use Rattle.egt_board.specs.Attack.{king_of}
 use Rattle.egt_board.specs.Placement.{Placement, IsFree, Stands}
 use Rattle.egt_board.specs.Setup.{Setup, IsAdmissible}
+use Rattle.egt_board.specs.declared.man.Kind.TheVariants.{P}
 use Rattle.egt_board.specs.declared.man.Man.{Man}
 use Rattle.egt_board.specs.declared.man.Side.{Side}
 use Rattle.egt_board.specs.declared.man.Side.TheVariants.{White, Black}
 use Rattle.egt_index.specs.Code.{Spells}
+use Rattle.egt_index.specs.Numbers.{code_of}
 use Rattle.egt_index.specs.Scales.{kind_digits}
-use Rattle.egt_index.specs.ShelfCodes.{IsShelf, code_in, stand_with}
+use Rattle.egt_index.specs.ShelfCodes.{IsShelf, number_in, stand_with}
 use Rattle.egt_index.specs.Spelled.{IsListed}
 use Rattle.egt_index.specs.Stood.{AllApart, HasStand, list_of}
 use Rattle.egt_index.specs.declared.shelf_codes.ShelfMen.{ShelfMen}
@@ -22,11 +23,8 @@ use Rattle.egt_index.proofs.Listing.{listed}
 use Rattle.egt_index.proofs.StepCodes.{told_stands}
 use Rattle.egt_words.specs.Standing.{IsAt, IsHeldOn, least_of, standing}
 use Rattle.egt_words.specs.Told.{word_of}
-use Rattle.egt_words.proofs.Places.{number_is, places_are}
-
-no_target : (o : Option ℕ) → is_some o ≡ false → o ≡ None
-no_target None is = refl
-no_target (Some t) is = absurd (false≢true (sym is))
+use Rattle.egt_words.proofs.Advancing.{StandsWith}
+use Rattle.egt_words.proofs.Places.{number_is}
 
 unfree : {A : Type 0} (o : Option Man) (man : Man) → o ≡ Some man → o ≡ None → A
 unfree o man there free = absurd (let both : Some man ≡ None = sym there ∙ free in cc)
@@ -77,19 +75,18 @@ module _ (c shelf : ℕ) (men : ShelfMen) (side : Side) (is : IsShelf c shelf me
   his = k + least_of men
 
   pub below : k < kind_digits men.last.kind
-  below = subst (λ n. k < n) (places_are c shelf men is) at.below
+  below = subst (λ n. k < n) is.len at.below
 
-  pub has : HasStand c false (stand_with men his) side false p
-  has = told_stands c (code_in c shelf side k) p (stand_with men his) side (subst (λ n. Spells c n p) (number_is c shelf men is side k) at.spells) (is.tells side k below)
+  pub has : HasStand c false (stand_with men his) side is.passed p
+  has =
+      told_stands is.passed c (code_of c (number_in c shelf side k)) p (stand_with men his) side (subst (λ n. Spells c (code_of c n) p) (number_is c shelf side k) at.spells.spells) at.spells.settled
+      (is.tells side k below)
 
   pub ok : IsAdmissible p
   ok = has.admissible
 
   pub mover : p.side ≡ side
   mover = has.side_is
-
-  pub untargeted : p.target ≡ None
-  untargeted = no_target p.target has.target_is
 
   pub stands : (man : Man) (from : ℕ) → IsListed (standing men) man from → Stands p.men from man
   stands man from h = listed_there p.men (list_of (stand_with men his)) man from has.stood.all (before men his man from h)
@@ -102,7 +99,7 @@ module _ (c shelf : ℕ) (men : ShelfMen) (side : Side) (is : IsShelf c shelf me
 
   -- who stands there stands still or is the last
   pub who : (man : Man) (s : ℕ) → Stands p.men s man → IsListed (standing men) man s ⊎ ((man ≡ men.last) × (s ≡ his))
-  who man s there = one_or_last men his man s (listed (list_of (stand_with men his)) man s (subst (λ (placed : Placement). Stands placed s man) (men_are c (stand_with men his) side false p has) there))
+  who man s there = one_or_last men his man s (listed (list_of (stand_with men his)) man s (subst (λ (placed : Placement). Stands placed s man) (men_are c (stand_with men his) side is.passed p has) there))
 
   -- the squares held are not free
   pub taken : (t : ℕ) → IsHeldOn men t → ¬ IsFree p.men t
@@ -114,5 +111,44 @@ module _ (c shelf : ℕ) (men : ShelfMen) (side : Side) (is : IsShelf c shelf me
   pub free_beside : (t : ℕ) → ¬ IsHeldOn men t → t ≢ his → IsFree p.men t
   free_beside t none off = elim (held_or_off men t) [
     | inl held ↦ absurd (none held)
-    | inr apart ↦ (free_off c (stand_with men his) side false p has t).1 (apart.0, (apart.1, (apart.2, ((λ e. off (sym e)), tt))))
+    | inr apart ↦ (free_off c (stand_with men his) side is.passed p has t).1 (apart.0, (apart.1, (apart.2, ((λ e. off (sym e)), tt))))
   ]
+
+  -- ---- who is a pawn
+
+  king_piece : (s : Side) (x : Man) → king_of s ≡ x → x.kind ≡ P → ⊥
+  king_piece s x e pawn = let kind = ap (λ (m : Man). m.kind) e in cc
+
+  -- none but the two men beside the kings
+  pub pawns : (s : ℕ) (x : Man) → Stands p.men s x → x.kind ≡ P → ((x ≡ men.one) × (s ≡ men.on)) ⊎ ((x ≡ men.last) × (s ≡ his))
+  pawns s x there pawn = of (who x s there)
+    where
+      of : IsListed (standing men) x s ⊎ ((x ≡ men.last) × (s ≡ his)) → ((x ≡ men.one) × (s ≡ men.on)) ⊎ ((x ≡ men.last) × (s ≡ his))
+      of (inl (inl h)) = absurd (king_piece White x h.0 pawn)
+      of (inl (inr (inl h))) = absurd (king_piece Black x h.0 pawn)
+      of (inl (inr (inr (inl h)))) = inl (sym h.0, sym h.1)
+      of (inl (inr (inr (inr h)))) = absurd h
+      of (inr h) = inr h
+
+  pub one_listed : IsListed (standing men) men.one men.on
+  one_listed = inr (inr (inl (refl, refl)))
+
+  pub one_with : men.one.kind ≡ P → men.one.side ≡ side → StandsWith p men.one men.on men.last his
+  one_with pawn mine = record {
+    stands = stands men.one men.on one_listed;
+    pawn = pawn;
+    mine = mine ∙ sym mover;
+    beside = last_stands;
+    apart = λ e. off_his men.one men.on one_listed (sym e);
+    only = λ s x there is_pawn. elim (pawns s x there is_pawn) [ inl h ↦ inl h.1 | inr h ↦ inr h ];
+  }
+
+  pub last_with : men.last.kind ≡ P → men.last.side ≡ side → StandsWith p men.last his men.one men.on
+  last_with pawn mine = record {
+    stands = last_stands;
+    pawn = pawn;
+    mine = mine ∙ sym mover;
+    beside = stands men.one men.on one_listed;
+    apart = off_his men.one men.on one_listed;
+    only = λ s x there is_pawn. elim (pawns s x there is_pawn) [ inl h ↦ inr h | inr h ↦ inl h.1 ];
+  }

@@ -1,15 +1,17 @@
 -- Where the men of the side to move take nobody and are not promoted.
-use Rattle.std.proofs.Common.{◌≡◌, ◌≢◌, ◌⊎◌, ℕ, ◌+◌, ◌==◌, Bool, true, false, Option, Some, None, refl, sym, ap, ◌∙◌, subst, inl, inr, arith}
+use Rattle.std.proofs.Common.{◌≡◌, ◌≢◌, ◌⊎◌, ℕ, ◌+◌, ◌==◌, Bool, true, false, Option, Some, None, IfSome, refl, sym, ap, ◌∙◌, subst, inl, inr, arith}
 use Rattle.std.proofs.lemmas.Bool.{and_parts, false≢true}
 use Rattle.std.proofs.lemmas.Bool.Decides.{eqb_tells}
 use Rattle.egt_board.specs.Attack.{king_of}
 use Rattle.egt_board.specs.Gait.{Reaches, Reaches-free}
 use Rattle.egt_board.specs.Man.{other_side}
-use Rattle.egt_board.specs.Pawn.{last_rank}
+use Rattle.egt_board.specs.Pawn.{HasPawnBeside, IsBeside, ahead, last_rank, pawn_of}
 use Rattle.egt_board.specs.Placement.{IsFree, IsHeld, Stands}
 use Rattle.egt_board.specs.Setup.{Setup}
 use Rattle.egt_board.specs.Square.{rank_of}
+use Rattle.egt_board.specs.Target.{IsTarget}
 use Rattle.egt_board.specs.declared.man.Kind.{Kind}
+use Rattle.egt_board.specs.declared.man.Kind.TheVariants.{P}
 use Rattle.egt_board.specs.declared.man.Man.{Man}
 use Rattle.egt_board.specs.declared.man.Side.{Side}
 use Rattle.egt_board.specs.declared.man.Side.TheVariants.{White, Black}
@@ -21,14 +23,15 @@ use Rattle.egt_moves.specs.Going.{Goes}
 use Rattle.egt_moves.specs.Legal.{Leads}
 use Rattle.egt_moves.specs.Promotion.{FitsPromotion, is_pawn, promotes}
 use Rattle.egt_moves.specs.declared.chess_move.Move.{Move}
-use Rattle.egt_moves.proofs.After.{side_twice}
+use Rattle.egt_moves.proofs.After.{side_twice, sides_differ}
 use Rattle.egt_check.proofs.Leaping.{advances_by, two_ahead_stays}
 use Rattle.egt_check.proofs.Pushing.{unlast}
 use Rattle.egt_check.proofs.Still.{pawn_is}
 use Rattle.egt_words.specs.Standing.{IsAt, IsHeldOn, IsStanding, least_of, standing}
 use Rattle.egt_words.specs.Staying.{IsFoeOn, MayPromote, ReachesPast, StaysAt}
 use Rattle.egt_words.specs.Told.{word_of}
-use Rattle.egt_words.proofs.AtPlace.{last_stands, mover, ok, taken, untargeted, who}
+use Rattle.egt_words.proofs.Advancing.{beside_back}
+use Rattle.egt_words.proofs.AtPlace.{has, last_stands, mover, ok, pawns, taken, who}
 
 not_other : (side : Side) → other_side side ≢ side
 not_other White e = cc
@@ -107,9 +110,41 @@ module _ (c shelf : ℕ) (men : ShelfMen) (side : Side) (is : IsShelf c shelf me
       | inr last ↦ by_last last.0 last.1 (who c shelf men side is k p at held.man m.to held.stands)
     ]
 
+  -- nor in passing: the pawn that would, and the one that he would take, are the two men beside the kings
+  no_target : (t : ℕ) → p.target ≢ Some t
+  no_target t is_target = by (pawns c shelf men side is k p at beside.square (pawn_of p.side) beside.stands refl) (pawns c shelf men side is k p at (ahead (other_side p.side) t) (pawn_of (other_side p.side)) target.advanced refl)
+    where
+      beside : HasPawnBeside p.men p.side (ahead (other_side p.side) t)
+      beside = subst (λ (o : Option ℕ). IfSome o (λ t. HasPawnBeside p.men p.side (ahead (other_side p.side) t))) is_target (has c shelf men side is k p at).settled
+
+      target : IsTarget p.men p.side t
+      target = subst (λ (o : Option ℕ). IfSome o (IsTarget p.men p.side)) is_target (ok c shelf men side is k p at).target
+
+      side_of : (x y : Man) → x ≡ y → x.side ≡ y.side
+      side_of x y e = ap (λ (m : Man). m.side) e
+
+      kind_of : (s : Side) (y : Man) → pawn_of s ≡ y → y.kind ≡ P
+      kind_of s y e = sym (ap (λ (m : Man). m.kind) e)
+
+      between : (s u : ℕ) → beside.square ≡ s → ahead (other_side p.side) t ≡ u → IsBeside s u
+      between s u here there = subst (IsBeside s) there (subst (λ v. IsBeside v (ahead (other_side p.side) t)) here beside.beside)
+
+      by : ((pawn_of p.side ≡ men.one) × (beside.square ≡ men.on)) ⊎ ((pawn_of p.side ≡ men.last) × (beside.square ≡ his))
+          → ((pawn_of (other_side p.side) ≡ men.one) × (ahead (other_side p.side) t ≡ men.on)) ⊎ ((pawn_of (other_side p.side) ≡ men.last) × (ahead (other_side p.side) t ≡ his)) → ⊥
+      by (inl a) (inl b) = sides_differ p.side (side_of _ _ a.0 ∙ sym (side_of _ _ b.0))
+      by (inr a) (inr b) = sides_differ p.side (side_of _ _ a.0 ∙ sym (side_of _ _ b.0))
+      by (inl a) (inr b) = stays.apart (
+        (kind_of p.side men.one a.0, kind_of (other_side p.side) men.last b.0, λ same. sides_differ p.side (side_of _ _ a.0 ∙ sym same ∙ sym (side_of _ _ b.0))),
+        beside_back men.on his (between men.on his a.1 b.1),
+      )
+      by (inr a) (inl b) = stays.apart (
+        (kind_of (other_side p.side) men.one b.0, kind_of p.side men.last a.0, λ same. sides_differ p.side (side_of _ _ a.0 ∙ same ∙ sym (side_of _ _ b.0))),
+        between his men.on a.1 b.1,
+      )
+
   pub no_capture : ¬ Captures p m
   no_capture (inl held) = none_taken held
-  no_capture (inr passing) = let none = untargeted c shelf men side is k p at in let some = passing.1 in cc
+  no_capture (inr passing) = no_target m.to passing.1
 
   -- ---- nobody is promoted
 

@@ -1,14 +1,14 @@
 -- The places of pawns by the bits of the squares before them.
-use Rattle.std.proofs.Common.{◌≡◌, ◌↔◌, ℕ, ◌+◌, ◌-◌, ◌*◌, ◌/◌, ◌%◌, ◌^◌, ◌<◌, ◌≤◌, min, bit_and, sym, ap, ◌∙◌, inl, inr, arith}
+use Rattle.std.proofs.Common.{◌≡◌, ◌↔◌, ℕ, ◌+◌, ◌-◌, ◌*◌, ◌/◌, ◌%◌, ◌^◌, ◌<◌, ◌≤◌, min, bit_and, refl, sym, ap, ◌∙◌, inl, inr, arith}
 use Rattle.std.specs.Int.{bit_at}
 use Rattle.std.proofs.lemmas.Bool.{cases_eq, cases_lt}
 use Rattle.std.proofs.lemmas.Nat.Bits.{bit_at-lt, bit_at_and, bit_at_mask_above, bit_at_mask_below, bit_at_mask_inside, bit_at_ones, bit_at_ones_above}
 use Rattle.egt_board.specs.SquareSet.{Has}
 use Rattle.egt_board.specs.declared.man.Side.TheVariants.{White, Black}
 use Rattle.egt_board.specs.declared.square_set.SquareSet.{SquareSet}
-use Rattle.egt_graph.proofs.Turning.{shifted_down, shifted_up}
+use Rattle.egt_graph.proofs.Turning.{shifted_down, shifted_up, shifted_up_low}
 use Rattle.egt_index.specs.declared.shelf_codes.ShelfMen.{ShelfMen}
-use Rattle.egt_words.specs.Pushing.{IsDouble, IsSingle}
+use Rattle.egt_words.specs.Pushing.{IsDouble, IsSingle, LeadsInto}
 use Rattle.egt_words.specs.Standing.{IsHeldOn}
 
 -- a bit of those below a number, and of those from one to another
@@ -108,6 +108,29 @@ module _ (free : SquareSet) (k : ℕ) where
     where
       back : k + 8 - 8 ≡ k
       back = omega arith
+
+-- those from which two ahead is one of these squares
+module _ (from : ℕ) (squares : SquareSet) (k : ℕ) where
+  pub white_into : (bit_at (bit_and from (squares.bits / 2 ^ 24)) k ≡ 1) ↔ ((bit_at from k ≡ 1) × LeadsInto White squares k)
+  white_into = (
+    λ one. (let h = (both_bits from (squares.bits / 2 ^ 24) k).0 one in (h.0, (k + 8 + 16, refl, sym (down squares.bits 24 k (k + 8 + 16) (omega arith)) ∙ h.1))),
+    λ h. (let two = h.1.1 in (both_bits from (squares.bits / 2 ^ 24) k).1 (h.0, down squares.bits 24 k h.1.0 (omega (arith, two)) ∙ h.1.2)),
+  )
+
+  pub black_into : (bit_at from k ≡ 1 → k < 64) → (bit_at (bit_and from (squares.bits * 2 ^ 8 % 18446744073709551616)) k ≡ 1) ↔ ((bit_at from k ≡ 1) × LeadsInto Black squares k)
+  black_into within = (
+    λ one. (let h = (both_bits from (squares.bits * 2 ^ 8 % 18446744073709551616) k).0 one in (h.0, back (within h.0) h.1)),
+    λ h. (both_bits from (squares.bits * 2 ^ 8 % 18446744073709551616) k).1 (h.0, forth (within h.0) h.1),
+  )
+    where
+      back : k < 64 → bit_at (squares.bits * 2 ^ 8 % 18446744073709551616) k ≡ 1 → LeadsInto Black squares k
+      back lt one = elim (cases_lt k 8) [
+        | inl low ↦ absurd (let none = shifted_up_low squares.bits 8 k lt low in omega (arith, none, one))
+        | inr high ↦ (k - 8, omega (arith, high), sym (shifted_up squares.bits 8 k lt high) ∙ one)
+      ]
+
+      forth : k < 64 → LeadsInto Black squares k → bit_at (squares.bits * 2 ^ 8 % 18446744073709551616) k ≡ 1
+      forth lt (t, two, has) = shifted_up squares.bits 8 k lt (omega (arith, two)) ∙ ap (bit_at squares.bits) (omega (arith, two)) ∙ has
 
 -- all squares but those held
 pub free_squares : (men : ShelfMen) (held free : SquareSet) → ((t : ℕ) → Has held t ↔ IsHeldOn men t) → ((t : ℕ) → bit_at free.bits t ≡ min (bit_at 18446744073709551615 t) (1 - bit_at held.bits t)) → (t : ℕ) → Has free t ↔ ((t < 64) × ¬ IsHeldOn men t)

@@ -11,13 +11,13 @@ use Rattle.egt_graph.specs.WordMoves.{turned_place}
 use Rattle.egt_graph.specs.Words.{number_at}
 use Rattle.egt_graph.specs.declared.word_moves.TurnedWay.{TurnedWay}
 use Rattle.egt_graph.specs.declared.word_moves.Way.{Way}
-use Rattle.egt_index.specs.Code.{Spells}
+use Rattle.egt_index.specs.Numbers.{IsNumbered, places}
 use Rattle.egt_index.specs.ShelfCodes.{IsShelf}
 use Rattle.egt_index.specs.declared.shelf_codes.ShelfMen.{ShelfMen}
 use Rattle.egt_check.specs.Fan.{IsGoal}
 use Rattle.egt_words.specs.Standing.{IsHeldOn, IsStanding, least_of}
 use Rattle.egt_words.specs.Steps.{AddsOne, AddsShut, AreSteps, GoesStanding, IsStepWay, Keeps, TellsQuiet}
-use Rattle.egt_words.specs.Told.{places, word_of}
+use Rattle.egt_words.specs.Told.{word_of}
 use Rattle.egt_words.specs.declared.told.Told.{Told}
 use Rattle.egt_words.proofs.Adding.{turn_goes, turn_keeps, turn_steps, way_goes, way_keeps, way_steps}
 use Rattle.egt_words.proofs.Stepping.{QuietMoves, comes, goes_along, goes_unshut, king_goes, leads, unshut_goes}
@@ -54,7 +54,7 @@ module _ (c shelf : ℕ) (men : ShelfMen) (side : Side) (is : IsShelf c shelf me
   straight none same (off, shuts, added) = record {
     steps = way_steps c word old new here added turned_is are step.within (λ k p r at unshut spells.
         comes c shelf men side is man from to still piece held held_is goal.reaches goal.off way step k p at
-        (unshut_goes c shelf men side is man from to still piece held held_is goal.reaches goal.off way step k p at off shuts unshut) r (subst (λ n. Spells c n r) (at_place k) spells));
+        (unshut_goes c shelf men side is man from to still piece held held_is goal.reaches goal.off way step k p at off shuts unshut) r (subst (λ n. IsNumbered c n r) (at_place k) spells));
     keeps = way_keeps c word old new here added turned_is;
     tells = λ _ k p q m at led quiet from_is to_is.
         let reaches = goes_along c shelf men side is man from to still piece held held_is goal.reaches goal.off way step k p at q m led quiet from_is to_is in
@@ -64,7 +64,7 @@ module _ (c shelf : ℕ) (men : ShelfMen) (side : Side) (is : IsShelf c shelf me
           number = number_at (places c) way.word k;
           goes = way_goes c word old new here added turned_is k unshut;
           image = found.0;
-          spells = subst (λ n. Spells c n found.0) (sym (at_place k)) found.1;
+          is = subst (λ n. IsNumbered c n found.0) (sym (at_place k)) found.1;
           images = found.2;
         };
   }
@@ -91,7 +91,7 @@ module _ (c shelf : ℕ) (men : ShelfMen) (side : Side) (is : IsShelf c shelf me
           number = at_number k;
           goes = turn_goes c word old new way added ways_is k;
           image = found.0;
-          spells = found.1;
+          is = found.1;
           images = found.2;
         };
   }

@@ -18,7 +18,7 @@ use Rattle.egt_board.proofs.Hiding.{Open, clear_reach, free_between}
 use Rattle.egt_graph.specs.WordMoves.{turned_place}
 use Rattle.egt_graph.specs.Words.{number_at}
 use Rattle.egt_graph.specs.declared.word_moves.TurnedWay.{TurnedWay}
-use Rattle.egt_index.specs.Code.{Spells}
+use Rattle.egt_index.specs.Numbers.{IsNumbered, code_of, places}
 use Rattle.egt_index.specs.Frame.{IsMoved}
 use Rattle.egt_index.specs.ShelfCodes.{IsShelf}
 use Rattle.egt_index.specs.StepCodes.{FollowsStep}
@@ -30,8 +30,9 @@ use Rattle.egt_check.specs.Fan.{IsGoal}
 use Rattle.egt_check.proofs.Fanned.{king_reaches}
 use Rattle.egt_words.specs.Standing.{IsAt, IsHeldOn, IsStanding, least_of}
 use Rattle.egt_words.specs.Steps.{IsStepWay}
-use Rattle.egt_words.specs.Told.{Quietly, places, word_of}
+use Rattle.egt_words.specs.Told.{Quietly, word_of}
 use Rattle.egt_words.proofs.AtPlace.{free_beside, held_by, last_stands, mover, off_his, ok, stands, taken}
+use Rattle.egt_words.proofs.Following.{numbered}
 use Rattle.egt_words.proofs.Quiet.{quietly, reached}
 
 -- the law that a move that does not zero moves one man
@@ -60,7 +61,7 @@ module _ (c shelf : ℕ) (men : ShelfMen) (side : Side) (is : IsShelf c shelf me
     mine : man.side ≡ p.side
     mine = still.mine ∙ sym (mover c shelf men side is k p at)
 
-    follows : FollowsStep c (number k) from to p
+    follows : FollowsStep c (code_of c (number k)) from to p
     follows = step.follows k p at (off_his c shelf men side is k p at man from still.listed)
 
     -- a square that is not held is free where the last man does not stand on it
@@ -72,16 +73,16 @@ module _ (c shelf : ℕ) (men : ShelfMen) (side : Side) (is : IsShelf c shelf me
         clear_reach (IsFree p.men) man from to (Reaches-free (λ u. bit_at held.bits u ≡ 0) (Open 0) man from to (λ u u_in none. bit_at-zero u) goal)
         (λ u between. free u (free_between (λ v. bit_at held.bits v ≡ 0) man from to u goal between) (off u between))
 
-    -- what the number spells comes by a move that does not zero
-    pub comes : Reaches (IsFree p.men) man from to → (r : Setup) → Spells c (number k) r → Quietly p r
-    comes reaches r spells =
-        let came = follows.comes r man to_in apart there spells in
+    -- what the number stands for comes by a move that does not zero
+    pub comes : Reaches (IsFree p.men) man from to → (r : Setup) → IsNumbered c (number k) r → Quietly p r
+    comes reaches r is =
+        let came = follows.comes r man to_in apart there is.spells in
         quietly c p man from to there mine piece came.0 r came.1 reaches came.2
 
-    -- and where such a move leads it spells an image
-    pub leads : QuietMoves → (q : Setup) (m : Move) → Leads p m q → ¬ Zeroes p m → m.from ≡ from → m.to ≡ to → (r : Setup) × Spells c (number k) r × AreImages q r
+    -- and where such a move leads it stands for an image
+    pub leads : QuietMoves → (q : Setup) (m : Move) → Leads p m q → ¬ Zeroes p m → m.from ≡ from → m.to ≡ to → (r : Setup) × IsNumbered c (number k) r × AreImages q r
     leads law q m led quiet from_is to_is =
-        follows.leads q (subst (λ t. IsMoved c p from t q) to_is (subst (λ s. IsMoved c p s m.to q) from_is (law c p q m (ok c shelf men side is k p at) led quiet)))
+        numbered c (number k) from to p follows q (subst (λ t. IsMoved c p from t q) to_is (subst (λ s. IsMoved c p s m.to q) from_is (law c p q m (ok c shelf men side is k p at) led quiet)))
 
     pub goes_along : (q : Setup) (m : Move) → Leads p m q → ¬ Zeroes p m → m.from ≡ from → m.to ≡ to → Reaches (IsFree p.men) man from to
     goes_along q m led quiet from_is to_is =

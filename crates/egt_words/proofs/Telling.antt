@@ -10,29 +10,27 @@ use Rattle.egt_board.specs.Setup.{Setup}
 use Rattle.egt_board.specs.declared.man.Kind.TheVariants.{P}
 use Rattle.egt_board.specs.declared.man.Man.{Man}
 use Rattle.egt_board.specs.declared.man.Side.{Side}
-use Rattle.egt_graph.specs.WordMoves.{FitsPushes, GoesPushed, PushesTo}
+use Rattle.egt_graph.specs.WordMoves.{FitsPushes, GoesPushed, HasWords}
 use Rattle.egt_graph.specs.Words.{words_of}
 use Rattle.egt_graph.specs.declared.word_moves.Pushes.{Pushes}
-use Rattle.egt_index.specs.Code.{Spells}
 use Rattle.egt_index.specs.Index.{SettleAlike}
+use Rattle.egt_index.specs.Numbers.{IsNumbered, places}
 use Rattle.egt_index.specs.Scales.{kind_digits}
 use Rattle.egt_index.specs.ShelfCodes.{IsShelf, IsWithin}
 use Rattle.egt_index.specs.Size.{size_of}
-use Rattle.egt_index.specs.Spelled.{IsListed}
 use Rattle.egt_index.specs.declared.shelf_codes.ShelfMen.{ShelfMen}
 use Rattle.egt_moves.specs.Chess.{Zeroes}
 use Rattle.egt_moves.specs.Legal.{Leads}
 use Rattle.egt_moves.specs.declared.chess_move.Move.{Move}
-use Rattle.egt_words.specs.Standing.{IsAt, king_square_of, least_of, standing}
+use Rattle.egt_words.specs.Standing.{IsAt, king_square_of, least_of}
 use Rattle.egt_words.specs.Staying.{StaysAt}
-use Rattle.egt_words.specs.Steps.{AreAhead, AreSteps, ComesTo, GoesAhead, GoesStanding, IsAdvance, IsClear, SameBesideSteps, SettlesIn, TellsAdvance, TellsLast, TellsLastAdvances, TellsLastQuiet, TellsOne, TellsQuiet}
-use Rattle.egt_words.specs.Told.{AreNodes, Fits, GoesByPawn, GoesQuietly, GoesRoaming, GoesRoamingIf, SpellsAt, TellsWord, places, word_of}
-use Rattle.egt_words.specs.Told as told
+use Rattle.egt_words.specs.Steps.{AreAhead, AreNoPushes, ArePushes, AreSteps, ComesTo, GoesAhead, GoesStanding, IsAdvance, IsClear, IsRoaming, SameBesideSteps, SettlesIn, TellsAdvance, TellsLast, TellsOne, TellsQuiet}
+use Rattle.egt_words.specs.Told.{AreNodes, Fits, GoesByPawn, GoesQuietly, GoesRoamingIf, SpellsAt, TellsWord, word_of}
 use Rattle.egt_words.specs.declared.roaming.Roaming.{Roaming}
 use Rattle.egt_words.specs.declared.told.Told.{Told}
-use Rattle.egt_words.proofs.AtPlace.{last_stands, mover, ok, stands, who}
+use Rattle.egt_words.proofs.AtPlace.{last_stands, mover, ok, one_listed, stands, who}
 use Rattle.egt_words.proofs.Kept.{no_capture, no_promotion_at_all}
-use Rattle.egt_words.proofs.Places.{places_are, word_within}
+use Rattle.egt_words.proofs.Places.{word_within}
 use Rattle.egt_words.proofs.Quiet.{of_piece}
 use Rattle.egt_words.proofs.Stays.{king_no_pawn, king_or_one}
 
@@ -74,19 +72,16 @@ piece_ahead p q m man from there piece advance from_is =
     piece (ap (λ (x : Man). x.kind) (one_man p.men m.from man pawn.man (subst (λ s. Stands p.men s man) (sym from_is) there) pawn.stands) ∙ pawn.pawn)
 
 module _ (c shelf : ℕ) (men : ShelfMen) (side : Side) (is : IsShelf c shelf men) where
-  one_listed : IsListed (standing men) men.one men.on
-  one_listed = inr (inr (inl (refl, refl)))
-
   pub pawn_told : (told : Told) → men.one.kind ≡ P → ((t : ℕ) → TellsAdvance c (word_of shelf side) (GoesAhead c told) men.on t) → TellsOne c (word_of shelf side) men told
   pawn_told told pawn advances = record {
-    quiet = λ t k p q m at leads quiet from_is to_is. absurd (quiet_pawn p q m men.one men.on (stands c shelf men side is k p at men.one men.on one_listed) pawn quiet from_is);
+    quiet = λ t k p q m at leads quiet from_is to_is. absurd (quiet_pawn p q m men.one men.on (stands c shelf men side is k p at men.one men.on (one_listed c shelf men side is k p at)) pawn quiet from_is);
     advances = advances;
   }
 
   pub piece_told : (told : Told) → men.one.kind ≢ P → ((t : ℕ) → TellsQuiet c (word_of shelf side) (GoesStanding c told) men.on t) → TellsOne c (word_of shelf side) men told
   piece_told told piece quiet = record {
     quiet = quiet;
-    advances = λ t k p q m at advance from_is to_is. absurd (piece_ahead p q m men.one men.on (stands c shelf men side is k p at men.one men.on one_listed) piece advance from_is);
+    advances = λ t k p q m at advance from_is to_is. absurd (piece_ahead p q m men.one men.on (stands c shelf men side is k p at men.one men.on (one_listed c shelf men side is k p at)) piece advance from_is);
   }
 
   -- ---- the last man
@@ -98,53 +93,62 @@ module _ (c shelf : ℕ) (men : ShelfMen) (side : Side) (is : IsShelf c shelf me
     no_bit : (n k : ℕ) → n ≡ 0 → bit_at n k ≡ 1 → ⊥
     no_bit n k zero one = let none = ap (λ x. bit_at x k) zero ∙ bit_at-zero k in omega (arith, none, one)
 
-    no_push : (k t : ℕ) → pushes.single ≡ 0 → pushes.double ≡ 0 → PushesTo pushes k t → ⊥
-    no_push k t single double (inl one) = no_bit pushes.single k single one.0
-    no_push k t single double (inr one) = no_bit pushes.double k double one.0
+    no_push : (k j : ℕ) → AreNoPushes pushes → GoesPushed (places c) k j pushes → ⊥
+    no_push k j none (inl (t, j_is, inl one)) = no_bit pushes.single k none.single one.0
+    no_push k j none (inl (t, j_is, inr one)) = no_bit pushes.double k none.double one.0
+    no_push k j none (inr (t, j_is, one)) = no_bit pushes.leaps k none.leaps one.0
 
     no_roam : (k j : ℕ) → roams ≡ None → GoesRoamingIf (places c) k j roams → ⊥
     no_roam k j none goes = subst (λ (o : Option Roaming). GoesRoamingIf (places c) k j o) none goes
 
-    abbrev NoPush : Type 0
-    NoPush = (pushes.word ≡ 0) × (pushes.single ≡ 0) × (pushes.double ≡ 0)
+    none_words : AreNoPushes pushes → HasWords (words_of (places c) (size_of c)) pushes
+    none_words none = record {
+      word = subst (λ w. w < words_of (places c) (size_of c)) (sym none.word) some_word;
+      leap_word = subst (λ w. w < words_of (places c) (size_of c)) (sym none.leap_word) some_word;
+    }
 
-    none_pushed : NoPush → FitsPushes (places c) pushes
-    none_pushed none = record { single = λ k one. absurd (no_bit pushes.single k none.1 one); double = λ k one. absurd (no_bit pushes.double k none.2 one) }
+    none_pushed : AreNoPushes pushes → FitsPushes (places c) pushes
+    none_pushed none = record {
+      single = λ k one. absurd (no_bit pushes.single k none.single one);
+      double = λ k one. absurd (no_bit pushes.double k none.double one);
+      leaps = λ k one. absurd (no_bit pushes.leaps k none.leaps one);
+    }
 
-    pub last_waits : NoPush → roams ≡ None → men.last.side ≢ side → TellsLast c (word_of shelf side) men side pushes roams
+    abbrev RoamsWithin : Option Roaming → Type 0
+    RoamsWithin o = IfSome o (λ roaming. (places c ≡ 64) × (roaming.word < words_of (places c) (size_of c)))
+
+    pub last_waits : AreNoPushes pushes → roams ≡ None → men.last.side ≢ side → TellsLast c (word_of shelf side) men side pushes roams
     last_waits none no_roams other = record {
-      within = subst (λ w. w < words_of (places c) (size_of c)) (sym none.0) some_word;
+      words = none_words none;
       pushed = none_pushed none;
-      roaming = subst (λ (o : Option Roaming). IfSome o (λ roaming. (places c ≡ 64) × (roaming.word < words_of (places c) (size_of c)))) (sym no_roams) tt;
-      quiet = λ k j p r at goes spells. absurd (no_roam k j no_roams goes);
+      roaming = subst RoamsWithin (sym no_roams) tt;
+      quiet = λ k j p r at goes is. absurd (no_roam k j no_roams goes);
       all_quiet = λ own. absurd (other own);
-      advances = λ k j p r at goes spells. absurd (no_push k goes.0 none.1 none.2 goes.2);
+      advances = λ k j p r at goes is. absurd (no_push k j none goes);
       all_advances = λ own. absurd (other own);
     }
 
-    pub last_pawn_told : men.last.kind ≡ P → roams ≡ None → pushes.word < words_of (places c) (size_of c) → FitsPushes (places c) pushes
-        → ((k j : ℕ) (p r : Setup) → IsAt c (word_of shelf side) k p → GoesPushed (places c) k j pushes → Spells c j r → told.Advances p r) → TellsLastAdvances c (word_of shelf side) (least_of men) (λ k j. GoesPushed (places c) k j pushes)
-        → TellsLast c (word_of shelf side) men side pushes roams
-    last_pawn_told pawn no_roams word_in fits advances all = record {
-      within = word_in;
-      pushed = fits;
-      roaming = subst (λ (o : Option Roaming). IfSome o (λ roaming. (places c ≡ 64) × (roaming.word < words_of (places c) (size_of c)))) (sym no_roams) tt;
-      quiet = λ k j p r at goes spells. absurd (no_roam k j no_roams goes);
+    pub last_pawn_told : men.last.kind ≡ P → roams ≡ None → ArePushes c (word_of shelf side) men pushes → TellsLast c (word_of shelf side) men side pushes roams
+    last_pawn_told pawn no_roams pushed = record {
+      words = pushed.words;
+      pushed = pushed.fits;
+      roaming = subst RoamsWithin (sym no_roams) tt;
+      quiet = λ k j p r at goes is. absurd (no_roam k j no_roams goes);
       all_quiet = λ own k p q m at leads quiet from_is. absurd (quiet_pawn p q m men.last (k + least_of men) (last_stands c shelf men side is k p at) pawn quiet from_is);
-      advances = advances;
-      all_advances = λ own. all;
+      advances = pushed.advances;
+      all_advances = λ own. pushed.told;
     }
 
-    pub last_piece_told : (roaming : Roaming) → roams ≡ Some roaming → men.last.kind ≢ P → NoPush → places c ≡ 64 → roaming.word < words_of (places c) (size_of c)
-        → ((k j : ℕ) (p r : Setup) → IsAt c (word_of shelf side) k p → GoesRoaming (places c) k j roaming → Spells c j r → told.Quietly p r) → TellsLastQuiet c (word_of shelf side) (least_of men) (λ k j. GoesRoaming (places c) k j roaming)
-        → TellsLast c (word_of shelf side) men side pushes roams
-    last_piece_told roaming some piece none all_places word_in quiet all = record {
-      within = subst (λ w. w < words_of (places c) (size_of c)) (sym none.0) some_word;
+    pub last_piece_told : (roaming : Roaming) → roams ≡ Some roaming → men.last.kind ≢ P → AreNoPushes pushes → IsRoaming c (word_of shelf side) men roaming → TellsLast c (word_of shelf side) men side pushes roams
+    last_piece_told roaming some piece none goes_so = record {
+      words = none_words none;
       pushed = none_pushed none;
-      roaming = subst (λ (o : Option Roaming). IfSome o (λ roaming. (places c ≡ 64) × (roaming.word < words_of (places c) (size_of c)))) (sym some) (all_places, word_in);
-      quiet = λ k j p r at goes spells. quiet k j p r at (subst (λ (o : Option Roaming). GoesRoamingIf (places c) k j o) some goes) spells;
-      all_quiet = λ own. subst (λ (o : Option Roaming). TellsLastQuiet c (word_of shelf side) (least_of men) (λ k j. GoesRoamingIf (places c) k j o)) (sym some) all;
-      advances = λ k j p r at goes spells. absurd (no_push k goes.0 none.1 none.2 goes.2);
+      roaming = subst RoamsWithin (sym some) (goes_so.all_places, goes_so.within);
+      quiet = λ k j p r at goes is. goes_so.quiet k j p r at (subst (λ (o : Option Roaming). GoesRoamingIf (places c) k j o) some goes) is;
+      all_quiet = λ own k p q m at leads quiet from_is.
+          let found = goes_so.told k p q m at leads quiet from_is in
+          record { number = found.number; goes = subst (λ (o : Option Roaming). GoesRoamingIf (places c) k found.number o) (sym some) found.goes; image = found.image; is = found.is; images = found.images };
+      advances = λ k j p r at goes is. absurd (no_push k j none goes);
       all_advances = λ own k p q m at advance from_is. absurd (piece_ahead p q m men.last (k + least_of men) (last_stands c shelf men side is k p at) piece advance from_is);
     }
 
@@ -155,29 +159,29 @@ module _ (c shelf : ℕ) (men : ShelfMen) (side : Side) (is : IsShelf c shelf me
     at_node k p node spells = record { below = ((are k).0 node).0; spells = spells }
 
     pub node_digit : (k : ℕ) → bit_at nodes k ≡ 1 → k < kind_digits men.last.kind
-    node_digit k node = subst (λ n. k < n) (places_are c shelf men is) ((are k).0 node).0
+    node_digit k node = subst (λ n. k < n) is.len ((are k).0 node).0
 
     -- where there is a node no pawn stands on the first rank or the last
     pub one_stands : (k : ℕ) × (bit_at nodes k ≡ 1) → MayStand men.one men.on
     one_stands (k, node) =
         let found = ((are k).0 node).1 in
         let at = at_node k found.0 node found.1 in
-        (ok c shelf men side is k found.0 at).pawns men.on men.one (stands c shelf men side is k found.0 at men.one men.on one_listed)
+        (ok c shelf men side is k found.0 at).pawns men.on men.one (stands c shelf men side is k found.0 at men.one men.on (one_listed c shelf men side is k found.0 at))
 
     module _ (told : Told) (steps : AreSteps c (word_of shelf side) told) (ahead : AreAhead c (word_of shelf side) told) (last : TellsLast c (word_of shelf side) men side told.pushes told.roams)
         (king : (t : ℕ) → TellsQuiet c (word_of shelf side) (GoesStanding c told) (king_square_of men side) t) (one : men.one.side ≡ side → TellsOne c (word_of shelf side) men told)
         (within : (k : ℕ) → bit_at told.staying k ≡ 1 → bit_at nodes k ≡ 1) (stay : (k : ℕ) → bit_at told.staying k ≡ 1 → StaysAt men side k) where
       abbrev ToImage : ℕ → Setup → Type 0
-      ToImage k q = (j : ℕ) × GoesQuietly (places c) k j told × ((r : Setup) × Spells c j r × AreImages q r)
+      ToImage k q = (j : ℕ) × GoesQuietly (places c) k j told × ((r : Setup) × IsNumbered c j r × AreImages q r)
 
       abbrev ToAlike : ℕ → Setup → Type 0
-      ToAlike k q = (j : ℕ) × GoesByPawn (places c) k j told × ((r : Setup) × Spells c j r × SettleAlike q r)
+      ToAlike k q = (j : ℕ) × GoesByPawn (places c) k j told × ((r : Setup) × IsNumbered c j r × SettleAlike q r)
 
       standing_image : (k : ℕ) (q : Setup) → ComesTo c (GoesStanding c told k) q → ToImage k q
-      standing_image k q found = (found.number, inl found.goes, (found.image, found.spells, found.images))
+      standing_image k q found = (found.number, inl found.goes, (found.image, found.is, found.images))
 
       ahead_alike : (k : ℕ) (q : Setup) → SettlesIn c (GoesAhead c told k) q → ToAlike k q
-      ahead_alike k q found = (found.number, inl found.goes, (found.image, found.spells, found.alike))
+      ahead_alike k q found = (found.number, inl found.goes, (found.image, found.is, found.alike))
 
       all_quiet : (k : ℕ) (p q : Setup) (m : Move) → IsAt c (word_of shelf side) k p → Leads p m q → ¬ Zeroes p m → ToImage k q
       all_quiet k p q m at leads quiet = elim (who c shelf men side is k p at leads.man m.from leads.stands) [
@@ -187,7 +191,7 @@ module _ (c shelf : ℕ) (men : ShelfMen) (side : Side) (is : IsShelf c shelf me
         ]
         | inr h ↦
             let found = last.all_quiet (sym (ap (λ (x : Man). x.side) h.0) ∙ own) k p q m at leads quiet h.1 in
-            (found.number, inr found.goes, (found.image, found.spells, found.images))
+            (found.number, inr found.goes, (found.image, found.is, found.images))
       ]
         where
           own : leads.man.side ≡ side
@@ -201,7 +205,7 @@ module _ (c shelf : ℕ) (men : ShelfMen) (side : Side) (is : IsShelf c shelf me
         ]
         | inr h ↦
             let found = last.all_advances (sym (ap (λ (x : Man). x.side) h.0) ∙ own) k p q m at advance h.1 in
-            (found.number, inr found.goes, (found.image, found.spells, found.alike))
+            (found.number, inr found.goes, (found.image, found.is, found.alike))
       ]
         where
           leads : Leads p m q
@@ -216,7 +220,7 @@ module _ (c shelf : ℕ) (men : ShelfMen) (side : Side) (is : IsShelf c shelf me
         turned_words = steps.turned;
         turns = steps.turns;
         pawn_words = ahead.ways;
-        push_word = last.within;
+        push_words = last.words;
         pushed = last.pushed;
         roam_word = last.roaming;
       }
@@ -254,8 +258,8 @@ module _ (c shelf : ℕ) (men : ShelfMen) (side : Side) (is : IsShelf c shelf me
       turned_words = λ way has. absurd (none_in told.turned.items way clear.turned has);
       turns = λ way has. absurd (none_in told.turned.items way clear.turned has);
       pawn_words = λ way has. absurd (none_in told.pawn_ways.items way clear.pawn_ways has);
-      push_word = subst (λ w. w < words_of (places c) (size_of c)) (sym clear.word) (some_word within told.pushes told.roams);
-      pushed = none_pushed within told.pushes told.roams (clear.word, clear.single, clear.double);
+      push_words = none_words within told.pushes told.roams clear.pushes;
+      pushed = none_pushed within told.pushes told.roams clear.pushes;
       roam_word = subst (λ (o : Option Roaming). IfSome o (λ roaming. (places c ≡ 64) × (roaming.word < words_of (places c) (size_of c)))) (sym clear.roams) tt;
     };
     staying_nodes = λ k one. absurd (unset k one);

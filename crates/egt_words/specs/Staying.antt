@@ -7,7 +7,7 @@ use Rattle.egt_board.specs.declared.man.Kind.TheVariants.{P}
 use Rattle.egt_board.specs.declared.man.Man.{Man}
 use Rattle.egt_board.specs.declared.man.Side.{Side}
 use Rattle.egt_index.specs.declared.shelf_codes.ShelfMen.{ShelfMen}
-use Rattle.egt_words.specs.Standing.{IsHeldOn, IsStanding, least_of}
+use Rattle.egt_words.specs.Standing.{IsHeldOn, IsRivalAt, IsStanding, least_of}
 
 -- the man attacks the square past those who stand still
 abbrev pub ReachesPast : ShelfMen → Man → (from t : ℕ) → Type 0
@@ -31,8 +31,9 @@ pub record StandingStay (men : ShelfMen) (side : Side) : Type 0 where
   pub takes : (man : Man) (from t : ℕ) → IsStanding men side man from → ReachesPast men man from t → ¬ IsFoeOn men side t
   pub promotes : (man : Man) (from : ℕ) → IsStanding men side man from → ¬ MayPromote man from
 
--- they do not take the last man at the place either, and he, if he is of that side, stays
+-- they do not take the last man at the place either, and he, if he is of that side, stays; he stands beside no pawn that he may take in passing, or that may take him
 pub record StaysAt (men : ShelfMen) (side : Side) (k : ℕ) : Type 0 where
   pub standing : StandingStay men side
   pub spares : (man : Man) (from : ℕ) → IsStanding men side man from → ReachesPast men man from (k + least_of men) → men.last.side ≡ side
   pub last : men.last.side ≡ side → LastStays men side k
+  pub apart : ¬ IsRivalAt men men.on k

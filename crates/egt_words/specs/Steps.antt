@@ -11,22 +11,22 @@ use Rattle.egt_board.specs.declared.man.Man.{Man}
 use Rattle.egt_board.specs.declared.man.Side.{Side}
 use Rattle.egt_board.specs.declared.square_set.SquareSet.{SquareSet}
 use Rattle.egt_check.specs.Pusher.{IsTwoAhead}
-use Rattle.egt_graph.specs.WordMoves.{FitsPushes, FitsTurns, GoesPushed, GoesStraight, GoesTurned, turned_place}
+use Rattle.egt_graph.specs.WordMoves.{FitsPushes, FitsTurns, GoesPushed, GoesStraight, GoesTurned, HasWords, turned_place}
 use Rattle.egt_graph.specs.Words.{number_at, words_of}
 use Rattle.egt_graph.specs.declared.word_moves.Pushes.{Pushes}
 use Rattle.egt_graph.specs.declared.word_moves.TurnedWay.{TurnedWay}
 use Rattle.egt_graph.specs.declared.word_moves.Way.{Way}
-use Rattle.egt_index.specs.Code.{Spells}
 use Rattle.egt_index.specs.Index.{SettleAlike}
+use Rattle.egt_index.specs.Numbers.{IsNumbered, code_of, places}
 use Rattle.egt_index.specs.Size.{size_of}
-use Rattle.egt_index.specs.StepCodes.{FollowsStep}
+use Rattle.egt_index.specs.StepCodes.{FollowsLeap, FollowsStep}
 use Rattle.egt_index.specs.declared.shelf_codes.ShelfMen.{ShelfMen}
 use Rattle.egt_moves.specs.Chess.{IsPawnOn, Zeroes}
 use Rattle.egt_moves.specs.Exchange.{Captures}
 use Rattle.egt_moves.specs.Legal.{Leads}
 use Rattle.egt_moves.specs.declared.chess_move.Move.{Move}
-use Rattle.egt_words.specs.Standing.{IsAt, least_of}
-use Rattle.egt_words.specs.Told.{Advances, GoesRoamingIf, Quietly, places}
+use Rattle.egt_words.specs.Standing.{IsAt, IsRivalAt, least_of}
+use Rattle.egt_words.specs.Told.{Advances, GoesRoaming, GoesRoamingIf, Quietly}
 use Rattle.egt_words.specs.declared.roaming.Roaming.{Roaming}
 use Rattle.egt_words.specs.declared.told.Told.{Told}
 
@@ -34,7 +34,7 @@ use Rattle.egt_words.specs.declared.told.Told.{Told}
 pub record IsStepWay (c word from to least : ℕ) (way : TurnedWay) : Type 0 where
   pub within : way.word < words_of (places c) (size_of c)
   pub turns : (k : ℕ) → k < places c → turned_place way.turn k < places c
-  pub follows : (k : ℕ) (p : Setup) → IsAt c word k p → from ≢ k + least → FollowsStep c (number_at (places c) way.word (turned_place way.turn k)) from to p
+  pub follows : (k : ℕ) (p : Setup) → IsAt c word k p → from ≢ k + least → FollowsStep c (code_of c (number_at (places c) way.word (turned_place way.turn k))) from to p
 
 -- the last man, from place k, stands off `from` and keeps the man there from `to`
 abbrev pub StandsBetween : Man → (from to least k : ℕ) → Type 0
@@ -54,17 +54,17 @@ AddsShut man from to least word old new = (off : ℕ) × AreShut man from to lea
 
 -- ---- moves that do not zero
 
--- one of the numbers spells an image of q
+-- one of the numbers stands for an image of q
 pub record ComesTo (c : ℕ) (Goes : ℕ → Type 0) (q : Setup) : Type 0 where
   pub number : ℕ
   pub goes : Goes number
   pub image : Setup
-  pub spells : Spells c number image
+  pub is : IsNumbered c number image
   pub images : AreImages q image
 
--- wherever one of the numbers spells a position, a move that does not zero leads to an image of it
+-- wherever one of the numbers stands for a position, a move that does not zero leads to an image of it
 abbrev pub AreQuiet : (c word : ℕ) → (ℕ → ℕ → Type 0) → Type 0
-AreQuiet c word Goes = (k j : ℕ) (p r : Setup) → IsAt c word k p → Goes k j → Spells c j r → Quietly p r
+AreQuiet c word Goes = (k j : ℕ) (p r : Setup) → IsAt c word k p → Goes k j → IsNumbered c j r → Quietly p r
 
 -- each move from the square to the other that does not zero leads to one of the numbers
 abbrev pub TellsQuiet : (c word : ℕ) → (ℕ → ℕ → Type 0) → (from to : ℕ) → Type 0
@@ -95,12 +95,12 @@ SameBesideSteps old new = new ≡ record old { ways = new.ways; turned = new.tur
 
 -- ---- advances of pawns
 
--- one of the numbers spells a position that settles to an image of what q settles to
+-- one of the numbers stands for a position that settles to an image of what q settles to
 pub record SettlesIn (c : ℕ) (Goes : ℕ → Type 0) (q : Setup) : Type 0 where
   pub number : ℕ
   pub goes : Goes number
   pub image : Setup
-  pub spells : Spells c number image
+  pub is : IsNumbered c number image
   pub alike : SettleAlike q image
 
 -- a pawn's move that neither takes nor promotes
@@ -110,13 +110,17 @@ pub record IsAdvance (p : Setup) (m : Move) (q : Setup) : Type 0 where
   pub still : ¬ Captures p m
   pub plain : m.promo ≡ None
 
--- wherever one of the numbers spells a position, an advance leads to one that settles alike
+-- wherever one of the numbers stands for a position, an advance leads to one that settles alike
 abbrev pub AreAdvances : (c word : ℕ) → (ℕ → ℕ → Type 0) → Type 0
-AreAdvances c word Goes = (k j : ℕ) (p r : Setup) → IsAt c word k p → Goes k j → Spells c j r → Advances p r
+AreAdvances c word Goes = (k j : ℕ) (p r : Setup) → IsAt c word k p → Goes k j → IsNumbered c j r → Advances p r
 
 -- each advance from the square to the other leads to one of the numbers
 abbrev pub TellsAdvance : (c word : ℕ) → (ℕ → ℕ → Type 0) → (from to : ℕ) → Type 0
 TellsAdvance c word Goes from to = (k : ℕ) (p q : Setup) (m : Move) → IsAt c word k p → IsAdvance p m q → m.from ≡ from → m.to ≡ to → SettlesIn c (Goes k) q
+
+-- the same of the advances from the places that are not shut
+abbrev pub TellsOpen : (c word : ℕ) → (ℕ → ℕ → Type 0) → (from to off : ℕ) → Type 0
+TellsOpen c word Goes from to off = (k : ℕ) (p q : Setup) (m : Move) → IsAt c word k p → bit_at off k ≡ 0 → IsAdvance p m q → m.from ≡ from → m.to ≡ to → SettlesIn c (Goes k) q
 
 -- the same of the advances of the last man
 abbrev pub TellsLastAdvances : (c word least : ℕ) → (ℕ → ℕ → Type 0) → Type 0
@@ -131,21 +135,50 @@ pub record AreAhead (c word : ℕ) (told : Told) : Type 0 where
   pub ways : (way : Way) → Contains told.pawn_ways.items way → way.word < words_of (places c) (size_of c)
   pub advances : AreAdvances c word (GoesAhead c told)
 
--- the next square of a pawn, from wherever the last man stands, or the one two ahead of his first rank, but where the last man stands between
-abbrev pub IsNextSquare : Side → (from to off : ℕ) → Type 0
-IsNextSquare side from to off = (to ≡ ahead side from) × (off ≡ 0)
+-- the leap leads from each place, if the last man does not stand on `from` there, to the same place of the other word
+pub record IsLeapWord (c word from to least leap_word : ℕ) : Type 0 where
+  pub within : leap_word < words_of (places c) (size_of c)
+  pub follows : (k : ℕ) (p : Setup) → IsAt c word k p → from ≢ k + least → FollowsLeap c (code_of c (number_at (places c) leap_word k)) from to p
 
-pub record IsLeap (held : SquareSet) (side : Side) (from least to off : ℕ) : Type 0 where
+-- the square two ahead of the pawn who stands still, on his side's second rank, past the others who do
+pub record IsLeap (held : SquareSet) (side : Side) (from to : ℕ) : Type 0 where
   pub home : rank_of from ≡ home_rank side
   pub away : IsTwoAhead side from to
   pub between : bit_at held.bits (ahead side from) ≡ 0
-  pub shut : (k : ℕ) → bit_at off k ≡ 1 ↔ (k + least ≡ ahead side from)
 
--- the square to which a pawn advances, on neither the first rank nor the last
-pub record IsPawnGoal (held : SquareSet) (side : Side) (from least to off : ℕ) : Type 0 where
+-- his next square, from wherever the last man stands
+abbrev pub IsNextSquare : Side → (from to off : ℕ) → Type 0
+IsNextSquare side from to off = (to ≡ ahead side from) × (off ≡ 0)
+
+-- the square two ahead, but where the last man stands between, or ready to take the pawn on the square that he passed
+pub record IsQuietLeap (held : SquareSet) (men : ShelfMen) (side : Side) (to off : ℕ) : Type 0 where
+  pub leap : IsLeap held side men.on to
+  pub shut : (k : ℕ) → bit_at off k ≡ 1 ↔ ((k + least_of men ≡ ahead side men.on) ⊎ IsRivalAt men to k)
+
+-- the same square, where the last man stands ready to take
+pub record IsPassingLeap (held : SquareSet) (men : ShelfMen) (side : Side) (to off : ℕ) : Type 0 where
+  pub leap : IsLeap held side men.on to
+  pub met : (k : ℕ) → k < 64 → bit_at off k ≡ 0 → IsRivalAt men to k
+
+-- the square to which the pawn advances with no target after him, on neither the first rank nor the last
+pub record IsPawnGoal (held : SquareSet) (men : ShelfMen) (side : Side) (to off : ℕ) : Type 0 where
   pub low : 8 ≤ to
   pub high : to < 56
-  pub by : IsNextSquare side from to off ⊎ IsLeap held side from least to off
+  pub by : IsNextSquare side men.on to off ⊎ IsQuietLeap held men side to off
+
+-- these are the advances of the last man, a pawn
+pub record ArePushes (c word : ℕ) (men : ShelfMen) (pushes : Pushes) : Type 0 where
+  pub words : HasWords (words_of (places c) (size_of c)) pushes
+  pub fits : FitsPushes (places c) pushes
+  pub advances : AreAdvances c word (λ k j. GoesPushed (places c) k j pushes)
+  pub told : TellsLastAdvances c word (least_of men) (λ k j. GoesPushed (places c) k j pushes)
+
+-- these are the moves of the last man, a piece
+pub record IsRoaming (c word : ℕ) (men : ShelfMen) (roaming : Roaming) : Type 0 where
+  pub all_places : places c ≡ 64
+  pub within : roaming.word < words_of (places c) (size_of c)
+  pub quiet : AreQuiet c word (λ k j. GoesRoaming (places c) k j roaming)
+  pub told : TellsLastQuiet c word (least_of men) (λ k j. GoesRoaming (places c) k j roaming)
 
 -- ---- the men together
 
@@ -156,7 +189,7 @@ pub record TellsOne (c word : ℕ) (men : ShelfMen) (told : Told) : Type 0 where
 
 -- where the last man goes is told, and nothing else; all of it, if he is of the side to move
 pub record TellsLast (c word : ℕ) (men : ShelfMen) (side : Side) (pushes : Pushes) (roams : Option Roaming) : Type 0 where
-  pub within : pushes.word < words_of (places c) (size_of c)
+  pub words : HasWords (words_of (places c) (size_of c)) pushes
   pub pushed : FitsPushes (places c) pushes
   pub roaming : IfSome roams (λ roaming. (places c ≡ 64) × (roaming.word < words_of (places c) (size_of c)))
   pub quiet : AreQuiet c word (λ k j. GoesRoamingIf (places c) k j roams)
@@ -168,13 +201,19 @@ pub record TellsLast (c word : ℕ) (men : ShelfMen) (side : Side) (pushes : Pus
 abbrev pub SameBesideStanding : (old new : Told) → Type 0
 SameBesideStanding old new = new ≡ record old { ways = new.ways; turned = new.turned; pawn_ways = new.pawn_ways }
 
+-- no push and no leap leads anywhere
+pub record AreNoPushes (pushes : Pushes) : Type 0 where
+  pub word : pushes.word ≡ 0
+  pub leap_word : pushes.leap_word ≡ 0
+  pub single : pushes.single ≡ 0
+  pub double : pushes.double ≡ 0
+  pub leaps : pushes.leaps ≡ 0
+
 -- nothing is told of moves
 pub record IsClear (told : Told) : Type 0 where
   pub ways : told.ways.items ≡ []
   pub turned : told.turned.items ≡ []
   pub pawn_ways : told.pawn_ways.items ≡ []
-  pub word : told.pushes.word ≡ 0
-  pub single : told.pushes.single ≡ 0
-  pub double : told.pushes.double ≡ 0
+  pub pushes : AreNoPushes told.pushes
   pub roams : told.roams ≡ None
   pub staying : told.staying ≡ 0

@@ -1,20 +1,19 @@
--- What is told of the moves from all positions of a word: the codes of a shelf with one side to move, a place for each digit of the last man. A code
--- stands for the position that it spells, whether it is the least for that position or not, so that moves are sums of digits.
-use Rattle.std.specs.Prelude.{◌≡◌, ℕ, ◌+◌, ◌*◌, ◌/◌, ◌<◌, ◌⊎◌, ◌↔◌, List, Option, None, Some, IfSome}
+-- What is told of the moves from all positions of a word: the numbers of a shelf with one side to move, a place for each digit of the last man. A number
+-- stands for the settled position that its code spells, whether the code is the least for that position or not, so that moves are sums of digits.
+use Rattle.std.specs.Prelude.{◌≡◌, ℕ, ◌+◌, ◌*◌, ◌<◌, ◌⊎◌, ◌↔◌, List, Option, None, Some, IfSome}
 use Rattle.std.specs.Int.{bit_at}
 use Rattle.std.specs.List.{Contains}
 use Rattle.egt_board.specs.Images.{AreImages, side_number}
 use Rattle.egt_board.specs.Setup.{Setup}
 use Rattle.egt_board.specs.declared.man.Side.{Side}
 use Rattle.egt_check.specs.Roamer.{GoesFree}
-use Rattle.egt_graph.specs.WordMoves.{FitsPushes, FitsTurns, GoesPushed, GoesStraight, GoesTurned}
+use Rattle.egt_graph.specs.WordMoves.{FitsPushes, FitsTurns, GoesPushed, GoesStraight, GoesTurned, HasWords}
 use Rattle.egt_graph.specs.Words.{number_at, words_of}
 use Rattle.egt_graph.specs.declared.word_moves.Pushes.{Pushes}
 use Rattle.egt_graph.specs.declared.word_moves.TurnedWay.{TurnedWay}
 use Rattle.egt_graph.specs.declared.word_moves.Way.{Way}
-use Rattle.egt_index.specs.Code.{Spells}
 use Rattle.egt_index.specs.Index.{SettleAlike}
-use Rattle.egt_index.specs.Shelf.{shelf_len}
+use Rattle.egt_index.specs.Numbers.{IsNumbered, places}
 use Rattle.egt_index.specs.Size.{size_of}
 use Rattle.egt_moves.specs.Chess.{IsPawnOn, Zeroes}
 use Rattle.egt_moves.specs.Exchange.{Captures}
@@ -23,19 +22,15 @@ use Rattle.egt_moves.specs.declared.chess_move.Move.{Move}
 use Rattle.egt_words.specs.declared.roaming.Roaming.{Roaming}
 use Rattle.egt_words.specs.declared.told.Told.{Told}
 
--- how many digits the last man has, and so a word places
-unfoldable pub places : ℕ → ℕ
-places c = shelf_len c / 2
-
--- the word of a shelf's codes with that side to move
+-- the word of a shelf's numbers with that side to move
 abbrev pub word_of : ℕ → Side → ℕ
 word_of shelf side = 2 * shelf + side_number side
 
--- the code at the place spells p
+-- the number at the place stands for p
 abbrev pub SpellsAt : (c word k : ℕ) → Setup → Type 0
-SpellsAt c word k p = Spells c (number_at (places c) word k) p
+SpellsAt c word k p = IsNumbered c (number_at (places c) word k) p
 
--- the bits are of the places whose codes spell positions
+-- the bits are of the places whose numbers stand for positions
 abbrev pub AreNodes : (c word nodes : ℕ) → Type 0
 AreNodes c word nodes = (k : ℕ) → bit_at nodes k ≡ 1 ↔ ((k < places c) × ((p : Setup) × SpellsAt c word k p))
 
@@ -89,23 +84,23 @@ pub record Fit (c : ℕ) (ways : List Way) (turned : List TurnedWay) (pawn_ways 
   pub turned_words : (way : TurnedWay) → Contains turned way → way.word < words_of (places c) (size_of c)
   pub turns : FitsTurns (places c) turned
   pub pawn_words : (way : Way) → Contains pawn_ways way → way.word < words_of (places c) (size_of c)
-  pub push_word : pushes.word < words_of (places c) (size_of c)
+  pub push_words : HasWords (words_of (places c) (size_of c)) pushes
   pub pushed : FitsPushes (places c) pushes
   pub roam_word : IfSome roams (λ roaming. (places c ≡ 64) × (roaming.word < words_of (places c) (size_of c)))
 
 abbrev pub Fits : (c : ℕ) → Told → Type 0
 Fits c told = Fit c told.ways.items told.turned.items told.pawn_ways.items told.pushes told.roams
 
--- these are the moves from the word's positions that stay in the class, each to a code of an image of where it leads; at the places of `staying` no
+-- these are the moves from the word's positions that stay in the class, each to a number of an image of where it leads; at the places of `staying` no
 -- move takes or promotes
 pub record TellsLists (c word nodes staying : ℕ) (ways : List Way) (turned : List TurnedWay) (pawn_ways : List Way) (pushes : Pushes) (roams : Option Roaming) : Type 0 where
   pub nodes_are : AreNodes c word nodes
-  pub quiet : (k j : ℕ) (p r : Setup) → bit_at nodes k ≡ 1 → SpellsAt c word k p → GoesQuietlyBy (places c) k j ways turned roams → Spells c j r → Quietly p r
+  pub quiet : (k j : ℕ) (p r : Setup) → bit_at nodes k ≡ 1 → SpellsAt c word k p → GoesQuietlyBy (places c) k j ways turned roams → IsNumbered c j r → Quietly p r
   pub all_quiet : (k : ℕ) (p q : Setup) (m : Move) → bit_at nodes k ≡ 1 → SpellsAt c word k p → Leads p m q → ¬ Zeroes p m →
-      (j : ℕ) × GoesQuietlyBy (places c) k j ways turned roams × ((r : Setup) × Spells c j r × AreImages q r)
-  pub pawn : (k j : ℕ) (p r : Setup) → bit_at nodes k ≡ 1 → SpellsAt c word k p → GoesByPawnBy (places c) k j pawn_ways pushes → Spells c j r → Advances p r
+      (j : ℕ) × GoesQuietlyBy (places c) k j ways turned roams × ((r : Setup) × IsNumbered c j r × AreImages q r)
+  pub pawn : (k j : ℕ) (p r : Setup) → bit_at nodes k ≡ 1 → SpellsAt c word k p → GoesByPawnBy (places c) k j pawn_ways pushes → IsNumbered c j r → Advances p r
   pub all_pawn : (k : ℕ) (p q : Setup) (m : Move) → bit_at nodes k ≡ 1 → SpellsAt c word k p → Leads p m q → IsPawnOn p.men m.from → ¬ Captures p m → m.promo ≡ None →
-      (j : ℕ) × GoesByPawnBy (places c) k j pawn_ways pushes × ((r : Setup) × Spells c j r × SettleAlike q r)
+      (j : ℕ) × GoesByPawnBy (places c) k j pawn_ways pushes × ((r : Setup) × IsNumbered c j r × SettleAlike q r)
   pub fits : Fit c ways turned pawn_ways pushes roams
   pub staying_nodes : (k : ℕ) → bit_at staying k ≡ 1 → bit_at nodes k ≡ 1
   pub stays : (k : ℕ) (p q : Setup) (m : Move) → bit_at staying k ≡ 1 → SpellsAt c word k p → Leads p m q → ¬ Captures p m × (m.promo ≡ None)

@@ -1,5 +1,5 @@
-//! The moves from all positions of a word at once: the codes of a shelf with one side to move. A code stands for the position that it spells, whether
-//! it is the least for that position or not.
+//! The moves from all positions of a word at once: the numbers of a shelf with one side to move. A number stands for the settled position that its code
+//! spells, whether the code is the least for that position or not.
 #![tactic(auto)]
 
 mod pawn_steps;

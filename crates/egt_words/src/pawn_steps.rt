@@ -1,19 +1,17 @@
 //! The advances of a pawn who stands on the same square in all positions of a word.
-ghost use Rattle.std.specs.Prelude.{◌≡◌, ◌≢◌, ◌↔◌, ℕ, ◌+◌, ◌<◌, ◌≤◌, false, true, IfNone, IfSome};
+ghost use Rattle.std.specs.Prelude.{◌≡◌, ◌≢◌, ◌↔◌, ℕ, ◌+◌, ◌<◌, ◌≤◌, true, IfNone, IfSome};
 ghost use Rattle.std.specs.Int.{bit_at};
 ghost use Rattle.egt_board.specs.Pawn.{ahead, home_rank};
 ghost use Rattle.egt_board.specs.Square.{rank_of};
 ghost use Rattle.egt_board.specs.SquareSet.{Has};
 ghost use Rattle.egt_board.specs.declared.man.Kind.TheVariants.{P};
 ghost use Rattle.egt_check.specs.Pusher.{IsTwoAhead};
-ghost use Rattle.egt_class.specs.Material.{material_of};
 ghost use Rattle.egt_index.specs.Scales.{kind_less};
 ghost use Rattle.egt_index.specs.ShelfCodes.{IsShelf};
-ghost use Rattle.egt_index.specs.Size.{has_target};
-ghost use Rattle.egt_words.specs.Standing.{IsHeldOn, least_of};
+ghost use Rattle.egt_words.specs.Standing.{IsHeldOn};
 
-use crate::standing::{held, least};
-use crate::steps::step_to;
+use crate::standing::{held, places_on, rivals_at};
+use crate::steps::{leap_to, step_to};
 use crate::told::Told;
 use egt_board::{Man, Side, Square, SquareSet};
 use egt_check::facts::facts;
@@ -21,7 +19,6 @@ use egt_class::Class;
 use egt_class::laws::moves_lead_into_the_class_or_a_child;
 use egt_graph::Way;
 use egt_index::ShelfMen;
-use egt_index::laws::a_class_without_targets_has_pawns_of_one_side;
 
 /// The square two ahead of a pawn's, if he stands on his side's second rank.
 fn two_ahead(side: Side, from: Square) -> Option<Square>
@@ -39,14 +36,15 @@ fn two_ahead(side: Side, from: Square) -> Option<Square>
 fn place_on(square: Square, last: Man) -> u64
     ensures { (k : ℕ) → bit_at result k ≡ 1 ↔ (k + kind_less last.kind ≡ square) }
 {
-    SquareSet::EMPTY.with(square).bits >> least(last)
+    places_on(SquareSet::EMPTY.with(square), last)
 }
 
 impl Told {
-    ghost use Rattle.egt_words.specs.Steps.{AreAhead, GoesAhead, IsPawnGoal, TellsAdvance};
+    ghost use Rattle.egt_words.specs.Steps.{AreAhead, GoesAhead, IsLeap, IsPassingLeap, IsPawnGoal, TellsAdvance, TellsOpen};
     ghost use Rattle.egt_words.specs.Told.{word_of};
 
-    /// Adds an advance, which does not lead from the places of `off`. False where it is not told. The contract alone reads the shelf and `_held`.
+    /// Adds an advance after which there is no target, which does not lead from the places of `off`. False where it is not told. The contract alone reads
+    /// the shelf and `_held`.
     fn add_advance(
         &mut self,
         class: Class,
@@ -57,23 +55,19 @@ impl Told {
         to: Square,
         off: u64,
     ) -> bool
-        requires targets { has_target (material_of class) ≡ false }
         requires shelf { IsShelf class _shelf men.now }
         requires mine { men.now.one.side ≡ side }
         requires pawn { men.now.one.kind ≡ P }
-        requires low { 8 ≤ men.now.on }
-        requires high { men.now.on < 56 }
         requires held { (t : ℕ) → Has _held t ↔ IsHeldOn men.now t }
-        requires goal { IsPawnGoal _held side men.now.on (least_of men.now) to off }
+        requires goal { IsPawnGoal _held men.now side to off }
         requires steps { AreAhead class (word_of _shelf side) self.old }
         ensures same { self.new ≡ record self.old { pawn_ways = self.new.pawn_ways } }
         ensures steps { AreAhead class (word_of _shelf side) self.new }
         ensures keeps { (k j : ℕ) → GoesAhead class self.old k j → GoesAhead class self.new k j }
-        ensures told { result ≡ true → TellsAdvance class (word_of _shelf side) (GoesAhead class self.new) men.now.on to }
+        ensures told { result ≡ true → TellsOpen class (word_of _shelf side) (GoesAhead class self.new) men.now.on to off }
     {
         facts();
         moves_lead_into_the_class_or_a_child();
-        a_class_without_targets_has_pawns_of_one_side();
         let Some(way) = step_to(class, _shelf, men, side, men.on, to) else {
             return false;
         };
@@ -87,6 +81,73 @@ impl Told {
         true
     }
 
+    /// Adds a step by two after which the pawn may be taken in passing, which leads from the places alone that `off` lacks. False where it is not told. The
+    /// contract alone reads the shelf and `_held`.
+    fn add_leap(
+        &mut self,
+        class: Class,
+        _shelf: u32,
+        men: &ShelfMen,
+        side: Side,
+        _held: SquareSet,
+        to: Square,
+        off: u64,
+    ) -> bool
+        requires shelf { IsShelf class _shelf men.now }
+        requires mine { men.now.one.side ≡ side }
+        requires pawn { men.now.one.kind ≡ P }
+        requires held { (t : ℕ) → Has _held t ↔ IsHeldOn men.now t }
+        requires goal { IsPassingLeap _held men.now side to off }
+        requires steps { AreAhead class (word_of _shelf side) self.old }
+        ensures same { self.new ≡ record self.old { pawn_ways = self.new.pawn_ways } }
+        ensures steps { AreAhead class (word_of _shelf side) self.new }
+        ensures keeps { (k j : ℕ) → GoesAhead class self.old k j → GoesAhead class self.new k j }
+        ensures told { result ≡ true → TellsOpen class (word_of _shelf side) (GoesAhead class self.new) men.now.on to off }
+    {
+        facts();
+        moves_lead_into_the_class_or_a_child();
+        let Some(word) = leap_to(class, _shelf, men, side, men.on, to) else {
+            return false;
+        };
+        if self.pawn_ways.is_full() {
+            return false;
+        }
+        self.pawn_ways.push(Way { word, off });
+        true
+    }
+
+    /// Tells of the step by two to that square, over the next one: where the last man stands ready to take the pawn it leads to positions with a target.
+    /// False where it is not told.
+    fn tell_beyond(
+        &mut self,
+        class: Class,
+        shelf: u32,
+        men: &ShelfMen,
+        side: Side,
+        held: SquareSet,
+        next: Square,
+        beyond: Square,
+    ) -> bool
+        requires shelf { IsShelf class shelf men.now }
+        requires mine { men.now.one.side ≡ side }
+        requires pawn { men.now.one.kind ≡ P }
+        requires held { (t : ℕ) → Has held t ↔ IsHeldOn men.now t }
+        requires next { next ≡ ahead side men.now.on }
+        requires leap { IsLeap held side men.now.on beyond }
+        requires steps { AreAhead class (word_of shelf side) self.old }
+        ensures same { self.new ≡ record self.old { pawn_ways = self.new.pawn_ways } }
+        ensures steps { AreAhead class (word_of shelf side) self.new }
+        ensures keeps { (k j : ℕ) → GoesAhead class self.old k j → GoesAhead class self.new k j }
+        ensures told { result ≡ true → TellsAdvance class (word_of shelf side) (GoesAhead class self.new) men.now.on beyond }
+    {
+        let takers = rivals_at(men, beyond);
+        let off = place_on(next, men.last) | takers;
+        if !self.add_advance(class, shelf, men, side, held, beyond, off) {
+            return false;
+        }
+        takers == 0 || self.add_leap(class, shelf, men, side, held, beyond, !takers)
+    }
+
     /// Tells of the step by two over the next square, which no man holds who stands still. False where it is not told.
     fn tell_leap(
         &mut self,
@@ -97,12 +158,9 @@ impl Told {
         held: SquareSet,
         next: Square,
     ) -> bool
-        requires targets { has_target (material_of class) ≡ false }
         requires shelf { IsShelf class shelf men.now }
         requires mine { men.now.one.side ≡ side }
         requires pawn { men.now.one.kind ≡ P }
-        requires low { 8 ≤ men.now.on }
-        requires high { men.now.on < 56 }
         requires held { (t : ℕ) → Has held t ↔ IsHeldOn men.now t }
         requires next { next ≡ ahead side men.now.on }
         requires between { bit_at held.bits next ≡ 0 }
@@ -114,8 +172,7 @@ impl Told {
     {
         match two_ahead(side, men.on) {
             Some(beyond) if !held.contains(beyond) => {
-                let off = place_on(next, men.last);
-                self.add_advance(class, shelf, men, side, held, beyond, off)
+                self.tell_beyond(class, shelf, men, side, held, next, beyond)
             }
             _ => true,
         }
@@ -123,7 +180,6 @@ impl Told {
 
     /// Tells of the advances of the man beside the kings who stands still, a pawn of the side to move. False where they are not told.
     pub(crate) fn tell_pawn(&mut self, class: Class, shelf: u32, men: &ShelfMen, side: Side) -> bool
-        requires targets { has_target (material_of class) ≡ false }
         requires shelf { IsShelf class shelf men.now }
         requires mine { men.now.one.side ≡ side }
         requires pawn { men.now.one.kind ≡ P }
@@ -134,9 +190,6 @@ impl Told {
         ensures steps { AreAhead class (word_of shelf side) self.new }
         ensures told { result ≡ true → (t : ℕ) → TellsAdvance class (word_of shelf side) (GoesAhead class self.new) men.now.on t }
     {
-        facts();
-        moves_lead_into_the_class_or_a_child();
-        a_class_without_targets_has_pawns_of_one_side();
         let held = held(men);
         let next = men.on.ahead(side);
         if next.rank() == side.last_rank() || held.contains(next) {

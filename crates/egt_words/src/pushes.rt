@@ -1,26 +1,25 @@
 //! The advances of a word's last man, a pawn of the side to move, from all places at once. At place `k` he stands on the square `k + 8`.
-ghost use Rattle.std.specs.Prelude.{◌≡◌, ◌↔◌, ◌<◌, ℕ, false};
+ghost use Rattle.std.specs.Prelude.{◌≡◌, ◌↔◌, ◌<◌, ℕ, true, IfSome};
 ghost use Rattle.std.specs.Int.{bit_at};
 ghost use Rattle.egt_board.specs.declared.man.Kind.TheVariants.{P};
-ghost use Rattle.egt_class.specs.Material.{material_of};
-ghost use Rattle.egt_graph.specs.WordMoves.{FitsPushes, GoesPushed};
 ghost use Rattle.egt_graph.specs.Words.{words_of};
-ghost use Rattle.egt_index.specs.ShelfCodes.{IsShelf, IsWithin};
-ghost use Rattle.egt_index.specs.Size.{has_target, size_of};
-ghost use Rattle.egt_words.specs.Pushing.{IsDouble, IsSingle, goes_up};
-ghost use Rattle.egt_words.specs.Standing.{least_of};
-ghost use Rattle.egt_words.specs.Steps.{AreAdvances, TellsLastAdvances};
-ghost use Rattle.egt_words.specs.Told.{places, word_of};
+ghost use Rattle.egt_index.specs.Numbers.{places};
+ghost use Rattle.egt_index.specs.ShelfCodes.{AreMenOf, IsShelf};
+ghost use Rattle.egt_index.specs.Size.{size_of};
+ghost use Rattle.egt_words.specs.Pushing.{IsDouble, IsSingle, LeadsInto, goes_up};
+ghost use Rattle.egt_words.specs.Standing.{IsWordWith};
+ghost use Rattle.egt_words.specs.Steps.{ArePushes};
+ghost use Rattle.egt_words.specs.Told.{word_of};
 
-use crate::standing::held;
-use crate::word::word_of;
+use crate::standing::{held, rivals_beside};
+use crate::word::word_with;
 use egt_board::{Side, SquareSet};
 use egt_check::facts::facts;
 use egt_class::Class;
 use egt_class::laws::moves_lead_into_the_class_or_a_child;
 use egt_graph::Pushes;
-use egt_index::laws::{a_class_without_targets_has_pawns_of_one_side, codes_follow_steps};
-use egt_index::{ShelfMen, size};
+use egt_index::ShelfMen;
+use egt_index::laws::codes_follow_steps;
 
 /// Whether pawns of that side go to greater squares.
 fn goes_up(side: Side) -> bool
@@ -52,29 +51,54 @@ fn doubles(free: SquareSet, side: Side) -> u64
     }
 }
 
-/// The advances of the last man of the shelf, a pawn of the side to move. The contract alone reads the class.
-pub(crate) fn pushes_of(_class: Class, shelf: u32, men: &ShelfMen, side: Side) -> Pushes
-    requires targets { has_target (material_of _class) ≡ false }
-    requires shelf { IsShelf _class shelf men.now }
-    requires within { IsWithin _class shelf }
+/// Those of the places of a step by two from which it leads to one of these squares.
+fn leading_to(double: u64, squares: SquareSet, side: Side) -> u64
+    ensures { (k : ℕ) → bit_at result k ≡ 1 ↔ ((bit_at double k ≡ 1) × LeadsInto side squares k) }
+{
+    match side {
+        Side::White => double & squares.bits >> 24,
+        Side::Black => double & squares.bits << 8,
+    }
+}
+
+/// The word with these men and that side to move to which the leaps lead, of positions with a target; the other word where there are no leaps. `None` where
+/// no shelf has the men and a target.
+fn leap_word_of(class: Class, men: &ShelfMen, side: Side, leaps: u64, word: u32) -> Option<u32>
+    requires men { AreMenOf class men.now }
+    requires within { word < words_of (places class) (size_of class) }
+    ensures within { IfSome result (λ found. found < words_of (places class) (size_of class)) }
+    ensures leaps { IfSome result (λ found. (k : ℕ) → bit_at leaps k ≡ 1 → IsWordWith true class men.now side found) }
+{
+    if leaps == 0 {
+        return Some(word);
+    }
+    word_with(class, men, side, true)
+}
+
+/// The advances of the last man of the shelf, a pawn of the side to move: where one of the other side stands ready to take him after a step by two it leads to
+/// positions with a target. `None` where no shelf has the positions after them. The contract alone reads the shelf.
+pub(crate) fn pushes_of(class: Class, _shelf: u32, men: &ShelfMen, side: Side) -> Option<Pushes>
+    requires shelf { IsShelf class _shelf men.now }
     requires mine { men.now.last.side ≡ side }
     requires pawn { men.now.last.kind ≡ P }
-    ensures within { result.word < words_of (places _class) (size_of _class) }
-    ensures fits { FitsPushes (places _class) result }
-    ensures advances { AreAdvances _class (word_of shelf side) (λ k j. GoesPushed (places _class) k j result) }
-    ensures told { TellsLastAdvances _class (word_of shelf side) (least_of men.now) (λ k j. GoesPushed (places _class) k j result) }
+    ensures { IfSome result (ArePushes class (word_of _shelf side) men.now) }
 {
     facts();
     moves_lead_into_the_class_or_a_child();
-    a_class_without_targets_has_pawns_of_one_side();
     codes_follow_steps();
-    let _number = _class.number();
-    let _size = size(_class);
+    let _number = class.number();
+    let word = word_with(class, men, side.other(), false)?;
     let free = SquareSet::ALL.without(held(men));
-    Pushes {
-        word: word_of(shelf, side.other()),
+    let double = doubles(free, side);
+    let leaps = leading_to(double, rivals_beside(men, men.on), side);
+    let leap_word = leap_word_of(class, men, side.other(), leaps, word)?;
+    let unmet = SquareSet { bits: double }.without(SquareSet { bits: leaps });
+    Some(Pushes {
+        word,
+        leap_word,
         single: singles(free, side),
-        double: doubles(free, side),
+        double: unmet.bits,
+        leaps,
         up: goes_up(side),
-    }
+    })
 }

@@ -1,19 +1,15 @@
 //! The moves of a word's last man, a piece of the side to move: the place is his square.
-ghost use Rattle.std.specs.Prelude.{◌≡◌, ◌≢◌, ◌*◌, ◌+◌, ◌<◌, ◌≤◌, ℕ, false};
+ghost use Rattle.std.specs.Prelude.{◌≡◌, ◌≢◌, IfSome};
 ghost use Rattle.egt_board.specs.declared.man.Kind.TheVariants.{P};
-ghost use Rattle.egt_class.specs.Material.{material_of};
-ghost use Rattle.egt_graph.specs.Words.{words_of};
-ghost use Rattle.egt_index.specs.ShelfCodes.{IsShelf, IsWithin};
-ghost use Rattle.egt_index.specs.Size.{size_of};
-ghost use Rattle.egt_words.specs.Standing.{least_of};
+ghost use Rattle.egt_index.specs.ShelfCodes.{IsShelf};
 
 use crate::standing::held;
-use crate::word::word_of;
+use crate::word::word_with;
 use egt_board::{Man, Side, SquareSet};
 use egt_check::laws::a_quiet_move_moves_one_man;
 use egt_class::Class;
+use egt_index::ShelfMen;
 use egt_index::laws::codes_follow_steps;
-use egt_index::{ShelfMen, size};
 
 /// A piece that goes from each place to the free squares that he attacks, each the place of another word.
 #[derive(Clone, Copy)]
@@ -25,28 +21,24 @@ pub struct Roaming {
 }
 
 impl Roaming {
-    ghost use Rattle.egt_words.specs.Steps.{AreQuiet, TellsLastQuiet};
-    ghost use Rattle.egt_words.specs.Told.{GoesRoaming, places, word_of};
+    ghost use Rattle.egt_words.specs.Steps.{IsRoaming};
+    ghost use Rattle.egt_words.specs.Told.{word_of};
 
-    /// The last man of the shelf, a piece of the side to move. The contract alone reads the class.
-    pub(crate) fn of(_class: Class, shelf: u32, men: &ShelfMen, side: Side) -> Roaming
-        requires shelf { IsShelf _class shelf men.now }
-        requires within { IsWithin _class shelf }
+    /// The last man of the shelf, a piece of the side to move. `None` where no shelf has the positions after he went. The contract alone reads the shelf.
+    pub(crate) fn of(class: Class, _shelf: u32, men: &ShelfMen, side: Side) -> Option<Roaming>
+        requires shelf { IsShelf class _shelf men.now }
         requires mine { men.now.last.side ≡ side }
         requires piece { men.now.last.kind ≢ P }
-        ensures places { places _class ≡ 64 }
-        ensures within { result.word < words_of (places _class) (size_of _class) }
-        ensures quiet { AreQuiet _class (word_of shelf side) (λ k j. GoesRoaming (places _class) k j result) }
-        ensures told { TellsLastQuiet _class (word_of shelf side) (least_of men.now) (λ k j. GoesRoaming (places _class) k j result) }
+        ensures { IfSome result (IsRoaming class (word_of _shelf side) men.now) }
     {
         codes_follow_steps();
         a_quiet_move_moves_one_man();
-        let _number = _class.number();
-        let _size = size(_class);
-        Roaming {
-            word: word_of(shelf, side.other()),
+        let _number = class.number();
+        let word = word_with(class, men, side.other(), false)?;
+        Some(Roaming {
+            word,
             man: men.last,
             held: held(men),
-        }
+        })
     }
 }

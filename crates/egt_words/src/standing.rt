@@ -1,10 +1,12 @@
 //! The men of a word who stand on the same squares in all of its positions.
-ghost use Rattle.std.specs.Prelude.{◌≡◌, ◌↔◌, ◌≤◌, ℕ, IsTrue};
+ghost use Rattle.std.specs.Prelude.{◌≡◌, ◌↔◌, ◌+◌, ◌≤◌, ℕ, IsTrue};
+ghost use Rattle.std.specs.Int.{bit_at};
 ghost use Rattle.egt_board.specs.Attack.{king_of};
+ghost use Rattle.egt_board.specs.Pawn.{IsBeside};
 ghost use Rattle.egt_board.specs.SquareSet.{Has};
 ghost use Rattle.egt_board.specs.declared.man.Kind.TheVariants.{P};
 ghost use Rattle.egt_index.specs.Scales.{kind_less};
-ghost use Rattle.egt_words.specs.Standing.{IsHeldOn, king_square_of};
+ghost use Rattle.egt_words.specs.Standing.{AreRivals, IsHeldOn, IsRivalAt, king_square_of};
 
 use egt_board::{Kind, Man, Side, Square, SquareSet};
 use egt_index::ShelfMen;
@@ -62,4 +64,51 @@ pub(crate) fn is_pawn(man: Man) -> bool
     ensures { IsTrue result ↔ (man.kind ≡ P) }
 {
     man.kind == Kind::P
+}
+
+/// The places at which the last man stands on one of these squares.
+pub(crate) fn places_on(squares: SquareSet, last: Man) -> u64
+    ensures { (k : ℕ) → bit_at result k ≡ bit_at squares.bits (k + kind_less last.kind) }
+{
+    squares.bits >> least(last)
+}
+
+/// Whether the two men beside the kings are pawns, one of each side.
+fn are_rivals(men: &ShelfMen) -> bool
+    ensures { IsTrue result ↔ AreRivals men.now }
+{
+    is_pawn(men.one) && is_pawn(men.last) && !is_of(men.last, men.one.side)
+}
+
+/// The squares beside the square: on its rank, on the next file.
+fn beside(square: Square) -> SquareSet
+    ensures { (t : ℕ) → Has result t ↔ IsBeside t square }
+{
+    let number = square.number();
+    let mut squares = SquareSet::EMPTY;
+    if square.file() > 0 {
+        squares = squares.with(Square::at(number - 1));
+    }
+    if square.file() < 7 {
+        squares = squares.with(Square::at(number + 1));
+    }
+    squares
+}
+
+/// The squares beside the square, if the two men beside the kings are pawns, one of each side; else none.
+pub(crate) fn rivals_beside(men: &ShelfMen, square: Square) -> SquareSet
+    ensures { (t : ℕ) → Has result t ↔ (AreRivals men.now × IsBeside t square) }
+{
+    if are_rivals(men) {
+        beside(square)
+    } else {
+        SquareSet::EMPTY
+    }
+}
+
+/// The places at which the last man stands on one of them.
+pub(crate) fn rivals_at(men: &ShelfMen, square: Square) -> u64
+    ensures { (k : ℕ) → bit_at result k ≡ 1 ↔ IsRivalAt men.now square k }
+{
+    places_on(rivals_beside(men, square), men.last)
 }

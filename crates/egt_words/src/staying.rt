@@ -5,10 +5,10 @@ ghost use Rattle.egt_board.specs.Pawn.{MayStand};
 ghost use Rattle.egt_board.specs.SquareSet.{Has};
 ghost use Rattle.egt_board.specs.declared.man.Man.{Man};
 ghost use Rattle.egt_index.specs.Scales.{kind_digits};
-ghost use Rattle.egt_words.specs.Standing.{IsHeldOn, IsStanding, least_of};
+ghost use Rattle.egt_words.specs.Standing.{IsHeldOn, IsRivalAt, IsStanding, least_of};
 ghost use Rattle.egt_words.specs.Staying.{IsFoeOn, LastStays, MayPromote, ReachesPast, StandingStay, StaysAt};
 
-use crate::standing::{held, is_of, is_pawn, king_at, king_of, least};
+use crate::standing::{held, is_of, is_pawn, king_at, king_of, least, places_on, rivals_at};
 use egt_board::gait::reach_past;
 use egt_board::{Man, Side, Square, SquareSet};
 use egt_index::ShelfMen;
@@ -82,9 +82,20 @@ fn sparing_last(men: &ShelfMen, reach: SquareSet, nodes: u64) -> u64
     ensures spares { (k : ℕ) → bit_at result k ≡ 1 → ¬ Has reach (k + least_of men.now) }
 {
     let attacked = SquareSet {
-        bits: reach.bits >> least(men.last),
+        bits: places_on(reach, men.last),
     };
     SquareSet { bits: nodes }.without(attacked).bits
+}
+
+/// Those of the nodes at which no pawn may take another in passing.
+fn parted(men: &ShelfMen, nodes: u64) -> u64
+    ensures nodes { (k : ℕ) → bit_at result k ≡ 1 → bit_at nodes k ≡ 1 }
+    ensures apart { (k : ℕ) → bit_at result k ≡ 1 → ¬ IsRivalAt men.now men.now.on k }
+{
+    let beside = SquareSet {
+        bits: rivals_at(men, men.on),
+    };
+    SquareSet { bits: nodes }.without(beside).bits
 }
 
 /// Whether the men of the side to move who stand still take none of the others who do, and are not promoted. They attack the squares of `reach`.
@@ -112,9 +123,10 @@ pub(crate) fn staying_of(men: &ShelfMen, side: Side, nodes: u64) -> u64
     if !standing_stay(men, side, reach, foes) {
         return 0;
     }
+    let apart = parted(men, nodes);
     if is_of(men.last, side) {
-        staying_last(men, side, foes, nodes)
+        staying_last(men, side, foes, apart)
     } else {
-        sparing_last(men, reach, nodes)
+        sparing_last(men, reach, apart)
     }
 }

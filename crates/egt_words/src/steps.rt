@@ -2,28 +2,26 @@
 ghost use Rattle.std.specs.Prelude.{◌≡◌, ◌≢◌, ◌↔◌, ℕ, false, true, IfSome};
 ghost use Rattle.egt_board.specs.SquareSet.{Has};
 ghost use Rattle.egt_board.specs.declared.man.Kind.TheVariants.{K, P};
-ghost use Rattle.egt_class.specs.Material.{material_of};
 ghost use Rattle.egt_index.specs.Scales.{kind_less};
 ghost use Rattle.egt_index.specs.ShelfCodes.{IsShelf};
-ghost use Rattle.egt_index.specs.Size.{has_target};
 ghost use Rattle.egt_check.specs.Fan.{IsGoal};
 ghost use Rattle.egt_words.specs.Standing.{IsHeldOn, IsStanding, least_of};
-ghost use Rattle.egt_words.specs.Steps.{AreShut, IsStepWay};
+ghost use Rattle.egt_words.specs.Steps.{AreShut, IsLeapWord, IsStepWay};
 ghost use Rattle.egt_words.specs.Told.{word_of};
 
-use crate::standing::{held, least};
+use crate::standing::{held, places_on};
 use crate::told::Told;
-use crate::word::word_of;
+use crate::word::word_with;
 use egt_board::gait::{reach_past, stops};
 use egt_board::{Kind, Man, Side, Square, SquareSet};
 use egt_check::laws::a_quiet_move_moves_one_man;
 use egt_class::Class;
 use egt_graph::{TurnedWay, Way};
 use egt_index::laws::codes_follow_steps;
-use egt_index::{ShelfMen, home_turn, shelf_of, size};
+use egt_index::{ShelfMen, home_turn};
 
 /// The word to which the step of the man on `from` leads, and the turn of the places by which the white king is at home there. `None` where no shelf
-/// has the men then.
+/// has the men then. The contract alone reads the shelf.
 pub(crate) fn step_to(
     class: Class,
     _shelf: u32,
@@ -32,29 +30,45 @@ pub(crate) fn step_to(
     from: Square,
     to: Square,
 ) -> Option<TurnedWay>
-    requires targets { has_target (material_of class) ≡ false }
-    requires shelf { IsShelf class _shelf men.now }
+    requires { IsShelf class _shelf men.now }
     ensures { IfSome result (IsStepWay class (word_of _shelf side) from to (least_of men.now)) }
 {
     codes_follow_steps();
     let _number = class.number();
     let _from = from.number();
     let _to = to.number();
-    let _size = size(class);
     let after = men.moved(from, to);
     let turn = home_turn(class, after.white);
-    let shelf = shelf_of(class, &after.turned(turn))?;
-    Some(TurnedWay {
-        word: word_of(shelf, side.other()),
-        turn,
-    })
+    let word = word_with(class, &after.turned(turn), side.other(), false)?;
+    Some(TurnedWay { word, turn })
+}
+
+/// The word to which the step by two of the pawn on `from` leads where he may be taken in passing. `None` where no shelf has the men then, and a target.
+/// The contract alone reads the shelf.
+pub(crate) fn leap_to(
+    class: Class,
+    _shelf: u32,
+    men: &ShelfMen,
+    side: Side,
+    from: Square,
+    to: Square,
+) -> Option<u32>
+    requires { IsShelf class _shelf men.now }
+    ensures { IfSome result (IsLeapWord class (word_of _shelf side) from to (least_of men.now)) }
+{
+    codes_follow_steps();
+    let _number = class.number();
+    let _from = from.number();
+    let _to = to.number();
+    let word = word_with(class, &men.moved(from, to), side.other(), true)?;
+    Some(word)
 }
 
 /// The places at which the last man stands between the squares.
 pub(crate) fn off(man: Man, from: Square, to: Square, last: Man) -> u64
     ensures { AreShut man from to (kind_less last.kind) result }
 {
-    stops(man, from, to, SquareSet::EMPTY).less(from).bits >> least(last)
+    places_on(stops(man, from, to, SquareSet::EMPTY).less(from), last)
 }
 
 impl Told {
@@ -103,7 +117,6 @@ impl Told {
         _held: SquareSet,
         to: Square,
     ) -> bool
-        requires targets { has_target (material_of class) ≡ false }
         requires shelf { IsShelf class _shelf men.now }
         requires still { IsStanding men.now side man from }
         requires piece { man.kind ≢ P }
@@ -138,7 +151,6 @@ impl Told {
         _held: SquareSet,
         goals: SquareSet,
     ) -> bool
-        requires targets { has_target (material_of class) ≡ false }
         requires shelf { IsShelf class _shelf men.now }
         requires still { IsStanding men.now side man from }
         requires piece { man.kind ≢ P }
@@ -169,7 +181,6 @@ impl Told {
         man: Man,
         from: Square,
     ) -> bool
-        requires targets { has_target (material_of class) ≡ false }
         requires shelf { IsShelf class shelf men.now }
         requires still { IsStanding men.now side man from }
         requires piece { man.kind ≢ P }

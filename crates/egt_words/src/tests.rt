@@ -1,8 +1,6 @@
 //! What is told of words against the legal moves of each of their positions, one by one.
-ghost use Rattle.std.specs.Prelude.{◌≡◌, ◌<◌, ◌≤◌, false};
-ghost use Rattle.egt_class.specs.Material.{material_of};
+ghost use Rattle.std.specs.Prelude.{◌<◌};
 ghost use Rattle.egt_index.specs.ShelfCodes.{IsShelf};
-ghost use Rattle.egt_index.specs.Size.{has_target};
 ghost use Rattle.egt_words.specs.Told.{AreNodes, word_of};
 
 use crate::Told;
@@ -11,13 +9,22 @@ use egt_board::gait::reach_past;
 use egt_board::{Position, Side, Square};
 use egt_class::{Class, of};
 use egt_graph::{Way, turned};
-use egt_index::{ShelfMen, has_target, index, positions_of, shelf_len, shelf_men, size};
+use egt_index::{ShelfMen, has_target, index, last_digits, positions_of, shelf_men, size};
 use egt_moves::{legal_moves, play, zeroing};
 use std::alloc::Global;
 use std::test::Fail;
 
-/// The position of these men with the last one at the place, if there is one.
-fn position_with(men: &ShelfMen, side: Side, place: u32) -> Option<Position>
+/// The square that the pawn of the side that waits has passed, of two pawns on these squares, one of each side.
+fn passed_by(men: &ShelfMen, side: Side, on: Square) -> Option<Square> {
+    let waiting = if men.one.side == side { on } else { men.on };
+    match side {
+        Side::White => Square::new(waiting.number() + 8),
+        Side::Black => Square::new(waiting.number().checked_sub(8)?),
+    }
+}
+
+/// The settled position of these men with the last one at the place, and a target where one was passed, if there is one.
+fn position_with(men: &ShelfMen, side: Side, place: u32, passed: bool) -> Option<Position>
     requires { place < 64 }
 {
     let on = Square::new((place + least(men.last)) as u8)?;
@@ -27,12 +34,32 @@ fn position_with(men: &ShelfMen, side: Side, place: u32) -> Option<Position>
         (men.one, men.on),
         (men.last, on),
     ];
-    Position::new(&list, side, None).ok()
+    let target = if passed {
+        Some(passed_by(men, side, on)?)
+    } else {
+        None
+    };
+    let position = Position::new(&list, side, target).ok()?;
+    if position.is_settled() {
+        Some(position)
+    } else {
+        None
+    }
 }
 
-/// The index of the position that is spelled at the word's place, if there is one.
+/// How many shelves the class has.
+fn shelves_of(class: Class) -> u32 {
+    size(class) / (2 * last_digits(class))
+}
+
+/// Whether the shelf's positions have a target: they are behind all others.
+fn is_passed(class: Class, shelf: u32) -> bool {
+    has_target(class) && shelf >= shelves_of(class) / 2
+}
+
+/// The index of the position at the word's place, if there is one.
 fn index_at(class: Class, word: u32, place: u32) -> Option<u32> {
-    if place >= 64 || has_target(class) {
+    if place >= 64 {
         return None;
     }
     let side = if word % 2 == 0 {
@@ -41,7 +68,7 @@ fn index_at(class: Class, word: u32, place: u32) -> Option<u32> {
         Side::Black
     };
     let men = shelf_men(class, word / 2)?;
-    let position = position_with(&men, side, place)?;
+    let position = position_with(&men, side, place, is_passed(class, word / 2))?;
     let (found, _) = of(&position);
     Some(index(found, &position))
 }
@@ -109,14 +136,18 @@ fn told_ahead(alloc: Global, class: Class, told: &Told, place: u32) -> Result<Ve
     let mut found = Vec::new(alloc);
     note_ways(class, told.pawn_ways.as_slice(), place, &mut found)?;
     let pushes = &told.pushes;
-    for (set, step) in [(pushes.single, 8u32), (pushes.double, 16u32)] {
+    for (set, step, word) in [
+        (pushes.single, 8u32, pushes.word),
+        (pushes.double, 16u32, pushes.word),
+        (pushes.leaps, 16u32, pushes.leap_word),
+    ] {
         if (set >> place) & 1 == 1 {
             let to = if pushes.up {
                 place.checked_add(step)
             } else {
                 place.checked_sub(step)
             };
-            note(class, pushes.word, to.ok_or("no place")?, &mut found)?;
+            note(class, word, to.ok_or("no place")?, &mut found)?;
         }
     }
     found.sort()?;
@@ -180,8 +211,7 @@ fn is_told(
 
 /// The nodes of the word.
 fn nodes_of(class: Class, shelf: u32, _men: &ShelfMen, side: Side) -> u64
-    requires targets { has_target (material_of class) ≡ false }
-    requires men { IsShelf class shelf _men.now }
+    requires { IsShelf class shelf _men.now }
     ensures { AreNodes class (word_of shelf side) result }
 {
     let found = positions_of(class, shelf);
@@ -198,12 +228,10 @@ fn count_of(
     shelf: u32,
     side: Side,
     told: &mut Told,
-) -> Result<u32, Fail>
-    requires { has_target (material_of class) ≡ false }
-{
+) -> Result<u32, Fail> {
     let men = shelf_men(class, shelf).ok_or("no shelf")?;
     let next = shelf.checked_add(1).ok_or("no shelf")?;
-    let end = next.checked_mul(shelf_len(class)).ok_or("no shelf")?;
+    let end = next.checked_mul(2 * last_digits(class)).ok_or("no shelf")?;
     if end > size(class) {
         return Err(Fail::from("no shelf"));
     }
@@ -215,7 +243,7 @@ fn count_of(
     for place in 0..64 {
         if (nodes >> place) & 1 == 1 {
             count = count.checked_add(1).ok_or("too many")?;
-            let here = position_with(&men, side, place);
+            let here = position_with(&men, side, place, is_passed(class, shelf));
             if here.is_none() || !is_told(alloc, class, told, &here, place)? {
                 return Err(Fail::from("told wrong"));
             }
@@ -224,24 +252,26 @@ fn count_of(
     Ok(count)
 }
 
-/// Whether every so many of the words of the classes are told right.
-fn are_told(alloc: Global, numbers: &[u8], each: u32) -> Result<bool, Fail> {
+/// How many positions every so many of the class's shelves have, from the first on, each of which is told right.
+fn count_from(alloc: Global, class: Class, first: u32, each: u32) -> Result<u32, Fail> {
     let mut told = Told::nothing();
-    for number in numbers {
-        let class = Class::new(*number).ok_or("no class")?;
-        if has_target(class) {
-            return Err(Fail::from("a class with targets"));
-        }
-        let mut count: u32 = 0;
-        for shelf in 0..size(class) / shelf_len(class) {
-            if shelf.checked_rem(each) == Some(each / 2) {
-                for side in [Side::White, Side::Black] {
-                    let more = count_of(alloc, class, shelf, side, &mut told)?;
-                    count = count.checked_add(more).ok_or("too many")?;
-                }
+    let mut count: u32 = 0;
+    for shelf in first..shelves_of(class) {
+        if shelf.checked_rem(each) == Some(each / 2) {
+            for side in [Side::White, Side::Black] {
+                let more = count_of(alloc, class, shelf, side, &mut told)?;
+                count = count.checked_add(more).ok_or("too many")?;
             }
         }
-        if count < 100 {
+    }
+    Ok(count)
+}
+
+/// Whether every so many of the words of the classes are told right.
+fn are_told(alloc: Global, numbers: &[u8], each: u32) -> Result<bool, Fail> {
+    for number in numbers {
+        let class = Class::new(*number).ok_or("no class")?;
+        if count_from(alloc, class, 0, each)? < 100 {
             return Ok(false);
         }
     }
@@ -259,5 +289,21 @@ fn moves_of_pieces_are_told(rt: HostRuntime) -> Result<(), Fail> {
 #[test]
 fn moves_of_pawns_are_told(rt: HostRuntime) -> Result<(), Fail> {
     assert!(rt; are_told(rt.alloc(), &[26, 33, 34], 9_973)?);
+    Ok(())
+}
+
+/// KPKP: pawns of both sides.
+#[test]
+fn moves_of_rivals_are_told(rt: HostRuntime) -> Result<(), Fail> {
+    assert!(rt; are_told(rt.alloc(), &[35], 1_999)?);
+    Ok(())
+}
+
+/// Those positions of KPKP that have a target.
+#[test]
+fn moves_past_a_target_are_told(rt: HostRuntime) -> Result<(), Fail> {
+    let class = Class::new(35).ok_or("no class")?;
+    let count = count_from(rt.alloc(), class, shelves_of(class) / 2, 499)?;
+    assert!(rt; count >= 50);
     Ok(())
 }

@@ -1,10 +1,8 @@
 //! What is told of a word.
-ghost use Rattle.std.specs.Prelude.{◌≡◌, ℕ, None, false, true};
+ghost use Rattle.std.specs.Prelude.{◌≡◌, ℕ, None, true};
 ghost use Rattle.std.specs.Int.{bit_at};
 ghost use Rattle.egt_board.specs.Pawn.{MayStand};
-ghost use Rattle.egt_class.specs.Material.{material_of};
 ghost use Rattle.egt_index.specs.ShelfCodes.{IsShelf, IsWithin};
-ghost use Rattle.egt_index.specs.Size.{has_target};
 
 use crate::pushes::pushes_of;
 use crate::roaming::Roaming;
@@ -24,7 +22,7 @@ pub struct Told {
     /// Those of the white king after which a turn brings him home.
     pub turned: ArrayVec<TurnedWay, 8>,
     /// The moves of a pawn who stands on the same square in all positions.
-    pub pawn_ways: ArrayVec<Way, 2>,
+    pub pawn_ways: ArrayVec<Way, 3>,
     /// Those of the last man, if he is a pawn of the side to move.
     pub pushes: Pushes,
     /// The last man, if he is a piece of the side to move.
@@ -34,7 +32,7 @@ pub struct Told {
 }
 
 impl Told {
-    ghost use Rattle.egt_words.specs.Steps.{AreAhead, AreSteps, GoesAhead, GoesStanding, IsClear, Keeps, SameBesideStanding, TellsLast, TellsOne};
+    ghost use Rattle.egt_words.specs.Steps.{AreAhead, AreNoPushes, AreSteps, GoesAhead, GoesStanding, IsClear, Keeps, SameBesideStanding, TellsLast, TellsOne};
     ghost use Rattle.egt_words.specs.Told.{AreNodes, TellsWord, word_of};
 
     /// Nothing is told.
@@ -65,7 +63,6 @@ impl Told {
 
     /// Tells of the man beside the kings who stands still, if he is of the side to move. False where he is not told.
     fn tell_one(&mut self, class: Class, shelf: u32, men: &ShelfMen, side: Side) -> bool
-        requires targets { has_target (material_of class) ≡ false }
         requires shelf { IsShelf class shelf men.now }
         requires one { MayStand men.now.one men.now.on }
         requires steps { AreSteps class (word_of shelf side) self.old }
@@ -86,26 +83,30 @@ impl Told {
         }
     }
 
-    /// Tells of the last man, if he is of the side to move.
-    fn tell_last(&mut self, class: Class, shelf: u32, men: &ShelfMen, side: Side)
-        requires targets { has_target (material_of class) ≡ false }
+    /// Tells of the last man, if he is of the side to move. False where he is not told.
+    fn tell_last(&mut self, class: Class, shelf: u32, men: &ShelfMen, side: Side) -> bool
         requires shelf { IsShelf class shelf men.now }
         requires within { IsWithin class shelf }
-        requires word { self.old.pushes.word ≡ 0 }
-        requires single { self.old.pushes.single ≡ 0 }
-        requires double { self.old.pushes.double ≡ 0 }
+        requires pushes { AreNoPushes self.old.pushes }
         requires roams { self.old.roams ≡ None }
         ensures same { self.new ≡ record self.old { pushes = self.new.pushes; roams = self.new.roams } }
-        ensures told { TellsLast class (word_of shelf side) men.now side self.new.pushes self.new.roams }
+        ensures told { result ≡ true → TellsLast class (word_of shelf side) men.now side self.new.pushes self.new.roams }
     {
         if !is_of(men.last, side) {
-            return;
+            return true;
         }
         if is_pawn(men.last) {
-            self.pushes = pushes_of(class, shelf, men, side);
+            let Some(pushes) = pushes_of(class, shelf, men, side) else {
+                return false;
+            };
+            self.pushes = pushes;
         } else {
-            self.roams = Some(Roaming::of(class, shelf, men, side));
+            let Some(roams) = Roaming::of(class, shelf, men, side) else {
+                return false;
+            };
+            self.roams = Some(roams);
         }
+        true
     }
 
     /// Tells of the word, which has a node. False where something is not told.
@@ -117,7 +118,6 @@ impl Told {
         side: Side,
         nodes: u64,
     ) -> bool
-        requires targets { has_target (material_of class) ≡ false }
         requires within { IsWithin class shelf }
         requires men { IsShelf class shelf men.now }
         requires nodes { AreNodes class (word_of shelf side) nodes }
@@ -126,14 +126,15 @@ impl Told {
         ensures { result ≡ true → TellsWord class (word_of shelf side) nodes self.new }
     {
         self.staying = staying_of(men, side, nodes);
-        self.tell_last(class, shelf, men, side);
+        if !self.tell_last(class, shelf, men, side) {
+            return false;
+        }
         self.tell_piece(class, shelf, men, side, king_of(side), king_at(men, side))
             && self.tell_one(class, shelf, men, side)
     }
 
-    /// Tells of the word of the shelf's codes with that side to move. False where something is not told (then nothing is promised).
+    /// Tells of the word of the shelf's numbers with that side to move. False where something is not told (then nothing is promised).
     pub fn tell(&mut self, class: Class, shelf: u32, men: &ShelfMen, side: Side, nodes: u64) -> bool
-        requires targets { has_target (material_of class) ≡ false }
         requires within { IsWithin class shelf }
         requires men { IsShelf class shelf men.now }
         requires nodes { AreNodes class (word_of shelf side) nodes }

@@ -1,5 +1,5 @@
 //! Moves that are told of all places of a word at once.
-use crate::{Listed, Pushes, TurnedWay, Way, lead_by, lead_by_lists, lead_by_pushes, turned};
+use crate::{Pushes, TurnedWay, Way, lead_by, lead_by_pushes, turned};
 use std::test::*;
 
 // The place for `k`, turned step by step.
@@ -44,60 +44,35 @@ fn moves_of_all_sorts(rt: HostRuntime) {
     let turned = [TurnedWay { word: 3, turn: 1 }];
     let pushes = Some(Pushes {
         word: 0,
+        leap_word: 0,
         single: 0x1,
         double: 0x2,
+        leaps: 0,
         up: true,
     });
     // By ways from 2, 3 and 9, by pushes from 0 and 1, by the turned way from 15. Place 2 is not asked for.
     assert_eq!(rt;
-        lead_by(24, &ways, &turned, &pushes, &None, 0xfffffb, &MARKS),
+        lead_by(24, &ways, &turned, &pushes, 0xfffffb, &MARKS),
         0x820b
     );
     assert_eq!(rt;
-        lead_by(24, &ways, &turned, &None, &None, 0x00000c, &MARKS),
+        lead_by(24, &ways, &turned, &None, 0x00000c, &MARKS),
         0x00000c
     );
-    assert_eq!(rt;
-        lead_by(24, &[], &[], &pushes, &None, 0xffffff, &MARKS),
-        0x000003
-    );
+    assert_eq!(rt; lead_by(24, &[], &[], &pushes, 0xffffff, &MARKS), 0x000003);
 }
 
 #[test]
-fn pushes_down(rt: HostRuntime) {
+fn pushes_and_leaps_down(rt: HostRuntime) {
     let pushes = Pushes {
         word: 0,
+        leap_word: 1,
         single: 0x030000,
         double: 0,
+        leaps: 0x140000,
         up: false,
     };
-    // From 16 to 8 and from 17 to 9.
+    // By pushes from 16 to 8 and from 17 to 9, by leaps from 18 to 2. Place 4 of word 1, to which one leads from 20, is not marked.
     assert_eq!(rt; lead_by_pushes(24, &pushes, 0x01ffff, &MARKS), 0x010000);
-    assert_eq!(rt; lead_by_pushes(24, &pushes, 0xffffff, &MARKS), 0x030000);
-}
-
-// Of place 0 the places 17 of word 0 and 10 of word 2, of place 1 none, of place 2 place 9 of word 2, of the others none.
-const STARTS: [u32; 25] = [
-    0, 2, 2, 3, 3, 3, 3, 3, 3, 3, 3, 3, 3, 3, 3, 3, 3, 3, 3, 3, 3, 3, 3, 3, 3,
-];
-
-const CODES: [u32; 3] = [17, 138, 137];
-
-#[test]
-fn listed_moves(rt: HostRuntime) {
-    let lists = Listed {
-        starts: &STARTS,
-        codes: &CODES,
-    };
-    assert_eq!(rt; lead_by_lists(24, &lists, 0xffffff, &MARKS), 0x000005);
-    assert_eq!(rt; lead_by_lists(24, &lists, 0x000006, &MARKS), 0x000004);
-    assert_eq!(rt;
-        lead_by_lists(24, &lists, 0xffffff, &[0x000000, 0, 0x000400, 0]),
-        0x000001
-    );
-    let ways = [Way { word: 1, off: 0x3 }];
-    assert_eq!(rt;
-        lead_by(24, &ways, &[], &None, &Some(lists), 0xffffff, &MARKS),
-        0x00000d
-    );
+    assert_eq!(rt; lead_by_pushes(24, &pushes, 0xffffff, &MARKS), 0x070000);
 }

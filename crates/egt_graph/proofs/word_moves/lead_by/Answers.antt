@@ -1,13 +1,21 @@
 use Rattle.std.proofs.Common.{arith}
-use Rattle.egt_graph.specs.WordMoves.{GoesByWord, GoesListedIf}
-use Rattle.egt_graph.proofs.Listing.{by_both, left_within}
+use Rattle.std.proofs.lemmas.Nat.{or_lt}
+use Rattle.egt_graph.proofs.Leading.{by_all, by_ways_alone, by_ways_and_pushes}
 use Rattle.egt_graph.proofs.word_moves.lead_by.Goals as goal
 
-pub lead_by_lists_if-requires-clause-asked : goal.lead_by_lists_if-requires-clause-asked
-lead_by_lists_if-requires-clause-asked c = left_within c.args.asked c.lead_by_word-found.result c.args._span c.requires.asked
+pub returns-then-straight-asked : goal.returns-then-straight-asked
+returns-then-straight-asked c =
+    by_ways_alone c.args._span c.args.marks.now c.args.asked (omega arith) c.requires.asked c.args.ways.now c.args.turned.now c.requires.turns c.args.pushes.now
+    c.lead_by_ways-straight.result c.lead_by_ways-straight.ensures c.if-straight-asked.true
+
+pub returns-then-rest-eq0 : goal.returns-then-rest-eq0
+returns-then-rest-eq0 c =
+    by_ways_and_pushes c.args._span c.args.marks.now c.args.asked (omega arith) c.requires.asked c.args.ways.now c.args.turned.now c.requires.turns c.args.pushes.now
+    c.lead_by_ways-straight.result c.lead_by_ways-straight.ensures c.lead_by_pushes_if.result (or_lt 64 c.lead_by_ways-straight.result c.lead_by_pushes_if.result (omega arith) (omega arith)) c.lead_by_pushes_if.ensures
+    c.if-rest-eq0.true
 
 pub returns : goal.returns
 returns c =
-    by_both c.args._span c.args.marks.now c.args.asked c.lead_by_word-found.result c.lead_by_lists_if.result (omega arith) (omega arith)
-    (λ k j. GoesByWord c.args._span k j c.args.ways.now c.args.turned.now c.args.pushes.now) (λ k j. GoesListedIf c.args._span k j c.args.lists.now)
-    c.lead_by_word-found.ensures c.lead_by_lists_if.ensures
+    by_all c.args._span c.args.marks.now c.args.asked (omega arith) c.requires.asked c.args.ways.now c.args.turned.now c.requires.turns c.args.pushes.now
+    c.lead_by_ways-straight.result c.lead_by_ways-straight.ensures c.lead_by_pushes_if.result (or_lt 64 c.lead_by_ways-straight.result c.lead_by_pushes_if.result (omega arith) (omega arith)) c.lead_by_pushes_if.ensures
+    c.lead_by_turned.result c.lead_by_turned.ensures

@@ -1,12 +1,10 @@
-use Rattle.std.proofs.Common.{arith}
-use Rattle.egt_graph.proofs.Leading.{pushed_down, pushed_nowhere, pushed_up}
+use Rattle.egt_graph.proofs.Leading.{pushed_alone, pushed_or_leaping}
 use Rattle.egt_graph.proofs.word_moves.lead_by_pushes.Goals as goal
 
-pub returns-then-there-eq0 : goal.returns-then-there-eq0
-returns-then-there-eq0 c = pushed_nowhere c.args._span c.args.marks.now c.args.asked (omega arith) c.args.pushes.now c.requires.fits c.if-there-eq0.true
+pub returns-then-pushes-eq0 : goal.returns-then-pushes-eq0
+returns-then-pushes-eq0 c =
+    pushed_alone c.args._span c.args.marks.now c.args.asked c.args.pushes.now c.requires.fits c.lead_along-pushed.result c.lead_along-pushed.ensures c.if-pushes-eq0.true
 
-pub returns-then-pushes : goal.returns-then-pushes
-returns-then-pushes c = pushed_up c.args._span c.args.marks.now c.args.asked (omega arith) c.args.pushes.now c.requires.fits c.if-pushes.true
-
-pub returns-else-pushes : goal.returns-else-pushes
-returns-else-pushes c = pushed_down c.args._span c.args.marks.now c.args.asked (omega arith) c.args.pushes.now c.requires.fits c.if-pushes.false
+pub returns : goal.returns
+returns c =
+    pushed_or_leaping c.args._span c.args.marks.now c.args.asked c.args.pushes.now c.requires.fits c.lead_along-pushed.result c.lead_along-pushed.ensures c.lead_along.result c.lead_along.ensures

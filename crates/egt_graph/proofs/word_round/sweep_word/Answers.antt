@@ -1,4 +1,4 @@
-use Rattle.std.proofs.Common.{◌≡◌, ◌+◌, ◌*◌, ◌<◌, ◌≤◌, ◌^◌, ℕ, List, suc, cond, length, slice_index, sym, ap, subst, ◌∙◌, ⊎_elim, arith}
+use Rattle.std.proofs.Common.{◌≡◌, ◌+◌, ◌*◌, ◌<◌, ◌≤◌, ◌^◌, ℕ, List, suc, cond, length, slice_index, slice_set, bit_and, ◌-◌, sym, ap, subst, ◌∙◌, ⊎_elim, arith}
 use Rattle.std.proofs.lemmas.Bool.{both_ways}
 use Rattle.std.proofs.lemmas.List.{get_or_default, length-set, with_items_is}
 use Rattle.std.specs.Vec.{with_items}
@@ -6,7 +6,7 @@ use Rattle.egt_graph.specs.Columns.{entry_at}
 use Rattle.egt_graph.specs.Words.{AllTouched, AreMarks, IsTouched, number_at, word_in, word_in-number_at, IsWordOf}
 use Rattle.egt_graph.specs.WordRound.{is_undecided, is_unwon, is_lost_at, is_ready, is_due, is_found_won, is_found_lost, AreTouchedBelow}
 use Rattle.egt_graph.proofs.WordRounds.{found_won_parts, found_lost_parts}
-use Rattle.egt_graph.proofs.WordSweeps.{told_word, put_at, entries_put, entries_kept, entries_done_more, word_here, word_past, next_undecided, next_unwon, next_lost}
+use Rattle.egt_graph.proofs.WordSweeps.{told_word, put_at, entries_put, entries_kept, entries_done_more, word_here, word_past, next_undecided, next_unwon, next_lost, put_in}
 use Rattle.egt_graph.proofs.WordTouches.{touched_more}
 use Rattle.egt_graph.proofs.word_round.sweep_word.Goals as goal
 
@@ -147,17 +147,22 @@ returns-clause-swept g c =
     let ask_long : length c.touch_from-2.new.touched ≡ run.next_ask.len
     = (let d = c.touch_from-2.auto.touched in let e = ap (λ (xs : List ℕ). length xs) c.deref_mut-4.ensures.value in let l = run.next_ask.ok.0 in omega (arith, d, e, l)) in
     let ask_is = with_items_is run.next_ask c.touch_from-2.new.touched ask_long in
+    let now_undecided = bit_and (bit_and c.index-undecided.result.now (18446744073709551615 - won)) (18446744073709551615 - lost) in
+    let now_unwon = bit_and c.index-3.result.now (18446744073709551615 - won) in
+    let undecided_is = put_in run.undecided c.put_word.new.words word now_undecided (c.put_word.ensures ∙ ap (λ (xs : List ℕ). slice_set xs word now_undecided) c.deref_mut-5.ensures.value) in
+    let unwon_is = put_in run.next_unwon c.put_word-2.new.words word now_unwon (c.put_word-2.ensures ∙ ap (λ (xs : List ℕ). slice_set xs word now_unwon) c.deref_mut-6.ensures.value) in
+    let next_lost_is = put_in run.next_lost c.put_word-3.new.words word lost (c.put_word-3.ensures ∙ ap (λ (xs : List ℕ). slice_set xs word lost) c.deref_mut-7.ensures.value) in
     record {
       long = record {
         entries = ap (λ (xs : List ℕ). length xs) twice ∙ second_long ∙ run.entries.ok.0 ∙ long.entries;
         pending = long.pending;
-        undecided = length-set run.undecided.items word _ ∙ long.undecided;
+        undecided = ap (λ (xs : List ℕ). length xs) undecided_is ∙ length-set run.undecided.items word _ ∙ long.undecided;
         unwon = long.unwon;
         lost = long.lost;
         ready = long.ready;
         due = long.due;
-        next_unwon = length-set run.next_unwon.items word _ ∙ long.next_unwon;
-        next_lost = length-set run.next_lost.items word _ ∙ long.next_lost;
+        next_unwon = ap (λ (xs : List ℕ). length xs) unwon_is ∙ length-set run.next_unwon.items word _ ∙ long.next_unwon;
+        next_lost = ap (λ (xs : List ℕ). length xs) next_lost_is ∙ length-set run.next_lost.items word _ ∙ long.next_lost;
         lost_touched = long.lost_touched;
         ask = long.ask;
         next_lost_touched = (let l = long.next_lost_touched in let own = run.next_lost_touched.ok.0 in let same = ap (λ (xs : List ℕ). length xs) lost_is in omega (arith, l, own, same, lost_long));
@@ -167,10 +172,10 @@ returns-clause-swept g c =
           (λ i here. entries_put graph law r span word won lost some of_won of_lost run.entries.items c.put_entries.new.entries c.put_entries-2.new.entries (4 + 2 * r) (5 + 2 * r) (omega arith) (omega arith) first second i here
           (c.requires.swept.entries_left i (omega (arith, here)))) c.requires.swept.entries_done i lt;
       entries_left = λ i le. ap (λ (xs : List ℕ). slice_index xs i) twice ∙ kept i (λ e. absurd (omega (arith, e, le))) ∙ c.requires.swept.entries_left i (omega (arith, le));
-      undecided_done = word_here (λ w. IsWordOf span w (is_undecided graph (suc r))) run.undecided.items word _ (let l = long.undecided in omega (arith, l, within)) (next_undecided graph law r span word few c.index-undecided.result.now won lost won_small lost_small of_undecided of_won of_lost) c.requires.swept.undecided_done;
-      undecided_left = word_past (λ w. IsWordOf span w (is_undecided graph r)) run.undecided.items word _ c.requires.swept.undecided_left;
-      next_unwon = word_here (λ w. IsWordOf span w (is_unwon graph (suc r))) run.next_unwon.items word _ (let l = long.next_unwon in omega (arith, l, within)) (next_unwon graph law r span word few c.index-3.result.now won won_small of_unwon of_won) c.requires.swept.next_unwon;
-      next_lost = word_here (λ w. IsWordOf span w (is_lost_at graph (suc r))) run.next_lost.items word _ (let l = long.next_lost in omega (arith, l, within)) (next_lost graph law r span word few lost of_lost) c.requires.swept.next_lost;
+      undecided_done = subst (λ (xs : List ℕ). (w : ℕ) → w < word + 1 → IsWordOf span w (is_undecided graph (suc r)) (slice_index xs w)) (sym undecided_is) (word_here (λ w. IsWordOf span w (is_undecided graph (suc r))) run.undecided.items word _ (let l = long.undecided in omega (arith, l, within)) (next_undecided graph law r span word few c.index-undecided.result.now won lost won_small lost_small of_undecided of_won of_lost) c.requires.swept.undecided_done);
+      undecided_left = subst (λ (xs : List ℕ). (w : ℕ) → word + 1 ≤ w → IsWordOf span w (is_undecided graph r) (slice_index xs w)) (sym undecided_is) (word_past (λ w. IsWordOf span w (is_undecided graph r)) run.undecided.items word _ c.requires.swept.undecided_left);
+      next_unwon = subst (λ (xs : List ℕ). (w : ℕ) → w < word + 1 → IsWordOf span w (is_unwon graph (suc r)) (slice_index xs w)) (sym unwon_is) (word_here (λ w. IsWordOf span w (is_unwon graph (suc r))) run.next_unwon.items word _ (let l = long.next_unwon in omega (arith, l, within)) (next_unwon graph law r span word few c.index-3.result.now won won_small of_unwon of_won) c.requires.swept.next_unwon);
+      next_lost = subst (λ (xs : List ℕ). (w : ℕ) → w < word + 1 → IsWordOf span w (is_lost_at graph (suc r)) (slice_index xs w)) (sym next_lost_is) (word_here (λ w. IsWordOf span w (is_lost_at graph (suc r))) run.next_lost.items word _ (let l = long.next_lost in omega (arith, l, within)) (next_lost graph law r span word few lost of_lost) c.requires.swept.next_lost);
       unwon = c.requires.swept.unwon;
       lost = c.requires.swept.lost;
       ready = c.requires.swept.ready;

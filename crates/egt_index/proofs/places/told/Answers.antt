@@ -1,38 +1,40 @@
-use Rattle.std.proofs.Common.{◌≡◌, ◌≢◌, ◌<◌, ◌*◌, ◌+◌, Option, Some, IfSome, arith, sym, ◌∙◌, subst}
+use Rattle.std.proofs.Common.{◌≢◌, ℕ, Option, None, Some, IfSome, arith, subst, ◌∙◌}
 use Rattle.egt_board.specs.Attack.{king_of}
 use Rattle.egt_board.specs.declared.man.Man.{Man}
-use Rattle.egt_board.specs.declared.man.Side.TheVariants.{White, Black}
+use Rattle.egt_board.specs.declared.man.Side.TheVariants.{White}
 use Rattle.egt_class.specs.Material.{material_of}
-use Rattle.egt_index.specs.Front.{IsFrontOf, IsVoidFront}
-use Rattle.egt_index.specs.Places.{AreBitsOf}
-use Rattle.egt_index.specs.Shelf.{last_of, shelf_len}
+use Rattle.egt_index.specs.Front.{IsFront, IsFrontOf}
+use Rattle.egt_index.specs.ShelfCodes.{AreIndexes, IsShelfBehind}
 use Rattle.egt_index.specs.Size.{men_beside}
 use Rattle.egt_index.specs.declared.front.Front.{Front}
+use Rattle.egt_index.specs.declared.places.Places.{Places}
 use Rattle.egt_index.proofs.Fronts.{last_beside}
-use Rattle.egt_index.proofs.Placing.{bits_of_none}
-use Rattle.egt_index.proofs.places.told.Goals.{After-default}
+use Rattle.egt_index.proofs.Numbered.{none_indexed}
 use Rattle.egt_index.proofs.places.told.Goals as goal
 
-pub places_behind-requires-clause-last : goal.places_behind-requires-clause-last
-places_behind-requires-clause-last c = last_beside _ _ (men_beside (material_of c.args.class)) c.beside-last.ensures.men c.beside-last.ensures.from_first ∙ c.in_ok-man.was
+pub places_behind-requires-clause-before : goal.places_behind-requires-clause-before
+places_behind-requires-clause-before c = record {
+  last = last_beside _ _ (men_beside (material_of c.args.class)) c.beside-last.ensures.men c.beside-last.ensures.from_first ∙ c.in_ok-man.was;
+  other = subst (λ (o : Option Man). IfSome o (λ man. man ≢ king_of White)) c.in_ok-man.was c.beside-last.ensures.second;
+  high = c.args.number;
+  is = subst (λ (o : Option Front). IsFrontOf c.args.class c.args.number o) c.in-Some.is c.requires.front;
+}
 
-class_in : (c : After-default) → c.args.class < 36
-class_in c = omega (arith, c.number-number.ensures.below, c.number-number.ensures.value)
+pub returns-in-Some : goal.returns-in-Some
+returns-in-Some c = of c.places_behind.result c.places_behind.ensures
+  where
+    front : IsFront c.args.class c.args.number c.in-Some.front
+    front = subst (λ (o : Option Front). IsFrontOf c.args.class c.args.number o) c.in-Some.is c.requires.front
+
+    of : (o : Option Places) → IfSome o (λ found. (shelf high : ℕ) → IsFront c.args.class high c.in-Some.front → IsShelfBehind c.args.passed c.args.class shelf high → AreIndexes c.args.class shelf found)
+        → IfSome o (λ found. (shelf : ℕ) → IsShelfBehind c.args.passed c.args.class shelf c.args.number → AreIndexes c.args.class shelf found)
+    of None told = tt
+    of (Some found) told = λ shelf at. told shelf c.args.number front at
 
 -- without a front all codes are void
-none_before : (c : After-default) → IsVoidFront c.args.class c.args.number
-none_before c = subst (λ (o : Option Front). IsFrontOf c.args.class c.args.number o) c.in-None.is c.requires.front
-
-last_is : (c : After-default) → last_of (men_beside (material_of c.args.class)) ≡ Some c.in_ok-man.man
-last_is c = last_beside _ _ (men_beside (material_of c.args.class)) c.beside-last.ensures.men c.beside-last.ensures.from_first ∙ c.in_ok-man.was
-
-other : (c : After-default) → c.in_ok-man.man ≢ king_of White
-other c = subst (λ (o : Option Man). IfSome o (λ man. man ≢ king_of White)) c.in_ok-man.was c.beside-last.ensures.second
-
 pub returns-in-None : goal.returns-in-None
-returns-in-None c = record {
-  white = subst (AreBitsOf c.args.class _ _) (sym c.default.ensures.0)
-      (bits_of_none c.args.class c.args.number c.in_ok-man.man (class_in c) c.requires.targets (last_is c) (other c) (none_before c) White (c.args.number * shelf_len c.args.class) (omega arith));
-  black = subst (AreBitsOf c.args.class _ _) (sym c.default.ensures.1)
-      (bits_of_none c.args.class c.args.number c.in_ok-man.man (class_in c) c.requires.targets (last_is c) (other c) (none_before c) Black (c.args.number * shelf_len c.args.class + 1) (omega arith));
-}
+returns-in-None c = λ shelf at.
+    none_indexed c.args.passed c.args.class shelf c.args.number c.in_ok-man.man (omega (arith, c.number-number.ensures.below, c.number-number.ensures.value))
+    (last_beside _ _ (men_beside (material_of c.args.class)) c.beside-last.ensures.men c.beside-last.ensures.from_first ∙ c.in_ok-man.was)
+    (subst (λ (o : Option Man). IfSome o (λ man. man ≢ king_of White)) c.in_ok-man.was c.beside-last.ensures.second) at
+    (subst (λ (o : Option Front). IsFrontOf c.args.class c.args.number o) c.in-None.is c.requires.front) c.default.result c.default.ensures.0 c.default.ensures.1

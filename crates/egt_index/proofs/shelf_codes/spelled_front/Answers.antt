@@ -1,7 +1,6 @@
-use Rattle.std.proofs.Common.{◌≡◌, ◌∙◌, false, IfNone, arith, sym, ap, subst}
+use Rattle.std.proofs.Common.{◌∙◌, IfNone, arith, sym, ap, subst}
 use Rattle.std.proofs.lemmas.Bool.{false≢true}
 use Rattle.std.specs.FinMap as map
-use Rattle.egt_class.specs.Material.{material_of}
 use Rattle.egt_index.specs.ShelfCodes.{SpellsNothing}
 use Rattle.egt_index.specs.Stood.{with_last}
 use Rattle.egt_index.proofs.Fronts.{apart_all, few_before}

@@ -1,15 +1,14 @@
-use Rattle.std.proofs.Common.{◌≡◌, ◌≢◌, ◌+◌, ◌/◌, ◌^◌, sym, ap, subst, ◌∙◌, arith}
+use Rattle.std.proofs.Common.{◌≡◌, ◌≢◌, ◌+◌, sym, subst, ◌∙◌, arith}
 use Rattle.std.specs.Int.{bit_at}
 use Rattle.egt_board.proofs.Bits.{bit_at-within}
 use Rattle.egt_index.specs.Scales.{kind_less}
-use Rattle.egt_check.proofs.Spreading.{moved_bit}
 use Rattle.egt_words.proofs.steps.off.Goals as goal
 
 pub returns : goal.returns
 returns c = λ k.
     let set = c.less.result in
     let less = kind_less c.args.last.kind in
-    let moved : bit_at (set.bits / 2 ^ c.least.result) k ≡ bit_at set.bits (k + less) = ap (λ n. bit_at (set.bits / 2 ^ n) k) c.least.ensures.is ∙ moved_bit set.bits less k ∙ ap (bit_at set.bits) (omega arith) in (
+    let moved = c.places_on.ensures k in (
       λ one.
           let here = sym moved ∙ one in
           let near = bit_at-within set.bits (k + less) (omega arith) here in

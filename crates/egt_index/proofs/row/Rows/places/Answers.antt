@@ -1,27 +1,25 @@
-use Rattle.std.proofs.Common.{◌≡◌, ◌/◌, ◌*◌, ℕ, arith, ap, ◌∙◌, subst}
-use Rattle.egt_index.specs.Places.{ArePlaces}
+use Rattle.std.proofs.Common.{◌≡◌, ◌<◌, ◌/◌, ℕ, false, arith, ap, sym, ◌∙◌, subst}
 use Rattle.egt_index.specs.Shelf.{shelf_len}
-use Rattle.egt_index.specs.Size.{size_of}
-use Rattle.egt_index.proofs.IndexTotal.{few}
-use Rattle.egt_index.proofs.Placing.{even_first, len_few, whole_first}
+use Rattle.egt_index.specs.ShelfCodes.{AreIndexes, IsWithin}
+use Rattle.egt_index.proofs.Halves.{within_behind}
+use Rattle.egt_index.proofs.Numbered.{places_told, plain_behind}
+use Rattle.egt_index.proofs.Shelved.{whole_shelves}
 use Rattle.egt_index.proofs.row.Rows.places.Goals as goal
 
-pub asked-requires-clause-begins : goal.asked-requires-clause-begins
-asked-requires-clause-begins c = even_first c.args.first (shelf_len c.args.self.now) c.requires.begins (len_few c.args.self.now c.requires.targets).1
+some : (c class len : ℕ) → class ≡ c → len ≡ shelf_len class → 0 < len → 0 < shelf_len c
+some c class len same len_is len_some = subst (λ n. 0 < n) (len_is ∙ ap shelf_len same) len_some
 
-pub asked-requires-clause-room : goal.asked-requires-clause-room
-asked-requires-clause-room c =
-    let class = c.class-class.ensures in
-    let size = few c.class-class.result (omega (arith, c.number-number.ensures.below, c.number-number.ensures.value)) in
-    let here = ap size_of class in
-    let len = len_few c.args.self.now c.requires.targets in
-    let same = ap shelf_len c.front_at-front.ensures.class in
-    let within = c.requires.within in
-    omega arith
+shelf : (first c class len : ℕ) → class ≡ c → len ≡ shelf_len class → first / len ≡ first / shelf_len c
+shelf first c class len same len_is = ap (λ n. first / n) (len_is ∙ ap shelf_len same)
 
-pub returns-in-Some-clause-places : goal.returns-in-Some-clause-places
-returns-in-Some-clause-places c =
-    let len = ap shelf_len c.class-class.ensures in
-    let is : c.args.first / c.shelf_len.result * shelf_len c.class-class.result ≡ c.args.first =
-    ap (λ n. c.args.first / n * shelf_len c.class-class.result) (c.shelf_len.ensures.is ∙ len) ∙ ap (λ n. c.args.first / shelf_len c.args.self.now * n) len ∙ whole_first c.args.first (shelf_len c.args.self.now) c.requires.begins in
-    subst (λ (k : ℕ). ArePlaces k c.args.first c.in-Some.places) c.class-class.ensures (subst (λ (n : ℕ). ArePlaces c.class-class.result n c.in-Some.places) is c.in-Some.ensures)
+pub indexes-requires : goal.indexes-requires
+indexes-requires c =
+    subst (IsWithin c.args.self.now) (sym (shelf c.args.first c.args.self.now c.class-class.result c.shelf_len.result c.class-class.ensures c.shelf_len.ensures.is))
+    (within_behind false c.args.self.now (c.args.first / shelf_len c.args.self.now) (c.args.first / shelf_len c.args.self.now)
+    (plain_behind c.args.self.now c.args.first c.requires.targets (some c.args.self.now c.class-class.result c.shelf_len.result c.class-class.ensures c.shelf_len.ensures.is c.shelf_len.ensures.some) c.requires.begins
+    (whole_shelves c.args.self.now (subst (λ k. k < 36) c.class-class.ensures (omega (arith, c.number-number.ensures.below, c.number-number.ensures.value)))) c.requires.within))
+
+pub returns-clause-places : goal.returns-clause-places
+returns-clause-places c =
+    places_told c.args.self.now c.args.first c.requires.targets (some c.args.self.now c.class-class.result c.shelf_len.result c.class-class.ensures c.shelf_len.ensures.is c.shelf_len.ensures.some) c.requires.begins c.indexes.result
+    (subst (λ n. AreIndexes c.args.self.now n c.indexes.result) (shelf c.args.first c.args.self.now c.class-class.result c.shelf_len.result c.class-class.ensures c.shelf_len.ensures.is) c.indexes.ensures.indexes)

@@ -2,7 +2,7 @@ use Rattle.std.proofs.Common.{ℕ, ◌<◌, sym, subst, inl, inr, arith}
 use Rattle.std.proofs.lemmas.Bool.{cases_eq}
 use Rattle.egt_graph.specs.Words.{words_of}
 use Rattle.egt_index.specs.Size.{size_of}
-use Rattle.egt_words.specs.Told.{places}
+use Rattle.egt_index.specs.Numbers.{places}
 use Rattle.egt_sweep.specs.CodeSources.{IsCut, KnowsWord}
 use Rattle.egt_sweep.proofs.CodeSources.{known_told}
 use Rattle.egt_sweep.proofs.code_sources.CodeSources.are_of.Goals as goal

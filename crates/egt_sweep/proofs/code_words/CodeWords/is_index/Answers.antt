@@ -6,4 +6,5 @@ use Rattle.egt_sweep.proofs.code_words.CodeWords.is_index.Goals as goal
 pub returns : goal.returns
 returns c =
     let words = c.args.self.now in
-    index_told words.class words.lists words.told c.args.code c.requires c.all_indexes.result.now c.is_in.result c.all_indexes.ensures.is (subst (λ (n : ℕ). c.is_in.result ≡ true ↔ IsIn n c.all_indexes.result.now c.args.code) c.places.ensures.is c.is_in.ensures)
+    index_told words.class words.lists words.told c.args.number c.requires c.all_indexes.result.now c.is_in.result c.all_indexes.ensures.is
+    (subst (λ (n : ℕ). c.is_in.result ≡ true ↔ IsIn n c.all_indexes.result.now c.args.number) c.places.ensures.is c.is_in.ensures)

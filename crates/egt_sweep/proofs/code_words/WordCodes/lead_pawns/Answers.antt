@@ -1,5 +1,5 @@
-use Rattle.std.proofs.Common.{ℕ, [], Some, None, inl, inr, arith}
-use Rattle.egt_graph.specs.WordMoves.{GoesSome}
+use Rattle.std.proofs.Common.{ℕ, [], Some, inl, inr, arith}
+use Rattle.egt_graph.specs.WordMoves.{GoesByWord}
 use Rattle.egt_words.specs.Told.{GoesByPawnBy}
 use Rattle.egt_sweep.proofs.code_words.WordCodes.lead_pawns.Goals as goal
 
@@ -7,15 +7,14 @@ pub returns : goal.returns
 returns c k =
     let codes = c.args.self.now in
     let led = c.lead_by.ensures k in
-    let by : (j : ℕ) → GoesSome c.args.span k j codes.pawn_ways.now [] (Some codes.pushes) None → GoesByPawnBy c.args.span k j codes.pawn_ways.now codes.pushes = λ j goes. elim goes [
-      | inl (inl straight) ↦ inl straight
-      | inl (inr (inl turn)) ↦ absurd (let (way, (i, lt, is), e) = turn in omega (arith, lt))
-      | inl (inr (inr push)) ↦ inr push
-      | inr none ↦ absurd none
+    let by : (j : ℕ) → GoesByWord c.args.span k j codes.pawn_ways.now [] (Some codes.pushes.now) → GoesByPawnBy c.args.span k j codes.pawn_ways.now codes.pushes.now = λ j goes. elim goes [
+      | inl straight ↦ inl straight
+      | inr (inl turn) ↦ absurd (let (way, (i, lt, is), e) = turn in omega (arith, lt))
+      | inr (inr push) ↦ inr push
     ] in
-    let from : (j : ℕ) → GoesByPawnBy c.args.span k j codes.pawn_ways.now codes.pushes → GoesSome c.args.span k j codes.pawn_ways.now [] (Some codes.pushes) None = λ j goes. elim goes [
-      | inl straight ↦ inl (inl straight)
-      | inr push ↦ inl (inr (inr push))
+    let from : (j : ℕ) → GoesByPawnBy c.args.span k j codes.pawn_ways.now codes.pushes.now → GoesByWord c.args.span k j codes.pawn_ways.now [] (Some codes.pushes.now) = λ j goes. elim goes [
+      | inl straight ↦ inl straight
+      | inr push ↦ inr (inr push)
     ] in (
       λ one. let (bit, (j, goes, is)) = led.0 one in (bit, (j, by j goes, is)),
       λ (bit, (j, goes, is)). led.1 (bit, (j, from j goes, is)),

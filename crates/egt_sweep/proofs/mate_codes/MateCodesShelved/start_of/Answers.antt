@@ -4,7 +4,7 @@ use Rattle.egt_graph.specs.Words.{IsWordStart}
 use Rattle.egt_sweep.specs.CodeMates.{game_by}
 use Rattle.egt_sweep.specs.CodeLists.{nodes_at}
 use Rattle.egt_table.specs.declared.column.Column.TheVariants.{Mate}
-use Rattle.egt_words.specs.Told.{places}
+use Rattle.egt_index.specs.Numbers.{places}
 use Rattle.egt_sweep.proofs.CodeGames.{mate_codes_begin}
 use Rattle.egt_sweep.proofs.mate_codes.MateCodesShelved.start_of.Goals as goal
 

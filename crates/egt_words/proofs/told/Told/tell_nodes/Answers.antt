@@ -32,7 +32,7 @@ returns-then-tell_piece c = λ told.
     let pushes : after.pushes ≡ c.tell_last.new.self.pushes = ap (λ (t : Told). t.pushes) one.same ∙ ap (λ (t : Told). t.pushes) same in
     let roams : after.roams ≡ c.tell_last.new.self.roams = ap (λ (t : Told). t.roams) one.same ∙ ap (λ (t : Told). t.roams) same in
     let staying : after.staying ≡ c.staying_of-self.result = ap (λ (t : Told). t.staying) one.same ∙ ap (λ (t : Told). t.staying) same ∙ ap (λ (t : Told). t.staying) c.tell_last.ensures.same in
-    let last = subst (λ (o : Option Roaming). TellsLast d word men side after.pushes o) (sym roams) (subst (λ (p : Pushes). TellsLast d word men side p c.tell_last.new.self.roams) (sym pushes) c.tell_last.ensures.told) in
+    let last = subst (λ (o : Option Roaming). TellsLast d word men side after.pushes o) (sym roams) (subst (λ (p : Pushes). TellsLast d word men side p c.tell_last.new.self.roams) (sym pushes) (c.tell_last.ensures.told c.if-not-tell_last.false)) in
     let king : (t : ℕ) → TellsQuiet d word (GoesStanding d after) (king_square_of men side) t
     = λ t. subst (λ s. TellsQuiet d word (GoesStanding d after) s t) c.king_at.ensures (told_kept d word c.king_at.result t before after one.keeps (c.tell_piece.ensures.told c.if-tell_piece.true t)) in
     tells_word d c.args.shelf men side c.requires.men c.args.nodes c.requires.nodes after one.steps one.ahead last king (one.told told)

@@ -1,16 +1,15 @@
 use Rattle.std.proofs.Common.{◌≡◌, ◌⊎◌, sym, ap, ◌∙◌, subst, inl, inr}
+use Rattle.std.proofs.lemmas.Nat.Bits.{bit_at-zero}
 use Rattle.egt_board.specs.Pawn.{ahead, last_rank}
 use Rattle.egt_board.specs.Square.{rank_of}
 use Rattle.egt_board.specs.SquareSet.{Has}
-use Rattle.egt_words.specs.Told.{word_of}
 use Rattle.egt_words.proofs.Ahead.{ahead_kept, goes_ahead, none_ahead, unheld_ahead}
 use Rattle.egt_words.proofs.told.Told.tell_pawn.Goals as goal
 use Rattle.egt_words.proofs.told.Told.tell_pawn.Goals.{then-rank-last_rank-via-then-rank-last_rank, then-rank-last_rank-via-else-rank-last_rank+then-contains}
 
 pub returns-then-rank-last_rank-clause-told : goal.returns-then-rank-last_rank-clause-told
 returns-then-rank-last_rank-clause-told c told t k p q m at advance from_is to_is =
-    absurd (none_ahead c.facts.ensures c.moves_lead_into_the_class_or_a_child.ensures.quiet c.a_class_without_targets_has_pawns_of_one_side.ensures c.args.class c.args.shelf c.args.men.now c.args.side c.requires.shelf c.requires.targets c.requires.mine c.requires.pawn
-    c.requires.low c.requires.high c.held-held.result c.held-held.ensures k p at shut q m t advance from_is to_is)
+    absurd (none_ahead c.args.class c.args.shelf c.args.men.now c.args.side c.requires.shelf c.requires.mine c.requires.pawn c.held-held.result c.held-held.ensures k p at shut q m t advance from_is to_is)
   where
     next : c.ahead-next.result ≡ ahead c.args.side c.args.men.now.on
     next = c.ahead-next.ensures
@@ -23,13 +22,11 @@ returns-then-rank-last_rank-clause-told c told t k p q m at advance from_is to_i
 
 pub returns-then-add_advance-clause-told : goal.returns-then-add_advance-clause-told
 returns-then-add_advance-clause-told c told t k p q m at advance from_is to_is =
-    let goes = goes_ahead c.facts.ensures c.moves_lead_into_the_class_or_a_child.ensures.quiet c.a_class_without_targets_has_pawns_of_one_side.ensures c.args.class c.args.shelf c.args.men.now c.args.side c.requires.shelf c.requires.targets c.requires.mine c.requires.pawn
-    c.requires.low c.requires.high c.held-held.result c.held-held.ensures k p at q m t advance from_is to_is in
-    let none = unheld_ahead c.facts.ensures c.moves_lead_into_the_class_or_a_child.ensures.quiet c.a_class_without_targets_has_pawns_of_one_side.ensures c.args.class c.args.shelf c.args.men.now c.args.side c.requires.shelf c.requires.targets c.requires.mine c.requires.pawn
-    c.requires.low c.requires.high c.held-held.result c.held-held.ensures k p at t goes.1 in
+    let goes = goes_ahead c.args.class c.args.shelf c.args.men.now c.args.side c.requires.shelf c.requires.mine c.requires.pawn c.held-held.result c.held-held.ensures k p at q m t advance from_is to_is in
+    let none = unheld_ahead c.args.class c.args.shelf c.args.men.now c.args.side c.requires.shelf c.requires.mine c.requires.pawn c.held-held.result c.held-held.ensures k p at t goes.1 in
     elim goes.2 [
       | inl next ↦
-          ahead_kept c.args.class (word_of c.args.shelf c.args.side) c.args.men.now.on c.ahead-next.result c.add_advance.new.self c.tell_leap.new.self c.tell_leap.ensures.keeps (c.add_advance.ensures.told c.if-add_advance.true)
-          k p q m at advance from_is (to_is ∙ next ∙ sym c.ahead-next.ensures)
+          ahead_kept c.args.class c.add_advance.new.self c.tell_leap.new.self c.tell_leap.ensures.keeps k q
+          (c.add_advance.ensures.told c.if-add_advance.true k p q m at (bit_at-zero k) advance from_is (to_is ∙ next ∙ sym c.ahead-next.ensures))
       | inr leaps ↦ c.tell_leap.ensures.told told t leaps.home leaps.away none k p q m at advance from_is to_is
     ]

@@ -1,0 +1,253 @@
+-- Numbers of positions and the codes that they stand for.
+use Rattle.std.proofs.Common.{◌≡◌, ℕ, ◌+◌, ◌-◌, ◌*◌, ◌/◌, ◌%◌, ◌<◌, ◌≤◌, nat_lt, Bool, true, false, cond, [], ◌∷◌, Option, Some, None, arith, refl, sym, ap, ◌∙◌, inl, inr, subst}
+use Rattle.std.proofs.lemmas.Bool.{cases_lt, false≢true, lt-ltb}
+use Rattle.std.proofs.lemmas.Bool.Decides.{nat_tests}
+use Rattle.std.proofs.Math.Nat.{mul-le-mul_right}
+use Rattle.egt_board.specs.Images.{side_number}
+use Rattle.egt_board.specs.declared.man.Kind.{Kind}
+use Rattle.egt_board.specs.declared.man.Kind.TheVariants.{Q, R, B, N, P, K}
+use Rattle.egt_board.specs.declared.man.Man.{Man}
+use Rattle.egt_board.specs.declared.man.Side.{Side}
+use Rattle.egt_board.specs.declared.man.Side.TheVariants.{White, Black}
+use Rattle.egt_class.specs.Material.{Material, material_of}
+use Rattle.egt_index.specs.Digits.{number_from, product}
+use Rattle.egt_index.specs.Numbers.{code_of, half_of, number_of, places}
+use Rattle.egt_index.specs.Scales.{digits_at, kind_digits}
+use Rattle.egt_index.specs.Shelf.{last_of, shelf_len}
+use Rattle.egt_index.specs.ShelfCodes.{IsShelfBehind, IsWithin, number_in}
+use Rattle.egt_index.specs.Size.{bases, has_target, men_beside, size_of}
+use Rattle.egt_index.specs.Spelled.{Ends}
+use Rattle.egt_index.proofs.OnePosition.{one_pawn_each}
+use Rattle.egt_index.proofs.Shelved.{whole_shelves}
+
+pub of_targets : {A : Type 0} (c : ℕ) → (has_target (material_of c) ≡ false → A) → (has_target (material_of c) ≡ true → A) → A
+of_targets {A = A} c none some = of (has_target (material_of c)) refl
+  where
+    of : (b : Bool) → has_target (material_of c) ≡ b → A
+    of false is = none is
+    of true is = some is
+
+-- ---- how many numbers have no target
+
+pub half_plain : (c : ℕ) → has_target (material_of c) ≡ false → half_of c ≡ size_of c
+unfolding half_of
+half_plain c none = ap (λ b. cond {A = ℕ} b (size_of c / 2) (size_of c)) none
+
+pub half_targets : (c : ℕ) → has_target (material_of c) ≡ true → half_of c ≡ size_of c / 2
+unfolding half_of
+half_targets c has = ap (λ b. cond {A = ℕ} b (size_of c / 2) (size_of c)) has
+
+-- the only class with targets
+size_targets : (c : ℕ) → has_target (material_of c) ≡ true → size_of c ≡ 18874368
+unfolding size_of
+size_targets c has = ap (λ (m : Material). product (bases m)) (one_pawn_each c has)
+
+places_targets : (c : ℕ) → has_target (material_of c) ≡ true → places c ≡ 48
+unfolding places
+places_targets c has = ap (λ (m : Material). digits_at (last_of (men_beside m))) (one_pawn_each c has)
+
+pub half_twice : (c : ℕ) → has_target (material_of c) ≡ true → size_of c ≡ 2 * half_of c
+half_twice c has = let size = size_targets c has in let half = half_targets c has in omega arith
+
+pub half_within : (c : ℕ) → half_of c ≤ size_of c
+half_within c = of_targets c (λ none. let is = half_plain c none in omega arith) (λ has. let is = half_twice c has in omega arith)
+
+-- it is of whole shelves
+pub half_whole : (c d : ℕ) → d ≡ places c → size_of c % (2 * places c) ≡ 0 → half_of c / (2 * d) * (2 * places c) ≡ half_of c
+half_whole c d is whole = subst (λ k. half_of c / (2 * k) * (2 * places c) ≡ half_of c) (sym is)
+    (of_targets c
+    (λ none. whole_of (half_of c) (2 * places c) (subst (λ n. n % (2 * places c) ≡ 0) (sym (half_plain c none)) whole))
+    (λ has. let size = size_targets c has in let half = half_targets c has in
+    let number : half_of c ≡ 9437184 = omega arith in
+    subst (λ p. half_of c / (2 * p) * (2 * p) ≡ half_of c) (sym (places_targets c has)) (omega arith)))
+  where
+    whole_of : (n k : ℕ) → n % k ≡ 0 → n / k * k ≡ n
+    whole_of n k none = grind arith
+
+-- ---- numbers and codes
+
+pub code_plain : (c n : ℕ) → has_target (material_of c) ≡ false → code_of c n ≡ n
+unfolding code_of
+code_plain c n none = ap (λ b. cond {A = ℕ} b (cond (nat_lt n (half_of c)) (2 * n) (2 * (n - half_of c) + 1)) n) none
+
+code_targets : (c n : ℕ) → has_target (material_of c) ≡ true → code_of c n ≡ cond (nat_lt n (half_of c)) (2 * n) (2 * (n - half_of c) + 1)
+unfolding code_of
+code_targets c n has = ap (λ b. cond {A = ℕ} b (cond (nat_lt n (half_of c)) (2 * n) (2 * (n - half_of c) + 1)) n) has
+
+pub code_low : (c n : ℕ) → has_target (material_of c) ≡ true → n < half_of c → code_of c n ≡ 2 * n
+code_low c n has lt = code_targets c n has ∙ ap (λ b. cond {A = ℕ} b (2 * n) (2 * (n - half_of c) + 1)) (lt-ltb n (half_of c) lt)
+
+pub code_high : (c n : ℕ) → has_target (material_of c) ≡ true → half_of c ≤ n → code_of c n ≡ 2 * (n - half_of c) + 1
+code_high c n has ge = code_targets c n has ∙ not_less n (half_of c) ge (2 * n) (2 * (n - half_of c) + 1)
+  where
+    not_less : (n h : ℕ) → h ≤ n → (a b : ℕ) → cond (nat_lt n h) a b ≡ b
+    not_less n h ge a b = grind (arith, nat_tests)
+
+pub number_plain : (c code : ℕ) → has_target (material_of c) ≡ false → number_of c code ≡ code
+unfolding number_of
+number_plain c code none = ap (λ b. cond {A = ℕ} b (code / 2 + code % 2 * half_of c) code) none
+
+number_targets : (c code : ℕ) → has_target (material_of c) ≡ true → number_of c code ≡ code / 2 + code % 2 * half_of c
+unfolding number_of
+number_targets c code has = ap (λ b. cond {A = ℕ} b (code / 2 + code % 2 * half_of c) code) has
+
+-- by the code's last digit
+number_even : (c code : ℕ) → has_target (material_of c) ≡ true → code % 2 ≡ 0 → number_of c code ≡ code / 2
+number_even c code has even = let is = number_targets c code has in let none = ap (λ d. d * half_of c) even in omega arith
+
+number_odd : (c code : ℕ) → has_target (material_of c) ≡ true → code % 2 ≡ 1 → number_of c code ≡ code / 2 + half_of c
+number_odd c code has odd = let is = number_targets c code has in let one = ap (λ d. d * half_of c) odd in omega arith
+
+pub code_below : (c n : ℕ) → n < size_of c → code_of c n < size_of c
+code_below c n lt = of_targets c
+    (λ none. let is = code_plain c n none in omega arith)
+    (λ has. let twice = half_twice c has in elim (cases_lt n (half_of c)) [
+      | inl low ↦ let is = code_low c n has low in omega arith
+      | inr high ↦ let is = code_high c n has high in omega arith
+    ])
+
+pub number_below : (c n : ℕ) → code_of c n < size_of c → n < size_of c
+number_below c n lt = of_targets c
+    (λ none. let is = code_plain c n none in omega arith)
+    (λ has. let twice = half_twice c has in elim (cases_lt n (half_of c)) [
+      | inl low ↦ omega arith
+      | inr high ↦ let is = code_high c n has high in omega arith
+    ])
+
+pub number_within : (c code : ℕ) → code < size_of c → number_of c code < size_of c
+number_within c code lt = of_targets c
+    (λ none. let is = number_plain c code none in omega arith)
+    (λ has. let twice = half_twice c has in elim (cases_lt (code % 2) 1) [
+      | inl low ↦ let is = number_even c code has (omega arith) in omega arith
+      | inr high ↦ let is = number_odd c code has (omega arith) in omega arith
+    ])
+
+pub code_back : (c code : ℕ) → code < size_of c → code_of c (number_of c code) ≡ code
+code_back c code lt = of_targets c
+    (λ none. code_plain c (number_of c code) none ∙ number_plain c code none)
+    (λ has. let twice = half_twice c has in elim (cases_lt (code % 2) 1) [
+      | inl low ↦
+          let is = number_even c code has (omega arith) in
+          let there = code_low c (number_of c code) has (omega arith) in omega arith
+      | inr high ↦
+          let is = number_odd c code has (omega arith) in
+          let there = code_high c (number_of c code) has (omega arith) in omega arith
+    ])
+
+pub number_back : (c n : ℕ) → n < size_of c → number_of c (code_of c n) ≡ n
+number_back c n lt = of_targets c
+    (λ none. number_plain c (code_of c n) none ∙ code_plain c n none)
+    (λ has. let twice = half_twice c has in elim (cases_lt n (half_of c)) [
+      | inl low ↦
+          let is = code_low c n has low in
+          let there = number_even c (code_of c n) has (omega arith) in omega arith
+      | inr high ↦
+          let is = code_high c n has high in
+          let there = number_odd c (code_of c n) has (omega arith) in omega arith
+    ])
+
+-- ---- shelves of numbers
+
+pub places_of_last : (c : ℕ) (man : Man) → last_of (men_beside (material_of c)) ≡ Some man → places c ≡ kind_digits man.kind
+unfolding places
+places_of_last c man last = ap digits_at last
+
+pub places_of_none : (c : ℕ) → last_of (men_beside (material_of c)) ≡ None → places c ≡ 1
+unfolding places
+places_of_none c none = ap digits_at none
+
+digits_some : (o : Option Man) → 0 < digits_at o
+digits_some None = omega arith
+digits_some (Some man) = of man.kind
+  where
+    of : (kind : Kind) → 0 < kind_digits kind
+    of Q = omega arith
+    of R = omega arith
+    of B = omega arith
+    of N = omega arith
+    of P = omega arith
+    of K = omega arith
+
+pub places_some : (c : ℕ) → 0 < places c
+unfolding places
+places_some c = digits_some (last_of (men_beside (material_of c)))
+
+-- in a class without targets they are those of codes
+pub len_plain : (c : ℕ) → has_target (material_of c) ≡ false → shelf_len c ≡ 2 * places c
+unfolding shelf_len places
+len_plain c none = ap (λ b. cond {A = ℕ} b 4 2 * digits_at (last_of (men_beside (material_of c)))) none
+
+pub whole_numbers : (c : ℕ) → c < 36 → size_of c % (2 * places c) ≡ 0
+whole_numbers c c_in = of_targets c
+    (λ none. subst (λ n. size_of c % n ≡ 0) (len_plain c none) (whole_shelves c c_in))
+    (λ has. let size = size_targets c has in subst (λ p. size_of c % (2 * p) ≡ 0) (sym (places_targets c has)) (omega arith))
+
+-- fronts and shelves, by how many fronts there are
+pub front_low : (c front fronts : ℕ) → fronts * (2 * places c) ≡ half_of c → front < fronts → (front + 1) * (2 * places c) ≤ half_of c
+front_low c front fronts all lt = let le = mul-le-mul_right (2 * places c) (above front fronts lt) in omega arith
+  where
+    above : (a b : ℕ) → a < b → a + 1 ≤ b
+    above a b lt = omega arith
+
+pub shelf_past : (c shelf fronts : ℕ) → fronts * (2 * places c) ≡ half_of c → has_target (material_of c) ≡ false → fronts ≤ shelf → size_of c ≤ shelf * (2 * places c)
+shelf_past c shelf fronts all none ge = let le = mul-le-mul_right (2 * places c) ge in let plain = half_plain c none in omega arith
+
+pub shelf_past_both : (c shelf fronts : ℕ) → fronts * (2 * places c) ≡ half_of c → has_target (material_of c) ≡ true → 2 * fronts ≤ shelf → size_of c ≤ shelf * (2 * places c)
+shelf_past_both c shelf fronts all has ge = let le = mul-le-mul_right (2 * places c) ge in let twice = half_twice c has in omega arith
+
+-- a shelf behind a front is one of the class's
+pub within_behind : (passed : Bool) (c shelf high : ℕ) → IsShelfBehind passed c shelf high → IsWithin c shelf
+within_behind passed c shelf high at = of_targets c none (some passed at)
+  where
+    none : has_target (material_of c) ≡ false → IsWithin c shelf
+    none is = plain passed (at.may is) at
+      where
+        plain : (passed : Bool) → passed ≡ false → IsShelfBehind passed c shelf high → IsWithin c shelf
+        plain true e at = absurd (false≢true (sym e))
+        plain false e at = let size = half_within c in let first = at.first in let within = at.within in omega arith
+
+    some : (passed : Bool) → IsShelfBehind passed c shelf high → has_target (material_of c) ≡ true → IsWithin c shelf
+    some false at has = let size = half_within c in let first = at.first in let within = at.within in omega arith
+    some true at has = let size = half_twice c has in let first = at.first in let within = at.within in omega arith
+
+-- the ends of a number's code
+module _ (passed : Bool) (c shelf high : ℕ) (at : IsShelfBehind passed c shelf high) (side : Side) (k : ℕ) (k_in : k < places c) where
+  abbrev number : ℕ
+  number = number_in c shelf side k
+
+  -- how it goes on behind the front
+  abbrev low : ℕ
+  low = (high * places c + k) * 2 + side_number side
+
+  low_is : high * (2 * places c) + side_number side + 2 * k ≡ low
+  low_is = omega arith
+
+  side_few : (side : Side) → side_number side ≤ 1
+  side_few White = omega arith
+  side_few Black = omega arith
+
+  low_in : low < half_of c
+  low_in = let within = at.within in let few = side_few side in let is = low_is in omega arith
+
+  coded : (passed : Bool) → IsShelfBehind passed c shelf high → has_target (material_of c) ≡ true → code_of c number ≡ low * 2 + cond passed 1 0
+  coded false at has =
+      let first = at.first in let is = low_is in let below = low_in in
+      let same : number ≡ low = omega arith in
+      ap (code_of c) same ∙ code_low c low has below ∙ (omega arith)
+  coded true at has =
+      let first = at.first in let is = low_is in
+      let same : number ≡ low + half_of c = omega arith in
+      let code = code_high c (low + half_of c) has (omega arith) in
+      ap (code_of c) same ∙ (omega arith)
+
+  plain : (passed : Bool) → passed ≡ false → IsShelfBehind passed c shelf high → has_target (material_of c) ≡ false → code_of c number ≡ low
+  plain true e at none = absurd (false≢true (sym e))
+  plain false e at none = let first = at.first in let is = low_is in code_plain c number none ∙ (omega arith)
+
+  pub ends_behind : Ends (material_of c) (code_of c number) (high * places c + k) side passed
+  ends_behind = record {
+    number_is = of_targets c
+        (λ none. subst (λ b. code_of c number ≡ number_from (high * places c + k) (2 ∷ cond b (2 ∷ []) []) (side_number side ∷ cond b (cond passed 1 0 ∷ []) [])) (sym none) (plain passed (at.may none) at none))
+        (λ has. subst (λ b. code_of c number ≡ number_from (high * places c + k) (2 ∷ cond b (2 ∷ []) []) (side_number side ∷ cond b (cond passed 1 0 ∷ []) [])) (sym has) (coded passed at has));
+    never = at.may;
+  }

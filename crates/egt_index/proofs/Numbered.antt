@@ -1,0 +1,268 @@
+-- Which numbers of a shelf stand for settled positions, and which of their codes are indexes.
+use Rattle.std.proofs.Common.{◌≡◌, ◌≢◌, ◌↔◌, ℕ, ◌+◌, ◌*◌, ◌/◌, ◌%◌, ◌<◌, ◌≤◌, Bool, true, false, if◌then◌else◌, Some, None, arith, refl, sym, ap, ◌∙◌, subst, inl, inr}
+use Rattle.std.specs.Int.{bit_at}
+use Rattle.std.proofs.lemmas.Bool.{cases_eq}
+use Rattle.std.proofs.lemmas.Nat.Bits.{bit_at-zero}
+use Rattle.egt_board.specs.Attack.{king_of}
+use Rattle.egt_board.specs.Images.{side_number}
+use Rattle.egt_board.specs.Pawn.{pawn_of}
+use Rattle.egt_board.specs.Settled.{IsSettled}
+use Rattle.egt_board.specs.Setup.{Setup}
+use Rattle.egt_board.specs.declared.man.Man.{Man}
+use Rattle.egt_board.specs.declared.man.Side.{Side}
+use Rattle.egt_board.specs.declared.man.Side.TheVariants.{White, Black}
+use Rattle.egt_class.specs.Material.{Material, material_of}
+use Rattle.egt_index.specs.Code.{Spells}
+use Rattle.egt_index.specs.Facts.{Facts}
+use Rattle.egt_index.specs.Front.{TellsLast, IsFront, IsVoidFront}
+use Rattle.egt_index.specs.Index.{IsIndex, IsVoid}
+use Rattle.egt_index.specs.Numbers.{IsNumbered, code_of, places}
+use Rattle.egt_index.specs.Places.{AreBitsOf, AreMade, ArePlaces, IsMade, TellsIndex}
+use Rattle.egt_index.specs.Row.{row_len}
+use Rattle.egt_index.specs.Scales.{AreEqual, kind_digits, kind_less}
+use Rattle.egt_index.specs.Shelf.{last_of, shelf_len}
+use Rattle.egt_index.specs.ShelfCodes.{AreIndexed, AreIndexes, AreNumbered, ArePositions, IsShelfBehind, PassesNothing, SpellsNothing, number_in}
+use Rattle.egt_index.specs.Size.{has_target, men_beside, size_of}
+use Rattle.egt_index.specs.Spelled.{Ends}
+use Rattle.egt_index.specs.StepCodes.{TellsMen}
+use Rattle.egt_index.specs.Stood.{Entry, IsInOrder, list_of, with_last}
+use Rattle.egt_index.specs.declared.front.Front.{Front}
+use Rattle.egt_index.specs.declared.places.Places.{Places}
+use Rattle.egt_index.specs.declared.stand.Stand.{Stand}
+use Rattle.egt_index.proofs.Coding.{code_below}
+use Rattle.egt_index.proofs.Decoded.{list_spelled}
+use Rattle.egt_index.proofs.Exists.{index_settled}
+use Rattle.egt_index.proofs.Halves.{code_plain, ends_behind, half_plain, len_plain, number_below, places_of_last, within_behind}
+use Rattle.egt_index.proofs.Passing.{last_pawn}
+use Rattle.egt_index.proofs.Placing.{not_both, tells, whole_first}
+use Rattle.egt_index.proofs.RowMen.{row_number}
+use Rattle.egt_index.proofs.Shelved.{next_within}
+use Rattle.egt_index.proofs.StepCodes.{stands_told, told_stands}
+
+no_bits : {P : ℕ → Type 0} (word : ℕ) → word ≡ 0 → ((k : ℕ) → P k → ⊥) → (k : ℕ) → (bit_at word k ≡ 1) ↔ P k
+no_bits word none not k = (λ one. not_both (bit_at 0 k) (bit_at-zero k) (sym (ap (λ w. bit_at w k) none) ∙ one), λ there. absurd (not k there))
+
+in_order : (x : Entry) (man : Man) (s : ℕ) → ¬ AreEqual x (Some (man, s)) → IsInOrder x (Some (man, s))
+in_order None man s not = tt
+in_order (Some x) man s not = λ e. absurd (not e)
+
+-- the first number of a shelf with that side to move
+both_first : (P : ℕ → ℕ → Type 0) (n white black : ℕ) → P (n + side_number White) white → P (n + side_number Black) black → P n white × P (n + 1) black
+both_first P n white black here there = (subst (λ k. P k white) same here, there)
+  where
+    same : n + 0 ≡ n
+    same = omega arith
+
+module _ (passed : Bool) (c shelf high : ℕ) (man : Man) (c_in : c < 36) (last : last_of (men_beside (material_of c)) ≡ Some man) (other : man ≢ king_of White) (at : IsShelfBehind passed c shelf high) where
+  abbrev m : Material
+  m = material_of c
+
+  abbrev number : ℕ → ℕ
+  number k = high * kind_digits man.kind + k
+
+  abbrev entry : ℕ → Entry
+  entry k = Some (man, k + kind_less man.kind)
+
+  abbrev first : Side → ℕ
+  first mover = shelf * (2 * places c) + side_number mover
+
+  pub len : places c ≡ kind_digits man.kind
+  len = places_of_last c man last
+
+  pub ends : (mover : Side) (k : ℕ) → k < kind_digits man.kind → Ends m (code_of c (first mover + 2 * k)) (number k) mover passed
+  ends mover k below =
+      subst (λ (d : ℕ). Ends m (code_of c (first mover + 2 * k)) (high * d + k) mover passed) len (ends_behind passed c shelf high at mover k (subst (λ d. k < d) (sym len) below))
+
+  module _ (front : Front) (is : IsFront c high front) where
+    abbrev stand : ℕ → Stand
+    stand k = with_last front.stand (entry k)
+
+    told : (mover : Side) (k : ℕ) → k < kind_digits man.kind → TellsMen passed c (code_of c (first mover + 2 * k)) (stand k) mover
+    told mover k below = record {
+      number = number k;
+      men = is.before.men (number k) (entry k) (tells c high man c_in last other k below);
+      filled = is.before.filled (number k) (entry k) (tells c high man c_in last other k below);
+      ends = ends mover k below;
+    }
+
+    made : (mover : Side) (k : ℕ) (p : Setup) → k < kind_digits man.kind → IsNumbered c (first mover + 2 * k) p → IsMade passed c front.stand man mover k
+    made mover k p below is = record { below = below; position = p; has = told_stands passed c (code_of c (first mover + 2 * k)) p (stand k) mover is.spells is.settled (told mover k below) }
+
+    spelled : (mover : Side) (k : ℕ) (made : IsMade passed c front.stand man mover k) → Spells c (code_of c (first mover + 2 * k)) made.position
+    spelled mover k made = stands_told passed c (code_of c (first mover + 2 * k)) made.position (stand k) mover made.has (told mover k made.below)
+
+    numbered : (mover : Side) (word : ℕ) → ((k : ℕ) → (bit_at word k ≡ 1) ↔ IsMade passed c front.stand man mover k) → AreNumbered c (first mover) word
+    numbered mover word bits k = (
+      λ one. let there = (bits k).0 one in (subst (λ d. k < d) (sym len) there.below, (there.position, record { spells = spelled mover k there; settled = there.has.settled })),
+      λ there. (bits k).1 (made mover k there.1.0 (subst (λ d. k < d) len there.0) there.1.1),
+    )
+
+    pub positions_behind : (found : Places) → AreMade passed c front.stand man found → ArePositions c shelf found
+    positions_behind found are =
+        let both = both_first (AreNumbered c) (shelf * (2 * places c)) found.white found.black (numbered White found.white are.white) (numbered Black found.black are.black) in
+        record { white = both.0; black = both.1 }
+
+    -- where each is the least of its images
+    module _ (facts : Facts) (alone : front.tied ≡ false) (unequal : (s : ℕ) → ¬ AreEqual front.stand.next (Some (man, s))) where
+      indexed : (mover : Side) (word : ℕ) → ((k : ℕ) → (bit_at word k ≡ 1) ↔ IsMade passed c front.stand man mover k) → AreIndexed c (first mover) word
+      unfolding told
+      indexed mover word bits k = (there, back)
+        where
+          code : ℕ
+          code = code_of c (first mover + 2 * k)
+
+          there : bit_at word k ≡ 1 → (k < places c) × ¬ IsVoid c (code_of c (first mover + 2 * k))
+          there one = (subst (λ d. k < d) (sym len) here.below, λ void. void here.position here.has.admissible index)
+            where
+              here : IsMade passed c front.stand man mover k
+              here = (bits k).0 one
+
+              index : IsIndex c here.position (code_of c (first mover + 2 * k))
+              index =
+                  is.least alone (entry k) (in_order front.stand.next man (k + kind_less man.kind) (unequal (k + kind_less man.kind))) here.position mover passed (code_of c (first mover + 2 * k)) tt here.has
+                  (record { spells = spelled mover k here; list_is = list_spelled c (code_of c (first mover + 2 * k)) (number k) mover passed (list_of (stand k)) here.position (ends mover k here.below) (told mover k here.below).men (spelled mover k here) })
+
+          back : (k < places c) × ¬ IsVoid c (code_of c (first mover + 2 * k)) → bit_at word k ≡ 1
+          back some = elim (cases_eq (bit_at word k) 1) [
+            | inl one ↦ one
+            | inr not ↦ absurd (some.1 (λ p ok index.
+                not ((bits k).1 (made mover k index.image (subst (λ d. k < d) len some.0) (record { spells = index.spells; settled = index_settled facts p index.image c (code_of c (first mover + 2 * k)) ok index index.spells })))))
+          ]
+
+      pub indexes_behind : (found : Places) → AreMade passed c front.stand man found → AreIndexes c shelf found
+      indexes_behind found are =
+          let both = both_first (AreIndexed c) (shelf * (2 * places c)) found.white found.black (indexed White found.white are.white) (indexed Black found.black are.black) in
+          record { white = both.0; black = both.1 }
+
+  -- where there is no front
+  in_row : (mover : Side) (k : ℕ) → k < places c → code_of c (first mover + 2 * k) / row_len c ≡ number k
+  in_row mover k below = row_number m (code_of c (first mover + 2 * k)) (number k) mover passed (ends mover k (subst (λ d. k < d) len below))
+
+  lasts : (k : ℕ) → k < places c → TellsLast c (number k) high (entry k)
+  lasts k below = tells c high man c_in last other k (subst (λ d. k < d) len below)
+
+  pub none_spelled : SpellsNothing c high → (found : Places) → found.white ≡ 0 → found.black ≡ 0 → ArePositions c shelf found
+  none_spelled nothing found white black =
+      let both = both_first (AreNumbered c) (shelf * (2 * places c)) found.white found.black (of White found.white white) (of Black found.black black) in
+      record { white = both.0; black = both.1 }
+    where
+      of : (mover : Side) (word : ℕ) → word ≡ 0 → AreNumbered c (first mover) word
+      of mover word none = no_bits word none (λ k there. nothing (number k) (entry k) (code_of c (first mover + 2 * k)) there.1.0 (lasts k there.0) (in_row mover k there.0) there.1.1.spells)
+
+  pub none_indexed : IsVoidFront c high → (found : Places) → found.white ≡ 0 → found.black ≡ 0 → AreIndexes c shelf found
+  none_indexed void found white black =
+      let both = both_first (AreIndexed c) (shelf * (2 * places c)) found.white found.black (of White found.white white) (of Black found.black black) in
+      record { white = both.0; black = both.1 }
+    where
+      of : (mover : Side) (word : ℕ) → word ≡ 0 → AreIndexed c (first mover) word
+      of mover word none = no_bits word none (λ k there. there.1 (void (number k) (entry k) (lasts k there.0) (code_of c (first mover + 2 * k)) (in_row mover k there.0)))
+
+-- where none of the men before him has a target
+module _ (c shelf high : ℕ) (c_in : c < 36) (has : has_target (material_of c) ≡ true) (at : IsShelfBehind true c shelf high) (nothing : PassesNothing c high) (found : Places) (white : found.white ≡ 0) (black : found.black ≡ 0) where
+  no_king : pawn_of Black ≢ king_of White
+  no_king e = let sides = ap (λ (man : Man). man.side) e in cc
+
+  not_settled : (mover : Side) (k : ℕ) (p : Setup) → k < places c → Spells c (code_of c (shelf * (2 * places c) + side_number mover + 2 * k)) p → IsSettled p → ⊥
+  not_settled mover k p below spells settled =
+      nothing (high * 48 + k) (Some (pawn_of Black, k + 8)) (code_of c (shelf * (2 * places c) + side_number mover + 2 * k)) mover p (tells c high (pawn_of Black) c_in (last_pawn c has) no_king k few)
+      (ends true c shelf high (pawn_of Black) c_in (last_pawn c has) no_king at mover k few) spells settled
+    where
+      few : k < 48
+      few = subst (λ d. k < d) (places_of_last c (pawn_of Black) (last_pawn c has)) below
+
+  pub no_positions : ArePositions c shelf found
+  no_positions =
+      let both = both_first (AreNumbered c) (shelf * (2 * places c)) found.white found.black (of White found.white white) (of Black found.black black) in
+      record { white = both.0; black = both.1 }
+    where
+      of : (mover : Side) (word : ℕ) → word ≡ 0 → AreNumbered c (shelf * (2 * places c) + side_number mover) word
+      of mover word none = no_bits word none (λ k there. not_settled mover k there.1.0 there.0 there.1.1.spells there.1.1.settled)
+
+  pub no_indexes : Facts → AreIndexes c shelf found
+  no_indexes facts =
+      let both = both_first (AreIndexed c) (shelf * (2 * places c)) found.white found.black (of White found.white white) (of Black found.black black) in
+      record { white = both.0; black = both.1 }
+    where
+      of : (mover : Side) (word : ℕ) → word ≡ 0 → AreIndexed c (shelf * (2 * places c) + side_number mover) word
+      of mover word none = no_bits word none (λ k there. there.1 (λ p ok index.
+          not_settled mover k index.image there.0 index.spells (index_settled facts p index.image c (code_of c (shelf * (2 * places c) + side_number mover + 2 * k)) ok index index.spells)))
+
+-- past the last shelf
+pub none_past : (c shelf : ℕ) → size_of c ≤ shelf * (2 * places c) → (found : Places) → found.white ≡ 0 → found.black ≡ 0 → ArePositions c shelf found
+none_past c shelf past found white black = record {
+  white = no_bits found.white white (λ k there. none (shelf * (2 * places c) + 2 * k) there.1.0 (omega arith) there.1.1.spells);
+  black = no_bits found.black black (λ k there. none (shelf * (2 * places c) + 1 + 2 * k) there.1.0 (omega arith) there.1.1.spells);
+}
+  where
+    none : (n : ℕ) (p : Setup) → size_of c ≤ n → Spells c (code_of c n) p → ⊥
+    none n p above spells = let below = number_below c n (code_below c (code_of c n) p spells) in omega arith
+
+-- numbers that are told one after the other
+abbrev pub IndexedTo : (c first len bits : ℕ) → Type 0
+IndexedTo c first len bits = (k : ℕ) → (bit_at bits k ≡ 1) ↔ ((k < len) × ¬ IsVoid c (code_of c (first + 2 * k)))
+
+pub indexed_more : (c first k bits more : ℕ) (here : Bool) → IndexedTo c first k bits → bit_at more k ≡ (if here then 1 else 0) → ((t : ℕ) → t ≢ k → bit_at more t ≡ bit_at bits t) → TellsIndex here c (code_of c (first + 2 * k)) → IndexedTo c first (k + 1) more
+indexed_more c first k bits more here are same others tells j = elim (cases_eq j k) [
+  | inl e ↦ subst (λ n. (bit_at more n ≡ 1) ↔ ((n < k + 1) × ¬ IsVoid c (code_of c (first + 2 * n)))) (sym e) (told here tells same)
+  | inr other ↦ (
+    λ one. let there = (are j).0 (sym (others j other) ∙ one) in let below = there.0 in ((omega arith), there.1),
+    λ there. let below = there.0 in others j other ∙ (are j).1 ((omega arith), there.1),
+  )
+]
+  where
+    told : (here : Bool) → TellsIndex here c (code_of c (first + 2 * k)) → bit_at more k ≡ (if here then 1 else 0) → (bit_at more k ≡ 1) ↔ ((k < k + 1) × ¬ IsVoid c (code_of c (first + 2 * k)))
+    told true tells is = (λ one. ((omega arith), tells.node refl), λ there. is)
+    told false tells is = (λ one. not_both (bit_at more k) is one, λ there. absurd (there.1 (tells.void refl)))
+
+pub indexed_all : (c shelf start digits : ℕ) (found : Places) → start ≡ shelf * (2 * places c) → digits ≡ places c → IndexedTo c start digits found.white → IndexedTo c (start + 1) digits found.black → AreIndexes c shelf found
+indexed_all c shelf start digits found start_is digits_is whites blacks = record {
+  white = subst (λ n. IndexedTo c n (places c) found.white) start_is (subst (λ d. IndexedTo c start d found.white) digits_is whites);
+  black = subst (λ n. IndexedTo c (n + 1) (places c) found.black) start_is (subst (λ d. IndexedTo c (start + 1) d found.black) digits_is blacks);
+}
+
+-- the codes of one place are of one row
+pub row_same : (passed : Bool) (c shelf high start k : ℕ) → IsShelfBehind passed c shelf high → start ≡ shelf * (2 * places c) → k < places c → code_of c (start + 2 * k) / row_len c ≡ code_of c (start + 2 * k + 1) / row_len c
+row_same passed c shelf high start k at start_is below = ap (λ n. code_of c n / row_len c) white ∙ row White ∙ sym (row Black) ∙ ap (λ n. code_of c n / row_len c) (sym black)
+  where
+    row : (mover : Side) → code_of c (number_in c shelf mover k) / row_len c ≡ high * places c + k
+    row mover = row_number (material_of c) (code_of c (number_in c shelf mover k)) (high * places c + k) mover passed (ends_behind passed c shelf high at mover k below)
+
+    white : start + 2 * k ≡ number_in c shelf White k
+    white = omega arith
+
+    black : start + 2 * k + 1 ≡ number_in c shelf Black k
+    black = omega arith
+
+pub place_within : (passed : Bool) (c shelf high start k : ℕ) → IsShelfBehind passed c shelf high → start ≡ shelf * (2 * places c) → k < places c → start + 2 * k + 1 < size_of c
+place_within passed c shelf high start k at start_is below = let within = within_behind passed c shelf high at in omega arith
+
+-- in a class without targets the numbers are the codes
+pub bits_told : (c n first word : ℕ) → has_target (material_of c) ≡ false → first ≤ n + 1 → n ≤ first → AreIndexed c first word → AreBitsOf c first (n + shelf_len c) word
+bits_told c n first word none near above are = record {
+  nodes = λ k one.
+      let here = (are k).0 one in let len = len_plain c none in let below = here.0 in
+      ((omega arith), subst (λ i. ¬ IsVoid c i) (code_plain c (first + 2 * k) none) here.1);
+  voids = λ k lt zero p ok index. let len = len_plain c none in
+      not_both (bit_at word k) zero ((are k).1 ((omega arith), λ void. subst (IsVoid c) (code_plain c (first + 2 * k) none) void p ok index));
+}
+
+-- and so are its shelves
+module _ (c first : ℕ) (none : has_target (material_of c) ≡ false) (some : 0 < shelf_len c) (begins : first % shelf_len c ≡ 0) where
+  first_is : first / shelf_len c * (2 * places c) ≡ first
+  first_is = ap (λ n. first / shelf_len c * n) (sym (len_plain c none)) ∙ whole_first first (shelf_len c) begins
+
+  pub plain_behind : size_of c % shelf_len c ≡ 0 → first < size_of c → IsShelfBehind false c (first / shelf_len c) (first / shelf_len c)
+  plain_behind whole below = record {
+    first = omega arith;
+    within =
+        let next = next_within (shelf_len c) first (size_of c) some below whole in
+        let len = len_plain c none in let half = half_plain c none in let is = first_is in
+        omega arith;
+    may = λ e. refl;
+  }
+
+  pub places_told : (found : Places) → AreIndexes c (first / shelf_len c) found → ArePlaces c first found
+  places_told found are = record {
+    white = bits_told c first first found.white none (omega arith) (omega arith) (subst (λ n. AreIndexed c n found.white) first_is are.white);
+    black = bits_told c first (first + 1) found.black none (omega arith) (omega arith) (subst (λ n. AreIndexed c (n + 1) found.black) first_is are.black);
+  }

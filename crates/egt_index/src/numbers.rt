@@ -1,0 +1,93 @@
+//! Numbers of positions, and the codes that they stand for: the codes without a target come first, then those with one. A shelf of numbers is behind a
+//! front, whose men stand before the last one.
+ghost use Rattle.std.specs.Prelude.{◌≡◌, ◌<◌, ◌+◌, ◌*◌, ◌≤◌, IfNone, IfSome};
+ghost use Rattle.egt_index.specs.Numbers.{code_of, half_of, places};
+ghost use Rattle.egt_index.specs.ShelfCodes.{IsShelfBehind, IsWithin};
+ghost use Rattle.egt_index.specs.Size.{size_of};
+
+use crate::men::has_target;
+use crate::shelf::last_digits;
+use crate::sizes::size;
+use egt_class::Class;
+
+/// How many numbers of the class have no target.
+fn half(class: Class) -> u32
+    ensures { result ≡ half_of class }
+{
+    if has_target(class) {
+        size(class) / 2
+    } else {
+        size(class)
+    }
+}
+
+/// How many shelves of the class have no target.
+fn fronts(class: Class) -> u32
+    ensures whole { result * (2 * places class) ≡ half_of class }
+    ensures few { result < 268435456 }
+{
+    let _number = class.number();
+    half(class) / (2 * last_digits(class))
+}
+
+/// The code that the number stands for.
+#[inline(always)]
+pub fn code_of(class: Class, number: u32) -> u32
+    requires { number < size_of class }
+    ensures is { result ≡ code_of class number }
+    ensures within { result < size_of class }
+{
+    let _number = class.number();
+    if !has_target(class) {
+        return number;
+    }
+    let half = half(class);
+    if number < half {
+        2 * number
+    } else {
+        2 * (number - half) + 1
+    }
+}
+
+/// The number of the front of the shelf, which the men before the last one have, and whether the positions of the shelf have a target. `None` past the
+/// last shelf.
+pub(crate) fn front_number(class: Class, shelf: u32) -> Option<(u32, bool)>
+    ensures behind { IfSome result (λ found. IsShelfBehind found.1 class shelf found.0) }
+    ensures past { IfNone result (size_of class ≤ shelf * (2 * places class)) }
+{
+    let _number = class.number();
+    let fronts = fronts(class);
+    if shelf < fronts {
+        return Some((shelf, false));
+    }
+    if !has_target(class) {
+        return None;
+    }
+    let front = shelf - fronts;
+    if front < fronts {
+        Some((front, true))
+    } else {
+        None
+    }
+}
+
+/// The number of the shelf behind the front, of positions with a target where one was passed. `None` past the last front, and where the class has no
+/// targets but one was passed.
+pub(crate) fn shelf_behind(class: Class, front: u32, passed: bool) -> Option<u32>
+    ensures behind { IfSome result (λ shelf. IsShelfBehind passed class shelf front) }
+    ensures within { IfSome result (IsWithin class) }
+{
+    let _number = class.number();
+    let fronts = fronts(class);
+    if front >= fronts {
+        return None;
+    }
+    if !passed {
+        return Some(front);
+    }
+    if has_target(class) {
+        Some(front + fronts)
+    } else {
+        None
+    }
+}
