@@ -1,4 +1,4 @@
--- A class's game of mates, solved over its codes.
+-- A class's game of mates, solved over its numbers.
 use Rattle.std.specs.Prelude.{◌≡◌, ℕ, ◌<◌, ◌≤◌, List, Option, Some, IfSome, length, slice_index}
 use Rattle.egt_index.specs.Index.{IsVoid}
 use Rattle.egt_index.specs.Size.{size_of}
@@ -41,6 +41,6 @@ pub record TellMates (tables : Tables) (c : ℕ) (lists : CodeLists) (mates : Li
   pub nodes : (n j : ℕ) → IsOddAbove n (slice_index codes.entries j) → IsNode (game_by tables Mate c lists) j
   pub exits : AreExitMarks (game_by tables Mate c lists) (places c) codes.exits
 
--- where the class's moves are told by these words, they tell of the codes' entries
+-- where the class's moves are told by these words, they tell of the numbers' entries
 abbrev pub CodesTell : (tables : Tables) (c : ℕ) → Option CodeWords → Mates → Type 0
 CodesTell tables c words mates = (some : CodeWords) → words ≡ Some some → some.class ≡ c → IfSome mates.codes (TellMates tables c some.lists mates.ranks)

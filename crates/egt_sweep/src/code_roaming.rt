@@ -1,4 +1,4 @@
-//! Where the last man of a word, a piece of the side to move, goes from all of its codes: the place is his square.
+//! Where the last man of a word, a piece of the side to move, goes from all of its numbers: the place is his square.
 ghost use Rattle.std.specs.Prelude.{◌≡◌, ◌↔◌, ℕ, ◌<◌, true, IsTrue, length};
 ghost use Rattle.std.specs.Int.{bit_at};
 ghost use Rattle.egt_board.specs.SquareSet.{Has};

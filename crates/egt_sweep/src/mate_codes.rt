@@ -1,4 +1,4 @@
-//! The game of mates over the codes of a class, by words.
+//! The game of mates over the numbers of a class, by words.
 ghost use Rattle.std.specs.Prelude.{◌≡◌, ◌≤◌, IfOk};
 ghost use Rattle.egt_graph.specs.Value.{AreRanks, SomeAbove};
 ghost use Rattle.egt_check.specs.Tables.{table_at, HasChildren};
@@ -22,7 +22,7 @@ use egt_graph::{Exit, ExitMarks, Ranks, Shelved, SolveFault, WordStart, solve_by
 use egt_index::size;
 use std::alloc::Global;
 
-/// The game of mates over the codes of a class whose children have their tables in the library.
+/// The game of mates over the numbers of a class whose children have their tables in the library.
 #[derive(Drop)]
 pub(crate) struct MateCodes<'l> {
     pub(crate) library: &'l Library,
@@ -84,16 +84,16 @@ impl Shelved for MateCodes<'_> {
     }
 }
 
-/// What the codes of a class tell its game of zeroing moves.
+/// What the numbers of a class tell its game of zeroing moves.
 #[derive(Drop)]
 pub(crate) struct CodeEntries {
-    /// The ranks of all codes in the game of mates.
+    /// The ranks of all numbers in the game of mates.
     pub(crate) entries: Ranks,
     /// What their exits are there.
     pub(crate) exits: ExitMarks,
 }
 
-/// The ranks of the class's game of mates, and what its codes tell.
+/// The ranks of the class's game of mates, and what its numbers tell.
 pub(crate) fn solve_mate_codes(
     alloc: Global,
     library: &Library,

@@ -1,4 +1,4 @@
-//! A class's game of mates, solved: over its codes by words where these are told, else by moves backward.
+//! A class's game of mates, solved: over its numbers by words where these are told, else by moves backward.
 ghost use Rattle.std.specs.Prelude.{◌≡◌, ◌≤◌, IfOk};
 ghost use Rattle.egt_graph.specs.Value.{AreRanks, SomeAbove};
 ghost use Rattle.egt_check.specs.Tables.{table_at};
@@ -20,11 +20,11 @@ pub(crate) struct Mates {
     pub(crate) ranks: Ranks,
     /// What is told of its nodes' moves; it may be empty.
     pub(crate) counts: Vec<Count>,
-    /// What its codes tell, where the game was solved over them.
+    /// What its numbers tell, where the game was solved over them.
     pub(crate) codes: Option<CodeEntries>,
 }
 
-/// The game solved, over the codes where their moves are told.
+/// The game solved, over the numbers where their moves are told.
 pub(crate) fn solve_mates(
     alloc: Global,
     game: &MateGame<'_>,

@@ -1,4 +1,4 @@
-//! The game of zeroing moves over the codes of a class, by words.
+//! The game of zeroing moves over the numbers of a class, by words.
 ghost use Rattle.std.specs.Prelude.{◌≡◌, ◌≤◌, IfOk};
 ghost use Rattle.egt_graph.specs.Value.{AreRanks, SomeAbove};
 ghost use Rattle.egt_graph.specs.Words.{words_of};
@@ -28,7 +28,7 @@ use egt_graph::{Exit, Ranks, Shelved, SolveFault, WordStart, solve_by_words};
 use egt_index::size;
 use std::alloc::{AllocError, Global};
 
-/// The game of zeroing moves over the codes of a class whose game of mates is solved. All exits are told by the marks of that game's exits and by its
+/// The game of zeroing moves over the numbers of a class whose game of mates is solved. All exits are told by the marks of that game's exits and by its
 /// entries.
 #[derive(Drop)]
 pub(crate) struct ZeroCodes<'l> {
@@ -37,7 +37,7 @@ pub(crate) struct ZeroCodes<'l> {
     /// The ranks of the class's game of mates.
     pub(crate) mates: &'l Ranks,
     pub(crate) codes: &'l CodeEntries,
-    /// The codes that are lost in it.
+    /// The numbers that are lost in it.
     pub(crate) lost: Vec<u64>,
     /// Those that are not won.
     pub(crate) unwon: Vec<u64>,
@@ -109,7 +109,7 @@ impl Shelved for ZeroCodes<'_> {
         self.words.places()
     }
 
-    /// What leaves the class does so in either game, and here all exits have just zeroed. So do the pawns' moves that stay, and the entries of the codes
+    /// What leaves the class does so in either game, and here all exits have just zeroed. So do the pawns' moves that stay, and the entries of the numbers
     /// say of each where it leads.
     fn start_of(&self, word: u32) -> WordStart {
         laws();

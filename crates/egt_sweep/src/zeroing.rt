@@ -1,4 +1,4 @@
-//! A class's game of zeroing moves, solved: over its codes by words where the game of mates was, else by moves backward.
+//! A class's game of zeroing moves, solved: over its numbers by words where the game of mates was, else by moves backward.
 ghost use Rattle.std.specs.Prelude.{◌≡◌, ◌≤◌, IfOk};
 ghost use Rattle.egt_graph.specs.Value.{AreRanks, SomeAbove};
 ghost use Rattle.egt_check.specs.Tables.{table_at, beside};
@@ -15,7 +15,7 @@ use crate::zero_game::ZeroGame;
 use egt_graph::{Ranks, SolveFault, solve};
 use std::alloc::Global;
 
-/// The game solved, over the codes where their moves are told and the game of mates was solved over them.
+/// The game solved, over the numbers where their moves are told and the game of mates was solved over them.
 pub(crate) fn solve_zeroing(
     alloc: Global,
     game: &ZeroGame<'_>,
