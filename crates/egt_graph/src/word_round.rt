@@ -236,11 +236,7 @@ fn sweep_word<G: Shelved>(game: &G, run: &mut WordRun, word: u32, round: u16) ->
     );
     touch_from(game, word, found.won, &mut run.next_ask, &mut run.ask_full);
     let unwon = run.unwon[w] & !found.won;
-    put_word(
-        &mut run.undecided,
-        w,
-        undecided & !found.won & !found.lost,
-    );
+    put_word(&mut run.undecided, w, undecided & !found.won & !found.lost);
     put_word(&mut run.next_unwon, w, unwon);
     put_word(&mut run.next_lost, w, found.lost);
     found

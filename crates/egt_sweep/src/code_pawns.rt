@@ -18,13 +18,6 @@ impl WordCodes<'_> {
         if asked == 0 {
             return 0;
         }
-        lead_by(
-            span,
-            self.pawn_ways,
-            &[],
-            &Some(*self.pushes),
-            asked,
-            marks,
-        )
+        lead_by(span, self.pawn_ways, &[], &Some(*self.pushes), asked, marks)
     }
 }

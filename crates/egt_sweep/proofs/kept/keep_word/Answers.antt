@@ -17,8 +17,8 @@ pub loop-place-init : goal.loop-place-init
 loop-place-init c =
     let words = c.args.words.now in
     let are : (k : ℕ) → bit_at c.indexes.result k ≡ 1 ↔ ((k < places words.class) × ¬ IsVoid words.class (code_of words.class (number_at (places words.class) c.args.word k))) = λ k.
-        subst (λ bits. bit_at bits k ≡ 1 ↔ ((k < places words.class) × ¬ IsVoid words.class (code_of words.class (number_at (places words.class) c.args.word k)))) (sym c.indexes.ensures)
-        (indexes_told words.class words.lists words.told c.args.word c.requires.word k) in
+    subst (λ bits. bit_at bits k ≡ 1 ↔ ((k < places words.class) × ¬ IsVoid words.class (code_of words.class (number_at (places words.class) c.args.word k)))) (sym c.indexes.ensures)
+    (indexes_told words.class words.lists words.told c.args.word c.requires.word k) in
     record {
       sub = λ k one. subst (λ bits. bit_at bits k ≡ 1) c.indexes.ensures one;
       kept = nothing_in words.class words.told.some c.args.word c.args.entries.now c.indexes.result c.args.kept.now are (index_back c.laws.ensures words.class words.told.class_in) c.requires.kept;
@@ -40,7 +40,7 @@ overflow_cast-number c =
     let size = c.size-size.ensures in
     let fits = c.size-size.type_inv in
     let lt = below c.laws.ensures c.args.words.now c.args.word c.requires.word c.in-Some.place (c.loop-place.invariant.sub c.in-Some.place c.in-Some.ensures.had) c.number_at-number.result
-        (number_is _ _ _ _ _ _ _ c.number_at-number.ensures.is c.places-span.ensures.is c.from.ensures c.number.ensures.value) in
+    (number_is _ _ _ _ _ _ _ c.number_at-number.ensures.is c.places-span.ensures.is c.from.ensures c.number.ensures.value) in
     omega (arith, size, fits, lt)
 
 pub code_of-code-requires : goal.code_of-code-requires
