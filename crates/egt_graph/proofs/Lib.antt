@@ -26,7 +26,7 @@ pub mod WordBits
 pub mod WordRounds
 pub mod WordSweeps
 pub mod WordTouches
-pub mod Passed
+pub mod Finding
 pub mod WordMarks
 pub mod WordEnding
 pub mod WordDue

@@ -155,7 +155,7 @@ parts n m some = omega (arith, some)
 within : (n m : ℕ) → 0 < m → n % m < m
 within n m some = omega (arith, some)
 
-shifted_down : (n s k : ℕ) → bit_at (n / 2 ^ s) k ≡ bit_at n (s + k)
+pub shifted_down : (n s k : ℕ) → bit_at (n / 2 ^ s) k ≡ bit_at n (s + k)
 shifted_down n s k =
     ap (bit_at (n / 2 ^ s)) (let e : k ≡ s + k - s = omega arith in e)
     ∙ sym (bit_at_cat_high (n / 2 ^ s) s (n % 2 ^ s) (s + k) (within n (2 ^ s) (pow_pos s)) (omega arith))

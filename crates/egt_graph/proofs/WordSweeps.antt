@@ -35,87 +35,6 @@ leads_by g span test marks some are i =
 abbrev pub Leads : Graph → (ℕ → Bool) → ℕ → ℕ → ℕ → ℕ → Type 0
 Leads g test span word asked bits = (k : ℕ) → bit_at bits k ≡ 1 ↔ ((bit_at asked k ≡ 1) × LeadsTo g test (number_at span word k))
 
-module _ (g : Graph) (law : IsGame g) (r span word : ℕ) (few : span ≤ 64)
-    (undecided due ready : ℕ) (undecided_small : undecided < 2 ^ 64) (due_small : due < 2 ^ 64)
-    (of_undecided : IsWordOf span word (is_undecided g r) undecided) (of_due : IsToldOf span word (is_due g r) due) (of_ready : IsToldOf span word (is_ready g r) ready) where
-  module _ (moved : ℕ) (leads : Leads g (is_lost_at g r) span word (bit_and undecided (18446744073709551615 - due)) moved) where
-    at_number : ℕ → ℕ
-    at_number k = number_at span word k
-
-    pub of_won : IsWordOf span word (is_found_won g r) (bit_or (bit_and undecided due) moved)
-    of_won k = (there, back)
-      where
-        found : bit_at undecided k ≡ 1 → mates_within g (suc r) (number_at span word k) ≡ true → (k < span) × (is_found_won g r (number_at span word k) ≡ true)
-        found one win = let u = (of_undecided k).0 one in (u.0, and_from (is_undecided g r (number_at span word k)) _ u.1 win)
-
-        draw : bit_at undecided k ≡ 1 → entry_at g r (number_at span word k) ≡ 1
-        draw one = (undecided_parts g law r (number_at span word k) ((of_undecided k).0 one).1).0
-
-        there : bit_at (bit_or (bit_and undecided due) moved) k ≡ 1 → (k < span) × (is_found_won g r (number_at span word k) ≡ true)
-        there one = ⊎_elim
-            (λ at_once.
-            let both = both_set undecided due k at_once in
-            found both.0 (wins_by_exit g law r (number_at span word k) (draw_node g law r (number_at span word k) (draw both.0)) ((of_due k ((of_undecided k).0 both.0).0).0 both.1)))
-            (λ led.
-            let to = (leads k).0 led in
-            let both = both_set undecided (18446744073709551615 - due) k to.0 in
-            found both.0 (wins_by_move g law r (number_at span word k) (draw both.0) to.1))
-            (either_set (bit_and undecided due) moved k one)
-
-        back : (k < span) × (is_found_won g r (number_at span word k) ≡ true) → bit_at (bit_or (bit_and undecided due) moved) k ≡ 1
-        back h =
-            let t = and_parts (is_undecided g r (number_at span word k)) (mates_within g (suc r) (number_at span word k)) h.1 in
-            let one = (of_undecided k).1 (h.0, t.0) in
-            let lt = h.0 in
-            elim (cases_eq (bit_at due k) 1) [
-              | inl e ↦ set_first (bit_and undecided due) moved k (set_both undecided due k one e)
-              | inr ne ↦ set_second (bit_and undecided due) moved k ((leads k).1 (
-                set_both undecided (18446744073709551615 - due) k one (set_not due k due_small (omega (arith, lt, few)) ne),
-                ⊎_elim (λ is. absurd (ne ((of_due k h.0).1 is))) (λ to. to) (win_by g law r (number_at span word k) (draw one) t.1),
-              ))
-            ]
-
-  module _ (won : ℕ) (won_small : won < 2 ^ 64) (of_won : IsWordOf span word (is_found_won g r) won) where
-    -- those that are still waited for
-    pub rest_of : (k : ℕ) → bit_at (bit_and (bit_and undecided (18446744073709551615 - won)) ready) k ≡ 1
-        → (k < span) × (is_undecided g r (number_at span word k) ≡ true) × (is_found_won g r (number_at span word k) ≡ true → ⊥) × (is_ready g r (number_at span word k) ≡ true)
-    rest_of k one =
-        let both = both_set (bit_and undecided (18446744073709551615 - won)) ready k one in
-        let parts = both_set undecided (18446744073709551615 - won) k both.0 in
-        let u = (of_undecided k).0 parts.0 in
-        (u.0, u.1, (λ t. not_set won k won_small (let lt = u.0 in omega (arith, lt, few)) parts.1 ((of_won k).1 (u.0, t))), (of_ready k u.0).0 both.1)
-
-    pub of_lost : (saved : ℕ) → saved < 2 ^ 64 → Leads g (is_unwon g r) span word (bit_and (bit_and undecided (18446744073709551615 - won)) ready) saved
-        → IsWordOf span word (is_found_lost g r) (bit_and (bit_and (bit_and undecided (18446744073709551615 - won)) ready) (18446744073709551615 - saved))
-    of_lost saved saved_small leads k = (there, back)
-      where
-        rest : ℕ
-        rest = bit_and (bit_and undecided (18446744073709551615 - won)) ready
-
-        there : bit_at (bit_and (bit_and (bit_and undecided (18446744073709551615 - won)) ready) (18446744073709551615 - saved)) k ≡ 1 → (k < span) × (is_found_lost g r (number_at span word k) ≡ true)
-        there one =
-            let i = number_at span word k in
-            let both = both_set (bit_and (bit_and undecided (18446744073709551615 - won)) ready) (18446744073709551615 - saved) k one in
-            let p = rest_of k both.0 in
-            let small : k < 64 = (let lt = p.0 in omega (arith, lt, few)) in
-            let no_win : mates_within g (suc r) i ≡ false = false_from_ne_true _ (λ t. p.2 (and_from (is_undecided g r i) _ p.1 t)) in
-            let loss = lost_by g law r i p.1 p.3 (λ to. not_set saved k saved_small small both.1 ((leads k).1 (both.0, to))) in
-            (p.0, and_from (is_undecided g r i) _ p.1 (and_from _ (mated_within g (suc r) i) (not_from_false _ no_win) loss))
-
-        back : (k < span) × (is_found_lost g r (number_at span word k) ≡ true) → bit_at (bit_and (bit_and (bit_and undecided (18446744073709551615 - won)) ready) (18446744073709551615 - saved)) k ≡ 1
-        back h =
-            let i = number_at span word k in
-            let t = and_parts (is_undecided g r i) (not (mates_within g (suc r) i) && mated_within g (suc r) i) h.1 in
-            let v = and_parts (not (mates_within g (suc r) i)) (mated_within g (suc r) i) t.1 in
-            let small : k < 64 = (let lt = h.0 in omega (arith, lt, few)) in
-            let parts = loss_parts g law r i (undecided_parts g law r i t.0).0 v.1 in
-            set_both (bit_and (bit_and undecided (18446744073709551615 - won)) ready) (18446744073709551615 - saved) k
-            (set_both (bit_and undecided (18446744073709551615 - won)) ready k
-            (set_both undecided (18446744073709551615 - won) k ((of_undecided k).1 (h.0, t.0))
-            (set_not won k won_small small (λ one. both_ways _ (not-true _ v.0) (and_parts (is_undecided g r i) (mates_within g (suc r) i) ((of_won k).0 one).1).1)))
-            ((of_ready k h.0).1 parts.0))
-            (set_not saved k saved_small small (λ one. parts.1 ((leads k).0 one).1))
-
 -- what `lead_to` answers
 pub leads_of : (g : Graph) (span : ℕ) (test : ℕ → Bool) (marks : List ℕ) → 0 < span → AreMarks span test marks → (word asked bits : ℕ)
     → ((k : ℕ) → bit_at bits k ≡ 1 ↔ ((bit_at asked k ≡ 1) × ((j : ℕ) × Contains (g.out (number_at span word k)) j × IsIn span marks j)))
@@ -143,19 +62,6 @@ put_is span word test bits some of i here =
 pub put_other : (span word bits i : ℕ) → word_in span i ≢ word → put_at span word bits i ≡ false
 put_other span word bits i ne = and_left (eqb (word_in span i) word) (eqb (bit_at bits (place_in span i)) 1) (ne_eqb (word_in span i) word ne)
 
--- the entries of a word, once both are put
-pub entries_put : (g : Graph) → IsGame g → (r span word won lost : ℕ) → 0 < span → IsWordOf span word (is_found_won g r) won → IsWordOf span word (is_found_lost g r) lost
-    → (es middle es' : List ℕ) (a b : ℕ) → a ≡ 2 + 2 * suc r → b ≡ 3 + 2 * suc r
-    → ((i : ℕ) → slice_index middle i ≡ cond (put_at span word won i) a (slice_index es i))
-    → ((i : ℕ) → slice_index es' i ≡ cond (put_at span word lost i) b (slice_index middle i))
-    → (i : ℕ) → word_in span i ≡ word → slice_index es i ≡ entry_at g r i → slice_index es' i ≡ entry_at g (suc r) i
-entries_put g law r span word won lost some of_won of_lost es middle es' a b p q first second i here old =
-    second i
-    ∙ ap₂ (λ t n. cond t b n) (put_is span word (is_found_lost g r) lost some of_lost i here) (first i)
-    ∙ ap₂ (λ t n. cond (is_found_lost g r i) b (cond t a n)) (put_is span word (is_found_won g r) won some of_won i here) old
-    ∙ ap₂ (λ x y. cond (is_found_lost g r i) y (cond (is_found_won g r i) x (entry_at g r i))) p q
-    ∙ sym (found_entry g law r i (is_found_won g r i) (is_found_lost g r i) refl refl)
-
 pub entries_kept : (span word won lost : ℕ) (es middle es' : List ℕ) (a b : ℕ)
     → ((i : ℕ) → slice_index middle i ≡ cond (put_at span word won i) a (slice_index es i))
     → ((i : ℕ) → slice_index es' i ≡ cond (put_at span word lost i) b (slice_index middle i))
@@ -176,9 +82,6 @@ word_here P marks m x within here before w lt = elim (cases_eq w m) [
   | inr ne ↦ subst (P w) (sym (get_or-set_other marks m w x 0 ne)) (before w (omega (arith, lt, ne)))
 ]
 
-pub word_past : (P : ℕ → ℕ → Type 0) (marks : List ℕ) (m x : ℕ) → ((w : ℕ) → m ≤ w → P w (get_or marks w 0)) → (w : ℕ) → m + 1 ≤ w → P w (get_or (set marks m x) w 0)
-word_past P marks m x after w le = subst (P w) (sym (get_or-set_other marks m w x 0 (λ e. absurd (omega (arith, le, e))))) (after w (omega (arith, le)))
-
 -- past the last word there is nothing
 pub nothing_past : (span size word k : ℕ) → 0 < span → k < span → words_of span size ≤ word → size ≤ number_at span word k
 nothing_past span size word k some lt past = elim (cases_lt (number_at span word k) size) [
@@ -198,56 +101,6 @@ all_words g span test marks some nodes long each word = elim (cases_lt word (wor
             absurd (let below = node.in_range in let beyond = nothing_past span g.size word k some h.0 past in omega (arith, below, beyond)),
       )
 ]
-
--- ---- the words of the next round
-
-module _ (g : Graph) (law : IsGame g) (r span word : ℕ) (few : span ≤ 64) where
-  pub next_undecided : (undecided won lost : ℕ) → won < 2 ^ 64 → lost < 2 ^ 64 → IsWordOf span word (is_undecided g r) undecided → IsWordOf span word (is_found_won g r) won → IsWordOf span word (is_found_lost g r) lost
-      → IsWordOf span word (is_undecided g (suc r)) (bit_and (bit_and undecided (18446744073709551615 - won)) (18446744073709551615 - lost))
-  next_undecided undecided won lost won_small lost_small of_undecided of_won of_lost k = (there, back)
-    where
-      there : bit_at (bit_and (bit_and undecided (18446744073709551615 - won)) (18446744073709551615 - lost)) k ≡ 1 → (k < span) × (is_undecided g (suc r) (number_at span word k) ≡ true)
-      there one =
-          let i = number_at span word k in
-          let both = both_set (bit_and undecided (18446744073709551615 - won)) (18446744073709551615 - lost) k one in
-          let parts = both_set undecided (18446744073709551615 - won) k both.0 in
-          let u = (of_undecided k).0 parts.0 in
-          let small : k < 64 = (let lt = u.0 in omega (arith, lt, few)) in (
-            u.0,
-            undecided_next g law r i ∙ and_from (is_undecided g r i) _ u.1 (and_from _ (not (is_found_lost g r i))
-                (not_from_false _ (false_from_ne_true _ (λ t. not_set won k won_small small parts.1 ((of_won k).1 (u.0, t)))))
-                (not_from_false _ (false_from_ne_true _ (λ t. not_set lost k lost_small small both.1 ((of_lost k).1 (u.0, t)))))),
-          )
-
-      back : (k < span) × (is_undecided g (suc r) (number_at span word k) ≡ true) → bit_at (bit_and (bit_and undecided (18446744073709551615 - won)) (18446744073709551615 - lost)) k ≡ 1
-      back h =
-          let i = number_at span word k in
-          let t = and_parts (is_undecided g r i) (not (is_found_won g r i) && not (is_found_lost g r i)) (sym (undecided_next g law r i) ∙ h.1) in
-          let u = and_parts (not (is_found_won g r i)) (not (is_found_lost g r i)) t.1 in
-          let small : k < 64 = (let lt = h.0 in omega (arith, lt, few)) in
-          set_both (bit_and undecided (18446744073709551615 - won)) (18446744073709551615 - lost) k
-          (set_both undecided (18446744073709551615 - won) k ((of_undecided k).1 (h.0, t.0)) (set_not won k won_small small (λ one. both_ways _ (not-true _ u.0) ((of_won k).0 one).1)))
-          (set_not lost k lost_small small (λ one. both_ways _ (not-true _ u.1) ((of_lost k).0 one).1))
-
-  pub next_unwon : (unwon won : ℕ) → won < 2 ^ 64 → IsWordOf span word (is_unwon g r) unwon → IsWordOf span word (is_found_won g r) won
-      → IsWordOf span word (is_unwon g (suc r)) (bit_and unwon (18446744073709551615 - won))
-  next_unwon unwon won won_small of_unwon of_won k = (
-    λ one.
-        let both = both_set unwon (18446744073709551615 - won) k one in
-        let u = (of_unwon k).0 both.0 in
-        let small : k < 64 = (let lt = u.0 in omega (arith, lt, few)) in
-        (u.0, (unwon_next g law r (number_at span word k)).1 u.1 (λ t. not_set won k won_small small both.1 ((of_won k).1 (u.0, t)))),
-    λ h.
-        let t = (unwon_next g law r (number_at span word k)).0 h.1 in
-        let small : k < 64 = (let lt = h.0 in omega (arith, lt, few)) in
-        set_both unwon (18446744073709551615 - won) k ((of_unwon k).1 (h.0, t.0)) (set_not won k won_small small (λ one. t.1 ((of_won k).0 one).1)),
-  )
-
-  pub next_lost : (lost : ℕ) → IsWordOf span word (is_found_lost g r) lost → IsWordOf span word (is_lost_at g (suc r)) lost
-  next_lost lost of_lost k = (
-    λ one. let u = (of_lost k).0 one in (u.0, (lost_next g law r (number_at span word k)).1 u.1),
-    λ h. (of_lost k).1 (h.0, (lost_next g law r (number_at span word k)).0 h.1),
-  )
 
 -- ---- one entry more is put
 
@@ -311,16 +164,7 @@ told_word span test marks are word bits is k lt =
     = ap₂ (λ w m. eqb (bit_at (slice_index marks w) m) 1) (word_in-number_at span word k lt) (place_in-number_at span word k lt) ∙ ap (λ w. eqb (bit_at w k) 1) (sym is) in
     (λ one. sym (are n) ∙ same ∙ eq-eqb (bit_at bits k) 1 one, λ t. eqb-true (bit_at bits k) 1 (sym same ∙ are n ∙ t))
 
--- ---- a round that was swept
-
-pub swept_entries : (g : Graph) (span r : ℕ) (es : List ℕ) → 0 < span → length es ≡ g.size → ((i : ℕ) → word_in span i < words_of span g.size → slice_index es i ≡ entry_at g (suc r) i)
-    → (i : ℕ) → slice_index es i ≡ entry_at g (suc r) i
-swept_entries g span r es some long done i = elim (cases_lt i g.size) [
-  | inl lt ↦ done i (word_in-within span g.size i some lt)
-  | inr past ↦
-      get_or_past es i 0 (omega (arith, long, past))
-      ∙ sym (entry_none g (suc r) i (false_from_ne_true _ (λ t. let node = node_from_test g i t in absurd (let below = node.in_range in omega (arith, below, past)))))
-]
+-- ---- what the tests hold of
 
 pub undecided_nodes : (g : Graph) → IsGame g → (r i : ℕ) → is_undecided g r i ≡ true → is_node g i ≡ true
 undecided_nodes g law r i t = test_from_node g i (draw_node g law r i (undecided_parts g law r i t).0)
@@ -330,33 +174,3 @@ unwon_nodes g r i t = (and_parts (is_node g i) (not (mates_within g r i)) t).0
 
 pub lost_nodes : (g : Graph) (r i : ℕ) → is_lost_at g r i ≡ true → is_node g i ≡ true
 lost_nodes g r i t = (and_parts (is_node g i) (mated_within g r i && not (mated_before g r i)) t).0
-
--- ---- what a word adds to the news
-
--- a found node's bit is in its word
-module _ (g : Graph) (law : IsGame g) (r span word won lost : ℕ) (some : 0 < span) (of_won : IsWordOf span word (is_found_won g r) won) (of_lost : IsWordOf span word (is_found_lost g r) lost) where
-  pub news_found : (k : ℕ) × ((bit_at won k ≡ 1) ⊎ (bit_at lost k ≡ 1)) → (i : ℕ) × (is_found g r i ≡ true)
-  news_found at = ⊎_elim
-      (λ one. (number_at span word at.0, or_left _ _ ((of_won at.0).0 one).1))
-      (λ one. (number_at span word at.0, or_right (is_found_won g r (number_at span word at.0)) _ ((of_lost at.0).0 one).1))
-      at.1
-
-  empty_word : (test : ℕ → Bool) (bits : ℕ) → IsWordOf span word test bits → bits ≡ 0 → (i : ℕ) → word_in span i ≡ word → test i ≡ false
-  empty_word test bits of clear i here = false_from_ne_true (test i) (λ t.
-      let same : number_at span word (place_in span i) ≡ i = ap (λ w. number_at span w (place_in span i)) (sym here) ∙ number_at-places span i some in
-      none_set (place_in span i) (sym (ap (λ n. bit_at n (place_in span i)) clear) ∙ (of (place_in span i)).1 (place_in-small span i some, ap test same ∙ t)))
-
-  pub news_none : won ≡ 0 → lost ≡ 0 → ((i : ℕ) → word_in span i < word → is_found g r i ≡ false) → (i : ℕ) → word_in span i < word + 1 → is_found g r i ≡ false
-  news_none no_win no_loss before i lt = elim (cases_eq (word_in span i) word) [
-    | inl e ↦ or_from _ _ (empty_word (is_found_won g r) won of_won no_win i e) (empty_word (is_found_lost g r) lost of_lost no_loss i e)
-    | inr ne ↦ before i (omega (arith, lt, ne))
-  ]
-
--- past the last word nothing is found
-pub found_within : (g : Graph) → IsGame g → (r span i : ℕ) → 0 < span → ((j : ℕ) → word_in span j < words_of span g.size → is_found g r j ≡ false) → is_found g r i ≡ false
-found_within g law r span i some each = elim (cases_lt i g.size) [
-  | inl lt ↦ each i (word_in-within span g.size i some lt)
-  | inr past ↦ false_from_ne_true _ (λ t.
-      let in_range : IsNode g i = ⊎_elim (λ w. (found_won_parts g law r i w).0) (λ l. (found_lost_parts g law r i l).0) (or_cases (is_found_won g r i) (is_found_lost g r i) t) in
-      absurd (let below = in_range.in_range in omega (arith, below, past)))
-]

@@ -1,5 +1,5 @@
 -- What the words of a run hold before round r: all that is won or lost in r plies at most is known, and the exits of r plies at most are due.
-use Rattle.std.specs.Prelude.{◌≡◌, ◌==◌, ℕ, suc, ◌+◌, ◌*◌, ◌<◌, ◌≤◌, ◌&&◌, ◌||◌, ◌⊎◌, ◌↔◌, not, Bool, List, [], length, slice_index, slice_index_or, nat_lt, count_by, IsTrue, IsFalse}
+use Rattle.std.specs.Prelude.{◌≡◌, ◌==◌, ℕ, suc, ◌+◌, ◌*◌, ◌<◌, ◌≤◌, ◌&&◌, ◌||◌, ◌⊎◌, ◌↔◌, not, Bool, List, [], length, slice_index, slice_index_or, nat_lt, count_by, IsTrue, IsFalse, if◌then◌else◌}
 use Rattle.std.specs.Int.{bit_at}
 use Rattle.std.specs.List.{Contains, list_any, list_all}
 use Rattle.egt_graph.specs.Graph.{Graph, IsNode}
@@ -70,9 +70,9 @@ is_found_lost g r i = is_undecided g r i && (not (mates_within g (suc r) i) && m
 abbrev pub AreTouched : Graph → ℕ → (ℕ → Bool) → List ℕ → Type 0
 AreTouched g span test touched = (i j : ℕ) → IsNode g i → Contains (g.out i) j → IsTrue (test j) → IsTouched touched (word_in span i)
 
--- if it is of a word below m
-abbrev pub AreTouchedBelow : Graph → ℕ → ℕ → (ℕ → Bool) → List ℕ → Type 0
-AreTouchedBelow g span m test touched = (i j : ℕ) → IsNode g i → Contains (g.out i) j → word_in span j < m → IsTrue (test j) → IsTouched touched (word_in span i)
+-- the words are marked that have an undecided node with an exit that wins
+abbrev pub AreDueTouched : Graph → ℕ → ℕ → List ℕ → Type 0
+AreDueTouched g span r touched = (i : ℕ) → IsTrue (is_undecided g r i) → IsTrue (is_due g r i) → IsTouched touched (word_in span i)
 
 -- in the words that are not marked each undecided node that is ready has a move to a node that is not won
 abbrev pub AreSaved : Graph → ℕ → ℕ → List ℕ → Type 0
@@ -109,7 +109,6 @@ pub record AreLong (g : Graph) (span : ℕ) (run : WordRun) : Type 0 where
   pub lost : length run.lost.items ≡ words_of span g.size
   pub ready : length run.ready.items ≡ words_of span g.size
   pub due : length run.due.items ≡ words_of span g.size
-  pub next_unwon : length run.next_unwon.items ≡ words_of span g.size
   pub next_lost : length run.next_lost.items ≡ words_of span g.size
   pub lost_touched : words_of span g.size ≤ 64 * length run.lost_touched.items
   pub ask : words_of span g.size ≤ 64 * length run.ask.items
@@ -126,36 +125,43 @@ pub record IsAt (g : Graph) (span r : ℕ) (run : WordRun) : Type 0 where
   pub due : AreTold span (is_due g r) run.due.items
   pub exits : (i : ℕ) → HasExits g r run.pending.items run.lost_due run.won_due i
   pub lost_touched : AreTouched g span (is_lost_at g r) run.lost_touched.items
+  pub due_touched : AreDueTouched g span r run.lost_touched.items
   pub saved : AreSaved g span r run.ask.items
 
--- the run within the round: the words below m are done
-pub record IsSwept (g : Graph) (span r m : ℕ) (run : WordRun) : Type 0 where
+-- The run within the round: of what it finds, the losses that pass the one test and the wins that pass the other are written down. What tells of
+-- the round before stays, but that `unwon` and `undecided` lose what is found.
+pub record IsSwept (g : Graph) (span r : ℕ) (losses wins : ℕ → Bool) (run : WordRun) : Type 0 where
   pub long : AreLong g span run
-  pub entries_done : (i : ℕ) → word_in span i < m → slice_index run.entries.items i ≡ entry_at g (suc r) i
-  pub entries_left : (i : ℕ) → m ≤ word_in span i → slice_index run.entries.items i ≡ entry_at g r i
-  pub undecided_done : (word : ℕ) → word < m → IsWordOf span word (is_undecided g (suc r)) (slice_index run.undecided.items word)
-  pub undecided_left : (word : ℕ) → m ≤ word → IsWordOf span word (is_undecided g r) (slice_index run.undecided.items word)
-  pub next_unwon : (word : ℕ) → word < m → IsWordOf span word (is_unwon g (suc r)) (slice_index run.next_unwon.items word)
-  pub next_lost : (word : ℕ) → word < m → IsWordOf span word (is_lost_at g (suc r)) (slice_index run.next_lost.items word)
-  pub unwon : AreMarks span (is_unwon g r) run.unwon.items
+  pub entries : (i : ℕ) → slice_index run.entries.items i ≡ (if losses i then 3 + 2 * suc r else (if wins i then 2 + 2 * suc r else entry_at g r i))
+  pub undecided : AreMarks span (λ i. (is_undecided g r i && not (wins i)) && not (losses i)) run.undecided.items
+  pub unwon : AreMarks span (λ i. is_unwon g r i && not (wins i)) run.unwon.items
+  pub next_lost : AreMarks span losses run.next_lost.items
   pub lost : AreMarks span (is_lost_at g r) run.lost.items
   pub ready : AreTold span (is_ready g r) run.ready.items
   pub due : AreTold span (is_due g r) run.due.items
   pub exits : (i : ℕ) → HasExits g r run.pending.items run.lost_due run.won_due i
   pub lost_touched : AreTouched g span (is_lost_at g r) run.lost_touched.items
+  pub due_touched : AreDueTouched g span r run.lost_touched.items
   pub saved : AreSaved g span r run.ask.items
-  pub next_lost_touched : AreTouchedBelow g span m (is_found_lost g r) run.next_lost_touched.items
-  pub next_ask : AreTouchedBelow g span m (is_found_won g r) run.next_ask.items
+  pub next_lost_touched : AreTouched g span losses run.next_lost_touched.items
+  pub next_ask : AreTouched g span wins run.next_ask.items
   pub lost_full : AllTouched (64 * run.lost_full) run.next_lost_touched.items
   pub ask_full : AllTouched (64 * run.ask_full) run.next_ask.items
+
+-- what the round finds in the words below m
+abbrev pub are_lost_below : Graph → ℕ → ℕ → ℕ → ℕ → Bool
+are_lost_below g span r m i = nat_lt (word_in span i) m && is_found_lost g r i
+
+abbrev pub are_won_below : Graph → ℕ → ℕ → ℕ → ℕ → Bool
+are_won_below g span r m i = nat_lt (word_in span i) m && is_found_won g r i
 
 abbrev pub is_found : Graph → ℕ → ℕ → Bool
 is_found g r i = is_found_won g r i || is_found_lost g r i
 
--- whether the words below m tell of anything that the round finds
-pub record IsNews (g : Graph) (span r m : ℕ) (news : Bool) : Type 0 where
-  pub found : IsTrue news → (i : ℕ) × IsTrue (is_found g r i)
-  pub none : IsFalse news → (i : ℕ) → word_in span i < m → IsFalse (is_found g r i)
+-- whether some number passes the test
+pub record IsNews (test : ℕ → Bool) (news : Bool) : Type 0 where
+  pub found : IsTrue news → (i : ℕ) × IsTrue (test i)
+  pub none : IsFalse news → (i : ℕ) → IsFalse (test i)
 
 -- ---- before round 0
 

@@ -52,7 +52,6 @@ fn empty_run<G: Shelved>(alloc: Global, game: &G) -> Result<WordRun, AllocError>
         lost: vec![in alloc; 0; words]?,
         ready: vec![in alloc; 0; words]?,
         due: vec![in alloc; 0; words]?,
-        next_unwon: vec![in alloc; 0; words]?,
         next_lost: vec![in alloc; 0; words]?,
         lost_touched: vec![in alloc; 0; marks]?,
         ask: vec![in alloc; 0; marks]?,
@@ -245,7 +244,7 @@ fn settle_word<G: Shelved>(game: &G, word: u32, run: &mut WordRun)
     let nodes = run.unwon[w];
     let leaving = run.undecided[w];
     let staying = nodes & !leaving;
-    let moving = leading(game, word, staying, &run.unwon, true);
+    let moving = leading(game, word, staying, &run.unwon);
     let mated = mated_among(game, word, staying & !moving);
     run.undecided[w] = leaving | moving;
     run.lost[w] = mated;

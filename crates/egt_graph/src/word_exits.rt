@@ -74,16 +74,33 @@ fn mark_in(span: u32, marks: &mut [u64], i: u32)
     marks[word_in(span, i)] |= 1 << place_in(span, i);
 }
 
-/// Lost exits of these nodes fall due.
-pub(crate) fn lose_exits(span: u32, due: &mut [u64], nodes: &[u32])
+/// Lost exits of these nodes fall due, and their words are marked.
+pub(crate) fn lose_exits(span: u32, due: &mut [u64], touched: &mut [u64], nodes: &[u32])
     requires some { 0 < span }
     requires few { span ≤ 64 }
     requires within { All (λ i. word_in span i < length due.old) nodes.now }
-    ensures { (i : ℕ) → is_marked_in span due.new i ≡ (is_marked_in span due.old i || nat_lt 0 (count_of i nodes.now)) }
+    requires touched_within { All (λ i. word_in span i < 64 * length touched.old) nodes.now }
+    ensures due { (i : ℕ) → is_marked_in span due.new i ≡ (is_marked_in span due.old i || nat_lt 0 (count_of i nodes.now)) }
+    ensures kept { (w : ℕ) → IsTouched touched.old w → IsTouched touched.new w }
+    ensures touched { (i : ℕ) → IsTrue (is_marked_in span due.new i) → IsTrue (is_marked_in span due.old i) ⊎ IsTouched touched.new (word_in span i) }
 {
     for node in nodes {
-        mark_in(span, due, *node);
+        lose_exit(span, due, touched, *node);
     }
+}
+
+#[inline(always)]
+fn lose_exit(span: u32, due: &mut [u64], touched: &mut [u64], node: u32)
+    requires some { 0 < span }
+    requires few { span ≤ 64 }
+    requires within { word_in span node < length due.old }
+    requires touched_within { word_in span node < 64 * length touched.old }
+    ensures due { (i : ℕ) → is_marked_in span due.new i ≡ (is_marked_in span due.old i || (node == i)) }
+    ensures kept { (w : ℕ) → IsTouched touched.old w → IsTouched touched.new w }
+    ensures touched { (i : ℕ) → IsTrue (is_marked_in span due.new i) → IsTrue (is_marked_in span due.old i) ⊎ IsTouched touched.new (word_in span i) }
+{
+    mark_in(span, due, node);
+    touch_word(touched, word_in(span, node));
 }
 
 /// Won exits of these nodes fall due, for each as often as it comes. Those for which none is left are ready, and their words are to be asked.

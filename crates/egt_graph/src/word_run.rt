@@ -19,13 +19,13 @@ pub(crate) struct WordRun {
     pub(crate) ready: Vec<u64>,
     /// The nodes with an exit that is lost by now.
     pub(crate) due: Vec<u64>,
-    /// The words from which a move may lead to a node that was lost in this round, as marks.
+    /// The words in which a node may be won next, as marks: a move of it may lead to a node that was lost in this round, or an exit that was lost is due,
+    /// or nothing is known of it yet.
     pub(crate) lost_touched: Vec<u64>,
     /// The words in which a node may be lost next, as marks: a move of it may lead to a node that was won in the last round, or the last exit that
     /// it waited for is due, or nothing is known of it yet. Each ready node of the other words still has a move to a node that is not won.
     pub(crate) ask: Vec<u64>,
-    /// `unwon`, `lost`, `lost_touched` and `ask` of the next round.
-    pub(crate) next_unwon: Vec<u64>,
+    /// `lost`, `lost_touched` and `ask` of the next round.
     pub(crate) next_lost: Vec<u64>,
     pub(crate) next_lost_touched: Vec<u64>,
     pub(crate) next_ask: Vec<u64>,

@@ -26,7 +26,6 @@ returns-clause-listed g c =
         lost = long.lost;
         ready = length-set run.ready.items word _ ∙ long.ready;
         due = length-set run.due.items word _ ∙ long.due;
-        next_unwon = long.next_unwon;
         next_lost = long.next_lost;
         lost_touched = long.lost_touched;
         ask = long.ask;

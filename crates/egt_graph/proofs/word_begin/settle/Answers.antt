@@ -56,7 +56,6 @@ returns g c =
         lost = h.long.lost;
         ready = h.long.ready;
         due = h.long.due;
-        next_unwon = h.long.next_unwon;
         next_lost = h.long.next_lost;
         lost_touched = (let l = h.long.lost_touched in let own = run.lost_touched.ok.0 in let same = ap (λ (xs : List ℕ). length xs) lost_is in omega (arith, l, own, same, lost_long));
         ask = (let l = h.long.ask in let own = run.ask.ok.0 in let same = ap (λ (xs : List ℕ). length xs) ask_is in omega (arith, l, own, same, ask_long));
@@ -71,6 +70,12 @@ returns g c =
       due = h.due;
       exits = h.exits;
       lost_touched = λ i j node to t.
+          let within = word_in-within span graph.size i some node.in_range in
+          let l = h.long.lost_touched in
+          let len = ap (λ (xs : List ℕ). length xs) c.deref_mut.ensures.value in
+          subst (λ (xs : List ℕ). IsTouched xs (word_in span i)) (sym lost_is) (c.touch_all.ensures (word_in span i) (omega (arith, within, l, len)));
+      due_touched = λ i undecided due.
+          let node = node_from_test graph i (undecided_nodes graph law 0 i undecided) in
           let within = word_in-within span graph.size i some node.in_range in
           let l = h.long.lost_touched in
           let len = ap (λ (xs : List ℕ). length xs) c.deref_mut.ensures.value in

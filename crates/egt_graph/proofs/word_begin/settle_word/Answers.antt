@@ -122,7 +122,6 @@ returns g c =
         lost = length-set run.lost.items word _ ∙ long.lost;
         ready = long.ready;
         due = long.due;
-        next_unwon = long.next_unwon;
         next_lost = long.next_lost;
         lost_touched = long.lost_touched;
         ask = long.ask;

@@ -1,9 +1,9 @@
-use Rattle.std.proofs.Common.{◌≡◌, ◌<◌, ◌+◌, ℕ, false, suc, sym, subst, ⊎_elim, arith, rules}
+use Rattle.std.proofs.Common.{◌≡◌, ◌<◌, ◌+◌, ℕ, false, suc, refl, sym, subst, ◌∙◌, ⊎_elim, arith, rules}
 use Rattle.egt_graph.specs.Graph.{IsNode}
 use Rattle.egt_graph.specs.Value.{AreRanks}
-use Rattle.egt_graph.specs.WordRound.{is_found}
+use Rattle.egt_graph.specs.WordRound.{is_found, is_found_lost, is_found_won}
 use Rattle.egt_graph.proofs.WordEnding.{IsQuiet, KeepsLosses, KeepsWins, losses_kept, losses_kept_last, wins_kept, wins_kept_last, none_above, ranks, quiet_found, quiet_more, found_above}
-use Rattle.egt_graph.proofs.WordSweeps.{found_within, swept_entries}
+use Rattle.egt_graph.proofs.WordRounds.{found_entry}
 use Rattle.egt_graph.proofs.word_solver.solve_by_words.Goals as goal
 use Rattle.egt_graph.proofs.word_solver.solve_by_words.Goals.{then-news+else-round-limit, else-news+else-is_over}
 
@@ -30,7 +30,7 @@ rounds-preserved g c =
       ];
       quiet = subst (IsQuiet graph limit) next (elim c.if-news.branch [
         | then-news+else-round-limit w ↦ quiet_found graph limit r w.if-round-limit.false
-        | else-news+else-is_over w ↦ quiet_more graph law limit r (λ i. found_within graph law r span i some (told.none w.if-news.false)) h.quiet
+        | else-news+else-is_over w ↦ quiet_more graph law limit r (told.none w.if-news.false) h.quiet
       ]);
     }
 
@@ -51,7 +51,7 @@ returns-then-is_over-clause-ok g c =
     let run = c.sweep-news.new.run in
     let swept = c.sweep-news.ensures.swept in
     let over = c.is_over.ensures.over c.if-is_over.true in
-    let none : (i : ℕ) → is_found graph r i ≡ false = λ i. found_within graph law r span i some (c.sweep-news.ensures.news.none c.if-news.false) in
+    let none : (i : ℕ) → is_found graph r i ≡ false = c.sweep-news.ensures.news.none c.if-news.false in
     let losses : (i : ℕ) → IsNode graph i → KeepsLosses graph r i = λ i node. ⊎_elim
     (λ last. losses_kept_last graph law r i (omega (arith, last)) node)
     (λ empty. losses_kept graph r i run.lost_due (swept.exits i).losses (λ n lt. (empty n lt).0)) over in
@@ -60,4 +60,4 @@ returns-then-is_over-clause-ok g c =
     (λ empty. wins_kept graph r i run.pending.items run.won_due (swept.exits i).wins (λ n lt. (empty n lt).1)) over in
     subst (AreRanks graph limit) (sym c.from_entries.ensures)
     (ranks graph law r limit (none_above graph law r none losses wins) c.rounds.invariant.quiet run.entries.items swept.long.entries
-    (swept_entries graph span r run.entries.items some swept.long.entries swept.entries_done))
+    (λ i. swept.entries i ∙ sym (found_entry graph law r i (is_found_won graph r i) (is_found_lost graph r i) refl refl)))
