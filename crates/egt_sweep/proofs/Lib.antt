@@ -51,6 +51,7 @@ pub mod CodeSources
 pub mod SoFar
 pub mod ZeroCodes
 pub mod CodeMarks
+pub mod OddMarks
 pub mod CodeStarts
 pub mod ToldMen
 pub mod KeptEntries

@@ -90,6 +90,10 @@ module _ (laws : Laws) (c : ℕ) (c_in : c < 36) (moves : CodeMoves) (tells : Te
 abbrev pub PawnsLed : (c : ℕ) → CodeLists → (span word nodes bits : ℕ) → List ℕ → Type 0
 PawnsLed c lists span word nodes bits marks = (k : ℕ) → bit_at bits k ≡ 1 ↔ ((bit_at nodes k ≡ 1) × ((j : ℕ) × GoesByPawnBy span k j (pawn_ways_at lists word) (pushes_at lists word) × IsIn span marks j))
 
+-- the lists' nodes are those of the game of mates
+pub nodes_marked : (laws : Laws) (c : ℕ) (lists : CodeLists) → IsTold c lists → (tables : Tables) → AreMarksOf (places c) (size_of c) (IsNode (code_game tables Mate c (moves_told c lists))) lists.nodes.items
+nodes_marked laws c lists told tables = (told.holds.nodes_long, λ word lt k. code_nodes laws c lists told tables Mate word lt k)
+
 -- the bits of nodes are within the word
 pub nodes_within : (laws : Laws) (c : ℕ) (lists : CodeLists) → IsTold c lists → Tables → (word : ℕ) → word < words_of (places c) (size_of c) → (nodes span : ℕ) → nodes ≡ nodes_at lists word → span ≡ places c
     → (k : ℕ) → bit_at nodes k ≡ 1 → k < span

@@ -1,51 +1,83 @@
-//! Marks of the numbers whose mate entries are odd, by words.
-ghost use Rattle.std.specs.Prelude.{◌≡◌, ◌≤◌, ◌<◌, ◌↔◌, IfOk, IsTrue, slice_index};
-ghost use Rattle.egt_graph.specs.Words.{words_of};
-ghost use Rattle.egt_sweep.specs.OddMarks.{IsOddAbove, AreOddAbove, AreOddMarks};
+//! Marks of the numbers whose mate entries are odd, by words: such a number is not won, and above 1 it is lost.
+ghost use Rattle.std.specs.Prelude.{◌≡◌, ◌<◌, ◌≤◌, ℕ, IfOk, length, slice_index};
+ghost use Rattle.egt_graph.specs.Words.{IsIn, number_at, words_of};
+ghost use Rattle.egt_index.specs.Numbers.{places};
+ghost use Rattle.egt_index.specs.Size.{size_of};
+ghost use Rattle.egt_sweep.specs.OddMarks.{AreOddAbove, AreOddMarks, IsOddAbove};
 
-use egt_graph::{number_at, words_of};
+use crate::code_words::{CodeWords, word_count};
+use egt_graph::number_at;
+use egt_index::last_digits;
 use std::alloc::{AllocError, Global};
 
-/// Is the entry odd and above so much: not won above 0, lost above 1?
-fn is_odd_above(above: u16, entries: &[u16], i: usize) -> bool
-    ensures { IsTrue result ↔ IsOddAbove above (slice_index entries.now i) }
-{
-    match entries.get(i) {
-        Some(entry) => *entry % 2 == 1 && *entry > above,
-        None => false,
-    }
+/// The marks of a class's numbers, of all words.
+#[derive(Drop)]
+pub(crate) struct OddMarks {
+    /// Those that are lost.
+    pub(crate) lost: Vec<u64>,
+    /// Those that are not won.
+    pub(crate) unwon: Vec<u64>,
 }
 
-/// The marks of the word's numbers with such entries.
-fn odd_in(span: u32, above: u16, entries: &[u16], word: u32) -> u64
-    requires { span ≤ 64 }
-    ensures { AreOddAbove span above entries.now word result }
-{
-    let mut marks = 0;
-    for place in 0..span {
-        if is_odd_above(above, entries, number_at(span, word, place)) {
-            marks |= 1 << place;
-        }
-    }
-    marks
+/// Those of one word.
+#[derive(Clone, Copy)]
+struct OddBits {
+    lost: u64,
+    unwon: u64,
 }
 
-/// The marks of all words of so many numbers.
+/// The marks of the word's numbers. From the last place on, each moves the marks of the places above it up, so that no jump is on an entry.
+fn odd_in(span: u32, entries: &[u16], word: u32) -> OddBits
+    requires few { span ≤ 64 }
+    requires within { (k : ℕ) → k < span → number_at span word k < length entries.now }
+    ensures lost { AreOddAbove span 1 entries.now word result.lost }
+    ensures unwon { AreOddAbove span 0 entries.now word result.unwon }
+{
+    let mut lost = 0;
+    let mut unwon = 0;
+    let mut place = span;
+    while place > 0 {
+        place -= 1;
+        let entry = entries[number_at(span, word, place)];
+        lost = 2 * lost + u64::from((entry % 2 == 1) & (entry > 1));
+        unwon = 2 * unwon + u64::from(entry % 2);
+    }
+    OddBits { lost, unwon }
+}
+
+/// The marks of the word, where only nodes have odd entries: so a word without nodes has none, and its entries are not read.
+fn odd_at(words: &CodeWords, entries: &[u16], word: u32) -> OddBits
+    requires word { word < words_of (places words.now.class) (size_of words.now.class) }
+    requires within { (k : ℕ) → k < places words.now.class → number_at (places words.now.class) word k < length entries.now }
+    requires nodes { (j : ℕ) → IsOddAbove 0 (slice_index entries.now j) → IsIn (places words.now.class) words.now.lists.nodes.items j }
+    ensures lost { AreOddAbove (places words.now.class) 1 entries.now word result.lost }
+    ensures unwon { AreOddAbove (places words.now.class) 0 entries.now word result.unwon }
+{
+    if words.nodes(word) == 0 {
+        return OddBits { lost: 0, unwon: 0 };
+    }
+    odd_in(words.places(), entries, word)
+}
+
+/// The marks of all words of the class, where only nodes have odd entries.
 pub(crate) fn odd_marks(
     alloc: Global,
-    span: u32,
-    above: u16,
+    words: &CodeWords,
     entries: &[u16],
-    size: u32,
-) -> Result<Vec<u64>, AllocError>
-    requires some { 0 < span }
-    requires few { span ≤ 64 }
-    ensures { IfOk result (λ marks. AreOddMarks span (words_of span size) above entries.now marks.items) }
+) -> Result<OddMarks, AllocError>
+    requires long { length entries.now ≡ size_of words.now.class }
+    requires nodes { (j : ℕ) → IsOddAbove 0 (slice_index entries.now j) → IsIn (places words.now.class) words.now.lists.nodes.items j }
+    ensures lost { IfOk result (λ odd. AreOddMarks (places words.now.class) (words_of (places words.now.class) (size_of words.now.class)) 1 entries.now odd.lost.items) }
+    ensures unwon { IfOk result (λ odd. AreOddMarks (places words.now.class) (words_of (places words.now.class) (size_of words.now.class)) 0 entries.now odd.unwon.items) }
 {
-    let words = words_of(span, size);
-    let mut marks = vec![in alloc; 0; words]?;
-    for word in 0..words {
-        marks[word] = odd_in(span, above, entries, word as u32);
+    let _digits = last_digits(words.class);
+    let count = word_count(words.class);
+    let mut lost = vec![in alloc; 0; count]?;
+    let mut unwon = vec![in alloc; 0; count]?;
+    for word in 0..count {
+        let bits = odd_at(words, entries, word as u32);
+        lost[word] = bits.lost;
+        unwon[word] = bits.unwon;
     }
-    Ok(marks)
+    Ok(OddMarks { lost, unwon })
 }

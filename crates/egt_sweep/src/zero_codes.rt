@@ -20,7 +20,7 @@ use crate::kept::kept_ranks;
 use crate::laws::{codes_stand_for_indexes, laws};
 use crate::mate_codes::CodeEntries;
 use crate::nodes::is_mated;
-use crate::odd_marks::odd_marks;
+use crate::odd_marks::{OddMarks, odd_marks};
 use arrayvec::ArrayVec;
 use egt_check::Library;
 use egt_graph::laws::stand_ins_tell_ranks;
@@ -37,15 +37,13 @@ pub(crate) struct ZeroCodes<'l> {
     /// The ranks of the class's game of mates.
     pub(crate) mates: &'l Ranks,
     pub(crate) codes: &'l CodeEntries,
-    /// The numbers that are lost in it.
-    pub(crate) lost: Vec<u64>,
-    /// Those that are not won.
-    pub(crate) unwon: Vec<u64>,
+    /// The numbers that are lost in it, and those that are not won.
+    pub(crate) odd: OddMarks,
     ghost children: { HasChildren (table_at library.now) words.now.class },
     ghost shows: { IsMateColumn words.now.class mates.now },
     ghost tell: { TellMates (table_at library.now) words.now.class words.now.lists mates.now codes.now },
-    ghost lost_are: { AreOddMarks (places words.now.class) (words_of (places words.now.class) (size_of words.now.class)) 1 codes.now.entries lost.items },
-    ghost unwon_are: { AreOddMarks (places words.now.class) (words_of (places words.now.class) (size_of words.now.class)) 0 codes.now.entries unwon.items },
+    ghost lost_are: { AreOddMarks (places words.now.class) (words_of (places words.now.class) (size_of words.now.class)) 1 codes.now.entries odd.lost.items },
+    ghost unwon_are: { AreOddMarks (places words.now.class) (words_of (places words.now.class) (size_of words.now.class)) 0 codes.now.entries odd.unwon.items },
 }
 
 impl<'l> ZeroCodes<'l> {
@@ -63,18 +61,14 @@ impl<'l> ZeroCodes<'l> {
         ensures words { IfOk result (λ game. game.words.now ≡ words.now) }
         ensures mates { IfOk result (λ game. game.mates.now ≡ mates.now) }
     {
-        let size = size(words.class);
-        let entries = codes.entries.entries();
-        let span = words.places();
-        let lost = odd_marks(alloc, span, 1, entries, size)?;
-        let unwon = odd_marks(alloc, span, 0, entries, size)?;
+        laws();
+        let odd = odd_marks(alloc, words, codes.entries.entries())?;
         Ok(ZeroCodes {
             library,
             words,
             mates,
             codes,
-            lost,
-            unwon,
+            odd,
         })
     }
 }
@@ -117,8 +111,8 @@ impl Shelved for ZeroCodes<'_> {
         let nodes = self.words.nodes(word);
         let moves = self.words.moves(word);
         let pushed = moves.lead_pawns(span, nodes, self.words.all_nodes());
-        let losing = moves.lead_pawns(span, nodes, &self.lost);
-        let holding = moves.lead_pawns(span, nodes, &self.unwon);
+        let losing = moves.lead_pawns(span, nodes, &self.odd.lost);
+        let holding = moves.lead_pawns(span, nodes, &self.odd.unwon);
         let w = word as usize;
         WordStart {
             nodes,

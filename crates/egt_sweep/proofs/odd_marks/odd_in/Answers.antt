@@ -1,22 +1,20 @@
-use Rattle.std.proofs.Common.{ℕ, slice_index, sym, subst, arith}
-use Rattle.std.proofs.lemmas.Bool.{both_ways}
+use Rattle.std.proofs.Common.{◌≡◌, ◌+◌, ◌-◌, ◌↔◌, ℕ, slice_index, ap, subst, arith}
 use Rattle.egt_graph.specs.Words.{number_at}
 use Rattle.egt_sweep.specs.OddMarks.{IsOddAbove}
-use Rattle.egt_graph.proofs.WordBits.{gathers_set, gathers_kept}
+use Rattle.egt_sweep.proofs.OddMarks.{lost_bit, odd_bit, one_lower}
 use Rattle.egt_sweep.proofs.odd_marks.odd_in.Goals as goal
-use Rattle.egt_sweep.proofs.odd_marks.odd_in.Goals.{then-is_odd_above, else-is_odd_above}
 
 pub loop-place-preserved : goal.loop-place-preserved
 loop-place-preserved c =
-    let entries = c.args.entries.now in
-    let P : ℕ → Type 0 = λ k. IsOddAbove c.args.above (slice_index entries (number_at c.args.span c.args.word k)) in
-    let place_in = c.loop-place-test.true in
-    let at = c.number_at.ensures.is in
-    elim c.if-is_odd_above.branch [
-      | then-is_odd_above w ↦
-          rw w.marks-is (gathers_set P c.loop-place.place c.loop-place.marks (let few = c.requires in omega (arith, place_in, few))
-          (subst (λ (i : ℕ). IsOddAbove c.args.above (slice_index entries i)) at (c.is_odd_above.ensures.0 w.if-is_odd_above.true)) c.loop-place.invariant)
-      | else-is_odd_above w ↦
-          rw w.marks-is (gathers_kept P c.loop-place.place c.loop-place.marks
-          (λ odd. both_ways c.is_odd_above.result w.if-is_odd_above.false (c.is_odd_above.ensures.1 (subst (λ (i : ℕ). IsOddAbove c.args.above (slice_index entries i)) (sym at) odd))) c.loop-place.invariant)
-    ]
+    let span = c.args.span in
+    let above = c.loop-place.place in
+    let some = c.loop-place-test.true in
+    let next : above ≡ above - 1 + 1 = omega (arith, some) in
+    let entry = λ (k : ℕ). slice_index c.args.entries.now (number_at span c.args.word k) in
+    let is = ap (slice_index c.args.entries.now) c.number_at.ensures.is in
+    let lost = lost_bit _ _ c.from.ensures in
+    let unwon = odd_bit _ _ c.from-in-loop-place.ensures in
+    record {
+      lost = one_lower (λ k. IsOddAbove 1 (entry k)) span (above - 1) c.loop-place.lost c.from.result lost.0 (subst (λ (x : ℕ). c.from.result ≡ 1 ↔ IsOddAbove 1 x) is lost.1) above next c.loop-place.invariant.lost;
+      unwon = one_lower (λ k. IsOddAbove 0 (entry k)) span (above - 1) c.loop-place.unwon c.from-in-loop-place.result unwon.0 (subst (λ (x : ℕ). c.from-in-loop-place.result ≡ 1 ↔ IsOddAbove 0 x) is unwon.1) above next c.loop-place.invariant.unwon;
+    }

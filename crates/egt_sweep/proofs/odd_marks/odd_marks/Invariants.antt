@@ -1,7 +1,14 @@
 use Rattle.std.proofs.Common.{◌≡◌, ◌<◌, ℕ, length, slice_index}
 use Rattle.egt_graph.specs.Words.{words_of}
+use Rattle.egt_index.specs.Numbers.{places}
+use Rattle.egt_index.specs.Size.{size_of}
 use Rattle.egt_sweep.specs.OddMarks.{AreOddAbove}
 use Rattle.egt_sweep.proofs.odd_marks.odd_marks.Given as goal
 
 abbrev pub invariant-loop-word : goal.invariant-loop-word
-invariant-loop-word l = (length l.marks.items ≡ words_of l.span l.size) × ((w : ℕ) → w < l.word → AreOddAbove l.span l.above l.entries w (slice_index l.marks.items w))
+invariant-loop-word l = record {
+  lost_long : length l.lost.items ≡ words_of (places l.words.class) (size_of l.words.class);
+  unwon_long : length l.unwon.items ≡ words_of (places l.words.class) (size_of l.words.class);
+  lost : (w : ℕ) → w < l.word → AreOddAbove (places l.words.class) 1 l.entries w (slice_index l.lost.items w);
+  unwon : (w : ℕ) → w < l.word → AreOddAbove (places l.words.class) 0 l.entries w (slice_index l.unwon.items w);
+}

@@ -6,9 +6,8 @@ use Rattle.egt_graph.specs.Words.{IsWordOf}
 use Rattle.egt_sweep.specs.CodeMates.{game_by}
 use Rattle.egt_table.specs.declared.column.Column.TheVariants.{Mate}
 use Rattle.egt_index.specs.Numbers.{places}
-use Rattle.egt_sweep.proofs.CodeGames.{code_nodes}
 use Rattle.egt_sweep.proofs.CodeLists.{codes_fit}
-use Rattle.egt_sweep.proofs.ZeroCodes.{nodes_within, pawns_led, zero_codes_begin}
+use Rattle.egt_sweep.proofs.ZeroCodes.{nodes_marked, nodes_within, pawns_led, zero_codes_begin}
 use Rattle.egt_sweep.proofs.zero_codes.ZeroCodesShelved.start_of.Goals as goal
 
 pub lead_pawns-pushed-requires-clause-fits : goal.lead_pawns-pushed-requires-clause-fits
@@ -58,9 +57,9 @@ returns c =
     (subst (IsWordOf (places words.class) c.args.word (is_leaving mates)) (sym (c.index.ensures ∙ get_or_default game.codes.now.exits.leaving.items c.args.word _ 0 (let long = game.tell.exits.leaving_long in let within = c.requires in omega (arith, long, within)))) (game.tell.exits.leaving c.args.word))
     (subst (IsWordOf (places words.class) c.args.word (has_lost_exit mates)) (sym (c.index-2.ensures ∙ get_or_default game.codes.now.exits.lost.items c.args.word _ 0 (let long = game.tell.exits.lost_long in let within = c.requires in omega (arith, long, within)))) (game.tell.exits.lost c.args.word))
     (subst (IsWordOf (places words.class) c.args.word (has_held_exit mates)) (sym (c.index-3.ensures ∙ get_or_default game.codes.now.exits.held.items c.args.word _ 0 (let long = game.tell.exits.held_long in let within = c.requires in omega (arith, long, within)))) (game.tell.exits.held c.args.word))
-    words.lists.nodes.items game.lost.items game.unwon.items
-    (words.told.holds.nodes_long, λ word lt k. code_nodes c.laws.ensures words.class words.lists words.told tables Mate word lt k) (game.lost_are.long, game.lost_are.each) (game.unwon_are.long, game.unwon_are.each)
+    words.lists.nodes.items game.odd.lost.items game.odd.unwon.items
+    (nodes_marked c.laws.ensures words.class words.lists words.told tables) (game.lost_are.long, game.lost_are.each) (game.unwon_are.long, game.unwon_are.each)
     c.lead_pawns-pushed.result c.lead_pawns-losing.result c.lead_pawns-holding.result
     (pawns_led words.class words.lists c.args.word c.nodes-nodes.result c.lead_pawns-pushed.result words.lists.nodes.items c.places-span.result _ _ _ span_is ways_are pushes_are c.all_nodes.ensures.is c.lead_pawns-pushed.ensures)
-    (pawns_led words.class words.lists c.args.word c.nodes-nodes.result c.lead_pawns-losing.result game.lost.items c.places-span.result _ _ _ span_is ways_are pushes_are c.deref.ensures.value c.lead_pawns-losing.ensures)
-    (pawns_led words.class words.lists c.args.word c.nodes-nodes.result c.lead_pawns-holding.result game.unwon.items c.places-span.result _ _ _ span_is ways_are pushes_are c.deref-2.ensures.value c.lead_pawns-holding.ensures)
+    (pawns_led words.class words.lists c.args.word c.nodes-nodes.result c.lead_pawns-losing.result game.odd.lost.items c.places-span.result _ _ _ span_is ways_are pushes_are c.deref.ensures.value c.lead_pawns-losing.ensures)
+    (pawns_led words.class words.lists c.args.word c.nodes-nodes.result c.lead_pawns-holding.result game.odd.unwon.items c.places-span.result _ _ _ span_is ways_are pushes_are c.deref-2.ensures.value c.lead_pawns-holding.ensures)

@@ -1,0 +1,19 @@
+use Rattle.std.proofs.Common.{slice_index, subst}
+use Rattle.egt_check.specs.Tables.{table_at}
+use Rattle.egt_graph.specs.Graph.{IsNode}
+use Rattle.egt_index.specs.Numbers.{places}
+use Rattle.egt_index.specs.Size.{size_of}
+use Rattle.egt_sweep.specs.CodeMates.{game_by}
+use Rattle.egt_sweep.specs.OddMarks.{IsOddAbove}
+use Rattle.egt_sweep.proofs.CodeMarks.{marked_in}
+use Rattle.egt_sweep.proofs.ZeroCodes.{nodes_marked}
+use Rattle.egt_table.specs.declared.column.Column.TheVariants.{Mate}
+use Rattle.egt_sweep.proofs.zero_codes.ZeroCodes.of.Goals as goal
+
+pub odd_marks-requires-clause-nodes : goal.odd_marks-requires-clause-nodes
+odd_marks-requires-clause-nodes c j odd =
+    let words = c.args.words.now in
+    let tables = table_at c.args.library.now in
+    let node = c.requires.tell.nodes 0 j (subst (λ xs. IsOddAbove 0 (slice_index xs j)) c.entries.ensures odd) in
+    marked_in (places words.class) (size_of words.class) words.told.some (IsNode (game_by tables Mate words.class words.lists)) words.lists.nodes.items
+    (nodes_marked c.laws.ensures words.class words.lists words.told tables) j node.in_range node
