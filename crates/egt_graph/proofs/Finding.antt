@@ -1,12 +1,12 @@
 -- What one round finds by words, and how it is put down.
-use Rattle.std.proofs.Common.{◌≡◌, ◌≢◌, ◌↔◌, ◌⊎◌, ℕ, suc, ◌+◌, ◌-◌, ◌*◌, ◌<◌, ◌≤◌, ◌^◌, Bool, true, false, cond, not, ◌&&◌, eqb, ltb, List, length, get_or, slice_index, replicate, set, refl, sym, ap, ap₂, subst, ◌∙◌, inl, inr, ⊎_elim, arith, Contains, bit_and, bit_or}
+use Rattle.std.proofs.Common.{◌≡◌, ◌≢◌, ℕ, suc, ◌+◌, ◌-◌, ◌*◌, ◌<◌, ◌≤◌, ◌^◌, Bool, true, false, cond, not, ◌&&◌, ltb, List, length, get_or, slice_index, replicate, set, refl, sym, ap, ap₂, subst, ◌∙◌, inl, inr, ⊎_elim, arith, Contains, bit_and, bit_or}
 use Rattle.std.specs.Int.{bit_at}
-use Rattle.std.proofs.lemmas.Bool.{cases_Bool, cases_eq, cases_lt, both_ways, and_parts, and_from, and_left, and_right, not-true, not_from_false, not_from_true, false_from_ne_true, lt-ltb, le-ltb}
+use Rattle.std.proofs.lemmas.Bool.{cases_eq, cases_lt, both_ways, and_parts, and_from, and_left, and_right, not-true, not_from_false, not_from_true, false_from_ne_true, lt-ltb, le-ltb}
 use Rattle.std.proofs.lemmas.List.{get_or_past, get_or-replicate, get_or-set_same, get_or-set_other, length-replicate}
 use Rattle.egt_graph.specs.Graph.{Graph, IsNode, IsGame}
 use Rattle.egt_graph.specs.Value.{mated_within, mates_within}
 use Rattle.egt_graph.specs.Words.{number_at, word_in, place_in, IsTouched, IsWordOf, AreMarks, words_of, word_in-number_at, place_in-small, number_at-places, word_in-within}
-use Rattle.egt_graph.specs.WordRound.{is_undecided, is_unwon, is_lost_at, is_ready, is_due, is_found, is_found_won, is_found_lost, LeadsTo, IsToldOf, AreTouched, AreDueTouched, AreSaved, IsNews, IsSwept}
+use Rattle.egt_graph.specs.WordRound.{is_undecided, is_unwon, is_lost_at, is_ready, is_due, is_found_won, is_found_lost, IsToldOf, AreTouched, AreDueTouched, AreSaved, IsSwept}
 use Rattle.egt_graph.specs.Columns.{entry_at}
 use Rattle.egt_graph.specs.declared.word_run.WordRun.{WordRun}
 use Rattle.egt_graph.proofs.Values.{never_both}

@@ -1,21 +1,17 @@
--- A sweep over the words of a round.
-use Rattle.std.proofs.Common.{◌≡◌, ◌≢◌, ◌↔◌, ◌⊎◌, ℕ, suc, ◌+◌, ◌-◌, ◌*◌, ◌%◌, ◌<◌, ◌≤◌, ◌^◌, Bool, true, false, cond, not, ◌&&◌, eqb, List, length, get_or, slice_index, set, refl, sym, ap, ap₂, subst, ◌∙◌, inl, inr, ⊎_elim, arith, Contains, bit_and, bit_or, w64}
+-- Words by the tests that their bits tell of, and entries that are put.
+use Rattle.std.proofs.Common.{◌≡◌, ◌≢◌, ◌↔◌, ◌⊎◌, ℕ, ◌+◌, ◌-◌, ◌*◌, ◌%◌, ◌<◌, ◌≤◌, ◌^◌, Bool, true, false, cond, not, ◌&&◌, eqb, List, length, get_or, slice_index, set, refl, sym, ap, ap₂, subst, ◌∙◌, inl, inr, ⊎_elim, arith, Contains, bit_and, w64}
 use Rattle.std.specs.Int.{bit_at}
-use Rattle.std.proofs.lemmas.Bool.{cases_Bool, cases_eq, cases_lt, both_ways, or_left, or_right, or_from, or_cases, and_parts, and_from, and_left, not-true, not_from_false, eqb-true, eq-eqb, ne_eqb, false_from_ne_true}
-use Rattle.std.proofs.lemmas.List.{get_or_past, get_or-set_same, get_or-set_other, length-set, with_items_is}
+use Rattle.std.proofs.lemmas.Bool.{cases_Bool, cases_eq, cases_lt, both_ways, and_parts, and_from, and_left, eqb-true, eq-eqb, ne_eqb}
+use Rattle.std.proofs.lemmas.List.{get_or_past, get_or-set_same, get_or-set_other, length-set}
 use Rattle.std.proofs.lemmas.Nat.Bits.{bit_at_clear_other}
-use Rattle.egt_graph.specs.Graph.{Graph, IsNode, IsGame}
+use Rattle.egt_graph.specs.Graph.{Graph, IsGame}
 use Rattle.egt_graph.specs.Value.{mated_within, mates_within, mated_before}
 use Rattle.egt_graph.specs.Frontier.{is_node}
-use Rattle.std.specs.Vec.{with_items}
-use Rattle.std.specs.declared.vec.Vec.{Vec}
-use Rattle.egt_graph.specs.Columns.{entry_at}
 use Rattle.egt_graph.specs.Words.{number_at, word_in, place_in, IsIn, IsWordOf, AreMarks, words_of, word_in-number_at, place_in-number_at, place_in-small, number_at-places, word_in-within}
-use Rattle.egt_graph.specs.WordRound.{is_undecided, is_unwon, is_lost_at, is_ready, is_due, is_found_won, is_found_lost, is_found, is_marked_in, LeadsTo, IsToldOf, AreTold}
-use Rattle.egt_graph.proofs.Closing.{entry_none}
+use Rattle.egt_graph.specs.WordRound.{is_undecided, is_unwon, is_lost_at, is_marked_in, LeadsTo, IsToldOf, AreTold}
 use Rattle.egt_graph.proofs.Nodes.{node_from_test, test_from_node}
-use Rattle.egt_graph.proofs.WordBits.{both_set, set_both, either_set, set_first, set_second, not_set, set_not, none_set}
-use Rattle.egt_graph.proofs.WordRounds.{draw_node, undecided_parts, wins_by_move, wins_by_exit, win_by, lost_by, loss_parts, found_entry, undecided_next, unwon_next, lost_next, found_won_parts, found_lost_parts}
+use Rattle.egt_graph.proofs.WordBits.{both_set, none_set}
+use Rattle.egt_graph.proofs.WordRounds.{draw_node, undecided_parts}
 
 -- ---- marks and tests
 
@@ -71,10 +67,6 @@ entries_kept span word won lost es middle es' a b first second i other =
     ∙ first i ∙ ap (λ t. cond t a (slice_index es i)) (put_other span word won i other)
 
 -- ---- words that are written
-
--- the vector whose words are those of this one with another put in
-pub put_in : {Z : Type 0} (words : Vec ℕ Z) (new : List ℕ) (at x : ℕ) → new ≡ set words.items at x → (with_items words new).items ≡ set words.items at x
-put_in {Z} words new at x is = with_items_is words new (ap (λ (xs : List ℕ). length xs) is ∙ length-set words.items at x ∙ sym words.ok.0) ∙ is
 
 pub word_here : (P : ℕ → ℕ → Type 0) (marks : List ℕ) (m x : ℕ) → m < length marks → P m x → ((w : ℕ) → w < m → P w (get_or marks w 0)) → (w : ℕ) → w < m + 1 → P w (get_or (set marks m x) w 0)
 word_here P marks m x within here before w lt = elim (cases_eq w m) [

@@ -1,12 +1,11 @@
 -- Words that are to be asked in the next round.
-use Rattle.std.proofs.Common.{◌≡◌, ◌≢◌, ◌⊎◌, ℕ, suc, ◌+◌, ◌-◌, ◌*◌, ◌/◌, ◌%◌, ◌<◌, ◌≤◌, ◌^◌, Bool, true, not, ◌&&◌, List, length, get_or, slice_index, set, sym, ap, ap₂, ◌∙◌, inl, inr, ⊎_elim, arith, bit_or, Contains, w64}
+use Rattle.std.proofs.Common.{◌≡◌, ◌≢◌, ◌⊎◌, ℕ, suc, ◌+◌, ◌-◌, ◌*◌, ◌/◌, ◌%◌, ◌<◌, ◌≤◌, ◌^◌, true, not, ◌&&◌, List, length, get_or, slice_index, set, sym, ap, ap₂, ◌∙◌, inl, inr, ⊎_elim, arith, bit_or, w64}
 use Rattle.std.proofs.lemmas.Bool.{cases_Bool, cases_eq, and_parts, both_ways}
 use Rattle.std.proofs.lemmas.List.{get_or-set_same, get_or-set_other}
-use Rattle.std.proofs.lemmas.List.Elements.{All-contains}
 use Rattle.std.specs.Int.{bit_at, trailing_zeros}
 use Rattle.std.proofs.lemmas.Nat.Bits.{bit_at-trailing_zeros}
-use Rattle.egt_graph.specs.Graph.{Graph, IsNode, IsGame}
-use Rattle.egt_graph.specs.Words.{number_at, word_in, place_in, IsTouched, IsWordOf, words_of, place_in-small, number_at-places, word_in-within}
+use Rattle.egt_graph.specs.Graph.{Graph, IsGame}
+use Rattle.egt_graph.specs.Words.{word_in, IsTouched}
 use Rattle.egt_graph.specs.WordRound.{is_undecided, is_unwon, is_lost_at, is_ready, is_found_won, is_found_lost, is_marked_in, is_due, LeadsTo, AreTouched, AreDueTouched, AreTold, AreSaved}
 use Rattle.egt_graph.proofs.WordBits.{set_first, bit_within, none_set}
 use Rattle.egt_graph.proofs.WordRounds.{draw_node, fresh, undecided_parts, undecided_next, saved_by, unwon_next, lost_next, wins_by_exit}

@@ -1,4 +1,4 @@
-use Rattle.std.proofs.Common.{◌*◌, ◌+◌, ◌<◌, ◌≤◌, ◌^◌, ◌≡◌, ℕ, List, slice_index, ap, subst, inl, inr, arith, w64}
+use Rattle.std.proofs.Common.{◌*◌, ◌+◌, ◌≡◌, ℕ, List, slice_index, ap, subst, inl, inr, arith, w64}
 use Rattle.std.proofs.lemmas.Bool.{cases_lt}
 use Rattle.std.specs.Int.{bit_at, trailing_zeros}
 use Rattle.egt_graph.specs.Words.{IsTouched}

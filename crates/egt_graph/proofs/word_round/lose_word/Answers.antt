@@ -1,4 +1,4 @@
-use Rattle.std.proofs.Common.{◌<◌, ◌≤◌, ◌+◌, refl, arith}
+use Rattle.std.proofs.Common.{◌<◌, ◌+◌, refl, arith}
 use Rattle.std.proofs.lemmas.Bool.{both_ways}
 use Rattle.egt_graph.specs.WordRound.{is_found_lost}
 use Rattle.egt_graph.proofs.Finding.{below, below_to, none_found, some_found, swept_same}

@@ -1,17 +1,17 @@
-use Rattle.std.proofs.Common.{◌≡◌, ◌↔◌, ◌<◌, ◌≤◌, ◌^◌, ◌+◌, ◌*◌, ◌-◌, ◌&&◌, ℕ, List, suc, not, cond, length, slice_index, bit_and, ap, ap₂, sym, subst, ◌∙◌, refl, arith}
+use Rattle.std.proofs.Common.{◌≡◌, ◌↔◌, ◌<◌, ◌≤◌, ℕ, List, not, bit_and, subst, ◌∙◌, arith}
 use Rattle.std.specs.Int.{bit_at}
 use Rattle.std.proofs.lemmas.Bool.{and_parts}
 use Rattle.std.proofs.lemmas.List.{get_or_default}
 use Rattle.std.specs.List.{Contains}
 use Rattle.egt_graph.specs.Frontier.{is_node}
-use Rattle.egt_graph.specs.Value.{mated_within, mates_within, mated_before}
-use Rattle.egt_graph.specs.Words.{IsIn, IsWordOf, number_at, word_in}
-use Rattle.egt_graph.specs.WordRound.{is_due, is_found_lost, is_found_won, is_lost_at, is_ready, is_undecided, is_unwon}
+use Rattle.egt_graph.specs.Value.{mates_within}
+use Rattle.egt_graph.specs.Words.{IsIn, number_at}
+use Rattle.egt_graph.specs.WordRound.{is_found_lost, is_found_won, is_ready, is_undecided, is_unwon}
 use Rattle.egt_graph.proofs.Nodes.{node_from_test}
 use Rattle.egt_graph.proofs.WordBits.{both_set}
 use Rattle.egt_graph.proofs.WordRounds.{draw_node, undecided_parts}
 use Rattle.egt_graph.proofs.WordSweeps.{leads_of, mark_is, told_word}
-use Rattle.egt_graph.proofs.Finding.{below, below_here, below_past, not_won_word, of_lost, of_won, open_marks, open_word}
+use Rattle.egt_graph.proofs.Finding.{below, below_here, below_past, of_lost, open_marks, open_word}
 use Rattle.egt_graph.proofs.word_round.lost_in.Goals as goal
 
 pub leading-requires-clause-asked : goal.leading-requires-clause-asked

@@ -1,13 +1,13 @@
-use Rattle.std.proofs.Common.{◌≡◌, ◌<◌, ◌≤◌, ◌^◌, ◌+◌, ◌*◌, ◌-◌, ◌&&◌, ℕ, List, suc, not, cond, length, slice_index, ap, ap₂, sym, subst, ◌∙◌, arith, Contains}
+use Rattle.std.proofs.Common.{◌≡◌, ◌<◌, ◌≤◌, ◌+◌, ◌*◌, ◌&&◌, ℕ, List, suc, not, cond, length, slice_index, ap, ap₂, sym, subst, ◌∙◌, arith, Contains}
 use Rattle.std.proofs.lemmas.List.{get_or_default, length-set, with_items_is}
 use Rattle.egt_graph.specs.Columns.{entry_at}
 use Rattle.egt_graph.specs.Graph.{IsNode}
 use Rattle.egt_graph.specs.Words.{AllTouched, IsTouched, IsWordOf, number_at, word_in, words_of}
-use Rattle.egt_graph.specs.WordRound.{is_found_lost, is_found_won, is_undecided, is_unwon}
+use Rattle.egt_graph.specs.WordRound.{is_found_lost, is_found_won, is_undecided}
 use Rattle.std.specs.Vec.{with_items}
 use Rattle.egt_graph.proofs.WordRounds.{found_lost_parts}
 use Rattle.egt_graph.proofs.WordSweeps.{put_at}
-use Rattle.egt_graph.proofs.Finding.{apart, below, below_here, below_next, below_other, entry_of_loss, entry_of_win, later, less_word, marks_put, still, touched_put, word_same}
+use Rattle.egt_graph.proofs.Finding.{below, below_here, below_next, below_other, entry_of_loss, less_word, marks_put, still, touched_put, word_same}
 use Rattle.egt_graph.proofs.word_round.put_lost.Goals as goal
 
 pub put_entries-requires-clause-within : goal.put_entries-requires-clause-within

@@ -1,4 +1,4 @@
-use Rattle.std.proofs.Common.{◌≡◌, ◌≤◌, ◌<◌, ◌*◌, ◌+◌, ◌&&◌, ℕ, false, suc, not, cond, ap, ap₂, sym, subst, ◌∙◌, arith}
+use Rattle.std.proofs.Common.{◌≡◌, ◌*◌, ◌+◌, ◌&&◌, ℕ, false, suc, not, cond, ap, ap₂, sym, subst, ◌∙◌, arith}
 use Rattle.std.proofs.lemmas.Bool.{both_ways, or_from, or_left, or_right}
 use Rattle.egt_graph.specs.Columns.{entry_at}
 use Rattle.egt_graph.specs.Words.{AreMarks}

@@ -1,6 +1,6 @@
-use Rattle.std.proofs.Common.{◌≡◌, ◌<◌, ◌≤◌, ℕ, List, false, refl, sym, ap, subst, ◌∙◌, arith}
+use Rattle.std.proofs.Common.{◌≡◌, ◌<◌, ◌≤◌, ℕ, List, refl, sym, ap, subst, ◌∙◌, arith}
 use Rattle.std.proofs.lemmas.Bool.{true≢false}
-use Rattle.egt_graph.specs.Words.{IsTouched, word_in, words_of}
+use Rattle.egt_graph.specs.Words.{IsTouched, words_of}
 use Rattle.egt_graph.specs.WordRound.{is_found_won}
 use Rattle.egt_graph.proofs.Finding.{below, below_mark, below_last, below_none, win_asked, win_within, swept_same}
 use Rattle.egt_graph.proofs.word_round.win_words.Goals as goal
