@@ -2,7 +2,9 @@
 use Rattle.std.proofs.Common.{◌≡◌, ◌≢◌, ℕ, suc, ◌+◌, ◌-◌, ◌*◌, ◌<◌, ◌≤◌, ◌^◌, Bool, true, false, cond, not, ◌&&◌, ltb, List, length, get_or, slice_index, replicate, set, refl, sym, ap, ap₂, subst, ◌∙◌, inl, inr, ⊎_elim, arith, Contains, bit_and, bit_or}
 use Rattle.std.specs.Int.{bit_at}
 use Rattle.std.proofs.lemmas.Bool.{cases_eq, cases_lt, both_ways, and_parts, and_from, and_left, and_right, not-true, not_from_false, not_from_true, false_from_ne_true, lt-ltb, le-ltb}
-use Rattle.std.proofs.lemmas.List.{get_or_past, get_or-replicate, get_or-set_same, get_or-set_other, length-replicate}
+use Rattle.std.proofs.lemmas.List.{get_or_past, get_or-replicate, get_or-set_same, get_or-set_other, length-replicate, with_items_is}
+use Rattle.std.specs.Vec.{with_items}
+use Rattle.std.specs.declared.vec.Vec.{Vec}
 use Rattle.egt_graph.specs.Graph.{Graph, IsNode, IsGame}
 use Rattle.egt_graph.specs.Value.{mated_within, mates_within}
 use Rattle.egt_graph.specs.Words.{number_at, word_in, place_in, IsTouched, IsWordOf, AreMarks, words_of, word_in-number_at, place_in-small, number_at-places, word_in-within}
@@ -120,14 +122,6 @@ module _ (span : ℕ) (f : ℕ → Bool) where
     | inr ne ↦ sym (below_other m i ne) ∙ before
   ]
 
-  -- between two marked words nothing passes
-  pub below_mark : (touched : List ℕ) (from to i : ℕ) → ((j : ℕ) → f j ≡ true → IsTouched touched (word_in span j)) → from ≤ to → ((v : ℕ) → from ≤ v → v < to → IsTouched touched v → ⊥) → below from i ≡ below to i
-  below_mark touched from to i marked le none = below_to from to i le (λ past lt t. none (word_in span i) past lt (marked i t))
-
-  -- and past the last one
-  pub below_last : (touched : List ℕ) (from end i : ℕ) → ((j : ℕ) → f j ≡ true → IsTouched touched (word_in span j)) → ((j : ℕ) → f j ≡ true → word_in span j < end) → ((v : ℕ) → from ≤ v → v < end → IsTouched touched v → ⊥) → below from i ≡ f i
-  below_last touched from end i marked within none = below_all from i (λ past t. none (word_in span i) past (within i t) (marked i t))
-
 -- where no word has a bit
 zero_at : (n w : ℕ) → slice_index (replicate n 0) w ≡ 0
 zero_at n w = elim (cases_lt w n) [
@@ -147,6 +141,18 @@ swap : (E F x : ℕ) (p l : Bool) → (p ≡ true → l ≡ false) → cond p F 
 swap E F x true true apart = absurd (both_ways true (apart refl) refl)
 swap E F x true false apart = refl
 swap E F x false l apart = refl
+
+-- what a call writes that is lent the entries
+pub entries_now : {Z : Type 0} (entries : Vec ℕ Z) (lent new : List ℕ) (span' span word bits entry : ℕ) → span' ≡ span → lent ≡ entries.items → length new ≡ length lent
+    → ((i : ℕ) → slice_index new i ≡ cond (put_at span' word bits i) entry (slice_index lent i))
+    → (length (with_items entries new).items ≡ length entries.items) × ((i : ℕ) → slice_index (with_items entries new).items i ≡ cond (put_at span word bits i) entry (slice_index entries.items i))
+entries_now entries lent new span' span word bits entry same is long told =
+    let len = ap (λ (xs : List ℕ). length xs) is in
+    let own = entries.ok.0 in
+    let written = with_items_is entries new (omega (arith, len, long, own)) in (
+      ap (λ (xs : List ℕ). length xs) written ∙ (let all : length new ≡ length entries.items = omega (arith, len, long) in all),
+      λ i. ap (λ (xs : List ℕ). slice_index xs i) written ∙ told i ∙ ap₂ (λ s (xs : List ℕ). cond (put_at s word bits i) entry (slice_index xs i)) same is,
+    )
 
 module _ (span word bits : ℕ) (some : 0 < span) (f : ℕ → Bool) (of : IsWordOf span word f bits) (E F x i : ℕ) where
   pub entry_of_loss : cond (put_at span word bits i) E (cond (below span f word i) E x) ≡ cond (below span f (word + 1) i) E x
@@ -327,6 +333,4 @@ swept_same g span r l l' w w' run el ew h = record {
   saved = h.saved;
   next_lost_touched = λ i j node to t. h.next_lost_touched i j node to (el j ∙ t);
   next_ask = λ i j node to t. h.next_ask i j node to (ew j ∙ t);
-  lost_full = h.lost_full;
-  ask_full = h.ask_full;
 }

@@ -27,6 +27,7 @@ pub mod WordRounds
 pub mod WordSweeps
 pub mod WordTouches
 pub mod Finding
+pub mod Passes
 pub mod WordMarks
 pub mod WordEnding
 pub mod WordDue

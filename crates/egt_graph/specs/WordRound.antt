@@ -6,7 +6,7 @@ use Rattle.egt_graph.specs.Graph.{Graph, IsNode}
 use Rattle.egt_graph.specs.Value.{is_empty, is_lost_before, is_won_before, mated_within, mates_within, mated_before}
 use Rattle.egt_graph.specs.Frontier.{is_node}
 use Rattle.egt_graph.specs.Columns.{leaves, has_moves, count_of, entry_at, is_loss, is_win, is_win_of}
-use Rattle.egt_graph.specs.Words.{AllTouched, AreMarks, IsTouched, IsWordOf, number_at, word_in, place_in, words_of}
+use Rattle.egt_graph.specs.Words.{AreMarks, IsTouched, IsWordOf, number_at, word_in, place_in, words_of}
 use Rattle.egt_graph.specs.declared.word_begin.ExitBits.{ExitBits}
 use Rattle.egt_graph.specs.declared.word_run.WordRun.{WordRun}
 
@@ -110,10 +110,10 @@ pub record AreLong (g : Graph) (span : ℕ) (run : WordRun) : Type 0 where
   pub ready : length run.ready.items ≡ words_of span g.size
   pub due : length run.due.items ≡ words_of span g.size
   pub next_lost : length run.next_lost.items ≡ words_of span g.size
-  pub lost_touched : words_of span g.size ≤ 64 * length run.lost_touched.items
-  pub ask : words_of span g.size ≤ 64 * length run.ask.items
-  pub next_lost_touched : words_of span g.size ≤ 64 * length run.next_lost_touched.items
-  pub next_ask : words_of span g.size ≤ 64 * length run.next_ask.items
+  pub lost_touched : words_of span g.size ≤ 64 * length run.lost_touched.marks.items
+  pub ask : words_of span g.size ≤ 64 * length run.ask.marks.items
+  pub next_lost_touched : words_of span g.size ≤ 64 * length run.next_lost_touched.marks.items
+  pub next_ask : words_of span g.size ≤ 64 * length run.next_ask.marks.items
 
 pub record IsAt (g : Graph) (span r : ℕ) (run : WordRun) : Type 0 where
   pub long : AreLong g span run
@@ -124,9 +124,9 @@ pub record IsAt (g : Graph) (span r : ℕ) (run : WordRun) : Type 0 where
   pub ready : AreTold span (is_ready g r) run.ready.items
   pub due : AreTold span (is_due g r) run.due.items
   pub exits : (i : ℕ) → HasExits g r run.pending.items run.lost_due run.won_due i
-  pub lost_touched : AreTouched g span (is_lost_at g r) run.lost_touched.items
-  pub due_touched : AreDueTouched g span r run.lost_touched.items
-  pub saved : AreSaved g span r run.ask.items
+  pub lost_touched : AreTouched g span (is_lost_at g r) run.lost_touched.marks.items
+  pub due_touched : AreDueTouched g span r run.lost_touched.marks.items
+  pub saved : AreSaved g span r run.ask.marks.items
 
 -- The run within the round: of what it finds, the losses that pass the one test and the wins that pass the other are written down. What tells of
 -- the round before stays, but that `unwon` and `undecided` lose what is found.
@@ -140,13 +140,11 @@ pub record IsSwept (g : Graph) (span r : ℕ) (losses wins : ℕ → Bool) (run 
   pub ready : AreTold span (is_ready g r) run.ready.items
   pub due : AreTold span (is_due g r) run.due.items
   pub exits : (i : ℕ) → HasExits g r run.pending.items run.lost_due run.won_due i
-  pub lost_touched : AreTouched g span (is_lost_at g r) run.lost_touched.items
-  pub due_touched : AreDueTouched g span r run.lost_touched.items
-  pub saved : AreSaved g span r run.ask.items
-  pub next_lost_touched : AreTouched g span losses run.next_lost_touched.items
-  pub next_ask : AreTouched g span wins run.next_ask.items
-  pub lost_full : AllTouched (64 * run.lost_full) run.next_lost_touched.items
-  pub ask_full : AllTouched (64 * run.ask_full) run.next_ask.items
+  pub lost_touched : AreTouched g span (is_lost_at g r) run.lost_touched.marks.items
+  pub due_touched : AreDueTouched g span r run.lost_touched.marks.items
+  pub saved : AreSaved g span r run.ask.marks.items
+  pub next_lost_touched : AreTouched g span losses run.next_lost_touched.marks.items
+  pub next_ask : AreTouched g span wins run.next_ask.marks.items
 
 -- what the round finds in the words below m
 abbrev pub are_lost_below : Graph → ℕ → ℕ → ℕ → ℕ → Bool

@@ -14,7 +14,7 @@ use crate::columns::DRAW;
 use crate::exit_marks::ExitMarks;
 use crate::game::Exit;
 use crate::schedule::Schedule;
-use crate::touched::{marks_of, touch_all};
+use crate::touched::Touched;
 use crate::word_exits::{any_held, any_lost, count_waiting, has_lost};
 use crate::word_round::leading;
 use crate::word_run::WordRun;
@@ -43,7 +43,6 @@ fn empty_run<G: Shelved>(alloc: Global, game: &G) -> Result<WordRun, AllocError>
 {
     let size = game.size();
     let words = words_of(game.span(), size);
-    let marks = marks_of(words);
     Ok(WordRun {
         entries: vec![in alloc; 0; size as usize]?,
         pending: vec![in alloc; 0; size as usize]?,
@@ -53,12 +52,10 @@ fn empty_run<G: Shelved>(alloc: Global, game: &G) -> Result<WordRun, AllocError>
         ready: vec![in alloc; 0; words]?,
         due: vec![in alloc; 0; words]?,
         next_lost: vec![in alloc; 0; words]?,
-        lost_touched: vec![in alloc; 0; marks]?,
-        ask: vec![in alloc; 0; marks]?,
-        next_lost_touched: vec![in alloc; 0; marks]?,
-        next_ask: vec![in alloc; 0; marks]?,
-        lost_full: 0,
-        ask_full: 0,
+        lost_touched: Touched::nothing(alloc, words)?,
+        ask: Touched::nothing(alloc, words)?,
+        next_lost_touched: Touched::nothing(alloc, words)?,
+        next_ask: Touched::nothing(alloc, words)?,
         lost_due: Schedule::new(alloc),
         won_due: Schedule::new(alloc),
     })
@@ -230,8 +227,8 @@ fn settle<G: Shelved>(game: &G, run: &mut WordRun)
     for word in 0..words {
         settle_word(game, word as u32, run);
     }
-    touch_all(&mut run.lost_touched);
-    touch_all(&mut run.ask);
+    run.lost_touched.mark_all();
+    run.ask.mark_all();
 }
 
 fn settle_word<G: Shelved>(game: &G, word: u32, run: &mut WordRun)

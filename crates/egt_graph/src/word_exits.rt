@@ -7,7 +7,7 @@ ghost use Rattle.egt_graph.specs.WordRound.{is_marked_in};
 ghost use Rattle.egt_graph.specs.Words.{IsTouched, place_in, word_in};
 
 use crate::game::Exit;
-use crate::touched::touch_word;
+use crate::touched::Touched;
 use crate::words::{place_in, word_in};
 
 /// Is some exit lost in 0 plies?
@@ -75,14 +75,15 @@ fn mark_in(span: u32, marks: &mut [u64], i: u32)
 }
 
 /// Lost exits of these nodes fall due, and their words are marked.
-pub(crate) fn lose_exits(span: u32, due: &mut [u64], touched: &mut [u64], nodes: &[u32])
+pub(crate) fn lose_exits(span: u32, due: &mut [u64], touched: &mut Touched, nodes: &[u32])
     requires some { 0 < span }
     requires few { span ≤ 64 }
     requires within { All (λ i. word_in span i < length due.old) nodes.now }
-    requires touched_within { All (λ i. word_in span i < 64 * length touched.old) nodes.now }
+    requires touched_within { All (λ i. word_in span i < 64 * length touched.old.marks.items) nodes.now }
     ensures due { (i : ℕ) → is_marked_in span due.new i ≡ (is_marked_in span due.old i || nat_lt 0 (count_of i nodes.now)) }
-    ensures kept { (w : ℕ) → IsTouched touched.old w → IsTouched touched.new w }
-    ensures touched { (i : ℕ) → IsTrue (is_marked_in span due.new i) → IsTrue (is_marked_in span due.old i) ⊎ IsTouched touched.new (word_in span i) }
+    ensures long { length touched.new.marks.items ≡ length touched.old.marks.items }
+    ensures kept { (w : ℕ) → IsTouched touched.old.marks.items w → IsTouched touched.new.marks.items w }
+    ensures touched { (i : ℕ) → IsTrue (is_marked_in span due.new i) → IsTrue (is_marked_in span due.old i) ⊎ IsTouched touched.new.marks.items (word_in span i) }
 {
     for node in nodes {
         lose_exit(span, due, touched, *node);
@@ -90,17 +91,18 @@ pub(crate) fn lose_exits(span: u32, due: &mut [u64], touched: &mut [u64], nodes:
 }
 
 #[inline(always)]
-fn lose_exit(span: u32, due: &mut [u64], touched: &mut [u64], node: u32)
+fn lose_exit(span: u32, due: &mut [u64], touched: &mut Touched, node: u32)
     requires some { 0 < span }
     requires few { span ≤ 64 }
     requires within { word_in span node < length due.old }
-    requires touched_within { word_in span node < 64 * length touched.old }
+    requires touched_within { word_in span node < 64 * length touched.old.marks.items }
     ensures due { (i : ℕ) → is_marked_in span due.new i ≡ (is_marked_in span due.old i || (node == i)) }
-    ensures kept { (w : ℕ) → IsTouched touched.old w → IsTouched touched.new w }
-    ensures touched { (i : ℕ) → IsTrue (is_marked_in span due.new i) → IsTrue (is_marked_in span due.old i) ⊎ IsTouched touched.new (word_in span i) }
+    ensures long { length touched.new.marks.items ≡ length touched.old.marks.items }
+    ensures kept { (w : ℕ) → IsTouched touched.old.marks.items w → IsTouched touched.new.marks.items w }
+    ensures touched { (i : ℕ) → IsTrue (is_marked_in span due.new i) → IsTrue (is_marked_in span due.old i) ⊎ IsTouched touched.new.marks.items (word_in span i) }
 {
     mark_in(span, due, node);
-    touch_word(touched, word_in(span, node));
+    touched.mark(word_in(span, node));
 }
 
 /// Won exits of these nodes fall due, for each as often as it comes. Those for which none is left are ready, and their words are to be asked.
@@ -108,19 +110,20 @@ pub(crate) fn win_exits(
     span: u32,
     pending: &mut [u8],
     ready: &mut [u64],
-    ask: &mut [u64],
+    ask: &mut Touched,
     nodes: &[u32],
 )
     requires some { 0 < span }
     requires few { span ≤ 64 }
     requires within { All (λ i. word_in span i < length ready.old) nodes.now }
     requires nodes_within { All (λ i. i < length pending.old) nodes.now }
-    requires ask_within { All (λ i. word_in span i < 64 * length ask.old) nodes.now }
+    requires ask_within { All (λ i. word_in span i < 64 * length ask.old.marks.items) nodes.now }
     ensures pending { (i : ℕ) → slice_index pending.new i ≡ slice_index pending.old i - count_of i nodes.now }
     ensures ready { (i : ℕ) → is_marked_in span ready.new i
         ≡ (is_marked_in span ready.old i || (nat_lt 0 (count_of i nodes.now) && (slice_index pending.new i == 0))) }
-    ensures kept { (w : ℕ) → IsTouched ask.old w → IsTouched ask.new w }
-    ensures asked { (i : ℕ) → IsTrue (is_marked_in span ready.new i) → IsTrue (is_marked_in span ready.old i) ⊎ IsTouched ask.new (word_in span i) }
+    ensures long { length ask.new.marks.items ≡ length ask.old.marks.items }
+    ensures kept { (w : ℕ) → IsTouched ask.old.marks.items w → IsTouched ask.new.marks.items w }
+    ensures asked { (i : ℕ) → IsTrue (is_marked_in span ready.new i) → IsTrue (is_marked_in span ready.old i) ⊎ IsTouched ask.new.marks.items (word_in span i) }
 {
     for node in nodes {
         win_exit(span, pending, ready, ask, *node);
@@ -128,22 +131,23 @@ pub(crate) fn win_exits(
 }
 
 #[inline(always)]
-fn win_exit(span: u32, pending: &mut [u8], ready: &mut [u64], ask: &mut [u64], node: u32)
+fn win_exit(span: u32, pending: &mut [u8], ready: &mut [u64], ask: &mut Touched, node: u32)
     requires some { 0 < span }
     requires few { span ≤ 64 }
     requires within { word_in span node < length ready.old }
     requires node_within { node < length pending.old }
-    requires ask_within { word_in span node < 64 * length ask.old }
+    requires ask_within { word_in span node < 64 * length ask.old.marks.items }
     ensures pending { (i : ℕ) → slice_index pending.new i ≡ slice_index pending.old i - (if node == i then 1 else 0) }
     ensures ready { (i : ℕ) → is_marked_in span ready.new i
         ≡ (is_marked_in span ready.old i || ((node == i) && (slice_index pending.new i == 0))) }
-    ensures kept { (w : ℕ) → IsTouched ask.old w → IsTouched ask.new w }
-    ensures asked { (i : ℕ) → IsTrue (is_marked_in span ready.new i) → IsTrue (is_marked_in span ready.old i) ⊎ IsTouched ask.new (word_in span i) }
+    ensures long { length ask.new.marks.items ≡ length ask.old.marks.items }
+    ensures kept { (w : ℕ) → IsTouched ask.old.marks.items w → IsTouched ask.new.marks.items w }
+    ensures asked { (i : ℕ) → IsTrue (is_marked_in span ready.new i) → IsTrue (is_marked_in span ready.old i) ⊎ IsTouched ask.new.marks.items (word_in span i) }
 {
     let left = pending[node as usize].saturating_sub(1);
     pending[node as usize] = left;
     if left == 0 {
         mark_in(span, ready, node);
-        touch_word(ask, word_in(span, node));
+        ask.mark(word_in(span, node));
     }
 }

@@ -3,10 +3,9 @@ ghost use Rattle.std.specs.Prelude.{◌≡◌, ◌↔◌, ℕ, ◌+◌, ◌*◌,
 ghost use Rattle.std.specs.Int.{bit_at};
 ghost use Rattle.std.specs.List.{Contains};
 ghost use Rattle.egt_graph.specs.Graph.{IsNode};
-ghost use Rattle.egt_graph.specs.Words.{AllTouched, IsIn, IsTouched, IsWordOf, number_at, word_in, words_of};
+ghost use Rattle.egt_graph.specs.Words.{IsIn, IsWordOf, number_at, word_in, words_of};
 ghost use Rattle.egt_graph.specs.WordRound.{are_lost_below, are_won_below, is_found, is_found_won, is_found_lost, IsAt, IsSwept, IsNews};
 
-use crate::touched::{full_from, next_touched};
 use crate::word_begin::put_entries;
 use crate::word_exits::{lose_exits, win_exits};
 use crate::word_run::WordRun;
@@ -41,10 +40,8 @@ pub(crate) fn sweep<G: Shelved>(game: &G, run: &mut WordRun, round: u16) -> bool
 {
     let _span = game.span();
     run.next_lost.fill(0);
-    run.next_lost_touched.fill(0);
-    run.next_ask.fill(0);
-    run.lost_full = 0;
-    run.ask_full = 0;
+    run.next_lost_touched.clear();
+    run.next_ask.clear();
     let lost = lose_words(game, run, round);
     let won = win_words(game, run, round);
     lost || won
@@ -60,7 +57,7 @@ fn lose_words<G: Shelved>(game: &G, run: &mut WordRun, round: u16) -> bool
     let words = words_of(game.span(), game.size());
     let mut news = false;
     let mut from = 0;
-    while let Some(word) = next_touched(&run.ask, from, words) {
+    while let Some(word) = run.ask.next(from, words) {
         if lose_word(game, run, word as u32, round) {
             news = true;
         }
@@ -112,7 +109,7 @@ fn put_lost<G: Shelved>(game: &G, run: &mut WordRun, word: u32, lost: u64, round
 {
     let span = game.span();
     put_entries(&mut run.entries, span, word, lost, 5 + 2 * round);
-    touch_more(game, word, &mut run.next_lost_touched, &mut run.lost_full);
+    run.next_lost_touched.mark_sources(game, word);
     let w = word as usize;
     run.undecided[w] &= !lost;
     run.next_lost[w] = lost;
@@ -128,7 +125,7 @@ fn win_words<G: Shelved>(game: &G, run: &mut WordRun, round: u16) -> bool
     let words = words_of(game.span(), game.size());
     let mut news = false;
     let mut from = 0;
-    while let Some(word) = next_touched(&run.lost_touched, from, words) {
+    while let Some(word) = run.lost_touched.next(from, words) {
         if win_word(game, run, word as u32, round) {
             news = true;
         }
@@ -181,28 +178,10 @@ fn put_won<G: Shelved>(game: &G, run: &mut WordRun, word: u32, won: u64, round: 
 {
     let span = game.span();
     put_entries(&mut run.entries, span, word, won, 4 + 2 * round);
-    touch_more(game, word, &mut run.next_ask, &mut run.ask_full);
+    run.next_ask.mark_sources(game, word);
     let w = word as usize;
     run.undecided[w] &= !won;
     run.unwon[w] &= !won;
-}
-
-/// Marks the words from which a move leads to a node of this word. Where all are marked the game is not asked: one that does not tell marks all of
-/// them for each word.
-fn touch_more<G: Shelved>(game: &G, word: u32, touched: &mut [u64], full: &mut usize)
-    requires word { word < words_of (G.span game.now) (G.graph game.now).size }
-    requires long { words_of (G.span game.now) (G.graph game.now).size ≤ 64 * length touched.old }
-    requires full { AllTouched (64 * full.old) touched.old }
-    ensures full { AllTouched (64 * full.new) touched.new }
-    ensures kept { (w : ℕ) → IsTouched touched.old w → IsTouched touched.new w }
-    ensures touched { (i j : ℕ) → IsNode (G.graph game.now) i → Contains ((G.graph game.now).out i) j → word_in (G.span game.now) j ≡ word
-        → IsTouched touched.new (word_in (G.span game.now) i) }
-{
-    let _span = game.span();
-    if *full < touched.len() {
-        game.touch(word, touched);
-        *full = full_from(touched, *full);
-    }
 }
 
 /// The next round begins: its words take the place of those of this, and its exits fall due.
@@ -225,8 +204,6 @@ pub(crate) fn next_round<G: Shelved>(game: &G, run: WordRun, round: u16) -> Word
         next_lost,
         mut next_lost_touched,
         mut next_ask,
-        lost_full,
-        ask_full,
         lost_due,
         won_due,
     } = run;
@@ -256,8 +233,6 @@ pub(crate) fn next_round<G: Shelved>(game: &G, run: WordRun, round: u16) -> Word
         next_lost: lost,
         next_lost_touched: lost_touched,
         next_ask: ask,
-        lost_full,
-        ask_full,
         lost_due,
         won_due,
     }

@@ -2,6 +2,7 @@
 ghost use Rattle.std.specs.Prelude.{◌≡◌, ◌≢◌, ◌⊎◌, ℕ, ◌<◌, [], slice_index_or, IsTrue, IsFalse};
 
 use crate::schedule::Schedule;
+use crate::touched::Touched;
 
 /// The entries of a run, and what each word of nodes waits for. All lists but `entries` and `pending` are of bits.
 #[derive(Drop)]
@@ -19,20 +20,16 @@ pub(crate) struct WordRun {
     pub(crate) ready: Vec<u64>,
     /// The nodes with an exit that is lost by now.
     pub(crate) due: Vec<u64>,
-    /// The words in which a node may be won next, as marks: a move of it may lead to a node that was lost in this round, or an exit that was lost is due,
+    /// The words in which a node may be won next, by marks: a move of it may lead to a node that was lost in this round, or an exit that was lost is due,
     /// or nothing is known of it yet.
-    pub(crate) lost_touched: Vec<u64>,
-    /// The words in which a node may be lost next, as marks: a move of it may lead to a node that was won in the last round, or the last exit that
+    pub(crate) lost_touched: Touched,
+    /// The words in which a node may be lost next, by marks: a move of it may lead to a node that was won in the last round, or the last exit that
     /// it waited for is due, or nothing is known of it yet. Each ready node of the other words still has a move to a node that is not won.
-    pub(crate) ask: Vec<u64>,
+    pub(crate) ask: Touched,
     /// `lost`, `lost_touched` and `ask` of the next round.
     pub(crate) next_lost: Vec<u64>,
-    pub(crate) next_lost_touched: Vec<u64>,
-    pub(crate) next_ask: Vec<u64>,
-    /// So many numbers at the head of `next_lost_touched` have all their bits set.
-    pub(crate) lost_full: usize,
-    /// So many at the head of `next_ask` do.
-    pub(crate) ask_full: usize,
+    pub(crate) next_lost_touched: Touched,
+    pub(crate) next_ask: Touched,
     pub(crate) lost_due: Schedule,
     pub(crate) won_due: Schedule,
 }

@@ -1,6 +1,5 @@
-use Rattle.std.proofs.Common.{◌≡◌, ◌<◌, ◌≤◌, ℕ, List, length, sym, ap, subst, inl, arith}
-use Rattle.std.proofs.lemmas.List.{with_items_is}
-use Rattle.egt_graph.specs.Words.{IsTouched, word_in, word_in-within, words_of}
+use Rattle.std.proofs.Common.{◌<◌, ◌≤◌, ap, inl, arith}
+use Rattle.egt_graph.specs.Words.{word_in, word_in-within, words_of}
 use Rattle.egt_graph.specs.WordRound.{is_undecided, is_unwon, is_lost_at, is_due, is_ready}
 use Rattle.egt_graph.proofs.Nodes.{node_from_test}
 use Rattle.egt_graph.proofs.WordSettling.{settled_entries, all_told, listed_all, due_nodes, ready_nodes}
@@ -37,12 +36,6 @@ returns g c =
     let is = c.span.ensures.is in
     let some : 0 < span = let few = c.span.ensures.few in omega (arith, few.0, is) in
     let run = c.loop-word.run in
-    let lost_long : length c.touch_all.new.touched ≡ run.lost_touched.len
-    = (let d = c.touch_all.auto.touched in let e = ap (λ (xs : List ℕ). length xs) c.deref_mut.ensures.value in let l = run.lost_touched.ok.0 in omega (arith, d, e, l)) in
-    let lost_is = with_items_is run.lost_touched c.touch_all.new.touched lost_long in
-    let ask_long : length c.touch_all-2.new.touched ≡ run.ask.len
-    = (let d = c.touch_all-2.auto.touched in let e = ap (λ (xs : List ℕ). length xs) c.deref_mut-2.ensures.value in let l = run.ask.ok.0 in omega (arith, d, e, l)) in
-    let ask_is = with_items_is run.ask c.touch_all-2.new.touched ask_long in
     let h = c.loop-word.invariant in
     let end = c.loop-word-test.false in
     let words = c.words_of-words.ensures.is in
@@ -57,8 +50,8 @@ returns g c =
         ready = h.long.ready;
         due = h.long.due;
         next_lost = h.long.next_lost;
-        lost_touched = (let l = h.long.lost_touched in let own = run.lost_touched.ok.0 in let same = ap (λ (xs : List ℕ). length xs) lost_is in omega (arith, l, own, same, lost_long));
-        ask = (let l = h.long.ask in let own = run.ask.ok.0 in let same = ap (λ (xs : List ℕ). length xs) ask_is in omega (arith, l, own, same, ask_long));
+        lost_touched = (let l = h.long.lost_touched in let same = c.mark_all.ensures.long in omega (arith, l, same));
+        ask = (let l = h.long.ask in let same = c.mark_all-2.ensures.long in omega (arith, l, same));
         next_lost_touched = h.long.next_lost_touched;
         next_ask = h.long.next_ask;
       };
@@ -69,21 +62,15 @@ returns g c =
       ready = h.ready;
       due = h.due;
       exits = h.exits;
-      lost_touched = λ i j node to t.
-          let within = word_in-within span graph.size i some node.in_range in
-          let l = h.long.lost_touched in
-          let len = ap (λ (xs : List ℕ). length xs) c.deref_mut.ensures.value in
-          subst (λ (xs : List ℕ). IsTouched xs (word_in span i)) (sym lost_is) (c.touch_all.ensures (word_in span i) (omega (arith, within, l, len)));
+      lost_touched = λ i j node to t. let within = word_in-within span graph.size i some node.in_range in let l = h.long.lost_touched in c.mark_all.ensures.all (word_in span i) (omega (arith, within, l));
       due_touched = λ i undecided due.
           let node = node_from_test graph i (undecided_nodes graph law 0 i undecided) in
           let within = word_in-within span graph.size i some node.in_range in
           let l = h.long.lost_touched in
-          let len = ap (λ (xs : List ℕ). length xs) c.deref_mut.ensures.value in
-          subst (λ (xs : List ℕ). IsTouched xs (word_in span i)) (sym lost_is) (c.touch_all.ensures (word_in span i) (omega (arith, within, l, len)));
+          c.mark_all.ensures.all (word_in span i) (omega (arith, within, l));
       saved = λ i undecided ready.
           let node = node_from_test graph i (undecided_nodes graph law 0 i undecided) in
           let within = word_in-within span graph.size i some node.in_range in
           let l = h.long.ask in
-          let len = ap (λ (xs : List ℕ). length xs) c.deref_mut-2.ensures.value in
-          inl (subst (λ (xs : List ℕ). IsTouched xs (word_in span i)) (sym ask_is) (c.touch_all-2.ensures (word_in span i) (omega (arith, within, l, len))));
+          inl (c.mark_all-2.ensures.all (word_in span i) (omega (arith, within, l)));
     }

@@ -9,6 +9,7 @@ invariant-loop-node l = record {
   waiting : IsWaiting l.span l.initial.pending l.initial.ready l.nodes l.node-index l.pending l.ready;
   pending_long : length l.pending ≡ length l.initial.pending;
   ready_long : length l.ready ≡ length l.initial.ready;
-  kept : (w : ℕ) → IsTouched l.initial.ask w → IsTouched l.ask w;
-  asked : (i : ℕ) → is_marked_in l.span l.ready i ≡ true → (is_marked_in l.span l.initial.ready i ≡ true) ⊎ IsTouched l.ask (word_in l.span i);
+  kept : (w : ℕ) → IsTouched l.initial.ask.marks.items w → IsTouched l.ask.marks.items w;
+  asked : (i : ℕ) → is_marked_in l.span l.ready i ≡ true → (is_marked_in l.span l.initial.ready i ≡ true) ⊎ IsTouched l.ask.marks.items (word_in l.span i);
+  ask_long : length l.ask.marks.items ≡ length l.initial.ask.marks.items;
 }

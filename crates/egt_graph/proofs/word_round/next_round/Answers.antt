@@ -6,7 +6,7 @@ use Rattle.std.specs.Vec.{with_items}
 use Rattle.egt_graph.specs.Columns.{count_of}
 use Rattle.egt_graph.specs.Graph.{IsNode}
 use Rattle.egt_graph.specs.Words.{IsTouched, word_in, words_of, word_in-within}
-use Rattle.egt_graph.specs.WordRound.{is_marked_in, is_undecided, is_unwon, is_lost_at, is_ready, is_due, is_found_lost, is_found_won, AreDueTouched, AreSaved, AreTold, AreTouched}
+use Rattle.egt_graph.specs.WordRound.{is_marked_in, is_undecided, is_unwon, is_lost_at, is_ready, is_due, is_found_lost, is_found_won, AreTold}
 use Rattle.egt_graph.proofs.WordDue.{due_next, losing_nodes, winning_nodes, ready_next, exits_next}
 use Rattle.egt_graph.proofs.WordRounds.{found_entry, lost_next, undecided_next, unwon_next}
 use Rattle.egt_graph.proofs.WordTouches.{due_touched_next, lost_touched_next, saved_next}
@@ -32,12 +32,11 @@ lose_exits-requires-clause-touched_within g c =
     let span = c.span-span.result in
     let some = c.span-span.ensures.few.0 in
     let is = c.span-span.ensures.is in
-    let len = ap (λ (xs : List ℕ). length xs) c.deref_mut-2.ensures.value in
     let long = c.requires.swept.long.next_lost_touched in
     let words = ap (λ s. words_of s graph.size) is in
     let nodes = losing_nodes graph c.args.round c.args.run.lost_due (λ i. (c.requires.swept.exits i).losses) in
-    subst (All (λ i. word_in span i < 64 * length c.deref_mut-2.result.now)) (sym (rw add-one at c.due.ensures))
-    (All-weaker (IsNode graph) (λ i. word_in span i < 64 * length c.deref_mut-2.result.now) (λ i node. let within = word_in-within span graph.size i some node.in_range in omega (arith, within, len, long, words)) _ nodes)
+    subst (All (λ i. word_in span i < 64 * length c.args.run.next_lost_touched.marks.items)) (sym (rw add-one at c.due.ensures))
+    (All-weaker (IsNode graph) (λ i. word_in span i < 64 * length c.args.run.next_lost_touched.marks.items) (λ i node. let within = word_in-within span graph.size i some node.in_range in omega (arith, within, long, words)) _ nodes)
 
 pub win_exits-requires-clause-within : goal.win_exits-requires-clause-within
 win_exits-requires-clause-within g c =
@@ -45,21 +44,21 @@ win_exits-requires-clause-within g c =
     let span = c.span-span.result in
     let some = c.span-span.ensures.few.0 in
     let is = c.span-span.ensures.is in
-    let len = ap (λ (xs : List ℕ). length xs) c.deref_mut-4.ensures.value in
+    let len = ap (λ (xs : List ℕ). length xs) c.deref_mut-3.ensures.value in
     let long = c.requires.swept.long.ready in
     let words = ap (λ s. words_of s graph.size) is in
     let nodes = winning_nodes graph c.args.round c.args.run.pending.items c.args.run.won_due (λ i. (c.requires.swept.exits i).wins) in
-    subst (All (λ i. word_in span i < length c.deref_mut-4.result.now)) (sym (rw add-one at c.due-2.ensures))
-    (All-weaker (IsNode graph) (λ i. word_in span i < length c.deref_mut-4.result.now) (λ i node. let within = word_in-within span graph.size i some node.in_range in omega (arith, within, len, long, words)) _ nodes)
+    subst (All (λ i. word_in span i < length c.deref_mut-3.result.now)) (sym (rw add-one at c.due-2.ensures))
+    (All-weaker (IsNode graph) (λ i. word_in span i < length c.deref_mut-3.result.now) (λ i node. let within = word_in-within span graph.size i some node.in_range in omega (arith, within, len, long, words)) _ nodes)
 
 pub win_exits-requires-clause-nodes_within : goal.win_exits-requires-clause-nodes_within
 win_exits-requires-clause-nodes_within g c =
     let graph = g.G.Shelved.graph c.args.game.now in
-    let len = ap (λ (xs : List ℕ). length xs) c.deref_mut-3.ensures.value in
+    let len = ap (λ (xs : List ℕ). length xs) c.deref_mut-2.ensures.value in
     let long = c.requires.swept.long.pending in
     let nodes = winning_nodes graph c.args.round c.args.run.pending.items c.args.run.won_due (λ i. (c.requires.swept.exits i).wins) in
-    subst (All (λ i. i < length c.deref_mut-3.result.now)) (sym (rw add-one at c.due-2.ensures))
-    (All-weaker (IsNode graph) (λ i. i < length c.deref_mut-3.result.now) (λ i node. let within = node.in_range in omega (arith, within, len, long)) _ nodes)
+    subst (All (λ i. i < length c.deref_mut-2.result.now)) (sym (rw add-one at c.due-2.ensures))
+    (All-weaker (IsNode graph) (λ i. i < length c.deref_mut-2.result.now) (λ i node. let within = node.in_range in omega (arith, within, len, long)) _ nodes)
 
 pub win_exits-requires-clause-ask_within : goal.win_exits-requires-clause-ask_within
 win_exits-requires-clause-ask_within g c =
@@ -67,12 +66,11 @@ win_exits-requires-clause-ask_within g c =
     let span = c.span-span.result in
     let some = c.span-span.ensures.few.0 in
     let is = c.span-span.ensures.is in
-    let len = ap (λ (xs : List ℕ). length xs) c.deref_mut-5.ensures.value in
     let long = c.requires.swept.long.next_ask in
     let words = ap (λ s. words_of s graph.size) is in
     let nodes = winning_nodes graph c.args.round c.args.run.pending.items c.args.run.won_due (λ i. (c.requires.swept.exits i).wins) in
-    subst (All (λ i. word_in span i < 64 * length c.deref_mut-5.result.now)) (sym (rw add-one at c.due-2.ensures))
-    (All-weaker (IsNode graph) (λ i. word_in span i < 64 * length c.deref_mut-5.result.now) (λ i node. let within = word_in-within span graph.size i some node.in_range in omega (arith, within, len, long, words)) _ nodes)
+    subst (All (λ i. word_in span i < 64 * length c.args.run.next_ask.marks.items)) (sym (rw add-one at c.due-2.ensures))
+    (All-weaker (IsNode graph) (λ i. word_in span i < 64 * length c.args.run.next_ask.marks.items) (λ i node. let within = word_in-within span graph.size i some node.in_range in omega (arith, within, long, words)) _ nodes)
 
 pub returns : goal.returns
 returns g c =
@@ -86,8 +84,8 @@ returns g c =
     let swept = c.requires.swept in
     let long = swept.long in
     let due_long : length c.lose_exits.new.due ≡ run.due.len = let a = c.lose_exits.auto.due in let b = ap (λ (xs : List ℕ). length xs) c.deref_mut.ensures.value in let own = run.due.ok.0 in omega (arith, a, b, own) in
-    let pending_long : length c.win_exits.new.pending ≡ run.pending.len = let a = c.win_exits.auto.pending in let b = ap (λ (xs : List ℕ). length xs) c.deref_mut-3.ensures.value in let own = run.pending.ok.0 in omega (arith, a, b, own) in
-    let ready_long : length c.win_exits.new.ready ≡ run.ready.len = let a = c.win_exits.auto.ready in let b = ap (λ (xs : List ℕ). length xs) c.deref_mut-4.ensures.value in let own = run.ready.ok.0 in omega (arith, a, b, own) in
+    let pending_long : length c.win_exits.new.pending ≡ run.pending.len = let a = c.win_exits.auto.pending in let b = ap (λ (xs : List ℕ). length xs) c.deref_mut-2.ensures.value in let own = run.pending.ok.0 in omega (arith, a, b, own) in
+    let ready_long : length c.win_exits.new.ready ≡ run.ready.len = let a = c.win_exits.auto.ready in let b = ap (λ (xs : List ℕ). length xs) c.deref_mut-3.ensures.value in let own = run.ready.ok.0 in omega (arith, a, b, own) in
     let due_is = with_items_is run.due c.lose_exits.new.due due_long in
     let pending_is = with_items_is run.pending c.win_exits.new.pending pending_long in
     let ready_is = with_items_is run.ready c.win_exits.new.ready ready_long in
@@ -96,26 +94,18 @@ returns g c =
     let losses = subst (λ s. (i : ℕ) → is_marked_in s c.lose_exits.new.due i ≡ (is_marked_in s run.due.items i || ltb 0 (count_of i (slice_index_or run.lost_due (suc r) [])))) is
     (λ i. c.lose_exits.ensures.due i ∙ ap₂ (λ (xs ys : List ℕ). is_marked_in c.span-span.result xs i || ltb 0 (count_of i ys)) c.deref_mut.ensures.value losing) in
     let less : (i : ℕ) → slice_index c.win_exits.new.pending i ≡ slice_index run.pending.items i - count_of i (slice_index_or run.won_due (suc r) [])
-    = λ i. c.win_exits.ensures.pending i ∙ ap₂ (λ (xs ys : List ℕ). slice_index xs i - count_of i ys) c.deref_mut-3.ensures.value winning in
+    = λ i. c.win_exits.ensures.pending i ∙ ap₂ (λ (xs ys : List ℕ). slice_index xs i - count_of i ys) c.deref_mut-2.ensures.value winning in
     let wins = subst (λ s. (i : ℕ) → is_marked_in s c.win_exits.new.ready i ≡ (is_marked_in s run.ready.items i || (ltb 0 (count_of i (slice_index_or run.won_due (suc r) [])) && eqb (slice_index c.win_exits.new.pending i) 0))) is
-    (λ i. c.win_exits.ensures.ready i ∙ ap₂ (λ (xs ys : List ℕ). is_marked_in c.span-span.result xs i || (ltb 0 (count_of i ys) && eqb (slice_index c.win_exits.new.pending i) 0)) c.deref_mut-4.ensures.value winning) in
+    (λ i. c.win_exits.ensures.ready i ∙ ap₂ (λ (xs ys : List ℕ). is_marked_in c.span-span.result xs i || (ltb 0 (count_of i ys) && eqb (slice_index c.win_exits.new.pending i) 0)) c.deref_mut-3.ensures.value winning) in
     let ready_now : AreTold span (is_ready graph (suc r)) c.win_exits.new.ready
     = λ i. wins i ∙ ap (λ b. b || (ltb 0 (count_of i (slice_index_or run.won_due (suc r) [])) && eqb (slice_index c.win_exits.new.pending i) 0)) (swept.ready i)
     ∙ ready_next graph r i run.pending.items c.win_exits.new.pending run.won_due (less i) (swept.exits i).wins in
-    let losing_long : length c.lose_exits.new.touched ≡ run.next_lost_touched.len = let a = c.lose_exits.auto.touched in let b = ap (λ (xs : List ℕ). length xs) c.deref_mut-2.ensures.value in let own = run.next_lost_touched.ok.0 in omega (arith, a, b, own) in
-    let losing_is = with_items_is run.next_lost_touched c.lose_exits.new.touched losing_long in
-    let losing_kept : (w : ℕ) → IsTouched run.next_lost_touched.items w → IsTouched c.lose_exits.new.touched w
-    = λ w one. c.lose_exits.ensures.kept w (subst (λ (xs : List ℕ). IsTouched xs w) (sym c.deref_mut-2.ensures.value) one) in
-    let losing_asked = subst (λ s. (i : ℕ) → is_marked_in s c.lose_exits.new.due i ≡ true → (is_marked_in s run.due.items i ≡ true) ⊎ IsTouched c.lose_exits.new.touched (word_in s i)) is
-    (λ i t. subst (λ (xs : List ℕ). (is_marked_in c.span-span.result xs i ≡ true) ⊎ IsTouched c.lose_exits.new.touched (word_in c.span-span.result i)) c.deref_mut.ensures.value (c.lose_exits.ensures.touched i t)) in
+    let losing_asked = subst (λ s. (i : ℕ) → is_marked_in s c.lose_exits.new.due i ≡ true → (is_marked_in s run.due.items i ≡ true) ⊎ IsTouched c.lose_exits.new.touched.marks.items (word_in s i)) is
+    (λ i t. subst (λ (xs : List ℕ). (is_marked_in c.span-span.result xs i ≡ true) ⊎ IsTouched c.lose_exits.new.touched.marks.items (word_in c.span-span.result i)) c.deref_mut.ensures.value (c.lose_exits.ensures.touched i t)) in
     let due_now : AreTold span (is_due graph (suc r)) c.lose_exits.new.due
     = due_next graph span r run.lost_due run.due.items c.lose_exits.new.due swept.due (λ j. (swept.exits j).losses) losses in
-    let ask_long : length c.win_exits.new.ask ≡ run.next_ask.len = let a = c.win_exits.auto.ask in let b = ap (λ (xs : List ℕ). length xs) c.deref_mut-5.ensures.value in let own = run.next_ask.ok.0 in omega (arith, a, b, own) in
-    let ask_is = with_items_is run.next_ask c.win_exits.new.ask ask_long in
-    let kept : (w : ℕ) → IsTouched run.next_ask.items w → IsTouched c.win_exits.new.ask w
-    = λ w one. c.win_exits.ensures.kept w (subst (λ (xs : List ℕ). IsTouched xs w) (sym c.deref_mut-5.ensures.value) one) in
-    let asked = subst (λ s. (i : ℕ) → is_marked_in s c.win_exits.new.ready i ≡ true → (is_marked_in s run.ready.items i ≡ true) ⊎ IsTouched c.win_exits.new.ask (word_in s i)) is
-    (λ i t. subst (λ (xs : List ℕ). (is_marked_in c.span-span.result xs i ≡ true) ⊎ IsTouched c.win_exits.new.ask (word_in c.span-span.result i)) c.deref_mut-4.ensures.value (c.win_exits.ensures.asked i t)) in
+    let asked = subst (λ s. (i : ℕ) → is_marked_in s c.win_exits.new.ready i ≡ true → (is_marked_in s run.ready.items i ≡ true) ⊎ IsTouched c.win_exits.new.ask.marks.items (word_in s i)) is
+    (λ i t. subst (λ (xs : List ℕ). (is_marked_in c.span-span.result xs i ≡ true) ⊎ IsTouched c.win_exits.new.ask.marks.items (word_in c.span-span.result i)) c.deref_mut-3.ensures.value (c.win_exits.ensures.asked i t)) in
     rw add-one (record {
       long = record {
         entries = long.entries;
@@ -126,8 +116,8 @@ returns g c =
         ready = ap (λ (xs : List ℕ). length xs) ready_is ∙ ready_long ∙ run.ready.ok.0 ∙ long.ready;
         due = ap (λ (xs : List ℕ). length xs) due_is ∙ due_long ∙ run.due.ok.0 ∙ long.due;
         next_lost = long.lost;
-        lost_touched = (let l = long.next_lost_touched in let own = run.next_lost_touched.ok.0 in let same = ap (λ (xs : List ℕ). length xs) losing_is in omega (arith, l, own, same, losing_long));
-        ask = (let l = long.next_ask in let own = run.next_ask.ok.0 in let same = ap (λ (xs : List ℕ). length xs) ask_is in omega (arith, l, own, same, ask_long));
+        lost_touched = (let l = long.next_lost_touched in let same = c.lose_exits.ensures.long in omega (arith, l, same));
+        ask = (let l = long.next_ask in let same = c.win_exits.ensures.long in omega (arith, l, same));
         next_lost_touched = long.lost_touched;
         next_ask = long.ask;
       };
@@ -139,9 +129,8 @@ returns g c =
       lost = marks_iff span (is_found_lost graph r) (is_lost_at graph (suc r)) run.next_lost.items (λ i. (lost_next graph law r i).1) (λ i. (lost_next graph law r i).0) swept.next_lost;
       ready = λ i. ap (λ (xs : List ℕ). is_marked_in span xs i) ready_is ∙ ready_now i;
       due = λ i. ap (λ (xs : List ℕ). is_marked_in span xs i) due_is ∙ due_now i;
-      lost_touched = subst (AreTouched graph span (is_lost_at graph (suc r))) (sym losing_is) (lost_touched_next graph span law r run.next_lost_touched.items c.lose_exits.new.touched swept.next_lost_touched losing_kept);
-      due_touched = subst (AreDueTouched graph span (suc r)) (sym losing_is) (due_touched_next graph span law r c.lose_exits.new.touched run.due.items c.lose_exits.new.due swept.due due_now losing_asked);
-      saved = subst (AreSaved graph span (suc r)) (sym ask_is)
-          (saved_next graph span law r run.next_ask.items c.win_exits.new.ask run.ready.items c.win_exits.new.ready swept.next_ask kept swept.ready ready_now asked);
+      lost_touched = lost_touched_next graph span law r run.next_lost_touched.marks.items c.lose_exits.new.touched.marks.items swept.next_lost_touched c.lose_exits.ensures.kept;
+      due_touched = due_touched_next graph span law r c.lose_exits.new.touched.marks.items run.due.items c.lose_exits.new.due swept.due due_now losing_asked;
+      saved = saved_next graph span law r run.next_ask.marks.items c.win_exits.new.ask.marks.items run.ready.items c.win_exits.new.ready swept.next_ask c.win_exits.ensures.kept swept.ready ready_now asked;
       exits = exits_next graph r run.pending.items (with_items run.pending c.win_exits.new.pending).items run.lost_due run.won_due (λ i. ap (λ (xs : List ℕ). slice_index xs i) pending_is ∙ less i) swept.exits;
     })

@@ -1,13 +1,11 @@
-use Rattle.std.proofs.Common.{◌≡◌, ◌<◌, ◌≤◌, ◌+◌, ◌*◌, ◌&&◌, ℕ, List, suc, not, cond, length, slice_index, ap, ap₂, sym, subst, ◌∙◌, arith, Contains}
-use Rattle.std.proofs.lemmas.List.{get_or_default, length-set, with_items_is}
+use Rattle.std.proofs.Common.{◌≡◌, ◌<◌, ◌≤◌, ◌+◌, ◌*◌, ◌&&◌, ℕ, List, suc, not, cond, length, ap, ap₂, sym, subst, ◌∙◌, arith}
+use Rattle.std.proofs.lemmas.List.{get_or_default, length-set}
 use Rattle.egt_graph.specs.Columns.{entry_at}
-use Rattle.egt_graph.specs.Graph.{IsNode}
-use Rattle.egt_graph.specs.Words.{AllTouched, IsTouched, IsWordOf, number_at, word_in, words_of}
+use Rattle.egt_graph.specs.Words.{IsWordOf, number_at}
 use Rattle.egt_graph.specs.WordRound.{is_found_lost, is_found_won, is_undecided, is_unwon}
-use Rattle.std.specs.Vec.{with_items}
 use Rattle.egt_graph.proofs.WordRounds.{found_won_parts}
 use Rattle.egt_graph.proofs.WordSweeps.{put_at}
-use Rattle.egt_graph.proofs.Finding.{apart, below, below_here, below_next, below_other, entry_of_win, later, less_word, marks_put, still, touched_put}
+use Rattle.egt_graph.proofs.Finding.{apart, below, below_here, below_next, below_other, entries_now, entry_of_win, later, less_word, marks_put, still, touched_put}
 use Rattle.egt_graph.proofs.word_round.put_won.Goals as goal
 
 pub put_entries-requires-clause-within : goal.put_entries-requires-clause-within
@@ -20,15 +18,6 @@ put_entries-requires-clause-within g c k one =
     let long = c.requires.swept.long.entries in
     rw c.span-span.ensures.is (found.0, omega (arith, below_size, len, long))
 
-pub touch_more-requires-clause-long : goal.touch_more-requires-clause-long
-touch_more-requires-clause-long g c =
-    let long = c.requires.swept.long.next_ask in
-    let len = ap (λ (xs : List ℕ). length xs) c.deref_mut-2.ensures.value in
-    omega (arith, long, len)
-
-pub touch_more-requires-clause-full : goal.touch_more-requires-clause-full
-touch_more-requires-clause-full g c = subst (AllTouched (64 * c.args.run.now.ask_full)) (sym c.deref_mut-2.ensures.value) c.requires.swept.ask_full
-
 pub returns : goal.returns
 returns g c =
     let graph = g.G.Shelved.graph c.args.game.now in
@@ -38,33 +27,19 @@ returns g c =
     let swept = c.requires.swept in
     let word = c.args.word in
     let r = c.args.round in
-    let is = c.span-span.ensures.is in
-    let some : 0 < span = let few = c.span-span.ensures.few in omega (arith, few.0, is) in
-    let few : span ≤ 64 = let few = c.span-span.ensures.few in omega (arith, few.1, is) in
+    let fits = subst (λ s. (0 < s) × (s ≤ 64)) c.span-span.ensures.is c.span-span.ensures.few in
     let long = swept.long in
     let within = c.requires.word in
     let f = is_found_won graph r in
     let bits = c.args.won in
     let of = c.requires.won in
     let five : 4 + 2 * r ≡ 2 + 2 * suc r = omega arith in
-    let put : (i : ℕ) → slice_index c.put_entries.new.entries i ≡ cond (put_at span word bits i) (4 + 2 * r) (slice_index run.entries.items i)
-    = subst (λ (s : ℕ). (i : ℕ) → slice_index c.put_entries.new.entries i ≡ cond (put_at s word bits i) (4 + 2 * r) (slice_index run.entries.items i)) is
-    (λ i. c.put_entries.ensures i ∙ ap (λ (xs : List ℕ). cond (put_at c.span-span.result word bits i) (4 + 2 * r) (slice_index xs i)) c.deref_mut.ensures.value) in
-    let entries_long : length c.put_entries.new.entries ≡ run.entries.len
-    = (let d = c.put_entries.auto.entries in let e = ap (λ (xs : List ℕ). length xs) c.deref_mut.ensures.value in let l = run.entries.ok.0 in omega (arith, d, e, l)) in
-    let entries_is = with_items_is run.entries c.put_entries.new.entries entries_long in
-    let new_long : length c.touch_more.new.touched ≡ run.next_ask.len
-    = (let d = c.touch_more.auto.touched in let e = ap (λ (xs : List ℕ). length xs) c.deref_mut-2.ensures.value in let l = run.next_ask.ok.0 in omega (arith, d, e, l)) in
-    let touched_is = with_items_is run.next_ask c.touch_more.new.touched new_long in
-    let touched_long : words_of span graph.size ≤ 64 * length (with_items run.next_ask c.touch_more.new.touched).items = (let l = long.next_ask in let own = run.next_ask.ok.0 in let same = ap (λ (xs : List ℕ). length xs) touched_is in omega (arith, l, own, same, new_long)) in
-    let kept : (w : ℕ) → IsTouched run.next_ask.items w → IsTouched (with_items run.next_ask c.touch_more.new.touched).items w = λ w one. subst (λ (xs : List ℕ). IsTouched xs w) (sym touched_is) (c.touch_more.ensures.kept w (subst (λ (xs : List ℕ). IsTouched xs w) (sym c.deref_mut-2.ensures.value) one)) in
-    let here : (i j : ℕ) → IsNode graph i → Contains (graph.out i) j → word_in span j ≡ word → IsTouched (with_items run.next_ask c.touch_more.new.touched).items (word_in span i) = λ i j node to at. subst (λ (xs : List ℕ). IsTouched xs (word_in span i)) (sym touched_is) (c.touch_more.ensures.touched i j node to at) in
-    let full = subst (AllTouched (64 * c.touch_more.new.full)) (sym touched_is) c.touch_more.ensures.full in
+    let put = entries_now run.entries c.deref_mut.result.now c.put_entries.new.entries c.span-span.result span word bits (4 + 2 * r) c.span-span.ensures.is c.deref_mut.ensures.value c.put_entries.auto.entries c.put_entries.ensures in
     let undecided_is = c.index_mut.ensures.value ∙ get_or_default run.undecided.items word _ 0 (let l = long.undecided in omega (arith, l, within)) in
     let unwon_is = c.index_mut-2.ensures.value ∙ get_or_default run.unwon.items word _ 0 (let l = long.unwon in omega (arith, l, within)) in
     record {
       long = record {
-        entries = ap (λ (xs : List ℕ). length xs) entries_is ∙ entries_long ∙ run.entries.ok.0 ∙ long.entries;
+        entries = put.0 ∙ long.entries;
         pending = long.pending;
         undecided = length-set run.undecided.items word _ ∙ long.undecided;
         unwon = length-set run.unwon.items word _ ∙ long.unwon;
@@ -75,19 +50,19 @@ returns g c =
         lost_touched = long.lost_touched;
         ask = long.ask;
         next_lost_touched = long.next_lost_touched;
-        next_ask = touched_long;
+        next_ask = (let l = long.next_ask in let same = c.mark_sources.ensures.long in omega (arith, l, same));
       };
-      entries = λ i. ap (λ (xs : List ℕ). slice_index xs i) entries_is ∙ put i ∙ ap₂ (λ e n. cond (put_at span word bits i) e n) five (swept.entries i)
-          ∙ entry_of_win span word bits some (is_found_won graph r) of (3 + 2 * suc r) (2 + 2 * suc r) (entry_at graph r i) i (is_found_lost graph r i) (apart graph law r span some few i);
+      entries = λ i. put.1 i ∙ ap₂ (λ e n. cond (put_at span word bits i) e n) five (swept.entries i)
+          ∙ entry_of_win span word bits fits.0 (is_found_won graph r) of (3 + 2 * suc r) (2 + 2 * suc r) (entry_at graph r i) i (is_found_lost graph r i) (apart graph law r span fits.0 fits.1 i);
       undecided = marks_put span (λ i. (is_undecided graph r i && not (below span f word i)) && not (is_found_lost graph r i)) (λ i. (is_undecided graph r i && not (below span f (word + 1) i)) && not (is_found_lost graph r i))
           run.undecided.items word _ (let l = long.undecided in omega (arith, l, within)) (λ i ne. ap (λ b. (is_undecided graph r i && not b) && not (is_found_lost graph r i)) (below_other span f word i ne)) swept.undecided
-          (less_word span word few (λ i. (is_undecided graph r i && not (below span f word i)) && not (is_found_lost graph r i)) f _ c.index_mut.result.now bits (omega arith)
+          (less_word span word fits.1 (λ i. (is_undecided graph r i && not (below span f word i)) && not (is_found_lost graph r i)) f _ c.index_mut.result.now bits (omega arith)
           (λ i here. ap (λ b. (is_undecided graph r i && not b) && not (is_found_lost graph r i)) (below_next span f word i here) ∙ later (is_undecided graph r i) (f i) (is_found_lost graph r i)
           ∙ sym (ap (λ b. ((is_undecided graph r i && not b) && not (is_found_lost graph r i)) && not (f i)) (below_here span f word i here)))
           (subst (IsWordOf span word (λ i. (is_undecided graph r i && not (below span f word i)) && not (is_found_lost graph r i))) (sym undecided_is) (swept.undecided word)) of);
       unwon = marks_put span (λ i. is_unwon graph r i && not (below span f word i)) (λ i. is_unwon graph r i && not (below span f (word + 1) i))
           run.unwon.items word _ (let l = long.unwon in omega (arith, l, within)) (λ i ne. ap (λ b. is_unwon graph r i && not b) (below_other span f word i ne)) swept.unwon
-          (less_word span word few (λ i. is_unwon graph r i && not (below span f word i)) f _ c.index_mut-2.result.now bits (omega arith)
+          (less_word span word fits.1 (λ i. is_unwon graph r i && not (below span f word i)) f _ c.index_mut-2.result.now bits (omega arith)
           (λ i here. ap (λ b. is_unwon graph r i && not b) (below_next span f word i here) ∙ still (is_unwon graph r i) (f i)
           ∙ sym (ap (λ b. (is_unwon graph r i && not b) && not (f i)) (below_here span f word i here)))
           (subst (IsWordOf span word (λ i. is_unwon graph r i && not (below span f word i))) (sym unwon_is) (swept.unwon word)) of);
@@ -100,7 +75,5 @@ returns g c =
       due_touched = swept.due_touched;
       saved = swept.saved;
       next_lost_touched = swept.next_lost_touched;
-      next_ask = touched_put graph span word f run.next_ask.items _ kept here swept.next_ask;
-      lost_full = swept.lost_full;
-      ask_full = full;
+      next_ask = touched_put graph span word f run.next_ask.marks.items _ c.mark_sources.ensures.kept c.mark_sources.ensures.marked swept.next_ask;
     }

@@ -27,8 +27,8 @@ lose_words-lost-requires-clause-swept g c =
         next_lost = (let l = at.long.next_lost in let own = run.next_lost.ok.0 in let same = c.fill.ensures.len in let now = c.fill.new.self.ok.0 in omega (arith, l, own, same, now));
         lost_touched = at.long.lost_touched;
         ask = at.long.ask;
-        next_lost_touched = (let l = at.long.next_lost_touched in let own = run.next_lost_touched.ok.0 in let same = c.fill-2.ensures.len in let now = c.fill-2.new.self.ok.0 in omega (arith, l, own, same, now));
-        next_ask = (let l = at.long.next_ask in let own = run.next_ask.ok.0 in let same = c.fill-3.ensures.len in let now = c.fill-3.new.self.ok.0 in omega (arith, l, own, same, now));
+        next_lost_touched = (let l = at.long.next_lost_touched in let same = c.clear.ensures.long in omega (arith, l, same));
+        next_ask = (let l = at.long.next_ask in let same = c.clear-2.ensures.long in omega (arith, l, same));
       };
       entries = λ i. at.entries i ∙ sym (ap₂ (λ a b. cond a (3 + 2 * suc r) (cond b (2 + 2 * suc r) (entry_at graph r i))) (no_loss i) (no_win i));
       undecided = marks_same span (is_undecided graph r) _ run.undecided.items (λ i. sym (ap₂ (λ a b. (is_undecided graph r i && not a) && not b) (no_win i) (no_loss i) ∙ open_both (is_undecided graph r i))) at.undecided;
@@ -43,8 +43,6 @@ lose_words-lost-requires-clause-swept g c =
       saved = at.saved;
       next_lost_touched = λ i j node to t. absurd (both_ways _ (no_loss j) t);
       next_ask = λ i j node to t. absurd (both_ways _ (no_win j) t);
-      lost_full = λ w lt. absurd (omega (arith, lt));
-      ask_full = λ w lt. absurd (omega (arith, lt));
     }
 
 pub returns-then-lost-clause-news : goal.returns-then-lost-clause-news

@@ -1,8 +1,7 @@
-use Rattle.std.proofs.Common.{◌≡◌, ◌<◌, ◌≤◌, ℕ, List, refl, sym, ap, subst, ◌∙◌, arith}
-use Rattle.std.proofs.lemmas.Bool.{true≢false}
-use Rattle.egt_graph.specs.Words.{IsTouched, words_of}
-use Rattle.egt_graph.specs.WordRound.{is_found_won}
-use Rattle.egt_graph.proofs.Finding.{below, below_mark, below_last, below_none, win_asked, win_within, swept_same}
+use Rattle.std.proofs.Common.{◌<◌, ◌≤◌, ap₂, subst, arith}
+use Rattle.egt_graph.specs.Words.{words_of}
+use Rattle.egt_graph.specs.WordRound.{is_found_lost, is_found_won}
+use Rattle.egt_graph.proofs.Passes.{Winning, winning_all, winning_to, passing_found, passing_none}
 use Rattle.egt_graph.proofs.word_round.win_words.Goals as goal
 use Rattle.egt_graph.proofs.word_round.win_words.Goals.{then-win_word, else-win_word}
 
@@ -11,81 +10,37 @@ win_word-requires-clause-swept g c =
     let graph = g.G.Shelved.graph c.args.game.now in
     let law = g.met.G.Shelved.lawful c.args.game.now in
     let span = g.G.Shelved.span c.args.game.now in
-    let is = c.span.ensures.is in
-    let some : 0 < span = let few = c.span.ensures.few in omega (arith, few.0, is) in
-    let few : span ≤ 64 = let few = c.span.ensures.few in omega (arith, few.1, is) in
-    let r = c.args.round in
-    let swept = c.loop-word.invariant.swept in
-    let told = c.in-Some.ensures in
-    swept_same graph span r _ _ (below span (is_found_won graph r) c.loop-word.from) (below span (is_found_won graph r) c.in-Some.word) c.loop-word.run (λ i. refl) (λ i. below_mark span (is_found_won graph r) c.loop-word.run.lost_touched.items c.loop-word.from c.in-Some.word i
-    (win_asked graph law r span some few c.loop-word.run.lost_touched.items swept.lost_touched swept.due_touched)
-    told.some.0
-    (λ v le lt one. let end = told.some.1 in let first = told.first v le (omega (arith, lt, end)) (subst (λ (xs : List ℕ). IsTouched xs v) (sym c.deref.ensures.value) one) in omega (arith, first, lt))) swept
+    let fits = subst (λ s. (0 < s) × (s ≤ 64)) c.span.ensures.is c.span.ensures.few in
+    (winning_to graph law c.args.round span fits c.loop-word.run (is_found_lost graph c.args.round) c.loop-word.from c.in-Some.word c.words_of-words.result c.loop-word.news c.loop-word.invariant c.in-Some.ensures.some.0 c.in-Some.ensures.some.1 c.in-Some.ensures.first).swept
 
 pub loop-word-preserved : goal.loop-word-preserved
 loop-word-preserved g c =
     let graph = g.G.Shelved.graph c.args.game.now in
     let law = g.met.G.Shelved.lawful c.args.game.now in
     let span = g.G.Shelved.span c.args.game.now in
-    let is = c.span.ensures.is in
-    let some : 0 < span = let few = c.span.ensures.few in omega (arith, few.0, is) in
-    let few : span ≤ 64 = let few = c.span.ensures.few in omega (arith, few.1, is) in
-    let r = c.args.round in
-    let swept = c.loop-word.invariant.swept in
-    let told = c.in-Some.ensures in
-    let word = c.in-Some.word in
-    let same : (i : ℕ) → below span (is_found_won graph r) c.loop-word.from i ≡ below span (is_found_won graph r) word i = λ i. below_mark span (is_found_won graph r) c.loop-word.run.lost_touched.items c.loop-word.from word i
-    (win_asked graph law r span some few c.loop-word.run.lost_touched.items swept.lost_touched swept.due_touched)
-    told.some.0
-    (λ v le lt one. let end = told.some.1 in let first = told.first v le (omega (arith, lt, end)) (subst (λ (xs : List ℕ). IsTouched xs v) (sym c.deref.ensures.value) one) in omega (arith, first, lt)) in
-    record {
-      swept = c.win_word.ensures.swept;
-      found = elim c.if-win_word.branch [
-        | then-win_word w ↦ λ _. c.win_word.ensures.found w.if-win_word.true
-        | else-win_word w ↦ λ t. c.loop-word.invariant.found (sym w.news-is ∙ t)
-      ];
-      none = elim c.if-win_word.branch [
-        | then-win_word w ↦ λ clear. absurd (true≢false (sym w.news-is ∙ clear))
-        | else-win_word w ↦ λ clear i. below_none span (is_found_won graph r) word i (sym (same i) ∙ c.loop-word.invariant.none (sym w.news-is ∙ clear) i) (λ here. c.win_word.ensures.none w.if-win_word.false i here)
-      ];
-    }
+    let fits = subst (λ s. (0 < s) × (s ≤ 64)) c.span.ensures.is c.span.ensures.few in
+    let reached = winning_to graph law c.args.round span fits c.loop-word.run (is_found_lost graph c.args.round) c.loop-word.from c.in-Some.word c.words_of-words.result c.loop-word.news c.loop-word.invariant c.in-Some.ensures.some.0 c.in-Some.ensures.some.1 c.in-Some.ensures.first in
+    let before = Winning graph law c.args.round span fits c.loop-word.run (is_found_lost graph c.args.round) in
+    let after = Winning graph law c.args.round span fits c.win_word.new.run (is_found_lost graph c.args.round) in
+    elim c.if-win_word.branch [
+      | then-win_word w ↦ passing_found span (is_found_won graph c.args.round) before after c.in-Some.word c.loop-word.news reached c.win_word.ensures.swept c.if-win_word.news w.news-is (c.win_word.ensures.found w.if-win_word.true)
+      | else-win_word w ↦ passing_none span (is_found_won graph c.args.round) before after c.in-Some.word c.loop-word.news reached c.win_word.ensures.swept c.if-win_word.news w.news-is (c.win_word.ensures.none w.if-win_word.false)
+    ]
 
 pub returns-clause-swept : goal.returns-clause-swept
 returns-clause-swept g c =
     let graph = g.G.Shelved.graph c.args.game.now in
     let law = g.met.G.Shelved.lawful c.args.game.now in
     let span = g.G.Shelved.span c.args.game.now in
-    let is = c.span.ensures.is in
-    let some : 0 < span = let few = c.span.ensures.few in omega (arith, few.0, is) in
-    let few : span ≤ 64 = let few = c.span.ensures.few in omega (arith, few.1, is) in
-    let r = c.args.round in
-    let swept = c.loop-word.invariant.swept in
-    let words = c.words_of-words.ensures.is in
-    let same = ap (λ s. words_of s graph.size) is in
-    let size = ap (λ n. words_of c.span.result n) c.size.ensures in
-    swept_same graph span r _ _ (below span (is_found_won graph r) c.loop-word.from) (is_found_won graph r) c.loop-word.run (λ i. refl) (λ i. below_last span (is_found_won graph r) c.loop-word.run.lost_touched.items c.loop-word.from c.words_of-words.result i
-    (win_asked graph law r span some few c.loop-word.run.lost_touched.items swept.lost_touched swept.due_touched)
-    (λ j t. let lt = win_within graph law r span some few j t in omega (arith, lt, words, same, size))
-    (λ v le lt one. c.in_default.ensures.first v le lt (subst (λ (xs : List ℕ). IsTouched xs v) (sym c.deref.ensures.value) one))) swept
+    let fits = subst (λ s. (0 < s) × (s ≤ 64)) c.span.ensures.is c.span.ensures.few in
+    (winning_all graph law c.args.round span fits c.loop-word.run (is_found_lost graph c.args.round) c.loop-word.from c.words_of-words.result c.loop-word.news c.loop-word.invariant
+    (let size = ap₂ words_of c.span.ensures.is c.size.ensures in let words = c.words_of-words.ensures.is in omega (arith, size, words)) c.in_default.ensures.first).0
 
 pub returns-clause-news : goal.returns-clause-news
 returns-clause-news g c =
     let graph = g.G.Shelved.graph c.args.game.now in
     let law = g.met.G.Shelved.lawful c.args.game.now in
     let span = g.G.Shelved.span c.args.game.now in
-    let is = c.span.ensures.is in
-    let some : 0 < span = let few = c.span.ensures.few in omega (arith, few.0, is) in
-    let few : span ≤ 64 = let few = c.span.ensures.few in omega (arith, few.1, is) in
-    let r = c.args.round in
-    let swept = c.loop-word.invariant.swept in
-    let words = c.words_of-words.ensures.is in
-    let same = ap (λ s. words_of s graph.size) is in
-    let size = ap (λ n. words_of c.span.result n) c.size.ensures in
-    record {
-      found = c.loop-word.invariant.found;
-      none = λ clear i. sym (below_last span (is_found_won graph r) c.loop-word.run.lost_touched.items c.loop-word.from c.words_of-words.result i
-          (win_asked graph law r span some few c.loop-word.run.lost_touched.items swept.lost_touched swept.due_touched)
-          (λ j t. let lt = win_within graph law r span some few j t in omega (arith, lt, words, same, size))
-          (λ v le lt one. c.in_default.ensures.first v le lt (subst (λ (xs : List ℕ). IsTouched xs v) (sym c.deref.ensures.value) one)))
-          ∙ c.loop-word.invariant.none clear i;
-    }
+    let fits = subst (λ s. (0 < s) × (s ≤ 64)) c.span.ensures.is c.span.ensures.few in
+    (winning_all graph law c.args.round span fits c.loop-word.run (is_found_lost graph c.args.round) c.loop-word.from c.words_of-words.result c.loop-word.news c.loop-word.invariant
+    (let size = ap₂ words_of c.span.ensures.is c.size.ensures in let words = c.words_of-words.ensures.is in omega (arith, size, words)) c.in_default.ensures.first).1
