@@ -222,8 +222,8 @@ module _ (g : Graph) (law : IsGame g) (r span : ℕ) (some : 0 < span) (few : sp
       and_right (is_undecided g r i) _ (and_left _ (mated_within g (suc r) i) (not_from_true _ win))
 
   -- and it is of a word that was to be asked
-  pub loss_asked : (ask : List ℕ) → AreSaved g span r ask → (i : ℕ) → is_found_lost g r i ≡ true → IsTouched ask (word_in span i)
-  loss_asked ask saved i h =
+  pub loss_asked : (may_lose : List ℕ) → AreSaved g span r may_lose → (i : ℕ) → is_found_lost g r i ≡ true → IsTouched may_lose (word_in span i)
+  loss_asked may_lose saved i h =
       let t = and_parts (is_undecided g r i) (not (mates_within g (suc r) i) && mated_within g (suc r) i) h in
       let v = and_parts (not (mates_within g (suc r) i)) (mated_within g (suc r) i) t.1 in
       let parts = loss_parts g law r i (undecided_parts g law r i t.0).0 v.1 in
@@ -328,9 +328,9 @@ swept_same g span r l l' w w' run el ew h = record {
   ready = h.ready;
   due = h.due;
   exits = h.exits;
-  lost_touched = h.lost_touched;
+  may_win = h.may_win;
   due_touched = h.due_touched;
   saved = h.saved;
-  next_lost_touched = λ i j node to t. h.next_lost_touched i j node to (el j ∙ t);
-  next_ask = λ i j node to t. h.next_ask i j node to (ew j ∙ t);
+  next_may_win = λ i j node to t. h.next_may_win i j node to (el j ∙ t);
+  next_may_lose = λ i j node to t. h.next_may_lose i j node to (ew j ∙ t);
 }

@@ -62,13 +62,13 @@ module _ (g : Graph) (law : IsGame g) (r span : ℕ) (fits : (0 < span) × (span
     losing_same : (t t' : ℕ → Bool) → ((i : ℕ) → t i ≡ t' i) → Losing t → Losing t'
     losing_same t t' e = swept_same g span r t t' wins wins run e (λ i. refl)
 
-    pub losing_to : (from word end : ℕ) (news : Bool) → IsPassing span (is_found_lost g r) Losing from news → from ≤ word → word < end → ((v : ℕ) → from ≤ v → v < end → IsTouched run.ask.marks.items v → word ≤ v)
+    pub losing_to : (from word end : ℕ) (news : Bool) → IsPassing span (is_found_lost g r) Losing from news → from ≤ word → word < end → ((v : ℕ) → from ≤ v → v < end → IsTouched run.may_lose.marks.items v → word ≤ v)
         → IsPassing span (is_found_lost g r) Losing word news
-    losing_to from word end news h = passing_to span (is_found_lost g r) Losing losing_same run.ask.marks.items (loss_asked g law r span fits.0 fits.1 run.ask.marks.items h.swept.saved) from word end news h
+    losing_to from word end news h = passing_to span (is_found_lost g r) Losing losing_same run.may_lose.marks.items (loss_asked g law r span fits.0 fits.1 run.may_lose.marks.items h.swept.saved) from word end news h
 
-    pub losing_all : (from end : ℕ) (news : Bool) → IsPassing span (is_found_lost g r) Losing from news → words_of span g.size ≤ end → ((v : ℕ) → from ≤ v → v < end → IsTouched run.ask.marks.items v → ⊥)
+    pub losing_all : (from end : ℕ) (news : Bool) → IsPassing span (is_found_lost g r) Losing from news → words_of span g.size ≤ end → ((v : ℕ) → from ≤ v → v < end → IsTouched run.may_lose.marks.items v → ⊥)
         → Losing (is_found_lost g r) × IsNews (is_found_lost g r) news
-    losing_all from end news h long = passing_all span (is_found_lost g r) Losing losing_same run.ask.marks.items (loss_asked g law r span fits.0 fits.1 run.ask.marks.items h.swept.saved) from end news h
+    losing_all from end news h long = passing_all span (is_found_lost g r) Losing losing_same run.may_lose.marks.items (loss_asked g law r span fits.0 fits.1 run.may_lose.marks.items h.swept.saved) from end news h
         (λ i t. let lt = loss_within g law r span fits.0 fits.1 i t in omega (arith, lt, long))
 
   module _ (losses : ℕ → Bool) where
@@ -78,16 +78,16 @@ module _ (g : Graph) (law : IsGame g) (r span : ℕ) (fits : (0 < span) × (span
     winning_same : (t t' : ℕ → Bool) → ((i : ℕ) → t i ≡ t' i) → Winning t → Winning t'
     winning_same t t' = swept_same g span r losses losses t t' run (λ i. refl)
 
-    asked : (news : Bool) (from : ℕ) → IsPassing span (is_found_won g r) Winning from news → (i : ℕ) → is_found_won g r i ≡ true → IsTouched run.lost_touched.marks.items (word_in span i)
-    asked news from h = win_asked g law r span fits.0 fits.1 run.lost_touched.marks.items h.swept.lost_touched h.swept.due_touched
+    asked : (news : Bool) (from : ℕ) → IsPassing span (is_found_won g r) Winning from news → (i : ℕ) → is_found_won g r i ≡ true → IsTouched run.may_win.marks.items (word_in span i)
+    asked news from h = win_asked g law r span fits.0 fits.1 run.may_win.marks.items h.swept.may_win h.swept.due_touched
 
-    pub winning_to : (from word end : ℕ) (news : Bool) → IsPassing span (is_found_won g r) Winning from news → from ≤ word → word < end → ((v : ℕ) → from ≤ v → v < end → IsTouched run.lost_touched.marks.items v → word ≤ v)
+    pub winning_to : (from word end : ℕ) (news : Bool) → IsPassing span (is_found_won g r) Winning from news → from ≤ word → word < end → ((v : ℕ) → from ≤ v → v < end → IsTouched run.may_win.marks.items v → word ≤ v)
         → IsPassing span (is_found_won g r) Winning word news
-    winning_to from word end news h = passing_to span (is_found_won g r) Winning winning_same run.lost_touched.marks.items (asked news from h) from word end news h
+    winning_to from word end news h = passing_to span (is_found_won g r) Winning winning_same run.may_win.marks.items (asked news from h) from word end news h
 
-    pub winning_all : (from end : ℕ) (news : Bool) → IsPassing span (is_found_won g r) Winning from news → words_of span g.size ≤ end → ((v : ℕ) → from ≤ v → v < end → IsTouched run.lost_touched.marks.items v → ⊥)
+    pub winning_all : (from end : ℕ) (news : Bool) → IsPassing span (is_found_won g r) Winning from news → words_of span g.size ≤ end → ((v : ℕ) → from ≤ v → v < end → IsTouched run.may_win.marks.items v → ⊥)
         → Winning (is_found_won g r) × IsNews (is_found_won g r) news
-    winning_all from end news h long = passing_all span (is_found_won g r) Winning winning_same run.lost_touched.marks.items (asked news from h) from end news h
+    winning_all from end news h long = passing_all span (is_found_won g r) Winning winning_same run.may_win.marks.items (asked news from h) from end news h
         (λ i t. let lt = win_within g law r span fits.0 fits.1 i t in omega (arith, lt, long))
 
   -- ---- a word that is looked at

@@ -65,16 +65,16 @@ module _ (touched : List ℕ) (block shift n : ℕ) (is : (k : ℕ) → bit_at n
 -- ---- the next round
 
 module _ (g : Graph) (span : ℕ) (law : IsGame g) (r : ℕ) where
-  pub lost_touched_next : (lost ask : List ℕ) → AreTouched g span (is_found_lost g r) lost → ((w : ℕ) → IsTouched lost w → IsTouched ask w) → AreTouched g span (is_lost_at g (suc r)) ask
-  lost_touched_next lost ask each kept i j node to t = kept (word_in span i) (each i j node to ((lost_next g law r j).0 t))
+  pub may_win_next : (lost may_lose : List ℕ) → AreTouched g span (is_found_lost g r) lost → ((w : ℕ) → IsTouched lost w → IsTouched may_lose w) → AreTouched g span (is_lost_at g (suc r)) may_lose
+  may_win_next lost may_lose each kept i j node to t = kept (word_in span i) (each i j node to ((lost_next g law r j).0 t))
 
   still_undecided : (i : ℕ) → is_undecided g (suc r) i ≡ true → is_undecided g r i ≡ true
   still_undecided i undecided = (and_parts (is_undecided g r i) (not (is_found_won g r i) && not (is_found_lost g r i)) (sym (undecided_next g law r i) ∙ undecided)).0
 
   -- an exit that was due before won its node
-  pub due_touched_next : (ask due due' : List ℕ) → AreTold span (is_due g r) due → AreTold span (is_due g (suc r)) due' → ((i : ℕ) → is_marked_in span due' i ≡ true → (is_marked_in span due i ≡ true) ⊎ IsTouched ask (word_in span i))
-      → AreDueTouched g span (suc r) ask
-  due_touched_next ask due due' told told' asked i undecided is = ⊎_elim
+  pub due_touched_next : (may_lose due due' : List ℕ) → AreTold span (is_due g r) due → AreTold span (is_due g (suc r)) due' → ((i : ℕ) → is_marked_in span due' i ≡ true → (is_marked_in span due i ≡ true) ⊎ IsTouched may_lose (word_in span i))
+      → AreDueTouched g span (suc r) may_lose
+  due_touched_next may_lose due due' told told' asked i undecided is = ⊎_elim
       (λ before.
       let at = (undecided_parts g law r i (still_undecided i undecided)).0 in
       let win = wins_by_exit g law r i (draw_node g law r i at) (sym (told i) ∙ before) in
@@ -83,12 +83,12 @@ module _ (g : Graph) (span : ℕ) (law : IsGame g) (r : ℕ) where
       (asked i (told' i ∙ is))
 
   -- a ready node that was not lost still has a move to a node that is not won, unless that node was won just now or it was not ready before
-  pub saved_next : (won ask ready ready' : List ℕ) → AreTouched g span (is_found_won g r) won → ((w : ℕ) → IsTouched won w → IsTouched ask w)
-      → AreTold span (is_ready g r) ready → AreTold span (is_ready g (suc r)) ready' → ((i : ℕ) → is_marked_in span ready' i ≡ true → (is_marked_in span ready i ≡ true) ⊎ IsTouched ask (word_in span i))
-      → AreSaved g span (suc r) ask
-  saved_next won ask ready ready' each kept told told' asked i undecided is = ⊎_elim (λ before. held (sym (told i) ∙ before)) inl (asked i (told' i ∙ is))
+  pub saved_next : (won may_lose ready ready' : List ℕ) → AreTouched g span (is_found_won g r) won → ((w : ℕ) → IsTouched won w → IsTouched may_lose w)
+      → AreTold span (is_ready g r) ready → AreTold span (is_ready g (suc r)) ready' → ((i : ℕ) → is_marked_in span ready' i ≡ true → (is_marked_in span ready i ≡ true) ⊎ IsTouched may_lose (word_in span i))
+      → AreSaved g span (suc r) may_lose
+  saved_next won may_lose ready ready' each kept told told' asked i undecided is = ⊎_elim (λ before. held (sym (told i) ∙ before)) inl (asked i (told' i ∙ is))
     where
-      held : is_ready g r i ≡ true → IsTouched ask (word_in span i) ⊎ LeadsTo g (is_unwon g (suc r)) i
+      held : is_ready g r i ≡ true → IsTouched may_lose (word_in span i) ⊎ LeadsTo g (is_unwon g (suc r)) i
       held before =
           let is_draw = (undecided_parts g law (suc r) i undecided).0 in
           let node = draw_node g law (suc r) i is_draw in

@@ -76,7 +76,7 @@ AreDueTouched g span r touched = (i : ℕ) → IsTrue (is_undecided g r i) → I
 
 -- in the words that are not marked each undecided node that is ready has a move to a node that is not won
 abbrev pub AreSaved : Graph → ℕ → ℕ → List ℕ → Type 0
-AreSaved g span r ask = (i : ℕ) → IsTrue (is_undecided g r i) → IsTrue (is_ready g r i) → IsTouched ask (word_in span i) ⊎ LeadsTo g (is_unwon g r) i
+AreSaved g span r may_lose = (i : ℕ) → IsTrue (is_undecided g r i) → IsTrue (is_ready g r i) → IsTouched may_lose (word_in span i) ⊎ LeadsTo g (is_unwon g r) i
 
 -- ---- exits that are not due
 
@@ -110,10 +110,10 @@ pub record AreLong (g : Graph) (span : ℕ) (run : WordRun) : Type 0 where
   pub ready : length run.ready.items ≡ words_of span g.size
   pub due : length run.due.items ≡ words_of span g.size
   pub next_lost : length run.next_lost.items ≡ words_of span g.size
-  pub lost_touched : words_of span g.size ≤ 64 * length run.lost_touched.marks.items
-  pub ask : words_of span g.size ≤ 64 * length run.ask.marks.items
-  pub next_lost_touched : words_of span g.size ≤ 64 * length run.next_lost_touched.marks.items
-  pub next_ask : words_of span g.size ≤ 64 * length run.next_ask.marks.items
+  pub may_win : words_of span g.size ≤ 64 * length run.may_win.marks.items
+  pub may_lose : words_of span g.size ≤ 64 * length run.may_lose.marks.items
+  pub next_may_win : words_of span g.size ≤ 64 * length run.next_may_win.marks.items
+  pub next_may_lose : words_of span g.size ≤ 64 * length run.next_may_lose.marks.items
 
 pub record IsAt (g : Graph) (span r : ℕ) (run : WordRun) : Type 0 where
   pub long : AreLong g span run
@@ -124,9 +124,9 @@ pub record IsAt (g : Graph) (span r : ℕ) (run : WordRun) : Type 0 where
   pub ready : AreTold span (is_ready g r) run.ready.items
   pub due : AreTold span (is_due g r) run.due.items
   pub exits : (i : ℕ) → HasExits g r run.pending.items run.lost_due run.won_due i
-  pub lost_touched : AreTouched g span (is_lost_at g r) run.lost_touched.marks.items
-  pub due_touched : AreDueTouched g span r run.lost_touched.marks.items
-  pub saved : AreSaved g span r run.ask.marks.items
+  pub may_win : AreTouched g span (is_lost_at g r) run.may_win.marks.items
+  pub due_touched : AreDueTouched g span r run.may_win.marks.items
+  pub saved : AreSaved g span r run.may_lose.marks.items
 
 -- The run within the round: of what it finds, the losses that pass the one test and the wins that pass the other are written down. What tells of
 -- the round before stays, but that `unwon` and `undecided` lose what is found.
@@ -140,11 +140,11 @@ pub record IsSwept (g : Graph) (span r : ℕ) (losses wins : ℕ → Bool) (run 
   pub ready : AreTold span (is_ready g r) run.ready.items
   pub due : AreTold span (is_due g r) run.due.items
   pub exits : (i : ℕ) → HasExits g r run.pending.items run.lost_due run.won_due i
-  pub lost_touched : AreTouched g span (is_lost_at g r) run.lost_touched.marks.items
-  pub due_touched : AreDueTouched g span r run.lost_touched.marks.items
-  pub saved : AreSaved g span r run.ask.marks.items
-  pub next_lost_touched : AreTouched g span losses run.next_lost_touched.marks.items
-  pub next_ask : AreTouched g span wins run.next_ask.marks.items
+  pub may_win : AreTouched g span (is_lost_at g r) run.may_win.marks.items
+  pub due_touched : AreDueTouched g span r run.may_win.marks.items
+  pub saved : AreSaved g span r run.may_lose.marks.items
+  pub next_may_win : AreTouched g span losses run.next_may_win.marks.items
+  pub next_may_lose : AreTouched g span wins run.next_may_lose.marks.items
 
 -- what the round finds in the words below m
 abbrev pub are_lost_below : Graph → ℕ → ℕ → ℕ → ℕ → Bool

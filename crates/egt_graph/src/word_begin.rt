@@ -52,10 +52,10 @@ fn empty_run<G: Shelved>(alloc: Global, game: &G) -> Result<WordRun, AllocError>
         ready: vec![in alloc; 0; words]?,
         due: vec![in alloc; 0; words]?,
         next_lost: vec![in alloc; 0; words]?,
-        lost_touched: Touched::nothing(alloc, words)?,
-        ask: Touched::nothing(alloc, words)?,
-        next_lost_touched: Touched::nothing(alloc, words)?,
-        next_ask: Touched::nothing(alloc, words)?,
+        may_win: Touched::nothing(alloc, words)?,
+        may_lose: Touched::nothing(alloc, words)?,
+        next_may_win: Touched::nothing(alloc, words)?,
+        next_may_lose: Touched::nothing(alloc, words)?,
         lost_due: Schedule::new(alloc),
         won_due: Schedule::new(alloc),
     })
@@ -227,8 +227,8 @@ fn settle<G: Shelved>(game: &G, run: &mut WordRun)
     for word in 0..words {
         settle_word(game, word as u32, run);
     }
-    run.lost_touched.mark_all();
-    run.ask.mark_all();
+    run.may_win.mark_all();
+    run.may_lose.mark_all();
 }
 
 fn settle_word<G: Shelved>(game: &G, word: u32, run: &mut WordRun)

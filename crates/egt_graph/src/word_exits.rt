@@ -75,34 +75,34 @@ fn mark_in(span: u32, marks: &mut [u64], i: u32)
 }
 
 /// Lost exits of these nodes fall due, and their words are marked.
-pub(crate) fn lose_exits(span: u32, due: &mut [u64], touched: &mut Touched, nodes: &[u32])
+pub(crate) fn lose_exits(span: u32, due: &mut [u64], may_win: &mut Touched, nodes: &[u32])
     requires some { 0 < span }
     requires few { span ≤ 64 }
     requires within { All (λ i. word_in span i < length due.old) nodes.now }
-    requires touched_within { All (λ i. word_in span i < 64 * length touched.old.marks.items) nodes.now }
+    requires may_win_within { All (λ i. word_in span i < 64 * length may_win.old.marks.items) nodes.now }
     ensures due { (i : ℕ) → is_marked_in span due.new i ≡ (is_marked_in span due.old i || nat_lt 0 (count_of i nodes.now)) }
-    ensures long { length touched.new.marks.items ≡ length touched.old.marks.items }
-    ensures kept { (w : ℕ) → IsTouched touched.old.marks.items w → IsTouched touched.new.marks.items w }
-    ensures touched { (i : ℕ) → IsTrue (is_marked_in span due.new i) → IsTrue (is_marked_in span due.old i) ⊎ IsTouched touched.new.marks.items (word_in span i) }
+    ensures long { length may_win.new.marks.items ≡ length may_win.old.marks.items }
+    ensures kept { (w : ℕ) → IsTouched may_win.old.marks.items w → IsTouched may_win.new.marks.items w }
+    ensures marked { (i : ℕ) → IsTrue (is_marked_in span due.new i) → IsTrue (is_marked_in span due.old i) ⊎ IsTouched may_win.new.marks.items (word_in span i) }
 {
     for node in nodes {
-        lose_exit(span, due, touched, *node);
+        lose_exit(span, due, may_win, *node);
     }
 }
 
 #[inline(always)]
-fn lose_exit(span: u32, due: &mut [u64], touched: &mut Touched, node: u32)
+fn lose_exit(span: u32, due: &mut [u64], may_win: &mut Touched, node: u32)
     requires some { 0 < span }
     requires few { span ≤ 64 }
     requires within { word_in span node < length due.old }
-    requires touched_within { word_in span node < 64 * length touched.old.marks.items }
+    requires may_win_within { word_in span node < 64 * length may_win.old.marks.items }
     ensures due { (i : ℕ) → is_marked_in span due.new i ≡ (is_marked_in span due.old i || (node == i)) }
-    ensures long { length touched.new.marks.items ≡ length touched.old.marks.items }
-    ensures kept { (w : ℕ) → IsTouched touched.old.marks.items w → IsTouched touched.new.marks.items w }
-    ensures touched { (i : ℕ) → IsTrue (is_marked_in span due.new i) → IsTrue (is_marked_in span due.old i) ⊎ IsTouched touched.new.marks.items (word_in span i) }
+    ensures long { length may_win.new.marks.items ≡ length may_win.old.marks.items }
+    ensures kept { (w : ℕ) → IsTouched may_win.old.marks.items w → IsTouched may_win.new.marks.items w }
+    ensures marked { (i : ℕ) → IsTrue (is_marked_in span due.new i) → IsTrue (is_marked_in span due.old i) ⊎ IsTouched may_win.new.marks.items (word_in span i) }
 {
     mark_in(span, due, node);
-    touched.mark(word_in(span, node));
+    may_win.mark(word_in(span, node));
 }
 
 /// Won exits of these nodes fall due, for each as often as it comes. Those for which none is left are ready, and their words are to be asked.
@@ -110,44 +110,44 @@ pub(crate) fn win_exits(
     span: u32,
     pending: &mut [u8],
     ready: &mut [u64],
-    ask: &mut Touched,
+    may_lose: &mut Touched,
     nodes: &[u32],
 )
     requires some { 0 < span }
     requires few { span ≤ 64 }
     requires within { All (λ i. word_in span i < length ready.old) nodes.now }
     requires nodes_within { All (λ i. i < length pending.old) nodes.now }
-    requires ask_within { All (λ i. word_in span i < 64 * length ask.old.marks.items) nodes.now }
+    requires may_lose_within { All (λ i. word_in span i < 64 * length may_lose.old.marks.items) nodes.now }
     ensures pending { (i : ℕ) → slice_index pending.new i ≡ slice_index pending.old i - count_of i nodes.now }
     ensures ready { (i : ℕ) → is_marked_in span ready.new i
         ≡ (is_marked_in span ready.old i || (nat_lt 0 (count_of i nodes.now) && (slice_index pending.new i == 0))) }
-    ensures long { length ask.new.marks.items ≡ length ask.old.marks.items }
-    ensures kept { (w : ℕ) → IsTouched ask.old.marks.items w → IsTouched ask.new.marks.items w }
-    ensures asked { (i : ℕ) → IsTrue (is_marked_in span ready.new i) → IsTrue (is_marked_in span ready.old i) ⊎ IsTouched ask.new.marks.items (word_in span i) }
+    ensures long { length may_lose.new.marks.items ≡ length may_lose.old.marks.items }
+    ensures kept { (w : ℕ) → IsTouched may_lose.old.marks.items w → IsTouched may_lose.new.marks.items w }
+    ensures marked { (i : ℕ) → IsTrue (is_marked_in span ready.new i) → IsTrue (is_marked_in span ready.old i) ⊎ IsTouched may_lose.new.marks.items (word_in span i) }
 {
     for node in nodes {
-        win_exit(span, pending, ready, ask, *node);
+        win_exit(span, pending, ready, may_lose, *node);
     }
 }
 
 #[inline(always)]
-fn win_exit(span: u32, pending: &mut [u8], ready: &mut [u64], ask: &mut Touched, node: u32)
+fn win_exit(span: u32, pending: &mut [u8], ready: &mut [u64], may_lose: &mut Touched, node: u32)
     requires some { 0 < span }
     requires few { span ≤ 64 }
     requires within { word_in span node < length ready.old }
     requires node_within { node < length pending.old }
-    requires ask_within { word_in span node < 64 * length ask.old.marks.items }
+    requires may_lose_within { word_in span node < 64 * length may_lose.old.marks.items }
     ensures pending { (i : ℕ) → slice_index pending.new i ≡ slice_index pending.old i - (if node == i then 1 else 0) }
     ensures ready { (i : ℕ) → is_marked_in span ready.new i
         ≡ (is_marked_in span ready.old i || ((node == i) && (slice_index pending.new i == 0))) }
-    ensures long { length ask.new.marks.items ≡ length ask.old.marks.items }
-    ensures kept { (w : ℕ) → IsTouched ask.old.marks.items w → IsTouched ask.new.marks.items w }
-    ensures asked { (i : ℕ) → IsTrue (is_marked_in span ready.new i) → IsTrue (is_marked_in span ready.old i) ⊎ IsTouched ask.new.marks.items (word_in span i) }
+    ensures long { length may_lose.new.marks.items ≡ length may_lose.old.marks.items }
+    ensures kept { (w : ℕ) → IsTouched may_lose.old.marks.items w → IsTouched may_lose.new.marks.items w }
+    ensures marked { (i : ℕ) → IsTrue (is_marked_in span ready.new i) → IsTrue (is_marked_in span ready.old i) ⊎ IsTouched may_lose.new.marks.items (word_in span i) }
 {
     let left = pending[node as usize].saturating_sub(1);
     pending[node as usize] = left;
     if left == 0 {
         mark_in(span, ready, node);
-        ask.mark(word_in(span, node));
+        may_lose.mark(word_in(span, node));
     }
 }

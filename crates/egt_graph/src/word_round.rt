@@ -40,8 +40,8 @@ pub(crate) fn sweep<G: Shelved>(game: &G, run: &mut WordRun, round: u16) -> bool
 {
     let _span = game.span();
     run.next_lost.fill(0);
-    run.next_lost_touched.clear();
-    run.next_ask.clear();
+    run.next_may_win.clear();
+    run.next_may_lose.clear();
     let lost = lose_words(game, run, round);
     let won = win_words(game, run, round);
     lost || won
@@ -57,7 +57,7 @@ fn lose_words<G: Shelved>(game: &G, run: &mut WordRun, round: u16) -> bool
     let words = words_of(game.span(), game.size());
     let mut news = false;
     let mut from = 0;
-    while let Some(word) = run.ask.next(from, words) {
+    while let Some(word) = run.may_lose.next(from, words) {
         if lose_word(game, run, word as u32, round) {
             news = true;
         }
@@ -109,7 +109,7 @@ fn put_lost<G: Shelved>(game: &G, run: &mut WordRun, word: u32, lost: u64, round
 {
     let span = game.span();
     put_entries(&mut run.entries, span, word, lost, 5 + 2 * round);
-    run.next_lost_touched.mark_sources(game, word);
+    run.next_may_win.mark_sources(game, word);
     let w = word as usize;
     run.undecided[w] &= !lost;
     run.next_lost[w] = lost;
@@ -125,7 +125,7 @@ fn win_words<G: Shelved>(game: &G, run: &mut WordRun, round: u16) -> bool
     let words = words_of(game.span(), game.size());
     let mut news = false;
     let mut from = 0;
-    while let Some(word) = run.lost_touched.next(from, words) {
+    while let Some(word) = run.may_win.next(from, words) {
         if win_word(game, run, word as u32, round) {
             news = true;
         }
@@ -178,7 +178,7 @@ fn put_won<G: Shelved>(game: &G, run: &mut WordRun, word: u32, won: u64, round: 
 {
     let span = game.span();
     put_entries(&mut run.entries, span, word, won, 4 + 2 * round);
-    run.next_ask.mark_sources(game, word);
+    run.next_may_lose.mark_sources(game, word);
     let w = word as usize;
     run.undecided[w] &= !won;
     run.unwon[w] &= !won;
@@ -199,25 +199,20 @@ pub(crate) fn next_round<G: Shelved>(game: &G, run: WordRun, round: u16) -> Word
         lost,
         mut ready,
         mut due,
-        lost_touched,
-        ask,
+        may_win,
+        may_lose,
         next_lost,
-        mut next_lost_touched,
-        mut next_ask,
+        mut next_may_win,
+        mut next_may_lose,
         lost_due,
         won_due,
     } = run;
-    lose_exits(
-        span,
-        &mut due,
-        &mut next_lost_touched,
-        lost_due.due(round + 1),
-    );
+    lose_exits(span, &mut due, &mut next_may_win, lost_due.due(round + 1));
     win_exits(
         span,
         &mut pending,
         &mut ready,
-        &mut next_ask,
+        &mut next_may_lose,
         won_due.due(round + 1),
     );
     WordRun {
@@ -228,11 +223,11 @@ pub(crate) fn next_round<G: Shelved>(game: &G, run: WordRun, round: u16) -> Word
         lost: next_lost,
         ready,
         due,
-        lost_touched: next_lost_touched,
-        ask: next_ask,
+        may_win: next_may_win,
+        may_lose: next_may_lose,
         next_lost: lost,
-        next_lost_touched: lost_touched,
-        next_ask: ask,
+        next_may_win: may_win,
+        next_may_lose: may_lose,
         lost_due,
         won_due,
     }

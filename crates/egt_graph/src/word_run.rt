@@ -22,14 +22,14 @@ pub(crate) struct WordRun {
     pub(crate) due: Vec<u64>,
     /// The words in which a node may be won next, by marks: a move of it may lead to a node that was lost in this round, or an exit that was lost is due,
     /// or nothing is known of it yet.
-    pub(crate) lost_touched: Touched,
+    pub(crate) may_win: Touched,
     /// The words in which a node may be lost next, by marks: a move of it may lead to a node that was won in the last round, or the last exit that
     /// it waited for is due, or nothing is known of it yet. Each ready node of the other words still has a move to a node that is not won.
-    pub(crate) ask: Touched,
-    /// `lost`, `lost_touched` and `ask` of the next round.
+    pub(crate) may_lose: Touched,
+    /// `lost`, `may_win` and `may_lose` of the next round.
     pub(crate) next_lost: Vec<u64>,
-    pub(crate) next_lost_touched: Touched,
-    pub(crate) next_ask: Touched,
+    pub(crate) next_may_win: Touched,
+    pub(crate) next_may_lose: Touched,
     pub(crate) lost_due: Schedule,
     pub(crate) won_due: Schedule,
 }

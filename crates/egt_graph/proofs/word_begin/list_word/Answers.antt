@@ -27,10 +27,10 @@ returns-clause-listed g c =
         ready = length-set run.ready.items word _ ∙ long.ready;
         due = length-set run.due.items word _ ∙ long.due;
         next_lost = long.next_lost;
-        lost_touched = long.lost_touched;
-        ask = long.ask;
-        next_lost_touched = long.next_lost_touched;
-        next_ask = long.next_ask;
+        may_win = long.may_win;
+        may_lose = long.may_lose;
+        next_may_win = long.next_may_win;
+        next_may_lose = long.next_may_lose;
       };
       entries = h.entries;
       listed = subst (λ (xs : List ℕ). AreListed graph span ((word + 1) * 64) xs c.list_nodes.new.lost_due c.list_nodes.new.won_due) (sym pending_is) c.in_ok-bits.ensures.listed;

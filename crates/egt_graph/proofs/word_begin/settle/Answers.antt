@@ -50,10 +50,10 @@ returns g c =
         ready = h.long.ready;
         due = h.long.due;
         next_lost = h.long.next_lost;
-        lost_touched = (let l = h.long.lost_touched in let same = c.mark_all.ensures.long in omega (arith, l, same));
-        ask = (let l = h.long.ask in let same = c.mark_all-2.ensures.long in omega (arith, l, same));
-        next_lost_touched = h.long.next_lost_touched;
-        next_ask = h.long.next_ask;
+        may_win = (let l = h.long.may_win in let same = c.mark_all.ensures.long in omega (arith, l, same));
+        may_lose = (let l = h.long.may_lose in let same = c.mark_all-2.ensures.long in omega (arith, l, same));
+        next_may_win = h.long.next_may_win;
+        next_may_lose = h.long.next_may_lose;
       };
       entries = settled_entries graph span c.loop-word.word run.entries.items some all h.long.entries h.entries_done;
       undecided = all_words graph span (is_undecided graph 0) run.undecided.items some (undecided_nodes graph law 0) h.long.undecided (λ w lt. h.undecided w (omega (arith, lt, all)));
@@ -62,15 +62,15 @@ returns g c =
       ready = h.ready;
       due = h.due;
       exits = h.exits;
-      lost_touched = λ i j node to t. let within = word_in-within span graph.size i some node.in_range in let l = h.long.lost_touched in c.mark_all.ensures.all (word_in span i) (omega (arith, within, l));
+      may_win = λ i j node to t. let within = word_in-within span graph.size i some node.in_range in let l = h.long.may_win in c.mark_all.ensures.all (word_in span i) (omega (arith, within, l));
       due_touched = λ i undecided due.
           let node = node_from_test graph i (undecided_nodes graph law 0 i undecided) in
           let within = word_in-within span graph.size i some node.in_range in
-          let l = h.long.lost_touched in
+          let l = h.long.may_win in
           c.mark_all.ensures.all (word_in span i) (omega (arith, within, l));
       saved = λ i undecided ready.
           let node = node_from_test graph i (undecided_nodes graph law 0 i undecided) in
           let within = word_in-within span graph.size i some node.in_range in
-          let l = h.long.ask in
+          let l = h.long.may_lose in
           inl (c.mark_all-2.ensures.all (word_in span i) (omega (arith, within, l)));
     }

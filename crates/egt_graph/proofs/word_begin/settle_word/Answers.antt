@@ -123,10 +123,10 @@ returns g c =
         ready = long.ready;
         due = long.due;
         next_lost = long.next_lost;
-        lost_touched = long.lost_touched;
-        ask = long.ask;
-        next_lost_touched = long.next_lost_touched;
-        next_ask = long.next_ask;
+        may_win = long.may_win;
+        may_lose = long.may_lose;
+        next_may_win = long.next_may_win;
+        next_may_lose = long.next_may_lose;
       };
       entries_done = λ i lt. ap (λ (xs : List ℕ). slice_index xs i) twice ∙ entries_done_more (word_in span) word run.entries.items c.put_entries-2.new.entries (entry_at graph 0) kept
           (λ j here. entries_settled graph law span word some few nodes leaving moving mated leaving_small moving_small of_nodes of_leaving leads c.mated_among-mated.ensures run.entries.items c.put_entries.new.entries c.put_entries-2.new.entries first second j here

@@ -7,7 +7,7 @@ use Rattle.egt_graph.proofs.WordMarks.{waiting_more, waiting_none}
 use Rattle.egt_graph.proofs.word_exits.win_exits.Goals as goal
 
 pub loop-node-init : goal.loop-node-init
-loop-node-init c = record { waiting = waiting_none c.args.span c.args.pending.now c.args.ready.now c.args.nodes.now; pending_long = refl; ready_long = refl; kept = λ w one. one; asked = λ i t. inl t; ask_long = refl }
+loop-node-init c = record { waiting = waiting_none c.args.span c.args.pending.now c.args.ready.now c.args.nodes.now; pending_long = refl; ready_long = refl; kept = λ w one. one; marked_words = λ i t. inl t; may_lose_long = refl }
 
 pub loop-node-preserved : goal.loop-node-preserved
 loop-node-preserved c = record {
@@ -16,8 +16,8 @@ loop-node-preserved c = record {
   pending_long = let same = c.win_exit.auto.pending in let before = c.loop-node.invariant.pending_long in omega (arith, same, before);
   ready_long = let same = c.win_exit.auto.ready in let before = c.loop-node.invariant.ready_long in omega (arith, same, before);
   kept = λ w one. c.win_exit.ensures.kept w (c.loop-node.invariant.kept w one);
-  asked = λ i t. ⊎_elim (λ before. ⊎_elim inl (λ one. inr (c.win_exit.ensures.kept (word_in c.args.span i) one)) (c.loop-node.invariant.asked i before)) inr (c.win_exit.ensures.asked i t);
-  ask_long = c.win_exit.ensures.long ∙ c.loop-node.invariant.ask_long;
+  marked_words = λ i t. ⊎_elim (λ before. ⊎_elim inl (λ one. inr (c.win_exit.ensures.kept (word_in c.args.span i) one)) (c.loop-node.invariant.marked_words i before)) inr (c.win_exit.ensures.marked i t);
+  may_lose_long = c.win_exit.ensures.long ∙ c.loop-node.invariant.may_lose_long;
 }
 
 pub returns-clause-pending : goal.returns-clause-pending

@@ -9,7 +9,7 @@ invariant-loop-node l = record {
   waiting : IsWaiting l.span l.initial.pending l.initial.ready l.nodes l.node-index l.pending l.ready;
   pending_long : length l.pending ≡ length l.initial.pending;
   ready_long : length l.ready ≡ length l.initial.ready;
-  kept : (w : ℕ) → IsTouched l.initial.ask.marks.items w → IsTouched l.ask.marks.items w;
-  asked : (i : ℕ) → is_marked_in l.span l.ready i ≡ true → (is_marked_in l.span l.initial.ready i ≡ true) ⊎ IsTouched l.ask.marks.items (word_in l.span i);
-  ask_long : length l.ask.marks.items ≡ length l.initial.ask.marks.items;
+  kept : (w : ℕ) → IsTouched l.initial.may_lose.marks.items w → IsTouched l.may_lose.marks.items w;
+  marked_words : (i : ℕ) → is_marked_in l.span l.ready i ≡ true → (is_marked_in l.span l.initial.ready i ≡ true) ⊎ IsTouched l.may_lose.marks.items (word_in l.span i);
+  may_lose_long : length l.may_lose.marks.items ≡ length l.initial.may_lose.marks.items;
 }

@@ -46,10 +46,10 @@ returns g c =
         ready = long.ready;
         due = long.due;
         next_lost = length-set run.next_lost.items word _ ∙ long.next_lost;
-        lost_touched = long.lost_touched;
-        ask = long.ask;
-        next_lost_touched = (let l = long.next_lost_touched in let same = c.mark_sources.ensures.long in omega (arith, l, same));
-        next_ask = long.next_ask;
+        may_win = long.may_win;
+        may_lose = long.may_lose;
+        next_may_win = (let l = long.next_may_win in let same = c.mark_sources.ensures.long in omega (arith, l, same));
+        next_may_lose = long.next_may_lose;
       };
       entries = λ i. put.1 i ∙ ap₂ (λ e n. cond (put_at span word bits i) e n) five (swept.entries i)
           ∙ entry_of_loss span word bits fits.0 (is_found_lost graph r) of (3 + 2 * suc r) 0 (cond (below span (is_found_won graph r) 0 i) (2 + 2 * suc r) (entry_at graph r i)) i;
@@ -66,9 +66,9 @@ returns g c =
       ready = swept.ready;
       due = swept.due;
       exits = swept.exits;
-      lost_touched = swept.lost_touched;
+      may_win = swept.may_win;
       due_touched = swept.due_touched;
       saved = swept.saved;
-      next_lost_touched = touched_put graph span word f run.next_lost_touched.marks.items _ c.mark_sources.ensures.kept c.mark_sources.ensures.marked swept.next_lost_touched;
-      next_ask = swept.next_ask;
+      next_may_win = touched_put graph span word f run.next_may_win.marks.items _ c.mark_sources.ensures.kept c.mark_sources.ensures.marked swept.next_may_win;
+      next_may_lose = swept.next_may_lose;
     }

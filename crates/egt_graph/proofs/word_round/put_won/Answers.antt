@@ -47,10 +47,10 @@ returns g c =
         ready = long.ready;
         due = long.due;
         next_lost = long.next_lost;
-        lost_touched = long.lost_touched;
-        ask = long.ask;
-        next_lost_touched = long.next_lost_touched;
-        next_ask = (let l = long.next_ask in let same = c.mark_sources.ensures.long in omega (arith, l, same));
+        may_win = long.may_win;
+        may_lose = long.may_lose;
+        next_may_win = long.next_may_win;
+        next_may_lose = (let l = long.next_may_lose in let same = c.mark_sources.ensures.long in omega (arith, l, same));
       };
       entries = λ i. put.1 i ∙ ap₂ (λ e n. cond (put_at span word bits i) e n) five (swept.entries i)
           ∙ entry_of_win span word bits fits.0 (is_found_won graph r) of (3 + 2 * suc r) (2 + 2 * suc r) (entry_at graph r i) i (is_found_lost graph r i) (apart graph law r span fits.0 fits.1 i);
@@ -71,9 +71,9 @@ returns g c =
       ready = swept.ready;
       due = swept.due;
       exits = swept.exits;
-      lost_touched = swept.lost_touched;
+      may_win = swept.may_win;
       due_touched = swept.due_touched;
       saved = swept.saved;
-      next_lost_touched = swept.next_lost_touched;
-      next_ask = touched_put graph span word f run.next_ask.marks.items _ c.mark_sources.ensures.kept c.mark_sources.ensures.marked swept.next_ask;
+      next_may_win = swept.next_may_win;
+      next_may_lose = touched_put graph span word f run.next_may_lose.marks.items _ c.mark_sources.ensures.kept c.mark_sources.ensures.marked swept.next_may_lose;
     }

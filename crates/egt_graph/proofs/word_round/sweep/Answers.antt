@@ -25,10 +25,10 @@ lose_words-lost-requires-clause-swept g c =
         ready = at.long.ready;
         due = at.long.due;
         next_lost = (let l = at.long.next_lost in let own = run.next_lost.ok.0 in let same = c.fill.ensures.len in let now = c.fill.new.self.ok.0 in omega (arith, l, own, same, now));
-        lost_touched = at.long.lost_touched;
-        ask = at.long.ask;
-        next_lost_touched = (let l = at.long.next_lost_touched in let same = c.clear.ensures.long in omega (arith, l, same));
-        next_ask = (let l = at.long.next_ask in let same = c.clear-2.ensures.long in omega (arith, l, same));
+        may_win = at.long.may_win;
+        may_lose = at.long.may_lose;
+        next_may_win = (let l = at.long.next_may_win in let same = c.clear.ensures.long in omega (arith, l, same));
+        next_may_lose = (let l = at.long.next_may_lose in let same = c.clear-2.ensures.long in omega (arith, l, same));
       };
       entries = λ i. at.entries i ∙ sym (ap₂ (λ a b. cond a (3 + 2 * suc r) (cond b (2 + 2 * suc r) (entry_at graph r i))) (no_loss i) (no_win i));
       undecided = marks_same span (is_undecided graph r) _ run.undecided.items (λ i. sym (ap₂ (λ a b. (is_undecided graph r i && not a) && not b) (no_win i) (no_loss i) ∙ open_both (is_undecided graph r i))) at.undecided;
@@ -38,11 +38,11 @@ lose_words-lost-requires-clause-swept g c =
       ready = at.ready;
       due = at.due;
       exits = at.exits;
-      lost_touched = at.lost_touched;
+      may_win = at.may_win;
       due_touched = at.due_touched;
       saved = at.saved;
-      next_lost_touched = λ i j node to t. absurd (both_ways _ (no_loss j) t);
-      next_ask = λ i j node to t. absurd (both_ways _ (no_win j) t);
+      next_may_win = λ i j node to t. absurd (both_ways _ (no_loss j) t);
+      next_may_lose = λ i j node to t. absurd (both_ways _ (no_win j) t);
     }
 
 pub returns-then-lost-clause-news : goal.returns-then-lost-clause-news
