@@ -22,6 +22,7 @@ impl Touched {
     pub(crate) fn nothing(alloc: Global, words: usize) -> Result<Touched, AllocError>
         requires few { words ≤ 2 ^ 32 }
         ensures long { IfOk result (λ touched. words ≤ 64 * length touched.marks.items) }
+        ensures none { IfOk result (λ touched. (w : ℕ) → ¬ IsTouched touched.marks.items w) }
     {
         Ok(Touched {
             marks: vec![in alloc; 0; marks_of(words)]?,
@@ -32,6 +33,7 @@ impl Touched {
     /// Takes all marks away.
     pub(crate) fn clear(&mut self)
         ensures long { length self.new.marks.items ≡ length self.old.marks.items }
+        ensures none { (w : ℕ) → ¬ IsTouched self.new.marks.items w }
     {
         self.marks.fill(0);
         self.full = 0;
