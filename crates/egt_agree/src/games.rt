@@ -7,11 +7,10 @@ use crate::rule::{Told, said_by};
 use crate::setup::Setup;
 use crate::steps::{Step, steps};
 use crate::tables::mate_told;
-use crate::together::parts_agree;
 use arrayvec::ArrayVec;
 use egt_check::Library;
 use egt_class::Class;
-use egt_graph::{Exit, Game, Ranks, Start, solve};
+use egt_graph::{Exit, Game, Ranks, solve};
 use egt_index::position;
 use egt_sweep::{MateGame, ZeroGame};
 use egt_table::Column;
@@ -132,36 +131,6 @@ fn are_exits(list: &[Exit], exits: &[Exit]) -> bool {
     list.len() == exits.len()
 }
 
-/// Whether what is told of a number before any rank is known is right.
-fn is_start(start: &Option<Start>, exits: &[Exit], node: &Option<Node>) -> bool {
-    match (start, node) {
-        (Some(start), Some(node)) => {
-            let counted = match start.degree {
-                Some(degree) => usize::from(degree) == node.nodes.len(),
-                None => true,
-            };
-            counted && start.mated == node.mated && are_exits(exits, node.exits.as_slice())
-        }
-        (None, None) => exits.is_empty(),
-        _ => false,
-    }
-}
-
-/// Whether the game tells right of the code and the next at once.
-fn two_agree<G: Game>(game: &G, plain: &Plain<'_>, code: u32) -> bool {
-    let Some(next) = code.checked_add(1) else {
-        return false;
-    };
-    if next >= game.size() {
-        return true;
-    }
-    let mut exits = ArrayVec::new();
-    let mut next_exits = ArrayVec::new();
-    let (start, next_start) = game.start_two(code, &mut exits, &mut next_exits);
-    is_start(&start, exits.as_slice(), &plain.node(code))
-        && is_start(&next_start, next_exits.as_slice(), &plain.node(next))
-}
-
 /// Whether the game has this node among those from which a move leads to the other.
 fn comes_from<G: Game>(game: &G, node: u32, source: u32) -> bool {
     node < game.size() && !game.void(node) && game.into(node).as_slice().contains(&source)
@@ -207,13 +176,7 @@ fn code_agrees<G: Game>(game: &G, plain: &Plain<'_>, code: u32) -> bool {
     if code >= game.size() {
         return false;
     }
-    let mut exits = ArrayVec::new();
-    let start = game.start(code, &mut exits);
-    let node = plain.node(code);
-    if !is_start(&start, exits.as_slice(), &node) || !two_agree(game, plain, code) {
-        return false;
-    }
-    match node {
+    match plain.node(code) {
         Some(node) => {
             told_agrees(game, code, &node)
                 && sources_agree(game, plain, code, node.nodes.as_slice())
@@ -250,21 +213,8 @@ pub fn mate_game_agrees(class: Class, library: &Library, step: u32) -> Result<u3
     }
 }
 
-/// At how many codes at these steps that game tells at once of the nodes before many what it tells of each; the first where it does not.
-pub fn mate_parts_agree(
-    alloc: Global,
-    class: Class,
-    library: &Library,
-    step: u32,
-) -> Result<u32, u32> {
-    match MateGame::new(class, library) {
-        Ok(game) => parts_agree(alloc, &game, step),
-        Err(_missing) => Err(0),
-    }
-}
-
 /// The ranks of the class's game of mates; none where a child has no table, and where memory is refused.
-fn mate_ranks(alloc: Global, class: Class, library: &Library) -> Result<Ranks, u32>
+pub(crate) fn mate_ranks(alloc: Global, class: Class, library: &Library) -> Result<Ranks, u32>
     ensures { IfOk result (AreMateRanks (table_at library.now) class) }
 {
     let Ok(game) = MateGame::new(class, library) else {
@@ -276,10 +226,8 @@ fn mate_ranks(alloc: Global, class: Class, library: &Library) -> Result<Ranks, u
     }
 }
 
-/// At how many codes at these steps the game of zeroing moves over these mate ranks tells right, and at once of many what it tells of each; the
-/// first where it does not.
+/// At how many codes at these steps the game of zeroing moves over these mate ranks tells right; the first where it does not.
 fn zero_game_over<'x>(
-    alloc: Global,
     class: Class,
     library: &'x Library,
     ranks: &'x Ranks,
@@ -294,11 +242,7 @@ fn zero_game_over<'x>(
         mates: ranks.entries(),
     };
     match ZeroGame::new(class, library, ranks) {
-        Ok(game) => {
-            let codes = codes_agree(&game, &plain, step)?;
-            parts_agree(alloc, &game, step)?;
-            Ok(codes)
-        }
+        Ok(game) => codes_agree(&game, &plain, step),
         Err(_missing) => Err(0),
     }
 }
@@ -311,5 +255,5 @@ pub fn zero_game_agrees(
     step: u32,
 ) -> Result<u32, u32> {
     let ranks = mate_ranks(alloc, class, library)?;
-    zero_game_over(alloc, class, library, &ranks, step)
+    zero_game_over(class, library, &ranks, step)
 }

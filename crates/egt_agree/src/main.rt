@@ -2,6 +2,7 @@
 //! from a folder and prints a line: that both entries of the class's codes are what those of the positions after each legal move give, and
 //! that legal moves, moves backwards and both games over the class are the plain ones; or the first code at which one of them differs, and then
 //! its status is 1. All codes of classes of two and three men are asked, and of the others every so many. The tests ask the same of fewer codes.
+//! `egt_agree solved DIR CLASS` solves both games over the class by counters, which takes a while for four men, and holds their ranks against its table.
 #![tactic(auto)]
 
 mod folder;
@@ -10,16 +11,17 @@ mod moves;
 mod rule;
 mod samples;
 mod setup;
+mod solved;
 mod steps;
 mod tables;
-mod together;
 mod unmoves;
 
 use egt_check::Library;
 use egt_class::{Class, by_name, name};
 use folder::library_of;
-use games::{mate_game_agrees, mate_parts_agree, zero_game_agrees};
+use games::{mate_game_agrees, zero_game_agrees};
 use samples::{Held, agree};
+use solved::solved_agrees;
 use std::process::ExitCode;
 use std::{env, io};
 
@@ -54,9 +56,6 @@ fn compare(
     if let Err(code) = mate_game_agrees(class, library, walks) {
         return Err(("game of mates", code));
     }
-    if let Err(code) = mate_parts_agree(rt.alloc(), class, library, walks) {
-        return Err(("game of mates at once", code));
-    }
     match zero_game_agrees(rt.alloc(), class, library, walks) {
         Ok(codes) => Ok((entries, codes)),
         Err(code) => Err(("game of zeroing moves", code)),
@@ -79,13 +78,30 @@ fn print_class(rt: &HostRuntime, class: Class, library: &Library) -> io::Result<
     }
 }
 
-/// Reads the tables of the class of that name and of those below it, and compares all of the class; whether all agrees.
-fn run(rt: &HostRuntime, folder: &str, class: &str) -> io::Result<bool> {
+/// Solves both games over the class by counters, and prints a line; whether their ranks are what its table shows.
+fn print_solved(rt: &HostRuntime, class: Class, library: &Library) -> io::Result<bool> {
+    let solved = solved_agrees(rt.alloc(), class, library);
+    let class = name(class);
+    match solved {
+        Ok(indexes) => {
+            println!(rt; "{class} solved: ranks at {indexes} indexes")?;
+            Ok(true)
+        }
+        Err(index) => {
+            println!(rt; "{class} differs: rank at index {index}")?;
+            Ok(false)
+        }
+    }
+}
+
+/// Reads the tables of the class of that name and of those below it, and compares all of the class, or solves it; whether all agrees.
+fn run(rt: &HostRuntime, folder: &str, class: &str, solves: bool) -> io::Result<bool> {
     let Some(class) = by_name(class) else {
         println!(rt; "no class")?;
         return Ok(false);
     };
     match library_of(rt, folder, class)? {
+        Some(library) if solves => print_solved(rt, class, &library),
         Some(library) => print_class(rt, class, &library),
         None => {
             println!(rt; "a table was refused")?;
@@ -95,15 +111,20 @@ fn run(rt: &HostRuntime, folder: &str, class: &str) -> io::Result<bool> {
 }
 
 fn main(rt: HostRuntime) -> io::Result<ExitCode> {
-    let mut words = Vec::new(rt.alloc());
+    let mut given = Vec::new(rt.alloc());
     for word in env::args(&rt)? {
-        words.push(word)?;
+        given.push(word)?;
     }
-    let words = words.as_slice();
-    if words.len() == 3 && !run(&rt, words[1].as_str(), words[2].as_str())? {
-        return Ok(ExitCode::from(1));
+    let mut words = Vec::new(rt.alloc());
+    for word in &given {
+        words.push(word.as_str())?;
     }
-    Ok(ExitCode::from(0))
+    let agrees = match words.as_slice() {
+        [_, folder, class] => run(&rt, folder, class, false)?,
+        [_, "solved", folder, class] => run(&rt, folder, class, true)?,
+        _ => true,
+    };
+    Ok(ExitCode::from(if agrees { 0 } else { 1 }))
 }
 
 #[cfg(test)]

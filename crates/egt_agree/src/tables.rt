@@ -10,7 +10,7 @@ use egt_index::{position, size};
 use egt_table::Column;
 
 /// The entry of an index in the table of a class.
-fn entry_at(library: &Library, column: Column, class: Class, index: u32) -> Option<u16> {
+pub fn entry_at(library: &Library, column: Column, class: Class, index: u32) -> Option<u16> {
     let table = library.get(class)?;
     if index < size(table.class()) {
         Some(table.entry(column, index))

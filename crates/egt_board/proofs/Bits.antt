@@ -16,11 +16,6 @@ bit_at_first (suc n) k small below e =
     let h = bit_at-trailing_zeros w64 (suc n) (omega arith) small in
     (ap (bit_at (suc n)) e ∙ h.1, λ t lt. h.2 t (subst (λ j. t < j) e lt))
 
--- a number whose trailing zeros are all its bits has no 1
-pub bit_at_none : (n : ℕ) → n < 2 ^ 64 → 64 ≤ trailing_zeros w64 n → (t : ℕ) → bit_at n t ≡ 0
-bit_at_none zero small h t = bit_at-zero t
-bit_at_none (suc n) small h t = absurd (omega (arith, (bit_at-trailing_zeros w64 (suc n) (omega arith) small).0))
-
 less : (m n : ℕ) → m ≤ n → m ≢ n → m < n
 less m n le other = omega arith
 

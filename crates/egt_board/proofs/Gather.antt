@@ -69,10 +69,6 @@ pub record Gathered (men : Placement) (items : List (Man × ℕ)) (left : ℕ) :
   pub listed : items ≡ map man_entry (take (length items) (placement.entries men))
   pub keys : (t : ℕ) → (bit_at left t ≡ 1) ↔ IsKey t (drop (length items) (placement.entries men))
 
-key_of_man : (o : Option Man) → (o ≡ None → ⊥) → is_some o ≡ true
-key_of_man None h = absurd (h refl)
-key_of_man (Some man) h = refl
-
 free_or_key : (o : Option Man) → (o ≡ None) ⊎ (is_some o ≡ true)
 free_or_key None = inl refl
 free_or_key (Some man) = inr refl

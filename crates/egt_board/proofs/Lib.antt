@@ -16,7 +16,6 @@ pub mod Attacks
 pub mod Kings
 pub mod Pawns
 pub mod Lists
-pub mod Stood
 pub mod Positions
 pub mod Gather
 pub mod Sizes

@@ -220,12 +220,6 @@ shown_with xs men k man is room k_in =
       on_board = subst AreOnBoard (sym same) (on_board_put k man es is.on_board k_in);
     }
 
--- the four slots one by one
-pub with_four : (new a b c d : Slot) →
-    lesser new a ∷ lesser (greater new a) b ∷ lesser (greater (greater new a) b) c ∷ lesser (greater (greater (greater new a) b) c) d ∷ [] ≡ with_man new (a ∷ b ∷ c ∷ d ∷ [])
-unfolding with_man
-with_four new a b c d = refl
-
 -- the slots without the man on a square, which those behind it have moved up
 first_of : List Slot → Slot
 first_of [] = None

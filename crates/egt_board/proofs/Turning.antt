@@ -161,7 +161,3 @@ Turns-more m men board rest rest' s man s_in ok has gone others size there turns
     longer : (b : Bool) (l n : ℕ) → l ≡ cond b n (n + 1) → l ≤ n + 1
     longer true l n e = omega arith
     longer false l n e = omega arith
-
--- no square is left
-pub Turns-all : (m : Mirror) (men board : Placement) (rest : SquareSet) → Turns m men board rest → ((t : ℕ) → bit_at rest.bits t ≡ 0) → ShowsMen m men board × (map.len board ≤ map.len men)
-Turns-all m men board rest turns none = ((λ t t_in. turns.done t t_in (none t)), (let few = turns.few in omega arith))

@@ -46,15 +46,6 @@ impl Board {
         gait::reach_past(man, from, all)
     }
 
-    /// The same once the man on `lifted`, if there is one, is taken off.
-    pub fn reach_without(&self, man: Man, from: Square, lifted: Square, all: SquareSet) -> SquareSet
-        requires { IsOccupied self.now all }
-        ensures reached { (t : ℕ) → Has result t ↔ Reaches (IsFree (map.remove self.now lifted)) man from t }
-        ensures few { size_of result ≤ most_reached man.kind }
-    {
-        gait::reach_past(man, from, all.less(lifted))
-    }
-
     /// Whether a man of that side attacks the square, even if it may not move itself.
     pub fn attacks(&self, square: Square, side: Side) -> bool
         ensures { IsTrue result ↔ IsAttacked self.now square side }

@@ -186,37 +186,6 @@ impl Board {
         }
     }
 
-    /// The board with two men on it, and with two more where they are there; of those on one square the first.
-    #[inline(always)]
-    pub fn of_stood(
-        first: (Man, Square),
-        second: (Man, Square),
-        third: Option<(Man, Square)>,
-        fourth: Option<(Man, Square)>,
-    ) -> Board
-        ensures men { result ≡ men_of (first ∷ second ∷ (option_to_list third ++ option_to_list fourth)) }
-        ensures few { map.len result ≤ 4 }
-    {
-        let (new, last) = (entered(third), entered(fourth));
-        let (one, two) = (lesser(&new, &last), greater(&new, &last));
-        let new = filled(second.1, second.0);
-        let behind = greater(&new, &one);
-        let (one, two, three) = (
-            lesser(&new, &one),
-            lesser(&behind, &two),
-            greater(&behind, &two),
-        );
-        let new = filled(first.1, first.0);
-        let behind_one = greater(&new, &one);
-        let behind_two = greater(&behind_one, &two);
-        Board {
-            first: lesser(&new, &one),
-            second: lesser(&behind_one, &two),
-            third: lesser(&behind_two, &three),
-            fourth: greater(&behind_two, &three),
-        }
-    }
-
     /// The man on the square. His slot is chosen without a jump: which it is cannot be guessed.
     pub fn at(&self, square: Square) -> Option<Man>
         ensures { result ≡ map.get self.now square }
@@ -348,15 +317,6 @@ fn filled(square: Square, man: Man) -> Slot
     ensures { result ≡ Some (record { 0 = square; 1 = man }) }
 {
     Some((square, man))
-}
-
-/// The slot of a man on his square, or of none.
-fn entered(entry: Option<(Man, Square)>) -> Slot
-    ensures value { result ≡ option_map (λ e. (e.1, e.0)) entry }
-    ensures in_place { IfSome result (λ e. e.0 < 64) }
-{
-    let (man, square) = entry?;
-    filled(square, man)
 }
 
 /// The one slot or the other.

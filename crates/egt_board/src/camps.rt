@@ -35,8 +35,3 @@ impl Position {
         }
     }
 }
-
-/// Either side has at most three men, since the other has a king. This function does nothing: a caller calls it to know what it ensures.
-pub fn camps_are_few()
-    ensures { (p : Setup) (camps : Camps) → IsAdmissible p → AreCamps p camps → (size_of camps.own ≤ 3) × (size_of camps.enemy ≤ 3) }
-{}

@@ -38,6 +38,3 @@ pub use square::Square;
 pub use square_set::SquareSet;
 pub use step::{Step, Way};
 pub use symmetry::Symmetry;
-
-#[cfg(test)]
-mod tests;

@@ -35,6 +35,3 @@ pub use reject::Reject;
 pub use roamer::{Roamer, Roams};
 pub use rule::Rule;
 pub use spread::Spread;
-
-#[cfg(test)]
-mod tests;

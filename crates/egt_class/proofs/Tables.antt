@@ -51,6 +51,3 @@ part_more xs a b from b_in =
     ap (λ n. take n (drop a xs)) more
     ∙ take_more (drop a xs) (b - a) 0 (omega arith)
     ∙ ap (λ x. take (b - a) (drop a xs) ++ x ∷ []) (get_or-drop a xs (b - a) 0 ∙ ap (λ i. get_or xs i 0) at)
-
-pub length-part : (xs : List ℕ) (a b : ℕ) → a ≤ b → b ≤ length xs → length (slice_range xs a b) ≡ b - a
-length-part xs a b from b_in = let n = length-drop a xs in let m = length-take (b - a) (drop a xs) in omega arith

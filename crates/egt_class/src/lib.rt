@@ -11,8 +11,3 @@ pub use class::Class;
 pub use descent::children;
 pub use membership::{of, of_men};
 pub use naming::{by_name, name};
-
-#[cfg(test)]
-mod move_tests;
-#[cfg(test)]
-mod tests;

@@ -20,10 +20,7 @@ mod writing;
 
 pub use fault::FenFault;
 pub use fen::Fen;
-pub use laws::{one_fault, one_meaning, written_is_read};
+pub use laws::{faults_keep_numbers, one_fault, one_meaning, written_is_read};
 pub use memory::NoMemory;
 pub use reading::read;
 pub use writing::write;
-
-#[cfg(test)]
-mod tests;

@@ -1,5 +1,5 @@
 -- Lists that a builder adds to.
-use Rattle.std.proofs.Common.{◌≡◌, ℕ, zero, suc, ◌+◌, ◌-◌, ◌<◌, ◌≤◌, cond, eqb, List, [], ◌∷◌, ◌++◌, length, map, slice_index, get_or, set, take, drop, refl, sym, ap, ap₂, ◌∙◌, inl, inr, arith, add-one}
+use Rattle.std.proofs.Common.{◌≡◌, ℕ, zero, suc, ◌+◌, ◌-◌, ◌<◌, ◌≤◌, cond, eqb, List, [], ◌∷◌, ◌++◌, length, map, slice_index, get_or, set, take, drop, refl, sym, ap, ap₂, ◌∙◌, inl, inr, arith}
 use Rattle.std.specs.List.{slice_range}
 use Rattle.std.proofs.lemmas.Bool.{cases_eq, eq-eqb, ne_eqb}
 use Rattle.std.proofs.lemmas.List.{get_or_append_left, get_or_push, length-append, take-append-le, drop-append-le, length-drop, take_all, drop_at, map-set, length-map, get_or-map, get_or-set_same, get_or-set_other}
@@ -24,49 +24,42 @@ part_new xs ys =
     let e = length-append xs ys in
     ap (take (length (xs ++ ys) - length xs)) (drop_at xs ys (length xs) refl) ∙ take_all _ ys (omega arith)
 
-pub Targets_none : (g : Graph) (nodes targets ends : List ℕ) → IsTargets g nodes targets ends 0
-Targets_none g nodes targets ends = record { ordered = λ k lt. absurd (omega arith); within = λ k lt. absurd (omega arith); moves = λ k lt. absurd (omega arith) }
+pub Targets_none : (g : Graph) (nodes targets starts : List ℕ) → IsTargets g nodes targets starts 0
+Targets_none g nodes targets starts = record { ordered = λ k lt. absurd (omega arith); within = λ k lt. absurd (omega arith); moves = λ k lt. absurd (omega arith) }
 
-pub Targets_more : (g : Graph) (nodes targets ends more : List ℕ) (n : ℕ) → IsTargets g nodes targets ends n
-    → length ends ≡ n → slice_index (0 ∷ ends) n ≡ length targets → more ≡ g.into (slice_index nodes n)
-    → IsTargets g nodes (targets ++ more) (ends ++ length (targets ++ more) ∷ []) (n + 1)
-Targets_more g nodes targets ends more n h long last is = record { ordered = ordered; within = within; moves = moves }
+pub Targets_more : (g : Graph) (nodes targets starts more : List ℕ) (n : ℕ) → IsTargets g nodes targets starts n
+    → length starts ≡ n + 1 → slice_index starts n ≡ length targets → more ≡ g.into (slice_index nodes n)
+    → IsTargets g nodes (targets ++ more) (starts ++ length (targets ++ more) ∷ []) (n + 1)
+Targets_more g nodes targets starts more n h long last is = record { ordered = ordered; within = within; moves = moves }
   where
-    start : (k : ℕ) → k < n + 1 → slice_index (0 ∷ (ends ++ length (targets ++ more) ∷ [])) k ≡ slice_index (0 ∷ ends) k
-    start k lt = get_or_append_left (0 ∷ ends) (length (targets ++ more) ∷ []) 0 k (omega arith)
+    old : (k : ℕ) → k < n + 1 → slice_index (starts ++ length (targets ++ more) ∷ []) k ≡ slice_index starts k
+    old k lt = get_or_append_left starts (length (targets ++ more) ∷ []) 0 k (omega arith)
 
-    old : (k : ℕ) → k < n → slice_index (ends ++ length (targets ++ more) ∷ []) k ≡ slice_index ends k
-    old k lt = get_or_append_left ends (length (targets ++ more) ∷ []) 0 k (omega arith)
-
-    new : slice_index (ends ++ length (targets ++ more) ∷ []) n ≡ length (targets ++ more)
-    new = get_or_push ends (length (targets ++ more)) 0 n long
+    new : slice_index (starts ++ length (targets ++ more) ∷ []) (n + 1) ≡ length (targets ++ more)
+    new = get_or_push starts (length (targets ++ more)) 0 (n + 1) long
 
     longer : length (targets ++ more) ≡ length targets + length more
     longer = length-append targets more
 
-    ordered : (k : ℕ) → k < n + 1 → slice_index (0 ∷ (ends ++ length (targets ++ more) ∷ [])) k ≤ slice_index (ends ++ length (targets ++ more) ∷ []) k
+    ordered : (k : ℕ) → k < n + 1 → slice_index (starts ++ length (targets ++ more) ∷ []) k ≤ slice_index (starts ++ length (targets ++ more) ∷ []) (k + 1)
     ordered k lt = elim (cases_eq k n) [
-      | inl e ↦ rw e (let a = start n (omega arith) in let b = new in let c = longer in omega arith)
-      | inr ne ↦ let a = start k lt in let b = old k (omega arith) in let c = h.ordered k (omega arith) in omega arith
+      | inl e ↦ rw e (let a = old n (omega arith) in let b = new in let c = longer in omega arith)
+      | inr ne ↦ let a = old k lt in let b = old (k + 1) (omega arith) in let c = h.ordered k (omega arith) in omega arith
     ]
 
-    within : (k : ℕ) → k < n + 1 → slice_index (ends ++ length (targets ++ more) ∷ []) k ≤ length (targets ++ more)
+    within : (k : ℕ) → k < n + 1 → slice_index (starts ++ length (targets ++ more) ∷ []) (k + 1) ≤ length (targets ++ more)
     within k lt = elim (cases_eq k n) [
       | inl e ↦ rw e (let b = new in omega arith)
-      | inr ne ↦ let b = old k (omega arith) in let c = h.within k (omega arith) in let d = longer in omega arith
+      | inr ne ↦ let b = old (k + 1) (omega arith) in let c = h.within k (omega arith) in let d = longer in omega arith
     ]
 
-    moves : (k : ℕ) → k < n + 1 → slice_range (targets ++ more) (slice_index (0 ∷ (ends ++ length (targets ++ more) ∷ [])) k) (slice_index (ends ++ length (targets ++ more) ∷ []) k) ≡ g.into (slice_index nodes k)
+    moves : (k : ℕ) → k < n + 1 → slice_range (targets ++ more) (slice_index (starts ++ length (targets ++ more) ∷ []) k) (slice_index (starts ++ length (targets ++ more) ∷ []) (k + 1)) ≡ g.into (slice_index nodes k)
     moves k lt = elim (cases_eq k n) [
-      | inl e ↦ rw e (ap₂ (slice_range (targets ++ more)) (start n (omega arith) ∙ last) new ∙ part_new targets more ∙ is)
+      | inl e ↦ rw e (ap₂ (slice_range (targets ++ more)) (old n (omega arith) ∙ last) new ∙ part_new targets more ∙ is)
       | inr ne ↦
-          ap₂ (slice_range (targets ++ more)) (start k lt) (old k (omega arith))
-          ∙ part_kept targets more (slice_index (0 ∷ ends) k) (slice_index ends k) (h.ordered k (omega arith)) (h.within k (omega arith)) ∙ h.moves k (omega arith)
+          ap₂ (slice_range (targets ++ more)) (old k lt) (old (k + 1) (omega arith))
+          ∙ part_kept targets more (slice_index starts k) (slice_index starts (k + 1)) (h.ordered k (omega arith)) (h.within k (omega arith)) ∙ h.moves k (omega arith)
     ]
-
--- where the moves into the next node begin
-pub next_start : (ends : List ℕ) (x n : ℕ) → length ends ≡ n → slice_index (0 ∷ (ends ++ x ∷ [])) (n + 1) ≡ x
-next_start ends x n long = rw add-one (get_or_push ends x 0 n long)
 
 -- one place of a list of lists, one element longer
 pub pushed_at : {V : Type 0} (f : V → List ℕ) (vs : List V) (k : ℕ) (w v : V) (x : ℕ) → k < length vs → w ≡ get_or vs k w → f v ≡ f w ++ x ∷ []

@@ -6,7 +6,7 @@ use Rattle.std.proofs.lemmas.List.{length-set, length-replicate, get_or-replicat
 use Rattle.egt_graph.specs.Graph.{Graph, IsNode, IsGame, IsAlike}
 use Rattle.egt_graph.specs.Value.{AreRanks, SomeAbove, NoneAbove, mated_within, mates_within, mated_before, mates_before, decided_within, is_empty, is_lost_before, is_won_before, HasRank}
 use Rattle.egt_graph.specs.Frontier.{blocks_of, front}
-use Rattle.egt_graph.specs.Rounds.{State, begun, listed, listed_in, is_posted_in, none_posted, Closes, ClosesIn, ClosesRunning}
+use Rattle.egt_graph.specs.Rounds.{State, begun, listed, listed_in, is_posted_in, none_posted, ClosesIn, ClosesRunning}
 use Rattle.egt_graph.specs.Events.{Event, Expanded, Received, Closed, Steps, Runs, is_next, is_end, ticked_by, ticked_after, phase_by, phase_after, is_running, AfterEvents, EventsLeave, EachRoundIsOfItsRank, FinishedRunsAgree}
 use Rattle.egt_graph.specs.declared.answer.Phase.{Phase}
 use Rattle.egt_graph.specs.declared.answer.Phase.TheVariants.{Running, Finished as IsOver, TooDeep as IsPastLimit}
@@ -166,9 +166,6 @@ step_past g limit v w s some at e = subst P (sym e) go
       where
         past_is_past : IsPastLimit ≡ IsOver → ⊥
         past_is_past q = cc
-
-closes_at : (g : Graph) (v : State) (answer : Close) (w : State) (p : Phase) → v.phase ≡ p → Closes g v answer w → ClosesIn p g v answer w
-closes_at g v answer w p e h = let P : Phase → Type 0 = λ x. ClosesIn x g v answer w in subst P e h
 
 step_close_running : (g : Graph) (limit : ℕ) (v w : State) (answer : Close) → Sound g limit v → v.phase ≡ Running → ClosesRunning g v answer w → Stepped g limit v (Closed answer) w
 step_close_running g limit v w NotAll s run h = stays g limit v w (Closed NotAll) s h.1 refl refl (stays_running (is_running v.phase) false refl) (λ b flag. refl)

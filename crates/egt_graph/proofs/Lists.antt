@@ -5,7 +5,7 @@ use Rattle.std.specs.List.Sorted.{IsStrictlyIncreasing}
 use Rattle.egt_graph.specs.Columns.{count_of}
 use Rattle.std.proofs.lemmas.Bool.{or_cases, or_left, or_right, and_parts, and_from, false≢true, cases_Bool, lt-ltb, eqb-true, eq-eqb, ne_eqb}
 use Rattle.std.proofs.lemmas.List.Sums.{sum_by-cons}
-use Rattle.std.proofs.lemmas.List.Elements.{All-head, All-tail}
+use Rattle.std.proofs.lemmas.List.Elements.{All-contains_itself, All-head, All-tail, All-weaker}
 
 -- ---- tests of each and of some element
 
@@ -84,6 +84,14 @@ some_fails p (x ∷ xs) = ap (λ b. not (p x) || b) (some_fails p xs) ∙ not_bo
     not_both true b = refl
     not_both false b = refl
 
+-- where each passes
+pub all_count : {X : Type 0} (p : X → Bool) → ((x : X) → p x ≡ true) → (xs : List X) → count_by p xs ≡ length xs
+all_count p e [] = refl
+all_count p e (x ∷ xs) =
+    let c = count_by-cons p x xs ∙ ap (λ b. cond b 1 0 + count_by p xs) (e x) in
+    let r = all_count p e xs in
+    omega arith
+
 pub some_counts : {X : Type 0} (p : X → Bool) (xs : List X) → list_any p xs ≡ ltb 0 (count_by p xs)
 some_counts p [] = refl
 some_counts p (x ∷ xs) = elim (cases_Bool (p x)) [
@@ -108,6 +116,10 @@ contains_counted x (y ∷ ys) (suc k) h e =
     let a = contains_counted x ys k (omega arith) e in
     let b = count_by-cons (λ z. eqb z x) y ys in
     omega arith
+
+-- numbers that come up are so few
+pub each_counted : (P : ℕ → Type 0) (xs : List ℕ) → ((i : ℕ) → 0 < count_of i xs → P i) → All P xs
+each_counted P xs each = All-weaker (Contains xs) P (λ i has. each i (contains_counted i xs has.0 has.1 has.2)) xs (All-contains_itself xs)
 
 ascends_tail : (x : ℕ) (xs : List ℕ) → IsStrictlyIncreasing (x ∷ xs) → IsStrictlyIncreasing xs
 ascends_tail x xs h k l = let e : suc k + 1 ≡ suc (k + 1) = omega arith in rw e at (h (suc k) (omega arith))

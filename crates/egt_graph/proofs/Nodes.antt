@@ -113,7 +113,7 @@ known_not b w t p q = rw (p, q) (and_right_false w)
     and_right_false true = refl
     and_right_false false = refl
 
-pub or_false : (b : Bool) → b ≡ (b || false)
+or_false : (b : Bool) → b ≡ (b || false)
 or_false true = refl
 or_false false = refl
 
@@ -124,19 +124,24 @@ or_turn false true false = refl
 or_turn false false true = refl
 or_turn false false false = refl
 
--- ---- a lost node of the round
-
-no_win : (g : Graph) → IsGame g → (r j : ℕ) → IsNode g j → mated_within g r j ≡ true → mates_within g r j ≡ false
-no_win g law r j node lost = false_from_ne_true _ (λ w. never_both g law r j node w lost)
-
--- the nodes that lead to it win
-pub lost_wins : (g : Graph) → IsGame g → (r : ℕ) (done : ℕ → Bool) (due j : ℕ) → mated_within g r j ≡ true → (i : ℕ)
-    → is_winning g r (with_node done j) due i ≡ (is_winning g r done due i || ltb 0 (count_of i (ins g j)))
-lost_wins g law r done due j lost i =
-    ap (λ b. b || list_any (is_lost_before due) (leaves g i)) (any_or _ _ _ known (outs g i))
-    ∙ or_turn (list_any (is_known_loss g r done) (outs g i)) (list_any (λ x. eqb x j) (outs g i)) (list_any (is_lost_before due) (leaves g i))
-    ∙ ap (λ b. is_winning g r done due i || b) (some_counts (λ x. eqb x j) (outs g i) ∙ ap (ltb 0) (sym (moves_match g law i j)))
+-- a lost node of the round: the nodes that lead to it win, and none of them has run out of moves to wait for
+pub lost_node_marks : (g : Graph) (law : IsGame g) (r : ℕ) (done : ℕ → Bool) (due won j : ℕ) (es ws es' : List ℕ)
+    → IsNode g j → mated_within g r j ≡ true
+    → Amid g r done due won es ws → Marks es (ins g j) (r + 1) es' → Amid g r (with_node done j) due won es' ws
+lost_node_marks g law r done due won j es ws es' node lost h marks =
+    Hold-same (is_winning g r (with_node done j) due) (waits_at g r (with_node done j) won)
+    (Hold-mark (is_winning g r (with_node done j) due) (ins g j) es' h marks found waiting)
+    (λ i. refl) (λ i. ap (λ n. n + count_by (λ e. not (is_won_before won e)) (leaves g i)) (count_same _ _ (λ x. ap not (unchanged x)) (outs g i)))
   where
+    no_win : mates_within g r j ≡ false
+    no_win = false_from_ne_true _ (λ w. never_both g law r j node w lost)
+
+    unchanged : (x : ℕ) → is_known_win g r done x ≡ is_known_win g r (with_node done j) x
+    unchanged x = elim (cases_eq j x) [
+      | inl e ↦ known_off (mates_before g r x) (mates_within g r x) (done x) (with_node done j x) (ap (mates_within g r) (sym e) ∙ no_win)
+      | inr ne ↦ known_same (mates_before g r x) (mates_within g r x) (done x) (with_node done j x) (sym (other done j x ne))
+    ]
+
     known : (x : ℕ) → is_known_loss g r (with_node done j) x ≡ (is_known_loss g r done x || eqb x j)
     known x = elim (cases_eq j x) [
       | inl e ↦
@@ -147,41 +152,25 @@ lost_wins g law r done due j lost i =
           ∙ or_false (is_known_loss g r done x) ∙ ap (λ b. is_known_loss g r done x || b) (sym (ne_eqb x j (λ e. ne (sym e))))
     ]
 
--- no node waits for less
-pub lost_waits : (g : Graph) → IsGame g → (r : ℕ) (done : ℕ → Bool) (won j : ℕ) → IsNode g j → mated_within g r j ≡ true → (i : ℕ)
-    → waits_at g r done won i ≡ waits_at g r (with_node done j) won i
-lost_waits g law r done won j node lost i = ap (λ n. n + count_by (λ e. not (is_won_before won e)) (leaves g i)) (count_same _ _ (λ x. ap not (unchanged x)) (outs g i))
-  where
-    unchanged : (x : ℕ) → is_known_win g r done x ≡ is_known_win g r (with_node done j) x
-    unchanged x = elim (cases_eq j x) [
-      | inl e ↦ known_off (mates_before g r x) (mates_within g r x) (done x) (with_node done j x) (ap (mates_within g r) (sym e) ∙ no_win g law r j node lost)
-      | inr ne ↦ known_same (mates_before g r x) (mates_within g r x) (done x) (with_node done j x) (sym (other done j x ne))
-    ]
+    found : (i : ℕ) → is_winning g r (with_node done j) due i ≡ (is_winning g r done due i || ltb 0 (count_of i (ins g j)))
+    found i =
+        ap (λ b. b || list_any (is_lost_before due) (leaves g i)) (any_or _ _ _ known (outs g i))
+        ∙ or_turn (list_any (is_known_loss g r done) (outs g i)) (list_any (λ x. eqb x j) (outs g i)) (list_any (is_lost_before due) (leaves g i))
+        ∙ ap (λ b. is_winning g r done due i || b) (some_counts (λ x. eqb x j) (outs g i) ∙ ap (ltb 0) (sym (moves_match g law i j)))
 
--- and none that leads to it has run out of moves to wait for
-pub lost_waiting : (g : Graph) → IsGame g → (r : ℕ) (done : ℕ → Bool) (won j : ℕ) → IsNode g j → mated_within g r j ≡ true → (i : ℕ)
-    → 0 < count_of i (ins g j) → 0 < waits_at g r done won i
-lost_waiting g law r done won j node lost i some =
-    let e = moves_match g law i j in
-    let le = count_weaker (λ x. eqb x j) (λ x. not (is_known_win g r done x)) unknown (outs g i) in
-    omega arith
-  where
-    unknown : (x : ℕ) → eqb x j ≡ true → not (is_known_win g r done x) ≡ true
-    unknown x t =
-        let e = eqb-true x j t in
-        let never = no_win g law r j node lost in
-        not_from_false _ (false_from_ne_true _ (λ k. ⊎_elim
-        (λ b. both_ways _ never (ap (mates_within g r) (sym e) ∙ mates_before_within g r x b))
-        (λ w. both_ways _ never (ap (mates_within g r) (sym e) ∙ (and_parts (mates_within g r x) (done x) w).0))
-        (or_cases (mates_before g r x) _ k)))
-
-pub lost_node_marks : (g : Graph) (law : IsGame g) (r : ℕ) (done : ℕ → Bool) (due won j : ℕ) (es ws es' : List ℕ)
-    → IsNode g j → mated_within g r j ≡ true
-    → Amid g r done due won es ws → Marks es (ins g j) (r + 1) es' → Amid g r (with_node done j) due won es' ws
-lost_node_marks g law r done due won j es ws es' node lost h marks =
-    Hold-same (is_winning g r (with_node done j) due) (waits_at g r (with_node done j) won)
-    (Hold-mark (is_winning g r (with_node done j) due) (ins g j) es' h marks (lost_wins g law r done due j lost) (lost_waiting g law r done won j node lost))
-    (λ i. refl) (lost_waits g law r done won j node lost)
+    waiting : (i : ℕ) → 0 < count_of i (ins g j) → 0 < waits_at g r done won i
+    waiting i some =
+        let e = moves_match g law i j in
+        let le = count_weaker (λ x. eqb x j) (λ x. not (is_known_win g r done x)) unknown (outs g i) in
+        omega arith
+      where
+        unknown : (x : ℕ) → eqb x j ≡ true → not (is_known_win g r done x) ≡ true
+        unknown x t =
+            let e = eqb-true x j t in
+            not_from_false _ (false_from_ne_true _ (λ k. ⊎_elim
+            (λ b. both_ways _ no_win (ap (mates_within g r) (sym e) ∙ mates_before_within g r x b))
+            (λ w. both_ways _ no_win (ap (mates_within g r) (sym e) ∙ (and_parts (mates_within g r x) (done x) w).0))
+            (or_cases (mates_before g r x) _ k)))
 
 no_more : (a b c : ℕ) → a ≡ b → c ≡ 0 → a ≡ b + c
 no_more a b c p q = omega arith
@@ -207,12 +196,14 @@ less g law r done won j node wins fresh undone i =
           no_more _ _ _ (ap (λ t. cond (not t) 1 0) a) (ap (λ t. cond t 1 0) f)
     ]
 
--- ---- a won node of the round
-
--- no node wins by it
-pub won_wins : (g : Graph) → IsGame g → (r : ℕ) (done : ℕ → Bool) (due j : ℕ) → IsNode g j → mates_within g r j ≡ true → (i : ℕ)
-    → is_winning g r done due i ≡ is_winning g r (with_node done j) due i
-won_wins g law r done due j node wins i = ap (λ b. b || list_any (is_lost_before due) (leaves g i)) (any_same _ _ unchanged (outs g i))
+-- a won node of the round: the nodes that lead to it wait for one move less
+pub won_node_takes_back : (g : Graph) (law : IsGame g) (r : ℕ) (done : ℕ → Bool) (due won j : ℕ) (es ws es' ws' : List ℕ)
+    → IsNode g j → mates_within g r j ≡ true → mates_before g r j ≡ false → done j ≡ false
+    → Amid g r done due won es ws → TakesBack es ws (ins g j) (r + 1) es' ws' → Amid g r (with_node done j) due won es' ws'
+won_node_takes_back g law r done due won j es ws es' ws' node wins fresh undone h takes =
+    Hold-same (is_winning g r (with_node done j) due) (waits_at g r (with_node done j) won)
+    (Hold-take (waits_at g r (with_node done j) won) (ins g j) es' ws' h takes (less g law r done won j node wins fresh undone) moved)
+    (λ i. ap (λ b. b || list_any (is_lost_before due) (leaves g i)) (any_same _ _ unchanged (outs g i))) (λ i. refl)
   where
     no_loss : mated_within g r j ≡ false
     no_loss = false_from_ne_true _ (λ m. never_both g law r j node wins m)
@@ -223,15 +214,5 @@ won_wins g law r done due j node wins i = ap (λ b. b || list_any (is_lost_befor
       | inr ne ↦ known_same (mated_before g r x) (mated_within g r x) (done x) (with_node done j x) (sym (other done j x ne))
     ]
 
--- each that leads to it has moves
-pub won_moved : (g : Graph) → IsGame g → (j i : ℕ) → 0 < count_of i (ins g j) → has_moves g i ≡ true
-won_moved g law j i some = let e = moves_match g law i j in moved_has_moves g i j (omega arith)
-
--- the nodes that lead to it wait for one move less
-pub won_node_takes_back : (g : Graph) (law : IsGame g) (r : ℕ) (done : ℕ → Bool) (due won j : ℕ) (es ws es' ws' : List ℕ)
-    → IsNode g j → mates_within g r j ≡ true → mates_before g r j ≡ false → done j ≡ false
-    → Amid g r done due won es ws → TakesBack es ws (ins g j) (r + 1) es' ws' → Amid g r (with_node done j) due won es' ws'
-won_node_takes_back g law r done due won j es ws es' ws' node wins fresh undone h takes =
-    Hold-same (is_winning g r (with_node done j) due) (waits_at g r (with_node done j) won)
-    (Hold-take (waits_at g r (with_node done j) won) (ins g j) es' ws' h takes (less g law r done won j node wins fresh undone) (won_moved g law j))
-    (won_wins g law r done due j node wins) (λ i. refl)
+    moved : (i : ℕ) → 0 < count_of i (ins g j) → has_moves g i ≡ true
+    moved i some = let e = moves_match g law i j in moved_has_moves g i j (omega arith)

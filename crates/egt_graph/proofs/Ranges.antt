@@ -1,5 +1,6 @@
 -- A filter of consecutive numbers.
-use Rattle.std.proofs.Common.{◌≡◌, ℕ, zero, suc, ◌+◌, ◌-◌, ◌<◌, ◌≤◌, Bool, true, false, cond, [], ◌∷◌, ◌++◌, length, refl, ap, ◌∙◌, arith, filter}
+use Rattle.std.proofs.Common.{◌≡◌, ℕ, zero, suc, ◌+◌, ◌<◌, ◌≤◌, Bool, true, false, cond, List, [], ◌∷◌, ◌++◌, length, refl, ap, ◌∙◌, arith, filter, slice_index, IsFalse}
+use Rattle.egt_graph.specs.Frontier.{frontier_below, is_entry_of_round}
 use Rattle.std.specs.List.{range_with_len}
 use Rattle.std.proofs.lemmas.List.{append-nil}
 use Rattle.std.proofs.lemmas.List.Elements.{filter-append}
@@ -23,9 +24,18 @@ filter_range_none p a zero h = refl
 filter_range_none p a (suc n) h =
     rw (h a (omega arith) (omega arith)) (filter_range_none p (a + 1) n (λ k low high. h k (omega arith) (omega arith)))
 
+pub filter_range_quiet : (p : ℕ → Bool) (n m : ℕ) → ((k : ℕ) → n ≤ k → k < n + m → p k ≡ false) → filter p (range_with_len 0 (n + m)) ≡ filter p (range_with_len 0 n)
+filter_range_quiet p n m h =
+    let e : 0 + n ≡ n = omega arith in
+    ap (filter p) (range_with_len-append 0 n m) ∙ filter-append p (range_with_len 0 n) (range_with_len (0 + n) m)
+    ∙ ap (λ xs. filter p (range_with_len 0 n) ++ xs) (rw e (filter_range_none p n m h)) ∙ append-nil (filter p (range_with_len 0 n))
+
 pub length-filter_range : (p : ℕ → Bool) (a n : ℕ) → length (filter p (range_with_len a n)) ≤ n
 length-filter_range p a n =
     omega (arith, length-filter p (range_with_len a n), count_by-le-length p (range_with_len a n), length-range_with_len a n)
+
+pub length_frontier_below : (entries : List ℕ) (n m : ℕ) → length (frontier_below entries n m) ≤ m
+length_frontier_below entries n m = length-filter_range (λ k. is_entry_of_round n (slice_index entries k)) 0 m
 
 -- one more number from 0 on, which passes or not
 pub filter_below_yes : (p : ℕ → Bool) (n : ℕ) → p n ≡ true → filter p (range_with_len 0 (n + 1)) ≡ filter p (range_with_len 0 n) ++ n ∷ []
@@ -38,17 +48,6 @@ filter_below_no p n h =
     let e : 0 + n ≡ n = omega arith in
     filter_range_more p 0 n ∙ rw (e, h) (append-nil (filter p (range_with_len 0 n)))
 
--- the numbers from a up to b that pass, of which m is the first
-pub filter_range_next : (p : ℕ → Bool) (a b m : ℕ) → a ≤ m → m < b → ((k : ℕ) → a ≤ k → k < m → p k ≡ false) → p m ≡ true
-    → filter p (range_with_len a (b - a)) ≡ m ∷ filter p (range_with_len (m + 1) (b - (m + 1)))
-filter_range_next p a b m le lt quiet passes =
-    let e : b - a ≡ (m - a) + suc (b - (m + 1)) = omega arith in
-    let f : a + (m - a) ≡ m = omega arith in
-    ap (λ n. filter p (range_with_len a n)) e ∙ ap (filter p) (range_with_len-append a (m - a) (suc (b - (m + 1))))
-    ∙ filter-append p (range_with_len a (m - a)) (range_with_len (a + (m - a)) (suc (b - (m + 1))))
-    ∙ ap (λ xs. xs ++ filter p (range_with_len (a + (m - a)) (suc (b - (m + 1))))) (filter_range_none p a (m - a) (λ k low high. quiet k low (omega arith)))
-    ∙ ap (λ n. filter p (range_with_len n (suc (b - (m + 1))))) f ∙ rw passes refl
-
--- none of them passes
-pub filter_range_empty : (p : ℕ → Bool) (a b : ℕ) → ((k : ℕ) → a ≤ k → k < b → p k ≡ false) → filter p (range_with_len a (b - a)) ≡ []
-filter_range_empty p a b quiet = filter_range_none p a (b - a) (λ k low high. quiet k low (omega arith))
+-- a load without an entry of the round
+pub frontier_quiet : (entries : List ℕ) (n m : ℕ) → ((k : ℕ) → m ≤ k → k < m + 16 → IsFalse (is_entry_of_round n (slice_index entries k))) → frontier_below entries n (m + 16) ≡ frontier_below entries n m
+frontier_quiet entries n m h = filter_range_quiet (λ k. is_entry_of_round n (slice_index entries k)) m 16 h

@@ -6,13 +6,12 @@ use Rattle.egt_graph.specs.Value.{SomeAbove, NoneAbove}
 use Rattle.egt_graph.specs.Frontier.{front, entry_front, blocks_of}
 use Rattle.egt_graph.specs.Rounds.{State, listed, listed_in}
 use Rattle.egt_graph.specs.Run.{IsRun, Holds, IsSchedule}
-use Rattle.egt_graph.specs.Columns.{leaves, count_of, is_win_from, done_of, Amid, Await, Marks, TakesBack, is_open_at}
+use Rattle.egt_graph.specs.Columns.{leaves, count_of, done_of, Amid, Await, Marks, TakesBack, is_open_at}
 use Rattle.egt_graph.specs.declared.answer.Phase.{Phase}
 use Rattle.egt_graph.specs.declared.answer.Phase.TheVariants.{Running, Finished, TooDeep}
 use Rattle.egt_graph.specs.declared.game.Exit.{Exit}
 use Rattle.egt_graph.specs.Frontier.{is_node}
 use Rattle.std.proofs.lemmas.Bool.{cases_Bool, cases_lt}
-use Rattle.std.proofs.lemmas.List.Elements.{All-weaker}
 use Rattle.egt_graph.proofs.Lists.{contains_counted}
 use Rattle.egt_graph.proofs.Nodes.{node_from_test, leaves_none}
 use Rattle.egt_graph.proofs.Exits.{lost_exits_mark, won_exits_take, won_exits_waited, later_next}
@@ -69,21 +68,16 @@ empty_count : (p : Exit → Bool) (xs : List Exit) → xs ≡ [] → count_by p 
 empty_count p xs e = ap (count_by p) e
 
 -- what falls due does so for nodes
-leaving_node : (g : Graph) (test : Exit → Bool) (i : ℕ) → 0 < count_by test (leaves g i) → IsNode g i
-leaving_node g test i some = elim (cases_Bool (is_node g i)) [
-  | inl t ↦ node_from_test g i t
-  | inr f ↦ let b = empty_count test (leaves g i) (leaves_none g i f) in absurd (omega arith)
-]
-
-pub due_nodes : (g : Graph) (test : ℕ → Exit → Bool) (rounds : List (List ℕ)) → IsSchedule g test rounds → (n : ℕ) → All (IsNode g) (slice_index_or rounds n [])
-due_nodes g test rounds h n = λ k d lt.
-    leaving_node g (test n) (get_or (slice_index_or rounds n []) k d)
-    (let some = contains_counted (get_or (slice_index_or rounds n []) k d) (slice_index_or rounds n []) k lt (get_or_default (slice_index_or rounds n []) k _ d lt) in
-    let same = h n (get_or (slice_index_or rounds n []) k d) in omega arith)
-
-pub due_within : (g : Graph) (test : ℕ → Exit → Bool) (rounds : List (List ℕ)) → IsSchedule g test rounds → (n m : ℕ) → m ≡ g.size
+pub due_nodes : (g : Graph) (test : ℕ → Exit → Bool) (rounds : List (List ℕ)) → IsSchedule g test rounds → (n m : ℕ) → m ≡ g.size
     → All (λ i. i < m) (slice_index_or rounds n [])
-due_within g test rounds h n m e = rw e (All-weaker (IsNode g) (λ i. i < g.size) (λ i node. node.in_range) (slice_index_or rounds n []) (due_nodes g test rounds h n))
+due_nodes g test rounds h n m e = λ k d lt. rw e (within (get_or (slice_index_or rounds n []) k d)
+    (contains_counted (get_or (slice_index_or rounds n []) k d) (slice_index_or rounds n []) k lt (get_or_default (slice_index_or rounds n []) k _ d lt)))
+  where
+    within : (i : ℕ) → 0 < count_of i (slice_index_or rounds n []) → i < g.size
+    within i some = elim (cases_Bool (is_node g i)) [
+      | inl t ↦ (node_from_test g i t).in_range
+      | inr f ↦ let a = h n i in let b = empty_count (test n) (leaves g i) (leaves_none g i f) in absurd (omega arith)
+    ]
 
 pub all_done : (g : Graph) (posted : List Bool) → length posted ≡ blocks_of g.size → All IsTrue posted → (j : ℕ) → IsNode g j → done_of posted j ≡ true
 all_done g posted long all j node = let lt = node.in_range in all (j / 4096) false (omega arith)
@@ -214,13 +208,6 @@ due_waited g v es ws ls fs ld wd h e i =
     let w = before.0.waiting i in
     let le = won_exits_waited g v.round (done_of v.posted) (slice_index_or wd v.round []) (h.wins v.round) i in
     omega arith
-
--- what may yet be won leaves from nodes alone
-pub due_leaving : (g : Graph) (v : State) (es ws ls : List ℕ) (fs : List Bool) (ld wd : List (List ℕ)) → IsRun g v es ws ls fs ld wd → v.phase ≡ Running
-    → (i : ℕ) → 0 < slice_index ls i → IsNode g i
-due_leaving g v es ws ls fs ld wd h e i some =
-    let before = amid_of g v es ws ls fs ld wd h e in
-    leaving_node g (is_win_from v.round) i (let w = before.1.wins i in omega arith)
 
 pub due_counted : (g : Graph) (v : State) (es ws ls : List ℕ) (fs : List Bool) (ld wd : List (List ℕ)) → IsRun g v es ws ls fs ld wd → v.phase ≡ Running
     → (i : ℕ) → count_of i (slice_index_or wd v.round []) ≤ slice_index ls i

@@ -1,15 +1,12 @@
 -- A batch taken in, node by node.
 use Rattle.std.proofs.Common.{◌≡◌, ◌≢◌, ℕ, ◌+◌, ◌*◌, ◌<◌, ◌≤◌, Bool, true, false, List, length, slice_index, slice_index_or, get_or, set, sym, ap, subst, ◌∙◌, arith, All}
-use Rattle.std.specs.List.{slice_range}
 use Rattle.std.proofs.lemmas.Bool.{and_parts}
 use Rattle.std.proofs.lemmas.List.Elements.{All-weaker}
 use Rattle.egt_graph.specs.Graph.{Graph, IsNode, IsGame, IsAlike}
 use Rattle.egt_graph.specs.Value.{mated_within, mates_within, mates_before}
 use Rattle.egt_graph.specs.Frontier.{is_node, front}
-use Rattle.egt_graph.specs.Columns.{ins, into_all, count_of, entry_at, decided, Amid, Marks, TakesBack, done_of, done_by}
+use Rattle.egt_graph.specs.Columns.{ins, count_of, entry_at, decided, Amid, Marks, TakesBack, done_of, done_by}
 use Rattle.egt_graph.proofs.Nodes.{node_from_test, ins_at, with_node, lost_node_marks, won_node_takes_back, less}
-use Rattle.egt_graph.proofs.Lost.{IsLost, with_nodes, lost_run_marks, run_at, done_run}
-use Rattle.egt_graph.proofs.Won.{IsWonRun}
 use Rattle.egt_graph.proofs.Blocks.{Found, Wins, Loses, found, found_entry, front_at, Amid_redone, done_by_none, done_by_more, done_by_all, not_done}
 
 -- one node of a batch of round r, at place k, with the nodes that a move leads from to it
@@ -27,13 +24,10 @@ turn_sources : (g : Graph) (r block k : ℕ) (posted : List Bool) (nodes sources
 turn_sources g r block k posted nodes sources t =
     let f = front_at g r block k nodes t.whole t.in_list in t.moves ∙ sym (ins_at g _ (and_parts (is_node g (get_or nodes k 0)) _ f.0).0)
 
-pub sources_nodes : (g : Graph) → IsGame g → (r block k : ℕ) (posted : List Bool) (nodes sources : List ℕ) → IsTurn g r block k posted nodes sources → All (IsNode g) sources
-sources_nodes g law r block k posted nodes sources t = rw t.moves (law.into_nodes _ (turn_node g r block k posted nodes sources t))
-
 pub sources_within : (g : Graph) → IsGame g → (r block k : ℕ) (posted : List Bool) (nodes sources : List ℕ) → IsTurn g r block k posted nodes sources
     → (n : ℕ) → n ≡ g.size → All (λ i. i < n) sources
 sources_within g law r block k posted nodes sources t n e =
-    rw e (All-weaker (IsNode g) (λ i. i < g.size) (λ i node. node.in_range) sources (sources_nodes g law r block k posted nodes sources t))
+    rw (t.moves, e) (All-weaker (IsNode g) (λ i. i < g.size) (λ i node. node.in_range) (g.into (get_or nodes k 0)) (law.into_nodes _ (turn_node g r block k posted nodes sources t)))
 
 -- the entry of the node tells a win from a loss
 found_win : (g : Graph) (r i e : ℕ) (win loss : Bool) → Found g r i → e ≡ decided (entry_at g r i) win loss (r + 1) → e ≡ 2 + 2 * r
@@ -69,39 +63,6 @@ turn_lost g law r block k posted nodes sources due won es ws es' t h is marks =
     (λ x ranked. done_by_more posted nodes k t.in_list x)
     (lost_node_marks g law r (done_by posted nodes k) due won (get_or nodes k 0) es ws es' (turn_node g r block k posted nodes sources t) l h
     (subst P (turn_sources g r block k posted nodes sources t) marks))
-
--- a run of lost nodes, from place k up to end
-pub turns_lost : (g : Graph) → IsGame g → (r block k end : ℕ) (posted : List Bool) (nodes : List ℕ) (due won : ℕ) (es ws es' : List ℕ)
-    → nodes ≡ front g r block → k ≤ end → end ≤ length nodes → Amid g r (done_by posted nodes k) due won es ws
-    → ((m : ℕ) → k ≤ m → m < end → get_or es (get_or nodes m 0) 0 ≢ 2 + 2 * r)
-    → Marks es (into_all g (slice_range nodes k end)) (r + 1) es' → Amid g r (done_by posted nodes end) due won es' ws
-turns_lost g law r block k end posted nodes due won es ws es' whole le within h lost marks =
-    Amid_redone g law r (with_nodes (done_by posted nodes k) (slice_range nodes k end)) (done_by posted nodes end) due won es' ws
-    (λ x ranked. done_run posted nodes k end le x)
-    (lost_run_marks g law r (done_by posted nodes k) due won (slice_range nodes k end) es ws es' each h marks)
-  where
-    each : All (IsLost g r) (slice_range nodes k end)
-    each p d lt =
-        let at = run_at nodes k end p d lt in
-        let f = front_at g r block (k + p) nodes whole at.1 in
-        rw at.2 (record {
-          node = node_from_test g _ (and_parts (is_node g (get_or nodes (k + p) 0)) _ f.0).0;
-          lost = found_loss g r _ _ _ _ (found g law r _ f.0) (h.entry (get_or nodes (k + p) 0)) (lost (k + p) (omega arith) at.0);
-        })
-
--- a run of won nodes, from place k up to end
-pub turns_won : (g : Graph) → IsGame g → (r block k end : ℕ) (posted : List Bool) (nodes : List ℕ) (due won : ℕ) (es ws : List ℕ)
-    → nodes ≡ front g r block → slice_index_or posted block false ≡ false → k ≤ end → end ≤ length nodes → Amid g r (done_by posted nodes k) due won es ws
-    → ((m : ℕ) → k ≤ m → m < end → get_or es (get_or nodes m 0) 0 ≡ 2 + 2 * r) → IsWonRun g r block k end posted nodes
-turns_won g law r block k end posted nodes due won es ws whole fresh le within h is = record {
-  whole = whole;
-  fresh = fresh;
-  ordered = le;
-  within = within;
-  wins = λ m low high.
-      let f = front_at g r block m nodes whole (omega arith) in
-      found_win g r _ _ _ _ (found g law r _ f.0) (h.entry (get_or nodes m 0)) (is m low high);
-}
 
 -- a won node takes back no move that is not waited for
 pub turn_waited : (g : Graph) → IsGame g → (r block k : ℕ) (posted : List Bool) (nodes sources : List ℕ) (due won : ℕ) (es ws : List ℕ)

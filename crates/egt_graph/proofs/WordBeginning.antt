@@ -14,11 +14,15 @@ use Rattle.egt_graph.specs.WordRound.{is_unwon, is_leaving, has_lost_exit, has_h
 use Rattle.egt_graph.specs.declared.game.Exit.{Exit}
 use Rattle.egt_graph.specs.declared.game.Exit.TheVariants.{Win, Loss, Draw}
 use Rattle.egt_graph.specs.declared.words.WordStart.{WordStart}
-use Rattle.egt_graph.proofs.Lists.{any_or, any_same_on, all_same_on, some_counts, some_fails, none_fails}
+use Rattle.egt_graph.proofs.Lists.{all_count, any_or, any_same_on, all_same_on, some_counts, some_fails, none_fails}
 use Rattle.egt_graph.proofs.Nodes.{node_from_test, test_from_node, leaves_at, leaves_none}
 use Rattle.egt_graph.proofs.Exits.{lost_next}
-use Rattle.egt_graph.proofs.Beginning.{like_long}
 use Rattle.egt_graph.proofs.WordBits.{both_set, set_both, not_set, set_not}
+
+-- ---- the same values in another order
+
+like_long : (xs ys : List Exit) → AreLike xs ys → length xs ≡ length ys
+like_long xs ys like = sym (all_count (λ _. true) (λ x. refl) xs) ∙ like (λ _. true) ∙ all_count (λ _. true) (λ x. refl) ys
 
 -- ---- one bit more
 

@@ -1,7 +1,8 @@
 -- Words of bits, by the facts that hold where a bit is set.
-use Rattle.std.proofs.Common.{◌≡◌, ◌≢◌, ◌↔◌, ◌⊎◌, ℕ, ◌+◌, ◌-◌, ◌*◌, ◌%◌, ◌<◌, ◌^◌, bit_and, bit_or, w64, sym, ap, subst, ◌∙◌, inl, inr, arith}
+use Rattle.std.proofs.Common.{◌≡◌, ◌≢◌, ◌↔◌, ◌⊎◌, ℕ, ◌+◌, ◌-◌, ◌*◌, ◌%◌, ◌<◌, ◌≤◌, ◌^◌, bit_and, bit_or, w64, sym, ap, subst, ◌∙◌, inl, inr, arith}
 use Rattle.std.proofs.lemmas.Bool.{cases_eq, cases_lt}
-use Rattle.std.proofs.lemmas.Nat.Bits.{bit_at_and, bit_at_or, bit_at_not, bit_at-lt, bit_at-zero, bit_at_above, bit_at_set_same, bit_at_set_other, bit_at-trailing_zeros}
+use Rattle.std.proofs.lemmas.Nat.Bits.{bit_at_and, bit_at_or, bit_at_not, bit_at-lt, bit_at-zero, bit_at_above, bit_at_set_same, bit_at_set_other, bit_at_clear_same, bit_at-trailing_zeros}
+use Rattle.std.proofs.lemmas.Nat.{and_le_l}
 use Rattle.std.specs.Int.{bit_at, trailing_zeros}
 
 -- ---- one bit
@@ -47,6 +48,27 @@ none_set k one = let zero = bit_at-zero k in omega (arith, zero, one)
 -- a word that is not 0 has a bit
 pub some_set : (n : ℕ) → n ≢ 0 → n < 2 ^ 64 → (k : ℕ) × (bit_at n k ≡ 1)
 some_set n some small = let at = bit_at-trailing_zeros w64 n (omega (arith, some)) small in (trailing_zeros w64 n, at.1)
+
+-- ---- the lowest bit
+
+pub lowest : (bits : ℕ) → bits ≢ 0 → bits < 2 ^ 64 → (trailing_zeros w64 bits < 64) × (bit_at bits (trailing_zeros w64 bits) ≡ 1)
+lowest bits some small = let at = bit_at-trailing_zeros w64 bits (omega (arith, some)) small in (at.0, at.1)
+
+abbrev pub without_lowest : ℕ → ℕ
+without_lowest bits = bit_and bits (18446744073709551615 - 1 * 2 ^ trailing_zeros w64 bits % 18446744073709551616)
+
+less : (m n : ℕ) → m ≤ n → m ≢ n → m < n
+less m n le other = omega (arith, le, other)
+
+pub pop_fewer : (bits : ℕ) → bits ≢ 0 → bits < 2 ^ 64 → without_lowest bits < bits
+pop_fewer bits some small =
+    let k = trailing_zeros w64 bits in
+    let at = lowest bits some small in
+    less (without_lowest bits) bits (and_le_l bits (18446744073709551615 - 1 * 2 ^ k % 18446744073709551616)) (λ e.
+    let gone = bit_at_clear_same w64 bits k at.0 in
+    let same = ap (λ n. bit_at n k) e in
+    let one = at.1 in
+    absurd (omega (arith, gone, same, one)))
 
 -- ---- bits that are gathered
 

@@ -7,9 +7,8 @@ use Rattle.egt_graph.specs.Value.{is_lost_before, is_won_before}
 use Rattle.egt_graph.specs.Frontier.{is_node}
 use Rattle.egt_graph.specs.Columns.{leaves, count_of, is_win_of}
 use Rattle.egt_graph.specs.WordRound.{is_marked_in, is_ready, is_due, AreTold, TellsLosses, WaitsFor, WaitsForNone, HasExits}
-use Rattle.egt_graph.proofs.Lists.{none_fails}
+use Rattle.egt_graph.proofs.Lists.{each_counted, none_fails}
 use Rattle.egt_graph.proofs.Nodes.{node_from_test, leaves_none}
-use Rattle.egt_graph.proofs.Marking.{each_counted}
 use Rattle.egt_graph.proofs.WordEnding.{wait_next}
 
 -- ---- lost exits

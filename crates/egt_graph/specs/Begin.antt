@@ -2,9 +2,7 @@
 use Rattle.std.specs.Prelude.{◌≡◌, ℕ, ◌+◌, ◌<◌, ◌≤◌, ◌==◌, Bool, false, List, [], length, slice_index, slice_index_or, count_by, if◌then◌else◌}
 use Rattle.std.specs.List.{list_any}
 use Rattle.egt_graph.specs.Graph.{Graph}
-use Rattle.egt_graph.specs.Counts.{CountsTell}
-use Rattle.egt_graph.specs.Columns.{outs, leaves, told, count_of, entry_at, later_at, is_loss, is_win_of, is_loss_of}
-use Rattle.egt_graph.specs.declared.begin.Columns.{Columns}
+use Rattle.egt_graph.specs.Columns.{outs, leaves, count_of, entry_at, later_at, is_loss, is_win_of, is_loss_of}
 use Rattle.egt_graph.specs.declared.game.Exit.{Exit}
 
 -- the node was added under the numbers of its exits
@@ -17,24 +15,15 @@ pub record IsFilled (g : Graph) (test : ℕ → Exit → Bool) (m : ℕ) (rounds
   pub before : (n i : ℕ) → i < m → count_of i (slice_index_or rounds n []) ≡ count_by (test n) (leaves g i)
   pub after : (n i : ℕ) → m ≤ i → count_of i (slice_index_or rounds n []) ≡ 0
 
--- what the first m numbers begin with; the columns are whole, and hold nothing of the others
+-- what the first m nodes begin with
 pub record IsBegun (g : Graph) (m : ℕ) (entries waits later : List ℕ) (lost : List Bool) (lost_due won_due : List (List ℕ)) : Type 0 where
-  pub entries_long : length entries ≡ g.size
-  pub waits_long : length waits ≡ g.size
-  pub later_long : length later ≡ g.size
-  pub lost_long : length lost ≡ g.size
+  pub entries_long : length entries ≡ m
+  pub waits_long : length waits ≡ m
+  pub later_long : length later ≡ m
+  pub lost_long : length lost ≡ m
   pub entry : (i : ℕ) → i < m → slice_index entries i ≡ entry_at g 0 i
   pub waiting : (i : ℕ) → i < m → slice_index waits i ≡ length (outs g i) + length (leaves g i)
   pub wins : (i : ℕ) → i < m → slice_index later i ≡ later_at g 0 i
   pub losses : (i : ℕ) → i < m → slice_index_or lost i false ≡ list_any is_loss (leaves g i)
-  pub no_entry : (i : ℕ) → m ≤ i → slice_index entries i ≡ 0
-  pub none_waits : (i : ℕ) → m ≤ i → slice_index waits i ≡ 0
-  pub no_wins : (i : ℕ) → m ≤ i → slice_index later i ≡ 0
-  pub no_losses : (i : ℕ) → m ≤ i → slice_index_or lost i false ≡ false
   pub lost_exits : IsFilled g is_loss_of m lost_due
   pub won_exits : IsFilled g is_win_of m won_due
-
-abbrev pub AreBegun : Graph → ℕ → Columns → Type 0
-AreBegun g m columns =
-    IsBegun g m columns.entries.items (told g columns.waits.items) columns.later.items columns.lost.items columns.lost_due columns.won_due
-    × CountsTell g columns.counts.items

@@ -1,7 +1,7 @@
 -- What the columns of a run hold: functions of the game, the round and the nodes whose moves were taken back, whatever
 -- the order in which that was done.
-use Rattle.std.specs.Prelude.{◌≡◌, ℕ, zero, suc, ◌+◌, ◌*◌, ◌/◌, Bool, true, false, not, ◌&&◌, ◌||◌, List, [], ◌∷◌, length, slice_index, slice_index_or, count_by, take, ◌==◌, nat_lt, nat_le, if◌then◌else◌}
-use Rattle.std.specs.List.{list_any, flat_map}
+use Rattle.std.specs.Prelude.{◌≡◌, ℕ, zero, suc, ◌+◌, ◌*◌, ◌/◌, Bool, true, false, not, ◌&&◌, ◌||◌, List, [], slice_index, slice_index_or, count_by, take, ◌==◌, nat_lt, nat_le, if◌then◌else◌}
+use Rattle.std.specs.List.{list_any}
 use Rattle.egt_graph.specs.Graph.{Graph}
 use Rattle.egt_graph.specs.Value.{is_empty, is_lost_before, is_won_before, mated_within, mates_within, mated_before, mates_before}
 use Rattle.egt_graph.specs.Frontier.{is_node, is_entry_of_round}
@@ -15,26 +15,11 @@ outs g i = if is_node g i then g.out i else []
 abbrev pub ins : Graph → ℕ → List ℕ
 ins g j = if is_node g j then g.into j else []
 
--- the moves into each of some nodes, one after the other
-abbrev pub into_all : Graph → List ℕ → List ℕ
-into_all g nodes = flat_map (ins g) nodes
-
 abbrev pub leaves : Graph → ℕ → List Exit
 leaves g i = if is_node g i then g.exits i else []
 
 abbrev pub has_moves : Graph → ℕ → Bool
 has_moves g i = not (is_empty (outs g i) && is_empty (leaves g i))
-
--- what a node waits for: 255 stands for all its moves and exits, before any was taken back
-abbrev pub told_at : Graph → ℕ → ℕ → ℕ
-told_at g i wait = if wait == 255 then length (outs g i) + length (leaves g i) else wait
-
-unfoldable pub told_from : Graph → ℕ → List ℕ → List ℕ
-told_from g i [] = []
-told_from g i (wait ∷ waits) = told_at g i wait ∷ told_from g (i + 1) waits
-
-abbrev pub told : Graph → List ℕ → List ℕ
-told g waits = told_from g 0 waits
 
 -- how often i stands in the list
 abbrev pub count_of : ℕ → List ℕ → ℕ
@@ -110,24 +95,16 @@ abbrev pub Amid : Graph → ℕ → (ℕ → Bool) → ℕ → ℕ → List ℕ 
 Amid g r done lost won entries waits =
     Hold (entry_at g r) (has_moves g) (is_winning g r done lost) (waits_at g r done won) (r + 1) entries waits
 
--- the nodes that come so often were marked as wins in n plies
-abbrev pub MarksTimes : List ℕ → (ℕ → ℕ) → ℕ → List ℕ → Type 0
-MarksTimes entries times n entries' =
-    (i : ℕ) → slice_index entries' i ≡ decided (slice_index entries i) (nat_lt 0 (times i)) false n
-
--- those of a list were
+-- the listed nodes were marked as wins in n plies
 abbrev pub Marks : List ℕ → List ℕ → ℕ → List ℕ → Type 0
-Marks entries nodes n entries' = MarksTimes entries (λ i. count_of i nodes) n entries'
+Marks entries nodes n entries' =
+    (i : ℕ) → slice_index entries' i ≡ decided (slice_index entries i) (nat_lt 0 (count_of i nodes)) false n
 
--- each node waits for as many moves less as it comes up, and has lost in n plies where it comes and waits for none
-pub record TakesTimes (entries waits : List ℕ) (times : ℕ → ℕ) (n : ℕ) (entries' waits' : List ℕ) : Type 0 where
+-- each listed node waits for one move less, and has lost in n plies where it waits for none
+pub record TakesBack (entries waits nodes : List ℕ) (n : ℕ) (entries' waits' : List ℕ) : Type 0 where
   pub entry : (i : ℕ) → slice_index entries' i
-      ≡ decided (slice_index entries i) false (nat_lt 0 (times i) && (slice_index waits' i == 0)) n
-  pub waiting : (i : ℕ) → slice_index waits' i + times i ≡ slice_index waits i
-
--- those of a list do
-abbrev pub TakesBack : List ℕ → List ℕ → List ℕ → ℕ → List ℕ → List ℕ → Type 0
-TakesBack entries waits nodes n entries' waits' = TakesTimes entries waits (λ i. count_of i nodes) n entries' waits'
+      ≡ decided (slice_index entries i) false (nat_lt 0 (count_of i nodes) && (slice_index waits' i == 0)) n
+  pub waiting : (i : ℕ) → slice_index waits' i + count_of i nodes ≡ slice_index waits i
 
 -- what is known of exits that are not due: how many may still turn out wins, and whether one is a loss
 pub record Await (g : Graph) (due : ℕ) (later : List ℕ) (lost : List Bool) : Type 0 where

@@ -9,9 +9,6 @@ use Rattle.egt_graph.specs.Graph.{Graph}
 use Rattle.egt_graph.specs.Value.{mates_within, mates_before, mated_within, mated_before}
 
 -- the nodes of a block, of which the last may have fewer
-abbrev pub block_size : ℕ
-block_size = 4096
-
 abbrev pub block_len : ℕ → ℕ → ℕ
 block_len size block = min 4096 (size - 4096 * block)
 
@@ -44,9 +41,9 @@ front-ascends g n block = IsStrictlyIncreasing-filter (is_ranked g n) (range_wit
 abbrev pub is_entry_of_round : ℕ → ℕ → Bool
 is_entry_of_round n entry = (entry == 2 + 2 * n) || (entry == 3 + 2 * n)
 
--- the places of such entries from a up to b, ascending; all such places
-abbrev pub places_from : List ℕ → ℕ → ℕ → ℕ → List ℕ
-places_from entries n a b = filter (λ k. is_entry_of_round n (slice_index entries k)) (range_with_len a (b - a))
+-- the places of such entries among the first m, ascending; all such places
+abbrev pub frontier_below : List ℕ → ℕ → ℕ → List ℕ
+frontier_below entries n m = filter (λ k. is_entry_of_round n (slice_index entries k)) (range_with_len 0 m)
 
 abbrev pub frontier_of : List ℕ → ℕ → List ℕ
 frontier_of entries n = filter (λ k. is_entry_of_round n (slice_index entries k)) (range_with_len 0 (length entries))

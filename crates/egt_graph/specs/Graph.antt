@@ -1,9 +1,8 @@
 -- A finite game as its players see it: who may go where. Positions are numbers, its nodes.
-use Rattle.std.specs.Prelude.{◌≡◌, ℕ, ◌<◌, ◌≤◌, Bool, true, List, [], length, count_by, Option, All, Contains, IsTrue, IsFalse, IfSome, IfNone}
+use Rattle.std.specs.Prelude.{◌≡◌, ℕ, ◌<◌, ◌≤◌, Bool, List, [], count_by, All, Contains, IsTrue, IsFalse}
 use Rattle.std.specs.List.Sorted.{IsStrictlyIncreasing}
 use Rattle.egt_graph.specs.declared.game.Exit.{Exit}
 use Rattle.egt_graph.specs.declared.game.Exit.TheVariants.{Win, Loss, Draw}
-use Rattle.egt_graph.specs.declared.game.Start.{Start}
 
 pub record Graph : Type 0 where
   -- the nodes are the numbers below the size that are not void
@@ -24,11 +23,6 @@ pub record IsNode (g : Graph) (i : ℕ) : Type 0 where
 -- as many of the one list pass any test as of the other: they are the same values, in whatever order
 abbrev pub AreLike : List Exit → List Exit → Type 0
 AreLike xs ys = (test : Exit → Bool) → count_by test xs ≡ count_by test ys
-
--- what is told of a number before any rank is known, with the values of the positions outside in any order
-pub record IsStart (g : Graph) (i : ℕ) (start : Option Start) (exits : List Exit) : Type 0 where
-  pub node : IfSome start (λ s. IsFalse (g.void i) × (s.mated ≡ g.mated i) × IfSome s.degree (λ n. (n ≡ length (g.out i)) × (n ≤ 64)) × AreLike exits (g.exits i))
-  pub void : IfNone start ((g.void i ≡ true) × (exits ≡ []))
 
 -- a value from outside is of a distance that an entry can hold
 abbrev pub HasShortDistance : Exit → Type 0

@@ -1,11 +1,10 @@
 //! The work of one block in one round.
-ghost use Rattle.std.specs.Prelude.{◌≡◌, ◌<◌, ◌≤◌, ◌∷◌, length, slice_index, All, IfOk};
+ghost use Rattle.std.specs.Prelude.{◌≡◌, ◌<◌, length, slice_index, All, IfOk};
 ghost use Rattle.std.specs.List.Sorted.{IsStrictlyIncreasing};
 ghost use Rattle.egt_graph.specs.Graph.{IsNode};
 ghost use Rattle.egt_graph.specs.Frontier.{blocks_of};
 
 use crate::game::Game;
-use arrayvec::ArrayVec;
 use std::alloc::{AllocError, Global};
 use std::marker::Model;
 
@@ -18,8 +17,7 @@ pub struct Batch<'g, G: Game> {
     block: u32,
     nodes: Vec<u32>,
     targets: Vec<u32>,
-    /// Where the targets of each node end, and those of the next begin.
-    ends: Vec<usize>,
+    starts: Vec<usize>,
 }
 
 impl<'g, G: Game> Model for Batch<'g, G> {
@@ -29,7 +27,7 @@ impl<'g, G: Game> Model for Batch<'g, G> {
 
     ghost view = { λ b. record { game = b.game.now; round = b.round; block = b.block; nodes = b.nodes.items } };
 
-    ghost invariant = { λ b. IsBatch (G.graph b.game.now) b.block b.nodes.items b.targets.items b.ends.items };
+    ghost invariant = { λ b. IsBatch (G.graph b.game.now) b.block b.nodes.items b.targets.items b.starts.items };
 }
 
 impl<'g, G: Game> Batch<'g, G> {
@@ -48,12 +46,12 @@ impl<'g, G: Game> Batch<'g, G> {
             (λ batch. (batch.game ≡ game.now) × (batch.round ≡ round) × (batch.block ≡ block) × (batch.nodes ≡ nodes.items)) }
     {
         let mut targets = Vec::new(alloc);
-        let mut ends = Vec::with_capacity(alloc, nodes.len())?;
-        let mut sources = ArrayVec::new();
+        let mut starts = Vec::with_capacity(alloc, nodes.len() + 1)?;
+        starts.push(0)?;
         for node in &nodes {
-            game.list_into(*node, &mut sources);
+            let sources = game.into(*node);
             targets.extend_from_slice(sources.as_slice())?;
-            ends.push(targets.len())?;
+            starts.push(targets.len())?;
         }
         Ok(Batch {
             game,
@@ -61,7 +59,7 @@ impl<'g, G: Game> Batch<'g, G> {
             block,
             nodes,
             targets,
-            ends,
+            starts,
         })
     }
 
@@ -94,16 +92,6 @@ impl<'g, G: Game> Batch<'g, G> {
         requires { k < length self.now.nodes }
         ensures { result.now ≡ (G.graph self.now.game).into (slice_index self.now.nodes k) }
     {
-        let start = start_of(&self.ends, k);
-        &self.targets[start..self.ends[k]]
+        &self.targets[self.starts[k]..self.starts[k + 1]]
     }
-}
-
-/// Where the targets of the node at place `k` begin.
-#[inline(always)]
-fn start_of(ends: &[usize], k: usize) -> usize
-    requires { k ≤ length ends.now }
-    ensures { result ≡ slice_index (0 ∷ ends.now) k }
-{
-    if k == 0 { 0 } else { ends[k - 1] }
 }

@@ -1,25 +1,20 @@
 //! Ranks by rounds: in round r the nodes of rank r are taken back, block by block, in any order.
-ghost use Rattle.std.specs.Prelude.{◌≡◌, ◌≢◌, ◌↔◌, ℕ, ◌+◌, ◌<◌, ◌≤◌, true, false, List, length, slice_index, slice_index_or, All, IsTrue, IfOk, IfErr, MatchResult, MatchBool, replicate};
+ghost use Rattle.std.specs.Prelude.{◌≡◌, ◌≢◌, ◌↔◌, ℕ, ◌+◌, ◌<◌, ◌≤◌, true, false, List, length, slice_index, slice_index_or, All, IsTrue, IfOk, MatchResult, MatchBool, replicate};
 ghost use Rattle.std.specs.List.Sorted.{IsStrictlyIncreasing};
 ghost use Rattle.egt_graph.specs.Graph.{IsAlike, IsNode};
-ghost use Rattle.egt_graph.specs.Counts.{AreCounts};
 ghost use Rattle.egt_graph.specs.Value.{AreRanks};
-ghost use Rattle.egt_graph.specs.Frontier.{blocks_of, front};
+ghost use Rattle.egt_graph.specs.Frontier.{blocks_of};
 ghost use Rattle.egt_graph.specs.Rounds.{begun, listed, is_posted, IsCurrent, Posts, Closes, ClosesRunning};
 ghost use Rattle.egt_graph.specs.declared.answer.Phase.TheVariants.{Running, Finished as IsOver};
 
 use crate::answer::{Close, Phase, Post};
 use crate::batch::Batch;
-use crate::begin::{Columns, begin, marks_up_to};
-use crate::columns::DRAW;
-use crate::comb::Comb;
-use crate::counts::Count;
+use crate::begin::{Columns, begin};
 use crate::game::Game;
 use crate::ranks::Ranks;
-use crate::scan::{BLOCK, PART, block_nodes, is_block_front};
+use crate::scan::{BLOCK, block_nodes, is_block_front};
 use crate::schedule::Schedule;
-use crate::step::{all_set, clear, fall_due, take_block, take_in, turn_over};
-use arrayvec::ArrayVec;
+use crate::step::{all_set, clear, fall_due, take_in};
 use std::alloc::{AllocError, Global};
 use std::marker::Model;
 
@@ -34,16 +29,7 @@ pub struct Rounds<'g, G: Game> {
     /// Which blocks were posted in this round.
     posted: Vec<bool>,
     entries: Vec<u16>,
-    /// For each part of the nodes, whether some entry there may be of this round.
-    news: Vec<bool>,
-    /// The same of the next round.
-    coming: Vec<bool>,
-    /// The bits of the nodes are set, and no other: that of node `i` is bit `bit_of(i)` of word `word_of(i)`.
-    known: Vec<u64>,
-    /// The same where node `i` may be undecided.
-    marks: Vec<u64>,
-    /// For each node the moves and exits that it waits for: at first all, which were not counted where it is `UNCOUNTED`, and one less
-    /// for each that is found won.
+    /// For each node the moves and exits that it waits for: at first all, and one less for each that is found won.
     waits: Vec<u8>,
     /// For each node the exits into positions won for the opponent that have not fallen due.
     later: Vec<u8>,
@@ -54,10 +40,7 @@ pub struct Rounds<'g, G: Game> {
 }
 
 impl<'g, G: Game> Model for Rounds<'g, G> {
-    ghost use Rattle.egt_graph.specs.Columns.{told};
-    ghost use Rattle.egt_graph.specs.News.{HasNews};
     ghost use Rattle.egt_graph.specs.Run.{Run, IsRun};
-    ghost use Rattle.egt_graph.specs.Undecided.{HasKnown, HasMarks};
 
     ghost Value = { Run G };
 
@@ -68,10 +51,7 @@ impl<'g, G: Game> Model for Rounds<'g, G> {
 
     ghost invariant = { λ s. IsRun (G.graph s.game.now)
         (record { limit = s.limit; round = s.round; phase = s.phase; posted = s.posted.items })
-        s.entries.items (told (G.graph s.game.now) s.waits.items) s.later.items s.lost.items s.lost_due s.won_due
-        × HasNews (G.graph s.game.now).size s.phase s.round s.entries.items s.news.items s.coming.items
-        × HasMarks (G.graph s.game.now) s.phase s.entries.items s.marks.items
-        × HasKnown (G.graph s.game.now) s.known.items };
+        s.entries.items s.waits.items s.later.items s.lost.items s.lost_due s.won_due };
 }
 
 impl<'g, G: Game> Rounds<'g, G> {
@@ -81,22 +61,6 @@ impl<'g, G: Game> Rounds<'g, G> {
         requires { limit ≤ 32000 }
         ensures { IfOk result (λ rounds. (rounds.game ≡ game.now) × (rounds.state ≡ begun (G.graph game.now) limit)) }
     {
-        let (rounds, _counts) = Rounds::counted(alloc, game, limit, false)?;
-        Ok(rounds)
-    }
-
-    /// The same, with what is told of the moves of each node, where `telling`.
-    pub(crate) fn counted(
-        alloc: Global,
-        game: &'g G,
-        limit: u16,
-        telling: bool,
-    ) -> Result<(Self, Vec<Count>), AllocError>
-        requires { limit ≤ 32000 }
-        ensures rounds { IfOk result
-            (λ told. (told.0.game ≡ game.now) × (told.0.state ≡ begun (G.graph game.now) limit)) }
-        ensures counts { telling ≡ true → IfOk result (λ told. AreCounts (G.graph game.now) told.1.items) }
-    {
         let Columns {
             entries,
             waits,
@@ -104,33 +68,22 @@ impl<'g, G: Game> Rounds<'g, G> {
             lost,
             lost_due,
             won_due,
-            counts,
-        } = begin(alloc, game, telling)?;
+        } = begin(alloc, game)?;
         let blocks = (game.size() as usize + (BLOCK - 1)) / BLOCK;
         let posted = vec![in alloc; false; blocks]?;
-        let parts = (game.size() as usize + (PART - 1)) / PART;
-        let news = vec![in alloc; true; parts]?;
-        let coming = vec![in alloc; false; parts]?;
-        let known = marks_up_to(alloc, &entries, u16::MAX)?;
-        let marks = marks_up_to(alloc, &entries, DRAW)?;
-        let rounds = Rounds {
+        Ok(Rounds {
             game,
             limit,
             round: 0,
             phase: Phase::Running,
             posted,
             entries,
-            news,
-            coming,
-            known,
-            marks,
             waits,
             later,
             lost,
             lost_due,
             won_due,
-        };
-        Ok((rounds, counts))
+        })
     }
 
     /// The round, from 0.
@@ -177,7 +130,7 @@ impl<'g, G: Game> Rounds<'g, G> {
         ensures ascending { IfOk result (λ nodes. IsStrictlyIncreasing nodes.items) }
     {
         match self.phase {
-            Phase::Running => block_nodes(alloc, &self.entries, &self.news, block, self.round),
+            Phase::Running => block_nodes(alloc, &self.entries, block, self.round),
             Phase::Finished | Phase::TooDeep => Ok(Vec::new(alloc)),
         }
     }
@@ -190,20 +143,9 @@ impl<'g, G: Game> Rounds<'g, G> {
         ensures same_game { self.new.game ≡ self.old.game }
         ensures posts { Posts (G.graph self.old.game) self.old.state batch.entry.round batch.entry.block batch.entry.nodes result self.new.state }
     {
-        if self.is_current(&batch) {
-            self.take(&batch)
-        } else {
-            Post::Stale
+        if !self.is_current(&batch) {
+            return Post::Stale;
         }
-    }
-
-    /// Takes in a batch that lists the block's nodes of this round, unless the block was posted.
-    pub(crate) fn take(&mut self, batch: &Batch<'_, G>) -> Post
-        requires alike { IsAlike (G.graph self.old.game) (G.graph batch.now.game) }
-        requires current { IsCurrent (G.graph self.old.game) self.old.state batch.now.round batch.now.block batch.now.nodes }
-        ensures same_game { self.new.game ≡ self.old.game }
-        ensures posts { Posts (G.graph self.old.game) self.old.state batch.now.round batch.now.block batch.now.nodes result self.new.state }
-    {
         if self.posted[batch.block() as usize] {
             return Post::Repeat;
         }
@@ -211,49 +153,11 @@ impl<'g, G: Game> Rounds<'g, G> {
             self.game,
             &mut self.entries,
             &mut self.waits,
-            &mut self.coming,
             &mut self.posted,
-            batch,
+            &batch,
             self.round,
         );
         Post::Posted
-    }
-
-    /// Expands a block and posts what it found, without a batch: of lost nodes it asks for the undecided sources alone. They go into
-    /// the lists that are lent.
-    pub(crate) fn work(
-        &mut self,
-        alloc: Global,
-        block: u32,
-        combs: &mut ArrayVec<Comb, 4096>,
-        sources: &mut ArrayVec<u32, 8192>,
-    ) -> Result<Post, AllocError>
-        requires running { self.old.state.phase ≡ Running }
-        requires in_range { block < blocks_of (G.graph self.old.game).size }
-        ensures same_game { self.new.game ≡ self.old.game }
-        ensures same_round { IfErr result (λ _. self.new.state ≡ self.old.state) }
-        ensures posts { IfOk result (λ post. Posts (G.graph self.old.game) self.old.state self.old.state.round block
-            (front (G.graph self.old.game) self.old.state.round block) post self.new.state) }
-    {
-        if self.posted[block as usize] {
-            return Ok(Post::Repeat);
-        }
-        let nodes = self.listed_nodes(alloc, block)?;
-        take_block(
-            self.game,
-            &mut self.entries,
-            &mut self.waits,
-            &self.known,
-            &mut self.marks,
-            &mut self.coming,
-            &mut self.posted,
-            block,
-            &nodes,
-            self.round,
-            combs,
-            sources,
-        );
-        Ok(Post::Posted)
     }
 
     fn is_current(&self, batch: &Batch<'_, G>) -> bool
@@ -289,10 +193,8 @@ impl<'g, G: Game> Rounds<'g, G> {
             return Close::NotAll;
         }
         let unsettled = fall_due(
-            self.game,
             &mut self.entries,
             &mut self.waits,
-            &mut self.coming,
             &mut self.later,
             &self.lost,
             self.lost_due.due(self.round),
@@ -308,7 +210,6 @@ impl<'g, G: Game> Rounds<'g, G> {
             return Close::TooDeep;
         }
         self.round += 1;
-        turn_over(&mut self.news, &mut self.coming);
         clear(&mut self.posted);
         Close::Next
     }

@@ -1,17 +1,14 @@
 //! A whole game by one worker.
 ghost use Rattle.std.specs.Prelude.{◌≡◌, ◌≢◌, ◌≤◌, true, length, IfOk, OnOk};
-ghost use Rattle.egt_graph.specs.Counts.{AreCounts};
 ghost use Rattle.egt_graph.specs.Value.{AreRanks, SomeAbove};
 ghost use Rattle.egt_graph.specs.Rounds.{AllPosted, State};
 ghost use Rattle.egt_graph.specs.declared.answer.Phase.TheVariants.{Running};
 ghost use Rattle.egt_graph.specs.declared.solver.SolveFault.TheVariants.{NoMemory};
 
 use crate::answer::Close;
-use crate::counts::Count;
 use crate::game::Game;
 use crate::ranks::Ranks;
 use crate::rounds::Rounds;
-use arrayvec::ArrayVec;
 use std::alloc::{AllocError, Global};
 
 /// Why a game was not solved.
@@ -61,34 +58,7 @@ pub fn solve<G: Game>(alloc: Global, game: &G, limit: u16) -> Result<Ranks, Solv
     ensures ok { IfOk result (AreRanks (G.graph game.now) limit) }
     ensures too_deep { result ≡ Err SolveFault.TooDeep → SomeAbove (G.graph game.now) limit }
 {
-    finish(alloc, Rounds::new(alloc, game, limit)?)
-}
-
-/// What `solve` answers, with a count a number: how many moves the node has of each sort. A game with the same moves need not count them
-/// again.
-pub fn solve_and_count<G: Game>(
-    alloc: Global,
-    game: &G,
-    limit: u16,
-) -> Result<(Ranks, Vec<Count>), SolveFault>
-    requires { limit ≤ 32000 }
-    ensures ok { IfOk result (λ told. AreRanks (G.graph game.now) limit told.0) }
-    ensures counts { IfOk result (λ told. AreCounts (G.graph game.now) told.1.items) }
-    ensures too_deep { result ≡ Err SolveFault.TooDeep → SomeAbove (G.graph game.now) limit }
-{
-    let (rounds, counts) = Rounds::counted(alloc, game, limit, true)?;
-    let ranks = finish(alloc, rounds)?;
-    Ok((ranks, counts))
-}
-
-/// Works a run off from its beginning to its end.
-fn finish<G: Game>(alloc: Global, rounds: Rounds<'_, G>) -> Result<Ranks, SolveFault>
-    requires running { rounds.state.phase ≡ Running }
-    requires within { rounds.state.round ≤ rounds.state.limit }
-    ensures ok { IfOk result (AreRanks (G.graph rounds.entry.game) rounds.entry.state.limit) }
-    ensures too_deep { result ≡ Err SolveFault.TooDeep → SomeAbove (G.graph rounds.entry.game) rounds.entry.state.limit }
-{
-    let mut rounds = rounds;
+    let mut rounds = Rounds::new(alloc, game, limit)?;
     'rounds: loop {
         post_all(alloc, &mut rounds)?;
         match rounds.close() {
@@ -111,10 +81,9 @@ fn post_all<G: Game>(alloc: Global, rounds: &mut Rounds<'_, G>) -> Result<(), Al
     ensures same_round { OnOk result (rounds.new.state ≡ record rounds.old.state { posted = rounds.new.state.posted }) }
     ensures posted { OnOk result (AllPosted rounds.new.state) }
 {
-    let mut combs = ArrayVec::new();
-    let mut sources = ArrayVec::new();
     for block in 0..rounds.blocks() {
-        rounds.work(alloc, block, &mut combs, &mut sources)?;
+        let batch = rounds.expand(alloc, block)?;
+        rounds.post(batch);
     }
     Ok(())
 }

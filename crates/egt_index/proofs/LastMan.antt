@@ -20,7 +20,7 @@ use Rattle.egt_index.specs.Facts.{Facts}
 use Rattle.egt_index.specs.Frame.{IsFrame}
 use Rattle.egt_index.specs.Index.{IsIndex}
 use Rattle.egt_index.specs.Scales.{digits_at, ends_of, kind_digits, kind_less, man_at}
-use Rattle.egt_index.specs.Shelf.{AreAlike, by_digit, last_of, shelf_len, without_ends}
+use Rattle.egt_index.specs.Shelf.{AreAlike, last_of, shelf_len, without_ends}
 use Rattle.egt_index.specs.Size.{base_by, base_of, has_pawns, has_target, men_beside}
 use Rattle.egt_index.specs.Spelled.{SpellsMen}
 use Rattle.egt_index.specs.Stood.{Entry, list_of}
@@ -87,19 +87,6 @@ by_last_digit pawns (a ∷ []) white black (Some x) (Some y) (d ∷ e ∷ f ∷ 
 by_last_digit pawns (a ∷ b ∷ []) white black (Some x) (Some y) digits none are list filled = second_of_two pawns a b white black x y digits none are list
 by_last_digit pawns (a ∷ b ∷ c ∷ more) white black (Some x) (Some y) digits none are list filled = absurd (no_third pawns a b c more white black (Some x) (Some y) digits are list)
 
--- so it tells his square
-pub placed_so : (men : List Man) (last old : Entry) (n : ℕ) → man_at last ≡ man_at old → IsByDigit men n last → last ≡ by_digit old n
-placed_so men None None n man is = refl
-placed_so men None (Some e) n man is = absurd (cc)
-placed_so men (Some e) None n man is = absurd (cc)
-placed_so men (Some e) (Some d) n man is = same (some man) is.1
-  where
-    some : Some e.0 ≡ Some d.0 → e.0 ≡ d.0
-    some e = cc
-
-    same : e.0 ≡ d.0 → e.1 ≡ n % kind_digits e.0.kind + kind_less e.0.kind → Some e ≡ Some (d.0, n % kind_digits d.0.kind + kind_less d.0.kind)
-    same man is = ap (λ (k : ℕ). Some (e.0, k)) is ∙ ap (λ (m : Man). Some (m, n % kind_digits m.kind + kind_less m.kind)) man
-
 -- codes with one remainder have a target both or neither
 one_target : (has : Bool) (x y : Option ℕ) → IsTrue has ⊎ (x ≡ None) → IsTrue has ⊎ (y ≡ None) → cond has (target_digit x ∷ []) [] ≡ cond has (target_digit y ∷ []) [] → is_some x ≡ is_some y
 one_target has x y (inr e) (inr f) same = ap is_some (e ∙ sym f)
@@ -123,26 +110,6 @@ last_by : (c i : ℕ) (white black : ℕ) (next last : Entry) → NoKings (men_b
 last_by c i white black next last none filled men =
     subst (λ (n : ℕ). IsByDigit (men_beside (material_of c)) n last) (sym men.number_is)
     (by_last_digit (has_pawns (material_of c)) (men_beside (material_of c)) white black next last men.digits none men.are men.list_is filled)
-
-pub framed_alike : Facts → (i code total : ℕ) (last : Entry) (p q : Setup) (frame : Frame) (passed : Bool) → frame.class < 36 → IsFramedAt frame.class i p frame passed → AreAlike frame.class i code → Spells frame.class code q → IsIndex frame.class q code
-    → last ≡ by_digit frame.stand.last (code / ends_of (material_of frame.class)) → total ≡ without_ends frame.class code → IsFramedAt frame.class code q (on_shelf last total frame) passed
-framed_alike facts i code total last p q frame passed c_in at alike spells index last_is total_is = record {
-  spells = spells;
-  settled = index_settled facts q q frame.class code spells.admissible index spells;
-  index = index;
-  framed = subst (λ (t : ℕ). IsFrame q (on_shelf last t frame)) (sym total_is) (subst (λ (e : Entry). IsFrame q (on_shelf e (without_ends frame.class code) frame)) (sym same) on.is);
-  target = same_target (material_of frame.class) i code p q alike.ends at.spells spells ∙ at.target;
-  men = subst (λ (e : Entry). SpellsMen (material_of frame.class) (code / ends_of (material_of frame.class)) (list_of (record { white = frame.stand.white; black = frame.stand.black; next = frame.stand.next; last = e }))) (sym same) on.men;
-}
-  where
-    on : IsOnShelf frame code q
-    on = is_on_shelf facts i code p q frame passed c_in at (record { alike = alike; spells = spells; index = index })
-
-    by : IsByDigit (men_beside (material_of frame.class)) (code / ends_of (material_of frame.class)) on.last
-    by = last_by frame.class code frame.stand.white frame.stand.black frame.stand.next on.last (none_beside frame.class frame.stand frame.side at.framed.passed p at.framed.stand) on.is.filled on.men
-
-    same : last ≡ on.last
-    same = last_is ∙ sym (placed_so (men_beside (material_of frame.class)) on.last frame.stand.last (code / ends_of (material_of frame.class)) on.man by)
 
 -- ---- how far the last man goes on a shelf
 

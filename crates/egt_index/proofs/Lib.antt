@@ -18,8 +18,6 @@ pub mod Classes
 pub mod Exists
 pub mod Splitting
 pub mod Decoded
-pub mod WithoutPawns
-pub mod KingAlone
 pub mod TurnTable
 pub mod Standing
 pub mod Homing
@@ -33,7 +31,6 @@ pub mod Past
 pub mod Telling
 pub mod Carried
 pub mod Moved
-mod Unmoving
 pub mod Beating
 pub mod Nearing
 pub mod Swapping

@@ -56,11 +56,6 @@ abbrev pub GoerFits : Goer → Type 0
 GoerFits (Beside scale) = scale.stride ≤ 1048576
 GoerFits (King king) = king.stride ≤ 1048576
 
--- the man, if there is one, on the square of the lowest digit
-abbrev pub by_digit : Entry → ℕ → Entry
-by_digit None number = None
-by_digit (Some e) number = Some (e.0, number % kind_digits e.0.kind + kind_less e.0.kind)
-
 -- the man on `from` in p stands on `to` in q, where none stood, and nothing else on the board differs; it is the other side's turn, without a
 -- target
 pub record HasGone (p : Setup) (from to : ℕ) (q : Setup) : Type 0 where

@@ -9,7 +9,6 @@ ghost use Rattle.egt_board.specs.Settled.{IsSettled, SettlesTo};
 ghost use Rattle.egt_board.specs.Setup.{Setup, IsAdmissible};
 ghost use Rattle.egt_class.specs.Material.{material_of};
 ghost use Rattle.egt_class.specs.Membership.{IsOf};
-ghost use Rattle.egt_index.specs.Axis.{is_on_axis, StandsAlone};
 ghost use Rattle.egt_index.specs.Code.{Spells};
 ghost use Rattle.egt_index.specs.Index.{IsIndex, IsVoid, SettleAlike};
 ghost use Rattle.egt_index.specs.Numbers.{code_of, half_of, number_of, places};
@@ -59,15 +58,6 @@ pub fn an_index_spells_a_position_of_it()
 /// A code is the index of the position that it spells, or no position's.
 pub fn a_code_is_an_index_or_void()
     ensures { (c code : ℕ) → c < 36 → ((p : Setup) × Spells c code p × IsIndex c p code) ⊎ IsVoid c code }
-{
-    facts();
-}
-
-/// Two positions of a class with one index, the same side to move and a man alone of his kind on one square of no axis settle to one
-/// position: no turn but the identity keeps that man in place.
-pub fn one_index_for_one_setup()
-    ensures { (c i k : ℕ) (flipped : Bool) (man : Man) (p q : Setup) → IsAdmissible p → IsAdmissible q → IsOf c flipped p → IsIndex c p i → IsIndex c q i →
-        p.side ≡ q.side → StandsAlone p.men man k → StandsAlone q.men man k → is_on_axis c k ≡ false → (r : Setup) × SettlesTo p r × SettlesTo q r }
 {
     facts();
 }

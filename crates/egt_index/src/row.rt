@@ -35,18 +35,6 @@ pub struct Row {
     frame: Option<Frame>,
 }
 
-/// Whether the code is the first of its row.
-#[inline(always)]
-pub fn begins_row(class: Class, code: u32) -> bool
-    ensures { IsTrue result ↔ (code % row_len class ≡ 0) }
-{
-    if has_target(class) {
-        code % 4 == 0
-    } else {
-        code % 2 == 0
-    }
-}
-
 /// How many codes a row has: the rows of a class are whole.
 #[inline(always)]
 pub fn row_len(class: Class) -> u32

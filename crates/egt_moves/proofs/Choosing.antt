@@ -26,13 +26,6 @@ officer_place (suc (suc zero)) other less = refl
 officer_place (suc (suc (suc zero))) other less = refl
 officer_place (suc (suc (suc (suc n)))) other less = absurd (omega arith)
 
-pub Chosen-none : (from to : ℕ) (old : List Move) → IsInOrder old → Chosen from to old old 0
-Chosen-none from to old ordered = record {
-  ordered = ordered;
-  choices = λ m. (λ there. inl there, λ h. elim h [ inl o ↦ o | inr w ↦ let some = w.2.0 in let most = w.2.1 in absurd (omega arith) ]);
-  few = omega arith;
-}
-
 -- a number tells the promotion
 same_place : (a b : Option Kind) → promotion_place a ≡ promotion_place b → a ≡ b
 same_place None None e = refl

@@ -30,3 +30,4 @@ pub mod TurnedMoves
 pub mod ListedMoves
 pub mod MenExchanged
 pub mod MenTold
+pub mod Nearest

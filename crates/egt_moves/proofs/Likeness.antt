@@ -46,18 +46,6 @@ module _ {S : Type 0} (a : Arena S) where
         (s.0, s.1, (u.0, s.2, u.2), (λ z. s.3.0 (u.3.0 z), λ z. u.3.1 (s.3.1 z)));
   }
 
-  -- the one likeness or the other
-  pub alike_either : (R Q : S → S → Type 0) → Alike a R → Alike a Q → Alike a (λ p p'. R p p' ⊎ Q p p')
-  alike_either R Q r q = record {
-    checkmate = λ p p'. ⊎_elim (r.checkmate p p') (q.checkmate p p');
-    there = λ p p' x t m. ⊎_elim
-        (λ (k : R p p'). like_wider R (λ y z. R y z ⊎ Q y z) (λ y z. inl) p p' x m (r.there p p' x k m))
-        (λ (k : Q p p'). like_wider Q (λ y z. R y z ⊎ Q y z) (λ y z. inr) p p' x m (q.there p p' x k m)) t;
-    back = λ p p' x t m. ⊎_elim
-        (λ (k : R p p'). like_wider (λ z y. R y z) (λ z y. R y z ⊎ Q y z) (λ z y. inl) p' p x m (r.back p p' x k m))
-        (λ (k : Q p p'). like_wider (λ z y. Q y z) (λ z y. R y z ⊎ Q y z) (λ z y. inr) p' p x m (q.back p p' x k m)) t;
-  }
-
   -- so any number of steps of a likeness is one
   pub alike_chain : (R : S → S → Type 0) → Alike a R → (n : ℕ) → Alike a (Chain R n)
   alike_chain R like zero = alike_same

@@ -23,23 +23,8 @@ pub record Walks (p : Setup) (moves : List Move) (rest : SquareSet) : Type 0 whe
   pub held : (t : ℕ) → Has rest t → IsHeld p.men t p.side
   pub room : HasRoom p (length moves) rest
 
-mover_held : (p : Setup) (m : Move) → IsLegal p m → IsHeld p.men m.from p.side
-mover_held p m legal = record { man = legal.1.man; stands = legal.1.stands; theirs = legal.1.mine }
-
 not_both : {A : Type 0} (n : ℕ) → n ≡ 0 → n ≡ 1 → A
 not_both n none one = absurd (omega arith)
-
-pub Walks-none : (p : Setup) (rest : SquareSet) → ((t : ℕ) → Has rest t ↔ IsHeld p.men t p.side) → size_of rest ≤ 3 → Walks p [] rest
-Walks-none p rest held few = record {
-  ordered = tt;
-  legal = λ m. (
-    λ none. let lt = none.1 in absurd (omega arith),
-    λ w. not_both (bit_at rest.bits m.from) w.1 ((held m.from).1 (mover_held p m w.0)),
-  );
-  later = λ m none. let lt = none.1 in absurd (omega arith);
-  held = λ t has. (held t).0 has;
-  room = room_at_first p rest (λ t. (held t).1) few;
-}
 
 pub Walks-room : (p : Setup) (moves : List Move) (rest rest' : SquareSet) (s : ℕ) (man : Man) → IsAdmissible p → Has rest s → bit_at rest'.bits s ≡ 0 → ((t : ℕ) → t ≢ s → bit_at rest'.bits t ≡ bit_at rest.bits t)
     → size_of rest' + 1 ≡ size_of rest → Stands p.men s man → Walks p moves rest → length moves + most_moves man.kind ≤ 64

@@ -3,19 +3,9 @@ use Rattle.std.proofs.Common.{◌≡◌, ◌≢◌, ℕ, zero, suc, ◌≤◌, �
 use Rattle.std.proofs.Math.Logic.{⊎_map}
 use Rattle.egt_moves.specs.Arena.{Arena, Value, Win, Loss, Draw, HasMove, NoMove, SomeMove, IsStalemate, IsMatedWithin, MatesWithin, AvoidsMateFor, CannotMateWithin, IsWon, IsLost, IsDraw, HasValue}
 use Rattle.egt_moves.specs.Zeroing.{ZeroesLosingWithin, ZeroesWinningWithin, HasZeroing}
-use Rattle.egt_moves.specs.Likeness.{Alike, SameAlong}
+use Rattle.egt_moves.specs.Likeness.{Alike}
 use Rattle.egt_moves.specs.Entries.{IsLeast, IsGreatest, Fits, Gives, FitsZeroing}
 use Rattle.egt_moves.proofs.Likeness.{alike_backwards}
-
-module _ {S : Type 0} (a : Arena S) (R : S → S → Type 0) where
-  -- the numbers that the steps from p give
-  abbrev Given : S → Type 1
-  Given p = (q : S) → a.Move p q → ℕ → Type 0
-
-  -- like steps give the same numbers
-  abbrev SameGiven : (p p' : S) → Given p → Given p' → Type 0
-  SameGiven p p' gives gives' =
-      (q q' : S) (m : a.Move p q) (m' : a.Move p' q') (k : ℕ) → R q q' → (a.Zeroes p q m ↔ a.Zeroes p' q' m') → gives q m k ↔ gives' q' m' k
 
 module _ {S : Type 0} (a : Arena S) (R : S → S → Type 0) (like : Alike a R) where
   no_move_there : (p p' : S) → R p p' → NoMove a p → NoMove a p'
@@ -83,89 +73,6 @@ module _ {S : Type 0} (a : Arena S) (R : S → S → Type 0) (like : Alike a R) 
     alike_zeroes_winning (suc n) p p' r h =
         let s = like.there p p' h.0 r h.1 in
         (s.0, s.1, alike_lost h.0 s.0 s.2 h.2, ⊎_map s.3.0 (alike_zeroes_losing n h.0 s.0 s.2) h.3)
-
-  alike_least : (p p' : S) → R p p' → (gives : Given a R p) (gives' : Given a R p') → SameGiven a R p p' gives gives' → (n : ℕ) → IsLeast a p gives n → IsLeast a p' gives' n
-  alike_least p p' r gives gives' same n h = (reached, least)
-    where
-      reached : (q' : S) × (m' : a.Move p' q') × gives' q' m' n
-      reached =
-          let s = like.there p p' h.0.0 r h.0.1 in
-          (s.0, s.1, (same h.0.0 s.0 h.0.1 s.1 n s.2 s.3).0 h.0.2)
-
-      least : (q' : S) (m' : a.Move p' q') (k : ℕ) → gives' q' m' k → n ≤ k
-      least q' m' k g =
-          let t = like.back p p' q' r m' in
-          h.1 t.0 t.1 k ((same t.0 q' t.1 m' k t.2 (t.3.1, t.3.0)).1 g)
-
-  alike_greatest : (p p' : S) → R p p' → (gives : Given a R p) (gives' : Given a R p') → SameGiven a R p p' gives gives' → (n : ℕ) → IsGreatest a p gives n → IsGreatest a p' gives' n
-  alike_greatest p p' r gives gives' same n h = (reached, each)
-    where
-      reached : (q' : S) × (m' : a.Move p' q') × gives' q' m' n
-      reached =
-          let s = like.there p p' h.0.0 r h.0.1 in
-          (s.0, s.1, (same h.0.0 s.0 h.0.1 s.1 n s.2 s.3).0 h.0.2)
-
-      each : (q' : S) (m' : a.Move p' q') → (k : ℕ) × gives' q' m' k × (k ≤ n)
-      each q' m' =
-          let t = like.back p p' q' r m' in
-          let g = h.1 t.0 t.1 in
-          (g.0, (same t.0 q' t.1 m' g.0 t.2 (t.3.1, t.3.0)).0 g.1, g.2)
-
-  shows_alike : (e : S → Value) → SameAlong R e → (kind : ℕ → Value) (p p' : S) → SameGiven a R p p' (λ q m k. e q ≡ kind k) (λ q m k. e q ≡ kind k)
-  shows_alike e one kind p p' q q' m m' k t z = (λ g. sym (one q q' t) ∙ g, λ g. one q q' t ∙ g)
-
-  -- then an entry that fits the one fits the other
-  pub alike_fits : (e : S → Value) → SameAlong R e → (p p' : S) (v : Value) → R p p' → Fits a e p v → Fits a e p' v
-  alike_fits e one p p' (Win zero) r h = h
-  alike_fits e one p p' (Win (suc n)) r h =
-      alike_least p p' r (λ q m k. e q ≡ Loss k) (λ q m k. e q ≡ Loss k) (shows_alike e one Loss p p') n h
-  alike_fits e one p p' (Loss zero) r h = (like.checkmate p p' r).0 h
-  alike_fits e one p p' (Loss (suc n)) r h =
-      alike_greatest p p' r (λ q m k. e q ≡ Win k) (λ q m k. e q ≡ Win k) (shows_alike e one Win p p') n h
-  alike_fits e one p p' Draw r h = (no_loss, ⊎_map stale some h.1)
-    where
-      no_loss : (q' : S) → a.Move p' q' → (k : ℕ) → e q' ≢ Loss k
-      no_loss q' m' k l = let t = like.back p p' q' r m' in h.0 t.0 t.1 k (one t.0 q' t.2 ∙ l)
-
-      stale : IsStalemate a p → IsStalemate a p'
-      stale s = (no_move_there p p' r s.0, λ c. s.1 ((like.checkmate p p' r).1 c))
-
-      some : SomeMove a p (λ q. e q ≡ Draw) → SomeMove a p' (λ q. e q ≡ Draw)
-      some s = let t = like.there p p' s.0 r s.1 in (t.0, t.1, sym (one s.0 t.0 t.2) ∙ s.2)
-
-  -- so an entry that fits at one position of a kind fits at each
-  pub alike_own_fits : (e : S → Value) → SameAlong R e → (p p' : S) → R p p' → Fits a e p (e p) → Fits a e p' (e p')
-  alike_own_fits e one p p' r h = subst (Fits a e p') (one p p' r) (alike_fits e one p p' (e p) r h)
-
-  gives_alike : (e z : S → Value) → SameAlong R e → SameAlong R z → (kind : ℕ → Value) (p p' : S) → SameGiven a R p p' (Gives a kind e z p) (Gives a kind e z p')
-  gives_alike e z one zone kind p p' q q' m m' k t zs = (there, back)
-    where
-      there : Gives a kind e z p q m k → Gives a kind e z p' q' m' k
-      there g = (
-        (g.0.0, sym (one q q' t) ∙ g.0.1),
-        ⊎_map (λ (h : a.Zeroes p q m × (k ≡ zero)). (zs.0 h.0, h.1))
-            (λ (h : ¬ (a.Zeroes p q m) × (z q ≡ kind k)). (λ y. h.0 (zs.1 y), sym (zone q q' t) ∙ h.1)) g.1,
-      )
-
-      back : Gives a kind e z p' q' m' k → Gives a kind e z p q m k
-      back g = (
-        (g.0.0, one q q' t ∙ g.0.1),
-        ⊎_map (λ (h : a.Zeroes p' q' m' × (k ≡ zero)). (zs.1 h.0, h.1))
-            (λ (h : ¬ (a.Zeroes p' q' m') × (z q' ≡ kind k)). (λ y. h.0 (zs.0 y), zone q q' t ∙ h.1)) g.1,
-      )
-
-  -- the same of the zeroing column
-  pub alike_fits_zeroing : (e z : S → Value) → SameAlong R e → SameAlong R z → (p p' : S) (v : Value) → R p p' → FitsZeroing a e z p v → FitsZeroing a e z p' v
-  alike_fits_zeroing e z one zone p p' (Win zero) r h = h
-  alike_fits_zeroing e z one zone p p' (Win (suc n)) r h =
-      alike_least p p' r (Gives a Loss e z p) (Gives a Loss e z p') (gives_alike e z one zone Loss p p') n h
-  alike_fits_zeroing e z one zone p p' (Loss zero) r h = (like.checkmate p p' r).0 h
-  alike_fits_zeroing e z one zone p p' (Loss (suc n)) r h =
-      alike_greatest p p' r (Gives a Win e z p) (Gives a Win e z p') (gives_alike e z one zone Win p p') n h
-  alike_fits_zeroing e z one zone p p' Draw r h = tt
-
-  pub alike_own_fits_zeroing : (e z : S → Value) → SameAlong R e → SameAlong R z → (p p' : S) → R p p' → FitsZeroing a e z p (z p) → FitsZeroing a e z p' (z p')
-  alike_own_fits_zeroing e z one zone p p' r h = subst (FitsZeroing a e z p') (zone p p' r) (alike_fits_zeroing e z one zone p p' (z p) r h)
 
 module _ {S : Type 0} (a : Arena S) (R : S → S → Type 0) (like : Alike a R) where
   -- like positions have the same zeroing distance

@@ -80,14 +80,6 @@ leads_to_one p q r m there here =
     let same : there.man ≡ here.man = one_man p.men m.from there.man here.man there.stands here.stands in
     there.becomes ∙ ap (λ (x : Man). after p x m) same ∙ sym here.becomes
 
--- it is legal, and leads to q
-pub decided_leads : (p : Setup) (m : Move) (q : Setup) → Decided (Leads p m q)
-decided_leads p m q = go (decided_legal p m)
-  where
-    go : Decided (IsLegal p m) → Decided (Leads p m q)
-    go (inl legal) = decided_as (λ (e : legal.0 ≡ q). subst (Leads p m) e legal.1) (λ (leads : Leads p m q). leads_to_one p legal.0 q m legal.1 leads) (decided_same_setup legal.0 q)
-    go (inr illegal) = inr (λ leads. illegal (q, leads))
-
 -- it captures, or a pawn makes it
 pub decided_zeroes : (p : Setup) (m : Move) → Decided (Zeroes p m)
 decided_zeroes p m = decided_either (decided_held p.men m.to (other_side p.side)) (decided_as
@@ -145,20 +137,6 @@ decided_some_move p Holds each = decided_as
 
     From : ℕ → Type 0
     From s = (t : ℕ) × (t < 64) × To s t
-
--- a legal step leads from p to q
-pub decided_step : (p q : Setup) → Decided (chess.Move p q)
-decided_step p q = decided_as
-    (λ (h : (m : Move) × IsLegal p m × Leads p m q). (h.0, h.2))
-    (λ (step : (m : Move) × Leads p m q). (step.0, (q, step.1), step.1))
-    (decided_some_move p (λ m. Leads p m q) (λ m. decided_leads p m q))
-
--- one that does not zero
-pub decided_quiet_step : (p q : Setup) → Decided ((step : chess.Move p q) × ¬ (chess.Zeroes p q step))
-decided_quiet_step p q = decided_as
-    (λ (h : (m : Move) × IsLegal p m × (Leads p m q × ¬ Zeroes p m)). ((h.0, h.2.0), h.2.1))
-    (λ (h : (step : (m : Move) × Leads p m q) × ¬ Zeroes p step.0). (h.0.0, (q, h.0.1), (h.0.1, h.1)))
-    (decided_some_move p (λ m. Leads p m q × ¬ Zeroes p m) (λ m. decided_both (decided_leads p m q) (λ _. decided_not (decided_zeroes p m))))
 
 -- there is no legal move
 pub decided_stuck : (p : Setup) → Decided (IsStuck p)

@@ -17,3 +17,4 @@ pub mod DecidedMoves
 pub mod Moves
 pub mod Exchange
 pub mod AllMen
+pub mod Reach

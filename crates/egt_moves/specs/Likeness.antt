@@ -7,10 +7,6 @@ abbrev pub Chain : {S : Type 0} → (S → S → Type 0) → ℕ → S → S →
 Chain R zero p q = p ≡ q
 Chain {S} R (suc n) p q = (r : S) × R p r × Chain R n r q
 
--- positions that R relates have one entry
-abbrev pub SameAlong : {S : Type 0} → (S → S → Type 0) → (S → Value) → Type 0
-SameAlong {S} R e = (p p' : S) → R p p' → e p ≡ e p'
-
 module _ {S : Type 0} (a : Arena S) where
   -- some step from p' leads to where R takes q, and zeroes where the step from p to q does
   abbrev pub HasLike : (S → S → Type 0) → (p p' q : S) → a.Move p q → Type 0

@@ -14,6 +14,7 @@ pub mod men_after;
 pub mod outcome;
 pub mod playing;
 pub mod promotion;
+pub mod reaching;
 pub mod standings;
 pub mod targets;
 pub mod text;
@@ -30,8 +31,3 @@ pub use playing::{play, play_legal};
 pub use standings::standing;
 pub use targets::{legal_targets, legal_targets_of};
 pub use zeroing_moves::zeroing;
-
-#[cfg(test)]
-mod target_tests;
-#[cfg(test)]
-mod tests;

@@ -15,6 +15,3 @@ pub use code::{PlainPosition, THIRD, code_count};
 pub use filling::{Unlike, columns_of, indexes, plain_code, position_of, table_of};
 pub use moves::{Successor, Successors};
 pub use tables::PlainTables;
-
-#[cfg(test)]
-mod tests;

@@ -66,10 +66,6 @@ module _ (loaded : Loaded) where
     wrote = stopped.wrote;
   }
 
-  -- a fault before any report
-  pub stopped_at_once : (lines : List (List ℕ)) (old : Option (List ℕ)) → Stopped loaded NoMemory lines old old
-  stopped_at_once lines old = record { answered = []; rest = lines; split = refl; wrote = wrote_none old }
-
   -- and in the midst of one
   pub stopped_within : (line report text : List ℕ) (old new : Option (List ℕ)) → Report loaded line report → text ≡ report ++ 10 ∷ [] → AppendsFront old new text → Stopped loaded Device (line ∷ []) old new
   stopped_within line report text old new told e written = record {

@@ -22,6 +22,3 @@ pub use fault::{AnswerFault, HoldFault, LineFault};
 pub use holding::hold;
 pub use looking::verdict;
 pub use outcome::{Missing, Outcome, Verdict};
-
-#[cfg(test)]
-mod tests;

@@ -1,5 +1,5 @@
 -- Which men's moves all go on, as their squares tell.
-use Rattle.std.proofs.Common.{◌≡◌, ◌≢◌, ℕ, ◌<◌, Bool, true, false, [], Option, Some, None, refl, sym, ap, ◌∙◌, subst, inl, inr}
+use Rattle.std.proofs.Common.{◌≡◌, ◌≢◌, ℕ, ◌<◌, Bool, false, [], Option, Some, None, refl, sym, ap, ◌∙◌, subst, inl, inr}
 use Rattle.std.proofs.lemmas.Bool.{false≢true}
 use Rattle.std.specs.Option.{is_some, option_to_list}
 use Rattle.egt_board.specs.Gait.{Reaches}
@@ -10,24 +10,20 @@ use Rattle.egt_board.specs.Setup.{Setup, IsAdmissible}
 use Rattle.egt_board.specs.declared.man.Kind.TheVariants.{P}
 use Rattle.egt_board.specs.declared.man.Man.{Man}
 use Rattle.egt_class.specs.Membership.{IsOf}
-use Rattle.egt_index.specs.Index.{IsVoid}
 use Rattle.egt_moves.specs.Legal.{Leads}
-use Rattle.egt_moves.specs.Moves.{moves_of, moves_from, played}
+use Rattle.egt_moves.specs.Moves.{moves_from, played}
 use Rattle.egt_moves.specs.Promotion.{promotes}
-use Rattle.egt_moves.specs.Standing.{IsCheckmate}
 use Rattle.egt_moves.specs.declared.chess_move.Move.{Move}
 use Rattle.egt_table.specs.declared.column.Column.{Column}
 use Rattle.egt_table.specs.declared.column.Column.TheVariants.{Mate}
 use Rattle.egt_check.specs.Tables.{Tables}
 use Rattle.egt_sweep.specs.Edges.{GoesOn}
 use Rattle.egt_sweep.specs.Laws.{Laws}
-use Rattle.egt_sweep.specs.Nodes.{position_at, exits_by, exits_from, exit_by}
+use Rattle.egt_sweep.specs.Nodes.{exits_by, exit_by}
 use Rattle.egt_sweep.specs.Ways.{Stays}
-use Rattle.egt_sweep.proofs.Linked.{void_is}
 use Rattle.egt_sweep.proofs.Onward.{unpromoted, pawn_stays}
 use Rattle.egt_sweep.proofs.OutOfClass.{nothing_told}
 use Rattle.egt_sweep.proofs.Staying.{quiet_goes_on}
-use Rattle.egt_sweep.proofs.Telling.{nothing_of}
 use Rattle.egt_sweep.proofs.Walked.{from_none}
 
 -- a man who attacks nobody
@@ -92,12 +88,3 @@ pub none_from : (laws : Laws) (tables : Tables) (column : Column) (c : ℕ) (p :
 none_from laws tables column c p from ok on =
     from_none (λ m. option_to_list (exit_by tables column c p m (played p m))) from (λ to promo.
     nothing_told laws tables column c p (record { from = from; to = to; promo = promo }) ok (λ q leads. on (record { from = from; to = to; promo = promo }) q refl leads))
-
--- nor has a side that is checkmated
-pub none_mated : (laws : Laws) (tables : Tables) (column : Column) (c : ℕ) (p : Setup) → IsAdmissible p → IsCheckmate p → exits_from tables column c (Some p) ≡ []
-none_mated laws tables column c p ok mate =
-    nothing_of (λ m. option_to_list (exit_by tables column c p m (played p m))) (λ m. nothing_told laws tables column c p m ok (λ q leads. absurd (mate.stuck m (q, leads)))) (moves_of p)
-
--- what is told to be a node has a position
-pub node_full : (laws : Laws) (c i : ℕ) → true ≡ is_some (position_at c i) → ¬ IsVoid c i
-node_full laws c i there void = let both : true ≡ false = there ∙ void_is laws c i void in cc

@@ -17,8 +17,8 @@ use Rattle.egt_check.specs.Tables.{Tables}
 use Rattle.egt_sweep.specs.Edges.{IsAt, GoesOn}
 use Rattle.egt_sweep.specs.Laws.{Laws}
 use Rattle.egt_sweep.specs.Nodes.{exit_by, exits_at, exits_from}
+use Rattle.egt_sweep.proofs.Linked.{position_is}
 use Rattle.egt_sweep.proofs.OutOfClass.{nothing_told}
-use Rattle.egt_sweep.proofs.Starting.{here}
 use Rattle.egt_sweep.proofs.Telling.{nothing_of}
 
 exits_prop : (es : List Exit) (some losing holding : ℕ) → IsProp (TellsExits es some losing holding)
@@ -38,5 +38,5 @@ module _ (laws : Laws) (c : ℕ) (c_in : c < 36) where
   pub no_exits : (tables : Tables) (i : ℕ) (p : Setup) → IsAt c i p → ((q : Setup) (m : Move) → Leads p m q → GoesOn Mate c p m q) → exits_at tables Mate c i ≡ []
   unfolding exits_at
   no_exits tables i p at stays =
-      ap (exits_from tables Mate c) (here laws c i p at)
+      ap (exits_from tables Mate c) ((position_is laws c i p).1 at)
       ∙ nothing_of (λ m. option_to_list (exit_by tables Mate c p m (played p m))) (λ m. nothing_told laws tables Mate c p m at.spells.admissible (λ q leads. stays q m leads)) (moves_of p)

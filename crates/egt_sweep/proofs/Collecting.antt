@@ -7,14 +7,16 @@ use Rattle.std.proofs.lemmas.Bool.{cases_lt, false≢true}
 use Rattle.std.proofs.lemmas.List.{get_or_default}
 use Rattle.egt_board.specs.Setup.{Setup, IsAdmissible}
 use Rattle.egt_index.specs.Index.{IsIndex}
-use Rattle.egt_moves.specs.Legal.{Leads}
+use Rattle.egt_moves.specs.Legal.{Leads, IsLegal}
 use Rattle.egt_moves.specs.declared.chess_move.Move.{Move}
 use Rattle.egt_table.specs.declared.column.Column.{Column}
 use Rattle.egt_unmoves.specs.declared.unmove.Unmove.{Unmove}
-use Rattle.egt_sweep.specs.Edges.{GoesOn, LeadsOn, GoesBack, ComesFrom}
+use Rattle.egt_sweep.specs.Edges.{IsAt, GoesOn, LeadsOn, Connects, GoesBack, ComesFrom}
 use Rattle.egt_sweep.specs.Laws.{Laws}
-use Rattle.egt_sweep.specs.Wanted.{IsWanted}
-use Rattle.egt_sweep.specs.declared.wanted.Wanted.{Wanted}
+
+-- a listed move is legal
+pub listed_is_legal : (p : Setup) (moves listed : List Move) (n : ℕ) (m : Move) → n < length moves → m ≡ get_or moves n m → moves ≡ listed → ((x : Move) → Contains listed x ↔ IsLegal p x) → IsLegal p m
+listed_is_legal p moves listed n m inside here same legal = (legal m).0 (subst (λ ms. Contains ms m) same (n, inside, sym here))
 
 -- one of the first n elements gives k
 unfoldable pub Collected : {X : Type 0} → (X → ℕ → Type 0) → List X → ℕ → ℕ → Type 0
@@ -62,6 +64,22 @@ module _ (laws : Laws) (column : Column) (c : ℕ) (p : Setup) where
         laws.facts.one_index q c k i (laws.facts.step_admissible p q m ok leads) (subst (λ x. IsIndex c x k) same led.3) is,
   )
 
+  -- one that does not go on leads on to none
+  pub leads_on_never : (m : Move) (q : Setup) (k : ℕ) → Leads p m q → ¬ GoesOn column c p m q → LeadsOn column c p m k → ⊥
+  leads_on_never m q k leads off led = off (subst (GoesOn column c p m) (one_next m led.0 q led.1 leads) led.2)
+
+  -- the edges of the index are where the legal moves lead on to
+  pub edges_collected : (moves listed : List Move) (i k : ℕ) → moves ≡ listed → ((m : Move) → Contains listed m ↔ IsLegal p m) → IsAt c i p → ((m : Move) × Contains moves m × LeadsOn column c p m k) ↔ Connects column c i k
+  edges_collected moves listed i k same legal at = (λ found. record { from = p; at = at; move = found.0; to = found.2.0; leads = found.2.1; on = found.2.2; index = found.2.3 }, found_back)
+    where
+      found_back : Connects column c i k → (m : Move) × Contains moves m × LeadsOn column c p m k
+      found_back edge =
+          let e : edge.from ≡ p = laws.one_spelled c i edge.from p edge.at.spells at.spells in
+          let leads = subst (λ x. Leads x edge.move edge.to) e edge.leads in
+          let on = subst (λ x. GoesOn column c x edge.move edge.to) e edge.on in
+          let has = subst (λ ms. Contains ms edge.move) (sym same) ((legal edge.move).1 (edge.to, leads)) in
+          (edge.move, has, (edge.to, leads, on, edge.index))
+
 -- a member more, or none
 pub members_on : {A B P Q : Type 0} → (A ↔ (B ⊎ P)) → (P ↔ Q) → A ↔ (B ⊎ Q)
 members_on there same = (λ a. ⊎_map (λ b. b) same.0 (there.0 a), λ h. there.1 (⊎_map (λ b. b) same.1 h))
@@ -75,27 +93,8 @@ untrue true e is = absurd (false≢true (sym e))
 untrue false e is = λ h. false≢true (is.1 h)
 
 -- members that grow as what they are to be does
-pub members_after : {A B C P Q : Type 0} → (A ↔ (B ⊎ Q)) → (B ↔ (C ⊎ P)) → A ↔ ((C ⊎ P) ⊎ Q)
-members_after second first = (
-  λ a. elim (second.0 a) [ inl b ↦ inl (first.0 b) | inr q ↦ inr q ],
-  λ h. second.1 (elim h [ inl before ↦ inl (first.1 before) | inr q ↦ inr q ]),
-)
-
 pub members_then : {A B M N P : Type 0} → (A ↔ (B ⊎ P)) → (B ↔ M) → (N ↔ (M ⊎ P)) → A ↔ N
 members_then grown same next = (λ a. next.1 (⊎_map same.0 (λ p. p) (grown.0 a)), λ n. grown.1 (⊎_map same.1 (λ p. p) (next.0 n)))
-
--- the same beside what was there before
-pub members_beside : {A B O M N P : Type 0} → (A ↔ (B ⊎ P)) → (B ↔ (O ⊎ M)) → (N ↔ (M ⊎ P)) → A ↔ (O ⊎ N)
-members_beside grown same next = (
-  λ a. elim (grown.0 a) [
-    | inl b ↦ elim (same.0 b) [ inl o ↦ inl o | inr m ↦ inr (next.1 (inl m)) ]
-    | inr p ↦ inr (next.1 (inr p))
-  ],
-  λ h. elim h [
-    | inl o ↦ grown.1 (inl (same.1 (inl o)))
-    | inr n ↦ elim (next.0 n) [ inl m ↦ grown.1 (inl (same.1 (inr m))) | inr p ↦ grown.1 (inr p) ]
-  ],
-)
 
 pub none_ascend : IsStrictlyIncreasing []
 none_ascend k lt = absurd (omega (arith, lt))
@@ -110,10 +109,3 @@ collected_start gives xs list empty =
 -- what comes from unmoves one goes back by
 pub back_on : (column : Column) (c : ℕ) (u : Unmove) (i k : ℕ) → GoesBack column u → IsIndex c u.before i → ((j : ℕ) → IsIndex c u.before j → j ≡ i) → (k ≡ i) ↔ ComesFrom column c u k
 back_on column c u i k goes is one = (λ e. (goes, subst (IsIndex c u.before) (sym e) is), λ from. one k from.1)
-
--- of one number alone what is wanted
-pub kept : {P : Type 0} (wanted : Wanted) (i k : ℕ) → ((k ≡ i) ↔ P) → IsWanted wanted i → (k ≡ i) ↔ (P × IsWanted wanted k)
-kept wanted i k same has = (λ e. (same.0 e, subst (IsWanted wanted) (sym e) has), λ p. same.1 p.0)
-
-pub dropped : {P : Type 0} (wanted : Wanted) (i k : ℕ) → ((k ≡ i) ↔ P) → (IsWanted wanted i → ⊥) → (P × IsWanted wanted k) → ⊥
-dropped wanted i k same never p = never (subst (IsWanted wanted) (same.1 p.0) p.1)

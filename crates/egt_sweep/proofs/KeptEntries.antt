@@ -1,7 +1,6 @@
 -- Entries that are kept, word by word.
-use Rattle.std.proofs.Common.{◌≡◌, ◌≢◌, ◌↔◌, ℕ, ◌+◌, ◌<◌, ◌⊎◌, List, length, replicate, slice_index, sym, ap, ◌∙◌, subst, inl, inr, arith}
+use Rattle.std.proofs.Common.{◌≡◌, ◌≢◌, ◌↔◌, ℕ, ◌+◌, ◌<◌, ◌⊎◌, List, length, slice_index, sym, ap, ◌∙◌, subst, inl, inr, arith}
 use Rattle.std.proofs.lemmas.Bool.{cases_eq, cases_lt}
-use Rattle.std.proofs.lemmas.List.{get_or-replicate, get_or_past, length-replicate}
 use Rattle.std.specs.Int.{bit_at}
 use Rattle.egt_graph.specs.Words.{number_at, number_at-places, place_in, place_in-number_at, place_in-small, word_in, word_in-number_at, word_in-within, words_of}
 use Rattle.egt_index.specs.Index.{IsVoid}
@@ -10,13 +9,6 @@ use Rattle.egt_index.specs.Size.{size_of}
 use Rattle.egt_sweep.specs.CodeMates.{AreKeptBelow, AreOfIndexes}
 use Rattle.egt_sweep.specs.Laws.{Laws}
 use Rattle.egt_sweep.proofs.CodeIndexes.{position_there}
-
--- zeros everywhere
-pub zeros_at : (n i : ℕ) → slice_index (replicate n 0) i ≡ 0
-zeros_at n i = elim (cases_lt i n) [
-  | inl lt ↦ get_or-replicate n i 0 0 lt
-  | inr le ↦ get_or_past (replicate n 0) i 0 (let long = length-replicate {A = ℕ} n 0 in omega (arith, long, le))
-]
 
 -- the number of an index, and an index of a number
 module _ (laws : Laws) (c : ℕ) (c_in : c < 36) where

@@ -12,7 +12,7 @@ use Rattle.egt_class.specs.Children.{children_of}
 use Rattle.egt_class.specs.Membership.{IsOf}
 use Rattle.egt_index.specs.Index.{IsIndex}
 use Rattle.egt_moves.specs.Arena.{Value, Win, Loss, Draw}
-use Rattle.egt_moves.specs.Legal.{Leads, plain}
+use Rattle.egt_moves.specs.Legal.{Leads}
 use Rattle.egt_moves.specs.Moves.{played, moves_between}
 use Rattle.egt_moves.specs.Promotion.{FitsPromotion, promotes, choices_of}
 use Rattle.egt_moves.specs.declared.chess_move.Move.{Move}
@@ -31,9 +31,7 @@ use Rattle.egt_sweep.specs.declared.aim.Aim.{Aim}
 use Rattle.egt_sweep.specs.declared.aim.Aim.TheVariants as aims
 use Rattle.egt_sweep.specs.Laws.{Laws}
 use Rattle.egt_sweep.specs.Nodes.{index_in, plies_told, exit_of, exit_by, exits_by, shown_in, shown_below, or_else, goes_on}
-use Rattle.egt_sweep.specs.Ways.{IsStep}
 use Rattle.egt_sweep.proofs.Linked.{index_is, goes_is}
-use Rattle.egt_sweep.proofs.Onward.{pawn_stays}
 use Rattle.egt_sweep.proofs.Walked.{told_of, choices_told}
 
 -- the exit of the value that an entry shows
@@ -60,12 +58,6 @@ exit_win column x n v s e told = ap exits.Win told ∙ sym (ap (exit_of column) 
 
 pub exit_loss : (column : Column) (x n : ℕ) (v : Value) → Shows x v → x ≢ 1 → x % 2 ≢ 0 → n ≡ plies_told column ((x - 3) / 2) → exits.Loss n ≡ exit_of column (read x)
 exit_loss column x n v s ne odd told = ap exits.Loss told ∙ sym (ap (exit_of column) (read_shown x v s ∙ loss_shown x v s ne odd))
-
--- an entry that shows something is 1 or at least 3
-pub shown_least : (x : ℕ) (v : Value) → Shows x v → x ≢ 1 → 3 ≤ x
-shown_least x (Win n) s ne = omega (arith, s.0.0, s.1)
-shown_least x (Loss n) s ne = omega (arith, s.1)
-shown_least x Draw s ne = absurd (ne s.1)
 
 module _ (laws : Laws) (tables : Tables) where
   none_in : (c n : ℕ) (q : Setup) (flipped : Bool) → c < 36 → n < 36 → IsAdmissible q → IsOf c flipped q → n ≢ c → (o : Option ℕ) → o ≡ index_in n q → o ≡ None
@@ -146,14 +138,6 @@ between_told laws tables column c p man from to b ok stands told =
     choices_told (λ m. option_to_list (exit_by tables column c p m (played p m))) from to b
     (λ promo unfit. nothing_told laws tables column c p (record { from = from; to = to; promo = promo }) ok
     (λ q there. absurd (unfit (subst (λ (x : Bool). FitsPromotion x promo) (ap (λ (x : Man). promotes x to) (one_man p.men from there.man man there.stands stands) ∙ told) there.promotion))))
-
--- a step has one exit
-pub step_told : (laws : Laws) (tables : Tables) (column : Column) (c : ℕ) (p q : Setup) (from to : ℕ) (e : Exit) → IsAdmissible p → IsStep p from to → Leads p (plain from to) q → ¬ GoesOn column c p (plain from to) q →
-    e ≡ exit_of column (shown_below tables 36 q) → (es : List Exit) → es ++ e ∷ [] ≡ es ++ exits_by tables column c p (moves_between from to)
-step_told laws tables column c p q from to e ok step leads off is es =
-    off_has_exit laws tables column c p q (plain from to) e ok leads off is es
-    ∙ ap (λ xs. es ++ xs) (sym (append-nil (option_to_list (exit_by tables column c p (plain from to) (played p (plain from to)))))
-    ∙ between_told laws tables column c p step.man from to false ok step.stands (pawn_stays step.man to step.stays.0))
 
 pub mapped_some : {A B : Type 0} (f : A → B) (o : Option A) (x : Option B) → option_map f o ≡ x → IsSome x → IsSome o
 mapped_some f None x e some = subst IsSome (sym e) some

@@ -1,21 +1,23 @@
 -- Positions at nodes, as the graph's tests tell them.
 use Rattle.std.proofs.Common.{◌≡◌, ℕ, ◌<◌, ◌⊎◌, ◌↔◌, not, Bool, true, false, List, Option, Some, None, IfSome, IfNone, IsFalse, refl, sym, ap, ◌∙◌, subst, inl, inr}
-use Rattle.std.specs.Option.{is_some, IsSome}
+use Rattle.std.specs.Option.{is_some}
 use Rattle.std.specs.List.{Contains}
 use Rattle.std.specs.List.Sorted.{IsStrictlyIncreasing}
+use Rattle.egt_board.specs.Decided.{Decided, tells, tells_where}
 use Rattle.egt_board.specs.Setup.{Setup}
 use Rattle.egt_index.specs.Code.{Spells}
 use Rattle.egt_index.specs.Index.{IsIndex, IsVoid}
 use Rattle.egt_index.specs.Size.{size_of}
+use Rattle.egt_moves.specs.DecidedMoves.{decided_checkmate}
 use Rattle.egt_moves.specs.Standing.{IsCheckmate, StandsAs}
 use Rattle.egt_moves.specs.declared.outcome.Standing.{Standing}
 use Rattle.egt_moves.specs.declared.outcome.Standing.TheVariants.{Stalemate, HasMove}
-use Rattle.egt_graph.specs.Passing.{passing_below, passing_has, passing_is, passing_passes}
+use Rattle.egt_graph.specs.Passing.{passing_below, passing_is}
 use Rattle.egt_table.specs.declared.column.Column.{Column}
-use Rattle.egt_sweep.specs.Edges.{Connects, IsAt}
+use Rattle.egt_sweep.specs.Edges.{IsAt, Connects}
 use Rattle.egt_sweep.specs.Laws.{Laws}
-use Rattle.egt_sweep.specs.Nodes.{position_at, setup_of, setup_at, connects}
-use Rattle.egt_sweep.proofs.Linked.{void_is, there_is, node_at, position_is, connects_is}
+use Rattle.egt_sweep.specs.Nodes.{position_at, is_mated, connects}
+use Rattle.egt_sweep.proofs.Linked.{position_is, void_is, there_is, node_at, connects_is}
 
 pub denied : (b x : Bool) → not b ≡ x → b ≡ not x
 denied true x e = ap not e
@@ -31,22 +33,23 @@ module _ (laws : Laws) (c i : ℕ) where
   found_told None spells index void = sym (void_is laws c i void)
   found_told (Some p) spells index void = sym (there_is laws c i p (record { spells = spells; index = index }))
 
-  -- at a node something is found
-  pub node_found : (o : Option Setup) → IfNone o (IsVoid c i) → IsFalse (not (is_some (position_at c i))) → IsSome o
-  node_found None void node = let at = node_at laws c i node in absurd (void at.0 at.1.spells.admissible at.1.index)
-  node_found (Some p) void node = refl
-
   -- at a node there is one
   pub none_missing : IsVoid c i → IsFalse (not (is_some (position_at c i))) → ⊥
   none_missing void node = let at = node_at laws c i node in void at.0 at.1.spells.admissible at.1.index
 
-  -- the position there is at its index
-  pub at_setup : IsFalse (not (is_some (position_at c i))) → IsAt c i (setup_at c i)
-  at_setup node = let at = node_at laws c i node in subst (λ (o : Option Setup). IsAt c i (setup_of o)) (sym ((position_is laws c i at.0).1 at.1)) at.1
+  told_false : {P : Type 0} (d : Decided P) → ¬ P → tells d ≡ false
+  told_false (inl h) never = absurd (never h)
+  told_false (inr h) never = refl
 
-  -- and no other
-  pub same_at : (p q : Setup) → IsAt c i p → IsAt c i q → p ≡ q
-  same_at p q one other = let both : Some p ≡ Some q = sym ((position_is laws c i p).1 one) ∙ (position_is laws c i q).1 other in cc
+  mated_at : (p : Setup) → IsAt c i p → (b : Bool) → b ≡ tells (decided_checkmate p) → b ≡ is_mated (position_at c i)
+  mated_at p at b is = is ∙ sym (ap is_mated ((position_is laws c i p).1 at))
+
+  -- checkmate is told
+  pub mated_told : (p : Setup) → IsAt c i p → IsCheckmate p → true ≡ is_mated (position_at c i)
+  mated_told p at mate = mated_at p at true (sym (tells_where (decided_checkmate p) mate))
+
+  pub not_mated_told : (p : Setup) → IsAt c i p → ¬ IsCheckmate p → false ≡ is_mated (position_at c i)
+  not_mated_told p at none = mated_at p at false (sym (told_false (decided_checkmate p) none))
 
   -- an ascending list of exactly the edges is the graph's
   pub edges_told : (column : Column) (xs : List ℕ) → c < 36 → IsStrictlyIncreasing xs → ((k : ℕ) → Contains xs k ↔ Connects column c i k) → xs ≡ passing_below (size_of c) (λ j. connects column c i j)
@@ -59,10 +62,3 @@ module _ (laws : Laws) (c i : ℕ) where
   sources_told column xs below ascends exact = passing_is (size_of c) (λ k. connects column c k i) xs ascends
       (λ k has. let edge = (exact k).0 has in (laws.facts.index_below edge.from c k edge.at.index, (connects_is laws column c k i below).1 edge))
       (λ k lt t. (exact k).1 ((connects_is laws column c k i below).0 t))
-
-  -- the list has just the numbers from which a move that goes on leads to i
-  pub source_listed : (column : Column) (k : ℕ) → c < 36 → Contains (passing_below (size_of c) (λ k. connects column c k i)) k ↔ Connects column c k i
-  source_listed column k below = (
-    λ has. (connects_is laws column c k i below).0 (passing_passes (size_of c) (λ k. connects column c k i) k has),
-    λ edge. passing_has (size_of c) (λ k. connects column c k i) k (laws.facts.index_below edge.from c k edge.at.index) ((connects_is laws column c k i below).1 edge),
-  )

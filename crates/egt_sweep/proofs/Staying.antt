@@ -1,5 +1,5 @@
 -- Which moves stay in a class.
-use Rattle.std.proofs.Common.{◌≡◌, ℕ, ◌<◌, ◌↔◌, Bool, true, false, Option, Some, None, IsTrue, eqb, refl, sym, subst, ◌∙◌, inl, inr}
+use Rattle.std.proofs.Common.{◌≡◌, ℕ, ◌<◌, ◌↔◌, not, Bool, true, false, Option, Some, None, IsTrue, eqb, refl, sym, subst, ◌∙◌, inl, inr}
 use Rattle.std.proofs.lemmas.Bool.{false≢true, and_parts, eqb-true, eq-eqb}
 use Rattle.egt_board.specs.Setup.{Setup, IsAdmissible}
 use Rattle.egt_board.specs.declared.man.Kind.{Kind}
@@ -7,6 +7,7 @@ use Rattle.egt_board.specs.declared.man.Kind.TheVariants.{Q, R, B, N, P, K}
 use Rattle.egt_board.specs.Pawn.{last_rank}
 use Rattle.egt_board.specs.Square.{rank_of}
 use Rattle.egt_class.specs.Membership.{IsOf}
+use Rattle.egt_index.specs.Index.{IsIndex}
 use Rattle.egt_moves.specs.Chess.{Zeroes, IsPawnOn}
 use Rattle.egt_moves.specs.Exchange.{Captures}
 use Rattle.egt_moves.specs.Legal.{Leads}
@@ -16,6 +17,11 @@ use Rattle.egt_table.specs.declared.column.Column.{Column}
 use Rattle.egt_table.specs.declared.column.Column.TheVariants.{Mate, Zeroing}
 use Rattle.egt_sweep.specs.Edges.{GoesOn}
 use Rattle.egt_sweep.specs.Laws.{Laws}
+
+-- a test of what does not hold
+pub does_not_zero : {Z : Type 0} (b : Bool) → (IsTrue b ↔ Z) → IsTrue (not b) ↔ ¬ Z
+does_not_zero true is = (λ t. absurd (false≢true t), λ none. absurd (none (is.0 refl)))
+does_not_zero false is = (λ t z. false≢true (is.1 z), λ none. refl)
 
 -- a test of equal numbers
 pub tests_equal : (b : Bool) (m n : ℕ) → b ≡ eqb m n → IsTrue b ↔ (m ≡ n)
@@ -42,6 +48,13 @@ no_promotion p q m leads none (Some kind) e =
     absurd (none (record { man = leads.man; stands = leads.stands; pawn = pawn_kind leads.man.kind (and_parts (is_pawn leads.man.kind) (eqb (rank_of m.to) (last_rank leads.man.side)) t).0 }))
 
 module _ (laws : Laws) (c : ℕ) where
+  -- a position is of the class where it has an index there
+  pub stays_in_class : (d : ℕ) (flipped : Bool) (q : Setup) → c < 36 → d < 36 → IsAdmissible q → IsOf d flipped q → (d ≡ c) ↔ ((i : ℕ) × IsIndex c q i)
+  stays_in_class d flipped q c_in d_in ok of = (
+    λ e. laws.facts.some_index q c flipped c_in ok (subst (λ k. IsOf k flipped q) e of),
+    λ index. let own = laws.indexed_class q c index.0 ok index.1 in laws.facts.one_class q d c flipped own.0 d_in c_in of own.1,
+  )
+
   -- a move that does not zero neither captures nor promotes
   pub quiet_stays : (p q : Setup) (m : Move) → IsAdmissible p → (flipped : Bool) × IsOf c flipped p → Leads p m q → ¬ Zeroes p m → (flipped : Bool) × IsOf c flipped q
   quiet_stays p q m ok of leads quiet = (of.0, laws.quiet_class p q m c of.0 ok of.1 leads no_capture (no_promotion p q m leads (λ pawn. quiet (inr pawn)) m.promo refl))

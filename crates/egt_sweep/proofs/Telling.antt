@@ -1,5 +1,5 @@
 -- Where all moves stay in the class and none is a pawn's, none zeroes: both games have the same edges there, and no exits.
-use Rattle.std.proofs.Common.{◌≡◌, ℕ, ◌+◌, ◌<◌, count_by, ◌↔◌, Bool, true, false, not, List, [], ◌∷◌, length, Option, Some, None, arith, refl, sym, ap, ◌∙◌, subst, inl, inr}
+use Rattle.std.proofs.Common.{◌≡◌, ℕ, ◌<◌, ◌↔◌, Bool, true, false, not, List, [], ◌∷◌, Option, Some, None, arith, refl, sym, ap, ◌∙◌, subst, inl, inr}
 use Rattle.std.proofs.lemmas.Bool.{false≢true}
 use Rattle.std.specs.List.{flat_map}
 use Rattle.std.specs.Option.{is_some}
@@ -11,20 +11,14 @@ use Rattle.egt_board.specs.declared.man.Man.{Man}
 use Rattle.egt_board.specs.declared.man.Side.{Side}
 use Rattle.egt_class.specs.Membership.{IsOf}
 use Rattle.egt_index.specs.Code.{Spells}
-use Rattle.egt_index.specs.Size.{size_of}
 use Rattle.egt_moves.specs.Chess.{Zeroes}
 use Rattle.egt_moves.specs.Legal.{Leads}
 use Rattle.egt_moves.specs.declared.chess_move.Move.{Move}
-use Rattle.egt_graph.specs.Columns.{is_win_from, is_loss}
-use Rattle.egt_graph.specs.Counts.{is_draw, IsCount}
-use Rattle.egt_graph.specs.declared.counts.Count.{Count}
 use Rattle.egt_graph.specs.Passing.{passing_below, passing_is, passing_has, passing_passes, passing_is_below, passing_ascends}
 use Rattle.egt_table.specs.declared.column.Column.TheVariants.{Mate, Zeroing}
 use Rattle.egt_check.specs.Tables.{Tables}
-use Rattle.egt_sweep.specs.ClassGame.{class_game, class_game_is_lawful}
 use Rattle.egt_sweep.specs.Edges.{IsAt, GoesOn, Connects}
 use Rattle.egt_sweep.specs.Laws.{Laws}
-use Rattle.egt_sweep.specs.Nodes.{position_at, is_mated}
 
 -- no pawn of the side to move stands where the code spells a position
 abbrev pub MovesNoPawn : ℕ → ℕ → Type 0
@@ -74,18 +68,3 @@ pub passing_same : (n : ℕ) (f g : ℕ → Bool) → ((k : ℕ) → k < n → (
 passing_same n f g same = passing_is n g (passing_below n f) (passing_ascends n f)
     (λ k has. let lt = passing_is_below n f k has in (lt, (same k lt).0 (passing_passes n f k has)))
     (λ k lt is. passing_has n f k lt ((same k lt).1 is))
-
--- a node that has moves is no checkmate
-pub unmated : (tables : Tables) (c i : ℕ) (count : Count) → i < size_of c → IsCount (class_game tables Mate c) i count → count.moves < 255 → 0 < count.moves + count.wins + count.losses + count.draws → is_mated (position_at c i) ≡ false
-unmated tables c i count in_range told small some = of_test (is_mated (position_at c i)) refl
-  where
-    of_test : (b : Bool) → is_mated (position_at c i) ≡ b → is_mated (position_at c i) ≡ false
-    of_test false e = e
-    of_test true e =
-        let is = told small in
-        let ends = (class_game_is_lawful tables Mate c).mate_ends i (record { in_range = in_range; not_void = is.0 }) e in
-        let moves : 0 ≡ count.moves = sym (ap length ends.0) ∙ is.1 in
-        let wins : 0 ≡ count.wins = sym (ap (count_by (is_win_from 0)) ends.1) ∙ is.3 in
-        let losses : 0 ≡ count.losses = sym (ap (count_by is_loss) ends.1) ∙ is.4 in
-        let draws : 0 ≡ count.draws = sym (ap (count_by is_draw) ends.1) ∙ is.5 in
-        absurd (omega (arith, moves, wins, losses, draws, some))

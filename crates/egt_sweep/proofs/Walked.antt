@@ -140,14 +140,6 @@ few_choices man to = of_kind man.kind (rank_of to == last_rank man.side)
     of_kind P false = omega arith
     of_kind K last = omega arith
 
-pub some_choice : (kind : Kind) → 1 ≤ most_choices kind
-some_choice Q = omega arith
-some_choice R = omega arith
-some_choice B = omega arith
-some_choice N = omega arith
-some_choice P = omega arith
-some_choice K = omega arith
-
 pub few_moves : (kind : Kind) (n : ℕ) → n ≤ most_goals kind → most_choices kind * n ≤ most_moves kind
 few_moves Q n few = omega (arith, few)
 few_moves R n few = omega (arith, few)
@@ -159,14 +151,6 @@ few_moves K n few = omega (arith, few)
 -- who stands there is one man, who goes to so many squares
 pub goals_of : (men : Placement) (s : ℕ) (man other : Man) (set : SquareSet) → Stands men s man → Stands men s other → size_of set ≤ most_goals man.kind → size_of set ≤ most_goals other.kind
 goals_of men s man other set there stands few = subst (λ (m : Man). size_of set ≤ most_goals m.kind) (one_man men s man other there stands) few
-
-pub goals_few : (kind : Kind) → most_goals kind ≤ most_moves kind
-goals_few Q = omega arith
-goals_few R = omega arith
-goals_few B = omega arith
-goals_few N = omega arith
-goals_few P = omega arith
-goals_few K = omega arith
 
 -- one square fewer is left
 pub room_step : (kind : Kind) (length n n' bound : ℕ) → n' + 1 ≡ n → length + most_choices kind * n ≤ bound → (length + most_choices kind) + most_choices kind * n' ≤ bound

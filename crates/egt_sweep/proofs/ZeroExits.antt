@@ -2,16 +2,14 @@
 -- its mate entry tells.
 use Rattle.std.proofs.Common.{◌≡◌, ◌==◌, ◌&&◌, ◌||◌, ℕ, zero, suc, ◌<◌, ◌⊎◌, ◌↔◌, bit_or, map, not, if◌then◌else◌, Bool, true, false, List, [], ◌∷◌, ◌++◌, slice_index, Option, Some, None, refl, sym, ap, ◌∙◌, subst, inl, inr, arith}
 use Rattle.std.proofs.Math.Logic.{⊎_elim, ⊎_map}
-use Rattle.std.proofs.lemmas.Bool.{cases_eq, cases_lt, false≢true, false_from_ne_true, eqb-true, eq-eqb, lt-ltb}
-use Rattle.std.proofs.lemmas.List.{get_or_past}
+use Rattle.std.proofs.lemmas.Bool.{cases_eq, false≢true, false_from_ne_true, eqb-true, eq-eqb, lt-ltb}
 use Rattle.std.specs.Int.{bit_at}
 use Rattle.std.specs.List.{list_any, list_all}
 use Rattle.std.specs.Option.{option_to_list}
 use Rattle.egt_board.specs.Decided.{Decided}
 use Rattle.egt_board.specs.Setup.{Setup, IsAdmissible}
 use Rattle.egt_class.specs.Membership.{IsOf}
-use Rattle.egt_index.specs.Index.{IsIndex, IsVoid}
-use Rattle.egt_index.specs.Size.{size_of}
+use Rattle.egt_index.specs.Index.{IsIndex}
 use Rattle.egt_moves.specs.Arena.{Value, Win, Loss, Draw}
 use Rattle.egt_moves.specs.Chess.{Zeroes, IsPawnOn}
 use Rattle.egt_moves.specs.DecidedMoves.{decided_zeroes}
@@ -31,18 +29,16 @@ use Rattle.egt_table.specs.declared.column.Column.TheVariants.{Mate, Zeroing}
 use Rattle.egt_check.specs.Entry.{Shows}
 use Rattle.egt_check.specs.Reading.{in_range, read, read_shown}
 use Rattle.egt_check.specs.Tables.{Tables, beside, HasChildren}
-use Rattle.egt_sweep.specs.Counts.{staying_exit}
 use Rattle.egt_sweep.specs.Edges.{IsAt}
 use Rattle.egt_sweep.specs.Laws.{Laws}
 use Rattle.egt_sweep.specs.MateColumn.{mate_table, IsMateColumn}
 use Rattle.egt_sweep.specs.Nodes.{exit_of, exit_by, exits_at, exits_from, goes_on, shown_below}
 use Rattle.egt_sweep.specs.Edges.{PushesTo}
 use Rattle.egt_sweep.specs.OddMarks.{IsOddAbove}
-use Rattle.egt_sweep.proofs.ExitKinds.{zeroed, exit_apart}
-use Rattle.egt_sweep.proofs.Linked.{goes_is, spelled_there, void_is}
+use Rattle.egt_sweep.proofs.ExitKinds.{zeroed, staying_exit, exit_apart}
+use Rattle.egt_sweep.proofs.Linked.{goes_is, position_is, spelled_there}
 use Rattle.egt_sweep.proofs.Members.{In, contains_in, any_in, in_any, in_append, append_in, in_map, map_in, in_flat, flat_in, in_option}
 use Rattle.egt_sweep.proofs.OutOfClass.{shown_is, beside_own, off_has_exit}
-use Rattle.egt_sweep.proofs.Starting.{here}
 use Rattle.egt_sweep.proofs.CodeGame.{pawns}
 
 -- ---- tests and bits
@@ -125,13 +121,6 @@ module _ (laws : Laws) (c : ℕ) (c_in : c < 36) (tables : Tables) (mates : List
       let range = column.1 j (laws.facts.index_below q c j is) (spelled_there laws c j q c_in ok is) in
       in_range (slice_index mates j) range.0 range.1 range.2
 
-  -- a void number's entry is 0
-  odd_full : (n j : ℕ) → IsOddAbove n (slice_index mates j) → ¬ IsVoid c j
-  odd_full n j odd void = elim (cases_lt j (size_of c)) [
-    | inl lt ↦ let none = column.2 j lt (void_is laws c j void) in let one = odd.0 in omega (arith, none, one)
-    | inr le ↦ let none = get_or_past mates j 0 (let long = column.0 in omega (arith, long, le)) in let one = odd.0 in omega (arith, none, one)
-  ]
-
   module _ (children : HasChildren tables c) (i : ℕ) (p : Setup) (at : IsAt c i p) where
     ok : IsAdmissible p
     ok = at.spells.admissible
@@ -149,7 +138,7 @@ module _ (laws : Laws) (c : ℕ) (c_in : c < 36) (tables : Tables) (mates : List
 
     listed : (shown : Tables) (game : Column) → exits_at shown game c i ≡ exits_from shown game c (Some p)
     unfolding exits_at
-    listed shown game = ap (exits_from shown game c) (here laws c i p at)
+    listed shown game = ap (exits_from shown game c) ((position_is laws c i p).1 at)
 
     -- by moves
     told_of : Tables → Column → Move → List Exit

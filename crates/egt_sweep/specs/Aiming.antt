@@ -1,12 +1,10 @@
 -- What a game is played for, and what is known where moves leave it.
 use Rattle.std.specs.Prelude.{ℕ}
-use Rattle.egt_graph.specs.Graph.{Graph}
 use Rattle.egt_table.specs.declared.column.Column.{Column}
 use Rattle.egt_table.specs.declared.column.Column.TheVariants as columns
 use Rattle.egt_check.specs.Tables.{Tables, beside}
 use Rattle.egt_sweep.specs.declared.aim.Aim.{Aim}
 use Rattle.egt_sweep.specs.declared.aim.Aim.TheVariants.{Mate, Zeroing}
-use Rattle.egt_sweep.specs.ClassGame.{class_game}
 use Rattle.egt_sweep.specs.MateColumn.{IsMateColumn, mate_table}
 
 abbrev pub column_of : Aim → Column
@@ -22,7 +20,3 @@ known tables c (Zeroing ranks) = beside tables (mate_table c ranks.now)
 abbrev pub KnowsOwn : ℕ → Aim → Type 0
 KnowsOwn c Mate = Unit {0}
 KnowsOwn c (Zeroing ranks) = IsMateColumn c ranks.now
-
--- the game of the class that is played for this
-abbrev pub game_of : Tables → ℕ → Aim → Graph
-game_of tables c aim = class_game (known tables c aim) (column_of aim) c

@@ -1,6 +1,4 @@
 -- What holds of play, images, classes and indexes, by the laws of the crates below.
-use Rattle.egt_moves.specs.Chess.{Zeroes}
-use Rattle.egt_index.specs.Frame.{IsMoved}
 use Rattle.std.specs.Prelude.{◌≡◌, ℕ, ◌<◌, ◌⊎◌, ◌↔◌, Bool, Some, None, IsSome}
 use Rattle.std.specs.List.{Contains}
 use Rattle.egt_board.specs.DecidedSetup.{settled_form}
@@ -37,7 +35,6 @@ pub record Laws : Type 0 where
   pub quiet_class : (p q : Setup) (m : Move) (c : ℕ) (flipped : Bool) → IsAdmissible p → IsOf c flipped p → Leads p m q → ¬ Captures p m → m.promo ≡ None → IsOf c flipped q
   pub other_class : (p q : Setup) (m : Move) (c : ℕ) (flipped : Bool) → c < 36 → IsAdmissible p → IsOf c flipped p → Leads p m q → Captures p m ⊎ IsSome m.promo →
       (d : ℕ) × (turned : Bool) × Contains (children_of c) d × IsOf d turned q
-  pub quiet_moved : (c : ℕ) (p q : Setup) (m : Move) → IsAdmissible p → Leads p m q → ¬ Zeroes p m → IsMoved c p m.from m.to q
   pub images_settled : (p q : Setup) → IsAdmissible p → AreImages p q → IsSettled p ↔ IsSettled q
   pub settled : (p q : Setup) → SettlesTo p q → IsSettled q
   pub like_unmoves : (q q' : Setup) (u : Unmove) → IsAdmissible q → AreImages q q' → IsUnmove q u →

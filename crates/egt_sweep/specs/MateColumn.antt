@@ -1,5 +1,5 @@
 -- The mate column of a class that has no table yet, beside the tables at hand.
-use Rattle.std.specs.Prelude.{◌≡◌, ◌≢◌, ℕ, ◌<◌, ◌≤◌, false, true, List, length, slice_index}
+use Rattle.std.specs.Prelude.{◌≡◌, ◌≢◌, ℕ, ◌<◌, ◌≤◌, true, List, length, slice_index}
 use Rattle.std.specs.Option.{is_some}
 use Rattle.egt_board.specs.Setup.{Setup, IsAdmissible}
 use Rattle.egt_index.specs.Index.{IsIndex}
@@ -20,11 +20,10 @@ pub record IsIndexed (c i : ℕ) : Type 0 where
   pub admissible : IsAdmissible position
   pub index : IsIndex c position i
 
--- one entry a code, at the index of each position one that shows a value, and 0 at the others
+-- one entry a code, and at the index of each position one that shows a value
 abbrev pub IsMateColumn : ℕ → List ℕ → Type 0
 IsMateColumn c entries = (length entries ≡ size_of c)
     × ((i : ℕ) → i < size_of c → is_some (position_at c i) ≡ true → (slice_index entries i ≢ 0) × (slice_index entries i ≢ 2) × (slice_index entries i ≤ 64003))
-    × ((i : ℕ) → i < size_of c → is_some (position_at c i) ≡ false → slice_index entries i ≡ 0)
 
 -- a table of these mate entries; what its zeroing column has does not matter
 abbrev pub mate_table : ℕ → List ℕ → TableValue

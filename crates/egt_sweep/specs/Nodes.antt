@@ -8,8 +8,6 @@ use Rattle.std.proofs.Common.{inl, inr}
 use Rattle.egt_board.specs.Decided.{Decided, tells}
 use Rattle.egt_board.specs.DecidedSetup.{settled_form}
 use Rattle.egt_board.specs.DecidedTurns.{decided_turn}
-use Rattle.egt_board.specs.Corners.{corners}
-use Rattle.egt_board.specs.declared.man.Side.TheVariants.{White}
 use Rattle.egt_board.specs.Setup.{Setup}
 use Rattle.egt_class.specs.Material.{Material, material_of}
 use Rattle.egt_index.specs.Code.{SpellsBy}
@@ -67,22 +65,10 @@ has_index c i (Some p) = is_number i (index_in c p)
 unfoldable pub position_at : ℕ → ℕ → Option Setup
 position_at c i = kept_if (has_index c i (spelled c i)) (spelled c i)
 
--- it, or two kings in corners where there is none
-abbrev pub setup_of : Option Setup → Setup
-setup_of None = record { men = corners; side = White; target = None }
-setup_of (Some p) = p
-
-abbrev pub setup_at : ℕ → ℕ → Setup
-setup_at c i = setup_of (position_at c i)
-
 -- the side to move is checkmated
 abbrev pub is_mated : Option Setup → Bool
 is_mated None = false
 is_mated (Some p) = tells (decided_checkmate p)
-
-abbrev pub moves_from : Option Setup → List Move
-moves_from None = []
-moves_from (Some p) = moves_of p
 
 -- the move goes on in the game
 abbrev pub goes_on : Column → ℕ → Setup → Move → Setup → Bool

@@ -5,7 +5,6 @@ ghost use Rattle.egt_table.specs.declared.column.Column.TheVariants.{Mate, Zeroi
 ghost use Rattle.egt_check.specs.Tables.{table_at, beside, HasChildren};
 ghost use Rattle.egt_sweep.specs.Built.{IsBuilt, IsNotBuilt, HasNoFalseChild};
 ghost use Rattle.egt_sweep.specs.ClassGame.{class_game};
-ghost use Rattle.egt_sweep.specs.Counts.{CountsMoves};
 ghost use Rattle.egt_sweep.specs.MateColumn.{mate_table};
 ghost use Rattle.egt_sweep.specs.CodeMates.{CodesTell};
 ghost use Rattle.egt_sweep.specs.declared.build_fault.BuildFault.TheVariants.{NoMemory};
@@ -51,7 +50,6 @@ pub(crate) fn mate_ranks(
     requires { limit ≤ 32000 }
     ensures children { IfOk result (λ _. HasChildren (table_at library.now) class) }
     ensures ranks { IfOk result (λ told. AreRanks (class_game (table_at library.now) Mate class) limit told.ranks) }
-    ensures counts { IfOk result (λ told. CountsMoves (table_at library.now) class told.counts.items) }
     ensures codes { IfOk result (CodesTell (table_at library.now) class words.now) }
     ensures refused { IfErr result (IsNotBuilt (table_at library.now) class limit) }
 {
@@ -94,7 +92,6 @@ pub(crate) fn zeroing_ranks<'x>(
     requires limit { limit ≤ 32000 }
     requires children { HasChildren (table_at library.now) class }
     requires mates { AreRanks (class_game (table_at library.now) Mate class) limit mates.now.ranks }
-    requires counts { CountsMoves (table_at library.now) class mates.now.counts.items }
     requires codes { CodesTell (table_at library.now) class words.now mates.now }
     ensures ranks { IfOk result (AreRanks (class_game (beside (table_at library.now) (mate_table class mates.now.ranks)) Zeroing class) limit) }
     ensures refused { IfErr result (IsNotBuilt (table_at library.now) class limit) }
@@ -109,7 +106,7 @@ pub(crate) fn zeroing_ranks<'x>(
     if has_one_game(class, library) {
         return copied(alloc, &mates.ranks);
     }
-    let game = match ZeroGame::counted(class, library, &mates.ranks, &mates.counts) {
+    let game = match ZeroGame::new(class, library, &mates.ranks) {
         Ok(game) => game,
         Err(missing) => return Err(BuildFault::from(missing)),
     };
@@ -138,9 +135,8 @@ fn told_words(
 }
 
 /// The table of a class whose children have their tables in the library, with no mate distance above `limit`, which is at most
-/// 32,000. First the mate column is made, then the zeroing column: by retrograde analysis (Thompson 1986), or, where the quiet moves of the
-/// class are told by words, in rounds over the words of positions whose values are still open. No check is run, and none is needed: every
-/// entry is true, and the library takes the table unless it has one of the class.
+/// 32,000. First the mate column is made, then the zeroing column, by retrograde analysis (Thompson 1986). No check is run, and none is needed:
+/// every entry is true, and the library takes the table unless it has one of the class.
 ///
 /// # Errors
 ///

@@ -11,10 +11,7 @@ use egt_board::laws::{
     images_are_turns, images_form_classes, images_keep_men, positions_settle_once,
 };
 use egt_check::facts::facts;
-use egt_check::laws::{
-    a_position_plays_as_its_index_spells, a_quiet_move_moves_one_man,
-    an_indexed_position_is_of_the_class,
-};
+use egt_check::laws::{a_position_plays_as_its_index_spells, an_indexed_position_is_of_the_class};
 use egt_class::laws::moves_lead_into_the_class_or_a_child;
 use egt_index::laws::{
     a_code_is_an_index_or_void, codes_spell_one_position, numbers_stand_for_codes,
@@ -37,7 +34,6 @@ pub(crate) fn laws()
     moves_lead_to_one();
     an_indexed_position_is_of_the_class();
     a_position_plays_as_its_index_spells();
-    a_quiet_move_moves_one_man();
     moves_lead_into_the_class_or_a_child();
     images_have_like_unmoves();
     numbers_stand_for_codes();

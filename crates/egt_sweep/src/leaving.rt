@@ -20,20 +20,19 @@ ghost use Rattle.egt_check.specs.Entry.{Shows};
 ghost use Rattle.egt_check.specs.Reading.{read};
 ghost use Rattle.egt_check.specs.Tables.{table_at, entry_at, HasChildren};
 ghost use Rattle.egt_sweep.specs.Aiming.{column_of, known, KnowsOwn};
-ghost use Rattle.egt_sweep.specs.Edges.{IsAt, GoesOn};
+ghost use Rattle.egt_sweep.specs.Edges.{GoesOn};
 ghost use Rattle.egt_sweep.specs.MateColumn.{IsIndexed};
 ghost use Rattle.egt_sweep.specs.Nodes.{plies_told, exit_of, shown_below, exit_by, exits_by};
-ghost use Rattle.egt_sweep.specs.Ways.{IsStep, AllLeave, OthersGoOn};
+ghost use Rattle.egt_sweep.specs.Ways.{AllLeave, OthersGoOn};
 
 use crate::aim::Aim;
 use crate::laws::laws;
-use crate::quiet::is_step;
 use arrayvec::ArrayVec;
 use egt_board::{Position, Square, SquareSet};
 use egt_check::Library;
 use egt_class::{Class, of};
 use egt_graph::Exit;
-use egt_index::{IndexAfter, frame_at, index, indexed_by_men};
+use egt_index::{index, indexed_by_men};
 use egt_moves::{Men, Move, is_told_by_men, play_legal, promotions};
 use egt_table::Column;
 
@@ -191,7 +190,7 @@ fn add_exit(
 }
 
 /// Adds the values of where the moves between the two squares, which leave the game, lead, in the order of moves.
-fn add_exits_between(
+fn add_exits_to(
     aim: &Aim<'_>,
     class: Class,
     library: &Library,
@@ -223,72 +222,11 @@ fn add_exits_between(
     }
 }
 
-/// Adds the value of where the man's step to the square, which leaves the game, leads. The position there is not made. Few moves are
-/// such steps, so it stays out of the loop over all moves.
-#[inline(never)]
-fn add_exit_of_step(
-    aim: &Aim<'_>,
-    class: Class,
-    library: &Library,
-    index: u32,
-    position: &Position,
-    from: Square,
-    to: Square,
-    list: &mut ArrayVec<Exit, 64>,
-)
-    requires knows { KnowsOwn class aim.now }
-    requires of { (flipped : Bool) × IsOf class flipped position.now }
-    requires children { HasChildren (table_at library.now) class }
-    requires at { IsAt class index position.now }
-    requires target { IsLegalTarget position.now from to }
-    requires step { IsStep position.now from to }
-    requires leaves { (m : Move) (q : Setup) → m.from ≡ from → m.to ≡ to → Leads position.now m q → ¬ GoesOn (column_of aim.now) class position.now m q }
-    requires room { array_vec_len list.old < 64 }
-    ensures items { list.new.items ≡ list.old.items ++ exits_by (known (table_at library.now) class aim.now) (column_of aim.now) class position.now (moves_between from to) }
-    ensures few { array_vec_len list.new ≤ array_vec_len list.old + 1 }
-{
-    laws();
-    let _side = position.side();
-    let _number = class.number();
-    let (frame, _passed) = frame_at(class, index);
-    let next = frame.steps(from).index_to(to);
-    list.push(exit_in(aim, class, library, class, next));
-}
-
-/// Adds the values of where the man's moves to the square, which leave the game, lead, in the order of moves.
-pub(crate) fn add_exits_to(
-    aim: &Aim<'_>,
-    class: Class,
-    library: &Library,
-    index: u32,
-    position: &Position,
-    from: Square,
-    to: Square,
-    list: &mut ArrayVec<Exit, 64>,
-)
-    requires knows { KnowsOwn class aim.now }
-    requires of { (flipped : Bool) × IsOf class flipped position.now }
-    requires children { HasChildren (table_at library.now) class }
-    requires at { IsAt class index position.now }
-    requires target { IsLegalTarget position.now from to }
-    requires leaves { (m : Move) (q : Setup) → m.from ≡ from → m.to ≡ to → Leads position.now m q → ¬ GoesOn (column_of aim.now) class position.now m q }
-    requires room { (man : Man) → Stands position.now.men from man → array_vec_len list.old + most_choices man.kind ≤ 64 }
-    ensures items { list.new.items ≡ list.old.items ++ exits_by (known (table_at library.now) class aim.now) (column_of aim.now) class position.now (moves_between from to) }
-    ensures few { (man : Man) → Stands position.now.men from man → array_vec_len list.new ≤ array_vec_len list.old + most_choices man.kind }
-{
-    if is_step(position, from, to) {
-        add_exit_of_step(aim, class, library, index, position, from, to, list);
-    } else {
-        add_exits_between(aim, class, library, position, from, to, list);
-    }
-}
-
 /// Adds the values of where the man's moves that leave the game lead, in the order of moves: those to these squares.
 pub(crate) fn add_exits(
     aim: &Aim<'_>,
     class: Class,
     library: &Library,
-    index: u32,
     position: &Position,
     from: Square,
     targets: SquareSet,
@@ -297,7 +235,6 @@ pub(crate) fn add_exits(
     requires knows { KnowsOwn class aim.now }
     requires of { (flipped : Bool) × IsOf class flipped position.now }
     requires children { HasChildren (table_at library.now) class }
-    requires at { IsAt class index position.now }
     requires targets { (t : ℕ) → Has targets t → IsLegalTarget position.now from t }
     requires leaves { AllLeave (column_of aim.now) class position.now from targets }
     requires others { OthersGoOn (column_of aim.now) class position.now from targets }
@@ -309,6 +246,6 @@ pub(crate) fn add_exits(
     let _side = position.side();
     let mut rest = targets;
     while let Some(to) = rest.pop_first() {
-        add_exits_to(aim, class, library, index, position, from, to, list);
+        add_exits_to(aim, class, library, position, from, to, list);
     }
 }

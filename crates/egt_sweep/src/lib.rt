@@ -2,27 +2,20 @@
 #![tactic(auto)]
 
 mod aim;
-mod anchor;
 mod ascending;
-mod at_once;
 mod build_fault;
 mod building;
-mod by_squares;
 mod code_index;
 mod code_pawns;
 mod code_roaming;
 mod code_sources;
 mod code_words;
-mod counted;
 mod drawn_children;
 mod edges;
 mod exits;
-mod facing;
 mod kept;
-mod last;
 mod laws;
 mod leaving;
-mod leds;
 mod mate_codes;
 mod mate_game;
 mod mates;
@@ -31,12 +24,7 @@ mod nodes;
 mod odd_marks;
 mod quiet;
 pub mod ranks;
-mod shelves;
 mod sources;
-mod together;
-mod told;
-mod untold;
-mod wanted;
 mod ways;
 mod zero_codes;
 mod zero_game;
@@ -47,6 +35,3 @@ pub use building::build;
 pub use mate_game::MateGame;
 pub use missing::Missing;
 pub use zero_game::ZeroGame;
-
-#[cfg(test)]
-mod tests;

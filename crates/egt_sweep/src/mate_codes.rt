@@ -11,10 +11,9 @@ ghost use Rattle.egt_sweep.specs.CodeMates.{TellMates, game_by};
 
 use crate::aim::Aim;
 use crate::code_words::CodeWords;
-use crate::exits::exits_alone;
 use crate::kept::kept_ranks;
 use crate::laws::{codes_stand_for_indexes, laws};
-use crate::nodes::is_mated;
+use crate::nodes::{is_mated, list_exits};
 use arrayvec::ArrayVec;
 use egt_check::Library;
 use egt_graph::laws::stand_ins_tell_ranks;
@@ -52,7 +51,7 @@ impl Shelved for MateCodes<'_> {
         let class = self.words.class;
         let _number = class.number();
         let index = self.words.index_of(i);
-        exits_alone(&Aim::Mate, class, self.library, index, exits);
+        list_exits(&Aim::Mate, class, self.library, index, exits);
     }
 
     fn span(&self) -> u32 {

@@ -5,14 +5,11 @@ ghost use Rattle.egt_sweep.specs.ClassGame.{class_game, class_game_is_lawful};
 
 use crate::aim::Aim;
 use crate::missing::Missing;
-use crate::nodes::{
-    exits, is_mated, is_void, listed_degree, marked_predecessors, predecessors, start, start_two,
-    successors,
-};
+use crate::nodes::{exits, is_mated, is_void, predecessors, successors};
 use arrayvec::ArrayVec;
 use egt_check::{Library, first_missing};
 use egt_class::Class;
-use egt_graph::{Comb, Exit, Game, Start};
+use egt_graph::{Exit, Game};
 use egt_index::size;
 use egt_table::Column;
 
@@ -69,43 +66,14 @@ impl Game for MateGame<'_> {
     }
 
     fn degree(&self, i: u32) -> usize {
-        listed_degree(Column::Mate, self.class, i)
+        self.out(i).len()
     }
 
     fn into(&self, j: u32) -> ArrayVec<u32, 128> {
-        let mut list = ArrayVec::new();
-        self.list_into(j, &mut list);
-        list
-    }
-
-    fn list_into(&self, j: u32, list: &mut ArrayVec<u32, 128>) {
-        predecessors(Column::Mate, self.class, j, list);
-    }
-
-    fn combs_into(
-        &self,
-        nodes: &[u32],
-        marks: &[u64],
-        combs: &mut ArrayVec<Comb, 4096>,
-        list: &mut ArrayVec<u32, 8192>,
-    ) {
-        marked_predecessors(Column::Mate, self.class, nodes, marks, combs, list);
+        predecessors(Column::Mate, self.class, j)
     }
 
     fn exits(&self, i: u32) -> ArrayVec<Exit, 64> {
         exits(&Aim::Mate, self.class, self.library, i)
-    }
-
-    fn start(&self, i: u32, exits: &mut ArrayVec<Exit, 64>) -> Option<Start> {
-        start(&Aim::Mate, self.class, self.library, i, exits)
-    }
-
-    fn start_two(
-        &self,
-        i: u32,
-        exits: &mut ArrayVec<Exit, 64>,
-        next_exits: &mut ArrayVec<Exit, 64>,
-    ) -> (Option<Start>, Option<Start>) {
-        start_two(&Aim::Mate, self.class, self.library, i, exits, next_exits)
     }
 }

@@ -5,21 +5,18 @@ ghost use Rattle.egt_check.specs.Tables.{table_at};
 ghost use Rattle.egt_table.specs.declared.column.Column.TheVariants.{Mate};
 ghost use Rattle.egt_sweep.specs.ClassGame.{class_game};
 ghost use Rattle.egt_sweep.specs.CodeMates.{CodesTell};
-ghost use Rattle.egt_sweep.specs.Counts.{CountsMoves};
 
 use crate::code_words::CodeWords;
 use crate::laws::laws;
 use crate::mate_codes::{CodeEntries, solve_mate_codes};
 use crate::mate_game::MateGame;
-use egt_graph::{Count, Ranks, SolveFault, solve_and_count};
+use egt_graph::{Ranks, SolveFault, solve};
 use std::alloc::Global;
 
 /// The ranks of a class's game of mates, and what it tells the game of zeroing moves.
 #[derive(Drop)]
 pub(crate) struct Mates {
     pub(crate) ranks: Ranks,
-    /// What is told of its nodes' moves; it may be empty.
-    pub(crate) counts: Vec<Count>,
     /// What its numbers tell, where the game was solved over them.
     pub(crate) codes: Option<CodeEntries>,
 }
@@ -33,7 +30,6 @@ pub(crate) fn solve_mates(
 ) -> Result<Mates, SolveFault>
     requires limit { limit ≤ 32000 }
     ensures ok { IfOk result (λ told. AreRanks (class_game (table_at game.now.library.now) Mate game.now.class) limit told.ranks) }
-    ensures counts { IfOk result (λ told. CountsMoves (table_at game.now.library.now) game.now.class told.counts.items) }
     ensures codes { IfOk result (CodesTell (table_at game.now.library.now) game.now.class words.now) }
     ensures too_deep { result ≡ Err SolveFault.TooDeep → SomeAbove (class_game (table_at game.now.library.now) Mate game.now.class) limit }
 {
@@ -43,17 +39,12 @@ pub(crate) fn solve_mates(
             let (ranks, codes) = solve_mate_codes(alloc, game.library, words, limit)?;
             Ok(Mates {
                 ranks,
-                counts: Vec::new(alloc),
                 codes: Some(codes),
             })
         }
-        _ => {
-            let (ranks, counts) = solve_and_count(alloc, game, limit)?;
-            Ok(Mates {
-                ranks,
-                counts,
-                codes: None,
-            })
-        }
+        _ => Ok(Mates {
+            ranks: solve(alloc, game, limit)?,
+            codes: None,
+        }),
     }
 }

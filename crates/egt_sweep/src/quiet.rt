@@ -1,10 +1,12 @@
-//! Moves that change no more than the square of one man.
-ghost use Rattle.std.specs.Prelude.{◌≡◌, ◌↔◌, ◌&&◌, IsTrue};
-ghost use Rattle.egt_moves.specs.Legal.{is_two_ranks};
-ghost use Rattle.egt_moves.specs.Promotion.{is_pawn};
-ghost use Rattle.egt_sweep.specs.Ways.{Stays, IsStep};
+//! Moves of pawns that promote nothing and take nothing in passing.
+ghost use Rattle.std.specs.Prelude.{◌≡◌, ◌↔◌, ℕ, IsTrue};
+ghost use Rattle.egt_board.specs.Pawn.{Advances};
+ghost use Rattle.egt_board.specs.Placement.{IsFree};
+ghost use Rattle.egt_sweep.specs.Ways.{Stays};
+ghost use Rattle.egt_table.specs.declared.column.Column.TheVariants.{Mate};
 
-use egt_board::{Kind, Man, Position, Square};
+use egt_board::{Man, Position, Square};
+use egt_table::Column;
 
 /// Whether a pawn that goes to the free square takes nothing in passing and promotes nothing.
 pub(crate) fn stays(position: &Position, man: Man, to: Square) -> bool
@@ -13,19 +15,25 @@ pub(crate) fn stays(position: &Position, man: Man, to: Square) -> bool
     to.rank() != man.side.last_rank() && position.target() != Some(to)
 }
 
-/// Whether the man passes a square on his way, as a pawn that advances by two does.
-pub(crate) fn passes(man: Man, from: Square, to: Square) -> bool
-    ensures { result ≡ (is_pawn man.kind && is_two_ranks from to) }
+/// Whether no advance of the pawn promotes it or ends where it would take in passing.
+fn advances_stay(position: &Position, pawn: Man, from: Square) -> bool
+    ensures { IsTrue result → (t : ℕ) → Advances (IsFree position.now.men) pawn.side from t → Stays position.now pawn t }
 {
-    man.kind == Kind::P && (to.rank() == from.rank() + 2 || from.rank() == to.rank() + 2)
+    let mut rest = position.board().advances(pawn.side, from);
+    while let Some(to) = rest.pop_first() {
+        if !stays(position, pawn, to) {
+            return false;
+        }
+    }
+    true
 }
 
-/// Whether the man's way to the square takes nothing, promotes nothing and passes no square.
-pub(crate) fn is_step(position: &Position, from: Square, to: Square) -> bool
-    ensures { IsTrue result → IsStep position.now from to }
+/// Whether all advances of the pawn go on in the game: none is promoted, and moves of pawns do.
+pub(crate) fn pawn_stays(column: Column, position: &Position, pawn: Man, from: Square) -> bool
+    ensures { IsTrue result → (column ≡ Mate) × ((t : ℕ) → Advances (IsFree position.now.men) pawn.side from t → Stays position.now pawn t) }
 {
-    let Some(man) = position.at(from) else {
-        return false;
-    };
-    position.at(to).is_none() && stays(position, man, to) && !passes(man, from, to)
+    match column {
+        Column::Mate => advances_stay(position, pawn, from),
+        Column::Zeroing => false,
+    }
 }

@@ -15,11 +15,10 @@ ghost use Rattle.egt_sweep.specs.OddMarks.{AreOddMarks};
 
 use crate::aim::Aim;
 use crate::code_words::CodeWords;
-use crate::exits::exits_alone;
 use crate::kept::kept_ranks;
 use crate::laws::{codes_stand_for_indexes, laws};
 use crate::mate_codes::CodeEntries;
-use crate::nodes::is_mated;
+use crate::nodes::{is_mated, list_exits};
 use crate::odd_marks::{OddMarks, odd_marks};
 use arrayvec::ArrayVec;
 use egt_check::Library;
@@ -96,7 +95,7 @@ impl Shelved for ZeroCodes<'_> {
         let _number = class.number();
         let index = self.words.index_of(i);
         let aim = Aim::Zeroing(self.mates);
-        exits_alone(&aim, class, self.library, index, exits);
+        list_exits(&aim, class, self.library, index, exits);
     }
 
     fn span(&self) -> u32 {

@@ -1,22 +1,18 @@
 //! The game of zeroing moves over a class.
-ghost use Rattle.std.specs.Prelude.{◌≡◌, ◌≢◌, ◌<◌, ◌≤◌, ℕ, false, true, length, slice_index};
+ghost use Rattle.std.specs.Prelude.{◌≡◌, ◌≢◌, ◌<◌, ◌≤◌, ℕ, true, length, slice_index};
 ghost use Rattle.std.specs.Option.{is_some};
 ghost use Rattle.egt_check.specs.Tables.{table_at, beside, HasChildren};
 ghost use Rattle.egt_table.specs.declared.column.Column.TheVariants.{Zeroing};
 ghost use Rattle.egt_sweep.specs.ClassGame.{class_game, class_game_is_lawful};
-ghost use Rattle.egt_sweep.specs.Counts.{CountsMoves};
 ghost use Rattle.egt_sweep.specs.MateColumn.{mate_table, IsMateColumn};
 
 use crate::aim::Aim;
 use crate::missing::Missing;
-use crate::nodes::{
-    exits, is_mated, is_void, listed_degree, marked_predecessors, predecessors, start_by_ranks,
-    successors,
-};
+use crate::nodes::{exits, is_mated, is_void, predecessors, successors};
 use arrayvec::ArrayVec;
 use egt_check::{Library, first_missing};
 use egt_class::Class;
-use egt_graph::{Comb, Count, Exit, Game, Ranks, Start};
+use egt_graph::{Exit, Game, Ranks};
 use egt_index::size;
 use egt_table::Column;
 
@@ -27,11 +23,8 @@ pub struct ZeroGame<'l> {
     pub(crate) class: Class,
     pub(crate) library: &'l Library,
     pub(crate) mates: &'l Ranks,
-    /// What the game of mates has told of its nodes' moves; it may be empty.
-    counts: &'l [Count],
     ghost children: { HasChildren (table_at library.now) class },
     ghost shows: { IsMateColumn class mates.now },
-    ghost told: { CountsMoves (table_at library.now) class counts.now },
 }
 
 impl<'l> ZeroGame<'l> {
@@ -57,24 +50,6 @@ impl<'l> ZeroGame<'l> {
         ensures mates { IfOk result (λ g. g.mates.now ≡ mates.now) }
         ensures missing { IfErr result (λ missing. IsFirstMissing (table_at library.now) class missing.class) }
     {
-        ZeroGame::counted(class, library, mates, &[])
-    }
-
-    /// The same, with what the game of mates has told of its nodes' moves.
-    pub(crate) fn counted(
-        class: Class,
-        library: &'l Library,
-        mates: &'l Ranks,
-        counts: &'l [Count],
-    ) -> Result<ZeroGame<'l>, Missing>
-        requires ranks { HasChildren (table_at library.now) class → AreMateRanks (table_at library.now) class mates.now }
-        requires counts { CountsMoves (table_at library.now) class counts.now }
-        ensures exact { IsOk result ↔ HasChildren (table_at library.now) class }
-        ensures class { IfOk result (λ g. g.class ≡ class) }
-        ensures library { IfOk result (λ g. g.library.now ≡ library.now) }
-        ensures mates { IfOk result (λ g. g.mates.now ≡ mates.now) }
-        ensures missing { IfErr result (λ missing. IsFirstMissing (table_at library.now) class missing.class) }
-    {
         if let Some(child) = first_missing(class, library) {
             return Err(Missing { class: child });
         }
@@ -82,7 +57,6 @@ impl<'l> ZeroGame<'l> {
             class,
             library,
             mates,
-            counts,
         })
     }
 }
@@ -109,35 +83,14 @@ impl Game for ZeroGame<'_> {
     }
 
     fn degree(&self, i: u32) -> usize {
-        listed_degree(Column::Zeroing, self.class, i)
+        self.out(i).len()
     }
 
     fn into(&self, j: u32) -> ArrayVec<u32, 128> {
-        let mut list = ArrayVec::new();
-        self.list_into(j, &mut list);
-        list
-    }
-
-    fn list_into(&self, j: u32, list: &mut ArrayVec<u32, 128>) {
-        predecessors(Column::Zeroing, self.class, j, list);
-    }
-
-    fn combs_into(
-        &self,
-        nodes: &[u32],
-        marks: &[u64],
-        combs: &mut ArrayVec<Comb, 4096>,
-        list: &mut ArrayVec<u32, 8192>,
-    ) {
-        marked_predecessors(Column::Zeroing, self.class, nodes, marks, combs, list);
+        predecessors(Column::Zeroing, self.class, j)
     }
 
     fn exits(&self, i: u32) -> ArrayVec<Exit, 64> {
         exits(&Aim::Zeroing(self.mates), self.class, self.library, i)
-    }
-
-    #[inline(always)]
-    fn start(&self, i: u32, exits: &mut ArrayVec<Exit, 64>) -> Option<Start> {
-        start_by_ranks(self.mates, self.counts, self.class, self.library, i, exits)
     }
 }

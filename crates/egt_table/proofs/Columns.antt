@@ -14,10 +14,6 @@ pieces_at f (x ∷ items) (suc i) d h =
       ap (λ (w : List ℕ). f x ++ w) p.1 ∙ sym (append_assoc (f x) (flat_map f (take i items)) (f (get_or items i d) ++ flat_map f (drop (suc i) items))),
     )
 
-pub pieces_more : {A : Type 0} (f : A → List ℕ) (items : List A) (i : ℕ) (d : A) → i < length items
-    → flat_map f (take (i + 1) items) ≡ flat_map f (take i items) ++ f (get_or items i d)
-pieces_more f items i d h = rw add-one (pieces_at f items i d h).0
-
 pub pieces_split : {A : Type 0} (f : A → List ℕ) (items : List A) (i : ℕ) (d : A) → i < length items
     → flat_map f items ≡ flat_map f (take i items) ++ (f (get_or items i d) ++ flat_map f (drop (suc i) items))
 pieces_split f items i d h = (pieces_at f items i d h).1

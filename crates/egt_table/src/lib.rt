@@ -24,6 +24,3 @@ pub use memory::{MemorySink, MemorySource};
 pub use std::alloc::AllocError as NoMemory;
 pub use stream::{Sink, Source};
 pub use table::Table;
-
-#[cfg(test)]
-mod tests;

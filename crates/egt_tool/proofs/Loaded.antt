@@ -5,12 +5,6 @@ use Rattle.std.proofs.lemmas.Bool.{cases_lt, false≢true}
 use Rattle.egt_check.specs.Tables.{Tables}
 use Rattle.egt_tool.specs.Descent.{HasExactly}
 
-pub none_yet : (tables : Tables) (P : ℕ → Type 0) → ((c : ℕ) → tables c ≡ None) → HasExactly tables (λ d. (d < 0) × P d)
-none_yet tables P empty = λ d. (
-  (λ there. absurd (false≢true (sym (ap is_some (empty d)) ∙ there))),
-  (λ wanted. (let below = wanted.0 in absurd (omega arith))),
-)
-
 -- a class with a table more
 pub one_more : (old new : Tables) (n : ℕ) (P : ℕ → Type 0) → P n → HasExactly old (λ d. (d < n) × P d)
     → HasExactly new (λ d. IsSome (old d) ⊎ (d ≡ n)) → HasExactly new (λ d. (d < n + 1) × P d)

@@ -123,18 +123,6 @@ marked_next c m old marks less from marked adds = record {
   ];
 }
 
--- so it does where m is not marked
-pub unmarked_next : (c m : ℕ) (marks : List Bool) → IsMarkedFrom c (m + 1) marks → ¬ IsMarked marks m → IsMarkedFrom c m marks
-unmarked_next c m marks from unmarked = record {
-  within = (let within = from.within in omega arith);
-  sound = from.sound;
-  first = from.first;
-  closed = λ e d above there child. elim (split m e above) [
-    | inl same ↦ absurd (unmarked (subst (IsMarked marks) same there))
-    | inr higher ↦ from.closed e d higher there child
-  ];
-}
-
 -- at first no class is marked
 pub none_marked : (n d : ℕ) → get_or (replicate n false) d false ≡ false
 none_marked zero d = refl

@@ -27,18 +27,3 @@ pub use moves::moves_text;
 pub use program::run;
 pub use statistics::Statistics;
 pub use stats::stats_text;
-
-#[cfg(test)]
-mod build_tests;
-#[cfg(test)]
-mod list_tests;
-#[cfg(test)]
-mod pawn_tests;
-#[cfg(test)]
-mod running;
-#[cfg(test)]
-mod search_tests;
-#[cfg(test)]
-mod table_tests;
-#[cfg(test)]
-mod tests;

@@ -153,11 +153,6 @@ came b m q c = record {
 pub came_man : (b : Setup) (m : Move) (q : Setup) (man : Man) (c : Came b m q) → Stands q.men m.to man → c.man ≡ man
 came_man b m q man c stands = one_man q.men m.to c.man man c.stands stands
 
--- it is the one that the legal move names
-pub led_man : (b : Setup) (m : Move) (q : Setup) (man : Man) (c : ComesBy b m q) → Stands q.men m.to man → c.leads.man ≡ man
-unfolding came
-led_man b m q man c stands = came_man b m q man (came b m q c) stands
-
 -- no position comes by two moves
 pub same_move : (b : Setup) (m n : Move) (q : Setup) → ComesBy b m q → ComesBy b n q → m ≡ n
 same_move b m n q c d = λ i. record { from = same_from i; to = same_to i; promo = (c.no_promotion ∙ sym d.no_promotion) i }

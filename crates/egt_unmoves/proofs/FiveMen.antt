@@ -1,5 +1,5 @@
 -- Four men leave room for one target that a pawn stands ready to take.
-use Rattle.std.proofs.Common.{◌≡◌, ◌≢◌, ℕ, suc, zero, ◌-◌, ◌<◌, ◌≤◌, ◌⊎◌, Option, Some, None, IfSome, cond, arith, refl, sym, ap, ◌∙◌, inl, inr, subst}
+use Rattle.std.proofs.Common.{◌≡◌, ◌≢◌, ℕ, suc, zero, ◌-◌, ◌≤◌, ◌⊎◌, Option, Some, None, IfSome, cond, arith, refl, sym, ap, ◌∙◌, inl, inr, subst}
 use Rattle.std.specs.Option.{is_some}
 use Rattle.std.specs.FinMap as map
 use Rattle.std.specs.Cmp.{nat_cmp_total}
@@ -11,18 +11,17 @@ use Rattle.egt_board.specs.declared.man.Kind.TheVariants.{P, K}
 use Rattle.egt_board.specs.declared.man.Man.{Man}
 use Rattle.egt_board.specs.Man.{other_side}
 use Rattle.egt_board.specs.Attack.{king_of}
-use Rattle.egt_board.specs.Pawn.{pawn_of, ahead, Advances, IsBeside, HasPawnBeside}
-use Rattle.egt_board.specs.Placement.{Placement, Stands, IsFree, one_man, get-remove_other}
+use Rattle.egt_board.specs.Pawn.{pawn_of, ahead, HasPawnBeside}
+use Rattle.egt_board.specs.Placement.{Placement, Stands, one_man, get-remove_other}
 use Rattle.egt_board.specs.Setup.{Setup, IsAdmissible}
 use Rattle.egt_board.specs.Settled.{IsSettled}
 use Rattle.egt_board.specs.Square.{rank_of}
 use Rattle.egt_board.specs.Target.{IsTarget, target_rank}
 use Rattle.egt_moves.specs.declared.chess_move.Move.{Move}
-use Rattle.egt_unmoves.specs.Targets.{advanced_rank, StoodBeside, MightBeTaken}
+use Rattle.egt_unmoves.specs.Targets.{advanced_rank}
 use Rattle.egt_unmoves.specs.Unmoves.{ComesBy, MayComeFrom}
 use Rattle.egt_unmoves.proofs.Came.{Came, came, not_free}
 use Rattle.egt_unmoves.proofs.Sides.{side_twice, sides_differ}
-use Rattle.egt_unmoves.proofs.Straight.{behind, second, came_straight}
 use Rattle.egt_unmoves.proofs.Went.{elsewhere, stood}
 
 -- a man less
@@ -108,23 +107,6 @@ ahead_back : (side : Side) (t : ℕ) → rank_of t ≡ target_rank (other_side s
 ahead_back White t e = omega arith
 ahead_back Black t e = omega arith
 
--- beside a pawn that has advanced two squares none of the other side is on its own home rank, so that it advances by one
-one_on : (F : ℕ → Type 0) (side : Side) (at s t : ℕ) → s < 64 → Advances F side s t → rank_of at ≡ advanced_rank (other_side side) → IsBeside s at → IsBeside t (ahead side at)
-one_on F side at s t s_in advances rank beside = elim (came_straight F side s t s_in advances) [
-  | inl near ↦ by_one side near.0 rank beside
-  | inr far ↦ absurd (by_two side far.0 far.2 rank beside.0)
-]
-  where
-    by_one : (side : Side) → s ≡ behind side t → rank_of at ≡ advanced_rank (other_side side) → IsBeside s at → IsBeside t (ahead side at)
-    by_one White e rank (same, inl left) = (omega arith, inl (omega arith))
-    by_one White e rank (same, inr right) = (omega arith, inr (omega arith))
-    by_one Black e rank (same, inl left) = (omega arith, inl (omega arith))
-    by_one Black e rank (same, inr right) = (omega arith, inr (omega arith))
-
-    by_two : (side : Side) → s ≡ second side t → rank_of t ≡ advanced_rank side → rank_of at ≡ advanced_rank (other_side side) → rank_of s ≡ rank_of at → ⊥
-    by_two White e far rank same = omega arith
-    by_two Black e far rank same = omega arith
-
 module _ (b q : Setup) (m : Move) (comes : ComesBy b m q) where
   x : Came b m q
   x = came b m q comes
@@ -172,37 +154,10 @@ module _ (b q : Setup) (m : Move) (comes : ComesBy b m q) where
           (subst (λ side. Stands b.men square (pawn_of side)) (sym mover) (pawn_then square stands)) ready.1.stands in
           inr (is ∙ ap Some (sym (ahead_back q.side t here.1) ∙ ap (ahead (other_side q.side)) same))
 
-  -- a pawn that stood ready to take it stands there still, or has advanced
-  stood_ready : (at : ℕ) → rank_of at ≡ advanced_rank q.side → HasPawnBeside b.men b.side at → StoodBeside q.men b.side at
-  stood_ready at rank taker = elim (stood q x.man m.to m.from may taker.square (pawn_of b.side) (ap (λ (men : Placement). map.get men taker.square) (sym x.men) ∙ taker.stands)) [
-    | inl h ↦ inr (record {
-      square = m.to;
-      stands = x.stands ∙ ap Some (sym h.1);
-      beside = went_on (sym h.1) h.0;
-    })
-    | inr h ↦ inl (record { square = taker.square; stands = h.2; beside = taker.beside })
-  ]
-    where
-      by_going : x.man ≡ pawn_of b.side → Advances (IsFree b.men) b.side m.from m.to
-      by_going same = elim x.goes [
-        | inl piece ↦ absurd (piece.0 (ap (λ (y : Man). y.kind) same))
-        | inr pawn ↦ subst (λ side. Advances (IsFree b.men) side m.from m.to) x.mine pawn.1
-      ]
-
-      went_on : x.man ≡ pawn_of b.side → taker.square ≡ m.from → IsBeside m.to (ahead b.side at)
-      went_on same here = one_on (IsFree b.men) b.side at m.from m.to (comes.admissible.on_board m.from x.man x.stood) (by_going same)
-          (rank ∙ ap advanced_rank (sym mover)) (subst (λ s. IsBeside s at) here taker.beside)
-
-  -- where no pawn might have been taken, there was no target
-  pub no_target_before : ((s : ℕ) → MightBeTaken q.men q.side s → ⊥) → b.target ≡ None
+  -- where no pawn has advanced, there was no target
+  pub no_target_before : ((s : ℕ) → Stands q.men s (pawn_of q.side) → rank_of s ≡ advanced_rank q.side → ⊥) → b.target ≡ None
   no_target_before none = by_target b.target refl
     where
       by_target : (o : Option ℕ) → b.target ≡ o → b.target ≡ None
       by_target None is = is
-      by_target (Some t) is =
-          let here = advanced t is in
-          let at = ahead q.side t in
-          let rank = rank_advanced q.side t here.1 in
-          let ready = (target_of b t comes.admissible comes.settled is).1 in
-          let taker : StoodBeside q.men b.side at = stood_ready at rank (subst (λ side. HasPawnBeside b.men b.side (ahead side t)) mover ready) in
-          absurd (none at (record { rank = rank; stands = here.0; taker = subst (λ side. StoodBeside q.men side at) x.side taker }))
+      by_target (Some t) is = let here = advanced t is in absurd (none (ahead q.side t) here.0 (rank_advanced q.side t here.1))

@@ -1,7 +1,6 @@
 pub mod Sides
 pub mod Came
 pub mod Ways
-pub mod Straight
 pub mod Quiet
 pub mod Went
 pub mod InOrder
@@ -11,5 +10,3 @@ pub mod FiveMen
 pub mod Room
 pub mod TwoKings
 pub mod UnmoveImages
-pub mod Left
-pub mod Bits

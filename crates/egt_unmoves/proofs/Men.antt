@@ -21,7 +21,7 @@ use Rattle.egt_unmoves.proofs.Came.{came}
 use Rattle.egt_unmoves.proofs.InOrder.{squares_within, target_place_small, ListsBelow-none, ListsBelow-skip}
 
 -- that side's king stands somewhere
-pub king_square : (p : Setup) (side : Side) → IsAdmissible p → (k : ℕ) × IsKingOn p.men side k
+king_square : (p : Setup) (side : Side) → IsAdmissible p → (k : ℕ) × IsKingOn p.men side k
 king_square p White ok = (ok.kings.white, ok.kings.white_there)
 king_square p Black ok = (ok.kings.black, ok.kings.black_there)
 
@@ -33,7 +33,7 @@ pub record ListsMen (q : Setup) (now : List Unmove) (left : SquareSet) : Type 0 
   pub left_is : (t : ℕ) → Has left t ↔ (IsHeld q.men t (other_side q.side) × (next ≤ t))
   pub room : (k : ℕ) → IsKingOn q.men (other_side q.side) k → length now + 56 * size_of left ≤ 128 + 40 * bit_at left.bits k
 
-pub not_both : {A : Type 0} (n : ℕ) → n ≡ 0 → n ≡ 1 → A
+not_both : {A : Type 0} (n : ℕ) → n ≡ 0 → n ≡ 1 → A
 not_both n none one = absurd (omega arith)
 
 pub ListsMen-none : (q : Setup) (left : SquareSet) → ((t : ℕ) → Has left t ↔ IsHeld q.men t (other_side q.side)) → size_of left ≤ 3 → ListsMen q [] left
@@ -96,11 +96,6 @@ skipped q now left n n_in l le least = ListsBelow-skip q _ _ now (omega arith) l
 
 pub ListsMen-before : (q : Setup) (now : List Unmove) (left : SquareSet) (s : ℕ) → s < 64 → Has left s → ((t : ℕ) → t < s → bit_at left.bits t ≡ 0) → ListsMen q now left → ListsBelow q (s * 128) now
 ListsMen-before q now left s s_in has least l = skipped q now left s (omega arith) l ((l.left_is s).0 has).1 least
-
-pub ListsMen-theirs : (q : Setup) (now : List Unmove) (left : SquareSet) (s : ℕ) (man : Man) → Has left s → Stands q.men s man → ListsMen q now left → man.side ≡ other_side q.side
-ListsMen-theirs q now left s man has stands l =
-    let held = ((l.left_is s).0 has).0 in
-    ap (λ (x : Man). x.side) (one_man q.men s man held.man stands held.stands) ∙ held.theirs
 
 -- one man less is left
 pub ListsMen-more : (q : Setup) (now new : List Unmove) (left left' : SquareSet) (s : ℕ) (man : Man) → IsAdmissible q → s < 64 → Has left s → ((t : ℕ) → t < s → bit_at left.bits t ≡ 0) → bit_at left'.bits s ≡ 0

@@ -1,10 +1,9 @@
 -- The ways back.
-use Rattle.std.proofs.Common.{◌≡◌, ◌↔◌, ℕ, List, [], ◌∷◌, zero, suc, ◌+◌, ◌-◌, ◌*◌, ◌<◌, ◌≤◌, ◌⊎◌, ◌++◌, arith, refl, sym, ap, ◌∙◌, inl, inr, if◌then◌else◌, ◌==◌, Bool, true, false, subst, Some, None, ◌&&◌, ◌||◌, ◌/◌}
+use Rattle.std.proofs.Common.{◌≡◌, ◌↔◌, ℕ, zero, suc, ◌+◌, ◌-◌, ◌*◌, ◌<◌, ◌≤◌, ◌⊎◌, ◌++◌, arith, refl, sym, ap, ◌∙◌, inl, inr, if◌then◌else◌, ◌==◌, Bool, true, false, subst, Some, None, ◌&&◌, ◌||◌, ◌/◌}
 use Rattle.std.proofs.Math.Nat.{add-mul}
 use Rattle.std.specs.FinMap as map
 use Rattle.std.proofs.lemmas.Bool.{false≢true}
 use Rattle.std.proofs.lemmas.Bool.Decides.{eqb_tells}
-use Rattle.std.proofs.lemmas.Nat.Bits.{bit_at-zero}
 use Rattle.egt_board.specs.declared.man.Side.{Side}
 use Rattle.egt_board.specs.declared.man.Side.TheVariants.{White, Black}
 use Rattle.egt_board.specs.declared.man.Kind.{Kind}
@@ -13,18 +12,15 @@ use Rattle.egt_board.specs.declared.man.Man.{Man}
 use Rattle.egt_board.specs.declared.step.Way.{Way}
 use Rattle.egt_board.specs.declared.step.Way.TheVariants.{Up, Down, Still}
 use Rattle.egt_board.specs.declared.step.Step.{Step}
-use Rattle.egt_board.specs.Attack.{king_of}
-use Rattle.egt_board.specs.Between.{IsBetween}
 use Rattle.egt_board.specs.Man.{other_side}
 use Rattle.egt_board.specs.Square.{file_of, rank_of}
 use Rattle.egt_board.specs.Coordinate.{Further}
 use Rattle.egt_board.specs.Step.{Away}
-use Rattle.egt_board.specs.Gait.{OneOf, Rides, Reaches, Reaches-free, straight_steps, diagonal_steps, knight_steps, pawn_steps, steps_of, farthest}
+use Rattle.egt_board.specs.Gait.{OneOf, Rides, Reaches, straight_steps, diagonal_steps, knight_steps, pawn_steps, steps_of, farthest}
 use Rattle.egt_board.specs.Pawn.{pawn_of, ahead, forward, home_rank, farthest_advance, Advances}
 use Rattle.egt_board.specs.Placement.{Placement, IsFree}
 use Rattle.egt_moves.specs.Legal.{passed, is_two_ranks}
 use Rattle.egt_moves.specs.Promotion.{is_pawn}
-use Rattle.egt_board.proofs.Hiding.{Open, free_between, clear_reach}
 use Rattle.egt_unmoves.specs.Unmoves.{facing}
 use Rattle.egt_unmoves.proofs.Came.{unput_free}
 use Rattle.egt_unmoves.proofs.Sides.{side_twice}
@@ -115,16 +111,6 @@ pawn_back X Y turn Black (inl r) = inr (inl (turn _ r))
 pawn_back X Y turn Black (inr (inl r)) = inl (turn _ r)
 pawn_back X Y turn Black (inr (inr none)) = absurd none
 
--- a king attacks the squares from which a king attacks it, whatever squares are free
-pub kings_face : (F G : ℕ → Type 0) (one other : Side) (s t : ℕ) → s < 64 → Reaches F (king_of one) s t → Reaches G (king_of other) t s
-kings_face F G one other s t s_in = royal_back (Rides F 1 s t) (Rides G 1 t s) (λ d r. record {
-  count = r.count;
-  moves = r.moves;
-  within = r.within;
-  away = Away-back d r.count s t s_in r.away;
-  clear = λ k u some less away. let within = r.within in absurd (omega arith);
-})
-
 -- a man reaches the squares from which it is reached, and a pawn those from which an enemy pawn reaches it
 pub Reaches-back : (F G : ℕ → Type 0) (man : Man) (s t : ℕ) → ((u : ℕ) → F u → G u) → s < 64 → Reaches F man s t → Reaches G (facing man) t s
 Reaches-back F G man s t free s_in = by_kind man.kind
@@ -161,19 +147,57 @@ attacks_back left man s square law s_in square_in = (
 )
 
 -- a pawn steps one square at least
-pub some_advance : (side : Side) (s : ℕ) → 1 ≤ farthest_advance side s
+some_advance : (side : Side) (s : ℕ) → 1 ≤ farthest_advance side s
 some_advance side s = by_test (rank_of s == home_rank side)
   where
     by_test : (b : Bool) → 1 ≤ (if b then 2 else 1)
     by_test true = omega arith
     by_test false = omega arith
 
-pub few_advance : (side : Side) (s : ℕ) → farthest_advance side s ≤ 2
+few_advance : (side : Side) (s : ℕ) → farthest_advance side s ≤ 2
 few_advance side s = by_test (rank_of s == home_rank side)
   where
     by_test : (b : Bool) → (if b then 2 else 1) ≤ 2
     by_test true = omega arith
     by_test false = omega arith
+
+one_back : (G : ℕ → Type 0) (side : Side) (s t : ℕ) → G s → Away (forward side) 1 t s → Advances G side t s
+one_back G side s t free away = record {
+  rides = record { count = 1; moves = omega arith; within = some_advance side t; away = away; clear = λ k u some less step. absurd (omega arith) };
+  free = free;
+}
+
+-- a pawn came from one square back, or two
+pub Advances-back : (F G : ℕ → Type 0) (side : Side) (s t : ℕ) → s < 64 → 0 < rank_of t → G s → Advances F side s t
+    → Advances G (other_side side) t s ⊎ Advances G (other_side side) (ahead (other_side side) t) s
+Advances-back F G side s t s_in low free a = by_count side a.rides.count a.rides.moves (omega (arith, a.rides.within, few_advance side s)) a.rides.away
+  where
+    by_count : (side : Side) (n : ℕ) → 0 < n → n ≤ 2 → Away (forward side) n s t → Advances G (other_side side) t s ⊎ Advances G (other_side side) (ahead (other_side side) t) s
+    by_count White (suc zero) some few away = let x = away.across in let y = away.along in
+        inl (one_back G Black s t free (record { on_board = s_in; across = omega arith; along = omega arith }))
+    by_count Black (suc zero) some few away = let x = away.across in let y = away.along in
+        inl (one_back G White s t free (record { on_board = s_in; across = omega arith; along = omega arith }))
+    by_count White (suc (suc zero)) some few away = let x = away.across in let y = away.along in
+        inr (one_back G Black s (t - 8) free (record { on_board = s_in; across = omega arith; along = omega arith }))
+    by_count Black (suc (suc zero)) some few away = let x = away.across in let y = away.along in
+        inr (one_back G White s (t + 8) free (record { on_board = s_in; across = omega arith; along = omega arith }))
+    by_count side zero some few away = absurd (omega arith)
+    by_count side (suc (suc (suc n))) some few away = absurd (omega arith)
+
+-- a pawn that advances comes from the square behind its goal, or over it
+pub passed_over : (F : ℕ → Type 0) (side : Side) (s t : ℕ) → s < 64 → Advances F side s t → (s ≡ ahead (other_side side) t) ⊎ F (ahead (other_side side) t)
+passed_over F side s t s_in a = by_count side a.rides.count a.rides.moves (omega (arith, a.rides.within, few_advance side s)) a.rides.away a.rides.clear
+  where
+    by_count : (side : Side) (n : ℕ) → 0 < n → n ≤ 2 → Away (forward side) n s t → ((k u : ℕ) → 0 < k → k < n → Away (forward side) k s u → F u)
+        → (s ≡ ahead (other_side side) t) ⊎ F (ahead (other_side side) t)
+    by_count White (suc zero) some few away clear = let x = away.across in let y = away.along in inl (omega arith)
+    by_count Black (suc zero) some few away clear = let x = away.across in let y = away.along in inl (omega arith)
+    by_count White (suc (suc zero)) some few away clear = let x = away.across in let y = away.along in let z = away.on_board in
+        inr (clear 1 (t - 8) (omega arith) (omega arith) (record { on_board = omega arith; across = omega arith; along = omega arith }))
+    by_count Black (suc (suc zero)) some few away clear = let x = away.across in let y = away.along in let z = away.on_board in
+        inr (clear 1 (t + 8) (omega arith) (omega arith) (record { on_board = omega arith; across = omega arith; along = omega arith }))
+    by_count side zero some few away clear = absurd (omega arith)
+    by_count side (suc (suc (suc n))) some few away clear = absurd (omega arith)
 
 if_some : (b : Bool) (x t : ℕ) → (if b then Some x else None) ≡ Some t → (b ≡ true) × (x ≡ t)
 if_some true x t e = (refl, cc)
@@ -205,28 +229,3 @@ ahead_passed F man s t u pawn a e = by_count man.side a.rides.count a.rides.move
     by_count Black (suc (suc zero)) some few away = let x = away.across in let y = away.along in let z = found.1 in omega arith
     by_count side zero some few away = absurd (omega arith)
     by_count side (suc (suc (suc n))) some few away = absurd (omega arith)
-
--- a man that attacks a square past some squares does so past all that are free between
-pub past_free : (F G : ℕ → Type 0) (man : Man) (s t : ℕ) → ((u : ℕ) → IsBetween s t u → F u → G u) → Reaches F man s t → Reaches G man s t
-past_free F G man s t free r = clear_reach G man s t (Reaches-free F (Open 0) man s t (λ u u_in _. bit_at-zero u) r) (λ u between. free u between (free_between F man s t u r between))
-
--- a king goes one step, and nothing is between
-king_bare : (F G : ℕ → Type 0) (s t : ℕ) (ds : List Step) → OneOf (Rides F 1 s t) ds → OneOf (Rides G 1 s t) ds
-king_bare F G s t [] none = none
-king_bare F G s t (d ∷ ds) some = elim some [
-  | inl r ↦
-      let within = r.within in
-      inl (record { count = r.count; moves = r.moves; within = r.within; away = r.away; clear = λ k u k_some less away. absurd (omega arith) })
-  | inr rest ↦ inr (king_bare F G s t ds rest)
-]
-
-pub none_between : (F : ℕ → Type 0) (man : Man) (s t u : ℕ) → man.kind ≡ K → Reaches F man s t → ¬ IsBetween s t u
-none_between F man s t u king reaches between = free_between (λ v. ⊥) man s t u (of_kind man.kind king reaches) between
-  where
-    of_kind : (kind : Kind) → kind ≡ K → OneOf (Rides F (farthest kind) s t) (steps_of man.side kind) → OneOf (Rides (λ v. ⊥) (farthest kind) s t) (steps_of man.side kind)
-    of_kind K e r = king_bare F (λ v. ⊥) s t (steps_of man.side K) r
-    of_kind Q e r = absurd (cc)
-    of_kind R e r = absurd (cc)
-    of_kind B e r = absurd (cc)
-    of_kind N e r = absurd (cc)
-    of_kind P e r = absurd (cc)

@@ -22,24 +22,19 @@ use Rattle.egt_moves.specs.Going.{Goes}
 use Rattle.egt_moves.specs.Legal.{plain, passed, men_after, after}
 use Rattle.egt_moves.specs.Promotion.{is_pawn, promotes, FitsPromotion}
 use Rattle.egt_unmoves.specs.Unmoves.{ComesBy, MayComeFrom, Went, GoesOver, led_to, men_before, setup_before}
-use Rattle.egt_unmoves.proofs.Came.{Came, came, came_man, led_man, moved_on, not_free, left_whole, settles_men, settles_side, settles_once}
+use Rattle.egt_unmoves.proofs.Came.{Came, came, came_man, moved_on, not_free, left_whole, settles_men, settles_side, settles_once}
 use Rattle.egt_unmoves.proofs.Room.{few_before}
 use Rattle.egt_unmoves.proofs.Sides.{side_twice, sides_differ}
-use Rattle.egt_unmoves.proofs.Straight.{passed_over}
-use Rattle.egt_unmoves.proofs.Ways.{ahead_passed}
+use Rattle.egt_unmoves.proofs.Ways.{passed_over, ahead_passed}
 
 -- a move that led here went so
 pub comes_went : (b q : Setup) (m : Move) (man : Man) → Stands q.men m.to man → ComesBy b m q → Went q man m.to m.from
 comes_went b q m man stands c = record {
-  left = record {
-    way = record {
-      within = c.admissible.on_board m.from x.man x.stood;
-      free = x.free_from;
-      fits = subst (λ (y : Man). MayStand y m.from) same_man (c.admissible.pawns m.from x.man x.stood);
-      goes = subst (λ (men : Placement). GoesOver men man m.from m.to) men (subst (λ (y : Man). GoesOver b.men y m.from m.to) same_man x.goes);
-    };
-    quiet = λ check. c.admissible.quiet (subst (λ (y : Placement). IsInCheck y (other_side b.side)) (sym men) (subst (IsInCheck (men_before q.men man m.to m.from)) side check));
-  };
+  within = c.admissible.on_board m.from x.man x.stood;
+  free = x.free_from;
+  fits = subst (λ (y : Man). MayStand y m.from) same_man (c.admissible.pawns m.from x.man x.stood);
+  goes = subst (λ (men : Placement). GoesOver men man m.from m.to) men (subst (λ (y : Man). GoesOver b.men y m.from m.to) same_man x.goes);
+  quiet = λ check. c.admissible.quiet (subst (λ (y : Placement). IsInCheck y (other_side b.side)) (sym men) (subst (IsInCheck (men_before q.men man m.to m.from)) side check));
   settles = subst (λ p. SettlesTo p q) led c.settles;
 }
   where
@@ -56,7 +51,7 @@ comes_went b q m man stands c = record {
     side = sym (side_twice q.side) ∙ ap other_side (sym x.side)
 
     leader : c.leads.man ≡ man
-    leader = led_man b m q man c stands
+    leader = one_man b.men m.from c.leads.man x.man c.leads.stands x.stood ∙ same_man
 
     target : c.led.target ≡ passed man m.from m.to
     target = ap (λ (p : Setup). p.target) c.leads.becomes ∙ ap (λ (y : Man). passed y m.from m.to) leader
@@ -116,23 +111,23 @@ module _ (q : Setup) (man : Man) (to from : ℕ) (may : MayComeFrom q man to fro
   admissible_before : (target : Option ℕ) → IsAdmissible q → Went q man to from → FitsTarget (men_before q.men man to from) (other_side q.side) target → IsAdmissible (setup_before q man to from target)
   admissible_before target ok went fits = record {
     few = few_before q.men man to from may.stands ok.few;
-    on_board = λ s other stands. elim (stood s other stands) [ inl h ↦ subst (λ u. u < 64) (sym h.0) went.left.way.within | inr h ↦ ok.on_board s other h.2 ];
+    on_board = λ s other stands. elim (stood s other stands) [ inl h ↦ subst (λ u. u < 64) (sym h.0) went.within | inr h ↦ ok.on_board s other h.2 ];
     kings = kings_before ok.kings;
     pawns = λ s other stands. elim (stood s other stands) [
-      | inl h ↦ subst (λ u. MayStand other u) (sym h.0) (subst (λ (y : Man). MayStand y from) (sym h.1) went.left.way.fits)
+      | inl h ↦ subst (λ u. MayStand other u) (sym h.0) (subst (λ (y : Man). MayStand y from) (sym h.1) went.fits)
       | inr h ↦ ok.pawns s other h.2
     ];
     target = fits;
-    quiet = λ check. went.left.quiet (subst (IsInCheck (men_before q.men man to from)) (side_twice q.side) check);
+    quiet = λ check. went.quiet (subst (IsInCheck (men_before q.men man to from)) (side_twice q.side) check);
   }
 
   -- a pawn that advances arrives on no target, since the pawn that has passed it is in the way
   not_taken : (target : Option ℕ) → Went q man to from → FitsTarget (men_before q.men man to from) (other_side q.side) target → man.kind ≡ P → target ≡ Some to → ⊥
-  not_taken target went fits pawn e = elim went.left.way.goes [
+  not_taken target went fits pawn e = elim went.goes [
     | inl piece ↦ piece.0 pawn
     | inr advance ↦
         let is : IsTarget (men_before q.men man to from) (other_side q.side) to = subst (λ (o : Option ℕ). IfSome o (IsTarget (men_before q.men man to from) (other_side q.side))) e fits in
-        elim (passed_over (IsFree (men_before q.men man to from)) (other_side q.side) from to went.left.way.within (subst (λ side. Advances (IsFree (men_before q.men man to from)) side from to) may.theirs advance.1)) [
+        elim (passed_over (IsFree (men_before q.men man to from)) (other_side q.side) from to went.within (subst (λ side. Advances (IsFree (men_before q.men man to from)) side from to) may.theirs advance.1)) [
           | inl here ↦
               let same : man ≡ pawn_of (other_side (other_side q.side)) = one_man (men_before q.men man to from) from man _ there.0 (subst (λ s. Stands (men_before q.men man to from) s (pawn_of (other_side (other_side q.side)))) (sym here) is.advanced) in
               sides_differ (other_side q.side) (sym may.theirs ∙ ap (λ (y : Man). y.side) same)
@@ -173,7 +168,7 @@ module _ (q : Setup) (man : Man) (to from : ℕ) (may : MayComeFrom q man to fro
       man = man;
       stands = there.0;
       mine = may.theirs;
-      goes = by_going went.left.way.goes;
+      goes = by_going went.goes;
       promotion = no_promotion ok;
       becomes = refl;
       safe = λ check. ok.quiet (subst (λ (men : Placement). IsInCheck men (other_side q.side)) men check);

@@ -1,4 +1,3 @@
 pub mod Unmoves
 pub mod Order
 pub mod Targets
-pub mod Around

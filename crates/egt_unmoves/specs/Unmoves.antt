@@ -59,22 +59,21 @@ led_to q man to from = record { men = q.men; side = q.side; target = passed man 
 abbrev pub GoesOver : Placement → Man → ℕ → ℕ → Type 0
 GoesOver men man from to = ((man.kind ≢ P) × Reaches (IsFree men) man from to) ⊎ ((man.kind ≡ P) × Advances (IsFree men) man.side from to)
 
--- the man may have come from a free square, past free squares
-pub record HasWay (men : Placement) (man : Man) (to from : ℕ) : Type 0 where
-  pub within : from < 64
-  pub free : IsFree men from
-  pub fits : MayStand man from
-  pub goes : GoesOver (men_before men man to from) man from to
-
--- and the side that waited then was not in check
-pub record MayHaveLeft (q : Setup) (man : Man) (to from : ℕ) : Type 0 where
-  pub way : HasWay q.men man to from
-  pub quiet : ¬ IsInCheck (men_before q.men man to from) q.side
-
--- and what that led to settles to this, so that the man went so
+-- the man went from a square to this one, where the side that waited then is not in check, and what that led to settles
+-- to this
 pub record Went (q : Setup) (man : Man) (to from : ℕ) : Type 0 where
-  pub left : MayHaveLeft q man to from
+  pub within : from < 64
+  pub free : IsFree q.men from
+  pub fits : MayStand man from
+  pub goes : GoesOver (men_before q.men man to from) man from to
+  pub quiet : ¬ IsInCheck (men_before q.men man to from) q.side
   pub settles : SettlesTo (led_to q man to from) q
+
+-- the man may have gone so, if it is a pawn that advances, or a piece or king and there is no target
+pub record MayHaveLeft (q : Setup) (man : Man) (to from : ℕ) : Type 0 where
+  pub free : IsFree q.men from
+  pub quiet : ¬ IsInCheck (men_before q.men man to from) q.side
+  pub reaches : man.kind ≢ P → Reaches (IsFree (men_before q.men man to from)) man from to
 
 -- the man that attacks the squares from which this one attacks its own
 abbrev pub facing : Man → Man

@@ -1,16 +1,11 @@
 //! What holds of moves backwards. These functions do nothing: a caller calls one to know what it ensures.
-ghost use Rattle.std.specs.Prelude.{◌≡◌, ◌≢◌, ◌<◌, ℕ, Bool, None};
+ghost use Rattle.std.specs.Prelude.{◌≡◌, ◌<◌, ℕ, Bool};
 ghost use Rattle.egt_board.specs.Images.{AreImages};
-ghost use Rattle.egt_board.specs.Man.{other_side};
-ghost use Rattle.egt_board.specs.Placement.{Stands};
 ghost use Rattle.egt_board.specs.Setup.{Setup, IsAdmissible};
 ghost use Rattle.egt_board.specs.Symmetry.{KeepsPlay};
 ghost use Rattle.egt_board.specs.Turned.{IsTurnedBy};
-ghost use Rattle.egt_board.specs.declared.man.Kind.TheVariants.{P};
-ghost use Rattle.egt_board.specs.declared.man.Man.{Man};
-ghost use Rattle.egt_moves.specs.Legal.{plain};
 ghost use Rattle.egt_moves.specs.declared.chess_move.Move.{Move};
-ghost use Rattle.egt_unmoves.specs.Unmoves.{ComesBy, HasWay, IsUnmove, setup_before};
+ghost use Rattle.egt_unmoves.specs.Unmoves.{ComesBy, IsUnmove};
 ghost use Rattle.egt_unmoves.specs.declared.unmove.Unmove.{Unmove};
 
 use egt_board::laws::{
@@ -39,11 +34,4 @@ pub fn images_have_like_unmoves()
 pub fn unmoves_take_one_move_back()
     ensures one { (b q : Setup) (m n : Move) → ComesBy b m q → ComesBy b n q → m ≡ n }
     ensures within { (b q : Setup) (m : Move) → ComesBy b m q → (m.from < 64) × (m.to < 64) }
-{}
-
-/// A piece or king of the side that waits came, where the position has no target, from each square from which it has a way and with which the
-/// position before is admissible.
-pub fn a_man_came_by_a_free_way()
-    ensures { (q : Setup) (man : Man) (to s : ℕ) → IsAdmissible q → q.target ≡ None → Stands q.men to man → man.side ≡ other_side q.side → man.kind ≢ P
-        → HasWay q.men man to s → IsAdmissible (setup_before q man to s None) → ComesBy (setup_before q man to s None) (plain s to) q }
 {}

@@ -3,7 +3,6 @@ ghost use Rattle.std.specs.Prelude.{◌≡◌, ◌+◌, ◌*◌, ◌<◌, ◌≤
 ghost use Rattle.std.specs.FinMap as map;
 ghost use Rattle.std.specs.List.{Contains};
 ghost use Rattle.arrayvec.specs.ArrayVec.{array_vec_len};
-ghost use Rattle.egt_board.specs.Camps.{AreCamps};
 ghost use Rattle.egt_board.specs.Placement.{Stands};
 ghost use Rattle.egt_board.specs.Man.{other_side};
 ghost use Rattle.egt_board.specs.Setup.{Setup};
@@ -20,7 +19,7 @@ use crate::taking_back::{before, is_pawn, went};
 use crate::targets::{is_settled_target, target_before};
 use crate::unmove::Unmove;
 use arrayvec::ArrayVec;
-use egt_board::{Board, Camps, Man, Position, Square};
+use egt_board::{Board, Man, Position, Square};
 
 /// Adds the position with this target from which the man came. On the board the man is back on `from`.
 fn push_before(
@@ -68,10 +67,10 @@ fn push_from(
     ensures few { array_vec_len list.new ≤ array_vec_len list.old + 2 }
 {
     let _side = position.side();
-    if !went(position, man, from, to) {
+    let board = left.with_man(from, man);
+    if !went(position, &board, man, from, to) {
         return;
     }
-    let board = left.with_man(from, man);
     push_before(position, &board, man, from, to, None, list);
     if let Some(passed) = target {
         if is_settled_target(&board, man.side, *passed) {
@@ -83,13 +82,11 @@ fn push_from(
 /// Adds the positions from which the man on `to` came, in order of its square before.
 fn push_to(
     position: &Position,
-    camps: Camps,
     man: Man,
     to: Square,
     target: &Option<Square>,
     list: &mut ArrayVec<Unmove, 128>,
 )
-    requires camps { AreCamps position.now camps }
     requires stands { Stands position.now.men to man }
     requires theirs { man.side ≡ other_side position.now.side }
     requires target { (b : Setup) (m : Move) → ComesBy b m position.now → (b.target ≡ None) ⊎ (b.target ≡ target.now) }
@@ -100,7 +97,7 @@ fn push_to(
 {
     let mut left = position.board().copied();
     left.clear(to);
-    let mut rest = sources(position, camps, man, to);
+    let mut rest = sources(position, &left, man, to);
     while let Some(from) = rest.pop_first() {
         push_from(position, &left, man, from, to, target, list);
     }
@@ -117,13 +114,12 @@ pub fn unmoves(position: &Position) -> ArrayVec<Unmove, 128>
     ensures ordered { IsInOrder position.now result.items }
 {
     let waiting = position.side().other();
-    let camps = position.camps();
     let target = target_before(position);
     let mut list = ArrayVec::new();
     let mut rest = position.of(waiting);
     while let Some(to) = rest.pop_first() {
         let man = position.at(to).unwrap();
-        push_to(position, camps, man, to, &target, &mut list);
+        push_to(position, man, to, &target, &mut list);
     }
     list
 }

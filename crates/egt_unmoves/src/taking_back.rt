@@ -2,7 +2,8 @@
 ghost use Rattle.std.specs.Prelude.{◌≡◌, ◌↔◌, IsTrue};
 ghost use Rattle.egt_board.specs.declared.man.Man.{Man};
 ghost use Rattle.egt_board.specs.Man.{other_side};
-ghost use Rattle.egt_board.specs.Pawn.{Advances};
+ghost use Rattle.egt_board.specs.Pawn.{MayStand, Advances};
+ghost use Rattle.egt_board.specs.Placement.{IsFree};
 ghost use Rattle.egt_board.specs.Settled.{SettlesTo};
 ghost use Rattle.egt_board.specs.Setup.{IsKingOn};
 ghost use Rattle.egt_board.specs.declared.man.Kind.TheVariants.{P};
@@ -17,6 +18,14 @@ pub(crate) fn is_pawn(man: Man) -> bool
     ensures { IsTrue result ↔ (man.kind ≡ P) }
 {
     man.kind == Kind::P
+}
+
+/// Whether a pawn may stand on the square: on none of the first rank or the last.
+fn may_have_pawn(square: Square) -> bool
+    ensures { (man : Man) → man.kind ≡ P → IsTrue result ↔ MayStand man square }
+{
+    let rank = square.rank();
+    0 < rank && rank < 7
 }
 
 /// The target that is left, once settled, by a pawn of the side that waits that has gone from `from` to `to`.
@@ -41,15 +50,31 @@ fn is_same(target: Option<Square>, other: Option<Square>) -> bool
     target == other
 }
 
-/// Whether the man, one of the side that waits, went from `from`, which it may have left, to `to`, and so left the target that the position
-/// has.
-pub(crate) fn went(position: &Position, man: Man, from: Square, to: Square) -> bool
+/// Whether a pawn of the side that waits advanced from `from` to `to`, and left the target that the position has. On
+/// the board it is back on `from`.
+fn advanced(position: &Position, board: &Board, man: Man, from: Square, to: Square) -> bool
+    requires pawn { man.kind ≡ P }
     requires theirs { man.side ≡ other_side position.now.side }
+    ensures { IsTrue result ↔ (MayStand man from × Advances (IsFree board.now) man.side from to × SettlesTo (led_to position.now man to from) position.now) }
+{
+    if !may_have_pawn(from) {
+        return false;
+    }
+    if !board.advances(man.side, from).contains(to) {
+        return false;
+    }
+    is_same(target_left(position, man, from, to), position.target())
+}
+
+/// Whether the man went from `from`, which it may have left, to `to`. On the board it is back on `from`.
+pub(crate) fn went(position: &Position, board: &Board, man: Man, from: Square, to: Square) -> bool
+    requires may { MayComeFrom position.now man to from }
     requires left { MayHaveLeft position.now man to from }
+    requires board { board.now ≡ men_before position.now.men man to from }
     ensures { IsTrue result ↔ Went position.now man to from }
 {
     if is_pawn(man) {
-        is_same(target_left(position, man, from, to), position.target())
+        advanced(position, board, man, from, to)
     } else {
         position.target().is_none()
     }

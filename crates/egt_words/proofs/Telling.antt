@@ -45,20 +45,6 @@ ahead_same c word old new same are = subst (AreAhead c word) (sym same) (record 
 none_in : {X : Type 0} (xs : List X) (x : X) → xs ≡ [] → Contains xs x → ⊥
 none_in xs x none (k, k_in, is) = let empty = ap length none in omega (arith, empty, k_in)
 
-pub no_steps : (c word : ℕ) (told : Told) → told.ways.items ≡ [] → told.turned.items ≡ [] → AreSteps c word told
-no_steps c word told ways turned = record {
-  ways = λ way has. absurd (none_in told.ways.items way ways has);
-  turned = λ way has. absurd (none_in told.turned.items way turned has);
-  turns = λ way has. absurd (none_in told.turned.items way turned has);
-  quiet = λ k j p r at goes spells. absurd (elim goes [ inl some ↦ none_in told.ways.items some.0 ways some.1 | inr some ↦ none_in told.turned.items some.0 turned some.1 ]);
-}
-
-pub none_ahead_told : (c word : ℕ) (told : Told) → told.pawn_ways.items ≡ [] → AreAhead c word told
-none_ahead_told c word told ways = record {
-  ways = λ way has. absurd (none_in told.pawn_ways.items way ways has);
-  advances = λ k j p r at some spells. absurd (none_in told.pawn_ways.items some.0 ways some.1);
-}
-
 -- ---- who is a pawn and who is none
 
 -- no pawn's move is one that does not zero

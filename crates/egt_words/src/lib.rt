@@ -13,6 +13,3 @@ mod word;
 
 pub use roaming::Roaming;
 pub use told::Told;
-
-#[cfg(test)]
-mod tests;

@@ -6,6 +6,20 @@ use std::io::ErrorKind;
 use std::process::ExitCode;
 use std::{env, io};
 
+/// In place of words that are not text: a word that is no command, so that they are refused as wrong words are.
+const NO_TEXT: [&str; 2] = ["egtb", "\u{FFFD}"];
+
+/// Runs the program on these words.
+fn run_on(rt: &HostRuntime, words: &[&str]) -> u8 {
+    egt_tool::run(
+        rt,
+        words,
+        &mut FromStd::new(rt.stdin()),
+        &mut ToStd::new(rt.stdout()),
+        &mut ToStd::new(rt.stderr()),
+    )
+}
+
 /// Runs the program on its words.
 fn run(rt: &HostRuntime) -> io::Result<u8> {
     let mut words = Vec::new(rt.alloc());
@@ -16,13 +30,7 @@ fn run(rt: &HostRuntime) -> io::Result<u8> {
     for word in &words {
         texts.push(word.as_str())?;
     }
-    Ok(egt_tool::run(
-        rt,
-        texts.as_slice(),
-        &mut FromStd::new(rt.stdin()),
-        &mut ToStd::new(rt.stdout()),
-        &mut ToStd::new(rt.stderr()),
-    ))
+    Ok(run_on(rt, texts.as_slice()))
 }
 
 fn main(rt: HostRuntime) -> io::Result<ExitCode> {
@@ -31,6 +39,9 @@ fn main(rt: HostRuntime) -> io::Result<ExitCode> {
         Err(error) if error.kind() == ErrorKind::OutOfMemory => {
             let _ = eprintln!(rt; "error memory");
             Ok(ExitCode::from(4))
+        }
+        Err(error) if error.kind() == ErrorKind::InvalidData => {
+            Ok(ExitCode::from(run_on(&rt, &NO_TEXT)))
         }
         Err(error) => Err(error),
     }

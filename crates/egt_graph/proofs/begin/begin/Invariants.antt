@@ -1,6 +1,6 @@
-use Rattle.std.proofs.Common.{◌≡◌, ◌*◌, length}
-use Rattle.egt_graph.specs.Begin.{AreBegun}
+use Rattle.egt_graph.specs.Begin.{IsBegun}
 use Rattle.egt_graph.proofs.begin.begin.Given as goal
 
-abbrev pub invariant-loop-pair : goal.invariant-loop-pair
-invariant-loop-pair g l = AreBegun (g.G.Game.graph l.game) (2 * l.pair) l.columns × (length l.columns.counts.items ≡ length l.initial.columns.counts.items)
+abbrev pub invariant-loop-node : goal.invariant-loop-node
+invariant-loop-node g l =
+    IsBegun (g.G.Game.graph l.game) l.node l.columns.entries.items l.columns.waits.items l.columns.later.items l.columns.lost.items l.columns.lost_due l.columns.won_due

@@ -1,10 +1,6 @@
 use Rattle.std.proofs.Common.{take}
 use Rattle.egt_graph.specs.Columns.{Marks}
-use Rattle.egt_graph.specs.News.{Notes}
 use Rattle.egt_graph.proofs.columns.mark_wins.Given as goal
 
 abbrev pub invariant-loop-node : goal.invariant-loop-node
-invariant-loop-node l = record {
-  marks : Marks l.initial.entries (take l.node-index l.nodes) l.plies l.entries;
-  news : Notes l.plies l.initial.entries l.initial.news → Notes l.plies l.entries l.news;
-}
+invariant-loop-node l = Marks l.initial.entries (take l.node-index l.nodes) l.plies l.entries

@@ -1,13 +1,9 @@
-use Rattle.std.proofs.Common.{◌≡◌, ◌∷◌, ◌++◌, ◌+◌, ◌-◌, ◌<◌, ◌≤◌}
-use Rattle.egt_graph.specs.Frontier.{frontier_of, places_from}
+use Rattle.std.proofs.Common.{◌≡◌, ◌-◌, ◌≤◌, length}
+use Rattle.egt_graph.specs.Frontier.{frontier_below}
 use Rattle.egt_graph.proofs.scan.frontier.Given as goal
 
-abbrev pub invariant-loop-place : goal.invariant-loop-place
-invariant-loop-place l = record {
-  within : l.place ≤ l.end;
-  more : l.place < l.end → frontier_of l.entries l.round ≡ l.places.items ++ l.place ∷ places_from l.entries l.round (l.place + 1) l.end;
-  all : l.place ≡ l.end → frontier_of l.entries l.round ≡ l.places.items;
-}
+abbrev pub invariant-loop-from : goal.invariant-loop-from
+invariant-loop-from l = (l.from ≤ length l.entries) × (l.places.items ≡ frontier_below l.entries l.round l.from)
 
-abbrev pub decreases-loop-place : goal.decreases-loop-place
-decreases-loop-place l = l.end - l.place
+abbrev pub decreases-loop-from : goal.decreases-loop-from
+decreases-loop-from l = length l.entries - l.from

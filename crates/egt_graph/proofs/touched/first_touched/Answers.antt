@@ -2,7 +2,7 @@ use Rattle.std.proofs.Common.{◌≡◌, ◌*◌, ◌+◌, ◌/◌, ◌%◌, ◌
 use Rattle.std.proofs.lemmas.Bool.{cases_lt}
 use Rattle.std.specs.Int.{trailing_zeros}
 use Rattle.egt_graph.specs.Words.{IsTouched}
-use Rattle.egt_graph.proofs.Teeth.{shifted_down}
+use Rattle.egt_graph.proofs.Turning.{shifted_down}
 use Rattle.egt_graph.proofs.WordTouches.{first_is, none_first, none_left}
 use Rattle.egt_graph.proofs.touched.first_touched.Goals as goal
 

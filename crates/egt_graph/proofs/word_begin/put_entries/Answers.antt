@@ -1,6 +1,6 @@
 use Rattle.std.proofs.Common.{subst, arith, w64}
 use Rattle.std.specs.Int.{trailing_zeros}
-use Rattle.egt_graph.proofs.Teeth.{lowest, pop_fewer}
+use Rattle.egt_graph.proofs.WordBits.{lowest, pop_fewer}
 use Rattle.egt_graph.proofs.WordSweeps.{IsPutting, putting_none, putting_more, putting_all}
 use Rattle.egt_graph.proofs.word_begin.put_entries.Goals as goal
 

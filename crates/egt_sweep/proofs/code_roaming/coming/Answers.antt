@@ -3,7 +3,7 @@ use Rattle.std.specs.Int.{bit_at}
 use Rattle.egt_board.specs.SquareSet.{Has}
 use Rattle.egt_sweep.specs.Roaming.{ComesTo}
 use Rattle.egt_sweep.proofs.Comes.{found_all, found_only}
-use Rattle.egt_sweep.proofs.ToldMen.{had_before}
+use Rattle.egt_sweep.proofs.Remaining.{had_before}
 use Rattle.egt_sweep.proofs.code_roaming.coming.Goals as goal
 
 pub loop-from-preserved : goal.loop-from-preserved

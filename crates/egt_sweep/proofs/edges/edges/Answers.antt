@@ -1,43 +1,27 @@
-use Rattle.std.proofs.Common.{ℕ, List, length, sym, ap, ◌∙◌, subst, inl, inr, arith}
-use Rattle.std.proofs.lemmas.Bool.{cases_eq}
-use Rattle.std.specs.List.Sorted.{IsStrictlyIncreasing}
-use Rattle.egt_board.specs.Placement.{IsHeld}
-use Rattle.egt_board.specs.SquareSet.{Has}
-use Rattle.egt_board.specs.declared.man.Side.{Side}
-use Rattle.egt_moves.specs.Room.{HasRoom, room_at_first, room_for_man, room_for_others}
-use Rattle.egt_sweep.proofs.Collecting.{none_ascend}
-use Rattle.egt_sweep.proofs.Led.{led_from_none, led_from_more, led_edges}
+use Rattle.std.proofs.Common.{arith}
+use Rattle.egt_sweep.specs.Edges.{LeadsOn}
+use Rattle.egt_sweep.proofs.Collecting.{listed_is_legal, collected_start, collected_more, collected_all, edges_collected, members_then}
 use Rattle.egt_sweep.proofs.edges.edges.Goals as goal
 
-pub loop-from-init : goal.loop-from-init
-loop-from-init c =
-    let p = c.args.position.now in
-    let held : (s : ℕ) → IsHeld p.men s p.side → Has c.of-rest.result s = λ s here. (c.of-rest.ensures.held s).1 (subst (λ (side : Side). IsHeld p.men s side) (sym c.side.ensures.side) here) in
-    let few = c.of-rest.ensures.few in (
-      subst IsStrictlyIncreasing (sym c.requires.empty) none_ascend,
-      subst (λ n. HasRoom p n c.of-rest.result) (sym (ap (λ (xs : List ℕ). length xs) c.requires.empty)) (room_at_first p c.of-rest.result held few),
-      λ t has. subst (λ (side : Side). IsHeld p.men t side) c.side.ensures.side ((c.of-rest.ensures.held t).0 has),
-      led_from_none c.args.column c.args.class p c.of-rest.result held c.args.list.now.items c.requires.empty,
-    )
+pub loop-chess_move-init : goal.loop-chess_move-init
+loop-chess_move-init c = collected_start (LeadsOn c.args.column c.args.class c.args.position.now) c.as_slice-chess_move-items.result.now c.new-list.result.items c.new-list.ensures
 
-pub add_edges-requires-clause-room : goal.add_edges-requires-clause-room
-add_edges-requires-clause-room c man stands =
-    let s = c.in-Some.ensures in
-    room_for_man c.args.position.now _ c.loop-from.rest c.pop_first.new.self c.in-Some.from man c.side.ensures.admissible s.had s.gone s.others s.size stands c.loop-from.invariant.1
+pub add_edge-requires-clause-legal : goal.add_edge-requires-clause-legal
+add_edge-requires-clause-legal c =
+    listed_is_legal c.args.position.now c.as_slice-chess_move-items.result.now c.legal_moves-moves.result.items c.loop-chess_move.chess_move-index c.chess_move-item.result c.loop-chess_move-test.true c.chess_move-item.is c.as_slice-chess_move-items.ensures.value c.legal_moves-moves.ensures.legal
 
-pub loop-from-preserved : goal.loop-from-preserved
-loop-from-preserved c =
-    let inv = c.loop-from.invariant in
-    let s = c.in-Some.ensures in
-    let here = inv.2 c.in-Some.from s.had in (
-      c.add_edges.ensures.ascending,
-      room_for_others c.args.position.now _ _ c.loop-from.rest c.pop_first.new.self c.in-Some.from here.man c.side.ensures.admissible s.had s.gone s.others s.size here.stands (c.add_edges.ensures.few here.man here.stands) inv.1,
-      (λ t has. elim (cases_eq t c.in-Some.from) [
-        | inl e ↦ absurd (let gone = s.gone in let there = subst (λ s. Has c.pop_first.new.self s) e has in omega (arith, gone, there))
-        | inr apart ↦ inv.2 t (sym (s.others t apart) ∙ has)
-      ]),
-      led_from_more c.args.column c.args.class c.args.position.now c.loop-from.list.items c.add_edges.new.list.items c.loop-from.rest c.pop_first.new.self c.in-Some.from s.had s.gone s.others c.add_edges.ensures.members inv.3,
-    )
+pub loop-chess_move-preserved : goal.loop-chess_move-preserved
+loop-chess_move-preserved c = (
+  c.add_edge.ensures.ascending,
+  omega (arith, c.add_edge.ensures.few, c.loop-chess_move.invariant.1),
+  λ k. members_then (c.add_edge.ensures.members k) (c.loop-chess_move.invariant.2 k)
+      (collected_more (LeadsOn c.args.column c.args.class c.args.position.now) c.as_slice-chess_move-items.result.now c.loop-chess_move.chess_move-index c.chess_move-item.result k c.loop-chess_move-test.true c.chess_move-item.is),
+)
 
 pub returns-clause-exact : goal.returns-clause-exact
-returns-clause-exact c i at = led_edges c.laws.ensures c.args.column c.args.class c.args.position.now i at c.loop-from.list.items c.loop-from.rest c.in_default.ensures.empty c.loop-from.invariant.3
+returns-clause-exact c i at k =
+    let moves = c.as_slice-chess_move-items.result.now in
+    let all = collected_all (LeadsOn c.args.column c.args.class c.args.position.now) moves c.loop-chess_move.chess_move-index k (omega (arith, c.loop-chess_move-test.false)) in
+    let edges = edges_collected c.laws.ensures c.args.column c.args.class c.args.position.now moves c.legal_moves-moves.result.items i k c.as_slice-chess_move-items.ensures.value c.legal_moves-moves.ensures.legal at in
+    let here = c.loop-chess_move.invariant.2 k in
+    (λ h. edges.0 (all.0 (here.0 h)), λ h. here.1 (all.1 (edges.1 h)))

@@ -1,6 +1,6 @@
-use Rattle.std.proofs.Common.{ℕ, refl, sym, ap, ◌∙◌, subst, inl, inr, arith, length}
+use Rattle.std.proofs.Common.{ℕ, refl, sym, ap, ◌∙◌, subst, arith, length}
 use Rattle.std.specs.Option.{option_to_list}
-use Rattle.std.proofs.lemmas.Bool.{cases_eq, false≢true}
+use Rattle.std.proofs.lemmas.Bool.{false≢true}
 use Rattle.egt_board.specs.Placement.{IsHeld}
 use Rattle.egt_board.specs.SquareSet.{Has}
 use Rattle.egt_board.specs.declared.man.Side.{Side}
@@ -12,7 +12,8 @@ use Rattle.egt_check.specs.Tables.{table_at}
 use Rattle.egt_sweep.specs.Aiming.{column_of, known}
 use Rattle.egt_sweep.specs.Nodes.{exit_by}
 use Rattle.egt_sweep.proofs.OutOfClass.{nothing_told}
-use Rattle.egt_sweep.proofs.Tallying.{not_held}
+use Rattle.egt_sweep.proofs.Onward.{not_held}
+use Rattle.egt_sweep.proofs.Remaining.{had_before}
 use Rattle.egt_sweep.proofs.Walked.{walked_none, walked_more, walked_whole, from_none, all_told}
 use Rattle.egt_sweep.proofs.exits.add_exits_of_side.Goals as goal
 
@@ -43,10 +44,7 @@ loop-from-preserved c =
     let inv = c.loop-from.invariant in
     let s = c.in-Some.ensures in
     let here = inv.0 c.in-Some.from s.had in (
-      λ t has. elim (cases_eq t c.in-Some.from) [
-        | inl e ↦ absurd (let gone = s.gone in let here = subst (λ s. Has c.pop_first.new.self s) e has in omega (arith, gone, here))
-        | inr apart ↦ inv.0 t (sym (s.others t apart) ∙ has)
-      ],
+      λ t has. inv.0 t (had_before c.loop-from.rest c.pop_first.new.self c.in-Some.from s.had s.gone s.others t has),
       walked_more _ c.loop-from.rest c.pop_first.new.self c.args.exits.now.items c.loop-from.exits.items c.add_exits_of.new.exits.items c.in-Some.from (omega arith) s.had s.least s.gone s.others c.add_exits_of.ensures.exits inv.1,
       room_for_others c.args.position.now _ _ c.loop-from.rest c.pop_first.new.self c.in-Some.from here.man c.side.ensures.admissible s.had s.gone s.others s.size here.stands (c.add_exits_of.ensures.room here.man here.stands) inv.2,
     )

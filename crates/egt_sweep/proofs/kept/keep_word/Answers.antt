@@ -7,7 +7,7 @@ use Rattle.egt_index.specs.Numbers.{code_of, places}
 use Rattle.egt_index.specs.Size.{size_of}
 use Rattle.egt_sweep.proofs.CodeLists.{indexes_told}
 use Rattle.egt_sweep.proofs.KeptEntries.{all_in, index_back, nothing_in, number_in, one_more}
-use Rattle.egt_sweep.proofs.ToldMen.{had_before}
+use Rattle.egt_sweep.proofs.Remaining.{had_before}
 use Rattle.egt_sweep.specs.CodeLists.{indexes_at}
 use Rattle.egt_sweep.specs.Laws.{Laws}
 use Rattle.egt_sweep.specs.declared.code_words.CodeWords.{CodeWords}

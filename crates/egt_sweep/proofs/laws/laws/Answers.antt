@@ -14,7 +14,6 @@ returns c = record {
   played = c.moves_lead_to_one.ensures.played;
   indexed_class = c.an_indexed_position_is_of_the_class.ensures;
   plays_alike = c.a_position_plays_as_its_index_spells.ensures;
-  quiet_moved = c.a_quiet_move_moves_one_man.ensures;
   quiet_class = c.moves_lead_into_the_class_or_a_child.ensures.quiet;
   images_settled = c.images_keep_men.ensures.settled;
   settled = c.positions_settle_once.ensures.settled;

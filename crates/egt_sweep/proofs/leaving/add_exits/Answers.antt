@@ -1,7 +1,5 @@
-use Rattle.std.proofs.Common.{◌++◌, refl, sym, ap, ◌∙◌, subst, inl, inr, arith}
-use Rattle.std.specs.Int.{bit_at}
+use Rattle.std.proofs.Common.{◌++◌, refl, sym, ap, ◌∙◌, subst, arith}
 use Rattle.std.specs.Option.{option_to_list}
-use Rattle.std.proofs.lemmas.Bool.{cases_eq}
 use Rattle.egt_board.specs.SquareSet.{Has}
 use Rattle.egt_moves.specs.Moves.{played}
 use Rattle.egt_check.specs.Tables.{table_at}
@@ -9,6 +7,7 @@ use Rattle.egt_sweep.specs.Aiming.{column_of, known}
 use Rattle.egt_sweep.specs.Nodes.{exit_by}
 use Rattle.egt_sweep.proofs.Walked.{walked_none, walked_more, walked_all, between_none, from_told, room_step}
 use Rattle.egt_sweep.proofs.OutOfClass.{nothing_told}
+use Rattle.egt_sweep.proofs.Remaining.{had_before}
 use Rattle.egt_sweep.proofs.leaving.add_exits.Goals as goal
 
 pub loop-to-init : goal.loop-to-init
@@ -40,10 +39,7 @@ pub loop-to-preserved : goal.loop-to-preserved
 loop-to-preserved c =
     let s = c.in-Some.ensures in (
       walked_more _ c.loop-to.rest c.pop_first.new.self c.args.list.now.items c.loop-to.list.items c.add_exits_to.new.list.items c.in-Some.to (omega arith) s.had s.least s.gone s.others c.add_exits_to.ensures.items c.loop-to.invariant.0,
-      (λ t has. elim (cases_eq t c.in-Some.to) [
-        | inl e ↦ absurd (let none = ap (bit_at c.pop_first.new.self.bits) e ∙ s.gone in omega (arith, has, none))
-        | inr apart ↦ c.loop-to.invariant.1 t (sym (s.others t apart) ∙ has)
-      ]),
+      (λ t has. c.loop-to.invariant.1 t (had_before c.loop-to.rest c.pop_first.new.self c.in-Some.to s.had s.gone s.others t has)),
       (λ man stands.
           let step = room_step man.kind _ _ _ _ s.size (c.loop-to.invariant.2 man stands) in
           let few = c.add_exits_to.ensures.few man stands in

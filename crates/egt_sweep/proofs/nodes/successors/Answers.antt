@@ -1,13 +1,10 @@
 use Rattle.std.proofs.Common.{ℕ, ◌<◌, subst}
-use Rattle.egt_sweep.proofs.Standing.{edges_told, none_missing}
+use Rattle.egt_sweep.proofs.Standing.{edges_told}
 use Rattle.egt_sweep.proofs.nodes.successors.Goals as goal
 
-pub indexed-position-requires : goal.indexed-position-requires
-indexed-position-requires c = λ void. none_missing c.laws.ensures c.args.class c.args.index void c.requires
-
-pub edges-requires-clause-of : goal.edges-requires-clause-of
-edges-requires-clause-of c = c.laws.ensures.indexed_class _ c.args.class c.args.index c.indexed-position.ensures.spells.admissible c.indexed-position.ensures.index
+pub edges-requires : goal.edges-requires
+edges-requires c = c.laws.ensures.indexed_class c.node-position.result c.args.class c.args.index c.node-position.ensures.spells.admissible c.node-position.ensures.index
 
 pub returns : goal.returns
-returns c = edges_told c.laws.ensures c.args.class c.args.index c.args.column c.edges.new.list.items (subst (λ (n : ℕ). n < 36) c.number-number.ensures.value c.number-number.ensures.below)
-    c.edges.ensures.ascending (c.edges.ensures.exact c.args.index (record { spells = c.indexed-position.ensures.spells; index = c.indexed-position.ensures.index }))
+returns c = edges_told c.laws.ensures c.args.class c.args.index c.args.column c.edges.result.items (subst (λ (n : ℕ). n < 36) c.number-number.ensures.value c.number-number.ensures.below)
+    c.edges.ensures.ascending (c.edges.ensures.exact c.args.index c.node-position.ensures)

@@ -1,21 +1,11 @@
-use Rattle.egt_sweep.proofs.Collecting.{members_on, members_off, untrue, back_on, kept, dropped}
+use Rattle.egt_sweep.proofs.Collecting.{members_on, members_off, untrue, back_on}
 use Rattle.egt_sweep.proofs.sources.add_source.Goals as goal
 
-pub returns-then-not-goes_back-clause-members : goal.returns-then-not-goes_back-clause-members
-returns-then-not-goes_back-clause-members c k = members_off (λ from. untrue c.goes_back.result c.if-not-goes_back.true c.goes_back.ensures from.0.0)
-
-pub returns-then-has-clause-members : goal.returns-then-has-clause-members
-returns-then-has-clause-members c k =
+pub returns-then-goes_back-clause-members : goal.returns-then-goes_back-clause-members
+returns-then-goes_back-clause-members c k =
     let b = c.args.unmove.now.before in
-    members_on (c.put.ensures.members k) (kept c.args.wanted.now c.index-index.result k
-    (back_on c.args.column c.args.class c.args.unmove.now c.index-index.result k (c.goes_back.ensures.0 c.if-not-goes_back.false) c.index-index.ensures
-    (λ j is. c.laws.ensures.facts.one_index b c.args.class j c.index-index.result c.side-side.ensures.admissible is c.index-index.ensures))
-    (c.has.ensures.0 c.if-has.true))
+    members_on (c.put.ensures.members k) (back_on c.args.column c.args.class c.args.unmove.now c.index.result k (c.goes_back.ensures.0 c.if-goes_back.true) c.index.ensures
+    (λ j is. c.laws.ensures.facts.one_index b c.args.class j c.index.result c.side-side.ensures.admissible is c.index.ensures))
 
-pub returns-else-has-clause-members : goal.returns-else-has-clause-members
-returns-else-has-clause-members c k =
-    let b = c.args.unmove.now.before in
-    members_off (dropped c.args.wanted.now c.index-index.result k
-    (back_on c.args.column c.args.class c.args.unmove.now c.index-index.result k (c.goes_back.ensures.0 c.if-not-goes_back.false) c.index-index.ensures
-    (λ j is. c.laws.ensures.facts.one_index b c.args.class j c.index-index.result c.side-side.ensures.admissible is c.index-index.ensures))
-    (untrue c.has.result c.if-has.false c.has.ensures))
+pub returns-else-goes_back-clause-members : goal.returns-else-goes_back-clause-members
+returns-else-goes_back-clause-members c k = members_off (λ from. untrue c.goes_back.result c.if-goes_back.false c.goes_back.ensures from.0)

@@ -3,12 +3,11 @@ use Rattle.std.proofs.lemmas.Bool.{cases_eq}
 use Rattle.std.proofs.lemmas.Nat.Bits.{bit_at-lt}
 use Rattle.std.specs.Int.{bit_at}
 use Rattle.egt_board.specs.Placement.{Stands}
-use Rattle.egt_board.specs.SquareSet.{Has, size_of}
+use Rattle.egt_board.specs.SquareSet.{Has}
 use Rattle.egt_moves.specs.Exchange.{Captures}
 use Rattle.egt_table.specs.declared.column.Column.{Column}
 use Rattle.egt_sweep.specs.Edges.{GoesOn}
 use Rattle.egt_sweep.specs.Ways.{IsOnward}
-use Rattle.egt_sweep.proofs.Counting.{size_within, none_few}
 use Rattle.egt_sweep.proofs.Onward.{piece_onward, pawn_onward, on_quiet, on_stays, no_pawn_on, targeted}
 use Rattle.egt_sweep.proofs.ways.onward.Goals as goal
 
@@ -69,12 +68,4 @@ returns-in_default c =
             | inl enemy ↦ absurd (quiet (inl ((c.requires.camps.enemy m.to).0 enemy)))
             | inr none ↦ omega (arith, there, squares, bit, none)
           ];
-      others = λ t has. let squares = c.without-free.ensures.squares t in omega (arith, has, squares);
-      few = c.without-free.ensures.few;
     }
-
-pub returns-in-Mate-clause-few : goal.returns-in-Mate-clause-few
-returns-in-Mate-clause-few c = size_within c.staying.result c.args.targets (λ t has. let squares = c.without-free.ensures.squares t in let stays = (c.staying.ensures t).0 has in omega (arith, stays.0, squares))
-
-pub returns-in-Zeroing-clause-few : goal.returns-in-Zeroing-clause-few
-returns-in-Zeroing-clause-few c = none_few (size_of c.args.targets)

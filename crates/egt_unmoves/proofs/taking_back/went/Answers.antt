@@ -1,18 +1,28 @@
-use Rattle.std.proofs.Common.{sym, ◌∙◌, inl, inr}
-use Rattle.egt_board.specs.Placement.{IsFree}
-use Rattle.egt_unmoves.specs.Unmoves.{Went, men_before}
-use Rattle.egt_unmoves.proofs.Went.{advances_anyhow, same_target}
+use Rattle.std.proofs.Common.{arith, sym, inl, inr, subst}
+use Rattle.egt_board.specs.Pawn.{Advances}
+use Rattle.egt_board.specs.Placement.{Placement, IsFree}
+use Rattle.egt_unmoves.specs.Unmoves.{Went}
 use Rattle.egt_unmoves.proofs.taking_back.went.Goals as goal
-
-pub target_left-requires-clause-advances : goal.target_left-requires-clause-advances
-target_left-requires-clause-advances c = elim c.requires.left.way.goes [
-  | inl piece ↦ absurd (piece.0 (c.is_pawn.ensures.0 c.if-is_pawn.true))
-  | inr advance ↦ advances_anyhow (IsFree (men_before c.args.position.now.men c.args.man c.args.to c.args.from)) c.args.man.side c.args.from c.args.to advance.1
-]
 
 pub returns-then-is_pawn : goal.returns-then-is_pawn
 returns-then-is_pawn c =
-    let same = same_target _ c.args.position.now c.target_left.result c.target_left.ensures in (
-      λ one. record { left = c.requires.left; settles = same.0 (c.is_same.ensures.0 one ∙ c.target.ensures) },
-      λ (w : Went c.args.position.now c.args.man c.args.to c.args.from). c.is_same.ensures.1 (same.1 w.settles ∙ sym c.target.ensures),
+    let pawn = c.is_pawn.ensures.0 c.if-is_pawn.true in (
+      λ one.
+          let h = c.advanced.ensures.0 one in
+          record {
+            within = omega arith;
+            free = c.requires.may.free;
+            fits = h.0;
+            goes = inr (pawn, subst (λ (men : Placement). Advances (IsFree men) c.args.man.side c.args.from c.args.to) c.requires.board h.1);
+            quiet = c.requires.left.quiet;
+            settles = h.2;
+          },
+      λ (w : Went c.args.position.now c.args.man c.args.to c.args.from). c.advanced.ensures.1 (
+        w.fits,
+        elim w.goes [
+          | inl piece ↦ absurd (piece.0 pawn)
+          | inr advance ↦ subst (λ (men : Placement). Advances (IsFree men) c.args.man.side c.args.from c.args.to) (sym c.requires.board) advance.1
+        ],
+        w.settles,
+      ),
     )

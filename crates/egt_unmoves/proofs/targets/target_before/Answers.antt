@@ -1,23 +1,15 @@
-use Rattle.std.proofs.Common.{◌≡◌, ◌⊎◌, ℕ, arith, Some, None, sym, ap, ◌∙◌, inl, inr, subst}
+use Rattle.std.proofs.Common.{◌≡◌, ◌⊎◌, ℕ, arith, Some, None, sym, ap, ◌∙◌, inl, subst}
 use Rattle.std.specs.Int.{bit_at}
-use Rattle.std.proofs.lemmas.Bool.{cases_eq, false≢true}
 use Rattle.egt_board.specs.Man.{other_side}
 use Rattle.egt_board.specs.Pawn.{pawn_of, ahead}
 use Rattle.egt_board.specs.Placement.{Stands}
-use Rattle.egt_unmoves.specs.Targets.{MightBeTaken}
 use Rattle.egt_unmoves.proofs.FiveMen.{target_found, no_target_before}
 use Rattle.egt_unmoves.proofs.targets.target_before.Goals as goal
 
-pub loop-square-preserved : goal.loop-square-preserved
-loop-square-preserved c = λ s might. elim (cases_eq s c.in-Some.square) [
-  | inl e ↦ absurd (false≢true (sym c.if-might_be_taken.false ∙ c.might_be_taken.ensures.1 (subst (MightBeTaken c.args.position.now.men c.side-mover.result) e might)))
-  | inr other ↦ c.in-Some.ensures.others s other ∙ c.loop-square.invariant s might
-]
-
-pub returns-then-might_be_taken : goal.returns-then-might_be_taken
-returns-then-might_be_taken c = λ b m comes.
+pub returns-then-has_advanced : goal.returns-then-has_advanced
+returns-then-has_advanced c = λ b m comes.
     let q = c.args.position.now in
-    let stands : Stands q.men c.in-Some.square (pawn_of c.side-mover.result) = (c.might_be_taken.ensures.0 c.if-might_be_taken.true).stands in
+    let stands : Stands q.men c.in-Some.square (pawn_of c.side-mover.result) = (c.has_advanced.ensures.0 c.if-has_advanced.true).1 in
     let found = target_found b q m comes c.in-Some.square (subst (λ side. Stands q.men c.in-Some.square (pawn_of side)) c.side-mover.ensures.side stands) in
     let same : ahead (other_side q.side) c.in-Some.square ≡ c.ahead.result =
     sym (c.ahead.ensures ∙ ap (λ side. ahead side c.in-Some.square) (c.other.ensures ∙ ap other_side c.side-mover.ensures.side)) in
@@ -28,6 +20,6 @@ not_both n none one = absurd (omega arith)
 
 pub returns : goal.returns
 returns c = λ b m comes.
-    inl (no_target_before b c.args.position.now m comes (λ s might.
+    inl (no_target_before b c.args.position.now m comes (λ s stands rank.
     not_both (bit_at c.loop-square.rest.bits s) (c.in_default.ensures.empty s)
-    (c.loop-square.invariant s (rw c.side-mover.ensures.side might))))
+    (c.loop-square.invariant s (rw c.side-mover.ensures.side stands) (rw c.side-mover.ensures.side rank))))

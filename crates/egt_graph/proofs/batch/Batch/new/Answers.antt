@@ -1,17 +1,17 @@
 use Rattle.std.proofs.Common.{◌≡◌, ◌++◌, ◌∷◌, [], length, ◌∙◌, arith, rules}
 use Rattle.std.proofs.lemmas.Grind.{common_steps}
-use Rattle.egt_graph.proofs.Growing.{Targets_more, next_start}
+use Rattle.egt_graph.proofs.Growing.{Targets_more}
 use Rattle.egt_graph.proofs.batch.Batch.new.Goals as goal
 
 pub loop-node-preserved : goal.loop-node-preserved
 loop-node-preserved g c =
     let h = c.loop-node.invariant in
     let more : c.extend_from_slice.new.self.items ≡ c.loop-node.targets.items ++ c.as_slice.result.now = search rules in
-    let one : c.push.new.self.items ≡ c.loop-node.ends.items ++ length c.extend_from_slice.new.self.items ∷ [] = search rules in
-    let is = c.as_slice.ensures.value ∙ c.list_into.ensures in
+    let one : c.push-in-loop-node.new.self.items ≡ c.loop-node.starts.items ++ length c.extend_from_slice.new.self.items ∷ [] = search rules in
+    let is = c.as_slice.ensures.value ∙ c.into-sources.ensures in
     record {
-      kept = rw (one, more) (Targets_more (g.G.Game.graph c.args.game.now) c.deref-node-items.result.now c.loop-node.targets.items c.loop-node.ends.items
-          c.as_slice.result.now c.loop-node.node-index h.kept (omega arith) h.last is);
+      kept = rw (one, more) (Targets_more (g.G.Game.graph c.args.game.now) c.deref-node-items.result.now c.loop-node.targets.items c.loop-node.starts.items
+          c.as_slice.result.now c.loop-node.node-index h.kept h.long h.last is);
       long = grind (arith, common_steps);
-      last = rw one (next_start c.loop-node.ends.items (length c.extend_from_slice.new.self.items) c.loop-node.node-index h.long);
+      last = grind (arith, common_steps);
     }

@@ -1,10 +1,10 @@
-use Rattle.std.proofs.Common.{◌≡◌, ◌∷◌, length, slice_index}
+use Rattle.std.proofs.Common.{◌≡◌, ◌+◌, length, slice_index}
 use Rattle.egt_graph.specs.Batch.{IsTargets}
 use Rattle.egt_graph.proofs.batch.Batch.new.Given as goal
 
 abbrev pub invariant-loop-node : goal.invariant-loop-node
 invariant-loop-node g l = record {
-  kept : IsTargets (g.G.Game.graph l.game) l.node-items l.targets.items l.ends.items l.node-index;
-  long : length l.ends.items ≡ l.node-index;
-  last : slice_index (0 ∷ l.ends.items) l.node-index ≡ length l.targets.items;
+  kept : IsTargets (g.G.Game.graph l.game) l.node-items l.targets.items l.starts.items l.node-index;
+  long : length l.starts.items ≡ l.node-index + 1;
+  last : slice_index l.starts.items l.node-index ≡ length l.targets.items;
 }

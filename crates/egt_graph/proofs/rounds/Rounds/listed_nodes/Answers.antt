@@ -9,7 +9,7 @@ pub returns-in-Running-clause-listed : goal.returns-in-Running-clause-listed
 returns-in-Running-clause-listed g c =
     rw (← c.self.view_is) (IfOk-weaker c.block_nodes.result _ _
     (λ nodes is. is ∙ ap (λ es. entry_front es c.self.inside.round c.args.block) c.deref.ensures.value
-    ∙ running_listed (g.G.Game.graph c.self.inside.game.now) (g.met.G.Game.lawful c.self.inside.game.now) _ _ _ _ _ _ _ c.self.invariant.0 c.in-Running.is c.args.block)
+    ∙ running_listed (g.G.Game.graph c.self.inside.game.now) (g.met.G.Game.lawful c.self.inside.game.now) _ _ _ _ _ _ _ c.self.invariant c.in-Running.is c.args.block)
     c.block_nodes.ensures)
 
 pub returns-in-Running-clause-nodes : goal.returns-in-Running-clause-nodes
@@ -17,7 +17,7 @@ returns-in-Running-clause-nodes g c =
     rw (← c.self.view_is) (IfOk-weaker c.block_nodes.result _ _
     (λ nodes is.
     let e = is ∙ ap (λ es. entry_front es c.self.inside.round c.args.block) c.deref.ensures.value
-    ∙ running_front (g.G.Game.graph c.self.inside.game.now) (g.met.G.Game.lawful c.self.inside.game.now) _ _ _ _ _ _ _ c.self.invariant.0 c.in-Running.is c.args.block in
+    ∙ running_front (g.G.Game.graph c.self.inside.game.now) (g.met.G.Game.lawful c.self.inside.game.now) _ _ _ _ _ _ _ c.self.invariant c.in-Running.is c.args.block in
     rw e (front_nodes (g.G.Game.graph c.self.inside.game.now) c.self.inside.round c.args.block))
     c.block_nodes.ensures)
 
@@ -26,6 +26,6 @@ returns-in-Running-clause-ascending g c =
     IfOk-weaker c.block_nodes.result _ _
     (λ nodes is.
     let e = is ∙ ap (λ es. entry_front es c.self.inside.round c.args.block) c.deref.ensures.value
-    ∙ running_front (g.G.Game.graph c.self.inside.game.now) (g.met.G.Game.lawful c.self.inside.game.now) _ _ _ _ _ _ _ c.self.invariant.0 c.in-Running.is c.args.block in
+    ∙ running_front (g.G.Game.graph c.self.inside.game.now) (g.met.G.Game.lawful c.self.inside.game.now) _ _ _ _ _ _ _ c.self.invariant c.in-Running.is c.args.block in
     rw e (front-ascends (g.G.Game.graph c.self.inside.game.now) c.self.inside.round c.args.block))
     c.block_nodes.ensures

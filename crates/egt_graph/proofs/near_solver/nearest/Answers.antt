@@ -1,0 +1,24 @@
+use Rattle.std.proofs.Common.{subst, arith}
+use Rattle.egt_graph.specs.Near.{IsNearing}
+use Rattle.egt_graph.proofs.Nearby.{nears_told, over_at_last, far_found}
+use Rattle.egt_graph.proofs.near_solver.nearest.Goals as goal
+
+pub returns-then-is_over-clause-ok : goal.returns-then-is_over-clause-ok
+returns-then-is_over-clause-ok g c =
+    nears_told (g.G.Game.graph c.args.game.now) (g.met.G.Game.lawful c.args.game.now) c.loop-round.round _ c.in_ok-step_back.ensures
+    (c.is_over.ensures c.if-is_over.true) (omega (arith, c.loop-round-test.true)) c.told.result c.told.ensures
+
+pub step_back-requires-2-clause-known : goal.step_back-requires-2-clause-known
+step_back-requires-2-clause-known g c =
+    subst (λ n. IsNearing (g.G.Game.graph c.args.game.now) n c.loop-round.run) (omega (arith, c.loop-round-test.false, c.loop-round.auto.round-end)) c.loop-round.invariant
+
+pub returns-then-any_found-clause-too_deep : goal.returns-then-any_found-clause-too_deep
+returns-then-any_found-clause-too_deep g c =
+    λ _. far_found (g.G.Game.graph c.args.game.now) c.step_back-2.new.run c.in_ok-step_back-2.ensures c.if-any_found.ensures.0
+    (rw c.deref.ensures.value at c.if-any_found.ensures.2)
+
+pub returns-clause-ok : goal.returns-clause-ok
+returns-clause-ok g c =
+    let none = (rw c.deref.ensures.value at c.if-any_found.ensures) in
+    nears_told (g.G.Game.graph c.args.game.now) (g.met.G.Game.lawful c.args.game.now) 32000 _ c.in_ok-step_back-2.ensures
+    (over_at_last (g.G.Game.graph c.args.game.now) (g.met.G.Game.lawful c.args.game.now) c.step_back-2.new.run c.in_ok-step_back-2.ensures none) (omega arith) c.told-2.result c.told-2.ensures

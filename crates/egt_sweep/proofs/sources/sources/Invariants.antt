@@ -1,0 +1,13 @@
+use Rattle.std.proofs.Common.{ℕ, ◌≤◌, ◌↔◌}
+use Rattle.std.specs.List.{Contains}
+use Rattle.std.specs.List.Sorted.{IsStrictlyIncreasing}
+use Rattle.arrayvec.specs.ArrayVec.{array_vec_len}
+use Rattle.egt_sweep.specs.Edges.{ComesFrom}
+use Rattle.egt_sweep.proofs.Collecting.{Collected}
+use Rattle.egt_sweep.proofs.sources.sources.Given as goal
+
+-- the list has, in order, where the unmoves so far came from
+abbrev pub invariant-loop-unmove : goal.invariant-loop-unmove
+invariant-loop-unmove l =
+    IsStrictlyIncreasing l.list.items × (array_vec_len l.list ≤ l.unmove-index)
+    × ((k : ℕ) → Contains l.list.items k ↔ Collected (ComesFrom l.column l.class) l.unmove-items l.unmove-index k)
