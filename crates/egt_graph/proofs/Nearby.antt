@@ -15,7 +15,7 @@ use Rattle.egt_graph.specs.declared.nearing.Nearing.{Nearing}
 use Rattle.egt_graph.proofs.Beginning.{Filled_more, pushed, outside}
 use Rattle.egt_graph.proofs.Holding.{decided_open, decided_shut, decided_mark, win_is_no_draw}
 use Rattle.egt_graph.proofs.Lists.{any_weaker, any_or, some_counts, counted_contains, contains_counted}
-use Rattle.egt_graph.proofs.Nodes.{node_from_test, test_from_node, leaves_at}
+use Rattle.egt_graph.proofs.Nodes.{node_from_test, test_from_node, leaves_at, leaves_none}
 use Rattle.egt_graph.proofs.WordRounds.{any_contains, contains_any}
 
 pub same_both : (a b : Bool) → (a ≡ true → b ≡ true) → (b ≡ true → a ≡ true) → a ≡ b
@@ -132,11 +132,15 @@ exits_next r es =
     ∙ ap (λ b. list_any (is_near_exit r) es || b) (any_or (λ e. is_loss_of r e || is_win_of r e) (is_loss_of r) (is_win_of r) (λ e. refl) es)
 
 -- the nodes with such an exit are those that fall due
+pub falls_due : (g : Graph) (test : ℕ → Exit → Bool) (due : List (List ℕ)) → IsFilled g test g.size due → (n i : ℕ) → ltb 0 (count_of i (slice_index_or due n [])) ≡ list_any (test n) (leaves g i)
+falls_due g test due filled n i = elim (cases_lt i g.size) [
+  | inl lt ↦ ap (λ k. ltb 0 k) (filled.before n i lt) ∙ sym (some_counts (test n) (leaves g i))
+  | inr past ↦ ap (λ k. ltb 0 k) (filled.after n i past) ∙ sym (ap (list_any (test n)) (leaves_none g i (outside g i past)))
+]
+
 due_counts : (g : Graph) (test : ℕ → Exit → Bool) (due : List (List ℕ)) → IsFilled g test g.size due → (n i : ℕ) → IsNode g i
     → ltb 0 (count_of i (slice_index_or due n [])) ≡ list_any (test n) (g.exits i)
-due_counts g test due filled n i node =
-    ap (λ k. ltb 0 k) (filled.before n i node.in_range ∙ ap (count_by (test n)) (leaves_at g i (test_from_node g i node)))
-    ∙ sym (some_counts (test n) (g.exits i))
+due_counts g test due filled n i node = falls_due g test due filled n i ∙ ap (list_any (test n)) (leaves_at g i (test_from_node g i node))
 
 -- ---- one ply more
 
@@ -356,7 +360,7 @@ late_win n (Win k) short gt = ne_eqb k n (λ e. absurd (omega arith))
 late_win n (Loss k) short gt = refl
 late_win n Draw short gt = refl
 
-pub over_at_last : (g : Graph) → IsGame g → (run : Nearing) → IsNearing g 32001 run
+over_at_last : (g : Graph) → IsGame g → (run : Nearing) → IsNearing g 32001 run
     → ((i : ℕ) → i < length run.entries.items → slice_index run.entries.items i ≢ 2 + 2 * 32001) → IsOver run 32000
 over_at_last g law run known none = record {
   none = none;
@@ -453,3 +457,8 @@ round_done g law r run known found all run' finds long lost won =
 pub nears_told : (g : Graph) → IsGame g → (r : ℕ) (run : Nearing) → IsNearing g (r + 1) run → IsOver run r → r ≤ 32000 → (told : List ℕ) → AreTold run.entries.items told → AreNears g told
 nears_told g law r run known over short told tells =
     let e : r + 1 ≡ suc r = omega arith in are_nears g law r run (subst (λ n. IsNearing g n run) e known) over short told tells
+
+-- or after the last
+pub nears_at_last : (g : Graph) → IsGame g → (run : Nearing) → IsNearing g 32001 run → ((i : ℕ) → i < length run.entries.items → slice_index run.entries.items i ≢ 2 + 2 * 32001)
+    → (told : List ℕ) → AreTold run.entries.items told → AreNears g told
+nears_at_last g law run known none = nears_told g law 32000 run known (over_at_last g law run known none) (omega arith)
