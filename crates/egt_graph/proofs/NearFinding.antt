@@ -1,14 +1,14 @@
 -- One ply more by words: what is found where, and what it makes of the entries and the words.
-use Rattle.std.proofs.Common.{◌≡◌, ◌≢◌, ◌⊎◌, ℕ, suc, ◌+◌, ◌*◌, ◌<◌, ◌≤◌, Bool, true, false, cond, not, ◌&&◌, ◌||◌, eqb, ltb, ◌-◌, ◌^◌, ◌↔◌, bit_and, bit_or, List, [], length, slice_index, slice_index_or, refl, sym, ap, ap₂, subst, ◌∙◌, inl, inr, ⊎_elim, arith, All, Contains}
+use Rattle.std.proofs.Common.{◌≡◌, ◌≢◌, ◌⊎◌, ℕ, suc, ◌+◌, ◌*◌, ◌<◌, ◌≤◌, Bool, true, false, cond, not, ◌&&◌, ◌||◌, eqb, ltb, ◌-◌, ◌^◌, ◌↔◌, bit_and, bit_or, List, [], slice_index, slice_index_or, refl, sym, ap, ap₂, subst, ◌∙◌, inl, inr, ⊎_elim, arith, All, Contains}
 use Rattle.std.specs.Int.{bit_at}
 use Rattle.std.specs.List.{list_any}
-use Rattle.std.proofs.lemmas.Bool.{cases_Bool, both_ways, and_parts, and_from, and_left, and_right, eqb-true, eq-eqb, ne_eqb}
+use Rattle.std.proofs.lemmas.Bool.{cases_Bool, and_parts, and_from, and_left, and_right, eqb-true, eq-eqb, ne_eqb}
 use Rattle.std.proofs.lemmas.List.Elements.{All-weaker}
 use Rattle.egt_graph.specs.Graph.{Graph, IsNode, IsGame}
 use Rattle.egt_graph.specs.Begin.{IsFilled}
 use Rattle.egt_graph.specs.Columns.{leaves, count_of, is_loss_of, is_win_of}
 use Rattle.egt_graph.specs.Frontier.{is_node}
-use Rattle.egt_graph.specs.Near.{is_near_exit, near_at, near_within, IsNearing}
+use Rattle.egt_graph.specs.Near.{is_near_exit, near_at, near_within}
 use Rattle.egt_graph.specs.NearWords.{is_unknown, is_near_at, has_near_exit, is_found_near, AreDueAsked, AreNearAmid, AreNearWords, IsFront}
 use Rattle.egt_graph.specs.Words.{IsIn, IsTouched, IsWordOf, number_at, word_in, words_of, word_in-within}
 use Rattle.egt_graph.specs.WordRound.{AreTold, AreTouched, LeadsTo, is_marked_in}

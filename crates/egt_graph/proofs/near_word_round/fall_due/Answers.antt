@@ -1,5 +1,4 @@
-use Rattle.std.proofs.Common.{◌≡◌, ◌*◌, ◌+◌, ◌&&◌, ◌||◌, ◌⊎◌, ◌<◌, ◌≤◌, ℕ, List, [], true, false, suc, not, cond, ltb, length, slice_index_or, All, ap, ap₂, sym, subst, ◌∙◌, inl, inr, ⊎_elim, arith}
-use Rattle.std.proofs.lemmas.Bool.{both_ways}
+use Rattle.std.proofs.Common.{◌≡◌, ◌*◌, ◌+◌, ◌&&◌, ◌||◌, ◌⊎◌, ◌<◌, ℕ, List, [], true, false, suc, not, cond, ltb, length, slice_index_or, All, ap, ap₂, sym, subst, ◌∙◌, inl, inr, ⊎_elim, arith}
 use Rattle.std.proofs.lemmas.List.{with_items_is}
 use Rattle.std.specs.Vec.{with_items}
 use Rattle.egt_graph.specs.Columns.{count_of, is_loss_of, is_win_of}

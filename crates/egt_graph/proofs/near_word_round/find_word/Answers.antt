@@ -3,7 +3,7 @@ use Rattle.std.proofs.lemmas.List.{get_or_default, length-set}
 use Rattle.egt_graph.specs.Near.{near_at}
 use Rattle.egt_graph.specs.NearWords.{is_found_near, is_unknown}
 use Rattle.egt_graph.specs.Words.{number_at}
-use Rattle.egt_graph.proofs.Finding.{below, below_clear, entries_now, entry_of_loss, found_put, left_put, touched_put}
+use Rattle.egt_graph.proofs.Finding.{below_clear, entries_now, entry_of_loss, found_put, left_put, touched_put}
 use Rattle.egt_graph.proofs.NearFinding.{amid_same, found_parts, front_same}
 use Rattle.egt_graph.proofs.WordSweeps.{put_at}
 use Rattle.egt_graph.proofs.near_word_round.find_word.Goals as goal

@@ -1,13 +1,12 @@
-use Rattle.std.proofs.Common.{◌≡◌, ◌+◌, ◌*◌, ◌-◌, ◌<◌, ◌≤◌, ◌^◌, ℕ, List, bit_and, sym, subst, ◌∙◌, arith}
+use Rattle.std.proofs.Common.{◌+◌, ◌*◌, ◌-◌, ◌<◌, ◌^◌, ℕ, List, bit_and, sym, subst, ◌∙◌, arith}
 use Rattle.std.proofs.lemmas.Nat.Bits.{shr_and_one}
 use Rattle.egt_graph.specs.Begin.{Adds}
 use Rattle.egt_graph.specs.Columns.{is_loss_of, is_win_of}
-use Rattle.egt_graph.specs.Frontier.{is_node}
 use Rattle.egt_graph.specs.Graph.{IsNode, AreLike}
 use Rattle.egt_graph.specs.NearWords.{IsFilledTo}
-use Rattle.egt_graph.specs.Words.{IsWordOf, IsWordStart, number_at}
+use Rattle.egt_graph.specs.Words.{IsWordStart, number_at}
 use Rattle.egt_graph.specs.declared.game.Exit.{Exit}
-use Rattle.egt_graph.proofs.NearListing.{filled_more, filled_skip, filled_word, leaving_node, leaving_none, start_word}
+use Rattle.egt_graph.proofs.NearListing.{filled_more, filled_skip, filled_word, leaving_node, leaving_none}
 use Rattle.egt_graph.proofs.near_words.list_word.Goals as goal
 use Rattle.egt_graph.proofs.near_words.list_word.Goals.{then-leaving-k-eq1+in_ok-schedule_exits, else-leaving-k-eq1}
 

@@ -1,7 +1,7 @@
-use Rattle.std.proofs.Common.{◌≡◌, ◌<◌, ◌≤◌, ◌+◌, ◌*◌, ◌&&◌, ℕ, List, suc, not, cond, length, ap, ap₂, sym, subst, ◌∙◌, arith}
+use Rattle.std.proofs.Common.{◌≡◌, ◌<◌, ◌≤◌, ◌+◌, ◌*◌, ◌&&◌, ℕ, List, suc, not, cond, length, ap, ap₂, subst, ◌∙◌, arith}
 use Rattle.std.proofs.lemmas.List.{get_or_default, length-set}
 use Rattle.egt_graph.specs.Columns.{entry_at}
-use Rattle.egt_graph.specs.Words.{IsWordOf, number_at}
+use Rattle.egt_graph.specs.Words.{number_at}
 use Rattle.egt_graph.specs.WordRound.{is_found_lost, is_found_won, is_undecided}
 use Rattle.egt_graph.proofs.WordRounds.{found_lost_parts}
 use Rattle.egt_graph.proofs.WordSweeps.{put_at}
