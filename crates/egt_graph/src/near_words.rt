@@ -141,7 +141,7 @@ fn settle<G: Shelved>(game: &G, run: &mut NearWords)
     run.front.asked.mark_all();
 }
 
-/// Which nodes of the word are. Only those are asked from which no move leads to a node.
+/// Which nodes of the word are. Those from which a move leads on to a node are none, and are not asked.
 fn settle_word<G: Shelved>(game: &G, word: u32, run: &mut NearWords)
     requires word { word < words_of (G.span game.now) (G.graph game.now).size }
     requires settled { AreNearSettled (G.graph game.now) (G.span game.now) word run.old }
