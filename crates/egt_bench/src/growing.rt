@@ -2,7 +2,7 @@
 use egt_check::Library;
 use egt_class::Class;
 use egt_fen::{Fen, write};
-use egt_graph::{Ranks, Rounds, SolveFault, solve};
+use egt_graph::{Nears, Ranks, Rounds, SolveFault, nearest, solve};
 use egt_index::size;
 use egt_probe::{AnswerFault, LineFault, answer, line};
 use egt_sweep::{BuildFault, MateGame, build};
@@ -40,12 +40,20 @@ fn of_bytes(bytes: &[u8]) -> Answered {
     Answered::Something(sum)
 }
 
-fn of_ranks(ranks: &Ranks) -> Answered {
+fn of_entries(entries: &[u16]) -> Answered {
     let mut sum = 0;
-    for entry in ranks.entries() {
+    for entry in entries {
         sum = mixed(sum, u64::from(*entry));
     }
     Answered::Something(sum)
+}
+
+fn of_ranks(ranks: &Ranks) -> Answered {
+    of_entries(ranks.entries())
+}
+
+fn of_nears(nears: &Nears) -> Answered {
+    of_entries(nears.entries())
 }
 
 fn of_table(table: &Table) -> Answered {
@@ -188,6 +196,22 @@ impl Growing for Solve<'_, '_> {
     fn made(&mut self, alloc: Global) -> Answered {
         match solve(alloc, self.game, LIMIT) {
             Ok(ranks) => of_ranks(&ranks),
+            Err(SolveFault::NoMemory) => Answered::WantOfMemory,
+            Err(_) => Answered::Else,
+        }
+    }
+}
+
+/// `nearest` over it.
+#[derive(Drop)]
+pub struct Nearest<'a, 'l> {
+    pub game: &'a MateGame<'l>,
+}
+
+impl Growing for Nearest<'_, '_> {
+    fn made(&mut self, alloc: Global) -> Answered {
+        match nearest(alloc, self.game) {
+            Ok(nears) => of_nears(&nears),
             Err(SolveFault::NoMemory) => Answered::WantOfMemory,
             Err(_) => Answered::Else,
         }

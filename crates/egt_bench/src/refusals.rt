@@ -1,7 +1,8 @@
 //! A call made where a growth of memory may be refused, and made again: `scripts/refusals` refuses the growths one by one.
 use crate::folder::below;
 use crate::growing::{
-    Answer, Answered, Build, Expand, Growing, Line, NewLibrary, NewRounds, Read, Solve, Write,
+    Answer, Answered, Build, Expand, Growing, Line, Nearest, NewLibrary, NewRounds, Read, Solve,
+    Write,
 };
 use egt_check::Library;
 use egt_class::{Class, by_name};
@@ -155,6 +156,7 @@ fn run_over(
     };
     match call {
         "solve" => run(rt, &mut Solve { game: &game }, stage),
+        "nearest" => run(rt, &mut Nearest { game: &game }, stage),
         "rounds" => run(rt, &mut NewRounds { game: &game }, stage),
         "expand" => {
             let rounds = Rounds::new(rt.alloc(), &game, 32_000)?;

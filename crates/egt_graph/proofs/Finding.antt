@@ -1,5 +1,5 @@
 -- What one round finds by words, and how it is put down.
-use Rattle.std.proofs.Common.{◌≡◌, ◌≢◌, ℕ, suc, ◌+◌, ◌-◌, ◌*◌, ◌<◌, ◌≤◌, ◌^◌, Bool, true, false, cond, not, ◌&&◌, ltb, List, length, get_or, slice_index, replicate, set, refl, sym, ap, ap₂, subst, ◌∙◌, inl, inr, ⊎_elim, arith, Contains, bit_and, bit_or}
+use Rattle.std.proofs.Common.{◌≡◌, ◌≢◌, ◌⊎◌, ℕ, suc, ◌+◌, ◌-◌, ◌*◌, ◌<◌, ◌≤◌, ◌^◌, Bool, true, false, cond, not, ◌&&◌, ltb, List, length, get_or, slice_index, replicate, set, refl, sym, ap, ap₂, subst, ◌∙◌, inl, inr, ⊎_elim, arith, Contains, bit_and, bit_or}
 use Rattle.std.specs.Int.{bit_at}
 use Rattle.std.proofs.lemmas.Bool.{cases_eq, cases_lt, both_ways, and_parts, and_from, and_left, and_right, not-true, not_from_false, not_from_true, false_from_ne_true, lt-ltb, le-ltb}
 use Rattle.std.proofs.lemmas.List.{get_or_past, get_or-replicate, get_or-set_same, get_or-set_other, length-replicate, with_items_is}
@@ -8,7 +8,7 @@ use Rattle.std.specs.declared.vec.Vec.{Vec}
 use Rattle.egt_graph.specs.Graph.{Graph, IsNode, IsGame}
 use Rattle.egt_graph.specs.Value.{mated_within, mates_within}
 use Rattle.egt_graph.specs.Words.{number_at, word_in, place_in, IsTouched, IsWordOf, AreMarks, words_of, word_in-number_at, place_in-small, number_at-places, word_in-within}
-use Rattle.egt_graph.specs.WordRound.{is_undecided, is_unwon, is_lost_at, is_ready, is_due, is_found_won, is_found_lost, IsToldOf, AreTouched, AreDueTouched, AreSaved, IsSwept}
+use Rattle.egt_graph.specs.WordRound.{is_undecided, is_unwon, is_lost_at, is_ready, is_due, is_found_won, is_found_lost, IsToldOf, LeadsTo, AreTouched, AreDueTouched, AreSaved, IsSwept}
 use Rattle.egt_graph.specs.Columns.{entry_at}
 use Rattle.egt_graph.specs.declared.word_run.WordRun.{WordRun}
 use Rattle.egt_graph.proofs.Values.{never_both}
@@ -123,7 +123,7 @@ module _ (span : ℕ) (f : ℕ → Bool) where
   ]
 
 -- where no word has a bit
-zero_at : (n w : ℕ) → slice_index (replicate n 0) w ≡ 0
+pub zero_at : (n w : ℕ) → slice_index (replicate n 0) w ≡ 0
 zero_at n w = elim (cases_lt w n) [
   | inl lt ↦ get_or-replicate n w 0 0 lt
   | inr past ↦ get_or_past (replicate n 0) w 0 (let long : length (replicate {A = ℕ} n 0) ≡ n = length-replicate n 0 in omega (arith, long, past))
@@ -212,7 +212,51 @@ not_won_word span word bits marks u w l is are no_win =
 pub open_marks : (span : ℕ) (marks : List ℕ) (u w : ℕ → Bool) → AreMarks span (λ i. u i && not (w i)) marks → ((i : ℕ) → w i ≡ false) → AreMarks span u marks
 open_marks span marks u w are none = marks_same span (λ i. u i && not (w i)) u marks (λ i. ap (λ a. u i && not a) (none i) ∙ open_one (u i)) are
 
+-- where a word gets what is found
+pub found_put : (span word : ℕ) (f : ℕ → Bool) (marks : List ℕ) (bits : ℕ) → word < length marks → IsWordOf span word f bits → AreMarks span (below span f word) marks → AreMarks span (below span f (word + 1)) (set marks word bits)
+found_put span word f marks bits within of are =
+    marks_put span (below span f word) (below span f (word + 1)) marks word bits within (below_other span f word) are
+    (word_same span word f (below span f (word + 1)) bits (λ i here. sym (below_next span f word i here)) of)
+
+-- and where it loses it
+pub left_put : (span word : ℕ) → span ≤ 64 → (u f : ℕ → Bool) (marks : List ℕ) (x bits : ℕ) → word < length marks → bits < 2 ^ 64 → x ≡ slice_index marks word → IsWordOf span word f bits
+    → AreMarks span (λ i. u i && not (below span f word i)) marks → AreMarks span (λ i. u i && not (below span f (word + 1) i)) (set marks word (bit_and x (18446744073709551615 - bits)))
+left_put span word few u f marks x bits within small is of are =
+    marks_put span (λ i. u i && not (below span f word i)) (λ i. u i && not (below span f (word + 1) i)) marks word _ within (λ i ne. ap (λ b. u i && not b) (below_other span f word i ne)) are
+    (less_word span word few (λ i. u i && not (below span f word i)) f (λ i. u i && not (below span f (word + 1) i)) x bits small
+    (λ i here. ap (λ b. u i && not b) (below_next span f word i here) ∙ still (u i) (f i) ∙ sym (ap (λ b. (u i && not b) && not (f i)) (below_here span f word i here)))
+    (subst (IsWordOf span word (λ i. u i && not (below span f word i))) (sym is) (are word)) of)
+
 -- ---- what is found
+
+-- a word of what passes u and has something due, or leads to what passes l
+module _ (g : Graph) (span word : ℕ) (few : span ≤ 64) (u d l f : ℕ → Bool) (by_due : (i : ℕ) → u i ≡ true → d i ≡ true → f i ≡ true) (by_move : (i : ℕ) → u i ≡ true → LeadsTo g l i → f i ≡ true)
+    (from : (i : ℕ) → f i ≡ true → (u i ≡ true) × ((d i ≡ true) ⊎ LeadsTo g l i)) where
+  pub of_either : (bits due moved : ℕ) → due < 2 ^ 64 → IsWordOf span word u bits → IsToldOf span word d due → Leads g l span word (bit_and bits (18446744073709551615 - due)) moved
+      → IsWordOf span word f (bit_or (bit_and bits due) moved)
+  of_either bits due moved small of_bits of_due leads k = (
+    λ one. ⊎_elim
+        (λ at_once.
+        let both = both_set bits due k at_once in
+        let v = (of_bits k).0 both.0 in
+        (v.0, by_due (number_at span word k) v.1 ((of_due k v.0).0 both.1)))
+        (λ led.
+        let to = (leads k).0 led in
+        let v = (of_bits k).0 (both_set bits (18446744073709551615 - due) k to.0).0 in
+        (v.0, by_move (number_at span word k) v.1 to.1))
+        (either_set (bit_and bits due) moved k one),
+    λ h.
+        let p = from (number_at span word k) h.1 in
+        let one = (of_bits k).1 (h.0, p.0) in
+        let lt = h.0 in
+        elim (cases_eq (bit_at due k) 1) [
+          | inl e ↦ set_first (bit_and bits due) moved k (set_both bits due k one e)
+          | inr ne ↦ set_second (bit_and bits due) moved k ((leads k).1 (
+            set_both bits (18446744073709551615 - due) k one (set_not due k small (omega (arith, lt, few)) ne),
+            ⊎_elim (λ is. absurd (ne ((of_due k h.0).1 is))) (λ to. to) p.1,
+          ))
+        ],
+  )
 
 module _ (g : Graph) (law : IsGame g) (r span : ℕ) (some : 0 < span) (few : span ≤ 64) where
   -- none is won and lost
@@ -268,41 +312,13 @@ module _ (g : Graph) (law : IsGame g) (r span : ℕ) (some : 0 < span) (few : sp
 
     pub of_won : (due moved : ℕ) → due < 2 ^ 64 → IsWordOf span word (λ i. is_undecided g r i && not (is_found_lost g r i)) undecided → IsToldOf span word (is_due g r) due
         → Leads g (is_lost_at g r) span word (bit_and undecided (18446744073709551615 - due)) moved → IsWordOf span word (is_found_won g r) (bit_or (bit_and undecided due) moved)
-    of_won due moved small of_undecided of_due leads k = (there, back)
-      where
-        open_at : bit_at undecided k ≡ 1 → (k < span) × (is_undecided g r (number_at span word k) ≡ true)
-        open_at one = let u = (of_undecided k).0 one in (u.0, (and_parts (is_undecided g r (number_at span word k)) _ u.1).0)
-
-        draw : bit_at undecided k ≡ 1 → mates_within g (suc r) (number_at span word k) ≡ true → (k < span) × (is_found_won g r (number_at span word k) ≡ true)
-        draw one win = let u = open_at one in (u.0, and_from (is_undecided g r (number_at span word k)) _ u.1 win)
-
-        there : bit_at (bit_or (bit_and undecided due) moved) k ≡ 1 → (k < span) × (is_found_won g r (number_at span word k) ≡ true)
-        there one = ⊎_elim
-            (λ at_once.
-            let i = number_at span word k in
-            let both = both_set undecided due k at_once in
-            let u = open_at both.0 in
-            draw both.0 (wins_by_exit g law r i (draw_node g law r i (undecided_parts g law r i u.1).0) ((of_due k u.0).0 both.1)))
-            (λ led.
-            let i = number_at span word k in
-            let to = (leads k).0 led in
-            let both = both_set undecided (18446744073709551615 - due) k to.0 in
-            draw both.0 (wins_by_move g law r i (undecided_parts g law r i (open_at both.0).1).0 to.1))
-            (either_set (bit_and undecided due) moved k one)
-
-        back : (k < span) × (is_found_won g r (number_at span word k) ≡ true) → bit_at (bit_or (bit_and undecided due) moved) k ≡ 1
-        back h =
-            let i = number_at span word k in
-            let t = and_parts (is_undecided g r i) (mates_within g (suc r) i) h.1 in
-            let one = (of_undecided k).1 (h.0, and_from (is_undecided g r i) _ t.0 (not_from_false _ (apart i h.1))) in
-            let lt = h.0 in
-            elim (cases_eq (bit_at due k) 1) [
-              | inl e ↦ set_first (bit_and undecided due) moved k (set_both undecided due k one e)
-              | inr ne ↦ set_second (bit_and undecided due) moved k ((leads k).1 (
-                set_both undecided (18446744073709551615 - due) k one (set_not due k small (omega (arith, lt, few)) ne),
-                ⊎_elim (λ is. absurd (ne ((of_due k h.0).1 is))) (λ to. to) (win_by g law r i (undecided_parts g law r i t.0).0 t.1),
-              ))
-            ]
+    of_won = of_either g span word few (λ i. is_undecided g r i && not (is_found_lost g r i)) (is_due g r) (is_lost_at g r) (is_found_won g r)
+        (λ i t due. let u = (and_parts (is_undecided g r i) _ t).0 in and_from (is_undecided g r i) _ u (wins_by_exit g law r i (draw_node g law r i (undecided_parts g law r i u).0) due))
+        (λ i t to. let u = (and_parts (is_undecided g r i) _ t).0 in and_from (is_undecided g r i) _ u (wins_by_move g law r i (undecided_parts g law r i u).0 to))
+        (λ i t.
+        let p = and_parts (is_undecided g r i) (mates_within g (suc r) i) t in
+        (and_from (is_undecided g r i) _ p.0 (not_from_false _ (apart i t)), win_by g law r i (undecided_parts g law r i p.0).0 p.1))
+        undecided
 
 -- ---- whether a word has any
 
@@ -314,6 +330,10 @@ module _ (span word bits : ℕ) (some : 0 < span) (f : ℕ → Bool) (of : IsWor
   none_found clear i here = false_from_ne_true (f i) (λ t.
       let same : number_at span word (place_in span i) ≡ i = ap (λ w. number_at span w (place_in span i)) (sym here) ∙ number_at-places span i some in
       none_set (place_in span i) (sym (ap (λ n. bit_at n (place_in span i)) clear) ∙ (of (place_in span i)).1 (place_in-small span i some, ap f same ∙ t)))
+
+  -- so what passes below is the same beyond the word
+  pub below_clear : bits ≡ 0 → (i : ℕ) → below span f word i ≡ below span f (word + 1) i
+  below_clear clear i = below_to span f word (word + 1) i (omega arith) (λ le lt t. both_ways _ (none_found clear i (omega (arith, le, lt))) t)
 
 -- ---- a run within the round, by tests that say the same
 

@@ -30,3 +30,5 @@ pub mod Leading
 pub mod Turning
 pub mod StandIns
 pub mod Nearby
+pub mod NearFinding
+pub mod NearListing

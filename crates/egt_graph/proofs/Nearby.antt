@@ -15,10 +15,10 @@ use Rattle.egt_graph.specs.declared.nearing.Nearing.{Nearing}
 use Rattle.egt_graph.proofs.Beginning.{Filled_more, pushed, outside}
 use Rattle.egt_graph.proofs.Holding.{decided_open, decided_shut, decided_mark, win_is_no_draw}
 use Rattle.egt_graph.proofs.Lists.{any_weaker, any_or, some_counts, counted_contains, contains_counted}
-use Rattle.egt_graph.proofs.Nodes.{node_from_test, test_from_node, leaves_at}
+use Rattle.egt_graph.proofs.Nodes.{node_from_test, test_from_node, leaves_at, leaves_none}
 use Rattle.egt_graph.proofs.WordRounds.{any_contains, contains_any}
 
-same_both : (a b : Bool) → (a ≡ true → b ≡ true) → (b ≡ true → a ≡ true) → a ≡ b
+pub same_both : (a b : Bool) → (a ≡ true → b ≡ true) → (b ≡ true → a ≡ true) → a ≡ b
 same_both true b there back = sym (there refl)
 same_both false true there back = back refl
 same_both false false there back = refl
@@ -47,11 +47,25 @@ near_le g i n (suc m) le h = elim (cases_order n (suc m)) [
   | inr o ↦ elim o [ inl lt ↦ near_more g m i (near_le g i n m (omega arith) h) | inr gt ↦ absurd (omega arith) ]
 ]
 
+-- a node has one number, or none
+pub one_near : (g : Graph) (i : ℕ) (x y : Option ℕ) → HasNear g i x → HasNear g i y → x ≡ y
+one_near g i (Some n) (Some m) r s = elim (cases_order n m) [
+  | inl e ↦ ap Some e
+  | inr o ↦ elim o [ inl lt ↦ absurd (sooner n m lt r.0 s.1) | inr gt ↦ absurd (sooner m n gt s.0 r.1) ]
+]
+  where
+    sooner : (a b : ℕ) → a < b → near_within g a i ≡ true → near_before g b i ≡ false → ⊥
+    sooner a zero lt t f = omega (arith, lt)
+    sooner a (suc b) lt t f = both_ways (near_within g b i) f (near_le g i a b (omega (arith, lt)) t)
+one_near g i (Some n) None r s = absurd (both_ways (near_within g n i) (s n) r.0)
+one_near g i None (Some n) r s = absurd (both_ways (near_within g n i) (r n) s.0)
+one_near g i None None r s = refl
+
 -- the parts of it
-near_by_move : (g : Graph) (n i j : ℕ) → Contains (g.out i) j → near_within g n j ≡ true → near_within g (suc n) i ≡ true
+pub near_by_move : (g : Graph) (n i j : ℕ) → Contains (g.out i) j → near_within g n j ≡ true → near_within g (suc n) i ≡ true
 near_by_move g n i j has t = or_right (g.mated i) _ (or_left _ _ (contains_any (near_within g n) (g.out i) j has t))
 
-near_by_exit : (g : Graph) (n i : ℕ) → list_any (is_near_exit (suc n)) (g.exits i) ≡ true → near_within g (suc n) i ≡ true
+pub near_by_exit : (g : Graph) (n i : ℕ) → list_any (is_near_exit (suc n)) (g.exits i) ≡ true → near_within g (suc n) i ≡ true
 near_by_exit g n i t = or_right (g.mated i) _ (or_right (list_any (near_within g n) (g.out i)) _ t)
 
 -- ---- what an entry tells
@@ -78,7 +92,7 @@ near_none g zero i f = ap (λ b. cond b (cond (g.mated i) 2 1) 0) f
 near_none g (suc r) i f = decided_shut (near_at g r i) (suc r) (near_within g (suc r) i) false (ap (λ e. eqb e 1) (near_none g r i f)) ∙ near_none g r i f
 
 -- an entry of the round is of a node that is so many plies away
-of_round : (g : Graph) (r s i : ℕ) → near_at g r i ≡ 2 + 2 * s → (is_node g i ≡ true) × (near_within g s i ≡ true) × (near_before g s i ≡ false)
+pub of_round : (g : Graph) (r s i : ℕ) → near_at g r i ≡ 2 + 2 * s → (is_node g i ≡ true) × (near_within g s i ≡ true) × (near_before g s i ≡ false)
 of_round g r s i is = elim (cases_Bool (is_node g i)) [
   | inr f ↦ let z = near_none g r i f in absurd (omega arith)
   | inl t ↦ elim (near_known g r i t) [
@@ -126,19 +140,52 @@ near_exit_next r (Loss k) = below k r
     ]
 near_exit_next r Draw = refl
 
-exits_next : (r : ℕ) (es : List Exit) → list_any (is_near_exit (suc r)) es ≡ (list_any (is_near_exit r) es || (list_any (is_loss_of r) es || list_any (is_win_of r) es))
+pub exits_next : (r : ℕ) (es : List Exit) → list_any (is_near_exit (suc r)) es ≡ (list_any (is_near_exit r) es || (list_any (is_loss_of r) es || list_any (is_win_of r) es))
 exits_next r es =
     any_or (is_near_exit (suc r)) (is_near_exit r) (λ e. is_loss_of r e || is_win_of r e) (near_exit_next r) es
     ∙ ap (λ b. list_any (is_near_exit r) es || b) (any_or (λ e. is_loss_of r e || is_win_of r e) (is_loss_of r) (is_win_of r) (λ e. refl) es)
 
 -- the nodes with such an exit are those that fall due
+pub falls_due : (g : Graph) (test : ℕ → Exit → Bool) (due : List (List ℕ)) → IsFilled g test g.size due → (n i : ℕ) → ltb 0 (count_of i (slice_index_or due n [])) ≡ list_any (test n) (leaves g i)
+falls_due g test due filled n i = elim (cases_lt i g.size) [
+  | inl lt ↦ ap (λ k. ltb 0 k) (filled.before n i lt) ∙ sym (some_counts (test n) (leaves g i))
+  | inr past ↦ ap (λ k. ltb 0 k) (filled.after n i past) ∙ sym (ap (list_any (test n)) (leaves_none g i (outside g i past)))
+]
+
 due_counts : (g : Graph) (test : ℕ → Exit → Bool) (due : List (List ℕ)) → IsFilled g test g.size due → (n i : ℕ) → IsNode g i
     → ltb 0 (count_of i (slice_index_or due n [])) ≡ list_any (test n) (g.exits i)
-due_counts g test due filled n i node =
-    ap (λ k. ltb 0 k) (filled.before n i node.in_range ∙ ap (count_by (test n)) (leaves_at g i (test_from_node g i node)))
-    ∙ sym (some_counts (test n) (g.exits i))
+due_counts g test due filled n i node = falls_due g test due filled n i ∙ ap (list_any (test n)) (leaves_at g i (test_from_node g i node))
 
 -- ---- one ply more
+
+-- no exit has a number below 0
+pub no_exit_at_once : (es : List Exit) → list_any (is_near_exit 0) es ≡ true → ⊥
+no_exit_at_once [] u = false≢true u
+no_exit_at_once (e ∷ es) u = ⊎_elim (first e) (no_exit_at_once es) (or_cases (is_near_exit 0 e) _ u)
+  where
+    first : (e : Exit) → is_near_exit 0 e ≡ true → ⊥
+    first (Win k) v = let l = ltb-true k 0 v in absurd (omega arith)
+    first (Loss k) v = let l = ltb-true k 0 v in absurd (omega arith)
+    first Draw v = false≢true v
+
+-- nor one below r, of a node that is not near within r
+pub no_sooner_exit : (g : Graph) (r i : ℕ) → near_within g r i ≡ false → list_any (is_near_exit r) (g.exits i) ≡ true → ⊥
+no_sooner_exit g zero i far t = no_exit_at_once (g.exits i) t
+no_sooner_exit g (suc m) i far t = both_ways (near_within g (suc m) i) far (near_by_exit g m i t)
+
+-- what is near one ply later leaves by an exit, or leads to a node of the round
+pub near_next : (g : Graph) → IsGame g → (r i : ℕ) → IsNode g i → near_within g r i ≡ false → near_within g (suc r) i ≡ true
+    → (list_any (is_near_exit (suc r)) (g.exits i) ≡ true) ⊎ ((j : ℕ) × Contains (g.out i) j × (near_at g r j ≡ 2 + 2 * r))
+near_next g law r i node far h = ⊎_elim (λ m. absurd (never 0 (omega arith) m)) (λ t. ⊎_elim (λ a. inr (move a)) inl (or_cases (list_any (near_within g r) (g.out i)) _ t)) (or_cases (g.mated i) _ h)
+  where
+    never : (m : ℕ) → m ≤ r → near_within g m i ≡ true → ⊥
+    never m le t = both_ways (near_within g r i) far (near_le g i m r le t)
+
+    move : list_any (near_within g r) (g.out i) ≡ true → (j : ℕ) × Contains (g.out i) j × (near_at g r j ≡ 2 + 2 * r)
+    move t =
+        let (j, has, is) = any_contains (near_within g r) (g.out i) t in
+        let there = All-contains (IsNode g) (g.out i) j (law.out_nodes i node) has in
+        (j, has, at_round g r j (test_from_node g j there) is (λ m lt n. never (suc m) (omega arith) (near_by_move g m i j has n)))
 
 -- what round r finds
 abbrev pub found_at : Graph → List ℕ → List (List ℕ) → List (List ℕ) → ℕ → ℕ → Bool
@@ -166,52 +213,25 @@ module _ (g : Graph) (law : IsGame g) (r : ℕ) (run : Nearing) (known : IsNeari
       due_won t = by_exit (or_right (list_any (is_loss_of r) (g.exits i)) _ (sym (due_counts g is_win_of run.won_due known.won r i node) ∙ t))
 
   near_found : (i : ℕ) → IsNode g i → near_within g r i ≡ false → near_within g (suc r) i ≡ true → found_at g found run.lost_due run.won_due r i ≡ true
-  near_found i node far h = ⊎_elim mated rest (or_cases (g.mated i) _ h)
+  near_found i node far h = ⊎_elim exit move (near_next g law r i node far h)
     where
-      never : (m : ℕ) → m ≤ r → near_within g m i ≡ true → ⊥
-      never m le t = both_ways (near_within g r i) far (near_le g i m r le t)
-
       Found : Type 0
       Found = found_at g found run.lost_due run.won_due r i ≡ true
 
-      mated : g.mated i ≡ true → Found
-      mated t = absurd (never 0 (omega arith) t)
-
-      move : list_any (near_within g r) (g.out i) ≡ true → Found
-      move t =
-          let (j, has, is) = any_contains (near_within g r) (g.out i) t in
+      move : (j : ℕ) × Contains (g.out i) j × (near_at g r j ≡ 2 + 2 * r) → Found
+      move (j, has, e) =
           let there = All-contains (IsNode g) (g.out i) j (law.out_nodes i node) has in
-          let e = at_round g r j (test_from_node g j there) is (λ m lt n. never (suc m) (omega arith) (near_by_move g m i j has n)) in
           let f = all.complete j (omega (arith, there.in_range, known.long)) (known.entry j ∙ e) in
           or_left _ _ (or_left _ _ (contains_any (λ j. ltb 0 (count_of i (g.into j))) found j f (lt-ltb 0 _ (let back = law.back i j node there has in contains_counted i (g.into j) back.0 back.1 back.2))))
 
-      sooner : list_any (is_near_exit r) (g.exits i) ≡ true → ⊥
-      sooner t = go r t far
-        where
-          none_at_once : (es : List Exit) → list_any (is_near_exit 0) es ≡ true → ⊥
-          none_at_once [] u = false≢true u
-          none_at_once (e ∷ es) u = ⊎_elim (first e) (none_at_once es) (or_cases (is_near_exit 0 e) _ u)
-            where
-              first : (e : Exit) → is_near_exit 0 e ≡ true → ⊥
-              first (Win k) v = let l = ltb-true k 0 v in absurd (omega arith)
-              first (Loss k) v = let l = ltb-true k 0 v in absurd (omega arith)
-              first Draw v = false≢true v
-
-          go : (r : ℕ) → list_any (is_near_exit r) (g.exits i) ≡ true → near_within g r i ≡ false → ⊥
-          go zero u f = none_at_once (g.exits i) u
-          go (suc m) u f = both_ways (near_within g (suc m) i) f (near_by_exit g m i u)
-
       exit : list_any (is_near_exit (suc r)) (g.exits i) ≡ true → Found
-      exit t = ⊎_elim (λ s. absurd (sooner s)) now (or_cases (list_any (is_near_exit r) (g.exits i)) _ (sym (exits_next r (g.exits i)) ∙ t))
+      exit t = ⊎_elim (λ s. absurd (no_sooner_exit g r i far s)) now (or_cases (list_any (is_near_exit r) (g.exits i)) _ (sym (exits_next r (g.exits i)) ∙ t))
         where
           now : list_any (is_loss_of r) (g.exits i) || list_any (is_win_of r) (g.exits i) ≡ true → Found
           now u = ⊎_elim
               (λ l. or_left _ _ (or_right (led_from g found i) _ (due_counts g is_loss_of run.lost_due known.lost r i node ∙ l)))
               (λ w. or_right (led_from g found i || ltb 0 (count_of i (slice_index_or run.lost_due r []))) _ (due_counts g is_win_of run.won_due known.won r i node ∙ w))
               (or_cases (list_any (is_loss_of r) (g.exits i)) _ u)
-
-      rest : list_any (near_within g r) (g.out i) || list_any (is_near_exit (suc r)) (g.exits i) ≡ true → Found
-      rest t = ⊎_elim move exit (or_cases (list_any (near_within g r) (g.out i)) _ t)
 
   -- the entries after a round
   pub found_next : (entries : List ℕ) → Finds run.entries.items (found_at g found run.lost_due run.won_due r) (suc r) entries → (i : ℕ) → slice_index entries i ≡ near_at g (suc r) i
@@ -251,12 +271,7 @@ module _ (g : Graph) (law : IsGame g) (r : ℕ) (run : Nearing) (known : IsNeari
 
   -- an exit later than r would have fallen due
   in_time : (n i : ℕ) → IsNode g i → list_any (is_near_exit n) (g.exits i) ≡ true → list_any (is_near_exit (suc r)) (g.exits i) ≡ true
-  in_time zero i node t = any_weaker (is_near_exit 0) (is_near_exit (suc r)) (λ e h. absurd (first e h)) (g.exits i) t
-    where
-      first : (e : Exit) → is_near_exit 0 e ≡ true → ⊥
-      first (Win k) v = let l = ltb-true k 0 v in absurd (omega arith)
-      first (Loss k) v = let l = ltb-true k 0 v in absurd (omega arith)
-      first Draw v = false≢true v
+  in_time zero i node t = absurd (no_exit_at_once (g.exits i) t)
   in_time (suc n) i node t = ⊎_elim (in_time n i node) now (or_cases (list_any (is_near_exit n) (g.exits i)) _ (sym (exits_next n (g.exits i)) ∙ t))
     where
       late : (test : ℕ → Exit → Bool) (due : List (List ℕ)) → IsFilled g test g.size due → NoneLater r due → list_any (test n) (g.exits i) ≡ true → n ≤ r
@@ -359,7 +374,7 @@ late_win n (Win k) short gt = ne_eqb k n (λ e. absurd (omega arith))
 late_win n (Loss k) short gt = refl
 late_win n Draw short gt = refl
 
-pub over_at_last : (g : Graph) → IsGame g → (run : Nearing) → IsNearing g 32001 run
+over_at_last : (g : Graph) → IsGame g → (run : Nearing) → IsNearing g 32001 run
     → ((i : ℕ) → i < length run.entries.items → slice_index run.entries.items i ≢ 2 + 2 * 32001) → IsOver run 32000
 over_at_last g law run known none = record {
   none = none;
@@ -456,3 +471,8 @@ round_done g law r run known found all run' finds long lost won =
 pub nears_told : (g : Graph) → IsGame g → (r : ℕ) (run : Nearing) → IsNearing g (r + 1) run → IsOver run r → r ≤ 32000 → (told : List ℕ) → AreTold run.entries.items told → AreNears g told
 nears_told g law r run known over short told tells =
     let e : r + 1 ≡ suc r = omega arith in are_nears g law r run (subst (λ n. IsNearing g n run) e known) over short told tells
+
+-- or after the last
+pub nears_at_last : (g : Graph) → IsGame g → (run : Nearing) → IsNearing g 32001 run → ((i : ℕ) → i < length run.entries.items → slice_index run.entries.items i ≢ 2 + 2 * 32001)
+    → (told : List ℕ) → AreTold run.entries.items told → AreNears g told
+nears_at_last g law run known none = nears_told g law 32000 run known (over_at_last g law run known none) (omega arith)

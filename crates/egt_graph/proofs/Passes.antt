@@ -23,26 +23,30 @@ pub record IsPassing (span : ℕ) (f : ℕ → Bool) (S : (ℕ → Bool) → Typ
   pub none : news ≡ false → (i : ℕ) → below span f from i ≡ false
 
 -- what passes is of a marked word
-module _ (span : ℕ) (f : ℕ → Bool) (S : (ℕ → Bool) → Type 0) (same : (t t' : ℕ → Bool) → ((i : ℕ) → t i ≡ t' i) → S t → S t') (touched : List ℕ) (marked : (i : ℕ) → f i ≡ true → IsTouched touched (word_in span i)) where
-  pub passing_to : (from word end : ℕ) (news : Bool) → IsPassing span f S from news → from ≤ word → word < end → ((v : ℕ) → from ≤ v → v < end → IsTouched touched v → word ≤ v) → IsPassing span f S word news
-  passing_to from word end news h le lt first = record {
-    swept = same (below span f from) (below span f word) alike h.swept;
-    found = h.found;
-    none = λ clear i. sym (alike i) ∙ h.none clear i;
-  }
-    where
-      alike : (i : ℕ) → below span f from i ≡ below span f word i
-      alike i = below_to span f from word i le (λ past before t.
-          let there = first (word_in span i) past (omega (arith, before, lt)) (marked i t) in omega (arith, there, before))
+module _ (span : ℕ) (f : ℕ → Bool) (touched : List ℕ) (marked : (i : ℕ) → f i ≡ true → IsTouched touched (word_in span i)) where
+  pub alike_to : (from word end : ℕ) → from ≤ word → word < end → ((v : ℕ) → from ≤ v → v < end → IsTouched touched v → word ≤ v) → (i : ℕ) → below span f from i ≡ below span f word i
+  alike_to from word end le lt first i = below_to span f from word i le (λ past before t.
+      let there = first (word_in span i) past (omega (arith, before, lt)) (marked i t) in omega (arith, there, before))
 
-  pub passing_all : (from end : ℕ) (news : Bool) → IsPassing span f S from news → ((i : ℕ) → f i ≡ true → word_in span i < end) → ((v : ℕ) → from ≤ v → v < end → IsTouched touched v → ⊥) → S f × IsNews f news
-  passing_all from end news h within none = (
-    same (below span f from) f alike h.swept,
-    record { found = h.found; none = λ clear i. sym (alike i) ∙ h.none clear i },
-  )
-    where
-      alike : (i : ℕ) → below span f from i ≡ f i
-      alike i = below_all span f from i (λ past t. none (word_in span i) past (within i t) (marked i t))
+  pub alike_all : (from end : ℕ) → ((i : ℕ) → f i ≡ true → word_in span i < end) → ((v : ℕ) → from ≤ v → v < end → IsTouched touched v → ⊥) → (i : ℕ) → below span f from i ≡ f i
+  alike_all from end within none i = below_all span f from i (λ past t. none (word_in span i) past (within i t) (marked i t))
+
+  module _ (S : (ℕ → Bool) → Type 0) (same : (t t' : ℕ → Bool) → ((i : ℕ) → t i ≡ t' i) → S t → S t') where
+    pub passing_to : (from word end : ℕ) (news : Bool) → IsPassing span f S from news → from ≤ word → word < end → ((v : ℕ) → from ≤ v → v < end → IsTouched touched v → word ≤ v) → IsPassing span f S word news
+    passing_to from word end news h le lt first =
+        let alike = alike_to from word end le lt first in
+        record {
+          swept = same (below span f from) (below span f word) alike h.swept;
+          found = h.found;
+          none = λ clear i. sym (alike i) ∙ h.none clear i;
+        }
+
+    pub passing_all : (from end : ℕ) (news : Bool) → IsPassing span f S from news → ((i : ℕ) → f i ≡ true → word_in span i < end) → ((v : ℕ) → from ≤ v → v < end → IsTouched touched v → ⊥) → S f × IsNews f news
+    passing_all from end news h within none =
+        let alike = alike_all from end within none in (
+          same (below span f from) f alike h.swept,
+          record { found = h.found; none = λ clear i. sym (alike i) ∙ h.none clear i },
+        )
 
 -- a word more, in which some passes or none
 module _ (span : ℕ) (f : ℕ → Bool) (S S' : (ℕ → Bool) → Type 0) (word : ℕ) (news : Bool) (h : IsPassing span f S word news) (swept : S' (below span f (word + 1))) where
@@ -64,11 +68,11 @@ module _ (g : Graph) (law : IsGame g) (r span : ℕ) (fits : (0 < span) × (span
 
     pub losing_to : (from word end : ℕ) (news : Bool) → IsPassing span (is_found_lost g r) Losing from news → from ≤ word → word < end → ((v : ℕ) → from ≤ v → v < end → IsTouched run.may_lose.marks.items v → word ≤ v)
         → IsPassing span (is_found_lost g r) Losing word news
-    losing_to from word end news h = passing_to span (is_found_lost g r) Losing losing_same run.may_lose.marks.items (loss_asked g law r span fits.0 fits.1 run.may_lose.marks.items h.swept.saved) from word end news h
+    losing_to from word end news h = passing_to span (is_found_lost g r) run.may_lose.marks.items (loss_asked g law r span fits.0 fits.1 run.may_lose.marks.items h.swept.saved) Losing losing_same from word end news h
 
     pub losing_all : (from end : ℕ) (news : Bool) → IsPassing span (is_found_lost g r) Losing from news → words_of span g.size ≤ end → ((v : ℕ) → from ≤ v → v < end → IsTouched run.may_lose.marks.items v → ⊥)
         → Losing (is_found_lost g r) × IsNews (is_found_lost g r) news
-    losing_all from end news h long = passing_all span (is_found_lost g r) Losing losing_same run.may_lose.marks.items (loss_asked g law r span fits.0 fits.1 run.may_lose.marks.items h.swept.saved) from end news h
+    losing_all from end news h long = passing_all span (is_found_lost g r) run.may_lose.marks.items (loss_asked g law r span fits.0 fits.1 run.may_lose.marks.items h.swept.saved) Losing losing_same from end news h
         (λ i t. let lt = loss_within g law r span fits.0 fits.1 i t in omega (arith, lt, long))
 
   module _ (losses : ℕ → Bool) where
@@ -83,11 +87,11 @@ module _ (g : Graph) (law : IsGame g) (r span : ℕ) (fits : (0 < span) × (span
 
     pub winning_to : (from word end : ℕ) (news : Bool) → IsPassing span (is_found_won g r) Winning from news → from ≤ word → word < end → ((v : ℕ) → from ≤ v → v < end → IsTouched run.may_win.marks.items v → word ≤ v)
         → IsPassing span (is_found_won g r) Winning word news
-    winning_to from word end news h = passing_to span (is_found_won g r) Winning winning_same run.may_win.marks.items (asked news from h) from word end news h
+    winning_to from word end news h = passing_to span (is_found_won g r) run.may_win.marks.items (asked news from h) Winning winning_same from word end news h
 
     pub winning_all : (from end : ℕ) (news : Bool) → IsPassing span (is_found_won g r) Winning from news → words_of span g.size ≤ end → ((v : ℕ) → from ≤ v → v < end → IsTouched run.may_win.marks.items v → ⊥)
         → Winning (is_found_won g r) × IsNews (is_found_won g r) news
-    winning_all from end news h long = passing_all span (is_found_won g r) Winning winning_same run.may_win.marks.items (asked news from h) from end news h
+    winning_all from end news h long = passing_all span (is_found_won g r) run.may_win.marks.items (asked news from h) Winning winning_same from end news h
         (λ i t. let lt = win_within g law r span fits.0 fits.1 i t in omega (arith, lt, long))
 
   -- ---- a word that is looked at

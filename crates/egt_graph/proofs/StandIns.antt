@@ -1,19 +1,15 @@
--- Nodes that stand for others have their ranks.
-use Rattle.std.proofs.Common.{◌≡◌, ℕ, zero, suc, ◌&&◌, ◌||◌, not, Bool, true, false, List, [], ◌∷◌, Contains, slice_index, All, refl, sym, ap, ap₂, ◌∙◌, subst}
+-- Nodes that stand for others have their ranks, and the numbers of their nearest mates.
+use Rattle.std.proofs.Common.{◌≡◌, ℕ, zero, suc, ◌&&◌, ◌||◌, not, Bool, true, false, List, [], ◌∷◌, Contains, slice_index, All, Option, Some, None, refl, sym, ap, ap₂, ◌∙◌, subst}
 use Rattle.std.specs.List.{list_any, list_all}
 use Rattle.egt_graph.specs.Graph.{Graph, IsGame, IsNode}
+use Rattle.egt_graph.specs.Near.{AreNears, HasNear, SomeFar, is_near_exit, near_before, near_entry_of, near_within}
 use Rattle.egt_graph.specs.StandIns.{AreKept, StandsFor}
 use Rattle.egt_graph.specs.Value.{AreRanks, HasRank, SomeAbove, decided_within, entry_of, is_empty, is_lost_before, is_won_before, mated_before, mated_within, mates_before, mates_within}
 use Rattle.egt_graph.specs.declared.game.Exit.{Exit}
 use Rattle.egt_graph.specs.declared.game.Exit.TheVariants.{Win, Loss, Draw}
+use Rattle.egt_graph.proofs.Nearby.{one_near, same_both}
 use Rattle.egt_graph.proofs.Ranking.{one_value}
 use Rattle.egt_graph.proofs.WordRounds.{any_contains, contains_any}
-
--- two tests of which either follows from the other
-same_both : (a b : Bool) → (a ≡ true → b ≡ true) → (b ≡ true → a ≡ true) → a ≡ b
-same_both true b there back = sym (there refl)
-same_both false true there back = back refl
-same_both false false there back = refl
 
 all_by_any : {X : Type 0} (p : X → Bool) (xs : List X) → list_all p xs ≡ not (list_any (λ x. not (p x)) xs)
 all_by_any p [] = refl
@@ -98,3 +94,39 @@ module _ (g h : Graph) (f : ℕ → ℕ) (law : IsGame g) (stands : StandsFor g 
       let here = r.ranks i node in
       let there = (ranks_told s limit entries kept are r).ranks (f i) (stands.node i node) in
       here.3 ∙ ap entry_of (one_value h h_law (f i) (stands.node i node) here.0 there.0 (rank i node here.0 here.1) there.1) ∙ sym there.3
+
+  -- ---- the nearest mate
+
+  near_same : (n i : ℕ) → IsNode g i → near_within g n i ≡ near_within h n (f i)
+  near_same zero i node = stands.mated i node
+  near_same (suc n) i node = ap₂ (λ x y. x || y) (stands.mated i node)
+      (ap₂ (λ x y. x || y) (some_same (near_within g n) (near_within h n) i node (near_same n)) (stands.exits i node (is_near_exit (suc n))))
+
+  nearer_same : (n i : ℕ) → IsNode g i → near_before g n i ≡ near_before h n (f i)
+  nearer_same zero i node = refl
+  nearer_same (suc n) i node = near_same n i node
+
+  pub as_near : (i : ℕ) → IsNode g i → (x : Option ℕ) → HasNear g i x → HasNear h (f i) x
+  as_near i node (Some n) r = (sym (near_same n i node) ∙ r.0, sym (nearer_same n i node) ∙ r.1)
+  as_near i node None r = λ n. sym (near_same n i node) ∙ r n
+
+  pub nears_told : (s : ℕ → ℕ) (entries kept : List ℕ) → AreKept g h f s entries kept → AreNears g entries → AreNears h kept
+  nears_told s entries kept are r = record {
+    all = are.all;
+    voids = are.voids;
+    nears = λ i node.
+        let here = are.nodes i node in
+        let p = r.nears (s i) here in
+        (p.0, subst (λ (k : ℕ). HasNear h k p.0) (are.stand i node) (as_near (s i) here p.0 p.1), p.2, are.same i node ∙ p.3);
+  }
+
+  pub as_far : SomeFar g → SomeFar h
+  as_far some =
+      let (i, node, (n, is), not_yet) = some in
+      (f i, stands.node i node, (n, sym (near_same n i node) ∙ is), sym (near_same 32000 i node) ∙ not_yet)
+
+  pub nears_shared : (s : ℕ → ℕ) (entries kept : List ℕ) → AreKept g h f s entries kept → AreNears g entries → (i : ℕ) → IsNode g i → slice_index entries i ≡ slice_index kept (f i)
+  nears_shared s entries kept are r i node =
+      let here = r.nears i node in
+      let there = (nears_told s entries kept are r).nears (f i) (stands.node i node) in
+      here.3 ∙ ap near_entry_of (one_near h (f i) here.0 there.0 (as_near i node here.0 here.1) there.1) ∙ sym there.3

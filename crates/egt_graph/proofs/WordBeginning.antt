@@ -237,7 +237,7 @@ module _ (g : Graph) (i : ℕ) (pending : List ℕ) (lost_due won_due : List (Li
       plus : (n : ℕ) → 0 + n ≡ n
       plus n = omega arith
 
-other_count : (test : ℕ → Exit → Bool) (a b : List (List ℕ)) (node : ℕ) (exits : List Exit) → Adds test a b node exits → (n i : ℕ) → node ≢ i → count_of i (slice_index_or b n []) ≡ count_of i (slice_index_or a n [])
+pub other_count : (test : ℕ → Exit → Bool) (a b : List (List ℕ)) (node : ℕ) (exits : List Exit) → Adds test a b node exits → (n i : ℕ) → node ≢ i → count_of i (slice_index_or b n []) ≡ count_of i (slice_index_or a n [])
 other_count test a b node exits adds n i ne =
     adds n i ∙ ap (λ t. count_of i (slice_index_or a n []) + cond t (count_by (test n) exits) 0) (ne_eqb node i ne) ∙ none (count_of i (slice_index_or a n []))
   where

@@ -14,7 +14,6 @@ use Rattle.egt_graph.specs.WordRound.{is_undecided, is_lost_at, is_unwon, is_lea
 use Rattle.egt_graph.specs.ExitMarks.{AreExitMarks, AreExitMarksBelow}
 use Rattle.egt_graph.specs.declared.exit_marks.ExitMarks.{ExitMarks}
 use Rattle.egt_graph.specs.declared.game.Exit.{Exit}
-use Rattle.egt_graph.proofs.Closing.{entry_none}
 use Rattle.egt_graph.proofs.Nodes.{node_from_test, test_from_node, leaves_at, leaves_none, outs_at}
 use Rattle.egt_graph.proofs.WordBeginning.{has_void}
 use Rattle.egt_graph.proofs.WordBits.{both_set, set_both, either_set, set_first, set_second, set_not, none_set}
@@ -157,13 +156,13 @@ module _ (g : Graph) (law : IsGame g) (span word : ℕ) (some : 0 < span) (few :
 
 -- ---- all words
 
-pub settled_entries : (g : Graph) (span m : ℕ) (es : List ℕ) → 0 < span → words_of span g.size ≤ m → length es ≡ g.size → ((i : ℕ) → word_in span i < m → slice_index es i ≡ entry_at g 0 i)
-    → (i : ℕ) → slice_index es i ≡ entry_at g 0 i
-settled_entries g span m es some all long done i = elim (cases_lt i g.size) [
+pub settled_entries : (g : Graph) (f : ℕ → ℕ) → ((i : ℕ) → is_node g i ≡ false → f i ≡ 0) → (span m : ℕ) (es : List ℕ) → 0 < span → words_of span g.size ≤ m → length es ≡ g.size → ((i : ℕ) → word_in span i < m → slice_index es i ≡ f i)
+    → (i : ℕ) → slice_index es i ≡ f i
+settled_entries g f none span m es some all long done i = elim (cases_lt i g.size) [
   | inl lt ↦ done i (let within = word_in-within span g.size i some lt in omega (arith, within, all))
   | inr past ↦
       get_or_past es i 0 (omega (arith, long, past))
-      ∙ sym (entry_none g 0 i (false_from_ne_true _ (λ t. let node = node_from_test g i t in absurd (let below = node.in_range in omega (arith, below, past)))))
+      ∙ sym (none i (false_from_ne_true _ (λ t. let node = node_from_test g i t in absurd (let below = node.in_range in omega (arith, below, past)))))
 ]
 
 pub all_told : (g : Graph) (span : ℕ) (test : ℕ → Bool) (marks : List ℕ) → 0 < span → ((i : ℕ) → test i ≡ true → is_node g i ≡ true) → length marks ≡ words_of span g.size

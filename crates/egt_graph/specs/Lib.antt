@@ -16,3 +16,4 @@ pub mod ExitMarks
 pub mod WordMoves
 pub mod StandIns
 pub mod Near
+pub mod NearWords

@@ -1,8 +1,9 @@
 -- A game whose nodes stand for those of another, several of them perhaps for one: each has the moves and the exits of the node for which it stands. So
--- the ranks of the one game tell those of the other.
-use Rattle.std.specs.Prelude.{◌≡◌, ℕ, ◌<◌, Bool, List, Contains, length, slice_index, IsTrue}
+-- the ranks of the one game tell those of the other, and so do the numbers of its nearest mates.
+use Rattle.std.specs.Prelude.{◌≡◌, ℕ, ◌<◌, Bool, List, Contains, Option, length, slice_index, IsTrue}
 use Rattle.std.specs.List.{list_any}
 use Rattle.egt_graph.specs.Graph.{Graph, IsGame, IsNode}
+use Rattle.egt_graph.specs.Near.{AreNears, HasNear, SomeFar}
 use Rattle.egt_graph.specs.Value.{AreRanks, SomeAbove}
 use Rattle.egt_graph.specs.declared.game.Exit.{Exit}
 
@@ -33,4 +34,20 @@ StandInsAreAsDeep = (g h : Graph) (f : ℕ → ℕ) → IsGame g → StandsFor g
 -- the entry of each node of g is that of the node for which it stands
 abbrev pub StandInsShareEntries : Type 0
 StandInsShareEntries = (g h : Graph) (f s : ℕ → ℕ) → IsGame g → IsGame h → StandsFor g h f → (limit : ℕ) (entries kept : List ℕ) → AreKept g h f s entries kept → AreRanks g limit entries →
+    (i : ℕ) → IsNode g i → slice_index entries i ≡ slice_index kept (f i)
+
+-- the nearest mate is as far as from the node for which a node stands
+abbrev pub StandInsAreAsNear : Type 0
+StandInsAreAsNear = (g h : Graph) (f : ℕ → ℕ) → IsGame g → StandsFor g h f → (i : ℕ) → IsNode g i → (x : Option ℕ) → HasNear g i x → HasNear h (f i) x
+
+-- so the kept entries are the numbers of h, a number that no entry can hold in g is one in h, and the entry of each node of g is that of the node for which
+-- it stands
+abbrev pub StandInsTellNears : Type 0
+StandInsTellNears = (g h : Graph) (f s : ℕ → ℕ) → IsGame g → StandsFor g h f → (entries kept : List ℕ) → AreKept g h f s entries kept → AreNears g entries → AreNears h kept
+
+abbrev pub StandInsAreAsFar : Type 0
+StandInsAreAsFar = (g h : Graph) (f : ℕ → ℕ) → IsGame g → StandsFor g h f → SomeFar g → SomeFar h
+
+abbrev pub StandInsShareNears : Type 0
+StandInsShareNears = (g h : Graph) (f s : ℕ → ℕ) → IsGame g → StandsFor g h f → (entries kept : List ℕ) → AreKept g h f s entries kept → AreNears g entries →
     (i : ℕ) → IsNode g i → slice_index entries i ≡ slice_index kept (f i)

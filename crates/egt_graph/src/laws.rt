@@ -1,7 +1,7 @@
 //! Laws over the definitions alone. Each is the contract of a function that does nothing.
 ghost use Rattle.egt_graph.specs.Events.{EventsLeave, EachRoundIsOfItsRank, FinishedRunsAgree};
 ghost use Rattle.egt_graph.specs.Laws.{MorePliesDoNoHarm, EachNodeHasOneValue, AlikeGamesHaveTheSameRanks};
-ghost use Rattle.egt_graph.specs.StandIns.{StandInsAreAsDeep, StandInsShareEntries, StandInsTellRanks};
+ghost use Rattle.egt_graph.specs.StandIns.{StandInsAreAsDeep, StandInsAreAsFar, StandInsAreAsNear, StandInsShareEntries, StandInsShareNears, StandInsTellNears, StandInsTellRanks};
 
 /// A mate within n plies is a mate within more.
 pub fn more_plies_do_no_harm()
@@ -40,4 +40,12 @@ pub fn stand_ins_tell_ranks()
     ensures ranks { StandInsTellRanks }
     ensures deep { StandInsAreAsDeep }
     ensures entries { StandInsShareEntries }
+{}
+
+/// And the nearest mate is as far from each node as from the one for which it stands: the entries of one for each are the numbers of the other game.
+pub fn stand_ins_tell_nears()
+    ensures numbers { StandInsAreAsNear }
+    ensures nears { StandInsTellNears }
+    ensures far { StandInsAreAsFar }
+    ensures entries { StandInsShareNears }
 {}

@@ -250,7 +250,7 @@ fn settle_word<G: Shelved>(game: &G, word: u32, run: &mut WordRun)
 }
 
 /// The checkmates among the asked nodes of the word.
-fn mated_among<G: Shelved>(game: &G, word: u32, asked: u64) -> u64
+pub(crate) fn mated_among<G: Shelved>(game: &G, word: u32, asked: u64) -> u64
     requires { (k : ℕ) → bit_at asked k ≡ 1 → (k < G.span game.now) × IsNode (G.graph game.now) (number_at (G.span game.now) word k) }
     ensures { (k : ℕ) → bit_at result k ≡ 1 ↔ ((bit_at asked k ≡ 1) × IsTrue ((G.graph game.now).mated (number_at (G.span game.now) word k))) }
 {

@@ -1,6 +1,6 @@
 use Rattle.std.proofs.Common.{subst, arith}
 use Rattle.egt_graph.specs.Near.{IsNearing}
-use Rattle.egt_graph.proofs.Nearby.{nears_told, over_at_last, far_found}
+use Rattle.egt_graph.proofs.Nearby.{nears_told, nears_at_last, far_found}
 use Rattle.egt_graph.proofs.near_solver.nearest.Goals as goal
 
 pub returns-then-is_over-clause-ok : goal.returns-then-is_over-clause-ok
@@ -19,6 +19,5 @@ returns-then-any_found-clause-too_deep g c =
 
 pub returns-clause-ok : goal.returns-clause-ok
 returns-clause-ok g c =
-    let none = (rw c.deref.ensures.value at c.if-any_found.ensures) in
-    nears_told (g.G.Game.graph c.args.game.now) (g.met.G.Game.lawful c.args.game.now) 32000 _ c.in_ok-step_back-2.ensures
-    (over_at_last (g.G.Game.graph c.args.game.now) (g.met.G.Game.lawful c.args.game.now) c.step_back-2.new.run c.in_ok-step_back-2.ensures none) (omega arith) c.told-2.result c.told-2.ensures
+    nears_at_last (g.G.Game.graph c.args.game.now) (g.met.G.Game.lawful c.args.game.now) c.step_back-2.new.run c.in_ok-step_back-2.ensures (rw c.deref.ensures.value at c.if-any_found.ensures)
+    c.told-2.result c.told-2.ensures

@@ -1,6 +1,8 @@
 use Rattle.std.proofs.Common.{◌<◌, ◌≤◌, ap, inl, arith}
+use Rattle.egt_graph.specs.Columns.{entry_at}
 use Rattle.egt_graph.specs.Words.{word_in, word_in-within, words_of}
 use Rattle.egt_graph.specs.WordRound.{is_undecided, is_unwon, is_lost_at, is_due, is_ready}
+use Rattle.egt_graph.proofs.Closing.{entry_none}
 use Rattle.egt_graph.proofs.Nodes.{node_from_test}
 use Rattle.egt_graph.proofs.WordSettling.{settled_entries, all_told, listed_all, due_nodes, ready_nodes}
 use Rattle.egt_graph.proofs.WordSweeps.{all_words, undecided_nodes, unwon_nodes, lost_nodes}
@@ -55,7 +57,7 @@ returns g c =
         next_may_win = h.long.next_may_win;
         next_may_lose = h.long.next_may_lose;
       };
-      entries = settled_entries graph span c.loop-word.word run.entries.items some all h.long.entries h.entries_done;
+      entries = settled_entries graph (entry_at graph 0) (entry_none graph 0) span c.loop-word.word run.entries.items some all h.long.entries h.entries_done;
       undecided = all_words graph span (is_undecided graph 0) run.undecided.items some (undecided_nodes graph law 0) h.long.undecided (λ w lt. h.undecided w (omega (arith, lt, all)));
       unwon = h.unwon;
       lost = all_words graph span (is_lost_at graph 0) run.lost.items some (lost_nodes graph 0) h.long.lost (λ w lt. h.lost w (omega (arith, lt, all)));

@@ -1,7 +1,6 @@
 use Rattle.std.proofs.Common.{◌<◌, ◌+◌, refl, arith}
-use Rattle.std.proofs.lemmas.Bool.{both_ways}
 use Rattle.egt_graph.specs.WordRound.{is_found_lost}
-use Rattle.egt_graph.proofs.Finding.{below, below_to, none_found, some_found, swept_same}
+use Rattle.egt_graph.proofs.Finding.{below, below_clear, none_found, some_found, swept_same}
 use Rattle.egt_graph.proofs.word_round.lose_word.Goals as goal
 
 pub returns-then-lost-eq0-clause-swept : goal.returns-then-lost-eq0-clause-swept
@@ -11,7 +10,7 @@ returns-then-lost-eq0-clause-swept g c =
     let is = c.span-span.ensures.is in
     let some : 0 < span = let few = c.span-span.ensures.few in omega (arith, few.0, is) in
     let r = c.args.round in
-    swept_same graph span r (below span (is_found_lost graph r) c.args.word) (below span (is_found_lost graph r) (c.args.word + 1)) _ _ c.args.run.now (λ i. below_to span (is_found_lost graph r) c.args.word (c.args.word + 1) i (omega arith) (λ le lt t. both_ways _ (none_found span c.args.word c.lost_in-lost.result some (is_found_lost graph r) c.lost_in-lost.ensures c.if-lost-eq0.true i (omega (arith, le, lt))) t)) (λ i. refl) c.requires.swept
+    swept_same graph span r (below span (is_found_lost graph r) c.args.word) (below span (is_found_lost graph r) (c.args.word + 1)) _ _ c.args.run.now (below_clear span c.args.word c.lost_in-lost.result some (is_found_lost graph r) c.lost_in-lost.ensures c.if-lost-eq0.true) (λ i. refl) c.requires.swept
 
 pub returns-then-lost-eq0-clause-none : goal.returns-then-lost-eq0-clause-none
 returns-then-lost-eq0-clause-none g c _ i here =

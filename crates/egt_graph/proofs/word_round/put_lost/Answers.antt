@@ -1,11 +1,11 @@
-use Rattle.std.proofs.Common.{◌≡◌, ◌<◌, ◌≤◌, ◌+◌, ◌*◌, ◌&&◌, ℕ, List, suc, not, cond, length, ap, ap₂, sym, subst, ◌∙◌, arith}
+use Rattle.std.proofs.Common.{◌≡◌, ◌<◌, ◌≤◌, ◌+◌, ◌*◌, ◌&&◌, ℕ, List, suc, not, cond, length, ap, ap₂, subst, ◌∙◌, arith}
 use Rattle.std.proofs.lemmas.List.{get_or_default, length-set}
 use Rattle.egt_graph.specs.Columns.{entry_at}
-use Rattle.egt_graph.specs.Words.{IsWordOf, number_at}
+use Rattle.egt_graph.specs.Words.{number_at}
 use Rattle.egt_graph.specs.WordRound.{is_found_lost, is_found_won, is_undecided}
 use Rattle.egt_graph.proofs.WordRounds.{found_lost_parts}
 use Rattle.egt_graph.proofs.WordSweeps.{put_at}
-use Rattle.egt_graph.proofs.Finding.{below, below_here, below_next, below_other, entries_now, entry_of_loss, less_word, marks_put, still, touched_put, word_same}
+use Rattle.egt_graph.proofs.Finding.{below, entries_now, entry_of_loss, found_put, left_put, touched_put}
 use Rattle.egt_graph.proofs.word_round.put_lost.Goals as goal
 
 pub put_entries-requires-clause-within : goal.put_entries-requires-clause-within
@@ -53,15 +53,9 @@ returns g c =
       };
       entries = λ i. put.1 i ∙ ap₂ (λ e n. cond (put_at span word bits i) e n) five (swept.entries i)
           ∙ entry_of_loss span word bits fits.0 (is_found_lost graph r) of (3 + 2 * suc r) 0 (cond (below span (is_found_won graph r) 0 i) (2 + 2 * suc r) (entry_at graph r i)) i;
-      undecided = marks_put span (λ i. (is_undecided graph r i && not (below span (is_found_won graph r) 0 i)) && not (below span f word i)) (λ i. (is_undecided graph r i && not (below span (is_found_won graph r) 0 i)) && not (below span f (word + 1) i))
-          run.undecided.items word _ (let l = long.undecided in omega (arith, l, within)) (λ i ne. ap (λ b. (is_undecided graph r i && not (below span (is_found_won graph r) 0 i)) && not b) (below_other span f word i ne)) swept.undecided
-          (less_word span word fits.1 (λ i. (is_undecided graph r i && not (below span (is_found_won graph r) 0 i)) && not (below span f word i)) f _ c.index_mut.result.now bits (omega arith)
-          (λ i here. ap (λ b. (is_undecided graph r i && not (below span (is_found_won graph r) 0 i)) && not b) (below_next span f word i here) ∙ still (is_undecided graph r i && not (below span (is_found_won graph r) 0 i)) (f i)
-          ∙ sym (ap (λ b. ((is_undecided graph r i && not (below span (is_found_won graph r) 0 i)) && not b) && not (f i)) (below_here span f word i here)))
-          (subst (IsWordOf span word (λ i. (is_undecided graph r i && not (below span (is_found_won graph r) 0 i)) && not (below span f word i))) (sym undecided_is) (swept.undecided word)) of);
+      undecided = left_put span word fits.1 (λ i. is_undecided graph r i && not (below span (is_found_won graph r) 0 i)) f run.undecided.items c.index_mut.result.now bits (let l = long.undecided in omega (arith, l, within)) (omega arith) undecided_is of swept.undecided;
       unwon = swept.unwon;
-      next_lost = marks_put span (below span f word) (below span f (word + 1)) run.next_lost.items word bits (let l = long.next_lost in omega (arith, l, within)) (below_other span f word) swept.next_lost
-          (word_same span word f (below span f (word + 1)) bits (λ i here. sym (below_next span f word i here)) of);
+      next_lost = found_put span word f run.next_lost.items bits (let l = long.next_lost in omega (arith, l, within)) of swept.next_lost;
       lost = swept.lost;
       ready = swept.ready;
       due = swept.due;

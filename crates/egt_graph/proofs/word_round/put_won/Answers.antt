@@ -5,7 +5,7 @@ use Rattle.egt_graph.specs.Words.{IsWordOf, number_at}
 use Rattle.egt_graph.specs.WordRound.{is_found_lost, is_found_won, is_undecided, is_unwon}
 use Rattle.egt_graph.proofs.WordRounds.{found_won_parts}
 use Rattle.egt_graph.proofs.WordSweeps.{put_at}
-use Rattle.egt_graph.proofs.Finding.{apart, below, below_here, below_next, below_other, entries_now, entry_of_win, later, less_word, marks_put, still, touched_put}
+use Rattle.egt_graph.proofs.Finding.{apart, below, below_here, below_next, below_other, entries_now, entry_of_win, later, left_put, less_word, marks_put, touched_put}
 use Rattle.egt_graph.proofs.word_round.put_won.Goals as goal
 
 pub put_entries-requires-clause-within : goal.put_entries-requires-clause-within
@@ -60,12 +60,7 @@ returns g c =
           (λ i here. ap (λ b. (is_undecided graph r i && not b) && not (is_found_lost graph r i)) (below_next span f word i here) ∙ later (is_undecided graph r i) (f i) (is_found_lost graph r i)
           ∙ sym (ap (λ b. ((is_undecided graph r i && not b) && not (is_found_lost graph r i)) && not (f i)) (below_here span f word i here)))
           (subst (IsWordOf span word (λ i. (is_undecided graph r i && not (below span f word i)) && not (is_found_lost graph r i))) (sym undecided_is) (swept.undecided word)) of);
-      unwon = marks_put span (λ i. is_unwon graph r i && not (below span f word i)) (λ i. is_unwon graph r i && not (below span f (word + 1) i))
-          run.unwon.items word _ (let l = long.unwon in omega (arith, l, within)) (λ i ne. ap (λ b. is_unwon graph r i && not b) (below_other span f word i ne)) swept.unwon
-          (less_word span word fits.1 (λ i. is_unwon graph r i && not (below span f word i)) f _ c.index_mut-2.result.now bits (omega arith)
-          (λ i here. ap (λ b. is_unwon graph r i && not b) (below_next span f word i here) ∙ still (is_unwon graph r i) (f i)
-          ∙ sym (ap (λ b. (is_unwon graph r i && not b) && not (f i)) (below_here span f word i here)))
-          (subst (IsWordOf span word (λ i. is_unwon graph r i && not (below span f word i))) (sym unwon_is) (swept.unwon word)) of);
+      unwon = left_put span word fits.1 (is_unwon graph r) f run.unwon.items c.index_mut-2.result.now bits (let l = long.unwon in omega (arith, l, within)) (omega arith) unwon_is of swept.unwon;
       next_lost = swept.next_lost;
       lost = swept.lost;
       ready = swept.ready;

@@ -1,7 +1,6 @@
 use Rattle.std.proofs.Common.{◌<◌, ◌+◌, refl, arith}
-use Rattle.std.proofs.lemmas.Bool.{both_ways}
 use Rattle.egt_graph.specs.WordRound.{is_found_won}
-use Rattle.egt_graph.proofs.Finding.{below, below_to, none_found, some_found, swept_same}
+use Rattle.egt_graph.proofs.Finding.{below, below_clear, none_found, some_found, swept_same}
 use Rattle.egt_graph.proofs.word_round.win_word.Goals as goal
 
 pub returns-then-won-eq0-clause-swept : goal.returns-then-won-eq0-clause-swept
@@ -11,7 +10,7 @@ returns-then-won-eq0-clause-swept g c =
     let is = c.span-span.ensures.is in
     let some : 0 < span = let few = c.span-span.ensures.few in omega (arith, few.0, is) in
     let r = c.args.round in
-    swept_same graph span r _ _ (below span (is_found_won graph r) c.args.word) (below span (is_found_won graph r) (c.args.word + 1)) c.args.run.now (λ i. refl) (λ i. below_to span (is_found_won graph r) c.args.word (c.args.word + 1) i (omega arith) (λ le lt t. both_ways _ (none_found span c.args.word c.won_in-won.result some (is_found_won graph r) c.won_in-won.ensures c.if-won-eq0.true i (omega (arith, le, lt))) t)) c.requires.swept
+    swept_same graph span r _ _ (below span (is_found_won graph r) c.args.word) (below span (is_found_won graph r) (c.args.word + 1)) c.args.run.now (λ i. refl) (below_clear span c.args.word c.won_in-won.result some (is_found_won graph r) c.won_in-won.ensures c.if-won-eq0.true) c.requires.swept
 
 pub returns-then-won-eq0-clause-none : goal.returns-then-won-eq0-clause-none
 returns-then-won-eq0-clause-none g c _ i here =
