@@ -2,6 +2,7 @@
 mod builds;
 mod figures;
 mod games;
+mod nearest;
 mod orders;
 mod refused;
 
@@ -9,9 +10,9 @@ ghost use Rattle.std.specs.Prelude.{IfOk};
 ghost use Rattle.egt_check.specs.Tables.{table_at};
 ghost use Rattle.egt_sweep.specs.MateColumn.{AreMateRanks};
 
-use crate::shelf::named;
 use egt_check::Library;
 use egt_class::Class;
+use egt_fixtures::shelf::named;
 use egt_graph::{Ranks, solve};
 use egt_index::size;
 use egt_sweep::{BuildFault, MateGame, build};

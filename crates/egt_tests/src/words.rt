@@ -2,9 +2,9 @@
 ghost use Rattle.egt_index.specs.ShelfCodes.{IsShelf};
 ghost use Rattle.egt_words.specs.Told.{AreNodes, word_of};
 
-use crate::shelf::named;
 use egt_board::Side;
 use egt_class::Class;
+use egt_fixtures::shelf::named;
 use egt_index::{ShelfMen, last_digits, positions_of, shelf_men, size};
 use egt_words::Told;
 use std::test::Fail;

@@ -1,8 +1,8 @@
 //! Verdicts, lines and holding moves of single positions.
-use crate::shelf::library_below;
 use egt_board::{Position, Side};
 use egt_class::Class;
 use egt_fen::read;
+use egt_fixtures::shelf::library_below;
 use egt_probe::{AnswerFault, HoldFault, LineFault, Outcome, hold, line, verdict};
 use std::test::*;
 

@@ -1,8 +1,8 @@
 //! A growth that is refused is answered so, and the next call answers as ever. The growths are refused one by one by
 //! `rt try --test --fail-alloc N`, from 1 until a run meets none.
-use crate::shelf::library_below;
 use egt_check::Library;
 use egt_fen::read;
+use egt_fixtures::shelf::library_below;
 use egt_moves::Move;
 use egt_probe::{AnswerFault, LineFault, answer, line};
 use egt_table::{MemorySink, MemorySource};

@@ -1,7 +1,7 @@
 //! Tables that are built pass the check and are admitted. The numbers of plies are those of the literature.
 use super::{built, built_over, longest_win};
-use crate::shelf::{entry_of, file_of, named};
 use egt_check::{Library, Reject, check};
+use egt_fixtures::shelf::{entry_of, file_of, named};
 use egt_sweep::{BuildFault, build};
 use egt_table::{Column, Table};
 use std::alloc::Global;

@@ -1,7 +1,7 @@
 //! Tables that are built, beside public figures and beside tables of sweeps forward.
 use super::{built, longest_win};
-use crate::shelf::{file_of, library_of, named};
 use egt_class::Class;
+use egt_fixtures::shelf::{file_of, library_of, named};
 use egt_index::size;
 use egt_plain::{PlainTables, table_of};
 use egt_sweep::build;

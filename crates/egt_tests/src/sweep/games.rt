@@ -4,9 +4,9 @@ ghost use Rattle.egt_check.specs.Tables.{table_at};
 ghost use Rattle.egt_sweep.specs.MateColumn.{AreMateRanks};
 
 use super::{built, mates};
-use crate::shelf::named;
 use egt_check::Library;
 use egt_class::Class;
+use egt_fixtures::shelf::named;
 use egt_graph::{Ranks, SolveFault, solve};
 use egt_sweep::{MateGame, Missing, ZeroGame};
 use std::alloc::Global;

@@ -3,10 +3,12 @@ ghost use Rattle.egt_check.specs.Tables.{table_at};
 ghost use Rattle.egt_sweep.specs.MateColumn.{AreMateRanks};
 
 use super::{built, mates};
-use crate::events::{expand, played, post_all, post_block, with_draws, with_held, with_losses};
-use crate::shelf::{file_of, named};
 use egt_check::Library;
 use egt_class::Class;
+use egt_fixtures::runs::{
+    expand, played, post_all, post_block, with_draws, with_held, with_losses,
+};
+use egt_fixtures::shelf::{file_of, named};
 use egt_graph::{Close, Post, Ranks, Rounds, solve};
 use egt_sweep::{MateGame, ZeroGame};
 use egt_table::Table;

@@ -2,9 +2,9 @@
 //! `rt try --test --fail-alloc N`, from 1 until a run meets none.
 ghost use Rattle.std.specs.Prelude.{◌≤◌};
 
-use crate::shelf::{entry_of, named};
 use egt_check::Library;
 use egt_class::Class;
+use egt_fixtures::shelf::{entry_of, named};
 use egt_sweep::{BuildFault, build};
 use egt_table::{Column, NoMemory, Table};
 use std::alloc::Global;
