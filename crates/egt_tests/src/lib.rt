@@ -1,11 +1,5 @@
-//! Tests over the public calls of what stands on the checker: the builder, reports and the program. It holds nothing else, as `egt_rules_tests`.
+//! Tests of what the program prints, over the public calls of egt_tool. It holds nothing else, as `egt_rules_tests`.
 #![tactic(auto)]
 
 #[cfg(test)]
-mod probe;
-#[cfg(test)]
-mod sweep;
-#[cfg(test)]
 mod tool;
-#[cfg(test)]
-mod words;

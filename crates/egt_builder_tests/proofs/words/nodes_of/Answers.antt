@@ -3,7 +3,7 @@ use Rattle.egt_board.specs.declared.man.Side.{Side}
 use Rattle.egt_index.proofs.ShelfCodes.{last_told}
 use Rattle.egt_words.specs.Told.{AreNodes, word_of}
 use Rattle.egt_words.proofs.Nodes.{black_nodes, white_nodes}
-use Rattle.egt_tests.proofs.words.nodes_of.Goals as goal
+use Rattle.egt_builder_tests.proofs.words.nodes_of.Goals as goal
 
 pub positions_of-found-requires : goal.positions_of-found-requires
 positions_of-found-requires c = record { last = (c.args._men.now.last, last_told c.args.class c.args._men.now c.requires.men_of) }
