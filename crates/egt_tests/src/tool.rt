@@ -33,29 +33,61 @@ impl Ran {
 }
 
 /// Runs the program on the words behind its name, with this on the standard input.
-fn run_on(rt: &HostRuntime, words: &[&str], input: &[u8]) -> Result<Ran, Fail> {
-    let mut all = vec![in rt.alloc(); "egtb"]?;
-    all.extend_from_slice(words)?;
-    let mut out = MemorySink::new(rt.alloc(), ROOM)?;
-    let mut err = MemorySink::new(rt.alloc(), ROOM)?;
+fn run_on(rt: &HostRuntime, words: &[&str], input: &[u8]) -> Option<Ran> {
+    let mut all = vec![in rt.alloc(); "egtb"].ok()?;
+    all.extend_from_slice(words).ok()?;
+    let mut out = MemorySink::new(rt.alloc(), ROOM).ok()?;
+    let mut err = MemorySink::new(rt.alloc(), ROOM).ok()?;
     let status = run(rt, &all, &mut MemorySource::new(input), &mut out, &mut err);
-    Ok(Ran { status, out, err })
+    Some(Ran { status, out, err })
 }
 
-/// The same with nothing on the standard input.
-fn run_words(rt: &HostRuntime, words: &[&str]) -> Result<Ran, Fail> {
-    run_on(rt, words, b"")
+/// Whether the program ends with this status and prints these texts, with nothing on the standard input.
+fn prints(rt: &HostRuntime, words: &[&str], status: u8, out: &str, err: &str) -> Option<bool> {
+    Some(run_on(rt, words, b"")?.is(status, out, err))
+}
+
+/// Whether the words are wrong: status 2, a usage on the standard error and nothing else.
+fn is_wrong(rt: &HostRuntime, words: &[&str]) -> Option<bool> {
+    let ran = run_on(rt, words, b"")?;
+    Some(ran.status == 2 && ran.out.bytes().is_empty() && !ran.err.bytes().is_empty())
+}
+
+/// A run over a folder: the words behind the program's name, where `DIR` stands for the folder, the line on the standard input, the status, and what is
+/// printed to the standard output and to the standard error.
+type Step = (&'static str, &'static str, u8, &'static str, &'static str);
+
+/// Whether the run is as it says.
+fn goes(rt: &HostRuntime, folder: &str, step: Step) -> Option<bool> {
+    let (line, input, status, out, err) = step;
+    let mut words = Vec::new(rt.alloc());
+    for word in line.split(' ') {
+        words.push(if word == "DIR" { folder } else { word }).ok()?;
+    }
+    Some(run_on(rt, &words, input.as_bytes())?.is(status, out, err))
 }
 
 /// Runs the program where the k-th push to the standard output and the j-th to the standard error fail, each counted from
 /// 1, none for 0; gives the status and what came to the standard error.
-fn run_failing(rt: &HostRuntime, words: &[&str], k: u64, j: u64) -> Result<(u8, MemorySink), Fail> {
-    let mut all = vec![in rt.alloc(); "egtb"]?;
-    all.extend_from_slice(words)?;
-    let mut out = FailingSink::new(MemorySink::new(rt.alloc(), ROOM)?, k);
-    let mut err = FailingSink::new(MemorySink::new(rt.alloc(), ROOM)?, j);
+fn run_failing(rt: &HostRuntime, words: &[&str], k: u64, j: u64) -> Option<(u8, MemorySink)> {
+    let mut all = vec![in rt.alloc(); "egtb"].ok()?;
+    all.extend_from_slice(words).ok()?;
+    let mut out = FailingSink::new(MemorySink::new(rt.alloc(), ROOM).ok()?, k);
+    let mut err = FailingSink::new(MemorySink::new(rt.alloc(), ROOM).ok()?, j);
     let status = run(rt, &all, &mut MemorySource::new(b""), &mut out, &mut err);
-    Ok((status, err.into_inner()))
+    Some((status, err.into_inner()))
+}
+
+/// Whether a run with such failing pushes has this status and prints this to the standard error.
+fn fails(
+    rt: &HostRuntime,
+    words: &[&str],
+    pushes: (u64, u64),
+    status: u8,
+    line: &str,
+) -> Option<bool> {
+    let (found, err) = run_failing(rt, words, pushes.0, pushes.1)?;
+    Some(found == status && err.bytes() == line.as_bytes())
 }
 
 /// Whether the text has these words, one a line.

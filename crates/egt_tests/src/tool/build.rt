@@ -1,31 +1,27 @@
 //! Tables built into files, and positions looked up in them.
-use super::{Ran, folder, run_on, run_words};
+use super::{Step, folder, goes, is_wrong, run_on};
 use std::test::Fail;
 use std::{fs, str};
 
-/// Builds a class, whose line is that.
-fn builds(rt: &HostRuntime, folder: &str, class: &str, line: &str) -> Result<bool, Fail> {
-    Ok(run_words(rt, &["build", folder, class])?.is(0, line, ""))
-}
-
 /// Whether the folder has the file.
-fn has_file(rt: &HostRuntime, folder: &str, file: &str) -> Result<bool, Fail> {
-    let path = format!(in rt.alloc(); "{folder}/{file}")?;
-    Ok(fs::read(rt, path.as_str()).is_ok())
+fn has_file(rt: &HostRuntime, folder: &str, file: &str) -> Option<bool> {
+    let path = format!(in rt.alloc(); "{folder}/{file}").ok()?;
+    Some(fs::read(rt, path.as_str()).is_ok())
 }
 
 #[test]
 fn an_empty_folder(rt: HostRuntime) -> Result<(), Fail> {
     let folder = folder(&rt, "empty")?;
-    let refused = run_words(&rt, &["build", &folder, "KPK"])?;
-    assert!(rt; refused.is(1, "", "error build 3 Missing KK\n"));
-    assert!(rt; !has_file(&rt, &folder, "KPK.egt")?);
-    let unknown = run_words(&rt, &["build", &folder, "KKQ"])?;
-    assert!(rt; unknown.is(2, "", "error class\n"));
-    let above = run_words(&rt, &["build", &folder, "KK", "--limit", "32001"])?;
-    assert_eq!(rt; above.status, 2);
-    assert_eq!(rt; above.out.bytes().len(), 0);
-    assert!(rt; !has_file(&rt, &folder, "KK.egt")?);
+    for step in [
+        ("build DIR KPK", "", 1, "", "error build 3 Missing KK\n"),
+        ("build DIR KKQ", "", 2, "", "error class\n"),
+    ] {
+        assert!(rt; goes(&rt, &folder, step) == Some(true), "{}", step.0);
+    }
+    assert!(rt; is_wrong(&rt, &["build", &folder, "KK", "--limit", "32001"]) == Some(true));
+    for file in ["KPK.egt", "KK.egt"] {
+        assert!(rt; has_file(&rt, &folder, file) == Some(false), "{file}");
+    }
     fs::remove_dir_all(&rt, folder.as_str())?;
     Ok(())
 }
@@ -34,61 +30,125 @@ fn an_empty_folder(rt: HostRuntime) -> Result<(), Fail> {
 fn a_folder_that_is_not_there(rt: HostRuntime) -> Result<(), Fail> {
     let folder = folder(&rt, "gone")?;
     fs::remove_dir_all(&rt, folder.as_str())?;
-    assert!(rt; run_words(&rt, &["build", &folder, "KK"])?.is(3, "", "error device\n"));
-    assert!(rt;
-        run_words(&rt, &["probe", &folder, "KK"])?.is(1, "", "error check 11 Missing KK\n")
-    );
+    for step in [
+        ("build DIR KK", "", 3, "", "error device\n"),
+        ("probe DIR KK", "", 1, "", "error check 11 Missing KK\n"),
+    ] {
+        assert!(rt; goes(&rt, &folder, step) == Some(true), "{}", step.0);
+    }
     Ok(())
 }
 
 /// Whether the statistics of the class have this part.
-fn counts(rt: &HostRuntime, folder: &str, class: &str, part: &str) -> Result<bool, Fail> {
-    let ran = run_words(rt, &["stats", folder, class])?;
-    match str::from_utf8(ran.out.bytes()) {
-        Ok(text) => Ok(text.contains(part)),
-        Err(_) => Ok(false),
-    }
+fn counts(rt: &HostRuntime, folder: &str, class: &str, part: &str) -> Option<bool> {
+    let ran = run_on(rt, &["stats", folder, class], b"")?;
+    Some(str::from_utf8(ran.out.bytes()).ok()?.contains(part))
 }
 
-/// Whether this is the report of the line, with the tables of KPK and of all classes below.
-fn reports(rt: &HostRuntime, folder: &str, line: &str, report: &str) -> Result<bool, Fail> {
-    Ok(run_on(rt, &["probe", folder, "KPK"], line.as_bytes())?.is(0, report, ""))
-}
-
-/// The line of FEN for each class below, and what is reported of it.
-const REPORTS: [(&str, &str); 9] = [
+/// What builds the classes up to KPK, the first two of them by a limit.
+const BUILT: [Step; 7] = [
+    ("build DIR KK", "", 0, "built KK entries 1280\n", ""),
     (
-        "k7/1Q6/1K6/8/8/8/8/8 b - - 0 1\n",
-        "KQK white mates in 0 plies zeroing 0 line -\n",
+        "build DIR KQK --limit 18",
+        "",
+        1,
+        "",
+        "error build 2 TooDeep 18\n",
     ),
     (
-        "k7/8/1K6/8/8/8/8/3Q4 w - - 0 1\n",
-        "KQK white mates in 1 plies zeroing 1 line d1d8\n",
+        "build DIR KQK --limit 20",
+        "",
+        0,
+        "built KQK entries 81920\n",
+        "",
     ),
-    (
-        "k7/8/1K6/8/8/8/8/3Q4 b - - 0 1\n",
-        "KQK white mates in 2 plies zeroing 2 line a8b8 d1d8\n",
-    ),
-    (
-        "3q4/8/8/8/8/1k6/8/K7 b - - 0 1\n",
-        "KQK black mates in 1 plies zeroing 1 line d8d1\n",
-    ),
-    (
-        "8/5KPk/8/8/8/8/8/8 w - - 0 1\n",
-        "KPK white mates in 3 plies zeroing 1 line g7g8q h7h6 g8g6\n",
-    ),
-    ("k7/2Q5/8/8/8/8/8/4K3 b - - 0 1\n", "KQK draw hold -\n"),
-    ("8/8/8/8/8/8/1kQ5/7K b - - 0 1\n", "KQK draw hold b2c2\n"),
-    ("8/8/8/4k3/8/4K3/8/8 w - - 0 1\n", "KK draw hold e3d2\n"),
-    ("8/8/8/3k4/8/3N4/3K4/8 w - - 0 1\n", "KNK draw hold d2c1\n"),
+    ("build DIR KRK", "", 0, "built KRK entries 81920\n", ""),
+    ("build DIR KBK", "", 0, "built KBK entries 81920\n", ""),
+    ("build DIR KNK", "", 0, "built KNK entries 81920\n", ""),
+    ("build DIR KPK", "", 0, "built KPK entries 196608\n", ""),
 ];
 
-/// The classes below KPK, and KPK, with what is printed of each that is built.
-const BUILT: [(&str, &str); 4] = [
-    ("KRK", "built KRK entries 81920\n"),
-    ("KBK", "built KBK entries 81920\n"),
-    ("KNK", "built KNK entries 81920\n"),
-    ("KPK", "built KPK entries 196608\n"),
+/// A line of FEN, and what is reported of it.
+const REPORTS: [Step; 13] = [
+    (
+        "probe DIR KPK",
+        "k7/1Q6/1K6/8/8/8/8/8 b - - 0 1\n",
+        0,
+        "KQK white mates in 0 plies zeroing 0 line -\n",
+        "",
+    ),
+    (
+        "probe DIR KPK",
+        "k7/8/1K6/8/8/8/8/3Q4 w - - 0 1\n",
+        0,
+        "KQK white mates in 1 plies zeroing 1 line d1d8\n",
+        "",
+    ),
+    (
+        "probe DIR KPK",
+        "k7/8/1K6/8/8/8/8/3Q4 b - - 0 1\n",
+        0,
+        "KQK white mates in 2 plies zeroing 2 line a8b8 d1d8\n",
+        "",
+    ),
+    (
+        "probe DIR KPK",
+        "3q4/8/8/8/8/1k6/8/K7 b - - 0 1\n",
+        0,
+        "KQK black mates in 1 plies zeroing 1 line d8d1\n",
+        "",
+    ),
+    (
+        "probe DIR KPK",
+        "8/5KPk/8/8/8/8/8/8 w - - 0 1\n",
+        0,
+        "KPK white mates in 3 plies zeroing 1 line g7g8q h7h6 g8g6\n",
+        "",
+    ),
+    (
+        "probe DIR KPK",
+        "k7/2Q5/8/8/8/8/8/4K3 b - - 0 1\n",
+        0,
+        "KQK draw hold -\n",
+        "",
+    ),
+    (
+        "probe DIR KPK",
+        "8/8/8/8/8/8/1kQ5/7K b - - 0 1\n",
+        0,
+        "KQK draw hold b2c2\n",
+        "",
+    ),
+    (
+        "probe DIR KPK",
+        "8/8/8/4k3/8/4K3/8/8 w - - 0 1\n",
+        0,
+        "KK draw hold e3d2\n",
+        "",
+    ),
+    (
+        "probe DIR KPK",
+        "8/8/8/3k4/8/3N4/3K4/8 w - - 0 1\n",
+        0,
+        "KNK draw hold d2c1\n",
+        "",
+    ),
+    (
+        "probe DIR KK",
+        "k7/8/1K6/8/8/8/8/3Q4 w - - 0 1\n",
+        0,
+        "error probe 11 Missing KQK\n",
+        "",
+    ),
+    (
+        "probe DIR KK",
+        "x\r\n\n",
+        0,
+        "error fen 1 FieldCount\nerror fen 1 FieldCount\n",
+        "",
+    ),
+    ("probe DIR KK", "", 0, "", ""),
+    ("check DIR KPK", "", 0, "ok KPK\n", ""),
 ];
 
 /// A queen mates in at most 10 moves, a rook in at most 16.
@@ -97,16 +157,20 @@ const LONGEST_WINS: [(&str, &str); 2] = [
     ("KRK", "\nlongest win 31\n"),
 ];
 
-/// What is printed of a line that is too long, of one that is not, and of one that is answered.
-fn long_lines(rt: &HostRuntime, folder: &str) -> Result<Ran, Fail> {
-    let mut input = vec![in rt.alloc(); b'x'; 1025]?;
-    input.push(b'\n')?;
+/// Whether a line that is too long, one that is not, and one that is answered are reported so.
+fn tells_long_lines(rt: &HostRuntime, folder: &str, reports: &str) -> Option<bool> {
+    let mut input = vec![in rt.alloc(); b'x'; 1025].ok()?;
+    input.push(b'\n').ok()?;
     for _ in 0..1024 {
-        input.push(b'x')?;
+        input.push(b'x').ok()?;
     }
-    input.extend_from_slice(b"\n8/8/8/4k3/8/4K3/8/8 w - - 0 1\n")?;
-    run_on(rt, &["probe", folder, "KK"], &input)
+    input
+        .extend_from_slice(b"\n8/8/8/4k3/8/4K3/8/8 w - - 0 1\n")
+        .ok()?;
+    Some(run_on(rt, &["probe", folder, "KK"], &input)?.is(0, reports, ""))
 }
+
+const LONG_REPORTS: &str = "error probe 14 LongLine\nerror fen 1 FieldCount\nKK draw hold e3d2\n";
 
 /// A pawn that has just advanced by two squares, where none can take it: with the target, and without.
 const PASSED: [&str; 2] = [
@@ -115,11 +179,11 @@ const PASSED: [&str; 2] = [
 ];
 
 /// Whether both are reported alike.
-fn are_alike(rt: &HostRuntime, folder: &str) -> Result<bool, Fail> {
+fn are_alike(rt: &HostRuntime, folder: &str) -> Option<bool> {
     let words = ["probe", folder, "KPK"];
     let with = run_on(rt, &words, PASSED[0].as_bytes())?;
     let without = run_on(rt, &words, PASSED[1].as_bytes())?;
-    Ok(
+    Some(
         with.status == 0
             && with.out.bytes().starts_with(b"KPK ")
             && with.out.bytes() == without.out.bytes(),
@@ -129,35 +193,19 @@ fn are_alike(rt: &HostRuntime, folder: &str) -> Result<bool, Fail> {
 #[test]
 fn from_an_empty_folder_to_a_report(rt: HostRuntime) -> Result<(), Fail> {
     let folder = folder(&rt, "built")?;
-    assert!(rt; builds(&rt, &folder, "KK", "built KK entries 1280\n")?);
-    let deep = run_words(&rt, &["build", &folder, "KQK", "--limit", "18"])?;
-    assert!(rt; deep.is(1, "", "error build 2 TooDeep 18\n"));
-    assert!(rt; !has_file(&rt, &folder, "KQK.egt")?);
-    let shallow = run_words(&rt, &["build", &folder, "KQK", "--limit", "20"])?;
-    assert!(rt; shallow.is(0, "built KQK entries 81920\n", ""));
-    for (class, line) in BUILT {
-        assert!(rt; builds(&rt, &folder, class, line)?);
+    for step in BUILT {
+        assert!(rt; goes(&rt, &folder, step) == Some(true), "{}", step.0);
+        let none = step.2 == 0 || has_file(&rt, &folder, "KQK.egt") == Some(false);
+        assert!(rt; none, "{}", step.0);
     }
     for (class, line) in LONGEST_WINS {
-        assert!(rt; counts(&rt, &folder, class, line)?);
+        assert!(rt; counts(&rt, &folder, class, line) == Some(true), "{class}");
     }
-    for (fen, report) in REPORTS {
-        assert!(rt; reports(&rt, &folder, fen, report)?);
+    for step in REPORTS {
+        assert!(rt; goes(&rt, &folder, step) == Some(true), "{}", step.1);
     }
-    assert!(rt; are_alike(&rt, &folder)?);
-    let long = long_lines(&rt, &folder)?;
-    assert!(rt;
-        long.is(
-            0,
-            "error probe 14 LongLine\nerror fen 1 FieldCount\nKK draw hold e3d2\n",
-            ""
-        )
-    );
-    let missing = run_on(&rt, &["probe", &folder, "KK"], REPORTS[1].0.as_bytes())?;
-    assert!(rt; missing.is(0, "error probe 11 Missing KQK\n", ""));
-    let both = run_on(&rt, &["probe", &folder, "KK"], b"x\r\n\n")?;
-    assert!(rt; both.is(0, "error fen 1 FieldCount\nerror fen 1 FieldCount\n", ""));
-    assert!(rt; run_words(&rt, &["probe", &folder, "KK"])?.is(0, "", ""));
+    assert!(rt; are_alike(&rt, &folder) == Some(true));
+    assert!(rt; tells_long_lines(&rt, &folder, LONG_REPORTS) == Some(true));
     fs::remove_dir_all(&rt, folder.as_str())?;
     Ok(())
 }

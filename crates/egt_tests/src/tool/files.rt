@@ -1,7 +1,7 @@
 //! Checks and statistics of tables in files.
-use super::{folder, run_failing, run_words};
-use crate::kings::kings_file;
-use crate::shelf::file_of;
+use super::{fails, folder, is_wrong, prints, run_on};
+use egt_fixtures::kings::kings_file;
+use egt_fixtures::shelf::file_of;
 use egt_plain::{PlainTables, table_of};
 use std::alloc::Global;
 use std::fs;
@@ -14,11 +14,6 @@ fn put(rt: &HostRuntime, folder: &str, file: &str, bytes: &[u8]) -> Result<(), F
     Ok(())
 }
 
-/// The file of a class's table, by number.
-fn file(alloc: Global, tables: &PlainTables, class: u8) -> Result<Vec<u8>, Fail> {
-    file_of(alloc, &table_of(alloc, tables, class)?)
-}
-
 /// The bytes with another at one place.
 fn changed(alloc: Global, bytes: &[u8], place: usize, byte: u8) -> Result<Vec<u8>, Fail> {
     let mut changed = Vec::new(alloc);
@@ -29,39 +24,39 @@ fn changed(alloc: Global, bytes: &[u8], place: usize, byte: u8) -> Result<Vec<u8
     Ok(changed)
 }
 
+/// The first bytes of the file of two kings.
+const HEADER: [u8; 26] = [
+    0x45, 0x47, 0x54, 0x42, 1, 0, 1, 0, 0, 0, 2, 0, 0, 5, 0, 0, 0, 0, 0, 0, 0, 0, 0, 0, 1, 0,
+];
+
+const STATISTICS: &str =
+    "class KK\nentries 1280\nvoid 818\ndraws 462\nwins 0\nlosses 0\nlongest win -\nlongest loss -\n";
+
+/// Whether the command prints this of the folder's file of two kings, and tells a device that fails.
+fn shows_kings(rt: &HostRuntime, folder: &str, command: &str, out: &str) -> Option<bool> {
+    let words = [command, folder, "KK"];
+    let shown = prints(rt, &words, 0, out, "")?;
+    Some(shown && fails(rt, &words, (1, 0), 3, "error device\n")?)
+}
+
 #[test]
 fn the_file_of_two_kings(rt: HostRuntime) -> Result<(), Fail> {
+    let folder = folder(&rt, "kings")?;
     let file = kings_file(rt.alloc())?;
     assert_eq!(rt; file.len(), 5136);
-    let header = [
-        0x45, 0x47, 0x54, 0x42, 1, 0, 1, 0, 0, 0, 2, 0, 0, 5, 0, 0, 0, 0, 0, 0, 0, 0, 0, 0, 1, 0,
-    ];
-    assert!(rt; file.as_slice().starts_with(&header));
-    let folder = folder(&rt, "kings")?;
+    assert!(rt; file.as_slice().starts_with(&HEADER));
     put(&rt, &folder, "KK.egt", &file)?;
-    assert!(rt; run_words(&rt, &["check", &folder, "KK"])?.is(0, "ok KK\n", ""));
-    let lines =
-        "class KK\nentries 1280\nvoid 818\ndraws 462\nwins 0\nlosses 0\nlongest win -\nlongest loss -\n";
-    assert!(rt; run_words(&rt, &["stats", &folder, "KK"])?.is(0, lines, ""));
-    for words in [["check", &folder, "KK"], ["stats", &folder, "KK"]] {
-        let (status, err) = run_failing(&rt, &words, 1, 0)?;
-        assert!(rt; status == 3 && err.bytes() == b"error device\n".as_slice());
-    }
+    assert!(rt; shows_kings(&rt, &folder, "check", "ok KK\n") == Some(true));
+    assert!(rt; shows_kings(&rt, &folder, "stats", STATISTICS) == Some(true));
     fs::remove_dir_all(&rt, folder.as_str())?;
     Ok(())
 }
 
 /// Whether `check` and `stats` of a class both end with this status and print this line alone, to the standard error.
-fn both_print(
-    rt: &HostRuntime,
-    folder: &str,
-    class: &str,
-    status: u8,
-    line: &str,
-) -> Result<bool, Fail> {
-    let check = run_words(rt, &["check", folder, class])?;
-    let stats = run_words(rt, &["stats", folder, class])?;
-    Ok(check.is(status, "", line) && stats.is(status, "", line))
+fn both_print(rt: &HostRuntime, folder: &str, class: &str, status: u8, line: &str) -> Option<bool> {
+    let check = prints(rt, &["check", folder, class], status, "", line)?;
+    let stats = prints(rt, &["stats", folder, class], status, "", line)?;
+    Some(check && stats)
 }
 
 /// A byte of the file of two kings, another byte in its place, and the line that is printed then.
@@ -91,47 +86,86 @@ const CHANGES: [(usize, u8, &str); 23] = [
     (2584, 2, "error KK check 12 Rejected zeroing 4 range\n"),
 ];
 
+/// Whether both print this line of the folder's file of two kings where that has these bytes.
+fn is_damaged(rt: &HostRuntime, folder: &str, bytes: &[u8], line: &str) -> Result<bool, Fail> {
+    put(rt, folder, "KK.egt", bytes)?;
+    Ok(both_print(rt, folder, "KK", 1, line) == Some(true))
+}
+
 #[test]
 fn damaged_files(rt: HostRuntime) -> Result<(), Fail> {
-    let file = kings_file(rt.alloc())?;
     let folder = folder(&rt, "damaged")?;
+    let file = kings_file(rt.alloc())?;
     for (place, byte, line) in CHANGES {
-        put(
-            &rt,
-            &folder,
-            "KK.egt",
-            &changed(rt.alloc(), &file, place, byte)?,
-        )?;
-        assert!(rt; both_print(&rt, &folder, "KK", 1, line)?, "{line}");
+        let bytes = changed(rt.alloc(), &file, place, byte)?;
+        assert!(rt; is_damaged(&rt, &folder, &bytes, line)?, "{line}");
     }
-    let Some((_, shorter)) = file.as_slice().split_last() else {
-        return Err(Fail::new("an empty file"));
-    };
-    put(&rt, &folder, "KK.egt", shorter)?;
-    assert!(rt; both_print(&rt, &folder, "KK", 1, "error KK file 2 Short\n")?);
-    let mut longer = changed(rt.alloc(), &file, 0, b'E')?;
-    longer.push(0)?;
-    put(&rt, &folder, "KK.egt", &longer)?;
-    assert!(rt; both_print(&rt, &folder, "KK", 1, "error KK file 9 Trailing\n")?);
-    // The first fault ends the run, so the class that is not there is not named.
-    assert!(rt; both_print(&rt, &folder, "KQK", 1, "error KK file 9 Trailing\n")?);
     fs::remove_dir_all(&rt, folder.as_str())?;
     Ok(())
 }
 
 #[test]
+fn files_of_another_length(rt: HostRuntime) -> Result<(), Fail> {
+    let folder = folder(&rt, "lengths")?;
+    let mut file = kings_file(rt.alloc())?;
+    file.push(0)?;
+    assert!(rt; is_damaged(&rt, &folder, &file, "error KK file 9 Trailing\n")?);
+    // The first fault ends the run, so the class that is not there is not named.
+    let kings = both_print(&rt, &folder, "KQK", 1, "error KK file 9 Trailing\n");
+    assert!(rt; kings == Some(true));
+    file.truncate(5135);
+    assert!(rt; is_damaged(&rt, &folder, &file, "error KK file 2 Short\n")?);
+    fs::remove_dir_all(&rt, folder.as_str())?;
+    Ok(())
+}
+
+/// Classes, and the least of those that they rest on of which the folder has no file: where it has none, and where it has that of two kings.
+const MISSING: [(&str, &str); 3] = [
+    ("KK", "error check 11 Missing KK\n"),
+    ("KPKP", "error check 11 Missing KK\n"),
+    ("KRK", "error check 11 Missing KK\n"),
+];
+
+const MISSING_BESIDE_KINGS: [(&str, &str); 3] = [
+    ("KRK", "error check 11 Missing KRK\n"),
+    ("KPK", "error check 11 Missing KQK\n"),
+    ("KRKN", "error check 11 Missing KRK\n"),
+];
+
+#[test]
 fn files_that_are_not_there(rt: HostRuntime) -> Result<(), Fail> {
     let folder = folder(&rt, "missing")?;
-    assert!(rt; both_print(&rt, &folder, "KK", 1, "error check 11 Missing KK\n")?);
-    assert!(rt; both_print(&rt, &folder, "KPKP", 1, "error check 11 Missing KK\n")?);
+    for (class, line) in MISSING {
+        assert!(rt;
+            both_print(&rt, &folder, class, 1, line) == Some(true),
+            "{class}"
+        );
+    }
     put(&rt, &folder, "KK.egt", &kings_file(rt.alloc())?)?;
-    assert!(rt; both_print(&rt, &folder, "KRK", 1, "error check 11 Missing KRK\n")?);
-    assert!(rt; both_print(&rt, &folder, "KPK", 1, "error check 11 Missing KQK\n")?);
-    assert!(rt; both_print(&rt, &folder, "KRKN", 1, "error check 11 Missing KRK\n")?);
-    let nowhere = format!(in rt.alloc(); "{folder}/nowhere")?;
-    assert!(rt; both_print(&rt, &nowhere, "KK", 1, "error check 11 Missing KK\n")?);
-    let no_folder = format!(in rt.alloc(); "{folder}/KK.egt")?;
-    assert!(rt; both_print(&rt, &no_folder, "KK", 1, "error check 11 Missing KK\n")?);
+    for (class, line) in MISSING_BESIDE_KINGS {
+        assert!(rt;
+            both_print(&rt, &folder, class, 1, line) == Some(true),
+            "{class}"
+        );
+    }
+    fs::remove_dir_all(&rt, folder.as_str())?;
+    Ok(())
+}
+
+/// Whether both miss the file of two kings in what of the folder has this name.
+fn is_missing_in(rt: &HostRuntime, folder: &str, name: &str) -> Option<bool> {
+    let inside = format!(in rt.alloc(); "{folder}/{name}").ok()?;
+    both_print(rt, &inside, "KK", 1, "error check 11 Missing KK\n")
+}
+
+// A folder that is not there, and a file in its place.
+#[test]
+fn folders_that_are_not_there(rt: HostRuntime) -> Result<(), Fail> {
+    let folder = folder(&rt, "nowhere")?;
+    put(&rt, &folder, "KK.egt", &kings_file(rt.alloc())?)?;
+    for name in ["nowhere", "KK.egt"] {
+        assert!(rt; is_missing_in(&rt, &folder, name) == Some(true), "{name}");
+    }
     fs::remove_dir_all(&rt, folder.as_str())?;
     Ok(())
 }
@@ -141,18 +175,16 @@ fn a_folder_in_the_place_of_a_file(rt: HostRuntime) -> Result<(), Fail> {
     let folder = folder(&rt, "inside")?;
     let inside = format!(in rt.alloc(); "{folder}/KK.egt")?;
     fs::create_dir(&rt, inside.as_str())?;
-    assert!(rt; both_print(&rt, &folder, "KK", 3, "error device\n")?);
+    assert!(rt; both_print(&rt, &folder, "KK", 3, "error device\n") == Some(true));
     fs::remove_dir_all(&rt, folder.as_str())?;
     Ok(())
 }
 
 #[test]
-fn words_that_name_no_class(rt: HostRuntime) -> Result<(), Fail> {
+fn words_that_name_no_class(rt: HostRuntime) {
     for class in ["K", "kk", "KKQ", "KPKPK", "", "KQK "] {
-        assert!(rt;
-            both_print(&rt, "nowhere", class, 2, "error class\n")?,
-            "{class}"
-        );
+        let both = both_print(&rt, "nowhere", class, 2, "error class\n");
+        assert!(rt; both == Some(true), "{class}");
     }
     let wrong: [&[&str]; 3] = [
         &["check", "nowhere"],
@@ -160,10 +192,8 @@ fn words_that_name_no_class(rt: HostRuntime) -> Result<(), Fail> {
         &["check", ".", "KK", "KK"],
     ];
     for words in wrong {
-        let ran = run_words(&rt, words)?;
-        assert!(rt; ran.status == 2 && ran.out.bytes().is_empty() && !ran.err.bytes().is_empty());
+        assert!(rt; is_wrong(&rt, words) == Some(true));
     }
-    Ok(())
 }
 
 /// Whether a line of the text is this one.
@@ -172,10 +202,26 @@ fn has_line(text: &[u8], line: &[u8]) -> bool {
 }
 
 /// Whether the statistics of a class have these lines.
-fn tells(rt: &HostRuntime, folder: &str, class: &str, lines: &[&[u8]]) -> Result<bool, Fail> {
-    let ran = run_words(rt, &["stats", folder, class])?;
+fn tells(rt: &HostRuntime, folder: &str, class: &str, lines: &[&[u8]]) -> Option<bool> {
+    let ran = run_on(rt, &["stats", folder, class], b"")?;
     let all = lines.iter().all(|line| has_line(ran.out.bytes(), line));
-    Ok(all && ran.status == 0 && ran.err.bytes().is_empty())
+    Some(all && ran.status == 0 && ran.err.bytes().is_empty())
+}
+
+const QUEEN: [&[u8]; 3] = [b"class KQK", b"entries 81920", b"longest win 19"];
+
+const ROOK: [&[u8]; 3] = [b"class KRK", b"entries 81920", b"longest win 31"];
+
+/// Writes the file of a class's plain table, by number, under this name.
+fn put_plain(
+    rt: &HostRuntime,
+    folder: &str,
+    name: &str,
+    tables: &PlainTables,
+    class: u8,
+) -> Result<(), Fail> {
+    let file = file_of(rt.alloc(), &table_of(rt.alloc(), tables, class)?)?;
+    put(rt, folder, name, &file)
 }
 
 // The longest wins of the literature: a queen mates in at most 10 moves and a rook in at most 16.
@@ -183,17 +229,15 @@ fn tells(rt: &HostRuntime, folder: &str, class: &str, lines: &[&[u8]]) -> Result
 fn a_queen_and_a_rook(rt: HostRuntime) -> Result<(), Fail> {
     let folder = folder(&rt, "pieces")?;
     let tables = PlainTables::solve(rt.alloc(), 3)?;
-    let rook = file(rt.alloc(), &tables, 2)?;
-    put(&rt, &folder, "KK.egt", &file(rt.alloc(), &tables, 0)?)?;
-    put(&rt, &folder, "KQK.egt", &rook)?;
-    assert!(rt; both_print(&rt, &folder, "KQK", 1, "error KQK file 6 Class\n")?);
-    put(&rt, &folder, "KQK.egt", &file(rt.alloc(), &tables, 1)?)?;
-    put(&rt, &folder, "KRK.egt", &rook)?;
-    let queen = [b"class KQK".as_slice(), b"entries 81920", b"longest win 19"];
-    assert!(rt; tells(&rt, &folder, "KQK", &queen)?);
-    let rook = [b"class KRK".as_slice(), b"entries 81920", b"longest win 31"];
-    assert!(rt; tells(&rt, &folder, "KRK", &rook)?);
-    assert!(rt; run_words(&rt, &["check", &folder, "KQK"])?.is(0, "ok KQK\n", ""));
+    for (name, class) in [("KK.egt", 0), ("KQK.egt", 1), ("KRK.egt", 2)] {
+        put_plain(&rt, &folder, name, &tables, class)?;
+    }
+    assert!(rt; tells(&rt, &folder, "KQK", &QUEEN) == Some(true));
+    assert!(rt; tells(&rt, &folder, "KRK", &ROOK) == Some(true));
+    assert!(rt; prints(&rt, &["check", &folder, "KQK"], 0, "ok KQK\n", "") == Some(true));
+    put_plain(&rt, &folder, "KQK.egt", &tables, 2)?;
+    let another = both_print(&rt, &folder, "KQK", 1, "error KQK file 6 Class\n");
+    assert!(rt; another == Some(true));
     fs::remove_dir_all(&rt, folder.as_str())?;
     Ok(())
 }

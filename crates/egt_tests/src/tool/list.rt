@@ -1,5 +1,5 @@
 //! The list of classes.
-use super::run_words;
+use super::{is_wrong, run_on};
 use egt_tool::list_text;
 use std::test::Fail;
 
@@ -57,19 +57,20 @@ fn lists_the_classes(rt: HostRuntime) -> Result<(), Fail> {
     Ok(())
 }
 
+/// Whether the text is what `list` prints.
+fn is_printed(rt: &HostRuntime, text: &[u8]) -> Option<bool> {
+    let ran = run_on(rt, &["list"], b"")?;
+    Some(ran.status == 0 && ran.out.bytes() == text && ran.err.bytes().is_empty())
+}
+
 #[test]
 fn prints_the_list(rt: HostRuntime) -> Result<(), Fail> {
     let text = list_text(rt.alloc())?;
-    let ran = run_words(&rt, &["list"])?;
-    assert!(rt;
-        ran.status == 0 && ran.out.bytes() == text.as_slice() && ran.err.bytes().is_empty()
-    );
+    assert!(rt; is_printed(&rt, &text) == Some(true));
     Ok(())
 }
 
 #[test]
-fn takes_no_word_more(rt: HostRuntime) -> Result<(), Fail> {
-    let ran = run_words(&rt, &["list", "KQK"])?;
-    assert!(rt; ran.status == 2 && ran.out.bytes().is_empty() && !ran.err.bytes().is_empty());
-    Ok(())
+fn takes_no_word_more(rt: HostRuntime) {
+    assert!(rt; is_wrong(&rt, &["list", "KQK"]) == Some(true));
 }

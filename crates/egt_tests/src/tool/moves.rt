@@ -1,5 +1,5 @@
 //! Legal moves, as they are printed; what the program makes of wrong words, and of streams that fail.
-use super::{has_lines, run_failing, run_words};
+use super::{fails, has_lines, is_wrong, prints, run_failing, run_on};
 use egt_fen::FenFault;
 use egt_tool::{MovesFault, moves_text};
 use std::test::Fail;
@@ -92,11 +92,13 @@ const PRINTED: [(&str, &str); 5] = [
 ];
 
 #[test]
-fn prints_one_move_a_line(rt: HostRuntime) -> Result<(), Fail> {
+fn prints_one_move_a_line(rt: HostRuntime) {
     for (fen, text) in PRINTED {
-        assert!(rt; run_words(&rt, &["moves", fen])?.is(0, text, ""), "{fen}");
+        assert!(rt;
+            prints(&rt, &["moves", fen], 0, text, "") == Some(true),
+            "{fen}"
+        );
     }
-    Ok(())
 }
 
 /// Texts that are refused, and the first fault of each.
@@ -126,69 +128,83 @@ fn refuses_with_the_first_fault(rt: HostRuntime) {
     }
 }
 
+/// Whether `moves` prints these words, one a line.
+fn prints_lines(rt: &HostRuntime, fen: &str, words: &str) -> Option<bool> {
+    let ran = run_on(rt, &["moves", fen], b"")?;
+    Some(ran.status == 0 && has_lines(ran.out.bytes(), words) && ran.err.bytes().is_empty())
+}
+
 #[test]
-fn prints_the_moves(rt: HostRuntime) -> Result<(), Fail> {
+fn prints_the_moves(rt: HostRuntime) {
     for (fen, moves) in LEGAL_MOVES {
-        let ran = run_words(&rt, &["moves", fen])?;
-        assert!(rt;
-            ran.status == 0 && has_lines(ran.out.bytes(), moves),
-            "{fen}"
-        );
-        assert!(rt; ran.err.bytes().is_empty(), "{fen}");
+        assert!(rt; prints_lines(&rt, fen, moves) == Some(true), "{fen}");
     }
-    Ok(())
+}
+
+/// What is printed of each of them.
+const FAULT_LINES: [&str; 12] = [
+    "error fen 1 FieldCount\n",
+    "error fen 1 FieldCount\n",
+    "error fen 2 Placement\n",
+    "error fen 3 Colour\n",
+    "error fen 4 Castling\n",
+    "error fen 5 EpField\n",
+    "error fen 6 Counter\n",
+    "error fen 7 MenCount\n",
+    "error fen 8 KingCount\n",
+    "error fen 9 PawnRank\n",
+    "error fen 10 EpMismatch\n",
+    "error fen 11 WaitingInCheck\n",
+];
+
+/// Whether `moves` and `search` both print this line of the text to the standard error, and nothing else.
+fn both_refuse(rt: &HostRuntime, fen: &str, line: &str) -> Option<bool> {
+    let moves = prints(rt, &["moves", fen], 1, "", line)?;
+    let search = prints(rt, &["search", "1", fen], 1, "", line)?;
+    Some(moves && search)
 }
 
 #[test]
-fn prints_the_first_fault(rt: HostRuntime) -> Result<(), Fail> {
-    let lines = [
-        "error fen 1 FieldCount\n",
-        "error fen 1 FieldCount\n",
-        "error fen 2 Placement\n",
-        "error fen 3 Colour\n",
-        "error fen 4 Castling\n",
-        "error fen 5 EpField\n",
-        "error fen 6 Counter\n",
-        "error fen 7 MenCount\n",
-        "error fen 8 KingCount\n",
-        "error fen 9 PawnRank\n",
-        "error fen 10 EpMismatch\n",
-        "error fen 11 WaitingInCheck\n",
-    ];
-    for ((fen, _), line) in REFUSED.iter().zip(&lines) {
-        assert!(rt; run_words(&rt, &["moves", fen])?.is(1, "", line), "{fen}");
-        assert!(rt;
-            run_words(&rt, &["search", "1", fen])?.is(1, "", line),
-            "{fen}"
-        );
+fn prints_the_first_fault(rt: HostRuntime) {
+    for ((fen, _), line) in REFUSED.iter().zip(&FAULT_LINES) {
+        assert!(rt; both_refuse(&rt, fen, line) == Some(true), "{fen}");
     }
-    Ok(())
 }
 
 #[test]
-fn refuses_other_words(rt: HostRuntime) -> Result<(), Fail> {
+fn refuses_other_words(rt: HostRuntime) {
     let wrong: [&[&str]; 4] = [&[], &["moves"], &["castle"], &["moves", "k7", "w"]];
     for words in wrong {
-        let ran = run_words(&rt, words)?;
-        assert!(rt; ran.status == 2 && ran.out.bytes().is_empty() && !ran.err.bytes().is_empty());
+        assert!(rt; is_wrong(&rt, words) == Some(true));
     }
-    Ok(())
+}
+
+/// Whether the help is printed, and nothing else.
+fn helps(rt: &HostRuntime) -> Option<bool> {
+    let ran = run_on(rt, &["--help"], b"")?;
+    let head = b"Chess endgame tables of two to four men\n";
+    Some(ran.status == 0 && ran.out.bytes().starts_with(head) && ran.err.bytes().is_empty())
 }
 
 #[test]
-fn prints_its_help(rt: HostRuntime) -> Result<(), Fail> {
-    let ran = run_words(&rt, &["--help"])?;
-    assert!(rt; ran.status == 0 && ran.err.bytes().is_empty());
-    assert!(rt;
-        ran.out
-            .bytes()
-            .starts_with(b"Chess endgame tables of two to four men\n")
-    );
-    Ok(())
+fn prints_its_help(rt: HostRuntime) {
+    assert!(rt; helps(&rt) == Some(true));
+}
+
+/// Whether a failing push to the standard output is told on the standard error, where that takes the line, and ends with status 3 in any case.
+fn tells_failure(rt: &HostRuntime, words: &[&str]) -> Option<bool> {
+    let (status, err) = run_failing(rt, words, 1, 1)?;
+    let silent = status == 3 && err.bytes() != b"error device\n".as_slice();
+    Some(silent && fails(rt, words, (1, 0), 3, "error device\n")?)
+}
+
+/// The status where the first push to the standard error fails.
+fn status_alone(rt: &HostRuntime, words: &[&str]) -> Option<u8> {
+    Some(run_failing(rt, words, 0, 1)?.0)
 }
 
 #[test]
-fn streams_that_fail(rt: HostRuntime) -> Result<(), Fail> {
+fn streams_that_fail(rt: HostRuntime) {
     let fen = "8/8/8/4k3/8/4K3/8/8 w - - 0 1";
     let printing: [&[&str]; 4] = [
         &["moves", fen],
@@ -197,15 +213,8 @@ fn streams_that_fail(rt: HostRuntime) -> Result<(), Fail> {
         &["--help"],
     ];
     for words in printing {
-        let (status, err) = run_failing(&rt, words, 1, 0)?;
-        assert!(rt; status == 3 && err.bytes() == b"error device\n".as_slice());
-        // What becomes of the line changes no status.
-        let (status, err) = run_failing(&rt, words, 1, 1)?;
-        assert!(rt; status == 3 && err.bytes() != b"error device\n".as_slice());
+        assert!(rt; tells_failure(&rt, words) == Some(true));
     }
-    let (status, _) = run_failing(&rt, &["moves", ""], 0, 1)?;
-    assert_eq!(rt; status, 1);
-    let (status, _) = run_failing(&rt, &["castle"], 0, 1)?;
-    assert_eq!(rt; status, 2);
-    Ok(())
+    assert!(rt; status_alone(&rt, &["moves", ""]) == Some(1));
+    assert!(rt; status_alone(&rt, &["castle"]) == Some(2));
 }

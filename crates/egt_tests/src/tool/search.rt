@@ -1,5 +1,5 @@
 //! Worked texts of the search for mate.
-use super::run_words;
+use super::{is_wrong, prints};
 use egt_tool::search_text;
 use std::test::Fail;
 
@@ -164,39 +164,33 @@ fn finds_no_mate_sooner_than_an_engine(rt: HostRuntime) -> Result<(), Fail> {
 const NUMBERS: [&str; 7] = ["0", "1", "2", "3", "4", "5", "6"];
 
 #[test]
-fn prints_what_it_tells(rt: HostRuntime) -> Result<(), Fail> {
+fn prints_what_it_tells(rt: HostRuntime) {
     for (plies, fen, line) in WORKED {
         let number = NUMBERS[usize::from(plies) % NUMBERS.len()];
-        let ran = run_words(&rt, &["search", number, fen])?;
-        assert!(rt; ran.is(0, line, ""), "{fen}");
+        assert!(rt;
+            prints(&rt, &["search", number, fen], 0, line, "") == Some(true),
+            "{fen}"
+        );
     }
-    Ok(())
 }
 
 #[test]
-fn searches_from_1_to_6_plies(rt: HostRuntime) -> Result<(), Fail> {
+fn searches_from_1_to_6_plies(rt: HostRuntime) {
     let fen = "k7/8/1K6/8/8/8/8/3Q4 b - - 0 1";
     for plies in ["0", "7", "256", "two", "-1"] {
-        let ran = run_words(&rt, &["search", plies, fen])?;
         assert!(rt;
-            ran.status == 2 && ran.out.bytes().is_empty() && !ran.err.bytes().is_empty(),
+            is_wrong(&rt, &["search", plies, fen]) == Some(true),
             "{plies}"
         );
     }
-    assert_eq!(rt; run_words(&rt, &["search", "2"])?.status, 2);
-    assert!(rt;
-        run_words(&rt, &["search", "2", "k7/8/8/8/8/8/8/K7 w - -"])?.is(
-            0,
-            "no mate within 2 plies\n",
-            ""
-        )
-    );
-    assert!(rt;
-        run_words(&rt, &["search", "2", "k7/8/8/8/8/8/8/K7 w -"])?.is(
-            1,
-            "",
-            "error fen 1 FieldCount\n"
-        )
-    );
-    Ok(())
+    assert!(rt; is_wrong(&rt, &["search", "2"]) == Some(true));
+    for (fen, status, out, err) in [
+        ("k7/8/8/8/8/8/8/K7 w - -", 0, "no mate within 2 plies\n", ""),
+        ("k7/8/8/8/8/8/8/K7 w -", 1, "", "error fen 1 FieldCount\n"),
+    ] {
+        assert!(rt;
+            prints(&rt, &["search", "2", fen], status, out, err) == Some(true),
+            "{fen}"
+        );
+    }
 }

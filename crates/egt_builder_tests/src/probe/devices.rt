@@ -1,0 +1,84 @@
+//! Each pull and each push fails in turn: the answer is `Device`, and what was written is a beginning of the reports.
+use super::answers::answered;
+use egt_fixtures::shelf::library_below;
+use egt_probe::{AnswerFault, answer};
+use egt_table::{FailingSink, FailingSource, MemorySink, MemorySource};
+use std::alloc::Global;
+use std::test::*;
+
+/// More lines than go into one pull.
+fn input(alloc: Global) -> Result<Vec<u8>, Fail> {
+    let mut input = Vec::new(alloc);
+    for _ in 0..150 {
+        input.extend_from_slice(b"8/8/8/4k3/8/4K3/8/8 w - -\nx\n")?;
+    }
+    input.extend_from_slice(b"8/8/8/4k3/8/4K3/8/8 w - -")?;
+    Ok(input)
+}
+
+#[test]
+fn each_pull_fails(rt: HostRuntime) -> Result<(), Fail> {
+    let alloc = rt.alloc();
+    let library = library_below(alloc, 1)?;
+    let input = input(alloc)?;
+    let whole = answered(alloc, &library, &input)?;
+    let mut failed = 0u64;
+    for k in 1..10u64 {
+        let mut source = FailingSource::new(MemorySource::new(&input), k);
+        let mut sink = MemorySink::new(alloc, 100_000)?;
+        match answer(alloc, &library, &mut source, &mut sink) {
+            Err(AnswerFault::Device) => {
+                failed = failed.wrapping_add(1);
+                assert_eq!(rt; failed, k);
+                assert!(rt; whole.as_slice().starts_with(sink.bytes()));
+                assert!(rt; sink.bytes().len() < whole.len());
+            }
+            Err(AnswerFault::NoMemory) => return Err(Fail::from("no memory")),
+            Ok(()) => assert!(rt; sink.bytes() == whole.as_slice()),
+        }
+    }
+    assert_eq!(rt; failed, 3);
+    Ok(())
+}
+
+#[test]
+fn each_push_fails(rt: HostRuntime) -> Result<(), Fail> {
+    let alloc = rt.alloc();
+    let library = library_below(alloc, 1)?;
+    let input = b"8/8/8/4k3/8/4K3/8/8 w - -\nx\n8/8/8/4k3/8/4K3/8/8 b - -";
+    let whole = answered(alloc, &library, input)?;
+    let mut failed = 0u64;
+    for k in 1..10u64 {
+        let mut source = MemorySource::new(input);
+        let mut sink = FailingSink::new(MemorySink::new(alloc, 1000)?, k);
+        let answer = answer(alloc, &library, &mut source, &mut sink);
+        let written = sink.into_inner();
+        match answer {
+            Err(AnswerFault::Device) => {
+                failed = failed.wrapping_add(1);
+                assert_eq!(rt; failed, k);
+                assert!(rt; whole.as_slice().starts_with(written.bytes()));
+                assert!(rt; written.bytes().len() < whole.len());
+            }
+            Err(AnswerFault::NoMemory) => return Err(Fail::from("no memory")),
+            Ok(()) => assert!(rt; written.bytes() == whole.as_slice()),
+        }
+    }
+    assert_eq!(rt; failed, 3);
+    Ok(())
+}
+
+// A report that fits only in part is written as far as it fits.
+#[test]
+fn a_sink_that_is_full(rt: HostRuntime) -> Result<(), Fail> {
+    let alloc = rt.alloc();
+    let library = library_below(alloc, 1)?;
+    let mut sink = MemorySink::new(alloc, 20)?;
+    let input = b"8/8/8/4k3/8/4K3/8/8 w - -\nx\n";
+    match answer(alloc, &library, &mut MemorySource::new(input), &mut sink) {
+        Err(AnswerFault::Device) => {}
+        _ => return Err(Fail::from("there was room")),
+    }
+    assert!(rt; sink.bytes() == b"KK draw hold e3d2\ner".as_slice());
+    Ok(())
+}

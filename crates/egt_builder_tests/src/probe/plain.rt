@@ -1,0 +1,68 @@
+//! The verdicts of all positions of the first six classes, against plain tables.
+use egt_board::{Position, Side};
+use egt_check::Library;
+use egt_fixtures::shelf::library_of;
+use egt_plain::{PlainPosition, PlainTables, THIRD, position_of};
+use egt_probe::{Outcome, verdict};
+use egt_table::Column;
+use std::test::*;
+
+/// What entries of a position tell, with that side to move.
+fn outcome(mover: Side, mate: u16, zeroing: u16) -> Outcome {
+    if mate <= 1 {
+        return Outcome::Draw;
+    }
+    Outcome::Decided {
+        winner: if mate % 2 == 0 { mover } else { mover.other() },
+        plies: mate / 2 - 1,
+        zeroing: if zeroing > 1 { zeroing / 2 - 1 } else { 0 },
+    }
+}
+
+/// Whether the verdict is of the class with that number, and this.
+fn is_judged(library: &Library, position: &Position, class: u8, outcome: Outcome) -> bool {
+    match verdict(library, position) {
+        Ok(verdict) => verdict.class.number() == class && verdict.value == outcome,
+        Err(_missing) => false,
+    }
+}
+
+/// How many positions of the class have another verdict than the plain tables give, as they stand or with colours exchanged, and
+/// how many there are.
+fn compared(library: &Library, tables: &PlainTables, class: u8) -> (u32, u32) {
+    let mates = tables.entries(usize::from(class), Column::Mate);
+    let zeroings = tables.entries(usize::from(class), Column::Zeroing);
+    let third = match THIRD.get(usize::from(class)) {
+        Some(third) => *third,
+        None => None,
+    };
+    let mut unlike = 0u32;
+    let mut positions = 0u32;
+    for (code, (mate, zeroing)) in mates.iter().zip(zeroings).enumerate() {
+        if let Some(position) = position_of(PlainPosition::of_code(third, code)) {
+            let turned = position.flip_colours();
+            let here = outcome(position.side(), *mate, *zeroing);
+            let there = outcome(turned.side(), *mate, *zeroing);
+            let alike = is_judged(library, &position, class, here)
+                && is_judged(library, &turned, class, there);
+            unlike = unlike.saturating_add(u32::from(!alike));
+            positions = positions.saturating_add(1);
+        }
+    }
+    (unlike, positions)
+}
+
+#[test]
+fn every_position_of_three_men(rt: HostRuntime) -> Result<(), Fail> {
+    let tables = PlainTables::solve(rt.alloc(), 6)?;
+    let library = library_of(rt.alloc(), &tables, 6)?;
+    let (unlike, kings) = compared(&library, &tables, 0);
+    assert_eq!(rt; unlike, 0);
+    assert_eq!(rt; kings, 7224);
+    for class in 1..6u8 {
+        let (unlike, positions) = compared(&library, &tables, class);
+        assert_eq!(rt; unlike, 0);
+        assert!(rt; positions > 300_000);
+    }
+    Ok(())
+}

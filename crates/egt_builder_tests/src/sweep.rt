@@ -1,0 +1,69 @@
+//! The builder, and both games over a class.
+mod builds;
+mod figures;
+mod games;
+mod nearest;
+mod orders;
+mod refused;
+
+ghost use Rattle.std.specs.Prelude.{IfOk};
+ghost use Rattle.egt_check.specs.Tables.{table_at};
+ghost use Rattle.egt_sweep.specs.MateColumn.{AreMateRanks};
+
+use egt_check::Library;
+use egt_class::Class;
+use egt_fixtures::shelf::named;
+use egt_graph::{Ranks, solve};
+use egt_index::size;
+use egt_sweep::{BuildFault, MateGame, build};
+use egt_table::{Column, Table};
+use std::alloc::Global;
+use std::test::Fail;
+
+/// A library with the built tables of these classes, each of which comes after its children.
+fn built(alloc: Global, names: &[&str]) -> Result<Library, Fail> {
+    let mut library = Library::new(alloc)?;
+    for name in names {
+        let table = build(alloc, named(name)?, &library, 32_000)?;
+        if library.admit(table).is_err() {
+            return Err(Fail::from("a built table was refused"));
+        }
+    }
+    Ok(library)
+}
+
+/// What is answered where a class is built over these tables.
+fn built_over(
+    alloc: Global,
+    names: &[&str],
+    name: &str,
+    limit: u16,
+) -> Result<Result<Table, BuildFault>, Fail> {
+    if limit > 32_000 {
+        return Err(Fail::from("no limit is above 32,000"));
+    }
+    let library = built(alloc, names)?;
+    Ok(build(alloc, named(name)?, &library, limit))
+}
+
+/// The number of plies of the longest win.
+fn longest_win(table: &Table) -> u16 {
+    let mut longest = 0;
+    for code in 0..size(table.class()) {
+        let entry = table.entry(Column::Mate, code);
+        if entry >= 4 && entry % 2 == 0 {
+            longest = longest.max(entry / 2 - 1);
+        }
+    }
+    longest
+}
+
+/// The ranks of the class's game of mates.
+fn mates(alloc: Global, class: Class, library: &Library) -> Result<Ranks, Fail>
+    ensures { IfOk result (AreMateRanks (table_at library.now) class) }
+{
+    match MateGame::new(class, library) {
+        Ok(game) => Ok(solve(alloc, &game, 32_000)?),
+        Err(_missing) => Err(Fail::from("a child is missing")),
+    }
+}

@@ -1,0 +1,97 @@
+//! Tables that are built, beside public figures and beside tables of sweeps forward.
+use super::{built, longest_win};
+use egt_class::Class;
+use egt_fixtures::shelf::{file_of, library_of, named};
+use egt_index::size;
+use egt_plain::{PlainTables, table_of};
+use egt_sweep::build;
+use egt_table::{Column, Table};
+use std::alloc::Global;
+use std::test::*;
+
+/// With a rook and Black to move: how many positions are drawn, each with all its images counted once, and how many White wins in 0, 1,
+/// 2 moves and so on. The figures are those of the data set "Chess (King-Rook vs. King)" of the UCI repository (Bain and Hoff 1994).
+const ROOK_DRAWS: u32 = 2796;
+
+const ROOK_LOSSES: [u32; 17] = [
+    27, 78, 246, 81, 198, 471, 592, 683, 1433, 1712, 1985, 2854, 3597, 4194, 4553, 2166, 390,
+];
+
+/// How many positions of the class with Black to move have the mate entry.
+fn count(table: &Table, entry: u16) -> u32 {
+    let mut found = 0u32;
+    for code in 0..size(table.class()) {
+        if code % 2 == 1 && table.entry(Column::Mate, code) == entry {
+            found = found.wrapping_add(1);
+        }
+    }
+    found
+}
+
+#[test]
+fn a_rook_wins_as_often_as_counted(rt: HostRuntime) -> Result<(), Fail> {
+    let library = built(rt.alloc(), &["KK"])?;
+    let table = build(rt.alloc(), named("KRK")?, &library, 32_000)?;
+    assert_eq!(rt; count(&table, 1), ROOK_DRAWS);
+    // A loss in so many moves of White's is one in twice as many plies.
+    let mut entry = 3u16;
+    let mut all = ROOK_DRAWS;
+    for losses in ROOK_LOSSES {
+        assert_eq!(rt; count(&table, entry), losses, "{entry}");
+        entry = entry.wrapping_add(4);
+        all = all.wrapping_add(losses);
+    }
+    // There is no other position.
+    assert_eq!(rt; all, 28_056);
+    assert_eq!(rt; count(&table, 0), 40_960 - 28_056);
+    Ok(())
+}
+
+/// The plies of the longest win of a class of four men that is built over these and admitted.
+fn longest(alloc: Global, below: &[&str], name: &str) -> Result<u16, Fail> {
+    let mut library = built(alloc, below)?;
+    let table = build(alloc, named(name)?, &library, 32_000)?;
+    let longest = longest_win(&table);
+    if library.admit(table).is_err() {
+        return Err(Fail::from("a built table was refused"));
+    }
+    Ok(longest)
+}
+
+// Two bishops mate in 19 moves at most, a bishop and a knight in 33.
+#[test]
+fn two_bishops(rt: HostRuntime) -> Result<(), Fail> {
+    assert_eq!(rt; longest(rt.alloc(), &["KK", "KBK"], "KBBK")?, 37);
+    Ok(())
+}
+
+#[test]
+fn a_bishop_and_a_knight(rt: HostRuntime) -> Result<(), Fail> {
+    assert_eq!(rt; longest(rt.alloc(), &["KK", "KBK", "KNK"], "KBNK")?, 65);
+    Ok(())
+}
+
+/// Whether the file of the class, of the first six, is the same where it is built as where it is made by sweeps forward.
+fn is_swept(alloc: Global, tables: &PlainTables, number: u8) -> Result<bool, Fail> {
+    let class = Class::new(number).ok_or("no class")?;
+    let library = library_of(alloc, tables, number)?;
+    let backward = file_of(alloc, &build(alloc, class, &library, 32_000)?)?;
+    let forward = file_of(alloc, &table_of(alloc, tables, number)?)?;
+    Ok(backward.as_slice() == forward.as_slice())
+}
+
+#[test]
+fn pieces_are_built_as_swept(rt: HostRuntime) -> Result<(), Fail> {
+    let tables = PlainTables::solve(rt.alloc(), 5)?;
+    for number in 0..5 {
+        assert!(rt; is_swept(rt.alloc(), &tables, number)?, "{number}");
+    }
+    Ok(())
+}
+
+#[test]
+fn a_pawn_is_built_as_swept(rt: HostRuntime) -> Result<(), Fail> {
+    let tables = PlainTables::solve(rt.alloc(), 6)?;
+    assert!(rt; is_swept(rt.alloc(), &tables, 5)?);
+    Ok(())
+}

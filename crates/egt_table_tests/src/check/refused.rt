@@ -1,0 +1,116 @@
+//! What the checker answers to tables that are not true.
+use egt_check::{Library, Reject, Rule, check};
+use egt_class::Class;
+use egt_fixtures::kings::table_with;
+use egt_graph::Ranks;
+use egt_table::{Column, Table};
+use std::alloc::Global;
+use std::test::*;
+
+/// What is answered to the table of two kings with this entry at the code of a mate column.
+fn mate_with(alloc: Global, code: u32, entry: u16) -> Result<Result<(), Reject>, Fail> {
+    let table = table_with(alloc, &[(code, entry)], &[])?;
+    Ok(check(&table, &Library::new(alloc)?))
+}
+
+/// The same with this entry in the zeroing column.
+fn zeroing_with(alloc: Global, code: u32, entry: u16) -> Result<Result<(), Reject>, Fail> {
+    let table = table_with(alloc, &[], &[(code, entry)])?;
+    Ok(check(&table, &Library::new(alloc)?))
+}
+
+fn rejected(column: Column, index: u32, rule: Rule) -> Result<(), Reject> {
+    Err(Reject::Rejected {
+        column,
+        index,
+        rule,
+    })
+}
+
+#[test]
+fn two_kings_are_accepted(rt: HostRuntime) -> Result<(), Fail> {
+    let table = table_with(rt.alloc(), &[], &[])?;
+    let library = Library::new(rt.alloc())?;
+    assert_eq!(rt; check(&table, &library), Ok(()));
+    Ok(())
+}
+
+#[test]
+fn a_queen_alone_has_a_child_missing(rt: HostRuntime) -> Result<(), Fail> {
+    let alloc = rt.alloc();
+    let mate = Ranks::from_entries(vec![in alloc; 0; 81_920]?);
+    let zeroing = Ranks::from_entries(vec![in alloc; 0; 81_920]?);
+    let Ok(table) = Table::from_ranks(Class::at(1), mate, zeroing) else {
+        return Err(Fail::from("a column of another length"));
+    };
+    let library = Library::new(alloc)?;
+    assert_eq!(rt; check(&table, &library), Err(Reject::Missing(Class::at(0))));
+    Ok(())
+}
+
+// Both kings on a1 spell no position.
+#[test]
+fn an_entry_where_there_is_no_position(rt: HostRuntime) -> Result<(), Fail> {
+    assert_eq!(rt;
+        mate_with(rt.alloc(), 0, 1)?,
+        rejected(Column::Mate, 0, Rule::Void)
+    );
+    assert_eq!(rt;
+        zeroing_with(rt.alloc(), 0, 1)?,
+        rejected(Column::Zeroing, 0, Rule::Void)
+    );
+    Ok(())
+}
+
+// Code 4 has the white king on a1, the black king on c1 and White to move; each code below is void.
+#[test]
+fn each_rule_of_the_mate_column(rt: HostRuntime) -> Result<(), Fail> {
+    let cases = [
+        (0, Rule::Void),
+        (2, Rule::Range),
+        (64_004, Rule::Range),
+        (65_535, Rule::Range),
+        (4, Rule::Win),
+        (3, Rule::Loss),
+        (5, Rule::Loss),
+        (64_003, Rule::Loss),
+    ];
+    for (entry, rule) in cases {
+        assert_eq!(rt;
+            mate_with(rt.alloc(), 4, entry)?,
+            rejected(Column::Mate, 4, rule),
+            "{entry}"
+        );
+    }
+    Ok(())
+}
+
+#[test]
+fn the_zeroing_column_shows_what_the_mate_column_does(rt: HostRuntime) -> Result<(), Fail> {
+    let cases = [
+        (0, Rule::Void),
+        (2, Rule::Range),
+        (64_004, Rule::Range),
+        (4, Rule::Kind),
+        (3, Rule::Kind),
+    ];
+    for (entry, rule) in cases {
+        assert_eq!(rt;
+            zeroing_with(rt.alloc(), 4, entry)?,
+            rejected(Column::Zeroing, 4, rule),
+            "{entry}"
+        );
+    }
+    Ok(())
+}
+
+#[test]
+fn the_mate_column_comes_first(rt: HostRuntime) -> Result<(), Fail> {
+    let table = table_with(rt.alloc(), &[(5, 0)], &[(4, 0)])?;
+    let library = Library::new(rt.alloc())?;
+    assert_eq!(rt;
+        check(&table, &library),
+        rejected(Column::Mate, 5, Rule::Void)
+    );
+    Ok(())
+}

@@ -1,0 +1,55 @@
+//! What a library takes and gives.
+use egt_check::{Library, Reject, Rule};
+use egt_class::Class;
+use egt_fixtures::kings::table_with;
+use egt_fixtures::shelf::entry_of;
+use egt_table::Column;
+use std::test::*;
+
+#[test]
+fn a_table_is_taken_once(rt: HostRuntime) -> Result<(), Fail> {
+    let mut library = Library::new(rt.alloc())?;
+    assert!(rt; library.get(Class::at(0)).is_none());
+    assert!(rt; library.admit(table_with(rt.alloc(), &[], &[])?).is_ok());
+    let Some(table) = library.get(Class::at(0)) else {
+        return Err(Fail::from("no table"));
+    };
+    assert_eq!(rt; entry_of(table, Column::Mate, 4), Some(1));
+    assert!(rt; library.get(Class::at(1)).is_none());
+    let Err((again, reject)) = library.admit(table_with(rt.alloc(), &[], &[(4, 7)])?) else {
+        return Err(Fail::from("taken twice"));
+    };
+    assert_eq!(rt; reject, Reject::AlreadyThere);
+    assert_eq!(rt; entry_of(&again, Column::Zeroing, 4), Some(7));
+    Ok(())
+}
+
+#[test]
+fn a_bad_table_comes_back(rt: HostRuntime) -> Result<(), Fail> {
+    let mut library = Library::new(rt.alloc())?;
+    let Err((table, reject)) = library.admit(table_with(rt.alloc(), &[(4, 3)], &[])?) else {
+        return Err(Fail::from("taken"));
+    };
+    assert_eq!(rt;
+        reject,
+        Reject::Rejected {
+            column: Column::Mate,
+            index: 4,
+            rule: Rule::Loss
+        }
+    );
+    assert_eq!(rt; entry_of(&table, Column::Mate, 4), Some(3));
+    assert!(rt; library.get(Class::at(0)).is_none());
+    Ok(())
+}
+
+#[test]
+fn refusals_by_number_and_name(rt: HostRuntime) -> Result<(), Fail> {
+    let missing = Reject::Missing(Class::at(0));
+    assert!(rt; missing.number() == 11 && missing.name() == "Missing");
+    assert!(rt;
+        Reject::AlreadyThere.number() == 13 && Reject::AlreadyThere.name() == "AlreadyThere"
+    );
+    assert!(rt; Rule::Void.name() == "void" && Rule::Draw.name() == "draw");
+    Ok(())
+}

@@ -1,0 +1,158 @@
+//! What is read, and which fault other bytes have.
+use super::has_kings;
+use egt_class::Class;
+use egt_fixtures::kings::{LENGTH, class, flip, kings_file, table_with};
+use egt_fixtures::shelf::{entry_of, file_of};
+use egt_table::{Column, FailingSource, MemorySource, Table};
+use std::alloc::Global;
+use std::test::*;
+
+/// The number of the fault of the bytes; 0 where they are a table's file.
+fn fault_of(alloc: Global, class: Class, bytes: &[u8]) -> u8 {
+    match Table::read(alloc, class, &mut MemorySource::new(bytes)) {
+        Ok(_table) => 0,
+        Err(fault) => fault.number(),
+    }
+}
+
+/// Whether the bytes are the file of two kings.
+fn are_kings(alloc: Global, bytes: &[u8]) -> Option<bool> {
+    let table = Table::read(alloc, class(), &mut MemorySource::new(bytes)).ok()?;
+    let mate = has_kings(&table, Column::Mate, 0);
+    Some(table.class() == class() && mate && has_kings(&table, Column::Zeroing, 0))
+}
+
+#[test]
+fn two_kings(rt: HostRuntime) -> Result<(), Fail> {
+    let bytes = kings_file(rt.alloc())?;
+    assert!(rt; are_kings(rt.alloc(), &bytes) == Some(true));
+    Ok(())
+}
+
+/// The table of two kings with other entries, written and read.
+fn read_again(alloc: Global, mate: &[(u32, u16)], zeroing: &[(u32, u16)]) -> Result<Table, Fail> {
+    let written = table_with(alloc, mate, zeroing)?;
+    let bytes = file_of(alloc, &written)?;
+    Ok(Table::read(alloc, class(), &mut MemorySource::new(&bytes))?)
+}
+
+#[test]
+fn columns_are_told_apart(rt: HostRuntime) -> Result<(), Fail> {
+    let table = read_again(rt.alloc(), &[(4, 64_003)], &[(4, 7), (1279, 0x0102)])?;
+    for (column, code, wanted) in [
+        (Column::Mate, 4, 64_003),
+        (Column::Zeroing, 4, 7),
+        (Column::Zeroing, 1279, 0x0102),
+    ] {
+        assert!(rt; entry_of(&table, column, code) == Some(wanted), "{code}");
+    }
+    Ok(())
+}
+
+/// Whether each part from the first byte on is too short.
+fn parts_are_short(alloc: Global, bytes: &[u8]) -> bool {
+    for length in 0..bytes.len() {
+        if fault_of(alloc, class(), &bytes[..length]) != 2 {
+            return false;
+        }
+    }
+    true
+}
+
+#[test]
+fn cut_to_each_length(rt: HostRuntime) -> Result<(), Fail> {
+    let bytes = kings_file(rt.alloc())?;
+    assert_eq!(rt; bytes.len(), LENGTH);
+    assert!(rt; parts_are_short(rt.alloc(), &bytes));
+    Ok(())
+}
+
+#[test]
+fn fifteen_bytes_of_zeros(rt: HostRuntime) {
+    assert_eq!(rt; fault_of(rt.alloc(), class(), &[0; 15]), 2);
+}
+
+/// The fault of so many of the bytes, with these bits of the bytes at some places changed, and with those behind.
+fn fault_with(
+    alloc: Global,
+    whole: &[u8],
+    places: &[usize],
+    bits: u8,
+    length: usize,
+    behind: &[u8],
+) -> Option<u8> {
+    let mut bytes = Vec::from_slice(alloc, whole).ok()?;
+    for place in places {
+        flip(&mut bytes, *place, bits);
+    }
+    bytes.truncate(length);
+    bytes.extend_from_slice(behind).ok()?;
+    Some(fault_of(alloc, class(), &bytes))
+}
+
+#[test]
+fn each_byte_of_the_header_changed(rt: HostRuntime) -> Result<(), Fail> {
+    let bytes = kings_file(rt.alloc())?;
+    let faults = [3, 3, 3, 3, 4, 4, 5, 5, 6, 6, 7, 7, 8, 8, 8, 8];
+    for (place, fault) in faults.iter().enumerate() {
+        for bits in [1, 0x80] {
+            let found = fault_with(rt.alloc(), &bytes, &[place], bits, LENGTH, &[]);
+            assert!(rt; found == Some(*fault), "{place}");
+        }
+    }
+    Ok(())
+}
+
+// Places of bytes to change, how many bytes to keep, and the fault.
+const TWO_FAULTS: [([usize; 2], usize, u8); 7] = [
+    ([0, 4], 15, 2),
+    ([0, 4], 16, 3),
+    ([4, 6], 17, 4),
+    ([6, 8], 5136, 5),
+    ([8, 10], 16, 6),
+    ([10, 12], 5135, 7),
+    ([12, 15], 16, 8),
+];
+
+#[test]
+fn the_first_of_two_faults(rt: HostRuntime) -> Result<(), Fail> {
+    let bytes = kings_file(rt.alloc())?;
+    for (places, length, fault) in TWO_FAULTS {
+        let found = fault_with(rt.alloc(), &bytes, &places, 1, length, &[]);
+        assert!(rt; found == Some(fault), "{fault}");
+    }
+    // The file of another class than the one asked for.
+    assert_eq!(rt; fault_of(rt.alloc(), Class::at(1), &bytes), 6);
+    Ok(())
+}
+
+#[test]
+fn bytes_behind_the_last_entry(rt: HostRuntime) -> Result<(), Fail> {
+    let bytes = kings_file(rt.alloc())?;
+    for (places, fault) in [([].as_slice(), 9), ([8].as_slice(), 6)] {
+        let found = fault_with(rt.alloc(), &bytes, places, 1, LENGTH, &[0]);
+        assert!(rt; found == Some(fault), "{fault}");
+    }
+    Ok(())
+}
+
+/// The number of the fault where the k-th pull fails, and how many pulls are left to it.
+fn fault_at_pull(alloc: Global, bytes: &[u8], k: u64) -> (u8, u64) {
+    let mut source = FailingSource::new(MemorySource::new(bytes), k);
+    let fault = match Table::read(alloc, class(), &mut source) {
+        Ok(_table) => 0,
+        Err(fault) => fault.number(),
+    };
+    (fault, source.calls_to_failure())
+}
+
+#[test]
+fn each_pull_fails_in_turn(rt: HostRuntime) -> Result<(), Fail> {
+    let bytes = kings_file(rt.alloc())?;
+    // A header, two columns of one piece each, and the end.
+    for k in 1..=4 {
+        assert_eq!(rt; fault_at_pull(rt.alloc(), &bytes, k), (1, 0));
+    }
+    assert_eq!(rt; fault_at_pull(rt.alloc(), &bytes, 5), (0, 1));
+    Ok(())
+}

@@ -1,6 +1,0 @@
-use Rattle.std.proofs.Common.{◌≡◌}
-use Rattle.egt_tests.proofs.events.draw_round.Given as goal
-
--- the run is over the same game
-abbrev pub invariant-loop-draw : goal.invariant-loop-draw
-invariant-loop-draw g l = l.rounds.game ≡ l.fn.rounds.game

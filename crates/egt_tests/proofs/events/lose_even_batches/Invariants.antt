@@ -1,6 +1,0 @@
-use Rattle.std.proofs.Common.{◌≡◌}
-use Rattle.egt_tests.proofs.events.lose_even_batches.Given as goal
-
--- the run is over the same game
-abbrev pub invariant-loop-block : goal.invariant-loop-block
-invariant-loop-block g l = l.rounds.game ≡ l.fn.rounds.game
