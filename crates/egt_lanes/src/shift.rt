@@ -1,11 +1,14 @@
 //! Rows moved by the steps of men.
 ghost use Rattle.std.specs.Prelude.{◌≡◌, ℕ, ◌<◌, ◌≤◌, slice_index};
-ghost use Rattle.egt_board.specs.Coordinate.{Further};
-ghost use Rattle.egt_board.specs.Square.{file_of, rank_of};
+ghost use Rattle.std.specs.Int.{bit_at};
+ghost use Rattle.egt_board.specs.Gait.{Rides};
 ghost use Rattle.egt_board.specs.Step.{Away};
+ghost use Rattle.egt_lanes.specs.Moved.{beside, beyond};
+ghost use Rattle.egt_lanes.specs.Raised.{IsRaised};
 
-use crate::row::Row;
-use egt_board::{Step, Way};
+use crate::row::{Row, greater};
+use crate::sets::kept;
+use egt_board::{SquareSet, Step, Way};
 
 /// Of each square the one one file further right; 64 where there is none.
 const RIGHT: [usize; 64] = [
@@ -107,8 +110,7 @@ const TWO_DOWN: [usize; 64] = [
 #[inline(always)]
 fn along_rank(row: Row, way: Way, wide: u8) -> Row
     requires { wide ≤ 2 }
-    ensures moved { (s t : ℕ) → s < 64 → t < 64 → Further way wide (file_of s) (file_of t) → rank_of t ≡ rank_of s → slice_index result s ≡ slice_index row t }
-    ensures off_board { (s : ℕ) → s < 64 → ((t : ℕ) → t < 64 → rank_of t ≡ rank_of s → ¬ Further way wide (file_of s) (file_of t)) → slice_index result s ≡ 0 }
+    ensures { (s : ℕ) → s < 64 → slice_index result s ≡ slice_index row (beside way wide s) }
 {
     let nothing = Row::splat(0);
     match (way, wide) {
@@ -118,4 +120,51 @@ fn along_rank(row: Row, way: Way, wide: u8) -> Row
         (Way::Down, 2) => row.shuffle(nothing, TWO_LEFT),
         _ => row,
     }
+}
+
+/// At each square what stands `high` ranks further on its file; 0 where that is off the board.
+#[inline(always)]
+fn along_file(row: Row, way: Way, high: u8) -> Row
+    requires { high ≤ 2 }
+    ensures { (s : ℕ) → s < 64 → slice_index result s ≡ slice_index row (beyond way high s) }
+{
+    let nothing = Row::splat(0);
+    match (way, high) {
+        (Way::Up, 1) => row.shuffle(nothing, UP),
+        (Way::Up, 2) => row.shuffle(nothing, TWO_UP),
+        (Way::Down, 1) => row.shuffle(nothing, DOWN),
+        (Way::Down, 2) => row.shuffle(nothing, TWO_DOWN),
+        _ => row,
+    }
+}
+
+/// At each square what stands one step further; 0 where that is off the board.
+#[inline(always)]
+pub fn shifted(row: Row, step: Step) -> Row
+    requires wide { step.wide ≤ 2 }
+    requires high { step.high ≤ 2 }
+    ensures moved { (s t : ℕ) → s < 64 → Away step 1 s t → slice_index result s ≡ slice_index row t }
+    ensures off_board { (s : ℕ) → s < 64 → ((t : ℕ) → ¬ Away step 1 s t) → slice_index result s ≡ 0 }
+{
+    along_rank(
+        along_file(row, step.ranks, step.high),
+        step.files,
+        step.wide,
+    )
+}
+
+/// At each square the greatest of what stands there on the way along the steps, up to the first square that is not free.
+#[inline(always)]
+pub fn ridden(row: Row, free: SquareSet, step: Step) -> Row
+    requires wide { step.wide ≤ 2 }
+    requires high { step.high ≤ 2 }
+    ensures { (s : ℕ) → s < 64 → IsRaised 0 (λ t. Rides (λ u. bit_at free.bits u ≡ 1) 7 s t step) (λ t. slice_index row t) (slice_index result s) }
+{
+    let mut last = shifted(row, step);
+    let mut best = last;
+    for _more in 0..6 {
+        last = shifted(kept(last, free), step);
+        best = greater(best, last);
+    }
+    best
 }
