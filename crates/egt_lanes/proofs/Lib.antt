@@ -6,3 +6,4 @@ pub mod Turns
 pub mod Moves
 pub mod Weaving
 pub mod Raising
+pub mod Rays
