@@ -7,3 +7,4 @@ pub mod Moves
 pub mod Weaving
 pub mod Raising
 pub mod Rays
+pub mod Riding
