@@ -2,9 +2,13 @@
 use Rattle.std.proofs.Common.{◌≡◌, ℕ, ◌+◌, ◌<◌, ◌==◌, ◌⊎◌, if◌then◌else◌, Bool, true, false, eqb, cond, max, List, [], ◌∷◌, ◌++◌, get_or, refl, sym, ap, ◌∙◌, subst, inl, inr, arith, eqb-true}
 use Rattle.std.proofs.lemmas.Bool.{eqb-false}
 use Rattle.std.specs.Int.{bit_at}
+use Rattle.egt_board.specs.declared.man.Side.{Side}
+use Rattle.egt_board.specs.declared.man.Kind.{Kind}
 use Rattle.egt_board.specs.declared.step.Step.{Step}
 use Rattle.egt_board.specs.Step.{Away}
-use Rattle.egt_board.specs.Gait.{Rides, OneOf}
+use Rattle.egt_board.specs.Gait.{Rides, OneOf, farthest, steps_of}
+use Rattle.egt_board.specs.declared.man.Kind.TheVariants.{P, K}
+use Rattle.egt_lanes.specs.Pieces.{IsPiece}
 use Rattle.egt_lanes.specs.Raised.{IsRaised}
 use Rattle.egt_lanes.proofs.Raising.{raised_by_none, first_raised, raised_more, raised_again, raised_as, raised_is}
 use Rattle.egt_lanes.proofs.Rays.{IsRidden, first_step, same_end, next_square, one_step, more_steps, fewer_steps, Rides-more, Rides-last, Rides-none}
@@ -133,3 +137,12 @@ one_ride Free s t d a = Rides-more Free 0 s t d (inl (one_step Free s t d a))
 
 pub ride_one : (Free : ℕ → Type 0) (s t : ℕ) (d : Step) → Rides Free 1 s t d → Away d 1 s t
 ride_one Free s t d r = elim (Rides-last Free 0 s t d r) [ inl r ↦ r.away | inr n ↦ absurd (Rides-none Free s t d n) ]
+
+-- what a man of this kind reaches
+pub reached_by : (low v w s : ℕ) (Free : ℕ → Type 0) (side : Side) (kind k : Kind) (f : ℕ → ℕ) → kind ≡ k → w ≡ v
+    → IsRaised low (λ t. OneOf (Rides Free (farthest k) s t) (steps_of side k)) f v → IsRaised low (λ t. OneOf (Rides Free (farthest kind) s t) (steps_of side kind)) f w
+reached_by low v w s Free side kind k f e is h =
+    subst (λ (x : Kind). IsRaised low (λ t. OneOf (Rides Free (farthest x) s t) (steps_of side x)) f w) (sym e) (raised_is low v w (λ t. OneOf (Rides Free (farthest k) s t) (steps_of side k)) f is h)
+
+pub no_piece : (kind : Kind) → (kind ≡ P) ⊎ (kind ≡ K) → IsPiece kind → ⊥
+no_piece kind either piece = elim either [ inl e ↦ subst IsPiece e piece | inr e ↦ subst IsPiece e piece ]

@@ -59,6 +59,11 @@ lesser_at (x ∷ xs) [] i p q = absurd (omega arith)
 lesser_at (x ∷ xs) (y ∷ ys) zero p q = lesser_of x y
 lesser_at (x ∷ xs) (y ∷ ys) (suc i) p q = lesser_at xs ys i (omega arith) (omega arith)
 
+pub lane_small : (xs : List ℕ) (i : ℕ) → Each1 (Fits w8) xs → get_or xs i 0 < 256
+lane_small [] i fits = omega arith
+lane_small (x ∷ xs) zero fits = fits.0.fits
+lane_small (x ∷ xs) (suc i) fits = lane_small xs i fits.1
+
 -- ---- scores
 
 -- of n lanes
