@@ -131,6 +131,14 @@ both_lists low v w H f ds es old new =
     (λ t r. elim r [ inl a ↦ OneOf-left (H t) ds es a | inr b ↦ OneOf-right (H t) ds es b ]) (λ t r. OneOf-either (H t) ds es r)
     (raised_again low v w (λ t. OneOf (H t) es) (λ t. OneOf (H t) ds) f old new)
 
+pub lists_both : (low v w : ℕ) (H : ℕ → Step → Type 0) (f : ℕ → ℕ) (ds es : List Step)
+    → IsRaised low (λ t. OneOf (H t) ds) f v → IsRaised v (λ t. OneOf (H t) es) f w → IsRaised low (λ t. OneOf (H t) (ds ++ es)) f w
+lists_both low v w H f ds es old new =
+    raised_as low w (λ t. OneOf (H t) es ⊎ OneOf (H t) ds) (λ t. OneOf (H t) (ds ++ es)) f
+    (λ t r. elim r [ inl b ↦ OneOf-right (H t) ds es b | inr a ↦ OneOf-left (H t) ds es a ])
+    (λ t r. elim (OneOf-either (H t) ds es r) [ inl a ↦ inr a | inr b ↦ inl b ])
+    (raised_again low v w (λ t. OneOf (H t) ds) (λ t. OneOf (H t) es) f old new)
+
 -- a ride of at most one step is the step
 pub one_ride : (Free : ℕ → Type 0) (s t : ℕ) (d : Step) → Away d 1 s t → Rides Free 1 s t d
 one_ride Free s t d a = Rides-more Free 0 s t d (inl (one_step Free s t d a))
