@@ -1,5 +1,5 @@
 -- Steps one after another.
-use Rattle.std.proofs.Common.{◌≡◌, ℕ, zero, suc, ◌+◌, ◌*◌, ◌-◌, ◌/◌, ◌%◌, ◌<◌, ◌≤◌, ◌⊎◌, refl, sym, ap, ◌∙◌, subst, inl, inr, arith}
+use Rattle.std.proofs.Common.{◌≡◌, ℕ, zero, suc, ◌+◌, ◌*◌, ◌-◌, ◌/◌, ◌%◌, ◌<◌, ◌≤◌, ◌⊎◌, refl, subst, inl, inr, arith}
 use Rattle.std.proofs.lemmas.Bool.{cases_lt, cases_eq}
 use Rattle.egt_board.specs.declared.step.Way.{Way}
 use Rattle.egt_board.specs.declared.step.Way.TheVariants.{Up, Down, Still}
@@ -79,9 +79,9 @@ next_square d s s_in =
     elim (next_coordinate d.files (1 * d.wide) (s % 8) (omega arith)) [
       | inr none ↦ inr (λ u a. none (u % 8) (omega arith) a.across)
       | inl f ↦ elim (next_coordinate d.ranks (1 * d.high) (s / 8) (omega arith)) [
-          | inr none ↦ inr (λ u a. let u_in = a.on_board in none (u / 8) (omega arith) a.along)
-          | inl r ↦ inl (square f.0 r.0, away_at d 1 s f.0 r.0 f.1 r.1 f.2 r.2)
-        ]
+        | inr none ↦ inr (λ u a. let u_in = a.on_board in none (u / 8) (omega arith) a.along)
+        | inl r ↦ inl (square f.0 r.0, away_at d 1 s f.0 r.0 f.1 r.1 f.2 r.2)
+      ]
     ]
 
 -- ---- from the other end
@@ -148,21 +148,23 @@ more_steps Free n s u t d s_in a free r = record {
     clear zero v some less b = absurd (omega arith)
     clear (suc k) v some less b = elim (cases_eq k 0) [
       | inl e ↦
-        let one : suc k ≡ 1 = omega arith in
-        subst Free (same_end d 1 s u v a (subst (λ m. Away d m s v) one b)) free
+          let one : suc k ≡ 1 = omega arith in
+          subst Free (same_end d 1 s u v a (subst (λ m. Away d m s v) one b)) free
       | inr n ↦
-        let more : suc k ≡ k + 1 = omega arith in
-        let f = first_step d k s v s_in (subst (λ m. Away d m s v) more b) in
-        r.clear k v (omega arith) (omega arith) (subst (λ w. Away d k w v) (same_end d 1 s f.0 u f.1 a) f.2)
+          let more : suc k ≡ k + 1 = omega arith in
+          let f = first_step d k s v s_in (subst (λ m. Away d m s v) more b) in
+          r.clear k v (omega arith) (omega arith) (subst (λ w. Away d k w v) (same_end d 1 s f.0 u f.1 a) f.2)
     ]
 
 pub fewer_steps : (Free : ℕ → Type 0) (n s u t : ℕ) (d : Step) → s < 64 → 0 < n → Away d 1 s u → IsRidden Free (n + 1) s t d → Free u × IsRidden Free n u t d
 fewer_steps Free n s u t d s_in some a r =
-    let f = first_step d n s t s_in r.away in
-    (r.clear 1 u (omega arith) (omega arith) a, record {
-      away = subst (λ w. Away d n w t) (same_end d 1 s f.0 u f.1 a) f.2;
-      clear = λ k v k_some less b. r.clear (k + 1) v (omega arith) (omega arith) (both_steps d k s u v a b);
-    })
+    let f = first_step d n s t s_in r.away in (
+      r.clear 1 u (omega arith) (omega arith) a,
+      record {
+        away = subst (λ w. Away d n w t) (same_end d 1 s f.0 u f.1 a) f.2;
+        clear = λ k v k_some less b. r.clear (k + 1) v (omega arith) (omega arith) (both_steps d k s u v a b);
+      },
+    )
 
 -- within one more step
 pub Rides-more : (Free : ℕ → Type 0) (n s t : ℕ) (d : Step) → IsRidden Free (n + 1) s t d ⊎ Rides Free n s t d → Rides Free (n + 1) s t d

@@ -54,11 +54,11 @@ module _ (kings : ℕ) (d : Step) (low : List ℕ) (rows : List (List ℕ)) (a :
         let f : ℕ → ℕ = λ t. at rows t b in
         elim (w.lanes b b_in) [
           | inl apart ↦
-            let here_u : IsRidden (IsOpen kings b) (n + 1) a u d = record { away = on; clear = λ k v some less away. (w.no_king k v some (omega arith) away, apart.apart k v some (omega arith) away) } in
-            raised_is 0 (f u) (get_or row b 0) In f (kept b b_in apart.level) (first_raised u In f here_u (λ t r. same_end d (n + 1) a t u r.away on))
+              let here_u : IsRidden (IsOpen kings b) (n + 1) a u d = record { away = on; clear = λ k v some less away. (w.no_king k v some (omega arith) away, apart.apart k v some (omega arith) away) } in
+              raised_is 0 (f u) (get_or row b 0) In f (kept b b_in apart.level) (first_raised u In f here_u (λ t r. same_end d (n + 1) a t u r.away on))
           | inr passed ↦
-            raised_is 0 0 (get_or row b 0) In f (cleared b b_in passed.level)
-            (raised_by_none 0 In f (λ t r. let within = passed.within in (r.clear passed.count b passed.some (omega arith) passed.away).1 refl))
+              raised_is 0 0 (get_or row b 0) In f (cleared b b_in passed.level)
+              (raised_by_none 0 In f (λ t r. let within = passed.within in (r.clear passed.count b passed.some (omega arith) passed.away).1 refl))
         ]
 
     pub raised_there : (b : ℕ) → b < 64 → IsRaised (get_or low b 0) (λ t. Rides (IsOpen kings b) (n + 1) a t d) (λ t. at rows t b) (get_or top b 0)
@@ -105,12 +105,12 @@ module _ (kings : ℕ) (d : Step) (low : List ℕ) (rows : List (List ℕ)) (a :
             let same : get_or rest b 0 ≡ get_or mask b 0 = clears b b_in ∙ ap (λ t. cond t 0 (get_or mask b 0)) e in
             elim (w.lanes b b_in) [
               | inl apart ↦ inl record {
-                  level = same ∙ apart.level;
-                  apart = λ k v some le away at_b. elim (cases_eq k (n + 1)) [
-                    | inl e' ↦ eqb-false b u e (sym at_b ∙ same_end d (n + 1) a v u (subst (λ m. Away d m a v) e' away) on)
-                    | inr other ↦ apart.apart k v some (omega arith) away at_b
-                  ];
-                }
+                level = same ∙ apart.level;
+                apart = λ k v some le away at_b. elim (cases_eq k (n + 1)) [
+                  | inl e' ↦ eqb-false b u e (sym at_b ∙ same_end d (n + 1) a v u (subst (λ m. Away d m a v) e' away) on)
+                  | inr other ↦ apart.apart k v some (omega arith) away at_b
+                ];
+              }
               | inr passed ↦ inr record { level = same ∙ passed.level; count = passed.count; some = passed.some; within = omega (arith, passed.within); away = passed.away }
             ]
 
@@ -123,9 +123,9 @@ walk_at_edge kings d low rows a best mask here n most a_in le w none b b_in =
     (λ t r. Rides-wider (IsOpen kings b) n most a t d le r)
     (λ t r. elim (cases_lt n r.count) [
       | inl past ↦
-        let more : r.count ≡ n + 1 + (r.count - (n + 1)) = omega arith in
-        let u = on_the_way d (n + 1) (r.count - (n + 1)) a t a_in (subst (λ m. Away d m a t) more r.away) in
-        absurd (none u.0 (last_step d n a here u.0 w.stands u.1))
+          let more : r.count ≡ n + 1 + (r.count - (n + 1)) = omega arith in
+          let u = on_the_way d (n + 1) (r.count - (n + 1)) a t a_in (subst (λ m. Away d m a t) more r.away) in
+          absurd (none u.0 (last_step d n a here u.0 w.stands u.1))
       | inr within ↦ record { count = r.count; moves = r.moves; within = within; away = r.away; clear = r.clear }
     ])
     (w.raised b b_in)
@@ -142,14 +142,14 @@ raised_below_more kings man rows old out n row n_in r here = record {
   long = omega (arith, r.long, length-set {A = List ℕ});
   done = λ a b a_in b_in. elim (cases_eq a n) [
     | inl e ↦
-      let now : at (set out n row) a b ≡ get_or row b 0 = ap (λ x. get_or x b 0) (get_or-set_at out n a row [] e (omega (arith, r.long))) in
-      let was : at out n b ≡ at old a b = r.left n b (omega arith) ∙ ap (λ m. at old m b) (sym e) in
-      raised_is (at old a b) (get_or row b 0) (at (set out n row) a b) (λ t. Reaches (IsOpen kings b) man a t) (λ t. at rows t b) now
-      (subst (λ m. IsRaised (at old a b) (λ t. Reaches (IsOpen kings b) man m t) (λ t. at rows t b) (get_or row b 0)) (sym e)
+        let now : at (set out n row) a b ≡ get_or row b 0 = ap (λ x. get_or x b 0) (get_or-set_at out n a row [] e (omega (arith, r.long))) in
+        let was : at out n b ≡ at old a b = r.left n b (omega arith) ∙ ap (λ m. at old m b) (sym e) in
+        raised_is (at old a b) (get_or row b 0) (at (set out n row) a b) (λ t. Reaches (IsOpen kings b) man a t) (λ t. at rows t b) now
+        (subst (λ m. IsRaised (at old a b) (λ t. Reaches (IsOpen kings b) man m t) (λ t. at rows t b) (get_or row b 0)) (sym e)
         (subst (λ v. IsRaised v (λ t. Reaches (IsOpen kings b) man n t) (λ t. at rows t b) (get_or row b 0)) was (here b b_in)))
     | inr other ↦
-      let same : at (set out n row) a b ≡ at out a b = ap (λ x. get_or x b 0) (get_or-set_other out n a row [] other) in
-      raised_is (at old a b) (at out a b) (at (set out n row) a b) (λ t. Reaches (IsOpen kings b) man a t) (λ t. at rows t b) same (r.done a b (omega arith) b_in)
+        let same : at (set out n row) a b ≡ at out a b = ap (λ x. get_or x b 0) (get_or-set_other out n a row [] other) in
+        raised_is (at old a b) (at out a b) (at (set out n row) a b) (λ t. Reaches (IsOpen kings b) man a t) (λ t. at rows t b) same (r.done a b (omega arith) b_in)
   ];
   left = λ a b a_in. let other : a ≢ n = omega arith in ap (λ x. get_or x b 0) (get_or-set_other out n a row [] other) ∙ r.left a b (omega arith);
 }

@@ -148,7 +148,14 @@ fn walked(low: Row, rows: &Block, from: Square, step: Step, most: u8, kings: Squ
 
 /// The same along each of these steps.
 #[inline(always)]
-fn walked_along(low: Row, rows: &Block, from: Square, steps: &[Step], most: u8, kings: SquareSet) -> Row
+fn walked_along(
+    low: Row,
+    rows: &Block,
+    from: Square,
+    steps: &[Step],
+    most: u8,
+    kings: SquareSet,
+) -> Row
     requires small { All (λ d. (d.wide < 8) × (d.high < 8)) steps.now }
     requires most { most < 8 }
     ensures { (b : ℕ) → b < 64 → IsRaised (slice_index low b) (λ t. OneOf (Rides (IsOpen kings.bits b) most from t) steps.now) (λ t. at rows.now t b) (slice_index result b) }

@@ -1,4 +1,4 @@
-use Rattle.std.proofs.Common.{◌≡◌, ◌≤◌, ◌<◌, ◌∙◌, get_or, arith}
+use Rattle.std.proofs.Common.{◌<◌, ◌∙◌, get_or, arith}
 use Rattle.egt_lanes.proofs.Rows.{lesser_at, lane_small}
 use Rattle.egt_lanes.proofs.row.masked.Goals as goal
 

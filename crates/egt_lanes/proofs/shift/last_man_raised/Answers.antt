@@ -1,12 +1,8 @@
-use Rattle.std.proofs.Common.{ℕ, ◌≡◌, List, get_or, ap, refl}
-use Rattle.std.specs.Int.{bit_at}
-use Rattle.egt_board.specs.declared.man.Kind.{Kind}
-use Rattle.egt_board.specs.declared.man.Kind.TheVariants.{Q, R, B, N, P, K}
+use Rattle.std.proofs.Common.{ℕ, List, get_or, ap}
+use Rattle.egt_board.specs.declared.man.Kind.TheVariants.{Q, R, B, N}
 use Rattle.egt_board.specs.declared.step.Step.{Step}
 use Rattle.egt_board.specs.Step.{Away}
 use Rattle.egt_board.specs.Gait.{Rides, OneOf, straight_steps, diagonal_steps, knight_steps}
-use Rattle.egt_lanes.specs.Pieces.{IsPiece}
-use Rattle.egt_lanes.specs.Raised.{IsRaised}
 use Rattle.egt_lanes.proofs.Raising.{raised_as}
 use Rattle.egt_lanes.proofs.Riding.{HasBit, both_lists, OneOf-as, one_ride, ride_one, reached_by, no_piece}
 use Rattle.egt_lanes.proofs.shift.last_man_raised.Goals as goal
@@ -23,11 +19,11 @@ returns c s s_in =
     let kind = c.args.man.kind in
     elim c.match-man.branch [
       | in-Q w ↦ reached_by low (at w.straight_raised.result) (at c.match-man.result) s F side kind Q f w.in-Q.is (ap at w.result-is)
-        (both_lists low (at w.diagonal_raised.result) (at w.straight_raised.result) H f straight_steps diagonal_steps (w.diagonal_raised.ensures s s_in) (w.straight_raised.ensures s s_in))
+          (both_lists low (at w.diagonal_raised.result) (at w.straight_raised.result) H f straight_steps diagonal_steps (w.diagonal_raised.ensures s s_in) (w.straight_raised.ensures s s_in))
       | in-R w ↦ reached_by low (at w.straight_raised-in-R.result) (at c.match-man.result) s F side kind R f w.in-R.is (ap at w.result-is) (w.straight_raised-in-R.ensures s s_in)
       | in-B w ↦ reached_by low (at w.diagonal_raised-in-B.result) (at c.match-man.result) s F side kind B f w.in-B.is (ap at w.result-is) (w.diagonal_raised-in-B.ensures s s_in)
       | in-N w ↦ reached_by low (at w.knight_raised.result) (at c.match-man.result) s F side kind N f w.in-N.is (ap at w.result-is)
-        (raised_as low (at w.knight_raised.result) (λ t. OneOf (λ d. Away d 1 s t) knight_steps) (λ t. OneOf (Rides F 1 s t) knight_steps) f
+          (raised_as low (at w.knight_raised.result) (λ t. OneOf (λ d. Away d 1 s t) knight_steps) (λ t. OneOf (Rides F 1 s t) knight_steps) f
           (λ t. OneOf-as (λ d. Away d 1 s t) (Rides F 1 s t) knight_steps (one_ride F s t))
           (λ t. OneOf-as (Rides F 1 s t) (λ d. Away d 1 s t) knight_steps (ride_one F s t))
           (w.knight_raised.ensures s s_in))

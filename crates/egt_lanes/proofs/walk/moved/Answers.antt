@@ -18,7 +18,7 @@ returns c b b_in =
     let kind = c.args.man.kind in
     elim c.match-man.branch [
       | in-Q w ↦ reached_by low (lane w.walked_along.result) (lane c.match-man.result) c.args.from F side kind Q f w.in-Q.is (ap lane w.result-is)
-        (both_lists low (lane w.walked_along-diagonal.result) (lane w.walked_along.result) H f straight_steps diagonal_steps (w.walked_along-diagonal.ensures b b_in) (w.walked_along.ensures b b_in))
+          (both_lists low (lane w.walked_along-diagonal.result) (lane w.walked_along.result) H f straight_steps diagonal_steps (w.walked_along-diagonal.ensures b b_in) (w.walked_along.ensures b b_in))
       | in-R w ↦ reached_by low (lane w.walked_along-in-R.result) (lane c.match-man.result) c.args.from F side kind R f w.in-R.is (ap lane w.result-is) (w.walked_along-in-R.ensures b b_in)
       | in-B w ↦ reached_by low (lane w.walked_along-in-B.result) (lane c.match-man.result) c.args.from F side kind B f w.in-B.is (ap lane w.result-is) (w.walked_along-in-B.ensures b b_in)
       | in-N w ↦ reached_by low (lane w.walked_along-in-N.result) (lane c.match-man.result) c.args.from F side kind N f w.in-N.is (ap lane w.result-is) (w.walked_along-in-N.ensures b b_in)

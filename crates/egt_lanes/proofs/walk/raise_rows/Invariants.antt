@@ -1,7 +1,3 @@
-use Rattle.std.proofs.Common.{◌≡◌, ℕ, ◌<◌, ◌≤◌, length}
-use Rattle.egt_board.specs.Gait.{Reaches}
-use Rattle.egt_lanes.specs.Blocks.{at, IsOpen}
-use Rattle.egt_lanes.specs.Raised.{IsRaised}
 use Rattle.egt_lanes.proofs.Walking.{RaisedBelow}
 use Rattle.egt_lanes.proofs.walk.raise_rows.Given as goal
 
