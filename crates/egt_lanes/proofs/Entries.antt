@@ -1,5 +1,5 @@
 -- Every second entry.
-use Rattle.std.proofs.Common.{◌≡◌, ℕ, ◌+◌, ◌*◌, ◌-◌, ◌<◌, ◌≤◌, ◌⊎◌, nat_lt, if◌then◌else◌, eqb, T, List, ◌++◌, length, get_or, sym, ap, ◌∙◌, inl, inr, arith}
+use Rattle.std.proofs.Common.{Bool, true, false, ◌≡◌, ℕ, ◌+◌, ◌*◌, ◌-◌, ◌<◌, ◌≤◌, ◌⊎◌, nat_lt, if◌then◌else◌, eqb, T, List, ◌++◌, length, get_or, sym, ap, ◌∙◌, inl, inr, arith}
 use Rattle.std.proofs.lemmas.Bool.{cases_lt}
 use Rattle.std.proofs.lemmas.List.{get_or-map, get_or_append_left, get_or-append_right}
 use Rattle.std.proofs.lemmas.Bool.Decides.{nat_tests}
@@ -46,3 +46,17 @@ pawn_place-high s from to = grind (arith, nat_tests)
 
 pub pawn_place-edge : (s : ℕ) → (s < 8) ⊎ (56 ≤ s) → pawn_place s ≡ 64
 pawn_place-edge s edge = grind (arith, nat_tests)
+
+pub bit-small : (b : Bool) → (if b then 1 else 0) < 2
+bit-small true = omega arith
+bit-small false = omega arith
+
+-- a rank down from the ranks 2 to 7; else 64
+abbrev pub target_place : ℕ → ℕ
+target_place s = if nat_lt s 8 then 64 else (if nat_lt s 56 then s - 8 else 64)
+
+pub target_place-middle : (s : ℕ) → 8 ≤ s → s < 56 → target_place s ≡ s - 8
+target_place-middle s from to = grind (arith, nat_tests)
+
+pub target_place-edge : (s : ℕ) → (s < 8) ⊎ (56 ≤ s) → target_place s ≡ 64
+target_place-edge s edge = grind (arith, nat_tests)

@@ -1,8 +1,10 @@
 -- What the operations on rows come to at one lane. A mask's lane is 255 or 0.
-use Rattle.std.proofs.Common.{◌≡◌, ◌≢◌, ℕ, zero, suc, ◌+◌, ◌≤◌, ◌<◌, ◌-◌, ◌/◌, ◌%◌, ◌^◌, Bool, true, false, not, cond, eqb, ltb, leb, max, min, List, [], ◌∷◌, map, length, get_or, replicate, bit_and, refl, sym, ap, ◌∙◌, arith, Fits, w8, ltb-true, ltb-false, eqb-true}
+use Rattle.std.proofs.Common.{inl, inr, ◌==◌, if◌then◌else◌, subst, ◌≡◌, ◌≢◌, ℕ, zero, suc, ◌+◌, ◌≤◌, ◌<◌, ◌-◌, ◌/◌, ◌%◌, ◌^◌, Bool, true, false, not, cond, eqb, ltb, leb, max, min, List, [], ◌∷◌, map, length, get_or, replicate, bit_and, refl, sym, ap, ◌∙◌, arith, Fits, w8, ltb-true, ltb-false, eqb-true}
 use Rattle.std.proofs.lemmas.List.{length-map}
 use Rattle.std.proofs.lemmas.Nat.{and_mask}
-use Rattle.std.proofs.lemmas.Simd.{length-replicate, length-zip2, mask_l-mod}
+use Rattle.std.proofs.lemmas.Simd.{length-replicate, length-zip2, mask_l-mod, bit_mask_l}
+use Rattle.std.proofs.lemmas.Bool.{cases_eq, eqb-false}
+use Rattle.std.specs.Int.{bit_at}
 use lib.Lanes.{zip2, sel_l, mask_l, top, Each1}
 use Rattle.egt_lanes.specs.Scores.{byte_score, zeroing_score, due_score}
 use Rattle.egt_lanes.proofs.Tests.{agreed}
@@ -144,6 +146,29 @@ none_set [] e i = refl
 none_set (x ∷ xs) e zero = unset x (omega arith)
 none_set (x ∷ xs) e (suc i) = none_set xs (omega arith) i
 
+-- the bits of the lanes that are not 0
+set_at : (xs : List ℕ) (i : ℕ) → i < length xs → get_or (map (top 7) (zip2 other xs (replicate (length xs) 0))) i false ≡ not (eqb (get_or xs i 0) 0)
+set_at [] i p = absurd (omega arith)
+set_at (x ∷ xs) zero p = go (eqb x 0)
+  where
+    go : (t : Bool) → top 7 (cond (not t) 255 0) ≡ not t
+    go true = refl
+    go false = refl
+set_at (x ∷ xs) (suc i) p = set_at xs i (omega arith)
+
+one_unless : (b : Bool) → ◌≡◌ {A = ℕ} (cond (not b) 1 0) (cond b 0 1)
+one_unless true = refl
+one_unless false = refl
+
+pub lanes_bits : (xs : List ℕ) (i : ℕ) → length xs ≡ 64 → i < 64
+    → bit_at (mask_l (map (top 7) (zip2 other xs (replicate 64 0))) % 2 ^ 64) i ≡ (if get_or xs i 0 == 0 then 0 else 1)
+lanes_bits xs i long i_in =
+    let ms = map (top 7) (zip2 other xs (replicate 64 0)) in
+    let few : length ms ≤ 64 = omega (arith, length-map (zip2 other xs (replicate 64 0)) (top 7), length-zip2 other xs (replicate 64 0) long) in
+    let here : get_or ms i false ≡ not (eqb (get_or xs i 0) 0) =
+    subst (λ n. get_or (map (top 7) (zip2 other xs (replicate n 0))) i false ≡ not (eqb (get_or xs i 0) 0)) long (set_at xs i (omega arith)) in
+    ap (λ m. bit_at m i) (mask_l-mod ms 64 few) ∙ bit_mask_l ms i ∙ ap (λ b. cond b 1 0) here ∙ one_unless (eqb (get_or xs i 0) 0)
+
 -- the lanes that differ, by a third row, else 0
 abbrev pub unlike : ℕ → List ℕ → List ℕ → List ℕ → List ℕ
 unlike n xs ys ws = select (zip2 other xs ys) ws (replicate n 0)
@@ -191,6 +216,49 @@ all_alike xs ys ws p q r none i i_in some =
     let none' : some_set (length (unlike (length xs) xs ys ws)) (unlike (length xs) xs ys ws) ≡ false =
     rw (long, p) none in
     unlike_at xs ys ws i (omega arith) q' r' (all_zero (unlike (length xs) xs ys ws) long none' i) some
+
+some_lane : (xs : List ℕ) → mask_l (map (top 7) (zip2 other xs (replicate (length xs) 0))) ≢ 0 → (i : ℕ) × (i < length xs) × (get_or xs i 0 ≢ 0)
+some_lane [] ne = absurd (ne refl)
+some_lane (x ∷ xs) ne = elim (cases_eq x 0) [
+  | inr some ↦ (0, omega arith, some)
+  | inl none ↦
+      let off : ◌≡◌ {A = ℕ} (cond (top 7 (other x 0)) 1 0) 0 = ap (λ v. cond (top 7 (other v 0)) 1 0) none in
+      let r = some_lane xs (λ e. ne (omega arith)) in
+      (suc r.0, omega (arith, r.1), r.2)
+]
+
+apart_of : (a b v : ℕ) → chosen (other a b) v 0 ≢ 0 → (v ≢ 0) × (a ≢ b)
+apart_of a b v = go (eqb a b) refl
+  where
+    go : (t : Bool) → eqb a b ≡ t → chosen (cond (not t) 255 0) v 0 ≢ 0 → (v ≢ 0) × (a ≢ b)
+    go true e ne = absurd (ne refl)
+    go false e ne = (ne, eqb-false a b e)
+
+apart_at : (xs ys ws : List ℕ) (i : ℕ) → i < length xs → length ys ≡ length xs → length ws ≡ length xs
+    → get_or (unlike (length xs) xs ys ws) i 0 ≢ 0 → (get_or ws i 0 ≢ 0) × (get_or xs i 0 ≢ get_or ys i 0)
+apart_at [] ys ws i p q r ne = absurd (omega arith)
+apart_at (x ∷ xs) [] ws i p q r ne = absurd (omega arith)
+apart_at (x ∷ xs) (y ∷ ys) [] i p q r ne = absurd (omega arith)
+apart_at (x ∷ xs) (y ∷ ys) (v ∷ ws) zero p q r ne = apart_of x y v ne
+apart_at (x ∷ xs) (y ∷ ys) (v ∷ ws) (suc i) p q r ne = apart_at xs ys ws i (omega arith) (omega arith) (omega arith) ne
+
+not_true : (b : Bool) → not b ≡ true → b ≡ false
+not_true true e = sym e
+not_true false e = refl
+
+pub some_apart : (xs ys ws : List ℕ) → length xs ≡ 64 → length ys ≡ 64 → length ws ≡ 64 → some_set 64 (unlike 64 xs ys ws) ≡ true
+    → (i : ℕ) × (i < 64) × (get_or ws i 0 ≢ 0) × (get_or xs i 0 ≢ get_or ys i 0)
+some_apart xs ys ws p q r some =
+    let q' : length ys ≡ length xs = omega arith in
+    let r' : length ws ≡ length xs = omega arith in
+    let us = unlike (length xs) xs ys ws in
+    let long : length (unlike (length xs) xs ys ws) ≡ 64 = length-unlike xs ys ws q' r' ∙ p in
+    let some' : some_set (length (unlike (length xs) xs ys ws)) (unlike (length xs) xs ys ws) ≡ true = rw (long, p) some in
+    let ne : mask_l (map (top 7) (zip2 other us (replicate (length us) 0))) ≢ 0 = λ e. eqb-false _ _ (not_true _ some') (ap (λ m. m % 2 ^ 64) e) in
+    let l = some_lane us ne in
+    let i_in : l.0 < length xs = omega (arith, l.1) in
+    let apart = apart_at xs ys ws l.0 i_in q' r' l.2 in
+    (l.0, omega arith, apart.0, apart.1)
 
 -- ---- entries of 16 bits
 

@@ -1,5 +1,5 @@
 //! Rows: a number for each square.
-ghost use Rattle.std.specs.Prelude.{◌≡◌, ◌≢◌, ℕ, ◌<◌, max, slice_index, false, Bool};
+ghost use Rattle.std.specs.Prelude.{◌≡◌, ◌≢◌, ℕ, ◌<◌, max, slice_index, false, true};
 
 use std::simd::prelude::*;
 
@@ -17,7 +17,8 @@ pub fn greater(a: Row, b: Row) -> Row
 /// Whether the rows differ at a square where `within` is not 0.
 #[inline(always)]
 pub fn differ(a: Row, b: Row, within: Row) -> bool
-    ensures { result ≡ false → (s : ℕ) → s < 64 → slice_index within s ≢ 0 → slice_index a s ≡ slice_index b s }
+    ensures alike { result ≡ false → (s : ℕ) → s < 64 → slice_index within s ≢ 0 → slice_index a s ≡ slice_index b s }
+    ensures apart { result ≡ true → (s : ℕ) × (s < 64) × (slice_index within s ≢ 0) × (slice_index a s ≢ slice_index b s) }
 {
     let nothing = Row::splat(0);
     let wrong = a.simd_ne(b).select(within, nothing);
@@ -26,7 +27,7 @@ pub fn differ(a: Row, b: Row, within: Row) -> bool
 
 /// The row where the mask is 255, and 0 where it is 0.
 #[inline(always)]
-pub fn masked(row: Row, mask: Row) -> Row
+pub(crate) fn masked(row: Row, mask: Row) -> Row
     ensures kept { (s : ℕ) → s < 64 → slice_index mask s ≡ 255 → slice_index result s ≡ slice_index row s }
     ensures cleared { (s : ℕ) → s < 64 → slice_index mask s ≡ 0 → slice_index result s ≡ 0 }
 {

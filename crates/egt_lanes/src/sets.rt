@@ -54,3 +54,13 @@ pub fn without_lane(row: Row, square: Square) -> Row
     let here = Row::from_array(SQUARES).simd_eq(Row::splat(square.number()));
     here.select(Row::splat(0), row)
 }
+
+/// The squares at which the row is not 0.
+#[inline(always)]
+pub fn lanes_of(row: Row) -> SquareSet
+    ensures { (s : ℕ) → s < 64 → bit_at result.bits s ≡ (if slice_index row s == 0 then 0 else 1) }
+{
+    SquareSet {
+        bits: row.simd_ne(Row::splat(0)).to_bitmask(),
+    }
+}

@@ -191,14 +191,14 @@ fn diagonal_raised(low: Row, row: Row, free: SquareSet) -> Row
 fn knight_raised(low: Row, row: Row) -> Row
     ensures { (s : ℕ) → s < 64 → IsRaised (slice_index low s) (λ t. OneOf (λ d. Away d 1 s t) knight_steps) (λ t. slice_index row t) (slice_index result s) }
 {
-    let a = step_raised(low, row, step(Way::Down, 2, Way::Down, 1));
-    let b = step_raised(a, row, step(Way::Down, 2, Way::Up, 1));
-    let c = step_raised(b, row, step(Way::Up, 2, Way::Down, 1));
-    let d = step_raised(c, row, step(Way::Up, 2, Way::Up, 1));
-    let e = step_raised(d, row, step(Way::Down, 1, Way::Down, 2));
-    let f = step_raised(e, row, step(Way::Down, 1, Way::Up, 2));
-    let g = step_raised(f, row, step(Way::Up, 1, Way::Down, 2));
-    step_raised(g, row, step(Way::Up, 1, Way::Up, 2))
+    let left_down = step_raised(low, row, step(Way::Down, 2, Way::Down, 1));
+    let left_up = step_raised(left_down, row, step(Way::Down, 2, Way::Up, 1));
+    let right_down = step_raised(left_up, row, step(Way::Up, 2, Way::Down, 1));
+    let right_up = step_raised(right_down, row, step(Way::Up, 2, Way::Up, 1));
+    let down_left = step_raised(right_up, row, step(Way::Down, 1, Way::Down, 2));
+    let up_left = step_raised(down_left, row, step(Way::Down, 1, Way::Up, 2));
+    let down_right = step_raised(up_left, row, step(Way::Up, 1, Way::Down, 2));
+    step_raised(down_right, row, step(Way::Up, 1, Way::Up, 2))
 }
 
 /// `low` raised at each square by what stands where this man attacks from there past free squares.
