@@ -1,0 +1,12 @@
+pub mod Tests
+pub mod Rows
+pub mod Picks
+pub mod RankBytes
+pub mod Turns
+pub mod Moves
+pub mod Weaving
+pub mod Raising
+pub mod Rays
+pub mod Riding
+pub mod Entries
+pub mod Walking

@@ -1,0 +1,5 @@
+pub mod Scores
+pub mod Moved
+pub mod Raised
+pub mod Blocks
+pub mod Pieces
