@@ -50,7 +50,7 @@ pub pawns_told : (passed : Bool) (c code : ℕ) (stand : Stand) (side : Side) �
 pawns_told passed c code stand side tells e =
     of_targets c (λ none. absurd (false≢true (sym (tells.ends.never none) ∙ e))) (λ has. has_pawns_list c tells.number (list_of stand) has tells.men)
 
-no_target : (o : Option ℕ) → is_some o ≡ false → o ≡ None
+pub no_target : (o : Option ℕ) → is_some o ≡ false → o ≡ None
 no_target None is = refl
 no_target (Some t) is = absurd (false≢true (sym is))
 
@@ -75,7 +75,7 @@ told_stands passed c code p stand side spells settled tells =
     subst (HasStand c false stand side passed) (sym found.is)
     (stand_spelled c code tells.number stand side passed found.target tells.men (fits_apart (list_of stand) found.fits) found.told (subst (Spells c code) found.is spells) (subst IsSettled found.is settled))
 
-untargeted_stands : (c code : ℕ) (p : Setup) (stand : Stand) (side : Side) → Spells c code p → TellsMen false c code stand side → HasStand c false stand side false p
+pub untargeted_stands : (c code : ℕ) (p : Setup) (stand : Stand) (side : Side) → Spells c code p → TellsMen false c code stand side → HasStand c false stand side false p
 untargeted_stands c code p stand side spells tells =
     let found = told_setup false c code p stand side spells tells in
     told_stands false c code p stand side spells (untargeted_settled p (ap (λ (q : Setup). q.target) found.is ∙ found.told)) tells

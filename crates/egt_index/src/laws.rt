@@ -1,5 +1,5 @@
 //! What holds of codes and indexes. These functions do nothing: a caller calls one to know what it ensures.
-ghost use Rattle.std.specs.Prelude.{◌≡◌, ◌↔◌, ◌⊎◌, ℕ, ◌*◌, ◌<◌, ◌≤◌, Bool, false, true};
+ghost use Rattle.std.specs.Prelude.{◌≡◌, ◌↔◌, ◌⊎◌, ℕ, ◌*◌, ◌/◌, ◌<◌, ◌≤◌, ◌==◌, Bool, false, true};
 ghost use Rattle.egt_board.specs.declared.man.Man.{Man};
 ghost use Rattle.egt_board.specs.declared.man.Side.{Side};
 ghost use Rattle.egt_board.specs.Man.{other_side};
@@ -10,13 +10,16 @@ ghost use Rattle.egt_board.specs.Setup.{Setup, IsAdmissible};
 ghost use Rattle.egt_class.specs.Material.{material_of};
 ghost use Rattle.egt_class.specs.Membership.{IsOf};
 ghost use Rattle.egt_index.specs.Code.{Spells};
+ghost use Rattle.egt_board.specs.Images.{AreImages};
 ghost use Rattle.egt_index.specs.Index.{IsIndex, IsVoid, SettleAlike};
 ghost use Rattle.egt_index.specs.Numbers.{code_of, half_of, number_of, places};
 ghost use Rattle.egt_index.specs.ShelfCodes.{IsShelf};
 ghost use Rattle.egt_index.specs.declared.shelf_codes.ShelfMen.{ShelfMen};
 ghost use Rattle.egt_index.specs.Size.{has_pawns, has_target, size_of};
 ghost use Rattle.egt_index.specs.StepCodes.{FollowsLeap, FollowsStep, IsLeapCode, IsStepCode, TellsMen};
-ghost use Rattle.egt_index.specs.Stood.{HasStand};
+ghost use Rattle.egt_index.specs.Stood.{HasStand, IsFilled};
+ghost use Rattle.egt_index.specs.TurnedMen.{IsSomeTurnedCode, IsTurnedCode};
+ghost use Rattle.egt_index.specs.Went.{AreOnBoard};
 ghost use Rattle.egt_index.specs.declared.stand.Stand.{Stand};
 
 use crate::facts::facts;
@@ -99,6 +102,17 @@ pub fn numbers_stand_for_codes()
     ensures number { (c n : ℕ) → c < 36 → n < size_of c → number_of c (code_of c n) ≡ n }
     ensures halves { (c shelf : ℕ) (men : ShelfMen) (is : IsShelf c shelf men) → c < 36 → has_target (material_of c) ≡ true → (is.passed ≡ true) ↔ (half_of c ≤ shelf * (2 * places c)) }
     ensures indexes_are_settled { (c i : ℕ) (p q : Setup) → IsAdmissible p → IsIndex c p i → Spells c i q → IsSettled q }
+{
+    facts();
+}
+
+/// What spells a code that tells the men where a turn takes them is an image of a position with these men; and the index of such a position is one of
+/// these codes.
+pub fn codes_tell_turned_men()
+    ensures images { (c t code : ℕ) (stand : Stand) (side : Side) (r : Setup) → c < 36 → AreOnBoard stand → IsTurnedCode c t code stand side → Spells c code r →
+        (q : Setup) × HasStand c (t / 8 == 1) stand side false q × AreImages q r }
+    ensures index { (c i : ℕ) (flips : Bool) (stand : Stand) (side : Side) (q : Setup) → c < 36 → IsFilled stand → HasStand c flips stand side false q → IsIndex c q i →
+        IsSomeTurnedCode c i flips stand side }
 {
     facts();
 }
