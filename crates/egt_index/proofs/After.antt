@@ -113,7 +113,7 @@ ordered f men w b x y first second (inr h) all =
     (subst (λ (e : Entry). AllStand f men ((king_of White, w) ∷ (king_of Black, b) ∷ (option_to_list y ++ option_to_list e))) (sym h.1)
     (kings_with f men w b (option_to_list x ++ option_to_list y) (option_to_list y ++ option_to_list x) (exchange_off x y) (exchange_all f men x y) all))
 
-ordered_men : (x y first second : Entry) → IsOrdered x y first second → men_among (option_to_list first ++ option_to_list second) ≡ men_among (option_to_list x ++ option_to_list y)
+pub ordered_men : (x y first second : Entry) → IsOrdered x y first second → men_among (option_to_list first ++ option_to_list second) ≡ men_among (option_to_list x ++ option_to_list y)
 ordered_men x y first second (inl h) = ap (λ (e : Entry). men_among (option_to_list e ++ option_to_list second)) h.0 ∙ ap (λ (e : Entry). men_among (option_to_list x ++ option_to_list e)) h.1
 ordered_men x y first second (inr h) =
     ap (λ (e : Entry). men_among (option_to_list e ++ option_to_list second)) h.0

@@ -17,30 +17,33 @@ use Rattle.egt_board.specs.declared.man.Side.TheVariants.{White, Black}
 use Rattle.egt_class.specs.Below.{all_below, passes_below}
 use Rattle.egt_class.specs.Material.{has_equal_sides, material_of}
 use Rattle.egt_class.specs.Membership.{IsOf}
-use Rattle.egt_index.specs.Code.{Spells, men_at, target_digit, target_digits}
+use Rattle.egt_index.specs.Code.{Spells, men_at, placed, target_digit}
 use Rattle.egt_index.specs.Digits.{AreDigits, number_from, number_of}
 use Rattle.egt_index.specs.Facts.{Facts}
 use Rattle.egt_index.specs.Home.{symmetries}
 use Rattle.egt_index.specs.Index.{IsIndex}
 use Rattle.egt_index.specs.Picked.{AreCounted}
-use Rattle.egt_index.specs.Size.{has_pawns, has_target, men_bases, men_beside, men_in_order}
+use Rattle.egt_index.specs.Size.{base_of, has_pawns, has_target, men_bases, men_beside, men_in_order}
 use Rattle.egt_index.specs.Spelled.{Ends, IsListed, SpellsMen}
 use Rattle.egt_index.specs.StepCodes.{TellsMen}
-use Rattle.egt_index.specs.Stood.{AllApart, AllStand, Entry, HasStand, IsFilled, IsOff, Stood, entry_after, list_of, men_among}
+use Rattle.egt_index.specs.Stood.{AllApart, AllStand, Entry, HasStand, IsFilled, IsOff, Stood, entry_after, list_of, men_among, on_square_of}
 use Rattle.egt_index.specs.TurnedMen.{IsInEitherOrder, IsSeenBy, IsSomeTurnedCode, IsTurnedCode, seen_across, swapped, turned_by, turned_with}
 use Rattle.egt_index.specs.Went.{AreOnBoard}
 use Rattle.egt_index.specs.declared.stand.Stand.{Stand}
-use Rattle.egt_index.proofs.After.{all_there, both_to_list, inverse, stood_by, turn_one, turned_men}
+use Rattle.egt_index.proofs.After.{all_there, both_to_list, inverse, ordered, ordered_men, stood_by, turn_one, turned_men}
+use Rattle.egt_index.proofs.Beating.{has_exchanged}
 use Rattle.egt_index.proofs.Best.{turn_number}
 use Rattle.egt_index.proofs.Classes.{spells_class}
 use Rattle.egt_index.proofs.Decoded.{code_of_parts}
-use Rattle.egt_index.proofs.Exchanged.{filled_exchanged, one_order, stood_exchanged}
+use Rattle.egt_index.proofs.Exchanged.{filled_exchanged, one_order}
 use Rattle.egt_index.proofs.LeastTurn.{keeps_play, kept}
 use Rattle.egt_index.proofs.Led.{eight}
 use Rattle.egt_index.proofs.Listing.{get_here, listed, listed_stands}
 use Rattle.egt_index.proofs.Moved.{settles_untargeted}
+use Rattle.egt_index.proofs.OnePosition.{spells_once}
+use Rattle.egt_index.proofs.Picking.{same_digit}
 use Rattle.egt_index.proofs.Setups.{all_apart, apart_all, are_no_kings, men_spelled, no_king_listed, no_kings_beside}
-use Rattle.egt_index.proofs.StepCodes.{no_target, untargeted_stands}
+use Rattle.egt_index.proofs.StepCodes.{no_target, stands_told, untargeted_stands}
 use Rattle.egt_index.proofs.Turned.{counted_of, differ, turned_class}
 
 -- ---- the turn that undoes another in the same colours
@@ -384,14 +387,7 @@ index_told facts c i flips stand side q c_in filled has index = of_colours (eith
         (told.0, told.1, coded_by c number.0 turn.0 i colours told.0 side number.1 number.2 (number.3 ∙ is) keeps told.2)
 
     across : IsTrue (has_equal_sides c) → HasStand c (not flips) (seen_across stand) side false q
-    across equal = record {
-      admissible = has.admissible;
-      settled = has.settled;
-      is_of = facts.both_flips q c flips (not flips) c_in equal has.is_of;
-      stood = stood_exchanged c flips q.men stand (seen_across stand) c_in equal refl refl refl refl has.stood;
-      side_is = has.side_is;
-      target_is = has.target_is;
-    }
+    across equal = has_exchanged facts c flips stand (seen_across stand) side false q c_in equal refl refl refl refl has
 
     across_alone : IsTrue (has_equal_sides c) → (after : Stand) → IsInEitherOrder (seen_across stand) after → after ≡ seen_across stand
     across_alone equal after (inl same) = same
@@ -409,3 +405,134 @@ index_told facts c i flips stand side q c_in filled has index = of_colours (eith
           let told = by (not flips) (seen_across stand) other.0 (filled_exchanged stand (seen_across stand) refl refl filled) (across equal) in
           record { turn = number.0; after = told.0; seen = inr (equal, number.3 ∙ other.0, across_alone equal told.0 told.1); is = told.2 }
     ]
+
+-- ---- the same men, however they are seen
+
+in_other_order : (c : ℕ) (flips : Bool) (stand : Stand) (side : Side) (q : Setup) → men_among (option_to_list stand.next) ≡ men_among (option_to_list stand.last) → HasStand c flips stand side false q → HasStand c flips (swapped stand) side false q
+in_other_order c flips stand side q equal has = record {
+  admissible = has.admissible;
+  settled = has.settled;
+  is_of = has.is_of;
+  stood = record {
+    are = ap (λ l. king_of White ∷ king_of Black ∷ l) (ordered_men stand.next stand.last stand.last stand.next (inr (refl, refl, equal))) ∙ has.stood.are;
+    all = ordered flips q.men stand.white stand.black stand.next stand.last stand.last stand.next (inr (refl, refl, equal)) has.stood.all;
+  };
+  side_is = has.side_is;
+  target_is = has.target_is;
+}
+
+across_again : (x y : Entry) → on_square_of (on_square_of x y) (on_square_of y x) ≡ x
+across_again None None = refl
+across_again None (Some d) = refl
+across_again (Some e) None = refl
+across_again (Some e) (Some d) = refl
+
+twice_not : (b : Bool) → b ≡ not (not b)
+twice_not true = refl
+twice_not false = refl
+
+module _ (facts : Facts) (c : ℕ) (flips turns : Bool) (stand after : Stand) (side : Side) (c_in : c < 36) (seen : IsSeenBy c flips turns stand after) where
+  pub seen_so : (q : Setup) → HasStand c flips stand side false q → HasStand c turns after side false q
+  seen_so q has = elim seen [
+    | inl own ↦ subst (λ f. HasStand c f after side false q) (sym own.0) (elim own.1 [
+      | inl same ↦ subst (λ (s : Stand). HasStand c flips s side false q) (sym same) has
+      | inr other ↦ subst (λ (s : Stand). HasStand c flips s side false q) (sym other.0) (in_other_order c flips stand side q other.1 has)
+    ])
+    | inr across ↦ subst (λ f. HasStand c f after side false q) (sym across.1) (subst (λ (s : Stand). HasStand c (not flips) s side false q) (sym across.2)
+        (has_exchanged facts c flips stand (seen_across stand) side false q c_in across.0 refl refl refl refl has))
+  ]
+
+-- and back
+pub seen_back : (c : ℕ) (flips turns : Bool) (stand after : Stand) → IsSeenBy c flips turns stand after → IsSeenBy c turns flips after stand
+seen_back c flips turns stand after (inl (own, inl same)) = inl (sym own, inl (sym same))
+seen_back c flips turns stand after (inl (own, inr other)) =
+    inl (sym own, inr (sym (ap swapped other.0), ap (λ (s : Stand). men_among (option_to_list s.next)) other.0 ∙ sym other.1 ∙ sym (ap (λ (s : Stand). men_among (option_to_list s.last)) other.0)))
+seen_back c flips turns stand after (inr (equal, other, across)) = inr (equal, twice_not flips ∙ ap not (sym other), sym (ap seen_across across ∙ again))
+  where
+    again : seen_across (seen_across stand) ≡ stand
+    again = λ i. record { white = stand.white; black = stand.black; next = across_again stand.next stand.last i; last = across_again stand.last stand.next i }
+
+on_board_across : (x y : Entry) → IfSome x (λ e. e.1 < 64) → IfSome y (λ e. e.1 < 64) → IfSome (on_square_of x y) (λ e. e.1 < 64)
+on_board_across None y x_in y_in = tt
+on_board_across (Some e) None x_in y_in = x_in
+on_board_across (Some e) (Some d) x_in y_in = y_in
+
+on_board_so : (c : ℕ) (flips turns : Bool) (stand after : Stand) → IsSeenBy c flips turns stand after → AreOnBoard stand → AreOnBoard after
+on_board_so c flips turns stand after (inl (own, inl same)) board = subst AreOnBoard (sym same) board
+on_board_so c flips turns stand after (inl (own, inr other)) board = subst AreOnBoard (sym other.0) (record { white = board.white; black = board.black; next = board.last; last = board.next })
+on_board_so c flips turns stand after (inr (equal, other, across)) board = subst AreOnBoard (sym across) (record {
+  white = board.black;
+  black = board.white;
+  next = on_board_across stand.next stand.last board.next board.last;
+  last = on_board_across stand.last stand.next board.last board.next;
+})
+
+-- what such a code spells is an image of a position with the men
+pub some_image : Facts → (c code : ℕ) (flips : Bool) (stand : Stand) (side : Side) (r : Setup) → c < 36 → AreOnBoard stand → IsSomeTurnedCode c code flips stand side → Spells c code r
+    → (q : Setup) × HasStand c flips stand side false q × AreImages q r
+some_image facts c code flips stand side r c_in board some spells =
+    let turns : Bool = eqb (some.turn / 8) 1 in
+    let told = image_told facts c (some.turn % 8) code turns some.after side r c_in some.is.keeps (on_board_so c flips turns stand some.after some.seen board) some.is.tells spells in
+    (told.0, seen_so facts c turns flips some.after stand side c_in (seen_back c flips turns stand some.after some.seen) told.0 told.1, told.2)
+
+-- a position with the men is an image of what such a code spells
+pub one_image : Facts → (c code : ℕ) (flips : Bool) (stand : Stand) (side : Side) (q r : Setup) → c < 36 → HasStand c flips stand side false q → IsSomeTurnedCode c code flips stand side → Spells c code r → AreImages q r
+one_image facts c code flips stand side q r c_in has some spells = subst (AreImages q) (spells_once c code made.0 r (stands_told false c code made.0 lane (turned_side (eqb (some.turn / 8) 1) side) there some.is.tells) spells) images
+  where
+    seen : HasStand c (eqb (some.turn / 8) 1) some.after side false q
+    seen = seen_so facts c flips (eqb (some.turn / 8) 1) stand some.after side c_in some.seen q has
+
+    few : some.turn % 8 < 8
+    few = omega arith
+
+    made : (r : Setup) × IsTurnedBy (some.turn % 8) (eqb (some.turn / 8) 1) q r
+    made = facts.made (some.turn % 8) (eqb (some.turn / 8) 1) q has.admissible
+
+    keeps : KeepsPlay (some.turn % 8) q.men
+    keeps = keeps_play c flips q (some.turn % 8) has.admissible has.is_of some.is.keeps
+
+    images : AreImages q made.0
+    images = facts.images q made.0 (some.turn % 8) (eqb (some.turn / 8) 1) has.admissible few keeps made.1
+
+    set : IsSetBy (some.turn % 8) (eqb (some.turn / 8) 1) q made.0
+    set = facts.set (some.turn % 8) (eqb (some.turn / 8) 1) q made.0 has.admissible made.1
+
+    lane : Stand
+    lane = turned_by some.turn some.after
+
+    same_colours : (f : Bool) → differ f f ≡ false
+    same_colours true = refl
+    same_colours false = refl
+
+    there : HasStand c false lane (turned_side (eqb (some.turn / 8) 1) side) false made.0
+    there = record {
+      admissible = facts.admissible q made.0 has.admissible images;
+      settled = (facts.settled q made.0 has.admissible images).0 has.settled;
+      is_of = subst (λ f. IsOf c f made.0) (same_colours (eqb (some.turn / 8) 1)) (turned_class facts c (eqb (some.turn / 8) 1) (eqb (some.turn / 8) 1) (some.turn % 8) q made.0 has.admissible few keeps made.1 seen.is_of);
+      stood = stood_by c (some.turn % 8) (eqb (some.turn / 8) 1) q made.0 some.after few set seen.stood;
+      side_is = set.side ∙ ap (turned_side (eqb (some.turn / 8) 1)) has.side_is;
+      target_is = ap is_some set.target ∙ none_mapped (turned_square (some.turn % 8) (eqb (some.turn / 8) 1)) q.target (no_target q.target has.target_is);
+    }
+
+-- ---- one code tells men on their squares
+
+same_placed : (pawns : Bool) (men : List Man) (digits others : List ℕ) → AreDigits (map (base_of pawns) men) digits → AreDigits (map (base_of pawns) men) others → placed pawns men digits ≡ placed pawns men others → digits ≡ others
+same_placed pawns [] [] [] are are' same = refl
+same_placed pawns [] (d ∷ ds) others are are' same = absurd are
+same_placed pawns [] [] (e ∷ es) are are' same = absurd are'
+same_placed pawns (man ∷ men) [] others are are' same = absurd are
+same_placed pawns (man ∷ men) (d ∷ ds) [] are are' same = absurd are'
+same_placed pawns (man ∷ men) (d ∷ ds) (e ∷ es) are are' same =
+    let digit = same_digit pawns man d e are.0 are'.0 (ap (λ (x : Man × ℕ). x.1) (heads same)) in
+    let rest = same_placed pawns men ds es are.1 are'.1 (tails same) in
+    ap (λ x. x ∷ ds) digit ∙ ap (λ l. e ∷ l) rest
+
+pub one_code : (passed : Bool) (c x y : ℕ) (stand : Stand) (side : Side) → TellsMen passed c x stand side → TellsMen passed c y stand side → x ≡ y
+one_code passed c x y stand side one other =
+    one.ends.number_is
+    ∙ ap (λ n. number_from n (2 ∷ cond (has_target (material_of c)) (2 ∷ []) []) (side_number side ∷ cond (has_target (material_of c)) (cond passed 1 0 ∷ []) []))
+    (one.men.number_is ∙ ap (number_of (men_bases (material_of c))) digits ∙ sym other.men.number_is)
+    ∙ sym other.ends.number_is
+  where
+    digits : one.men.digits ≡ other.men.digits
+    digits = same_placed (has_pawns (material_of c)) (men_in_order (material_of c)) one.men.digits other.men.digits one.men.are other.men.are (sym one.men.list_is ∙ other.men.list_is)

@@ -1,5 +1,5 @@
 //! What holds of codes and indexes. These functions do nothing: a caller calls one to know what it ensures.
-ghost use Rattle.std.specs.Prelude.{◌≡◌, ◌↔◌, ◌⊎◌, ℕ, ◌*◌, ◌/◌, ◌<◌, ◌≤◌, ◌==◌, Bool, false, true};
+ghost use Rattle.std.specs.Prelude.{◌≡◌, ◌↔◌, ◌⊎◌, ℕ, ◌*◌, ◌<◌, ◌≤◌, Bool, false, true};
 ghost use Rattle.egt_board.specs.declared.man.Man.{Man};
 ghost use Rattle.egt_board.specs.declared.man.Side.{Side};
 ghost use Rattle.egt_board.specs.Man.{other_side};
@@ -18,7 +18,7 @@ ghost use Rattle.egt_index.specs.declared.shelf_codes.ShelfMen.{ShelfMen};
 ghost use Rattle.egt_index.specs.Size.{has_pawns, has_target, size_of};
 ghost use Rattle.egt_index.specs.StepCodes.{FollowsLeap, FollowsStep, IsLeapCode, IsStepCode, TellsMen};
 ghost use Rattle.egt_index.specs.Stood.{HasStand, IsFilled};
-ghost use Rattle.egt_index.specs.TurnedMen.{IsSomeTurnedCode, IsTurnedCode};
+ghost use Rattle.egt_index.specs.TurnedMen.{IsSomeTurnedCode};
 ghost use Rattle.egt_index.specs.Went.{AreOnBoard};
 ghost use Rattle.egt_index.specs.declared.stand.Stand.{Stand};
 
@@ -106,13 +106,16 @@ pub fn numbers_stand_for_codes()
     facts();
 }
 
-/// What spells a code that tells the men where a turn takes them is an image of a position with these men; and the index of such a position is one of
-/// these codes.
+/// One code tells men on their squares. The index of a position with these men is a code that tells them where a turn takes them; and what any such code spells is an image of each
+/// position with these men, of which there is one then.
 pub fn codes_tell_turned_men()
-    ensures images { (c t code : ℕ) (stand : Stand) (side : Side) (r : Setup) → c < 36 → AreOnBoard stand → IsTurnedCode c t code stand side → Spells c code r →
-        (q : Setup) × HasStand c (t / 8 == 1) stand side false q × AreImages q r }
+    ensures one { (passed : Bool) (c x y : ℕ) (stand : Stand) (side : Side) → TellsMen passed c x stand side → TellsMen passed c y stand side → x ≡ y }
     ensures index { (c i : ℕ) (flips : Bool) (stand : Stand) (side : Side) (q : Setup) → c < 36 → IsFilled stand → HasStand c flips stand side false q → IsIndex c q i →
         IsSomeTurnedCode c i flips stand side }
+    ensures images { (c code : ℕ) (flips : Bool) (stand : Stand) (side : Side) (q r : Setup) → c < 36 → HasStand c flips stand side false q → IsSomeTurnedCode c code flips stand side →
+        Spells c code r → AreImages q r }
+    ensures there { (c code : ℕ) (flips : Bool) (stand : Stand) (side : Side) (r : Setup) → c < 36 → AreOnBoard stand → IsSomeTurnedCode c code flips stand side → Spells c code r →
+        (q : Setup) × HasStand c flips stand side false q × AreImages q r }
 {
     facts();
 }
