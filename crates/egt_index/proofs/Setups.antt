@@ -78,7 +78,7 @@ may_stand pawns side R d d_in = λ e. absurd (let kinds = ap kind_number e in om
 may_stand pawns side B d d_in = λ e. absurd (let kinds = ap kind_number e in omega arith)
 may_stand pawns side N d d_in = λ e. absurd (let kinds = ap kind_number e in omega arith)
 
-placed_may : (pawns : Bool) (men : List Man) (digits : List ℕ) (man : Man) (s : ℕ) → AreDigits (map (base_of pawns) men) digits → IsListed (placed pawns men digits) man s → MayStand man s
+pub placed_may : (pawns : Bool) (men : List Man) (digits : List ℕ) (man : Man) (s : ℕ) → AreDigits (map (base_of pawns) men) digits → IsListed (placed pawns men digits) man s → MayStand man s
 placed_may pawns [] digits man s are h = absurd h
 placed_may pawns (other ∷ men) [] man s are h = absurd h
 placed_may pawns (other ∷ men) (d ∷ ds) man s are (inl h) =

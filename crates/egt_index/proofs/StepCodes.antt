@@ -27,7 +27,7 @@ use Rattle.egt_index.specs.Spelled.{HasPawns, IsListed, IsTold}
 use Rattle.egt_index.specs.StepCodes.{FollowsLeap, FollowsStep, IsLeapCode, IsLeapt, IsStepCode, TellsMen, moved_stand, turned_stand}
 use Rattle.egt_index.specs.Stood.{AllApart, Entry, HasStand, list_of}
 use Rattle.egt_index.specs.Turns.{IsTurn}
-use Rattle.egt_index.specs.Went.{AreOnBoard, moved_entry, moved_square}
+use Rattle.egt_index.specs.Went.{AreOnBoard, IsMovedStand, moved_entry, moved_square}
 use Rattle.egt_index.specs.declared.stand.Stand.{Stand}
 use Rattle.egt_index.proofs.After.{inverse, stood_turned}
 use Rattle.egt_index.proofs.Best.{turn_number}
@@ -247,6 +247,31 @@ module _ (facts : Facts) (c code n from to : ℕ) (p : Setup) (is : IsStepCode c
 
   pub follows_step : FollowsStep c code from to p
   follows_step = record { leads = leads; comes = comes }
+
+-- the position after a man went has the men after it
+pub moved_stands : (c from to : ℕ) (p q : Setup) (stand after : Stand) (side : Side) (passed : Bool) → HasStand c false stand side passed p → IsMovedStand from to stand after → IsMoved c p from to q → HasStand c false after (other_side side) false q
+moved_stands c from to p q stand after side passed has is moved = stand_moved c false passed p q from to stand after side (other_side side) has moved (untargeted_settled q moved.target) refl is
+
+-- and one that has them is the position after it
+pub stands_moved : Facts → (c from to : ℕ) (p q : Setup) (man : Man) (stand after : Stand) (side : Side) (passed : Bool) → c < 36 → to < 64 → to ≢ from → Stands p.men from man → HasStand c false stand side passed p → IsMovedStand from to stand after
+    → HasStand c false after (other_side side) false q → IsMoved c p from to q
+stands_moved facts c from to p q man stand after side passed c_in to_in other stands has is there = record {
+  man = man;
+  stands = stands;
+  free = came.free;
+  on_board = to_in;
+  men = came.men;
+  side = came.side;
+  target = no_target q.target there.target_is;
+  admissible = there.admissible;
+  class = came.class;
+}
+  where
+    same : after ≡ moved_stand from to stand
+    same = λ i. record { white = is.white i; black = is.black i; next = is.next i; last = is.last i }
+
+    came : HasCome c p from to man q
+    came = has_come facts c stand side passed false p c_in has from to man other stands q (subst (λ (s : Stand). HasStand c false s (other_side side) false q) same there)
 
 -- a leap is a move but for the target
 leap_moves : (c from to : ℕ) (p q : Setup) → IsLeapt c p from to q → IsMoved c p from to (untargeted q)

@@ -7,6 +7,7 @@ use Rattle.std.proofs.lemmas.Bool.{cases_eq, and_parts, eqb-true, ltb-true, fals
 use Rattle.egt_board.specs.Attack.{king_of}
 use Rattle.egt_board.specs.Images.{AreImages, side_number}
 use Rattle.egt_board.specs.Listed.{men_of}
+use Rattle.egt_board.specs.Pawn.{MayStand}
 use Rattle.egt_board.specs.Placement.{Placement, Stands}
 use Rattle.egt_board.specs.Setup.{Setup}
 use Rattle.egt_board.specs.Symmetry.{KeepsPlay}
@@ -42,7 +43,7 @@ use Rattle.egt_index.proofs.Listing.{get_here, listed, listed_stands}
 use Rattle.egt_index.proofs.Moved.{settles_untargeted}
 use Rattle.egt_index.proofs.OnePosition.{spells_once}
 use Rattle.egt_index.proofs.Picking.{same_digit}
-use Rattle.egt_index.proofs.Setups.{all_apart, apart_all, are_no_kings, men_spelled, no_king_listed, no_kings_beside}
+use Rattle.egt_index.proofs.Setups.{all_apart, apart_all, are_no_kings, men_spelled, no_king_listed, no_kings_beside, placed_may}
 use Rattle.egt_index.proofs.StepCodes.{no_target, stands_told, untargeted_stands}
 use Rattle.egt_index.proofs.Turned.{counted_of, differ, turned_class}
 
@@ -536,3 +537,7 @@ one_code passed c x y stand side one other =
   where
     digits : one.men.digits ≡ other.men.digits
     digits = same_placed (has_pawns (material_of c)) (men_in_order (material_of c)) one.men.digits other.men.digits one.men.are other.men.are (sym one.men.list_is ∙ other.men.list_is)
+
+-- pawns stand on neither the first rank nor the last
+pub pawns_may : (passed : Bool) (c code : ℕ) (stand : Stand) (side : Side) (man : Man) (s : ℕ) → TellsMen passed c code stand side → IsListed (list_of stand) man s → MayStand man s
+pawns_may passed c code stand side man s tells h = placed_may (has_pawns (material_of c)) (men_in_order (material_of c)) tells.men.digits man s tells.men.are (subst (λ l. IsListed l man s) tells.men.list_is h)
