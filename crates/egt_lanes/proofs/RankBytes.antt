@@ -1,0 +1,34 @@
+-- The bits of a set, as bytes of ranks.
+use Rattle.std.proofs.Common.{◌≡◌, ℕ, zero, suc, ◌+◌, ◌-◌, ◌*◌, ◌/◌, ◌%◌, ◌^◌, ◌<◌, ◌≤◌, Bool, true, false, ◌&&◌, eqb, T, List, [], ◌∷◌, ◌++◌, map, length, get_or, replicate, cond, bit_and, eqb-true, eq-eqb, refl, sym, ap, ◌∙◌, arith}
+use Rattle.std.specs.Int.{bit_at}
+use Rattle.std.proofs.Math.Nat.{div-div-eq-div-mul}
+use Rattle.std.proofs.lemmas.Nat.Bits.{and_pow, bit_at_cat_low, bit_at-lt}
+use Rattle.std.proofs.lemmas.Nat.{div-add-mod', pow_pos}
+use Rattle.egt_lanes.proofs.Tests.{passes_below, agreed}
+
+low_bit : (n k : ℕ) → k < 8 → bit_at (n % 256) k ≡ bit_at n k
+low_bit n k k_in = sym (bit_at_cat_low (n / 256) 8 (n % 256) k k_in) ∙ ap (λ m. bit_at m k) (div-add-mod' n 256)
+
+weights : (s : ℕ) → s < 64 → 256 ^ (s / 8) * 2 ^ (s % 8) ≡ 2 ^ s
+weights s s_in = agreed (λ s. 256 ^ (s / 8) * 2 ^ (s % 8)) (λ s. 2 ^ s) 64 tt s s_in
+
+bit_of_byte : (n s : ℕ) → s < 64 → bit_at (n / 256 ^ (s / 8) % 256) (s % 8) ≡ bit_at n s
+bit_of_byte n s s_in =
+    low_bit (n / 256 ^ (s / 8)) (s % 8) (omega arith)
+    ∙ ap (λ m. m % 2) (div-div-eq-div-mul n (256 ^ (s / 8)) (2 ^ (s % 8)) ∙ ap (λ d. n / d) (weights s s_in))
+
+scaled : (b w : ℕ) → b < 2 → 0 < w → eqb (b * w) w ≡ eqb b 1
+scaled zero w b_in w_in = go (eqb (0 * w) w) refl
+  where
+    go : (t : Bool) → eqb (0 * w) w ≡ t → t ≡ false
+    go true e = absurd (omega (arith, eqb-true _ _ e))
+    go false e = refl
+scaled (suc zero) w b_in w_in = eq-eqb (1 * w) w (omega arith)
+scaled (suc (suc b)) w b_in w_in = absurd (omega arith)
+
+-- the bit of a square, in the byte of its rank
+pub has_bit : (n s : ℕ) → s < 64 → eqb (bit_and (n / 256 ^ (s / 8) % 256) (2 ^ (s % 8))) (2 ^ (s % 8)) ≡ eqb (bit_at n s) 1
+has_bit n s s_in =
+    ap (λ m. eqb m (2 ^ (s % 8))) (and_pow (n / 256 ^ (s / 8) % 256) (s % 8))
+    ∙ scaled (bit_at (n / 256 ^ (s / 8) % 256) (s % 8)) (2 ^ (s % 8)) (bit_at-lt _ _) (pow_pos (s % 8))
+    ∙ ap (λ b. eqb b 1) (bit_of_byte n s s_in)

@@ -1,0 +1,200 @@
+-- What the operations on rows come to at one lane. A mask's lane is 255 or 0.
+use Rattle.std.proofs.Common.{◌≡◌, ◌≢◌, ℕ, zero, suc, ◌+◌, ◌≤◌, ◌<◌, ◌-◌, ◌/◌, ◌%◌, ◌^◌, Bool, true, false, not, cond, eqb, ltb, leb, max, min, T, List, [], ◌∷◌, map, length, get_or, replicate, bit_and, refl, sym, ap, ◌∙◌, arith, Fits, w8, w16, ltb-true, ltb-false, eqb-true, eqb→eq}
+use Rattle.std.proofs.lemmas.List.{length-map}
+use Rattle.std.proofs.lemmas.Nat.{and_mask}
+use Rattle.std.proofs.lemmas.Simd.{length-replicate, length-zip2, mask_l-mod}
+use lib.Lanes.{zip2, sel_l, mask_l, top, Each1}
+use Rattle.egt_lanes.specs.Scores.{byte_score, zeroing_score, due_score}
+use Rattle.egt_lanes.proofs.Tests.{passes_below, agreed}
+
+abbrev pub below : ℕ → ℕ → ℕ
+below a b = cond (ltb a b) 255 0
+
+abbrev pub at_most : ℕ → ℕ → ℕ
+at_most a b = cond (leb a b) 255 0
+
+abbrev pub same : ℕ → ℕ → ℕ
+same a b = cond (eqb a b) 255 0
+
+abbrev pub other : ℕ → ℕ → ℕ
+other a b = cond (not (eqb a b)) 255 0
+
+-- the difference, wrapping
+abbrev pub less : ℕ → ℕ → ℕ
+less a b = (a + (2 ^ 8 - b)) % 2 ^ 8
+
+abbrev pub halved : ℕ → ℕ → ℕ
+halved a b = a / 2 ^ b
+
+-- x where the mask is set, else y
+abbrev chosen : ℕ → ℕ → ℕ → ℕ
+chosen m x y = cond (top 7 m) x y
+
+abbrev pub select : List ℕ → List ℕ → List ℕ → List ℕ
+select ms xs ys = sel_l (map (top 7) ms) xs ys
+
+greater_of : (a b : ℕ) → chosen (below a b) b a ≡ max a b
+greater_of a b = go (ltb a b) refl
+  where
+    go : (t : Bool) → ltb a b ≡ t → chosen (cond t 255 0) b a ≡ max a b
+    go true e = omega (arith, ltb-true _ _ e)
+    go false e = omega (arith, ltb-false _ _ e)
+
+pub greater_at : (xs ys : List ℕ) (i : ℕ) → i < length xs → i < length ys → get_or (select (zip2 below xs ys) ys xs) i 0 ≡ max (get_or xs i 0) (get_or ys i 0)
+greater_at [] ys i p q = absurd (omega arith)
+greater_at (x ∷ xs) [] i p q = absurd (omega arith)
+greater_at (x ∷ xs) (y ∷ ys) zero p q = greater_of x y
+greater_at (x ∷ xs) (y ∷ ys) (suc i) p q = greater_at xs ys i (omega arith) (omega arith)
+
+lesser_of : (a b : ℕ) → chosen (below a b) a b ≡ min a b
+lesser_of a b = go (ltb a b) refl
+  where
+    go : (t : Bool) → ltb a b ≡ t → chosen (cond t 255 0) a b ≡ min a b
+    go true e = omega (arith, ltb-true _ _ e)
+    go false e = omega (arith, ltb-false _ _ e)
+
+pub lesser_at : (xs ys : List ℕ) (i : ℕ) → i < length xs → i < length ys → get_or (select (zip2 below xs ys) xs ys) i 0 ≡ min (get_or xs i 0) (get_or ys i 0)
+lesser_at [] ys i p q = absurd (omega arith)
+lesser_at (x ∷ xs) [] i p q = absurd (omega arith)
+lesser_at (x ∷ xs) (y ∷ ys) zero p q = lesser_of x y
+lesser_at (x ∷ xs) (y ∷ ys) (suc i) p q = lesser_at xs ys i (omega arith) (omega arith)
+
+-- ---- scores
+
+-- of n lanes
+abbrev pub byte_scores : ℕ → List ℕ → List ℕ
+byte_scores n xs =
+    let one = replicate n 1 in
+    let half = zip2 halved xs one in
+    select (zip2 same xs one) (replicate n 128)
+    (select (zip2 same (zip2 bit_and xs one) one) (zip2 less (replicate n 0) half)
+     (zip2 less (select (zip2 below half one) one half) one))
+
+byte_scored : ℕ → ℕ
+byte_scored x =
+    chosen (same x 1) 128
+    (chosen (same (bit_and x 1) 1) (less 0 (halved x 1)) (less (chosen (below (halved x 1) 1) 1 (halved x 1)) 1))
+
+byte_scored_is : (x : ℕ) → x < 256 → byte_scored x ≡ byte_score x
+unfolding byte_scored
+byte_scored_is x x_in = agreed byte_scored byte_score 256 tt x x_in
+
+pub byte_scores_at : (xs : List ℕ) (i : ℕ) → i < length xs → Each1 (Fits w8) xs → get_or (byte_scores (length xs) xs) i 0 ≡ byte_score (get_or xs i 0)
+unfolding byte_scored
+byte_scores_at [] i p fits = absurd (omega arith)
+byte_scores_at (x ∷ xs) zero p fits = byte_scored_is x fits.0.fits
+byte_scores_at (x ∷ xs) (suc i) p fits = byte_scores_at xs i (omega arith) fits.1
+
+abbrev pub zeroed : ℕ → List ℕ → List ℕ
+zeroed n xs = select (zip2 same xs (replicate n 128)) (replicate n 128) (select (zip2 below (replicate n 128) xs) (replicate n 255) (replicate n 0))
+
+zeroed_is : (x : ℕ) → x < 256 → chosen (same x 128) 128 (chosen (below 128 x) 255 0) ≡ zeroing_score x
+zeroed_is x x_in = agreed (λ x. chosen (same x 128) 128 (chosen (below 128 x) 255 0)) zeroing_score 256 tt x x_in
+
+pub zeroed_at : (xs : List ℕ) (i : ℕ) → i < length xs → Each1 (Fits w8) xs → get_or (zeroed (length xs) xs) i 0 ≡ zeroing_score (get_or xs i 0)
+zeroed_at [] i p fits = absurd (omega arith)
+zeroed_at (x ∷ xs) zero p fits = zeroed_is x fits.0.fits
+zeroed_at (x ∷ xs) (suc i) p fits = zeroed_at xs i (omega arith) fits.1
+
+abbrev pub due : ℕ → List ℕ → List ℕ
+due n xs = select (zip2 at_most (replicate n 128) xs) (zip2 less (replicate n 0) xs) (zip2 less (replicate n 254) xs)
+
+due_is : (x : ℕ) → x < 256 → chosen (at_most 128 x) (less 0 x) (less 254 x) ≡ due_score x
+due_is x x_in = agreed (λ x. chosen (at_most 128 x) (less 0 x) (less 254 x)) due_score 256 tt x x_in
+
+pub due_at : (xs : List ℕ) (i : ℕ) → i < length xs → Each1 (Fits w8) xs → get_or (due (length xs) xs) i 0 ≡ due_score (get_or xs i 0)
+due_at [] i p fits = absurd (omega arith)
+due_at (x ∷ xs) zero p fits = due_is x fits.0.fits
+due_at (x ∷ xs) (suc i) p fits = due_at xs i (omega arith) fits.1
+
+-- ---- a choice by equal lanes
+
+same_of : (a b x y : ℕ) → chosen (same a b) x y ≡ cond (eqb a b) x y
+same_of a b x y = go (eqb a b)
+  where
+    go : (t : Bool) → chosen (cond t 255 0) x y ≡ cond t x y
+    go true = refl
+    go false = refl
+
+pub same_at : (us ks xs ys : List ℕ) (i : ℕ) → i < length us → i < length ks → i < length xs → i < length ys
+    → get_or (select (zip2 same us ks) xs ys) i 0 ≡ cond (eqb (get_or us i 0) (get_or ks i 0)) (get_or xs i 0) (get_or ys i 0)
+same_at [] ks xs ys i p q r t = absurd (omega arith)
+same_at (u ∷ us) [] xs ys i p q r t = absurd (omega arith)
+same_at (u ∷ us) (k ∷ ks) [] ys i p q r t = absurd (omega arith)
+same_at (u ∷ us) (k ∷ ks) (x ∷ xs) [] i p q r t = absurd (omega arith)
+same_at (u ∷ us) (k ∷ ks) (x ∷ xs) (y ∷ ys) zero p q r t = same_of u k x y
+same_at (u ∷ us) (k ∷ ks) (x ∷ xs) (y ∷ ys) (suc i) p q r t = same_at us ks xs ys i (omega arith) (omega arith) (omega arith) (omega arith)
+
+-- ---- a test of all lanes
+
+unset : (x : ℕ) → ◌≡◌ {A = ℕ} (cond (top 7 (other x 0)) 1 0) 0 → x ≡ 0
+unset x = go (eqb x 0) refl
+  where
+    go : (t : Bool) → eqb x 0 ≡ t → ◌≡◌ {A = ℕ} (cond (top 7 (cond (not t) 255 0)) 1 0) 0 → x ≡ 0
+    go true e q = eqb-true _ _ e
+    go false e q = absurd (omega arith)
+
+none_set : (xs : List ℕ) → mask_l (map (top 7) (zip2 other xs (replicate (length xs) 0))) ≡ 0 → (i : ℕ) → get_or xs i 0 ≡ 0
+none_set [] e i = refl
+none_set (x ∷ xs) e zero = unset x (omega arith)
+none_set (x ∷ xs) e (suc i) = none_set xs (omega arith) i
+
+-- the lanes that differ, by a third row, else 0
+abbrev pub unlike : ℕ → List ℕ → List ℕ → List ℕ → List ℕ
+unlike n xs ys ws = select (zip2 other xs ys) ws (replicate n 0)
+
+unlike_of : (a b v : ℕ) → chosen (other a b) v 0 ≡ 0 → v ≢ 0 → a ≡ b
+unlike_of a b v = go (eqb a b) refl
+  where
+    go : (t : Bool) → eqb a b ≡ t → chosen (cond (not t) 255 0) v 0 ≡ 0 → v ≢ 0 → a ≡ b
+    go true e q some = eqb-true _ _ e
+    go false e q some = absurd (some q)
+
+unlike_at : (xs ys ws : List ℕ) (i : ℕ) → i < length xs → length ys ≡ length xs → length ws ≡ length xs
+    → get_or (unlike (length xs) xs ys ws) i 0 ≡ 0 → get_or ws i 0 ≢ 0 → get_or xs i 0 ≡ get_or ys i 0
+unlike_at [] ys ws i p q r e some = absurd (omega arith)
+unlike_at (x ∷ xs) [] ws i p q r e some = absurd (omega arith)
+unlike_at (x ∷ xs) (y ∷ ys) [] i p q r e some = absurd (omega arith)
+unlike_at (x ∷ xs) (y ∷ ys) (v ∷ ws) zero p q r e some = unlike_of x y v e some
+unlike_at (x ∷ xs) (y ∷ ys) (v ∷ ws) (suc i) p q r e some = unlike_at xs ys ws i (omega arith) (omega arith) (omega arith) e some
+
+length-unlike : (xs ys ws : List ℕ) → length ys ≡ length xs → length ws ≡ length xs → length (unlike (length xs) xs ys ws) ≡ length xs
+length-unlike [] ys ws q r = refl
+length-unlike (x ∷ xs) [] ws q r = absurd (omega arith)
+length-unlike (x ∷ xs) (y ∷ ys) [] q r = absurd (omega arith)
+length-unlike (x ∷ xs) (y ∷ ys) (v ∷ ws) q r = ap suc (length-unlike xs ys ws (omega arith) (omega arith))
+
+abbrev pub some_set : ℕ → List ℕ → Bool
+some_set n xs = not (eqb (mask_l (map (top 7) (zip2 other xs (replicate n 0))) % 2 ^ 64) 0)
+
+not_false : (b : Bool) → not b ≡ false → b ≡ true
+not_false true e = refl
+not_false false e = sym e
+
+all_zero : (xs : List ℕ) → length xs ≡ 64 → some_set (length xs) xs ≡ false → (i : ℕ) → get_or xs i 0 ≡ 0
+all_zero xs long none =
+    let ms = map (top 7) (zip2 other xs (replicate (length xs) 0)) in
+    let few : length ms ≤ 64 = omega (arith, length-map (zip2 other xs (replicate (length xs) 0)) (top 7), length-zip2 other xs (replicate (length xs) 0) (sym (length-replicate (length xs) 0))) in
+    none_set xs (sym (mask_l-mod ms 64 few) ∙ eqb-true _ _ (not_false _ none))
+
+pub all_alike : (xs ys ws : List ℕ) → length xs ≡ 64 → length ys ≡ 64 → length ws ≡ 64 → some_set 64 (unlike 64 xs ys ws) ≡ false
+    → (i : ℕ) → i < 64 → get_or ws i 0 ≢ 0 → get_or xs i 0 ≡ get_or ys i 0
+all_alike xs ys ws p q r none i i_in some =
+    let q' : length ys ≡ length xs = omega arith in
+    let r' : length ws ≡ length xs = omega arith in
+    let long : length (unlike (length xs) xs ys ws) ≡ 64 = length-unlike xs ys ws q' r' ∙ p in
+    let none' : some_set (length (unlike (length xs) xs ys ws)) (unlike (length xs) xs ys ws) ≡ false =
+        rw (long, p) none in
+    unlike_at xs ys ws i (omega arith) q' r' (all_zero (unlike (length xs) xs ys ws) long none' i) some
+
+-- ---- entries of 16 bits
+
+pub low_at : (xs : List ℕ) (i : ℕ) → i < length xs → get_or (map (λ x. x) (zip2 bit_and xs (replicate (length xs) 255))) i 0 ≡ get_or xs i 0 % 256
+low_at [] i p = absurd (omega arith)
+low_at (x ∷ xs) zero p = and_mask x 8
+low_at (x ∷ xs) (suc i) p = low_at xs i (omega arith)
+
+pub low_fits : (xs : List ℕ) (n : ℕ) → Each1 (Fits w8) (zip2 bit_and xs (replicate n 255))
+low_fits [] n = tt
+low_fits (x ∷ xs) zero = tt
+low_fits (x ∷ xs) (suc n) = (record { fits = omega (arith, and_mask x 8) }, low_fits xs n)

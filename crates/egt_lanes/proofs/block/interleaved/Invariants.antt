@@ -1,0 +1,9 @@
+use Rattle.std.proofs.Common.{List, ◌≡◌, ℕ, ◌<◌, ◌+◌, ◌*◌, ◌/◌, ◌%◌, length}
+use Rattle.egt_lanes.specs.Blocks.{at}
+use Rattle.egt_lanes.proofs.block.interleaved.Given as goal
+
+pub record Interleaved (out from : List (List ℕ)) (i : ℕ) : Type 0 where
+  pub done : (a b : ℕ) → a < 2 * i → b < 64 → at out a b ≡ at from (a / 2 + 32 * (b % 2)) (32 * (a % 2) + b / 2)
+
+abbrev pub invariant-loop-i : goal.invariant-loop-i
+invariant-loop-i l = Interleaved l.out l.from l.i

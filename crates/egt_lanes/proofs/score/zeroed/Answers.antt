@@ -1,0 +1,9 @@
+use Rattle.std.proofs.Common.{◌≡◌, get_or, subst, arith}
+use Rattle.egt_lanes.specs.Scores.{zeroing_score}
+use Rattle.egt_lanes.proofs.Rows.{zeroed, zeroed_at}
+use Rattle.egt_lanes.proofs.score.zeroed.Goals as goal
+
+pub returns : goal.returns
+returns c s s_in =
+    let long = c.fits-row.0 in
+    subst (λ n. get_or (zeroed n c.args.row) s 0 ≡ zeroing_score (get_or c.args.row s 0)) long (zeroed_at c.args.row s (omega arith) c.fits-row.1)

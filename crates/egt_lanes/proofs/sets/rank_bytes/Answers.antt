@@ -1,0 +1,16 @@
+use Rattle.std.proofs.Common.{◌≡◌, ℕ, List, map, get_or, replicate, ◌+◌, ◌*◌, ◌<◌, ◌%◌, ◌^◌, ◌/◌, ◌++◌, ◌∙◌, ap, length, refl, arith}
+use Rattle.std.proofs.lemmas.List.{get_or-map, get_or_append_left}
+use Rattle.std.proofs.lemmas.Simd.{get_or_narrower, Each1-replicate}
+use lib.Lanes.{pick_l, digits_l, number_l}
+use Rattle.egt_lanes.specs.declared.sets.TheConstants.{RANKS}
+use Rattle.egt_lanes.proofs.Picks.{picked}
+use Rattle.egt_lanes.proofs.sets.rank_bytes.Goals as goal
+
+pub returns : goal.returns
+returns c s s_in =
+    let bits = c.args.set.bits in
+    let fits : bits < 2 ^ 64 = omega arith in
+    let bytes = digits_l 256 64 (number_l (2 ^ 64) (replicate 8 bits)) in
+    let first : s / 8 ≡ 8 * 0 + s / 8 = omega arith in
+    picked bytes bytes RANKS (λ s. s / 8) refl refl tt s s_in (omega arith) ∙ ap (λ i. get_or bytes i 0) first
+    ∙ get_or_narrower (2 ^ 64) 8 256 64 (replicate 8 bits) 0 (s / 8) refl (Each1-replicate (λ x. x < 2 ^ 64) 8 bits fits) (omega arith) (omega arith)

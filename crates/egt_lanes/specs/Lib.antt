@@ -1,0 +1,4 @@
+pub mod Scores
+pub mod Moved
+pub mod Raised
+pub mod Blocks

@@ -1,0 +1,12 @@
+//! A number for each square of the board, worked on all at once: what the checker of tables does to every entry.
+#![tactic(auto)]
+
+pub mod block;
+pub mod row;
+pub mod score;
+pub mod sets;
+pub mod shift;
+pub mod turn;
+
+pub use block::Block;
+pub use row::Row;

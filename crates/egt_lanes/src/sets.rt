@@ -1,0 +1,70 @@
+//! Rows cut down to sets of squares.
+ghost use Rattle.std.specs.Prelude.{◌≡◌, ◌≢◌, ℕ, ◌<◌, ◌==◌, ◌/◌, ◌%◌, ◌^◌, slice_index, if◌then◌else◌};
+ghost use Rattle.std.specs.Int.{bit_at};
+
+use crate::row::Row;
+use egt_board::{Square, SquareSet};
+use std::simd::prelude::*;
+
+/// The rank of each square.
+const RANKS: [usize; 64] = [
+    0, 0, 0, 0, 0, 0, 0, 0,
+    1, 1, 1, 1, 1, 1, 1, 1,
+    2, 2, 2, 2, 2, 2, 2, 2,
+    3, 3, 3, 3, 3, 3, 3, 3,
+    4, 4, 4, 4, 4, 4, 4, 4,
+    5, 5, 5, 5, 5, 5, 5, 5,
+    6, 6, 6, 6, 6, 6, 6, 6,
+    7, 7, 7, 7, 7, 7, 7, 7,
+];
+
+/// Of each square the bit of its file.
+const FILE_BITS: [u8; 64] = [
+    1, 2, 4, 8, 16, 32, 64, 128,
+    1, 2, 4, 8, 16, 32, 64, 128,
+    1, 2, 4, 8, 16, 32, 64, 128,
+    1, 2, 4, 8, 16, 32, 64, 128,
+    1, 2, 4, 8, 16, 32, 64, 128,
+    1, 2, 4, 8, 16, 32, 64, 128,
+    1, 2, 4, 8, 16, 32, 64, 128,
+    1, 2, 4, 8, 16, 32, 64, 128,
+];
+
+/// Each square.
+const SQUARES: [u8; 64] = [
+    0, 1, 2, 3, 4, 5, 6, 7,
+    8, 9, 10, 11, 12, 13, 14, 15,
+    16, 17, 18, 19, 20, 21, 22, 23,
+    24, 25, 26, 27, 28, 29, 30, 31,
+    32, 33, 34, 35, 36, 37, 38, 39,
+    40, 41, 42, 43, 44, 45, 46, 47,
+    48, 49, 50, 51, 52, 53, 54, 55,
+    56, 57, 58, 59, 60, 61, 62, 63,
+];
+
+/// The set, a byte for each square: that of its rank.
+#[inline(always)]
+fn rank_bytes(set: SquareSet) -> Row
+    ensures { (s : ℕ) → s < 64 → slice_index result s ≡ set.bits / 256 ^ (s / 8) % 256 }
+{
+    let ranks: Row = u64x8::splat(set.bits).to_le_bytes();
+    ranks.swizzle(RANKS)
+}
+
+/// The row with 0 at the squares that the set lacks.
+#[inline(always)]
+pub fn kept(row: Row, set: SquareSet) -> Row
+    ensures { (s : ℕ) → s < 64 → slice_index result s ≡ (if bit_at set.bits s == 1 then slice_index row s else 0) }
+{
+    let place = Row::from_array(FILE_BITS);
+    (rank_bytes(set) & place).simd_eq(place).select(row, Row::splat(0))
+}
+
+/// The row with 0 at the square.
+#[inline(always)]
+pub fn without_lane(row: Row, square: Square) -> Row
+    ensures { (s : ℕ) → s < 64 → slice_index result s ≡ (if s == square then 0 else slice_index row s) }
+{
+    let here = Row::from_array(SQUARES).simd_eq(Row::splat(square.number()));
+    here.select(Row::splat(0), row)
+}

@@ -1,0 +1,170 @@
+//! Rows moved by the steps of men.
+ghost use Rattle.std.specs.Prelude.{◌≡◌, ℕ, ◌<◌, ◌≤◌, slice_index};
+ghost use Rattle.std.specs.Int.{bit_at};
+ghost use Rattle.egt_board.specs.Gait.{Rides};
+ghost use Rattle.egt_board.specs.Step.{Away};
+ghost use Rattle.egt_lanes.specs.Moved.{beside, beyond};
+ghost use Rattle.egt_lanes.specs.Raised.{IsRaised};
+
+use crate::row::{Row, greater};
+use crate::sets::kept;
+use egt_board::{SquareSet, Step, Way};
+
+/// Of each square the one one file further right; 64 where there is none.
+const RIGHT: [usize; 64] = [
+    1, 2, 3, 4, 5, 6, 7, 64,
+    9, 10, 11, 12, 13, 14, 15, 64,
+    17, 18, 19, 20, 21, 22, 23, 64,
+    25, 26, 27, 28, 29, 30, 31, 64,
+    33, 34, 35, 36, 37, 38, 39, 64,
+    41, 42, 43, 44, 45, 46, 47, 64,
+    49, 50, 51, 52, 53, 54, 55, 64,
+    57, 58, 59, 60, 61, 62, 63, 64,
+];
+
+/// Of each square the one two files further right; 64 where there is none.
+const TWO_RIGHT: [usize; 64] = [
+    2, 3, 4, 5, 6, 7, 64, 64,
+    10, 11, 12, 13, 14, 15, 64, 64,
+    18, 19, 20, 21, 22, 23, 64, 64,
+    26, 27, 28, 29, 30, 31, 64, 64,
+    34, 35, 36, 37, 38, 39, 64, 64,
+    42, 43, 44, 45, 46, 47, 64, 64,
+    50, 51, 52, 53, 54, 55, 64, 64,
+    58, 59, 60, 61, 62, 63, 64, 64,
+];
+
+/// Of each square the one one file further left; 64 where there is none.
+const LEFT: [usize; 64] = [
+    64, 0, 1, 2, 3, 4, 5, 6,
+    64, 8, 9, 10, 11, 12, 13, 14,
+    64, 16, 17, 18, 19, 20, 21, 22,
+    64, 24, 25, 26, 27, 28, 29, 30,
+    64, 32, 33, 34, 35, 36, 37, 38,
+    64, 40, 41, 42, 43, 44, 45, 46,
+    64, 48, 49, 50, 51, 52, 53, 54,
+    64, 56, 57, 58, 59, 60, 61, 62,
+];
+
+/// Of each square the one two files further left; 64 where there is none.
+const TWO_LEFT: [usize; 64] = [
+    64, 64, 0, 1, 2, 3, 4, 5,
+    64, 64, 8, 9, 10, 11, 12, 13,
+    64, 64, 16, 17, 18, 19, 20, 21,
+    64, 64, 24, 25, 26, 27, 28, 29,
+    64, 64, 32, 33, 34, 35, 36, 37,
+    64, 64, 40, 41, 42, 43, 44, 45,
+    64, 64, 48, 49, 50, 51, 52, 53,
+    64, 64, 56, 57, 58, 59, 60, 61,
+];
+
+/// Of each square the one one rank further up; 64 where there is none.
+const UP: [usize; 64] = [
+    8, 9, 10, 11, 12, 13, 14, 15,
+    16, 17, 18, 19, 20, 21, 22, 23,
+    24, 25, 26, 27, 28, 29, 30, 31,
+    32, 33, 34, 35, 36, 37, 38, 39,
+    40, 41, 42, 43, 44, 45, 46, 47,
+    48, 49, 50, 51, 52, 53, 54, 55,
+    56, 57, 58, 59, 60, 61, 62, 63,
+    64, 64, 64, 64, 64, 64, 64, 64,
+];
+
+/// Of each square the one two ranks further up; 64 where there is none.
+const TWO_UP: [usize; 64] = [
+    16, 17, 18, 19, 20, 21, 22, 23,
+    24, 25, 26, 27, 28, 29, 30, 31,
+    32, 33, 34, 35, 36, 37, 38, 39,
+    40, 41, 42, 43, 44, 45, 46, 47,
+    48, 49, 50, 51, 52, 53, 54, 55,
+    56, 57, 58, 59, 60, 61, 62, 63,
+    64, 64, 64, 64, 64, 64, 64, 64,
+    64, 64, 64, 64, 64, 64, 64, 64,
+];
+
+/// Of each square the one one rank further down; 64 where there is none.
+const DOWN: [usize; 64] = [
+    64, 64, 64, 64, 64, 64, 64, 64,
+    0, 1, 2, 3, 4, 5, 6, 7,
+    8, 9, 10, 11, 12, 13, 14, 15,
+    16, 17, 18, 19, 20, 21, 22, 23,
+    24, 25, 26, 27, 28, 29, 30, 31,
+    32, 33, 34, 35, 36, 37, 38, 39,
+    40, 41, 42, 43, 44, 45, 46, 47,
+    48, 49, 50, 51, 52, 53, 54, 55,
+];
+
+/// Of each square the one two ranks further down; 64 where there is none.
+const TWO_DOWN: [usize; 64] = [
+    64, 64, 64, 64, 64, 64, 64, 64,
+    64, 64, 64, 64, 64, 64, 64, 64,
+    0, 1, 2, 3, 4, 5, 6, 7,
+    8, 9, 10, 11, 12, 13, 14, 15,
+    16, 17, 18, 19, 20, 21, 22, 23,
+    24, 25, 26, 27, 28, 29, 30, 31,
+    32, 33, 34, 35, 36, 37, 38, 39,
+    40, 41, 42, 43, 44, 45, 46, 47,
+];
+
+/// At each square what stands `wide` files further on its rank; 0 where that is off the board.
+#[inline(always)]
+fn along_rank(row: Row, way: Way, wide: u8) -> Row
+    requires { wide ≤ 2 }
+    ensures { (s : ℕ) → s < 64 → slice_index result s ≡ slice_index row (beside way wide s) }
+{
+    let nothing = Row::splat(0);
+    match (way, wide) {
+        (Way::Up, 1) => row.shuffle(nothing, RIGHT),
+        (Way::Up, 2) => row.shuffle(nothing, TWO_RIGHT),
+        (Way::Down, 1) => row.shuffle(nothing, LEFT),
+        (Way::Down, 2) => row.shuffle(nothing, TWO_LEFT),
+        _ => row,
+    }
+}
+
+/// At each square what stands `high` ranks further on its file; 0 where that is off the board.
+#[inline(always)]
+fn along_file(row: Row, way: Way, high: u8) -> Row
+    requires { high ≤ 2 }
+    ensures { (s : ℕ) → s < 64 → slice_index result s ≡ slice_index row (beyond way high s) }
+{
+    let nothing = Row::splat(0);
+    match (way, high) {
+        (Way::Up, 1) => row.shuffle(nothing, UP),
+        (Way::Up, 2) => row.shuffle(nothing, TWO_UP),
+        (Way::Down, 1) => row.shuffle(nothing, DOWN),
+        (Way::Down, 2) => row.shuffle(nothing, TWO_DOWN),
+        _ => row,
+    }
+}
+
+/// At each square what stands one step further; 0 where that is off the board.
+#[inline(always)]
+pub fn shifted(row: Row, step: Step) -> Row
+    requires wide { step.wide ≤ 2 }
+    requires high { step.high ≤ 2 }
+    ensures moved { (s t : ℕ) → s < 64 → Away step 1 s t → slice_index result s ≡ slice_index row t }
+    ensures off_board { (s : ℕ) → s < 64 → ((t : ℕ) → ¬ Away step 1 s t) → slice_index result s ≡ 0 }
+{
+    along_rank(
+        along_file(row, step.ranks, step.high),
+        step.files,
+        step.wide,
+    )
+}
+
+/// At each square the greatest of what stands there on the way along the steps, up to the first square that is not free.
+#[inline(always)]
+pub fn ridden(row: Row, free: SquareSet, step: Step) -> Row
+    requires wide { step.wide ≤ 2 }
+    requires high { step.high ≤ 2 }
+    ensures { (s : ℕ) → s < 64 → IsRaised 0 (λ t. Rides (λ u. bit_at free.bits u ≡ 1) 7 s t step) (λ t. slice_index row t) (slice_index result s) }
+{
+    let mut last = shifted(row, step);
+    let mut best = last;
+    for _more in 0..6 {
+        last = shifted(kept(last, free), step);
+        best = greater(best, last);
+    }
+    best
+}
