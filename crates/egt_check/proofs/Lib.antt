@@ -30,3 +30,4 @@ mod Spreads
 pub mod ShelfBest
 mod ShelfJudged
 mod ToldBest
+pub mod Worth

@@ -23,3 +23,4 @@ pub mod Spread
 pub mod Pusher
 pub mod ShelfBest
 pub mod Peak
+pub mod Worth

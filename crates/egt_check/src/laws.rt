@@ -12,13 +12,19 @@ ghost use Rattle.egt_index.specs.Frame.{IsMoved};
 ghost use Rattle.egt_moves.specs.Chess.{Zeroes};
 ghost use Rattle.egt_moves.specs.Legal.{Leads};
 ghost use Rattle.egt_moves.specs.declared.chess_move.Move.{Move};
+ghost use Rattle.egt_board.specs.declared.man.Side.{Side};
+ghost use Rattle.egt_index.specs.Stood.{IsFilled};
+ghost use Rattle.egt_index.specs.Went.{AreOnBoard};
+ghost use Rattle.egt_index.specs.declared.stand.Stand.{Stand};
+ghost use Rattle.egt_table.specs.declared.column.Column.{Column};
+ghost use Rattle.egt_check.specs.Worth.{IsRead, IsScored, IsWorth};
 ghost use Rattle.egt_check.specs.Tables.{Tables};
 ghost use Rattle.egt_check.specs.Rules.{KeepsRules};
 ghost use Rattle.egt_check.specs.Truth.{IsTrueTable, HasTrueChildren};
 
 use crate::facts::facts;
 use egt_class::laws::moves_lead_into_the_class_or_a_child;
-use egt_index::laws::codes_spell_one_position;
+use egt_index::laws::{a_code_is_an_index_or_void, codes_spell_one_position, codes_tell_turned_men};
 
 /// Where the children's tables are true, the entries of a table keep all rules exactly where the table is true: each entry is
 /// the value or the zeroing distance of its position, void entries are 0, and no distance is above 32,000.
@@ -51,4 +57,14 @@ pub fn a_quiet_move_moves_one_man()
 {
     facts();
     moves_lead_into_the_class_or_a_child();
+}
+
+/// The greatest score of the codes that tell the men where turns take them is that of the position with these men, or 0 where there is none.
+pub fn scores_of_turned_men_are_the_positions()
+    ensures { (tables : Tables) (t : TableValue) (column : Column) (flips : Bool) (stand : Stand) (side : Side) (w : ℕ) → IsTable t → tables t.class ≡ Some t → IsScored t column →
+        IsFilled stand → AreOnBoard stand → IsRead t column flips stand side w → IsWorth tables column t.class flips stand side w }
+{
+    facts();
+    codes_tell_turned_men();
+    a_code_is_an_index_or_void();
 }
