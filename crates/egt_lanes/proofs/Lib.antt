@@ -3,3 +3,8 @@ pub mod Rows
 pub mod Picks
 pub mod RankBytes
 pub mod Turns
+pub mod Moves
+pub mod Weaving
+pub mod Raising
+pub mod Rays
+pub mod Riding

@@ -14,7 +14,7 @@ passed p (suc n) h i l =
       | inr g ↦ passed p n (and_r (p n) _ h) i (omega arith)
     ]
 
-is_true : (b : Bool) → T b → b ≡ true
+pub is_true : (b : Bool) → T b → b ≡ true
 is_true true t = λ _. true
 is_true false t = absurd t
 

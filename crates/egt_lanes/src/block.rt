@@ -1,19 +1,53 @@
 //! Blocks: a row for each square of the first man.
-ghost use Rattle.std.specs.Prelude.{◌≡◌, ℕ, ◌<◌, ◌+◌, ◌*◌, ◌/◌, ◌%◌, max, slice_index};
+ghost use Rattle.std.specs.Prelude.{◌≡◌, ℕ, ◌<◌, ◌+◌, ◌*◌, ◌/◌, ◌%◌, ◌==◌, max, slice_index, if◌then◌else◌};
 ghost use Rattle.egt_lanes.specs.Blocks.{at};
 
 use crate::row::{Row, greater};
+use std::simd::prelude::*;
 
 /// A row for each square: row `a` is that of square `a`.
 pub type Block = [Row; 64];
 
-/// One of six rounds that exchange rows and lanes: of the twelve bits of row and lane the first becomes the last.
+/// The lanes of two rows in turn: those of the first halves, and those of the second.
+#[inline(always)]
+fn woven(above: Row, below: Row) -> (Row, Row)
+    ensures low { (b : ℕ) → b < 64 → slice_index result.0 b ≡ slice_index (if b % 2 == 0 then above else below) (b / 2) }
+    ensures high { (b : ℕ) → b < 64 → slice_index result.1 b ≡ slice_index (if b % 2 == 0 then above else below) (32 + b / 2) }
+{
+    above.interleave(below)
+}
+
+/// One of six rounds that exchange rows and lanes: of the twelve bits of a row and a lane, the first becomes the last.
 fn interleaved(out: &mut Block, from: &Block)
     ensures { (a b : ℕ) → a < 64 → b < 64 → at out.new a b ≡ at from.now (a / 2 + 32 * (b % 2)) (32 * (a % 2) + b / 2) }
 {
     for i in 0..32 {
-        let (low, high) = from[i].interleave(from[i + 32]);
+        let (low, high) = woven(from[i], from[i + 32]);
         out[2 * i] = low;
         out[2 * i + 1] = high;
+    }
+}
+
+/// Each number of `out` the greater of it and of that with row and lane exchanged in `from`.
+pub fn raise_transposed(out: &mut Block, from: &Block)
+    ensures { (a b : ℕ) → a < 64 → b < 64 → at out.new a b ≡ max (at out.old a b) (at from.now b a) }
+{
+    let mut there = [Row::splat(0); 64];
+    let mut here = [Row::splat(0); 64];
+    interleaved(&mut there, from);
+    interleaved(&mut here, &there);
+    interleaved(&mut there, &here);
+    interleaved(&mut here, &there);
+    interleaved(&mut there, &here);
+    interleaved(&mut here, &there);
+    raise(out, &here);
+}
+
+/// Each number of `out` the greater of it and of that in `by`.
+pub fn raise(out: &mut Block, by: &Block)
+    ensures { (a b : ℕ) → a < 64 → b < 64 → at out.new a b ≡ max (at out.old a b) (at by.now a b) }
+{
+    for i in 0..64 {
+        out[i] = greater(out[i], by[i]);
     }
 }

@@ -162,7 +162,7 @@ pub fn ridden(row: Row, free: SquareSet, step: Step) -> Row
 {
     let mut last = shifted(row, step);
     let mut best = last;
-    for _more in 0..6 {
+    for _steps in 1..7_u8 {
         last = shifted(kept(last, free), step);
         best = greater(best, last);
     }

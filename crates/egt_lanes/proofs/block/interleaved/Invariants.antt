@@ -1,8 +1,10 @@
-use Rattle.std.proofs.Common.{List, ◌≡◌, ℕ, ◌<◌, ◌+◌, ◌*◌, ◌/◌, ◌%◌, length}
+use Rattle.std.proofs.Common.{◌≡◌, ℕ, ◌<◌, ◌+◌, ◌*◌, ◌/◌, ◌%◌, List, length}
 use Rattle.egt_lanes.specs.Blocks.{at}
 use Rattle.egt_lanes.proofs.block.interleaved.Given as goal
 
+-- two rows a time are written
 pub record Interleaved (out from : List (List ℕ)) (i : ℕ) : Type 0 where
+  pub long : length out ≡ 64
   pub done : (a b : ℕ) → a < 2 * i → b < 64 → at out a b ≡ at from (a / 2 + 32 * (b % 2)) (32 * (a % 2) + b / 2)
 
 abbrev pub invariant-loop-i : goal.invariant-loop-i

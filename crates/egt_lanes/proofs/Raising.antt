@@ -1,0 +1,61 @@
+-- Raising by one set of squares after another.
+use Rattle.std.proofs.Common.{◌≡◌, ℕ, ◌≤◌, ◌<◌, ◌⊎◌, max, refl, sym, ap, ◌∙◌, inl, inr, arith, subst}
+use Rattle.std.proofs.lemmas.Bool.{cases_lt}
+use Rattle.egt_lanes.specs.Raised.{IsRaised}
+
+-- by no square
+pub raised_by_none : (low : ℕ) (In : ℕ → Type 0) (f : ℕ → ℕ) → ((t : ℕ) → In t → ⊥) → IsRaised low In f low
+raised_by_none low In f none = record { kept = omega arith; above = λ t within. absurd (none t within); reached = inl refl }
+
+-- by one square
+pub raised_by_one : (low t : ℕ) (In : ℕ → Type 0) (f : ℕ → ℕ) → In t → ((u : ℕ) → In u → u ≡ t) → IsRaised low In f (max low (f t))
+raised_by_one low t In f here only = record {
+  kept = omega arith;
+  above = λ u within. let e : f u ≡ f t = ap f (only u within) in omega arith;
+  reached = elim (cases_lt low (f t)) [ inl l ↦ let e : max low (f t) ≡ f t = omega arith in inr (t, here, e) | inr g ↦ let e : max low (f t) ≡ low = omega arith in inl e ];
+}
+
+-- by one square alone
+pub first_raised : (t : ℕ) (In : ℕ → Type 0) (f : ℕ → ℕ) → In t → ((u : ℕ) → In u → u ≡ t) → IsRaised 0 In f (f t)
+first_raised t In f here only = record { kept = omega arith; above = λ u within. let e : f u ≡ f t = ap f (only u within) in omega arith; reached = inr (t, here, refl) }
+
+-- by the squares of either set
+pub raised_more : (low v w x : ℕ) (In New : ℕ → Type 0) (f : ℕ → ℕ) → IsRaised low In f v → IsRaised 0 New f w → x ≡ max v w → IsRaised low (λ t. New t ⊎ In t) f x
+raised_more low v w x In New f old new is = record {
+  kept = omega (arith, old.kept);
+  above = λ t either. elim either [ inl n ↦ omega (arith, new.above t n) | inr o ↦ omega (arith, old.above t o) ];
+  reached = elim (cases_lt v w) [
+    | inl l ↦ elim new.reached [
+        | inl e ↦ absurd (omega arith)
+        | inr h ↦ inr (h.0, inl h.1, let e : x ≡ w = omega arith in e ∙ h.2)
+      ]
+    | inr g ↦
+      let same : x ≡ v = omega arith in
+      elim old.reached [
+        | inl e ↦ inl (same ∙ e)
+        | inr h ↦ inr (h.0, inr h.1, same ∙ h.2)
+      ]
+  ];
+}
+
+-- by one set after another
+pub raised_again : (low v w : ℕ) (In New : ℕ → Type 0) (f : ℕ → ℕ) → IsRaised low In f v → IsRaised v New f w → IsRaised low (λ t. New t ⊎ In t) f w
+raised_again low v w In New f old new = record {
+  kept = omega (arith, old.kept, new.kept);
+  above = λ t either. elim either [ inl n ↦ new.above t n | inr o ↦ omega (arith, old.above t o, new.kept) ];
+  reached = elim new.reached [
+    | inl e ↦ elim old.reached [ inl e' ↦ inl (e ∙ e') | inr h ↦ inr (h.0, inr h.1, e ∙ h.2) ]
+    | inr h ↦ inr (h.0, inl h.1, h.2)
+  ];
+}
+
+-- only which squares the set has counts
+pub raised_as : (low v : ℕ) (In To : ℕ → Type 0) (f : ℕ → ℕ) → ((t : ℕ) → In t → To t) → ((t : ℕ) → To t → In t) → IsRaised low In f v → IsRaised low To f v
+raised_as low v In To f there back h = record {
+  kept = h.kept;
+  above = λ t within. h.above t (back t within);
+  reached = elim h.reached [ inl e ↦ inl e | inr r ↦ inr (r.0, there r.0 r.1, r.2) ];
+}
+
+pub raised_is : (low v w : ℕ) (In : ℕ → Type 0) (f : ℕ → ℕ) → w ≡ v → IsRaised low In f v → IsRaised low In f w
+raised_is low v w In f e h = subst (IsRaised low In f) (sym e) h
