@@ -8,3 +8,4 @@ pub mod Weaving
 pub mod Raising
 pub mod Rays
 pub mod Riding
+pub mod Entries

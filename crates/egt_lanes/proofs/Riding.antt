@@ -1,12 +1,12 @@
 -- Rows raised along rays: the last man's moves.
-use Rattle.std.proofs.Common.{◌≡◌, ℕ, ◌+◌, ◌<◌, ◌==◌, ◌⊎◌, if◌then◌else◌, Bool, true, false, eqb, cond, max, List, get_or, refl, sym, ap, ◌∙◌, inl, inr, arith, eqb-true}
+use Rattle.std.proofs.Common.{◌≡◌, ℕ, ◌+◌, ◌<◌, ◌==◌, ◌⊎◌, if◌then◌else◌, Bool, true, false, eqb, cond, max, List, [], ◌∷◌, ◌++◌, get_or, refl, sym, ap, ◌∙◌, subst, inl, inr, arith, eqb-true}
 use Rattle.std.proofs.lemmas.Bool.{eqb-false}
 use Rattle.std.specs.Int.{bit_at}
 use Rattle.egt_board.specs.declared.step.Step.{Step}
 use Rattle.egt_board.specs.Step.{Away}
-use Rattle.egt_board.specs.Gait.{Rides}
+use Rattle.egt_board.specs.Gait.{Rides, OneOf}
 use Rattle.egt_lanes.specs.Raised.{IsRaised}
-use Rattle.egt_lanes.proofs.Raising.{raised_by_none, first_raised, raised_more, raised_as, raised_is}
+use Rattle.egt_lanes.proofs.Raising.{raised_by_none, first_raised, raised_more, raised_again, raised_as, raised_is}
 use Rattle.egt_lanes.proofs.Rays.{IsRidden, first_step, same_end, next_square, one_step, more_steps, fewer_steps, Rides-more, Rides-last, Rides-none}
 
 -- what a shift by one step ensures
@@ -22,15 +22,19 @@ pub record AreRidden (bits : ℕ) (d : Step) (row last best : List ℕ) (n : ℕ
   pub ends : (s : ℕ) → s < 64 → IsRaised 0 (λ t. IsRidden (HasBit bits) n s t d) (λ t. get_or row t 0) (get_or last s 0)
   pub all : (s : ℕ) → s < 64 → IsRaised 0 (λ t. Rides (HasBit bits) n s t d) (λ t. get_or row t 0) (get_or best s 0)
 
+pub step_end : (d : Step) (row to : List ℕ) → IsShifted d row to → (s : ℕ) → s < 64 → IsRaised 0 (λ t. Away d 1 s t) (λ t. get_or row t 0) (get_or to s 0)
+step_end d row to shift s s_in =
+    let f : ℕ → ℕ = λ t. get_or row t 0 in
+    elim (next_square d s s_in) [
+      | inl h ↦ raised_is 0 (f h.0) (get_or to s 0) (λ t. Away d 1 s t) f (shift.moved s h.0 s_in h.1) (first_raised h.0 (λ t. Away d 1 s t) f h.1 (λ t a. same_end d 1 s t h.0 a h.1))
+      | inr none ↦ raised_is 0 0 (get_or to s 0) (λ t. Away d 1 s t) f (shift.off_board s s_in none) (raised_by_none 0 (λ t. Away d 1 s t) f none)
+    ]
+
 one_end : (bits : ℕ) (d : Step) (row to : List ℕ) → IsShifted d row to → (s : ℕ) → s < 64
     → IsRaised 0 (λ t. IsRidden (HasBit bits) 1 s t d) (λ t. get_or row t 0) (get_or to s 0)
 one_end bits d row to shift s s_in =
-    let In : ℕ → Type 0 = λ t. IsRidden (HasBit bits) 1 s t d in
-    let f : ℕ → ℕ = λ t. get_or row t 0 in
-    elim (next_square d s s_in) [
-      | inl h ↦ raised_is 0 (f h.0) (get_or to s 0) In f (shift.moved s h.0 s_in h.1) (first_raised h.0 In f (one_step (HasBit bits) s h.0 d h.1) (λ t r. same_end d 1 s t h.0 r.away h.1))
-      | inr none ↦ raised_is 0 0 (get_or to s 0) In f (shift.off_board s s_in none) (raised_by_none 0 In f (λ t r. none t r.away))
-    ]
+    raised_as 0 (get_or to s 0) (λ t. Away d 1 s t) (λ t. IsRidden (HasBit bits) 1 s t d) (λ t. get_or row t 0)
+    (λ t a. one_step (HasBit bits) s t d a) (λ t r. r.away) (step_end d row to shift s s_in)
 
 pub ridden_first : (bits : ℕ) (d : Step) (row to : List ℕ) → IsShifted d row to → AreRidden bits d row to to 1
 ridden_first bits d row to shift = record {
@@ -85,3 +89,47 @@ ridden_more bits d row last best kept to top n some before keeps shift raises =
         (λ t r. Rides-more (HasBit bits) n s t d r) (λ t r. Rides-last (HasBit bits) n s t d r)
         (raised_more 0 (get_or best s 0) (get_or to s 0) (get_or top s 0) Old New f (before.all s s_in) (ends s s_in) (raises s s_in));
     }
+
+-- ---- over several steps
+
+pub raised_over : (low v w : ℕ) (In : ℕ → Type 0) (f : ℕ → ℕ) → IsRaised 0 In f v → w ≡ max low v → IsRaised low In f w
+raised_over low v w In f h is =
+    let none : IsRaised low (λ _. ⊥) f low = raised_by_none low (λ _. ⊥) f (λ t n. n) in
+    raised_as low w (λ t. In t ⊎ ⊥) In f (λ t r. elim r [ inl i ↦ i | inr n ↦ absurd n ]) (λ t i. inl i) (raised_more low low v w (λ _. ⊥) In f none h is)
+
+pub no_steps : (low : ℕ) (H : ℕ → Step → Type 0) (f : ℕ → ℕ) → IsRaised low (λ t. OneOf (H t) []) f low
+no_steps low H f = raised_by_none low (λ t. OneOf (H t) []) f (λ t n. n)
+
+pub one_more_step : (low v w : ℕ) (H : ℕ → Step → Type 0) (f : ℕ → ℕ) (d d' : Step) (ds : List Step) → d' ≡ d
+    → IsRaised low (λ t. OneOf (H t) ds) f v → IsRaised v (λ t. H t d') f w → IsRaised low (λ t. OneOf (H t) (d ∷ ds)) f w
+one_more_step low v w H f d d' ds e old new = raised_again low v w (λ t. OneOf (H t) ds) (λ t. H t d) f old (subst (λ x. IsRaised v (λ t. H t x) f w) e new)
+
+OneOf-left : (H : Step → Type 0) (ds es : List Step) → OneOf H ds → OneOf H (ds ++ es)
+OneOf-left H [] es none = absurd none
+OneOf-left H (d ∷ ds) es some = elim some [ inl p ↦ inl p | inr r ↦ inr (OneOf-left H ds es r) ]
+
+OneOf-right : (H : Step → Type 0) (ds es : List Step) → OneOf H es → OneOf H (ds ++ es)
+OneOf-right H [] es some = some
+OneOf-right H (d ∷ ds) es some = inr (OneOf-right H ds es some)
+
+OneOf-either : (H : Step → Type 0) (ds es : List Step) → OneOf H (ds ++ es) → OneOf H ds ⊎ OneOf H es
+OneOf-either H [] es some = inr some
+OneOf-either H (d ∷ ds) es some = elim some [ inl p ↦ inl (inl p) | inr r ↦ elim (OneOf-either H ds es r) [ inl a ↦ inl (inr a) | inr b ↦ inr b ] ]
+
+pub OneOf-as : (H G : Step → Type 0) (ds : List Step) → ((d : Step) → H d → G d) → OneOf H ds → OneOf G ds
+OneOf-as H G [] h none = none
+OneOf-as H G (d ∷ ds) h some = elim some [ inl p ↦ inl (h d p) | inr r ↦ inr (OneOf-as H G ds h r) ]
+
+pub both_lists : (low v w : ℕ) (H : ℕ → Step → Type 0) (f : ℕ → ℕ) (ds es : List Step)
+    → IsRaised low (λ t. OneOf (H t) es) f v → IsRaised v (λ t. OneOf (H t) ds) f w → IsRaised low (λ t. OneOf (H t) (ds ++ es)) f w
+both_lists low v w H f ds es old new =
+    raised_as low w (λ t. OneOf (H t) ds ⊎ OneOf (H t) es) (λ t. OneOf (H t) (ds ++ es)) f
+    (λ t r. elim r [ inl a ↦ OneOf-left (H t) ds es a | inr b ↦ OneOf-right (H t) ds es b ]) (λ t r. OneOf-either (H t) ds es r)
+    (raised_again low v w (λ t. OneOf (H t) es) (λ t. OneOf (H t) ds) f old new)
+
+-- a ride of at most one step is the step
+pub one_ride : (Free : ℕ → Type 0) (s t : ℕ) (d : Step) → Away d 1 s t → Rides Free 1 s t d
+one_ride Free s t d a = Rides-more Free 0 s t d (inl (one_step Free s t d a))
+
+pub ride_one : (Free : ℕ → Type 0) (s t : ℕ) (d : Step) → Rides Free 1 s t d → Away d 1 s t
+ride_one Free s t d r = elim (Rides-last Free 0 s t d r) [ inl r ↦ r.away | inr n ↦ absurd (Rides-none Free s t d n) ]

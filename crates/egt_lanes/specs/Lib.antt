@@ -2,3 +2,4 @@ pub mod Scores
 pub mod Moved
 pub mod Raised
 pub mod Blocks
+pub mod Pieces

@@ -2,6 +2,7 @@
 #![tactic(auto)]
 
 pub mod block;
+pub mod load;
 pub mod row;
 pub mod score;
 pub mod sets;

@@ -1,10 +1,8 @@
 //! Scores: a byte for an entry of a table, the greater the better for whoever moves there.
 ghost use Rattle.std.specs.Prelude.{◌≡◌, ℕ, ◌<◌, ◌≤◌, ◌+◌, ◌*◌, ◌-◌, ◌%◌, slice_index, length};
-ghost use Rattle.egt_board.specs.Images.{side_number};
 ghost use Rattle.egt_lanes.specs.Scores.{byte_score, zeroing_score, due_score};
 
 use crate::row::Row;
-use egt_board::Side;
 use std::simd::prelude::*;
 
 /// An entry for each square.

@@ -1,14 +1,16 @@
 //! Rows moved by the steps of men.
 ghost use Rattle.std.specs.Prelude.{◌≡◌, ℕ, ◌<◌, ◌≤◌, slice_index};
 ghost use Rattle.std.specs.Int.{bit_at};
-ghost use Rattle.egt_board.specs.Gait.{Rides};
+ghost use Rattle.egt_board.specs.Gait.{OneOf, Reaches, Rides, straight_steps, diagonal_steps, knight_steps};
+ghost use Rattle.egt_board.specs.Gait.{step as the_step};
 ghost use Rattle.egt_board.specs.Step.{Away};
 ghost use Rattle.egt_lanes.specs.Moved.{beside, beyond};
+ghost use Rattle.egt_lanes.specs.Pieces.{IsPiece};
 ghost use Rattle.egt_lanes.specs.Raised.{IsRaised};
 
 use crate::row::{Row, greater};
 use crate::sets::kept;
-use egt_board::{SquareSet, Step, Way};
+use egt_board::{Kind, Man, SquareSet, Step, Way};
 
 /// Of each square the one one file further right; 64 where there is none.
 const RIGHT: [usize; 64] = [
@@ -167,4 +169,89 @@ pub fn ridden(row: Row, free: SquareSet, step: Step) -> Row
         best = greater(best, last);
     }
     best
+}
+
+/// So many files and so many ranks further.
+#[inline(always)]
+fn step(files: Way, wide: u8, ranks: Way, high: u8) -> Step
+    ensures { result ≡ the_step files wide ranks high }
+{
+    Step {
+        files,
+        wide,
+        ranks,
+        high,
+    }
+}
+
+/// `low` raised by what stands along the steps.
+#[inline(always)]
+fn ray_raised(low: Row, row: Row, free: SquareSet, step: Step) -> Row
+    requires wide { step.wide ≤ 2 }
+    requires high { step.high ≤ 2 }
+    ensures { (s : ℕ) → s < 64 → IsRaised (slice_index low s) (λ t. Rides (λ u. bit_at free.bits u ≡ 1) 7 s t step) (λ t. slice_index row t) (slice_index result s) }
+{
+    greater(low, ridden(row, free, step))
+}
+
+/// `low` raised by what stands one step further.
+#[inline(always)]
+fn step_raised(low: Row, row: Row, step: Step) -> Row
+    requires wide { step.wide ≤ 2 }
+    requires high { step.high ≤ 2 }
+    ensures { (s : ℕ) → s < 64 → IsRaised (slice_index low s) (λ t. Away step 1 s t) (λ t. slice_index row t) (slice_index result s) }
+{
+    greater(low, shifted(row, step))
+}
+
+/// `low` raised by what stands along files and ranks.
+#[inline(always)]
+fn straight_raised(low: Row, row: Row, free: SquareSet) -> Row
+    ensures { (s : ℕ) → s < 64 → IsRaised (slice_index low s) (λ t. OneOf (Rides (λ u. bit_at free.bits u ≡ 1) 7 s t) straight_steps) (λ t. slice_index row t) (slice_index result s) }
+{
+    let down = ray_raised(low, row, free, step(Way::Still, 0, Way::Down, 1));
+    let up = ray_raised(down, row, free, step(Way::Still, 0, Way::Up, 1));
+    let left = ray_raised(up, row, free, step(Way::Down, 1, Way::Still, 0));
+    ray_raised(left, row, free, step(Way::Up, 1, Way::Still, 0))
+}
+
+/// `low` raised by what stands along diagonals.
+#[inline(always)]
+fn diagonal_raised(low: Row, row: Row, free: SquareSet) -> Row
+    ensures { (s : ℕ) → s < 64 → IsRaised (slice_index low s) (λ t. OneOf (Rides (λ u. bit_at free.bits u ≡ 1) 7 s t) diagonal_steps) (λ t. slice_index row t) (slice_index result s) }
+{
+    let down_left = ray_raised(low, row, free, step(Way::Down, 1, Way::Down, 1));
+    let up_left = ray_raised(down_left, row, free, step(Way::Down, 1, Way::Up, 1));
+    let down_right = ray_raised(up_left, row, free, step(Way::Up, 1, Way::Down, 1));
+    ray_raised(down_right, row, free, step(Way::Up, 1, Way::Up, 1))
+}
+
+/// `low` raised by what stands a knight's step further.
+#[inline(always)]
+fn knight_raised(low: Row, row: Row) -> Row
+    ensures { (s : ℕ) → s < 64 → IsRaised (slice_index low s) (λ t. OneOf (λ d. Away d 1 s t) knight_steps) (λ t. slice_index row t) (slice_index result s) }
+{
+    let a = step_raised(low, row, step(Way::Down, 2, Way::Down, 1));
+    let b = step_raised(a, row, step(Way::Down, 2, Way::Up, 1));
+    let c = step_raised(b, row, step(Way::Up, 2, Way::Down, 1));
+    let d = step_raised(c, row, step(Way::Up, 2, Way::Up, 1));
+    let e = step_raised(d, row, step(Way::Down, 1, Way::Down, 2));
+    let f = step_raised(e, row, step(Way::Down, 1, Way::Up, 2));
+    let g = step_raised(f, row, step(Way::Up, 1, Way::Down, 2));
+    step_raised(g, row, step(Way::Up, 1, Way::Up, 2))
+}
+
+/// `low` raised at each square by what stands where this man attacks from there past free squares.
+#[inline(always)]
+pub fn last_man_raised(low: Row, row: Row, free: SquareSet, man: Man) -> Row
+    requires { IsPiece man.kind }
+    ensures { (s : ℕ) → s < 64 → IsRaised (slice_index low s) (λ t. Reaches (λ u. bit_at free.bits u ≡ 1) man s t) (λ t. slice_index row t) (slice_index result s) }
+{
+    match man.kind {
+        Kind::Q => straight_raised(diagonal_raised(low, row, free), row, free),
+        Kind::R => straight_raised(low, row, free),
+        Kind::B => diagonal_raised(low, row, free),
+        Kind::N => knight_raised(low, row),
+        Kind::P | Kind::K => low,
+    }
 }
