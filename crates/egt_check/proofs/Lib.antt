@@ -31,3 +31,5 @@ pub mod ShelfBest
 mod ShelfJudged
 mod ToldBest
 pub mod Worth
+pub mod RowRead
+pub mod BlockRaising

@@ -24,3 +24,4 @@ pub mod Pusher
 pub mod ShelfBest
 pub mod Peak
 pub mod Worth
+pub mod Blocks

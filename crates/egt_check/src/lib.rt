@@ -2,6 +2,7 @@
 //! that passed.
 #![tactic(auto)]
 
+pub mod blocks;
 pub mod by_column;
 pub mod checking;
 pub mod facts;
@@ -17,6 +18,7 @@ pub mod quiet;
 pub mod quiet_best;
 pub mod reject;
 pub mod roamer;
+pub mod rows;
 pub mod rule;
 pub mod score_table;
 pub mod shelf_best;
