@@ -1,5 +1,5 @@
 -- Every second entry.
-use Rattle.std.proofs.Common.{◌≡◌, ℕ, ◌+◌, ◌*◌, ◌-◌, ◌<◌, ◌≤◌, ◌⊎◌, nat_lt, if◌then◌else◌, eqb, T, List, ◌++◌, length, get_or, replicate, refl, sym, ap, ◌∙◌, inl, inr, arith}
+use Rattle.std.proofs.Common.{◌≡◌, ℕ, ◌+◌, ◌*◌, ◌-◌, ◌<◌, ◌≤◌, ◌⊎◌, nat_lt, if◌then◌else◌, eqb, T, List, ◌++◌, length, get_or, sym, ap, ◌∙◌, inl, inr, arith}
 use Rattle.std.proofs.lemmas.Bool.{cases_lt}
 use Rattle.std.proofs.lemmas.List.{get_or-map, get_or_append_left, get_or-append_right}
 use Rattle.std.proofs.lemmas.Bool.Decides.{nat_tests}
@@ -23,11 +23,11 @@ pub joined_at : (low high entries : List ℕ) (n k j : ℕ) → length low ≡ 6
     → k < 128 → (k < 64 → j ≡ k) → (64 ≤ k → j + 64 ≡ n + k) → get_or (low ++ high) k 0 ≡ get_or entries j 0
 joined_at low high entries n k j long first second k_in below above = elim (cases_lt k 64) [
   | inl l ↦
-    let there : 0 + k ≡ j = omega (arith, below l) in
-    get_or_append_left low high 0 k (omega arith) ∙ first k l ∙ ap (λ m. get_or entries m 0) there
+      let there : 0 + k ≡ j = omega (arith, below l) in
+      get_or_append_left low high 0 k (omega arith) ∙ first k l ∙ ap (λ m. get_or entries m 0) there
   | inr g ↦
-    let there : n + (k - 64) ≡ j = omega (arith, above g) in
-    get_or-append_right low high 64 k 0 long g ∙ second (k - 64) (omega arith) ∙ ap (λ m. get_or entries m 0) there
+      let there : n + (k - 64) ≡ j = omega (arith, above g) in
+      get_or-append_right low high 64 k 0 long g ∙ second (k - 64) (omega arith) ∙ ap (λ m. get_or entries m 0) there
 ]
 
 pub side_number-small : (side : Side) → side_number side < 2

@@ -9,3 +9,4 @@ pub mod Raising
 pub mod Rays
 pub mod Riding
 pub mod Entries
+pub mod Walking

@@ -21,9 +21,9 @@ picked_or_none xs ks f long all same small s s_in =
     get_or-map (λ k. get_or (xs ++ replicate 64 0) k 0) ks s 0 0 (omega arith)
     ∙ ap (λ k. get_or (xs ++ replicate 64 0) k 0) (agreed (λ s. get_or ks s 0) f 64 same s s_in)
     ∙ elim (cases_lt (f s) 64) [
-        | inl within ↦ get_or_append_left xs (replicate 64 0) 0 (f s) (omega arith)
-        | inr past ↦
+      | inl within ↦ get_or_append_left xs (replicate 64 0) 0 (f s) (omega arith)
+      | inr past ↦
           let at_most : f s ≤ 64 = leb-true _ _ (is_true _ (passed (λ s. leb (f s) 64) 64 small s s_in)) in
           let none : f s - 64 ≡ 0 = omega arith in
           get_or-append_right xs (replicate 64 0) 64 (f s) 0 long past ∙ ap (λ i. get_or (replicate 64 0) i 0) none ∙ sym (get_or_past xs (f s) 0 (omega arith))
-      ]
+    ]

@@ -1,5 +1,5 @@
 -- Raising by one set of squares after another.
-use Rattle.std.proofs.Common.{◌≡◌, ℕ, ◌≤◌, ◌<◌, ◌⊎◌, max, refl, sym, ap, ◌∙◌, inl, inr, arith, subst}
+use Rattle.std.proofs.Common.{◌≡◌, ℕ, ◌⊎◌, max, refl, sym, ap, ◌∙◌, inl, inr, arith, subst}
 use Rattle.std.proofs.lemmas.Bool.{cases_lt}
 use Rattle.egt_lanes.specs.Raised.{IsRaised}
 
@@ -26,15 +26,15 @@ raised_more low v w x In New f old new is = record {
   above = λ t either. elim either [ inl n ↦ omega (arith, new.above t n) | inr o ↦ omega (arith, old.above t o) ];
   reached = elim (cases_lt v w) [
     | inl l ↦ elim new.reached [
-        | inl e ↦ absurd (omega arith)
-        | inr h ↦ inr (h.0, inl h.1, let e : x ≡ w = omega arith in e ∙ h.2)
-      ]
+      | inl e ↦ absurd (omega arith)
+      | inr h ↦ inr (h.0, inl h.1, let e : x ≡ w = omega arith in e ∙ h.2)
+    ]
     | inr g ↦
-      let same : x ≡ v = omega arith in
-      elim old.reached [
-        | inl e ↦ inl (same ∙ e)
-        | inr h ↦ inr (h.0, inr h.1, same ∙ h.2)
-      ]
+        let same : x ≡ v = omega arith in
+        elim old.reached [
+          | inl e ↦ inl (same ∙ e)
+          | inr h ↦ inr (h.0, inr h.1, same ∙ h.2)
+        ]
   ];
 }
 

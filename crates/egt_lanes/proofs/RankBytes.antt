@@ -1,10 +1,10 @@
 -- The bits of a set, as bytes of ranks.
-use Rattle.std.proofs.Common.{◌≡◌, ℕ, zero, suc, ◌+◌, ◌-◌, ◌*◌, ◌/◌, ◌%◌, ◌^◌, ◌<◌, ◌≤◌, Bool, true, false, ◌&&◌, eqb, T, List, [], ◌∷◌, ◌++◌, map, length, get_or, replicate, cond, bit_and, eqb-true, eq-eqb, refl, sym, ap, ◌∙◌, arith}
+use Rattle.std.proofs.Common.{◌≡◌, ℕ, zero, suc, ◌*◌, ◌/◌, ◌%◌, ◌^◌, ◌<◌, Bool, true, false, eqb, bit_and, eqb-true, eq-eqb, refl, sym, ap, ◌∙◌, arith}
 use Rattle.std.specs.Int.{bit_at}
 use Rattle.std.proofs.Math.Nat.{div-div-eq-div-mul}
 use Rattle.std.proofs.lemmas.Nat.Bits.{and_pow, bit_at_cat_low, bit_at-lt}
 use Rattle.std.proofs.lemmas.Nat.{div-add-mod', pow_pos}
-use Rattle.egt_lanes.proofs.Tests.{passes_below, agreed}
+use Rattle.egt_lanes.proofs.Tests.{agreed}
 
 low_bit : (n k : ℕ) → k < 8 → bit_at (n % 256) k ≡ bit_at n k
 low_bit n k k_in = sym (bit_at_cat_low (n / 256) 8 (n % 256) k k_in) ∙ ap (λ m. bit_at m k) (div-add-mod' n 256)

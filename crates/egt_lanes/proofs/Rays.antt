@@ -1,5 +1,5 @@
 -- Steps one after another.
-use Rattle.std.proofs.Common.{◌≡◌, ℕ, zero, suc, ◌+◌, ◌*◌, ◌-◌, ◌/◌, ◌%◌, ◌<◌, ◌≤◌, ◌⊎◌, refl, sym, ap, ◌∙◌, subst, inl, inr, arith}
+use Rattle.std.proofs.Common.{◌≡◌, ℕ, zero, suc, ◌+◌, ◌*◌, ◌-◌, ◌/◌, ◌%◌, ◌<◌, ◌≤◌, ◌⊎◌, refl, subst, inl, inr, arith}
 use Rattle.std.proofs.lemmas.Bool.{cases_lt, cases_eq}
 use Rattle.egt_board.specs.declared.step.Way.{Way}
 use Rattle.egt_board.specs.declared.step.Way.TheVariants.{Up, Down, Still}
@@ -79,10 +79,54 @@ next_square d s s_in =
     elim (next_coordinate d.files (1 * d.wide) (s % 8) (omega arith)) [
       | inr none ↦ inr (λ u a. none (u % 8) (omega arith) a.across)
       | inl f ↦ elim (next_coordinate d.ranks (1 * d.high) (s / 8) (omega arith)) [
-          | inr none ↦ inr (λ u a. let u_in = a.on_board in none (u / 8) (omega arith) a.along)
-          | inl r ↦ inl (square f.0 r.0, away_at d 1 s f.0 r.0 f.1 r.1 f.2 r.2)
-        ]
+        | inr none ↦ inr (λ u a. let u_in = a.on_board in none (u / 8) (omega arith) a.along)
+        | inl r ↦ inl (square f.0 r.0, away_at d 1 s f.0 r.0 f.1 r.1 f.2 r.2)
+      ]
     ]
+
+-- ---- from the other end
+
+zero_coordinate : (way : Way) (w a : ℕ) → Further way (0 * w) a a
+zero_coordinate Up w a = omega arith
+zero_coordinate Down w a = omega arith
+zero_coordinate Still w a = refl
+
+coordinate_last : (way : Way) (n w a m b : ℕ) → Further way (n * w) a m → Further way (1 * w) m b → Further way ((n + 1) * w) a b
+coordinate_last Up n w a m b p q = omega arith
+coordinate_last Down n w a m b p q = omega arith
+coordinate_last Still n w a m b p q = omega arith
+
+last_coordinate : (way : Way) (n w a m b : ℕ) → Further way (n * w) a m → Further way ((n + 1) * w) a b → Further way (1 * w) m b
+last_coordinate Up n w a m b p q = omega arith
+last_coordinate Down n w a m b p q = omega arith
+last_coordinate Still n w a m b p q = omega arith
+
+pub no_step : (d : Step) (s : ℕ) → s < 64 → Away d 0 s s
+no_step d s s_in = record { on_board = s_in; across = zero_coordinate d.files d.wide (file_of s); along = zero_coordinate d.ranks d.high (rank_of s) }
+
+pub one_step_on : (d : Step) (n s u t : ℕ) → Away d n s u → Away d 1 u t → Away d (n + 1) s t
+one_step_on d n s u t a b = record {
+  on_board = b.on_board;
+  across = coordinate_last d.files n d.wide (file_of s) (file_of u) (file_of t) a.across b.across;
+  along = coordinate_last d.ranks n d.high (rank_of s) (rank_of u) (rank_of t) a.along b.along;
+}
+
+pub last_step : (d : Step) (n s u t : ℕ) → Away d n s u → Away d (n + 1) s t → Away d 1 u t
+last_step d n s u t a b = record {
+  on_board = b.on_board;
+  across = last_coordinate d.files n d.wide (file_of s) (file_of u) (file_of t) a.across b.across;
+  along = last_coordinate d.ranks n d.high (rank_of s) (rank_of u) (rank_of t) a.along b.along;
+}
+
+-- the first k of more steps lead to a square
+pub on_the_way : (d : Step) (k j s t : ℕ) → s < 64 → Away d (k + j) s t → (u : ℕ) × Away d k s u
+on_the_way d zero j s t s_in a = (s, no_step d s s_in)
+on_the_way d (suc k) j s t s_in a =
+    let more : suc k + j ≡ k + j + 1 = omega arith in
+    let f = first_step d (k + j) s t s_in (subst (λ m. Away d m s t) more a) in
+    let r = on_the_way d k j f.0 t f.1.on_board f.2 in
+    let next : k + 1 ≡ suc k = omega arith in
+    (r.0, subst (λ m. Away d m s r.0) next (both_steps d k s f.0 r.0 f.1 r.1))
 
 -- ---- rays
 
@@ -104,21 +148,23 @@ more_steps Free n s u t d s_in a free r = record {
     clear zero v some less b = absurd (omega arith)
     clear (suc k) v some less b = elim (cases_eq k 0) [
       | inl e ↦
-        let one : suc k ≡ 1 = omega arith in
-        subst Free (same_end d 1 s u v a (subst (λ m. Away d m s v) one b)) free
+          let one : suc k ≡ 1 = omega arith in
+          subst Free (same_end d 1 s u v a (subst (λ m. Away d m s v) one b)) free
       | inr n ↦
-        let more : suc k ≡ k + 1 = omega arith in
-        let f = first_step d k s v s_in (subst (λ m. Away d m s v) more b) in
-        r.clear k v (omega arith) (omega arith) (subst (λ w. Away d k w v) (same_end d 1 s f.0 u f.1 a) f.2)
+          let more : suc k ≡ k + 1 = omega arith in
+          let f = first_step d k s v s_in (subst (λ m. Away d m s v) more b) in
+          r.clear k v (omega arith) (omega arith) (subst (λ w. Away d k w v) (same_end d 1 s f.0 u f.1 a) f.2)
     ]
 
 pub fewer_steps : (Free : ℕ → Type 0) (n s u t : ℕ) (d : Step) → s < 64 → 0 < n → Away d 1 s u → IsRidden Free (n + 1) s t d → Free u × IsRidden Free n u t d
 fewer_steps Free n s u t d s_in some a r =
-    let f = first_step d n s t s_in r.away in
-    (r.clear 1 u (omega arith) (omega arith) a, record {
-      away = subst (λ w. Away d n w t) (same_end d 1 s f.0 u f.1 a) f.2;
-      clear = λ k v k_some less b. r.clear (k + 1) v (omega arith) (omega arith) (both_steps d k s u v a b);
-    })
+    let f = first_step d n s t s_in r.away in (
+      r.clear 1 u (omega arith) (omega arith) a,
+      record {
+        away = subst (λ w. Away d n w t) (same_end d 1 s f.0 u f.1 a) f.2;
+        clear = λ k v k_some less b. r.clear (k + 1) v (omega arith) (omega arith) (both_steps d k s u v a b);
+      },
+    )
 
 -- within one more step
 pub Rides-more : (Free : ℕ → Type 0) (n s t : ℕ) (d : Step) → IsRidden Free (n + 1) s t d ⊎ Rides Free n s t d → Rides Free (n + 1) s t d
@@ -135,3 +181,7 @@ Rides-last Free n s t d r = elim (cases_eq r.count (n + 1)) [
 
 pub Rides-none : (Free : ℕ → Type 0) (s t : ℕ) (d : Step) → Rides Free 0 s t d → ⊥
 Rides-none Free s t d r = let some = r.moves in let most = r.within in omega arith
+
+-- a ride that may be longer
+pub Rides-wider : (Free : ℕ → Type 0) (n m s t : ℕ) (d : Step) → n ≤ m → Rides Free n s t d → Rides Free m s t d
+Rides-wider Free n m s t d le r = record { count = r.count; moves = r.moves; within = omega (arith, r.within); away = r.away; clear = r.clear }

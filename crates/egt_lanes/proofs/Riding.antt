@@ -1,10 +1,15 @@
 -- Rows raised along rays: the last man's moves.
-use Rattle.std.proofs.Common.{◌≡◌, ℕ, ◌+◌, ◌<◌, ◌==◌, ◌⊎◌, if◌then◌else◌, Bool, true, false, eqb, cond, max, List, [], ◌∷◌, ◌++◌, get_or, refl, sym, ap, ◌∙◌, subst, inl, inr, arith, eqb-true}
+use Rattle.std.proofs.Common.{◌≡◌, ℕ, ◌+◌, ◌<◌, ◌==◌, ◌⊎◌, if◌then◌else◌, Bool, true, false, eqb, cond, max, List, [], ◌∷◌, ◌++◌, get_or, take, length, refl, sym, ap, ◌∙◌, subst, inl, inr, eqb-true}
 use Rattle.std.proofs.lemmas.Bool.{eqb-false}
+use Rattle.std.proofs.lemmas.List.{take_more}
 use Rattle.std.specs.Int.{bit_at}
+use Rattle.egt_board.specs.declared.man.Side.{Side}
+use Rattle.egt_board.specs.declared.man.Kind.{Kind}
 use Rattle.egt_board.specs.declared.step.Step.{Step}
 use Rattle.egt_board.specs.Step.{Away}
-use Rattle.egt_board.specs.Gait.{Rides, OneOf}
+use Rattle.egt_board.specs.Gait.{Rides, OneOf, farthest, steps_of}
+use Rattle.egt_board.specs.declared.man.Kind.TheVariants.{P, K}
+use Rattle.egt_lanes.specs.Pieces.{IsPiece}
 use Rattle.egt_lanes.specs.Raised.{IsRaised}
 use Rattle.egt_lanes.proofs.Raising.{raised_by_none, first_raised, raised_more, raised_again, raised_as, raised_is}
 use Rattle.egt_lanes.proofs.Rays.{IsRidden, first_step, same_end, next_square, one_step, more_steps, fewer_steps, Rides-more, Rides-last, Rides-none}
@@ -40,10 +45,10 @@ pub ridden_first : (bits : ℕ) (d : Step) (row to : List ℕ) → IsShifted d r
 ridden_first bits d row to shift = record {
   ends = one_end bits d row to shift;
   all = λ s s_in.
-    raised_as 0 (get_or to s 0) (λ t. IsRidden (HasBit bits) 1 s t d) (λ t. Rides (HasBit bits) 1 s t d) (λ t. get_or row t 0)
-    (λ t r. Rides-more (HasBit bits) 0 s t d (inl r))
-    (λ t r. elim (Rides-last (HasBit bits) 0 s t d r) [ inl r ↦ r | inr n ↦ absurd (Rides-none (HasBit bits) s t d n) ])
-    (one_end bits d row to shift s s_in);
+      raised_as 0 (get_or to s 0) (λ t. IsRidden (HasBit bits) 1 s t d) (λ t. Rides (HasBit bits) 1 s t d) (λ t. get_or row t 0)
+      (λ t r. Rides-more (HasBit bits) 0 s t d (inl r))
+      (λ t r. elim (Rides-last (HasBit bits) 0 s t d r) [ inl r ↦ r | inr n ↦ absurd (Rides-none (HasBit bits) s t d n) ])
+      (one_end bits d row to shift s s_in);
 }
 
 more_ends : (bits : ℕ) (d : Step) (row last kept to : List ℕ) (n : ℕ) → 0 < n
@@ -67,9 +72,9 @@ more_ends bits d row last kept to n some ends keeps shift s s_in =
         let is : get_or to s 0 ≡ get_or last u 0 = shift.moved s u s_in a ∙ keeps u a.on_board ∙ ap (λ b. cond b (get_or last u 0) 0) e in
         raised_is 0 (get_or last u 0) (get_or to s 0) (λ t. IsRidden (HasBit bits) (n + 1) s t d) (λ t. get_or row t 0) is
         (raised_as 0 (get_or last u 0) (λ t. IsRidden (HasBit bits) n u t d) (λ t. IsRidden (HasBit bits) (n + 1) s t d) (λ t. get_or row t 0)
-          (λ t r. more_steps (HasBit bits) n s u t d s_in a (eqb-true _ _ e) r)
-          (λ t r. (fewer_steps (HasBit bits) n s u t d s_in some a r).1)
-          (ends u a.on_board))
+        (λ t r. more_steps (HasBit bits) n s u t d s_in a (eqb-true _ _ e) r)
+        (λ t r. (fewer_steps (HasBit bits) n s u t d s_in some a r).1)
+        (ends u a.on_board))
     at u a false e =
         let is : get_or to s 0 ≡ 0 = shift.moved s u s_in a ∙ keeps u a.on_board ∙ ap (λ b. cond b (get_or last u 0) 0) e in
         raised_is 0 0 (get_or to s 0) (λ t. IsRidden (HasBit bits) (n + 1) s t d) (λ t. get_or row t 0) is
@@ -82,12 +87,12 @@ ridden_more bits d row last best kept to top n some before keeps shift raises =
     let ends = more_ends bits d row last kept to n some before.ends keeps shift in record {
       ends = ends;
       all = λ s s_in.
-        let f : ℕ → ℕ = λ t. get_or row t 0 in
-        let New : ℕ → Type 0 = λ t. IsRidden (HasBit bits) (n + 1) s t d in
-        let Old : ℕ → Type 0 = λ t. Rides (HasBit bits) n s t d in
-        raised_as 0 (get_or top s 0) (λ t. New t ⊎ Old t) (λ t. Rides (HasBit bits) (n + 1) s t d) f
-        (λ t r. Rides-more (HasBit bits) n s t d r) (λ t r. Rides-last (HasBit bits) n s t d r)
-        (raised_more 0 (get_or best s 0) (get_or to s 0) (get_or top s 0) Old New f (before.all s s_in) (ends s s_in) (raises s s_in));
+          let f : ℕ → ℕ = λ t. get_or row t 0 in
+          let New : ℕ → Type 0 = λ t. IsRidden (HasBit bits) (n + 1) s t d in
+          let Old : ℕ → Type 0 = λ t. Rides (HasBit bits) n s t d in
+          raised_as 0 (get_or top s 0) (λ t. New t ⊎ Old t) (λ t. Rides (HasBit bits) (n + 1) s t d) f
+          (λ t r. Rides-more (HasBit bits) n s t d r) (λ t r. Rides-last (HasBit bits) n s t d r)
+          (raised_more 0 (get_or best s 0) (get_or to s 0) (get_or top s 0) Old New f (before.all s s_in) (ends s s_in) (raises s s_in));
     }
 
 -- ---- over several steps
@@ -127,9 +132,35 @@ both_lists low v w H f ds es old new =
     (λ t r. elim r [ inl a ↦ OneOf-left (H t) ds es a | inr b ↦ OneOf-right (H t) ds es b ]) (λ t r. OneOf-either (H t) ds es r)
     (raised_again low v w (λ t. OneOf (H t) es) (λ t. OneOf (H t) ds) f old new)
 
+pub lists_both : (low v w : ℕ) (H : ℕ → Step → Type 0) (f : ℕ → ℕ) (ds es : List Step)
+    → IsRaised low (λ t. OneOf (H t) ds) f v → IsRaised v (λ t. OneOf (H t) es) f w → IsRaised low (λ t. OneOf (H t) (ds ++ es)) f w
+lists_both low v w H f ds es old new =
+    raised_as low w (λ t. OneOf (H t) es ⊎ OneOf (H t) ds) (λ t. OneOf (H t) (ds ++ es)) f
+    (λ t r. elim r [ inl b ↦ OneOf-right (H t) ds es b | inr a ↦ OneOf-left (H t) ds es a ])
+    (λ t r. elim (OneOf-either (H t) ds es r) [ inl a ↦ inr a | inr b ↦ inl b ])
+    (raised_again low v w (λ t. OneOf (H t) ds) (λ t. OneOf (H t) es) f old new)
+
+-- the next step of a list
+pub next_of_list : (low v w : ℕ) (H : ℕ → Step → Type 0) (f : ℕ → ℕ) (steps : List Step) (i : ℕ) (d : Step) → i < length steps
+    → IsRaised low (λ t. OneOf (H t) (take i steps)) f v → IsRaised v (λ t. H t (get_or steps i d)) f w → IsRaised low (λ t. OneOf (H t) (take (i + 1) steps)) f w
+next_of_list low v w H f steps i d i_in old new =
+    let one : List Step = get_or steps i d ∷ [] in
+    let new' : IsRaised v (λ t. OneOf (H t) one) f w =
+    raised_as v w (λ t. H t (get_or steps i d)) (λ t. OneOf (H t) one) f (λ t h. inl h) (λ t r. elim r [ inl h ↦ h | inr n ↦ absurd n ]) new in
+    subst (λ ds. IsRaised low (λ t. OneOf (H t) ds) f w) (sym (take_more steps i d i_in)) (lists_both low v w H f (take i steps) one old new')
+
 -- a ride of at most one step is the step
 pub one_ride : (Free : ℕ → Type 0) (s t : ℕ) (d : Step) → Away d 1 s t → Rides Free 1 s t d
 one_ride Free s t d a = Rides-more Free 0 s t d (inl (one_step Free s t d a))
 
 pub ride_one : (Free : ℕ → Type 0) (s t : ℕ) (d : Step) → Rides Free 1 s t d → Away d 1 s t
 ride_one Free s t d r = elim (Rides-last Free 0 s t d r) [ inl r ↦ r.away | inr n ↦ absurd (Rides-none Free s t d n) ]
+
+-- what a man of this kind reaches
+pub reached_by : (low v w s : ℕ) (Free : ℕ → Type 0) (side : Side) (kind k : Kind) (f : ℕ → ℕ) → kind ≡ k → w ≡ v
+    → IsRaised low (λ t. OneOf (Rides Free (farthest k) s t) (steps_of side k)) f v → IsRaised low (λ t. OneOf (Rides Free (farthest kind) s t) (steps_of side kind)) f w
+reached_by low v w s Free side kind k f e is h =
+    subst (λ (x : Kind). IsRaised low (λ t. OneOf (Rides Free (farthest x) s t) (steps_of side x)) f w) (sym e) (raised_is low v w (λ t. OneOf (Rides Free (farthest k) s t) (steps_of side k)) f is h)
+
+pub no_piece : (kind : Kind) → (kind ≡ P) ⊎ (kind ≡ K) → IsPiece kind → ⊥
+no_piece kind either piece = elim either [ inl e ↦ subst IsPiece e piece | inr e ↦ subst IsPiece e piece ]

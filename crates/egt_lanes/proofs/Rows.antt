@@ -1,11 +1,11 @@
 -- What the operations on rows come to at one lane. A mask's lane is 255 or 0.
-use Rattle.std.proofs.Common.{◌≡◌, ◌≢◌, ℕ, zero, suc, ◌+◌, ◌≤◌, ◌<◌, ◌-◌, ◌/◌, ◌%◌, ◌^◌, Bool, true, false, not, cond, eqb, ltb, leb, max, min, T, List, [], ◌∷◌, map, length, get_or, replicate, bit_and, refl, sym, ap, ◌∙◌, arith, Fits, w8, w16, ltb-true, ltb-false, eqb-true, eqb→eq}
+use Rattle.std.proofs.Common.{◌≡◌, ◌≢◌, ℕ, zero, suc, ◌+◌, ◌≤◌, ◌<◌, ◌-◌, ◌/◌, ◌%◌, ◌^◌, Bool, true, false, not, cond, eqb, ltb, leb, max, min, List, [], ◌∷◌, map, length, get_or, replicate, bit_and, refl, sym, ap, ◌∙◌, arith, Fits, w8, ltb-true, ltb-false, eqb-true}
 use Rattle.std.proofs.lemmas.List.{length-map}
 use Rattle.std.proofs.lemmas.Nat.{and_mask}
 use Rattle.std.proofs.lemmas.Simd.{length-replicate, length-zip2, mask_l-mod}
 use lib.Lanes.{zip2, sel_l, mask_l, top, Each1}
 use Rattle.egt_lanes.specs.Scores.{byte_score, zeroing_score, due_score}
-use Rattle.egt_lanes.proofs.Tests.{passes_below, agreed}
+use Rattle.egt_lanes.proofs.Tests.{agreed}
 
 abbrev pub below : ℕ → ℕ → ℕ
 below a b = cond (ltb a b) 255 0
@@ -59,6 +59,11 @@ lesser_at (x ∷ xs) [] i p q = absurd (omega arith)
 lesser_at (x ∷ xs) (y ∷ ys) zero p q = lesser_of x y
 lesser_at (x ∷ xs) (y ∷ ys) (suc i) p q = lesser_at xs ys i (omega arith) (omega arith)
 
+pub lane_small : (xs : List ℕ) (i : ℕ) → Each1 (Fits w8) xs → get_or xs i 0 < 256
+lane_small [] i fits = omega arith
+lane_small (x ∷ xs) zero fits = fits.0.fits
+lane_small (x ∷ xs) (suc i) fits = lane_small xs i fits.1
+
 -- ---- scores
 
 -- of n lanes
@@ -68,7 +73,7 @@ byte_scores n xs =
     let half = zip2 halved xs one in
     select (zip2 same xs one) (replicate n 128)
     (select (zip2 same (zip2 bit_and xs one) one) (zip2 less (replicate n 0) half)
-     (zip2 less (select (zip2 below half one) one half) one))
+    (zip2 less (select (zip2 below half one) one half) one))
 
 byte_scored : ℕ → ℕ
 byte_scored x =
@@ -184,7 +189,7 @@ all_alike xs ys ws p q r none i i_in some =
     let r' : length ws ≡ length xs = omega arith in
     let long : length (unlike (length xs) xs ys ws) ≡ 64 = length-unlike xs ys ws q' r' ∙ p in
     let none' : some_set (length (unlike (length xs) xs ys ws)) (unlike (length xs) xs ys ws) ≡ false =
-        rw (long, p) none in
+    rw (long, p) none in
     unlike_at xs ys ws i (omega arith) q' r' (all_zero (unlike (length xs) xs ys ws) long none' i) some
 
 -- ---- entries of 16 bits

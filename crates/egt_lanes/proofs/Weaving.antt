@@ -1,5 +1,5 @@
 -- Rows woven into one another, and blocks in which rows and lanes are exchanged.
-use Rattle.std.proofs.Common.{◌≡◌, ℕ, zero, suc, ◌+◌, ◌-◌, ◌*◌, ◌/◌, ◌%◌, ◌<◌, ◌≤◌, ◌≢◌, ◌==◌, if◌then◌else◌, Bool, true, false, eqb, cond, T, List, [], ◌∷◌, ◌++◌, map, length, get_or, refl, sym, ap, ◌∙◌, inl, inr, arith, eqb-true, get_or-set_other}
+use Rattle.std.proofs.Common.{◌≡◌, ℕ, ◌+◌, ◌-◌, ◌*◌, ◌/◌, ◌%◌, ◌<◌, ◌≤◌, ◌≢◌, ◌==◌, if◌then◌else◌, Bool, true, false, eqb, cond, T, List, [], ◌++◌, map, length, get_or, refl, ap, ◌∙◌, inl, inr, arith, eqb-true, get_or-set_other}
 use Rattle.std.specs.List.{range_with_len}
 use Rattle.std.proofs.Math.ListN.{set, length-set}
 use Rattle.std.proofs.lemmas.Bool.{eqb-false, cases_lt, cases_eq}
@@ -101,21 +101,21 @@ pub two_rows : (out from : List (List ℕ)) (low high : List ℕ) (i : ℕ) → 
 two_rows out from low high i long i_in before first second a b a_in b_in =
     elim (cases_lt a (2 * i)) [
       | inl earlier ↦
-        let other : a ≢ 2 * i = omega arith in
-        let other' : a ≢ 2 * i + 1 = omega arith in
-        ap (λ r. get_or r b 0) (get_or-set_other (set out (2 * i) low) (2 * i + 1) a high [] other' ∙ get_or-set_other out (2 * i) a low [] other) ∙ before a b earlier b_in
+          let other : a ≢ 2 * i = omega arith in
+          let other' : a ≢ 2 * i + 1 = omega arith in
+          ap (λ r. get_or r b 0) (get_or-set_other (set out (2 * i) low) (2 * i + 1) a high [] other' ∙ get_or-set_other out (2 * i) a low [] other) ∙ before a b earlier b_in
       | inr later ↦ elim (cases_eq a (2 * i)) [
-          | inl e ↦
+        | inl e ↦
             let other : a ≢ 2 * i + 1 = omega arith in
             let row : i + 32 * (b % 2) ≡ a / 2 + 32 * (b % 2) = omega arith in
             let lane : b / 2 ≡ 32 * (a % 2) + b / 2 = omega arith in
             ap (λ r. get_or r b 0) (get_or-set_other (set out (2 * i) low) (2 * i + 1) a high [] other ∙ get_or-set_at out (2 * i) a low [] e (omega arith))
             ∙ first b b_in ∙ either_row from i b (b / 2) ∙ ap (λ r. at from r (b / 2)) row ∙ ap (at from (a / 2 + 32 * (b % 2))) lane
-          | inr n ↦
+        | inr n ↦
             let e : a ≡ 2 * i + 1 = omega arith in
             let row : i + 32 * (b % 2) ≡ a / 2 + 32 * (b % 2) = omega arith in
             let lane : 32 + b / 2 ≡ 32 * (a % 2) + b / 2 = omega arith in
             ap (λ r. get_or r b 0) (get_or-set_at (set out (2 * i) low) (2 * i + 1) a high [] e (omega (arith, length-set {A = List ℕ})))
             ∙ second b b_in ∙ either_row from i b (32 + b / 2) ∙ ap (λ r. at from r (32 + b / 2)) row ∙ ap (at from (a / 2 + 32 * (b % 2))) lane
-        ]
+      ]
     ]

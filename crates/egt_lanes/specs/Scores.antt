@@ -1,5 +1,5 @@
 -- Scores: a byte for what an entry of a table says, the greater the better for the side to move.
-use Rattle.std.specs.Prelude.{ℕ, ◌+◌, ◌-◌, ◌/◌, ◌%◌, ◌==◌, ◌^◌, nat_lt, if◌then◌else◌}
+use Rattle.std.specs.Prelude.{ℕ, ◌-◌, ◌/◌, ◌%◌, ◌==◌, nat_lt, if◌then◌else◌}
 
 -- of an entry below 256: 0 where there is no position, n for a win 2 + 2n, 128 for a draw 1, 255 - n for a loss 3 + 2n
 abbrev pub byte_score : ℕ → ℕ

@@ -8,6 +8,7 @@ pub mod score;
 pub mod sets;
 pub mod shift;
 pub mod turn;
+pub mod walk;
 
 pub use block::Block;
 pub use row::Row;

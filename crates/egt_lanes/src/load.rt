@@ -38,14 +38,9 @@ pub fn load(entries: &[u16], side: Side) -> Entries
 
 /// Where each square of the ranks 2 to 7 lies in every second of the entries 0 to 63 and 32 to 95; else 64.
 const PAWN_SQUARES: [usize; 64] = [
-    64, 64, 64, 64, 64, 64, 64, 64,
-    0, 1, 2, 3, 4, 5, 6, 7,
-    8, 9, 10, 11, 12, 13, 14, 15,
-    16, 17, 18, 19, 20, 21, 22, 23,
-    24, 25, 26, 27, 28, 29, 30, 31,
-    48, 49, 50, 51, 52, 53, 54, 55,
-    56, 57, 58, 59, 60, 61, 62, 63,
-    64, 64, 64, 64, 64, 64, 64, 64,
+    64, 64, 64, 64, 64, 64, 64, 64, 0, 1, 2, 3, 4, 5, 6, 7, 8, 9, 10, 11, 12, 13, 14, 15, 16, 17,
+    18, 19, 20, 21, 22, 23, 24, 25, 26, 27, 28, 29, 30, 31, 48, 49, 50, 51, 52, 53, 54, 55, 56, 57,
+    58, 59, 60, 61, 62, 63, 64, 64, 64, 64, 64, 64, 64, 64,
 ];
 
 /// The entries of one side to move, of two for each square of the ranks 2 to 7; 0 on the other two ranks.

@@ -1,5 +1,5 @@
 //! Rows: a number for each square.
-ghost use Rattle.std.specs.Prelude.{◌≡◌, ◌≢◌, ℕ, ◌<◌, max, min, slice_index, false, Bool};
+ghost use Rattle.std.specs.Prelude.{◌≡◌, ◌≢◌, ℕ, ◌<◌, max, slice_index, false, Bool};
 
 use std::simd::prelude::*;
 
@@ -14,14 +14,6 @@ pub fn greater(a: Row, b: Row) -> Row
     a.simd_max(b)
 }
 
-/// Of each square the lesser number.
-#[inline(always)]
-pub fn lesser(a: Row, b: Row) -> Row
-    ensures { (s : ℕ) → s < 64 → slice_index result s ≡ min (slice_index a s) (slice_index b s) }
-{
-    a.simd_min(b)
-}
-
 /// Whether the rows differ at a square where `within` is not 0.
 #[inline(always)]
 pub fn differ(a: Row, b: Row, within: Row) -> bool
@@ -30,4 +22,13 @@ pub fn differ(a: Row, b: Row, within: Row) -> bool
     let nothing = Row::splat(0);
     let wrong = a.simd_ne(b).select(within, nothing);
     wrong.simd_ne(nothing).any()
+}
+
+/// The row where the mask is 255, and 0 where it is 0.
+#[inline(always)]
+pub fn masked(row: Row, mask: Row) -> Row
+    ensures kept { (s : ℕ) → s < 64 → slice_index mask s ≡ 255 → slice_index result s ≡ slice_index row s }
+    ensures cleared { (s : ℕ) → s < 64 → slice_index mask s ≡ 0 → slice_index result s ≡ 0 }
+{
+    row.simd_min(mask)
 }

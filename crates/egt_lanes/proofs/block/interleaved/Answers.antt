@@ -1,5 +1,5 @@
-use Rattle.std.proofs.Common.{ℕ, ◌*◌, ◌+◌, List, length, arith}
-use Rattle.std.proofs.Math.ListN.{set, length-set}
+use Rattle.std.proofs.Common.{ℕ, List, arith}
+use Rattle.std.proofs.Math.ListN.{length-set}
 use Rattle.egt_lanes.proofs.Weaving.{two_rows}
 use Rattle.egt_lanes.proofs.block.interleaved.Goals as goal
 

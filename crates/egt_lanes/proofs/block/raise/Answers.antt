@@ -1,4 +1,4 @@
-use Rattle.std.proofs.Common.{◌≡◌, ◌≢◌, ℕ, ◌+◌, get_or, List, [], max, sym, ap, ◌∙◌, get_or-set_other, inl, inr, arith}
+use Rattle.std.proofs.Common.{◌≡◌, ◌≢◌, ℕ, get_or, List, [], max, sym, ap, ◌∙◌, get_or-set_other, inl, inr, arith}
 use Rattle.std.proofs.Math.ListN.{length-set}
 use Rattle.std.proofs.lemmas.Bool.{cases_lt}
 use Rattle.std.proofs.lemmas.Grind.{get_or-set_at}
@@ -16,9 +16,9 @@ loop-i-preserved c =
       done = λ a b a_in b_in. elim (cases_lt a i) [
         | inl before ↦ let other : a ≢ i = omega arith in ap (λ r. get_or r b 0) (get_or-set_other out i a row [] other) ∙ c.loop-i.invariant.done a b before b_in
         | inr here ↦
-          let e : a ≡ i = omega arith in
-          ap (λ r. get_or r b 0) (get_or-set_at out i a row [] e (omega arith)) ∙ c.greater.ensures b b_in 
-          ∙ ap (λ v. max v (at by i b)) (c.loop-i.invariant.left i b (omega arith)) ∙ ap (λ r. max (at old r b) (at by r b)) (sym e)
+            let e : a ≡ i = omega arith in
+            ap (λ r. get_or r b 0) (get_or-set_at out i a row [] e (omega arith)) ∙ c.greater.ensures b b_in
+            ∙ ap (λ v. max v (at by i b)) (c.loop-i.invariant.left i b (omega arith)) ∙ ap (λ r. max (at old r b) (at by r b)) (sym e)
       ];
       left = λ a b a_in. let other : a ≢ i = omega arith in ap (λ r. get_or r b 0) (get_or-set_other out i a row [] other) ∙ c.loop-i.invariant.left a b (omega arith);
     }

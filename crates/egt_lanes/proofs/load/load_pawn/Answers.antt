@@ -16,13 +16,13 @@ returns-clause-middle c s s_from s_to =
     let j : ℕ = 2 * (s - 8) + side in
     picked_or_none every PAWN_SQUARES pawn_place long refl tt tt s (omega arith)
     ∙ elim (cases_lt s 40) [
-        | inl l ↦
+      | inl l ↦
           ap (λ p. get_or every p 0) (pawn_place-low s s_from l) ∙ c.parted-every_second.ensures (s - 8) (omega arith)
           ∙ joined_at c.loaded.result c.loaded-2.result c.args.entries.now 32 (2 * (s - 8) + side) j (omega arith) c.loaded.ensures c.loaded-2.ensures (omega arith) (λ below. omega arith) (λ above. omega arith)
-        | inr g ↦
+      | inr g ↦
           ap (λ p. get_or every p 0) (pawn_place-high s g s_to) ∙ c.parted-every_second.ensures (s + 8) (omega arith)
           ∙ joined_at c.loaded.result c.loaded-2.result c.args.entries.now 32 (2 * (s + 8) + side) j (omega arith) c.loaded.ensures c.loaded-2.ensures (omega arith) (λ below. omega arith) (λ above. omega arith)
-      ]
+    ]
 
 pub returns-clause-edge : goal.returns-clause-edge
 returns-clause-edge c s s_in edge =

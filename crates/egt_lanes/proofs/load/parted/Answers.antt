@@ -1,4 +1,4 @@
-use Rattle.std.proofs.Common.{◌+◌, ◌*◌, List, map, refl, ap}
+use Rattle.std.proofs.Common.{◌+◌, ◌*◌, map, refl, ap}
 use Rattle.std.specs.List.{range_with_len}
 use Rattle.egt_board.specs.Images.{side_number}
 use Rattle.egt_lanes.proofs.Entries.{second_at}

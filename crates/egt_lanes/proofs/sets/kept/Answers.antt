@@ -1,4 +1,4 @@
-use Rattle.std.proofs.Common.{◌≡◌, ℕ, List, get_or, replicate, ◌%◌, ◌^◌, ◌/◌, length, bit_and, eqb, cond, refl, ap, ◌∙◌, arith}
+use Rattle.std.proofs.Common.{◌≡◌, get_or, replicate, ◌%◌, ◌^◌, ◌/◌, length, bit_and, eqb, cond, ap, ◌∙◌, arith}
 use Rattle.std.specs.Int.{bit_at}
 use Rattle.std.proofs.lemmas.Simd.{get_or-zip2, length-zip2, get_or-replicate}
 use lib.Lanes.{zip2}
@@ -14,7 +14,7 @@ returns c s s_in =
     let long : length bytes ≡ 64 = omega arith in
     let place : get_or FILE_BITS s 0 ≡ 2 ^ (s % 8) = agreed (λ s. get_or FILE_BITS s 0) (λ s. 2 ^ (s % 8)) 64 tt s s_in in
     let both : get_or (zip2 bit_and bytes FILE_BITS) s 0 ≡ bit_and (c.args.set.bits / 256 ^ (s / 8) % 256) (2 ^ (s % 8)) =
-        get_or-zip2 bit_and bytes FILE_BITS s 0 0 0 (omega arith) s_in ∙ ap (λ n. bit_and n (get_or FILE_BITS s 0)) (c.rank_bytes.ensures s s_in) ∙ ap (bit_and _) place in
+    get_or-zip2 bit_and bytes FILE_BITS s 0 0 0 (omega arith) s_in ∙ ap (λ n. bit_and n (get_or FILE_BITS s 0)) (c.rank_bytes.ensures s s_in) ∙ ap (bit_and _) place in
     same_at (zip2 bit_and bytes FILE_BITS) FILE_BITS c.args.row (replicate 64 0) s (omega (arith, length-zip2 bit_and bytes FILE_BITS long)) s_in (omega arith) s_in
     ∙ ap (λ b. cond b (get_or c.args.row s 0) (get_or (replicate 64 0) s 0)) (ap (λ n. eqb n (get_or FILE_BITS s 0)) both ∙ ap (eqb _) place ∙ has_bit c.args.set.bits s s_in)
     ∙ ap (cond (eqb (bit_at c.args.set.bits s) 1) (get_or c.args.row s 0)) (get_or-replicate 64 s 0 0 s_in)

@@ -1,4 +1,4 @@
-use Rattle.std.proofs.Common.{◌≡◌, ℕ, List, get_or, replicate, length, eqb, cond, refl, ap, ◌∙◌, arith}
+use Rattle.std.proofs.Common.{◌≡◌, get_or, replicate, eqb, cond, ap, ◌∙◌, arith}
 use Rattle.std.proofs.lemmas.Simd.{get_or-replicate}
 use Rattle.egt_lanes.specs.declared.sets.TheConstants.{SQUARES}
 use Rattle.egt_lanes.proofs.Rows.{same_at}

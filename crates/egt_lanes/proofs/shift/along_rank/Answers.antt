@@ -1,5 +1,5 @@
-use Rattle.std.proofs.Common.{◌≡◌, ℕ, refl, ap, ◌∙◌, arith}
-use Rattle.egt_board.specs.declared.step.Way.TheVariants.{Up, Down, Still}
+use Rattle.std.proofs.Common.{◌≡◌, refl, ap, ◌∙◌, arith}
+use Rattle.egt_board.specs.declared.step.Way.TheVariants.{Up, Down}
 use Rattle.egt_lanes.specs.declared.shift.TheConstants as table
 use Rattle.egt_lanes.specs.Moved.{beside}
 use Rattle.egt_lanes.proofs.Moves.{moved_at, stays_at, beside-zero}
@@ -15,8 +15,8 @@ returns c s s_in =
       | in-Down-eq1 w ↦ moved_at beside c.args.row c.match-way.result table.LEFT Down c.args.way 1 c.args.wide c.fits-row.0 refl tt tt w.in-Down-eq1.is-0 w.in-Down-eq1.is-1 w.result-is s s_in
       | in-Down-eq2 w ↦ moved_at beside c.args.row c.match-way.result table.TWO_LEFT Down c.args.way 2 c.args.wide c.fits-row.0 refl tt tt w.in-Down-eq2.is-0 w.in-Down-eq2.is-1 w.result-is s s_in
       | in_default w ↦ stays_at beside c.args.row c.match-way.result c.args.way c.args.wide s w.result-is (elim w.in_default.branch [
-          | in_default-via-in-Up+in_default v ↦ none (omega arith)
-          | in_default-via-in-Down+in_default v ↦ none (omega arith)
-          | in_default-via-in_default v ↦ ap (λ way. beside way c.args.wide s) v.in_default.is-0
-        ])
+        | in_default-via-in-Up+in_default v ↦ none (omega arith)
+        | in_default-via-in-Down+in_default v ↦ none (omega arith)
+        | in_default-via-in_default v ↦ ap (λ way. beside way c.args.wide s) v.in_default.is-0
+      ])
     ]

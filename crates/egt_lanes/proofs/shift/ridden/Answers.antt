@@ -1,4 +1,4 @@
-use Rattle.std.proofs.Common.{◌≡◌, ℕ, get_or, subst, arith}
+use Rattle.std.proofs.Common.{◌≡◌, get_or, subst, arith}
 use Rattle.egt_board.specs.Gait.{Rides}
 use Rattle.egt_lanes.specs.Raised.{IsRaised}
 use Rattle.egt_lanes.proofs.Riding.{HasBit, ridden_first, ridden_more}

@@ -1,4 +1,4 @@
-use Rattle.std.proofs.Common.{◌≡◌, ℕ, ◌<◌, ◌≤◌, length, get_or, inl, inr, ap, ◌∙◌, arith}
+use Rattle.std.proofs.Common.{◌≡◌, length, inl, inr, ◌∙◌, arith}
 use Rattle.std.proofs.lemmas.Bool.{cases_lt}
 use Rattle.std.proofs.lemmas.List.{get_or_past}
 use Rattle.egt_lanes.specs.Moved.{beside, beyond}
@@ -14,10 +14,10 @@ returns-clause-off_board c s s_in none =
     c.along_rank.ensures s s_in ∙ elim (cases_lt u 64) [
       | inr past ↦ get_or_past c.along_file.result u 0 (omega arith)
       | inl u_in ↦ c.along_file.ensures u u_in ∙ elim (cases_lt t 64) [
-          | inr past ↦ get_or_past c.args.row t 0 (omega arith)
-          | inl t_in ↦ 
+        | inr past ↦ get_or_past c.args.row t 0 (omega arith)
+        | inl t_in ↦
             let across = beside-leads step.files step.wide s s_in u_in in
             let along = beyond-leads step.ranks step.high u u_in t_in in
             absurd (none t (away_by step s u t t_in across.0 across.1 along.0 along.1))
-        ]
+      ]
     ]

@@ -1,4 +1,4 @@
-use Rattle.std.proofs.Common.{ℕ, get_or}
+use Rattle.std.proofs.Common.{get_or}
 use Rattle.egt_board.specs.Step.{Away}
 use Rattle.egt_lanes.proofs.Riding.{raised_over, step_end}
 use Rattle.egt_lanes.proofs.shift.step_raised.Goals as goal

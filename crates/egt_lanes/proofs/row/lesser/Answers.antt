@@ -1,6 +1,0 @@
-use Rattle.std.proofs.Common.{arith}
-use Rattle.egt_lanes.proofs.Rows.{lesser_at}
-use Rattle.egt_lanes.proofs.row.lesser.Goals as goal
-
-pub returns : goal.returns
-returns c s s_in = lesser_at c.args.a c.args.b s (omega (arith, c.fits-a.0)) (omega (arith, c.fits-b.0))
