@@ -1,20 +1,25 @@
 -- Blocks raised turn by turn.
-use Rattle.std.proofs.Common.{◌≡◌, ◌≢◌, ℕ, ◌/◌, ◌%◌, ◌<◌, ◌≤◌, ◌⊎◌, ◌&&◌, max, ltb, eqb, Bool, true, false, List, [], ◌∷◌, Option, Some, None, IfSome, arith, refl, sym, ap, ◌∙◌, inl, inr, subst}
-use Rattle.std.proofs.lemmas.Bool.{cases_eq, cases_lt, ltb-true}
+use Rattle.std.proofs.Common.{◌≡◌, ◌≢◌, ℕ, ◌/◌, ◌%◌, ◌<◌, ◌≤◌, ◌⊎◌, ◌↔◌, ◌&&◌, max, not, cond, ltb, eqb, IsTrue, Bool, true, false, List, [], ◌∷◌, Option, Some, None, IfSome, arith, refl, sym, ap, ◌∙◌, inl, inr, subst}
+use Rattle.std.proofs.lemmas.Bool.{cases_eq, cases_lt, false≢true, ltb-true}
 use Rattle.egt_board.specs.Turned.{turned_square}
 use Rattle.egt_class.specs.Below.{all_below, passes_below}
 use Rattle.egt_board.specs.declared.man.Man.{Man}
 use Rattle.egt_board.specs.declared.man.Side.{Side}
-use Rattle.egt_class.specs.Material.{material_of}
+use Rattle.egt_class.specs.Material.{has_equal_sides, material_of}
 use Rattle.egt_index.specs.Code.{king_square, men_at}
 use Rattle.egt_index.specs.Digits.{AreDigits}
 use Rattle.egt_index.specs.Home.{AreHome, IsTurnWith}
 use Rattle.egt_index.specs.Size.{has_pawns, king_base, men_bases}
 use Rattle.egt_index.specs.Stood.{list_of}
-use Rattle.egt_index.specs.TurnedMen.{turned_by}
+use Rattle.egt_index.specs.TurnedMen.{IsSomeTurnedCode, swapped, turned_by}
+use Rattle.egt_index.specs.declared.shelf_codes.ShelfMen.{ShelfMen}
 use Rattle.egt_index.specs.declared.stand.Stand.{Stand}
+use Rattle.egt_lanes.specs.Blocks.{at}
 use Rattle.egt_lanes.specs.Raised.{IsRaised}
-use Rattle.egt_check.specs.Blocks.{IsCodeAfter, IsHomeCode}
+use Rattle.egt_table.specs.Table.{TableValue}
+use Rattle.egt_table.specs.declared.column.Column.{Column}
+use Rattle.egt_check.specs.Blocks.{AreGathered, AreHomeCodes, AreTurnedCodes, IsCodeAfter, IsHomeCode, men_across, settled_at, stand_on}
+use Rattle.egt_check.specs.Worth.{score_at}
 
 -- ---- the greatest of some numbers
 
@@ -118,3 +123,102 @@ home_by_two c flips stand side first second home low mid high f one two =
     ])
     (λ code tells. (first, home.one, tells))
     (λ code tells. (second, home.other, tells))
+
+-- ---- all codes of the men
+
+men_equal : {a b : Man} → a ∷ [] ≡ b ∷ [] → a ≡ b
+men_equal e = cc
+
+module _ (c : ℕ) (flips : Bool) (side : Side) (code : ℕ) (men : ShelfMen) (a b : ℕ) where
+  -- by some turn of the class's colours, of the men in the other order, or across
+  pub some_parted : IsSomeTurnedCode c code flips (stand_on men a b) side
+      → IsHomeCode c code flips (stand_on men a b) side ⊎ (((men.one ≡ men.last) × IsHomeCode c code flips (stand_on men b a) side) ⊎ (IsTrue (has_equal_sides c) × IsHomeCode c code (not flips) (stand_on (men_across men) b a) side))
+  some_parted some = elim some.seen [
+    | inl own ↦ elim own.1 [
+      | inl same ↦ inl (some.turn, turn own.0, subst (λ (s : Stand). IsCodeAfter c some.turn code s side) same some.is.tells)
+      | inr other ↦
+          let equal = men_equal other.1 in
+          inr (inl (equal, (some.turn, turn own.0, subst (λ (s : Stand). IsCodeAfter c some.turn code s side) (other.0 ∙ order equal) some.is.tells)))
+    ]
+    | inr across ↦ inr (inr (across.0, (some.turn, turn across.1, subst (λ (s : Stand). IsCodeAfter c some.turn code s side) across.2 some.is.tells)))
+  ]
+    where
+      turn : {f : Bool} → eqb (some.turn / 8) 1 ≡ f → IsTurnWith (has_pawns (material_of c)) f some.turn
+      turn is = record { below = some.is.below; flips_is = is; keeps = some.is.keeps }
+
+      order : men.one ≡ men.last → swapped (stand_on men a b) ≡ stand_on men b a
+      order equal = λ i. record { white = men.white; black = men.black; next = Some (sym equal i, b); last = Some (equal i, a) }
+
+  home_is_some : IsHomeCode c code flips (stand_on men a b) side → IsSomeTurnedCode c code flips (stand_on men a b) side
+  home_is_some h = record { turn = h.0; after = stand_on men a b; seen = inl (h.1.flips_is, inl refl); is = record { below = h.1.below; keeps = h.1.keeps; tells = h.2 } }
+
+  other_is_some : men.one ≡ men.last → IsHomeCode c code flips (stand_on men b a) side → IsSomeTurnedCode c code flips (stand_on men a b) side
+  other_is_some equal h = record { turn = h.0; after = stand_on men b a; seen = inl (h.1.flips_is, inr (order, ap (λ (m : Man). m ∷ []) equal)); is = record { below = h.1.below; keeps = h.1.keeps; tells = h.2 } }
+    where
+      order : stand_on men b a ≡ swapped (stand_on men a b)
+      order = λ i. record { white = men.white; black = men.black; next = Some (equal i, b); last = Some (sym equal i, a) }
+
+  across_is_some : IsTrue (has_equal_sides c) → IsHomeCode c code (not flips) (stand_on (men_across men) b a) side → IsSomeTurnedCode c code flips (stand_on men a b) side
+  across_is_some equal h = record { turn = h.0; after = stand_on (men_across men) b a; seen = inr (equal, h.1.flips_is, refl); is = record { below = h.1.below; keeps = h.1.keeps; tells = h.2 } }
+
+-- the greater of two greatest
+pub raised_greater : (u v w : ℕ) (A B In : ℕ → Type 0) (f : ℕ → ℕ) → IsRaised 0 A f u → IsRaised 0 B f v → w ≡ max u v → ((t : ℕ) → In t → A t ⊎ B t) → ((t : ℕ) → A t → In t) → ((t : ℕ) → B t → In t) → IsRaised 0 In f w
+raised_greater u v w A B In f first then is covers a_in b_in = raised_both 0 u w A B In f first (raised_max u B f v w then is) covers a_in b_in
+
+module _ (t : TableValue) (column : Column) (In : ℕ → Type 0) (men : ℕ → ShelfMen) (flips : Bool) (side : Side) (own across : List (List ℕ)) (gathered : AreGathered t column In men flips side own across)
+    (equal : Bool) (same : equal ≡ true → (k : ℕ) → (men k).one ≡ (men k).last) (differ : equal ≡ false → (k : ℕ) → (men k).one ≢ (men k).last) (a b : ℕ) (a_in : a < 64) (b_in : b < 64) where
+  -- codes of the class's colours, in either order of equal men
+  OwnCodes : ℕ → Type 0
+  OwnCodes code = AreHomeCodes t.class In men flips side a b code ⊎ ((k : ℕ) × In k × ((men k).one ≡ (men k).last) × IsHomeCode t.class code flips (stand_on (men k) b a) side)
+
+  own_raised : (e : Bool) → equal ≡ e → IsRaised 0 OwnCodes (score_at t column) (cond e (max (at own a b) (at own b a)) (at own a b))
+  unfolding OwnCodes
+  own_raised true is = raised_greater (at own a b) (at own b a) (max (at own a b) (at own b a)) (AreHomeCodes t.class In men flips side a b) (AreHomeCodes t.class In men flips side b a) OwnCodes (score_at t column) (gathered.in_own a b a_in b_in) (gathered.in_own b a b_in a_in) refl
+      (λ code h. elim h [ inl here ↦ inl here | inr there ↦ inr (there.0, there.1, there.3) ])
+      (λ code here. inl here)
+      (λ code there. inr (there.0, there.1, same is there.0, there.2))
+  own_raised false is = raised_alike 0 (at own a b) (AreHomeCodes t.class In men flips side a b) OwnCodes (score_at t column) (gathered.in_own a b a_in b_in)
+      (λ code h. elim h [ inl here ↦ here | inr there ↦ absurd (differ is there.0 there.2) ])
+      (λ code here. inl here)
+
+  all_codes : (code : ℕ) → OwnCodes code → AreTurnedCodes t.class In men flips side a b code
+  unfolding OwnCodes
+  all_codes code (inl here) = (here.0, here.1, home_is_some t.class flips side code (men here.0) a b here.2)
+  all_codes code (inr there) = (there.0, there.1, other_is_some t.class flips side code (men there.0) a b there.2 there.3)
+
+  pub settled_raised : (sides : Bool) → has_equal_sides t.class ≡ sides → IsRaised 0 (AreTurnedCodes t.class In men flips side a b) (score_at t column) (settled_at equal sides own across a b)
+  unfolding OwnCodes
+  settled_raised true is =
+      raised_greater _ (at across b a) _ OwnCodes (AreHomeCodes t.class In (λ k. men_across (men k)) (not flips) side b a) (AreTurnedCodes t.class In men flips side a b) (score_at t column) (own_raised equal refl) (gathered.in_across is a b a_in b_in) refl
+      (λ code h. elim (some_parted t.class flips side code (men h.0) a b h.2) [
+        | inl here ↦ inl (inl (h.0, h.1, here))
+        | inr (inl other) ↦ inl (inr (h.0, h.1, other.0, other.1))
+        | inr (inr beyond) ↦ inr (h.0, h.1, beyond.1)
+      ])
+      all_codes
+      (λ code beyond. (beyond.0, beyond.1, across_is_some t.class flips side code (men beyond.0) a b is beyond.2))
+  settled_raised false is =
+      subst (IsRaised 0 (AreTurnedCodes t.class In men flips side a b) (score_at t column)) (omega arith)
+      (raised_alike 0 _ OwnCodes (AreTurnedCodes t.class In men flips side a b) (score_at t column) (own_raised equal refl)
+      (λ code h. elim (some_parted t.class flips side code (men h.0) a b h.2) [
+        | inl here ↦ inl (h.0, h.1, here)
+        | inr (inl other) ↦ inr (h.0, h.1, other.0, other.1)
+        | inr (inr beyond) ↦ absurd (false≢true (sym is ∙ beyond.0))
+      ])
+      all_codes)
+
+pub told_equal : (equal : Bool) (men : ShelfMen) → IsTrue equal ↔ (men.one ≡ men.last) → (equal ≡ true → men.one ≡ men.last) × (equal ≡ false → men.one ≢ men.last)
+told_equal equal men is = (is.0, λ no same. false≢true (sym no ∙ is.1 same))
+
+-- one family of men, gathered into nothing
+module _ (t : TableValue) (column : Column) (men : ShelfMen) (flips : Bool) (side : Side) (own across own_before across_before : List (List ℕ)) where
+  pub gathered_alone : ((a b : ℕ) → a < 64 → b < 64 → at own_before a b ≡ 0) → ((a b : ℕ) → a < 64 → b < 64 → at across_before a b ≡ 0)
+      → ((a b : ℕ) → a < 64 → b < 64 → IsRaised (at own_before a b) (λ code. IsHomeCode t.class code flips (stand_on men a b) side) (score_at t column) (at own a b))
+      → (has_equal_sides t.class ≡ true → (a b : ℕ) → a < 64 → b < 64 → IsRaised (at across_before b a) (λ code. IsHomeCode t.class code (not flips) (stand_on (men_across men) b a) side) (score_at t column) (at across b a))
+      → AreGathered t column (λ k. k ≡ 0) (λ k. men) flips side own across
+  gathered_alone none none_across own_raised across_raised = record {
+    in_own = λ a b a_in b_in. raised_alike 0 (at own a b) (λ code. IsHomeCode t.class code flips (stand_on men a b) side) (AreHomeCodes t.class (λ k. k ≡ 0) (λ k. men) flips side a b) (score_at t column)
+        (subst (λ low. IsRaised low (λ code. IsHomeCode t.class code flips (stand_on men a b) side) (score_at t column) (at own a b)) (none a b a_in b_in) (own_raised a b a_in b_in)) (λ code h. h.2) (λ code h. (0, refl, h));
+    in_across = λ equal a b a_in b_in. raised_alike 0 (at across b a) (λ code. IsHomeCode t.class code (not flips) (stand_on (men_across men) b a) side) (AreHomeCodes t.class (λ k. k ≡ 0) (λ k. men_across men) (not flips) side b a) (score_at t column)
+        (subst (λ low. IsRaised low (λ code. IsHomeCode t.class code (not flips) (stand_on (men_across men) b a) side) (score_at t column) (at across b a)) (none_across b a b_in a_in) (across_raised equal a b a_in b_in)) (λ code h. h.2) (λ code h. (0, refl, h));
+  }

@@ -1,12 +1,13 @@
 //! The scores that a table gives the positions of a class with two men beside the kings, whose kings stand on two squares: a row for each square of the
 //! first man, a lane for each of the last. Each code has some turn of these men; codes that are not least score nothing.
-ghost use Rattle.std.specs.Prelude.{◌≡◌, ◌≢◌, ◌/◌, ◌%◌, ◌<◌, ◌==◌, ℕ, false, true, not};
+ghost use Rattle.std.specs.Prelude.{◌≡◌, ◌≢◌, ◌/◌, ◌%◌, ◌<◌, ◌↔◌, ◌==◌, ℕ, false, true, not, IsTrue};
 ghost use Rattle.egt_board.specs.Turned.{turned_side, turned_square};
 ghost use Rattle.egt_class.specs.Material.{has_equal_sides, material_of};
 ghost use Rattle.egt_index.specs.ShelfCodes.{AreMenOf};
 ghost use Rattle.egt_index.specs.Size.{has_target};
 ghost use Rattle.egt_lanes.specs.Blocks.{at};
-ghost use Rattle.egt_check.specs.Blocks.{IsRaisedAfter, IsRaisedHome, men_across, stand_on, turned_from};
+ghost use Rattle.egt_check.specs.Blocks.{IsRaisedAfter, IsRaisedHome, men_across, settled_at, stand_on, turned_from};
+ghost use Rattle.egt_check.specs.Worth.{IsRead};
 
 use crate::rows::{may_stand, row_of};
 use egt_board::{Side, Square};
@@ -15,9 +16,11 @@ use egt_index::laws::codes_tell_turned_men;
 use egt_index::men::has_equal_sides;
 use egt_index::turning::turned_square;
 use egt_index::{ShelfMen, has_pawns, shelf_of};
-use egt_lanes::Block;
+use egt_lanes::block::raise_transposed;
 use egt_lanes::row::greater;
 use egt_lanes::turn::turned;
+use egt_lanes::{Block, Row};
+use std::simd::prelude::*;
 use egt_table::{Column, Table};
 
 /// The men where the turn takes them, the first of them from this square.
@@ -155,4 +158,53 @@ pub(crate) fn gather(
         return true;
     }
     raise_home(table, column, &men_across(men), !flips, side, across)
+}
+
+/// A block of nothing.
+#[inline(always)]
+pub(crate) fn nothing() -> Block
+    ensures { (a b : ℕ) → a < 64 → b < 64 → at result a b ≡ 0 }
+{
+    [Row::splat(0); 64]
+}
+
+/// Whether the two men beside the kings are equal.
+fn are_equal(men: &ShelfMen) -> bool
+    ensures { IsTrue result ↔ (men.now.one ≡ men.now.last) }
+{
+    men.one == men.last
+}
+
+/// The block of the codes in either order of equal men, and of those with colours exchanged where both sides have the same men.
+fn settle(equal: bool, sides: bool, own: &mut Block, across: &Block)
+    ensures { (a b : ℕ) → a < 64 → b < 64 → at own.new a b ≡ settled_at equal sides own.old across.now a b }
+{
+    if equal {
+        let copy = *own;
+        raise_transposed(own, &copy);
+    }
+    if sides {
+        raise_transposed(own, across);
+    }
+}
+
+/// The scores of the positions with these men, whose squares beside the kings are those of the rows and lanes. False where the table does not tell.
+pub(crate) fn read_block(
+    table: &Table,
+    column: Column,
+    men: &ShelfMen,
+    side: Side,
+    out: &mut Block,
+) -> bool
+    requires men { AreMenOf table.now.class men.now }
+    requires targets { has_target (material_of table.now.class) ≡ false }
+    ensures { result ≡ true → (a b : ℕ) → a < 64 → b < 64 → IsRead table.now column false (stand_on men.now a b) side (at out.new a b) }
+{
+    *out = nothing();
+    let mut across = nothing();
+    if !gather(table, column, men, false, side, out, &mut across) {
+        return false;
+    }
+    settle(are_equal(men), has_equal_sides(table.class()), out, &across);
+    true
 }
