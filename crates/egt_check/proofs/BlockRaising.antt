@@ -1,10 +1,13 @@
 -- Blocks raised turn by turn.
 use Rattle.std.proofs.Common.{◌≡◌, ◌≢◌, ℕ, ◌/◌, ◌%◌, ◌<◌, ◌≤◌, ◌⊎◌, ◌↔◌, ◌&&◌, max, not, cond, ltb, eqb, IsTrue, Bool, true, false, List, [], ◌∷◌, Option, Some, None, IfSome, arith, refl, sym, ap, ◌∙◌, inl, inr, subst}
 use Rattle.std.proofs.lemmas.Bool.{cases_eq, cases_lt, false≢true, ltb-true}
+use Rattle.std.specs.Int.{bit_at}
 use Rattle.egt_board.specs.Turned.{turned_square}
 use Rattle.egt_class.specs.Below.{all_below, passes_below}
 use Rattle.egt_board.specs.declared.man.Man.{Man}
 use Rattle.egt_board.specs.declared.man.Side.{Side}
+use Rattle.egt_board.specs.declared.man.Side.TheVariants.{White, Black}
+use Rattle.egt_board.specs.declared.square_set.SquareSet.{SquareSet}
 use Rattle.egt_class.specs.Material.{has_equal_sides, material_of}
 use Rattle.egt_index.specs.Code.{king_square, men_at}
 use Rattle.egt_index.specs.Digits.{AreDigits}
@@ -18,7 +21,7 @@ use Rattle.egt_lanes.specs.Blocks.{at}
 use Rattle.egt_lanes.specs.Raised.{IsRaised}
 use Rattle.egt_table.specs.Table.{TableValue}
 use Rattle.egt_table.specs.declared.column.Column.{Column}
-use Rattle.egt_check.specs.Blocks.{AreGathered, AreHomeCodes, AreTurnedCodes, IsCodeAfter, IsHomeCode, men_across, settled_at, stand_on}
+use Rattle.egt_check.specs.Blocks.{AreGathered, AreHomeCodes, AreTurnedCodes, IsBesideKing, IsCodeAfter, IsHomeCode, men_across, settled_at, stand_on, with_king}
 use Rattle.egt_check.specs.Worth.{score_at}
 
 -- ---- the greatest of some numbers
@@ -222,3 +225,51 @@ module _ (t : TableValue) (column : Column) (men : ShelfMen) (flips : Bool) (sid
     in_across = λ equal a b a_in b_in. raised_alike 0 (at across b a) (λ code. IsHomeCode t.class code (not flips) (stand_on (men_across men) b a) side) (AreHomeCodes t.class (λ k. k ≡ 0) (λ k. men_across men) (not flips) side b a) (score_at t column)
         (subst (λ low. IsRaised low (λ code. IsHomeCode t.class code (not flips) (stand_on (men_across men) b a) side) (score_at t column) (at across b a)) (none_across b a b_in a_in) (across_raised equal a b a_in b_in)) (λ code h. h.2) (λ code h. (0, refl, h));
   }
+
+-- ---- a king's steps
+
+-- a square beside the king that is no longer left
+abbrev pub GoneKing : ShelfMen → Side → SquareSet → ℕ → Type 0
+GoneKing men side rest k = IsBesideKing men side k × (bit_at rest.bits k ≡ 0)
+
+module _ (t : TableValue) (column : Column) (men : ℕ → ShelfMen) (flips : Bool) (side : Side) where
+  pub gathered_none : (In : ℕ → Type 0) (own across : List (List ℕ)) → ((k : ℕ) → ¬ In k) → ((a b : ℕ) → a < 64 → b < 64 → at own a b ≡ 0) → ((a b : ℕ) → a < 64 → b < 64 → at across a b ≡ 0) → AreGathered t column In men flips side own across
+  gathered_none In own across none own_none across_none = record {
+    in_own = λ a b a_in b_in. subst (IsRaised 0 (AreHomeCodes t.class In men flips side a b) (score_at t column)) (sym (own_none a b a_in b_in)) (raised_by_none 0 (AreHomeCodes t.class In men flips side a b) (score_at t column) (λ code h. none h.0 h.1));
+    in_across = λ equal a b a_in b_in. subst (IsRaised 0 (AreHomeCodes t.class In (λ k. men_across (men k)) (not flips) side b a) (score_at t column)) (sym (across_none b a b_in a_in))
+        (raised_by_none 0 (AreHomeCodes t.class In (λ k. men_across (men k)) (not flips) side b a) (score_at t column) (λ code h. none h.0 h.1));
+  }
+
+  -- one more of them
+  pub gathered_more : (A In : ℕ → Type 0) (n : ℕ) (own across own_new across_new : List (List ℕ)) → AreGathered t column A men flips side own across
+      → ((a b : ℕ) → a < 64 → b < 64 → IsRaised (at own a b) (λ code. IsHomeCode t.class code flips (stand_on (men n) a b) side) (score_at t column) (at own_new a b))
+      → (has_equal_sides t.class ≡ true → (a b : ℕ) → a < 64 → b < 64 → IsRaised (at across b a) (λ code. IsHomeCode t.class code (not flips) (stand_on (men_across (men n)) b a) side) (score_at t column) (at across_new b a))
+      → ((k : ℕ) → In k → A k ⊎ (k ≡ n)) → ((k : ℕ) → A k → In k) → In n → AreGathered t column In men flips side own_new across_new
+  gathered_more A In n own across own_new across_new before in_own in_across covers a_in n_in = record {
+    in_own = λ a b a_low b_low. raised_both 0 (at own a b) (at own_new a b) (AreHomeCodes t.class A men flips side a b) (λ code. IsHomeCode t.class code flips (stand_on (men n) a b) side) (AreHomeCodes t.class In men flips side a b) (score_at t column)
+        (before.in_own a b a_low b_low) (in_own a b a_low b_low)
+        (λ code h. elim (covers h.0 h.1) [
+          | inl old ↦ inl (h.0, old, h.2)
+          | inr new ↦ inr (subst (λ k. IsHomeCode t.class code flips (stand_on (men k) a b) side) new h.2)
+        ])
+        (λ code h. (h.0, a_in h.0 h.1, h.2)) (λ code h. (n, n_in, h));
+    in_across = λ equal a b a_low b_low. raised_both 0 (at across b a) (at across_new b a) (AreHomeCodes t.class A (λ k. men_across (men k)) (not flips) side b a) (λ code. IsHomeCode t.class code (not flips) (stand_on (men_across (men n)) b a) side)
+        (AreHomeCodes t.class In (λ k. men_across (men k)) (not flips) side b a) (score_at t column) (before.in_across equal a b a_low b_low) (in_across equal a b a_low b_low)
+        (λ code h. elim (covers h.0 h.1) [
+          | inl old ↦ inl (h.0, old, h.2)
+          | inr new ↦ inr (subst (λ k. IsHomeCode t.class code (not flips) (stand_on (men_across (men k)) b a) side) new h.2)
+        ])
+        (λ code h. (h.0, a_in h.0 h.1, h.2)) (λ code h. (n, n_in, h));
+  }
+
+  pub gathered_alike : (A In : ℕ → Type 0) (own across : List (List ℕ)) → AreGathered t column A men flips side own across → ((k : ℕ) → In k → A k) → ((k : ℕ) → A k → In k) → AreGathered t column In men flips side own across
+  gathered_alike A In own across before covers a_in = record {
+    in_own = λ a b a_low b_low. raised_alike 0 (at own a b) (AreHomeCodes t.class A men flips side a b) (AreHomeCodes t.class In men flips side a b) (score_at t column) (before.in_own a b a_low b_low) (λ code h. (h.0, covers h.0 h.1, h.2)) (λ code h. (h.0, a_in h.0 h.1, h.2));
+    in_across = λ equal a b a_low b_low. raised_alike 0 (at across b a) (AreHomeCodes t.class A (λ k. men_across (men k)) (not flips) side b a) (AreHomeCodes t.class In (λ k. men_across (men k)) (not flips) side b a) (score_at t column) (before.in_across equal a b a_low b_low)
+        (λ code h. (h.0, covers h.0 h.1, h.2)) (λ code h. (h.0, a_in h.0 h.1, h.2));
+  }
+
+-- the same men beside the kings
+pub same_beside : (men : ShelfMen) (side : Side) (k : ℕ) → ((with_king men side k).one ≡ men.one) × ((with_king men side k).last ≡ men.last)
+same_beside men White k = (refl, refl)
+same_beside men Black k = (refl, refl)

@@ -169,14 +169,14 @@ pub(crate) fn nothing() -> Block
 }
 
 /// Whether the two men beside the kings are equal.
-fn are_equal(men: &ShelfMen) -> bool
+pub(crate) fn are_equal(men: &ShelfMen) -> bool
     ensures { IsTrue result ↔ (men.now.one ≡ men.now.last) }
 {
     men.one == men.last
 }
 
 /// The block of the codes in either order of equal men, and of those with colours exchanged where both sides have the same men.
-fn settle(equal: bool, sides: bool, own: &mut Block, across: &Block)
+pub(crate) fn settle(equal: bool, sides: bool, own: &mut Block, across: &Block)
     ensures { (a b : ℕ) → a < 64 → b < 64 → at own.new a b ≡ settled_at equal sides own.old across.now a b }
 {
     if equal {

@@ -8,6 +8,7 @@ pub mod checking;
 pub mod facts;
 pub mod fan;
 pub mod judging;
+pub mod king_blocks;
 pub mod laws;
 pub mod library;
 pub mod outcome;
