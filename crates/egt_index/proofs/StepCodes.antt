@@ -1,5 +1,5 @@
 -- What the codes of steps spell.
-use Rattle.std.proofs.Common.{◌≡◌, ◌≢◌, ℕ, ◌+◌, ◌-◌, ◌/◌, ◌%◌, ◌<◌, Bool, true, false, eqb, List, Option, Some, None, IfSome, arith, refl, sym, ap, ◌∙◌, inl, inr, subst}
+use Rattle.std.proofs.Common.{◌≡◌, ◌≢◌, ℕ, ◌+◌, ◌-◌, ◌/◌, ◌%◌, ◌<◌, ◌↔◌, Bool, true, false, eqb, List, Option, Some, None, IfSome, arith, refl, sym, ap, ◌∙◌, inl, inr, subst}
 use Rattle.std.specs.FinMap as placement
 use Rattle.std.specs.Option.{is_some, option_map}
 use Rattle.std.proofs.lemmas.Bool.{cases_eq, false≢true}
@@ -41,7 +41,7 @@ use Rattle.egt_index.proofs.Halves.{of_targets}
 use Rattle.egt_index.proofs.LeastTurn.{keeps_play}
 use Rattle.egt_index.proofs.Led.{back_again, eight, entry_back, undone}
 use Rattle.egt_index.proofs.Lined.{all_apart}
-use Rattle.egt_index.proofs.Listing.{listed}
+use Rattle.egt_index.proofs.Listing.{listed, listed_stands}
 use Rattle.egt_index.proofs.Moved.{is_after, on_board_of, stand_moved, untargeted_settled}
 use Rattle.egt_index.proofs.Setups.{apart_all, fits_apart, setup_spelled, stand_spelled}
 
@@ -247,6 +247,16 @@ module _ (facts : Facts) (c code n from to : ℕ) (p : Setup) (is : IsStepCode c
 
   pub follows_step : FollowsStep c code from to p
   follows_step = record { leads = leads; comes = comes }
+
+-- who stands in a position is one of its men
+pub men_listed : (c : ℕ) (stand : Stand) (side : Side) (passed : Bool) (p : Setup) (s : ℕ) (man : Man) → HasStand c false stand side passed p → Stands p.men s man ↔ IsListed (list_of stand) man s
+men_listed c stand side passed p s man has = (
+  λ stands. listed (list_of stand) man s (subst (λ (men : Placement). Stands men s man) men stands),
+  λ h. subst (λ (men : Placement). Stands men s man) (sym men) (listed_stands (list_of stand) man s (apart_all (list_of stand) (all_apart false p.men (list_of stand) has.stood.all)) h),
+)
+  where
+    men : p.men ≡ men_of (list_of stand)
+    men = men_are c stand side passed p has
 
 -- the position after a man went has the men after it
 pub moved_stands : (c from to : ℕ) (p q : Setup) (stand after : Stand) (side : Side) (passed : Bool) → HasStand c false stand side passed p → IsMovedStand from to stand after → IsMoved c p from to q → HasStand c false after (other_side side) false q

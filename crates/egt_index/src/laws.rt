@@ -4,7 +4,7 @@ ghost use Rattle.egt_board.specs.declared.man.Man.{Man};
 ghost use Rattle.egt_board.specs.declared.man.Side.{Side};
 ghost use Rattle.egt_board.specs.Man.{other_side};
 ghost use Rattle.egt_board.specs.Pawn.{pawn_of, HasNoPawn, MayStand};
-ghost use Rattle.egt_board.specs.Placement.{Stands};
+ghost use Rattle.egt_board.specs.Placement.{IsFree, Stands};
 ghost use Rattle.egt_board.specs.Settled.{IsSettled, SettlesTo};
 ghost use Rattle.egt_board.specs.Setup.{Setup, IsAdmissible};
 ghost use Rattle.egt_class.specs.Material.{material_of};
@@ -17,7 +17,7 @@ ghost use Rattle.egt_index.specs.ShelfCodes.{IsShelf};
 ghost use Rattle.egt_index.specs.declared.shelf_codes.ShelfMen.{ShelfMen};
 ghost use Rattle.egt_index.specs.Size.{has_pawns, has_target, size_of};
 ghost use Rattle.egt_index.specs.StepCodes.{FollowsLeap, FollowsStep, IsLeapCode, IsStepCode, TellsMen};
-ghost use Rattle.egt_index.specs.Stood.{HasStand, IsFilled, list_of};
+ghost use Rattle.egt_index.specs.Stood.{HasStand, IsFilled, IsOff, list_of};
 ghost use Rattle.egt_index.specs.TurnedMen.{IsSomeTurnedCode};
 ghost use Rattle.egt_index.specs.Frame.{IsMoved};
 ghost use Rattle.egt_index.specs.Spelled.{IsListed};
@@ -123,9 +123,12 @@ pub fn codes_tell_turned_men()
     facts();
 }
 
-/// A position after one man went to a free square, with the other side to move and no target, has the men after that; and one that has them is such a
-/// position.
+/// The men of a position are those of its stand, and no others. A position after one man went to a free square, with the other side to move and no
+/// target, has the men after that; and one that has them is such a position.
 pub fn stands_follow_moves()
+    ensures listed { (c : ℕ) (stand : Stand) (side : Side) (passed : Bool) (p : Setup) (s : ℕ) (man : Man) → HasStand c false stand side passed p →
+        Stands p.men s man ↔ IsListed (list_of stand) man s }
+    ensures free { (c : ℕ) (stand : Stand) (side : Side) (passed : Bool) (p : Setup) (s : ℕ) → HasStand c false stand side passed p → IsFree p.men s ↔ IsOff (list_of stand) s }
     ensures moved { (c from to : ℕ) (p q : Setup) (stand after : Stand) (side : Side) (passed : Bool) → HasStand c false stand side passed p → IsMovedStand from to stand after →
         IsMoved c p from to q → HasStand c false after (other_side side) false q }
     ensures back { (c from to : ℕ) (p q : Setup) (man : Man) (stand after : Stand) (side : Side) (passed : Bool) → c < 36 → to < 64 → to ≢ from → Stands p.men from man →
