@@ -33,3 +33,4 @@ mod ToldBest
 pub mod Worth
 pub mod RowRead
 pub mod BlockRaising
+pub mod ByteJudged

@@ -25,3 +25,4 @@ pub mod ShelfBest
 pub mod Peak
 pub mod Worth
 pub mod Blocks
+pub mod Given
