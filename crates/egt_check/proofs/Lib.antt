@@ -30,3 +30,7 @@ mod Spreads
 pub mod ShelfBest
 mod ShelfJudged
 mod ToldBest
+pub mod Worth
+pub mod RowRead
+pub mod BlockRaising
+pub mod ByteJudged

@@ -23,3 +23,6 @@ pub mod Spread
 pub mod Pusher
 pub mod ShelfBest
 pub mod Peak
+pub mod Worth
+pub mod Blocks
+pub mod Given

@@ -1,5 +1,5 @@
 //! What holds of tables and their rules. These functions do nothing: a caller calls one to know what it ensures.
-ghost use Rattle.std.specs.Prelude.{◌≡◌, ◌↔◌, ℕ, Bool, Some};
+ghost use Rattle.std.specs.Prelude.{◌≡◌, ◌≢◌, ◌↔◌, ℕ, Bool, None, Some};
 ghost use Rattle.std.specs.List.{Contains};
 ghost use Rattle.egt_class.specs.Children.{children_of};
 ghost use Rattle.egt_class.specs.Membership.{IsOf};
@@ -9,16 +9,29 @@ ghost use Rattle.egt_board.specs.Setup.{Setup, IsAdmissible};
 ghost use Rattle.egt_table.specs.Table.{TableValue, IsTable};
 ghost use Rattle.egt_check.specs.Alike.{StepAlike};
 ghost use Rattle.egt_index.specs.Frame.{IsMoved};
-ghost use Rattle.egt_moves.specs.Chess.{Zeroes};
+ghost use Rattle.egt_moves.specs.Chess.{Zeroes, chess};
 ghost use Rattle.egt_moves.specs.Legal.{Leads};
 ghost use Rattle.egt_moves.specs.declared.chess_move.Move.{Move};
-ghost use Rattle.egt_check.specs.Tables.{Tables};
+ghost use Rattle.egt_board.specs.declared.man.Side.{Side};
+ghost use Rattle.egt_index.specs.Stood.{IsFilled};
+ghost use Rattle.egt_index.specs.Went.{AreOnBoard};
+ghost use Rattle.egt_index.specs.declared.stand.Stand.{Stand};
+ghost use Rattle.egt_table.specs.declared.column.Column.{Column};
+ghost use Rattle.egt_check.specs.Given.{AreAlike, AreGiven};
+ghost use Rattle.egt_check.specs.Rules.{IsJudged};
+ghost use Rattle.egt_check.specs.Score.{IsAtEnd};
+ghost use Rattle.egt_index.specs.Index.{IsVoid};
+ghost use Rattle.egt_lanes.specs.Scores.{byte_score, due_score};
+ghost use Rattle.egt_table.specs.declared.column.Column.TheVariants.{Mate, Zeroing};
+ghost use Rattle.egt_check.specs.Worth.{IsRead, IsScored, IsWorth};
+ghost use Rattle.egt_moves.specs.Arena.{NoMove};
+ghost use Rattle.egt_check.specs.Tables.{Tables, entry_at};
 ghost use Rattle.egt_check.specs.Rules.{KeepsRules};
 ghost use Rattle.egt_check.specs.Truth.{IsTrueTable, HasTrueChildren};
 
 use crate::facts::facts;
 use egt_class::laws::moves_lead_into_the_class_or_a_child;
-use egt_index::laws::codes_spell_one_position;
+use egt_index::laws::{a_code_is_an_index_or_void, codes_spell_one_position, codes_tell_turned_men};
 
 /// Where the children's tables are true, the entries of a table keep all rules exactly where the table is true: each entry is
 /// the value or the zeroing distance of its position, void entries are 0, and no distance is above 32,000.
@@ -51,4 +64,28 @@ pub fn a_quiet_move_moves_one_man()
 {
     facts();
     moves_lead_into_the_class_or_a_child();
+}
+
+/// The greatest score of the codes that tell the men where turns take them is that of the position with these men, or 0 where there is none.
+pub fn scores_of_turned_men_are_the_positions()
+    ensures { (tables : Tables) (t : TableValue) (column : Column) (flips : Bool) (stand : Stand) (side : Side) (w : ℕ) → IsTable t → tables t.class ≡ Some t → IsScored t column →
+        IsFilled stand → AreOnBoard stand → IsRead t column flips stand side w → IsWorth tables column t.class flips stand side w }
+{
+    facts();
+    codes_tell_turned_men();
+    a_code_is_an_index_or_void();
+}
+
+/// Entries whose bytes are due to the greatest bytes of all moves keep the rules. Where no byte is given by a move, there is none, and the entries keep the
+/// rules that tell checkmate or stalemate.
+pub fn due_bytes_are_right()
+    ensures due { (tables : Tables) (t : TableValue) (i : ℕ) (p : Setup) (g z : ℕ) → Spells t.class i p → ¬ IsVoid t.class i → AreAlike (entry_at t Mate i) (entry_at t Zeroing i) →
+        AreGiven tables p (λ m. Unit {0}) g z → g ≢ 0 → byte_score (entry_at t Mate i) ≡ due_score g → byte_score (entry_at t Zeroing i) ≡ due_score z →
+        (column : Column) → IsJudged tables t column i None }
+    ensures none { (tables : Tables) (p : Setup) (g z : ℕ) → IsAdmissible p → AreGiven tables p (λ m. Unit {0}) g z → g ≡ 0 → NoMove chess p }
+    ensures end { (tables : Tables) (t : TableValue) (i : ℕ) (p : Setup) (x : ℕ) → Spells t.class i p → ¬ IsVoid t.class i → AreAlike (entry_at t Mate i) (entry_at t Zeroing i) →
+        NoMove chess p → IsAtEnd p x → entry_at t Mate i ≡ x → entry_at t Zeroing i ≡ x → (column : Column) → IsJudged tables t column i None }
+{
+    facts();
+    codes_spell_one_position();
 }

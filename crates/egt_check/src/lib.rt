@@ -2,11 +2,13 @@
 //! that passed.
 #![tactic(auto)]
 
+pub mod blocks;
 pub mod by_column;
 pub mod checking;
 pub mod facts;
 pub mod fan;
 pub mod judging;
+pub mod king_blocks;
 pub mod laws;
 pub mod library;
 pub mod outcome;
@@ -17,6 +19,7 @@ pub mod quiet;
 pub mod quiet_best;
 pub mod reject;
 pub mod roamer;
+pub mod rows;
 pub mod rule;
 pub mod score_table;
 pub mod shelf_best;

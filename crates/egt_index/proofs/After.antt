@@ -28,6 +28,7 @@ use Rattle.egt_index.specs.Size.{king_base, base_of, men_beside, has_pawns, has_
 use Rattle.egt_index.specs.Spelled.{IsListed, Tells}
 use Rattle.egt_index.specs.StepCodes.{turned_stand}
 use Rattle.egt_index.specs.Stood.{Entry, men_among, rest_of, list_of, IsOff, AllStand, Stood, entry_after, IsInOrder, IsOrdered, IsStandAfter, HasDigit}
+use Rattle.egt_index.specs.TurnedMen.{turned_with}
 use Rattle.egt_index.specs.Turns.{IsTurn, TurnCode}
 use Rattle.egt_index.specs.declared.stand.Stand.{Stand}
 use Rattle.egt_index.proofs.Classes.{image_in_colours}
@@ -61,7 +62,7 @@ went_back n flips s n_in s_in =
 pub turned_apart : (n : ℕ) (flips : Bool) (s t : ℕ) → n < 8 → s < 64 → t < 64 → s ≢ t → turned_square n flips s ≢ turned_square n flips t
 turned_apart n flips s t n_in s_in t_in apart same = apart (sym (went_back n flips s n_in s_in).1 ∙ ap (back n flips) same ∙ (went_back n flips t n_in t_in).1)
 
-abbrev turn_one : ℕ → Bool → Man × ℕ → Man × ℕ
+abbrev pub turn_one : ℕ → Bool → Man × ℕ → Man × ℕ
 turn_one n flips e = (e.0, turned_square n flips e.1)
 
 off_after : (n : ℕ) (flips f : Bool) (men : Placement) (list : List (Man × ℕ)) (q : ℕ) → n < 8 → q < 64 → AllStand f men list → IsOff list q → IsOff (map (turn_one n flips) list) (turned_square n flips q)
@@ -81,7 +82,7 @@ after_to_list : (n : ℕ) (flips : Bool) (x : Entry) → map (turn_one n flips) 
 after_to_list n flips None = refl
 after_to_list n flips (Some e) = refl
 
-both_to_list : (n : ℕ) (flips : Bool) (x y : Entry) → map (turn_one n flips) (option_to_list x ++ option_to_list y) ≡ option_to_list (entry_after n flips x) ++ option_to_list (entry_after n flips y)
+pub both_to_list : (n : ℕ) (flips : Bool) (x y : Entry) → map (turn_one n flips) (option_to_list x ++ option_to_list y) ≡ option_to_list (entry_after n flips x) ++ option_to_list (entry_after n flips y)
 both_to_list n flips None y = after_to_list n flips y
 both_to_list n flips (Some e) y = ap (λ l. turn_one n flips e ∷ l) (after_to_list n flips y)
 
@@ -112,7 +113,7 @@ ordered f men w b x y first second (inr h) all =
     (subst (λ (e : Entry). AllStand f men ((king_of White, w) ∷ (king_of Black, b) ∷ (option_to_list y ++ option_to_list e))) (sym h.1)
     (kings_with f men w b (option_to_list x ++ option_to_list y) (option_to_list y ++ option_to_list x) (exchange_off x y) (exchange_all f men x y) all))
 
-ordered_men : (x y first second : Entry) → IsOrdered x y first second → men_among (option_to_list first ++ option_to_list second) ≡ men_among (option_to_list x ++ option_to_list y)
+pub ordered_men : (x y first second : Entry) → IsOrdered x y first second → men_among (option_to_list first ++ option_to_list second) ≡ men_among (option_to_list x ++ option_to_list y)
 ordered_men x y first second (inl h) = ap (λ (e : Entry). men_among (option_to_list e ++ option_to_list second)) h.0 ∙ ap (λ (e : Entry). men_among (option_to_list x ++ option_to_list e)) h.1
 ordered_men x y first second (inr h) =
     ap (λ (e : Entry). men_among (option_to_list e ++ option_to_list second)) h.0
@@ -122,7 +123,7 @@ ordered_men x y first second (inr h) =
     ∙ ap (λ l. men_among (option_to_list x) ++ l) h.2
     ∙ sym (map-append (λ e. e.0) (option_to_list x) (option_to_list y))
 
-turned_men : (n : ℕ) (flips : Bool) (list : List (Man × ℕ)) → men_among (map (turn_one n flips) list) ≡ men_among list
+pub turned_men : (n : ℕ) (flips : Bool) (list : List (Man × ℕ)) → men_among (map (turn_one n flips) list) ≡ men_among list
 turned_men n flips [] = refl
 turned_men n flips (e ∷ list) = ap (λ l. e.0 ∷ l) (turned_men n flips list)
 
@@ -137,15 +138,18 @@ stood_after c n flips p q before after n_in set stood is = record {
       (all_after n flips p q (list_of before) n_in set stood.all))));
 }
 
--- where a symmetry takes the men of a stand, each in his place
-pub stood_turned : (c n : ℕ) (p q : Setup) (stand : Stand) → n < 8 → IsSetBy n false p q → Stood c false p.men (list_of stand) → Stood c false q.men (list_of (turned_stand n stand))
-stood_turned c n p q stand n_in set stood = record {
-  are = ap men_among (sym list_is) ∙ turned_men n false (list_of stand) ∙ stood.are;
-  all = subst (AllStand false q.men) list_is (all_after n false p q (list_of stand) n_in set stood.all);
+-- where a turn takes the men of a stand, each in his place
+pub stood_by : (c n : ℕ) (flips : Bool) (p q : Setup) (stand : Stand) → n < 8 → IsSetBy n flips p q → Stood c flips p.men (list_of stand) → Stood c false q.men (list_of (turned_with n flips stand))
+stood_by c n flips p q stand n_in set stood = record {
+  are = ap men_among (sym list_is) ∙ turned_men n flips (list_of stand) ∙ stood.are;
+  all = subst (AllStand false q.men) list_is (all_after n flips p q (list_of stand) n_in set stood.all);
 }
   where
-    list_is : map (turn_one n false) (list_of stand) ≡ list_of (turned_stand n stand)
-    list_is = ap (λ l. (king_of White, turned_square n false stand.white) ∷ (king_of Black, turned_square n false stand.black) ∷ l) (both_to_list n false stand.next stand.last)
+    list_is : map (turn_one n flips) (list_of stand) ≡ list_of (turned_with n flips stand)
+    list_is = ap (λ l. (king_of White, turned_square n flips stand.white) ∷ (king_of Black, turned_square n flips stand.black) ∷ l) (both_to_list n flips stand.next stand.last)
+
+pub stood_turned : (c n : ℕ) (p q : Setup) (stand : Stand) → n < 8 → IsSetBy n false p q → Stood c false p.men (list_of stand) → Stood c false q.men (list_of (turned_stand n stand))
+stood_turned c n p q stand = stood_by c n false p q stand
 
 still : (f : Bool) (men : Placement) (s : ℕ) (list : List (Man × ℕ)) → IsOff list s → AllStand f men list → AllStand f (placement.remove men s) list
 still f men s [] off all = tt

@@ -72,7 +72,7 @@ told_has m passed side list target never told = of_test (has_target m) refl
     of_test false is = inr (none passed (never is) told)
 
 -- the number that digits of men and the ends make
-code_of_parts : (m : Material) (digits : List ℕ) (side : Side) (d : ℕ) → AreDigits (men_bases m) digits
+pub code_of_parts : (m : Material) (digits : List ℕ) (side : Side) (d : ℕ) → AreDigits (men_bases m) digits
     → number_of (bases m) (digits ++ side_number side ∷ cond (has_target m) (d ∷ []) []) ≡ number_from (number_of (men_bases m) digits) (2 ∷ cond (has_target m) (2 ∷ []) []) (side_number side ∷ cond (has_target m) (d ∷ []) [])
 code_of_parts m digits side d are = number_append (men_bases m) digits (2 ∷ cond (has_target m) (2 ∷ []) []) (side_number side ∷ cond (has_target m) (d ∷ []) []) 0 are
 

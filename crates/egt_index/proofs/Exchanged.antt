@@ -2,18 +2,19 @@
 use Rattle.std.proofs.Common.{◌≡◌, ℕ, ◌<◌, ◌||◌, not, Bool, true, false, eqb, List, [], ◌∷◌, ◌++◌, Some, None, refl, sym, ap, ◌∙◌, subst}
 use Rattle.std.specs.Option.{option_to_list}
 use Rattle.std.proofs.lemmas.Bool.{false≢true, eqb-true}
+use Rattle.egt_board.specs.declared.man.Side.{Side}
 use Rattle.egt_board.specs.declared.man.Side.TheVariants.{White, Black}
 use Rattle.egt_board.specs.declared.man.Man.{Man}
 use Rattle.egt_board.specs.declared.mirror.Mirror.TheVariants.{Colours}
 use Rattle.egt_board.specs.Attack.{king_of}
 use Rattle.egt_board.specs.Images.{man_number}
-use Rattle.egt_board.specs.Mirror.{man_by}
+use Rattle.egt_board.specs.Mirror.{man_by, side_by}
 use Rattle.egt_board.specs.Placement.{Placement}
 use Rattle.egt_board.specs.Turned.{turned_man}
 use Rattle.egt_class.specs.Below.{all_below, passes_below}
 use Rattle.egt_class.specs.Material.{material_of, materials, has_equal_sides}
 use Rattle.egt_index.specs.Scales.{IsOn, StandOn}
-use Rattle.egt_index.specs.Size.{men_beside}
+use Rattle.egt_index.specs.Size.{men_beside, men_in_order}
 use Rattle.egt_index.specs.Stood.{Entry, men_among, list_of, AllStand, IsFilled, Stood, on_square_of}
 use Rattle.egt_index.specs.declared.scales.Squares.{Squares}
 use Rattle.egt_index.specs.declared.stand.Stand.{Stand}
@@ -135,3 +136,28 @@ stand_exchanged c flips men stand white squares other c_in equal stood on black 
       next = subst (IsOn (exchange stand).next) (sym next) both.0;
       last = subst (IsOn (exchange stand).last) (sym last) both.1;
     }
+
+-- there no two men beside the kings are equal
+pair_apart : (x y : Entry) → is_pair (men_among (option_to_list x ++ option_to_list y)) ≡ true → men_among (option_to_list (on_square_of x y)) ≡ men_among (option_to_list (on_square_of y x)) → on_square_of y x ≡ on_square_of x y
+unfolding is_pair
+pair_apart None None pair same = refl
+pair_apart None (Some d) pair same = absurd (false≢true pair)
+pair_apart (Some e) None pair same = absurd (false≢true pair)
+pair_apart (Some e) (Some d) pair same = absurd (not_itself e.0 (man_told (man_by Colours e.0) d.0 (eqb-true _ _ pair) ∙ sym (heads same)))
+  where
+    heads : {a b : Man} {x y : List Man} → a ∷ x ≡ b ∷ y → a ≡ b
+    heads e = cc
+
+    not_itself : (man : Man) → man_by Colours man ≡ man → ⊥
+    not_itself man e = of_side man.side (ap (λ (m : Man). m.side) e)
+      where
+        of_side : (side : Side) → side_by Colours side ≡ side → ⊥
+        of_side White h = cc
+        of_side Black h = cc
+
+pub one_order : (c : ℕ) (stand : Stand) → c < 36 → has_equal_sides c ≡ true → men_among (list_of stand) ≡ men_in_order (material_of c)
+    → men_among (option_to_list (on_square_of stand.next stand.last)) ≡ men_among (option_to_list (on_square_of stand.last stand.next)) → on_square_of stand.last stand.next ≡ on_square_of stand.next stand.last
+one_order c stand c_in equal are same = pair_apart stand.next stand.last (ap is_pair (tails are) ∙ pair_there c c_in equal) same
+  where
+    tails : {a b d e : Man} {x y : List Man} → a ∷ b ∷ x ≡ d ∷ e ∷ y → x ≡ y
+    tails e = cc

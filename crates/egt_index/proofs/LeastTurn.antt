@@ -89,7 +89,7 @@ keeps_play c flips p n ok is_of n_in = of_pawns (has_pawns (material_of c)) refl
     of_pawns true is lt = inr lt
     of_pawns false is lt = inl (no_pawns c flips p ok is_of is)
 
-kept : (c : ℕ) (flips : Bool) (p : Setup) (n : ℕ) → n < 8 → IsOf c flips p → KeepsPlay n p.men → n < symmetries (has_pawns (material_of c))
+pub kept : (c : ℕ) (flips : Bool) (p : Setup) (n : ℕ) → n < 8 → IsOf c flips p → KeepsPlay n p.men → n < symmetries (has_pawns (material_of c))
 kept c flips p n n_in is_of keeps = of_pawns (has_pawns (material_of c)) refl
   where
     of_pawns : (pawns : Bool) → has_pawns (material_of c) ≡ pawns → n < symmetries pawns

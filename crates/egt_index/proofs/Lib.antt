@@ -66,3 +66,4 @@ pub mod Placing
 pub mod Passing
 pub mod Numbered
 pub mod ShelfCodes
+pub mod TurnedMen

@@ -44,7 +44,7 @@ pub apart_all : (list : List (Man × ℕ)) → AllApart list → AreApart list
 apart_all [] apart = tt
 apart_all (e ∷ list) apart = (free_of list e.1 apart.0, apart_all list apart.1)
 
-all_apart : (list : List (Man × ℕ)) → AreApart list → AllApart list
+pub all_apart : (list : List (Man × ℕ)) → AreApart list → AllApart list
 all_apart [] apart = tt
 all_apart (e ∷ list) apart = (off_of list e.1 apart.0, all_apart list apart.1)
 
@@ -78,7 +78,7 @@ may_stand pawns side R d d_in = λ e. absurd (let kinds = ap kind_number e in om
 may_stand pawns side B d d_in = λ e. absurd (let kinds = ap kind_number e in omega arith)
 may_stand pawns side N d d_in = λ e. absurd (let kinds = ap kind_number e in omega arith)
 
-placed_may : (pawns : Bool) (men : List Man) (digits : List ℕ) (man : Man) (s : ℕ) → AreDigits (map (base_of pawns) men) digits → IsListed (placed pawns men digits) man s → MayStand man s
+pub placed_may : (pawns : Bool) (men : List Man) (digits : List ℕ) (man : Man) (s : ℕ) → AreDigits (map (base_of pawns) men) digits → IsListed (placed pawns men digits) man s → MayStand man s
 placed_may pawns [] digits man s are h = absurd h
 placed_may pawns (other ∷ men) [] man s are h = absurd h
 placed_may pawns (other ∷ men) (d ∷ ds) man s are (inl h) =
@@ -93,7 +93,7 @@ pawns_spelled c high list men s man stands =
 is_king : Kind → Bool
 is_king kind = eqb (kind_number kind) 5
 
-are_no_kings : List Man → Bool
+pub are_no_kings : List Man → Bool
 are_no_kings [] = true
 are_no_kings (man ∷ men) = not (is_king man.kind) && are_no_kings men
 
@@ -101,7 +101,14 @@ all_no_kings : all_below (λ c. are_no_kings (men_beside (material_of c))) 36 �
 unfolding all_below are_no_kings is_king material_of materials
 all_no_kings = refl
 
-no_king_listed : (list : List (Man × ℕ)) (side : Side) (s : ℕ) → are_no_kings (men_among list) ≡ true → IsListed list (king_of side) s → ⊥
+-- nor among the men beside the kings
+pub no_kings_beside : (c : ℕ) → c < 36 → (w b : Man) (rest : List (Man × ℕ)) → w ∷ b ∷ men_among rest ≡ men_in_order (material_of c) → are_no_kings (men_among rest) ≡ true
+no_kings_beside c c_in w b rest are = ap are_no_kings (behind are) ∙ passes_below (λ c. are_no_kings (men_beside (material_of c))) 36 c all_no_kings c_in
+  where
+    behind : {a b d e : Man} {x y : List Man} → a ∷ b ∷ x ≡ d ∷ e ∷ y → x ≡ y
+    behind e = cc
+
+pub no_king_listed : (list : List (Man × ℕ)) (side : Side) (s : ℕ) → are_no_kings (men_among list) ≡ true → IsListed list (king_of side) s → ⊥
 unfolding are_no_kings is_king
 no_king_listed [] side s none h = h
 no_king_listed (e ∷ list) side s none (inl h) = not_both (eqb (kind_number e.0.kind) 5) (eq-eqb _ _ (ap (λ (m : Man). kind_number m.kind) h.0)) (and_parts _ _ none).0

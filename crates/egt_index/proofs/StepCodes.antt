@@ -1,5 +1,5 @@
 -- What the codes of steps spell.
-use Rattle.std.proofs.Common.{◌≡◌, ◌≢◌, ℕ, ◌+◌, ◌-◌, ◌/◌, ◌%◌, ◌<◌, Bool, true, false, eqb, List, Option, Some, None, IfSome, arith, refl, sym, ap, ◌∙◌, inl, inr, subst}
+use Rattle.std.proofs.Common.{◌≡◌, ◌≢◌, ℕ, ◌+◌, ◌-◌, ◌/◌, ◌%◌, ◌<◌, ◌↔◌, Bool, true, false, eqb, List, Option, Some, None, IfSome, arith, refl, sym, ap, ◌∙◌, inl, inr, subst}
 use Rattle.std.specs.FinMap as placement
 use Rattle.std.specs.Option.{is_some, option_map}
 use Rattle.std.proofs.lemmas.Bool.{cases_eq, false≢true}
@@ -27,7 +27,7 @@ use Rattle.egt_index.specs.Spelled.{HasPawns, IsListed, IsTold}
 use Rattle.egt_index.specs.StepCodes.{FollowsLeap, FollowsStep, IsLeapCode, IsLeapt, IsStepCode, TellsMen, moved_stand, turned_stand}
 use Rattle.egt_index.specs.Stood.{AllApart, Entry, HasStand, list_of}
 use Rattle.egt_index.specs.Turns.{IsTurn}
-use Rattle.egt_index.specs.Went.{AreOnBoard, moved_entry, moved_square}
+use Rattle.egt_index.specs.Went.{AreOnBoard, IsMovedStand, moved_entry, moved_square}
 use Rattle.egt_index.specs.declared.stand.Stand.{Stand}
 use Rattle.egt_index.proofs.After.{inverse, stood_turned}
 use Rattle.egt_index.proofs.Best.{turn_number}
@@ -41,7 +41,7 @@ use Rattle.egt_index.proofs.Halves.{of_targets}
 use Rattle.egt_index.proofs.LeastTurn.{keeps_play}
 use Rattle.egt_index.proofs.Led.{back_again, eight, entry_back, undone}
 use Rattle.egt_index.proofs.Lined.{all_apart}
-use Rattle.egt_index.proofs.Listing.{listed}
+use Rattle.egt_index.proofs.Listing.{listed, listed_stands}
 use Rattle.egt_index.proofs.Moved.{is_after, on_board_of, stand_moved, untargeted_settled}
 use Rattle.egt_index.proofs.Setups.{apart_all, fits_apart, setup_spelled, stand_spelled}
 
@@ -50,7 +50,7 @@ pub pawns_told : (passed : Bool) (c code : ℕ) (stand : Stand) (side : Side) �
 pawns_told passed c code stand side tells e =
     of_targets c (λ none. absurd (false≢true (sym (tells.ends.never none) ∙ e))) (λ has. has_pawns_list c tells.number (list_of stand) has tells.men)
 
-no_target : (o : Option ℕ) → is_some o ≡ false → o ≡ None
+pub no_target : (o : Option ℕ) → is_some o ≡ false → o ≡ None
 no_target None is = refl
 no_target (Some t) is = absurd (false≢true (sym is))
 
@@ -75,7 +75,7 @@ told_stands passed c code p stand side spells settled tells =
     subst (HasStand c false stand side passed) (sym found.is)
     (stand_spelled c code tells.number stand side passed found.target tells.men (fits_apart (list_of stand) found.fits) found.told (subst (Spells c code) found.is spells) (subst IsSettled found.is settled))
 
-untargeted_stands : (c code : ℕ) (p : Setup) (stand : Stand) (side : Side) → Spells c code p → TellsMen false c code stand side → HasStand c false stand side false p
+pub untargeted_stands : (c code : ℕ) (p : Setup) (stand : Stand) (side : Side) → Spells c code p → TellsMen false c code stand side → HasStand c false stand side false p
 untargeted_stands c code p stand side spells tells =
     let found = told_setup false c code p stand side spells tells in
     told_stands false c code p stand side spells (untargeted_settled p (ap (λ (q : Setup). q.target) found.is ∙ found.told)) tells
@@ -247,6 +247,41 @@ module _ (facts : Facts) (c code n from to : ℕ) (p : Setup) (is : IsStepCode c
 
   pub follows_step : FollowsStep c code from to p
   follows_step = record { leads = leads; comes = comes }
+
+-- who stands in a position is one of its men
+pub men_listed : (c : ℕ) (stand : Stand) (side : Side) (passed : Bool) (p : Setup) (s : ℕ) (man : Man) → HasStand c false stand side passed p → Stands p.men s man ↔ IsListed (list_of stand) man s
+men_listed c stand side passed p s man has = (
+  λ stands. listed (list_of stand) man s (subst (λ (men : Placement). Stands men s man) men stands),
+  λ h. subst (λ (men : Placement). Stands men s man) (sym men) (listed_stands (list_of stand) man s (apart_all (list_of stand) (all_apart false p.men (list_of stand) has.stood.all)) h),
+)
+  where
+    men : p.men ≡ men_of (list_of stand)
+    men = men_are c stand side passed p has
+
+-- the position after a man went has the men after it
+pub moved_stands : (c from to : ℕ) (p q : Setup) (stand after : Stand) (side : Side) (passed : Bool) → HasStand c false stand side passed p → IsMovedStand from to stand after → IsMoved c p from to q → HasStand c false after (other_side side) false q
+moved_stands c from to p q stand after side passed has is moved = stand_moved c false passed p q from to stand after side (other_side side) has moved (untargeted_settled q moved.target) refl is
+
+-- and one that has them is the position after it
+pub stands_moved : Facts → (c from to : ℕ) (p q : Setup) (man : Man) (stand after : Stand) (side : Side) (passed : Bool) → c < 36 → to < 64 → to ≢ from → Stands p.men from man → HasStand c false stand side passed p → IsMovedStand from to stand after
+    → HasStand c false after (other_side side) false q → IsMoved c p from to q
+stands_moved facts c from to p q man stand after side passed c_in to_in other stands has is there = record {
+  man = man;
+  stands = stands;
+  free = came.free;
+  on_board = to_in;
+  men = came.men;
+  side = came.side;
+  target = no_target q.target there.target_is;
+  admissible = there.admissible;
+  class = came.class;
+}
+  where
+    same : after ≡ moved_stand from to stand
+    same = λ i. record { white = is.white i; black = is.black i; next = is.next i; last = is.last i }
+
+    came : HasCome c p from to man q
+    came = has_come facts c stand side passed false p c_in has from to man other stands q (subst (λ (s : Stand). HasStand c false s (other_side side) false q) same there)
 
 -- a leap is a move but for the target
 leap_moves : (c from to : ℕ) (p q : Setup) → IsLeapt c p from to q → IsMoved c p from to (untargeted q)

@@ -60,7 +60,7 @@ fn row(pawns: bool, flips: bool, king: Square) -> usize
 }
 
 /// The turns, with colours exchanged or not, that bring the king home, among those that the pawns allow.
-pub(crate) fn home(pawns: bool, flips: bool, king: Square) -> (u8, Option<u8>)
+pub fn home(pawns: bool, flips: bool, king: Square) -> (u8, Option<u8>)
     ensures { AreHome pawns flips king result.0 result.1 }
 {
     let (first, second) = entries(row(pawns, flips, king));

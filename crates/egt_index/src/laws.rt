@@ -1,22 +1,27 @@
 //! What holds of codes and indexes. These functions do nothing: a caller calls one to know what it ensures.
-ghost use Rattle.std.specs.Prelude.{◌≡◌, ◌↔◌, ◌⊎◌, ℕ, ◌*◌, ◌<◌, ◌≤◌, Bool, false, true};
+ghost use Rattle.std.specs.Prelude.{◌≡◌, ◌↔◌, ◌⊎◌, ℕ, ◌*◌, ◌<◌, ◌≤◌, ◌≢◌, Bool, false, true};
 ghost use Rattle.egt_board.specs.declared.man.Man.{Man};
 ghost use Rattle.egt_board.specs.declared.man.Side.{Side};
 ghost use Rattle.egt_board.specs.Man.{other_side};
-ghost use Rattle.egt_board.specs.Pawn.{pawn_of, HasNoPawn};
-ghost use Rattle.egt_board.specs.Placement.{Stands};
+ghost use Rattle.egt_board.specs.Pawn.{pawn_of, HasNoPawn, MayStand};
+ghost use Rattle.egt_board.specs.Placement.{IsFree, Stands};
 ghost use Rattle.egt_board.specs.Settled.{IsSettled, SettlesTo};
 ghost use Rattle.egt_board.specs.Setup.{Setup, IsAdmissible};
 ghost use Rattle.egt_class.specs.Material.{material_of};
 ghost use Rattle.egt_class.specs.Membership.{IsOf};
 ghost use Rattle.egt_index.specs.Code.{Spells};
+ghost use Rattle.egt_board.specs.Images.{AreImages};
 ghost use Rattle.egt_index.specs.Index.{IsIndex, IsVoid, SettleAlike};
 ghost use Rattle.egt_index.specs.Numbers.{code_of, half_of, number_of, places};
 ghost use Rattle.egt_index.specs.ShelfCodes.{IsShelf};
 ghost use Rattle.egt_index.specs.declared.shelf_codes.ShelfMen.{ShelfMen};
 ghost use Rattle.egt_index.specs.Size.{has_pawns, has_target, size_of};
 ghost use Rattle.egt_index.specs.StepCodes.{FollowsLeap, FollowsStep, IsLeapCode, IsStepCode, TellsMen};
-ghost use Rattle.egt_index.specs.Stood.{HasStand};
+ghost use Rattle.egt_index.specs.Stood.{HasStand, IsFilled, IsOff, list_of};
+ghost use Rattle.egt_index.specs.TurnedMen.{IsSomeTurnedCode};
+ghost use Rattle.egt_index.specs.Frame.{IsMoved};
+ghost use Rattle.egt_index.specs.Spelled.{IsListed};
+ghost use Rattle.egt_index.specs.Went.{AreOnBoard, IsMovedStand};
 ghost use Rattle.egt_index.specs.declared.stand.Stand.{Stand};
 
 use crate::facts::facts;
@@ -99,6 +104,35 @@ pub fn numbers_stand_for_codes()
     ensures number { (c n : ℕ) → c < 36 → n < size_of c → number_of c (code_of c n) ≡ n }
     ensures halves { (c shelf : ℕ) (men : ShelfMen) (is : IsShelf c shelf men) → c < 36 → has_target (material_of c) ≡ true → (is.passed ≡ true) ↔ (half_of c ≤ shelf * (2 * places c)) }
     ensures indexes_are_settled { (c i : ℕ) (p q : Setup) → IsAdmissible p → IsIndex c p i → Spells c i q → IsSettled q }
+{
+    facts();
+}
+
+/// One code tells men on their squares, pawns on neither the first rank nor the last. The index of a position with these men is a code that tells them where a turn takes them; and what any such code spells is an image of each
+/// position with these men, of which there is one then.
+pub fn codes_tell_turned_men()
+    ensures one { (passed : Bool) (c x y : ℕ) (stand : Stand) (side : Side) → TellsMen passed c x stand side → TellsMen passed c y stand side → x ≡ y }
+    ensures pawns { (passed : Bool) (c code : ℕ) (stand : Stand) (side : Side) (man : Man) (s : ℕ) → TellsMen passed c code stand side → IsListed (list_of stand) man s → MayStand man s }
+    ensures index { (c i : ℕ) (flips : Bool) (stand : Stand) (side : Side) (q : Setup) → c < 36 → IsFilled stand → HasStand c flips stand side false q → IsIndex c q i →
+        IsSomeTurnedCode c i flips stand side }
+    ensures images { (c code : ℕ) (flips : Bool) (stand : Stand) (side : Side) (q r : Setup) → c < 36 → HasStand c flips stand side false q → IsSomeTurnedCode c code flips stand side →
+        Spells c code r → AreImages q r }
+    ensures there { (c code : ℕ) (flips : Bool) (stand : Stand) (side : Side) (r : Setup) → c < 36 → AreOnBoard stand → IsSomeTurnedCode c code flips stand side → Spells c code r →
+        (q : Setup) × HasStand c flips stand side false q × AreImages q r }
+{
+    facts();
+}
+
+/// The men of a position are those of its stand, and no others. A position after one man went to a free square, with the other side to move and no
+/// target, has the men after that; and one that has them is such a position.
+pub fn stands_follow_moves()
+    ensures listed { (c : ℕ) (stand : Stand) (side : Side) (passed : Bool) (p : Setup) (s : ℕ) (man : Man) → HasStand c false stand side passed p →
+        Stands p.men s man ↔ IsListed (list_of stand) man s }
+    ensures free { (c : ℕ) (stand : Stand) (side : Side) (passed : Bool) (p : Setup) (s : ℕ) → HasStand c false stand side passed p → IsFree p.men s ↔ IsOff (list_of stand) s }
+    ensures moved { (c from to : ℕ) (p q : Setup) (stand after : Stand) (side : Side) (passed : Bool) → HasStand c false stand side passed p → IsMovedStand from to stand after →
+        IsMoved c p from to q → HasStand c false after (other_side side) false q }
+    ensures back { (c from to : ℕ) (p q : Setup) (man : Man) (stand after : Stand) (side : Side) (passed : Bool) → c < 36 → to < 64 → to ≢ from → Stands p.men from man →
+        HasStand c false stand side passed p → IsMovedStand from to stand after → HasStand c false after (other_side side) false q → IsMoved c p from to q }
 {
     facts();
 }

@@ -125,7 +125,7 @@ static PAIRS: [bool; 36] = [
 ];
 
 /// The men of the class beside the kings, in the order of its name.
-pub(crate) fn beside(class: Class) -> (Option<Man>, Option<Man>)
+pub fn beside(class: Class) -> (Option<Man>, Option<Man>)
     ensures men { option_to_list result.0 ++ option_to_list result.1 ≡ men_beside (material_of class) }
     ensures first { IfSome result.0 (λ man. man ≢ king_of White) }
     ensures second { IfSome result.1 (λ man. man ≢ king_of White) }
@@ -157,7 +157,7 @@ pub fn has_target(class: Class) -> bool
 }
 
 /// Whether both sides of the class have the same men.
-pub(crate) fn has_equal_sides(class: Class) -> bool
+pub fn has_equal_sides(class: Class) -> bool
     ensures { result ≡ has_equal_sides class }
 {
     EQUAL_SIDES[usize::from(class.number())]

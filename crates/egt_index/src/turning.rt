@@ -59,7 +59,7 @@ fn entry(at: usize) -> u8
 }
 
 /// Where the turn takes the square.
-pub(crate) fn turned_square(turn: u8, square: Square) -> Square
+pub fn turned_square(turn: u8, square: Square) -> Square
     requires { turn < 16 }
     ensures { result ≡ turned_square (turn % 8) (turn / 8 == 1) square }
 {

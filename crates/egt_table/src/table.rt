@@ -58,7 +58,7 @@ impl Table {
     }
 
     /// The entries of a column, by code.
-    pub(crate) fn entries(&self, column: Column) -> &[u16]
+    pub fn entries(&self, column: Column) -> &[u16]
         ensures entries { result.now ≡ entries_of column self.now }
         ensures size { length result.now ≡ size_of self.now.class }
     {

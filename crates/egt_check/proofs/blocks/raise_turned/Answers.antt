@@ -1,0 +1,27 @@
+use Rattle.std.proofs.Common.{◌≡◌, ◌≢◌, ℕ, ◌<◌, arith, refl, sym, ap, ◌∙◌, inl, inr, subst}
+use Rattle.std.proofs.lemmas.Bool.{cases_lt}
+use Rattle.egt_lanes.specs.Blocks.{at}
+use Rattle.egt_check.specs.Blocks.{IsRaisedAfter, stand_on}
+use Rattle.egt_check.proofs.blocks.raise_turned.Goals as goal
+
+pub loop-a-preserved : goal.loop-a-preserved
+loop-a-preserved c =
+    let t = c.args.table.now in
+    let before = c.loop-a.invariant in
+    let n = c.loop-a.a in
+    let new = c.raise_row.new.out in
+    let raised = c.if-not-raise_row.ensures.raised in
+    let here = c.at.ensures in record {
+      done = λ a b a_in b_in. elim (cases_lt a n) [
+        | inl less ↦
+            let other : a ≢ c.at.result = λ e. let same = e ∙ here in omega (arith, same, less) in
+            subst (IsRaisedAfter t c.args.column c.args.turn (stand_on c.args.men.now a b) c.args.side (at c.args.out.now a b)) (sym (c.raise_row.ensures.others a b other)) (before.done a b less b_in)
+        | inr ge ↦
+            let same : c.at.result ≡ a = here ∙ (omega arith) in
+            subst (λ k. IsRaisedAfter t c.args.column c.args.turn (stand_on c.args.men.now k b) c.args.side (at c.args.out.now k b) (at new k b)) same
+            (subst (λ low. IsRaisedAfter t c.args.column c.args.turn (stand_on c.args.men.now c.at.result b) c.args.side low (at new c.at.result b)) (before.left c.at.result b (omega (arith, here))) (raised refl b b_in))
+      ];
+      left = λ a b a_in.
+          let other : a ≢ c.at.result = λ e. let same = e ∙ here in omega (arith, same, a_in) in
+          c.raise_row.ensures.others a b other ∙ before.left a b (omega (arith, a_in));
+    }

@@ -1,0 +1,90 @@
+-- What a block holds: a number for each square of the first man beside the kings and of the last.
+use Rattle.std.specs.Prelude.{if◌then◌else◌, max, List, ◌≡◌, ℕ, ◌/◌, ◌%◌, ◌<◌, ◌==◌, ◌⊎◌, Bool, false, true, not, IsTrue, Option, Some, IfSome}
+use Rattle.egt_board.specs.Turned.{turned_side, turned_square}
+use Rattle.std.specs.Int.{bit_at}
+use Rattle.egt_board.specs.Attack.{king_of}
+use Rattle.egt_board.specs.Gait.{Reaches}
+use Rattle.egt_board.specs.declared.man.Side.{Side}
+use Rattle.egt_board.specs.declared.man.Side.TheVariants.{White, Black}
+use Rattle.egt_class.specs.Material.{has_equal_sides, material_of}
+use Rattle.egt_index.specs.Home.{IsTurnWith}
+use Rattle.egt_index.specs.ShelfCodes.{stand_with}
+use Rattle.egt_index.specs.Size.{has_pawns}
+use Rattle.egt_index.specs.StepCodes.{TellsMen}
+use Rattle.egt_index.specs.TurnedMen.{IsSomeTurnedCode, turned_by}
+use Rattle.egt_index.specs.declared.shelf_codes.ShelfMen.{ShelfMen}
+use Rattle.egt_index.specs.declared.stand.Stand.{Stand}
+use Rattle.egt_lanes.specs.Blocks.{at}
+use Rattle.egt_lanes.specs.Raised.{IsRaised}
+use Rattle.egt_table.specs.Table.{TableValue}
+use Rattle.egt_table.specs.declared.column.Column.{Column}
+use Rattle.egt_check.specs.Worth.{score_at}
+
+-- the men with the first one on the square
+abbrev pub men_on : ShelfMen → ℕ → ShelfMen
+men_on men a = record { white = men.white; black = men.black; one = men.one; on = a; last = men.last }
+
+-- the men with the first and the last one on these squares
+abbrev pub stand_on : ShelfMen → (a b : ℕ) → Stand
+stand_on men a b = stand_with (men_on men a) b
+
+-- the men where the turn takes them, the first one from this square
+abbrev pub turned_from : ShelfMen → (on turn : ℕ) → ShelfMen
+turned_from men on turn = record {
+  white = turned_square (turn % 8) (turn / 8 == 1) men.white;
+  black = turned_square (turn % 8) (turn / 8 == 1) men.black;
+  one = men.one;
+  on = turned_square (turn % 8) (turn / 8 == 1) on;
+  last = men.last;
+}
+
+-- the men of a class whose sides have the same, seen with colours exchanged
+abbrev pub men_across : ShelfMen → ShelfMen
+men_across men = record { white = men.black; black = men.white; one = men.one; on = men.on; last = men.last }
+
+-- the code tells the men where the turn takes them
+abbrev pub IsCodeAfter : ℕ → ℕ → ℕ → Stand → Side → Type 0
+IsCodeAfter c t code stand side = TellsMen false c code (turned_by t stand) (turned_side (t / 8 == 1) side)
+
+-- where some turn of the class takes them, one that exchanges colours so
+abbrev pub IsHomeCode : (c code : ℕ) (flips : Bool) → Stand → Side → Type 0
+IsHomeCode c code flips stand side = (t : ℕ) × IsTurnWith (has_pawns (material_of c)) flips t × IsCodeAfter c t code stand side
+
+-- the number raised to the scores of the codes of this turn
+abbrev pub IsRaisedAfter : TableValue → Column → ℕ → Stand → Side → (low high : ℕ) → Type 0
+IsRaisedAfter t column turn stand side low high = IsRaised low (λ code. IsCodeAfter t.class turn code stand side) (score_at t column) high
+
+-- the number raised to the scores of the codes of all such turns
+abbrev pub IsRaisedHome : TableValue → Column → Bool → Stand → Side → (low high : ℕ) → Type 0
+IsRaisedHome t column flips stand side low high = IsRaised low (λ code. IsHomeCode t.class code flips stand side) (score_at t column) high
+
+-- the greater of the block's number, of that in the other order where the men are equal, and of that across where both sides have the same men
+abbrev pub settled_at : (equal sides : Bool) (own across : List (List ℕ)) (a b : ℕ) → ℕ
+settled_at equal sides own across a b = max (if equal then max (at own a b) (at own b a) else at own a b) (if sides then at across b a else 0)
+
+-- the men with that side's king on the square
+abbrev pub with_king : ShelfMen → Side → ℕ → ShelfMen
+with_king men White k = record { white = k; black = men.black; one = men.one; on = men.on; last = men.last }
+with_king men Black k = record { white = men.white; black = k; one = men.one; on = men.on; last = men.last }
+
+-- the square of that side's king
+abbrev pub king_of_men : ShelfMen → Side → ℕ
+king_of_men men White = men.white
+king_of_men men Black = men.black
+
+-- the squares beside that side's king
+abbrev pub IsBesideKing : ShelfMen → Side → ℕ → Type 0
+IsBesideKing men side k = (k < 64) × Reaches (λ u. bit_at 0 u ≡ 0) (king_of side) (king_of_men men side) k
+
+-- codes of the men of one of these, where turns take them that exchange colours so
+abbrev pub AreHomeCodes : (c : ℕ) (In : ℕ → Type 0) (men : ℕ → ShelfMen) (flips : Bool) (side : Side) (a b code : ℕ) → Type 0
+AreHomeCodes c In men flips side a b code = (k : ℕ) × In k × IsHomeCode c code flips (stand_on (men k) a b) side
+
+-- codes of the men of one of these, in any colours
+abbrev pub AreTurnedCodes : (c : ℕ) (In : ℕ → Type 0) (men : ℕ → ShelfMen) (flips : Bool) (side : Side) (a b code : ℕ) → Type 0
+AreTurnedCodes c In men flips side a b code = (k : ℕ) × In k × IsSomeTurnedCode c code flips (stand_on (men k) a b) side
+
+-- both blocks are raised from nothing to the codes of these
+pub record AreGathered (t : TableValue) (column : Column) (In : ℕ → Type 0) (men : ℕ → ShelfMen) (flips : Bool) (side : Side) (own across : List (List ℕ)) : Type 0 where
+  pub in_own : (a b : ℕ) → a < 64 → b < 64 → IsRaised 0 (AreHomeCodes t.class In men flips side a b) (score_at t column) (at own a b)
+  pub in_across : has_equal_sides t.class ≡ true → (a b : ℕ) → a < 64 → b < 64 → IsRaised 0 (AreHomeCodes t.class In (λ k. men_across (men k)) (not flips) side b a) (score_at t column) (at across b a)

@@ -1,0 +1,210 @@
+//! The scores that a table gives the positions of a class with two men beside the kings, whose kings stand on two squares: a row for each square of the
+//! first man, a lane for each of the last. Each code has some turn of these men; codes that are not least score nothing.
+ghost use Rattle.std.specs.Prelude.{◌≡◌, ◌≢◌, ◌/◌, ◌%◌, ◌<◌, ◌↔◌, ◌==◌, ℕ, false, true, not, IsTrue};
+ghost use Rattle.egt_board.specs.Turned.{turned_side, turned_square};
+ghost use Rattle.egt_class.specs.Material.{has_equal_sides, material_of};
+ghost use Rattle.egt_index.specs.ShelfCodes.{AreMenOf};
+ghost use Rattle.egt_index.specs.Size.{has_target};
+ghost use Rattle.egt_lanes.specs.Blocks.{at};
+ghost use Rattle.egt_check.specs.Blocks.{IsRaisedAfter, IsRaisedHome, men_across, settled_at, stand_on, turned_from};
+ghost use Rattle.egt_check.specs.Worth.{IsRead};
+
+use crate::rows::{may_stand, row_of};
+use egt_board::{Side, Square};
+use egt_index::home::home;
+use egt_index::laws::codes_tell_turned_men;
+use egt_index::men::has_equal_sides;
+use egt_index::turning::turned_square;
+use egt_index::{ShelfMen, has_pawns, shelf_of};
+use egt_lanes::block::raise_transposed;
+use egt_lanes::row::greater;
+use egt_lanes::turn::turned;
+use egt_lanes::{Block, Row};
+use std::simd::prelude::*;
+use egt_table::{Column, Table};
+
+/// The men where the turn takes them, the first of them from this square.
+fn turned_from(men: &ShelfMen, on: Square, turn: u8) -> ShelfMen
+    requires { turn < 16 }
+    ensures { result ≡ turned_from men.now on turn }
+{
+    ShelfMen {
+        white: turned_square(turn, men.white),
+        black: turned_square(turn, men.black),
+        one: men.one,
+        on: turned_square(turn, on),
+        last: men.last,
+    }
+}
+
+/// The side, or the other one where the turn exchanges colours.
+fn side_after(side: Side, turn: u8) -> Side
+    ensures { result ≡ turned_side (turn / 8 == 1) side }
+{
+    if turn / 8 == 1 { side.other() } else { side }
+}
+
+/// Raises the row of the first man's square to the scores of the codes after the turn. False where it does not tell.
+#[inline(always)]
+fn raise_row(
+    table: &Table,
+    column: Column,
+    men: &ShelfMen,
+    on: Square,
+    side: Side,
+    turn: u8,
+    out: &mut Block,
+) -> bool
+    requires men { AreMenOf table.now.class men.now }
+    requires targets { has_target (material_of table.now.class) ≡ false }
+    requires turn { turn < 16 }
+    ensures others { (a b : ℕ) → a ≢ on → at out.new a b ≡ at out.old a b }
+    ensures raised { result ≡ true → (b : ℕ) → b < 64 → IsRaisedAfter table.now column turn (stand_on men.now on b) side (at out.old on b) (at out.new on b) }
+{
+    codes_tell_turned_men();
+    let there = turned_from(men, on, turn);
+    if !may_stand(there.one, there.on) {
+        return true;
+    }
+    let Some(shelf) = shelf_of(table.class(), &there, false) else {
+        return false;
+    };
+    let row = row_of(table, column, &there, shelf, side_after(side, turn));
+    let a = usize::from(on.number());
+    out[a] = greater(out[a], turned(row, turn));
+    true
+}
+
+/// Raises the block to the scores of the codes after the turn. False where it does not tell.
+fn raise_turned(
+    table: &Table,
+    column: Column,
+    men: &ShelfMen,
+    side: Side,
+    turn: u8,
+    out: &mut Block,
+) -> bool
+    requires men { AreMenOf table.now.class men.now }
+    requires targets { has_target (material_of table.now.class) ≡ false }
+    requires turn { turn < 16 }
+    ensures { result ≡ true → (a b : ℕ) → a < 64 → b < 64 → IsRaisedAfter table.now column turn (stand_on men.now a b) side (at out.old a b) (at out.new a b) }
+{
+    for a in 0..64u8 {
+        if !raise_row(table, column, men, Square::at(a), side, turn, out) {
+            return false;
+        }
+    }
+    true
+}
+
+/// Raises the block to the scores of the codes after the turns that exchange colours so and bring the white king home. False where it does not tell.
+fn raise_home(
+    table: &Table,
+    column: Column,
+    men: &ShelfMen,
+    flips: bool,
+    side: Side,
+    out: &mut Block,
+) -> bool
+    requires men { AreMenOf table.now.class men.now }
+    requires targets { has_target (material_of table.now.class) ≡ false }
+    ensures { result ≡ true → (a b : ℕ) → a < 64 → b < 64 → IsRaisedHome table.now column flips (stand_on men.now a b) side (at out.old a b) (at out.new a b) }
+{
+    let (first, second) = home(has_pawns(table.class()), flips, men.white);
+    if !raise_turned(table, column, men, side, first, out) {
+        return false;
+    }
+    match second {
+        Some(second) => raise_turned(table, column, men, side, second, out),
+        None => true,
+    }
+}
+
+/// The men with colours exchanged.
+fn men_across(men: &ShelfMen) -> ShelfMen
+    ensures { result ≡ men_across men.now }
+{
+    ShelfMen {
+        white: men.black,
+        black: men.white,
+        one: men.one,
+        on: men.on,
+        last: men.last,
+    }
+}
+
+/// Raises the one block to the scores of the codes in these colours, and where both sides have the same men the other to those with colours exchanged,
+/// there with rows for the last man's square and lanes for the first one's. False where it does not tell.
+pub(crate) fn gather(
+    table: &Table,
+    column: Column,
+    men: &ShelfMen,
+    flips: bool,
+    side: Side,
+    own: &mut Block,
+    across: &mut Block,
+) -> bool
+    requires men { AreMenOf table.now.class men.now }
+    requires targets { has_target (material_of table.now.class) ≡ false }
+    ensures own { result ≡ true → (a b : ℕ) → a < 64 → b < 64 → IsRaisedHome table.now column flips (stand_on men.now a b) side (at own.old a b) (at own.new a b) }
+    ensures across { result ≡ true → has_equal_sides table.now.class ≡ true → (a b : ℕ) → a < 64 → b < 64 →
+        IsRaisedHome table.now column (not flips) (stand_on (men_across men.now) b a) side (at across.old b a) (at across.new b a) }
+    ensures same { has_equal_sides table.now.class ≡ false → across.new ≡ across.old }
+{
+    if !raise_home(table, column, men, flips, side, own) {
+        return false;
+    }
+    if !has_equal_sides(table.class()) {
+        return true;
+    }
+    raise_home(table, column, &men_across(men), !flips, side, across)
+}
+
+/// A block of nothing.
+#[inline(always)]
+pub(crate) fn nothing() -> Block
+    ensures { (a b : ℕ) → a < 64 → b < 64 → at result a b ≡ 0 }
+{
+    [Row::splat(0); 64]
+}
+
+/// Whether the two men beside the kings are equal.
+pub(crate) fn are_equal(men: &ShelfMen) -> bool
+    ensures { IsTrue result ↔ (men.now.one ≡ men.now.last) }
+{
+    men.one == men.last
+}
+
+/// The block of the codes in either order of equal men, and of those with colours exchanged where both sides have the same men.
+pub(crate) fn settle(equal: bool, sides: bool, own: &mut Block, across: &Block)
+    ensures { (a b : ℕ) → a < 64 → b < 64 → at own.new a b ≡ settled_at equal sides own.old across.now a b }
+{
+    if equal {
+        let copy = *own;
+        raise_transposed(own, &copy);
+    }
+    if sides {
+        raise_transposed(own, across);
+    }
+}
+
+/// The scores of the positions with these men, whose squares beside the kings are those of the rows and lanes. False where the table does not tell.
+pub(crate) fn read_block(
+    table: &Table,
+    column: Column,
+    men: &ShelfMen,
+    side: Side,
+    out: &mut Block,
+) -> bool
+    requires men { AreMenOf table.now.class men.now }
+    requires targets { has_target (material_of table.now.class) ≡ false }
+    ensures { result ≡ true → (a b : ℕ) → a < 64 → b < 64 → IsRead table.now column false (stand_on men.now a b) side (at out.new a b) }
+{
+    *out = nothing();
+    let mut across = nothing();
+    if !gather(table, column, men, false, side, out, &mut across) {
+        return false;
+    }
+    settle(are_equal(men), has_equal_sides(table.class()), out, &across);
+    true
+}

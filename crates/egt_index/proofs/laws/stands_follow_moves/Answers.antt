@@ -1,0 +1,11 @@
+use Rattle.egt_index.proofs.FrameMen.{free_off}
+use Rattle.egt_index.proofs.StepCodes.{men_listed, moved_stands, stands_moved}
+use Rattle.egt_index.proofs.laws.stands_follow_moves.Goals as goal
+
+pub returns : goal.returns
+returns c = record {
+  listed = men_listed;
+  free = λ k stand side passed p s has. free_off k stand side passed p has s;
+  moved = moved_stands;
+  back = stands_moved c.facts.ensures;
+}
