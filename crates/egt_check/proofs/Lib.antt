@@ -34,3 +34,5 @@ pub mod Worth
 pub mod RowRead
 pub mod BlockRaising
 pub mod ByteJudged
+pub mod Passed
+pub mod QuietStands

@@ -1,5 +1,5 @@
 //! What holds of tables and their rules. These functions do nothing: a caller calls one to know what it ensures.
-ghost use Rattle.std.specs.Prelude.{◌≡◌, ◌≢◌, ◌↔◌, ℕ, Bool, None, Some};
+ghost use Rattle.std.specs.Prelude.{◌≡◌, ◌≢◌, ◌↔◌, ◌<◌, ℕ, Bool, false, None, Some};
 ghost use Rattle.std.specs.List.{Contains};
 ghost use Rattle.egt_class.specs.Children.{children_of};
 ghost use Rattle.egt_class.specs.Membership.{IsOf};
@@ -17,6 +17,12 @@ ghost use Rattle.egt_index.specs.Stood.{IsFilled};
 ghost use Rattle.egt_index.specs.Went.{AreOnBoard};
 ghost use Rattle.egt_index.specs.declared.stand.Stand.{Stand};
 ghost use Rattle.egt_table.specs.declared.column.Column.{Column};
+ghost use Rattle.egt_board.specs.Man.{other_side};
+ghost use Rattle.egt_board.specs.declared.man.Kind.TheVariants.{P};
+ghost use Rattle.egt_index.specs.Stood.{HasStand};
+ghost use Rattle.egt_index.specs.declared.shelf_codes.ShelfMen.{ShelfMen};
+ghost use Rattle.egt_check.specs.Blocks.{stand_on};
+ghost use Rattle.egt_check.specs.QuietStands.{IsQuietStand};
 ghost use Rattle.egt_check.specs.Given.{AreAlike, AreGiven};
 ghost use Rattle.egt_check.specs.Rules.{IsJudged};
 ghost use Rattle.egt_check.specs.Score.{IsAtEnd};
@@ -31,7 +37,7 @@ ghost use Rattle.egt_check.specs.Truth.{IsTrueTable, HasTrueChildren};
 
 use crate::facts::facts;
 use egt_class::laws::moves_lead_into_the_class_or_a_child;
-use egt_index::laws::{a_code_is_an_index_or_void, codes_spell_one_position, codes_tell_turned_men};
+use egt_index::laws::{a_code_is_an_index_or_void, codes_spell_one_position, codes_tell_turned_men, stands_follow_moves};
 
 /// Where the children's tables are true, the entries of a table keep all rules exactly where the table is true: each entry is
 /// the value or the zeroing distance of its position, void entries are 0, and no distance is above 32,000.
@@ -88,4 +94,17 @@ pub fn due_bytes_are_right()
 {
     facts();
     codes_spell_one_position();
+}
+
+/// Where all men are pieces, the moves that do not zero lead to the men after quiet steps, and to all of them that are positions.
+pub fn quiet_moves_are_quiet_steps()
+    ensures goes { (c : ℕ) (men : ShelfMen) (side : Side) (passed : Bool) (a b : ℕ) (p q : Setup) (m : Move) → c < 36 → men.one.kind ≢ P → men.last.kind ≢ P → HasStand c false (stand_on men a b) side passed p →
+        Leads p m q → ¬ Zeroes p m → (stand : Stand) × IsQuietStand men side a b stand × HasStand c false stand (other_side side) false q }
+    ensures comes { (c : ℕ) (men : ShelfMen) (side : Side) (passed : Bool) (a b : ℕ) (p q : Setup) (stand : Stand) → c < 36 → men.one.kind ≢ P → men.last.kind ≢ P → HasStand c false (stand_on men a b) side passed p →
+        IsQuietStand men side a b stand → HasStand c false stand (other_side side) false q → (m : Move) × Leads p m q × ¬ Zeroes p m }
+{
+    facts();
+    moves_lead_into_the_class_or_a_child();
+    stands_follow_moves();
+    a_quiet_move_moves_one_man();
 }
