@@ -36,3 +36,4 @@ pub mod BlockRaising
 pub mod ByteJudged
 pub mod Passed
 pub mod QuietStands
+pub mod QuietGiven
