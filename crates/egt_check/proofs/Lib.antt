@@ -34,3 +34,6 @@ pub mod Worth
 pub mod RowRead
 pub mod BlockRaising
 pub mod ByteJudged
+pub mod Passed
+pub mod QuietStands
+pub mod QuietGiven

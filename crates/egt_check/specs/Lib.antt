@@ -26,3 +26,4 @@ pub mod Peak
 pub mod Worth
 pub mod Blocks
 pub mod Given
+pub mod QuietStands
