@@ -33,4 +33,5 @@ mod ToldBest
 pub mod Worth
 pub mod RowRead
 pub mod BlockRaising
+pub mod QuietRaising
 pub mod ByteJudged

@@ -25,4 +25,5 @@ pub mod ShelfBest
 pub mod Peak
 pub mod Worth
 pub mod Blocks
+pub mod QuietStands
 pub mod Given

@@ -17,6 +17,7 @@ pub mod peak;
 pub mod pusher;
 pub mod quiet;
 pub mod quiet_best;
+pub mod quiet_blocks;
 pub mod reject;
 pub mod roamer;
 pub mod rows;
