@@ -32,6 +32,7 @@ mod ShelfJudged
 mod ToldBest
 pub mod Worth
 pub mod RowRead
+pub mod LoneRead
 pub mod BlockRaising
 pub mod QuietRaising
 pub mod ByteJudged

@@ -11,6 +11,7 @@ pub mod judging;
 pub mod king_blocks;
 pub mod laws;
 pub mod library;
+pub mod lone_rows;
 pub mod outcome;
 pub mod own_men;
 pub mod peak;
