@@ -16,7 +16,8 @@ use Rattle.egt_lanes.specs.Raised.{IsRaised}
 use Rattle.egt_table.specs.Table.{TableValue}
 use Rattle.egt_table.specs.declared.column.Column.{Column}
 use Rattle.egt_check.specs.Blocks.{AreTurnedCodes, IsBesideKing, stand_on, with_king}
-use Rattle.egt_check.specs.QuietStands.{AreQuietCodes, IsClear, IsFirstStep, IsLastStep}
+use Rattle.egt_check.specs.QuietStands.{AreQuietCodes, IsClear}
+use Rattle.egt_check.specs.QuietSteps.{IsFirstStep, IsLastStep}
 use Rattle.egt_check.specs.Worth.{IsRead, score_at}
 use Rattle.egt_check.proofs.BlockRaising.{raised_alike, raised_both}
 

@@ -1,4 +1,4 @@
--- Where the men stand after a quiet step of a side.
+-- The men after the quiet steps of a side, where all men beside the kings are pieces.
 use Rattle.std.specs.Prelude.{◌≡◌, ◌≢◌, ℕ, ◌<◌, ◌⊎◌, false}
 use Rattle.egt_board.specs.Gait.{Reaches}
 use Rattle.egt_board.specs.Man.{other_side}
@@ -16,17 +16,9 @@ IsClear men other u = (u ≢ men.white) × (u ≢ men.black) × (u ≢ other)
 abbrev pub IsQuietStand : ShelfMen → Side → (a b : ℕ) → Stand → Type 0
 IsQuietStand men side a b stand =
     ((k : ℕ) × IsBesideKing men side k × (stand ≡ stand_on (with_king men side k) a b))
-    ⊎ (((men.one.side ≡ side) × (t : ℕ) × (t < 64) × Reaches (IsClear men b) men.one a t × (stand ≡ stand_on men t b))
-    ⊎ ((men.last.side ≡ side) × (t : ℕ) × (t < 64) × Reaches (IsClear men a) men.last b t × (stand ≡ stand_on men a t)))
+    ⊎ ((men.one.side ≡ side) × (t : ℕ) × (t < 64) × Reaches (IsClear men b) men.one a t × (stand ≡ stand_on men t b))
+    ⊎ ((men.last.side ≡ side) × (t : ℕ) × (t < 64) × Reaches (IsClear men a) men.last b t × (stand ≡ stand_on men a t))
 
 -- the codes of the men after such a step, wherever turns take them
 abbrev pub AreQuietCodes : (c : ℕ) (men : ShelfMen) (side : Side) (a b code : ℕ) → Type 0
 AreQuietCodes c men side a b code = (stand : Stand) × IsQuietStand men side a b stand × IsSomeTurnedCode c code false stand (other_side side)
-
--- where the first man of that side goes quietly
-abbrev pub IsFirstStep : ShelfMen → Side → (a b t : ℕ) → Type 0
-IsFirstStep men side a b t = (men.one.side ≡ side) × Reaches (IsClear men b) men.one a t
-
--- where the last man of that side goes quietly
-abbrev pub IsLastStep : ShelfMen → Side → (a b t : ℕ) → Type 0
-IsLastStep men side a b t = (men.last.side ≡ side) × Reaches (IsClear men a) men.last b t

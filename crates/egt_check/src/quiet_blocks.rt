@@ -9,7 +9,8 @@ ghost use Rattle.egt_index.specs.Size.{has_target};
 ghost use Rattle.egt_lanes.specs.Blocks.{at};
 ghost use Rattle.egt_lanes.specs.Pieces.{IsPiece};
 ghost use Rattle.egt_lanes.specs.Raised.{IsRaised};
-ghost use Rattle.egt_check.specs.QuietStands.{AreQuietCodes, IsClear, IsFirstStep, IsLastStep};
+ghost use Rattle.egt_check.specs.QuietStands.{AreQuietCodes, IsClear};
+ghost use Rattle.egt_check.specs.QuietSteps.{IsFirstStep, IsLastStep};
 ghost use Rattle.egt_check.specs.Worth.{score_at};
 
 use crate::blocks::{nothing, read_block};

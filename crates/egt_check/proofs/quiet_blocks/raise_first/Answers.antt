@@ -1,7 +1,8 @@
 use Rattle.std.proofs.Common.{ℕ}
 use Rattle.egt_board.specs.Gait.{Reaches}
 use Rattle.egt_lanes.specs.Blocks.{IsOpen, at}
-use Rattle.egt_check.specs.QuietStands.{IsClear, IsFirstStep}
+use Rattle.egt_check.specs.QuietStands.{IsClear}
+use Rattle.egt_check.specs.QuietSteps.{IsFirstStep}
 use Rattle.egt_check.proofs.BlockRaising.{raised_alike}
 use Rattle.egt_check.proofs.QuietRaising.{open_is_clear, steps_raised}
 use Rattle.egt_check.proofs.quiet_blocks.raise_first.Goals as goal
