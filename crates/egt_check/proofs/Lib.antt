@@ -36,3 +36,6 @@ pub mod LoneRead
 pub mod BlockRaising
 pub mod QuietRaising
 pub mod ByteJudged
+pub mod Passed
+pub mod QuietStands
+pub mod QuietGiven

@@ -1,5 +1,5 @@
 //! What holds of tables and their rules. These functions do nothing: a caller calls one to know what it ensures.
-ghost use Rattle.std.specs.Prelude.{◌≡◌, ◌≢◌, ◌↔◌, ℕ, Bool, None, Some};
+ghost use Rattle.std.specs.Prelude.{◌≡◌, ◌≢◌, ◌↔◌, ◌<◌, ℕ, Bool, false, None, Some};
 ghost use Rattle.std.specs.List.{Contains};
 ghost use Rattle.egt_class.specs.Children.{children_of};
 ghost use Rattle.egt_class.specs.Membership.{IsOf};
@@ -13,17 +13,22 @@ ghost use Rattle.egt_moves.specs.Chess.{Zeroes, chess};
 ghost use Rattle.egt_moves.specs.Legal.{Leads};
 ghost use Rattle.egt_moves.specs.declared.chess_move.Move.{Move};
 ghost use Rattle.egt_board.specs.declared.man.Side.{Side};
-ghost use Rattle.egt_index.specs.Stood.{IsFilled};
-ghost use Rattle.egt_index.specs.Went.{AreOnBoard};
 ghost use Rattle.egt_index.specs.declared.stand.Stand.{Stand};
 ghost use Rattle.egt_table.specs.declared.column.Column.{Column};
+ghost use Rattle.egt_board.specs.Man.{other_side};
+ghost use Rattle.egt_board.specs.declared.man.Kind.TheVariants.{P};
+ghost use Rattle.egt_index.specs.Stood.{HasStand};
+ghost use Rattle.egt_index.specs.declared.shelf_codes.ShelfMen.{ShelfMen};
+ghost use Rattle.egt_check.specs.Blocks.{stand_on};
+ghost use Rattle.egt_check.specs.QuietStands.{AreQuietCodes, IsQuietStand};
 ghost use Rattle.egt_check.specs.Given.{AreAlike, AreGiven};
 ghost use Rattle.egt_check.specs.Rules.{IsJudged};
 ghost use Rattle.egt_check.specs.Score.{IsAtEnd};
 ghost use Rattle.egt_index.specs.Index.{IsVoid};
 ghost use Rattle.egt_lanes.specs.Scores.{byte_score, due_score};
 ghost use Rattle.egt_table.specs.declared.column.Column.TheVariants.{Mate, Zeroing};
-ghost use Rattle.egt_check.specs.Worth.{IsRead, IsScored, IsWorth};
+ghost use Rattle.egt_check.specs.Worth.{HasBytes, score_at};
+ghost use Rattle.egt_lanes.specs.Raised.{IsRaised};
 ghost use Rattle.egt_moves.specs.Arena.{NoMove};
 ghost use Rattle.egt_check.specs.Tables.{Tables, entry_at};
 ghost use Rattle.egt_check.specs.Rules.{KeepsRules};
@@ -31,7 +36,7 @@ ghost use Rattle.egt_check.specs.Truth.{IsTrueTable, HasTrueChildren};
 
 use crate::facts::facts;
 use egt_class::laws::moves_lead_into_the_class_or_a_child;
-use egt_index::laws::{a_code_is_an_index_or_void, codes_spell_one_position, codes_tell_turned_men};
+use egt_index::laws::{a_code_is_an_index_or_void, codes_spell_one_position, codes_tell_turned_men, stands_follow_moves};
 
 /// Where the children's tables are true, the entries of a table keep all rules exactly where the table is true: each entry is
 /// the value or the zeroing distance of its position, void entries are 0, and no distance is above 32,000.
@@ -66,16 +71,6 @@ pub fn a_quiet_move_moves_one_man()
     moves_lead_into_the_class_or_a_child();
 }
 
-/// The greatest score of the codes that tell the men where turns take them is that of the position with these men, or 0 where there is none.
-pub fn scores_of_turned_men_are_the_positions()
-    ensures { (tables : Tables) (t : TableValue) (column : Column) (flips : Bool) (stand : Stand) (side : Side) (w : ℕ) → IsTable t → tables t.class ≡ Some t → IsScored t column →
-        IsFilled stand → AreOnBoard stand → IsRead t column flips stand side w → IsWorth tables column t.class flips stand side w }
-{
-    facts();
-    codes_tell_turned_men();
-    a_code_is_an_index_or_void();
-}
-
 /// Entries whose bytes are due to the greatest bytes of all moves keep the rules. Where no byte is given by a move, there is none, and the entries keep the
 /// rules that tell checkmate or stalemate.
 pub fn due_bytes_are_right()
@@ -88,4 +83,31 @@ pub fn due_bytes_are_right()
 {
     facts();
     codes_spell_one_position();
+}
+
+/// Where all men are pieces, the moves that do not zero lead to the men after quiet steps, and to all of them that are positions.
+pub fn quiet_moves_are_quiet_steps()
+    ensures goes { (c : ℕ) (men : ShelfMen) (side : Side) (passed : Bool) (a b : ℕ) (p q : Setup) (m : Move) → c < 36 → men.one.kind ≢ P → men.last.kind ≢ P → HasStand c false (stand_on men a b) side passed p →
+        Leads p m q → ¬ Zeroes p m → (stand : Stand) × IsQuietStand men side a b stand × HasStand c false stand (other_side side) false q }
+    ensures comes { (c : ℕ) (men : ShelfMen) (side : Side) (passed : Bool) (a b : ℕ) (p q : Setup) (stand : Stand) → c < 36 → men.one.kind ≢ P → men.last.kind ≢ P → HasStand c false (stand_on men a b) side passed p →
+        IsQuietStand men side a b stand → HasStand c false stand (other_side side) false q → (m : Move) × Leads p m q × ¬ Zeroes p m }
+{
+    facts();
+    moves_lead_into_the_class_or_a_child();
+    stands_follow_moves();
+    a_quiet_move_moves_one_man();
+}
+
+/// Where all men are pieces, the greatest scores of the codes of quiet steps are those of the moves that do not zero.
+pub fn quiet_codes_give_the_quiet_moves()
+    ensures { (tables : Tables) (t : TableValue) (men : ShelfMen) (side : Side) (passed : Bool) (a b : ℕ) (p : Setup) (mate zeroing : ℕ) → IsTable t → tables t.class ≡ Some t → HasBytes t → men.one.kind ≢ P → men.last.kind ≢ P →
+        HasStand t.class false (stand_on men a b) side passed p → IsRaised 0 (AreQuietCodes t.class men side a b) (score_at t Mate) mate → IsRaised 0 (AreQuietCodes t.class men side a b) (score_at t Zeroing) zeroing →
+        AreGiven tables p (λ m. ¬ Zeroes p m) mate zeroing }
+{
+    facts();
+    codes_tell_turned_men();
+    a_code_is_an_index_or_void();
+    moves_lead_into_the_class_or_a_child();
+    stands_follow_moves();
+    a_quiet_move_moves_one_man();
 }

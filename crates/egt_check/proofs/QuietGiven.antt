@@ -1,0 +1,134 @@
+-- The greatest scores of the codes of quiet steps are those of the quiet moves.
+use Rattle.std.proofs.Common.{◌≡◌, ◌≢◌, ℕ, ◌%◌, ◌<◌, ◌≤◌, ◌⊎◌, Bool, true, false, IsTrue, Some, None, arith, refl, sym, ap, ◌∙◌, inl, inr, subst}
+use Rattle.egt_board.specs.Man.{other_side}
+use Rattle.egt_board.specs.Setup.{Setup}
+use Rattle.egt_board.specs.declared.man.Kind.TheVariants.{P}
+use Rattle.egt_board.specs.declared.man.Side.{Side}
+use Rattle.egt_board.specs.declared.man.Side.TheVariants.{White, Black}
+use Rattle.egt_index.specs.Index.{IsIndex}
+use Rattle.egt_index.specs.Stood.{AllStand, HasStand, list_of}
+use Rattle.egt_index.specs.declared.shelf_codes.ShelfMen.{ShelfMen}
+use Rattle.egt_index.specs.declared.stand.Stand.{Stand}
+use Rattle.egt_lanes.specs.Raised.{IsRaised}
+use Rattle.egt_lanes.specs.Scores.{byte_score}
+use Rattle.egt_moves.specs.Chess.{Zeroes}
+use Rattle.egt_moves.specs.Legal.{Leads}
+use Rattle.egt_moves.specs.declared.chess_move.Move.{Move}
+use Rattle.egt_table.specs.Table.{IsTable, TableValue}
+use Rattle.egt_table.specs.declared.column.Column.{Column}
+use Rattle.egt_table.specs.declared.column.Column.TheVariants.{Mate, Zeroing}
+use Rattle.egt_check.specs.Blocks.{stand_on, with_king}
+use Rattle.egt_check.specs.Facts.{Facts}
+use Rattle.egt_check.specs.Given.{AreAlike, AreGiven, HasScores, IsGiven}
+use Rattle.egt_check.specs.QuietStands.{AreQuietCodes, IsQuietStand}
+use Rattle.egt_check.specs.Tables.{HasEntry, Tables, entry_at}
+use Rattle.egt_check.specs.Worth.{HasBytes, IsBestOf, score_at}
+use Rattle.egt_check.proofs.Still.{KeepsClass}
+use Rattle.egt_check.proofs.QuietStands.{Following, comes, goes}
+use Rattle.egt_check.proofs.Worth.{AreWhole, Turning, best_of}
+
+low_score : (e : ℕ) → e < 254 → byte_score (e % 256) ≡ byte_score e
+low_score e low = let same : e % 256 ≡ e = omega arith in ap byte_score same
+
+module _ (facts : Facts) (keeps : KeepsClass) (follow : Following) (turning : Turning) (tables : Tables) (t : TableValue) (is_table : IsTable t) (found : tables t.class ≡ Some t) (bytes : HasBytes t)
+    (men : ShelfMen) (one_piece : men.one.kind ≢ P) (last_piece : men.last.kind ≢ P) (side : Side) (passed : Bool) (a b : ℕ) (p : Setup) (has : HasStand t.class false (stand_on men a b) side passed p) where
+  -- ---- the men after a quiet step
+
+  apart : AllStand false p.men (list_of (stand_on men a b))
+  apart = has.stood.all
+
+  white_in : men.white < 64
+  white_in = apart.0
+
+  black_in : men.black < 64
+  black_in = apart.3.0
+
+  one_in : a < 64
+  one_in = apart.3.3.0
+
+  last_in : b < 64
+  last_in = apart.3.3.3.0
+
+  whole : (stand : Stand) → IsQuietStand men side a b stand → AreWhole stand
+  whole stand (inl (k, beside, is)) = subst AreWhole (sym is) (of_side side)
+    where
+      of_side : (s : Side) → AreWhole (stand_on (with_king men s k) a b)
+      of_side White = record { filled = λ none. let e = none in cc; on_board = record { white = beside.0; black = black_in; next = one_in; last = last_in } }
+      of_side Black = record { filled = λ none. let e = none in cc; on_board = record { white = white_in; black = beside.0; next = one_in; last = last_in } }
+  whole stand (inr (inl (of, to, to_in, reaches, is))) = subst AreWhole (sym is) (record { filled = λ none. let e = none in cc; on_board = record { white = white_in; black = black_in; next = to_in; last = last_in } })
+  whole stand (inr (inr (of, to, to_in, reaches, is))) = subst AreWhole (sym is) (record { filled = λ none. let e = none in cc; on_board = record { white = white_in; black = black_in; next = one_in; last = to_in } })
+
+  -- ---- the scores of a quiet move
+
+  module _ (q : Setup) (stand : Stand) (there : HasStand t.class false stand (other_side side) false q) (i : ℕ) (index : IsIndex t.class q i) where
+    alike : AreAlike (entry_at t Mate i) (entry_at t Zeroing i)
+    alike = bytes.alike i (facts.index_below q t.class i index) (λ void. void q there.admissible index)
+
+    entry : (column : Column) → HasEntry tables column q (entry_at t column i)
+    entry column = record {
+      class = t.class;
+      below = is_table.class_in;
+      flipped = false;
+      of = there.is_of;
+      table = t;
+      found = found;
+      index = i;
+      is_index = index;
+      is = refl;
+    }
+
+    scores : (m : Move) → ¬ Zeroes p m → HasScores tables p q m (score_at t Mate i) (score_at t Zeroing i)
+    scores m quiet = record {
+      first = entry_at t Mate i;
+      second = entry_at t Zeroing i;
+      has_first = entry Mate;
+      has_second = entry Zeroing;
+      known = alike.mate_known;
+      mate_is = low_score (entry_at t Mate i) alike.mate_known.low;
+      zeroes = false;
+      zeroes_is = ((λ no. absurd (let e = no in cc)), (λ zeroes. absurd (quiet zeroes)));
+      zeroing_is = (alike, low_score (entry_at t Zeroing i) alike.zeroing_known.low);
+    }
+
+  module _ (mate zeroing : ℕ) (by_mate : IsBestOf t Mate (IsQuietStand men side a b) false (other_side side) mate) (by_zeroing : IsBestOf t Zeroing (IsQuietStand men side a b) false (other_side side) zeroing) where
+    above : (q : Setup) (m : Move) → Leads p m q → ¬ Zeroes p m → (x z : ℕ) × HasScores tables p q m x z × (x ≤ mate) × (z ≤ zeroing)
+    above q m leads quiet =
+        let (stand, is, there) = goes facts keeps follow t.class is_table.class_in men one_piece last_piece side passed a b p has q m leads quiet in
+        let (i, index, mate_above) = by_mate.above stand q is there in
+        let (j, other, zeroing_above) = by_zeroing.above stand q is there in
+        (
+          score_at t Mate i,
+          score_at t Zeroing i,
+          scores q stand there i index m quiet,
+          mate_above,
+          subst (λ k. score_at t Zeroing k ≤ zeroing) (facts.one_index q t.class j i there.admissible other index) zeroing_above,
+        )
+
+    pub given : AreGiven tables p (λ m. ¬ Zeroes p m) mate zeroing
+    given = record {
+      above = above;
+      mate_given = elim by_mate.reached [
+        | inl none ↦ inl none
+        | inr h ↦
+            let (m, leads, quiet) = comes facts keeps follow t.class is_table.class_in men one_piece last_piece side passed a b p has h.position h.stand h.in_stands h.has in
+            inr (
+              score_at t Zeroing h.index,
+              record { move = m; next = h.position; leads = leads; among = quiet; scores = subst (λ x. HasScores tables p h.position m x (score_at t Zeroing h.index)) (sym h.is) (scores h.position h.stand h.has h.index h.is_index m quiet) },
+            )
+      ];
+      zeroing_given = elim by_zeroing.reached [
+        | inl none ↦ inl none
+        | inr h ↦
+            let (m, leads, quiet) = comes facts keeps follow t.class is_table.class_in men one_piece last_piece side passed a b p has h.position h.stand h.in_stands h.has in
+            inr (
+              score_at t Mate h.index,
+              record { move = m; next = h.position; leads = leads; among = quiet; scores = subst (HasScores tables p h.position m (score_at t Mate h.index)) (sym h.is) (scores h.position h.stand h.has h.index h.is_index m quiet) },
+            )
+      ];
+    }
+
+  pub quiet_given : (mate zeroing : ℕ) → IsRaised 0 (AreQuietCodes t.class men side a b) (score_at t Mate) mate → IsRaised 0 (AreQuietCodes t.class men side a b) (score_at t Zeroing) zeroing → AreGiven tables p (λ m. ¬ Zeroes p m) mate zeroing
+  quiet_given mate zeroing by_mate by_zeroing =
+      given mate zeroing
+      (best_of facts turning t Mate is_table bytes (IsQuietStand men side a b) false (other_side side) mate whole by_mate)
+      (best_of facts turning t Zeroing is_table bytes (IsQuietStand men side a b) false (other_side side) zeroing whole by_zeroing)
