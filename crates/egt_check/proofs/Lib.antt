@@ -32,7 +32,9 @@ mod ShelfJudged
 mod ToldBest
 pub mod Worth
 pub mod RowRead
+pub mod LoneRead
 pub mod BlockRaising
+pub mod QuietRaising
 pub mod ByteJudged
 pub mod Passed
 pub mod QuietStands

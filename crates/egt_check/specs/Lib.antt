@@ -25,5 +25,6 @@ pub mod ShelfBest
 pub mod Peak
 pub mod Worth
 pub mod Blocks
+pub mod QuietSteps
 pub mod Given
 pub mod QuietStands

@@ -38,7 +38,7 @@ fn turned_from(men: &ShelfMen, on: Square, turn: u8) -> ShelfMen
 }
 
 /// The side, or the other one where the turn exchanges colours.
-fn side_after(side: Side, turn: u8) -> Side
+pub(crate) fn side_after(side: Side, turn: u8) -> Side
     ensures { result ≡ turned_side (turn / 8 == 1) side }
 {
     if turn / 8 == 1 { side.other() } else { side }
