@@ -40,3 +40,4 @@ pub mod Passed
 pub mod QuietStands
 pub mod QuietGiven
 pub mod EitherGiven
+pub mod TakenGiven
