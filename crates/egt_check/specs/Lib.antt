@@ -27,3 +27,4 @@ pub mod Worth
 pub mod Blocks
 pub mod Given
 pub mod QuietStands
+pub mod Takings

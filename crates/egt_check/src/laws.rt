@@ -16,11 +16,12 @@ ghost use Rattle.egt_board.specs.declared.man.Side.{Side};
 ghost use Rattle.egt_index.specs.declared.stand.Stand.{Stand};
 ghost use Rattle.egt_table.specs.declared.column.Column.{Column};
 ghost use Rattle.egt_board.specs.Man.{other_side};
-ghost use Rattle.egt_board.specs.declared.man.Kind.TheVariants.{P};
+ghost use Rattle.egt_board.specs.declared.man.Kind.TheVariants.{P, K};
 ghost use Rattle.egt_index.specs.Stood.{HasStand};
 ghost use Rattle.egt_index.specs.declared.shelf_codes.ShelfMen.{ShelfMen};
 ghost use Rattle.egt_check.specs.Blocks.{stand_on};
 ghost use Rattle.egt_check.specs.QuietStands.{AreQuietCodes, IsQuietStand};
+ghost use Rattle.egt_check.specs.Takings.{IsClassOf, IsTaken, Left, stand_left};
 ghost use Rattle.egt_check.specs.Given.{AreAlike, AreGiven};
 ghost use Rattle.egt_check.specs.Rules.{IsJudged};
 ghost use Rattle.egt_check.specs.Score.{IsAtEnd};
@@ -35,7 +36,7 @@ ghost use Rattle.egt_check.specs.Rules.{KeepsRules};
 ghost use Rattle.egt_check.specs.Truth.{IsTrueTable, HasTrueChildren};
 
 use crate::facts::facts;
-use egt_class::laws::moves_lead_into_the_class_or_a_child;
+use egt_class::laws::{men_beside_are_counted, moves_lead_into_the_class_or_a_child};
 use egt_index::laws::{a_code_is_an_index_or_void, codes_spell_one_position, codes_tell_turned_men, stands_follow_moves};
 
 /// Where the children's tables are true, the entries of a table keep all rules exactly where the table is true: each entry is
@@ -110,4 +111,18 @@ pub fn quiet_codes_give_the_quiet_moves()
     moves_lead_into_the_class_or_a_child();
     stands_follow_moves();
     a_quiet_move_moves_one_man();
+}
+
+/// Where all men are pieces, the captures lead to the three men who are left, and to all positions of them.
+pub fn captures_lead_to_three_men()
+    ensures goes { (c : ℕ) (men : ShelfMen) (side : Side) (passed : Bool) (a b : ℕ) (p q : Setup) (m : Move) → c < 36 → men.one.kind ≢ P → men.last.kind ≢ P → men.one.kind ≢ K → men.last.kind ≢ K →
+        HasStand c false (stand_on men a b) side passed p → Leads p m q → Zeroes p m →
+        (left : Left) × IsTaken men side a b left × ((d : ℕ) (flips : Bool) → IsClassOf d flips left.man → HasStand d flips (stand_left flips left) (other_side side) false q) }
+    ensures comes { (c : ℕ) (men : ShelfMen) (side : Side) (passed : Bool) (a b : ℕ) (p : Setup) → c < 36 → men.one.kind ≢ P → men.last.kind ≢ P → men.one.kind ≢ K → men.last.kind ≢ K →
+        HasStand c false (stand_on men a b) side passed p → (left : Left) → IsTaken men side a b left → (d : ℕ) (flips : Bool) → IsClassOf d flips left.man →
+        (q : Setup) → HasStand d flips (stand_left flips left) (other_side side) false q → (m : Move) × Leads p m q × Zeroes p m }
+{
+    facts();
+    stands_follow_moves();
+    men_beside_are_counted();
 }
