@@ -1,5 +1,5 @@
 -- The captures from a position lead to the three men who are left, and to all positions of them.
-use Rattle.std.proofs.Common.{◌≡◌, ◌≢◌, ℕ, ◌<◌, ◌⊎◌, ◌↔◌, ◌&&◌, ◌==◌, if◌then◌else◌, Bool, true, false, List, [], ◌∷◌, map, Option, Some, None, refl, sym, ap, ◌∙◌, subst, inl, inr}
+use Rattle.std.proofs.Common.{◌≡◌, ◌≢◌, ℕ, ◌⊎◌, ◌↔◌, ◌&&◌, ◌==◌, if◌then◌else◌, Bool, true, false, List, [], ◌∷◌, map, Option, Some, None, refl, sym, ap, ◌∙◌, subst, inl, inr}
 use Rattle.std.specs.FinMap as placement
 use Rattle.std.specs.Int.{bit_at}
 use Rattle.std.specs.Option.{is_some, option_map}
@@ -7,7 +7,6 @@ use Rattle.std.proofs.lemmas.Bool.{cases_eq}
 use Rattle.egt_board.specs.AllMen.{HasBeside}
 use Rattle.egt_board.specs.Attack.{IsInCheck, king_of}
 use Rattle.egt_board.specs.Gait.{Reaches, Reaches-free, Reaches-on_board}
-use Rattle.egt_board.specs.Listed.{men_of}
 use Rattle.egt_board.specs.Man.{other_side}
 use Rattle.egt_board.specs.Pawn.{ahead, last_rank}
 use Rattle.egt_board.specs.Placement.{Placement, Stands, IsFree, IsHeld, one_man, same_men, get-insert_same, get-insert_other, get-remove_same, get-remove_other}
@@ -30,7 +29,7 @@ use Rattle.egt_index.proofs.After.{all_there}
 use Rattle.egt_index.proofs.ByMen.{no_target}
 use Rattle.egt_index.proofs.Setups.{free_of}
 use Rattle.egt_index.proofs.Standing.{counted_turned, turned_back}
-use Rattle.egt_moves.specs.Chess.{IsPawnOn, Zeroes}
+use Rattle.egt_moves.specs.Chess.{Zeroes}
 use Rattle.egt_moves.specs.Going.{Goes}
 use Rattle.egt_moves.specs.Legal.{Leads, after, is_target, men_after, plain}
 use Rattle.egt_moves.specs.Promotion.{FitsPromotion, arriving}
@@ -62,7 +61,7 @@ record AreLeft (men : Placement) (left : Left) : Type 0 where
   off_black : left.square ≢ left.black
   free : (s : ℕ) → s ≢ left.white → s ≢ left.black → s ≢ left.square → IsFree men s
 
--- in one placement alone
+-- so they stand in one placement alone
 one_left : (m n : Placement) (left : Left) → AreLeft m left → AreLeft n left → m ≡ n
 one_left m n left one other = same_men m n (λ s. elim (cases_eq s left.white) [
   | inl here ↦ ap (placement.get m) here ∙ one.white ∙ sym (ap (placement.get n) here ∙ other.white)
@@ -75,7 +74,7 @@ one_left m n left one other = same_men m n (λ s. elim (cases_eq s left.white) [
   ]
 ])
 
--- who stands off the squares of a position's three men
+-- no man stands off their squares in a position of a class of three
 free_left : (d : ℕ) (flips : Bool) (left : Left) (side : Side) (q : Setup) → HasStand d flips (stand_left flips left) side false q → (s : ℕ) → IsOff (list_of (stand_left flips left)) s → IsFree q.men s
 free_left d flips left side q has s off = subst (λ (m : Placement). IsFree m s) (sym (all_there q.men there has.admissible.on_board counted has.stood.all).0) (free_of there s off)
   where
@@ -89,7 +88,7 @@ free_left d flips left side q has s off = subst (λ (m : Placement). IsFree m s)
     counted : AreCounted q.men (men_among there)
     counted = subst (λ (l : List Man). AreCounted q.men (map (turned_man flips) l)) (sym has.stood.are) (counted_turned d flips q has.is_of)
 
--- a position of a class of three has these
+-- such a position has these men
 are_left : (d : ℕ) (flips : Bool) (left : Left) (side : Side) (q : Setup) → HasStand d flips (stand_left flips left) side false q → AreLeft q.men left
 are_left d false left side q has = record {
   white = has.stood.all.1;
