@@ -110,13 +110,13 @@ mate_stands outcomes.Draw x g score h (inr (inr s)) = absurd (let a = h.1 in let
 
 -- ---- a move's scores
 
-zeroing_lost : (x : ℕ) → 128 < x → zeroing_score x ≡ 255
+pub zeroing_lost : (x : ℕ) → 128 < x → zeroing_score x ≡ 255
 zeroing_lost x high = sym (cond_below 128 x 255 _ high)
 
-zeroing_low : (x : ℕ) → x < 128 → zeroing_score x ≡ 0
+pub zeroing_low : (x : ℕ) → x < 128 → zeroing_score x ≡ 0
 zeroing_low x low = sym (cond_above 128 x 255 _ 0 (omega (arith, low)) (sym (if_not x 128 128 0 (λ e. omega (arith, e, low)))))
 
-zeroing_drawn : (x : ℕ) → x ≡ 128 → zeroing_score x ≡ 128
+pub zeroing_drawn : (x : ℕ) → x ≡ 128 → zeroing_score x ≡ 128
 zeroing_drawn x same = ap zeroing_score same
 
 -- what is said in the zeroing column by a move that zeroes

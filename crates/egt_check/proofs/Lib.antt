@@ -41,3 +41,4 @@ pub mod QuietStands
 pub mod QuietGiven
 pub mod EitherGiven
 pub mod TakenGiven
+pub mod Takings

@@ -57,7 +57,7 @@ one_moved c from to p q r one other =
     λ i. record { men = men i; side = side i; target = target i }
 
 -- a side's king is no pawn, and of the side
-king_piece : (side : Side) → (king_of side).kind ≢ P
+pub king_piece : (side : Side) → (king_of side).kind ≢ P
 king_piece White e = cc
 king_piece Black e = cc
 

@@ -30,6 +30,7 @@ use Rattle.egt_check.specs.Taken.{AreLeftCodes, IsLastTaken, IsTableOf, men_swap
 use Rattle.egt_check.specs.Takings.{IsClassOf, IsTaken, Left, left_of, stand_left}
 use Rattle.egt_check.specs.Tables.{HasEntry, Tables, entry_at}
 use Rattle.egt_check.specs.Worth.{IsBestOf, IsScoreOf, score_at}
+use Rattle.egt_check.proofs.ByteJudged.{zeroing_drawn, zeroing_lost, zeroing_low}
 use Rattle.egt_check.proofs.Worth.{AreWhole, Turning, best_of}
 
 low_score : (e : ℕ) → e < 254 → byte_score (e % 256) ≡ byte_score e
@@ -38,8 +39,17 @@ low_score e low = let same : e % 256 ≡ e = omega arith in ap byte_score same
 -- where a move that zeroes leads to less, it is worth no more
 zeroing_above : (v w : ℕ) → v ≤ w → zeroing_score v ≤ zeroing_score w
 zeroing_above v w le = elim (cases_lt 128 w) [
-  | inl more ↦ omega (arith, more, le)
-  | inr less ↦ omega (arith, less, le)
+  | inl more ↦ let high = zeroing_lost w more in elim (cases_lt 128 v) [
+    | inl lost ↦ let other = zeroing_lost v lost in omega (arith, high, other)
+    | inr rest ↦ elim (cases_eq v 128) [
+      | inl draw ↦ let other = zeroing_drawn v draw in omega (arith, high, other)
+      | inr apart ↦ let other = zeroing_low v (omega (arith, rest, apart)) in omega (arith, high, other)
+    ]
+  ]
+  | inr less ↦ elim (cases_eq v 128) [
+    | inl draw ↦ let same : v ≡ w = omega (arith, less, draw, le) in let e = ap zeroing_score same in omega (arith, e)
+    | inr apart ↦ let other = zeroing_low v (omega (arith, less, apart, le)) in omega (arith, other)
+  ]
 ]
 
 -- one position after each capture that leaves a man, and one capture before it
@@ -116,16 +126,16 @@ module _ (facts : Facts) (turning : Turning) (tables : Tables) (c : ℕ) (men : 
   apart : AllStand false p.men (list_of (stand_on men a b))
   apart = has.stood.all
 
-  white_in : men.white < 64
+  pub white_in : men.white < 64
   white_in = apart.0
 
-  black_in : men.black < 64
+  pub black_in : men.black < 64
   black_in = apart.3.0
 
-  one_in : a < 64
+  pub one_in : a < 64
   one_in = apart.3.3.0
 
-  last_in : b < 64
+  pub last_in : b < 64
   last_in = apart.3.3.3.0
 
   abbrev pub FirstLeft : Stand → Type 0

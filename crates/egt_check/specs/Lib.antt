@@ -29,3 +29,4 @@ pub mod QuietSteps
 pub mod Given
 pub mod QuietStands
 pub mod Taken
+pub mod Takings

@@ -16,16 +16,18 @@ ghost use Rattle.egt_board.specs.declared.man.Side.{Side};
 ghost use Rattle.egt_index.specs.declared.stand.Stand.{Stand};
 ghost use Rattle.egt_table.specs.declared.column.Column.{Column};
 ghost use Rattle.egt_board.specs.Man.{other_side};
-ghost use Rattle.egt_board.specs.declared.man.Kind.TheVariants.{P};
+ghost use Rattle.egt_board.specs.declared.man.Kind.TheVariants.{P, K};
 ghost use Rattle.egt_index.specs.Stood.{HasStand};
 ghost use Rattle.egt_index.specs.declared.shelf_codes.ShelfMen.{ShelfMen};
 ghost use Rattle.egt_check.specs.Blocks.{stand_on};
 ghost use Rattle.egt_check.specs.QuietStands.{AreQuietCodes, IsQuietStand};
+ghost use Rattle.egt_check.specs.Takings.{IsClassOf, IsTaken, Left, stand_left};
 ghost use Rattle.egt_check.specs.Given.{AreAlike, AreGiven};
 ghost use Rattle.egt_check.specs.Rules.{IsJudged};
 ghost use Rattle.egt_check.specs.Score.{IsAtEnd};
 ghost use Rattle.egt_index.specs.Index.{IsVoid};
-ghost use Rattle.egt_lanes.specs.Scores.{byte_score, due_score};
+ghost use Rattle.egt_lanes.specs.Scores.{byte_score, due_score, zeroing_score};
+ghost use Rattle.egt_check.specs.Taken.{AreLeftCodes, IsTableOf, men_swapped};
 ghost use Rattle.egt_table.specs.declared.column.Column.TheVariants.{Mate, Zeroing};
 ghost use Rattle.egt_check.specs.Worth.{HasBytes, score_at};
 ghost use Rattle.egt_lanes.specs.Raised.{IsRaised};
@@ -35,7 +37,7 @@ ghost use Rattle.egt_check.specs.Rules.{KeepsRules};
 ghost use Rattle.egt_check.specs.Truth.{IsTrueTable, HasTrueChildren};
 
 use crate::facts::facts;
-use egt_class::laws::moves_lead_into_the_class_or_a_child;
+use egt_class::laws::{men_beside_are_counted, moves_lead_into_the_class_or_a_child};
 use egt_index::laws::{a_code_is_an_index_or_void, codes_spell_one_position, codes_tell_turned_men, stands_follow_moves};
 
 /// Where the children's tables are true, the entries of a table keep all rules exactly where the table is true: each entry is
@@ -116,4 +118,31 @@ pub fn quiet_codes_give_the_quiet_moves()
 pub fn moves_of_either_kind_give_all()
     ensures { (tables : Tables) (p : Setup) (x z y w : ℕ) → AreGiven tables p (λ m. ¬ Zeroes p m) x z → AreGiven tables p (Zeroes p) y w → AreGiven tables p (λ m. Unit {0}) (max x y) (max z w) }
 {
+}
+
+/// Where all men are pieces, the captures lead to the three men who are left, and to all positions of them.
+pub fn captures_lead_to_three_men()
+    ensures goes { (c : ℕ) (men : ShelfMen) (side : Side) (passed : Bool) (a b : ℕ) (p q : Setup) (m : Move) → c < 36 → men.one.kind ≢ P → men.last.kind ≢ P → men.one.kind ≢ K → men.last.kind ≢ K →
+        HasStand c false (stand_on men a b) side passed p → Leads p m q → Zeroes p m →
+        (left : Left) × IsTaken men side a b left × ((d : ℕ) (flips : Bool) → IsClassOf d flips left.man → HasStand d flips (stand_left flips left) (other_side side) false q) }
+    ensures comes { (c : ℕ) (men : ShelfMen) (side : Side) (passed : Bool) (a b : ℕ) (p : Setup) → c < 36 → men.one.kind ≢ P → men.last.kind ≢ P → men.one.kind ≢ K → men.last.kind ≢ K →
+        HasStand c false (stand_on men a b) side passed p → (left : Left) → IsTaken men side a b left → (d : ℕ) (flips : Bool) → IsClassOf d flips left.man →
+        (q : Setup) → HasStand d flips (stand_left flips left) (other_side side) false q → (m : Move) × Leads p m q × Zeroes p m }
+{
+    facts();
+    stands_follow_moves();
+    men_beside_are_counted();
+}
+
+/// Where all men are pieces, the greatest scores of the codes after captures, in the classes of the man who is left, are those of the moves that zero.
+pub fn codes_after_captures_give_the_captures()
+    ensures { (tables : Tables) (c : ℕ) (men : ShelfMen) (side : Side) (passed : Bool) (a b : ℕ) (p : Setup) (first last : TableValue) (first_flips last_flips : Bool) (u v : ℕ) → c < 36 →
+        men.one.kind ≢ P → men.last.kind ≢ P → men.one.kind ≢ K → men.last.kind ≢ K → HasStand c false (stand_on men a b) side passed p → IsTableOf tables first first_flips men.one → IsTableOf tables last last_flips men.last →
+        IsRaised 0 (AreLeftCodes first.class first_flips men side a b) (score_at first Mate) u → IsRaised 0 (AreLeftCodes last.class last_flips (men_swapped men) side b a) (score_at last Mate) v →
+        AreGiven tables p (Zeroes p) (max u v) (zeroing_score (max u v)) }
+{
+    facts();
+    codes_tell_turned_men();
+    a_code_is_an_index_or_void();
+    captures_lead_to_three_men();
 }
