@@ -30,3 +30,5 @@ pub mod Given
 pub mod QuietStands
 pub mod Taken
 pub mod Takings
+pub mod RightRow
+pub mod MoveScores

@@ -31,6 +31,10 @@ pub mod successors;
 pub mod told_best;
 pub mod uniform;
 pub mod voids;
+pub mod bytes;
+pub mod move_scores;
+pub mod row_judging;
+pub mod taken_blocks;
 
 pub use checking::{check, first_missing};
 pub use fan::{Fan, Led, Way};
