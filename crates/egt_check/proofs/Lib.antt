@@ -42,3 +42,4 @@ pub mod QuietGiven
 pub mod EitherGiven
 pub mod TakenGiven
 pub mod Takings
+pub mod AllJudged

@@ -27,7 +27,7 @@ use Rattle.egt_check.proofs.Still.{KeepsClass}
 use Rattle.egt_check.proofs.QuietStands.{Following, comes, goes}
 use Rattle.egt_check.proofs.Worth.{AreWhole, Turning, best_of}
 
-low_score : (e : ℕ) → e < 254 → byte_score (e % 256) ≡ byte_score e
+pub low_score : (e : ℕ) → e < 254 → byte_score (e % 256) ≡ byte_score e
 low_score e low = let same : e % 256 ≡ e = omega arith in ap byte_score same
 
 module _ (facts : Facts) (keeps : KeepsClass) (follow : Following) (turning : Turning) (tables : Tables) (t : TableValue) (is_table : IsTable t) (found : tables t.class ≡ Some t) (bytes : HasBytes t)
