@@ -39,3 +39,4 @@ pub mod ByteJudged
 pub mod Passed
 pub mod QuietStands
 pub mod QuietGiven
+pub mod EitherGiven

@@ -1,5 +1,5 @@
 //! What holds of tables and their rules. These functions do nothing: a caller calls one to know what it ensures.
-ghost use Rattle.std.specs.Prelude.{◌≡◌, ◌≢◌, ◌↔◌, ◌<◌, ℕ, Bool, false, None, Some};
+ghost use Rattle.std.specs.Prelude.{◌≡◌, ◌≢◌, ◌↔◌, ◌<◌, max, ℕ, Bool, false, None, Some};
 ghost use Rattle.std.specs.List.{Contains};
 ghost use Rattle.egt_class.specs.Children.{children_of};
 ghost use Rattle.egt_class.specs.Membership.{IsOf};
@@ -110,4 +110,10 @@ pub fn quiet_codes_give_the_quiet_moves()
     moves_lead_into_the_class_or_a_child();
     stands_follow_moves();
     a_quiet_move_moves_one_man();
+}
+
+/// The greatest bytes of the moves that zero and of those that do not are those of all moves.
+pub fn moves_of_either_kind_give_all()
+    ensures { (tables : Tables) (p : Setup) (x z y w : ℕ) → AreGiven tables p (λ m. ¬ Zeroes p m) x z → AreGiven tables p (Zeroes p) y w → AreGiven tables p (λ m. Unit {0}) (max x y) (max z w) }
+{
 }
