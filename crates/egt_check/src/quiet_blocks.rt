@@ -25,7 +25,7 @@ use egt_table::{Column, Table};
 
 /// The squares of the kings.
 #[inline(always)]
-fn kings_of(men: &ShelfMen) -> SquareSet
+pub(crate) fn kings_of(men: &ShelfMen) -> SquareSet
     ensures { (u : ℕ) → (bit_at result.bits u ≡ 0) ↔ ((u ≢ men.now.white) × (u ≢ men.now.black)) }
 {
     SquareSet::EMPTY.with(men.white).with(men.black)
