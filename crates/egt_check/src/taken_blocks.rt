@@ -55,7 +55,7 @@ fn read_left(child: &Table, flips: bool, men: &ShelfMen, side: Side, out: &mut R
     )
 }
 
-/// The scores where that side's king takes the last man: a row for each square on which he takes, a lane for each of the first man's. False where the table
+/// The scores where that side's king takes the last man: a row for each square on which it does, a lane for each of the first man's. False where the table
 /// does not tell.
 fn read_beside(child: &Table, flips: bool, men: &ShelfMen, side: Side, out: &mut Block) -> bool
     requires { IsLoneMan child.now.class (turned_man flips men.now.one) }
@@ -75,7 +75,7 @@ fn read_beside(child: &Table, flips: bool, men: &ShelfMen, side: Side, out: &mut
     true
 }
 
-/// Raises each row to the scores, by the square on which the first man takes, of where he takes from that row's square.
+/// Raises the scores to those where the first man takes: from the square of the row, on that of the lane.
 fn raise_takes(men: &ShelfMen, scores: &Row, out: &mut Block)
     ensures { (a b : ℕ) → a < 64 → b < 64 →
         IsRaised (at out.old a b) (λ t. (t ≡ b) × Reaches (IsPastKings men.now) men.now.one a t) (λ t. slice_index scores.now t) (at out.new a b) }
