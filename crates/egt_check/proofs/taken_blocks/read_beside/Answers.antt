@@ -4,7 +4,6 @@ use Rattle.std.proofs.Math.ListN.{set}
 use Rattle.egt_board.specs.Man.{other_side}
 use Rattle.egt_index.specs.declared.shelf_codes.ShelfMen.{ShelfMen}
 use Rattle.egt_table.specs.declared.column.Column.TheVariants.{Mate}
-use Rattle.egt_check.specs.Blocks.{with_king}
 use Rattle.egt_check.specs.Taken.{left_of, stand_left}
 use Rattle.egt_check.specs.Worth.{IsRead}
 use Rattle.egt_check.proofs.Taking.{RowsTaken, taken_all, taken_more, taken_none}
