@@ -28,6 +28,7 @@ pub mod shelf_best;
 pub mod shelf_judging;
 pub mod spread;
 pub mod successors;
+pub mod taken_blocks;
 pub mod told_best;
 pub mod uniform;
 pub mod voids;
