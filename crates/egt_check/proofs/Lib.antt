@@ -40,3 +40,5 @@ pub mod Passed
 pub mod QuietStands
 pub mod QuietGiven
 pub mod EitherGiven
+pub mod ToldBytes
+pub mod RowJudged

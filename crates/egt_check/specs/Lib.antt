@@ -28,3 +28,4 @@ pub mod Blocks
 pub mod QuietSteps
 pub mod Given
 pub mod QuietStands
+pub mod RightRow

@@ -4,6 +4,7 @@
 
 pub mod blocks;
 pub mod by_column;
+pub mod bytes;
 pub mod checking;
 pub mod facts;
 pub mod fan;
@@ -21,6 +22,7 @@ pub mod quiet_best;
 pub mod quiet_blocks;
 pub mod reject;
 pub mod roamer;
+pub mod row_judging;
 pub mod rows;
 pub mod rule;
 pub mod score_table;
