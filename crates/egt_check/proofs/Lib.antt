@@ -44,3 +44,5 @@ pub mod EitherGiven
 pub mod TakenGiven
 pub mod Takings
 pub mod AllJudged
+pub mod ToldBytes
+pub mod RowJudged

@@ -1,5 +1,5 @@
 //! Tables whose entries have bytes of their own.
-ghost use Rattle.std.specs.Prelude.{◌≡◌, ◌≢◌, ◌↔◌, ◌⊎◌, ◌%◌, ◌<◌, true, false, IsTrue};
+ghost use Rattle.std.specs.Prelude.{◌≡◌, ◌⊎◌, true, false};
 ghost use Rattle.egt_class.specs.Material.{material_of};
 ghost use Rattle.egt_index.specs.Size.{has_target};
 ghost use Rattle.egt_check.specs.Given.{AreAlike, IsKnown};
@@ -47,5 +47,12 @@ pub(crate) fn tells_bytes(table: &Table) -> bool
     ensures voids { result ≡ true → TellsVoids table.now }
     ensures targets { result ≡ true → has_target (material_of table.now.class) ≡ false }
 {
-    false
+    for index in 0..size(table.class()) {
+        let entries = entries_at(table, index);
+        let known = are_void_or_alike(entries);
+        if !known {
+            return false;
+        }
+    }
+    tells_voids(table)
 }

@@ -4,6 +4,7 @@
 
 pub mod blocks;
 pub mod by_column;
+pub mod bytes;
 pub mod checking;
 pub mod facts;
 pub mod fan;
@@ -12,6 +13,7 @@ pub mod king_blocks;
 pub mod laws;
 pub mod library;
 pub mod lone_rows;
+pub mod move_scores;
 pub mod outcome;
 pub mod own_men;
 pub mod peak;
@@ -21,6 +23,7 @@ pub mod quiet_best;
 pub mod quiet_blocks;
 pub mod reject;
 pub mod roamer;
+pub mod row_judging;
 pub mod rows;
 pub mod rule;
 pub mod score_table;
@@ -32,10 +35,6 @@ pub mod taken_blocks;
 pub mod told_best;
 pub mod uniform;
 pub mod voids;
-pub mod bytes;
-pub mod move_scores;
-pub mod row_judging;
-pub mod taken_blocks;
 
 pub use checking::{check, first_missing};
 pub use fan::{Fan, Led, Way};
