@@ -32,3 +32,4 @@ pub mod Taken
 pub mod Takings
 pub mod RightRow
 pub mod MoveScores
+pub mod RightBlock

@@ -2,6 +2,7 @@
 //! that passed.
 #![tactic(auto)]
 
+pub mod block_judging;
 pub mod blocks;
 pub mod by_column;
 pub mod bytes;
@@ -31,6 +32,7 @@ pub mod shelf_best;
 pub mod shelf_judging;
 pub mod spread;
 pub mod successors;
+pub mod table_judging;
 pub mod taken_blocks;
 pub mod told_best;
 pub mod uniform;

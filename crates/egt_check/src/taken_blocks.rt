@@ -30,7 +30,7 @@ use egt_table::{Column, Table};
 use std::simd::prelude::*;
 
 /// The man, of the other side where colours are exchanged.
-fn turned_man(man: Man, flips: bool) -> Man
+pub(crate) fn turned_man(man: Man, flips: bool) -> Man
     ensures { result ≡ turned_man flips man }
 {
     if flips { Mirror::Colours.man(man) } else { man }
