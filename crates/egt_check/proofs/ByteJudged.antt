@@ -32,10 +32,10 @@ use Rattle.egt_check.proofs.Stepping.{Seen, scores_by}
 
 -- ---- what a byte is
 
-if_not : (a b x y : ℕ) → a ≢ b → cond (eqb a b) x y ≡ y
+pub if_not : (a b x y : ℕ) → a ≢ b → cond (eqb a b) x y ≡ y
 if_not a b x y other = elim (eqb_tells a b) [ inl h ↦ absurd (other h.1) | inr h ↦ ap (λ (t : Bool). cond t x y) h.0 ]
 
-if_same : (a b x y : ℕ) → a ≡ b → cond (eqb a b) x y ≡ x
+pub if_same : (a b x y : ℕ) → a ≡ b → cond (eqb a b) x y ≡ x
 if_same a b x y same = ap (λ (t : Bool). cond t x y) (eq-eqb a b same)
 
 byte_win : (x : ℕ) → x ≢ 0 → x ≢ 1 → x % 2 ≡ 0 → byte_score x ≡ (x - 2) / 2

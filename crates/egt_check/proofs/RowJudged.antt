@@ -1,9 +1,6 @@
 -- A row of entries, judged by the greatest bytes of the moves.
-use Rattle.std.proofs.Common.{◌≡◌, ◌≢◌, ◌∙◌, ℕ, ◌+◌, ◌-◌, ◌*◌, ◌<◌, ◌≤◌, Bool, false, List, cond, eqb, min, arith, ap, inl, inr, refl, sym, subst}
-use Rattle.std.proofs.lemmas.Bool.{eq-eqb}
-use Rattle.std.proofs.lemmas.Bool.Decides.{eqb_tells}
+use Rattle.std.proofs.Common.{◌≡◌, ◌∙◌, ℕ, ◌-◌, ◌<◌, ◌≤◌, Bool, false, min, arith, ap, inl, inr, refl}
 use Rattle.std.specs.Int.{bit_at}
-use Rattle.std.specs.Prelude.{slice_index}
 use Rattle.egt_board.specs.declared.man.Kind.{Kind}
 use Rattle.egt_board.specs.declared.man.Kind.TheVariants.{Q, R, B, N, P, K}
 use Rattle.egt_board.specs.declared.man.Man.{Man}
@@ -25,6 +22,7 @@ use Rattle.egt_table.specs.declared.column.Column.{Column}
 use Rattle.egt_check.specs.Worth.{score_at}
 use Rattle.egt_check.proofs.RowRead.{at_digit}
 
+-- a piece stands on any square
 piece_places : (kind : Kind) → IsPiece kind → (kind_digits kind ≡ 64) × (kind_less kind ≡ 0)
 piece_places Q is = (refl, refl)
 piece_places R is = (refl, refl)
@@ -33,6 +31,7 @@ piece_places N is = (refl, refl)
 piece_places P is = absurd is
 piece_places K is = absurd is
 
+-- there is one greatest
 raised_under : (In : ℕ → Type 0) (f : ℕ → ℕ) (v w : ℕ) → IsRaised 0 In f v → IsRaised 0 In f w → v ≤ w
 raised_under In f v w a b = elim a.reached [
   | inl none ↦ omega (arith, none)
@@ -45,18 +44,12 @@ raised_once In f v w a b = let up = raised_under In f v w a b in let down = rais
 module _ (t : TableValue) (column : Column) (men : ShelfMen) (shelf : ℕ) (side : Side) (is : IsShelfOf false t.class shelf men) (targets : has_target (material_of t.class) ≡ false)
     (one : (passed : Bool) (c x y : ℕ) (stand : Stand) (side : Side) → TellsMen passed c x stand side → TellsMen passed c y stand side → x ≡ y)
     (pawns : (passed : Bool) (c code : ℕ) (stand : Stand) (side : Side) (man : Man) (s : ℕ) → TellsMen passed c code stand side → IsListed (list_of stand) man s → MayStand man s) (piece : IsPiece men.last.kind) where
-  -- what a lane of a row is
+  -- a lane of the row is the score at one code
   pub lane_is : (s v : ℕ) → s < 64 → IsRaised 0 (λ code. TellsMen false t.class code (stand_with men s) side) (score_at t column) v → v ≡ score_at t column (number_in t.class shelf side s)
   lane_is s v s_in raised =
       let (digits, less) = piece_places men.last.kind piece in
       raised_once (λ code. TellsMen false t.class code (stand_with men s) side) (score_at t column) v (score_at t column (number_in t.class shelf side s)) raised
       (at_digit t column men shelf side is targets one pawns s s (score_at t column (number_in t.class shelf side s)) (omega (arith, digits, s_in)) (omega (arith, less)) refl)
-
-pub if_not : (a b x y : ℕ) → a ≢ b → cond (eqb a b) x y ≡ y
-if_not a b x y other = elim (eqb_tells a b) [ inl h ↦ absurd (other h.1) | inr h ↦ ap (λ (t : Bool). cond t x y) h.0 ]
-
-pub if_same : (a b x y : ℕ) → a ≡ b → cond (eqb a b) x y ≡ x
-if_same a b x y same = ap (λ (t : Bool). cond t x y) (eq-eqb a b same)
 
 -- a square is left where one set has it and the other lacks it
 pub left_at : (bits others rest b : ℕ) → bit_at rest b ≡ min (bit_at bits b) (1 - bit_at others b) → bit_at bits b ≡ 1 → bit_at others b ≡ 0 → bit_at rest b ≡ 1

@@ -1,6 +1,5 @@
 //! The judgement of a row of a table's entries by the greatest bytes of the moves.
 ghost use Rattle.std.specs.Prelude.{◌≡◌, ◌≢◌, ◌+◌, ◌*◌, ℕ, ◌<◌, slice_index, true, false, IfSome};
-ghost use Rattle.egt_board.specs.Images.{side_number};
 ghost use Rattle.egt_board.specs.SquareSet.{Has};
 ghost use Rattle.egt_class.specs.Material.{material_of};
 ghost use Rattle.egt_index.specs.ShelfCodes.{IsShelfOf, IsWithin, number_in};

@@ -5,7 +5,8 @@ use Rattle.egt_index.specs.ShelfCodes.{number_in}
 use Rattle.egt_table.specs.declared.column.Column.TheVariants.{Mate, Zeroing}
 use Rattle.egt_check.specs.RightRow.{IsRightEnd}
 use Rattle.egt_check.specs.Worth.{score_at}
-use Rattle.egt_check.proofs.RowJudged.{if_not, if_same, lane_is, left_at}
+use Rattle.egt_check.proofs.ByteJudged.{if_not, if_same}
+use Rattle.egt_check.proofs.RowJudged.{lane_is, left_at}
 use Rattle.egt_check.proofs.row_judging.row_is_right.Goals as goal
 
 pub returns : goal.returns
