@@ -46,3 +46,4 @@ pub mod Takings
 pub mod AllJudged
 pub mod ToldBytes
 pub mod RowJudged
+pub mod LaneRight

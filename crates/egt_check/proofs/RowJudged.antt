@@ -23,7 +23,7 @@ use Rattle.egt_check.specs.Worth.{score_at}
 use Rattle.egt_check.proofs.RowRead.{at_digit}
 
 -- a piece stands on any square
-piece_places : (kind : Kind) → IsPiece kind → (kind_digits kind ≡ 64) × (kind_less kind ≡ 0)
+pub piece_places : (kind : Kind) → IsPiece kind → (kind_digits kind ≡ 64) × (kind_less kind ≡ 0)
 piece_places Q is = (refl, refl)
 piece_places R is = (refl, refl)
 piece_places B is = (refl, refl)

@@ -48,11 +48,11 @@ piece_digits B is = (refl, refl)
 piece_digits N is = (refl, refl)
 piece_digits K is = (refl, refl)
 
-code_plain : (c n : ℕ) → has_target (material_of c) ≡ false → code_of c n ≡ n
+pub code_plain : (c n : ℕ) → has_target (material_of c) ≡ false → code_of c n ≡ n
 unfolding code_of
 code_plain c n none = ap (λ b. cond {A = ℕ} b (cond (nat_lt n (half_of c)) (2 * n) (2 * (n - half_of c) + 1)) n) none
 
-side_few : (side : Side) → side_number side < 2
+pub side_few : (side : Side) → side_number side < 2
 side_few White = omega arith
 side_few Black = omega arith
 
