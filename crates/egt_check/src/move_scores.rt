@@ -23,6 +23,7 @@ use egt_lanes::score::zeroed;
 use egt_table::{Column, Table};
 
 /// The table of a class of two pieces beside the kings, and those of the classes that captures leave, each with whether colours are exchanged there.
+#[derive(Drop)]
 pub(crate) struct FourMen<'t> {
     pub(crate) own: &'t Table,
     /// Where the first man is left.
