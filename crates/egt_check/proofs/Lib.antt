@@ -35,6 +35,7 @@ pub mod RowRead
 pub mod LoneRead
 pub mod BlockRaising
 pub mod QuietRaising
+pub mod TablePairs
 pub mod Taking
 pub mod ByteJudged
 pub mod Passed

@@ -1,10 +1,8 @@
 //! The judgement of a whole table of a class with two pieces beside the kings, block by block.
-ghost use Rattle.std.specs.Prelude.{◌≡◌, ◌≢◌, ◌+◌, ◌<◌, ℕ, false, true, None, Some, IfSome};
+ghost use Rattle.std.specs.Prelude.{◌≡◌, ◌≢◌, ◌+◌, ◌<◌, ℕ, false, true, None};
 ghost use Rattle.egt_board.specs.Turned.{turned_man};
+ghost use Rattle.egt_board.specs.declared.man.Side.{Side};
 ghost use Rattle.egt_class.specs.Material.{material_of};
-ghost use Rattle.egt_class.specs.Membership.{IsOf};
-ghost use Rattle.egt_class.specs.Pair.{IsBeside};
-ghost use Rattle.egt_board.specs.Setup.{Setup};
 ghost use Rattle.egt_index.specs.LoneCodes.{IsLoneMan};
 ghost use Rattle.egt_index.specs.ShelfCodes.{AreMenOf};
 ghost use Rattle.egt_index.specs.Size.{has_target, size_of};
@@ -14,7 +12,6 @@ ghost use Rattle.egt_check.specs.MoveScores.{AreTablesOf};
 ghost use Rattle.egt_check.specs.RightBlock.{lane_of};
 ghost use Rattle.egt_check.specs.Rules.{IsJudged, KeepsBelow};
 ghost use Rattle.egt_check.specs.Tables.{Tables, beside, table_at};
-ghost use Rattle.egt_board.specs.declared.man.Side.{Side};
 ghost use Rattle.egt_check.specs.Worth.{HasBytes};
 
 use crate::block_judging::block_is_right;
@@ -70,7 +67,8 @@ fn pair_is_right(four: &FourMen, men: &ShelfMen, first: u32) -> bool
         return false;
     };
     let there = with_kings(men, here.white, here.black);
-    block_is_right(four, &there, first, Side::White) && block_is_right(four, &there, first, Side::Black)
+    block_is_right(four, &there, first, Side::White)
+        && block_is_right(four, &there, first, Side::Black)
 }
 
 /// Whether all entries of the class keep the rules.
@@ -102,7 +100,9 @@ fn is_left(class: Class, child: &Table, flips: bool, man: Man) -> bool
 {
     match lone_man(child.class()) {
         Some(lone) => {
-            lone == turned_man(man, flips) && child.class().number() != class.number() && tells_bytes(child)
+            lone == turned_man(man, flips)
+                && child.class().number() != class.number()
+                && tells_bytes(child)
         }
         None => false,
     }
