@@ -1,5 +1,5 @@
 -- Entries that are due to the greatest scores of all moves keep the rules.
-use Rattle.std.proofs.Common.{◌≡◌, ◌≢◌, ℕ, ◌%◌, ◌-◌, ◌/◌, ◌<◌, ◌≤◌, ◌⊎◌, ◌==◌, max, false, Some, None, arith, refl, sym, ap, ◌∙◌, inl, inr, subst}
+use Rattle.std.proofs.Common.{◌≡◌, ◌≢◌, ℕ, ◌%◌, ◌<◌, ◌⊎◌, false, None, arith, sym, ap, ◌∙◌, inl, inr}
 use Rattle.std.proofs.lemmas.Bool.{cases_eq}
 use Rattle.egt_board.specs.Settled.{IsSettled}
 use Rattle.egt_board.specs.Setup.{Setup, IsAdmissible}
@@ -13,9 +13,9 @@ use Rattle.egt_index.specs.StepCodes.{TellsMen}
 use Rattle.egt_index.specs.Stood.{HasStand}
 use Rattle.egt_index.specs.declared.shelf_codes.ShelfMen.{ShelfMen}
 use Rattle.egt_lanes.specs.Pieces.{IsPiece}
-use Rattle.egt_lanes.specs.Scores.{byte_score, due_score, zeroing_score}
+use Rattle.egt_lanes.specs.Scores.{byte_score, due_score}
 use Rattle.egt_moves.specs.Arena.{NoMove}
-use Rattle.egt_moves.specs.Chess.{Zeroes, chess}
+use Rattle.egt_moves.specs.Chess.{chess}
 use Rattle.egt_table.specs.Table.{TableValue}
 use Rattle.egt_table.specs.declared.column.Column.{Column}
 use Rattle.egt_table.specs.declared.column.Column.TheVariants.{Mate, Zeroing}

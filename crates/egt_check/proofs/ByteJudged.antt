@@ -1,11 +1,11 @@
 -- Entries whose bytes are due to the greatest bytes of the moves are right.
-use Rattle.std.proofs.Common.{◌≡◌, ◌≢◌, ◌↔◌, ◌⊎◌, ℕ, zero, suc, ◌+◌, ◌-◌, ◌*◌, ◌/◌, ◌%◌, ◌<◌, ◌≤◌, Bool, true, false, cond, nat_lt, eqb, IsTrue, Option, Some, None, IfSome, arith, refl, sym, ap, ◌∙◌, inl, inr, subst}
+use Rattle.std.proofs.Common.{◌≡◌, ◌≢◌, ◌⊎◌, ℕ, ◌+◌, ◌-◌, ◌*◌, ◌/◌, ◌%◌, ◌<◌, ◌≤◌, Bool, true, false, cond, eqb, Option, Some, None, IfSome, arith, refl, sym, ap, ◌∙◌, inl, inr, subst}
 use Rattle.std.proofs.lemmas.Bool.{cases_eq, cases_lt, cond_above, cond_below, eq-eqb}
 use Rattle.std.proofs.lemmas.Bool.Decides.{eqb_tells}
 use Rattle.egt_board.specs.Setup.{Setup, IsAdmissible}
 use Rattle.egt_lanes.specs.Scores.{byte_score, due_score, zeroing_score}
-use Rattle.egt_moves.specs.Arena.{Value, Win, Loss, Draw, NoMove}
-use Rattle.egt_moves.specs.Chess.{chess, Zeroes}
+use Rattle.egt_moves.specs.Arena.{Value, NoMove}
+use Rattle.egt_moves.specs.Chess.{chess}
 use Rattle.egt_moves.specs.Legal.{Leads}
 use Rattle.egt_moves.specs.declared.chess_move.Move.{Move}
 use Rattle.egt_table.specs.declared.column.Column.{Column}
@@ -13,7 +13,7 @@ use Rattle.egt_table.specs.declared.column.Column.TheVariants.{Mate, Zeroing}
 use Rattle.egt_check.specs.declared.by_column.ByColumn.{ByColumn}
 use Rattle.egt_check.specs.declared.outcome.Outcome.{Outcome}
 use Rattle.egt_check.specs.declared.outcome.Outcome.TheVariants as outcomes
-use Rattle.egt_check.specs.Entry.{Shows, entry_of, longest}
+use Rattle.egt_check.specs.Entry.{Shows}
 use Rattle.egt_check.specs.Facts.{Facts}
 use Rattle.egt_check.specs.Given.{AreAlike, AreGiven, HasScores, IsGiven, IsKnown, IsZeroingScore}
 use Rattle.egt_check.specs.Judged.{IsCompared}

@@ -1,12 +1,11 @@
 -- The greatest bytes of moves that zero and of those that do not are those of all moves.
-use Rattle.std.proofs.Common.{◌≡◌, ℕ, ◌≤◌, ◌⊎◌, max, arith, refl, sym, ◌∙◌, inl, inr, subst}
+use Rattle.std.proofs.Common.{◌≡◌, ℕ, ◌⊎◌, max, arith, inl, inr, subst}
 use Rattle.std.proofs.lemmas.Bool.{cases_lt}
 use Rattle.egt_board.specs.Setup.{Setup}
 use Rattle.egt_moves.specs.Chess.{Zeroes}
 use Rattle.egt_moves.specs.DecidedMoves.{decided_zeroes}
-use Rattle.egt_moves.specs.Legal.{Leads}
 use Rattle.egt_moves.specs.declared.chess_move.Move.{Move}
-use Rattle.egt_check.specs.Given.{AreGiven, HasScores, IsGiven}
+use Rattle.egt_check.specs.Given.{AreGiven, IsGiven}
 use Rattle.egt_check.specs.Tables.{Tables}
 
 module _ (tables : Tables) (p : Setup) where

@@ -1,15 +1,14 @@
 -- The code of a lane of a shelf whose last man is a piece.
-use Rattle.std.proofs.Common.{◌≡◌, ◌≢◌, ◌∙◌, ℕ, ◌+◌, ◌*◌, ◌<◌, ◌≤◌, if◌then◌else◌, Bool, false, arith, ap, sym, subst}
+use Rattle.std.proofs.Common.{◌≡◌, ◌≢◌, ◌∙◌, ℕ, ◌+◌, ◌*◌, ◌<◌, ◌≤◌, Bool, false, arith, ap, subst}
 use Rattle.egt_board.specs.Images.{side_number}
 use Rattle.egt_board.specs.declared.man.Side.{Side}
 use Rattle.egt_class.specs.Material.{material_of}
-use Rattle.egt_index.specs.Numbers.{code_of, half_of, places}
+use Rattle.egt_index.specs.Numbers.{code_of, places}
 use Rattle.egt_index.specs.Scales.{kind_digits, kind_less}
 use Rattle.egt_index.specs.ShelfCodes.{IsShelfOf, IsWithin, number_in, stand_with}
 use Rattle.egt_index.specs.Size.{has_target, size_of}
 use Rattle.egt_index.specs.StepCodes.{TellsMen}
 use Rattle.egt_index.specs.declared.shelf_codes.ShelfMen.{ShelfMen}
-use Rattle.egt_index.specs.declared.stand.Stand.{Stand}
 use Rattle.egt_lanes.specs.Pieces.{IsPiece}
 use Rattle.egt_table.specs.Table.{TableValue}
 use Rattle.egt_table.specs.declared.column.Column.TheVariants.{Mate}

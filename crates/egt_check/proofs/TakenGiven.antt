@@ -1,11 +1,9 @@
 -- The greatest scores of the codes after captures are those of the captures.
-use Rattle.std.proofs.Common.{◌≡◌, ◌≢◌, ℕ, ◌%◌, ◌<◌, ◌≤◌, ◌⊎◌, ◌==◌, if◌then◌else◌, nat_lt, max, Bool, true, false, IsTrue, Some, None, arith, refl, sym, ap, ◌∙◌, inl, inr, subst}
+use Rattle.std.proofs.Common.{◌≡◌, ℕ, ◌%◌, ◌<◌, ◌≤◌, ◌⊎◌, if◌then◌else◌, max, Bool, true, false, arith, refl, sym, ap, ◌∙◌, inl, inr, subst}
 use Rattle.std.proofs.lemmas.Bool.{cases_lt, cases_eq}
-use Rattle.egt_board.specs.Attack.{king_of}
 use Rattle.egt_board.specs.Gait.{Reaches-on_board}
 use Rattle.egt_board.specs.Man.{other_side}
 use Rattle.egt_board.specs.Setup.{Setup}
-use Rattle.egt_board.specs.declared.man.Kind.TheVariants.{K, P}
 use Rattle.egt_board.specs.declared.man.Man.{Man}
 use Rattle.egt_board.specs.declared.man.Side.{Side}
 use Rattle.egt_board.specs.declared.man.Side.TheVariants.{White, Black}
@@ -23,7 +21,7 @@ use Rattle.egt_moves.specs.declared.chess_move.Move.{Move}
 use Rattle.egt_table.specs.Table.{TableValue}
 use Rattle.egt_table.specs.declared.column.Column.{Column}
 use Rattle.egt_table.specs.declared.column.Column.TheVariants.{Mate, Zeroing}
-use Rattle.egt_check.specs.Blocks.{IsBesideKing, king_of_men, stand_on, with_king}
+use Rattle.egt_check.specs.Blocks.{IsBesideKing, stand_on, with_king}
 use Rattle.egt_check.specs.Facts.{Facts}
 use Rattle.egt_check.specs.Given.{AreAlike, AreGiven, HasScores, IsGiven}
 use Rattle.egt_check.specs.Taken.{AreLeftCodes, IsLastTaken, IsTableOf, men_swapped}
@@ -86,8 +84,8 @@ module _ (facts : Facts) (turning : Turning) (tables : Tables) (p : Setup) (men 
   best w raised =
       best_of facts turning t Mate is.is_table is.bytes After flips (other_side side) w whole
       (raised_as 0 w (AreLeftCodes t.class flips men side a b) (λ code. (stand : Stand) × After stand × IsSomeTurnedCode t.class code flips stand (other_side side)) (score_at t Mate)
-          (λ code in_codes. (stand_left flips in_codes.0, (in_codes.0, in_codes.1, refl), in_codes.2))
-          (λ code in_stands. (in_stands.1.0, in_stands.1.1, subst (λ (s : Stand). IsSomeTurnedCode t.class code flips s (other_side side)) in_stands.1.2 in_stands.2)) raised)
+      (λ code in_codes. (stand_left flips in_codes.0, (in_codes.0, in_codes.1, refl), in_codes.2))
+      (λ code in_stands. (in_stands.1.0, in_stands.1.1, subst (λ (s : Stand). IsSomeTurnedCode t.class code flips s (other_side side)) in_stands.1.2 in_stands.2)) raised)
 
   module _ (q : Setup) (stand : Stand) (there : HasStand t.class flips stand (other_side side) false q) (i : ℕ) (index : IsIndex t.class q i) where
     alike : AreAlike (entry_at t Mate i) (entry_at t Zeroing i)
@@ -188,8 +186,7 @@ module _ (facts : Facts) (turning : Turning) (tables : Tables) (c : ℕ) (men : 
     above_first : (q : Setup) (m : Move) (left : Left) → Zeroes p m → IsLastTaken men side a b left → HasStand first.class first_flips (stand_left first_flips left) (other_side side) false q → Above q m
     above_first q m left zeroes taken there =
         let (i, index, le) = by_first.above (stand_left first_flips left) q (left, taken, refl) there in
-        let more : score_at first Mate i ≤ max u v = omega (arith, le) in
-        (
+        let more : score_at first Mate i ≤ max u v = omega (arith, le) in (
           score_at first Mate i,
           zeroing_score (score_at first Mate i),
           scores facts turning tables p men white_in black_in side a b one_in first first_flips is_first q (stand_left first_flips left) there i index m zeroes,
@@ -200,8 +197,7 @@ module _ (facts : Facts) (turning : Turning) (tables : Tables) (c : ℕ) (men : 
     above_last : (q : Setup) (m : Move) (left : Left) → Zeroes p m → IsLastTaken (men_swapped men) side b a left → HasStand last.class last_flips (stand_left last_flips left) (other_side side) false q → Above q m
     above_last q m left zeroes taken there =
         let (i, index, le) = by_last.above (stand_left last_flips left) q (left, taken, refl) there in
-        let more : score_at last Mate i ≤ max u v = omega (arith, le) in
-        (
+        let more : score_at last Mate i ≤ max u v = omega (arith, le) in (
           score_at last Mate i,
           zeroing_score (score_at last Mate i),
           scores facts turning tables p (men_swapped men) white_in black_in side b a last_in last last_flips is_last q (stand_left last_flips left) there i index m zeroes,

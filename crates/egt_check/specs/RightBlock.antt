@@ -1,5 +1,5 @@
 -- Entries of a class with two pieces beside the kings, by their shelves.
-use Rattle.std.specs.Prelude.{◌≡◌, ◌≢◌, ℕ, ◌+◌, ◌*◌, ◌<◌, false}
+use Rattle.std.specs.Prelude.{◌≢◌, ℕ, ◌+◌, ◌*◌, ◌<◌, false}
 use Rattle.egt_board.specs.Images.{side_number}
 use Rattle.egt_board.specs.declared.man.Side.{Side}
 use Rattle.egt_index.specs.Size.{size_of}

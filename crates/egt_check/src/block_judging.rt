@@ -78,7 +78,15 @@ fn shelves_are_right(
     for a in 0..64u8 {
         let row = a as usize;
         let shelf = first + u32::from(a);
-        if !shelf_is_right(table, men, Square::at(a), shelf, side, mates[row], zeroing[row]) {
+        if !shelf_is_right(
+            table,
+            men,
+            Square::at(a),
+            shelf,
+            side,
+            mates[row],
+            zeroing[row],
+        ) {
             return false;
         }
     }

@@ -20,8 +20,8 @@ use egt_lanes::block::raise_transposed;
 use egt_lanes::row::greater;
 use egt_lanes::turn::turned;
 use egt_lanes::{Block, Row};
-use std::simd::prelude::*;
 use egt_table::{Column, Table};
+use std::simd::prelude::*;
 
 /// The men where the turn takes them, the first of them from this square.
 fn turned_from(men: &ShelfMen, on: Square, turn: u8) -> ShelfMen

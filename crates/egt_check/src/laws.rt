@@ -44,7 +44,10 @@ ghost use Rattle.egt_check.specs.Truth.{IsTrueTable, HasTrueChildren};
 
 use crate::facts::facts;
 use egt_class::laws::{men_beside_are_counted, moves_lead_into_the_class_or_a_child};
-use egt_index::laws::{a_code_is_an_index_or_void, codes_follow_steps, codes_spell_one_position, codes_tell_turned_men, numbers_stand_for_codes, stands_follow_moves};
+use egt_index::laws::{
+    a_code_is_an_index_or_void, codes_follow_steps, codes_spell_one_position,
+    codes_tell_turned_men, numbers_stand_for_codes, stands_follow_moves,
+};
 
 /// Where the children's tables are true, the entries of a table keep all rules exactly where the table is true: each entry is
 /// the value or the zeroing distance of its position, void entries are 0, and no distance is above 32,000.
@@ -123,8 +126,7 @@ pub fn quiet_codes_give_the_quiet_moves()
 /// The greatest bytes of the moves that zero and of those that do not are those of all moves.
 pub fn moves_of_either_kind_give_all()
     ensures { (tables : Tables) (p : Setup) (x z y w : ℕ) → AreGiven tables p (λ m. ¬ Zeroes p m) x z → AreGiven tables p (Zeroes p) y w → AreGiven tables p (λ m. Unit {0}) (max x y) (max z w) }
-{
-}
+{}
 
 /// Where all men are pieces, the captures lead to the three men who are left, and to all positions of them.
 pub fn captures_lead_to_three_men()

@@ -1,4 +1,4 @@
-use Rattle.std.proofs.Common.{ℕ, ◌+◌}
+use Rattle.std.proofs.Common.{◌+◌}
 use Rattle.egt_lanes.specs.Blocks.{at}
 use Rattle.egt_check.specs.RightBlock.{lane_of}
 use Rattle.egt_check.proofs.block_judging.block_is_right.Goals as goal

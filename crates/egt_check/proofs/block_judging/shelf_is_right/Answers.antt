@@ -1,8 +1,7 @@
-use Rattle.std.proofs.Common.{◌≡◌, ◌≢◌, ℕ, false, sym, subst, ◌∙◌}
+use Rattle.std.proofs.Common.{false, subst}
 use Rattle.std.specs.Prelude.{slice_index}
-use Rattle.egt_index.specs.ShelfCodes.{IsShelfOf, IsWithin, number_in}
+use Rattle.egt_index.specs.ShelfCodes.{IsShelfOf, IsWithin}
 use Rattle.egt_index.specs.declared.shelf_codes.ShelfMen.{ShelfMen}
-use Rattle.egt_check.specs.Blocks.{men_on}
 use Rattle.egt_check.specs.RightBlock.{IsRightLane, lane_of}
 use Rattle.egt_check.proofs.LaneRight.{right_lane}
 use Rattle.egt_check.proofs.block_judging.shelf_is_right.Goals as goal

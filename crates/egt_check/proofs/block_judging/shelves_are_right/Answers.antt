@@ -1,4 +1,4 @@
-use Rattle.std.proofs.Common.{◌≡◌, ℕ, ◌+◌, ◌<◌, arith, inl, inr, sym, subst}
+use Rattle.std.proofs.Common.{◌≡◌, ◌+◌, arith, inl, inr, subst}
 use Rattle.std.proofs.lemmas.Bool.{cases_lt}
 use Rattle.egt_lanes.specs.Blocks.{at}
 use Rattle.egt_check.specs.RightBlock.{IsRightLane, lane_of}

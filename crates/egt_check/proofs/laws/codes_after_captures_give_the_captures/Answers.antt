@@ -1,4 +1,4 @@
-use Rattle.egt_check.proofs.TakenGiven.{Takes, taken_given}
+use Rattle.egt_check.proofs.TakenGiven.{taken_given}
 use Rattle.egt_check.proofs.Worth.{Turning}
 use Rattle.egt_check.proofs.laws.codes_after_captures_give_the_captures.Goals as goal
 

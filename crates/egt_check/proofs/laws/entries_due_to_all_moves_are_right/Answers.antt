@@ -1,4 +1,4 @@
-use Rattle.std.proofs.Common.{ℕ, false, max, ◌≡◌, sym, subst}
+use Rattle.std.proofs.Common.{false, max, sym, subst}
 use Rattle.egt_lanes.specs.Scores.{zeroing_score}
 use Rattle.egt_check.specs.Blocks.{stand_on}
 use Rattle.egt_check.specs.Given.{AreGiven}

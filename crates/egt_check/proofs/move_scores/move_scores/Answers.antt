@@ -1,4 +1,4 @@
-use Rattle.std.proofs.Common.{◌≡◌, ℕ, max, sym, ap, ◌∙◌, subst}
+use Rattle.std.proofs.Common.{max, ap, ◌∙◌, subst}
 use Rattle.egt_index.specs.declared.shelf_codes.ShelfMen.{ShelfMen}
 use Rattle.egt_lanes.specs.Blocks.{at}
 use Rattle.egt_lanes.specs.Raised.{IsRaised}
