@@ -1,11 +1,11 @@
 -- Entries whose bytes are due to the greatest bytes of the moves are right.
-use Rattle.std.proofs.Common.{◌≡◌, ◌≢◌, ◌↔◌, ◌⊎◌, ℕ, zero, suc, ◌+◌, ◌-◌, ◌*◌, ◌/◌, ◌%◌, ◌<◌, ◌≤◌, Bool, true, false, cond, nat_lt, eqb, IsTrue, Option, Some, None, IfSome, arith, refl, sym, ap, ◌∙◌, inl, inr, subst}
+use Rattle.std.proofs.Common.{◌≡◌, ◌≢◌, ◌⊎◌, ℕ, ◌+◌, ◌-◌, ◌*◌, ◌/◌, ◌%◌, ◌<◌, ◌≤◌, Bool, true, false, cond, eqb, Option, Some, None, IfSome, arith, refl, sym, ap, ◌∙◌, inl, inr, subst}
 use Rattle.std.proofs.lemmas.Bool.{cases_eq, cases_lt, cond_above, cond_below, eq-eqb}
 use Rattle.std.proofs.lemmas.Bool.Decides.{eqb_tells}
 use Rattle.egt_board.specs.Setup.{Setup, IsAdmissible}
 use Rattle.egt_lanes.specs.Scores.{byte_score, due_score, zeroing_score}
-use Rattle.egt_moves.specs.Arena.{Value, Win, Loss, Draw, NoMove}
-use Rattle.egt_moves.specs.Chess.{chess, Zeroes}
+use Rattle.egt_moves.specs.Arena.{Value, NoMove}
+use Rattle.egt_moves.specs.Chess.{chess}
 use Rattle.egt_moves.specs.Legal.{Leads}
 use Rattle.egt_moves.specs.declared.chess_move.Move.{Move}
 use Rattle.egt_table.specs.declared.column.Column.{Column}
@@ -13,7 +13,7 @@ use Rattle.egt_table.specs.declared.column.Column.TheVariants.{Mate, Zeroing}
 use Rattle.egt_check.specs.declared.by_column.ByColumn.{ByColumn}
 use Rattle.egt_check.specs.declared.outcome.Outcome.{Outcome}
 use Rattle.egt_check.specs.declared.outcome.Outcome.TheVariants as outcomes
-use Rattle.egt_check.specs.Entry.{Shows, entry_of, longest}
+use Rattle.egt_check.specs.Entry.{Shows}
 use Rattle.egt_check.specs.Facts.{Facts}
 use Rattle.egt_check.specs.Given.{AreAlike, AreGiven, HasScores, IsGiven, IsKnown, IsZeroingScore}
 use Rattle.egt_check.specs.Judged.{IsCompared}
@@ -32,10 +32,10 @@ use Rattle.egt_check.proofs.Stepping.{Seen, scores_by}
 
 -- ---- what a byte is
 
-if_not : (a b x y : ℕ) → a ≢ b → cond (eqb a b) x y ≡ y
+pub if_not : (a b x y : ℕ) → a ≢ b → cond (eqb a b) x y ≡ y
 if_not a b x y other = elim (eqb_tells a b) [ inl h ↦ absurd (other h.1) | inr h ↦ ap (λ (t : Bool). cond t x y) h.0 ]
 
-if_same : (a b x y : ℕ) → a ≡ b → cond (eqb a b) x y ≡ x
+pub if_same : (a b x y : ℕ) → a ≡ b → cond (eqb a b) x y ≡ x
 if_same a b x y same = ap (λ (t : Bool). cond t x y) (eq-eqb a b same)
 
 byte_win : (x : ℕ) → x ≢ 0 → x ≢ 1 → x % 2 ≡ 0 → byte_score x ≡ (x - 2) / 2
@@ -110,13 +110,13 @@ mate_stands outcomes.Draw x g score h (inr (inr s)) = absurd (let a = h.1 in let
 
 -- ---- a move's scores
 
-zeroing_lost : (x : ℕ) → 128 < x → zeroing_score x ≡ 255
+pub zeroing_lost : (x : ℕ) → 128 < x → zeroing_score x ≡ 255
 zeroing_lost x high = sym (cond_below 128 x 255 _ high)
 
-zeroing_low : (x : ℕ) → x < 128 → zeroing_score x ≡ 0
+pub zeroing_low : (x : ℕ) → x < 128 → zeroing_score x ≡ 0
 zeroing_low x low = sym (cond_above 128 x 255 _ 0 (omega (arith, low)) (sym (if_not x 128 128 0 (λ e. omega (arith, e, low)))))
 
-zeroing_drawn : (x : ℕ) → x ≡ 128 → zeroing_score x ≡ 128
+pub zeroing_drawn : (x : ℕ) → x ≡ 128 → zeroing_score x ≡ 128
 zeroing_drawn x same = ap zeroing_score same
 
 -- what is said in the zeroing column by a move that zeroes

@@ -82,7 +82,7 @@ module _ (p : Setup) (man : Man) (from to : ℕ) (stands : Stands p.men from man
   abbrev pub men_there : Placement
   men_there = map.insert (map.remove p.men from) to man
 
-  men_after_is : men_after p man (plain from to) ≡ men_there
+  pub men_after_is : men_after p man (plain from to) ≡ men_there
   men_after_is = ap (λ (b : Bool). map.insert (map.remove (if b && is_target p.target to then map.remove p.men (ahead (other_side p.side) to) else p.men) from) to man) (no_pawn man.kind piece)
 
   taken_not : {x : Man} → Some x ≡ None → ⊥

@@ -32,8 +32,19 @@ mod ShelfJudged
 mod ToldBest
 pub mod Worth
 pub mod RowRead
+pub mod LoneRead
 pub mod BlockRaising
+pub mod QuietRaising
+pub mod TablePairs
+pub mod Taking
 pub mod ByteJudged
 pub mod Passed
 pub mod QuietStands
 pub mod QuietGiven
+pub mod EitherGiven
+pub mod TakenGiven
+pub mod Takings
+pub mod AllJudged
+pub mod ToldBytes
+pub mod RowJudged
+pub mod LaneRight

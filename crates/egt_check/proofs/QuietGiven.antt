@@ -1,5 +1,5 @@
 -- The greatest scores of the codes of quiet steps are those of the quiet moves.
-use Rattle.std.proofs.Common.{◌≡◌, ◌≢◌, ℕ, ◌%◌, ◌<◌, ◌≤◌, ◌⊎◌, Bool, true, false, IsTrue, Some, None, arith, refl, sym, ap, ◌∙◌, inl, inr, subst}
+use Rattle.std.proofs.Common.{◌≡◌, ◌≢◌, ℕ, ◌%◌, ◌<◌, ◌≤◌, Bool, false, Some, arith, refl, sym, ap, inl, inr, subst}
 use Rattle.egt_board.specs.Man.{other_side}
 use Rattle.egt_board.specs.Setup.{Setup}
 use Rattle.egt_board.specs.declared.man.Kind.TheVariants.{P}
@@ -19,7 +19,7 @@ use Rattle.egt_table.specs.declared.column.Column.{Column}
 use Rattle.egt_table.specs.declared.column.Column.TheVariants.{Mate, Zeroing}
 use Rattle.egt_check.specs.Blocks.{stand_on, with_king}
 use Rattle.egt_check.specs.Facts.{Facts}
-use Rattle.egt_check.specs.Given.{AreAlike, AreGiven, HasScores, IsGiven}
+use Rattle.egt_check.specs.Given.{AreAlike, AreGiven, HasScores}
 use Rattle.egt_check.specs.QuietStands.{AreQuietCodes, IsQuietStand}
 use Rattle.egt_check.specs.Tables.{HasEntry, Tables, entry_at}
 use Rattle.egt_check.specs.Worth.{HasBytes, IsBestOf, score_at}
@@ -27,7 +27,7 @@ use Rattle.egt_check.proofs.Still.{KeepsClass}
 use Rattle.egt_check.proofs.QuietStands.{Following, comes, goes}
 use Rattle.egt_check.proofs.Worth.{AreWhole, Turning, best_of}
 
-low_score : (e : ℕ) → e < 254 → byte_score (e % 256) ≡ byte_score e
+pub low_score : (e : ℕ) → e < 254 → byte_score (e % 256) ≡ byte_score e
 low_score e low = let same : e % 256 ≡ e = omega arith in ap byte_score same
 
 module _ (facts : Facts) (keeps : KeepsClass) (follow : Following) (turning : Turning) (tables : Tables) (t : TableValue) (is_table : IsTable t) (found : tables t.class ≡ Some t) (bytes : HasBytes t)
@@ -95,8 +95,7 @@ module _ (facts : Facts) (keeps : KeepsClass) (follow : Following) (turning : Tu
     above q m leads quiet =
         let (stand, is, there) = goes facts keeps follow t.class is_table.class_in men one_piece last_piece side passed a b p has q m leads quiet in
         let (i, index, mate_above) = by_mate.above stand q is there in
-        let (j, other, zeroing_above) = by_zeroing.above stand q is there in
-        (
+        let (j, other, zeroing_above) = by_zeroing.above stand q is there in (
           score_at t Mate i,
           score_at t Zeroing i,
           scores q stand there i index m quiet,

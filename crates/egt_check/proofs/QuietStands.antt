@@ -1,5 +1,5 @@
 -- The quiet moves from a position lead to the men after quiet steps, and to all of them that are positions.
-use Rattle.std.proofs.Common.{◌≡◌, ◌≢◌, ℕ, ◌<◌, ◌⊎◌, ◌↔◌, ◌==◌, ◌∷◌, [], if◌then◌else◌, Bool, true, false, Some, None, refl, sym, ap, ◌∙◌, subst, inl, inr}
+use Rattle.std.proofs.Common.{◌≡◌, ◌≢◌, ℕ, ◌<◌, ◌↔◌, if◌then◌else◌, Bool, false, Some, refl, sym, ap, ◌∙◌, subst, inl, inr}
 use Rattle.std.specs.FinMap as map
 use Rattle.std.specs.Int.{bit_at}
 use Rattle.std.proofs.lemmas.Bool.Decides.{eqb_tells}
@@ -8,14 +8,14 @@ use Rattle.egt_board.specs.Gait.{Reaches, Reaches-free, Reaches-on_board}
 use Rattle.egt_board.specs.Man.{other_side}
 use Rattle.egt_board.specs.Placement.{Placement, Stands, IsFree, one_man}
 use Rattle.egt_board.specs.Setup.{Setup, IsAdmissible}
-use Rattle.egt_board.specs.declared.man.Kind.TheVariants.{P, K}
+use Rattle.egt_board.specs.declared.man.Kind.TheVariants.{P}
 use Rattle.egt_board.specs.declared.man.Man.{Man}
 use Rattle.egt_board.specs.declared.man.Side.{Side}
 use Rattle.egt_board.specs.declared.man.Side.TheVariants.{White, Black}
 use Rattle.egt_index.specs.Frame.{IsMoved}
 use Rattle.egt_index.specs.Spelled.{IsListed}
 use Rattle.egt_index.specs.Stood.{AllStand, HasStand, IsOff, list_of}
-use Rattle.egt_index.specs.Went.{IsMovedStand, moved_entry, moved_square}
+use Rattle.egt_index.specs.Went.{IsMovedStand, moved_square}
 use Rattle.egt_index.specs.declared.shelf_codes.ShelfMen.{ShelfMen}
 use Rattle.egt_index.specs.declared.stand.Stand.{Stand}
 use Rattle.egt_moves.specs.Chess.{Zeroes}
@@ -23,7 +23,7 @@ use Rattle.egt_moves.specs.Going.{Goes}
 use Rattle.egt_moves.specs.Legal.{Leads, plain}
 use Rattle.egt_moves.specs.declared.chess_move.Move.{Move}
 use Rattle.egt_moves.proofs.After.{side_twice}
-use Rattle.egt_check.specs.Blocks.{IsBesideKing, king_of_men, stand_on, with_king}
+use Rattle.egt_check.specs.Blocks.{king_of_men, stand_on, with_king}
 use Rattle.egt_check.specs.Facts.{Facts}
 use Rattle.egt_check.specs.QuietStands.{IsClear, IsQuietStand}
 use Rattle.egt_check.specs.Steps.{IsQuietTarget}
@@ -57,7 +57,7 @@ one_moved c from to p q r one other =
     λ i. record { men = men i; side = side i; target = target i }
 
 -- a side's king is no pawn, and of the side
-king_piece : (side : Side) → (king_of side).kind ≢ P
+pub king_piece : (side : Side) → (king_of side).kind ≢ P
 king_piece White e = cc
 king_piece Black e = cc
 
@@ -232,11 +232,11 @@ module _ (facts : Facts) (keeps : KeepsClass) (follow : Following) (c : ℕ) (cl
     one_goes is at = (
       stand_on men m.to b,
       inr (inl (
-          ap (λ (x : Man). x.side) is ∙ of_side,
-          m.to,
-          moved.on_board,
-          Reaches-free (IsFree p.men) (IsClear men b) men.one a m.to (λ u u_in free. let o = off u free in ((λ e. o.0 (sym e)), (λ e. o.1.0 (sym e)), (λ e. o.1.1.1.0 (sym e)))) (reached men.one a is at one_piece),
-          refl,
+        ap (λ (x : Man). x.side) is ∙ of_side,
+        m.to,
+        moved.on_board,
+        Reaches-free (IsFree p.men) (IsClear men b) men.one a m.to (λ u u_in free. let o = off u free in ((λ e. o.0 (sym e)), (λ e. o.1.0 (sym e)), (λ e. o.1.1.1.0 (sym e)))) (reached men.one a is at one_piece),
+        refl,
       )),
       stand_there a (stand_on men m.to b) at (one_moves m.to),
     )
@@ -245,11 +245,11 @@ module _ (facts : Facts) (keeps : KeepsClass) (follow : Following) (c : ℕ) (cl
     last_goes is at = (
       stand_on men a m.to,
       inr (inr (
-          ap (λ (x : Man). x.side) is ∙ of_side,
-          m.to,
-          moved.on_board,
-          Reaches-free (IsFree p.men) (IsClear men a) men.last b m.to (λ u u_in free. let o = off u free in ((λ e. o.0 (sym e)), (λ e. o.1.0 (sym e)), (λ e. o.1.1.0 (sym e)))) (reached men.last b is at last_piece),
-          refl,
+        ap (λ (x : Man). x.side) is ∙ of_side,
+        m.to,
+        moved.on_board,
+        Reaches-free (IsFree p.men) (IsClear men a) men.last b m.to (λ u u_in free. let o = off u free in ((λ e. o.0 (sym e)), (λ e. o.1.0 (sym e)), (λ e. o.1.1.0 (sym e)))) (reached men.last b is at last_piece),
+        refl,
       )),
       stand_there b (stand_on men a m.to) at (last_moves m.to),
     )

@@ -1,5 +1,5 @@
 -- The entries of a shelf, read by the last man's square.
-use Rattle.std.proofs.Common.{◌≡◌, ℕ, ◌+◌, ◌-◌, ◌*◌, ◌%◌, ◌<◌, ◌≤◌, ◌⊎◌, Bool, true, false, cond, nat_lt, List, [], ◌∷◌, ◌++◌, Some, length, take, drop, get_or, arith, refl, sym, ap, ◌∙◌, inl, inr, subst}
+use Rattle.std.proofs.Common.{◌≡◌, ℕ, ◌+◌, ◌-◌, ◌*◌, ◌%◌, ◌<◌, ◌≤◌, ◌⊎◌, Bool, true, false, cond, nat_lt, List, take, drop, arith, refl, sym, ap, ◌∙◌, inl, inr, subst}
 use Rattle.std.specs.Prelude.{slice_index}
 use Rattle.std.proofs.lemmas.Bool.{cases_lt, false≢true}
 use Rattle.std.proofs.lemmas.List.{get_or-drop, get_or-take}
@@ -48,11 +48,11 @@ piece_digits B is = (refl, refl)
 piece_digits N is = (refl, refl)
 piece_digits K is = (refl, refl)
 
-code_plain : (c n : ℕ) → has_target (material_of c) ≡ false → code_of c n ≡ n
+pub code_plain : (c n : ℕ) → has_target (material_of c) ≡ false → code_of c n ≡ n
 unfolding code_of
 code_plain c n none = ap (λ b. cond {A = ℕ} b (cond (nat_lt n (half_of c)) (2 * n) (2 * (n - half_of c) + 1)) n) none
 
-side_few : (side : Side) → side_number side < 2
+pub side_few : (side : Side) → side_number side < 2
 side_few White = omega arith
 side_few Black = omega arith
 

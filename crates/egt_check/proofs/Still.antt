@@ -73,7 +73,7 @@ one_or_other Black White = inr refl
 one_or_other Black Black = inl refl
 
 -- no man but a pawn is promoted
-piece_promo : (p q : Setup) (m : Move) (leads : Leads p m q) → leads.man.kind ≢ P → m.promo ≡ None
+pub piece_promo : (p q : Setup) (m : Move) (leads : Leads p m q) → leads.man.kind ≢ P → m.promo ≡ None
 piece_promo p q m leads piece =
     no_promotion (is_pawn leads.man.kind && (rank_of m.to == last_rank leads.man.side)) m.promo (ap (λ a. a && (rank_of m.to == last_rank leads.man.side)) (no_pawn leads.man.kind piece)) leads.promotion
 
@@ -92,7 +92,7 @@ not_passing N target t none = refl
 not_passing K target t none = refl
 
 -- no pawn passes a square
-piece_unpassed : (man : Man) (from t : ℕ) → man.kind ≢ P → passed man from t ≡ None
+pub piece_unpassed : (man : Man) (from t : ℕ) → man.kind ≢ P → passed man from t ≡ None
 piece_unpassed man from t piece = ap (λ b. if b then Some ((from + t) / 2) else None) (ap (λ a. a && is_two_ranks from t) (no_pawn man.kind piece))
 
 module _ (p : Setup) (from t : ℕ) (man : Man) (stands : Stands p.men from man) where

@@ -1,5 +1,5 @@
 -- What a block holds: a number for each square of the first man beside the kings and of the last.
-use Rattle.std.specs.Prelude.{if◌then◌else◌, max, List, ◌≡◌, ℕ, ◌/◌, ◌%◌, ◌<◌, ◌==◌, ◌⊎◌, Bool, false, true, not, IsTrue, Option, Some, IfSome}
+use Rattle.std.specs.Prelude.{if◌then◌else◌, max, List, ◌≡◌, ℕ, ◌/◌, ◌%◌, ◌<◌, ◌==◌, Bool, false, true, not}
 use Rattle.egt_board.specs.Turned.{turned_side, turned_square}
 use Rattle.std.specs.Int.{bit_at}
 use Rattle.egt_board.specs.Attack.{king_of}

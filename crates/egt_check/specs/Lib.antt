@@ -25,5 +25,11 @@ pub mod ShelfBest
 pub mod Peak
 pub mod Worth
 pub mod Blocks
+pub mod QuietSteps
 pub mod Given
 pub mod QuietStands
+pub mod Taken
+pub mod Takings
+pub mod RightRow
+pub mod MoveScores
+pub mod RightBlock

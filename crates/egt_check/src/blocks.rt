@@ -20,8 +20,8 @@ use egt_lanes::block::raise_transposed;
 use egt_lanes::row::greater;
 use egt_lanes::turn::turned;
 use egt_lanes::{Block, Row};
-use std::simd::prelude::*;
 use egt_table::{Column, Table};
+use std::simd::prelude::*;
 
 /// The men where the turn takes them, the first of them from this square.
 fn turned_from(men: &ShelfMen, on: Square, turn: u8) -> ShelfMen
@@ -38,7 +38,7 @@ fn turned_from(men: &ShelfMen, on: Square, turn: u8) -> ShelfMen
 }
 
 /// The side, or the other one where the turn exchanges colours.
-fn side_after(side: Side, turn: u8) -> Side
+pub(crate) fn side_after(side: Side, turn: u8) -> Side
     ensures { result ≡ turned_side (turn / 8 == 1) side }
 {
     if turn / 8 == 1 { side.other() } else { side }

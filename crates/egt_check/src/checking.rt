@@ -17,6 +17,7 @@ use crate::reject::Reject;
 use crate::rule::Rule;
 use crate::shelf_judging::judge_shelf;
 use crate::spread::Spread;
+use crate::table_judging::is_right_by_blocks;
 use crate::uniform::is_uniform;
 use crate::voids::tells_voids;
 use egt_class::laws::children_have_smaller_numbers;
@@ -223,13 +224,16 @@ fn goes_by_rows(class: Class) -> bool {
     name.len() < 4 || matches!(name, "KQQK" | "KRRK" | "KBBK" | "KNNK" | "KPPK")
 }
 
-/// Judges all entries, by shelves where that pays and the entries tell which codes are indexes.
+/// Judges all entries: by blocks where that tells that all are right; else by shelves where that pays and the entries tell which codes are indexes.
 fn judge_table(table: &Table, library: &Library) -> Result<Option<(u32, Rule)>, (u32, Rule)>
     requires { HasChildren (table_at library.now) table.now.class }
     ensures kept { IfOk result (λ bad. KeepsBelow (beside (table_at library.now) table.now) table.now Mate (size_of table.now.class)) }
     ensures zeroing { IfOk result (IsFirstBad (beside (table_at library.now) table.now) table.now (size_of table.now.class)) }
     ensures broken { IfErr result (λ bad. IsFirstBreak (beside (table_at library.now) table.now) table.now Mate bad.0 bad.1) }
 {
+    if is_right_by_blocks(table, library) {
+        return Ok(None);
+    }
     let uniform = is_uniform(table);
     if uniform && !goes_by_rows(table.class()) && tells_voids(table) {
         judge_by_shelves(table, library)

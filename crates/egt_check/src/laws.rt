@@ -1,5 +1,5 @@
 //! What holds of tables and their rules. These functions do nothing: a caller calls one to know what it ensures.
-ghost use Rattle.std.specs.Prelude.{◌≡◌, ◌≢◌, ◌↔◌, ◌<◌, ℕ, Bool, false, None, Some};
+ghost use Rattle.std.specs.Prelude.{◌≡◌, ◌≢◌, ◌↔◌, ◌<◌, max, ℕ, Bool, false, None, Some};
 ghost use Rattle.std.specs.List.{Contains};
 ghost use Rattle.egt_class.specs.Children.{children_of};
 ghost use Rattle.egt_class.specs.Membership.{IsOf};
@@ -16,16 +16,24 @@ ghost use Rattle.egt_board.specs.declared.man.Side.{Side};
 ghost use Rattle.egt_index.specs.declared.stand.Stand.{Stand};
 ghost use Rattle.egt_table.specs.declared.column.Column.{Column};
 ghost use Rattle.egt_board.specs.Man.{other_side};
-ghost use Rattle.egt_board.specs.declared.man.Kind.TheVariants.{P};
+ghost use Rattle.egt_board.specs.declared.man.Kind.TheVariants.{P, K};
 ghost use Rattle.egt_index.specs.Stood.{HasStand};
 ghost use Rattle.egt_index.specs.declared.shelf_codes.ShelfMen.{ShelfMen};
 ghost use Rattle.egt_check.specs.Blocks.{stand_on};
 ghost use Rattle.egt_check.specs.QuietStands.{AreQuietCodes, IsQuietStand};
+ghost use Rattle.egt_check.specs.Takings.{IsClassOf, IsTaken, Left, stand_left};
 ghost use Rattle.egt_check.specs.Given.{AreAlike, AreGiven};
 ghost use Rattle.egt_check.specs.Rules.{IsJudged};
 ghost use Rattle.egt_check.specs.Score.{IsAtEnd};
 ghost use Rattle.egt_index.specs.Index.{IsVoid};
-ghost use Rattle.egt_lanes.specs.Scores.{byte_score, due_score};
+ghost use Rattle.egt_lanes.specs.Scores.{byte_score, due_score, zeroing_score};
+ghost use Rattle.egt_check.specs.Taken.{AreLeftCodes, IsTableOf, men_swapped};
+ghost use Rattle.egt_check.specs.MoveScores.{AreMoveScores, AreTablesOf};
+ghost use Rattle.egt_check.specs.RightRow.{IsRightAt};
+ghost use Rattle.egt_check.specs.declared.move_scores.FourMen.{FourMen};
+ghost use Rattle.egt_index.specs.Size.{size_of};
+ghost use Rattle.egt_index.specs.StepCodes.{TellsMen};
+ghost use Rattle.egt_lanes.specs.Pieces.{IsPiece};
 ghost use Rattle.egt_table.specs.declared.column.Column.TheVariants.{Mate, Zeroing};
 ghost use Rattle.egt_check.specs.Worth.{HasBytes, score_at};
 ghost use Rattle.egt_lanes.specs.Raised.{IsRaised};
@@ -35,8 +43,11 @@ ghost use Rattle.egt_check.specs.Rules.{KeepsRules};
 ghost use Rattle.egt_check.specs.Truth.{IsTrueTable, HasTrueChildren};
 
 use crate::facts::facts;
-use egt_class::laws::moves_lead_into_the_class_or_a_child;
-use egt_index::laws::{a_code_is_an_index_or_void, codes_spell_one_position, codes_tell_turned_men, stands_follow_moves};
+use egt_class::laws::{men_beside_are_counted, moves_lead_into_the_class_or_a_child};
+use egt_index::laws::{
+    a_code_is_an_index_or_void, codes_follow_steps, codes_spell_one_position,
+    codes_tell_turned_men, numbers_stand_for_codes, stands_follow_moves,
+};
 
 /// Where the children's tables are true, the entries of a table keep all rules exactly where the table is true: each entry is
 /// the value or the zeroing distance of its position, void entries are 0, and no distance is above 32,000.
@@ -110,4 +121,52 @@ pub fn quiet_codes_give_the_quiet_moves()
     moves_lead_into_the_class_or_a_child();
     stands_follow_moves();
     a_quiet_move_moves_one_man();
+}
+
+/// The greatest bytes of the moves that zero and of those that do not are those of all moves.
+pub fn moves_of_either_kind_give_all()
+    ensures { (tables : Tables) (p : Setup) (x z y w : ℕ) → AreGiven tables p (λ m. ¬ Zeroes p m) x z → AreGiven tables p (Zeroes p) y w → AreGiven tables p (λ m. Unit {0}) (max x y) (max z w) }
+{}
+
+/// Where all men are pieces, the captures lead to the three men who are left, and to all positions of them.
+pub fn captures_lead_to_three_men()
+    ensures goes { (c : ℕ) (men : ShelfMen) (side : Side) (passed : Bool) (a b : ℕ) (p q : Setup) (m : Move) → c < 36 → men.one.kind ≢ P → men.last.kind ≢ P → men.one.kind ≢ K → men.last.kind ≢ K →
+        HasStand c false (stand_on men a b) side passed p → Leads p m q → Zeroes p m →
+        (left : Left) × IsTaken men side a b left × ((d : ℕ) (flips : Bool) → IsClassOf d flips left.man → HasStand d flips (stand_left flips left) (other_side side) false q) }
+    ensures comes { (c : ℕ) (men : ShelfMen) (side : Side) (passed : Bool) (a b : ℕ) (p : Setup) → c < 36 → men.one.kind ≢ P → men.last.kind ≢ P → men.one.kind ≢ K → men.last.kind ≢ K →
+        HasStand c false (stand_on men a b) side passed p → (left : Left) → IsTaken men side a b left → (d : ℕ) (flips : Bool) → IsClassOf d flips left.man →
+        (q : Setup) → HasStand d flips (stand_left flips left) (other_side side) false q → (m : Move) × Leads p m q × Zeroes p m }
+{
+    facts();
+    stands_follow_moves();
+    men_beside_are_counted();
+}
+
+/// Where all men are pieces, the greatest scores of the codes after captures, in the classes of the man who is left, are those of the moves that zero.
+pub fn codes_after_captures_give_the_captures()
+    ensures { (tables : Tables) (c : ℕ) (men : ShelfMen) (side : Side) (passed : Bool) (a b : ℕ) (p : Setup) (first last : TableValue) (first_flips last_flips : Bool) (u v : ℕ) → c < 36 →
+        men.one.kind ≢ P → men.last.kind ≢ P → men.one.kind ≢ K → men.last.kind ≢ K → HasStand c false (stand_on men a b) side passed p → IsTableOf tables first first_flips men.one → IsTableOf tables last last_flips men.last →
+        IsRaised 0 (AreLeftCodes first.class first_flips men side a b) (score_at first Mate) u → IsRaised 0 (AreLeftCodes last.class last_flips (men_swapped men) side b a) (score_at last Mate) v →
+        AreGiven tables p (Zeroes p) (max u v) (zeroing_score (max u v)) }
+{
+    facts();
+    codes_tell_turned_men();
+    a_code_is_an_index_or_void();
+    captures_lead_to_three_men();
+}
+
+/// Where all men are pieces, entries that are due to the greatest scores of all moves keep the rules, whether or not their code is an index.
+pub fn entries_due_to_all_moves_are_right()
+    ensures { (tables : Tables) (four : FourMen) (men : ShelfMen) (side : Side) (a b i mate zeroing : ℕ) → AreTablesOf tables four men → IsPiece men.one.kind → IsPiece men.last.kind → i < size_of four.own.now.class →
+        TellsMen false four.own.now.class i (stand_on men a b) side → AreMoveScores four men side a b mate zeroing → (score_at four.own.now Mate i ≢ 0 → IsRightAt four.own.now i mate zeroing) →
+        (column : Column) → IsJudged tables four.own.now column i None }
+{
+    facts();
+    a_code_is_an_index_or_void();
+    codes_follow_steps();
+    numbers_stand_for_codes();
+    quiet_codes_give_the_quiet_moves();
+    codes_after_captures_give_the_captures();
+    moves_of_either_kind_give_all();
+    due_bytes_are_right();
 }

@@ -2,8 +2,10 @@
 //! that passed.
 #![tactic(auto)]
 
+pub mod block_judging;
 pub mod blocks;
 pub mod by_column;
+pub mod bytes;
 pub mod checking;
 pub mod facts;
 pub mod fan;
@@ -11,14 +13,18 @@ pub mod judging;
 pub mod king_blocks;
 pub mod laws;
 pub mod library;
+pub mod lone_rows;
+pub mod move_scores;
 pub mod outcome;
 pub mod own_men;
 pub mod peak;
 pub mod pusher;
 pub mod quiet;
 pub mod quiet_best;
+pub mod quiet_blocks;
 pub mod reject;
 pub mod roamer;
+pub mod row_judging;
 pub mod rows;
 pub mod rule;
 pub mod score_table;
@@ -26,6 +32,8 @@ pub mod shelf_best;
 pub mod shelf_judging;
 pub mod spread;
 pub mod successors;
+pub mod table_judging;
+pub mod taken_blocks;
 pub mod told_best;
 pub mod uniform;
 pub mod voids;

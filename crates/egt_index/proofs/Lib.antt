@@ -66,4 +66,5 @@ pub mod Placing
 pub mod Passing
 pub mod Numbered
 pub mod ShelfCodes
+pub mod LoneCodes
 pub mod TurnedMen

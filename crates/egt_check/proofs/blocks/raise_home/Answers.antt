@@ -1,4 +1,4 @@
-use Rattle.std.proofs.Common.{Bool, Option, None, Some, refl, ap, sym, ◌∙◌, subst}
+use Rattle.std.proofs.Common.{Bool, Option, refl, ap, ◌∙◌, subst}
 use Rattle.egt_class.specs.Material.{material_of}
 use Rattle.egt_index.specs.Home.{AreHome}
 use Rattle.egt_index.specs.Size.{has_pawns}

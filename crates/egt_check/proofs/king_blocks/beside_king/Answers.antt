@@ -1,4 +1,4 @@
-use Rattle.std.proofs.Common.{◌≡◌, ℕ, sym, subst}
+use Rattle.std.proofs.Common.{◌≡◌, sym, subst}
 use Rattle.std.specs.Int.{bit_at}
 use Rattle.egt_board.specs.Attack.{king_of}
 use Rattle.egt_board.specs.Gait.{Reaches}

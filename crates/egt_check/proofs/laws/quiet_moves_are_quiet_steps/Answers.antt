@@ -1,4 +1,3 @@
-use Rattle.std.proofs.Common.{ℕ, ◌<◌}
 use Rattle.egt_check.proofs.QuietStands.{Following, comes, goes}
 use Rattle.egt_check.proofs.laws.quiet_moves_are_quiet_steps.Goals as goal
 

@@ -1,0 +1,110 @@
+-- Entries that are due to the greatest scores of all moves keep the rules.
+use Rattle.std.proofs.Common.{◌≡◌, ◌≢◌, ℕ, ◌%◌, ◌<◌, ◌⊎◌, false, None, arith, sym, ap, ◌∙◌, inl, inr}
+use Rattle.std.proofs.lemmas.Bool.{cases_eq}
+use Rattle.egt_board.specs.Settled.{IsSettled}
+use Rattle.egt_board.specs.Setup.{Setup, IsAdmissible}
+use Rattle.egt_board.specs.declared.man.Kind.{Kind}
+use Rattle.egt_board.specs.declared.man.Kind.TheVariants.{Q, R, B, N, P, K}
+use Rattle.egt_board.specs.declared.man.Side.{Side}
+use Rattle.egt_index.specs.Code.{Spells}
+use Rattle.egt_index.specs.Index.{IsIndex, IsVoid}
+use Rattle.egt_index.specs.Size.{size_of}
+use Rattle.egt_index.specs.StepCodes.{TellsMen}
+use Rattle.egt_index.specs.Stood.{HasStand}
+use Rattle.egt_index.specs.declared.shelf_codes.ShelfMen.{ShelfMen}
+use Rattle.egt_lanes.specs.Pieces.{IsPiece}
+use Rattle.egt_lanes.specs.Scores.{byte_score, due_score}
+use Rattle.egt_moves.specs.Arena.{NoMove}
+use Rattle.egt_moves.specs.Chess.{chess}
+use Rattle.egt_table.specs.Table.{TableValue}
+use Rattle.egt_table.specs.declared.column.Column.{Column}
+use Rattle.egt_table.specs.declared.column.Column.TheVariants.{Mate, Zeroing}
+use Rattle.egt_check.specs.Blocks.{stand_on}
+use Rattle.egt_check.specs.Given.{AreAlike, AreGiven}
+use Rattle.egt_check.specs.MoveScores.{AreMoveScores, AreTablesOf}
+use Rattle.egt_check.specs.RightRow.{IsRightAt}
+use Rattle.egt_check.specs.Rules.{IsJudged}
+use Rattle.egt_check.specs.Score.{IsAtEnd}
+use Rattle.egt_check.specs.Tables.{Tables, entry_at}
+use Rattle.egt_check.specs.Worth.{score_at}
+use Rattle.egt_check.specs.declared.move_scores.FourMen.{FourMen}
+use Rattle.egt_check.proofs.FirstRule.{void_judged}
+use Rattle.egt_check.proofs.QuietGiven.{low_score}
+
+pub no_pawn : (kind : Kind) → IsPiece kind → kind ≢ P
+no_pawn P piece e = piece
+no_pawn Q piece e = cc
+no_pawn R piece e = cc
+no_pawn B piece e = cc
+no_pawn N piece e = cc
+no_pawn K piece e = piece
+
+pub no_king : (kind : Kind) → IsPiece kind → kind ≢ K
+no_king K piece e = piece
+no_king Q piece e = cc
+no_king R piece e = cc
+no_king B piece e = cc
+no_king N piece e = cc
+no_king P piece e = piece
+
+-- what other laws say of this position
+pub record Says (tables : Tables) (four : FourMen) (men : ShelfMen) (side : Side) (a b : ℕ) : Type 0 where
+  pub or_void : (i : ℕ) → ((p : Setup) × Spells four.own.now.class i p × IsIndex four.own.now.class p i) ⊎ IsVoid four.own.now.class i
+  pub settled : (i : ℕ) (p : Setup) → IsAdmissible p → IsIndex four.own.now.class p i → Spells four.own.now.class i p → IsSettled p
+  pub stands : (i : ℕ) (p : Setup) → Spells four.own.now.class i p → IsSettled p → TellsMen false four.own.now.class i (stand_on men a b) side → HasStand four.own.now.class false (stand_on men a b) side false p
+  pub given : (p : Setup) (mate zeroing : ℕ) → HasStand four.own.now.class false (stand_on men a b) side false p → AreMoveScores four men side a b mate zeroing → AreGiven tables p (λ m. Unit {0}) mate zeroing
+  pub due : (i : ℕ) (p : Setup) (g z : ℕ) → Spells four.own.now.class i p → ¬ IsVoid four.own.now.class i → AreAlike (entry_at four.own.now Mate i) (entry_at four.own.now Zeroing i) → AreGiven tables p (λ m. Unit {0}) g z → g ≢ 0
+      → byte_score (entry_at four.own.now Mate i) ≡ due_score g → byte_score (entry_at four.own.now Zeroing i) ≡ due_score z → (column : Column) → IsJudged tables four.own.now column i None
+  pub none : (p : Setup) (g z : ℕ) → IsAdmissible p → AreGiven tables p (λ m. Unit {0}) g z → g ≡ 0 → NoMove chess p
+  pub end : (i : ℕ) (p : Setup) (x : ℕ) → Spells four.own.now.class i p → ¬ IsVoid four.own.now.class i → AreAlike (entry_at four.own.now Mate i) (entry_at four.own.now Zeroing i) → NoMove chess p → IsAtEnd p x
+      → entry_at four.own.now Mate i ≡ x → entry_at four.own.now Zeroing i ≡ x → (column : Column) → IsJudged tables four.own.now column i None
+
+-- an entry with a byte of its own has a score
+some_score : (e : ℕ) → e ≢ 0 → e ≢ 2 → e < 254 → byte_score e ≢ 0
+some_score e some other low none = elim (cases_eq e 1) [
+  | inl one ↦ let is = ap byte_score one in omega (arith, is, none)
+  | inr more ↦ elim (cases_eq (e % 2) 0) [
+    | inl even ↦ grind (arith, some, other, low, none, more, even)
+    | inr odd ↦ grind (arith, some, other, low, none, more, odd)
+  ]
+]
+
+module _ (tables : Tables) (four : FourMen) (men : ShelfMen) (side : Side) (a b : ℕ) (says : Says tables four men side a b) (are : AreTablesOf tables four men) (i : ℕ) (below : i < size_of four.own.now.class) where
+  abbrev pub own : TableValue
+  own = four.own.now
+
+  of_void : IsVoid own.class i → (column : Column) → IsJudged tables own column i None
+  of_void void column = void_judged tables own i column void None (are.bytes.void column i below void)
+
+  module _ (p : Setup) (spells : Spells own.class i p) (index : IsIndex own.class p i) (mate zeroing : ℕ) (scores : AreMoveScores four men side a b mate zeroing) (tells : TellsMen false own.class i (stand_on men a b) side)
+      (right : score_at own Mate i ≢ 0 → IsRightAt own i mate zeroing) where
+    not_void : ¬ IsVoid own.class i
+    not_void void = void p spells.admissible index
+
+    alike : AreAlike (entry_at own Mate i) (entry_at own Zeroing i)
+    alike = are.bytes.alike i below not_void
+
+    has : HasStand own.class false (stand_on men a b) side false p
+    has = says.stands i p spells (says.settled i p spells.admissible index spells) tells
+
+    given : AreGiven tables p (λ m. Unit {0}) mate zeroing
+    given = says.given p mate zeroing has scores
+
+    judged : IsRightAt own i mate zeroing
+    judged = right (λ none. some_score (entry_at own Mate i) alike.mate_known.some alike.mate_known.other alike.mate_known.low (sym (low_score (entry_at own Mate i) alike.mate_known.low) ∙ none))
+
+    of_index : (column : Column) → IsJudged tables own column i None
+    of_index column = elim (cases_eq mate 0) [
+      | inl none ↦
+          let (x, at_end, first, second) = judged.end none p spells in
+          says.end i p x spells not_void alike (says.none p mate zeroing spells.admissible given none) at_end first second column
+      | inr some ↦
+          let (first, second) = judged.due some in
+          says.due i p mate zeroing spells not_void alike given some (sym (low_score (entry_at own Mate i) alike.mate_known.low) ∙ first) (sym (low_score (entry_at own Zeroing i) alike.zeroing_known.low) ∙ second) column
+    ]
+
+  pub all_judged : (mate zeroing : ℕ) → TellsMen false own.class i (stand_on men a b) side → AreMoveScores four men side a b mate zeroing → (score_at own Mate i ≢ 0 → IsRightAt own i mate zeroing) → (column : Column) → IsJudged tables own column i None
+  all_judged mate zeroing tells scores right column = elim (says.or_void i) [
+    | inl spelled ↦ of_index spelled.0 spelled.1 spelled.2 mate zeroing scores tells right column
+    | inr void ↦ of_void void column
+  ]

@@ -1,0 +1,15 @@
+use Rattle.egt_check.proofs.Takings.{Telling, comes, goes}
+use Rattle.egt_check.proofs.laws.captures_lead_to_three_men.Goals as goal
+
+pub returns : goal.returns
+returns c = record {
+  goes = λ k men side passed a b p q m class_in one last one_other last_other has leads zeroes. goes c.facts.ensures telling k men one last one_other last_other side passed a b p has q m leads zeroes;
+  comes = λ k men side passed a b p class_in one last one_other last_other has left is d flips class q there. comes c.facts.ensures telling k men one last one_other last_other side passed a b p has left is d flips class q there;
+}
+  where
+    telling : Telling
+    telling = record {
+      listed = c.stands_follow_moves.ensures.listed;
+      free = c.stands_follow_moves.ensures.free;
+      counted = c.men_beside_are_counted.ensures;
+    }

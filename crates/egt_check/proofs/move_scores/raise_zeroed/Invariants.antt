@@ -1,0 +1,13 @@
+use Rattle.std.proofs.Common.{◌≡◌, ℕ, ◌<◌, ◌≤◌, List, length, max}
+use Rattle.egt_lanes.specs.Blocks.{at}
+use Rattle.egt_lanes.specs.Scores.{zeroing_score}
+use Rattle.egt_check.proofs.move_scores.raise_zeroed.Given as goal
+
+-- rows below i are raised, and the others are as they were
+pub record RaisedRows (out old by : List (List ℕ)) (i : ℕ) : Type 0 where
+  pub long : length out ≡ 64
+  pub done : (a b : ℕ) → a < i → b < 64 → at out a b ≡ max (at old a b) (zeroing_score (at by a b))
+  pub left : (a b : ℕ) → i ≤ a → at out a b ≡ at old a b
+
+abbrev pub invariant-loop-i : goal.invariant-loop-i
+invariant-loop-i l = RaisedRows l.out l.initial.out l.mates l.i

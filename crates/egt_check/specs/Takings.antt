@@ -1,0 +1,56 @@
+-- The men after the captures of a side, where all men beside the kings are pieces.
+use Rattle.std.specs.Prelude.{◌≡◌, ◌≢◌, ℕ, ◌<◌, ◌⊎◌, Bool, if◌then◌else◌, [], ◌∷◌, Some, None}
+use Rattle.egt_board.specs.Attack.{king_of}
+use Rattle.egt_board.specs.Gait.{Reaches}
+use Rattle.egt_board.specs.Man.{other_side}
+use Rattle.egt_board.specs.Setup.{Setup}
+use Rattle.egt_board.specs.Turned.{turned_man}
+use Rattle.egt_board.specs.declared.man.Man.{Man}
+use Rattle.egt_board.specs.declared.man.Side.{Side}
+use Rattle.egt_board.specs.declared.man.Side.TheVariants.{White, Black}
+use Rattle.egt_class.specs.Material.{material_of}
+use Rattle.egt_class.specs.Membership.{IsOf}
+use Rattle.egt_class.specs.Pair.{IsBeside}
+use Rattle.egt_index.specs.Size.{men_in_order}
+use Rattle.egt_index.specs.declared.shelf_codes.ShelfMen.{ShelfMen}
+use Rattle.egt_index.specs.declared.stand.Stand.{Stand}
+use Rattle.egt_check.specs.Blocks.{IsBesideKing, with_king}
+
+-- who is left beside the kings after a capture, and where they stand
+pub record Left : Type 0 where
+  pub white : ℕ
+  pub black : ℕ
+  pub man : Man
+  pub square : ℕ
+
+-- the kings where they were, and this man
+abbrev pub left_of : ShelfMen → Man → ℕ → Left
+left_of men man s = record { white = men.white; black = men.black; man = man; square = s }
+
+-- the men of a class of three as its codes name them, in colours exchanged where `flips`
+abbrev pub stand_left : Bool → Left → Stand
+stand_left flips left = record {
+  white = if flips then left.black else left.white;
+  black = if flips then left.white else left.black;
+  next = Some (turned_man flips left.man, left.square);
+  last = None;
+}
+
+-- past the kings alone
+abbrev pub IsPastKings : ShelfMen → ℕ → Type 0
+IsPastKings men u = (u ≢ men.white) × (u ≢ men.black)
+
+-- what a capture by that side leaves, where the first man beside the kings stands on a and the last on b: the king takes the first or the last, the first takes the last, or the last
+-- the first
+abbrev pub IsTaken : ShelfMen → Side → (a b : ℕ) → Left → Type 0
+IsTaken men side a b left =
+    ((men.one.side ≡ other_side side) × IsBesideKing men side a × (left ≡ left_of (with_king men side a) men.last b))
+    ⊎ ((men.last.side ≡ other_side side) × IsBesideKing men side b × (left ≡ left_of (with_king men side b) men.one a))
+    ⊎ ((men.one.side ≡ side) × (men.last.side ≡ other_side side) × Reaches (IsPastKings men) men.one a b × (left ≡ left_of men men.one b))
+    ⊎ ((men.last.side ≡ side) × (men.one.side ≡ other_side side) × Reaches (IsPastKings men) men.last b a × (left ≡ left_of men men.last a))
+
+-- the class of three men with this one, who is its own in colours exchanged where `flips`
+pub record IsClassOf (d : ℕ) (flips : Bool) (man : Man) : Type 0 where
+  pub below : d < 36
+  pub of : (p : Setup) → IsBeside p (Some man) None → IsOf d flips p
+  pub order : men_in_order (material_of d) ≡ king_of White ∷ king_of Black ∷ turned_man flips man ∷ []

@@ -1,0 +1,115 @@
+//! The judgement of all entries with the kings on two squares, in classes with two pieces beside the kings.
+ghost use Rattle.std.specs.Prelude.{◌≡◌, ◌+◌, ◌<◌, ℕ, false, true, None, slice_index};
+ghost use Rattle.egt_board.specs.Turned.{turned_man};
+ghost use Rattle.egt_class.specs.Material.{material_of};
+ghost use Rattle.egt_index.specs.LoneCodes.{IsLoneMan};
+ghost use Rattle.egt_index.specs.ShelfCodes.{AreMenOf};
+ghost use Rattle.egt_index.specs.Size.{has_target};
+ghost use Rattle.egt_lanes.specs.Blocks.{at};
+ghost use Rattle.egt_lanes.specs.Pieces.{IsPiece};
+ghost use Rattle.egt_table.specs.declared.column.Column.{Column};
+ghost use Rattle.egt_check.specs.Blocks.{men_on};
+ghost use Rattle.egt_check.specs.MoveScores.{AreTablesOf};
+ghost use Rattle.egt_check.specs.RightBlock.{IsRightLane, lane_of};
+ghost use Rattle.egt_check.specs.Rules.{IsJudged};
+ghost use Rattle.egt_check.specs.Tables.{Tables};
+
+use crate::blocks::nothing;
+use crate::laws::entries_due_to_all_moves_are_right;
+use crate::move_scores::{FourMen, move_scores};
+use crate::row_judging::row_is_right;
+use egt_board::{Side, Square};
+use egt_index::{ShelfMen, shelf_of};
+use egt_lanes::{Block, Row};
+use egt_table::Table;
+
+/// The men with the first one on the square.
+fn men_on(men: &ShelfMen, on: Square) -> ShelfMen
+    ensures { result ≡ men_on men.now on }
+{
+    ShelfMen {
+        white: men.white,
+        black: men.black,
+        one: men.one,
+        on,
+        last: men.last,
+    }
+}
+
+/// Whether the entries of this shelf, which is to have the first man on the square, are due to the greatest scores.
+fn shelf_is_right(
+    table: &Table,
+    men: &ShelfMen,
+    on: Square,
+    shelf: u32,
+    side: Side,
+    mates: Row,
+    zeroing: Row,
+) -> bool
+    requires men { AreMenOf table.now.class men.now }
+    requires targets { has_target (material_of table.now.class) ≡ false }
+    requires last { IsPiece men.now.last.kind }
+    ensures { result ≡ true → (b : ℕ) → b < 64 → IsRightLane table.now men.now side on b (lane_of shelf side b) (slice_index mates b) (slice_index zeroing b) }
+{
+    let there = men_on(men, on);
+    match shelf_of(table.class(), &there, false) {
+        Some(number) if number == shelf => {
+            row_is_right(table, &there, number, side, mates, zeroing)
+        }
+        _ => false,
+    }
+}
+
+/// Whether so are the entries of 64 shelves from this one on, by the first man's square.
+fn shelves_are_right(
+    table: &Table,
+    men: &ShelfMen,
+    first: u32,
+    side: Side,
+    mates: &Block,
+    zeroing: &Block,
+) -> bool
+    requires men { AreMenOf table.now.class men.now }
+    requires targets { has_target (material_of table.now.class) ≡ false }
+    requires last { IsPiece men.now.last.kind }
+    requires room { first + 64 < 4294967296 }
+    ensures { result ≡ true → (a b : ℕ) → a < 64 → b < 64 → IsRightLane table.now men.now side a b (lane_of (first + a) side b) (at mates.now a b) (at zeroing.now a b) }
+{
+    for a in 0..64u8 {
+        let row = a as usize;
+        let shelf = first + u32::from(a);
+        if !shelf_is_right(
+            table,
+            men,
+            Square::at(a),
+            shelf,
+            side,
+            mates[row],
+            zeroing[row],
+        ) {
+            return false;
+        }
+    }
+    true
+}
+
+/// Whether all entries of those shelves with that side to move keep the rules.
+pub(crate) fn block_is_right(four: &FourMen, men: &ShelfMen, first: u32, side: Side) -> bool
+    requires men { AreMenOf four.now.own.now.class men.now }
+    requires targets { has_target (material_of four.now.own.now.class) ≡ false }
+    requires one { IsPiece men.now.one.kind }
+    requires last { IsPiece men.now.last.kind }
+    requires first_left { IsLoneMan four.now.first.now.class (turned_man four.now.first_flips men.now.one) }
+    requires last_left { IsLoneMan four.now.last.now.class (turned_man four.now.last_flips men.now.last) }
+    requires room { first + 64 < 4294967296 }
+    ensures { result ≡ true → (tables : Tables) → AreTablesOf tables four.now men.now → (a b : ℕ) → a < 64 → b < 64 → (column : Column) →
+        IsJudged tables four.now.own.now column (lane_of (first + a) side b) None }
+{
+    entries_due_to_all_moves_are_right();
+    let mut mates = nothing();
+    let mut zeroing = nothing();
+    if !move_scores(four, men, side, &mut mates, &mut zeroing) {
+        return false;
+    }
+    shelves_are_right(four.own, men, first, side, &mates, &zeroing)
+}

@@ -1,0 +1,102 @@
+//! The scores of the positions after each quiet step of a side with two men beside the kings, neither of them a pawn.
+ghost use Rattle.std.specs.Prelude.{◌≡◌, ◌≢◌, ◌↔◌, ◌<◌, ℕ, false, true};
+ghost use Rattle.std.specs.Int.{bit_at};
+ghost use Rattle.egt_board.specs.Gait.{Reaches};
+ghost use Rattle.egt_board.specs.SquareSet.{Has};
+ghost use Rattle.egt_class.specs.Material.{material_of};
+ghost use Rattle.egt_index.specs.ShelfCodes.{AreMenOf};
+ghost use Rattle.egt_index.specs.Size.{has_target};
+ghost use Rattle.egt_lanes.specs.Blocks.{at};
+ghost use Rattle.egt_lanes.specs.Pieces.{IsPiece};
+ghost use Rattle.egt_lanes.specs.Raised.{IsRaised};
+ghost use Rattle.egt_check.specs.QuietStands.{AreQuietCodes, IsClear};
+ghost use Rattle.egt_check.specs.QuietSteps.{IsFirstStep, IsLastStep};
+ghost use Rattle.egt_check.specs.Worth.{score_at};
+
+use crate::blocks::{nothing, read_block};
+use crate::king_blocks::king_block;
+use crate::own_men::is_of;
+use egt_board::{Side, Square, SquareSet};
+use egt_index::ShelfMen;
+use egt_lanes::Block;
+use egt_lanes::shift::last_man_raised;
+use egt_lanes::walk::raise_rows;
+use egt_table::{Column, Table};
+
+/// The squares of the kings.
+#[inline(always)]
+pub(crate) fn kings_of(men: &ShelfMen) -> SquareSet
+    ensures { (u : ℕ) → (bit_at result.bits u ≡ 0) ↔ ((u ≢ men.now.white) × (u ≢ men.now.black)) }
+{
+    SquareSet::EMPTY.with(men.white).with(men.black)
+}
+
+/// All squares but the kings' and this one.
+#[inline(always)]
+fn clear_of(men: &ShelfMen, other: Square) -> SquareSet
+    ensures { (u : ℕ) → u < 64 → Has result u ↔ IsClear men.now other u }
+{
+    SquareSet::ALL.less(men.white).less(men.black).less(other)
+}
+
+/// Raises the scores to those where a first man of that side goes quietly.
+fn raise_first(men: &ShelfMen, side: Side, scores: &Block, out: &mut Block)
+    requires { IsPiece men.now.one.kind }
+    ensures { (a b : ℕ) → a < 64 → b < 64 → IsRaised (at out.old a b) (IsFirstStep men.now side a b) (λ t. at scores.now t b) (at out.new a b) }
+{
+    if is_of(men.one, side) {
+        raise_rows(out, scores, men.one, kings_of(men));
+    }
+}
+
+/// Raises each row to the scores where the last man goes quietly.
+fn raise_lanes(men: &ShelfMen, scores: &Block, out: &mut Block)
+    requires { IsPiece men.now.last.kind }
+    ensures { (a b : ℕ) → a < 64 → b < 64 → IsRaised (at out.old a b) (λ t. Reaches (IsClear men.now a) men.now.last b t) (λ t. at scores.now a t) (at out.new a b) }
+{
+    for a in 0..64u8 {
+        let row = a as usize;
+        let free = clear_of(men, Square::at(a));
+        out[row] = last_man_raised(out[row], scores[row], free, men.last);
+    }
+}
+
+/// Raises the scores to those where a last man of that side goes quietly.
+fn raise_last(men: &ShelfMen, side: Side, scores: &Block, out: &mut Block)
+    requires { IsPiece men.now.last.kind }
+    ensures { (a b : ℕ) → a < 64 → b < 64 → IsRaised (at out.old a b) (IsLastStep men.now side a b) (λ t. at scores.now a t) (at out.new a b) }
+{
+    if is_of(men.last, side) {
+        raise_lanes(men, scores, out);
+    }
+}
+
+/// The scores of the positions after each quiet step of a man of that side, the other side to move. False where the table does not tell.
+pub(crate) fn quiet_block(
+    table: &Table,
+    column: Column,
+    men: &ShelfMen,
+    side: Side,
+    out: &mut Block,
+) -> bool
+    requires men { AreMenOf table.now.class men.now }
+    requires targets { has_target (material_of table.now.class) ≡ false }
+    requires one { IsPiece men.now.one.kind }
+    requires last { IsPiece men.now.last.kind }
+    ensures { result ≡ true → (a b : ℕ) → a < 64 → b < 64 →
+        IsRaised 0 (AreQuietCodes table.now.class men.now side a b) (score_at table.now column) (at out.new a b) }
+{
+    if !king_block(table, column, men, side, out) {
+        return false;
+    }
+    if !is_of(men.one, side) && !is_of(men.last, side) {
+        return true;
+    }
+    let mut scores = nothing();
+    if !read_block(table, column, men, side.other(), &mut scores) {
+        return false;
+    }
+    raise_first(men, side, &scores, out);
+    raise_last(men, side, &scores, out);
+    true
+}

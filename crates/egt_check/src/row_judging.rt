@@ -1,0 +1,109 @@
+//! The judgement of a row of a table's entries by the greatest bytes of the moves.
+ghost use Rattle.std.specs.Prelude.{◌≡◌, ◌≢◌, ◌+◌, ◌*◌, ℕ, ◌<◌, slice_index, true, false, IfSome};
+ghost use Rattle.egt_board.specs.SquareSet.{Has};
+ghost use Rattle.egt_class.specs.Material.{material_of};
+ghost use Rattle.egt_index.specs.ShelfCodes.{IsShelfOf, IsWithin, number_in};
+ghost use Rattle.egt_index.specs.Size.{has_target, size_of};
+ghost use Rattle.egt_lanes.specs.Pieces.{IsPiece};
+ghost use Rattle.egt_table.specs.declared.column.Column.TheVariants.{Mate};
+ghost use Rattle.egt_check.specs.RightRow.{IsRightAt, IsRightEnd};
+ghost use Rattle.egt_check.specs.Score.{IsAtEnd};
+ghost use Rattle.egt_check.specs.Worth.{score_at};
+
+use crate::rows::row_of;
+use crate::successors::entries_at;
+use egt_board::{Position, Side, SquareSet};
+use egt_index::laws::{codes_spell_one_position, codes_tell_turned_men};
+use egt_index::{ShelfMen, last_digits, position, size};
+use egt_lanes::Row;
+use egt_lanes::row::differ;
+use egt_lanes::score::due;
+use egt_lanes::sets::{kept, lanes_of};
+use egt_moves::{Standing, standing};
+use egt_table::{Column, Table};
+
+/// The entry of a position without a legal move; `None` where there is one.
+fn entry_without_move(position: &Position) -> Option<u16>
+    ensures { IfSome result (IsAtEnd position.now) }
+{
+    match standing(position) {
+        Standing::Checkmate => Some(3),
+        Standing::Stalemate => Some(1),
+        Standing::HasMove => None,
+    }
+}
+
+/// Whether the code's position is checkmate or stalemate, and the entries tell it.
+fn end_is_right(table: &Table, code: u32) -> bool
+    requires { code < size_of table.now.class }
+    ensures { result ≡ true → IsRightEnd table.now code }
+{
+    codes_spell_one_position();
+    let Some(position) = position(table.class(), code) else {
+        return false;
+    };
+    let Some(entry) = entry_without_move(&position) else {
+        return false;
+    };
+    let entries = entries_at(table, code);
+    entries.mate == entry && entries.zeroing == entry
+}
+
+/// Whether so are the codes of these squares, every other one from `first` on.
+fn ends_are_right(table: &Table, first: u32, ends: SquareSet) -> bool
+    requires { (s : ℕ) → s < 64 → first + 2 * s < size_of table.now.class }
+    ensures { result ≡ true → (s : ℕ) → Has ends s → IsRightEnd table.now (first + 2 * s) }
+{
+    let _size = size(table.class());
+    let mut rest = ends;
+    while let Some(square) = rest.pop_first() {
+        let code = first + 2 * u32::from(square.number());
+        if !end_is_right(table, code) {
+            return false;
+        }
+    }
+    true
+}
+
+/// The shelf's first code with that side to move.
+fn first_of(table: &Table, shelf: u32, side: Side) -> u32
+    requires within { IsWithin table.now.class shelf }
+    ensures { result ≡ number_in table.now.class shelf side 0 }
+{
+    let class = table.class();
+    let _size = size(class);
+    let first = shelf * (2 * last_digits(class));
+    match side {
+        Side::White => first,
+        Side::Black => first + 1,
+    }
+}
+
+/// Whether the entries of a shelf's codes with that side to move are due to the greatest bytes of the moves, by the last man's square, or tell checkmate
+/// and stalemate.
+pub(crate) fn row_is_right(
+    table: &Table,
+    men: &ShelfMen,
+    shelf: u32,
+    side: Side,
+    mates: Row,
+    zeroing: Row,
+) -> bool
+    requires shelf { IsShelfOf false table.now.class shelf men.now }
+    requires within { IsWithin table.now.class shelf }
+    requires targets { has_target (material_of table.now.class) ≡ false }
+    requires last { IsPiece men.now.last.kind }
+    ensures { result ≡ true → (b : ℕ) → b < 64 → score_at table.now Mate (number_in table.now.class shelf side b) ≢ 0 →
+        IsRightAt table.now (number_in table.now.class shelf side b) (slice_index mates b) (slice_index zeroing b) }
+{
+    codes_tell_turned_men();
+    let own = row_of(table, Column::Mate, men, shelf, side);
+    let clock = row_of(table, Column::Zeroing, men, shelf, side);
+    let moving = lanes_of(mates);
+    let within = kept(own, moving);
+    if differ(own, due(mates), within) || differ(clock, due(zeroing), within) {
+        return false;
+    }
+    let ends = lanes_of(own).without(moving);
+    ends_are_right(table, first_of(table, shelf, side), ends)
+}

@@ -1,0 +1,122 @@
+//! The scores of the positions after the last man beside the kings was taken.
+ghost use Rattle.std.specs.Prelude.{◌≡◌, ◌<◌, ℕ, true, slice_index};
+ghost use Rattle.egt_board.specs.Gait.{Reaches};
+ghost use Rattle.egt_board.specs.Man.{other_side};
+ghost use Rattle.egt_board.specs.Turned.{turned_man};
+ghost use Rattle.egt_index.specs.LoneCodes.{IsLoneMan};
+ghost use Rattle.egt_index.specs.TurnedMen.{IsSomeTurnedCode};
+ghost use Rattle.egt_lanes.specs.Blocks.{at};
+ghost use Rattle.egt_lanes.specs.Pieces.{IsPiece};
+ghost use Rattle.egt_lanes.specs.Raised.{IsRaised};
+ghost use Rattle.egt_table.specs.declared.column.Column.TheVariants.{Mate};
+ghost use Rattle.egt_check.specs.Blocks.{IsBesideKing, with_king};
+ghost use Rattle.egt_check.specs.Taken.{AreLeftCodes};
+ghost use Rattle.egt_check.specs.Takings.{IsPastKings, left_of, stand_left};
+ghost use Rattle.egt_check.specs.Worth.{IsRead, score_at};
+
+use crate::blocks::nothing;
+use crate::king_blocks::{beside_king, with_king};
+use crate::lone_rows::read_lone;
+use crate::own_men::is_of;
+use crate::quiet_blocks::kings_of;
+use egt_board::gait::reach_past;
+use egt_board::{Man, Mirror, Side, Square};
+use egt_index::ShelfMen;
+use egt_lanes::block::raise_transposed;
+use egt_lanes::row::greater;
+use egt_lanes::sets::kept;
+use egt_lanes::{Block, Row};
+use egt_table::{Column, Table};
+use std::simd::prelude::*;
+
+/// The man, of the other side where colours are exchanged.
+pub(crate) fn turned_man(man: Man, flips: bool) -> Man
+    ensures { result ≡ turned_man flips man }
+{
+    if flips { Mirror::Colours.man(man) } else { man }
+}
+
+/// The scores of the positions with the first man alone beside the kings, the other side to move, by his square. False where the table does not tell.
+fn read_left(child: &Table, flips: bool, men: &ShelfMen, side: Side, out: &mut Row) -> bool
+    requires { IsLoneMan child.now.class (turned_man flips men.now.one) }
+    ensures { result ≡ true → (s : ℕ) → s < 64 → IsRead child.now Mate flips (stand_left flips (left_of men.now men.now.one s)) (other_side side) (slice_index out.new s) }
+{
+    let white = if flips { men.black } else { men.white };
+    let black = if flips { men.white } else { men.black };
+    let man = turned_man(men.one, flips);
+    read_lone(
+        child,
+        Column::Mate,
+        man,
+        white,
+        black,
+        flips,
+        side.other(),
+        out,
+    )
+}
+
+/// The scores where that side's king takes the last man: a row for each square on which it does, a lane for each of the first man's. False where the table
+/// does not tell.
+fn read_beside(child: &Table, flips: bool, men: &ShelfMen, side: Side, out: &mut Block) -> bool
+    requires { IsLoneMan child.now.class (turned_man flips men.now.one) }
+    ensures { result ≡ true → (b a : ℕ) → b < 64 → a < 64 →
+        IsRaised 0 (λ code. IsBesideKing men.now side b × IsSomeTurnedCode child.now.class code flips (stand_left flips (left_of (with_king men.now side b) men.now.one a)) (other_side side)) (score_at child.now Mate) (at out.new b a) }
+{
+    *out = nothing();
+    let mut rest = beside_king(men, side);
+    while let Some(to) = rest.pop_first() {
+        let stepped = with_king(men, side, to);
+        let mut row = Row::splat(0);
+        if !read_left(child, flips, &stepped, side, &mut row) {
+            return false;
+        }
+        out[usize::from(to.number())] = row;
+    }
+    true
+}
+
+/// Raises the scores to those where the first man takes: from the square of the row, on that of the lane.
+fn raise_takes(men: &ShelfMen, scores: &Row, out: &mut Block)
+    ensures { (a b : ℕ) → a < 64 → b < 64 →
+        IsRaised (at out.old a b) (λ t. (t ≡ b) × Reaches (IsPastKings men.now) men.now.one a t) (λ t. slice_index scores.now t) (at out.new a b) }
+{
+    let kings = kings_of(men);
+    for a in 0..64u8 {
+        let row = a as usize;
+        let reached = reach_past(men.one, Square::at(a), kings);
+        out[row] = greater(out[row], kept(*scores, reached));
+    }
+}
+
+/// The scores of the positions after that side took the last man, by the king or by the first man. False where the table does not tell.
+pub(crate) fn taken_block(
+    child: &Table,
+    flips: bool,
+    men: &ShelfMen,
+    side: Side,
+    out: &mut Block,
+) -> bool
+    requires man { IsLoneMan child.now.class (turned_man flips men.now.one) }
+    requires piece { IsPiece men.now.one.kind }
+    ensures { result ≡ true → (a b : ℕ) → a < 64 → b < 64 → IsRaised 0 (AreLeftCodes child.now.class flips men.now side a b) (score_at child.now Mate) (at out.new a b) }
+{
+    *out = nothing();
+    if !is_of(men.last, side.other()) {
+        return true;
+    }
+    let mut beside = nothing();
+    if !read_beside(child, flips, men, side, &mut beside) {
+        return false;
+    }
+    raise_transposed(out, &beside);
+    if !is_of(men.one, side) {
+        return true;
+    }
+    let mut scores = Row::splat(0);
+    if !read_left(child, flips, men, side, &mut scores) {
+        return false;
+    }
+    raise_takes(men, &scores, out);
+    true
+}

@@ -1,0 +1,18 @@
+use Rattle.std.proofs.Common.{◌≡◌, ◌+◌, ◌*◌, ◌<◌, ◌∙◌, arith, ap, sym, subst}
+use Rattle.egt_index.specs.Code.{king_square}
+use Rattle.egt_index.specs.LoneCodes.{IsLoneRow}
+use Rattle.egt_index.specs.Scales.{kind_digits}
+use Rattle.egt_index.specs.Size.{king_base}
+use Rattle.egt_index.proofs.LoneCodes.{lone_told}
+use Rattle.egt_index.proofs.lone_codes.lone_row.Goals as goal
+
+pub returns : goal.returns
+returns c = subst (λ first. IsLoneRow c.args.class first c.args.white c.args.black c.args.man) (sym is)
+    (lone_told c.args.class c.in_ok-high.high c.args.white c.args.black c.args.man c.requires (subst (λ b. c.in_ok-high.high < king_base b) c.has_pawns.ensures c.in_ok-high.ensures.found)
+    (subst (λ b. king_square b c.in_ok-high.high ≡ c.args.white) c.has_pawns.ensures c.in_ok-high.ensures.is) (omega (arith, c.number-black.ensures.on_board, c.number-black.ensures.value)))
+  where
+    is : (c.from.result * 64 + c.from-2.result) * c.digits_of.result * 2 ≡ (c.in_ok-high.high * 64 + c.args.black) * kind_digits c.args.man.kind * 2
+    is =
+        ap (λ h. (h * 64 + c.from-2.result) * c.digits_of.result * 2) c.from.ensures
+        ∙ ap (λ b. (c.in_ok-high.high * 64 + b) * c.digits_of.result * 2) (c.from-2.ensures ∙ c.number.ensures.value)
+        ∙ ap (λ d. (c.in_ok-high.high * 64 + c.args.black) * d * 2) c.digits_of.ensures.is
