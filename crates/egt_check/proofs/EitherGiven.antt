@@ -8,6 +8,13 @@ use Rattle.egt_moves.specs.declared.chess_move.Move.{Move}
 use Rattle.egt_check.specs.Given.{AreGiven, IsGiven}
 use Rattle.egt_check.specs.Tables.{Tables}
 
+-- the greater of two is one of them
+pub one_of : (P : ℕ → Type 0) (m n : ℕ) → P m → P n → P (max m n)
+one_of P m n left right = elim (cases_lt m n) [
+  | inl below ↦ let is : n ≡ max m n = omega arith in subst P is right
+  | inr above ↦ let is : m ≡ max m n = omega arith in subst P is left
+]
+
 module _ (tables : Tables) (p : Setup) where
   whole : (Among : Move → Type 0) (x z : ℕ) → IsGiven tables p Among x z → IsGiven tables p (λ m. Unit {0}) x z
   whole Among x z g = record { move = g.move; next = g.next; leads = g.leads; among = tt; scores = g.scores }
@@ -19,13 +26,6 @@ module _ (tables : Tables) (p : Setup) where
   zeroing_whole : (Among : Move → Type 0) (z : ℕ) → (z ≡ 0) ⊎ ((x : ℕ) × IsGiven tables p Among x z) → (z ≡ 0) ⊎ ((x : ℕ) × IsGiven tables p (λ m. Unit {0}) x z)
   zeroing_whole Among z (inl none) = inl none
   zeroing_whole Among z (inr g) = inr (g.0, whole Among g.0 z g.1)
-
-  -- the greater of two is one of them
-  one_of : (P : ℕ → Type 0) (m n : ℕ) → P m → P n → P (max m n)
-  one_of P m n left right = elim (cases_lt m n) [
-    | inl below ↦ let is : n ≡ max m n = omega arith in subst P is right
-    | inr above ↦ let is : m ≡ max m n = omega arith in subst P is left
-  ]
 
   pub either_given : (x z y w : ℕ) → AreGiven tables p (λ m. ¬ Zeroes p m) x z → AreGiven tables p (Zeroes p) y w → AreGiven tables p (λ m. Unit {0}) (max x y) (max z w)
   either_given x z y w quiet loud = record {

@@ -1,5 +1,5 @@
 -- The greatest scores of the codes after captures are those of the captures.
-use Rattle.std.proofs.Common.{◌≡◌, ℕ, ◌%◌, ◌<◌, ◌≤◌, ◌⊎◌, if◌then◌else◌, max, Bool, true, false, arith, refl, sym, ap, ◌∙◌, inl, inr, subst}
+use Rattle.std.proofs.Common.{◌≡◌, ℕ, ◌<◌, ◌≤◌, ◌⊎◌, if◌then◌else◌, max, Bool, true, false, arith, refl, sym, ap, ◌∙◌, inl, inr, subst}
 use Rattle.std.proofs.lemmas.Bool.{cases_lt, cases_eq}
 use Rattle.egt_board.specs.Gait.{Reaches-on_board}
 use Rattle.egt_board.specs.Man.{other_side}
@@ -13,7 +13,7 @@ use Rattle.egt_index.specs.TurnedMen.{IsSomeTurnedCode}
 use Rattle.egt_index.specs.declared.shelf_codes.ShelfMen.{ShelfMen}
 use Rattle.egt_index.specs.declared.stand.Stand.{Stand}
 use Rattle.egt_lanes.specs.Raised.{IsRaised}
-use Rattle.egt_lanes.specs.Scores.{byte_score, zeroing_score}
+use Rattle.egt_lanes.specs.Scores.{zeroing_score}
 use Rattle.egt_lanes.proofs.Raising.{raised_as}
 use Rattle.egt_moves.specs.Chess.{Zeroes}
 use Rattle.egt_moves.specs.Legal.{Leads}
@@ -29,10 +29,9 @@ use Rattle.egt_check.specs.Takings.{IsClassOf, IsTaken, Left, left_of, stand_lef
 use Rattle.egt_check.specs.Tables.{HasEntry, Tables, entry_at}
 use Rattle.egt_check.specs.Worth.{IsBestOf, IsScoreOf, score_at}
 use Rattle.egt_check.proofs.ByteJudged.{zeroing_drawn, zeroing_lost, zeroing_low}
+use Rattle.egt_check.proofs.EitherGiven.{one_of}
+use Rattle.egt_check.proofs.QuietGiven.{low_score}
 use Rattle.egt_check.proofs.Worth.{AreWhole, Turning, best_of}
-
-low_score : (e : ℕ) → e < 254 → byte_score (e % 256) ≡ byte_score e
-low_score e low = let same : e % 256 ≡ e = omega arith in ap byte_score same
 
 -- where a move that zeroes leads to less, it is worth no more
 zeroing_above : (v w : ℕ) → v ≤ w → zeroing_score v ≤ zeroing_score w
@@ -247,13 +246,6 @@ module _ (facts : Facts) (turning : Turning) (tables : Tables) (c : ℕ) (men : 
           scores = subst (λ x. HasScores tables p h.position m x (zeroing_score x)) (sym h.is)
               (scores facts turning tables p (men_swapped men) white_in black_in side b a last_in last last_flips is_last h.position h.stand h.has h.index h.is_index m zeroes);
         })
-
-    -- the greater of two is one of them
-    one_of : (Q : ℕ → Type 0) (m n : ℕ) → Q m → Q n → Q (max m n)
-    one_of Q m n left right = elim (cases_lt m n) [
-      | inl below ↦ let e : n ≡ max m n = omega arith in subst Q e right
-      | inr above ↦ let e : m ≡ max m n = omega arith in subst Q e left
-    ]
 
     greatest : Given (max u v)
     greatest = one_of Given u v (from_first by_first.reached) (from_last by_last.reached)
