@@ -1,54 +1,50 @@
--- The code of a lane of a shelf whose last man is a piece.
-use Rattle.std.proofs.Common.{◌≡◌, ◌≢◌, ◌∙◌, ℕ, ◌+◌, ◌*◌, ◌<◌, ◌≤◌, Bool, false, arith, ap, subst}
+-- The code of a lane of a shelf.
+use Rattle.std.proofs.Common.{◌≡◌, ◌≢◌, ℕ, ◌+◌, ◌*◌, ◌<◌, ◌≤◌, Bool, false, arith, sym, subst}
 use Rattle.egt_board.specs.Images.{side_number}
+use Rattle.egt_board.specs.declared.man.Kind.{Kind}
+use Rattle.egt_board.specs.declared.man.Kind.TheVariants.{Q, R, B, N, P, K}
 use Rattle.egt_board.specs.declared.man.Side.{Side}
 use Rattle.egt_class.specs.Material.{material_of}
 use Rattle.egt_index.specs.Numbers.{code_of, places}
 use Rattle.egt_index.specs.Scales.{kind_digits, kind_less}
-use Rattle.egt_index.specs.ShelfCodes.{IsShelfOf, IsWithin, number_in, stand_with}
+use Rattle.egt_index.specs.ShelfCodes.{IsShelfOf, IsWithin, number_in}
 use Rattle.egt_index.specs.Size.{has_target, size_of}
 use Rattle.egt_index.specs.StepCodes.{TellsMen}
 use Rattle.egt_index.specs.declared.shelf_codes.ShelfMen.{ShelfMen}
-use Rattle.egt_lanes.specs.Pieces.{IsPiece}
 use Rattle.egt_table.specs.Table.{TableValue}
 use Rattle.egt_table.specs.declared.column.Column.TheVariants.{Mate}
 use Rattle.egt_check.specs.Blocks.{men_on, stand_on}
-use Rattle.egt_check.specs.RightBlock.{IsRightLane, lane_of}
+use Rattle.egt_check.specs.RightBlock.{IsRightLane}
 use Rattle.egt_check.specs.RightRow.{IsRightAt}
 use Rattle.egt_check.specs.Worth.{score_at}
-use Rattle.egt_check.proofs.RowJudged.{piece_places}
 use Rattle.egt_check.proofs.RowRead.{code_plain, side_few}
 
-module _ (t : TableValue) (men : ShelfMen) (on shelf : ℕ) (side : Side) (is : IsShelfOf false t.class shelf (men_on men on)) (within : IsWithin t.class shelf) (targets : has_target (material_of t.class) ≡ false) (piece : IsPiece men.last.kind) (b : ℕ) (b_in : b < 64) where
-  digits : kind_digits men.last.kind ≡ 64
-  digits = (piece_places men.last.kind piece).0
+-- a code of a shelf within is below the size
+row_below : (kind : Kind) (shelf first digit size : ℕ) → first < 2 → digit < kind_digits kind → (shelf + 1) * (2 * kind_digits kind) ≤ size → shelf * (2 * kind_digits kind) + first + 2 * digit < size
+row_below P shelf first digit size few below ends = omega (arith, few, below, ends)
+row_below Q shelf first digit size few below ends = omega (arith, few, below, ends)
+row_below R shelf first digit size few below ends = omega (arith, few, below, ends)
+row_below B shelf first digit size few below ends = omega (arith, few, below, ends)
+row_below N shelf first digit size few below ends = omega (arith, few, below, ends)
+row_below K shelf first digit size few below ends = omega (arith, few, below, ends)
 
-  less : kind_less men.last.kind ≡ 0
-  less = (piece_places men.last.kind piece).1
+module _ (t : TableValue) (men : ShelfMen) (on shelf : ℕ) (side : Side) (is : IsShelfOf false t.class shelf (men_on men on)) (within : IsWithin t.class shelf) (targets : has_target (material_of t.class) ≡ false) (y : ℕ) (y_in : y < kind_digits men.last.kind) where
+  abbrev pub code : ℕ
+  code = number_in t.class shelf side y
 
-  wide : places t.class ≡ 64
-  wide = is.0.len ∙ digits
+  abbrev pub square : ℕ
+  square = y + kind_less men.last.kind
 
-  pub lane : number_in t.class shelf side b ≡ lane_of shelf side b
-  lane = ap (λ p. shelf * (2 * p) + side_number side + 2 * b) wide
-
-  below : lane_of shelf side b < size_of t.class
+  pub below : code < size_of t.class
   below =
-      let ends : (shelf + 1) * (2 * 64) ≤ size_of t.class = subst (λ p. (shelf + 1) * (2 * p) ≤ size_of t.class) wide within in
-      let few = side_few side in omega (arith, ends, few, b_in)
+      let wide : places t.class ≡ kind_digits men.last.kind = is.0.len in
+      subst (λ w. shelf * (2 * w) + side_number side + 2 * y < size_of t.class) (sym wide)
+      (row_below men.last.kind shelf (side_number side) y (size_of t.class) (side_few side) y_in (subst (λ w. (shelf + 1) * (2 * w) ≤ size_of t.class) wide within))
 
-  told : TellsMen false t.class (number_in t.class shelf side b) (stand_on men on b) side
+  told : TellsMen false t.class code (stand_on men on square) side
   told =
-      let there = is.0.tells side b (omega (arith, digits, b_in)) in
-      let code : code_of t.class (number_in t.class shelf side b) ≡ number_in t.class shelf side b = code_plain t.class (number_in t.class shelf side b) targets in
-      let square : b + kind_less men.last.kind ≡ b = omega (arith, less) in
-      subst (λ (s : ℕ). TellsMen false t.class (number_in t.class shelf side b) (stand_with (men_on men on) s) side) square
-      (subst (λ (n : ℕ). TellsMen false t.class n (stand_with (men_on men on) (b + kind_less men.last.kind)) side) code
-      (subst (λ (passed : Bool). TellsMen passed t.class (code_of t.class (number_in t.class shelf side b)) (stand_with (men_on men on) (b + kind_less men.last.kind)) side) is.1 there))
+      subst (λ (n : ℕ). TellsMen false t.class n (stand_on men on square) side) (code_plain t.class code targets)
+      (subst (λ (passed : Bool). TellsMen passed t.class (code_of t.class code) (stand_on men on square) side) is.1 (is.0.tells side y y_in))
 
-  pub right_lane : (mate zeroing : ℕ) → (score_at t Mate (number_in t.class shelf side b) ≢ 0 → IsRightAt t (number_in t.class shelf side b) mate zeroing) → IsRightLane t men side on b (lane_of shelf side b) mate zeroing
-  right_lane mate zeroing right = record {
-    below = below;
-    tells = subst (λ (n : ℕ). TellsMen false t.class n (stand_on men on b) side) lane told;
-    right = subst (λ (n : ℕ). score_at t Mate n ≢ 0 → IsRightAt t n mate zeroing) lane right;
-  }
+  pub right_lane : (mate zeroing : ℕ) → (score_at t Mate code ≢ 0 → IsRightAt t code mate zeroing) → IsRightLane t men side on square code mate zeroing
+  right_lane mate zeroing right = record { below = below; tells = told; right = right }

@@ -48,6 +48,15 @@ piece_digits B is = (refl, refl)
 piece_digits N is = (refl, refl)
 piece_digits K is = (refl, refl)
 
+-- a digit is that of a square
+pub square_in : (kind : Kind) (digit : ℕ) → digit < kind_digits kind → digit + kind_less kind < 64
+square_in P digit below = omega (arith, below)
+square_in Q digit below = omega (arith, below)
+square_in R digit below = omega (arith, below)
+square_in B digit below = omega (arith, below)
+square_in N digit below = omega (arith, below)
+square_in K digit below = omega (arith, below)
+
 pub code_plain : (c n : ℕ) → has_target (material_of c) ≡ false → code_of c n ≡ n
 unfolding code_of
 code_plain c n none = ap (λ b. cond {A = ℕ} b (cond (nat_lt n (half_of c)) (2 * n) (2 * (n - half_of c) + 1)) n) none

@@ -1,17 +1,22 @@
--- Whole tables of classes with two pieces beside the kings: entries that keep the rules, 64 shelves more, and the tables that captures lead to.
-use Rattle.std.proofs.Common.{◌≡◌, ◌≢◌, ℕ, ◌+◌, ◌-◌, ◌*◌, ◌/◌, ◌%◌, ◌<◌, ◌≤◌, Bool, ne_eqb, inl, inr, Some, None, sym, ap, ◌∙◌, subst, arith}
+-- Whole tables of classes with two men beside the kings: entries that keep the rules, the shelves of two kings more, and the tables that captures lead to.
+use Rattle.std.proofs.Common.{◌≡◌, ◌≢◌, ℕ, ◌+◌, ◌-◌, ◌*◌, ◌/◌, ◌%◌, ◌<◌, ◌≤◌, ◌⊎◌, Bool, ne_eqb, refl, inl, inr, Some, None, sym, ap, ◌∙◌, subst, arith}
 use Rattle.std.proofs.lemmas.Bool.{cases_lt}
 use Rattle.egt_board.specs.Setup.{Setup}
 use Rattle.egt_board.specs.Turned.{turned_man}
+use Rattle.egt_board.specs.Images.{side_number}
+use Rattle.egt_board.specs.declared.man.Kind.{Kind}
+use Rattle.egt_board.specs.declared.man.Kind.TheVariants.{Q, R, B, N, P, K}
 use Rattle.egt_board.specs.declared.man.Man.{Man}
 use Rattle.egt_board.specs.declared.man.Side.{Side}
 use Rattle.egt_board.specs.declared.man.Side.TheVariants.{White, Black}
 use Rattle.egt_class.specs.Membership.{IsOf}
 use Rattle.egt_class.specs.Pair.{IsBeside}
 use Rattle.egt_index.specs.LoneCodes.{IsLoneMan}
+use Rattle.egt_index.specs.Numbers.{places}
+use Rattle.egt_index.specs.Scales.{kind_digits}
+use Rattle.egt_index.specs.ShelfCodes.{number_in}
 use Rattle.egt_table.specs.Table.{TableValue}
 use Rattle.egt_table.specs.declared.column.Column.{Column}
-use Rattle.egt_check.specs.RightBlock.{lane_of}
 use Rattle.egt_check.specs.Rules.{IsJudged, Keeps, KeepsBelow}
 use Rattle.egt_check.specs.Library.{IsShelved}
 use Rattle.egt_check.specs.Tables.{Tables, beside}
@@ -20,28 +25,50 @@ use Rattle.egt_check.specs.Worth.{HasBytes}
 use Rattle.egt_check.specs.declared.rule.Rule.{Rule}
 use Rattle.egt_check.proofs.Finding.{beside_other}
 
-pub record IsLane (first i : ℕ) : Type 0 where
-  pub a : ℕ
-  pub b : ℕ
+-- a code of shelves that each have so many digits
+pub record IsLane (wide first many i : ℕ) : Type 0 where
+  pub x : ℕ
+  pub y : ℕ
   pub side : Side
-  pub a_in : a < 64
-  pub b_in : b < 64
-  pub is : lane_of (first + a) side b ≡ i
+  pub x_in : x < many
+  pub y_in : y < wide
+  pub is : (first + x) * (2 * wide) + side_number side + 2 * y ≡ i
 
--- each code of 64 shelves is that of a square of either man, with a side to move
-pub lane_at : (first i : ℕ) → first * 128 ≤ i → i < (first + 64) * 128 → IsLane first i
-lane_at first i from below = elim (cases_lt (i % 2) 1) [
-  | inl even ↦ record { a = i / 128 - first; b = i % 128 / 2; side = White; a_in = omega arith; b_in = omega arith; is = omega arith }
-  | inr odd ↦ record { a = i / 128 - first; b = i % 128 / 2; side = Black; a_in = omega arith; b_in = omega arith; is = omega arith }
+digits_are : (kind : Kind) → (kind_digits kind ≡ 64) ⊎ (kind_digits kind ≡ 48)
+digits_are P = inr refl
+digits_are Q = inl refl
+digits_are R = inl refl
+digits_are B = inl refl
+digits_are N = inl refl
+digits_are K = inl refl
+
+lane_of_64 : (first many i : ℕ) → first * 128 ≤ i → i < (first + many) * 128 → IsLane 64 first many i
+lane_of_64 first many i from below = elim (cases_lt (i % 2) 1) [
+  | inl even ↦ record { x = i / 128 - first; y = i % 128 / 2; side = White; x_in = omega arith; y_in = omega arith; is = omega arith }
+  | inr odd ↦ record { x = i / 128 - first; y = i % 128 / 2; side = Black; x_in = omega arith; y_in = omega arith; is = omega arith }
 ]
 
-pub keeps_pair : (tables : Tables) (t : TableValue) (column : Column) (first : ℕ) → KeepsBelow tables t column (first * 128)
-    → ((a b : ℕ) (side : Side) → a < 64 → b < 64 → IsJudged tables t column (lane_of (first + a) side b) None) → KeepsBelow tables t column ((first + 64) * 128)
-keeps_pair tables t column first kept judged = λ i i_in. elim (cases_lt i (first * 128)) [
+lane_of_48 : (first many i : ℕ) → first * 96 ≤ i → i < (first + many) * 96 → IsLane 48 first many i
+lane_of_48 first many i from below = elim (cases_lt (i % 2) 1) [
+  | inl even ↦ record { x = i / 96 - first; y = i % 96 / 2; side = White; x_in = omega arith; y_in = omega arith; is = omega arith }
+  | inr odd ↦ record { x = i / 96 - first; y = i % 96 / 2; side = Black; x_in = omega arith; y_in = omega arith; is = omega arith }
+]
+
+-- each code of these shelves is that of a digit of either man, with a side to move
+lane_at : (kind : Kind) (first many i : ℕ) → first * (2 * kind_digits kind) ≤ i → i < (first + many) * (2 * kind_digits kind) → IsLane (kind_digits kind) first many i
+lane_at kind first many i = elim (digits_are kind) [
+  | inl wide ↦ subst (λ w. first * (2 * w) ≤ i → i < (first + many) * (2 * w) → IsLane w first many i) (sym wide) (lane_of_64 first many i)
+  | inr narrow ↦ subst (λ w. first * (2 * w) ≤ i → i < (first + many) * (2 * w) → IsLane w first many i) (sym narrow) (lane_of_48 first many i)
+]
+
+pub keeps_pair : (tables : Tables) (t : TableValue) (column : Column) (kind : Kind) (first many : ℕ) → places t.class ≡ kind_digits kind → KeepsBelow tables t column (first * (2 * kind_digits kind))
+    → ((x y : ℕ) (side : Side) → x < many → y < kind_digits kind → IsJudged tables t column (number_in t.class (first + x) side y) None) → KeepsBelow tables t column ((first + many) * (2 * kind_digits kind))
+keeps_pair tables t column kind first many wide kept judged = λ i i_in. elim (cases_lt i (first * (2 * kind_digits kind))) [
   | inl before ↦ kept i before
   | inr past ↦
-      let lane = lane_at first i past i_in in
-      subst (λ (n : ℕ). (rule : Rule) → Keeps tables t column n rule) lane.is (judged lane.a lane.b lane.side lane.a_in lane.b_in)
+      let lane = lane_at kind first many i past i_in in
+      let is : number_in t.class (first + lane.x) lane.side lane.y ≡ i = ap (λ w. (first + lane.x) * (2 * w) + side_number lane.side + 2 * lane.y) wide ∙ lane.is in
+      subst (λ (n : ℕ). (rule : Rule) → Keeps tables t column n rule) is (judged lane.x lane.y lane.side lane.x_in lane.y_in)
 ]
 
 -- the table of a class that a capture leaves, beside that of another class

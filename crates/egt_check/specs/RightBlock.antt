@@ -1,6 +1,5 @@
--- Entries of a class with two pieces beside the kings, by their shelves.
-use Rattle.std.specs.Prelude.{◌≢◌, ℕ, ◌+◌, ◌*◌, ◌<◌, false}
-use Rattle.egt_board.specs.Images.{side_number}
+-- Entries of a class with two men beside the kings, by their shelves.
+use Rattle.std.specs.Prelude.{◌≢◌, ℕ, ◌<◌, false}
 use Rattle.egt_board.specs.declared.man.Side.{Side}
 use Rattle.egt_index.specs.Size.{size_of}
 use Rattle.egt_index.specs.StepCodes.{TellsMen}
@@ -10,10 +9,6 @@ use Rattle.egt_table.specs.declared.column.Column.TheVariants.{Mate}
 use Rattle.egt_check.specs.Blocks.{stand_on}
 use Rattle.egt_check.specs.RightRow.{IsRightAt}
 use Rattle.egt_check.specs.Worth.{score_at}
-
--- the code of the shelf with that side to move and the last man on the square
-abbrev pub lane_of : (shelf : ℕ) → Side → (b : ℕ) → ℕ
-lane_of shelf side b = shelf * 128 + side_number side + 2 * b
 
 -- the code tells the men with the first on a and the last on b, and its entries are due to these greatest scores
 pub record IsRightLane (t : TableValue) (men : ShelfMen) (side : Side) (a b i mate zeroing : ℕ) : Type 0 where

@@ -1,20 +1,22 @@
-//! The judgement of all entries with the kings on two squares, in classes with two pieces beside the kings.
+//! The judgement of all entries with the kings on two squares, in classes with two men beside the kings.
 ghost use Rattle.std.specs.Prelude.{◌≡◌, ◌+◌, ◌<◌, ℕ, false, true, None, slice_index};
 ghost use Rattle.egt_board.specs.Turned.{turned_man};
 ghost use Rattle.egt_class.specs.Material.{material_of};
 ghost use Rattle.egt_index.specs.LoneCodes.{IsLoneMan};
-ghost use Rattle.egt_index.specs.ShelfCodes.{AreMenOf};
+ghost use Rattle.egt_index.specs.Scales.{kind_digits, kind_less};
+ghost use Rattle.egt_index.specs.ShelfCodes.{AreMenOf, number_in};
 ghost use Rattle.egt_index.specs.Size.{has_target};
 ghost use Rattle.egt_lanes.specs.Blocks.{at};
 ghost use Rattle.egt_lanes.specs.Pieces.{IsPiece};
 ghost use Rattle.egt_table.specs.declared.column.Column.{Column};
 ghost use Rattle.egt_check.specs.Blocks.{men_on};
 ghost use Rattle.egt_check.specs.MoveScores.{AreTablesOf};
-ghost use Rattle.egt_check.specs.RightBlock.{IsRightLane, lane_of};
+ghost use Rattle.egt_check.specs.RightBlock.{IsRightLane};
 ghost use Rattle.egt_check.specs.Rules.{IsJudged};
 ghost use Rattle.egt_check.specs.Tables.{Tables};
 
 use crate::blocks::nothing;
+use crate::digits::{digits_of, first_square};
 use crate::laws::entries_due_to_all_moves_are_right;
 use crate::move_scores::{FourMen, move_scores};
 use crate::row_judging::row_is_right;
@@ -48,8 +50,8 @@ fn shelf_is_right(
 ) -> bool
     requires men { AreMenOf table.now.class men.now }
     requires targets { has_target (material_of table.now.class) ≡ false }
-    requires last { IsPiece men.now.last.kind }
-    ensures { result ≡ true → (b : ℕ) → b < 64 → IsRightLane table.now men.now side on b (lane_of shelf side b) (slice_index mates b) (slice_index zeroing b) }
+    ensures { result ≡ true → (y : ℕ) → y < kind_digits men.now.last.kind →
+        IsRightLane table.now men.now side on (y + kind_less men.now.last.kind) (number_in table.now.class shelf side y) (slice_index mates (y + kind_less men.now.last.kind)) (slice_index zeroing (y + kind_less men.now.last.kind)) }
 {
     let there = men_on(men, on);
     match shelf_of(table.class(), &there, false) {
@@ -60,7 +62,7 @@ fn shelf_is_right(
     }
 }
 
-/// Whether so are the entries of 64 shelves from this one on, by the first man's square.
+/// Whether so are the entries of the shelves from this one on, by the first man's digit.
 fn shelves_are_right(
     table: &Table,
     men: &ShelfMen,
@@ -71,17 +73,20 @@ fn shelves_are_right(
 ) -> bool
     requires men { AreMenOf table.now.class men.now }
     requires targets { has_target (material_of table.now.class) ≡ false }
-    requires last { IsPiece men.now.last.kind }
     requires room { first + 64 < 4294967296 }
-    ensures { result ≡ true → (a b : ℕ) → a < 64 → b < 64 → IsRightLane table.now men.now side a b (lane_of (first + a) side b) (at mates.now a b) (at zeroing.now a b) }
+    ensures { result ≡ true → (x y : ℕ) → x < kind_digits men.now.one.kind → y < kind_digits men.now.last.kind →
+        IsRightLane table.now men.now side (x + kind_less men.now.one.kind) (y + kind_less men.now.last.kind) (number_in table.now.class (first + x) side y)
+        (at mates.now (x + kind_less men.now.one.kind) (y + kind_less men.now.last.kind)) (at zeroing.now (x + kind_less men.now.one.kind) (y + kind_less men.now.last.kind)) }
 {
-    for a in 0..64u8 {
-        let row = a as usize;
-        let shelf = first + u32::from(a);
+    let from = first_square(men.one);
+    for digit in 0..digits_of(men.one) {
+        let square = from + digit;
+        let row = square as usize;
+        let shelf = first + u32::from(digit);
         if !shelf_is_right(
             table,
             men,
-            Square::at(a),
+            Square::at(square),
             shelf,
             side,
             mates[row],
@@ -102,8 +107,8 @@ pub(crate) fn block_is_right(four: &FourMen, men: &ShelfMen, first: u32, side: S
     requires first_left { IsLoneMan four.now.first.now.class (turned_man four.now.first_flips men.now.one) }
     requires last_left { IsLoneMan four.now.last.now.class (turned_man four.now.last_flips men.now.last) }
     requires room { first + 64 < 4294967296 }
-    ensures { result ≡ true → (tables : Tables) → AreTablesOf tables four.now men.now → (a b : ℕ) → a < 64 → b < 64 → (column : Column) →
-        IsJudged tables four.now.own.now column (lane_of (first + a) side b) None }
+    ensures { result ≡ true → (tables : Tables) → AreTablesOf tables four.now men.now → (x y : ℕ) → x < kind_digits men.now.one.kind → y < kind_digits men.now.last.kind → (column : Column) →
+        IsJudged tables four.now.own.now column (number_in four.now.own.now.class (first + x) side y) None }
 {
     entries_due_to_all_moves_are_right();
     let mut mates = nothing();

@@ -7,6 +7,7 @@ pub mod blocks;
 pub mod by_column;
 pub mod bytes;
 pub mod checking;
+pub mod digits;
 pub mod facts;
 pub mod fan;
 pub mod judging;

@@ -2,17 +2,18 @@
 ghost use Rattle.std.specs.Prelude.{◌≡◌, ◌≢◌, ◌+◌, ◌*◌, ℕ, ◌<◌, slice_index, true, false, IfSome};
 ghost use Rattle.egt_board.specs.SquareSet.{Has};
 ghost use Rattle.egt_class.specs.Material.{material_of};
+ghost use Rattle.egt_index.specs.Scales.{kind_digits, kind_less};
 ghost use Rattle.egt_index.specs.ShelfCodes.{IsShelfOf, IsWithin, number_in};
 ghost use Rattle.egt_index.specs.Size.{has_target, size_of};
-ghost use Rattle.egt_lanes.specs.Pieces.{IsPiece};
 ghost use Rattle.egt_table.specs.declared.column.Column.TheVariants.{Mate};
 ghost use Rattle.egt_check.specs.RightRow.{IsRightAt, IsRightEnd};
 ghost use Rattle.egt_check.specs.Score.{IsAtEnd};
 ghost use Rattle.egt_check.specs.Worth.{score_at};
 
+use crate::digits::digit_on;
 use crate::rows::row_of;
 use crate::successors::entries_at;
-use egt_board::{Position, Side, SquareSet};
+use egt_board::{Man, Position, Side, SquareSet};
 use egt_index::laws::{codes_spell_one_position, codes_tell_turned_men};
 use egt_index::{ShelfMen, last_digits, position, size};
 use egt_lanes::Row;
@@ -49,16 +50,18 @@ fn end_is_right(table: &Table, code: u32) -> bool
     entries.mate == entry && entries.zeroing == entry
 }
 
-/// Whether so are the codes of these squares, every other one from `first` on.
-fn ends_are_right(table: &Table, first: u32, ends: SquareSet) -> bool
-    requires { (s : ℕ) → s < 64 → first + 2 * s < size_of table.now.class }
-    ensures { result ≡ true → (s : ℕ) → Has ends s → IsRightEnd table.now (first + 2 * s) }
+/// Whether so are the codes of these squares of the man, every other one from his first digit's on.
+fn ends_are_right(table: &Table, man: Man, first: u32, ends: SquareSet) -> bool
+    requires { (digit : ℕ) → digit < kind_digits man.kind → first + 2 * digit < size_of table.now.class }
+    ensures { result ≡ true → (digit : ℕ) → digit < kind_digits man.kind → Has ends (digit + kind_less man.kind) → IsRightEnd table.now (first + 2 * digit) }
 {
     let _size = size(table.class());
     let mut rest = ends;
     while let Some(square) = rest.pop_first() {
-        let code = first + 2 * u32::from(square.number());
-        if !end_is_right(table, code) {
+        let Some(digit) = digit_on(man, square) else {
+            return false;
+        };
+        if !end_is_right(table, first + 2 * digit) {
             return false;
         }
     }
@@ -92,9 +95,8 @@ pub(crate) fn row_is_right(
     requires shelf { IsShelfOf false table.now.class shelf men.now }
     requires within { IsWithin table.now.class shelf }
     requires targets { has_target (material_of table.now.class) ≡ false }
-    requires last { IsPiece men.now.last.kind }
-    ensures { result ≡ true → (b : ℕ) → b < 64 → score_at table.now Mate (number_in table.now.class shelf side b) ≢ 0 →
-        IsRightAt table.now (number_in table.now.class shelf side b) (slice_index mates b) (slice_index zeroing b) }
+    ensures { result ≡ true → (digit : ℕ) → digit < kind_digits men.now.last.kind → score_at table.now Mate (number_in table.now.class shelf side digit) ≢ 0 →
+        IsRightAt table.now (number_in table.now.class shelf side digit) (slice_index mates (digit + kind_less men.now.last.kind)) (slice_index zeroing (digit + kind_less men.now.last.kind)) }
 {
     codes_tell_turned_men();
     let own = row_of(table, Column::Mate, men, shelf, side);
@@ -105,5 +107,5 @@ pub(crate) fn row_is_right(
         return false;
     }
     let ends = lanes_of(own).without(moving);
-    ends_are_right(table, first_of(table, shelf, side), ends)
+    ends_are_right(table, men.last, first_of(table, shelf, side), ends)
 }

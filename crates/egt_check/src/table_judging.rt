@@ -4,32 +4,28 @@ ghost use Rattle.egt_board.specs.Turned.{turned_man};
 ghost use Rattle.egt_board.specs.declared.man.Side.{Side};
 ghost use Rattle.egt_class.specs.Material.{material_of};
 ghost use Rattle.egt_index.specs.LoneCodes.{IsLoneMan};
-ghost use Rattle.egt_index.specs.ShelfCodes.{AreMenOf};
+ghost use Rattle.egt_index.specs.Numbers.{places};
+ghost use Rattle.egt_index.specs.Scales.{kind_digits};
+ghost use Rattle.egt_index.specs.ShelfCodes.{AreMenOf, number_in};
 ghost use Rattle.egt_index.specs.Size.{has_target, size_of};
 ghost use Rattle.egt_lanes.specs.Pieces.{IsPiece};
 ghost use Rattle.egt_table.specs.declared.column.Column.{Column};
 ghost use Rattle.egt_check.specs.MoveScores.{AreTablesOf};
-ghost use Rattle.egt_check.specs.RightBlock.{lane_of};
 ghost use Rattle.egt_check.specs.Rules.{IsJudged, KeepsBelow};
 ghost use Rattle.egt_check.specs.Tables.{Tables, beside, table_at};
 ghost use Rattle.egt_check.specs.Worth.{HasBytes};
 
 use crate::block_judging::block_is_right;
 use crate::bytes::tells_bytes;
+use crate::digits::digits_of;
 use crate::library::Library;
 use crate::move_scores::FourMen;
 use crate::taken_blocks::turned_man;
 use egt_board::{Kind, Man, Side, Square};
 use egt_class::Class;
 use egt_class::membership::of_men;
-use egt_index::{ShelfMen, lone_man, shelf_men, size};
+use egt_index::{ShelfMen, last_digits, lone_man, shelf_men, size};
 use egt_table::Table;
-
-/// Codes of a shelf of a class without pawns: 64 squares of the last man, either side to move.
-const SHELF: u32 = 128;
-
-/// Shelves with the kings on two squares: 64 squares of the first man.
-const SHELVES: u32 = 64;
 
 /// Neither a pawn nor a king.
 fn is_piece(man: Man) -> bool
@@ -51,7 +47,7 @@ fn with_kings(men: &ShelfMen, white: Square, black: Square) -> ShelfMen
     }
 }
 
-/// Whether all entries of 64 shelves from this one on keep the rules.
+/// Whether all entries of the shelves from this one on, one for each digit of the first man, keep the rules.
 fn pair_is_right(four: &FourMen, men: &ShelfMen, first: u32) -> bool
     requires men { AreMenOf four.now.own.now.class men.now }
     requires targets { has_target (material_of four.now.own.now.class) ≡ false }
@@ -60,8 +56,8 @@ fn pair_is_right(four: &FourMen, men: &ShelfMen, first: u32) -> bool
     requires first_left { IsLoneMan four.now.first.now.class (turned_man four.now.first_flips men.now.one) }
     requires last_left { IsLoneMan four.now.last.now.class (turned_man four.now.last_flips men.now.last) }
     requires room { first + 64 < 4294967296 }
-    ensures { result ≡ true → (tables : Tables) → AreTablesOf tables four.now men.now → (a b : ℕ) (side : Side) → a < 64 → b < 64 → (column : Column) →
-        IsJudged tables four.now.own.now column (lane_of (first + a) side b) None }
+    ensures { result ≡ true → (tables : Tables) → AreTablesOf tables four.now men.now → (x y : ℕ) (side : Side) → x < kind_digits men.now.one.kind → y < kind_digits men.now.last.kind → (column : Column) →
+        IsJudged tables four.now.own.now column (number_in four.now.own.now.class (first + x) side y) None }
 {
     let Some(here) = shelf_men(four.own.class(), first) else {
         return false;
@@ -79,15 +75,18 @@ fn pairs_are_right(four: &FourMen, men: &ShelfMen) -> bool
     requires last { IsPiece men.now.last.kind }
     requires first_left { IsLoneMan four.now.first.now.class (turned_man four.now.first_flips men.now.one) }
     requires last_left { IsLoneMan four.now.last.now.class (turned_man four.now.last_flips men.now.last) }
+    requires wide { places four.now.own.now.class ≡ kind_digits men.now.last.kind }
     ensures { result ≡ true → (tables : Tables) → AreTablesOf tables four.now men.now → (column : Column) → KeepsBelow tables four.now.own.now column (size_of four.now.own.now.class) }
 {
-    let shelves = size(four.own.class()).div_ceil(SHELF);
+    let class = four.own.class();
+    let step = u32::from(digits_of(men.one));
+    let shelves = size(class).div_ceil(2 * last_digits(class));
     let mut first = 0;
     while first < shelves {
         if !pair_is_right(four, men, first) {
             return false;
         }
-        first += SHELVES;
+        first += step;
     }
     true
 }

@@ -1,8 +1,13 @@
-use Rattle.std.proofs.Common.{false, subst}
+use Rattle.std.proofs.Common.{◌≢◌, ◌+◌, ◌<◌, ℕ, false, ap, subst}
+use Rattle.egt_board.specs.declared.man.Man.{Man}
 use Rattle.std.specs.Prelude.{slice_index}
-use Rattle.egt_index.specs.ShelfCodes.{IsShelfOf, IsWithin}
+use Rattle.egt_index.specs.Scales.{kind_digits, kind_less}
+use Rattle.egt_index.specs.ShelfCodes.{IsShelfOf, IsWithin, number_in}
 use Rattle.egt_index.specs.declared.shelf_codes.ShelfMen.{ShelfMen}
-use Rattle.egt_check.specs.RightBlock.{IsRightLane, lane_of}
+use Rattle.egt_check.specs.RightBlock.{IsRightLane}
+use Rattle.egt_table.specs.declared.column.Column.TheVariants.{Mate}
+use Rattle.egt_check.specs.RightRow.{IsRightAt}
+use Rattle.egt_check.specs.Worth.{score_at}
 use Rattle.egt_check.proofs.LaneRight.{right_lane}
 use Rattle.egt_check.proofs.block_judging.shelf_is_right.Goals as goal
 
@@ -10,11 +15,17 @@ pub row_is_right-requires-clause-shelf : goal.row_is_right-requires-clause-shelf
 row_is_right-requires-clause-shelf c = subst (λ k. IsShelfOf false k c.in-Some.number c.men_on-there.result) c.class.ensures.class c.in-Some.ensures.shelf
 
 pub returns-in-Some : goal.returns-in-Some
-returns-in-Some c = λ told b b_in.
+returns-in-Some c = λ told y y_in.
     let t = c.args.table.now in
     let men = c.args.men.now in
     let n = c.in-Some.number in
+    let b = y + kind_less men.last.kind in
+    let mate = slice_index c.args.mates b in
+    let zeroing = slice_index c.args.zeroing b in
     let is = subst (λ (m : ShelfMen). IsShelfOf false t.class n m) c.men_on-there.ensures (subst (λ k. IsShelfOf false k n c.men_on-there.result) c.class.ensures.class c.in-Some.ensures.shelf) in
     let within = subst (λ k. IsWithin k n) c.class.ensures.class c.in-Some.ensures.within in
-    subst (λ k. IsRightLane t men c.args.side c.args.on b (lane_of k c.args.side b) (slice_index c.args.mates b) (slice_index c.args.zeroing b)) c.if-number-shelf.true
-    (right_lane t men c.args.on n c.args.side is within c.requires.targets c.requires.last b b_in (slice_index c.args.mates b) (slice_index c.args.zeroing b) (c.row_is_right.ensures told b b_in))
+    let last = ap (λ (m : ShelfMen). m.last) c.men_on-there.ensures in
+    subst (λ k. IsRightLane t men c.args.side c.args.on b (number_in t.class k c.args.side y) mate zeroing) c.if-number-shelf.true
+    (right_lane t men c.args.on n c.args.side is within c.requires.targets y y_in mate zeroing
+    (subst (λ (m : Man). (k : ℕ) → k < kind_digits m.kind → score_at t Mate (number_in t.class n c.args.side k) ≢ 0
+    → IsRightAt t (number_in t.class n c.args.side k) (slice_index c.args.mates (k + kind_less m.kind)) (slice_index c.args.zeroing (k + kind_less m.kind))) last (c.row_is_right.ensures told) y y_in))

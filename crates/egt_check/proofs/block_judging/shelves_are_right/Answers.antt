@@ -1,22 +1,29 @@
 use Rattle.std.proofs.Common.{◌≡◌, ◌+◌, arith, inl, inr, subst}
 use Rattle.std.proofs.lemmas.Bool.{cases_lt}
+use Rattle.egt_index.specs.Scales.{kind_less}
+use Rattle.egt_index.specs.ShelfCodes.{number_in}
 use Rattle.egt_lanes.specs.Blocks.{at}
-use Rattle.egt_check.specs.RightBlock.{IsRightLane, lane_of}
+use Rattle.egt_check.specs.RightBlock.{IsRightLane}
 use Rattle.egt_check.proofs.block_judging.shelves_are_right.Goals as goal
 
-pub loop-a-preserved : goal.loop-a-preserved
-loop-a-preserved c = λ k b less b_in. elim (cases_lt k c.loop-a.a) [
-  | inl before ↦ c.loop-a.invariant k b before b_in
+pub loop-digit-preserved : goal.loop-digit-preserved
+loop-digit-preserved c = λ x y under y_in. elim (cases_lt x c.loop-digit.digit) [
+  | inl before ↦ c.loop-digit.invariant x y before y_in
   | inr here ↦
       let t = c.args.table.now in
       let men = c.args.men.now in
       let side = c.args.side in
-      let n = c.loop-a.a in
-      let mates = at c.args.mates.now n b in
-      let zeroing = at c.args.zeroing.now n b in
-      let same : n ≡ k = omega (arith, less, here) in
-      let right = c.shelf_is_right.ensures c.if-not-shelf_is_right.false b b_in in
-      let on = subst (λ s. IsRightLane t men side s b (lane_of (c.args.first + c.from.result) side b) mates zeroing) c.at.ensures right in
-      let shelf = subst (λ s. IsRightLane t men side n b (lane_of (c.args.first + s) side b) mates zeroing) c.from.ensures on in
-      subst (λ m. IsRightLane t men side m b (lane_of (c.args.first + m) side b) (at c.args.mates.now m b) (at c.args.zeroing.now m b)) same shelf
+      let less = kind_less men.one.kind in
+      let b = y + kind_less men.last.kind in
+      let n = c.loop-digit.digit in
+      let from = c.first_square-from.ensures in
+      let on = c.at.ensures in
+      let digit = c.from.ensures in
+      let row : c.first_square-from.result + n ≡ x + less = omega (arith, from, under, here) in
+      let square : c.at.result ≡ x + less = omega (arith, on, row) in
+      let shelf : c.args.first + c.from.result ≡ c.args.first + x = omega (arith, digit, under, here) in
+      let right = c.shelf_is_right.ensures c.if-not-shelf_is_right.false y y_in in
+      let there = subst (λ s. IsRightLane t men side s b (number_in t.class (c.args.first + c.from.result) side y) (at c.args.mates.now (c.first_square-from.result + n) b) (at c.args.zeroing.now (c.first_square-from.result + n) b)) square right in
+      let lane = subst (λ k. IsRightLane t men side (x + less) b (number_in t.class k side y) (at c.args.mates.now (c.first_square-from.result + n) b) (at c.args.zeroing.now (c.first_square-from.result + n) b)) shelf there in
+      subst (λ r. IsRightLane t men side (x + less) b (number_in t.class (c.args.first + x) side y) (at c.args.mates.now r b) (at c.args.zeroing.now r b)) row lane
 ]

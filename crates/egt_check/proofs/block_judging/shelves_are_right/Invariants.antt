@@ -1,8 +1,12 @@
 use Rattle.std.specs.Prelude.{ℕ, ◌+◌, ◌<◌}
+use Rattle.egt_index.specs.Scales.{kind_digits, kind_less}
+use Rattle.egt_index.specs.ShelfCodes.{number_in}
 use Rattle.egt_lanes.specs.Blocks.{at}
-use Rattle.egt_check.specs.RightBlock.{IsRightLane, lane_of}
+use Rattle.egt_check.specs.RightBlock.{IsRightLane}
 use Rattle.egt_check.proofs.block_judging.shelves_are_right.Given as goal
 
--- the shelves below a are right
-abbrev pub invariant-loop-a : goal.invariant-loop-a
-invariant-loop-a l = (k b : ℕ) → k < l.a → b < 64 → IsRightLane l.table l.men l.side k b (lane_of (l.first + k) l.side b) (at l.mates k b) (at l.zeroing k b)
+-- the shelves below this digit are right
+abbrev pub invariant-loop-digit : goal.invariant-loop-digit
+invariant-loop-digit l = (x y : ℕ) → x < l.digit → y < kind_digits l.men.last.kind →
+    IsRightLane l.table l.men l.side (x + kind_less l.men.one.kind) (y + kind_less l.men.last.kind) (number_in l.table.class (l.first + x) l.side y)
+    (at l.mates (x + kind_less l.men.one.kind) (y + kind_less l.men.last.kind)) (at l.zeroing (x + kind_less l.men.one.kind) (y + kind_less l.men.last.kind))

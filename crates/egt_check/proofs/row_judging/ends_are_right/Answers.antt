@@ -1,34 +1,31 @@
-use Rattle.std.proofs.Common.{◌≡◌, ◌∙◌, ℕ, ◌+◌, ◌*◌, arith, ap, inl, inr, sym, subst}
+use Rattle.std.proofs.Common.{◌≡◌, ◌∙◌, ◌+◌, ◌*◌, arith, ap, inl, inr, sym, subst}
 use Rattle.std.proofs.lemmas.Bool.{cases_eq}
+use Rattle.egt_index.specs.Scales.{kind_less}
 use Rattle.egt_index.specs.Size.{size_of}
 use Rattle.egt_check.specs.RightRow.{IsRightEnd}
 use Rattle.egt_check.proofs.row_judging.ends_are_right.Goals as goal
 
-pub overflow_add-code : goal.overflow_add-code
-overflow_add-code c =
-    let few = c.number.ensures.on_board in
-    let from = c.from.ensures in
-    let below = c.requires c.from.result (omega (arith, few, from)) in
+pub overflow_add-first : goal.overflow_add-first
+overflow_add-first c =
+    let below = c.requires c.in-Some-digit_on.digit c.in-Some-digit_on.ensures.below in
     let size : c.size-size.result ≡ size_of c.args.table.now.class = c.size-size.ensures ∙ ap (λ k. size_of k) c.class.ensures.class in
     let fits = c.size-size.type_inv in
     omega (arith, below, size, fits)
 
 pub end_is_right-requires : goal.end_is_right-requires
-end_is_right-requires c =
-    let few = c.number.ensures.on_board in
-    let from = c.from.ensures in
-    c.requires c.from.result (omega (arith, few, from))
+end_is_right-requires c = c.requires c.in-Some-digit_on.digit c.in-Some-digit_on.ensures.below
 
 pub loop-square-init : goal.loop-square-init
-loop-square-init c = λ s has none. absurd (omega (arith, has, none))
+loop-square-init c = λ digit below has none. absurd (omega (arith, has, none))
 
 pub loop-square-preserved : goal.loop-square-preserved
-loop-square-preserved c = λ s has gone. elim (cases_eq s c.in-Some.square) [
+loop-square-preserved c = λ digit below has gone. elim (cases_eq (digit + kind_less c.args.man.kind) c.in-Some.square) [
   | inl same ↦
-      subst (λ (k : ℕ). IsRightEnd c.args.table.now (c.args.first + 2 * k)) (c.from.ensures ∙ c.number.ensures.value ∙ sym same)
-      (c.end_is_right.ensures c.if-not-end_is_right.false)
-  | inr other ↦ c.loop-square.invariant s has (sym (c.in-Some.ensures.others s other) ∙ gone)
+      let is = c.in-Some-digit_on.ensures.is in
+      let digit_is : c.in-Some-digit_on.digit ≡ digit = omega (arith, same, is) in
+      subst (λ k. IsRightEnd c.args.table.now (c.args.first + 2 * k)) digit_is (c.end_is_right.ensures c.if-not-end_is_right.false)
+  | inr other ↦ c.loop-square.invariant digit below has (sym (c.in-Some.ensures.others (digit + kind_less c.args.man.kind) other) ∙ gone)
 ]
 
 pub returns : goal.returns
-returns c = λ right s has. c.loop-square.invariant s has (c.in_default.ensures.empty s)
+returns c = λ right digit below has. c.loop-square.invariant digit below has (c.in_default.ensures.empty (digit + kind_less c.args.man.kind))
