@@ -18,8 +18,9 @@ use crate::block_judging::block_is_right;
 use crate::bytes::tells_bytes;
 use crate::library::Library;
 use crate::move_scores::FourMen;
+use crate::own_men::is_piece;
 use crate::taken_blocks::turned_man;
-use egt_board::{Kind, Man, Side, Square};
+use egt_board::{Man, Side, Square};
 use egt_class::Class;
 use egt_class::membership::of_men;
 use egt_index::{ShelfMen, lone_man, shelf_men, size};
@@ -30,13 +31,6 @@ const SHELF: u32 = 128;
 
 /// Shelves with the kings on two squares: 64 squares of the first man.
 const SHELVES: u32 = 64;
-
-/// Neither a pawn nor a king.
-fn is_piece(man: Man) -> bool
-    ensures { result ≡ true → IsPiece man.kind }
-{
-    matches!(man.kind, Kind::Q | Kind::R | Kind::B | Kind::N)
-}
 
 /// The men with the kings on these squares.
 fn with_kings(men: &ShelfMen, white: Square, black: Square) -> ShelfMen
