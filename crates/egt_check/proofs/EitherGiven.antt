@@ -1,9 +1,10 @@
--- The greatest bytes of moves that zero and of those that do not are those of all moves.
+-- The greatest bytes of moves of two kinds are those of all of them.
 use Rattle.std.proofs.Common.{◌≡◌, ℕ, ◌⊎◌, max, arith, inl, inr, subst}
 use Rattle.std.proofs.lemmas.Bool.{cases_lt}
 use Rattle.egt_board.specs.Setup.{Setup}
 use Rattle.egt_moves.specs.Chess.{Zeroes}
 use Rattle.egt_moves.specs.DecidedMoves.{decided_zeroes}
+use Rattle.egt_moves.specs.Legal.{Leads}
 use Rattle.egt_moves.specs.declared.chess_move.Move.{Move}
 use Rattle.egt_check.specs.Given.{AreGiven, IsGiven}
 use Rattle.egt_check.specs.Tables.{Tables}
@@ -15,24 +16,41 @@ one_of P m n left right = elim (cases_lt m n) [
   | inr above ↦ let is : m ≡ max m n = omega arith in subst P is left
 ]
 
-module _ (tables : Tables) (p : Setup) where
-  whole : (Among : Move → Type 0) (x z : ℕ) → IsGiven tables p Among x z → IsGiven tables p (λ m. Unit {0}) x z
-  whole Among x z g = record { move = g.move; next = g.next; leads = g.leads; among = tt; scores = g.scores }
+module _ (tables : Tables) (p : Setup) (C : Move → Type 0) where
+  -- among these, and so among the others
+  given_of : (Among : Move → Type 0) (x z : ℕ) → ((m : Move) → Among m → C m) → IsGiven tables p Among x z → IsGiven tables p C x z
+  given_of Among x z within g = record { move = g.move; next = g.next; leads = g.leads; among = within g.move g.among; scores = g.scores }
 
-  mate_whole : (Among : Move → Type 0) (x : ℕ) → (x ≡ 0) ⊎ ((z : ℕ) × IsGiven tables p Among x z) → (x ≡ 0) ⊎ ((z : ℕ) × IsGiven tables p (λ m. Unit {0}) x z)
-  mate_whole Among x (inl none) = inl none
-  mate_whole Among x (inr g) = inr (g.0, whole Among x g.0 g.1)
+  mate_of : (Among : Move → Type 0) (x : ℕ) → ((m : Move) → Among m → C m) → (x ≡ 0) ⊎ ((z : ℕ) × IsGiven tables p Among x z) → (x ≡ 0) ⊎ ((z : ℕ) × IsGiven tables p C x z)
+  mate_of Among x within (inl none) = inl none
+  mate_of Among x within (inr g) = inr (g.0, given_of Among x g.0 within g.1)
 
-  zeroing_whole : (Among : Move → Type 0) (z : ℕ) → (z ≡ 0) ⊎ ((x : ℕ) × IsGiven tables p Among x z) → (z ≡ 0) ⊎ ((x : ℕ) × IsGiven tables p (λ m. Unit {0}) x z)
-  zeroing_whole Among z (inl none) = inl none
-  zeroing_whole Among z (inr g) = inr (g.0, whole Among g.0 z g.1)
+  zeroing_of : (Among : Move → Type 0) (z : ℕ) → ((m : Move) → Among m → C m) → (z ≡ 0) ⊎ ((x : ℕ) × IsGiven tables p Among x z) → (z ≡ 0) ⊎ ((x : ℕ) × IsGiven tables p C x z)
+  zeroing_of Among z within (inl none) = inl none
+  zeroing_of Among z within (inr g) = inr (g.0, given_of Among g.0 z within g.1)
 
-  pub either_given : (x z y w : ℕ) → AreGiven tables p (λ m. ¬ Zeroes p m) x z → AreGiven tables p (Zeroes p) y w → AreGiven tables p (λ m. Unit {0}) (max x y) (max z w)
-  either_given x z y w quiet loud = record {
-    above = λ q m leads any. elim (decided_zeroes p m) [
-      | inl zeroes ↦ let h = loud.above q m leads zeroes in let one = h.3 in let other = h.4 in (h.0, h.1, h.2, omega (arith, one), omega (arith, other))
-      | inr keeps ↦ let h = quiet.above q m leads keeps in let one = h.3 in let other = h.4 in (h.0, h.1, h.2, omega (arith, one), omega (arith, other))
+  -- the greatest bytes of moves that are of one kind or of the other
+  pub union_given : (A B : Move → Type 0) (x z y w : ℕ) → AreGiven tables p A x z → AreGiven tables p B y w → ((q : Setup) (m : Move) → Leads p m q → C m → A m ⊎ B m) → ((m : Move) → A m → C m) → ((m : Move) → B m → C m)
+      → AreGiven tables p C (max x y) (max z w)
+  union_given A B x z y w one other either from_one from_other = record {
+    above = λ q m leads is. elim (either q m leads is) [
+      | inl here ↦ let h = one.above q m leads here in let first = h.3 in let second = h.4 in (h.0, h.1, h.2, omega (arith, first), omega (arith, second))
+      | inr there ↦ let h = other.above q m leads there in let first = h.3 in let second = h.4 in (h.0, h.1, h.2, omega (arith, first), omega (arith, second))
     ];
-    mate_given = one_of (λ n. (n ≡ 0) ⊎ ((k : ℕ) × IsGiven tables p (λ m. Unit {0}) n k)) x y (mate_whole (λ m. ¬ Zeroes p m) x quiet.mate_given) (mate_whole (Zeroes p) y loud.mate_given);
-    zeroing_given = one_of (λ n. (n ≡ 0) ⊎ ((k : ℕ) × IsGiven tables p (λ m. Unit {0}) k n)) z w (zeroing_whole (λ m. ¬ Zeroes p m) z quiet.zeroing_given) (zeroing_whole (Zeroes p) w loud.zeroing_given);
+    mate_given = one_of (λ n. (n ≡ 0) ⊎ ((k : ℕ) × IsGiven tables p C n k)) x y (mate_of A x from_one one.mate_given) (mate_of B y from_other other.mate_given);
+    zeroing_given = one_of (λ n. (n ≡ 0) ⊎ ((k : ℕ) × IsGiven tables p C k n)) z w (zeroing_of A z from_one one.zeroing_given) (zeroing_of B w from_other other.zeroing_given);
   }
+
+  -- the same legal moves give the same
+  pub same_given : (A : Move → Type 0) (x z : ℕ) → AreGiven tables p A x z → ((q : Setup) (m : Move) → Leads p m q → C m → A m) → ((m : Move) → A m → C m) → AreGiven tables p C x z
+  same_given A x z given back within = record {
+    above = λ q m leads is. given.above q m leads (back q m leads is);
+    mate_given = mate_of A x within given.mate_given;
+    zeroing_given = zeroing_of A z within given.zeroing_given;
+  }
+
+pub either_given : (tables : Tables) (p : Setup) (x z y w : ℕ) → AreGiven tables p (λ m. ¬ Zeroes p m) x z → AreGiven tables p (Zeroes p) y w → AreGiven tables p (λ m. Unit {0}) (max x y) (max z w)
+either_given tables p x z y w quiet loud = union_given tables p (λ m. Unit {0}) (λ m. ¬ Zeroes p m) (Zeroes p) x z y w quiet loud
+    (λ q m leads any. elim (decided_zeroes p m) [ inl zeroes ↦ inr zeroes | inr keeps ↦ inl keeps ])
+    (λ m keeps. tt)
+    (λ m zeroes. tt)

@@ -1,8 +1,7 @@
 -- The greatest scores of the codes of quiet steps are those of the quiet moves.
-use Rattle.std.proofs.Common.{◌≡◌, ◌≢◌, ℕ, ◌%◌, ◌<◌, ◌≤◌, Bool, false, Some, arith, refl, sym, ap, inl, inr, subst}
+use Rattle.std.proofs.Common.{◌≡◌, ℕ, ◌%◌, ◌<◌, ◌≤◌, Bool, false, Some, arith, refl, sym, ap, inl, inr, subst}
 use Rattle.egt_board.specs.Man.{other_side}
 use Rattle.egt_board.specs.Setup.{Setup}
-use Rattle.egt_board.specs.declared.man.Kind.TheVariants.{P}
 use Rattle.egt_board.specs.declared.man.Side.{Side}
 use Rattle.egt_board.specs.declared.man.Side.TheVariants.{White, Black}
 use Rattle.egt_index.specs.Index.{IsIndex}
@@ -31,7 +30,7 @@ pub low_score : (e : ℕ) → e < 254 → byte_score (e % 256) ≡ byte_score e
 low_score e low = let same : e % 256 ≡ e = omega arith in ap byte_score same
 
 module _ (facts : Facts) (keeps : KeepsClass) (follow : Following) (turning : Turning) (tables : Tables) (t : TableValue) (is_table : IsTable t) (found : tables t.class ≡ Some t) (bytes : HasBytes t)
-    (men : ShelfMen) (one_piece : men.one.kind ≢ P) (last_piece : men.last.kind ≢ P) (side : Side) (passed : Bool) (a b : ℕ) (p : Setup) (has : HasStand t.class false (stand_on men a b) side passed p) where
+    (men : ShelfMen) (side : Side) (passed : Bool) (a b : ℕ) (p : Setup) (has : HasStand t.class false (stand_on men a b) side passed p) where
   -- ---- the men after a quiet step
 
   apart : AllStand false p.men (list_of (stand_on men a b))
@@ -55,8 +54,8 @@ module _ (facts : Facts) (keeps : KeepsClass) (follow : Following) (turning : Tu
       of_side : (s : Side) → AreWhole (stand_on (with_king men s k) a b)
       of_side White = record { filled = λ none. let e = none in cc; on_board = record { white = beside.0; black = black_in; next = one_in; last = last_in } }
       of_side Black = record { filled = λ none. let e = none in cc; on_board = record { white = white_in; black = beside.0; next = one_in; last = last_in } }
-  whole stand (inr (inl (of, to, to_in, reaches, is))) = subst AreWhole (sym is) (record { filled = λ none. let e = none in cc; on_board = record { white = white_in; black = black_in; next = to_in; last = last_in } })
-  whole stand (inr (inr (of, to, to_in, reaches, is))) = subst AreWhole (sym is) (record { filled = λ none. let e = none in cc; on_board = record { white = white_in; black = black_in; next = one_in; last = to_in } })
+  whole stand (inr (inl (of, piece, to, to_in, reaches, is))) = subst AreWhole (sym is) (record { filled = λ none. let e = none in cc; on_board = record { white = white_in; black = black_in; next = to_in; last = last_in } })
+  whole stand (inr (inr (of, piece, to, to_in, reaches, is))) = subst AreWhole (sym is) (record { filled = λ none. let e = none in cc; on_board = record { white = white_in; black = black_in; next = one_in; last = to_in } })
 
   -- ---- the scores of a quiet move
 
@@ -93,7 +92,7 @@ module _ (facts : Facts) (keeps : KeepsClass) (follow : Following) (turning : Tu
   module _ (mate zeroing : ℕ) (by_mate : IsBestOf t Mate (IsQuietStand men side a b) false (other_side side) mate) (by_zeroing : IsBestOf t Zeroing (IsQuietStand men side a b) false (other_side side) zeroing) where
     above : (q : Setup) (m : Move) → Leads p m q → ¬ Zeroes p m → (x z : ℕ) × HasScores tables p q m x z × (x ≤ mate) × (z ≤ zeroing)
     above q m leads quiet =
-        let (stand, is, there) = goes facts keeps follow t.class is_table.class_in men one_piece last_piece side passed a b p has q m leads quiet in
+        let (stand, is, there) = goes facts keeps follow t.class is_table.class_in men side passed a b p has q m leads quiet in
         let (i, index, mate_above) = by_mate.above stand q is there in
         let (j, other, zeroing_above) = by_zeroing.above stand q is there in (
           score_at t Mate i,
@@ -109,7 +108,7 @@ module _ (facts : Facts) (keeps : KeepsClass) (follow : Following) (turning : Tu
       mate_given = elim by_mate.reached [
         | inl none ↦ inl none
         | inr h ↦
-            let (m, leads, quiet) = comes facts keeps follow t.class is_table.class_in men one_piece last_piece side passed a b p has h.position h.stand h.in_stands h.has in
+            let (m, leads, quiet) = comes facts keeps follow t.class is_table.class_in men side passed a b p has h.position h.stand h.in_stands h.has in
             inr (
               score_at t Zeroing h.index,
               record { move = m; next = h.position; leads = leads; among = quiet; scores = subst (λ x. HasScores tables p h.position m x (score_at t Zeroing h.index)) (sym h.is) (scores h.position h.stand h.has h.index h.is_index m quiet) },
@@ -118,7 +117,7 @@ module _ (facts : Facts) (keeps : KeepsClass) (follow : Following) (turning : Tu
       zeroing_given = elim by_zeroing.reached [
         | inl none ↦ inl none
         | inr h ↦
-            let (m, leads, quiet) = comes facts keeps follow t.class is_table.class_in men one_piece last_piece side passed a b p has h.position h.stand h.in_stands h.has in
+            let (m, leads, quiet) = comes facts keeps follow t.class is_table.class_in men side passed a b p has h.position h.stand h.in_stands h.has in
             inr (
               score_at t Mate h.index,
               record { move = m; next = h.position; leads = leads; among = quiet; scores = subst (HasScores tables p h.position m (score_at t Mate h.index)) (sym h.is) (scores h.position h.stand h.has h.index h.is_index m quiet) },

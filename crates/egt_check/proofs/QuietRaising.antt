@@ -6,6 +6,8 @@ use Rattle.std.proofs.lemmas.Grind.{get_or-set_at}
 use Rattle.std.proofs.Math.ListN.{set, length-set}
 use Rattle.egt_board.specs.Gait.{Reaches, Reaches-free, Reaches-on_board}
 use Rattle.egt_board.specs.Man.{other_side}
+use Rattle.egt_board.specs.declared.man.Kind.{Kind}
+use Rattle.egt_board.specs.declared.man.Kind.TheVariants.{P, K}
 use Rattle.egt_board.specs.declared.man.Man.{Man}
 use Rattle.egt_board.specs.declared.man.Side.{Side}
 use Rattle.egt_index.specs.TurnedMen.{IsSomeTurnedCode}
@@ -74,6 +76,11 @@ rows_more In f old out n row n_in r here = record {
 
 -- ---- quiet steps
 
+-- a man beside the kings who is no piece is a pawn
+pub no_piece : (kind : Kind) → (kind ≡ P) ⊎ (kind ≡ K) → kind ≢ K → kind ≡ P
+no_piece kind (inl pawn) other = pawn
+no_piece kind (inr king) other = absurd (other king)
+
 -- only which squares are clear counts
 pub steps_raised : (F G : ℕ → Type 0) (man : Man) (s : ℕ) (f : ℕ → ℕ) (low high : ℕ) → ((u : ℕ) → u < 64 → F u ↔ G u) → IsRaised low (λ t. Reaches F man s t) f high → IsRaised low (λ t. Reaches G man s t) f high
 steps_raised F G man s f low high same raised = raised_alike low high (λ t. Reaches F man s t) (λ t. Reaches G man s t) f raised
@@ -90,12 +97,12 @@ open_is_clear men kings b is u u_in = (
 module _ (t : TableValue) (column : Column) (men : ShelfMen) (side : Side) (a b : ℕ) (low : ℕ)
     (king : IsRaised 0 (AreTurnedCodes t.class (IsBesideKing men side) (with_king men side) false (other_side side) a b) (score_at t column) low) where
   -- only the king has steps
-  pub king_alone : men.one.side ≢ side → men.last.side ≢ side → IsRaised 0 (AreQuietCodes t.class men side a b) (score_at t column) low
+  pub king_alone : (men.one.side ≡ side → men.one.kind ≡ P) → (men.last.side ≡ side → men.last.kind ≡ P) → IsRaised 0 (AreQuietCodes t.class men side a b) (score_at t column) low
   king_alone other others = raised_alike 0 low (AreTurnedCodes t.class (IsBesideKing men side) (with_king men side) false (other_side side) a b) (AreQuietCodes t.class men side a b) (score_at t column) king
       (λ code h. elim h.1 [
         | inl k ↦ (k.0, k.1, subst (λ (s : Stand). IsSomeTurnedCode t.class code false s (other_side side)) k.2 h.2)
-        | inr (inl one) ↦ absurd (other one.0)
-        | inr (inr last) ↦ absurd (others last.0)
+        | inr (inl one) ↦ absurd (one.1 (other one.0))
+        | inr (inr last) ↦ absurd (last.1 (others last.0))
       ])
       (λ code h. (stand_on (with_king men side h.0) a b, inl (h.0, h.1, refl), h.2))
 
@@ -107,11 +114,11 @@ module _ (t : TableValue) (column : Column) (men : ShelfMen) (side : Side) (a b 
 
     by_first : IsRaised low (λ code. (u : ℕ) × IsFirstStep men side a b u × IsSomeTurnedCode t.class code false (stand_on men u b) (other_side side)) (score_at t column) mid
     by_first = raised_through low mid (IsFirstStep men side a b) (λ u code. IsSomeTurnedCode t.class code false (stand_on men u b) (other_side side)) (score_at t column) (λ u. at scores u b)
-        (λ u step. read u b (Reaches-on_board (IsClear men b) men.one a u step.1) b_in) first
+        (λ u step. read u b (Reaches-on_board (IsClear men b) men.one a u step.2) b_in) first
 
     by_last : IsRaised mid (λ code. (u : ℕ) × IsLastStep men side a b u × IsSomeTurnedCode t.class code false (stand_on men a u) (other_side side)) (score_at t column) high
     by_last = raised_through mid high (IsLastStep men side a b) (λ u code. IsSomeTurnedCode t.class code false (stand_on men a u) (other_side side)) (score_at t column) (λ u. at scores a u)
-        (λ u step. read a u a_in (Reaches-on_board (IsClear men a) men.last b u step.1)) last
+        (λ u step. read a u a_in (Reaches-on_board (IsClear men a) men.last b u step.2)) last
 
     by_both : IsRaised 0 NoLast (score_at t column) mid
     unfolding NoLast
@@ -124,11 +131,11 @@ module _ (t : TableValue) (column : Column) (men : ShelfMen) (side : Side) (a b 
     all_quiet = raised_both 0 mid high NoLast (λ code. (u : ℕ) × IsLastStep men side a b u × IsSomeTurnedCode t.class code false (stand_on men a u) (other_side side)) (AreQuietCodes t.class men side a b) (score_at t column) by_both by_last
         (λ code h. elim h.1 [
           | inl k ↦ inl (inl (k.0, k.1, subst (λ (s : Stand). IsSomeTurnedCode t.class code false s (other_side side)) k.2 h.2))
-          | inr (inl one) ↦ inl (inr (one.1, (one.0, one.3), subst (λ (s : Stand). IsSomeTurnedCode t.class code false s (other_side side)) one.4 h.2))
-          | inr (inr last) ↦ inr (last.1, (last.0, last.3), subst (λ (s : Stand). IsSomeTurnedCode t.class code false s (other_side side)) last.4 h.2)
+          | inr (inl one) ↦ inl (inr (one.2, (one.0, one.1, one.4), subst (λ (s : Stand). IsSomeTurnedCode t.class code false s (other_side side)) one.5 h.2))
+          | inr (inr last) ↦ inr (last.2, (last.0, last.1, last.4), subst (λ (s : Stand). IsSomeTurnedCode t.class code false s (other_side side)) last.5 h.2)
         ])
         (λ code h. elim h [
           | inl k ↦ (stand_on (with_king men side k.0) a b, inl (k.0, k.1, refl), k.2)
-          | inr one ↦ (stand_on men one.0 b, inr (inl (one.1.0, one.0, Reaches-on_board (IsClear men b) men.one a one.0 one.1.1, one.1.1, refl)), one.2)
+          | inr one ↦ (stand_on men one.0 b, inr (inl (one.1.0, one.1.1, one.0, Reaches-on_board (IsClear men b) men.one a one.0 one.1.2, one.1.2, refl)), one.2)
         ])
-        (λ code last. (stand_on men a last.0, inr (inr (last.1.0, last.0, Reaches-on_board (IsClear men a) men.last b last.0 last.1.1, last.1.1, refl)), last.2))
+        (λ code last. (stand_on men a last.0, inr (inr (last.1.0, last.1.1, last.0, Reaches-on_board (IsClear men a) men.last b last.0 last.1.2, last.1.2, refl)), last.2))

@@ -61,8 +61,7 @@ pub king_piece : (side : Side) → (king_of side).kind ≢ P
 king_piece White e = cc
 king_piece Black e = cc
 
-module _ (facts : Facts) (keeps : KeepsClass) (follow : Following) (c : ℕ) (class_in : c < 36) (men : ShelfMen) (one_piece : men.one.kind ≢ P) (last_piece : men.last.kind ≢ P)
-    (side : Side) (passed : Bool) (a b : ℕ) (p : Setup) (has : HasStand c false (stand_on men a b) side passed p) where
+module _ (facts : Facts) (keeps : KeepsClass) (follow : Following) (c : ℕ) (class_in : c < 36) (men : ShelfMen) (side : Side) (passed : Bool) (a b : ℕ) (p : Setup) (has : HasStand c false (stand_on men a b) side passed p) where
   abbrev pub here : Stand
   here = stand_on men a b
 
@@ -183,16 +182,23 @@ module _ (facts : Facts) (keeps : KeepsClass) (follow : Following) (c : ℕ) (cl
       steps (king_of side) (king_of_men men side) king_listed king_of_side (king_piece side) (IsOff (list_of here)) (λ u off other. off) k
       (king_reaches (λ u. bit_at 0 u ≡ 0) (IsOff (list_of here)) (king_of side) (king_of_men men side) k refl beside.1) (stand_on (with_king men side k) a b) (king_moves k) q
       (subst (λ (s : Stand). HasStand c false s (other_side side) false q) is there)
-  comes q stand (inr (inl (of, t, t_in, reaches, is))) there =
-      steps men.one a (inr (inr (inl (refl, refl)))) of one_piece (IsClear men b) (λ u clear other. ((λ e. clear.0 (sym e)), ((λ e. clear.1 (sym e)), ((λ e. other (sym e)), ((λ e. clear.2 (sym e)), tt))))) t reaches
+  comes q stand (inr (inl (of, piece, t, t_in, reaches, is))) there =
+      steps men.one a (inr (inr (inl (refl, refl)))) of piece (IsClear men b) (λ u clear other. ((λ e. clear.0 (sym e)), ((λ e. clear.1 (sym e)), ((λ e. other (sym e)), ((λ e. clear.2 (sym e)), tt))))) t reaches
       (stand_on men t b) (one_moves t) q (subst (λ (s : Stand). HasStand c false s (other_side side) false q) is there)
-  comes q stand (inr (inr (of, t, t_in, reaches, is))) there =
-      steps men.last b (inr (inr (inr (inl (refl, refl))))) of last_piece (IsClear men a) (λ u clear other. ((λ e. clear.0 (sym e)), ((λ e. clear.1 (sym e)), ((λ e. clear.2 (sym e)), ((λ e. other (sym e)), tt))))) t reaches
+  comes q stand (inr (inr (of, piece, t, t_in, reaches, is))) there =
+      steps men.last b (inr (inr (inr (inl (refl, refl))))) of piece (IsClear men a) (λ u clear other. ((λ e. clear.0 (sym e)), ((λ e. clear.1 (sym e)), ((λ e. clear.2 (sym e)), ((λ e. other (sym e)), tt))))) t reaches
       (stand_on men a t) (last_moves t) q (subst (λ (s : Stand). HasStand c false s (other_side side) false q) is there)
 
   module _ (q : Setup) (m : Move) (leads : Leads p m q) (keeps_count : ¬ Zeroes p m) where
     moved : IsMoved c p m.from m.to q
     moved = follow.quiet_moved c p q m has.admissible leads keeps_count
+
+    -- no pawn, whose moves zero
+    piece_led : leads.man.kind ≢ P
+    piece_led pawn = keeps_count (inr (record { man = leads.man; stands = leads.stands; pawn = pawn }))
+
+    piece_is : (man : Man) → man ≡ leads.man → man.kind ≢ P
+    piece_is man is = subst (λ (x : Man). x.kind ≢ P) (sym is) piece_led
 
     of_side : leads.man.side ≡ side
     of_side = leads.mine ∙ sym mine
@@ -233,9 +239,10 @@ module _ (facts : Facts) (keeps : KeepsClass) (follow : Following) (c : ℕ) (cl
       stand_on men m.to b,
       inr (inl (
         ap (λ (x : Man). x.side) is ∙ of_side,
+        piece_is men.one is,
         m.to,
         moved.on_board,
-        Reaches-free (IsFree p.men) (IsClear men b) men.one a m.to (λ u u_in free. let o = off u free in ((λ e. o.0 (sym e)), (λ e. o.1.0 (sym e)), (λ e. o.1.1.1.0 (sym e)))) (reached men.one a is at one_piece),
+        Reaches-free (IsFree p.men) (IsClear men b) men.one a m.to (λ u u_in free. let o = off u free in ((λ e. o.0 (sym e)), (λ e. o.1.0 (sym e)), (λ e. o.1.1.1.0 (sym e)))) (reached men.one a is at (piece_is men.one is)),
         refl,
       )),
       stand_there a (stand_on men m.to b) at (one_moves m.to),
@@ -246,9 +253,10 @@ module _ (facts : Facts) (keeps : KeepsClass) (follow : Following) (c : ℕ) (cl
       stand_on men a m.to,
       inr (inr (
         ap (λ (x : Man). x.side) is ∙ of_side,
+        piece_is men.last is,
         m.to,
         moved.on_board,
-        Reaches-free (IsFree p.men) (IsClear men a) men.last b m.to (λ u u_in free. let o = off u free in ((λ e. o.0 (sym e)), (λ e. o.1.0 (sym e)), (λ e. o.1.1.0 (sym e)))) (reached men.last b is at last_piece),
+        Reaches-free (IsFree p.men) (IsClear men a) men.last b m.to (λ u u_in free. let o = off u free in ((λ e. o.0 (sym e)), (λ e. o.1.0 (sym e)), (λ e. o.1.1.0 (sym e)))) (reached men.last b is at (piece_is men.last is)),
         refl,
       )),
       stand_there b (stand_on men a m.to) at (last_moves m.to),

@@ -15,7 +15,6 @@ use Rattle.egt_index.specs.declared.stand.Stand.{Stand}
 use Rattle.egt_lanes.specs.Raised.{IsRaised}
 use Rattle.egt_lanes.specs.Scores.{zeroing_score}
 use Rattle.egt_lanes.proofs.Raising.{raised_as}
-use Rattle.egt_moves.specs.Chess.{Zeroes}
 use Rattle.egt_moves.specs.Legal.{Leads}
 use Rattle.egt_moves.specs.declared.chess_move.Move.{Move}
 use Rattle.egt_table.specs.Table.{TableValue}
@@ -25,7 +24,7 @@ use Rattle.egt_check.specs.Blocks.{IsBesideKing, stand_on, with_king}
 use Rattle.egt_check.specs.Facts.{Facts}
 use Rattle.egt_check.specs.Given.{AreAlike, AreGiven, HasScores, IsGiven}
 use Rattle.egt_check.specs.Taken.{AreLeftCodes, IsLastTaken, IsTableOf, men_swapped}
-use Rattle.egt_check.specs.Takings.{IsClassOf, IsTaken, Left, left_of, stand_left}
+use Rattle.egt_check.specs.Takings.{IsClassOf, IsPlainCapture, IsTaken, Left, left_of, stand_left}
 use Rattle.egt_check.specs.Tables.{HasEntry, Tables, entry_at}
 use Rattle.egt_check.specs.Worth.{IsBestOf, IsScoreOf, score_at}
 use Rattle.egt_check.proofs.ByteJudged.{zeroing_drawn, zeroing_lost, zeroing_low}
@@ -51,8 +50,8 @@ zeroing_above v w le = elim (cases_lt 128 w) [
 
 -- one position after each capture that leaves a man, and one capture before it
 pub record Takes (c : ℕ) (men : ShelfMen) (side : Side) (a b : ℕ) (p : Setup) : Type 0 where
-  pub goes : (q : Setup) (m : Move) → Leads p m q → Zeroes p m → (left : Left) × IsTaken men side a b left × ((d : ℕ) (flips : Bool) → IsClassOf d flips left.man → HasStand d flips (stand_left flips left) (other_side side) false q)
-  pub comes : (left : Left) → IsTaken men side a b left → (d : ℕ) (flips : Bool) → IsClassOf d flips left.man → (q : Setup) → HasStand d flips (stand_left flips left) (other_side side) false q → (m : Move) × Leads p m q × Zeroes p m
+  pub goes : (q : Setup) (m : Move) → Leads p m q → IsPlainCapture p m → (left : Left) × IsTaken men side a b left × ((d : ℕ) (flips : Bool) → IsClassOf d flips left.man → HasStand d flips (stand_left flips left) (other_side side) false q)
+  pub comes : (left : Left) → IsTaken men side a b left → (d : ℕ) (flips : Bool) → IsClassOf d flips left.man → (q : Setup) → HasStand d flips (stand_left flips left) (other_side side) false q → (m : Move) × Leads p m q × IsPlainCapture p m
 
 -- ---- the class of one man
 
@@ -103,8 +102,8 @@ module _ (facts : Facts) (turning : Turning) (tables : Tables) (p : Setup) (men 
       is = refl;
     }
 
-    pub scores : (m : Move) → Zeroes p m → HasScores tables p q m (score_at t Mate i) (zeroing_score (score_at t Mate i))
-    scores m zeroes = record {
+    pub scores : (m : Move) → IsPlainCapture p m → HasScores tables p q m (score_at t Mate i) (zeroing_score (score_at t Mate i))
+    scores m takes = record {
       first = entry_at t Mate i;
       second = entry_at t Zeroing i;
       has_first = entry Mate;
@@ -112,7 +111,7 @@ module _ (facts : Facts) (turning : Turning) (tables : Tables) (p : Setup) (men 
       known = alike.mate_known;
       mate_is = low_score (entry_at t Mate i) alike.mate_known.low;
       zeroes = true;
-      zeroes_is = ((λ yes. zeroes), (λ _. refl));
+      zeroes_is = ((λ yes. inl takes.0), (λ _. refl));
       zeroing_is = refl;
     }
 
@@ -182,38 +181,38 @@ module _ (facts : Facts) (turning : Turning) (tables : Tables) (c : ℕ) (men : 
     abbrev pub Above : Setup → Move → Type 0
     Above q m = (x z : ℕ) × HasScores tables p q m x z × (x ≤ max u v) × (z ≤ zeroing_score (max u v))
 
-    above_first : (q : Setup) (m : Move) (left : Left) → Zeroes p m → IsLastTaken men side a b left → HasStand first.class first_flips (stand_left first_flips left) (other_side side) false q → Above q m
-    above_first q m left zeroes taken there =
+    above_first : (q : Setup) (m : Move) (left : Left) → IsPlainCapture p m → IsLastTaken men side a b left → HasStand first.class first_flips (stand_left first_flips left) (other_side side) false q → Above q m
+    above_first q m left plain taken there =
         let (i, index, le) = by_first.above (stand_left first_flips left) q (left, taken, refl) there in
         let more : score_at first Mate i ≤ max u v = omega (arith, le) in (
           score_at first Mate i,
           zeroing_score (score_at first Mate i),
-          scores facts turning tables p men white_in black_in side a b one_in first first_flips is_first q (stand_left first_flips left) there i index m zeroes,
+          scores facts turning tables p men white_in black_in side a b one_in first first_flips is_first q (stand_left first_flips left) there i index m plain,
           more,
           zeroing_above (score_at first Mate i) (max u v) more,
         )
 
-    above_last : (q : Setup) (m : Move) (left : Left) → Zeroes p m → IsLastTaken (men_swapped men) side b a left → HasStand last.class last_flips (stand_left last_flips left) (other_side side) false q → Above q m
-    above_last q m left zeroes taken there =
+    above_last : (q : Setup) (m : Move) (left : Left) → IsPlainCapture p m → IsLastTaken (men_swapped men) side b a left → HasStand last.class last_flips (stand_left last_flips left) (other_side side) false q → Above q m
+    above_last q m left plain taken there =
         let (i, index, le) = by_last.above (stand_left last_flips left) q (left, taken, refl) there in
         let more : score_at last Mate i ≤ max u v = omega (arith, le) in (
           score_at last Mate i,
           zeroing_score (score_at last Mate i),
-          scores facts turning tables p (men_swapped men) white_in black_in side b a last_in last last_flips is_last q (stand_left last_flips left) there i index m zeroes,
+          scores facts turning tables p (men_swapped men) white_in black_in side b a last_in last last_flips is_last q (stand_left last_flips left) there i index m plain,
           more,
           zeroing_above (score_at last Mate i) (max u v) more,
         )
 
-    above : (q : Setup) (m : Move) → Leads p m q → Zeroes p m → Above q m
-    above q m leads zeroes =
-        let (left, taken, there) = takes.goes q m leads zeroes in
+    above : (q : Setup) (m : Move) → Leads p m q → IsPlainCapture p m → Above q m
+    above q m leads plain =
+        let (left, taken, there) = takes.goes q m leads plain in
         elim (either left taken) [
-          | inl h ↦ above_first q m left zeroes h.0 (there first.class first_flips (subst (IsClassOf first.class first_flips) (sym h.1) is_first.class_of))
-          | inr h ↦ above_last q m left zeroes h.0 (there last.class last_flips (subst (IsClassOf last.class last_flips) (sym h.1) is_last.class_of))
+          | inl h ↦ above_first q m left plain h.0 (there first.class first_flips (subst (IsClassOf first.class first_flips) (sym h.1) is_first.class_of))
+          | inr h ↦ above_last q m left plain h.0 (there last.class last_flips (subst (IsClassOf last.class last_flips) (sym h.1) is_last.class_of))
         ]
 
     abbrev pub Given : ℕ → Type 0
-    Given w = (w ≡ 0) ⊎ IsGiven tables p (Zeroes p) w (zeroing_score w)
+    Given w = (w ≡ 0) ⊎ IsGiven tables p (IsPlainCapture p) w (zeroing_score w)
 
     from_first : (u ≡ 0) ⊎ IsScoreOf first Mate FirstLeft first_flips (other_side side) u → Given u
     from_first (inl none) = inl none
@@ -221,14 +220,14 @@ module _ (facts : Facts) (turning : Turning) (tables : Tables) (c : ℕ) (men : 
         let (left, taken, e) = h.in_stands in
         let has_left : HasStand first.class first_flips (stand_left first_flips left) (other_side side) false h.position = subst (λ (s : Stand). HasStand first.class first_flips s (other_side side) false h.position) e h.has in
         let (is_taken, same) = taken_last left taken in
-        let (m, leads, zeroes) = takes.comes left is_taken first.class first_flips (subst (IsClassOf first.class first_flips) (sym same) is_first.class_of) h.position has_left in
+        let (m, leads, plain) = takes.comes left is_taken first.class first_flips (subst (IsClassOf first.class first_flips) (sym same) is_first.class_of) h.position has_left in
         inr (record {
           move = m;
           next = h.position;
           leads = leads;
-          among = zeroes;
+          among = plain;
           scores = subst (λ x. HasScores tables p h.position m x (zeroing_score x)) (sym h.is)
-              (scores facts turning tables p men white_in black_in side a b one_in first first_flips is_first h.position h.stand h.has h.index h.is_index m zeroes);
+              (scores facts turning tables p men white_in black_in side a b one_in first first_flips is_first h.position h.stand h.has h.index h.is_index m plain);
         })
 
     from_last : (v ≡ 0) ⊎ IsScoreOf last Mate LastLeft last_flips (other_side side) v → Given v
@@ -237,32 +236,32 @@ module _ (facts : Facts) (turning : Turning) (tables : Tables) (c : ℕ) (men : 
         let (left, taken, e) = h.in_stands in
         let has_left : HasStand last.class last_flips (stand_left last_flips left) (other_side side) false h.position = subst (λ (s : Stand). HasStand last.class last_flips s (other_side side) false h.position) e h.has in
         let (is_taken, same) = taken_first left taken in
-        let (m, leads, zeroes) = takes.comes left is_taken last.class last_flips (subst (IsClassOf last.class last_flips) (sym same) is_last.class_of) h.position has_left in
+        let (m, leads, plain) = takes.comes left is_taken last.class last_flips (subst (IsClassOf last.class last_flips) (sym same) is_last.class_of) h.position has_left in
         inr (record {
           move = m;
           next = h.position;
           leads = leads;
-          among = zeroes;
+          among = plain;
           scores = subst (λ x. HasScores tables p h.position m x (zeroing_score x)) (sym h.is)
-              (scores facts turning tables p (men_swapped men) white_in black_in side b a last_in last last_flips is_last h.position h.stand h.has h.index h.is_index m zeroes);
+              (scores facts turning tables p (men_swapped men) white_in black_in side b a last_in last last_flips is_last h.position h.stand h.has h.index h.is_index m plain);
         })
 
     greatest : Given (max u v)
     greatest = one_of Given u v (from_first by_first.reached) (from_last by_last.reached)
 
-    as_mate : (w : ℕ) → Given w → (w ≡ 0) ⊎ ((z : ℕ) × IsGiven tables p (Zeroes p) w z)
+    as_mate : (w : ℕ) → Given w → (w ≡ 0) ⊎ ((z : ℕ) × IsGiven tables p (IsPlainCapture p) w z)
     as_mate w (inl none) = inl none
     as_mate w (inr g) = inr (zeroing_score w, g)
 
-    as_zeroing : (w : ℕ) → Given w → (zeroing_score w ≡ 0) ⊎ ((x : ℕ) × IsGiven tables p (Zeroes p) x (zeroing_score w))
+    as_zeroing : (w : ℕ) → Given w → (zeroing_score w ≡ 0) ⊎ ((x : ℕ) × IsGiven tables p (IsPlainCapture p) x (zeroing_score w))
     as_zeroing w (inl none) = inl (ap zeroing_score none)
     as_zeroing w (inr g) = inr (w, g)
 
-    given : AreGiven tables p (Zeroes p) (max u v) (zeroing_score (max u v))
+    given : AreGiven tables p (IsPlainCapture p) (max u v) (zeroing_score (max u v))
     given = record { above = above; mate_given = as_mate (max u v) greatest; zeroing_given = as_zeroing (max u v) greatest }
 
   pub taken_given : (u v : ℕ) → IsRaised 0 (AreLeftCodes first.class first_flips men side a b) (score_at first Mate) u → IsRaised 0 (AreLeftCodes last.class last_flips (men_swapped men) side b a) (score_at last Mate) v
-      → AreGiven tables p (Zeroes p) (max u v) (zeroing_score (max u v))
+      → AreGiven tables p (IsPlainCapture p) (max u v) (zeroing_score (max u v))
   taken_given u v by_first by_last =
       given u v
       (best facts turning tables p men white_in black_in side a b one_in first first_flips is_first u by_first)

@@ -1,9 +1,10 @@
--- The captures from a position lead to the three men who are left, and to all positions of them.
-use Rattle.std.proofs.Common.{◌≡◌, ◌≢◌, ℕ, ◌⊎◌, ◌↔◌, ◌&&◌, ◌==◌, if◌then◌else◌, Bool, true, false, List, [], ◌∷◌, map, Option, Some, None, refl, sym, ap, ◌∙◌, subst, inl, inr}
+-- The captures from a position that promote no pawn and are not in passing lead to the three men who are left, and to all positions of them.
+use Rattle.std.proofs.Common.{◌≡◌, ◌≢◌, ℕ, ◌+◌, ◌/◌, ◌<◌, ◌⊎◌, ◌↔◌, ◌&&◌, ◌==◌, if◌then◌else◌, Bool, true, false, List, [], ◌∷◌, map, Option, Some, None, IfSome, arith, refl, sym, ap, ◌∙◌, subst, inl, inr}
 use Rattle.std.specs.FinMap as placement
 use Rattle.std.specs.Int.{bit_at}
 use Rattle.std.specs.Option.{is_some, option_map}
-use Rattle.std.proofs.lemmas.Bool.{cases_eq}
+use Rattle.std.proofs.lemmas.Bool.{and_parts, cases_eq, false≢true}
+use Rattle.std.proofs.lemmas.Bool.Decides.{eqb_tells}
 use Rattle.egt_board.specs.AllMen.{HasBeside}
 use Rattle.egt_board.specs.Attack.{IsInCheck, king_of}
 use Rattle.egt_board.specs.Gait.{Reaches, Reaches-free, Reaches-on_board}
@@ -12,6 +13,7 @@ use Rattle.egt_board.specs.Pawn.{ahead, last_rank}
 use Rattle.egt_board.specs.Placement.{Placement, Stands, IsFree, IsHeld, one_man, same_men, get-insert_same, get-insert_other, get-remove_same, get-remove_other}
 use Rattle.egt_board.specs.Setup.{Setup, IsAdmissible}
 use Rattle.egt_board.specs.Square.{rank_of}
+use Rattle.egt_board.specs.Target.{IsTarget}
 use Rattle.egt_board.specs.Turned.{turned_man}
 use Rattle.egt_board.specs.declared.man.Kind.{Kind}
 use Rattle.egt_board.specs.declared.man.Kind.TheVariants.{P, K}
@@ -29,19 +31,21 @@ use Rattle.egt_index.proofs.After.{all_there}
 use Rattle.egt_index.proofs.ByMen.{no_target}
 use Rattle.egt_index.proofs.Setups.{free_of}
 use Rattle.egt_index.proofs.Standing.{counted_turned, turned_back}
-use Rattle.egt_moves.specs.Chess.{Zeroes}
+use Rattle.egt_moves.specs.Chess.{IsPawnOn, Zeroes}
 use Rattle.egt_moves.specs.Going.{Goes}
-use Rattle.egt_moves.specs.Legal.{Leads, after, is_target, men_after, plain}
-use Rattle.egt_moves.specs.Promotion.{FitsPromotion, arriving}
+use Rattle.egt_moves.specs.Legal.{Leads, after, is_two_ranks, men_after, passed, plain, takes_in_passing}
+use Rattle.egt_moves.specs.Promotion.{FitsPromotion, arriving, is_pawn, promotes}
 use Rattle.egt_moves.specs.declared.chess_move.Move.{Move}
+use Rattle.egt_moves.proofs.Admissible.{not_two, pawn_told, takes_forward_of, two_forward, two_ranks_told}
 use Rattle.egt_moves.proofs.After.{side_twice}
+use Rattle.egt_moves.proofs.SafeGoals.{not_passing}
 use Rattle.egt_check.specs.Blocks.{IsBesideKing, king_of_men, stand_on, with_king}
 use Rattle.egt_check.specs.Facts.{Facts}
-use Rattle.egt_check.specs.Takings.{IsClassOf, IsPastKings, IsTaken, Left, left_of, stand_left}
-use Rattle.egt_check.proofs.Fanned.{king_reaches, men_after_is}
+use Rattle.egt_check.specs.Takings.{IsClassOf, IsPastKings, IsPlainCapture, IsTaken, Left, left_of, stand_left}
+use Rattle.egt_check.proofs.Fanned.{king_reaches}
 use Rattle.egt_check.proofs.Passed.{departs}
 use Rattle.egt_check.proofs.QuietStands.{king_piece}
-use Rattle.egt_check.proofs.Still.{no_pawn, piece_promo, piece_unpassed}
+use Rattle.egt_check.proofs.Still.{no_pawn_is, piece_promo}
 
 -- the men of a stand, and those beside the kings, by the laws of egt_index and egt_class
 pub record Telling : Type 0 where
@@ -184,7 +188,78 @@ module _ (men : Placement) (from to : ℕ) (man : Man) where
     | inr off_from ↦ get-remove_other men from s off_from ∙ free off_from
   ]
 
-module _ (facts : Facts) (telling : Telling) (c : ℕ) (men : ShelfMen) (one_piece : men.one.kind ≢ P) (last_piece : men.last.kind ≢ P) (one_other : men.one.kind ≢ K) (last_other : men.last.kind ≢ K)
+-- ---- a man takes where he attacks, a pawn among others
+
+module _ (p : Setup) (man : Man) (from to : ℕ) (held : IsHeld p.men to (other_side p.side)) where
+  -- a pawn takes one rank ahead, so that none passes a square
+  none_passed : Reaches (IsFree p.men) man from to → passed man from to ≡ None
+  none_passed reaches = by_test (is_pawn man.kind && is_two_ranks from to) refl
+    where
+      by_test : (b : Bool) → (is_pawn man.kind && is_two_ranks from to) ≡ b → (if b then Some ((from + to) / 2) else None) ≡ None
+      by_test false e = refl
+      by_test true e =
+          let both = and_parts (is_pawn man.kind) (is_two_ranks from to) e in
+          let one = takes_forward_of p man from to (record { pawn = pawn_told man.kind both.0; reaches = reaches; takes = inl held }) in
+          absurd (not_two 1 refl (two_forward man.side 1 from to one (two_ranks_told from to both.1)))
+
+  -- no man stands on the target
+  not_in_passing : IsAdmissible p → takes_in_passing p man to ≡ false
+  not_in_passing ok = not_passing p man to
+      (λ pawn is. let empty = (subst (λ o. IfSome o (IsTarget p.men p.side)) is ok.target).empty in let none = sym held.stands ∙ empty in cc)
+
+  taking_goes : Reaches (IsFree p.men) man from to → ¬ IsHeld p.men to p.side → Goes p man from to
+  taking_goes reaches not_own = by_test (is_pawn man.kind) refl
+    where
+      by_test : (b : Bool) → is_pawn man.kind ≡ b → Goes p man from to
+      by_test true e = inr (inr (record { pawn = pawn_told man.kind e; reaches = reaches; takes = inl held }))
+      by_test false e = inl (record { piece = no_pawn_is man.kind e; reaches = reaches; not_own = not_own })
+
+  -- who takes a man attacks him
+  taking_reaches : Goes p man from to → Reaches (IsFree p.men) man from to
+  taking_reaches (inl goes) = goes.reaches
+  taking_reaches (inr (inl advances)) = absurd (let none = sym held.stands ∙ advances.advances.free in cc)
+  taking_reaches (inr (inr takes)) = takes.reaches
+
+-- a pawn does not stay one on its last rank
+within_ranks : (side : Side) (to : ℕ) → 0 < rank_of to → rank_of to < 7 → rank_of to ≢ last_rank side
+within_ranks White to low high e = omega (arith, high, e)
+within_ranks Black to low high e = omega (arith, low, e)
+
+not_promoting : (man : Man) (to : ℕ) → (man.kind ≡ P → (0 < rank_of to) × (rank_of to < 7)) → promotes man to ≡ false
+not_promoting man to fits = by_test (promotes man to) refl
+  where
+    by_test : (b : Bool) → promotes man to ≡ b → b ≡ false
+    by_test false e = refl
+    by_test true e =
+        let both = and_parts (is_pawn man.kind) (rank_of to == last_rank man.side) e in
+        let ranks = fits (pawn_told man.kind both.0) in
+        elim (eqb_tells (rank_of to) (last_rank man.side)) [
+          | inl last ↦ absurd (within_ranks man.side to ranks.0 ranks.1 last.1)
+          | inr apart ↦ absurd (false≢true (sym apart.0 ∙ both.1))
+        ]
+
+-- where no man is a pawn, the moves that zero are such captures
+pub pieces_take : (p q : Setup) (m : Move) → Leads p m q → ¬ IsPawnOn p.men m.from → Zeroes p m → IsPlainCapture p m
+pieces_take p q m leads piece zeroes = (
+  elim zeroes [ inl held ↦ held | inr pawn ↦ absurd (piece pawn) ],
+  piece_promo p q m leads (λ pawn. piece (record { man = leads.man; stands = leads.stands; pawn = pawn })),
+)
+
+-- no man of these stands is a pawn
+pub no_pawn_stands : (men : ShelfMen) (a b : ℕ) (p : Setup) (s : ℕ) → ((man : Man) → Stands p.men s man → IsListed (list_of (stand_on men a b)) man s) → men.one.kind ≢ P → men.last.kind ≢ P → ¬ IsPawnOn p.men s
+no_pawn_stands men a b p s listed one_piece last_piece pawn = of_man (listed pawn.man pawn.stands)
+  where
+    no : (man : Man) → man ≡ pawn.man → man.kind ≢ P → ⊥
+    no man is piece = piece (ap (λ (x : Man). x.kind) is ∙ pawn.pawn)
+
+    of_man : IsListed (list_of (stand_on men a b)) pawn.man s → ⊥
+    of_man (inl k) = no (king_of White) k.0 (king_piece White)
+    of_man (inr (inl k)) = no (king_of Black) k.0 (king_piece Black)
+    of_man (inr (inr (inl k))) = no men.one k.0 one_piece
+    of_man (inr (inr (inr (inl k)))) = no men.last k.0 last_piece
+    of_man (inr (inr (inr (inr none)))) = absurd none
+
+module _ (facts : Facts) (telling : Telling) (c : ℕ) (men : ShelfMen) (one_other : men.one.kind ≢ K) (last_other : men.last.kind ≢ K)
     (side : Side) (passed : Bool) (a b : ℕ) (p : Setup) (has : HasStand c false (stand_on men a b) side passed p) where
   abbrev pub here : Stand
   here = stand_on men a b
@@ -302,7 +377,6 @@ module _ (facts : Facts) (telling : Telling) (c : ℕ) (men : ShelfMen) (one_pie
     there : Stands p.men to taken
     own : man.side ≡ side
     theirs : taken.side ≡ other_side side
-    piece : man.kind ≢ P
     reaches : Reaches (IsFree p.men) man from to
     leaves : AreLeft (placed p.men from to man) left
 
@@ -323,7 +397,6 @@ module _ (facts : Facts) (telling : Telling) (c : ℕ) (men : ShelfMen) (one_pie
     there = one_stands;
     own = refl;
     theirs = theirs;
-    piece = king_piece side;
     reaches = beside a near;
     leaves = king_takes_one;
   })
@@ -336,7 +409,6 @@ module _ (facts : Facts) (telling : Telling) (c : ℕ) (men : ShelfMen) (one_pie
     there = last_stands;
     own = refl;
     theirs = theirs;
-    piece = king_piece side;
     reaches = beside b near;
     leaves = king_takes_last;
   })
@@ -349,7 +421,6 @@ module _ (facts : Facts) (telling : Telling) (c : ℕ) (men : ShelfMen) (one_pie
     there = last_stands;
     own = own;
     theirs = theirs;
-    piece = one_piece;
     reaches = past_all men.one a b reaches free_of_all;
     leaves = one_takes;
   })
@@ -362,7 +433,6 @@ module _ (facts : Facts) (telling : Telling) (c : ℕ) (men : ShelfMen) (one_pie
     there = one_stands;
     own = own;
     theirs = theirs;
-    piece = last_piece;
     reaches = past_all men.last b a reaches (λ u w k l o. free_of_all u w k o l);
     leaves = last_takes;
   })
@@ -374,16 +444,26 @@ module _ (facts : Facts) (telling : Telling) (c : ℕ) (men : ShelfMen) (one_pie
   other_is_not White e = cc
   other_is_not Black e = cc
 
-  pub comes : (left : Left) → IsTaken men side a b left → (d : ℕ) (flips : Bool) → IsClassOf d flips left.man → (q : Setup) → HasStand d flips (stand_left flips left) (other_side side) false q → (m : Move) × Leads p m q × Zeroes p m
-  comes left is d flips class q there = (plain t.from t.to, leads, inl (record { man = t.taken; stands = t.there; theirs = t.theirs ∙ ap other_side mine }))
+  pub comes : (left : Left) → IsTaken men side a b left → (d : ℕ) (flips : Bool) → IsClassOf d flips left.man → (q : Setup) → HasStand d flips (stand_left flips left) (other_side side) false q → (m : Move) × Leads p m q × IsPlainCapture p m
+  comes left is d flips class q there = (plain t.from t.to, leads, (held, refl))
     where
       t : Taking left
       t = taking left is
 
+      held : IsHeld p.men t.to (other_side p.side)
+      held = record { man = t.taken; stands = t.there; theirs = t.theirs ∙ ap other_side mine }
+
+      stays_so : q.men ≡ placed p.men t.from t.to t.man
+      stays_so = one_left q.men (placed p.men t.from t.to t.man) left (are_left d flips left (other_side side) q there) t.leaves
+
+      -- in a position no pawn stands on its last rank
+      fits : t.man.kind ≡ P → (0 < rank_of t.to) × (rank_of t.to < 7)
+      fits pawn = there.admissible.pawns t.to t.man (ap (λ (x : Placement). placement.get x t.to) stays_so ∙ arrives p.men t.from t.to t.man) pawn
+
       placed_there : q.men ≡ men_after p t.man (plain t.from t.to)
       placed_there =
-          one_left q.men (placed p.men t.from t.to t.man) left (are_left d flips left (other_side side) q there) t.leaves
-          ∙ sym (men_after_is p t.man t.from t.to t.stands (t.own ∙ mine) t.piece)
+          stays_so
+          ∙ ap (λ (b : Bool). placed (if b then placement.remove p.men (ahead (other_side p.side) t.to) else p.men) t.from t.to t.man) (sym (not_in_passing p t.man t.from t.to held has.admissible))
 
       turn : q.side ≡ other_side p.side
       turn = there.side_is ∙ ap other_side mine
@@ -393,27 +473,23 @@ module _ (facts : Facts) (telling : Telling) (c : ℕ) (men : ShelfMen) (one_pie
       none (Some s) e = absurd (let no = e in cc)
 
       target : q.target ≡ (after p t.man (plain t.from t.to)).target
-      target = none q.target there.target_is ∙ sym (piece_unpassed t.man t.from t.to t.piece)
+      target = none q.target there.target_is ∙ sym (none_passed p t.man t.from t.to held t.reaches)
 
       leads : Leads p (plain t.from t.to) q
       leads = record {
         man = t.man;
         stands = t.stands;
         mine = t.own ∙ mine;
-        goes = inl (record {
-          piece = t.piece;
-          reaches = t.reaches;
-          not_own = λ held. other_is_not side
-              (mine ∙ sym held.theirs ∙ ap (λ (x : Man). x.side) (one_man p.men t.to held.man t.taken held.stands t.there) ∙ t.theirs);
-        });
-        promotion = subst (λ (b : Bool). FitsPromotion (b && (rank_of t.to == last_rank t.man.side)) None) (sym (no_pawn t.man.kind t.piece)) tt;
+        goes = taking_goes p t.man t.from t.to held t.reaches
+            (λ (h : IsHeld p.men t.to p.side). other_is_not side (mine ∙ sym h.theirs ∙ ap (λ (x : Man). x.side) (one_man p.men t.to h.man t.taken h.stands t.there) ∙ t.theirs));
+        promotion = subst (λ (b : Bool). FitsPromotion b None) (sym (not_promoting t.man t.to fits)) tt;
         becomes = λ i. record { men = placed_there i; side = turn i; target = target i };
         safe = λ check. there.admissible.quiet (subst (λ (s : Side). IsInCheck q.men s) (sym (ap other_side turn ∙ side_twice p.side)) check);
       }
 
   -- ---- from the move to the men left
 
-  module _ (q : Setup) (m : Move) (leads : Leads p m q) (zeroes : Zeroes p m) where
+  module _ (q : Setup) (m : Move) (leads : Leads p m q) (plain_capture : IsPlainCapture p m) where
     own : leads.man.side ≡ side
     own = leads.mine ∙ sym mine
 
@@ -436,31 +512,16 @@ module _ (facts : Facts) (telling : Telling) (c : ℕ) (men : ShelfMen) (one_pie
         of_man (inr (inr (inr (inl k)))) = inr (inr k)
         of_man (inr (inr (inr (inr none)))) = absurd none
 
-    piece : leads.man.kind ≢ P
-    piece = elim mover [
-      | inl k ↦ subst (λ (x : Man). x.kind ≢ P) k.0 (king_piece side)
-      | inr other ↦ elim other [
-        | inl k ↦ subst (λ (x : Man). x.kind ≢ P) k.0 one_piece
-        | inr k ↦ subst (λ (x : Man). x.kind ≢ P) k.0 last_piece
-      ]
-    ]
+    held : IsHeld p.men m.to (other_side p.side)
+    held = plain_capture.0
 
-    -- a piece attacks where it goes
-    attacks : Goes p leads.man m.from m.to → Reaches (IsFree p.men) leads.man m.from m.to
-    attacks (inl goes) = goes.reaches
-    attacks (inr (inl advances)) = absurd (piece advances.pawn)
-    attacks (inr (inr takes)) = absurd (piece takes.pawn)
+    attacks : Reaches (IsFree p.men) leads.man m.from m.to
+    attacks = taking_reaches p leads.man m.from m.to held leads.goes
 
     reached : (man : Man) (from to : ℕ) → man ≡ leads.man → from ≡ m.from → to ≡ m.to → Reaches (IsFree p.men) man from to
     reached man from to is at there =
         subst (λ (x : Man). Reaches (IsFree p.men) x from to) (sym is)
-        (subst (λ s. Reaches (IsFree p.men) leads.man s to) (sym at) (subst (λ s. Reaches (IsFree p.men) leads.man m.from s) (sym there) (attacks leads.goes)))
-
-    held : IsHeld p.men m.to (other_side p.side)
-    held = elim zeroes [
-      | inl enemy ↦ enemy
-      | inr pawn ↦ absurd (piece (ap (λ (x : Man). x.kind) (one_man p.men m.from leads.man pawn.man leads.stands pawn.stands) ∙ pawn.pawn))
-    ]
+        (subst (λ s. Reaches (IsFree p.men) leads.man s to) (sym at) (subst (λ s. Reaches (IsFree p.men) leads.man m.from s) (sym there) attacks))
 
     theirs : held.man.side ≡ other_side side
     theirs = held.theirs ∙ ap other_side (sym mine)
@@ -470,7 +531,7 @@ module _ (facts : Facts) (telling : Telling) (c : ℕ) (men : ShelfMen) (one_pie
     no_king s is = has.admissible.quiet (record {
       square = m.to;
       stands = held.stands ∙ ap Some (sym is ∙ ap king_of (ap (λ (x : Man). x.side) is ∙ held.theirs));
-      attacked = record { from = m.from; man = leads.man; stands = leads.stands; theirs = leads.mine ∙ sym (side_twice p.side); reaches = attacks leads.goes };
+      attacked = record { from = m.from; man = leads.man; stands = leads.stands; theirs = leads.mine ∙ sym (side_twice p.side); reaches = attacks };
     })
 
     -- the first man beside the kings or the last
@@ -490,8 +551,8 @@ module _ (facts : Facts) (telling : Telling) (c : ℕ) (men : ShelfMen) (one_pie
     placed_so : (man : Man) (from to : ℕ) → man ≡ leads.man → from ≡ m.from → to ≡ m.to → placed p.men from to man ≡ q.men
     placed_so man from to is at there =
         (λ i. placed p.men (at i) (there i) (is i))
-        ∙ ap (λ (o : Option Kind). placed p.men m.from m.to (arriving leads.man o)) (sym (piece_promo p q m leads piece))
-        ∙ ap (λ (b : Bool). placed (if b && is_target p.target m.to then placement.remove p.men (ahead (other_side p.side) m.to) else p.men) m.from m.to (arriving leads.man m.promo)) (sym (no_pawn leads.man.kind piece))
+        ∙ ap (λ (o : Option Kind). placed p.men m.from m.to (arriving leads.man o)) (sym plain_capture.1)
+        ∙ ap (λ (b : Bool). placed (if b then placement.remove p.men (ahead (other_side p.side) m.to) else p.men) m.from m.to (arriving leads.man m.promo)) (sym (not_in_passing p leads.man m.from m.to held has.admissible))
         ∙ ap (λ (s : Setup). s.men) (sym leads.becomes)
 
     abbrev pub Result : Type 0
@@ -502,7 +563,7 @@ module _ (facts : Facts) (telling : Telling) (c : ℕ) (men : ShelfMen) (one_pie
       left,
       is,
       λ d flips class. stands_left telling d flips left (other_side side) q (facts.step_admissible p q m has.admissible leads) are no_other
-          (ap (λ (s : Setup). s.side) leads.becomes ∙ ap other_side (sym mine)) (ap (λ (s : Setup). s.target) leads.becomes ∙ piece_unpassed leads.man m.from m.to piece) class,
+          (ap (λ (s : Setup). s.side) leads.becomes ∙ ap other_side (sym mine)) (ap (λ (s : Setup). s.target) leads.becomes ∙ none_passed p leads.man m.from m.to held attacks) class,
     )
 
     near : (to : ℕ) → king_of side ≡ leads.man → king_of_men men side ≡ m.from → to ≡ m.to → IsBesideKing men side to

@@ -1,4 +1,4 @@
--- The greatest scores of all moves, in both columns.
+-- The greatest scores of moves that do not zero and of captures that promote no pawn and are not in passing, in both columns.
 use Rattle.std.specs.Prelude.{◌≡◌, ℕ, max, Some}
 use Rattle.egt_board.specs.declared.man.Side.{Side}
 use Rattle.egt_index.specs.declared.shelf_codes.ShelfMen.{ShelfMen}

@@ -1,7 +1,8 @@
--- The men after the quiet steps of a side, where all men beside the kings are pieces.
+-- The men after the quiet steps of a side: of its king, and of pieces, since each move of a pawn zeroes.
 use Rattle.std.specs.Prelude.{◌≡◌, ◌≢◌, ℕ, ◌<◌, ◌⊎◌, false}
 use Rattle.egt_board.specs.Gait.{Reaches}
 use Rattle.egt_board.specs.Man.{other_side}
+use Rattle.egt_board.specs.declared.man.Kind.TheVariants.{P}
 use Rattle.egt_board.specs.declared.man.Side.{Side}
 use Rattle.egt_index.specs.TurnedMen.{IsSomeTurnedCode}
 use Rattle.egt_index.specs.declared.shelf_codes.ShelfMen.{ShelfMen}
@@ -12,12 +13,12 @@ use Rattle.egt_check.specs.Blocks.{IsBesideKing, stand_on, with_king}
 abbrev pub IsClear : ShelfMen → (other u : ℕ) → Type 0
 IsClear men other u = (u ≢ men.white) × (u ≢ men.black) × (u ≢ other)
 
--- the men after a quiet step of a man of that side, whose first man beside the kings stood on a and the last on b
+-- the men after a quiet step of a king or piece of that side, whose first man beside the kings stood on a and the last on b
 abbrev pub IsQuietStand : ShelfMen → Side → (a b : ℕ) → Stand → Type 0
 IsQuietStand men side a b stand =
     ((k : ℕ) × IsBesideKing men side k × (stand ≡ stand_on (with_king men side k) a b))
-    ⊎ ((men.one.side ≡ side) × (t : ℕ) × (t < 64) × Reaches (IsClear men b) men.one a t × (stand ≡ stand_on men t b))
-    ⊎ ((men.last.side ≡ side) × (t : ℕ) × (t < 64) × Reaches (IsClear men a) men.last b t × (stand ≡ stand_on men a t))
+    ⊎ ((men.one.side ≡ side) × (men.one.kind ≢ P) × (t : ℕ) × (t < 64) × Reaches (IsClear men b) men.one a t × (stand ≡ stand_on men t b))
+    ⊎ ((men.last.side ≡ side) × (men.last.kind ≢ P) × (t : ℕ) × (t < 64) × Reaches (IsClear men a) men.last b t × (stand ≡ stand_on men a t))
 
 -- the codes of the men after such a step, wherever turns take them
 abbrev pub AreQuietCodes : (c : ℕ) (men : ShelfMen) (side : Side) (a b code : ℕ) → Type 0

@@ -1,14 +1,15 @@
--- Where the men beside the kings go quietly.
-use Rattle.std.specs.Prelude.{◌≡◌, ℕ}
+-- Where the pieces beside the kings go quietly.
+use Rattle.std.specs.Prelude.{◌≡◌, ◌≢◌, ℕ}
 use Rattle.egt_board.specs.Gait.{Reaches}
+use Rattle.egt_board.specs.declared.man.Kind.TheVariants.{P}
 use Rattle.egt_board.specs.declared.man.Side.{Side}
 use Rattle.egt_index.specs.declared.shelf_codes.ShelfMen.{ShelfMen}
 use Rattle.egt_check.specs.QuietStands.{IsClear}
 
--- the first man, who is of that side, from a
+-- the first man, a piece of that side, from a
 abbrev pub IsFirstStep : ShelfMen → Side → (a b t : ℕ) → Type 0
-IsFirstStep men side a b t = (men.one.side ≡ side) × Reaches (IsClear men b) men.one a t
+IsFirstStep men side a b t = (men.one.side ≡ side) × (men.one.kind ≢ P) × Reaches (IsClear men b) men.one a t
 
--- the last man, who is of that side, from b
+-- the last man, a piece of that side, from b
 abbrev pub IsLastStep : ShelfMen → Side → (a b t : ℕ) → Type 0
-IsLastStep men side a b t = (men.last.side ≡ side) × Reaches (IsClear men a) men.last b t
+IsLastStep men side a b t = (men.last.side ≡ side) × (men.last.kind ≢ P) × Reaches (IsClear men a) men.last b t

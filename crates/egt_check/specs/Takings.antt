@@ -1,8 +1,9 @@
--- The men after the captures of a side, where all men beside the kings are pieces.
+-- Captures that promote no pawn and are not in passing, and the men after those of a side.
 use Rattle.std.specs.Prelude.{◌≡◌, ◌≢◌, ℕ, ◌<◌, ◌⊎◌, Bool, if◌then◌else◌, [], ◌∷◌, Some, None}
 use Rattle.egt_board.specs.Attack.{king_of}
 use Rattle.egt_board.specs.Gait.{Reaches}
 use Rattle.egt_board.specs.Man.{other_side}
+use Rattle.egt_board.specs.Placement.{IsHeld}
 use Rattle.egt_board.specs.Setup.{Setup}
 use Rattle.egt_board.specs.Turned.{turned_man}
 use Rattle.egt_board.specs.declared.man.Man.{Man}
@@ -14,7 +15,12 @@ use Rattle.egt_class.specs.Pair.{IsBeside}
 use Rattle.egt_index.specs.Size.{men_in_order}
 use Rattle.egt_index.specs.declared.shelf_codes.ShelfMen.{ShelfMen}
 use Rattle.egt_index.specs.declared.stand.Stand.{Stand}
+use Rattle.egt_moves.specs.declared.chess_move.Move.{Move}
 use Rattle.egt_check.specs.Blocks.{IsBesideKing, with_king}
+
+-- the move takes the man of the other side who stands where it arrives, and promotes nothing
+abbrev pub IsPlainCapture : Setup → Move → Type 0
+IsPlainCapture p m = IsHeld p.men m.to (other_side p.side) × (m.promo ≡ None)
 
 -- who is left beside the kings after a capture, and where they stand
 pub record Left : Type 0 where
@@ -40,7 +46,7 @@ stand_left flips left = record {
 abbrev pub IsPastKings : ShelfMen → ℕ → Type 0
 IsPastKings men u = (u ≢ men.white) × (u ≢ men.black)
 
--- what a capture by that side leaves, where the first man beside the kings stands on a and the last on b: the king takes the first or the last, the first takes the last, or the last
+-- what such a capture by that side leaves, where the first man beside the kings stands on a and the last on b: the king takes the first or the last, the first takes the last, or the last
 -- the first
 abbrev pub IsTaken : ShelfMen → Side → (a b : ℕ) → Left → Type 0
 IsTaken men side a b left =

@@ -16,12 +16,12 @@ ghost use Rattle.egt_board.specs.declared.man.Side.{Side};
 ghost use Rattle.egt_index.specs.declared.stand.Stand.{Stand};
 ghost use Rattle.egt_table.specs.declared.column.Column.{Column};
 ghost use Rattle.egt_board.specs.Man.{other_side};
-ghost use Rattle.egt_board.specs.declared.man.Kind.TheVariants.{P, K};
+ghost use Rattle.egt_board.specs.declared.man.Kind.TheVariants.{K};
 ghost use Rattle.egt_index.specs.Stood.{HasStand};
 ghost use Rattle.egt_index.specs.declared.shelf_codes.ShelfMen.{ShelfMen};
 ghost use Rattle.egt_check.specs.Blocks.{stand_on};
 ghost use Rattle.egt_check.specs.QuietStands.{AreQuietCodes, IsQuietStand};
-ghost use Rattle.egt_check.specs.Takings.{IsClassOf, IsTaken, Left, stand_left};
+ghost use Rattle.egt_check.specs.Takings.{IsClassOf, IsPlainCapture, IsTaken, Left, stand_left};
 ghost use Rattle.egt_check.specs.Given.{AreAlike, AreGiven};
 ghost use Rattle.egt_check.specs.Rules.{IsJudged};
 ghost use Rattle.egt_check.specs.Score.{IsAtEnd};
@@ -96,11 +96,11 @@ pub fn due_bytes_are_right()
     codes_spell_one_position();
 }
 
-/// Where all men are pieces, the moves that do not zero lead to the men after quiet steps, and to all of them that are positions.
+/// The moves that do not zero lead to the men after quiet steps, and to all of them that are positions.
 pub fn quiet_moves_are_quiet_steps()
-    ensures goes { (c : ℕ) (men : ShelfMen) (side : Side) (passed : Bool) (a b : ℕ) (p q : Setup) (m : Move) → c < 36 → men.one.kind ≢ P → men.last.kind ≢ P → HasStand c false (stand_on men a b) side passed p →
+    ensures goes { (c : ℕ) (men : ShelfMen) (side : Side) (passed : Bool) (a b : ℕ) (p q : Setup) (m : Move) → c < 36 → HasStand c false (stand_on men a b) side passed p →
         Leads p m q → ¬ Zeroes p m → (stand : Stand) × IsQuietStand men side a b stand × HasStand c false stand (other_side side) false q }
-    ensures comes { (c : ℕ) (men : ShelfMen) (side : Side) (passed : Bool) (a b : ℕ) (p q : Setup) (stand : Stand) → c < 36 → men.one.kind ≢ P → men.last.kind ≢ P → HasStand c false (stand_on men a b) side passed p →
+    ensures comes { (c : ℕ) (men : ShelfMen) (side : Side) (passed : Bool) (a b : ℕ) (p q : Setup) (stand : Stand) → c < 36 → HasStand c false (stand_on men a b) side passed p →
         IsQuietStand men side a b stand → HasStand c false stand (other_side side) false q → (m : Move) × Leads p m q × ¬ Zeroes p m }
 {
     facts();
@@ -109,9 +109,9 @@ pub fn quiet_moves_are_quiet_steps()
     a_quiet_move_moves_one_man();
 }
 
-/// Where all men are pieces, the greatest scores of the codes of quiet steps are those of the moves that do not zero.
+/// The greatest scores of the codes of quiet steps are those of the moves that do not zero.
 pub fn quiet_codes_give_the_quiet_moves()
-    ensures { (tables : Tables) (t : TableValue) (men : ShelfMen) (side : Side) (passed : Bool) (a b : ℕ) (p : Setup) (mate zeroing : ℕ) → IsTable t → tables t.class ≡ Some t → HasBytes t → men.one.kind ≢ P → men.last.kind ≢ P →
+    ensures { (tables : Tables) (t : TableValue) (men : ShelfMen) (side : Side) (passed : Bool) (a b : ℕ) (p : Setup) (mate zeroing : ℕ) → IsTable t → tables t.class ≡ Some t → HasBytes t →
         HasStand t.class false (stand_on men a b) side passed p → IsRaised 0 (AreQuietCodes t.class men side a b) (score_at t Mate) mate → IsRaised 0 (AreQuietCodes t.class men side a b) (score_at t Zeroing) zeroing →
         AreGiven tables p (λ m. ¬ Zeroes p m) mate zeroing }
 {
@@ -128,26 +128,27 @@ pub fn moves_of_either_kind_give_all()
     ensures { (tables : Tables) (p : Setup) (x z y w : ℕ) → AreGiven tables p (λ m. ¬ Zeroes p m) x z → AreGiven tables p (Zeroes p) y w → AreGiven tables p (λ m. Unit {0}) (max x y) (max z w) }
 {}
 
-/// Where all men are pieces, the captures lead to the three men who are left, and to all positions of them.
+/// The captures that promote no pawn and are not in passing lead to the three men who are left, and to all positions of them.
 pub fn captures_lead_to_three_men()
-    ensures goes { (c : ℕ) (men : ShelfMen) (side : Side) (passed : Bool) (a b : ℕ) (p q : Setup) (m : Move) → c < 36 → men.one.kind ≢ P → men.last.kind ≢ P → men.one.kind ≢ K → men.last.kind ≢ K →
-        HasStand c false (stand_on men a b) side passed p → Leads p m q → Zeroes p m →
+    ensures goes { (c : ℕ) (men : ShelfMen) (side : Side) (passed : Bool) (a b : ℕ) (p q : Setup) (m : Move) → c < 36 → men.one.kind ≢ K → men.last.kind ≢ K →
+        HasStand c false (stand_on men a b) side passed p → Leads p m q → IsPlainCapture p m →
         (left : Left) × IsTaken men side a b left × ((d : ℕ) (flips : Bool) → IsClassOf d flips left.man → HasStand d flips (stand_left flips left) (other_side side) false q) }
-    ensures comes { (c : ℕ) (men : ShelfMen) (side : Side) (passed : Bool) (a b : ℕ) (p : Setup) → c < 36 → men.one.kind ≢ P → men.last.kind ≢ P → men.one.kind ≢ K → men.last.kind ≢ K →
+    ensures comes { (c : ℕ) (men : ShelfMen) (side : Side) (passed : Bool) (a b : ℕ) (p : Setup) → c < 36 → men.one.kind ≢ K → men.last.kind ≢ K →
         HasStand c false (stand_on men a b) side passed p → (left : Left) → IsTaken men side a b left → (d : ℕ) (flips : Bool) → IsClassOf d flips left.man →
-        (q : Setup) → HasStand d flips (stand_left flips left) (other_side side) false q → (m : Move) × Leads p m q × Zeroes p m }
+        (q : Setup) → HasStand d flips (stand_left flips left) (other_side side) false q → (m : Move) × Leads p m q × IsPlainCapture p m }
 {
     facts();
     stands_follow_moves();
     men_beside_are_counted();
 }
 
-/// Where all men are pieces, the greatest scores of the codes after captures, in the classes of the man who is left, are those of the moves that zero.
+/// The greatest scores of the codes after captures, in the classes of the man who is left, are those of the captures that promote no pawn and are not in
+/// passing.
 pub fn codes_after_captures_give_the_captures()
     ensures { (tables : Tables) (c : ℕ) (men : ShelfMen) (side : Side) (passed : Bool) (a b : ℕ) (p : Setup) (first last : TableValue) (first_flips last_flips : Bool) (u v : ℕ) → c < 36 →
-        men.one.kind ≢ P → men.last.kind ≢ P → men.one.kind ≢ K → men.last.kind ≢ K → HasStand c false (stand_on men a b) side passed p → IsTableOf tables first first_flips men.one → IsTableOf tables last last_flips men.last →
+        men.one.kind ≢ K → men.last.kind ≢ K → HasStand c false (stand_on men a b) side passed p → IsTableOf tables first first_flips men.one → IsTableOf tables last last_flips men.last →
         IsRaised 0 (AreLeftCodes first.class first_flips men side a b) (score_at first Mate) u → IsRaised 0 (AreLeftCodes last.class last_flips (men_swapped men) side b a) (score_at last Mate) v →
-        AreGiven tables p (Zeroes p) (max u v) (zeroing_score (max u v)) }
+        AreGiven tables p (IsPlainCapture p) (max u v) (zeroing_score (max u v)) }
 {
     facts();
     codes_tell_turned_men();
@@ -165,6 +166,7 @@ pub fn entries_due_to_all_moves_are_right()
     a_code_is_an_index_or_void();
     codes_follow_steps();
     numbers_stand_for_codes();
+    stands_follow_moves();
     quiet_codes_give_the_quiet_moves();
     codes_after_captures_give_the_captures();
     moves_of_either_kind_give_all();

@@ -1,12 +1,13 @@
-//! The greatest scores of all moves of a side with two pieces beside the kings, whose kings stand on two squares, in both columns.
-ghost use Rattle.std.specs.Prelude.{◌≡◌, ◌<◌, max, ℕ, false, true};
+//! The greatest scores, in both columns, of the moves of a side that do not zero and of its captures that promote no pawn and are not in passing, with two
+//! men beside the kings, who stand on two squares. Where these men are pieces, these are all moves.
+ghost use Rattle.std.specs.Prelude.{◌≡◌, ◌≢◌, ◌<◌, max, ℕ, false, true};
 ghost use Rattle.egt_board.specs.Turned.{turned_man};
+ghost use Rattle.egt_board.specs.declared.man.Kind.TheVariants.{K};
 ghost use Rattle.egt_class.specs.Material.{material_of};
 ghost use Rattle.egt_index.specs.LoneCodes.{IsLoneMan};
 ghost use Rattle.egt_index.specs.ShelfCodes.{AreMenOf};
 ghost use Rattle.egt_index.specs.Size.{has_target};
 ghost use Rattle.egt_lanes.specs.Blocks.{at};
-ghost use Rattle.egt_lanes.specs.Pieces.{IsPiece};
 ghost use Rattle.egt_lanes.specs.Scores.{zeroing_score};
 ghost use Rattle.egt_check.specs.MoveScores.{AreMoveScores};
 ghost use Rattle.egt_check.specs.Taken.{men_swapped};
@@ -22,7 +23,7 @@ use egt_lanes::row::greater;
 use egt_lanes::score::zeroed;
 use egt_table::{Column, Table};
 
-/// The table of a class of two pieces beside the kings, and those of the classes that captures leave, each with whether colours are exchanged there.
+/// The table of a class of two men beside the kings, and those of the classes that such captures leave, each with whether colours are exchanged there.
 #[derive(Drop)]
 pub(crate) struct FourMen<'t> {
     pub(crate) own: &'t Table,
@@ -56,7 +57,7 @@ fn raise_zeroed(out: &mut Block, mates: &Block)
     }
 }
 
-/// The greatest scores of all moves of that side, in the mate column and in the zeroing column. False where a table does not tell.
+/// The greatest scores of these moves of that side, in the mate column and in the zeroing column. False where a table does not tell.
 pub(crate) fn move_scores(
     four: &FourMen,
     men: &ShelfMen,
@@ -66,8 +67,8 @@ pub(crate) fn move_scores(
 ) -> bool
     requires men { AreMenOf four.now.own.now.class men.now }
     requires targets { has_target (material_of four.now.own.now.class) ≡ false }
-    requires one { IsPiece men.now.one.kind }
-    requires last { IsPiece men.now.last.kind }
+    requires one { men.now.one.kind ≢ K }
+    requires last { men.now.last.kind ≢ K }
     requires first_left { IsLoneMan four.now.first.now.class (turned_man four.now.first_flips men.now.one) }
     requires last_left { IsLoneMan four.now.last.now.class (turned_man four.now.last_flips men.now.last) }
     ensures { result ≡ true → (a b : ℕ) → a < 64 → b < 64 → AreMoveScores four.now men.now side a b (at mates.new a b) (at zeroing.new a b) }

@@ -1,15 +1,17 @@
 //! The men of either side, as a frame tells them: no square is searched for its man.
-ghost use Rattle.std.specs.Prelude.{◌≡◌, ◌↔◌, ◌⊎◌, ℕ, IsTrue};
+ghost use Rattle.std.specs.Prelude.{◌≡◌, ◌↔◌, ◌⊎◌, ℕ, IsTrue, false, true};
 ghost use Rattle.egt_board.specs.Camps.{AreCamps};
 ghost use Rattle.egt_board.specs.Placement.{IsHeld};
 ghost use Rattle.egt_board.specs.Setup.{Setup};
 ghost use Rattle.egt_board.specs.SquareSet.{Has};
+ghost use Rattle.egt_board.specs.declared.man.Kind.TheVariants.{K, P};
 ghost use Rattle.egt_board.specs.declared.man.Man.{Man};
 ghost use Rattle.egt_check.specs.Men.{IsEntryOn};
 ghost use Rattle.egt_index.specs.Frame.{IsFrame};
+ghost use Rattle.egt_lanes.specs.Pieces.{IsPiece};
 ghost use Rattle.egt_moves.specs.AllMen.{AreMenOf};
 
-use egt_board::{Camps, Man, Side, Square, SquareSet};
+use egt_board::{Camps, Kind, Man, Side, Square, SquareSet};
 use egt_index::Frame;
 use egt_moves::Men;
 
@@ -19,6 +21,24 @@ pub(crate) fn is_of(man: Man, side: Side) -> bool
     ensures { IsTrue result ↔ (man.side ≡ side) }
 {
     man.side == side
+}
+
+/// Neither a pawn nor a king.
+#[inline(always)]
+pub(crate) fn is_piece(man: Man) -> bool
+    ensures yes { result ≡ true → IsPiece man.kind }
+    ensures no { result ≡ false → (man.kind ≡ P) ⊎ (man.kind ≡ K) }
+{
+    matches!(man.kind, Kind::Q | Kind::R | Kind::B | Kind::N)
+}
+
+/// Whether the man is a piece of that side.
+#[inline(always)]
+pub(crate) fn is_own_piece(man: Man, side: Side) -> bool
+    ensures yes { result ≡ true → (man.side ≡ side) × IsPiece man.kind }
+    ensures no { result ≡ false → man.side ≡ side → (man.kind ≡ P) ⊎ (man.kind ≡ K) }
+{
+    is_of(man, side) && is_piece(man)
 }
 
 /// The squares, and that of the man, if there is one and he is of that side.

@@ -1,8 +1,9 @@
-//! The scores of the positions after each quiet step of a side with two men beside the kings, neither of them a pawn.
+//! The scores of the positions after each quiet step of a side, of its king or of a piece, in classes with two men beside the kings.
 ghost use Rattle.std.specs.Prelude.{◌≡◌, ◌≢◌, ◌↔◌, ◌<◌, ℕ, false, true};
 ghost use Rattle.std.specs.Int.{bit_at};
 ghost use Rattle.egt_board.specs.Gait.{Reaches};
 ghost use Rattle.egt_board.specs.SquareSet.{Has};
+ghost use Rattle.egt_board.specs.declared.man.Kind.TheVariants.{K};
 ghost use Rattle.egt_class.specs.Material.{material_of};
 ghost use Rattle.egt_index.specs.ShelfCodes.{AreMenOf};
 ghost use Rattle.egt_index.specs.Size.{has_target};
@@ -15,7 +16,7 @@ ghost use Rattle.egt_check.specs.Worth.{score_at};
 
 use crate::blocks::{nothing, read_block};
 use crate::king_blocks::king_block;
-use crate::own_men::is_of;
+use crate::own_men::is_own_piece;
 use egt_board::{Side, Square, SquareSet};
 use egt_index::ShelfMen;
 use egt_lanes::Block;
@@ -39,12 +40,12 @@ fn clear_of(men: &ShelfMen, other: Square) -> SquareSet
     SquareSet::ALL.less(men.white).less(men.black).less(other)
 }
 
-/// Raises the scores to those where a first man of that side goes quietly.
+/// Raises the scores to those where a first man who is a piece of that side goes quietly.
 fn raise_first(men: &ShelfMen, side: Side, scores: &Block, out: &mut Block)
-    requires { IsPiece men.now.one.kind }
+    requires { men.now.one.kind ≢ K }
     ensures { (a b : ℕ) → a < 64 → b < 64 → IsRaised (at out.old a b) (IsFirstStep men.now side a b) (λ t. at scores.now t b) (at out.new a b) }
 {
-    if is_of(men.one, side) {
+    if is_own_piece(men.one, side) {
         raise_rows(out, scores, men.one, kings_of(men));
     }
 }
@@ -61,17 +62,17 @@ fn raise_lanes(men: &ShelfMen, scores: &Block, out: &mut Block)
     }
 }
 
-/// Raises the scores to those where a last man of that side goes quietly.
+/// Raises the scores to those where a last man who is a piece of that side goes quietly.
 fn raise_last(men: &ShelfMen, side: Side, scores: &Block, out: &mut Block)
-    requires { IsPiece men.now.last.kind }
+    requires { men.now.last.kind ≢ K }
     ensures { (a b : ℕ) → a < 64 → b < 64 → IsRaised (at out.old a b) (IsLastStep men.now side a b) (λ t. at scores.now a t) (at out.new a b) }
 {
-    if is_of(men.last, side) {
+    if is_own_piece(men.last, side) {
         raise_lanes(men, scores, out);
     }
 }
 
-/// The scores of the positions after each quiet step of a man of that side, the other side to move. False where the table does not tell.
+/// The scores of the positions after each quiet step of that side, the other side to move. False where the table does not tell.
 pub(crate) fn quiet_block(
     table: &Table,
     column: Column,
@@ -81,15 +82,15 @@ pub(crate) fn quiet_block(
 ) -> bool
     requires men { AreMenOf table.now.class men.now }
     requires targets { has_target (material_of table.now.class) ≡ false }
-    requires one { IsPiece men.now.one.kind }
-    requires last { IsPiece men.now.last.kind }
+    requires one { men.now.one.kind ≢ K }
+    requires last { men.now.last.kind ≢ K }
     ensures { result ≡ true → (a b : ℕ) → a < 64 → b < 64 →
         IsRaised 0 (AreQuietCodes table.now.class men.now side a b) (score_at table.now column) (at out.new a b) }
 {
     if !king_block(table, column, men, side, out) {
         return false;
     }
-    if !is_of(men.one, side) && !is_of(men.last, side) {
+    if !is_own_piece(men.one, side) && !is_own_piece(men.last, side) {
         return true;
     }
     let mut scores = nothing();

@@ -20,19 +20,13 @@ use crate::bytes::tells_bytes;
 use crate::digits::digits_of;
 use crate::library::Library;
 use crate::move_scores::FourMen;
+use crate::own_men::is_piece;
 use crate::taken_blocks::turned_man;
-use egt_board::{Kind, Man, Side, Square};
+use egt_board::{Man, Side, Square};
 use egt_class::Class;
 use egt_class::membership::of_men;
 use egt_index::{ShelfMen, last_digits, lone_man, shelf_men, size};
 use egt_table::Table;
-
-/// Neither a pawn nor a king.
-fn is_piece(man: Man) -> bool
-    ensures { result ≡ true → IsPiece man.kind }
-{
-    matches!(man.kind, Kind::Q | Kind::R | Kind::B | Kind::N)
-}
 
 /// The men with the kings on these squares.
 fn with_kings(men: &ShelfMen, white: Square, black: Square) -> ShelfMen

@@ -6,7 +6,6 @@ ghost use Rattle.egt_board.specs.Turned.{turned_man};
 ghost use Rattle.egt_index.specs.LoneCodes.{IsLoneMan};
 ghost use Rattle.egt_index.specs.TurnedMen.{IsSomeTurnedCode};
 ghost use Rattle.egt_lanes.specs.Blocks.{at};
-ghost use Rattle.egt_lanes.specs.Pieces.{IsPiece};
 ghost use Rattle.egt_lanes.specs.Raised.{IsRaised};
 ghost use Rattle.egt_table.specs.declared.column.Column.TheVariants.{Mate};
 ghost use Rattle.egt_check.specs.Blocks.{IsBesideKing, with_king};
@@ -97,8 +96,7 @@ pub(crate) fn taken_block(
     side: Side,
     out: &mut Block,
 ) -> bool
-    requires man { IsLoneMan child.now.class (turned_man flips men.now.one) }
-    requires piece { IsPiece men.now.one.kind }
+    requires { IsLoneMan child.now.class (turned_man flips men.now.one) }
     ensures { result ≡ true → (a b : ℕ) → a < 64 → b < 64 → IsRaised 0 (AreLeftCodes child.now.class flips men.now side a b) (score_at child.now Mate) (at out.new a b) }
 {
     *out = nothing();

@@ -4,8 +4,8 @@ use Rattle.egt_check.proofs.Worth.{Turning}
 use Rattle.egt_check.proofs.laws.quiet_codes_give_the_quiet_moves.Goals as goal
 
 pub returns : goal.returns
-returns c = λ tables t men side passed a b p mate zeroing is_table found bytes one last has by_mate by_zeroing.
-    quiet_given c.facts.ensures c.moves_lead_into_the_class_or_a_child.ensures.quiet follow turning tables t is_table found bytes men one last side passed a b p has mate zeroing by_mate by_zeroing
+returns c = λ tables t men side passed a b p mate zeroing is_table found bytes has by_mate by_zeroing.
+    quiet_given c.facts.ensures c.moves_lead_into_the_class_or_a_child.ensures.quiet follow turning tables t is_table found bytes men side passed a b p has mate zeroing by_mate by_zeroing
   where
     follow : Following
     follow = record {

@@ -3,8 +3,8 @@ use Rattle.egt_check.proofs.laws.quiet_moves_are_quiet_steps.Goals as goal
 
 pub returns : goal.returns
 returns c = record {
-  goes = λ k men side passed a b p q m class_in one last has leads quiet. goes c.facts.ensures c.moves_lead_into_the_class_or_a_child.ensures.quiet follow k class_in men one last side passed a b p has q m leads quiet;
-  comes = λ k men side passed a b p q stand class_in one last has is there. comes c.facts.ensures c.moves_lead_into_the_class_or_a_child.ensures.quiet follow k class_in men one last side passed a b p has q stand is there;
+  goes = λ k men side passed a b p q m class_in has leads quiet. goes c.facts.ensures c.moves_lead_into_the_class_or_a_child.ensures.quiet follow k class_in men side passed a b p has q m leads quiet;
+  comes = λ k men side passed a b p q stand class_in has is there. comes c.facts.ensures c.moves_lead_into_the_class_or_a_child.ensures.quiet follow k class_in men side passed a b p has q stand is there;
 }
   where
     follow : Following
