@@ -51,7 +51,7 @@ no_pawn P not = absurd (not refl)
 no_pawn K not = refl
 
 -- a king goes one step, so that it passes no square
-king_bare : (F G : ℕ → Type 0) (s t : ℕ) (ds : List Step) → OneOf (Rides F 1 s t) ds → OneOf (Rides G 1 s t) ds
+pub king_bare : (F G : ℕ → Type 0) (s t : ℕ) (ds : List Step) → OneOf (Rides F 1 s t) ds → OneOf (Rides G 1 s t) ds
 king_bare F G s t [] none = none
 king_bare F G s t (d ∷ ds) some = elim some [
   | inl r ↦

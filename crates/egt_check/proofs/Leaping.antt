@@ -154,7 +154,7 @@ advances_by men Black from t low high advances = by (one_off_home (rank_of from)
 -- ---- what the position after an advance settles to
 
 -- a position has the index of the one without a target to which it settles
-settled_index : (c i : ℕ) (q r : Setup) → SettlesTo q r → r.target ≡ None → IsIndex c r i → IsIndex c q i
+pub settled_index : (c i : ℕ) (q r : Setup) → SettlesTo q r → r.target ≡ None → IsIndex c r i → IsIndex c q i
 settled_index c i q r settles none index = record {
   settled = index.settled;
   settles = subst (SettlesTo q) (sym same) settles;
@@ -171,7 +171,7 @@ settled_index c i q r settles none index = record {
     ]
 
 -- where no pawn stands ready to take, it settles to itself without its target
-settles_bare : (q : Setup) → ((s : ℕ) → ¬ Stands q.men s (pawn_of q.side)) → SettlesTo q (untargeted q)
+pub settles_bare : (q : Setup) → ((s : ℕ) → ¬ Stands q.men s (pawn_of q.side)) → SettlesTo q (untargeted q)
 settles_bare q pawnless = by q.target refl
   where
     Ready : Option ℕ → Type 0

@@ -48,3 +48,8 @@ pub mod AllJudged
 pub mod ToldBytes
 pub mod RowJudged
 pub mod LaneRight
+pub mod TwoBeside
+pub mod PawnAdvances
+pub mod PawnCaptures
+pub mod PartGiven
+pub mod PawnGiven

@@ -51,7 +51,7 @@ pawn_is K e = let not = e in cc
 untold : (a b : ℕ) → a ≢ b → (a == b) ≡ false
 untold a b apart = elim (eqb_tells a b) [ inl same ↦ absurd (apart same.1) | inr told ↦ told.0 ]
 
-neither : (a b : Bool) → a ≡ false → b ≡ false → (a || b) ≡ false
+pub neither : (a b : Bool) → a ≡ false → b ≡ false → (a || b) ≡ false
 neither true b e f = e
 neither false b e f = f
 
@@ -82,7 +82,7 @@ pub targeted : (p : Setup) (m : Move) (from : ℕ) → m.from ≡ from → IsLeg
 targeted p m from is legal = (m.promo, subst (IsLegal p) (λ i. record { from = is i; to = m.to; promo = m.promo }) legal)
 
 -- a man that is no pawn, or does not go to the target, takes nothing in passing
-not_passing : (kind : Kind) (target : Option ℕ) (t : ℕ) → (kind ≡ P → target ≡ Some t → ⊥) → (is_pawn kind && is_target target t) ≡ false
+pub not_passing : (kind : Kind) (target : Option ℕ) (t : ℕ) → (kind ≡ P → target ≡ Some t → ⊥) → (is_pawn kind && is_target target t) ≡ false
 not_passing P None t none = refl
 not_passing P (Some s) t none = elim (eqb_tells s t) [ inl here ↦ absurd (none refl (ap Some here.1)) | inr apart ↦ apart.0 ]
 not_passing Q target t none = refl

@@ -33,7 +33,7 @@ use Rattle.egt_check.proofs.QuietGiven.{low_score}
 use Rattle.egt_check.proofs.Worth.{AreWhole, Turning, best_of}
 
 -- where a move that zeroes leads to less, it is worth no more
-zeroing_above : (v w : ℕ) → v ≤ w → zeroing_score v ≤ zeroing_score w
+pub zeroing_above : (v w : ℕ) → v ≤ w → zeroing_score v ≤ zeroing_score w
 zeroing_above v w le = elim (cases_lt 128 w) [
   | inl more ↦ let high = zeroing_lost w more in elim (cases_lt 128 v) [
     | inl lost ↦ let other = zeroing_lost v lost in omega (arith, high, other)

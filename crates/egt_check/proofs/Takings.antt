@@ -56,17 +56,17 @@ pub record Telling : Type 0 where
 -- ---- three men
 
 -- they stand there, and no others
-record AreLeft (men : Placement) (left : Left) : Type 0 where
-  white : Stands men left.white (king_of White)
-  black : Stands men left.black (king_of Black)
-  man : Stands men left.square left.man
-  kings_apart : left.black ≢ left.white
-  off_white : left.square ≢ left.white
-  off_black : left.square ≢ left.black
-  free : (s : ℕ) → s ≢ left.white → s ≢ left.black → s ≢ left.square → IsFree men s
+pub record AreLeft (men : Placement) (left : Left) : Type 0 where
+  pub white : Stands men left.white (king_of White)
+  pub black : Stands men left.black (king_of Black)
+  pub man : Stands men left.square left.man
+  pub kings_apart : left.black ≢ left.white
+  pub off_white : left.square ≢ left.white
+  pub off_black : left.square ≢ left.black
+  pub free : (s : ℕ) → s ≢ left.white → s ≢ left.black → s ≢ left.square → IsFree men s
 
 -- so they stand in one placement alone
-one_left : (m n : Placement) (left : Left) → AreLeft m left → AreLeft n left → m ≡ n
+pub one_left : (m n : Placement) (left : Left) → AreLeft m left → AreLeft n left → m ≡ n
 one_left m n left one other = same_men m n (λ s. elim (cases_eq s left.white) [
   | inl here ↦ ap (placement.get m) here ∙ one.white ∙ sym (ap (placement.get n) here ∙ other.white)
   | inr off_white ↦ elim (cases_eq s left.black) [
@@ -93,7 +93,7 @@ free_left d flips left side q has s off = subst (λ (m : Placement). IsFree m s)
     counted = subst (λ (l : List Man). AreCounted q.men (map (turned_man flips) l)) (sym has.stood.are) (counted_turned d flips q has.is_of)
 
 -- such a position has these men
-are_left : (d : ℕ) (flips : Bool) (left : Left) (side : Side) (q : Setup) → HasStand d flips (stand_left flips left) side false q → AreLeft q.men left
+pub are_left : (d : ℕ) (flips : Bool) (left : Left) (side : Side) (q : Setup) → HasStand d flips (stand_left flips left) side false q → AreLeft q.men left
 are_left d false left side q has = record {
   white = has.stood.all.1;
   black = has.stood.all.3.1;
@@ -114,7 +114,7 @@ are_left d true left side q has = record {
 }
 
 -- and a position with these is of the class
-stands_left : Telling → (d : ℕ) (flips : Bool) (left : Left) (side : Side) (q : Setup) → IsAdmissible q → AreLeft q.men left → left.man.kind ≢ K → q.side ≡ side → q.target ≡ None → IsClassOf d flips left.man
+pub stands_left : Telling → (d : ℕ) (flips : Bool) (left : Left) (side : Side) (q : Setup) → IsAdmissible q → AreLeft q.men left → left.man.kind ≢ K → q.side ≡ side → q.target ≡ None → IsClassOf d flips left.man
     → HasStand d flips (stand_left flips left) side false q
 stands_left telling d flips left side q ok are no_king side_is none class = record {
   admissible = ok;
@@ -176,13 +176,13 @@ module _ (men : Placement) (from to : ℕ) (man : Man) where
   abbrev pub placed : Placement
   placed = placement.insert (placement.remove men from) to man
 
-  arrives : Stands placed to man
+  pub arrives : Stands placed to man
   arrives = get-insert_same (placement.remove men from) to man to refl
 
-  stays : (s : ℕ) (other : Man) → s ≢ to → s ≢ from → Stands men s other → Stands placed s other
+  pub stays : (s : ℕ) (other : Man) → s ≢ to → s ≢ from → Stands men s other → Stands placed s other
   stays s other off_to off_from stands = get-insert_other (placement.remove men from) to man s off_to ∙ get-remove_other men from s off_from ∙ stands
 
-  empties : (s : ℕ) → s ≢ to → (s ≢ from → IsFree men s) → IsFree placed s
+  pub empties : (s : ℕ) → s ≢ to → (s ≢ from → IsFree men s) → IsFree placed s
   empties s off_to free = get-insert_other (placement.remove men from) to man s off_to ∙ elim (cases_eq s from) [
     | inl here ↦ get-remove_same men from s here
     | inr off_from ↦ get-remove_other men from s off_from ∙ free off_from

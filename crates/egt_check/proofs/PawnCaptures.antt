@@ -1,0 +1,208 @@
+-- The captures by which a pawn is promoted lead to the three men who are left, and to all positions of them.
+use Rattle.std.proofs.Common.{◌≡◌, ◌≢◌, ℕ, ◌*◌, ◌/◌, ◌+◌, if◌then◌else◌, Bool, true, false, Option, Some, None, refl, sym, ap, ◌∙◌, subst, inl, inr, arith}
+use Rattle.std.specs.FinMap as placement
+use Rattle.egt_board.specs.Attack.{IsInCheck, king_of}
+use Rattle.egt_board.specs.Gait.{OneOf, Reaches, Rides, farthest, pawn_steps, steps_of}
+use Rattle.egt_board.specs.Man.{other_side}
+use Rattle.egt_board.specs.Pawn.{ahead}
+use Rattle.egt_board.specs.Placement.{Placement, Stands, IsFree, IsHeld, one_man}
+use Rattle.egt_board.specs.Setup.{Setup}
+use Rattle.egt_board.specs.Square.{rank_of}
+use Rattle.egt_board.specs.declared.man.Kind.{Kind}
+use Rattle.egt_board.specs.declared.man.Kind.TheVariants.{P, K}
+use Rattle.egt_board.specs.declared.man.Man.{Man}
+use Rattle.egt_board.specs.declared.man.Side.{Side}
+use Rattle.egt_board.specs.declared.man.Side.TheVariants.{White, Black}
+use Rattle.egt_index.specs.Stood.{HasStand}
+use Rattle.egt_index.specs.declared.shelf_codes.ShelfMen.{ShelfMen}
+use Rattle.egt_moves.specs.Going.{Goes}
+use Rattle.egt_moves.specs.Legal.{Leads, after, is_two_ranks, men_after, men_left, passed}
+use Rattle.egt_moves.specs.Promotion.{FitsPromotion, IsOfficer, arriving, is_pawn, promotes}
+use Rattle.egt_moves.specs.declared.chess_move.Move.{Move}
+use Rattle.egt_moves.proofs.After.{not_free, side_twice, sides_differ, target_is}
+use Rattle.egt_check.specs.Facts.{Facts}
+use Rattle.egt_check.specs.PawnMoves.{IsPromotingCapture, IsPromotingCaptureFrom, officer_of, stand_in}
+use Rattle.egt_check.specs.Takings.{IsClassOf, IsPastKings, Left, left_of, stand_left}
+use Rattle.egt_check.proofs.Fanned.{king_bare}
+use Rattle.egt_check.proofs.Leaping.{and_false}
+use Rattle.egt_check.proofs.PawnAdvances.{none_of}
+use Rattle.egt_check.proofs.Pushing.{untold}
+use Rattle.egt_check.proofs.Still.{neither, not_passing}
+use Rattle.egt_check.proofs.Takings.{AreLeft, Telling, are_left, arrives, empties, one_left, placed, stands_left, stays}
+use Rattle.egt_check.proofs.TwoBeside.{AreTwo, are_in, who}
+
+-- a pawn attacks squares of the next rank alone, and passes none
+up_one : (s t : ℕ) → rank_of t ≡ rank_of s + 1 → is_two_ranks s t ≡ false
+up_one s t up = neither _ _ (untold (rank_of t) (rank_of s + 2) (λ e. omega (arith, up, e))) (untold (rank_of s) (rank_of t + 2) (λ e. omega (arith, up, e)))
+
+down_one : (s t : ℕ) → rank_of s ≡ rank_of t + 1 → is_two_ranks s t ≡ false
+down_one s t down = neither _ _ (untold (rank_of t) (rank_of s + 2) (λ e. omega (arith, down, e))) (untold (rank_of s) (rank_of t + 2) (λ e. omega (arith, down, e)))
+
+one_rank : (F : ℕ → Type 0) (side : Side) (s t : ℕ) → OneOf (Rides F 1 s t) (pawn_steps side) → is_two_ranks s t ≡ false
+one_rank F White s t (inl r) = let along : t / 8 ≡ s / 8 + r.count * 1 = r.away.along in let some = r.moves in let few = r.within in up_one s t (omega (arith, along, some, few))
+one_rank F White s t (inr (inl r)) = let along : t / 8 ≡ s / 8 + r.count * 1 = r.away.along in let some = r.moves in let few = r.within in up_one s t (omega (arith, along, some, few))
+one_rank F White s t (inr (inr none)) = absurd none
+one_rank F Black s t (inl r) = let along : s / 8 ≡ t / 8 + r.count * 1 = r.away.along in let some = r.moves in let few = r.within in down_one s t (omega (arith, along, some, few))
+one_rank F Black s t (inr (inl r)) = let along : s / 8 ≡ t / 8 + r.count * 1 = r.away.along in let some = r.moves in let few = r.within in down_one s t (omega (arith, along, some, few))
+one_rank F Black s t (inr (inr none)) = absurd none
+
+module _ (man : Man) (pawn : man.kind ≡ P) (s t : ℕ) where
+  takes_unpassed : (F : ℕ → Type 0) → Reaches F man s t → passed man s t ≡ None
+  takes_unpassed F reaches =
+      ap (λ b. if b then Some ((s + t) / 2) else None)
+      (and_false (is_pawn man.kind) (is_two_ranks s t) (one_rank F man.side s t (subst (λ (k : Kind). OneOf (Rides F (farthest k) s t) (steps_of man.side k)) pawn reaches)))
+
+  takes_bare : (F G : ℕ → Type 0) → Reaches F man s t → Reaches G man s t
+  takes_bare F G reaches =
+      subst (λ (k : Kind). OneOf (Rides G (farthest k) s t) (steps_of man.side k)) (sym pawn)
+      (king_bare F G s t (pawn_steps man.side) (subst (λ (k : Kind). OneOf (Rides F (farthest k) s t) (steps_of man.side k)) pawn reaches))
+
+-- a pawn is promoted to an officer, and only where he arrives on his last rank
+promoted : (b : Bool) (kind : Kind) → FitsPromotion b (Some kind) → (b ≡ true) × IsOfficer kind
+promoted true kind fits = (refl, fits)
+promoted false kind fits = absurd fits
+
+no_king_made : (kind : Kind) → IsOfficer kind → kind ≢ K
+no_king_made kind officer king = subst IsOfficer king officer
+
+module _ (facts : Facts) (telling : Telling) (c : ℕ) (men : ShelfMen) (first : Bool) (side : Side) (passed : Bool) (a b : ℕ) (p : Setup) (pawn : men.last.kind ≡ P) (has : HasStand c false (stand_in first men a b) side passed p) (kind : Kind) where
+  there : AreTwo p.men men.white men.black men.one a men.last b
+  there = are_in c men first side passed a b p has
+
+  -- the pawn's side's new man where the first man stood
+  abbrev left : Left
+  left = left_of men (officer_of side kind) a
+
+  takes_so : AreLeft (placed p.men b a (officer_of side kind)) left
+  takes_so = record {
+    white = stays p.men b a (officer_of side kind) men.white (king_of White) (λ e. there.one_white (sym e)) (λ e. there.other_white (sym e)) there.white_there;
+    black = stays p.men b a (officer_of side kind) men.black (king_of Black) (λ e. there.one_black (sym e)) (λ e. there.other_black (sym e)) there.black_there;
+    man = arrives p.men b a (officer_of side kind);
+    kings_apart = there.kings_apart;
+    off_white = there.one_white;
+    off_black = there.one_black;
+    free = λ s w k o. empties p.men b a (officer_of side kind) s o (λ off. there.free s w k o off);
+  }
+
+  -- nobody is taken in passing where a man stands
+  left_so : (man other : Man) (t : ℕ) → Stands p.men t other → men_left p man t ≡ p.men
+  left_so man other t stands = ap (λ b. if b then placement.remove p.men (ahead (other_side p.side) t) else p.men)
+      (not_passing man.kind p.target t (λ pawn target. not_free p.men t other (target_is p t has.admissible target).empty stands))
+
+  -- ---- from the move to the men left
+
+  module _ (q : Setup) (m : Move) (leads : Leads p m q) (from_is : m.from ≡ b) (held : IsHeld p.men m.to (other_side p.side)) (promo_is : m.promo ≡ Some kind) where
+    his : leads.man ≡ men.last
+    his = one_man p.men b leads.man men.last (subst (λ s. Stands p.men s leads.man) from_is leads.stands) there.other_there
+
+    own : men.last.side ≡ side
+    own = ap (λ (x : Man). x.side) (sym his) ∙ leads.mine ∙ has.side_is
+
+    pawn_here : leads.man.kind ≡ P
+    pawn_here = ap (λ (x : Man). x.kind) his ∙ pawn
+
+    attacks : Goes p leads.man m.from m.to → Reaches (IsFree p.men) leads.man m.from m.to
+    attacks (inl piece) = piece.reaches
+    attacks (inr (inl advances)) = not_free p.men m.to held.man advances.advances.free held.stands
+    attacks (inr (inr takes)) = takes.reaches
+
+    -- the side that waits is not in check, so that no king is taken
+    no_king : (s : Side) → held.man ≡ king_of s → ⊥
+    no_king s is = has.admissible.quiet (record {
+      square = m.to;
+      stands = held.stands ∙ ap Some (is ∙ ap king_of (ap (λ (x : Man). x.side) (sym is) ∙ held.theirs));
+      attacked = record { from = m.from; man = leads.man; stands = leads.stands; theirs = leads.mine ∙ sym (side_twice p.side); reaches = attacks leads.goes };
+    })
+
+    -- the first man is taken
+    taken : (m.to ≡ a) × (held.man ≡ men.one)
+    taken = elim (who p.men men.white men.black men.one a men.last b there m.to held.man held.stands) [
+      | inl h ↦ absurd (no_king White h.1)
+      | inr rest ↦ elim rest [
+        | inl h ↦ absurd (no_king Black h.1)
+        | inr more ↦ elim more [
+          | inl h ↦ h
+          | inr h ↦ absurd (sides_differ side (sym own ∙ ap (λ (x : Man). x.side) (sym h.1) ∙ held.theirs ∙ ap other_side has.side_is))
+        ]
+      ]
+    ]
+
+    reached : Reaches (IsFree p.men) men.last b a
+    reached =
+        subst (λ (x : Man). Reaches (IsFree p.men) x b a) his
+        (subst (λ s. Reaches (IsFree p.men) leads.man s a) from_is (subst (λ s. Reaches (IsFree p.men) leads.man m.from s) taken.0 (attacks leads.goes)))
+
+    fits : FitsPromotion (promotes men.last a) (Some kind)
+    fits =
+        subst (λ (o : Option Kind). FitsPromotion (promotes men.last a) o) promo_is
+        (subst (λ (x : Man). FitsPromotion (promotes x a) m.promo) his (subst (λ s. FitsPromotion (promotes leads.man s) m.promo) taken.0 leads.promotion))
+
+    is_capture : IsPromotingCapture men side kind a b
+    is_capture = record {
+      pawn = pawn;
+      mine = own;
+      theirs = ap (λ (x : Man). x.side) (sym taken.1) ∙ held.theirs ∙ ap other_side has.side_is;
+      reaches = takes_bare men.last pawn b a (IsFree p.men) (IsPastKings men) reached;
+      last = (promoted (promotes men.last a) kind fits).0;
+      officer = (promoted (promotes men.last a) kind fits).1;
+    }
+
+    made : officer_of side kind ≡ arriving leads.man m.promo
+    made = ap (λ (s : Side). officer_of s kind) (sym own) ∙ ap (λ (o : Option Kind). arriving men.last o) (sym promo_is) ∙ ap (λ (x : Man). arriving x m.promo) (sym his)
+
+    men_are : placed p.men b a (officer_of side kind) ≡ q.men
+    men_are =
+        (λ i. placed p.men (sym from_is i) (sym taken.0 i) (made i))
+        ∙ ap (λ (x : Placement). placed x m.from m.to (arriving leads.man m.promo)) (sym (left_so leads.man held.man m.to held.stands))
+        ∙ ap (λ (s : Setup). s.men) (sym leads.becomes)
+
+    target_none : q.target ≡ None
+    target_none =
+        ap (λ (s : Setup). s.target) leads.becomes
+        ∙ takes_unpassed leads.man pawn_here m.from m.to (IsFree p.men) (attacks leads.goes)
+
+    pub goes : IsPromotingCapture men side kind a b
+        × ((d : ℕ) (flips : Bool) → IsClassOf d flips (officer_of side kind) → HasStand d flips (stand_left flips (left_of men (officer_of side kind) a)) (other_side side) false q)
+    goes = (
+      is_capture,
+      λ d flips class. stands_left telling d flips left (other_side side) q (facts.step_admissible p q m has.admissible leads) (subst (λ (x : Placement). AreLeft x left) men_are takes_so) (no_king_made kind is_capture.officer)
+          (ap (λ (s : Setup). s.side) leads.becomes ∙ ap other_side has.side_is) target_none class,
+    )
+
+  -- ---- from the men left to the move
+
+  module _ (is : IsPromotingCapture men side kind a b) (d : ℕ) (flips : Bool) (q : Setup) (has_left : HasStand d flips (stand_left flips (left_of men (officer_of side kind) a)) (other_side side) false q) where
+    abbrev move : Move
+    move = record { from = b; to = a; promo = Some kind }
+
+    held_there : IsHeld p.men a (other_side p.side)
+    held_there = record { man = men.one; stands = there.one_there; theirs = is.theirs ∙ ap other_side (sym has.side_is) }
+
+    reaches : Reaches (IsFree p.men) men.last b a
+    reaches = takes_bare men.last pawn b a (IsPastKings men) (IsFree p.men) is.reaches
+
+    men_are_so : q.men ≡ men_after p men.last move
+    men_are_so =
+        one_left q.men (placed p.men b a (officer_of side kind)) left (are_left d flips left (other_side side) q has_left) takes_so
+        ∙ ap (λ (s : Side). placed p.men b a (officer_of s kind)) (sym is.mine)
+        ∙ ap (λ (x : Placement). placed x b a (officer_of men.last.side kind)) (sym (left_so men.last men.one a there.one_there))
+
+    turn : q.side ≡ other_side p.side
+    turn = has_left.side_is ∙ ap other_side (sym has.side_is)
+
+    target : q.target ≡ (after p men.last move).target
+    target = none_of q.target has_left.target_is ∙ sym (takes_unpassed men.last pawn b a (IsFree p.men) reaches)
+
+    leads_so : Leads p move q
+    leads_so = record {
+      man = men.last;
+      stands = there.other_there;
+      mine = is.mine ∙ sym has.side_is;
+      goes = inr (inr (record { pawn = pawn; reaches = reaches; takes = inl held_there }));
+      promotion = subst (λ (b : Bool). FitsPromotion b (Some kind)) (sym is.last) is.officer;
+      becomes = λ i. record { men = men_are_so i; side = turn i; target = target i };
+      safe = λ check. has_left.admissible.quiet (subst (λ (s : Side). IsInCheck q.men s) (sym (ap other_side turn ∙ side_twice p.side)) check);
+    }
+
+    pub comes : (m : Move) × Leads p m q × IsPromotingCaptureFrom p b kind m
+    comes = (move, leads_so, record { from = refl; takes = held_there; promo_is = refl })

@@ -1,0 +1,219 @@
+-- The kings and two men beside them on their squares.
+use Rattle.std.proofs.Common.{◌≡◌, ◌≢◌, ℕ, ◌⊎◌, Bool, true, false, List, [], ◌∷◌, map, Option, Some, None, sym, ap, ◌∙◌, subst, inl, inr}
+use Rattle.std.specs.FinMap as placement
+use Rattle.std.specs.Option.{is_some, option_map}
+use Rattle.std.proofs.lemmas.Bool.{cases_eq}
+use Rattle.egt_board.specs.AllMen.{HasBeside}
+use Rattle.egt_board.specs.Attack.{king_of}
+use Rattle.egt_board.specs.Placement.{Placement, Stands, IsFree, one_man, same_men}
+use Rattle.egt_board.specs.Setup.{Setup, IsAdmissible}
+use Rattle.egt_board.specs.Turned.{turned_man}
+use Rattle.egt_board.specs.declared.man.Kind.TheVariants.{K}
+use Rattle.egt_board.specs.declared.man.Man.{Man}
+use Rattle.egt_board.specs.declared.man.Side.{Side}
+use Rattle.egt_board.specs.declared.man.Side.TheVariants.{White, Black}
+use Rattle.egt_class.specs.Pair.{IsBeside}
+use Rattle.egt_index.specs.Picked.{AreCounted}
+use Rattle.egt_index.specs.Stood.{AllStand, HasStand, IsOff, list_of, men_among}
+use Rattle.egt_index.specs.declared.shelf_codes.ShelfMen.{ShelfMen}
+use Rattle.egt_index.proofs.After.{all_there}
+use Rattle.egt_index.proofs.ByMen.{no_target}
+use Rattle.egt_index.proofs.Setups.{free_of}
+use Rattle.egt_index.proofs.Standing.{counted_turned, turned_back}
+use Rattle.egt_check.specs.PawnMoves.{IsClassAfter, IsClassOfTwo, stand_after, stand_in, stand_two}
+
+-- the men beside the kings are counted, by the law of egt_class
+abbrev pub Counting : Type 0
+Counting = (p : Setup) (one other : Option (Man × ℕ)) → IsAdmissible p → HasBeside p.men one other → IsBeside p (option_map (λ e. e.0) one) (option_map (λ e. e.0) other)
+
+-- they stand there, and no others
+pub record AreTwo (men : Placement) (white black : ℕ) (one : Man) (a : ℕ) (other : Man) (b : ℕ) : Type 0 where
+  pub white_there : Stands men white (king_of White)
+  pub black_there : Stands men black (king_of Black)
+  pub one_there : Stands men a one
+  pub other_there : Stands men b other
+  pub kings_apart : black ≢ white
+  pub one_white : a ≢ white
+  pub one_black : a ≢ black
+  pub other_white : b ≢ white
+  pub other_black : b ≢ black
+  pub apart : b ≢ a
+  pub free : (s : ℕ) → s ≢ white → s ≢ black → s ≢ a → s ≢ b → IsFree men s
+
+-- in the other order they are the same
+pub exchanged : (men : Placement) (white black : ℕ) (one : Man) (a : ℕ) (other : Man) (b : ℕ) → AreTwo men white black one a other b → AreTwo men white black other b one a
+exchanged men white black one a other b are = record {
+  white_there = are.white_there;
+  black_there = are.black_there;
+  one_there = are.other_there;
+  other_there = are.one_there;
+  kings_apart = are.kings_apart;
+  one_white = are.other_white;
+  one_black = are.other_black;
+  other_white = are.one_white;
+  other_black = are.one_black;
+  apart = λ e. are.apart (sym e);
+  free = λ s w k o l. are.free s w k l o;
+}
+
+-- whoever stands on the board is one of them
+pub who : (men : Placement) (white black : ℕ) (one : Man) (a : ℕ) (other : Man) (b : ℕ) → AreTwo men white black one a other b → (s : ℕ) (man : Man) → Stands men s man
+    → ((s ≡ white) × (man ≡ king_of White)) ⊎ ((s ≡ black) × (man ≡ king_of Black)) ⊎ ((s ≡ a) × (man ≡ one)) ⊎ ((s ≡ b) × (man ≡ other))
+who men white black one a other b are s man stands = elim (cases_eq s white) [
+  | inl here ↦ inl (here, one_man men white man (king_of White) (at white here) are.white_there)
+  | inr off_white ↦ elim (cases_eq s black) [
+    | inl here ↦ inr (inl (here, one_man men black man (king_of Black) (at black here) are.black_there))
+    | inr off_black ↦ elim (cases_eq s a) [
+      | inl here ↦ inr (inr (inl (here, one_man men a man one (at a here) are.one_there)))
+      | inr off_one ↦ elim (cases_eq s b) [
+        | inl here ↦ inr (inr (inr (here, one_man men b man other (at b here) are.other_there)))
+        | inr off_other ↦ absurd (taken_not (sym stands ∙ are.free s off_white off_black off_one off_other))
+      ]
+    ]
+  ]
+]
+  where
+    taken_not : {x : Man} → Some x ≡ None → ⊥
+    taken_not e = cc
+
+    at : (t : ℕ) → s ≡ t → Stands men t man
+    at t here = subst (λ u. Stands men u man) here stands
+
+-- so they stand in one placement alone
+pub one_two : (m n : Placement) (white black : ℕ) (one : Man) (a : ℕ) (other : Man) (b : ℕ) → AreTwo m white black one a other b → AreTwo n white black one a other b → m ≡ n
+one_two m n white black one a other b here there = same_men m n (λ s. elim (cases_eq s white) [
+  | inl is ↦ ap (placement.get m) is ∙ here.white_there ∙ sym (ap (placement.get n) is ∙ there.white_there)
+  | inr off_white ↦ elim (cases_eq s black) [
+    | inl is ↦ ap (placement.get m) is ∙ here.black_there ∙ sym (ap (placement.get n) is ∙ there.black_there)
+    | inr off_black ↦ elim (cases_eq s a) [
+      | inl is ↦ ap (placement.get m) is ∙ here.one_there ∙ sym (ap (placement.get n) is ∙ there.one_there)
+      | inr off_one ↦ elim (cases_eq s b) [
+        | inl is ↦ ap (placement.get m) is ∙ here.other_there ∙ sym (ap (placement.get n) is ∙ there.other_there)
+        | inr off_other ↦ here.free s off_white off_black off_one off_other ∙ sym (there.free s off_white off_black off_one off_other)
+      ]
+    ]
+  ]
+])
+
+-- no man stands off their squares in a position of a class of four
+free_two : (d : ℕ) (flips : Bool) (men : ShelfMen) (one : Man) (a : ℕ) (other : Man) (b : ℕ) (side : Side) (passed : Bool) (q : Setup) → HasStand d flips (stand_two flips men (one, a) (other, b)) side passed q → (s : ℕ)
+    → IsOff (list_of (stand_two flips men (one, a) (other, b))) s → IsFree q.men s
+free_two d flips men one a other b side passed q has s off = subst (λ (m : Placement). IsFree m s) (sym (all_there q.men there has.admissible.on_board counted has.stood.all).0) (free_of there s off)
+  where
+    there : List (Man × ℕ)
+    there =
+        (turned_man flips (king_of White), (stand_two flips men (one, a) (other, b)).white)
+        ∷ (turned_man flips (king_of Black), (stand_two flips men (one, a) (other, b)).black)
+        ∷ (turned_man flips (turned_man flips one), a)
+        ∷ (turned_man flips (turned_man flips other), b)
+        ∷ []
+
+    counted : AreCounted q.men (men_among there)
+    counted = subst (λ (l : List Man). AreCounted q.men (map (turned_man flips) l)) (sym has.stood.are) (counted_turned d flips q has.is_of)
+
+-- such a position has these men
+pub are_two : (d : ℕ) (flips : Bool) (men : ShelfMen) (one : Man) (a : ℕ) (other : Man) (b : ℕ) (side : Side) (passed : Bool) (q : Setup) → HasStand d flips (stand_two flips men (one, a) (other, b)) side passed q
+    → AreTwo q.men men.white men.black one a other b
+are_two d false men one a other b side passed q has = record {
+  white_there = has.stood.all.1;
+  black_there = has.stood.all.3.1;
+  one_there = has.stood.all.3.3.1;
+  other_there = has.stood.all.3.3.3.1;
+  kings_apart = has.stood.all.2.0;
+  one_white = has.stood.all.2.1.0;
+  one_black = has.stood.all.3.2.0;
+  other_white = has.stood.all.2.1.1.0;
+  other_black = has.stood.all.3.2.1.0;
+  apart = has.stood.all.3.3.2.0;
+  free = λ s w k o l. free_two d false men one a other b side passed q has s ((λ e. w (sym e)), ((λ e. k (sym e)), ((λ e. o (sym e)), ((λ e. l (sym e)), tt))));
+}
+are_two d true men one a other b side passed q has = record {
+  white_there = has.stood.all.3.1;
+  black_there = has.stood.all.1;
+  one_there = has.stood.all.3.3.1 ∙ ap Some (turned_back true one);
+  other_there = has.stood.all.3.3.3.1 ∙ ap Some (turned_back true other);
+  kings_apart = λ e. has.stood.all.2.0 (sym e);
+  one_white = has.stood.all.3.2.0;
+  one_black = has.stood.all.2.1.0;
+  other_white = has.stood.all.3.2.1.0;
+  other_black = has.stood.all.2.1.1.0;
+  apart = has.stood.all.3.3.2.0;
+  free = λ s w k o l. free_two d true men one a other b side passed q has s ((λ e. k (sym e)), ((λ e. w (sym e)), ((λ e. o (sym e)), ((λ e. l (sym e)), tt))));
+}
+
+-- and a position with these is of the class
+pub stands_two : Counting → (d : ℕ) (flips : Bool) (men : ShelfMen) (one : Man) (a : ℕ) (other : Man) (b : ℕ) (side : Side) (q : Setup) → IsAdmissible q → AreTwo q.men men.white men.black one a other b → one.kind ≢ K → other.kind ≢ K
+    → q.side ≡ side → q.target ≡ None → IsClassOfTwo d flips one other → HasStand d flips (stand_two flips men (one, a) (other, b)) side false q
+stands_two counting d flips men one a other b side q ok are one_no other_no side_is none class = record {
+  admissible = ok;
+  settled = no_target q none;
+  is_of = class.of q (counting q (Some (one, a)) (Some (other, b)) ok beside);
+  stood = record { are = sym class.order; all = all flips };
+  side_is = side_is;
+  target_is = ap (λ (o : Option ℕ). is_some o) none;
+}
+  where
+    king_is : (s : Side) (man : Man) → man.kind ≢ K → man ≡ king_of s → ⊥
+    king_is s man not is = not (ap (λ (x : Man). x.kind) is)
+
+    beside : HasBeside q.men (Some (one, a)) (Some (other, b))
+    beside = record {
+      one = (are.one_there, one_no);
+      other = (are.other_there, other_no);
+      all = λ s man stands not. elim (who q.men men.white men.black one a other b are s man stands) [
+        | inl h ↦ absurd (king_is White man not h.1)
+        | inr rest ↦ elim rest [
+          | inl h ↦ absurd (king_is Black man not h.1)
+          | inr more ↦ elim more [
+            | inl h ↦ inl (λ i. Some (sym h.1 i, sym h.0 i))
+            | inr h ↦ inr (λ i. Some (sym h.1 i, sym h.0 i))
+          ]
+        ]
+      ];
+      apart = λ e. are.apart (sym e);
+    }
+
+    all : (flips : Bool) → AllStand flips q.men (list_of (stand_two flips men (one, a) (other, b)))
+    all false = (
+      ok.on_board men.white (king_of White) are.white_there,
+      are.white_there,
+      (are.kings_apart, (are.one_white, (are.other_white, tt))),
+      (
+        ok.on_board men.black (king_of Black) are.black_there,
+        are.black_there,
+        (are.one_black, (are.other_black, tt)),
+        (ok.on_board a one are.one_there, are.one_there, (are.apart, tt), (ok.on_board b other are.other_there, are.other_there, tt, tt)),
+      ),
+    )
+    all true = (
+      ok.on_board men.black (king_of Black) are.black_there,
+      are.black_there,
+      ((λ e. are.kings_apart (sym e)), (are.one_black, (are.other_black, tt))),
+      (
+        ok.on_board men.white (king_of White) are.white_there,
+        are.white_there,
+        (are.one_white, (are.other_white, tt)),
+        (
+          ok.on_board a one are.one_there,
+          are.one_there ∙ ap Some (sym (turned_back true one)),
+          (are.apart, tt),
+          (ok.on_board b other are.other_there, are.other_there ∙ ap Some (sym (turned_back true other)), tt, tt),
+        ),
+      ),
+    )
+
+-- ---- the men as their class names them
+
+pub are_in : (c : ℕ) (men : ShelfMen) (first : Bool) (side : Side) (passed : Bool) (a b : ℕ) (p : Setup) → HasStand c false (stand_in first men a b) side passed p → AreTwo p.men men.white men.black men.one a men.last b
+are_in c men false side passed a b p has = are_two c false men men.one a men.last b side passed p has
+are_in c men true side passed a b p has = exchanged p.men men.white men.black men.last b men.one a (are_two c false men men.last b men.one a side passed p has)
+
+pub are_after : (d : ℕ) (before flips : Bool) (men : ShelfMen) (a : ℕ) (man : Man) (t : ℕ) (side : Side) (q : Setup) → HasStand d flips (stand_after before flips men a man t) side false q → AreTwo q.men men.white men.black men.one a man t
+are_after d false flips men a man t side q has = are_two d flips men men.one a man t side false q has
+are_after d true flips men a man t side q has = exchanged q.men men.white men.black man t men.one a (are_two d flips men man t men.one a side false q has)
+
+pub stands_after : Counting → (d : ℕ) (before flips : Bool) (men : ShelfMen) (a : ℕ) (man : Man) (t : ℕ) (side : Side) (q : Setup) → IsAdmissible q → AreTwo q.men men.white men.black men.one a man t → men.one.kind ≢ K → man.kind ≢ K
+    → q.side ≡ side → q.target ≡ None → IsClassAfter before d flips men.one man → HasStand d flips (stand_after before flips men a man t) side false q
+stands_after counting d false flips men a man t side q ok are one_no man_no side_is none class = stands_two counting d flips men men.one a man t side q ok are one_no man_no side_is none class
+stands_after counting d true flips men a man t side q ok are one_no man_no side_is none class =
+    stands_two counting d flips men man t men.one a side q ok (exchanged q.men men.white men.black men.one a man t are) man_no one_no side_is none class

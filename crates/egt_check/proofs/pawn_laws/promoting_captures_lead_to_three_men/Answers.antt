@@ -1,0 +1,18 @@
+use Rattle.egt_check.proofs.PawnCaptures.{comes, goes}
+use Rattle.egt_check.proofs.Takings.{Telling}
+use Rattle.egt_check.proofs.pawn_laws.promoting_captures_lead_to_three_men.Goals as goal
+
+pub returns : goal.returns
+returns c = record {
+  goes = λ k men first side passed a b p q m kind class_in one_other pawn has leads from_is held promo_is.
+      goes c.facts.ensures telling k men first side passed a b p pawn has kind q m leads from_is held promo_is;
+  comes = λ k men first side passed a b p kind class_in one_other pawn has is d flips class q has_left.
+      comes c.facts.ensures telling k men first side passed a b p pawn has kind is d flips q has_left;
+}
+  where
+    telling : Telling
+    telling = record {
+      listed = c.stands_follow_moves.ensures.listed;
+      free = c.stands_follow_moves.ensures.free;
+      counted = c.men_beside_are_counted.ensures;
+    }

@@ -1,0 +1,86 @@
+//! What holds of the moves of pawns. These functions do nothing: a caller calls one to know what it ensures.
+ghost use Rattle.std.specs.Prelude.{◌≡◌, ◌≢◌, ◌<◌, ℕ, Bool, false, Option, Some};
+ghost use Rattle.egt_board.specs.Man.{other_side};
+ghost use Rattle.egt_board.specs.Placement.{IsHeld};
+ghost use Rattle.egt_board.specs.Settled.{SettlesTo};
+ghost use Rattle.egt_board.specs.Setup.{Setup};
+ghost use Rattle.egt_board.specs.declared.man.Kind.{Kind};
+ghost use Rattle.egt_board.specs.declared.man.Kind.TheVariants.{P, K};
+ghost use Rattle.egt_board.specs.declared.man.Side.{Side};
+ghost use Rattle.egt_index.specs.Stood.{HasStand};
+ghost use Rattle.egt_index.specs.declared.shelf_codes.ShelfMen.{ShelfMen};
+ghost use Rattle.egt_lanes.specs.Raised.{IsRaised};
+ghost use Rattle.egt_lanes.specs.Scores.{zeroing_score};
+ghost use Rattle.egt_moves.specs.Exchange.{Captures};
+ghost use Rattle.egt_moves.specs.Legal.{Leads};
+ghost use Rattle.egt_moves.specs.Promotion.{arriving};
+ghost use Rattle.egt_moves.specs.declared.chess_move.Move.{Move};
+ghost use Rattle.egt_table.specs.Table.{TableValue};
+ghost use Rattle.egt_table.specs.declared.column.Column.TheVariants.{Mate};
+ghost use Rattle.egt_check.specs.Given.{AreGiven};
+ghost use Rattle.egt_check.specs.PawnMoves.{AreAdvancedCodes, ArePromotedCodes, IsAdvance, IsAdvanceFrom, IsClassAfter, IsPromotingCapture, IsPromotingCaptureFrom, IsTableAfter, officer_of, stand_after, stand_in};
+ghost use Rattle.egt_check.specs.Taken.{IsTableOf};
+ghost use Rattle.egt_check.specs.Takings.{IsClassOf, left_of, stand_left};
+ghost use Rattle.egt_check.specs.Tables.{Tables};
+ghost use Rattle.egt_check.specs.Worth.{score_at};
+
+use crate::facts::facts;
+use egt_class::laws::men_beside_are_counted;
+use egt_index::laws::{a_code_is_an_index_or_void, codes_tell_turned_men, stands_follow_moves};
+
+/// Where the first man beside the kings is no pawn of the other side, the advances of the last one, a pawn, lead to the
+/// men after them, and to all positions of them. An advance by two squares sets a target, which no pawn stands ready to
+/// take.
+pub fn advances_lead_to_the_men_after()
+    ensures goes { (c : ℕ) (men : ShelfMen) (first : Bool) (side : Side) (passed : Bool) (a b : ℕ) (p q : Setup) (m : Move) → c < 36 → men.one.kind ≢ K → (men.one.kind ≡ P → men.one.side ≡ side) → men.last.kind ≡ P →
+        HasStand c false (stand_in first men a b) side passed p → Leads p m q → m.from ≡ b → ¬ Captures p m →
+        (t : ℕ) × IsAdvance men side a b m.promo t × ((d : ℕ) (before flips : Bool) → IsClassAfter before d flips men.one (arriving men.last m.promo) →
+        (r : Setup) × SettlesTo q r × HasStand d flips (stand_after before flips men a (arriving men.last m.promo) t) (other_side side) false r) }
+    ensures comes { (c : ℕ) (men : ShelfMen) (first : Bool) (side : Side) (passed : Bool) (a b : ℕ) (p : Setup) → c < 36 → men.one.kind ≢ K → (men.one.kind ≡ P → men.one.side ≡ side) → men.last.kind ≡ P →
+        HasStand c false (stand_in first men a b) side passed p → (promo : Option Kind) (t : ℕ) → IsAdvance men side a b promo t → (d : ℕ) (before flips : Bool) → IsClassAfter before d flips men.one (arriving men.last promo) →
+        (r : Setup) → HasStand d flips (stand_after before flips men a (arriving men.last promo) t) (other_side side) false r →
+        (m : Move) × (q : Setup) × Leads p m q × SettlesTo q r × IsAdvanceFrom p b promo m }
+{
+    facts();
+    men_beside_are_counted();
+}
+
+/// The greatest scores of the codes after such advances, by the promotion or without one, are those of these moves.
+pub fn codes_after_advances_give_the_advances()
+    ensures { (tables : Tables) (c : ℕ) (men : ShelfMen) (first : Bool) (side : Side) (passed : Bool) (a b : ℕ) (p : Setup) (promo : Option Kind) (t : TableValue) (before flips : Bool) (w : ℕ) → c < 36 →
+        men.one.kind ≢ K → (men.one.kind ≡ P → men.one.side ≡ side) → men.last.kind ≡ P → HasStand c false (stand_in first men a b) side passed p → IsTableAfter tables t before flips men.one (arriving men.last promo) →
+        IsRaised 0 (AreAdvancedCodes t.class before flips men side promo a b) (score_at t Mate) w → AreGiven tables p (IsAdvanceFrom p b promo) w (zeroing_score w) }
+{
+    facts();
+    codes_tell_turned_men();
+    a_code_is_an_index_or_void();
+    advances_lead_to_the_men_after();
+}
+
+/// The captures by which the last man beside the kings, a pawn, is promoted lead to the three men who are left, and to
+/// all positions of them.
+pub fn promoting_captures_lead_to_three_men()
+    ensures goes { (c : ℕ) (men : ShelfMen) (first : Bool) (side : Side) (passed : Bool) (a b : ℕ) (p q : Setup) (m : Move) (kind : Kind) → c < 36 → men.one.kind ≢ K → men.last.kind ≡ P →
+        HasStand c false (stand_in first men a b) side passed p → Leads p m q → m.from ≡ b → IsHeld p.men m.to (other_side p.side) → m.promo ≡ Some kind →
+        IsPromotingCapture men side kind a b × ((d : ℕ) (flips : Bool) → IsClassOf d flips (officer_of side kind) →
+        HasStand d flips (stand_left flips (left_of men (officer_of side kind) a)) (other_side side) false q) }
+    ensures comes { (c : ℕ) (men : ShelfMen) (first : Bool) (side : Side) (passed : Bool) (a b : ℕ) (p : Setup) (kind : Kind) → c < 36 → men.one.kind ≢ K → men.last.kind ≡ P →
+        HasStand c false (stand_in first men a b) side passed p → IsPromotingCapture men side kind a b → (d : ℕ) (flips : Bool) → IsClassOf d flips (officer_of side kind) →
+        (q : Setup) → HasStand d flips (stand_left flips (left_of men (officer_of side kind) a)) (other_side side) false q → (m : Move) × Leads p m q × IsPromotingCaptureFrom p b kind m }
+{
+    facts();
+    stands_follow_moves();
+    men_beside_are_counted();
+}
+
+/// The greatest score of the codes after such captures, by the kind of the promotion, is that of these moves.
+pub fn codes_after_promoting_captures_give_them()
+    ensures { (tables : Tables) (c : ℕ) (men : ShelfMen) (first : Bool) (side : Side) (passed : Bool) (a b : ℕ) (p : Setup) (kind : Kind) (t : TableValue) (flips : Bool) (w : ℕ) → c < 36 →
+        men.one.kind ≢ K → men.last.kind ≡ P → HasStand c false (stand_in first men a b) side passed p → IsTableOf tables t flips (officer_of side kind) →
+        IsRaised 0 (ArePromotedCodes t.class flips men side kind a b) (score_at t Mate) w → AreGiven tables p (IsPromotingCaptureFrom p b kind) w (zeroing_score w) }
+{
+    facts();
+    codes_tell_turned_men();
+    a_code_is_an_index_or_void();
+    promoting_captures_lead_to_three_men();
+}
