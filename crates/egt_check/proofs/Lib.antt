@@ -48,3 +48,4 @@ pub mod AllJudged
 pub mod ToldBytes
 pub mod RowJudged
 pub mod LaneRight
+pub mod AdvanceRaising

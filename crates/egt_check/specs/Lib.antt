@@ -33,3 +33,4 @@ pub mod Takings
 pub mod RightRow
 pub mod MoveScores
 pub mod RightBlock
+pub mod PawnMoves
