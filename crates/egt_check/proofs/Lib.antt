@@ -53,3 +53,4 @@ pub mod PawnAdvances
 pub mod PawnCaptures
 pub mod PartGiven
 pub mod PawnGiven
+pub mod AdvanceRaising

@@ -58,6 +58,20 @@ abbrev pub stand_after : (before flips : Bool) → ShelfMen → (a : ℕ) → Ma
 stand_after false flips men a man t = stand_two flips men (men.one, a) (man, t)
 stand_after true flips men a man t = stand_two flips men (man, t) (men.one, a)
 
+-- the men of that class, these two beside the kings
+abbrev pub men_two : (flips : Bool) → ShelfMen → (one last : Man) → ShelfMen
+men_two flips men one last = record {
+  white = if flips then men.black else men.white;
+  black = if flips then men.white else men.black;
+  one = turned_man flips one;
+  on = men.on;
+  last = turned_man flips last;
+}
+
+abbrev pub men_after : (before flips : Bool) → ShelfMen → Man → ShelfMen
+men_after false flips men man = men_two flips men men.one man
+men_after true flips men man = men_two flips men man men.one
+
 -- the last man, a pawn of that side on b, advances to t, and is promoted so on the last rank
 pub record IsAdvance (men : ShelfMen) (side : Side) (a b : ℕ) (promo : Option Kind) (t : ℕ) : Type 0 where
   pub pawn : men.last.kind ≡ P

@@ -188,21 +188,23 @@ pub(crate) fn settle(equal: bool, sides: bool, own: &mut Block, across: &Block)
     }
 }
 
-/// The scores of the positions with these men, whose squares beside the kings are those of the rows and lanes. False where the table does not tell.
+/// The scores of the positions with these men, in colours exchanged where `flips`, whose squares beside the kings are those of the rows and lanes. False
+/// where the table does not tell.
 pub(crate) fn read_block(
     table: &Table,
     column: Column,
+    flips: bool,
     men: &ShelfMen,
     side: Side,
     out: &mut Block,
 ) -> bool
     requires men { AreMenOf table.now.class men.now }
     requires targets { has_target (material_of table.now.class) ≡ false }
-    ensures { result ≡ true → (a b : ℕ) → a < 64 → b < 64 → IsRead table.now column false (stand_on men.now a b) side (at out.new a b) }
+    ensures { result ≡ true → (a b : ℕ) → a < 64 → b < 64 → IsRead table.now column flips (stand_on men.now a b) side (at out.new a b) }
 {
     *out = nothing();
     let mut across = nothing();
-    if !gather(table, column, men, false, side, out, &mut across) {
+    if !gather(table, column, men, flips, side, out, &mut across) {
         return false;
     }
     settle(are_equal(men), has_equal_sides(table.class()), out, &across);

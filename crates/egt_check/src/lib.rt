@@ -2,6 +2,7 @@
 //! that passed.
 #![tactic(auto)]
 
+pub mod advance_blocks;
 pub mod block_judging;
 pub mod blocks;
 pub mod by_column;

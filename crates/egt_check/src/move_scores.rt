@@ -36,7 +36,7 @@ pub(crate) struct FourMen<'t> {
 }
 
 /// The men beside the kings in the other order.
-fn men_swapped(men: &ShelfMen) -> ShelfMen
+pub(crate) fn men_swapped(men: &ShelfMen) -> ShelfMen
     ensures { result ≡ men_swapped men.now }
 {
     ShelfMen {

@@ -94,7 +94,7 @@ pub(crate) fn quiet_block(
         return true;
     }
     let mut scores = nothing();
-    if !read_block(table, column, men, side.other(), &mut scores) {
+    if !read_block(table, column, false, men, side.other(), &mut scores) {
         return false;
     }
     raise_first(men, side, &scores, out);

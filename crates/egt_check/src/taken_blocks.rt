@@ -36,7 +36,13 @@ pub(crate) fn turned_man(man: Man, flips: bool) -> Man
 }
 
 /// The scores of the positions with the first man alone beside the kings, the other side to move, by his square. False where the table does not tell.
-fn read_left(child: &Table, flips: bool, men: &ShelfMen, side: Side, out: &mut Row) -> bool
+pub(crate) fn read_left(
+    child: &Table,
+    flips: bool,
+    men: &ShelfMen,
+    side: Side,
+    out: &mut Row,
+) -> bool
     requires { IsLoneMan child.now.class (turned_man flips men.now.one) }
     ensures { result ≡ true → (s : ℕ) → s < 64 → IsRead child.now Mate flips (stand_left flips (left_of men.now men.now.one s)) (other_side side) (slice_index out.new s) }
 {
@@ -76,7 +82,7 @@ fn read_beside(child: &Table, flips: bool, men: &ShelfMen, side: Side, out: &mut
 }
 
 /// Raises the scores to those where the first man takes: from the square of the row, on that of the lane.
-fn raise_takes(men: &ShelfMen, scores: &Row, out: &mut Block)
+pub(crate) fn raise_takes(men: &ShelfMen, scores: &Row, out: &mut Block)
     ensures { (a b : ℕ) → a < 64 → b < 64 →
         IsRaised (at out.old a b) (λ t. (t ≡ b) × Reaches (IsPastKings men.now) men.now.one a t) (λ t. slice_index scores.now t) (at out.new a b) }
 {

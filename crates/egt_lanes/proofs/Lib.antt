@@ -10,3 +10,4 @@ pub mod Rays
 pub mod Riding
 pub mod Entries
 pub mod Walking
+pub mod Advancing

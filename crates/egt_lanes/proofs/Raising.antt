@@ -59,3 +59,20 @@ raised_as low v In To f there back h = record {
 
 pub raised_is : (low v w : ℕ) (In : ℕ → Type 0) (f : ℕ → ℕ) → w ≡ v → IsRaised low In f v → IsRaised low In f w
 raised_is low v w In f e h = subst (IsRaised low In f) (sym e) h
+
+-- where those that do not pass were made 0, only those that pass count
+pub raised_among : (low v : ℕ) (In Passes : ℕ → Type 0) (f g : ℕ → ℕ) → ((t : ℕ) → In t → (Passes t × (g t ≡ f t)) ⊎ (¬ Passes t × (g t ≡ 0))) → IsRaised low In g v → IsRaised low (λ t. In t × Passes t) f v
+raised_among low v In Passes f g split h = record {
+  kept = h.kept;
+  above = λ t within. elim (split t within.0) [
+    | inl here ↦ let le = h.above t within.0 in let same = here.1 in omega (arith, le, same)
+    | inr gone ↦ absurd (gone.0 within.1)
+  ];
+  reached = elim h.reached [
+    | inl e ↦ inl e
+    | inr r ↦ elim (split r.0 r.1) [
+      | inl here ↦ inr (r.0, (r.1, here.0), r.2 ∙ here.1)
+      | inr gone ↦ inl (let none = gone.1 in let is = r.2 in let low_in = h.kept in omega (arith, none, is, low_in))
+    ]
+  ];
+}

@@ -51,7 +51,7 @@ ridden_first bits d row to shift = record {
       (one_end bits d row to shift s s_in);
 }
 
-more_ends : (bits : ℕ) (d : Step) (row last kept to : List ℕ) (n : ℕ) → 0 < n
+pub more_ends : (bits : ℕ) (d : Step) (row last kept to : List ℕ) (n : ℕ) → 0 < n
     → ((s : ℕ) → s < 64 → IsRaised 0 (λ t. IsRidden (HasBit bits) n s t d) (λ t. get_or row t 0) (get_or last s 0))
     → ((s : ℕ) → s < 64 → get_or kept s 0 ≡ (if bit_at bits s == 1 then get_or last s 0 else 0))
     → IsShifted d kept to → (s : ℕ) → s < 64 → IsRaised 0 (λ t. IsRidden (HasBit bits) (n + 1) s t d) (λ t. get_or row t 0) (get_or to s 0)

@@ -1,6 +1,7 @@
 //! Rows cut down to sets of squares.
 ghost use Rattle.std.specs.Prelude.{◌≡◌, ◌≢◌, ℕ, ◌<◌, ◌==◌, ◌/◌, ◌%◌, ◌^◌, slice_index, if◌then◌else◌};
 ghost use Rattle.std.specs.Int.{bit_at};
+ghost use Rattle.egt_board.specs.Square.{rank_of};
 
 use crate::row::Row;
 use egt_board::{Square, SquareSet};
@@ -62,5 +63,16 @@ pub fn lanes_of(row: Row) -> SquareSet
 {
     SquareSet {
         bits: row.simd_ne(Row::splat(0)).to_bitmask(),
+    }
+}
+
+/// The squares of the rank, from 0 for the first rank.
+#[inline(always)]
+pub fn rank_squares(rank: u8) -> SquareSet
+    requires { rank < 8 }
+    ensures { (s : ℕ) → s < 64 → bit_at result.bits s ≡ (if rank_of s == rank then 1 else 0) }
+{
+    SquareSet {
+        bits: 255 << (8 * rank),
     }
 }

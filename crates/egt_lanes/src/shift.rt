@@ -1,16 +1,18 @@
 //! Rows moved by the steps of men.
-ghost use Rattle.std.specs.Prelude.{◌≡◌, ℕ, ◌<◌, ◌≤◌, slice_index};
+ghost use Rattle.std.specs.Prelude.{◌≡◌, ℕ, ◌<◌, ◌≤◌, ◌==◌, slice_index, if◌then◌else◌};
 ghost use Rattle.std.specs.Int.{bit_at};
 ghost use Rattle.egt_board.specs.Gait.{OneOf, Reaches, Rides, straight_steps, diagonal_steps, knight_steps};
 ghost use Rattle.egt_board.specs.Gait.{step as the_step};
+ghost use Rattle.egt_board.specs.Pawn.{Advances, forward, home_rank};
+ghost use Rattle.egt_board.specs.Square.{rank_of};
 ghost use Rattle.egt_board.specs.Step.{Away};
 ghost use Rattle.egt_lanes.specs.Moved.{beside, beyond};
 ghost use Rattle.egt_lanes.specs.Pieces.{IsPiece};
 ghost use Rattle.egt_lanes.specs.Raised.{IsRaised};
 
 use crate::row::{Row, greater};
-use crate::sets::kept;
-use egt_board::{Kind, Man, SquareSet, Step, Way};
+use crate::sets::{kept, rank_squares};
+use egt_board::{Kind, Man, Side, SquareSet, Step, Way};
 
 /// Of each square the one one file further right; 64 where there is none.
 const RIGHT: [usize; 64] = [
@@ -214,4 +216,38 @@ pub fn last_man_raised(low: Row, row: Row, free: SquareSet, man: Man) -> Row
         Kind::N => knight_raised(low, row),
         Kind::P | Kind::K => low,
     }
+}
+
+/// One rank forward for that side.
+#[inline(always)]
+fn one_ahead(side: Side) -> Step
+    ensures { result ≡ forward side }
+{
+    match side {
+        Side::White => step(Way::Still, 0, Way::Up, 1),
+        Side::Black => step(Way::Still, 0, Way::Down, 1),
+    }
+}
+
+/// The squares on which that side's pawns begin.
+#[inline(always)]
+fn pawn_homes(side: Side) -> SquareSet
+    ensures { (s : ℕ) → s < 64 → bit_at result.bits s ≡ (if rank_of s == home_rank side then 1 else 0) }
+{
+    match side {
+        Side::White => rank_squares(1),
+        Side::Black => rank_squares(6),
+    }
+}
+
+/// `low` raised at each square by what stands where a pawn of that side advances from there: one square forward, or two
+/// from its original rank, all of them free.
+#[inline(always)]
+pub fn advanced(low: Row, row: Row, free: SquareSet, side: Side) -> Row
+    ensures { (s : ℕ) → s < 64 → IsRaised (slice_index low s) (λ t. Advances (λ u. bit_at free.bits u ≡ 1) side s t) (λ t. slice_index row t) (slice_index result s) }
+{
+    let ahead = one_ahead(side);
+    let near = shifted(kept(row, free), ahead);
+    let far = shifted(kept(near, free), ahead);
+    greater(greater(low, near), kept(far, pawn_homes(side)))
 }

@@ -1,0 +1,210 @@
+//! The scores of the positions after the last man beside the kings, a pawn, advances or is promoted where he takes the first.
+ghost use Rattle.std.specs.Prelude.{◌≡◌, ◌↔◌, ◌<◌, ◌==◌, ℕ, true, false, IfSome, IsTrue, slice_index};
+ghost use Rattle.egt_board.specs.Man.{other_side};
+ghost use Rattle.egt_board.specs.Pawn.{Advances, last_rank, pawn_of};
+ghost use Rattle.egt_board.specs.Square.{rank_of};
+ghost use Rattle.egt_board.specs.SquareSet.{Has};
+ghost use Rattle.egt_board.specs.Turned.{turned_man};
+ghost use Rattle.egt_class.specs.Material.{material_of};
+ghost use Rattle.egt_index.specs.LoneCodes.{IsLoneMan};
+ghost use Rattle.egt_index.specs.ShelfCodes.{AreMenOf};
+ghost use Rattle.egt_index.specs.Size.{has_target};
+ghost use Rattle.egt_lanes.specs.Blocks.{at};
+ghost use Rattle.egt_lanes.specs.Raised.{IsRaised};
+ghost use Rattle.egt_moves.specs.Promotion.{FitsPromotion, IsOfficer, arriving};
+ghost use Rattle.egt_table.specs.declared.column.Column.TheVariants.{Mate};
+ghost use Rattle.egt_check.specs.PawnMoves.{AreAdvancedCodes, ArePromotedCodes, men_after, men_two, officer_of, stand_after};
+ghost use Rattle.egt_check.specs.QuietStands.{IsClear};
+ghost use Rattle.egt_check.specs.Takings.{IsPastKings, left_of, stand_left};
+ghost use Rattle.egt_check.specs.Worth.{IsRead, score_at};
+
+use crate::blocks::{nothing, read_block};
+use crate::move_scores::men_swapped;
+use crate::own_men::is_of;
+use crate::quiet_blocks::kings_of;
+use crate::taken_blocks::{raise_takes, read_left, turned_man};
+use egt_board::{Kind, Man, Side, Square, SquareSet};
+use egt_index::ShelfMen;
+use egt_lanes::block::raise_transposed;
+use egt_lanes::sets::{kept, rank_squares};
+use egt_lanes::shift::advanced;
+use egt_lanes::{Block, Row};
+use egt_table::{Column, Table};
+use std::simd::prelude::*;
+
+/// Whether the man is a pawn of that side.
+fn is_pawn_of(man: Man, side: Side) -> bool
+    ensures { IsTrue result ↔ (man ≡ pawn_of side) }
+{
+    man == side.pawn()
+}
+
+/// The man himself, or what he is promoted to.
+fn arriving(man: Man, promo: Option<Kind>) -> Man
+    ensures { result ≡ arriving man promo }
+{
+    match promo {
+        Some(kind) => Man {
+            side: man.side,
+            kind,
+        },
+        None => man,
+    }
+}
+
+/// These two beside the kings, in colours exchanged where `flips`.
+fn men_two(flips: bool, men: &ShelfMen, one: Man, last: Man) -> ShelfMen
+    ensures { result ≡ men_two flips men.now one last }
+{
+    ShelfMen {
+        white: if flips { men.black } else { men.white },
+        black: if flips { men.white } else { men.black },
+        one: turned_man(one, flips),
+        on: men.on,
+        last: turned_man(last, flips),
+    }
+}
+
+/// The men where the last one is now this man, whom the class names before the first where `before`.
+fn men_after(before: bool, flips: bool, men: &ShelfMen, man: Man) -> ShelfMen
+    ensures { result ≡ men_after before flips men.now man }
+{
+    if before {
+        men_two(flips, men, man, men.one)
+    } else {
+        men_two(flips, men, men.one, man)
+    }
+}
+
+/// The squares on which that side's pawn arrives: on its last rank where he is promoted, else on the others.
+fn arrivals(promo: Option<Kind>, side: Side) -> SquareSet
+    requires { IfSome promo IsOfficer }
+    ensures { (t : ℕ) → t < 64 → Has result t ↔ FitsPromotion (rank_of t == last_rank side) promo }
+{
+    let last = rank_squares(side.last_rank());
+    match promo {
+        Some(_kind) => last,
+        None => SquareSet::ALL.without(last),
+    }
+}
+
+/// The squares on which no king stands.
+fn past_kings(men: &ShelfMen) -> SquareSet
+    ensures { (u : ℕ) → u < 64 → Has result u ↔ IsPastKings men.now u }
+{
+    SquareSet::ALL.without(kings_of(men))
+}
+
+/// The scores of the positions where the last man is now this one, the other side to move: by the first one's square and his. False where the table does
+/// not tell.
+fn read_after(
+    child: &Table,
+    before: bool,
+    flips: bool,
+    men: &ShelfMen,
+    man: Man,
+    side: Side,
+    out: &mut Block,
+) -> bool
+    requires men { AreMenOf child.now.class (men_after before flips men.now man) }
+    requires targets { has_target (material_of child.now.class) ≡ false }
+    ensures { result ≡ true → (a t : ℕ) → a < 64 → t < 64 → IsRead child.now Mate flips (stand_after before flips men.now a man t) (other_side side) (at out.new a t) }
+{
+    let after = men_after(before, flips, men, man);
+    if !before {
+        return read_block(child, Column::Mate, flips, &after, side.other(), out);
+    }
+    let mut scores = nothing();
+    if !read_block(
+        child,
+        Column::Mate,
+        flips,
+        &after,
+        side.other(),
+        &mut scores,
+    ) {
+        return false;
+    }
+    *out = nothing();
+    raise_transposed(out, &scores);
+    true
+}
+
+/// Raises each row to the scores where the last man, a pawn of that side, advances to one of these squares.
+fn raise_advances(men: &ShelfMen, arrivals: SquareSet, side: Side, scores: &Block, out: &mut Block)
+    ensures { (a b : ℕ) → a < 64 → b < 64 →
+        IsRaised (at out.old a b) (λ t. Advances (IsClear men.now a) side b t × Has arrivals t) (λ t. at scores.now a t) (at out.new a b) }
+{
+    let open = past_kings(men);
+    for a in 0..64u8 {
+        let row = a as usize;
+        let free = open.less(Square::at(a));
+        out[row] = advanced(out[row], kept(scores[row], arrivals), free, side);
+    }
+}
+
+/// The scores of the positions after the last man, a pawn of that side, advanced, and was promoted so on the last rank. False where the table does not tell.
+pub(crate) fn advance_block(
+    child: &Table,
+    before: bool,
+    flips: bool,
+    men: &ShelfMen,
+    promo: Option<Kind>,
+    side: Side,
+    out: &mut Block,
+) -> bool
+    requires men { AreMenOf child.now.class (men_after before flips men.now (arriving men.now.last promo)) }
+    requires targets { has_target (material_of child.now.class) ≡ false }
+    requires promo { IfSome promo IsOfficer }
+    ensures { result ≡ true → (a b : ℕ) → a < 64 → b < 64 →
+        IsRaised 0 (AreAdvancedCodes child.now.class before flips men.now side promo a b) (score_at child.now Mate) (at out.new a b) }
+{
+    *out = nothing();
+    if !is_pawn_of(men.last, side) {
+        return true;
+    }
+    let man = arriving(men.last, promo);
+    let mut scores = nothing();
+    if !read_after(child, before, flips, men, man, side, &mut scores) {
+        return false;
+    }
+    raise_advances(men, arrivals(promo, side), side, &scores, out);
+    true
+}
+
+/// The scores of the positions after the last man, a pawn of that side, took the first on the last rank and was promoted so. False where the table does
+/// not tell.
+pub(crate) fn promoting_block(
+    child: &Table,
+    flips: bool,
+    men: &ShelfMen,
+    kind: Kind,
+    side: Side,
+    out: &mut Block,
+) -> bool
+    requires lone { IsLoneMan child.now.class (turned_man flips (officer_of side kind)) }
+    requires officer { IsOfficer kind }
+    ensures { result ≡ true → (a b : ℕ) → a < 64 → b < 64 →
+        IsRaised 0 (ArePromotedCodes child.now.class flips men.now side kind a b) (score_at child.now Mate) (at out.new a b) }
+{
+    *out = nothing();
+    if !is_pawn_of(men.last, side) || !is_of(men.one, side.other()) {
+        return true;
+    }
+    let promoted = ShelfMen {
+        white: men.white,
+        black: men.black,
+        one: Man { side, kind },
+        on: men.on,
+        last: men.last,
+    };
+    let mut scores = Row::splat(0);
+    if !read_left(child, flips, &promoted, side, &mut scores) {
+        return false;
+    }
+    let arrived = kept(scores, rank_squares(side.last_rank()));
+    let mut takes = nothing();
+    raise_takes(&men_swapped(men), &arrived, &mut takes);
+    raise_transposed(out, &takes);
+    true
+}
