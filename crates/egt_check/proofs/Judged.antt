@@ -1,9 +1,7 @@
 -- One index more is judged.
-use Rattle.std.proofs.Common.{◌≡◌, ℕ, ◌+◌, ◌/◌, ◌%◌, Bool, true, false, cond, ◌<◌, ◌≤◌, inl, inr, Option, Some, None, subst, arith}
+use Rattle.std.proofs.Common.{◌≡◌, ℕ, ◌+◌, ◌<◌, ◌≤◌, inl, inr, Option, Some, None, subst, arith}
 use Rattle.std.proofs.lemmas.Bool.{cases_lt}
-use Rattle.egt_class.specs.Material.{material_of}
-use Rattle.egt_index.specs.Row.{row_len}
-use Rattle.egt_index.specs.Size.{has_target, size_of}
+use Rattle.egt_index.specs.Size.{size_of}
 use Rattle.egt_table.specs.declared.column.Column.{Column}
 use Rattle.egt_table.specs.declared.column.Column.TheVariants.{Mate, Zeroing}
 use Rattle.egt_table.specs.Table.{TableValue}
@@ -11,30 +9,6 @@ use Rattle.egt_check.specs.declared.rule.Rule.{Rule}
 use Rattle.egt_check.specs.FirstBad.{earlier, IsFirstBad}
 use Rattle.egt_check.specs.Rules.{Keeps, IsJudged, KeepsBelow, KeepsRules}
 use Rattle.egt_check.specs.Tables.{Tables}
-
--- the row of each index from the first of the row on
-pub same_row : (c first n : ℕ) → first % row_len c ≡ 0 → first ≤ n → n < first + row_len c → first / row_len c ≡ n / row_len c
-same_row c first n begins from below = of_targets (has_target (material_of c)) begins below
-  where
-    of_targets : (targets : Bool) → first % cond {A = ℕ} targets 4 2 ≡ 0 → n < first + cond {A = ℕ} targets 4 2 → first / cond {A = ℕ} targets 4 2 ≡ n / cond {A = ℕ} targets 4 2
-    of_targets true begins below = omega (arith, begins, from, below)
-    of_targets false begins below = omega (arith, begins, from, below)
-
--- the next row begins
-pub next_begins : (c first : ℕ) → first % row_len c ≡ 0 → (first + row_len c) % row_len c ≡ 0
-next_begins c first begins = of_targets (has_target (material_of c)) begins
-  where
-    of_targets : (targets : Bool) → first % cond {A = ℕ} targets 4 2 ≡ 0 → (first + cond {A = ℕ} targets 4 2) % cond {A = ℕ} targets 4 2 ≡ 0
-    of_targets true begins = omega (arith, begins)
-    of_targets false begins = omega (arith, begins)
-
--- and a row that begins below the end of whole rows ends there too
-pub row_within : (c first size : ℕ) → first % row_len c ≡ 0 → size % row_len c ≡ 0 → first < size → first + row_len c ≤ size
-row_within c first size begins whole below = of_targets (has_target (material_of c)) begins whole
-  where
-    of_targets : (targets : Bool) → first % cond {A = ℕ} targets 4 2 ≡ 0 → size % cond {A = ℕ} targets 4 2 ≡ 0 → first + cond {A = ℕ} targets 4 2 ≤ size
-    of_targets true begins whole = omega (arith, begins, whole, below)
-    of_targets false begins whole = omega (arith, begins, whole, below)
 
 module _ (tables : Tables) (t : TableValue) where
   pub keeps_more : (column : Column) (n : ℕ) → KeepsBelow tables t column n → IsJudged tables t column n None → KeepsBelow tables t column (n + 1)

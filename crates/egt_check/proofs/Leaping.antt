@@ -1,43 +1,22 @@
 -- A pawn's advance where no position of the class has a target: the position after it settles to the one without its target, whose index it has.
-use Rattle.std.proofs.Common.{◌≡◌, ◌⊎◌, ℕ, ◌+◌, ◌-◌, ◌*◌, ◌/◌, ◌%◌, ◌<◌, ◌≤◌, ◌==◌, ◌&&◌, if◌then◌else◌, Bool, true, false, Option, Some, None, refl, sym, ap, ◌∙◌, subst, inl, inr, arith}
+use Rattle.std.proofs.Common.{◌≡◌, ◌⊎◌, ℕ, ◌+◌, ◌-◌, ◌*◌, ◌/◌, ◌%◌, ◌<◌, ◌≤◌, ◌==◌, ◌&&◌, if◌then◌else◌, Bool, true, false, Option, Some, None, refl, sym, subst, inl, inr, arith}
 use Rattle.std.specs.Option.{IfSome}
-use Rattle.std.specs.FinMap as map
 use Rattle.std.proofs.lemmas.Bool.{cases_eq}
 use Rattle.std.proofs.lemmas.Bool.Decides.{eqb_tells}
 use Rattle.egt_board.specs.Man.{other_side}
 use Rattle.egt_board.specs.Pawn.{ahead, home_rank, pawn_of, Advances, HasPawnBeside}
-use Rattle.egt_board.specs.Placement.{Placement, IsFree, Stands, get-insert_same, one_man}
+use Rattle.egt_board.specs.Placement.{Stands}
 use Rattle.egt_board.specs.Settled.{SettlesTo, untargeted}
-use Rattle.egt_board.specs.Setup.{Setup, IsAdmissible}
+use Rattle.egt_board.specs.Setup.{Setup}
 use Rattle.egt_board.specs.Square.{rank_of}
-use Rattle.egt_board.specs.declared.man.Kind.TheVariants.{P}
-use Rattle.egt_board.specs.declared.man.Man.{Man}
 use Rattle.egt_board.specs.declared.man.Side.{Side}
 use Rattle.egt_board.specs.declared.man.Side.TheVariants.{White, Black}
-use Rattle.egt_class.specs.Material.{material_of}
-use Rattle.egt_class.specs.Membership.{IsOf}
-use Rattle.egt_index.specs.Frame.{IsMoved}
 use Rattle.egt_index.specs.Index.{IsIndex}
-use Rattle.egt_index.specs.Size.{has_target}
-use Rattle.egt_moves.specs.Exchange.{Captures}
-use Rattle.egt_moves.specs.Legal.{Leads, is_target, men_after, plain, takes_in_passing}
-use Rattle.egt_moves.specs.Promotion.{is_pawn}
-use Rattle.egt_check.specs.Facts.{Facts}
 use Rattle.egt_check.specs.Pusher.{IsTwoAhead}
-use Rattle.egt_check.proofs.Still.{KeepsClass}
-
--- the law that not both sides have pawns where no position of the class has a target
-abbrev pub PawnsOfOneSide : Type 0
-PawnsOfOneSide = (c : ℕ) (flipped : Bool) (p : Setup) → IsAdmissible p → IsOf c flipped p → has_target (material_of c) ≡ false → (side : Side) (s t : ℕ) → Stands p.men s (pawn_of side) → ¬ Stands p.men t (pawn_of (other_side side))
 
 pub and_false : (a b : Bool) → b ≡ false → (a && b) ≡ false
 and_false true b e = e
 and_false false b e = refl
-
--- no square is the target where there is none
-pub no_target_on : (target : Option ℕ) (t : ℕ) → target ≡ None → is_target target t ≡ false
-no_target_on None t none = refl
-no_target_on (Some s) t none = absurd (let some = none in cc)
 
 -- ---- which advances are by two
 
@@ -180,58 +159,3 @@ settles_bare q pawnless = by q.target refl
     by : (o : Option ℕ) → q.target ≡ o → SettlesTo q (untargeted q)
     by None e = inl (subst Ready (sym e) tt, λ i. record { men = q.men; side = q.side; target = sym e i })
     by (Some t) e = inr (λ settled. let beside : Ready (Some t) = subst Ready e settled in pawnless beside.square beside.stands, refl)
-
-module _ (facts : Facts) (keeps : KeepsClass) (pawns : PawnsOfOneSide) (c : ℕ) (never : has_target (material_of c) ≡ false) (p q : Setup) (from t : ℕ) (man : Man) (ok : IsAdmissible p) (flipped : Bool) (of : IsOf c flipped p)
-    (stands : Stands p.men from man) (pawn : man.kind ≡ P) (mine : man.side ≡ p.side) (none : p.target ≡ None) (free : IsFree p.men t) (leads : Leads p (plain from t) q) where
-  fine : IsAdmissible q
-  fine = facts.step_admissible p q (plain from t) ok leads
-
-  no_capture : ¬ Captures p (plain from t)
-  no_capture captures = elim captures [
-    | inl held ↦ let both : Some held.man ≡ None = sym held.stands ∙ free in cc
-    | inr passing ↦ let both = passing.1 in cc
-  ]
-
-  class : (turned : Bool) → IsOf c turned p → IsOf c turned q
-  class turned is_of = keeps p q (plain from t) c turned ok is_of leads no_capture refl
-
-  takes_none : takes_in_passing p man t ≡ false
-  takes_none = and_false (is_pawn man.kind) (is_target p.target t) (no_target_on p.target t none)
-
-  men : q.men ≡ map.insert (map.remove p.men from) t man
-  men =
-      ap (λ (s : Setup). s.men) leads.becomes
-      ∙ ap (λ (x : Man). men_after p x (plain from t)) (one_man p.men from leads.man man leads.stands stands)
-      ∙ ap (λ b. map.insert (map.remove (if b then map.remove p.men (ahead (other_side p.side) t) else p.men) from) t man) takes_none
-
-  side : q.side ≡ other_side p.side
-  side = ap (λ (s : Setup). s.side) leads.becomes
-
-  there : Stands q.men t man
-  there = ap (λ (placed : Placement). map.get placed t) men ∙ get-insert_same (map.remove p.men from) t man t refl
-
-  pawn_there : Stands q.men t (pawn_of p.side)
-  pawn_there = subst (λ (x : Man). Stands q.men t x) (λ i. record { side = mine i; kind = pawn i }) there
-
-  pawnless : (s : ℕ) → ¬ Stands q.men s (pawn_of q.side)
-  pawnless s other = pawns c flipped q fine (class flipped of) never p.side t s pawn_there (subst (λ (x : Side). Stands q.men s (pawn_of x)) side other)
-
-  pub bare : SettlesTo q (untargeted q)
-  bare = settles_bare q pawnless
-
-  pub moved : IsMoved c p from t (untargeted q)
-  moved = record {
-    man = man;
-    stands = stands;
-    free = free;
-    on_board = fine.on_board t man there;
-    men = men;
-    side = side;
-    target = refl;
-    admissible = facts.settled_admissible q (untargeted q) fine bare;
-    class = λ turned is_of. (facts.settled_class q (untargeted q) c turned bare).0 (class turned is_of);
-  }
-
-  -- it has the index of the position after the pawn went, without a target
-  pub leads_to_index : (i : ℕ) → ((r : Setup) → IsMoved c p from t r → IsIndex c r i) → IsIndex c q i
-  leads_to_index i index = settled_index c i q (untargeted q) bare refl (index (untargeted q) moved)

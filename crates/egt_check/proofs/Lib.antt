@@ -12,24 +12,13 @@ pub mod Shelving
 pub mod Still
 pub mod Raising
 mod Scoring
-mod ScoreTable
-mod Peaks
-mod Uniformity
 mod Marks
-mod Men
-pub mod Passing
 pub mod Fanned
 pub mod Spreading
 pub mod Attacking
-mod Roaming
-pub mod QuietBest
-pub mod QuietWays
 pub mod Leaping
 pub mod Pushing
-mod Spreads
-pub mod ShelfBest
 mod ShelfJudged
-mod ToldBest
 pub mod Worth
 pub mod RowRead
 pub mod LoneRead

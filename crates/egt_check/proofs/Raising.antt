@@ -1,13 +1,9 @@
 -- The best score grows move by move.
-use Rattle.std.proofs.Common.{◌≡◌, ◌≢◌, ℕ, ◌+◌, ◌<◌, ◌≤◌, ◌⊎◌, max, List, get_or, length, Option, Some, None, IfSome, refl, sym, ap, subst, ◌∙◌, inl, inr, arith}
+use Rattle.std.proofs.Common.{◌≡◌, ℕ, ◌+◌, ◌<◌, ◌≤◌, ◌⊎◌, max, List, get_or, length, Option, Some, None, IfSome, refl, sym, ap, subst, ◌∙◌, inl, inr, arith}
 use Rattle.std.specs.Option.{IfNone}
-use Rattle.std.specs.Int.{bit_at}
 use Rattle.std.specs.List.{Contains}
-use Rattle.std.proofs.lemmas.Bool.{cases_eq, cases_lt}
+use Rattle.std.proofs.lemmas.Bool.{cases_lt}
 use Rattle.std.proofs.lemmas.List.{get_or_default}
-use Rattle.egt_board.specs.SquareSet.{Has}
-use Rattle.egt_board.specs.declared.man.Kind.{Kind}
-use Rattle.egt_board.specs.declared.square_set.SquareSet.{SquareSet}
 use Rattle.egt_board.specs.Setup.{Setup}
 use Rattle.egt_moves.specs.Arena.{NoMove}
 use Rattle.egt_moves.specs.Chess.{chess}
@@ -114,79 +110,36 @@ module _ (shows : Shown) (p : Setup) (Among : Move → Type 0) (all : (m : Move)
   none_found (Some found) raised = tt
   none_found None raised = none_raised shows Mate p Among (raised Mate) all
 
--- a square that is still left was left before
-pub still_there : (rest left : SquareSet) (s : ℕ) → bit_at left.bits s ≡ 0 → ((t : ℕ) → t ≢ s → bit_at left.bits t ≡ bit_at rest.bits t) → (t : ℕ) → Has left t → Has rest t
-still_there rest left s gone others t has = elim (cases_eq t s) [
-  | inl same ↦ absurd (let none = ap (bit_at left.bits) same ∙ gone in omega (arith, has, none))
-  | inr other ↦ sym (others t other) ∙ has
-]
-
--- a column's best after a move with this score
-pub raised_of : (shows : Shown) (column : Column) (p : Setup) (m : Move) (old new : Option ℕ) (score : ℕ) → new ≡ Some (greater old score) → IsLegal p m
-    → ((q : Setup) (leads : Leads p m q) → Scores shows column p q (m, leads) score) → IsRaised shows column p (λ x. x ≡ m) old new
-raised_of shows column p m old new score is legal scored = subst (IsRaised shows column p (λ x. x ≡ m) old) (sym is) (raised_by_one shows column p m old score legal scored)
-
 -- a column's best after a move with these scores
 pub raised_is : (shows : Shown) (column : Column) (p : Setup) (m : Move) (old : Option ByColumn) (scores result : ByColumn) → number_at result column ≡ greater (column_of column old) (number_at scores column) → IsLegal p m
     → ((q : Setup) (leads : Leads p m q) → Scores shows column p q (m, leads) (number_at scores column)) → IsRaised shows column p (λ x. x ≡ m) (column_of column old) (column_of column (Some result))
 raised_is shows column p m old scores result is legal scored =
     subst (IsRaised shows column p (λ x. x ≡ m) (column_of column old)) (ap Some (sym is)) (raised_by_one shows column p m (column_of column old) (number_at scores column) legal scored)
 
--- scores that are the same are raised alike
-pub raised_same : (shows : Shown) (p : Setup) (Among : Move → Type 0) (old before new after : Option ByColumn) → old ≡ before → new ≡ after → AreRaised shows p Among old new → AreRaised shows p Among before after
-raised_same shows p Among old before new after first then raised = subst (λ o. AreRaised shows p Among o after) first (subst (λ o. AreRaised shows p Among old o) then raised)
-
--- moves whose squares are no longer left in a set
-module _ (shows : Shown) (p : Setup) (place : Move → ℕ) (Base : Move → Type 0) where
-  abbrev pub Gone : SquareSet → Move → Type 0
-  Gone rest m = Base m × (bit_at rest.bits (place m) ≡ 0)
-
-  pub gone_none : (rest : SquareSet) (old : Option ByColumn) → ((m : Move) → IsLegal p m → Base m → Has rest (place m)) → AreRaised shows p (Gone rest) old old
-  gone_none rest old there = λ column. raised_by_none shows column p (Gone rest) (column_of column old) (λ m legal gone. let has = there m legal gone.0 in omega (arith, has, gone.1))
-
-  pub gone_more : (rest left : SquareSet) (s : ℕ) (B : Move → Type 0) (old mid new : Option ByColumn) → ((t : ℕ) → t ≢ s → bit_at left.bits t ≡ bit_at rest.bits t)
-      → AreRaised shows p (Gone rest) old mid → AreRaised shows p B mid new → ((m : Move) → IsLegal p m → Base m → place m ≡ s → B m) → AreRaised shows p (Gone left) old new
-  gone_more rest left s B old mid new others first then covers = λ column.
-      raised_by_both shows column p (Gone rest) B (Gone left) (column_of column old) (column_of column mid) (column_of column new) (first column) (then column)
-      (λ m legal gone. elim (cases_eq (place m) s) [
-        | inl here ↦ inr (covers m legal gone.0 here)
-        | inr other ↦ inl (gone.0, sym (others (place m) other) ∙ gone.1)
-      ])
-
-  pub gone_all : (rest : SquareSet) (old new : Option ByColumn) → ((t : ℕ) → bit_at rest.bits t ≡ 0) → AreRaised shows p (Gone rest) old new → AreRaised shows p Base old new
-  gone_all rest old new empty raised = λ column.
-      raised_alike shows column p (Gone rest) Base (column_of column old) (column_of column new) (raised column) (λ m legal base. (base, empty (place m)))
-
--- moves whose promotions are among the first of a list
-module _ (shows : Shown) (p : Setup) (from to : ℕ) (promos : List (Option Kind)) where
+-- moves that are among the first of a list
+module _ (shows : Shown) (p : Setup) (moves : List Move) where
   abbrev pub Tried : ℕ → Move → Type 0
-  Tried n m = (m.from ≡ from) × (m.to ≡ to) × ((k : ℕ) × (k < n) × (get_or promos k m.promo ≡ m.promo))
+  Tried n m = (k : ℕ) × (k < n) × (get_or moves k m ≡ m)
 
   pub tried_none : (old : Option ByColumn) → AreRaised shows p (Tried 0) old old
-  tried_none old = λ column. raised_by_none shows column p (Tried 0) (column_of column old) (λ m legal tried. let lt = tried.2.1 in omega (arith, lt))
+  tried_none old = λ column. raised_by_none shows column p (Tried 0) (column_of column old) (λ m legal tried. let lt = tried.1 in omega (arith, lt))
 
-  pub tried_more : (n : ℕ) (promo : Option Kind) (old mid new : Option ByColumn) → n < length promos → promo ≡ get_or promos n promo → AreRaised shows p (Tried n) old mid
-      → AreRaised shows p (λ m. m ≡ record { from = from; to = to; promo = promo }) mid new → AreRaised shows p (Tried (n + 1)) old new
-  tried_more n promo old mid new inside here first then = λ column.
-      raised_by_both shows column p (Tried n) (λ m. m ≡ record { from = from; to = to; promo = promo }) (Tried (n + 1)) (column_of column old) (column_of column mid) (column_of column new) (first column) (then column)
-      (λ m legal tried. let lt = tried.2.1 in elim (cases_lt tried.2.0 n) [
-        | inl below ↦ inl (tried.0, tried.1, (tried.2.0, below, tried.2.2))
+  pub tried_more : (n : ℕ) (tried : Move) (old mid new : Option ByColumn) → n < length moves → tried ≡ get_or moves n tried → AreRaised shows p (Tried n) old mid
+      → AreRaised shows p (λ m. m ≡ tried) mid new → AreRaised shows p (Tried (n + 1)) old new
+  tried_more n tried old mid new inside here first then = λ column.
+      raised_by_both shows column p (Tried n) (λ m. m ≡ tried) (Tried (n + 1)) (column_of column old) (column_of column mid) (column_of column new) (first column) (then column)
+      (λ m legal among. let lt = among.1 in elim (cases_lt among.0 n) [
+        | inl below ↦ inl (among.0, below, among.2)
         | inr ge ↦
-            let last : tried.2.0 ≡ n = omega (arith, lt, ge) in
-            let same : promo ≡ m.promo = here ∙ get_or_default promos n promo m.promo inside ∙ subst (λ j. get_or promos j m.promo ≡ m.promo) last tried.2.2 in
-            inr (same_move m tried.0 tried.1 same)
+            let last : among.0 ≡ n = omega (arith, lt, ge) in
+            inr (sym (here ∙ get_or_default moves n tried m inside ∙ subst (λ j. get_or moves j m ≡ m) last among.2))
       ])
-    where
-      same_move : (m : Move) → m.from ≡ from → m.to ≡ to → promo ≡ m.promo → m ≡ record { from = from; to = to; promo = promo }
-      same_move m f t e = λ i. record { from = f i; to = t i; promo = sym e i }
 
-  pub tried_all : (n : ℕ) (old new : Option ByColumn) → length promos ≤ n → ((promo : Option Kind) → IsLegal p (record { from = from; to = to; promo = promo }) → Contains promos promo)
-      → AreRaised shows p (Tried n) old new → AreRaised shows p (λ m. (m.from ≡ from) × (m.to ≡ to)) old new
+  pub tried_all : (n : ℕ) (old new : Option ByColumn) → length moves ≤ n → ((m : Move) → IsLegal p m → Contains moves m) → AreRaised shows p (Tried n) old new → AreRaised shows p (λ m. Unit {0}) old new
   tried_all n old new all listed raised = λ column.
-      raised_alike shows column p (Tried n) (λ m. (m.from ≡ from) × (m.to ≡ to)) (column_of column old) (column_of column new) (raised column) (λ m legal at.
-      let there = listed m.promo (subst (IsLegal p) (λ i. record { from = at.0 i; to = at.1 i; promo = m.promo }) legal) in
-      (at.0, at.1, (there.0, omega (arith, there.1, all), there.2)))
+      raised_alike shows column p (Tried n) (λ m. Unit {0}) (column_of column old) (column_of column new) (raised column) (λ m legal at.
+      let there = listed m legal in (there.0, omega (arith, there.1, all), there.2))
 
-  -- each of the list is
-  pub listed_there : (n : ℕ) (promo : Option Kind) → n < length promos → promo ≡ get_or promos n None → Contains promos promo
-  listed_there n promo inside is = (n, inside, get_or_default promos n promo None inside ∙ sym is)
+-- each of a list is in it
+pub listed_there : (moves : List Move) (n : ℕ) (m : Move) → n < length moves → m ≡ get_or moves n m → Contains moves m
+listed_there moves n m inside is = (n, inside, sym is)

@@ -1,5 +1,5 @@
 -- What a legal move says, by the entries of its successor.
-use Rattle.std.proofs.Common.{◌≡◌, ◌↔◌, Bool, IsTrue, IfSome, Option, subst}
+use Rattle.std.proofs.Common.{◌≡◌, ◌↔◌, Bool, IsTrue, Option, subst}
 use Rattle.egt_board.specs.Setup.{Setup, IsAdmissible}
 use Rattle.egt_moves.specs.declared.chess_move.Move.{Move}
 use Rattle.egt_moves.specs.Chess.{Zeroes}
@@ -10,9 +10,9 @@ use Rattle.egt_table.specs.declared.column.Column.TheVariants.{Mate, Zeroing}
 use Rattle.egt_check.specs.declared.by_column.ByColumn.{ByColumn}
 use Rattle.egt_check.specs.declared.outcome.Outcome.{Outcome}
 use Rattle.egt_check.specs.Facts.{Facts}
-use Rattle.egt_check.specs.Score.{number_at, IsShownBy, IsCounted, IsSaid, score_of, Scores, zeroing_said}
+use Rattle.egt_check.specs.Score.{number_at, IsShownBy, IsSaid, score_of, Scores, zeroing_said}
 use Rattle.egt_check.specs.Tables.{Tables, HasEntry, ShowsOf}
-use Rattle.egt_check.proofs.Due.{mate_said, zeroing_is_said, said_counted}
+use Rattle.egt_check.proofs.Due.{mate_said, zeroing_is_said}
 use Rattle.egt_check.proofs.Showing.{one_shown, shown_of}
 
 -- the entries of the position that the move leads to, what they show, and whether the move zeroes
@@ -45,10 +45,6 @@ module _ (facts : Facts) (tables : Tables) (p : Setup) (ok : IsAdmissible p) (m 
           zeroing_is_said (ShowsOf tables) p q (m, leads) (one_shown facts tables q fine) mate zeroing zeroes
           (shown_of facts tables q fine Mate entries.mate mate (has Mate) seen.mate_shown)
           (shown_of facts tables q fine Zeroing entries.zeroing zeroing (has Zeroing) seen.zeroing_shown) seen.zeroes_is
-
-  -- its number has room
-  pub counted_by : (column : Column) → IfSome (said_in column mate zeroing zeroes) IsCounted
-  counted_by column = said_counted (ShowsOf tables) column p seen.next (m, seen.leads) (said_in column mate zeroing zeroes) (said_by column seen.next seen.leads)
 
   -- so the move has these scores
   pub scores_by : (scores : ByColumn) → scores.mate ≡ score_of mate → scores.zeroing ≡ score_of (zeroing_said mate zeroing zeroes) → (column : Column) (q : Setup) (leads : Leads p m q) → Scores (ShowsOf tables) column p q (m, leads) (number_at scores column)

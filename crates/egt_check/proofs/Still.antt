@@ -1,5 +1,5 @@
 -- A move that does not zero takes one man to a free square, and changes nothing else on the board.
-use Rattle.std.proofs.Common.{◌≡◌, ◌≢◌, ℕ, ◌+◌, ◌/◌, if◌then◌else◌, ◌==◌, ◌&&◌, Bool, true, false, Option, Some, None, IfSome, refl, ap, ◌∙◌, inl, inr, ◌⊎◌, subst, sym, ◌||◌, ◌<◌, arith}
+use Rattle.std.proofs.Common.{◌≡◌, ◌≢◌, ℕ, ◌+◌, ◌/◌, if◌then◌else◌, ◌==◌, ◌&&◌, Bool, true, false, Option, Some, None, refl, ap, ◌∙◌, inl, inr, ◌⊎◌, subst, ◌||◌, ◌<◌, arith}
 use Rattle.std.specs.FinMap as map
 use Rattle.egt_board.specs.declared.man.Side.{Side}
 use Rattle.egt_board.specs.declared.man.Side.TheVariants.{White, Black}
@@ -20,8 +20,7 @@ use Rattle.egt_moves.specs.Legal.{Leads, men_left, is_target, is_two_ranks, IsLe
 use Rattle.egt_moves.specs.Promotion.{is_pawn, FitsPromotion}
 use Rattle.egt_moves.specs.declared.chess_move.Move.{Move}
 use Rattle.egt_moves.specs.Targets.{IsLegalTarget}
-use Rattle.egt_check.specs.Steps.{IsCapture, IsQuietTarget}
-use Rattle.egt_board.specs.Target.{IsTarget}
+use Rattle.egt_check.specs.Steps.{IsQuietTarget}
 use Rattle.std.proofs.lemmas.Bool.Decides.{eqb_tells}
 
 -- the law on moves that keep the class
@@ -108,18 +107,6 @@ module _ (p : Setup) (from t : ℕ) (man : Man) (stands : Stands p.men from man)
   piece_plain : man.kind ≢ P → (m : Move) → m.from ≡ from → m.to ≡ t → IsLegal p m → m.promo ≡ None
   piece_plain piece m is to legal = piece_promo p legal.0 m legal.1 (λ pawn. piece (ap (λ (x : Man). x.kind) (man_is legal.0 m is legal.1) ∙ pawn))
 
-  -- a piece's move to a square where an enemy stands
-  pub capture_piece : IsAdmissible p → man.kind ≢ P → IsHeld p.men t (other_side p.side) → IsLegalTarget p from t → IsCapture p from t
-  capture_piece ok piece held target = record {
-    legal = plain_legal (piece_plain piece) target;
-    only = λ m is to legal. same_move m is to (piece_plain piece m is to legal);
-    zeroes = inl held;
-    told = λ q leads. (
-      λ is. let empty = (subst (λ o. IfSome o (IsTarget p.men p.side)) is ok.target).empty in absurd (let none = sym held.stands ∙ empty in cc),
-      ap (λ (s : Setup). s.target) leads.becomes ∙ piece_unpassed leads.man from t (λ pawn. piece (ap (λ (x : Man). x.kind) (man_is q (plain from t) refl leads) ∙ pawn)),
-    );
-  }
-
   -- a piece's move to a square where no enemy stands
   pub quiet_piece : man.kind ≢ P → ¬ IsHeld p.men t (other_side p.side) → IsLegalTarget p from t → IsQuietTarget p false from t
   quiet_piece piece free target = record {
@@ -135,30 +122,6 @@ module _ (p : Setup) (from t : ℕ) (man : Man) (stands : Stands p.men from man)
     where
       no_pawn_here : IsPawnOn p.men from → man.kind ≡ P
       no_pawn_here pawn = ap (λ (x : Man). x.kind) (one_man p.men from man pawn.man stands pawn.stands) ∙ pawn.pawn
-
-  -- a pawn's step to the next square, not its last, where no enemy stands and which is not the target
-  pub quiet_pawn : man.kind ≡ P → ¬ IsHeld p.men t (other_side p.side) → p.target ≢ Some t → rank_of t ≢ last_rank man.side → is_two_ranks from t ≡ false → IsLegalTarget p from t → IsQuietTarget p true from t
-  quiet_pawn pawn free other last near target = record {
-    legal = plain_legal promo_none target;
-    only = λ m is to legal. same_move m is to (promo_none m is to legal);
-    quiet = λ captures. elim captures [
-      | inl held ↦ free held
-      | inr passing ↦ other passing.1
-    ];
-    unpassed = λ man here. ap (λ b. if b then Some ((from + t) / 2) else None) (no_and (is_pawn man.kind) near);
-    zeroes = (λ yes. inr (record { man = man; stands = stands; pawn = pawn }), λ zeroes. refl);
-  }
-    where
-      no_and : (a : Bool) {b : Bool} → b ≡ false → (a && b) ≡ false
-      no_and true e = e
-      no_and false e = refl
-
-      promo_none : (m : Move) → m.from ≡ from → m.to ≡ t → IsLegal p m → m.promo ≡ None
-      promo_none m is to legal =
-          no_promotion (is_pawn legal.1.man.kind && (rank_of m.to == last_rank legal.1.man.side)) m.promo
-          (no_and (is_pawn legal.1.man.kind) (subst (λ (x : Man). (rank_of m.to == last_rank x.side) ≡ false) (man_is legal.0 m is legal.1)
-          (subst (λ s. (rank_of s == last_rank man.side) ≡ false) (sym to) (elim (eqb_tells (rank_of t) (last_rank man.side)) [ inl same ↦ absurd (last same.1) | inr apart ↦ apart.0 ]))))
-          legal.1.promotion
 
 module _ (keeps : KeepsClass) (c : ℕ) (p q : Setup) (pawn : Bool) (from t : ℕ) (ok : IsAdmissible p) (fine : IsAdmissible q) (leads : Leads p (plain from t) q) (quiet : IsQuietTarget p pawn from t) where
   held : (man : Man) → Stands p.men t man → (man.side ≡ p.side) ⊎ (man.side ≡ other_side p.side) → Goes p leads.man from t → IsFree p.men t

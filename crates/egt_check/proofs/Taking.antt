@@ -107,10 +107,6 @@ module _ (t : TableValue) (flips : Bool) (men : ShelfMen) (side : Side) where
     pub king_raised : (low u v : ℕ) → low ≡ 0 → v ≡ max low u → IsRaised 0 (AreBeside t.class flips men side b a) (score_at t Mate) u → IsRaised 0 (AreBeside t.class flips men side b a) (score_at t Mate) v
     king_raised low u v none is raised = raised_is 0 u v (AreBeside t.class flips men side b a) (score_at t Mate) (omega (arith, none, is)) raised
 
-    -- nobody takes a man of his own side
-    pub none_taken : men.last.side ≢ other_side side → IsRaised 0 (AreLeftCodes t.class flips men side a b) (score_at t Mate) 0
-    none_taken own = raised_by_none 0 (AreLeftCodes t.class flips men side a b) (score_at t Mate) (λ code h. elim h.1 [ inl king ↦ own king.0 | inr one ↦ own one.1 ])
-
     by_king : men.last.side ≡ other_side side → (code : ℕ) → AreBeside t.class flips men side b a code → AreLeftCodes t.class flips men side a b code
     by_king foe code h = (left_of (with_king men side b) men.one a, inl (foe, h.0, refl), h.1)
 

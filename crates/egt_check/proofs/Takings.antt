@@ -437,9 +437,6 @@ module _ (facts : Facts) (telling : Telling) (c : ℕ) (men : ShelfMen) (one_oth
     leaves = last_takes;
   })
 
-  taken_is : {x y : Man} → Some x ≡ Some y → x ≡ y
-  taken_is e = cc
-
   other_is_not : (s : Side) → s ≡ other_side s → ⊥
   other_is_not White e = cc
   other_is_not Black e = cc

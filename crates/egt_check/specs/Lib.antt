@@ -13,16 +13,10 @@ pub mod FirstBad
 pub mod Steps
 pub mod Raised
 pub mod Judged
-pub mod Uniform
-pub mod Men
 pub mod Fan
 pub mod Roamer
 pub mod Voids
-pub mod QuietBest
-pub mod Spread
 pub mod Pusher
-pub mod ShelfBest
-pub mod Peak
 pub mod Worth
 pub mod Blocks
 pub mod QuietSteps

@@ -1,9 +1,9 @@
 -- The steps from a position and the tables in which their successors are found.
-use Rattle.std.specs.Prelude.{◌≡◌, ◌≢◌, ℕ, ◌<◌, Bool, List, Option, IsSome, ◌↔◌, IsTrue, Some, None}
+use Rattle.std.specs.Prelude.{◌≡◌, ℕ, ◌<◌, Bool, List, Option, IsSome, ◌↔◌, IsTrue, None}
 use Rattle.egt_board.specs.Setup.{Setup}
 use Rattle.egt_class.specs.Membership.{IsOf}
 use Rattle.egt_moves.specs.Chess.{Zeroes}
-use Rattle.egt_moves.specs.Legal.{IsLegal, Leads, plain, passed}
+use Rattle.egt_moves.specs.Legal.{IsLegal, plain, passed}
 use Rattle.egt_moves.specs.declared.chess_move.Move.{Move}
 use Rattle.egt_table.specs.Table.{TableValue}
 use Rattle.egt_check.specs.Fits.{Shown}
@@ -36,13 +36,6 @@ pub record IsQuietTarget (p : Setup) (pawn : Bool) (from t : ℕ) : Type 0 where
   pub quiet : ¬ Captures p (plain from t)
   pub unpassed : (man : Man) → Stands p.men from man → passed man from t ≡ None
   pub zeroes : IsTrue pawn ↔ Zeroes p (plain from t)
-
--- the one legal move to the square takes the man of the other side who stands there, and the men tell where it leads
-pub record IsCapture (p : Setup) (from t : ℕ) : Type 0 where
-  pub legal : IsLegal p (plain from t)
-  pub only : (m : Move) → m.from ≡ from → m.to ≡ t → IsLegal p m → m ≡ plain from t
-  pub zeroes : Zeroes p (plain from t)
-  pub told : (q : Setup) → Leads p (plain from t) q → (p.target ≢ Some t) × (q.target ≡ None)
 
 -- whether the man is a pawn
 abbrev pub is_pawn_of : Man → Bool

@@ -2,7 +2,7 @@
 ghost use Rattle.std.specs.Prelude.{◌≡◌, ◌+◌, ◌<◌, IfSome};
 ghost use Rattle.egt_index.specs.Scales.{kind_digits, kind_less};
 
-use crate::quiet::is_pawn;
+use crate::own_men::is_pawn;
 use egt_board::{Man, Square};
 
 /// How many digits the man has.

@@ -1,8 +1,5 @@
 //! The judgement of one index's entries.
-ghost use Rattle.std.specs.Prelude.{◌≡◌, ◌↔◌, ◌<◌, ◌/◌, ◌==◌, if◌then◌else◌, true, Some, None, IsTrue};
-ghost use Rattle.egt_index.specs.Index.{IsVoid};
-ghost use Rattle.egt_index.specs.Frame.{IsFrame};
-ghost use Rattle.egt_index.specs.Row.{row_len, IsRowOf};
+ghost use Rattle.std.specs.Prelude.{◌≡◌, ◌↔◌, ◌<◌, ◌==◌, if◌then◌else◌, Some, None, IsTrue};
 ghost use Rattle.egt_index.specs.Size.{size_of};
 ghost use Rattle.egt_moves.specs.Arena.{NoMove};
 ghost use Rattle.egt_moves.specs.Chess.{chess};
@@ -13,17 +10,16 @@ ghost use Rattle.egt_check.specs.Rules.{IsJudged};
 ghost use Rattle.egt_check.specs.Score.{number_at, IsAtEnd, IsDue};
 ghost use Rattle.egt_check.specs.Steps.{IsInClass, shown_by};
 ghost use Rattle.egt_check.specs.Tables.{table_at, beside, HasChildren};
-ghost use Rattle.egt_check.specs.Uniform.{IsUniform};
 
 use crate::by_column::ByColumn;
 use crate::facts::facts;
 use crate::library::Library;
-use crate::outcome::{Outcome, entry_before, is_decisive, shown};
+use crate::outcome::{Outcome, entry_before, shown};
 use crate::rule::Rule;
 use crate::successors::{best, entries_at};
 use egt_board::Position;
 use egt_index::laws::{codes_spell_one_position, spelled_positions_are_of_the_class};
-use egt_index::{Frame, Row};
+use egt_index::position;
 use egt_moves::{Standing, standing};
 use egt_table::Table;
 
@@ -100,46 +96,11 @@ fn judge_zeroing(mate: u16, zeroing: u16, due: u16) -> Option<Rule>
     }
 }
 
-/// Whether both entries show a win, or both a loss, and are due.
-#[inline(always)]
-pub(crate) fn are_due(entries: &ByColumn, due: &ByColumn) -> bool
-    ensures mate { result ≡ true → Finds Mate entries.now.mate entries.now.mate due.now.mate None }
-    ensures zeroing { result ≡ true → Finds Zeroing entries.now.mate entries.now.zeroing due.now.zeroing None }
-{
-    if entries.mate != due.mate || entries.zeroing != due.zeroing {
-        return false;
-    }
-    if !is_decisive(entries.mate) || !is_decisive(entries.zeroing) {
-        return false;
-    }
-    entries.mate % 2 == entries.zeroing % 2
-}
-
-/// Whether both entries show a draw, and it is due.
-#[inline(always)]
-pub(crate) fn are_drawn(entries: &ByColumn, due: &ByColumn) -> bool
-    ensures mate { result ≡ true → Finds Mate entries.now.mate entries.now.mate due.now.mate None }
-    ensures zeroing { result ≡ true → Finds Zeroing entries.now.mate entries.now.zeroing due.now.zeroing None }
-{
-    if entries.mate != 1 || entries.zeroing != 1 {
-        return false;
-    }
-    due.mate == 1
-}
-
-/// The first rules that the mate entry and the zeroing entry of a position break beside those that are due, if they break one. In true tables
-/// nearly all entries pass at once.
-#[inline(always)]
-pub(crate) fn judge_entries(entries: &ByColumn, due: &ByColumn) -> (Option<Rule>, Option<Rule>)
+/// The first rules that the mate entry and the zeroing entry of a position break beside those that are due, if they break one.
+fn judge_entries(entries: &ByColumn, due: &ByColumn) -> (Option<Rule>, Option<Rule>)
     ensures mate { Finds Mate entries.now.mate entries.now.mate due.now.mate result.0 }
     ensures zeroing { Finds Zeroing entries.now.mate entries.now.zeroing due.now.zeroing result.1 }
 {
-    if are_due(entries, due) {
-        return (None, None);
-    }
-    if are_drawn(entries, due) {
-        return (None, None);
-    }
     (
         judge_mate(entries.mate, due.mate),
         judge_zeroing(entries.mate, entries.zeroing, due.zeroing),
@@ -147,7 +108,7 @@ pub(crate) fn judge_entries(entries: &ByColumn, due: &ByColumn) -> (Option<Rule>
 }
 
 /// The entry of a position without a legal move.
-pub(crate) fn entry_at_end(position: &Position) -> u16
+fn entry_at_end(position: &Position) -> u16
     requires { NoMove chess position.now }
     ensures { IsAtEnd position.now result }
 {
@@ -158,23 +119,14 @@ pub(crate) fn entry_at_end(position: &Position) -> u16
 }
 
 /// The entries that are due to a position of the table's class.
-fn due(
-    table: &Table,
-    library: &Library,
-    uniform: bool,
-    frame: &Frame,
-    position: &Position,
-) -> ByColumn
-    requires uniform { uniform ≡ true → IsUniform table.now }
+fn due(table: &Table, library: &Library, position: &Position) -> ByColumn
     requires own { IsInClass table.now.class position.now }
     requires children { HasChildren (table_at library.now) table.now.class }
-    requires frame { IsFrame position.now frame.now }
-    requires class { frame.now.class ≡ table.now.class }
     ensures { (column : Column) → IsDue (shown_by library.now table.now) column position.now (number_at result column) }
 {
     facts();
     let _side = position.side();
-    match best(table, library, uniform, frame, position) {
+    match best(table, library, position) {
         Some(best) => ByColumn {
             mate: entry_before(best.mate),
             zeroing: entry_before(best.zeroing),
@@ -197,47 +149,20 @@ fn judge_voids(entries: &ByColumn) -> (Option<Rule>, Option<Rule>)
     (judge_void(entries.mate), judge_void(entries.zeroing))
 }
 
-/// The first rules that the mate entry and the zeroing entry at an index break that no position has, if they break one.
-#[inline(always)]
-pub(crate) fn judge_none(
-    table: &Table,
-    _library: &Library,
-    index: u32,
-) -> (Option<Rule>, Option<Rule>)
-    requires inside { index < size_of table.now.class }
-    requires void { IsVoid table.now.class index }
-    ensures mate { IsJudged (beside (table_at _library.now) table.now) table.now Mate index result.0 }
-    ensures zeroing { IsJudged (beside (table_at _library.now) table.now) table.now Zeroing index result.1 }
-{
-    let entries = entries_at(table, index);
-    judge_voids(&entries)
-}
-
-/// The first rules that the mate entry and the zeroing entry at an index of the row break, if they break one.
-#[inline(always)]
-pub(crate) fn judge(
-    table: &Table,
-    library: &Library,
-    uniform: bool,
-    row: &mut Row,
-    index: u32,
-) -> (Option<Rule>, Option<Rule>)
-    requires uniform { uniform ≡ true → IsUniform table.now }
+/// The first rules that the mate entry and the zeroing entry at an index break, if they break one.
+pub(crate) fn judge(table: &Table, library: &Library, index: u32) -> (Option<Rule>, Option<Rule>)
     requires inside { index < size_of table.now.class }
     requires children { HasChildren (table_at library.now) table.now.class }
-    requires row { IsRowOf table.now.class (index / row_len table.now.class) (Some row.old) }
-    ensures row { IsRowOf table.now.class (index / row_len table.now.class) (Some row.new) }
     ensures mate { IsJudged (beside (table_at library.now) table.now) table.now Mate index result.0 }
     ensures zeroing { IsJudged (beside (table_at library.now) table.now) table.now Zeroing index result.1 }
 {
     codes_spell_one_position();
     spelled_positions_are_of_the_class();
     let entries = entries_at(table, index);
-    match row.position_at(index) {
+    match position(table.class(), index) {
         None => judge_voids(&entries),
         Some(position) => {
-            row.turn_to(&position);
-            let due = due(table, library, uniform, row.frame(), &position);
+            let due = due(table, library, &position);
             judge_entries(&entries, &due)
         }
     }

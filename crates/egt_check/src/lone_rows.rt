@@ -7,7 +7,7 @@ ghost use Rattle.egt_check.specs.Blocks.{IsRaisedAfter};
 ghost use Rattle.egt_check.specs.Worth.{IsRead, score_at};
 
 use crate::blocks::side_after;
-use crate::quiet::is_pawn;
+use crate::own_men::is_pawn;
 use egt_board::{Man, Side, Square};
 use egt_index::home::home;
 use egt_index::laws::codes_tell_turned_men;

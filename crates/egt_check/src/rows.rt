@@ -8,7 +8,7 @@ ghost use Rattle.egt_index.specs.StepCodes.{TellsMen};
 ghost use Rattle.egt_lanes.specs.Raised.{IsRaised};
 ghost use Rattle.egt_check.specs.Worth.{score_at};
 
-use crate::quiet::is_pawn;
+use crate::own_men::is_pawn;
 use egt_board::{Kind, Man, Side, Square};
 use egt_index::laws::codes_tell_turned_men;
 use egt_index::{ShelfMen, last_digits};

@@ -1,4 +1,4 @@
-use Rattle.std.proofs.Common.{subst}
+use Rattle.std.proofs.Common.{refl, subst}
 use Rattle.egt_board.specs.Setup.{Setup}
 use Rattle.egt_moves.specs.DecidedMoves.{leads_to_one}
 use Rattle.egt_check.specs.Score.{number_at}
@@ -12,7 +12,7 @@ entries_by_men-requires c =
     let m = c.args.chess_move.now in
     let ok = c.side-side.ensures.admissible in
     let (q, leads) = c.requires.legal in
-    let (off, none) = c.requires.told c.if-told.true q leads in (
+    let (off, none) = c.is_told_by_men.ensures c.if-is_told_by_men.true m q refl refl leads in (
       q,
       c.facts.ensures.step_admissible p q m ok leads,
       c.after-next.ensures p q ok c.requires.men leads off,
@@ -20,12 +20,13 @@ entries_by_men-requires c =
       step_has_table c.facts.ensures (table_at c.args.library.now) c.args.table.now p q m c.class-class.ensures.table.class_in ok c.requires.own c.requires.children leads,
     )
 
-pub returns-then-told : goal.returns-then-told
-returns-then-told c = λ column q leads.
+pub returns-then-is_told_by_men : goal.returns-then-is_told_by_men
+returns-then-is_told_by_men c = λ column q leads.
     let p = c.args.position.now in
+    let m = c.args.chess_move.now in
     let ok = c.side-side.ensures.admissible in
-    let (off, none) = c.requires.told c.if-told.true q leads in
-    c.entries_by_men.ensures column q (c.facts.ensures.step_admissible p q c.args.chess_move.now ok leads) (c.after-next.ensures p q ok c.requires.men leads off) none
+    let (off, none) = c.is_told_by_men.ensures c.if-is_told_by_men.true m q refl refl leads in
+    c.entries_by_men.ensures column q (c.facts.ensures.step_admissible p q m ok leads) (c.after-next.ensures p q ok c.requires.men leads off) none
 
 pub entries_of-requires : goal.entries_of-requires
 entries_of-requires c =

@@ -16,4 +16,4 @@ returns c =
       zeroing_shown = zeroing_shown;
       zeroes_is = c.requires.zeroes;
     } in
-    scores_by c.facts.ensures tables c.args.position.now c.side-side.ensures.admissible c.args.chess_move.now c.args.entries mate zeroing c.args.zeroes seen _ (c.scores_by.ensures.mate mate mate_shown) (c.scores_by.ensures.zeroing mate zeroing mate_shown zeroing_shown)
+    scores_by c.facts.ensures tables c.args.position.now c.side-side.ensures.admissible c.args.chess_move.now c.args.entries mate zeroing c.args.zeroes seen _ (c.mate_score.ensures mate mate_shown) (c.zeroing_score.ensures mate zeroing mate_shown zeroing_shown)

@@ -1,15 +1,14 @@
-use Rattle.std.specs.Prelude.{Some, ◌≤◌, ◌/◌}
-use Rattle.egt_index.specs.Row.{row_len, IsRowOf}
+use Rattle.std.specs.Prelude.{◌≤◌}
+use Rattle.egt_index.specs.Size.{size_of}
 use Rattle.egt_table.specs.declared.column.Column.TheVariants.{Mate}
 use Rattle.egt_check.specs.FirstBad.{IsFirstBad}
 use Rattle.egt_check.specs.Rules.{KeepsBelow}
 use Rattle.egt_check.specs.Tables.{table_at, beside}
-use Rattle.egt_check.proofs.checking.judge_codes.Given as goal
+use Rattle.egt_check.proofs.checking.judge_from.Given as goal
 
 abbrev pub invariant-loop-index : goal.invariant-loop-index
 invariant-loop-index l = record {
-  from : l.first ≤ l.index;
+  within : l.index ≤ size_of l.table.class;
   mate : KeepsBelow (beside (table_at l.library) l.table) l.table Mate l.index;
   zeroing : IsFirstBad (beside (table_at l.library) l.table) l.table l.index l.bad;
-  row : IsRowOf l.table.class (l.first / row_len l.table.class) (Some l.row);
 }

@@ -1,0 +1,43 @@
+use Rattle.std.proofs.Common.{◌≡◌, ◌+◌, ap, subst, sym, ◌∙◌, arith}
+use Rattle.egt_index.specs.Size.{size_of}
+use Rattle.egt_table.specs.declared.column.Column.TheVariants.{Mate, Zeroing}
+use Rattle.egt_check.specs.FirstBad.{IsFirstBad}
+use Rattle.egt_check.specs.Rules.{IsJudged, KeepsBelow}
+use Rattle.egt_check.specs.Tables.{table_at, beside}
+use Rattle.egt_check.proofs.Judged.{keeps_more, first_bad_more}
+use Rattle.egt_check.proofs.checking.judge_from.Goals as goal
+
+pub loop-index-init : goal.loop-index-init
+loop-index-init c = record { within = c.requires.within; mate = c.requires.before Mate; zeroing = c.requires.before Zeroing }
+
+pub loop-index-preserved : goal.loop-index-preserved
+loop-index-preserved c =
+    let t = c.args.table.now in
+    let tables = beside (table_at c.args.library.now) t in
+    let n = c.loop-index.index in
+    let kept = subst (IsJudged tables t Mate n) c.in_default.is c.judge-mate.ensures.mate in
+    let size_is : c.size-index-end.result ≡ size_of t.class = c.size-index-end.ensures ∙ ap (λ k. size_of k) c.class.ensures.class in
+    let below = c.loop-index-test.true in
+    record {
+      within = omega (arith, below, size_is);
+      mate = keeps_more tables t Mate n c.loop-index.invariant.mate kept;
+      zeroing = subst (IsFirstBad tables t (n + 1)) (sym c.earlier-bad.ensures) (first_bad_more tables t n c.loop-index.bad _ c.loop-index.invariant.zeroing c.judge-mate.ensures.zeroing);
+    }
+
+pub returns-clause-kept : goal.returns-clause-kept
+returns-clause-kept c =
+    let t = c.args.table.now in
+    let size_is : c.size-index-end.result ≡ size_of t.class = c.size-index-end.ensures ∙ ap (λ k. size_of k) c.class.ensures.class in
+    let within = c.loop-index.invariant.within in
+    let past = c.loop-index-test.false in
+    let end : c.loop-index.index ≡ size_of t.class = omega (arith, size_is, within, past) in
+    subst (KeepsBelow (beside (table_at c.args.library.now) t) t Mate) end c.loop-index.invariant.mate
+
+pub returns-clause-zeroing : goal.returns-clause-zeroing
+returns-clause-zeroing c =
+    let t = c.args.table.now in
+    let size_is : c.size-index-end.result ≡ size_of t.class = c.size-index-end.ensures ∙ ap (λ k. size_of k) c.class.ensures.class in
+    let within = c.loop-index.invariant.within in
+    let past = c.loop-index-test.false in
+    let end : c.loop-index.index ≡ size_of t.class = omega (arith, size_is, within, past) in
+    subst (λ n. IsFirstBad (beside (table_at c.args.library.now) t) t n c.loop-index.bad) end c.loop-index.invariant.zeroing
