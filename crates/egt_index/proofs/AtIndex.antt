@@ -1,5 +1,5 @@
 -- What the digits of an index say: a settled position that has it.
-use Rattle.std.proofs.Common.{◌≡◌, ℕ, ◌/◌, ◌<◌, Bool, List, true, false, Option, Some, None, IfSome, refl, sym, subst, inl, inr}
+use Rattle.std.proofs.Common.{◌≡◌, ℕ, ◌<◌, Bool, List, true, false, Option, Some, None, IfSome, refl, sym, subst, inl, inr}
 use Rattle.egt_board.specs.declared.man.Side.{Side}
 use Rattle.egt_board.specs.declared.man.Side.TheVariants.{White, Black}
 use Rattle.egt_board.specs.declared.man.Man.{Man}
@@ -8,19 +8,15 @@ use Rattle.egt_board.specs.Pawn.{pawn_of, ahead}
 use Rattle.egt_board.specs.Settled.{IsSettled}
 use Rattle.egt_board.specs.Setup.{Setup}
 use Rattle.egt_class.specs.Material.{Material, material_of}
-use Rattle.egt_index.specs.AtIndex.{IsAtIndex, IsFramedAt}
+use Rattle.egt_index.specs.AtIndex.{IsAtIndex}
 use Rattle.egt_index.specs.Code.{Spells}
 use Rattle.egt_index.specs.Facts.{Facts}
-use Rattle.egt_index.specs.Frame.{IsFrame}
 use Rattle.egt_index.specs.Index.{IsIndex, IsVoid}
-use Rattle.egt_index.specs.Scales.{ends_of}
 use Rattle.egt_index.specs.Spelled.{Ends, HasPawns, IsListed, IsTold, SpellsMen}
-use Rattle.egt_index.specs.Stood.{HasStand, list_of}
-use Rattle.egt_index.specs.declared.frame.Frame.{Frame}
+use Rattle.egt_index.specs.Stood.{list_of}
 use Rattle.egt_index.specs.declared.stand.Stand.{Stand}
 use Rattle.egt_index.proofs.Decoded.{spelled_setup}
 use Rattle.egt_index.proofs.Exists.{index_settled}
-use Rattle.egt_index.proofs.OnePosition.{spells_once}
 use Rattle.egt_index.proofs.Setups.{fits_apart, stand_spelled}
 use Rattle.egt_index.proofs.Telling.{index_or_void}
 
@@ -58,20 +54,3 @@ target_exists true side list pawns = of_side side
     of_side : (side : Side) → (target : Option ℕ) × IsTold true side list target
     of_side White = (Some (ahead White has.black), (has.black, subst (λ l. IsListed l (pawn_of Black) has.black) (sym has.list_is) (inr (inr (inr (inl (refl, refl))))), refl))
     of_side Black = (Some (ahead Black has.white), (has.white, subst (λ l. IsListed l (pawn_of White) has.white) (sym has.list_is) (inr (inr (inl (refl, refl)))), refl))
-
--- the frame of the men is that of whatever position the code spells
-pub framed_at : (c code : ℕ) (stand : Stand) (side : Side) (passed : Bool) (target : Option ℕ) (frame : Frame) → IsAtIndex c code stand side passed target
-    → frame.stand ≡ stand → SpellsMen (material_of c) (code / ends_of (material_of c)) (list_of stand)
-    → ((p : Setup) (passed : Bool) → HasStand c false stand side passed p → IsFrame p frame) → (p : Setup) → Spells c code p → IsFramedAt c code p frame passed
-framed_at c code stand side passed target frame at same men frames p spells =
-    subst (λ p. IsFramedAt c code p frame passed) (spells_once c code (setup_of (list_of stand) side target) p at.spells spells) here
-  where
-    here : IsFramedAt c code (setup_of (list_of stand) side target) frame passed
-    here = record {
-      spells = at.spells;
-      settled = at.settled;
-      index = at.is;
-      framed = frames _ passed at.stands;
-      target = at.stands.target_is;
-      men = subst (λ (s : Stand). SpellsMen (material_of c) (code / ends_of (material_of c)) (list_of s)) (sym same) men;
-    }

@@ -7,7 +7,7 @@ use Rattle.std.proofs.lemmas.Bool.Decides.{eqb_tells}
 use Rattle.egt_board.specs.declared.man.Side.TheVariants.{White, Black}
 use Rattle.egt_board.specs.declared.man.Man.{Man}
 use Rattle.egt_board.specs.Attack.{king_of}
-use Rattle.egt_board.specs.Placement.{Placement, Stands, get-remove_same}
+use Rattle.egt_board.specs.Placement.{Stands, get-remove_same}
 use Rattle.egt_board.specs.Listed.{men_of}
 use Rattle.egt_board.specs.Setup.{Setup, IsAdmissible, IsKingOn}
 use Rattle.egt_board.specs.Settled.{IsSettled, SettlesTo}
@@ -247,12 +247,3 @@ king_after facts p q t k s ok turn king is = subst (IsKingOn q.men White) (sym (
 pub none_after : (c : ℕ) (p : Setup) (t s : ℕ) → ((q : Setup) → IsTurn t p q → IsKingOn q.men White s)
     → ((d : ℕ) → d < base_of (has_pawns (material_of c)) (king_of White) → square_of (has_pawns (material_of c)) (king_of White) d ≡ s → ⊥) → CodeAfter c p t None
 none_after c p t s king none = λ q code turn spells. code_missing c q s (king q turn) none code spells
-
-pub black_king : (t k : ℕ) (men : Placement) → t / 8 ≡ 1 → Stands men k (king_of Black) → Stands men k (king_of (cond (eqb (t / 8) 1) Black White))
-black_king t k men is stands = subst (λ b. Stands men k (king_of (cond b Black White))) (sym (eq-eqb (t / 8) 1 is)) stands
-
-pub white_king : (t k : ℕ) (men : Placement) → (t / 8 ≡ 1 → ⊥) → Stands men k (king_of White) → Stands men k (king_of (cond (eqb (t / 8) 1) Black White))
-white_king t k men not stands = elim (eqb_tells (t / 8) 1) [
-  | inl h ↦ absurd (not h.1)
-  | inr h ↦ subst (λ b. Stands men k (king_of (cond b Black White))) (sym h.0) stands
-]

@@ -11,13 +11,11 @@ use Rattle.egt_board.specs.Man.{other_side}
 use Rattle.egt_board.specs.Placement.{Placement, Stands, one_man, get-remove_other, get-insert_same, get-insert_other}
 use Rattle.egt_board.specs.Pawn.{ahead, HasPawnBeside}
 use Rattle.egt_board.specs.Settled.{IsSettled, SettlesTo}
-use Rattle.egt_board.specs.Setup.{Setup, IsAdmissible}
+use Rattle.egt_board.specs.Setup.{Setup}
 use Rattle.egt_board.specs.Turned.{turned_man}
-use Rattle.egt_index.specs.Facts.{Facts}
-use Rattle.egt_index.specs.Frame.{IsMoved, IsFrame}
-use Rattle.egt_index.specs.Went.{moved_square, moved_entry, IsMovedStand, AreOnBoard, IsWent}
+use Rattle.egt_index.specs.Frame.{IsMoved}
+use Rattle.egt_index.specs.Went.{moved_square, moved_entry, IsMovedStand, AreOnBoard}
 use Rattle.egt_index.specs.Stood.{Entry, men_among, IsOff, AllStand, Stood, HasStand, list_of}
-use Rattle.egt_index.specs.declared.frame.Frame.{Frame}
 use Rattle.egt_index.specs.declared.stand.Stand.{Stand}
 use Rattle.egt_index.proofs.Carried.{went, stayed}
 
@@ -153,24 +151,3 @@ after_of from to s = record {
 
 pub is_after : (from to : ℕ) (s : Stand) → IsMovedStand from to s (after_of from to s)
 is_after from to s = record { white = refl; black = refl; next = refl; last = refl }
-
-module _ (facts : Facts) (p q : Setup) (from to : ℕ) (frame : Frame) (side : Side) (c_in : frame.class < 36) (is : IsFrame p frame) (moved : IsMoved frame.class p from to q) (side_is : side ≡ other_side frame.side) where
-  settled : IsSettled q
-  settled = untargeted_settled q moved.target
-
-  abbrev after : Stand
-  after = after_of from to frame.stand
-
-  has : HasStand frame.class false after side false q
-  has = stand_moved frame.class false is.passed p q from to frame.stand after frame.side side is.stand moved settled side_is (is_after from to frame.stand)
-
-  from_in : IsAdmissible p → from < 64
-  from_in ok = ok.on_board from moved.man moved.stands
-
-  pub went_own : IsWent frame.class false frame.stand after from to side q
-  went_own = record {
-    from_in = from_in is.stand.admissible;
-    on_board = on_board_of frame.class false is.passed p frame.stand frame.side is.stand;
-    moved = is_after from to frame.stand;
-    stand = has;
-  }

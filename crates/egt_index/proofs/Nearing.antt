@@ -7,18 +7,17 @@ use Rattle.egt_board.specs.Attack.{king_of}
 use Rattle.egt_board.specs.Placement.{Stands}
 use Rattle.egt_board.specs.Setup.{Setup}
 use Rattle.egt_board.specs.Turned.{turned_square}
-use Rattle.egt_class.specs.Material.{material_of, has_equal_sides}
+use Rattle.egt_class.specs.Material.{material_of}
 use Rattle.egt_index.specs.Code.{Spells}
 use Rattle.egt_index.specs.Facts.{Facts}
 use Rattle.egt_index.specs.Home.{IsTurnWith, BringsHome, AreHome, LeastWith}
-use Rattle.egt_index.specs.Nearer.{KingsHome, AreNearest, IsFirst, KingsTell}
+use Rattle.egt_index.specs.Nearer.{KingsHome, AreNearest}
 use Rattle.egt_index.specs.Size.{has_pawns}
 use Rattle.egt_index.specs.Stood.{HasStand}
-use Rattle.egt_index.specs.Turns.{IsTurn, CodeAfter, Best}
+use Rattle.egt_index.specs.Turns.{IsTurn, Best}
 use Rattle.egt_index.specs.declared.stand.Stand.{Stand}
-use Rattle.egt_index.proofs.Beating.{spelled_home, stands_after, kings_less, has_exchanged}
-use Rattle.egt_index.proofs.Exchanged.{exchange}
-use Rattle.egt_index.proofs.LeastTurn.{keeps_play, least_at, none_away}
+use Rattle.egt_index.proofs.Beating.{spelled_home, stands_after, kings_less}
+use Rattle.egt_index.proofs.LeastTurn.{keeps_play, none_away}
 
 -- the kings after a turn, as a number
 abbrev pub kings_after : Stand → ℕ → ℕ
@@ -143,52 +142,3 @@ nearest_of_two facts c flips white black first second kings c_in home kings_is s
     subst (λ k. KingsHome c p flips (min k (64 * turned_square (second % 8) (eqb (second / 8) 1) white + turned_square (second % 8) (eqb (second / 8) 1) black))) (same_kings stand first white black white_is black_is ∙ sym kings_is)
     (subst (λ k. KingsHome c p flips (min (kings_after stand first) k)) (same_kings stand second white black white_is black_is)
     (kings_of_two facts c flips stand side passed p first second c_in has (subst (λ w. AreHome (has_pawns (material_of c)) flips w first (Some second)) (sym white_is) home)))
-
--- kings that come to lesser squares in the class's colours than in the others tell that the least code is in these
-pub nearer_tell : Facts → (c white black k l : ℕ) → c < 36 → has_equal_sides c ≡ true → AreNearest c false white black k → AreNearest c true black white l → k < l → KingsTell c white black
-nearer_tell facts c white black k l c_in equal own other less stand side passed p code white_is black_is has least =
-    nearer c p false true k l code (told false) (own stand side passed p white_is black_is has)
-    (other (exchange stand) side passed p black_is white_is (has_exchanged facts c false stand (exchange stand) side passed p c_in equal refl refl refl refl has)) less least
-
--- the code of a turn, where another that brings the white king home takes the kings to greater squares
-pub nearest_least : Facts → (c : ℕ) (q : Setup) (stand : Stand) (side : Side) (passed : Bool) (code u : ℕ) (other : Option ℕ) → HasStand c false stand side passed q → AreHome (has_pawns (material_of c)) false stand.white u other
-    → IfSome other (λ v. kings_after stand u < kings_after stand v) → CodeAfter c q u (Some code) → LeastWith c q false (Some code)
-nearest_least facts c q stand side passed code u other has home greater after = record {
-  turn = u;
-  below = home.one.below;
-  image = after.image;
-  turned = after.turned;
-  spells = after.coded.spells;
-  least = λ t r n flips_is t_in turn spells. elim (cases_eq t u) [
-    | inl e ↦ least_at facts c q u code t r n after e turn spells
-    | inr apart ↦ of_other t r n flips_is t_in turn spells apart other refl
-  ];
-}
-  where
-    away : (t : ℕ) (r : Setup) (n : ℕ) → eqb (t / 8) 1 ≡ false → t < 16 → IsTurn t q r → Spells c n r → t ≢ u → IfSome other (λ v. t ≢ v) → code ≤ n
-    away t r n flips_is t_in turn spells apart others =
-        absurd (none_away facts c q false stand.white u other has.admissible has.is_of has.stood.all.1 home t t_in flips_is apart others r n turn spells)
-
-    -- where a turn in these colours takes the kings
-    white_after : (t : ℕ) (r : Setup) → eqb (t / 8) 1 ≡ false → IsTurn t q r → Stands r.men (turned_square (t % 8) (eqb (t / 8) 1) stand.white) (king_of White)
-    white_after t r flips_is turn = stands_after facts q r t stand.white (king_of White) has.admissible turn (subst (λ f. HasStand c f stand side passed q) (sym flips_is) has).stood.all.1
-
-    black_after : (t : ℕ) (r : Setup) → eqb (t / 8) 1 ≡ false → IsTurn t q r → Stands r.men (turned_square (t % 8) (eqb (t / 8) 1) stand.black) (king_of Black)
-    black_after t r flips_is turn = stands_after facts q r t stand.black (king_of Black) has.admissible turn (subst (λ f. HasStand c f stand side passed q) (sym flips_is) has).stood.all.3.1
-
-    of_other : (t : ℕ) (r : Setup) (n : ℕ) → eqb (t / 8) 1 ≡ false → t < 16 → IsTurn t q r → Spells c n r → t ≢ u → (o : Option ℕ) → other ≡ o → code ≤ n
-    of_other t r n flips_is t_in turn spells apart None is = away t r n flips_is t_in turn spells apart (subst (λ o. IfSome o (λ v. t ≢ v)) (sym is) tt)
-    of_other t r n flips_is t_in turn spells apart (Some v) is = elim (cases_eq t v) [
-      | inr not ↦ away t r n flips_is t_in turn spells apart (subst (λ o. IfSome o (λ v. t ≢ v)) (sym is) not)
-      | inl e ↦
-          let less : kings_after stand u < kings_after stand t =
-          subst (λ (k : ℕ). kings_after stand u < kings_after stand k) (sym e) (subst (λ o. IfSome o (λ v. kings_after stand u < kings_after stand v)) is greater) in
-          let lt = kings_less c code n after.image r _ _ _ _ after.coded.spells spells (white_after u after.image home.one.flips_is after.turned) (black_after u after.image home.one.flips_is after.turned)
-          (white_after t r flips_is turn) (black_after t r flips_is turn) less in
-          omega (arith, lt)
-    ]
-
--- of the turn that changes nothing
-pub first_least : Facts → (c : ℕ) (q : Setup) (stand : Stand) (side : Side) (passed : Bool) (code : ℕ) → HasStand c false stand side passed q → IsFirst c stand.white stand.black → CodeAfter c q 0 (Some code)
-    → LeastWith c q false (Some code)
-first_least facts c q stand side passed code has first after = nearest_least facts c q stand side passed code 0 first.second has first.home first.greater after

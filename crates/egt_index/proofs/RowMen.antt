@@ -5,23 +5,20 @@ use Rattle.std.proofs.lemmas.Bool.{cases_eq, false≢true}
 use Rattle.egt_board.specs.declared.man.Side.{Side}
 use Rattle.egt_board.specs.declared.man.Side.TheVariants.{White, Black}
 use Rattle.egt_board.specs.declared.man.Man.{Man}
-use Rattle.egt_board.specs.Images.{count_of, side_number}
+use Rattle.egt_board.specs.Images.{side_number}
 use Rattle.egt_board.specs.Listed.{men_of, FitsBoard}
-use Rattle.egt_board.specs.Placement.{Placement}
 use Rattle.egt_board.specs.Settled.{IsSettled}
 use Rattle.egt_board.specs.Setup.{Setup}
 use Rattle.egt_class.specs.Material.{Material, material_of}
 use Rattle.egt_index.specs.Beaten.{SpellsAt}
 use Rattle.egt_index.specs.Code.{Spells, men_at}
 use Rattle.egt_index.specs.Digits.{number_from, AreDigits}
-use Rattle.egt_index.specs.Frame.{IsFrame}
 use Rattle.egt_index.specs.Home.{IsAtHome}
-use Rattle.egt_index.specs.Row.{row_len, IsInRow, IsRowFrame, IsVoidRow}
+use Rattle.egt_index.specs.Row.{row_len, IsVoidRow}
 use Rattle.egt_index.specs.Scales.{ends_of}
 use Rattle.egt_index.specs.Size.{has_pawns, has_target, men_bases}
 use Rattle.egt_index.specs.Spelled.{Ends, SpellsMen, SpellsNoMen}
-use Rattle.egt_index.specs.Stood.{AllApart, HasStand, Stood, list_of}
-use Rattle.egt_index.specs.declared.frame.Frame.{Frame}
+use Rattle.egt_index.specs.Stood.{AllApart, HasStand, list_of}
 use Rattle.egt_index.specs.declared.stand.Stand.{Stand}
 use Rattle.egt_index.proofs.Classes.{spells_class}
 use Rattle.egt_index.proofs.Decoded.{list_spelled, no_men}
@@ -76,15 +73,6 @@ ends_with false code =
 pub ends_there : (m : Material) (code : ℕ) → (side : Side) × (passed : Bool) × Ends m code (code / ends_of m) side passed
 ends_there m code = let ends = ends_with (has_target m) code in (ends.0, ends.1, record { number_is = ends.2.is; never = ends.2.never })
 
--- codes with one remainder have the same ends
-pub ends_alike : (m : Material) (code other : ℕ) (side : Side) (passed : Bool) → Ends m code (code / ends_of m) side passed → code % ends_of m ≡ other % ends_of m → Ends m other (other / ends_of m) side passed
-ends_alike m code other side passed ends same = record { number_is = of_test (has_target m) (side_number side) (cond passed 1 0) ends.number_is same; never = ends.never }
-  where
-    of_test : (targets : Bool) (s f : ℕ) → code ≡ number_from (code / cond targets 4 2) (2 ∷ cond targets (2 ∷ []) []) (s ∷ cond targets (f ∷ []) []) → code % cond {A = ℕ} targets 4 2 ≡ other % cond {A = ℕ} targets 4 2
-        → other ≡ number_from (other / cond targets 4 2) (2 ∷ cond targets (2 ∷ []) []) (s ∷ cond targets (f ∷ []) [])
-    of_test true s f is same = omega arith
-    of_test false s f is same = omega arith
-
 -- where the row's number spells no men, no code of the row spells a position
 pub nothing_in_row : (c n code : ℕ) (p : Setup) → SpellsNoMen (material_of c) n → code / row_len c ≡ n → Spells c code p → ⊥
 nothing_in_row c n code p none same spells =
@@ -119,36 +107,6 @@ module _ (c n code : ℕ) (stand : Stand) (p : Setup) (row : code / row_len c �
     side_is = refl;
     target_is = refl;
   }
-
--- the frame of one position of a row, with the other's side to move
-abbrev pub turned_to : Side → Frame → Frame
-turned_to side frame = record { class = frame.class; side = side; stand = frame.stand; alone = frame.alone; first = frame.first; equal = frame.equal; own = frame.own; total = frame.total }
-
-pub frame_turned : (c : ℕ) (stand : Stand) (p : Setup) (frame : Frame) → IsRowFrame c stand frame → IsInRow c stand p → IsFrame p (turned_to p.side frame)
-frame_turned c stand p frame row here = record {
-  passed = here.passed;
-  stand = record {
-    admissible = here.stands.admissible;
-    settled = here.stands.settled;
-    is_of = record { men = λ man. ap (λ (men : Placement). count_of men man) same ∙ there.is_of.men man };
-    stood = subst (λ (men : Placement). Stood frame.class false men (list_of frame.stand)) (sym same) there.stood;
-    side_is = refl;
-    target_is = here.stands.target_is;
-  };
-  filled = row.is_frame.filled;
-  home = row.is_frame.home;
-  alone = row.is_frame.alone;
-  first = row.is_frame.first;
-  equal = row.is_frame.equal;
-  own = row.is_frame.own;
-  total = row.is_frame.total;
-}
-  where
-    there : HasStand frame.class false frame.stand frame.side row.is_frame.passed row.position
-    there = row.is_frame.stand
-
-    same : p.men ≡ row.position.men
-    same = here.men ∙ sym row.in_row.men
 
 -- the white king whom digits spell is at home
 pub home_spelled : (m : Material) (n : ℕ) (stand : Stand) → SpellsMen m n (list_of stand) → IsAtHome (has_pawns m) stand.white

@@ -1,16 +1,14 @@
 -- The codes of a class that differ in no more than the side to move and the target.
-use Rattle.std.specs.Prelude.{◌≡◌, ℕ, ◌/◌, ◌≤◌, Bool, false, Option, Some, None, IfSome}
+use Rattle.std.specs.Prelude.{◌≡◌, ℕ, ◌/◌, ◌≤◌, Bool, false, Option, Some, None}
 use Rattle.std.specs.FinMap as map
 use Rattle.egt_board.specs.Listed.{men_of}
 use Rattle.egt_board.specs.Setup.{Setup}
 use Rattle.egt_class.specs.Material.{material_of}
 use Rattle.egt_index.specs.Beaten.{AllAsked}
-use Rattle.egt_index.specs.Frame.{IsFrame}
 use Rattle.egt_index.specs.Index.{IsIndex, IsVoid}
 use Rattle.egt_index.specs.Scales.{ends_of}
 use Rattle.egt_index.specs.Spelled.{SpellsMen}
 use Rattle.egt_index.specs.Stood.{AllApart, HasStand, IsFilled, IsInOrder, list_of}
-use Rattle.egt_index.specs.declared.frame.Frame.{Frame}
 use Rattle.egt_index.specs.declared.stand.Stand.{Stand}
 use Rattle.egt_index.specs.declared.row.Row.{Row}
 
@@ -25,13 +23,6 @@ pub record IsInRow (c : ℕ) (stand : Stand) (p : Setup) : Type 0 where
   pub men : p.men ≡ men_of (list_of stand)
   pub filled : IsFilled stand
 
--- the frame is of some position with these men
-pub record IsRowFrame (c : ℕ) (stand : Stand) (frame : Frame) : Type 0 where
-  pub position : Setup
-  pub in_row : IsInRow c stand position
-  pub is_frame : IsFrame position frame
-  pub class : frame.class ≡ c
-
 -- the row with this number: where its men stand, and whether each of its codes that spells a position is that one's index
 pub record IsRow (n : ℕ) (row : Row) : Type 0 where
   pub men : SpellsMen (material_of row.class) n (list_of row.stand)
@@ -41,14 +32,6 @@ pub record IsRow (n : ℕ) (row : Row) : Type 0 where
   pub board : row.board ≡ men_of (list_of row.stand)
   pub few : map.len row.board ≤ 4
   pub least : row.tied ≡ false → AllAsked row.class row.stand None (IsIndex row.class)
-  pub frame : IfSome row.frame (IsRowFrame row.class row.stand)
-
--- the frame of the row is that of p
-pub record IsTurnedTo (p : Setup) (row : Row) : Type 0 where
-  pub frame : Frame
-  pub is : row.frame ≡ Some frame
-  pub is_frame : IsFrame p frame
-  pub class : frame.class ≡ row.class
 
 -- all codes of the row are void
 abbrev pub IsVoidRow : ℕ → ℕ → Type 0

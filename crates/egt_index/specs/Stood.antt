@@ -144,8 +144,3 @@ HasDigit entry = IfSome entry (λ e. (e.0 ≢ king_of White) × MayStand e.0 e.1
 abbrev pub with_entry : Placement → Entry → Placement
 with_entry men None = men
 with_entry men (Some e) = placement.insert men e.1 e.0
-
--- the square of the man, or the other one where there is no man
-abbrev pub square_or : Entry → ℕ → ℕ
-square_or None s = s
-square_or (Some e) s = e.1

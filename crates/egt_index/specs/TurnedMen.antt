@@ -40,10 +40,6 @@ pub record IsTurnedCodeWith (passed : Bool) (c t code : ℕ) (stand : Stand) (si
   pub keeps : t % 8 < symmetries (has_pawns (material_of c))
   pub tells : TellsMen passed c code (turned_by t stand) (turned_side (t / 8 == 1) side)
 
--- and no target
-abbrev pub IsTurnedCode : (c t code : ℕ) → Stand → Side → Type 0
-IsTurnedCode = IsTurnedCodeWith false
-
 -- some turn's code of the men, and of a target where one was passed
 pub record IsSomeTurnedCodeWith (passed : Bool) (c code : ℕ) (flips : Bool) (stand : Stand) (side : Side) : Type 0 where
   pub turn : ℕ

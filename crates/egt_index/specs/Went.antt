@@ -1,9 +1,7 @@
 -- The men of a class as one man goes from square to square.
-use Rattle.std.specs.Prelude.{◌≡◌, ℕ, ◌<◌, ◌==◌, Bool, false, if◌then◌else◌, IfSome}
+use Rattle.std.specs.Prelude.{◌≡◌, ℕ, ◌<◌, ◌==◌, if◌then◌else◌, IfSome}
 use Rattle.std.specs.Option.{option_map}
-use Rattle.egt_board.specs.Setup.{Setup}
-use Rattle.egt_board.specs.declared.man.Side.{Side}
-use Rattle.egt_index.specs.Stood.{Entry, HasStand}
+use Rattle.egt_index.specs.Stood.{Entry}
 use Rattle.egt_index.specs.declared.stand.Stand.{Stand}
 
 -- the square of a man after the man on `from` went to `to`
@@ -26,10 +24,3 @@ pub record AreOnBoard (stand : Stand) : Type 0 where
   pub black : stand.black < 64
   pub next : IfSome stand.next (λ e. e.1 < 64)
   pub last : IfSome stand.last (λ e. e.1 < 64)
-
--- q is the position after the man on `from` went to `to`
-pub record IsWent (c : ℕ) (flips : Bool) (before after : Stand) (from to : ℕ) (side : Side) (q : Setup) : Type 0 where
-  pub from_in : from < 64
-  pub on_board : AreOnBoard before
-  pub moved : IsMovedStand from to before after
-  pub stand : HasStand c flips after side false q

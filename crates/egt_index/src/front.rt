@@ -1,6 +1,5 @@
 //! What the men before the last one tell of all codes that differ by no more than his square, the side to move and the target: such
 //! codes follow one another.
-ghost use Rattle.std.specs.Prelude.{◌≡◌};
 ghost use Rattle.egt_index.specs.Front.{IsFrontOf};
 
 use crate::beaten::{Told, told_in_order};

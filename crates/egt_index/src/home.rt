@@ -1,8 +1,7 @@
 //! The turns that bring a king to a square of the white king's digit.
-ghost use Rattle.std.specs.Prelude.{◌≡◌, ℕ, ◌<◌, ◌+◌, ◌%◌, Bool, false, slice_index, None, IfSome, if◌then◌else◌};
-ghost use Rattle.egt_board.specs.Turned.{turned_square};
+ghost use Rattle.std.specs.Prelude.{◌≡◌, ℕ, ◌<◌, ◌+◌, false, slice_index, None, IfSome, if◌then◌else◌};
 ghost use Rattle.egt_index.specs.Code.{king_square};
-ghost use Rattle.egt_index.specs.Home.{AreHome, IsTurnWith};
+ghost use Rattle.egt_index.specs.Home.{AreHome};
 ghost use Rattle.egt_index.specs.Size.{king_base};
 
 use egt_board::Square;

@@ -1,5 +1,5 @@
 //! The index of a position.
-ghost use Rattle.std.specs.Prelude.{◌≡◌, ◌<◌, ◌%◌, ◌/◌, ◌==◌, Bool, true, false, IfSome, Some, None};
+ghost use Rattle.std.specs.Prelude.{◌≡◌, ◌<◌, ◌%◌, ◌/◌, ◌==◌, Bool, true, false, Some, None};
 ghost use Rattle.std.specs.Option.{is_some};
 ghost use Rattle.egt_board.specs.AllMen.{HasAllMen};
 ghost use Rattle.egt_board.specs.Setup.{Setup, IsAdmissible};
@@ -20,11 +20,11 @@ use crate::codes::{number_behind, with_side};
 use crate::digits::king_digit;
 use crate::facts::facts;
 use crate::home::{Turns, home};
+use crate::homing::Homing;
 use crate::men::{has_equal_sides, has_pawns};
 use crate::nearer::homeward;
 use crate::scales::{Squares, squares_of};
 use crate::stand::{Stand, Standing, exchanged, man_of, stand_after, standing_by, standing_of};
-use crate::ways::Homing;
 use egt_board::{Man, Position, Side, Square};
 use egt_class::laws::men_beside_are_counted;
 use egt_class::{Class, of_men};

@@ -5,7 +5,7 @@ ghost use Rattle.egt_board.specs.declared.man.Side.{Side};
 ghost use Rattle.egt_board.specs.Man.{other_side};
 ghost use Rattle.egt_board.specs.Pawn.{pawn_of, HasNoPawn, MayStand};
 ghost use Rattle.egt_board.specs.Placement.{IsFree, Stands};
-ghost use Rattle.egt_board.specs.Settled.{IsSettled, SettlesTo};
+ghost use Rattle.egt_board.specs.Settled.{IsSettled};
 ghost use Rattle.egt_board.specs.Setup.{Setup, IsAdmissible};
 ghost use Rattle.egt_class.specs.Material.{material_of};
 ghost use Rattle.egt_class.specs.Membership.{IsOf};

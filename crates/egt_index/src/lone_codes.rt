@@ -1,5 +1,5 @@
 //! The codes of a class with one man beside the kings, by the squares of the kings.
-ghost use Rattle.std.specs.Prelude.{◌≡◌, ◌<◌, ℕ, IfSome};
+ghost use Rattle.std.specs.Prelude.{◌<◌, IfSome};
 ghost use Rattle.egt_index.specs.LoneCodes.{IsLoneMan, IsLoneRow};
 
 use crate::digits::king_digit;

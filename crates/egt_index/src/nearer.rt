@@ -1,9 +1,9 @@
 //! The colours in which the least code is, as the kings tell: their digits are the highest.
-ghost use Rattle.std.specs.Prelude.{◌≡◌, ℕ, ◌+◌, ◌*◌, ◌<◌, ◌/◌, ◌%◌, ◌==◌, Bool, true, false, IfSome};
+ghost use Rattle.std.specs.Prelude.{◌≡◌, ℕ, ◌+◌, ◌*◌, ◌<◌, ◌/◌, ◌%◌, ◌==◌, Bool, IfSome};
 ghost use Rattle.egt_board.specs.Turned.{turned_square};
-ghost use Rattle.egt_class.specs.Material.{material_of, has_equal_sides};
+ghost use Rattle.egt_class.specs.Material.{material_of};
 ghost use Rattle.egt_index.specs.Home.{AreHome};
-ghost use Rattle.egt_index.specs.Nearer.{TakesAway, AreNearest, KingsTell};
+ghost use Rattle.egt_index.specs.Nearer.{AreNearest};
 ghost use Rattle.egt_index.specs.Size.{has_pawns};
 
 use crate::facts::facts;
@@ -64,33 +64,4 @@ pub(crate) fn homeward(class: Class, white: Square, black: Square, flips: bool) 
         turns: Turns { first, second },
         kings: least_kings(white, black, kings, second),
     }
-}
-
-/// Whether the turn, if there is one, takes the kings to greater squares.
-#[inline(always)]
-pub(crate) fn takes_away(white: Square, black: Square, turn: Option<u8>) -> bool
-    requires { IfSome turn (λ t. t < 16) }
-    ensures { result ≡ true → IfSome turn (TakesAway white black) }
-{
-    match turn {
-        Some(turn) => pair(white, black) < kings_after(white, black, turn),
-        None => true,
-    }
-}
-
-/// Whether the kings come to lesser squares in the class's colours than in the others, where both sides have the same men, the white king
-/// is at home, and this turn leaves him there, if there is one beside that which changes nothing. Then the least code is in these.
-#[inline(always)]
-pub(crate) fn is_own_nearer(class: Class, stand: &Stand, still: Option<u8>) -> bool
-    requires below { IfSome still (λ turn. turn < 16) }
-    requires equal { has_equal_sides class ≡ true }
-    requires home { AreHome (has_pawns (material_of class)) false stand.now.white 0 still }
-    ensures { result ≡ true → KingsTell class stand.now.white stand.now.black }
-{
-    facts();
-    let _number = class.number();
-    let kings = pair(stand.white, stand.black);
-    let own = least_kings(stand.white, stand.black, kings, still);
-    let others = homeward(class, stand.black, stand.white, true).kings;
-    own < others
 }

@@ -1,20 +1,17 @@
 //! The positions that codes spell, row by row: the codes of a row differ in no more than the side to move and the target, so the same
 //! men stand on the same squares.
-ghost use Rattle.std.specs.Prelude.{◌≡◌, ◌/◌, ◌%◌, ◌↔◌, ℕ, true, false, IsTrue, IsSome, IfSome, IfNone};
+ghost use Rattle.std.specs.Prelude.{◌≡◌, ◌/◌, ℕ, true, false, IfSome, IfNone};
 ghost use Rattle.egt_board.specs.Settled.{IsSettled};
 ghost use Rattle.egt_board.specs.Setup.{Setup};
 ghost use Rattle.egt_index.specs.Beaten.{SpellsAt};
 ghost use Rattle.egt_index.specs.Code.{Spells};
-ghost use Rattle.egt_index.specs.Frame.{IsFrame};
 ghost use Rattle.egt_index.specs.Front.{IsFront, IsFrontOf, TellsLast};
 ghost use Rattle.egt_index.specs.Index.{IsIndex, IsVoid};
-ghost use Rattle.egt_index.specs.Row.{row_len, IsInRow, IsRow, IsTurnedTo, IsRowOf};
-ghost use Rattle.egt_index.specs.Size.{size_of};
+ghost use Rattle.egt_index.specs.Row.{row_len, IsInRow, IsRow, IsRowOf};
 ghost use Rattle.egt_index.specs.Stood.{HasStand};
 
 use crate::beaten::is_least;
 use crate::facts::facts;
-use crate::frame::Frame;
 use crate::front::{Front, front_of};
 use crate::men::has_target;
 use crate::spelling::{admitted, ends, is_passed, is_settled, take_last, target_of, with_entry};
@@ -25,24 +22,12 @@ use std::marker::Model;
 
 /// The codes of a class that differ in no more than the side to move and the target, and where the men stand in all of them.
 #[derive(Clone, Copy)]
-pub struct Row {
+pub(crate) struct Row {
     class: Class,
     stand: Stand,
     board: Board,
     /// Whether each code is to be compared with those of images.
     tied: bool,
-    /// The frame of the position to which the row was turned, if it was. Its others differ in no more than the side to move.
-    frame: Option<Frame>,
-}
-
-/// How many codes a row has: the rows of a class are whole.
-#[inline(always)]
-pub fn row_len(class: Class) -> u32
-    ensures is { result ≡ row_len class }
-    ensures whole { size_of class % row_len class ≡ 0 }
-{
-    let _number = class.number();
-    if has_target(class) { 4 } else { 2 }
 }
 
 /// The row of the front's men and of the last one, if there is one; `None` where he tells that none of its codes is a position's index.
@@ -66,13 +51,12 @@ fn row_behind(class: Class, front: &Front, last: Option<(Man, Square)>) -> Optio
         stand,
         board,
         tied: front.tied,
-        frame: None,
     })
 }
 
 /// The row of the code; `None` where the men or their images tell that none of its codes is a position's index.
 #[inline(always)]
-pub fn row_of(class: Class, code: u32) -> Option<Row>
+fn row_of(class: Class, code: u32) -> Option<Row>
     ensures { IsRowOf class (code / row_len class) result }
 {
     let (number, _, _) = ends(class, code);
@@ -138,7 +122,7 @@ impl Rows {
 
     /// The row of the code, as `row_of` answers.
     #[inline(always)]
-    pub fn row_of(&mut self, code: u32) -> Option<Row>
+    pub(crate) fn row_of(&mut self, code: u32) -> Option<Row>
         ensures row { IsRowOf self.old (code / row_len self.old) result }
         ensures class { self.new ≡ self.old }
     {
@@ -174,7 +158,7 @@ impl Row {
 
     /// The settled position that the code of the row spells; `None` where the code is no position's index.
     #[inline(always)]
-    pub fn position_at(&self, code: u32) -> Option<Position>
+    pub(crate) fn position_at(&self, code: u32) -> Option<Position>
         requires { IsRow (code / row_len self.now.class) self.now }
         ensures spells { IfSome result (λ p. Spells self.now.class code p) }
         ensures settled { IfSome result IsSettled }
@@ -200,51 +184,6 @@ impl Row {
         } else {
             None
         }
-    }
-
-    /// The settled position that the code of the row spells: what `position_at` answers, where the caller knows that the code is an index. No
-    /// test is made.
-    #[inline(always)]
-    pub fn known_position(&self, code: u32) -> Position
-        requires row { IsRow (code / row_len self.now.class) self.now }
-        requires index { ¬ IsVoid self.now.class code }
-        ensures spells { Spells self.now.class code result }
-        ensures settled { IsSettled result }
-        ensures index { IsIndex self.now.class result code }
-        ensures row { IsInRow self.now.class self.now.stand result }
-    {
-        facts();
-        let _number = self.class.number();
-        let Row { board, stand, .. } = *self;
-        let (_, side, passed) = ends(self.class, code);
-        let target = target_of(side, passed, &stand);
-        Position::with_kings(board, side, target, stand.white, stand.black)
-    }
-
-    /// Turns the frame to a position that a code of the row spells. It is made for the first one alone.
-    #[inline(always)]
-    pub fn turn_to(&mut self, position: &Position)
-        requires row { (n : ℕ) × IsRow n self.old }
-        requires of { IsInRow self.old.class self.old.stand position.now }
-        ensures row { (n : ℕ) → IsRow n self.old → IsRow n self.new }
-        ensures class { self.new.class ≡ self.old.class }
-        ensures frame { IsTurnedTo position.now self.new }
-    {
-        let side = position.side();
-        match &mut self.frame {
-            Some(frame) => frame.side = side,
-            None => self.frame = Some(Frame::of_stand(self.class, &self.stand, side)),
-        }
-    }
-
-    /// The frame of the position to which the row was turned.
-    #[inline(always)]
-    pub fn frame(&self) -> &Frame
-        requires { IsSome self.now.frame }
-        ensures frame { (p : Setup) → IsTurnedTo p self.now → IsFrame p result.now }
-        ensures class { (p : Setup) → IsTurnedTo p self.now → result.now.class ≡ self.now.class }
-    {
-        self.frame.as_ref().unwrap()
     }
 }
 

@@ -1,5 +1,5 @@
 //! What men on their squares add to a code.
-ghost use Rattle.std.specs.Prelude.{◌≡◌, ◌<◌, ◌≤◌, ◌/◌, ◌%◌, ◌==◌, ◌*◌, ◌≢◌, Bool, min, max, slice_index_or, if◌then◌else◌, true, false};
+ghost use Rattle.std.specs.Prelude.{◌≡◌, ◌<◌, ◌≤◌, ◌/◌, ◌%◌, ◌==◌, ◌*◌, min, max, slice_index_or, if◌then◌else◌};
 ghost use Rattle.egt_board.specs.declared.man.Side.TheVariants.{White, Black};
 ghost use Rattle.egt_board.specs.Turned.{turned_square};
 ghost use Rattle.egt_class.specs.Material.{material_of};
@@ -9,7 +9,7 @@ ghost use Rattle.egt_index.specs.Stood.{men_among, list_of, IsFilled};
 ghost use Rattle.egt_index.specs.Went.{moved_square};
 ghost use Rattle.egt_index.specs.declared.scales.Scales.{Scales};
 ghost use Rattle.egt_index.specs.declared.stand.Stand.{Stand};
-ghost use Rattle.egt_index.specs.Scales.{share, code_by, digits_at, less_at, stride_at, man_at, AreScales, ScalesFit, IsOn};
+ghost use Rattle.egt_index.specs.Scales.{share, code_by, man_at, AreScales, ScalesFit, IsOn};
 
 use crate::stand::{Stand, square_of};
 use crate::turning::turned_square;
@@ -242,48 +242,6 @@ impl Scales {
             + self.next.share(squares.next)
             + self.last.share(squares.last)
             + self.side
-    }
-
-    /// The same without the black king.
-    pub(crate) fn without_black(self) -> Scales
-        ensures king { result.king ≡ self.king }
-        ensures none { result.black.stride ≡ 0 }
-        ensures next { result.next ≡ self.next }
-        ensures last { result.last ≡ self.last }
-        ensures side { result.side ≡ self.side }
-    {
-        Scales {
-            black: NOBODY,
-            ..self
-        }
-    }
-
-    /// The same without the man who stands next in the name.
-    pub(crate) fn without_next(self) -> Scales
-        ensures king { result.king ≡ self.king }
-        ensures none { result.next.stride ≡ 0 }
-        ensures black { result.black ≡ self.black }
-        ensures last { result.last ≡ self.last }
-        ensures side { result.side ≡ self.side }
-    {
-        Scales {
-            next: NOBODY,
-            ..self
-        }
-    }
-
-    /// The same without the last man of the name.
-    pub(crate) fn without_last(self) -> Scales
-        ensures king { result.king ≡ self.king }
-        ensures none { result.last.stride ≡ 0 }
-        ensures black { result.black ≡ self.black }
-        ensures next { result.next ≡ self.next }
-        ensures side { result.side ≡ self.side }
-    {
-        Scales {
-            last: NOBODY,
-            ..self
-        }
     }
 }
 

@@ -1,5 +1,5 @@
 //! How many codes each class has.
-ghost use Rattle.std.specs.Prelude.{◌≡◌, slice_index};
+ghost use Rattle.std.specs.Prelude.{◌≡◌};
 ghost use Rattle.egt_index.specs.Size.{size_of};
 
 use egt_class::Class;

@@ -10,9 +10,8 @@ ghost use Rattle.egt_board.specs.Setup.{Setup, IsAdmissible, IsKingOn};
 ghost use Rattle.egt_board.specs.Target.{FitsTarget};
 ghost use Rattle.egt_board.specs.declared.man.Side.TheVariants.{White, Black};
 ghost use Rattle.egt_class.specs.Material.{material_of};
-ghost use Rattle.egt_index.specs.AtIndex.{IsAtIndex, IsFramedAt};
+ghost use Rattle.egt_index.specs.AtIndex.{IsAtIndex};
 ghost use Rattle.egt_index.specs.Code.{Spells, king_square};
-ghost use Rattle.egt_index.specs.Frame.{IsFrame};
 ghost use Rattle.egt_index.specs.Front.{TellsLast, IsBefore, IsNoneBefore};
 ghost use Rattle.egt_index.specs.Home.{IsAtHome};
 ghost use Rattle.egt_index.specs.Index.{IsIndex, IsVoid};
@@ -24,10 +23,8 @@ ghost use Rattle.egt_index.specs.StepCodes.{TellsMen};
 ghost use Rattle.egt_index.specs.Stood.{AllApart, IsFilled, list_of, with_entry, HasStand};
 
 use crate::facts::facts;
-use crate::frame::Frame;
 use crate::men::{beside, has_pawns, has_target};
 use crate::stand::{Stand, with_last};
-use crate::total::without_ends;
 use egt_board::{Board, Kind, Man, Position, Side, Square};
 use egt_class::Class;
 
@@ -294,37 +291,6 @@ pub fn position_of(class: Class, index: u32) -> Position
     ensures index { IsIndex class result index }
 {
     at_index(class, index).0
-}
-
-/// The same, and the frame of the position.
-#[inline(always)]
-pub fn indexed(class: Class, index: u32) -> (Position, Frame)
-    requires { ¬ IsVoid class index }
-    ensures spells { Spells class index result.0 }
-    ensures settled { IsSettled result.0 }
-    ensures index { IsIndex class result.0 index }
-    ensures frame { IsFrame result.0 result.1 }
-    ensures class { result.1.class ≡ class }
-{
-    let (position, stand) = at_index(class, index);
-    let frame = Frame::of_stand(class, &stand, position.side());
-    (position, frame)
-}
-
-/// The frame of the settled position whose index this is, and whether that has a target, where the caller knows that there is one. No
-/// board is made.
-#[inline(always)]
-pub fn frame_at(class: Class, index: u32) -> (Frame, bool)
-    requires { ¬ IsVoid class index }
-    ensures there { (p : Setup) × IsFramedAt class index p result.0 result.1 }
-    ensures all { (p : Setup) → Spells class index p → IsFramedAt class index p result.0 result.1 }
-    ensures class { result.0.class ≡ class }
-{
-    facts();
-    let _number = class.number();
-    let (stand, side, passed) = stand_at(class, index);
-    let total = without_ends(has_target(class), index);
-    (Frame::with_total(class, &stand, side, total), passed)
 }
 
 /// Where the men stand of the position that the code spells, the side to move, and whether there is a target.

@@ -1,5 +1,5 @@
 //! The men of a class on their squares.
-ghost use Rattle.std.specs.Prelude.{◌≡◌, ◌<◌, ◌%◌, ◌/◌, ◌==◌, ◌++◌, ◌↔◌, IsTrue, IfSome, Bool, true, false, if◌then◌else◌, None};
+ghost use Rattle.std.specs.Prelude.{◌≡◌, ◌<◌, ◌%◌, ◌/◌, ◌==◌, ◌++◌, ◌↔◌, IsTrue, IfSome, Bool, true, false, None, if◌then◌else◌};
 ghost use Rattle.std.specs.Option.{option_to_list, option_map};
 ghost use Rattle.egt_board.specs.AllMen.{HasAllMen};
 ghost use Rattle.egt_board.specs.Setup.{Setup, IsAdmissible};
@@ -9,7 +9,7 @@ ghost use Rattle.egt_class.specs.Membership.{IsOf};
 ghost use Rattle.egt_index.specs.Beaten.{AreBehind};
 ghost use Rattle.egt_index.specs.Scales.{IsOn};
 ghost use Rattle.egt_index.specs.Size.{men_beside};
-ghost use Rattle.egt_index.specs.Stood.{Stood, Holds, IsAmong, IsFirst, list_of, before_last, with_last, IsFilled, IsOff, AllApart, AreNear, entry_after, on_square_of, IsInOrder, IsOrdered, AreExchanged, IsTurned, IsStandAfter, square_or};
+ghost use Rattle.egt_index.specs.Stood.{Stood, Holds, IsAmong, IsFirst, list_of, before_last, with_last, IsFilled, IsOff, AllApart, AreNear, entry_after, on_square_of, IsInOrder, IsOrdered, AreExchanged, IsTurned, IsStandAfter};
 
 use crate::facts::facts;
 use crate::men::beside;
@@ -92,17 +92,6 @@ pub(crate) fn man_of(entry: &Option<(Man, Square)>) -> Option<Man>
     match entry {
         Some((man, _)) => Some(*man),
         None => None,
-    }
-}
-
-/// The man's square; the other one where there is no man, so that nothing hangs on whether there is.
-#[inline(always)]
-pub(crate) fn square_or(entry: &Option<(Man, Square)>, other: Square) -> Square
-    ensures { result ≡ square_or entry.now other }
-{
-    match entry {
-        Some((_, square)) => *square,
-        None => other,
     }
 }
 

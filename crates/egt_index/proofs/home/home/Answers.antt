@@ -1,5 +1,5 @@
 use Rattle.std.proofs.Common.{ℕ, ◌≡◌, ◌<◌, ◌+◌, Bool, true, false, cond, None, Some, inl, inr, refl, arith}
-use Rattle.egt_index.proofs.Homing.{home_told}
+use Rattle.egt_index.proofs.ComesHome.{home_told}
 use Rattle.egt_index.proofs.home.home.Goals as goal
 
 pub entries-first-requires : goal.entries-first-requires

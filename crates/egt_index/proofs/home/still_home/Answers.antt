@@ -1,5 +1,5 @@
 use Rattle.std.proofs.Common.{Some, None, cond, refl, ap, sym, inl, inr, true, false}
-use Rattle.egt_index.proofs.Homing.{still_told, tied_is}
+use Rattle.egt_index.proofs.ComesHome.{still_told, tied_is}
 use Rattle.egt_index.proofs.home.still_home.Goals as goal
 
 pub returns-then-pawns-file-clause-home : goal.returns-then-pawns-file-clause-home

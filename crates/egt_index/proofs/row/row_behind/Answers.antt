@@ -74,6 +74,5 @@ returns c = λ n high front tells. (
     few = let is = ap map.len (board c high front) in let few = few_with c.with_last-stand.result in omega arith;
     least = λ not. subst (λ (stand : Stand). AllAsked c.args.class stand None (IsIndex c.args.class)) (sym c.with_last-stand.ensures)
         (front.least not c.args.last (subst (λ (stand : Stand). IsInOrder stand.next stand.last) c.with_last-stand.ensures (c.is_behind.ensures.in_order c.if-is_behind.false)));
-    frame = tt;
   },
 )
