@@ -1,15 +1,16 @@
 -- The greatest score of the codes of some men, wherever turns take them, is that of the positions with these men.
-use Rattle.std.proofs.Common.{◌≡◌, ℕ, ◌%◌, ◌<◌, ◌≤◌, ◌⊎◌, Bool, false, arith, sym, ap, ◌∙◌, inl, inr}
-use Rattle.std.proofs.lemmas.Bool.{cases_lt}
+use Rattle.std.proofs.Common.{◌≡◌, ℕ, ◌%◌, ◌<◌, ◌≤◌, ◌⊎◌, Bool, true, false, arith, sym, ap, ◌∙◌, inl, inr}
+use Rattle.std.proofs.lemmas.Bool.{cases_lt, false≢true}
 use Rattle.std.proofs.lemmas.List.{get_or_past}
 use Rattle.egt_board.specs.Images.{AreImages}
+use Rattle.egt_board.specs.Settled.{IsSettled}
 use Rattle.egt_board.specs.Setup.{Setup, IsAdmissible}
 use Rattle.egt_board.specs.declared.man.Side.{Side}
 use Rattle.egt_index.specs.Code.{Spells}
 use Rattle.egt_index.specs.Index.{IsIndex, IsVoid, SettleAlike}
 use Rattle.egt_index.specs.Size.{size_of}
 use Rattle.egt_index.specs.Stood.{HasStand, IsFilled}
-use Rattle.egt_index.specs.TurnedMen.{IsSomeTurnedCode}
+use Rattle.egt_index.specs.TurnedMen.{IsSomeTurnedCode, IsSomeTurnedCodeWith}
 use Rattle.egt_index.specs.Went.{AreOnBoard}
 use Rattle.egt_index.specs.declared.stand.Stand.{Stand}
 use Rattle.egt_lanes.specs.Raised.{IsRaised}
@@ -18,13 +19,18 @@ use Rattle.egt_table.specs.Table.{IsTable, TableValue, entries_of}
 use Rattle.egt_table.specs.declared.column.Column.{Column}
 use Rattle.egt_check.specs.Facts.{Facts}
 use Rattle.egt_check.specs.Tables.{entry_at}
-use Rattle.egt_check.specs.Worth.{HasBytes, IsBestOf, IsScoreOf, score_at}
+use Rattle.egt_check.specs.Worth.{HasBytes, IsBestOf, IsBestWith, IsScoreWith, score_at}
 
 -- what codes tell of turned men, by the law of egt_index
 pub record Turning : Type 0 where
-  pub index : (c i : ℕ) (flips : Bool) (stand : Stand) (side : Side) (q : Setup) → c < 36 → IsFilled stand → HasStand c flips stand side false q → IsIndex c q i → IsSomeTurnedCode c i flips stand side
-  pub there : (c code : ℕ) (flips : Bool) (stand : Stand) (side : Side) (r : Setup) → c < 36 → AreOnBoard stand → IsSomeTurnedCode c code flips stand side → Spells c code r → (q : Setup) × HasStand c flips stand side false q × AreImages q r
+  pub index : (passed : Bool) (c i : ℕ) (flips : Bool) (stand : Stand) (side : Side) (q : Setup) → c < 36 → IsFilled stand → HasStand c flips stand side passed q → IsIndex c q i → IsSomeTurnedCodeWith passed c i flips stand side
+  pub there : (passed : Bool) (c code : ℕ) (flips : Bool) (stand : Stand) (side : Side) (r : Setup) → c < 36 → AreOnBoard stand → IsSomeTurnedCodeWith passed c code flips stand side → Spells c code r
+      → (passed ≡ true → IsSettled r) → (q : Setup) × HasStand c flips stand side passed q × AreImages q r
   pub or_void : (c code : ℕ) → c < 36 → ((p : Setup) × Spells c code p × IsIndex c p code) ⊎ IsVoid c code
+
+-- what an index spells is settled
+abbrev pub SpellsSettled : Type 0
+SpellsSettled = (c i : ℕ) (p q : Setup) → IsAdmissible p → IsIndex c p i → Spells c i q → IsSettled q
 
 -- there is a man beside the kings where there is a last one, and all are on the board
 pub record AreWhole (stand : Stand) : Type 0 where
@@ -52,19 +58,19 @@ module _ (facts : Facts) (turning : Turning) (t : TableValue) (column : Column) 
           let there = facts.settles r in
           record { here = here.0; there = there.0; settles_here = here.1; settles_there = there.1; images = facts.images_settle q r here.0 there.0 q_ok images here.1 there.1 }
 
-  module _ (In : Stand → Type 0) (flips : Bool) (side : Side) (w : ℕ) (whole : (stand : Stand) → In stand → AreWhole stand)
-      (raised : IsRaised 0 (λ code. (stand : Stand) × In stand × IsSomeTurnedCode t.class code flips stand side) (score_at t column) w) where
-    above : (stand : Stand) (q : Setup) → In stand → HasStand t.class flips stand side false q → (i : ℕ) × IsIndex t.class q i × (score_at t column i ≤ w)
+  module _ (passed : Bool) (settled : passed ≡ true → SpellsSettled) (In : Stand → Type 0) (flips : Bool) (side : Side) (w : ℕ) (whole : (stand : Stand) → In stand → AreWhole stand)
+      (raised : IsRaised 0 (λ code. (stand : Stand) × In stand × IsSomeTurnedCodeWith passed t.class code flips stand side) (score_at t column) w) where
+    above : (stand : Stand) (q : Setup) → In stand → HasStand t.class flips stand side passed q → (i : ℕ) × IsIndex t.class q i × (score_at t column i ≤ w)
     above stand q in_stands has =
         let index = facts.some_index q t.class flips is_table.class_in has.admissible has.is_of in
-        (index.0, index.1, raised.above index.0 (stand, in_stands, turning.index t.class index.0 flips stand side q is_table.class_in (whole stand in_stands).filled has index.1))
+        (index.0, index.1, raised.above index.0 (stand, in_stands, turning.index passed t.class index.0 flips stand side q is_table.class_in (whole stand in_stands).filled has index.1))
 
     -- a code with a score is an index, and of a position with these men
-    reached_by : (code : ℕ) (stand : Stand) → In stand → IsSomeTurnedCode t.class code flips stand side → w ≡ score_at t column code → (w ≡ 0) ⊎ IsScoreOf t column In flips side w
+    reached_by : (code : ℕ) (stand : Stand) → In stand → IsSomeTurnedCodeWith passed t.class code flips stand side → w ≡ score_at t column code → (w ≡ 0) ⊎ IsScoreWith passed t column In flips side w
     reached_by code stand in_stands turned is = elim (turning.or_void t.class code is_table.class_in) [
       | inr void ↦ inl (is ∙ void_score code void)
       | inl spelled ↦
-          let there = turning.there t.class code flips stand side spelled.0 is_table.class_in (whole stand in_stands).on_board turned spelled.1 in
+          let there = turning.there passed t.class code flips stand side spelled.0 is_table.class_in (whole stand in_stands).on_board turned spelled.1 (λ some. settled some t.class code spelled.0 spelled.0 spelled.1.admissible spelled.2 spelled.1) in
           let index = facts.some_index there.0 t.class flips is_table.class_in there.1.admissible there.1.is_of in
           inr (record {
             stand = stand;
@@ -77,8 +83,13 @@ module _ (facts : Facts) (turning : Turning) (t : TableValue) (column : Column) 
           })
     ]
 
-    pub best_of : IsBestOf t column In flips side w
-    best_of = record {
+    pub best_with : IsBestWith passed t column In flips side w
+    best_with = record {
       above = above;
       reached = elim raised.reached [ inl none ↦ inl none | inr h ↦ reached_by h.0 h.1.0 h.1.1 h.1.2 h.2 ];
     }
+
+  -- the same of positions without a target
+  pub best_of : (In : Stand → Type 0) (flips : Bool) (side : Side) (w : ℕ) → ((stand : Stand) → In stand → AreWhole stand) → IsRaised 0 (λ code. (stand : Stand) × In stand × IsSomeTurnedCode t.class code flips stand side) (score_at t column) w
+      → IsBestOf t column In flips side w
+  best_of = best_with false (λ some. absurd (false≢true some))

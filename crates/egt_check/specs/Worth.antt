@@ -5,7 +5,7 @@ use Rattle.egt_board.specs.declared.man.Side.{Side}
 use Rattle.egt_index.specs.Index.{IsIndex, IsVoid}
 use Rattle.egt_index.specs.Size.{size_of}
 use Rattle.egt_index.specs.Stood.{HasStand}
-use Rattle.egt_index.specs.TurnedMen.{IsSomeTurnedCode}
+use Rattle.egt_index.specs.TurnedMen.{IsSomeTurnedCodeWith}
 use Rattle.egt_index.specs.declared.stand.Stand.{Stand}
 use Rattle.egt_lanes.specs.Raised.{IsRaised}
 use Rattle.egt_lanes.specs.Scores.{byte_score}
@@ -19,26 +19,38 @@ use Rattle.egt_check.specs.Tables.{entry_at}
 abbrev pub score_at : TableValue → Column → ℕ → ℕ
 score_at t column code = byte_score (entry_at t column code % 256)
 
--- the greatest score of the codes that tell the men where turns take them
+-- the greatest score of the codes that tell the men where turns take them, and a target where one was passed
+abbrev pub IsReadWith : Bool → TableValue → Column → Bool → Stand → Side → ℕ → Type 0
+IsReadWith passed t column flips stand side w = IsRaised 0 (λ code. IsSomeTurnedCodeWith passed t.class code flips stand side) (score_at t column) w
+
+-- and no target
 abbrev pub IsRead : TableValue → Column → Bool → Stand → Side → ℕ → Type 0
-IsRead t column flips stand side w = IsRaised 0 (λ code. IsSomeTurnedCode t.class code flips stand side) (score_at t column) w
+IsRead = IsReadWith false
 
 -- each void entry is 0, and each other one has a byte of its own, alike in both columns
 pub record HasBytes (t : TableValue) : Type 0 where
   pub void : (column : Column) (i : ℕ) → i < size_of t.class → IsVoid t.class i → entry_at t column i ≡ 0
   pub alike : (i : ℕ) → i < size_of t.class → ¬ IsVoid t.class i → AreAlike (entry_at t Mate i) (entry_at t Zeroing i)
 
--- the score of the entry of a position with some of these men
-pub record IsScoreOf (t : TableValue) (column : Column) (In : Stand → Type 0) (flips : Bool) (side : Side) (w : ℕ) : Type 0 where
+-- the score of the entry of a position with some of these men, and a target where one was passed
+pub record IsScoreWith (passed : Bool) (t : TableValue) (column : Column) (In : Stand → Type 0) (flips : Bool) (side : Side) (w : ℕ) : Type 0 where
   pub stand : Stand
   pub in_stands : In stand
   pub position : Setup
-  pub has : HasStand t.class flips stand side false position
+  pub has : HasStand t.class flips stand side passed position
   pub index : ℕ
   pub is_index : IsIndex t.class position index
   pub is : w ≡ score_at t column index
 
+-- and no target
+abbrev pub IsScoreOf : TableValue → Column → (Stand → Type 0) → Bool → Side → ℕ → Type 0
+IsScoreOf = IsScoreWith false
+
 -- the greatest score of the entries of all such positions, or 0 where there is none
-pub record IsBestOf (t : TableValue) (column : Column) (In : Stand → Type 0) (flips : Bool) (side : Side) (w : ℕ) : Type 0 where
-  pub above : (stand : Stand) (q : Setup) → In stand → HasStand t.class flips stand side false q → (i : ℕ) × IsIndex t.class q i × (score_at t column i ≤ w)
-  pub reached : (w ≡ 0) ⊎ IsScoreOf t column In flips side w
+pub record IsBestWith (passed : Bool) (t : TableValue) (column : Column) (In : Stand → Type 0) (flips : Bool) (side : Side) (w : ℕ) : Type 0 where
+  pub above : (stand : Stand) (q : Setup) → In stand → HasStand t.class flips stand side passed q → (i : ℕ) × IsIndex t.class q i × (score_at t column i ≤ w)
+  pub reached : (w ≡ 0) ⊎ IsScoreWith passed t column In flips side w
+
+-- of those without a target
+abbrev pub IsBestOf : TableValue → Column → (Stand → Type 0) → Bool → Side → ℕ → Type 0
+IsBestOf = IsBestWith false

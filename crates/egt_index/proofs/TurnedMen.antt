@@ -1,14 +1,15 @@
 -- The codes that tell the men of a position where turns take them.
-use Rattle.std.proofs.Common.{◌≡◌, ◌≢◌, ℕ, ◌/◌, ◌%◌, ◌<◌, ◌⊎◌, ◌&&◌, not, Bool, true, false, cond, ltb, eqb, IsTrue, List, [], ◌∷◌, ◌++◌, map, Option, Some, None, IfSome, arith, refl, sym, ap, ◌∙◌, inl, inr, subst}
+use Rattle.std.proofs.Common.{◌≡◌, ℕ, ◌/◌, ◌%◌, ◌<◌, ◌⊎◌, ◌&&◌, not, Bool, true, false, cond, ltb, eqb, IsTrue, List, [], ◌∷◌, ◌++◌, map, Option, Some, None, IfSome, arith, refl, sym, ap, ◌∙◌, inl, inr, subst}
 use Rattle.std.specs.Prelude.{slice_index}
 use Rattle.std.specs.Option.{is_some, option_map, option_to_list}
 use Rattle.std.specs.FinMap as placement
-use Rattle.std.proofs.lemmas.Bool.{cases_eq, and_parts, eqb-true, ltb-true, false≢true}
+use Rattle.std.proofs.lemmas.Bool.{and_parts, eqb-true, ltb-true, false≢true}
 use Rattle.egt_board.specs.Attack.{king_of}
 use Rattle.egt_board.specs.Images.{AreImages, side_number}
 use Rattle.egt_board.specs.Listed.{men_of}
 use Rattle.egt_board.specs.Pawn.{MayStand}
 use Rattle.egt_board.specs.Placement.{Placement, Stands}
+use Rattle.egt_board.specs.Settled.{IsSettled}
 use Rattle.egt_board.specs.Setup.{Setup}
 use Rattle.egt_board.specs.Symmetry.{KeepsPlay}
 use Rattle.egt_board.specs.Turned.{IsSetBy, IsTurnedBy, turned_man, turned_side, turned_square}
@@ -24,11 +25,11 @@ use Rattle.egt_index.specs.Facts.{Facts}
 use Rattle.egt_index.specs.Home.{symmetries}
 use Rattle.egt_index.specs.Index.{IsIndex}
 use Rattle.egt_index.specs.Picked.{AreCounted}
-use Rattle.egt_index.specs.Size.{base_of, has_pawns, has_target, men_bases, men_beside, men_in_order}
+use Rattle.egt_index.specs.Size.{base_of, has_pawns, has_target, men_bases, men_in_order}
 use Rattle.egt_index.specs.Spelled.{Ends, IsListed, SpellsMen}
 use Rattle.egt_index.specs.StepCodes.{TellsMen}
 use Rattle.egt_index.specs.Stood.{AllApart, AllStand, Entry, HasStand, IsFilled, IsOff, Stood, entry_after, list_of, men_among, on_square_of}
-use Rattle.egt_index.specs.TurnedMen.{IsInEitherOrder, IsSeenBy, IsSomeTurnedCode, IsTurnedCode, seen_across, swapped, turned_by, turned_with}
+use Rattle.egt_index.specs.TurnedMen.{IsInEitherOrder, IsSeenBy, IsSomeTurnedCodeWith, IsTurnedCodeWith, seen_across, swapped, turned_by, turned_with}
 use Rattle.egt_index.specs.Went.{AreOnBoard}
 use Rattle.egt_index.specs.declared.stand.Stand.{Stand}
 use Rattle.egt_index.proofs.After.{all_there, both_to_list, inverse, ordered, ordered_men, stood_by, turn_one, turned_men}
@@ -39,12 +40,11 @@ use Rattle.egt_index.proofs.Decoded.{code_of_parts}
 use Rattle.egt_index.proofs.Exchanged.{filled_exchanged, one_order}
 use Rattle.egt_index.proofs.LeastTurn.{keeps_play, kept}
 use Rattle.egt_index.proofs.Led.{eight}
-use Rattle.egt_index.proofs.Listing.{get_here, listed, listed_stands}
-use Rattle.egt_index.proofs.Moved.{settles_untargeted}
+use Rattle.egt_index.proofs.Listing.{listed, listed_stands}
 use Rattle.egt_index.proofs.OnePosition.{spells_once}
 use Rattle.egt_index.proofs.Picking.{same_digit}
 use Rattle.egt_index.proofs.Setups.{all_apart, apart_all, are_no_kings, men_spelled, no_king_listed, no_kings_beside, placed_may}
-use Rattle.egt_index.proofs.StepCodes.{no_target, stands_told, untargeted_stands}
+use Rattle.egt_index.proofs.StepCodes.{stands_told, told_stands, untargeted_stands}
 use Rattle.egt_index.proofs.Turned.{counted_of, differ, turned_class}
 
 -- ---- the turn that undoes another in the same colours
@@ -122,12 +122,22 @@ turned_twice true White = refl
 turned_twice true Black = refl
 turned_twice false side = refl
 
-none_mapped : (f : ℕ → ℕ) (o : Option ℕ) → o ≡ None → is_some (option_map f o) ≡ false
-none_mapped f None is = refl
-none_mapped f (Some t) is = cc
+some_mapped : (f : ℕ → ℕ) (o : Option ℕ) → is_some (option_map f o) ≡ is_some o
+some_mapped f None = refl
+some_mapped f (Some t) = refl
 
-module _ (facts : Facts) (c n code : ℕ) (flips : Bool) (stand : Stand) (side : Side) (r : Setup) (c_in : c < 36) (n_in : n < symmetries (has_pawns (material_of c))) (board : AreOnBoard stand)
-    (tells : TellsMen false c code (turned_with n flips stand) (turned_side flips side)) (spells : Spells c code r) where
+-- the digit of a target that a turn takes elsewhere
+digit_mapped : (f : ℕ → ℕ) (o : Option ℕ) → target_digit (option_map f o) ≡ cond (is_some o) 1 0
+digit_mapped f None = refl
+digit_mapped f (Some t) = refl
+
+-- what a code spells is settled where no target was passed
+settled_told : (passed : Bool) (c code : ℕ) (r : Setup) (stand : Stand) (side : Side) → Spells c code r → TellsMen passed c code stand side → (passed ≡ true → IsSettled r) → IsSettled r
+settled_told true c code r stand side spells tells settled = settled refl
+settled_told false c code r stand side spells tells settled = (untargeted_stands c code r stand side spells tells).settled
+
+module _ (facts : Facts) (passed : Bool) (c n code : ℕ) (flips : Bool) (stand : Stand) (side : Side) (r : Setup) (c_in : c < 36) (n_in : n < symmetries (has_pawns (material_of c))) (board : AreOnBoard stand)
+    (tells : TellsMen passed c code (turned_with n flips stand) (turned_side flips side)) (spells : Spells c code r) (settled : passed ≡ true → IsSettled r) where
   few : n < 8
   few = eight (has_pawns (material_of c)) n n_in
 
@@ -138,8 +148,8 @@ module _ (facts : Facts) (c n code : ℕ) (flips : Bool) (stand : Stand) (side :
   unfolding back
   back_in = undoing_in (has_pawns (material_of c)) flips n n_in
 
-  there : HasStand c false (turned_with n flips stand) (turned_side flips side) false r
-  there = untargeted_stands c code r (turned_with n flips stand) (turned_side flips side) spells tells
+  there : HasStand c false (turned_with n flips stand) (turned_side flips side) passed r
+  there = told_stands passed c code r (turned_with n flips stand) (turned_side flips side) spells (settled_told passed c code r (turned_with n flips stand) (turned_side flips side) spells tells settled) tells
 
   made : (q : Setup) × IsTurnedBy back flips r q
   made = facts.made back flips r there.admissible
@@ -160,17 +170,17 @@ module _ (facts : Facts) (c n code : ℕ) (flips : Bool) (stand : Stand) (side :
     all = all_before n flips r made.0 (list_of stand) few set (list_on_board stand board) (subst (AllStand false r.men) (sym (list_turned n flips stand)) there.stood.all);
   }
 
-  has : HasStand c flips stand side false made.0
+  has : HasStand c flips stand side passed made.0
   has = record {
     admissible = facts.admissible r made.0 there.admissible images;
     settled = (facts.settled r made.0 there.admissible images).0 there.settled;
     is_of = subst (λ f. IsOf c f made.0) (differ_from flips) (turned_class facts c false flips back r made.0 there.admissible (eight (has_pawns (material_of c)) back back_in) keeps made.1 there.is_of);
     stood = stood;
     side_is = set.side ∙ ap (turned_side flips) there.side_is ∙ turned_twice flips side;
-    target_is = ap is_some set.target ∙ none_mapped (turned_square back flips) r.target (no_target r.target there.target_is);
+    target_is = ap is_some set.target ∙ some_mapped (turned_square back flips) r.target ∙ there.target_is;
   }
 
-  pub image_told : (q : Setup) × HasStand c flips stand side false q × AreImages q r
+  pub image_told : (q : Setup) × HasStand c flips stand side passed q × AreImages q r
   image_told = (made.0, has, facts.back r made.0 there.admissible images)
 
 -- ---- the index of a position is such a code
@@ -292,7 +302,7 @@ men_stay : (n : ℕ) (flips : Bool) (x : Entry) → men_among (option_to_list (e
 men_stay n flips None = refl
 men_stay n flips (Some e) = refl
 
-module _ (facts : Facts) (c n i : ℕ) (flips : Bool) (stand : Stand) (side : Side) (q r : Setup) (c_in : c < 36) (filled : IsFilled stand) (has : HasStand c flips stand side false q) (n_in : n < 8)
+module _ (facts : Facts) (passed : Bool) (c n i : ℕ) (flips : Bool) (stand : Stand) (side : Side) (q r : Setup) (c_in : c < 36) (filled : IsFilled stand) (has : HasStand c flips stand side passed q) (n_in : n < 8)
     (turned : IsTurnedBy n flips q r) (spells : Spells c i r) where
   lane : Stand
   lane = turned_with n flips stand
@@ -316,17 +326,27 @@ module _ (facts : Facts) (c n i : ℕ) (flips : Bool) (stand : Stand) (side : Si
   spelled : (list : List (Man × ℕ)) → list ≡ men_at (material_of c) spells.digits → SpellsMen (material_of c) (number_of (men_bases (material_of c)) spells.digits) list
   spelled list is = record { digits = spells.digits; are = spells.are_digits; list_is = is; number_is = refl }
 
-  ends : Ends (material_of c) i (number_of (men_bases (material_of c)) spells.digits) (turned_side flips side) false
+  target_kept : is_some r.target ≡ passed
+  target_kept = ap is_some placed_by.target ∙ some_mapped (turned_square n flips) q.target ∙ has.target_is
+
+  -- a class without targets has none
+  never : has_target (material_of c) ≡ false → passed ≡ false
+  never none = elim spells.target [
+    | inl some ↦ absurd (false≢true (sym none ∙ some))
+    | inr none ↦ sym target_kept ∙ ap is_some none
+  ]
+
+  ends : Ends (material_of c) i (number_of (men_bases (material_of c)) spells.digits) (turned_side flips side) passed
   ends = record {
     number_is = spells.number ∙ code_of_parts (material_of c) spells.digits r.side (target_digit r.target) spells.are_digits
         ∙ ap (λ (s : Side). number_from (number_of (men_bases (material_of c)) spells.digits) (2 ∷ cond (has_target (material_of c)) (2 ∷ []) []) (side_number s ∷ cond (has_target (material_of c)) (target_digit r.target ∷ []) [])) (placed_by.side ∙ ap (turned_side flips) has.side_is)
-        ∙ ap (λ (o : Option ℕ). number_from (number_of (men_bases (material_of c)) spells.digits) (2 ∷ cond (has_target (material_of c)) (2 ∷ []) []) (side_number (turned_side flips side) ∷ cond (has_target (material_of c)) (target_digit o ∷ []) []))
-        (placed_by.target ∙ ap (option_map (turned_square n flips)) (no_target q.target has.target_is));
-    never = λ e. refl;
+        ∙ ap (λ d. number_from (number_of (men_bases (material_of c)) spells.digits) (2 ∷ cond (has_target (material_of c)) (2 ∷ []) []) (side_number (turned_side flips side) ∷ cond (has_target (material_of c)) (d ∷ []) []))
+        (ap target_digit placed_by.target ∙ digit_mapped (turned_square n flips) q.target ∙ ap (λ b. cond b 1 0) has.target_is);
+    never = never;
   }
 
   -- the code tells the men in the one order or the other
-  pub order_told : (after : Stand) × IsInEitherOrder stand after × TellsMen false c i (turned_with n flips after) (turned_side flips side)
+  pub order_told : (after : Stand) × IsInEitherOrder stand after × TellsMen passed c i (turned_with n flips after) (turned_side flips side)
   unfolding lane with_kings AreListedIn
   order_told = elim (in_either_order lane.white lane.black lane.next lane.last (men_at (material_of c) spells.digits) (filled_after n flips stand filled) (no_kings_beside c c_in (king_of White) (king_of Black) (option_to_list lane.next ++ option_to_list lane.last) lane_stood.are) same_names all.1 there) [
     | inl same ↦ (stand, inl refl, record { number = _; men = spelled (list_of lane) same; filled = filled_after n flips stand filled; ends = ends })
@@ -347,11 +367,12 @@ module _ (facts : Facts) (c n i : ℕ) (flips : Bool) (stand : Stand) (side : Si
       equal e = sym (men_stay n flips stand.next) ∙ e ∙ men_stay n flips stand.last
 
 -- the code of a turn of that number
-coded_by : (c t n i : ℕ) (flips : Bool) (after : Stand) (side : Side) → t < 16 → t % 8 ≡ n → eqb (t / 8) 1 ≡ flips → n < symmetries (has_pawns (material_of c)) → TellsMen false c i (turned_with n flips after) (turned_side flips side) → IsTurnedCode c t i after side
-coded_by c t n i flips after side t_in number colours keeps tells = record {
+coded_by : (passed : Bool) (c t n i : ℕ) (flips : Bool) (after : Stand) (side : Side) → t < 16 → t % 8 ≡ n → eqb (t / 8) 1 ≡ flips → n < symmetries (has_pawns (material_of c)) → TellsMen passed c i (turned_with n flips after) (turned_side flips side)
+    → IsTurnedCodeWith passed c t i after side
+coded_by passed c t n i flips after side t_in number colours keeps tells = record {
   below = t_in;
   keeps = subst (λ k. k < symmetries (has_pawns (material_of c))) (sym number) keeps;
-  tells = subst (λ k. TellsMen false c i (turned_with k (eqb (t / 8) 1) after) (turned_side (eqb (t / 8) 1) side)) (sym number) (subst (λ f. TellsMen false c i (turned_with n f after) (turned_side f side)) (sym colours) tells);
+  tells = subst (λ k. TellsMen passed c i (turned_with k (eqb (t / 8) 1) after) (turned_side (eqb (t / 8) 1) side)) (sym number) (subst (λ f. TellsMen passed c i (turned_with n f after) (turned_side f side)) (sym colours) tells);
 }
 
 either_colours : (flips turns : Bool) → (turns ≡ flips) ⊎ ((turns ≡ not flips) × (differ flips turns ≡ true))
@@ -361,11 +382,11 @@ either_colours true false = inr (refl, refl)
 either_colours false true = inr (refl, refl)
 
 -- what is the index of a position with the men
-pub index_told : Facts → (c i : ℕ) (flips : Bool) (stand : Stand) (side : Side) (q : Setup) → c < 36 → IsFilled stand → HasStand c flips stand side false q → IsIndex c q i → IsSomeTurnedCode c i flips stand side
-index_told facts c i flips stand side q c_in filled has index = of_colours (either_colours flips turn.1)
+pub index_told : Facts → (passed : Bool) (c i : ℕ) (flips : Bool) (stand : Stand) (side : Side) (q : Setup) → c < 36 → IsFilled stand → HasStand c flips stand side passed q → IsIndex c q i → IsSomeTurnedCodeWith passed c i flips stand side
+index_told facts passed c i flips stand side q c_in filled has index = of_colours (either_colours flips turn.1)
   where
     same : index.settled ≡ q
-    same = facts.settles_once q index.settled q index.settles (settles_untargeted q (no_target q.target has.target_is))
+    same = facts.settles_once q index.settled q index.settles (inl (has.settled, refl))
 
     images : AreImages q index.image
     images = subst (λ (p : Setup). AreImages p index.image) same index.images
@@ -382,13 +403,13 @@ index_told facts c i flips stand side q c_in filled has index = of_colours (eith
     class : IsOf c (differ flips turn.1) index.image
     class = turned_class facts c flips turn.1 turn.0 q index.image has.admissible turn.2 turn.3 turn.4 has.is_of
 
-    by : (colours : Bool) (seen : Stand) → turn.1 ≡ colours → IsFilled seen → HasStand c colours seen side false q → (after : Stand) × IsInEitherOrder seen after × IsTurnedCode c number.0 i after side
+    by : (colours : Bool) (seen : Stand) → turn.1 ≡ colours → IsFilled seen → HasStand c colours seen side passed q → (after : Stand) × IsInEitherOrder seen after × IsTurnedCodeWith passed c number.0 i after side
     by colours seen is seen_filled seen_has =
-        let told = order_told facts c turn.0 i colours seen side q index.image c_in seen_filled seen_has turn.2 (subst (λ f. IsTurnedBy turn.0 f q index.image) is turn.4) index.spells in
-        (told.0, told.1, coded_by c number.0 turn.0 i colours told.0 side number.1 number.2 (number.3 ∙ is) keeps told.2)
+        let told = order_told facts passed c turn.0 i colours seen side q index.image c_in seen_filled seen_has turn.2 (subst (λ f. IsTurnedBy turn.0 f q index.image) is turn.4) index.spells in
+        (told.0, told.1, coded_by passed c number.0 turn.0 i colours told.0 side number.1 number.2 (number.3 ∙ is) keeps told.2)
 
-    across : IsTrue (has_equal_sides c) → HasStand c (not flips) (seen_across stand) side false q
-    across equal = has_exchanged facts c flips stand (seen_across stand) side false q c_in equal refl refl refl refl has
+    across : IsTrue (has_equal_sides c) → HasStand c (not flips) (seen_across stand) side passed q
+    across equal = has_exchanged facts c flips stand (seen_across stand) side passed q c_in equal refl refl refl refl has
 
     across_alone : IsTrue (has_equal_sides c) → (after : Stand) → IsInEitherOrder (seen_across stand) after → after ≡ seen_across stand
     across_alone equal after (inl same) = same
@@ -396,7 +417,7 @@ index_told facts c i flips stand side q c_in filled has index = of_colours (eith
         let order = one_order c stand c_in equal has.stood.are h.1 in
         h.0 ∙ (λ i. record { white = stand.black; black = stand.white; next = order i; last = sym order i })
 
-    of_colours : (turn.1 ≡ flips) ⊎ ((turn.1 ≡ not flips) × (differ flips turn.1 ≡ true)) → IsSomeTurnedCode c i flips stand side
+    of_colours : (turn.1 ≡ flips) ⊎ ((turn.1 ≡ not flips) × (differ flips turn.1 ≡ true)) → IsSomeTurnedCodeWith passed c i flips stand side
     of_colours (inl own) =
         let told = by flips stand own filled has in
         record { turn = number.0; after = told.0; seen = inl (number.3 ∙ own, told.1); is = told.2 }
@@ -409,8 +430,8 @@ index_told facts c i flips stand side q c_in filled has index = of_colours (eith
 
 -- ---- the same men, however they are seen
 
-in_other_order : (c : ℕ) (flips : Bool) (stand : Stand) (side : Side) (q : Setup) → men_among (option_to_list stand.next) ≡ men_among (option_to_list stand.last) → HasStand c flips stand side false q → HasStand c flips (swapped stand) side false q
-in_other_order c flips stand side q equal has = record {
+in_other_order : (passed : Bool) (c : ℕ) (flips : Bool) (stand : Stand) (side : Side) (q : Setup) → men_among (option_to_list stand.next) ≡ men_among (option_to_list stand.last) → HasStand c flips stand side passed q → HasStand c flips (swapped stand) side passed q
+in_other_order passed c flips stand side q equal has = record {
   admissible = has.admissible;
   settled = has.settled;
   is_of = has.is_of;
@@ -432,15 +453,15 @@ twice_not : (b : Bool) → b ≡ not (not b)
 twice_not true = refl
 twice_not false = refl
 
-module _ (facts : Facts) (c : ℕ) (flips turns : Bool) (stand after : Stand) (side : Side) (c_in : c < 36) (seen : IsSeenBy c flips turns stand after) where
-  pub seen_so : (q : Setup) → HasStand c flips stand side false q → HasStand c turns after side false q
+module _ (facts : Facts) (passed : Bool) (c : ℕ) (flips turns : Bool) (stand after : Stand) (side : Side) (c_in : c < 36) (seen : IsSeenBy c flips turns stand after) where
+  pub seen_so : (q : Setup) → HasStand c flips stand side passed q → HasStand c turns after side passed q
   seen_so q has = elim seen [
-    | inl own ↦ subst (λ f. HasStand c f after side false q) (sym own.0) (elim own.1 [
-      | inl same ↦ subst (λ (s : Stand). HasStand c flips s side false q) (sym same) has
-      | inr other ↦ subst (λ (s : Stand). HasStand c flips s side false q) (sym other.0) (in_other_order c flips stand side q other.1 has)
+    | inl own ↦ subst (λ f. HasStand c f after side passed q) (sym own.0) (elim own.1 [
+      | inl same ↦ subst (λ (s : Stand). HasStand c flips s side passed q) (sym same) has
+      | inr other ↦ subst (λ (s : Stand). HasStand c flips s side passed q) (sym other.0) (in_other_order passed c flips stand side q other.1 has)
     ])
-    | inr across ↦ subst (λ f. HasStand c f after side false q) (sym across.1) (subst (λ (s : Stand). HasStand c (not flips) s side false q) (sym across.2)
-        (has_exchanged facts c flips stand (seen_across stand) side false q c_in across.0 refl refl refl refl has))
+    | inr across ↦ subst (λ f. HasStand c f after side passed q) (sym across.1) (subst (λ (s : Stand). HasStand c (not flips) s side passed q) (sym across.2)
+        (has_exchanged facts c flips stand (seen_across stand) side passed q c_in across.0 refl refl refl refl has))
   ]
 
 -- and back
@@ -469,19 +490,19 @@ on_board_so c flips turns stand after (inr (equal, other, across)) board = subst
 })
 
 -- what such a code spells is an image of a position with the men
-pub some_image : Facts → (c code : ℕ) (flips : Bool) (stand : Stand) (side : Side) (r : Setup) → c < 36 → AreOnBoard stand → IsSomeTurnedCode c code flips stand side → Spells c code r
-    → (q : Setup) × HasStand c flips stand side false q × AreImages q r
-some_image facts c code flips stand side r c_in board some spells =
+pub some_image : Facts → (passed : Bool) (c code : ℕ) (flips : Bool) (stand : Stand) (side : Side) (r : Setup) → c < 36 → AreOnBoard stand → IsSomeTurnedCodeWith passed c code flips stand side → Spells c code r
+    → (passed ≡ true → IsSettled r) → (q : Setup) × HasStand c flips stand side passed q × AreImages q r
+some_image facts passed c code flips stand side r c_in board some spells settled =
     let turns : Bool = eqb (some.turn / 8) 1 in
-    let told = image_told facts c (some.turn % 8) code turns some.after side r c_in some.is.keeps (on_board_so c flips turns stand some.after some.seen board) some.is.tells spells in
-    (told.0, seen_so facts c turns flips some.after stand side c_in (seen_back c flips turns stand some.after some.seen) told.0 told.1, told.2)
+    let told = image_told facts passed c (some.turn % 8) code turns some.after side r c_in some.is.keeps (on_board_so c flips turns stand some.after some.seen board) some.is.tells spells settled in
+    (told.0, seen_so facts passed c turns flips some.after stand side c_in (seen_back c flips turns stand some.after some.seen) told.0 told.1, told.2)
 
 -- a position with the men is an image of what such a code spells
-pub one_image : Facts → (c code : ℕ) (flips : Bool) (stand : Stand) (side : Side) (q r : Setup) → c < 36 → HasStand c flips stand side false q → IsSomeTurnedCode c code flips stand side → Spells c code r → AreImages q r
-one_image facts c code flips stand side q r c_in has some spells = subst (AreImages q) (spells_once c code made.0 r (stands_told false c code made.0 lane (turned_side (eqb (some.turn / 8) 1) side) there some.is.tells) spells) images
+pub one_image : Facts → (passed : Bool) (c code : ℕ) (flips : Bool) (stand : Stand) (side : Side) (q r : Setup) → c < 36 → HasStand c flips stand side passed q → IsSomeTurnedCodeWith passed c code flips stand side → Spells c code r → AreImages q r
+one_image facts passed c code flips stand side q r c_in has some spells = subst (AreImages q) (spells_once c code made.0 r (stands_told passed c code made.0 lane (turned_side (eqb (some.turn / 8) 1) side) there some.is.tells) spells) images
   where
-    seen : HasStand c (eqb (some.turn / 8) 1) some.after side false q
-    seen = seen_so facts c flips (eqb (some.turn / 8) 1) stand some.after side c_in some.seen q has
+    seen : HasStand c (eqb (some.turn / 8) 1) some.after side passed q
+    seen = seen_so facts passed c flips (eqb (some.turn / 8) 1) stand some.after side c_in some.seen q has
 
     few : some.turn % 8 < 8
     few = omega arith
@@ -505,14 +526,14 @@ one_image facts c code flips stand side q r c_in has some spells = subst (AreIma
     same_colours true = refl
     same_colours false = refl
 
-    there : HasStand c false lane (turned_side (eqb (some.turn / 8) 1) side) false made.0
+    there : HasStand c false lane (turned_side (eqb (some.turn / 8) 1) side) passed made.0
     there = record {
       admissible = facts.admissible q made.0 has.admissible images;
       settled = (facts.settled q made.0 has.admissible images).0 has.settled;
       is_of = subst (λ f. IsOf c f made.0) (same_colours (eqb (some.turn / 8) 1)) (turned_class facts c (eqb (some.turn / 8) 1) (eqb (some.turn / 8) 1) (some.turn % 8) q made.0 has.admissible few keeps made.1 seen.is_of);
       stood = stood_by c (some.turn % 8) (eqb (some.turn / 8) 1) q made.0 some.after few set seen.stood;
       side_is = set.side ∙ ap (turned_side (eqb (some.turn / 8) 1)) has.side_is;
-      target_is = ap is_some set.target ∙ none_mapped (turned_square (some.turn % 8) (eqb (some.turn / 8) 1)) q.target (no_target q.target has.target_is);
+      target_is = ap is_some set.target ∙ some_mapped (turned_square (some.turn % 8) (eqb (some.turn / 8) 1)) q.target ∙ has.target_is;
     }
 
 -- ---- one code tells men on their squares

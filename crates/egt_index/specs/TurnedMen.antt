@@ -34,15 +34,23 @@ IsInEitherOrder before after = (after ≡ before) ⊎ ((after ≡ swapped before
 abbrev pub IsSeenBy : ℕ → (flips turns : Bool) → (before after : Stand) → Type 0
 IsSeenBy c flips turns before after = ((turns ≡ flips) × IsInEitherOrder before after) ⊎ (IsTrue (has_equal_sides c) × (turns ≡ not flips) × (after ≡ seen_across before))
 
--- the code tells the men where the turn takes them, and no target
-pub record IsTurnedCode (c t code : ℕ) (stand : Stand) (side : Side) : Type 0 where
+-- the code tells the men where the turn takes them, and a target where one was passed
+pub record IsTurnedCodeWith (passed : Bool) (c t code : ℕ) (stand : Stand) (side : Side) : Type 0 where
   pub below : t < 16
   pub keeps : t % 8 < symmetries (has_pawns (material_of c))
-  pub tells : TellsMen false c code (turned_by t stand) (turned_side (t / 8 == 1) side)
+  pub tells : TellsMen passed c code (turned_by t stand) (turned_side (t / 8 == 1) side)
 
--- some turn's code of the men
-pub record IsSomeTurnedCode (c code : ℕ) (flips : Bool) (stand : Stand) (side : Side) : Type 0 where
+-- and no target
+abbrev pub IsTurnedCode : (c t code : ℕ) → Stand → Side → Type 0
+IsTurnedCode = IsTurnedCodeWith false
+
+-- some turn's code of the men, and of a target where one was passed
+pub record IsSomeTurnedCodeWith (passed : Bool) (c code : ℕ) (flips : Bool) (stand : Stand) (side : Side) : Type 0 where
   pub turn : ℕ
   pub after : Stand
   pub seen : IsSeenBy c flips (turn / 8 == 1) stand after
-  pub is : IsTurnedCode c turn code after side
+  pub is : IsTurnedCodeWith passed c turn code after side
+
+-- and of no target
+abbrev pub IsSomeTurnedCode : (c code : ℕ) → Bool → Stand → Side → Type 0
+IsSomeTurnedCode = IsSomeTurnedCodeWith false

@@ -18,7 +18,7 @@ ghost use Rattle.egt_index.specs.declared.shelf_codes.ShelfMen.{ShelfMen};
 ghost use Rattle.egt_index.specs.Size.{has_pawns, has_target, size_of};
 ghost use Rattle.egt_index.specs.StepCodes.{FollowsLeap, FollowsStep, IsLeapCode, IsStepCode, TellsMen};
 ghost use Rattle.egt_index.specs.Stood.{HasStand, IsFilled, IsOff, list_of};
-ghost use Rattle.egt_index.specs.TurnedMen.{IsSomeTurnedCode};
+ghost use Rattle.egt_index.specs.TurnedMen.{IsSomeTurnedCodeWith};
 ghost use Rattle.egt_index.specs.Frame.{IsMoved};
 ghost use Rattle.egt_index.specs.Spelled.{IsListed};
 ghost use Rattle.egt_index.specs.Went.{AreOnBoard, IsMovedStand};
@@ -108,17 +108,18 @@ pub fn numbers_stand_for_codes()
     facts();
 }
 
-/// One code tells men on their squares, pawns on neither the first rank nor the last. The index of a position with these men is a code that tells them where a turn takes them; and what any such code spells is an image of each
-/// position with these men, of which there is one then.
+/// One code tells men on their squares, pawns on neither the first rank nor the last. The index of a position with these men is a code that tells them where
+/// a turn takes them, and a target where the position has one; and what any such code spells is an image of each position with these men. There is one if no
+/// target was passed, or what the code spells is settled.
 pub fn codes_tell_turned_men()
     ensures one { (passed : Bool) (c x y : ℕ) (stand : Stand) (side : Side) → TellsMen passed c x stand side → TellsMen passed c y stand side → x ≡ y }
     ensures pawns { (passed : Bool) (c code : ℕ) (stand : Stand) (side : Side) (man : Man) (s : ℕ) → TellsMen passed c code stand side → IsListed (list_of stand) man s → MayStand man s }
-    ensures index { (c i : ℕ) (flips : Bool) (stand : Stand) (side : Side) (q : Setup) → c < 36 → IsFilled stand → HasStand c flips stand side false q → IsIndex c q i →
-        IsSomeTurnedCode c i flips stand side }
-    ensures images { (c code : ℕ) (flips : Bool) (stand : Stand) (side : Side) (q r : Setup) → c < 36 → HasStand c flips stand side false q → IsSomeTurnedCode c code flips stand side →
-        Spells c code r → AreImages q r }
-    ensures there { (c code : ℕ) (flips : Bool) (stand : Stand) (side : Side) (r : Setup) → c < 36 → AreOnBoard stand → IsSomeTurnedCode c code flips stand side → Spells c code r →
-        (q : Setup) × HasStand c flips stand side false q × AreImages q r }
+    ensures index { (passed : Bool) (c i : ℕ) (flips : Bool) (stand : Stand) (side : Side) (q : Setup) → c < 36 → IsFilled stand → HasStand c flips stand side passed q → IsIndex c q i →
+        IsSomeTurnedCodeWith passed c i flips stand side }
+    ensures images { (passed : Bool) (c code : ℕ) (flips : Bool) (stand : Stand) (side : Side) (q r : Setup) → c < 36 → HasStand c flips stand side passed q →
+        IsSomeTurnedCodeWith passed c code flips stand side → Spells c code r → AreImages q r }
+    ensures there { (passed : Bool) (c code : ℕ) (flips : Bool) (stand : Stand) (side : Side) (r : Setup) → c < 36 → AreOnBoard stand → IsSomeTurnedCodeWith passed c code flips stand side →
+        Spells c code r → (passed ≡ true → IsSettled r) → (q : Setup) × HasStand c flips stand side passed q × AreImages q r }
 {
     facts();
 }
