@@ -6,7 +6,7 @@ use Rattle.std.proofs.lemmas.Bool.Decides.{eqb_tells}
 use Rattle.egt_board.specs.Man.{other_side}
 use Rattle.egt_board.specs.Pawn.{ahead, home_rank, pawn_of, Advances, HasPawnBeside}
 use Rattle.egt_board.specs.Placement.{Stands}
-use Rattle.egt_board.specs.Settled.{SettlesTo, untargeted}
+use Rattle.egt_board.specs.Settled.{IsSettled, SettlesTo, untargeted}
 use Rattle.egt_board.specs.Setup.{Setup}
 use Rattle.egt_board.specs.Square.{rank_of}
 use Rattle.egt_board.specs.declared.man.Side.{Side}
@@ -36,7 +36,7 @@ two_at_home rank home e = elim (eqb_tells rank home) [
   | inr apart ↦ absurd (apart.1 e)
 ]
 
-one_off_home : (rank home n : ℕ) → n ≤ (if rank == home then 2 else 1) → (n ≤ 1) ⊎ ((n ≤ 2) × (rank ≡ home))
+pub one_off_home : (rank home n : ℕ) → n ≤ (if rank == home then 2 else 1) → (n ≤ 1) ⊎ ((n ≤ 2) × (rank ≡ home))
 one_off_home rank home n few = elim (eqb_tells rank home) [
   | inl same ↦ inr (subst (λ b. n ≤ (if b then 2 else 1)) same.0 few, same.1)
   | inr apart ↦ inl (subst (λ b. n ≤ (if b then 2 else 1)) apart.0 few)
@@ -132,9 +132,9 @@ advances_by men Black from t low high advances = by (one_off_home (rank_of from)
 
 -- ---- what the position after an advance settles to
 
--- a position has the index of the one without a target to which it settles
-pub settled_index : (c i : ℕ) (q r : Setup) → SettlesTo q r → r.target ≡ None → IsIndex c r i → IsIndex c q i
-settled_index c i q r settles none index = record {
+-- a position has the index of the one to which it settles
+pub settled_index : (c i : ℕ) (q r : Setup) → SettlesTo q r → IsSettled r → IsIndex c r i → IsIndex c q i
+settled_index c i q r settles settled index = record {
   settled = index.settled;
   settles = subst (SettlesTo q) (sym same) settles;
   image = index.image;
@@ -146,7 +146,7 @@ settled_index c i q r settles none index = record {
     same : index.settled ≡ r
     same = elim index.settles [
       | inl already ↦ already.1
-      | inr unsettled ↦ absurd (unsettled.0 (subst (λ (o : Option ℕ). IfSome o (λ t. HasPawnBeside r.men r.side (ahead (other_side r.side) t))) (sym none) tt))
+      | inr unsettled ↦ absurd (unsettled.0 settled)
     ]
 
 -- where no pawn stands ready to take, it settles to itself without its target

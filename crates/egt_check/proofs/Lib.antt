@@ -38,8 +38,10 @@ pub mod ToldBytes
 pub mod RowJudged
 pub mod LaneRight
 pub mod TwoBeside
+pub mod LeftTargets
 pub mod PawnAdvances
 pub mod PawnCaptures
+pub mod TakenInPassing
 pub mod PartGiven
 pub mod PawnGiven
 pub mod AdvanceRaising

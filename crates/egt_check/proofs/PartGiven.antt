@@ -1,13 +1,14 @@
 -- Where moves that zero lead to the positions with some men, and to all of them, the greatest score of the codes of
 -- these men is that of the moves.
 use Rattle.std.proofs.Common.{◌≡◌, ℕ, ◌≤◌, Bool, true, false, Some, refl, sym, ap, subst, inl, inr}
+use Rattle.std.proofs.lemmas.Bool.{false≢true}
 use Rattle.egt_board.specs.Man.{other_side}
 use Rattle.egt_board.specs.Settled.{SettlesTo}
 use Rattle.egt_board.specs.Setup.{Setup, IsAdmissible}
 use Rattle.egt_board.specs.declared.man.Side.{Side}
 use Rattle.egt_index.specs.Index.{IsIndex}
 use Rattle.egt_index.specs.Stood.{HasStand}
-use Rattle.egt_index.specs.TurnedMen.{IsSomeTurnedCode}
+use Rattle.egt_index.specs.TurnedMen.{IsSomeTurnedCode, IsSomeTurnedCodeWith}
 use Rattle.egt_index.specs.declared.stand.Stand.{Stand}
 use Rattle.egt_lanes.specs.Raised.{IsRaised}
 use Rattle.egt_lanes.specs.Scores.{zeroing_score}
@@ -20,25 +21,29 @@ use Rattle.egt_table.specs.declared.column.Column.TheVariants.{Mate, Zeroing}
 use Rattle.egt_check.specs.Facts.{Facts}
 use Rattle.egt_check.specs.Given.{AreAlike, AreGiven, HasScores, IsGiven}
 use Rattle.egt_check.specs.Tables.{HasEntry, Tables, entry_at}
-use Rattle.egt_check.specs.Worth.{HasBytes, IsBestOf, IsScoreOf, score_at}
+use Rattle.egt_check.specs.Worth.{HasBytes, IsBestWith, IsScoreWith, score_at}
 use Rattle.egt_check.proofs.Leaping.{settled_index}
-use Rattle.egt_check.proofs.PawnAdvances.{none_of}
 use Rattle.egt_check.proofs.QuietGiven.{low_score}
 use Rattle.egt_check.proofs.TakenGiven.{zeroing_above}
-use Rattle.egt_check.proofs.Worth.{AreWhole, Turning, best_of}
+use Rattle.egt_check.proofs.Worth.{AreWhole, SpellsSettled, Turning, best_with}
 
--- the moves among these zero, and lead to the positions with men of some stand, and to all of them
-pub record Parts (p : Setup) (side : Side) (d : ℕ) (flips : Bool) (In : Stand → Type 0) (Among : Move → Type 0) : Type 0 where
+-- the moves among these zero, and lead to the positions with men of some stand, and a target where one is left, and to all
+-- of them
+pub record PartsWith (left : Bool) (p : Setup) (side : Side) (d : ℕ) (flips : Bool) (In : Stand → Type 0) (Among : Move → Type 0) : Type 0 where
   pub zeroes : (q : Setup) (m : Move) → Leads p m q → Among m → Zeroes p m
   pub whole : (stand : Stand) → In stand → AreWhole stand
-  pub goes : (q : Setup) (m : Move) → Leads p m q → Among m → (stand : Stand) × In stand × (r : Setup) × SettlesTo q r × HasStand d flips stand (other_side side) false r
-  pub comes : (stand : Stand) (r : Setup) → In stand → HasStand d flips stand (other_side side) false r → (m : Move) × (q : Setup) × Leads p m q × SettlesTo q r × Among m
+  pub goes : (q : Setup) (m : Move) → Leads p m q → Among m → (stand : Stand) × In stand × (r : Setup) × SettlesTo q r × HasStand d flips stand (other_side side) left r
+  pub comes : (stand : Stand) (r : Setup) → In stand → HasStand d flips stand (other_side side) left r → (m : Move) × (q : Setup) × Leads p m q × SettlesTo q r × Among m
 
-module _ (facts : Facts) (turning : Turning) (tables : Tables) (t : TableValue) (is_table : IsTable t) (found : tables t.class ≡ Some t) (bytes : HasBytes t) (p : Setup) (ok : IsAdmissible p) (side : Side) (flips : Bool) (In : Stand → Type 0) (Among : Move → Type 0)
-    (parts : Parts p side t.class flips In Among) where
+-- and where none is left
+abbrev pub Parts : Setup → Side → ℕ → Bool → (Stand → Type 0) → (Move → Type 0) → Type 0
+Parts = PartsWith false
+
+module _ (facts : Facts) (turning : Turning) (tables : Tables) (t : TableValue) (is_table : IsTable t) (found : tables t.class ≡ Some t) (bytes : HasBytes t) (p : Setup) (ok : IsAdmissible p) (side : Side) (left : Bool) (settled : left ≡ true → SpellsSettled) (flips : Bool)
+    (In : Stand → Type 0) (Among : Move → Type 0) (parts : PartsWith left p side t.class flips In Among) where
   -- ---- the scores of one move
 
-  module _ (q r : Setup) (stand : Stand) (settles : SettlesTo q r) (there : HasStand t.class flips stand (other_side side) false r) (i : ℕ) (index : IsIndex t.class r i) where
+  module _ (q r : Setup) (stand : Stand) (settles : SettlesTo q r) (there : HasStand t.class flips stand (other_side side) left r) (i : ℕ) (index : IsIndex t.class r i) where
     alike : AreAlike (entry_at t Mate i) (entry_at t Zeroing i)
     alike = bytes.alike i (facts.index_below r t.class i index) (λ void. void r there.admissible index)
 
@@ -51,7 +56,7 @@ module _ (facts : Facts) (turning : Turning) (tables : Tables) (t : TableValue) 
       table = t;
       found = found;
       index = i;
-      is_index = settled_index t.class i q r settles (none_of r.target there.target_is) index;
+      is_index = settled_index t.class i q r settles there.settled index;
       is = refl;
     }
 
@@ -70,7 +75,7 @@ module _ (facts : Facts) (turning : Turning) (tables : Tables) (t : TableValue) 
 
   -- ---- the greatest of them
 
-  module _ (w : ℕ) (best : IsBestOf t Mate In flips (other_side side) w) where
+  module _ (w : ℕ) (best : IsBestWith left t Mate In flips (other_side side) w) where
     abbrev pub Above : Setup → Move → Type 0
     Above q m = (x z : ℕ) × HasScores tables p q m x z × (x ≤ w) × (z ≤ zeroing_score w)
 
@@ -85,7 +90,7 @@ module _ (facts : Facts) (turning : Turning) (tables : Tables) (t : TableValue) 
           zeroing_above (score_at t Mate i) w le,
         )
 
-    reached : IsScoreOf t Mate In flips (other_side side) w → IsGiven tables p Among w (zeroing_score w)
+    reached : IsScoreWith left t Mate In flips (other_side side) w → IsGiven tables p Among w (zeroing_score w)
     reached h =
         let (m, q, leads, settles, among) = parts.comes h.stand h.position h.in_stands h.has in
         record {
@@ -103,5 +108,10 @@ module _ (facts : Facts) (turning : Turning) (tables : Tables) (t : TableValue) 
       zeroing_given = elim best.reached [ inl none ↦ inl (ap zeroing_score none) | inr h ↦ inr (w, reached h) ];
     }
 
-  pub part_given : (w : ℕ) → IsRaised 0 (λ code. (stand : Stand) × In stand × IsSomeTurnedCode t.class code flips stand (other_side side)) (score_at t Mate) w → AreGiven tables p Among w (zeroing_score w)
-  part_given w raised = given w (best_of facts turning t Mate is_table bytes In flips (other_side side) w parts.whole raised)
+  pub part_given_with : (w : ℕ) → IsRaised 0 (λ code. (stand : Stand) × In stand × IsSomeTurnedCodeWith left t.class code flips stand (other_side side)) (score_at t Mate) w → AreGiven tables p Among w (zeroing_score w)
+  part_given_with w raised = given w (best_with facts turning t Mate is_table bytes left settled In flips (other_side side) w parts.whole raised)
+
+-- the same where no target is left
+pub part_given : (facts : Facts) (turning : Turning) (tables : Tables) (t : TableValue) → IsTable t → tables t.class ≡ Some t → HasBytes t → (p : Setup) → IsAdmissible p → (side : Side) (flips : Bool) (In : Stand → Type 0) (Among : Move → Type 0)
+    → Parts p side t.class flips In Among → (w : ℕ) → IsRaised 0 (λ code. (stand : Stand) × In stand × IsSomeTurnedCode t.class code flips stand (other_side side)) (score_at t Mate) w → AreGiven tables p Among w (zeroing_score w)
+part_given facts turning tables t is_table found bytes p ok side = part_given_with facts turning tables t is_table found bytes p ok side false (λ some. absurd (false≢true some))

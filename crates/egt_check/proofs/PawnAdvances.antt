@@ -1,34 +1,38 @@
 -- The advances of a pawn lead to the men after them, and to all positions of them.
-use Rattle.std.proofs.Common.{◌≡◌, ◌≢◌, ℕ, ◌*◌, ◌/◌, ◌+◌, ◌<◌, if◌then◌else◌, Bool, true, false, Option, Some, None, refl, sym, ap, ◌∙◌, subst, inl, inr, arith}
+use Rattle.std.proofs.Common.{◌≡◌, ◌≢◌, ◌↔◌, ℕ, ◌*◌, ◌/◌, ◌+◌, ◌<◌, if◌then◌else◌, Bool, true, false, IsTrue, Option, Some, None, refl, sym, ap, ◌∙◌, subst, inl, inr, arith}
 use Rattle.std.specs.FinMap as placement
 use Rattle.std.specs.Option.{is_some}
 use Rattle.egt_board.specs.Attack.{IsInCheck, king_of}
 use Rattle.egt_board.specs.Man.{other_side}
 use Rattle.egt_board.specs.Pawn.{Advances, ahead, forward, pawn_of}
 use Rattle.egt_board.specs.Placement.{Placement, Stands, IsFree, one_man}
-use Rattle.egt_board.specs.Settled.{SettlesTo, untargeted}
+use Rattle.egt_board.specs.Settled.{SettlesTo}
 use Rattle.egt_board.specs.Setup.{Setup}
 use Rattle.egt_board.specs.Step.{Away}
+use Rattle.egt_board.specs.Target.{IsTarget, target_rank}
 use Rattle.egt_board.specs.declared.man.Kind.{Kind}
 use Rattle.egt_board.specs.declared.man.Kind.TheVariants.{P, K}
 use Rattle.egt_board.specs.declared.man.Man.{Man}
 use Rattle.egt_board.specs.declared.man.Side.{Side}
 use Rattle.egt_board.specs.declared.man.Side.TheVariants.{White, Black}
+use Rattle.egt_board.proofs.SettledForms.{settles_men, settles_settled}
 use Rattle.egt_index.specs.Stood.{HasStand}
 use Rattle.egt_index.specs.declared.shelf_codes.ShelfMen.{ShelfMen}
 use Rattle.egt_moves.specs.Exchange.{Captures}
 use Rattle.egt_moves.specs.Going.{Goes, PawnAdvances}
 use Rattle.egt_moves.specs.Legal.{Leads, after, men_after, men_left}
+use Rattle.egt_moves.specs.Legal as legal
 use Rattle.egt_moves.specs.Promotion.{FitsPromotion, IsOfficer, arriving, promotes}
 use Rattle.egt_moves.specs.declared.chess_move.Move.{Move}
-use Rattle.egt_moves.proofs.After.{not_free, side_twice, sides_differ, target_is}
+use Rattle.egt_moves.proofs.After.{arriving_side, not_free, side_twice, sides_differ, target_is}
 use Rattle.egt_check.specs.Facts.{Facts}
+use Rattle.egt_check.specs.InPassing.{LeavesTarget}
 use Rattle.egt_check.specs.PawnMoves.{IsAdvance, IsAdvanceFrom, IsClassAfter, stand_after, stand_in}
 use Rattle.egt_check.specs.QuietStands.{IsClear}
-use Rattle.egt_check.proofs.Leaping.{settles_bare}
+use Rattle.egt_check.proofs.LeftTargets.{IsAfter, behind_target, settles_so, told}
 use Rattle.egt_check.proofs.Still.{not_passing}
 use Rattle.egt_check.proofs.Takings.{arrives, empties, placed, stays}
-use Rattle.egt_check.proofs.TwoBeside.{AreTwo, Counting, are_after, are_in, one_two, stands_after, who}
+use Rattle.egt_check.proofs.TwoBeside.{AreTwo, Counting, are_after, are_in, one_two, stands_after}
 
 -- a pawn goes off the square from which it advances
 off_start : (side : Side) (s t n : ℕ) → 0 < n → Away (forward side) n s t → t ≢ s
@@ -48,38 +52,17 @@ advances_free F G side s t free advances = record {
   free = free t (off_start side s t advances.rides.count advances.rides.moves advances.rides.away) advances.free;
 }
 
--- no king arrives, and none of the other side
+-- no king arrives
 arriving_kind : (man : Man) (b : Bool) (promo : Option Kind) → man.kind ≡ P → FitsPromotion b promo → (arriving man promo).kind ≢ K
 arriving_kind man b None pawn fits king = let both : P ≡ K = sym pawn ∙ king in cc
 arriving_kind man true (Some kind) pawn fits king = subst IsOfficer king fits
 arriving_kind man false (Some kind) pawn fits king = absurd fits
 
-arriving_side : (man : Man) (promo : Option Kind) → (arriving man promo).side ≡ man.side
-arriving_side man None = refl
-arriving_side man (Some kind) = refl
-
 pub none_of : (o : Option ℕ) → is_some o ≡ false → o ≡ None
 none_of None e = refl
 none_of (Some s) e = absurd (let no = e in cc)
 
--- where no man beside the kings is a pawn of the other side, that side has none
-pawnless : (men : Placement) (white black : ℕ) (one : Man) (a : ℕ) (other : Man) (b : ℕ) (side : Side) → AreTwo men white black one a other b → (one.kind ≡ P → one.side ≡ side) → other.side ≡ side → (s : ℕ)
-    → Stands men s (pawn_of (other_side side)) → ⊥
-pawnless men white black one a other b side are one_mine mine s stands = elim (who men white black one a other b are s (pawn_of (other_side side)) stands) [
-  | inl h ↦ no_king White h.1
-  | inr rest ↦ elim rest [
-    | inl h ↦ no_king Black h.1
-    | inr more ↦ elim more [
-      | inl h ↦ sides_differ side (sym (one_mine (ap (λ (x : Man). x.kind) (sym h.1))) ∙ ap (λ (x : Man). x.side) (sym h.1))
-      | inr h ↦ sides_differ side (sym mine ∙ ap (λ (x : Man). x.side) (sym h.1))
-    ]
-  ]
-]
-  where
-    no_king : (king : Side) → pawn_of (other_side side) ≡ king_of king → ⊥
-    no_king king is = let kinds : P ≡ K = ap (λ (x : Man). x.kind) is in cc
-
-module _ (facts : Facts) (counting : Counting) (c : ℕ) (men : ShelfMen) (first : Bool) (side : Side) (passed : Bool) (a b : ℕ) (p : Setup) (one_other : men.one.kind ≢ K) (one_mine : men.one.kind ≡ P → men.one.side ≡ side) (pawn : men.last.kind ≡ P)
+module _ (facts : Facts) (counting : Counting) (c : ℕ) (men : ShelfMen) (first : Bool) (side : Side) (passed : Bool) (a b : ℕ) (p : Setup) (one_other : men.one.kind ≢ K) (pawn : men.last.kind ≡ P)
     (has : HasStand c false (stand_in first men a b) side passed p) where
   there : AreTwo p.men men.white men.black men.one a men.last b
   there = are_in c men first side passed a b p has
@@ -110,10 +93,6 @@ module _ (facts : Facts) (counting : Counting) (c : ℕ) (men : ShelfMen) (first
   -- nobody is taken in passing, so that the pawn alone moves
   left_so : (man : Man) (t : ℕ) → (man.kind ≡ P → p.target ≡ Some t → ⊥) → men_left p man t ≡ p.men
   left_so man t none = ap (λ b. if b then placement.remove p.men (ahead (other_side p.side) t) else p.men) (not_passing man.kind p.target t none)
-
-  -- the other side has no pawn to take in passing
-  settles : (q : Setup) (man : Man) (t : ℕ) → q.side ≡ other_side side → man.side ≡ side → AreTwo q.men men.white men.black men.one a man t → SettlesTo q (untargeted q)
-  settles q man t side_is mine are = settles_bare q (λ s stands. pawnless q.men men.white men.black men.one a man t side are one_mine mine s (subst (λ (x : Side). Stands q.men s (pawn_of x)) side_is stands))
 
   -- ---- from the move to the men after it
 
@@ -163,33 +142,47 @@ module _ (facts : Facts) (counting : Counting) (c : ℕ) (men : ShelfMen) (first
     are : AreTwo q.men men.white men.black men.one a man m.to
     are = subst (λ (x : Placement). AreTwo x men.white men.black men.one a man m.to) men_are (moved m.to man (clear_of m.to advances.free))
 
-    side_is : q.side ≡ other_side side
-    side_is = ap (λ (s : Setup). s.side) leads.becomes ∙ ap other_side has.side_is
+    is_after : IsAfter men side a b m.to man pawn man_mine (IsFree p.men) advances q
+    is_after = record { are = are; side_is = ap (λ (s : Setup). s.side) leads.becomes ∙ ap other_side has.side_is }
 
-    bare : SettlesTo q (untargeted q)
-    bare = settles q man m.to side_is man_mine are
+    target : q.target ≡ legal.passed men.last b m.to
+    target = ap (λ (s : Setup). s.target) leads.becomes ∙ (λ i. legal.passed (his i) (from_is i) m.to)
 
-    pub goes : (t : ℕ) × IsAdvance men side a b m.promo t
-        × ((d : ℕ) (before flips : Bool) → IsClassAfter before d flips men.one (arriving men.last m.promo) → (r : Setup) × SettlesTo q r × HasStand d flips (stand_after before flips men a (arriving men.last m.promo) t) (other_side side) false r)
+    form : (r : Setup) × SettlesTo q r
+    form = facts.settles q
+
+    same_side : (r : Setup) → SettlesTo q r → r.side ≡ q.side
+    same_side r (inl already) = ap (λ (x : Setup). x.side) already.1
+    same_side r (inr unsettled) = ap (λ (x : Setup). x.side) unsettled.1
+
+    pub goes : IsAdvance men side a b m.promo m.to
+        × ((d : ℕ) (before flips : Bool) → IsClassAfter before d flips men.one (arriving men.last m.promo)
+        → (left : Bool) × (IsTrue left ↔ LeavesTarget men side a b m.to) × (r : Setup) × SettlesTo q r × HasStand d flips (stand_after before flips men a (arriving men.last m.promo) m.to) (other_side side) left r)
     goes = (
-      m.to,
       is_advance,
       λ d before flips class. (
-        untargeted q,
-        bare,
-        stands_after counting d before flips men a man m.to (other_side side) (untargeted q) (facts.settled_admissible q (untargeted q) (facts.step_admissible p q m has.admissible leads) bare) are one_other
-            (arriving_kind men.last (promotes men.last m.to) m.promo pawn is_advance.fits) side_is refl class,
+        is_some form.0.target,
+        told men side a b m.to man pawn man_mine (IsFree p.men) advances q form.0 is_after target form.1,
+        form.0,
+        form.1,
+        stands_after counting d before flips men a man m.to (other_side side) (is_some form.0.target) form.0 (facts.settled_admissible q form.0 (facts.step_admissible p q m has.admissible leads) form.1)
+            (subst (λ (x : Placement). AreTwo x men.white men.black men.one a man m.to) (sym (settles_men q form.0 form.1)) are) one_other
+            (arriving_kind men.last (promotes men.last m.to) m.promo pawn is_advance.fits) (same_side form.0 form.1 ∙ is_after.side_is) (settles_settled q form.0 form.1) refl class,
       ),
     )
 
   -- ---- from the men after it to the move
 
-  module _ (promo : Option Kind) (t : ℕ) (is : IsAdvance men side a b promo t) (d : ℕ) (before flips : Bool) (r : Setup) (has_after : HasStand d flips (stand_after before flips men a (arriving men.last promo) t) (other_side side) false r) where
+  module _ (promo : Option Kind) (t : ℕ) (is : IsAdvance men side a b promo t) (d : ℕ) (before flips left : Bool) (left_as_told : IsTrue left ↔ LeavesTarget men side a b t) (r : Setup)
+      (has_after : HasStand d flips (stand_after before flips men a (arriving men.last promo) t) (other_side side) left r) where
     abbrev move : Move
     move = record { from = b; to = t; promo = promo }
 
     abbrev became : Man
     became = arriving men.last promo
+
+    became_mine : became.side ≡ side
+    became_mine = arriving_side men.last promo ∙ is.mine
 
     free_so : (u : ℕ) → u ≢ b → IsClear men a u → IsFree p.men u
     free_so u off clear = there.free u clear.0 clear.1 clear.2 off
@@ -197,13 +190,26 @@ module _ (facts : Facts) (counting : Counting) (c : ℕ) (men : ShelfMen) (first
     goes_there : Advances (IsFree p.men) side b t
     goes_there = advances_free (IsClear men a) (IsFree p.men) side b t free_so is.advances
 
-    no_target : (s : ℕ) → p.target ≡ Some s → ⊥
-    no_target s target = pawnless p.men men.white men.black men.one a men.last b side there one_mine is.mine _ (subst (λ (x : Side). Stands p.men (ahead (other_side p.side) s) (pawn_of (other_side x))) has.side_is (target_is p s has.admissible target).advanced)
+    -- the pawn that set a target stands before it
+    no_target : p.target ≡ Some t → ⊥
+    no_target target = sides_differ side (sym is.mine ∙ ap (λ (x : Man). x.side) (one_man p.men b men.last (pawn_of (other_side p.side)) there.other_there set_there) ∙ ap other_side has.side_is)
+      where
+        set : IsTarget p.men p.side t
+        set = target_is p t has.admissible target
+
+        from_there : b ≡ ahead (other_side p.side) t
+        from_there = behind_target (IsFree p.men) side b t goes_there (set.rank ∙ ap target_rank has.side_is) ∙ ap (λ (s : Side). ahead (other_side s) t) (sym has.side_is)
+
+        set_there : Stands p.men b (pawn_of (other_side p.side))
+        set_there = subst (λ s. Stands p.men s (pawn_of (other_side p.side))) (sym from_there) set.advanced
+
+    r_are : AreTwo r.men men.white men.black men.one a became t
+    r_are = are_after d before flips men a became t (other_side side) left r has_after
 
     men_are_so : r.men ≡ men_after p men.last move
     men_are_so =
-        one_two r.men (placed p.men b t became) men.white men.black men.one a became t (are_after d before flips men a became t (other_side side) r has_after) (moved t became is.advances.free)
-        ∙ ap (λ (x : Placement). placed x b t became) (sym (left_so men.last t (λ kind target. no_target t target)))
+        one_two r.men (placed p.men b t became) men.white men.black men.one a became t r_are (moved t became is.advances.free)
+        ∙ ap (λ (x : Placement). placed x b t became) (sym (left_so men.last t (λ kind target. no_target target)))
 
     leads : Leads p move (after p men.last move)
     leads = record {
@@ -219,24 +225,23 @@ module _ (facts : Facts) (counting : Counting) (c : ℕ) (men : ShelfMen) (first
     abbrev next : Setup
     next = after p men.last move
 
-    next_side : next.side ≡ other_side side
-    next_side = ap other_side has.side_is
+    settled : SettlesTo next r
+    settled =
+        settles_so men side a b t became pawn became_mine (IsFree p.men) goes_there facts next r
+        (record { are = subst (λ (x : Placement). AreTwo x men.white men.black men.one a became t) men_are_so r_are; side_is = ap other_side has.side_is })
+        (record { are = r_are; side_is = has_after.side_is })
+        (facts.step_admissible p next move has.admissible leads) has_after.admissible refl (subst (λ x. IsTrue x ↔ LeavesTarget men side a b t) (sym has_after.target_is) left_as_told)
 
-    settles_so : SettlesTo next r
-    settles_so =
-        subst (SettlesTo next) (λ i. record { men = sym men_are_so i; side = (next_side ∙ sym has_after.side_is) i; target = sym (none_of r.target has_after.target_is) i })
-        (settles next became t next_side (arriving_side men.last promo ∙ is.mine)
-        (subst (λ (x : Placement). AreTwo x men.white men.black men.one a became t) men_are_so (are_after d before flips men a became t (other_side side) r has_after)))
-
-    pub comes : (m : Move) × (q : Setup) × Leads p m q × SettlesTo q r × IsAdvanceFrom p b promo m
+    pub comes : (m : Move) × (q : Setup) × Leads p m q × SettlesTo q r × IsAdvanceFrom p b promo m × (m.to ≡ t)
     comes = (
       move,
       next,
       leads,
-      settles_so,
+      settled,
       record {
         from = refl;
-        quiet = λ captures. elim captures [ inl held ↦ not_free p.men t held.man goes_there.free held.stands | inr passing ↦ no_target t passing.1 ];
+        quiet = λ captures. elim captures [ inl held ↦ not_free p.men t held.man goes_there.free held.stands | inr passing ↦ no_target passing.1 ];
         promo_is = refl;
       },
+      refl,
     )

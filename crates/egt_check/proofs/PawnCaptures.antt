@@ -47,18 +47,18 @@ one_rank F Black s t (inr (inl r)) = let along : s / 8 ≡ t / 8 + r.count * 1 =
 one_rank F Black s t (inr (inr none)) = absurd none
 
 module _ (man : Man) (pawn : man.kind ≡ P) (s t : ℕ) where
-  takes_unpassed : (F : ℕ → Type 0) → Reaches F man s t → passed man s t ≡ None
+  pub takes_unpassed : (F : ℕ → Type 0) → Reaches F man s t → passed man s t ≡ None
   takes_unpassed F reaches =
       ap (λ b. if b then Some ((s + t) / 2) else None)
       (and_false (is_pawn man.kind) (is_two_ranks s t) (one_rank F man.side s t (subst (λ (k : Kind). OneOf (Rides F (farthest k) s t) (steps_of man.side k)) pawn reaches)))
 
-  takes_bare : (F G : ℕ → Type 0) → Reaches F man s t → Reaches G man s t
+  pub takes_bare : (F G : ℕ → Type 0) → Reaches F man s t → Reaches G man s t
   takes_bare F G reaches =
       subst (λ (k : Kind). OneOf (Rides G (farthest k) s t) (steps_of man.side k)) (sym pawn)
       (king_bare F G s t (pawn_steps man.side) (subst (λ (k : Kind). OneOf (Rides F (farthest k) s t) (steps_of man.side k)) pawn reaches))
 
 -- a pawn is promoted to an officer, and only where he arrives on his last rank
-promoted : (b : Bool) (kind : Kind) → FitsPromotion b (Some kind) → (b ≡ true) × IsOfficer kind
+pub promoted : (b : Bool) (kind : Kind) → FitsPromotion b (Some kind) → (b ≡ true) × IsOfficer kind
 promoted true kind fits = (refl, fits)
 promoted false kind fits = absurd fits
 

@@ -225,7 +225,7 @@ within_ranks : (side : Side) (to : ℕ) → 0 < rank_of to → rank_of to < 7 �
 within_ranks White to low high e = omega (arith, high, e)
 within_ranks Black to low high e = omega (arith, low, e)
 
-not_promoting : (man : Man) (to : ℕ) → (man.kind ≡ P → (0 < rank_of to) × (rank_of to < 7)) → promotes man to ≡ false
+pub not_promoting : (man : Man) (to : ℕ) → (man.kind ≡ P → (0 < rank_of to) × (rank_of to < 7)) → promotes man to ≡ false
 not_promoting man to fits = by_test (promotes man to) refl
   where
     by_test : (b : Bool) → promotes man to ≡ b → b ≡ false

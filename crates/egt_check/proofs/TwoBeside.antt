@@ -6,6 +6,7 @@ use Rattle.std.proofs.lemmas.Bool.{cases_eq}
 use Rattle.egt_board.specs.AllMen.{HasBeside}
 use Rattle.egt_board.specs.Attack.{king_of}
 use Rattle.egt_board.specs.Placement.{Placement, Stands, IsFree, one_man, same_men}
+use Rattle.egt_board.specs.Settled.{IsSettled}
 use Rattle.egt_board.specs.Setup.{Setup, IsAdmissible}
 use Rattle.egt_board.specs.Turned.{turned_man}
 use Rattle.egt_board.specs.declared.man.Kind.TheVariants.{K}
@@ -17,7 +18,6 @@ use Rattle.egt_index.specs.Picked.{AreCounted}
 use Rattle.egt_index.specs.Stood.{AllStand, HasStand, IsOff, list_of, men_among}
 use Rattle.egt_index.specs.declared.shelf_codes.ShelfMen.{ShelfMen}
 use Rattle.egt_index.proofs.After.{all_there}
-use Rattle.egt_index.proofs.ByMen.{no_target}
 use Rattle.egt_index.proofs.Setups.{free_of}
 use Rattle.egt_index.proofs.Standing.{counted_turned, turned_back}
 use Rattle.egt_check.specs.PawnMoves.{IsClassAfter, IsClassOfTwo, stand_after, stand_in, stand_two}
@@ -142,15 +142,15 @@ are_two d true men one a other b side passed q has = record {
 }
 
 -- and a position with these is of the class
-pub stands_two : Counting → (d : ℕ) (flips : Bool) (men : ShelfMen) (one : Man) (a : ℕ) (other : Man) (b : ℕ) (side : Side) (q : Setup) → IsAdmissible q → AreTwo q.men men.white men.black one a other b → one.kind ≢ K → other.kind ≢ K
-    → q.side ≡ side → q.target ≡ None → IsClassOfTwo d flips one other → HasStand d flips (stand_two flips men (one, a) (other, b)) side false q
-stands_two counting d flips men one a other b side q ok are one_no other_no side_is none class = record {
+pub stands_two : Counting → (d : ℕ) (flips : Bool) (men : ShelfMen) (one : Man) (a : ℕ) (other : Man) (b : ℕ) (side : Side) (passed : Bool) (q : Setup) → IsAdmissible q → AreTwo q.men men.white men.black one a other b → one.kind ≢ K
+    → other.kind ≢ K → q.side ≡ side → IsSettled q → is_some q.target ≡ passed → IsClassOfTwo d flips one other → HasStand d flips (stand_two flips men (one, a) (other, b)) side passed q
+stands_two counting d flips men one a other b side passed q ok are one_no other_no side_is settled target_is class = record {
   admissible = ok;
-  settled = no_target q none;
+  settled = settled;
   is_of = class.of q (counting q (Some (one, a)) (Some (other, b)) ok beside);
   stood = record { are = sym class.order; all = all flips };
   side_is = side_is;
-  target_is = ap (λ (o : Option ℕ). is_some o) none;
+  target_is = target_is;
 }
   where
     king_is : (s : Side) (man : Man) → man.kind ≢ K → man ≡ king_of s → ⊥
@@ -208,12 +208,13 @@ pub are_in : (c : ℕ) (men : ShelfMen) (first : Bool) (side : Side) (passed : B
 are_in c men false side passed a b p has = are_two c false men men.one a men.last b side passed p has
 are_in c men true side passed a b p has = exchanged p.men men.white men.black men.last b men.one a (are_two c false men men.last b men.one a side passed p has)
 
-pub are_after : (d : ℕ) (before flips : Bool) (men : ShelfMen) (a : ℕ) (man : Man) (t : ℕ) (side : Side) (q : Setup) → HasStand d flips (stand_after before flips men a man t) side false q → AreTwo q.men men.white men.black men.one a man t
-are_after d false flips men a man t side q has = are_two d flips men men.one a man t side false q has
-are_after d true flips men a man t side q has = exchanged q.men men.white men.black man t men.one a (are_two d flips men man t men.one a side false q has)
+pub are_after : (d : ℕ) (before flips : Bool) (men : ShelfMen) (a : ℕ) (man : Man) (t : ℕ) (side : Side) (passed : Bool) (q : Setup) → HasStand d flips (stand_after before flips men a man t) side passed q → AreTwo q.men men.white men.black men.one a man t
+are_after d false flips men a man t side passed q has = are_two d flips men men.one a man t side passed q has
+are_after d true flips men a man t side passed q has = exchanged q.men men.white men.black man t men.one a (are_two d flips men man t men.one a side passed q has)
 
-pub stands_after : Counting → (d : ℕ) (before flips : Bool) (men : ShelfMen) (a : ℕ) (man : Man) (t : ℕ) (side : Side) (q : Setup) → IsAdmissible q → AreTwo q.men men.white men.black men.one a man t → men.one.kind ≢ K → man.kind ≢ K
-    → q.side ≡ side → q.target ≡ None → IsClassAfter before d flips men.one man → HasStand d flips (stand_after before flips men a man t) side false q
-stands_after counting d false flips men a man t side q ok are one_no man_no side_is none class = stands_two counting d flips men men.one a man t side q ok are one_no man_no side_is none class
-stands_after counting d true flips men a man t side q ok are one_no man_no side_is none class =
-    stands_two counting d flips men man t men.one a side q ok (exchanged q.men men.white men.black men.one a man t are) man_no one_no side_is none class
+pub stands_after : Counting → (d : ℕ) (before flips : Bool) (men : ShelfMen) (a : ℕ) (man : Man) (t : ℕ) (side : Side) (passed : Bool) (q : Setup) → IsAdmissible q → AreTwo q.men men.white men.black men.one a man t → men.one.kind ≢ K
+    → man.kind ≢ K → q.side ≡ side → IsSettled q → is_some q.target ≡ passed → IsClassAfter before d flips men.one man → HasStand d flips (stand_after before flips men a man t) side passed q
+stands_after counting d false flips men a man t side passed q ok are one_no man_no side_is settled target_is class =
+    stands_two counting d flips men men.one a man t side passed q ok are one_no man_no side_is settled target_is class
+stands_after counting d true flips men a man t side passed q ok are one_no man_no side_is settled target_is class =
+    stands_two counting d flips men man t men.one a side passed q ok (exchanged q.men men.white men.black men.one a man t are) man_no one_no side_is settled target_is class

@@ -28,3 +28,4 @@ pub mod RightRow
 pub mod MoveScores
 pub mod RightBlock
 pub mod PawnMoves
+pub mod InPassing

@@ -1,0 +1,208 @@
+-- Which advances of a pawn leave a target, and what the positions after them settle to.
+use Rattle.std.proofs.Common.{◌≡◌, ◌≢◌, ℕ, ◌*◌, ◌/◌, ◌+◌, ◌%◌, ◌≤◌, ◌==◌, ◌&&◌, ◌||◌, ◌⊎◌, ◌↔◌, if◌then◌else◌, Bool, true, false, Option, Some, None, IfSome, IsTrue, refl, sym, ap, ◌∙◌, subst, inl, inr, arith}
+use Rattle.std.specs.Option.{is_some}
+use Rattle.std.proofs.lemmas.Bool.{and_parts}
+use Rattle.std.proofs.lemmas.Bool.Decides.{eqb_tells}
+use Rattle.egt_board.specs.Attack.{king_of}
+use Rattle.egt_board.specs.Man.{other_side}
+use Rattle.egt_board.specs.Pawn.{Advances, HasPawnBeside, IsBeside, ahead, last_rank, pawn_of}
+use Rattle.egt_board.specs.Placement.{Placement, Stands}
+use Rattle.egt_board.specs.Settled.{SettlesTo}
+use Rattle.egt_board.specs.Setup.{Setup, IsAdmissible}
+use Rattle.egt_board.specs.Square.{rank_of}
+use Rattle.egt_board.specs.Target.{IsTarget, target_rank}
+use Rattle.egt_board.specs.declared.man.Kind.{Kind}
+use Rattle.egt_board.specs.declared.man.Kind.TheVariants.{P, K}
+use Rattle.egt_board.specs.declared.man.Man.{Man}
+use Rattle.egt_board.specs.declared.man.Side.{Side}
+use Rattle.egt_board.specs.declared.man.Side.TheVariants.{White, Black}
+use Rattle.egt_board.proofs.SettledForms.{settles_admissible, settles_men}
+use Rattle.egt_index.specs.declared.shelf_codes.ShelfMen.{ShelfMen}
+use Rattle.egt_moves.specs.Legal.{is_two_ranks, passed}
+use Rattle.egt_moves.specs.Promotion.{is_pawn}
+use Rattle.egt_moves.proofs.Admissible.{two_ranks_told}
+use Rattle.egt_moves.proofs.After.{side_twice, sides_differ, target_is}
+use Rattle.egt_check.specs.Facts.{Facts}
+use Rattle.egt_check.specs.InPassing.{AreTwoRanksApart, LeavesTarget}
+use Rattle.egt_check.proofs.Leaping.{one_off_home}
+use Rattle.egt_check.proofs.TwoBeside.{AreTwo, one_two, who}
+
+-- a pawn that advances to a target comes from the square of the pawn that set it
+pub behind_target : (F : ℕ → Type 0) (side : Side) (s t : ℕ) → Advances F side s t → rank_of t ≡ target_rank side → s ≡ ahead (other_side side) t
+behind_target F White s t advances rank =
+    let some = advances.rides.moves in
+    let across : t % 8 ≡ s % 8 = advances.rides.away.across in
+    let along : t / 8 ≡ s / 8 + advances.rides.count * 1 = advances.rides.away.along in
+    elim (one_off_home (rank_of s) 1 advances.rides.count advances.rides.within) [
+      | inl few ↦ omega (arith, few, some, across, along, rank)
+      | inr home ↦ let most = home.0 in let at = home.1 in absurd (omega (arith, most, at, along, rank))
+    ]
+behind_target F Black s t advances rank =
+    let some = advances.rides.moves in
+    let across : t % 8 ≡ s % 8 = advances.rides.away.across in
+    let along : s / 8 ≡ t / 8 + advances.rides.count * 1 = advances.rides.away.along in
+    elim (one_off_home (rank_of s) 6 advances.rides.count advances.rides.within) [
+      | inl few ↦ omega (arith, few, some, across, along, rank)
+      | inr home ↦ let most = home.0 in let at = home.1 in absurd (omega (arith, most, at, along, rank))
+    ]
+
+-- in an advance by two squares the pawn stands right ahead of the square that he passed
+past_half : (F : ℕ → Type 0) (side : Side) (s t : ℕ) → Advances F side s t → AreTwoRanksApart s t → ahead side ((s + t) / 2) ≡ t
+past_half F White s t advances (inl two) = let across : t % 8 ≡ s % 8 = advances.rides.away.across in omega (arith, across, two)
+past_half F White s t advances (inr two) = let along : t / 8 ≡ s / 8 + advances.rides.count * 1 = advances.rides.away.along in absurd (omega (arith, along, two))
+past_half F Black s t advances (inl two) = let along : s / 8 ≡ t / 8 + advances.rides.count * 1 = advances.rides.away.along in absurd (omega (arith, along, two))
+past_half F Black s t advances (inr two) = let across : t % 8 ≡ s % 8 = advances.rides.away.across in omega (arith, across, two)
+
+-- and that square alone is a target
+half_alone : (F : ℕ → Type 0) (side : Side) (s t u : ℕ) → Advances F side s t → AreTwoRanksApart s t → rank_of u ≡ target_rank (other_side side) → ahead side u ≡ t → u ≡ (s + t) / 2
+half_alone F side s t u advances two rank here = same side rank here (past_half F side s t advances two)
+  where
+    low : 8 ≤ (s + t) / 2
+    low = elim two [ inl up ↦ omega (arith, up) | inr down ↦ omega (arith, down) ]
+
+    same : (side : Side) → rank_of u ≡ target_rank (other_side side) → ahead side u ≡ t → ahead side ((s + t) / 2) ≡ t → u ≡ (s + t) / 2
+    same White rank here there = omega (arith, here, there)
+    same Black rank here there = omega (arith, here, there, rank, low)
+
+-- nor is he promoted
+pub unpromoted : (F : ℕ → Type 0) (side : Side) (s t : ℕ) → Advances F side s t → AreTwoRanksApart s t → rank_of t ≢ last_rank side
+unpromoted F White s t advances two last =
+    let along : t / 8 ≡ s / 8 + advances.rides.count * 1 = advances.rides.away.along in
+    elim (one_off_home (rank_of s) 1 advances.rides.count advances.rides.within) [
+      | inl few ↦ elim two [ inl up ↦ omega (arith, few, along, up) | inr down ↦ omega (arith, along, down) ]
+      | inr home ↦ let most = home.0 in let at = home.1 in omega (arith, most, at, along, last)
+    ]
+unpromoted F Black s t advances two last =
+    let along : s / 8 ≡ t / 8 + advances.rides.count * 1 = advances.rides.away.along in
+    elim (one_off_home (rank_of s) 6 advances.rides.count advances.rides.within) [
+      | inl few ↦ elim two [ inl up ↦ omega (arith, along, up) | inr down ↦ omega (arith, few, along, down) ]
+      | inr home ↦ let most = home.0 in let at = home.1 in omega (arith, most, at, along, last)
+    ]
+
+two_told : (s t : ℕ) → AreTwoRanksApart s t → is_two_ranks s t ≡ true
+two_told s t (inl two) = elim (eqb_tells (rank_of t) (rank_of s + 2)) [ inl same ↦ ap (λ b. b || (rank_of s == rank_of t + 2)) same.0 | inr apart ↦ absurd (apart.1 two) ]
+two_told s t (inr two) = elim (eqb_tells (rank_of s) (rank_of t + 2)) [ inl same ↦ ap (λ b. (rank_of t == rank_of s + 2) || b) same.0 ∙ or_true (rank_of t == rank_of s + 2) | inr apart ↦ absurd (apart.1 two) ]
+  where
+    or_true : (b : Bool) → (b || true) ≡ true
+    or_true true = refl
+    or_true false = refl
+
+-- a pawn passes a square in an advance by two squares, and in no other
+pub passes : (man : Man) (s t : ℕ) → man.kind ≡ P → AreTwoRanksApart s t → passed man s t ≡ Some ((s + t) / 2)
+passes man s t pawn two = ap (λ b. if b then Some ((s + t) / 2) else None) (ap (λ (k : Kind). is_pawn k && is_two_ranks s t) pawn ∙ two_told s t two)
+
+passed_by : (man : Man) (s t u : ℕ) → passed man s t ≡ Some u → AreTwoRanksApart s t × (u ≡ (s + t) / 2)
+passed_by man s t u is = by_test (is_pawn man.kind && is_two_ranks s t) refl is
+  where
+    by_test : (b : Bool) → (is_pawn man.kind && is_two_ranks s t) ≡ b → (if b then Some ((s + t) / 2) else None) ≡ Some u → AreTwoRanksApart s t × (u ≡ (s + t) / 2)
+    by_test true e is = (two_ranks_told s t (and_parts (is_pawn man.kind) (is_two_ranks s t) e).1, let same = is in cc)
+    by_test false e is = absurd (let same = is in cc)
+
+-- the men beside the kings: the first stands on a, and this one, who was the last one on b, has advanced to t
+module _ (men : ShelfMen) (side : Side) (a b t : ℕ) (man : Man) (pawn : men.last.kind ≡ P) (mine : man.side ≡ side) (F : ℕ → Type 0) (advances : Advances F side b t) where
+  abbrev half : ℕ
+  half = (b + t) / 2
+
+  abbrev IsReady : Setup → Option ℕ → Type 0
+  IsReady q o = IfSome o (λ u. HasPawnBeside q.men q.side (ahead (other_side q.side) u))
+
+  -- a position after the advance
+  pub record IsAfter (q : Setup) : Type 0 where
+    pub are : AreTwo q.men men.white men.black men.one a man t
+    pub side_is : q.side ≡ other_side side
+
+  -- a pawn in it is the first man or this one
+  pawn_on : (q : Setup) (owner : Side) (s : ℕ) → IsAfter q → Stands q.men s (pawn_of owner) → ((s ≡ a) × (pawn_of owner ≡ men.one)) ⊎ ((s ≡ t) × (pawn_of owner ≡ man))
+  pawn_on q owner s is stands = elim (who q.men men.white men.black men.one a man t is.are s (pawn_of owner) stands) [
+    | inl h ↦ absurd (no_king White h.1)
+    | inr rest ↦ elim rest [ inl h ↦ absurd (no_king Black h.1) | inr more ↦ more ]
+  ]
+    where
+      no_king : (king : Side) → pawn_of owner ≡ king_of king → ⊥
+      no_king king is = let kinds : P ≡ K = ap (λ (x : Man). x.kind) is in cc
+
+  before_half : (q : Setup) → IsAfter q → AreTwoRanksApart b t → ahead (other_side q.side) half ≡ t
+  before_half q is two = ap (λ (x : Side). ahead (other_side x) half) is.side_is ∙ ap (λ (x : Side). ahead x half) (side_twice side) ∙ past_half F side b t advances two
+
+  -- the first man stands ready to take
+  ready : (q : Setup) → IsAfter q → LeavesTarget men side a b t → IsReady q (Some half)
+  ready q is leaves = record {
+    square = a;
+    stands = is.are.one_there ∙ ap Some (λ i. record { side = (leaves.theirs ∙ sym is.side_is) i; kind = leaves.pawn i });
+    beside = subst (IsBeside a) (sym (before_half q is leaves.two)) leaves.beside;
+  }
+
+  -- and no one else
+  ready_alone : (q : Setup) (u : ℕ) → IsAfter q → AreTwoRanksApart b t → u ≡ half → IsReady q (Some u) → LeavesTarget men side a b t
+  ready_alone q u is two at there = elim (pawn_on q q.side there.square is there.stands) [
+    | inl h ↦ record {
+      pawn = ap (λ (x : Man). x.kind) (sym h.1);
+      theirs = ap (λ (x : Man). x.side) (sym h.1) ∙ is.side_is;
+      two = two;
+      beside = subst (IsBeside a) (ap (ahead (other_side q.side)) at ∙ before_half q is two) (subst (λ s. IsBeside s (ahead (other_side q.side) u)) h.0 there.beside);
+    }
+    | inr h ↦ absurd (sides_differ side (sym mine ∙ ap (λ (x : Man). x.side) (sym h.1) ∙ is.side_is))
+  ]
+
+  -- so a target is left by such an advance alone
+  pub told : (q r : Setup) → IsAfter q → q.target ≡ passed men.last b t → SettlesTo q r → IsTrue (is_some r.target) ↔ LeavesTarget men side a b t
+  told q r is target (inl already) = (
+    λ some. by_target q.target refl (ap (λ (x : Setup). is_some x.target) (sym already.1) ∙ some),
+    λ leaves. ap (λ (x : Setup). is_some x.target) already.1 ∙ ap is_some (target ∙ passes men.last b t pawn leaves.two),
+  )
+    where
+      by_target : (o : Option ℕ) → q.target ≡ o → IsTrue (is_some o) → LeavesTarget men side a b t
+      by_target None e some = absurd (let no = some in cc)
+      by_target (Some u) e some = let by = passed_by men.last b t u (sym target ∙ e) in ready_alone q u is by.0 by.1 (subst (IsReady q) e already.0)
+  told q r is target (inr unsettled) = (
+    λ some. absurd (let no : false ≡ true = ap (λ (x : Setup). is_some x.target) (sym unsettled.1) ∙ some in cc),
+    λ leaves. absurd (unsettled.0 (subst (IsReady q) (sym (target ∙ passes men.last b t pawn leaves.two)) (ready q is leaves))),
+  )
+
+  -- that target is the square that was passed
+  target_half : (r : Setup) (u : ℕ) → IsAfter r → IsAdmissible r → LeavesTarget men side a b t → r.target ≡ Some u → u ≡ half
+  target_half r u is ok leaves e = half_alone F side b t u advances leaves.two (set.rank ∙ ap target_rank is.side_is) there
+    where
+      set : IsTarget r.men r.side u
+      set = target_is r u ok e
+
+      there : ahead side u ≡ t
+      there = elim (pawn_on r (other_side r.side) (ahead (other_side r.side) u) is set.advanced) [
+        | inl h ↦ absurd (sides_differ side (sym (side_twice side) ∙ ap other_side (sym is.side_is) ∙ ap (λ (x : Man). x.side) h.1 ∙ leaves.theirs))
+        | inr h ↦ ap (λ (x : Side). ahead x u) (sym (side_twice side)) ∙ ap (λ (x : Side). ahead (other_side x) u) (sym is.side_is) ∙ h.0
+      ]
+
+  -- and the position settles to the one with these men that has a target where one is left
+  pub settles_so : Facts → (q r : Setup) → IsAfter q → IsAfter r → IsAdmissible q → IsAdmissible r → q.target ≡ passed men.last b t → IsTrue (is_some r.target) ↔ LeavesTarget men side a b t → SettlesTo q r
+  settles_so facts q r is after ok fine target as_told = subst (SettlesTo q) same form.1
+    where
+      form : (s : Setup) × SettlesTo q s
+      form = facts.settles q
+
+      form_told : IsTrue (is_some form.0.target) ↔ LeavesTarget men side a b t
+      form_told = told q form.0 is target form.1
+
+      form_side : (s : Setup) → SettlesTo q s → s.side ≡ q.side
+      form_side s (inl already) = ap (λ (x : Setup). x.side) already.1
+      form_side s (inr unsettled) = ap (λ (x : Setup). x.side) unsettled.1
+
+      form_after : IsAfter form.0
+      form_after = record {
+        are = subst (λ (x : Placement). AreTwo x men.white men.black men.one a man t) (sym (settles_men q form.0 form.1)) is.are;
+        side_is = form_side form.0 form.1 ∙ is.side_is;
+      }
+
+      targets : (o u : Option ℕ) → form.0.target ≡ o → r.target ≡ u → o ≡ u
+      targets None None e d = refl
+      targets (Some x) (Some y) e d =
+          let leaves = as_told.0 (ap is_some d) in
+          ap Some (target_half form.0 x form_after (settles_admissible q form.0 ok form.1) leaves e ∙ sym (target_half r y after fine leaves d))
+      targets None (Some y) e d = absurd (let no : false ≡ true = sym (ap is_some e) ∙ form_told.1 (as_told.0 (ap is_some d)) in cc)
+      targets (Some x) None e d = absurd (let no : false ≡ true = sym (ap is_some d) ∙ as_told.1 (form_told.0 (ap is_some e)) in cc)
+
+      same : form.0 ≡ r
+      same = λ i. record {
+        men = one_two form.0.men r.men men.white men.black men.one a man t form_after.are after.are i;
+        side = (form_after.side_is ∙ sym after.side_is) i;
+        target = targets form.0.target r.target refl refl i;
+      }

@@ -1,0 +1,17 @@
+use Rattle.egt_check.proofs.TakenInPassing.{comes, goes}
+use Rattle.egt_check.proofs.Takings.{Telling}
+use Rattle.egt_check.proofs.pawn_laws.captures_in_passing_lead_to_three_men.Goals as goal
+
+pub returns : goal.returns
+returns c = record {
+  goes = λ k men first side a b p q m class_in one_other pawn has leads passing. goes c.facts.ensures telling k men first side a b p pawn has q m leads passing;
+  comes = λ k men first side a b p class_in one_other pawn has is d flips class q has_left.
+      comes c.facts.ensures telling k men first side a b p pawn has is d flips q has_left;
+}
+  where
+    telling : Telling
+    telling = record {
+      listed = c.stands_follow_moves.ensures.listed;
+      free = c.stands_follow_moves.ensures.free;
+      counted = c.men_beside_are_counted.ensures;
+    }
