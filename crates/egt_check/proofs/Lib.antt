@@ -54,3 +54,5 @@ pub mod PawnCaptures
 pub mod PartGiven
 pub mod PawnGiven
 pub mod AdvanceRaising
+pub mod PawnsGiven
+pub mod PromotionTables

@@ -34,3 +34,4 @@ pub mod RightRow
 pub mod MoveScores
 pub mod RightBlock
 pub mod PawnMoves
+pub mod PawnScores

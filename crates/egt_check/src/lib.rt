@@ -20,6 +20,7 @@ pub mod move_scores;
 pub mod outcome;
 pub mod own_men;
 pub mod pawn_laws;
+pub mod pawn_scores;
 pub mod peak;
 pub mod pusher;
 pub mod quiet;
