@@ -39,14 +39,6 @@ no_pawn B piece e = cc
 no_pawn N piece e = cc
 no_pawn K piece e = piece
 
-pub no_king : (kind : Kind) → IsPiece kind → kind ≢ K
-no_king K piece e = piece
-no_king Q piece e = cc
-no_king R piece e = cc
-no_king B piece e = cc
-no_king N piece e = cc
-no_king P piece e = piece
-
 -- what other laws say of this position
 pub record Says (tables : Tables) (four : FourMen) (men : ShelfMen) (side : Side) (a b : ℕ) : Type 0 where
   pub or_void : (i : ℕ) → ((p : Setup) × Spells four.own.now.class i p × IsIndex four.own.now.class p i) ⊎ IsVoid four.own.now.class i

@@ -45,3 +45,5 @@ pub mod TakenInPassing
 pub mod PartGiven
 pub mod PawnGiven
 pub mod AdvanceRaising
+pub mod PawnsGiven
+pub mod PromotionTables

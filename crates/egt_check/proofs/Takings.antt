@@ -31,7 +31,6 @@ use Rattle.egt_index.proofs.After.{all_there}
 use Rattle.egt_index.proofs.ByMen.{no_target}
 use Rattle.egt_index.proofs.Setups.{free_of}
 use Rattle.egt_index.proofs.Standing.{counted_turned, turned_back}
-use Rattle.egt_moves.specs.Chess.{IsPawnOn, Zeroes}
 use Rattle.egt_moves.specs.Going.{Goes}
 use Rattle.egt_moves.specs.Legal.{Leads, after, is_two_ranks, men_after, passed, plain, takes_in_passing}
 use Rattle.egt_moves.specs.Promotion.{FitsPromotion, arriving, is_pawn, promotes}
@@ -44,8 +43,7 @@ use Rattle.egt_check.specs.Facts.{Facts}
 use Rattle.egt_check.specs.Takings.{IsClassOf, IsPastKings, IsPlainCapture, IsTaken, Left, left_of, stand_left}
 use Rattle.egt_check.proofs.Fanned.{king_reaches}
 use Rattle.egt_check.proofs.Passed.{departs}
-use Rattle.egt_check.proofs.QuietStands.{king_piece}
-use Rattle.egt_check.proofs.Still.{no_pawn_is, piece_promo}
+use Rattle.egt_check.proofs.Still.{no_pawn_is}
 
 -- the men of a stand, and those beside the kings, by the laws of egt_index and egt_class
 pub record Telling : Type 0 where
@@ -237,27 +235,6 @@ not_promoting man to fits = by_test (promotes man to) refl
           | inl last ↦ absurd (within_ranks man.side to ranks.0 ranks.1 last.1)
           | inr apart ↦ absurd (false≢true (sym apart.0 ∙ both.1))
         ]
-
--- where no man is a pawn, the moves that zero are such captures
-pub pieces_take : (p q : Setup) (m : Move) → Leads p m q → ¬ IsPawnOn p.men m.from → Zeroes p m → IsPlainCapture p m
-pieces_take p q m leads piece zeroes = (
-  elim zeroes [ inl held ↦ held | inr pawn ↦ absurd (piece pawn) ],
-  piece_promo p q m leads (λ pawn. piece (record { man = leads.man; stands = leads.stands; pawn = pawn })),
-)
-
--- no man of these stands is a pawn
-pub no_pawn_stands : (men : ShelfMen) (a b : ℕ) (p : Setup) (s : ℕ) → ((man : Man) → Stands p.men s man → IsListed (list_of (stand_on men a b)) man s) → men.one.kind ≢ P → men.last.kind ≢ P → ¬ IsPawnOn p.men s
-no_pawn_stands men a b p s listed one_piece last_piece pawn = of_man (listed pawn.man pawn.stands)
-  where
-    no : (man : Man) → man ≡ pawn.man → man.kind ≢ P → ⊥
-    no man is piece = piece (ap (λ (x : Man). x.kind) is ∙ pawn.pawn)
-
-    of_man : IsListed (list_of (stand_on men a b)) pawn.man s → ⊥
-    of_man (inl k) = no (king_of White) k.0 (king_piece White)
-    of_man (inr (inl k)) = no (king_of Black) k.0 (king_piece Black)
-    of_man (inr (inr (inl k))) = no men.one k.0 one_piece
-    of_man (inr (inr (inr (inl k)))) = no men.last k.0 last_piece
-    of_man (inr (inr (inr (inr none)))) = absurd none
 
 module _ (facts : Facts) (telling : Telling) (c : ℕ) (men : ShelfMen) (one_other : men.one.kind ≢ K) (last_other : men.last.kind ≢ K)
     (side : Side) (passed : Bool) (a b : ℕ) (p : Setup) (has : HasStand c false (stand_on men a b) side passed p) where

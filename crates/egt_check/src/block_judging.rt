@@ -1,18 +1,20 @@
 //! The judgement of all entries with the kings on two squares, in classes with two men beside the kings.
-ghost use Rattle.std.specs.Prelude.{◌≡◌, ◌+◌, ◌<◌, ℕ, false, true, None, slice_index};
+ghost use Rattle.std.specs.Prelude.{◌≡◌, ◌≢◌, ◌+◌, ◌<◌, ℕ, false, true, None, IfSome, slice_index};
 ghost use Rattle.egt_board.specs.Turned.{turned_man};
+ghost use Rattle.egt_board.specs.declared.man.Kind.TheVariants.{K};
 ghost use Rattle.egt_class.specs.Material.{material_of};
 ghost use Rattle.egt_index.specs.LoneCodes.{IsLoneMan};
 ghost use Rattle.egt_index.specs.Scales.{kind_digits, kind_less};
 ghost use Rattle.egt_index.specs.ShelfCodes.{AreMenOf, number_in};
 ghost use Rattle.egt_index.specs.Size.{has_target};
 ghost use Rattle.egt_lanes.specs.Blocks.{at};
-ghost use Rattle.egt_lanes.specs.Pieces.{IsPiece};
 ghost use Rattle.egt_table.specs.declared.column.Column.{Column};
 ghost use Rattle.egt_check.specs.Blocks.{men_on};
 ghost use Rattle.egt_check.specs.MoveScores.{AreTablesOf};
+ghost use Rattle.egt_check.specs.PawnScores.{ArePromotionsOf};
 ghost use Rattle.egt_check.specs.RightBlock.{IsRightLane};
 ghost use Rattle.egt_check.specs.Rules.{IsJudged};
+ghost use Rattle.egt_check.specs.Taken.{men_swapped};
 ghost use Rattle.egt_check.specs.Tables.{Tables};
 
 use crate::blocks::nothing;
@@ -102,10 +104,12 @@ fn shelves_are_right(
 pub(crate) fn block_is_right(four: &FourMen, men: &ShelfMen, first: u32, side: Side) -> bool
     requires men { AreMenOf four.now.own.now.class men.now }
     requires targets { has_target (material_of four.now.own.now.class) ≡ false }
-    requires one { IsPiece men.now.one.kind }
-    requires last { IsPiece men.now.last.kind }
+    requires one { men.now.one.kind ≢ K }
+    requires last { men.now.last.kind ≢ K }
     requires first_left { IsLoneMan four.now.first.now.class (turned_man four.now.first_flips men.now.one) }
     requires last_left { IsLoneMan four.now.last.now.class (turned_man four.now.last_flips men.now.last) }
+    requires first_pawn { IfSome four.now.first_pawn (λ kinds. ArePromotionsOf kinds (men_swapped men.now)) }
+    requires last_pawn { IfSome four.now.last_pawn (λ kinds. ArePromotionsOf kinds men.now) }
     requires room { first + 64 < 4294967296 }
     ensures { result ≡ true → (tables : Tables) → AreTablesOf tables four.now men.now → (x y : ℕ) → x < kind_digits men.now.one.kind → y < kind_digits men.now.last.kind → (column : Column) →
         IsJudged tables four.now.own.now column (number_in four.now.own.now.class (first + x) side y) None }

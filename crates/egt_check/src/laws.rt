@@ -31,9 +31,9 @@ ghost use Rattle.egt_check.specs.Taken.{AreLeftCodes, IsTableOf, men_swapped};
 ghost use Rattle.egt_check.specs.MoveScores.{AreMoveScores, AreTablesOf};
 ghost use Rattle.egt_check.specs.RightRow.{IsRightAt};
 ghost use Rattle.egt_check.specs.declared.move_scores.FourMen.{FourMen};
-ghost use Rattle.egt_index.specs.Size.{size_of};
+ghost use Rattle.egt_class.specs.Material.{material_of};
+ghost use Rattle.egt_index.specs.Size.{has_target, size_of};
 ghost use Rattle.egt_index.specs.StepCodes.{TellsMen};
-ghost use Rattle.egt_lanes.specs.Pieces.{IsPiece};
 ghost use Rattle.egt_table.specs.declared.column.Column.TheVariants.{Mate, Zeroing};
 ghost use Rattle.egt_check.specs.Worth.{HasBytes, score_at};
 ghost use Rattle.egt_lanes.specs.Raised.{IsRaised};
@@ -43,10 +43,13 @@ ghost use Rattle.egt_check.specs.Rules.{KeepsRules};
 ghost use Rattle.egt_check.specs.Truth.{IsTrueTable, HasTrueChildren};
 
 use crate::facts::facts;
+use crate::pawn_laws::{
+    codes_after_advances_give_the_advances, codes_after_promoting_captures_give_them,
+};
 use egt_class::laws::{men_beside_are_counted, moves_lead_into_the_class_or_a_child};
 use egt_index::laws::{
-    a_code_is_an_index_or_void, codes_follow_steps, codes_spell_one_position,
-    codes_tell_turned_men, numbers_stand_for_codes, stands_follow_moves,
+    a_class_without_targets_has_pawns_of_one_side, a_code_is_an_index_or_void, codes_follow_steps,
+    codes_spell_one_position, codes_tell_turned_men, numbers_stand_for_codes, stands_follow_moves,
 };
 
 /// Where the children's tables are true, the entries of a table keep all rules exactly where the table is true: each entry is
@@ -156,19 +159,22 @@ pub fn codes_after_captures_give_the_captures()
     captures_lead_to_three_men();
 }
 
-/// Where all men are pieces, entries that are due to the greatest scores of all moves keep the rules, whether or not their code is an index.
+/// In a class without targets, entries that are due to the greatest scores of all moves keep the rules, whether or
+/// not their code is an index.
 pub fn entries_due_to_all_moves_are_right()
-    ensures { (tables : Tables) (four : FourMen) (men : ShelfMen) (side : Side) (a b i mate zeroing : ℕ) → AreTablesOf tables four men → IsPiece men.one.kind → IsPiece men.last.kind → i < size_of four.own.now.class →
-        TellsMen false four.own.now.class i (stand_on men a b) side → AreMoveScores four men side a b mate zeroing → (score_at four.own.now Mate i ≢ 0 → IsRightAt four.own.now i mate zeroing) →
+    ensures { (tables : Tables) (four : FourMen) (men : ShelfMen) (side : Side) (a b i mate zeroing : ℕ) → AreTablesOf tables four men → men.one.kind ≢ K → men.last.kind ≢ K → has_target (material_of four.own.now.class) ≡ false →
+        i < size_of four.own.now.class → TellsMen false four.own.now.class i (stand_on men a b) side → AreMoveScores four men side a b mate zeroing → (score_at four.own.now Mate i ≢ 0 → IsRightAt four.own.now i mate zeroing) →
         (column : Column) → IsJudged tables four.own.now column i None }
 {
     facts();
+    a_class_without_targets_has_pawns_of_one_side();
     a_code_is_an_index_or_void();
     codes_follow_steps();
     numbers_stand_for_codes();
-    stands_follow_moves();
     quiet_codes_give_the_quiet_moves();
     codes_after_captures_give_the_captures();
+    codes_after_advances_give_the_advances();
+    codes_after_promoting_captures_give_them();
     moves_of_either_kind_give_all();
     due_bytes_are_right();
 }

@@ -19,6 +19,7 @@ pub mod move_scores;
 pub mod outcome;
 pub mod own_men;
 pub mod pawn_laws;
+pub mod pawn_scores;
 pub mod quiet_blocks;
 pub mod reject;
 pub mod row_judging;

@@ -1,6 +1,6 @@
-//! The greatest scores, in both columns, of the moves of a side that do not zero and of its captures that promote no pawn and are not in passing, with two
-//! men beside the kings, who stand on two squares. Where these men are pieces, these are all moves.
-ghost use Rattle.std.specs.Prelude.{◌≡◌, ◌≢◌, ◌<◌, max, ℕ, false, true};
+//! The greatest scores, in both columns, of the moves of a side with two men beside the kings, who stand on two
+//! squares, in classes without targets.
+ghost use Rattle.std.specs.Prelude.{◌≡◌, ◌≢◌, ◌<◌, max, ℕ, false, true, IfSome};
 ghost use Rattle.egt_board.specs.Turned.{turned_man};
 ghost use Rattle.egt_board.specs.declared.man.Kind.TheVariants.{K};
 ghost use Rattle.egt_class.specs.Material.{material_of};
@@ -10,9 +10,11 @@ ghost use Rattle.egt_index.specs.Size.{has_target};
 ghost use Rattle.egt_lanes.specs.Blocks.{at};
 ghost use Rattle.egt_lanes.specs.Scores.{zeroing_score};
 ghost use Rattle.egt_check.specs.MoveScores.{AreMoveScores};
+ghost use Rattle.egt_check.specs.PawnScores.{ArePromotionsOf};
 ghost use Rattle.egt_check.specs.Taken.{men_swapped};
 
 use crate::blocks::nothing;
+use crate::pawn_scores::{Promotions, pawns_block};
 use crate::quiet_blocks::quiet_block;
 use crate::taken_blocks::taken_block;
 use egt_board::Side;
@@ -23,7 +25,8 @@ use egt_lanes::row::greater;
 use egt_lanes::score::zeroed;
 use egt_table::{Column, Table};
 
-/// The table of a class of two men beside the kings, and those of the classes that such captures leave, each with whether colours are exchanged there.
+/// The table of a class of two men beside the kings, and those of the classes that captures and promotions lead to,
+/// each with whether colours are exchanged there.
 #[derive(Drop)]
 pub(crate) struct FourMen<'t> {
     pub(crate) own: &'t Table,
@@ -33,6 +36,10 @@ pub(crate) struct FourMen<'t> {
     /// Where the last man is left.
     pub(crate) last: &'t Table,
     pub(crate) last_flips: bool,
+    /// Where the first man, a pawn, is promoted.
+    pub(crate) first_pawn: Option<Promotions<'t>>,
+    /// Where the last man, a pawn, is promoted.
+    pub(crate) last_pawn: Option<Promotions<'t>>,
 }
 
 /// The men beside the kings in the other order.
@@ -57,7 +64,8 @@ fn raise_zeroed(out: &mut Block, mates: &Block)
     }
 }
 
-/// The greatest scores of these moves of that side, in the mate column and in the zeroing column. False where a table does not tell.
+/// The greatest scores of all moves of that side, in the mate column and in the zeroing column. False where a table
+/// does not tell.
 pub(crate) fn move_scores(
     four: &FourMen,
     men: &ShelfMen,
@@ -71,6 +79,8 @@ pub(crate) fn move_scores(
     requires last { men.now.last.kind ≢ K }
     requires first_left { IsLoneMan four.now.first.now.class (turned_man four.now.first_flips men.now.one) }
     requires last_left { IsLoneMan four.now.last.now.class (turned_man four.now.last_flips men.now.last) }
+    requires first_pawn { IfSome four.now.first_pawn (λ kinds. ArePromotionsOf kinds (men_swapped men.now)) }
+    requires last_pawn { IfSome four.now.last_pawn (λ kinds. ArePromotionsOf kinds men.now) }
     ensures { result ≡ true → (a b : ℕ) → a < 64 → b < 64 → AreMoveScores four.now men.now side a b (at mates.new a b) (at zeroing.new a b) }
 {
     if !quiet_block(four.own, Column::Mate, men, side, mates) {
@@ -89,6 +99,18 @@ pub(crate) fn move_scores(
         return false;
     }
     raise_transposed(&mut taken, &across);
+    let mut pawns = nothing();
+    if !pawns_block(
+        four.own,
+        &four.first_pawn,
+        &four.last_pawn,
+        men,
+        side,
+        &mut pawns,
+    ) {
+        return false;
+    }
+    raise(&mut taken, &pawns);
     raise(mates, &taken);
     raise_zeroed(zeroing, &taken);
     true

@@ -1,17 +1,25 @@
-//! The judgement of a whole table of a class with two pieces beside the kings, block by block.
-ghost use Rattle.std.specs.Prelude.{◌≡◌, ◌≢◌, ◌+◌, ◌<◌, ℕ, false, true, None};
+//! The judgement of a whole table of a class without targets, with two men beside the kings, block by block.
+ghost use Rattle.std.specs.Prelude.{◌≡◌, ◌≢◌, ◌+◌, ◌<◌, ℕ, false, true, Some, None, IfSome};
 ghost use Rattle.egt_board.specs.Turned.{turned_man};
+ghost use Rattle.egt_board.specs.Setup.{Setup};
+ghost use Rattle.egt_board.specs.declared.man.Kind.TheVariants.{K};
 ghost use Rattle.egt_board.specs.declared.man.Side.{Side};
 ghost use Rattle.egt_class.specs.Material.{material_of};
+ghost use Rattle.egt_class.specs.Membership.{IsOf};
+ghost use Rattle.egt_class.specs.Pair.{IsBeside};
 ghost use Rattle.egt_index.specs.LoneCodes.{IsLoneMan};
 ghost use Rattle.egt_index.specs.Numbers.{places};
 ghost use Rattle.egt_index.specs.Scales.{kind_digits};
 ghost use Rattle.egt_index.specs.ShelfCodes.{AreMenOf, number_in};
 ghost use Rattle.egt_index.specs.Size.{has_target, size_of};
-ghost use Rattle.egt_lanes.specs.Pieces.{IsPiece};
+ghost use Rattle.egt_index.specs.declared.shelf_codes.ShelfMen.{ShelfMen};
+ghost use Rattle.egt_moves.specs.Promotion.{IsOfficer};
+ghost use Rattle.egt_table.specs.Table.{TableValue};
 ghost use Rattle.egt_table.specs.declared.column.Column.{Column};
 ghost use Rattle.egt_check.specs.MoveScores.{AreTablesOf};
+ghost use Rattle.egt_check.specs.PawnScores.{AreNamed, ArePromotionsOf, HasPromotion, HasPromotions, IsPromotionOf};
 ghost use Rattle.egt_check.specs.Rules.{IsJudged, KeepsBelow};
+ghost use Rattle.egt_check.specs.Taken.{men_swapped};
 ghost use Rattle.egt_check.specs.Tables.{Tables, beside, table_at};
 ghost use Rattle.egt_check.specs.Worth.{HasBytes};
 
@@ -19,10 +27,11 @@ use crate::block_judging::block_is_right;
 use crate::bytes::tells_bytes;
 use crate::digits::digits_of;
 use crate::library::Library;
-use crate::move_scores::FourMen;
-use crate::own_men::is_piece;
+use crate::move_scores::{FourMen, men_swapped};
+use crate::own_men::is_pawn;
+use crate::pawn_scores::{Promotion, Promotions};
 use crate::taken_blocks::turned_man;
-use egt_board::{Man, Side, Square};
+use egt_board::{Kind, Man, Side, Square};
 use egt_class::Class;
 use egt_class::membership::of_men;
 use egt_index::{ShelfMen, last_digits, lone_man, shelf_men, size};
@@ -45,10 +54,12 @@ fn with_kings(men: &ShelfMen, white: Square, black: Square) -> ShelfMen
 fn pair_is_right(four: &FourMen, men: &ShelfMen, first: u32) -> bool
     requires men { AreMenOf four.now.own.now.class men.now }
     requires targets { has_target (material_of four.now.own.now.class) ≡ false }
-    requires one { IsPiece men.now.one.kind }
-    requires last { IsPiece men.now.last.kind }
+    requires one { men.now.one.kind ≢ K }
+    requires last { men.now.last.kind ≢ K }
     requires first_left { IsLoneMan four.now.first.now.class (turned_man four.now.first_flips men.now.one) }
     requires last_left { IsLoneMan four.now.last.now.class (turned_man four.now.last_flips men.now.last) }
+    requires first_pawn { IfSome four.now.first_pawn (λ kinds. ArePromotionsOf kinds (men_swapped men.now)) }
+    requires last_pawn { IfSome four.now.last_pawn (λ kinds. ArePromotionsOf kinds men.now) }
     requires room { first + 64 < 4294967296 }
     ensures { result ≡ true → (tables : Tables) → AreTablesOf tables four.now men.now → (x y : ℕ) (side : Side) → x < kind_digits men.now.one.kind → y < kind_digits men.now.last.kind → (column : Column) →
         IsJudged tables four.now.own.now column (number_in four.now.own.now.class (first + x) side y) None }
@@ -65,10 +76,12 @@ fn pair_is_right(four: &FourMen, men: &ShelfMen, first: u32) -> bool
 fn pairs_are_right(four: &FourMen, men: &ShelfMen) -> bool
     requires men { AreMenOf four.now.own.now.class men.now }
     requires targets { has_target (material_of four.now.own.now.class) ≡ false }
-    requires one { IsPiece men.now.one.kind }
-    requires last { IsPiece men.now.last.kind }
+    requires one { men.now.one.kind ≢ K }
+    requires last { men.now.last.kind ≢ K }
     requires first_left { IsLoneMan four.now.first.now.class (turned_man four.now.first_flips men.now.one) }
     requires last_left { IsLoneMan four.now.last.now.class (turned_man four.now.last_flips men.now.last) }
+    requires first_pawn { IfSome four.now.first_pawn (λ kinds. ArePromotionsOf kinds (men_swapped men.now)) }
+    requires last_pawn { IfSome four.now.last_pawn (λ kinds. ArePromotionsOf kinds men.now) }
     requires wide { places four.now.own.now.class ≡ kind_digits men.now.last.kind }
     ensures { result ≡ true → (tables : Tables) → AreTablesOf tables four.now men.now → (column : Column) → KeepsBelow tables four.now.own.now column (size_of four.now.own.now.class) }
 {
@@ -85,7 +98,8 @@ fn pairs_are_right(four: &FourMen, men: &ShelfMen) -> bool
     true
 }
 
-/// Whether this is the table of the class in which the man is left alone beside the kings, in colours exchanged where `flips`, and its bytes tell its entries.
+/// Whether this is the table of the class in which the man is left alone beside the kings, in colours exchanged where
+/// `flips`, and its bytes tell its entries.
 fn is_left(class: Class, child: &Table, flips: bool, man: Man) -> bool
     ensures apart { result ≡ true → child.now.class ≢ class }
     ensures lone { result ≡ true → IsLoneMan child.now.class (turned_man flips man) }
@@ -101,8 +115,101 @@ fn is_left(class: Class, child: &Table, flips: bool, man: Man) -> bool
     }
 }
 
-/// Whether all entries of the table keep the rules beside those of the successors, of a class with two pieces beside the kings. False of any other, and
-/// where a table does not tell it by bytes.
+/// Whether the class names these two men beside its kings, as it has them: the second before the first where the
+/// answer is `Some(true)`. `None` where it has others.
+fn named_before(class: Class, one: Man, last: Man) -> Option<bool>
+    ensures { IfSome result (λ before. (men : ShelfMen) × AreMenOf class men × AreNamed before men one last) }
+{
+    let men = shelf_men(class, 0)?;
+    if men.one == one && men.last == last {
+        return Some(false);
+    }
+    if men.one == last && men.last == one {
+        return Some(true);
+    }
+    None
+}
+
+/// The tables of the classes that a promotion of the last man to this kind leads to. `None` where one of them is
+/// missing or does not tell its entries by bytes.
+fn promotion<'t>(
+    library: &'t Library,
+    class: Class,
+    men: &ShelfMen,
+    kind: Kind,
+) -> Option<Promotion<'t>>
+    requires officer { IsOfficer kind }
+    ensures kind { IfSome result (λ promotion. promotion.kind ≡ kind) }
+    ensures of { IfSome result (λ promotion. IsPromotionOf promotion men.now) }
+    ensures has { IfSome result (λ promotion. (t : TableValue) → t.class ≡ class → HasPromotion (beside (table_at library.now) t) promotion men.now) }
+{
+    let officer = Man {
+        side: men.last.side,
+        kind,
+    };
+    let (both_class, both_flips) = of_men(Some(men.one), Some(officer));
+    let both = library.get(both_class)?;
+    let before = named_before(
+        both_class,
+        turned_man(men.one, both_flips),
+        turned_man(officer, both_flips),
+    )?;
+    if both_class.number() == class.number() || !tells_bytes(both) {
+        return None;
+    }
+    let (alone_class, alone_flips) = of_men(Some(officer), None);
+    let alone = library.get(alone_class)?;
+    if !is_left(class, alone, alone_flips, officer) {
+        return None;
+    }
+    Some(Promotion {
+        kind,
+        both,
+        both_flips,
+        before,
+        alone,
+        alone_flips,
+    })
+}
+
+/// The same of each kind that the last man, a pawn, is promoted to. `None` of a piece, and where a table is missing
+/// or does not tell.
+fn promotions<'t>(library: &'t Library, class: Class, men: &ShelfMen) -> Option<Promotions<'t>>
+    ensures of { IfSome result (λ kinds. ArePromotionsOf kinds men.now) }
+    ensures has { IfSome result (λ kinds. (t : TableValue) → t.class ≡ class → HasPromotions (beside (table_at library.now) t) kinds men.now) }
+{
+    if !is_pawn(men.last) {
+        return None;
+    }
+    let queen = promotion(library, class, men, Kind::Q)?;
+    let rook = promotion(library, class, men, Kind::R)?;
+    let bishop = promotion(library, class, men, Kind::B)?;
+    let knight = promotion(library, class, men, Kind::N)?;
+    Some(Promotions {
+        queen,
+        rook,
+        bishop,
+        knight,
+    })
+}
+
+/// Whether the man is a king.
+fn is_king(man: Man) -> bool
+    ensures { result ≡ false → man.kind ≢ K }
+{
+    matches!(man.kind, Kind::K)
+}
+
+/// Whether all positions of these men are of the class, in its own colours.
+fn is_own_class(class: Class, men: &ShelfMen) -> bool
+    ensures { result ≡ true → (p : Setup) → IsBeside p (Some men.now.one) (Some men.now.last) → IsOf class false p }
+{
+    let (own, flips) = of_men(Some(men.one), Some(men.last));
+    own.number() == class.number() && !flips
+}
+
+/// Whether all entries of the table keep the rules beside those of the successors, of a class without targets, with
+/// two men beside the kings. False of any other, and where a table does not tell it by bytes.
 pub(crate) fn is_right_by_blocks(table: &Table, library: &Library) -> bool
     ensures { result ≡ true → (column : Column) → KeepsBelow (beside (table_at library.now) table.now) table.now column (size_of table.now.class) }
 {
@@ -110,7 +217,7 @@ pub(crate) fn is_right_by_blocks(table: &Table, library: &Library) -> bool
     let Some(men) = shelf_men(class, 0) else {
         return false;
     };
-    if !is_piece(men.one) || !is_piece(men.last) {
+    if is_king(men.one) || is_king(men.last) || !is_own_class(class, &men) {
         return false;
     }
     let (first_class, first_flips) = of_men(Some(men.one), None);
@@ -133,6 +240,8 @@ pub(crate) fn is_right_by_blocks(table: &Table, library: &Library) -> bool
         first_flips,
         last,
         last_flips,
+        first_pawn: promotions(library, class, &men_swapped(&men)),
+        last_pawn: promotions(library, class, &men),
     };
     pairs_are_right(&four, &men)
 }

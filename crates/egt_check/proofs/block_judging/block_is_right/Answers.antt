@@ -15,4 +15,4 @@ returns c = λ told tables are x y x_in y_in column rule.
     let scores = c.move_scores.ensures c.if-not-move_scores.false a b (square_in men.one.kind x x_in) (square_in men.last.kind y y_in) in
     let lane = c.shelves_are_right.ensures told x y x_in y_in in
     let i = number_in four.own.now.class (c.args.first + x) side y in
-    c.entries_due_to_all_moves_are_right.ensures tables four men side a b i (at c.move_scores.new.mates a b) (at c.move_scores.new.zeroing a b) are c.requires.one c.requires.last lane.below lane.tells scores lane.right column rule
+    c.entries_due_to_all_moves_are_right.ensures tables four men side a b i (at c.move_scores.new.mates a b) (at c.move_scores.new.zeroing a b) are c.requires.one c.requires.last c.requires.targets lane.below lane.tells scores lane.right column rule

@@ -12,7 +12,8 @@ pub returns : goal.returns
 returns c = λ told a b a_in b_in.
     let quiet = at c.quiet_block.new.out a b in
     let slow = at c.quiet_block-2.new.out a b in
-    let taken = c.raise_transposed.ensures a b a_in b_in in
+    let pawns = at c.pawns_block.new.out a b in
+    let taken = c.raise.ensures a b a_in b_in ∙ ap (λ n. max n pawns) (c.raise_transposed.ensures a b a_in b_in) in
     let four = c.args.four.now in record {
       quiet_mate = quiet;
       quiet_zeroing = slow;
@@ -24,6 +25,8 @@ returns c = λ told a b a_in b_in.
       last_raised =
           subst (λ (men : ShelfMen). IsRaised 0 (AreLeftCodes four.last.now.class four.last_flips men c.args.side b a) (score_at four.last.now Mate) (at c.taken_block-2.new.out b a))
           c.men_swapped-swapped.ensures (c.taken_block-2.ensures c.if-not-taken_block-2.false b a b_in a_in);
-      mate_is = c.raise.ensures a b a_in b_in ∙ ap (max quiet) taken;
+      by_pawns = pawns;
+      pawns = c.pawns_block.ensures c.if-not-pawns_block.false a b a_in b_in;
+      mate_is = c.raise-2.ensures a b a_in b_in ∙ ap (max quiet) taken;
       zeroing_is = c.raise_zeroed.ensures a b a_in b_in ∙ ap (λ n. max slow (zeroing_score n)) taken;
     }

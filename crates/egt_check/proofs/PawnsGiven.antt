@@ -1,0 +1,244 @@
+-- The greatest scores of all moves of pawns: their advances, and the captures by which they are promoted.
+use Rattle.std.proofs.Common.{◌≡◌, ℕ, ◌⊎◌, max, Bool, true, false, Option, Some, None, IfSome, arith, refl, sym, ap, ◌∙◌, inl, inr, subst}
+use Rattle.std.proofs.lemmas.Bool.{cases_lt}
+use Rattle.egt_board.specs.Attack.{king_of}
+use Rattle.egt_board.specs.DecidedMen.{decided_held}
+use Rattle.egt_board.specs.Man.{other_side}
+use Rattle.egt_board.specs.Pawn.{pawn_of}
+use Rattle.egt_board.specs.Placement.{Stands, IsHeld, one_man}
+use Rattle.egt_board.specs.Setup.{Setup}
+use Rattle.egt_board.specs.declared.man.Kind.{Kind}
+use Rattle.egt_board.specs.declared.man.Kind.TheVariants.{Q, R, B, N, P, K}
+use Rattle.egt_board.specs.declared.man.Man.{Man}
+use Rattle.egt_board.specs.declared.man.Side.{Side}
+use Rattle.egt_board.specs.declared.man.Side.TheVariants.{White, Black}
+use Rattle.egt_index.specs.Stood.{HasStand}
+use Rattle.egt_index.specs.declared.shelf_codes.ShelfMen.{ShelfMen}
+use Rattle.egt_lanes.specs.Raised.{IsRaised}
+use Rattle.egt_lanes.specs.Scores.{zeroing_score}
+use Rattle.egt_moves.specs.Chess.{IsPawnOn, Zeroes}
+use Rattle.egt_moves.specs.Exchange.{Captures}
+use Rattle.egt_moves.specs.Legal.{Leads}
+use Rattle.egt_moves.specs.Promotion.{FitsPromotion, IsOfficer, arriving, is_pawn, promotes}
+use Rattle.egt_moves.specs.declared.chess_move.Move.{Move}
+use Rattle.egt_moves.proofs.Admissible.{pawn_told}
+use Rattle.egt_table.specs.Table.{TableValue}
+use Rattle.egt_table.specs.declared.column.Column.TheVariants.{Mate}
+use Rattle.egt_check.specs.Blocks.{stand_on}
+use Rattle.egt_check.specs.Given.{AreGiven}
+use Rattle.egt_check.specs.PawnMoves.{AreAdvancedCodes, ArePromotedCodes, IsAdvanceFrom, IsPromotingCaptureFrom, IsTableAfter, officer_of}
+use Rattle.egt_check.specs.PawnScores.{ArePawnScores, AreRaisedByPawns, HasPromotion, HasPromotions, IsPromotionScore, IsRaisedByPawn}
+use Rattle.egt_check.specs.Tables.{Tables}
+use Rattle.egt_check.specs.Taken.{IsTableOf, men_swapped}
+use Rattle.egt_check.specs.Takings.{IsPlainCapture}
+use Rattle.egt_check.specs.Worth.{score_at}
+use Rattle.egt_check.specs.declared.pawn_scores.Promotion.{Promotion}
+use Rattle.egt_check.specs.declared.pawn_scores.Promotions.{Promotions}
+use Rattle.egt_check.proofs.EitherGiven.{same_given, union_given}
+use Rattle.egt_check.proofs.PawnAdvances.{none_of}
+use Rattle.egt_check.proofs.TakenGiven.{zeroing_above}
+use Rattle.egt_check.proofs.TwoBeside.{AreTwo, are_in, who}
+
+-- ---- moves of two kinds that zero
+
+zeroing_greater : (u v : ℕ) → max (zeroing_score u) (zeroing_score v) ≡ zeroing_score (max u v)
+zeroing_greater u v = elim (cases_lt u v) [
+  | inl less ↦
+      let is : max u v ≡ v = omega (arith, less) in
+      let same = ap zeroing_score is in
+      let le = zeroing_above u v (omega (arith, less)) in
+      omega (arith, same, le)
+  | inr more ↦
+      let is : max u v ≡ u = omega (arith, more) in
+      let same = ap zeroing_score is in
+      let le = zeroing_above v u (omega (arith, more)) in
+      omega (arith, same, le)
+]
+
+-- the greatest scores of moves that are of one kind or of the other
+pub either_zeroing : (tables : Tables) (p : Setup) (C One Other : Move → Type 0) (u v w : ℕ) → AreGiven tables p One u (zeroing_score u) → AreGiven tables p Other v (zeroing_score v) → w ≡ max u v
+    → ((q : Setup) (m : Move) → Leads p m q → C m → One m ⊎ Other m) → ((m : Move) → One m → C m) → ((m : Move) → Other m → C m) → AreGiven tables p C w (zeroing_score w)
+either_zeroing tables p C One Other u v w one other is either from_one from_other =
+    subst (λ n. AreGiven tables p C n (zeroing_score n)) (sym is)
+    (subst (AreGiven tables p C (max u v)) (zeroing_greater u v) (union_given tables p C One Other u (zeroing_score u) v (zeroing_score v) one other either from_one from_other))
+
+-- ---- the moves of a pawn
+
+-- those before, and the pawn's moves from b by which he is promoted to this kind
+abbrev pub WithPromotions : (C : Move → Type 0) → Setup → ℕ → Kind → Move → Type 0
+WithPromotions C p b kind m = (C m ⊎ IsAdvanceFrom p b (Some kind) m) ⊎ IsPromotingCaptureFrom p b kind m
+
+-- all his moves but the captures that promote nothing
+abbrev pub IsMoveFrom : Setup → ℕ → Move → Type 0
+IsMoveFrom p b = WithPromotions (WithPromotions (WithPromotions (WithPromotions (IsAdvanceFrom p b None) p b Q) p b R) p b B) p b N
+
+-- such a move of the last man, a pawn of that side on b
+abbrev pub IsPawnMove : ShelfMen → Side → Setup → ℕ → Move → Type 0
+IsPawnMove men side p b m = (men.last.kind ≡ P) × (men.last.side ≡ side) × IsMoveFrom p b m
+
+-- what the laws on moves of pawns say of this position
+pub record PawnLaws (tables : Tables) (men : ShelfMen) (side : Side) (a b : ℕ) (p : Setup) : Type 0 where
+  pub advances : (promo : Option Kind) (t : TableValue) (before flips : Bool) (w : ℕ) → IsTableAfter tables t before flips men.one (arriving men.last promo) → IsRaised 0 (AreAdvancedCodes t.class before flips men side promo a b) (score_at t Mate) w
+      → AreGiven tables p (IsAdvanceFrom p b promo) w (zeroing_score w)
+  pub captures : (kind : Kind) (t : TableValue) (flips : Bool) (w : ℕ) → IsTableOf tables t flips (officer_of side kind) → IsRaised 0 (ArePromotedCodes t.class flips men side kind a b) (score_at t Mate) w
+      → AreGiven tables p (IsPromotingCaptureFrom p b kind) w (zeroing_score w)
+
+module _ (tables : Tables) (men : ShelfMen) (side : Side) (a b : ℕ) (p : Setup) where
+  module _ (laws : PawnLaws tables men side a b p) (mine : men.last.side ≡ side) where
+    promoted_given : (C : Move → Type 0) (promotion : Promotion) (kind : Kind) (low high : ℕ) → AreGiven tables p C low (zeroing_score low) → HasPromotion tables promotion men → promotion.kind ≡ kind
+        → IsPromotionScore promotion men side a b low high → AreGiven tables p (WithPromotions C p b kind) high (zeroing_score high)
+    promoted_given C promotion kind low high given has kind_is score =
+        either_zeroing tables p (WithPromotions C p b kind) (λ m. C m ⊎ IsAdvanceFrom p b (Some kind) m) (IsPromotingCaptureFrom p b kind) (max low score.advanced) score.taken high
+        (either_zeroing tables p (λ m. C m ⊎ IsAdvanceFrom p b (Some kind) m) C (IsAdvanceFrom p b (Some kind)) low score.advanced (max low score.advanced) given
+        (subst (λ (k : Kind). AreGiven tables p (IsAdvanceFrom p b (Some k)) score.advanced (zeroing_score score.advanced)) kind_is
+        (laws.advances (Some promotion.kind) promotion.both.now promotion.before promotion.both_flips score.advanced has.both score.advanced_raised)) refl (λ q m leads is. is) (λ m is. inl is) (λ m is. inr is))
+        (subst (λ (k : Kind). AreGiven tables p (IsPromotingCaptureFrom p b k) score.taken (zeroing_score score.taken)) kind_is
+        (laws.captures promotion.kind promotion.alone.now promotion.alone_flips score.taken (subst (λ (s : Side). IsTableOf tables promotion.alone.now promotion.alone_flips (officer_of s promotion.kind)) mine has.alone) score.taken_raised))
+        score.is (λ q m leads is. is) (λ m is. inl is) (λ m is. inr is)
+
+    moves_given : (own : TableValue) (first : Bool) (promotions : Promotions) (score : ℕ) → IsTableAfter tables own first false men.one men.last → HasPromotions tables promotions men
+        → ArePawnScores own first promotions men side a b score → AreGiven tables p (IsMoveFrom p b) score (zeroing_score score)
+    moves_given own first promotions score after has s =
+        let plain = laws.advances None own first false s.advanced after s.advanced_raised in
+        let queen = promoted_given (IsAdvanceFrom p b None) promotions.queen Q s.advanced s.queen plain has.queen has.queen_is s.queen_is in
+        let rook = promoted_given (WithPromotions (IsAdvanceFrom p b None) p b Q) promotions.rook R s.queen s.rook queen has.rook has.rook_is s.rook_is in
+        let bishop = promoted_given (WithPromotions (WithPromotions (IsAdvanceFrom p b None) p b Q) p b R) promotions.bishop B s.rook s.bishop rook has.bishop has.bishop_is s.bishop_is in
+        promoted_given (WithPromotions (WithPromotions (WithPromotions (IsAdvanceFrom p b None) p b Q) p b R) p b B) promotions.knight N s.bishop score bishop has.knight has.knight_is s.knight_is
+
+  -- no move of his where he is no pawn of that side
+  none_given : ¬ ((men.last.kind ≡ P) × (men.last.side ≡ side)) → AreGiven tables p (IsPawnMove men side p b) 0 (zeroing_score 0)
+  none_given none = record { above = λ q m leads is. absurd (none (is.0, is.1)); mate_given = inl refl; zeroing_given = inl refl }
+
+  pub raised_given : (men.last.kind ≡ P → men.last.side ≡ side → PawnLaws tables men side a b p) → (own : TableValue) (first : Bool) (promotions : Option Promotions) (high : ℕ) → IsTableAfter tables own first false men.one men.last
+      → IfSome promotions (λ kinds. HasPromotions tables kinds men) → IsRaisedByPawn own first promotions men side a b 0 high → AreGiven tables p (IsPawnMove men side p b) high (zeroing_score high)
+  raised_given laws own first promotions high after has (inl (same, none)) = subst (λ n. AreGiven tables p (IsPawnMove men side p b) n (zeroing_score n)) (sym same) (none_given none)
+  raised_given laws own first promotions high after has (inr (pawn, mine, kinds, some, score, scores, is)) =
+      let same : high ≡ score = omega (arith, is) in
+      let given = moves_given (laws pawn mine) mine own first kinds score after (subst (λ (o : Option Promotions). IfSome o (λ kinds. HasPromotions tables kinds men)) some has) scores in
+      subst (λ n. AreGiven tables p (IsPawnMove men side p b) n (zeroing_score n)) (sym same)
+      (same_given tables p (IsPawnMove men side p b) (IsMoveFrom p b) score (zeroing_score score) given (λ q m leads is. is.2) (λ m is. (pawn, mine, is)))
+
+-- ---- the moves that zero
+
+-- who is promoted is a pawn, and becomes an officer
+fits_pawn : (man : Man) (to : ℕ) (kind : Kind) → FitsPromotion (promotes man to) (Some kind) → (man.kind ≡ P) × IsOfficer kind
+fits_pawn man to kind fits = by_test (promotes man to) refl fits
+  where
+    by_test : (b : Bool) → promotes man to ≡ b → FitsPromotion b (Some kind) → (man.kind ≡ P) × IsOfficer kind
+    by_test false e none = absurd none
+    by_test true e officer = (by_pawn (is_pawn man.kind) refl e, officer)
+      where
+        by_pawn : (b : Bool) → is_pawn man.kind ≡ b → promotes man to ≡ true → man.kind ≡ P
+        by_pawn true pawn e = pawn_told man.kind pawn
+        by_pawn false pawn e = absurd (let not = pawn in cc)
+
+module _ (p : Setup) (b : ℕ) (m : Move) where
+  captured : (kind : Kind) → IsOfficer kind → IsPromotingCaptureFrom p b kind m → IsMoveFrom p b m
+  captured Q officer is = inl (inl (inl (inl (inl (inl (inr is))))))
+  captured R officer is = inl (inl (inl (inl (inr is))))
+  captured B officer is = inl (inl (inr is))
+  captured N officer is = inr is
+  captured P officer is = absurd officer
+  captured K officer is = absurd officer
+
+  advanced : (man : Man) (promo : Option Kind) → FitsPromotion (promotes man m.to) promo → IsAdvanceFrom p b promo m → IsMoveFrom p b m
+  advanced man None fits is = inl (inl (inl (inl (inl (inl (inl (inl is)))))))
+  advanced man (Some kind) fits is = of_kind kind (fits_pawn man m.to kind fits).1 is
+    where
+      of_kind : (kind : Kind) → IsOfficer kind → IsAdvanceFrom p b (Some kind) m → IsMoveFrom p b m
+      of_kind Q officer is = inl (inl (inl (inl (inl (inl (inl (inr is)))))))
+      of_kind R officer is = inl (inl (inl (inl (inl (inr is)))))
+      of_kind B officer is = inl (inl (inl (inr is)))
+      of_kind N officer is = inl (inr is)
+      of_kind P officer is = absurd officer
+      of_kind K officer is = absurd officer
+
+  -- they are all from b
+  from_there : IsMoveFrom p b m → m.from ≡ b
+  from_there (inr is) = is.from
+  from_there (inl (inr is)) = is.from
+  from_there (inl (inl (inr is))) = is.from
+  from_there (inl (inl (inl (inr is)))) = is.from
+  from_there (inl (inl (inl (inl (inr is))))) = is.from
+  from_there (inl (inl (inl (inl (inl (inr is)))))) = is.from
+  from_there (inl (inl (inl (inl (inl (inl (inr is))))))) = is.from
+  from_there (inl (inl (inl (inl (inl (inl (inl (inr is)))))))) = is.from
+  from_there (inl (inl (inl (inl (inl (inl (inl (inl is)))))))) = is.from
+
+-- of either man
+abbrev pub IsEitherPawnMove : ShelfMen → Side → Setup → (a b : ℕ) → Move → Type 0
+IsEitherPawnMove men side p a b m = IsPawnMove men side p b m ⊎ IsPawnMove (men_swapped men) side p a m
+
+module _ (c : ℕ) (men : ShelfMen) (side : Side) (a b : ℕ) (p : Setup) (has : HasStand c false (stand_on men a b) side false p) where
+  there : AreTwo p.men men.white men.black men.one a men.last b
+  there = are_in c men false side false a b p has
+
+  module _ (q : Setup) (m : Move) (leads : Leads p m q) where
+    mine : leads.man.side ≡ side
+    mine = leads.mine ∙ has.side_is
+
+    -- the pawn is one of these two
+    by_pawn : leads.man.kind ≡ P → ((s : ℕ) → m.from ≡ s → IsMoveFrom p s m) → IsEitherPawnMove men side p a b m
+    by_pawn pawn moves = elim (who p.men men.white men.black men.one a men.last b there m.from leads.man leads.stands) [
+      | inl h ↦ no_king White h.1
+      | inr rest ↦ elim rest [
+        | inl h ↦ no_king Black h.1
+        | inr more ↦ elim more [
+          | inl h ↦ inr (ap (λ (x : Man). x.kind) (sym h.1) ∙ pawn, ap (λ (x : Man). x.side) (sym h.1) ∙ mine, moves a h.0)
+          | inr h ↦ inl (ap (λ (x : Man). x.kind) (sym h.1) ∙ pawn, ap (λ (x : Man). x.side) (sym h.1) ∙ mine, moves b h.0)
+        ]
+      ]
+    ]
+      where
+        no_king : (s : Side) → leads.man ≡ king_of s → IsEitherPawnMove men side p a b m
+        no_king s is = let kinds : P ≡ K = sym pawn ∙ ap (λ (x : Man). x.kind) is in absurd (cc)
+
+    -- a capture that promotes nothing, or a pawn's
+    captures : IsHeld p.men m.to (other_side p.side) → (promo : Option Kind) → m.promo ≡ promo → IsPlainCapture p m ⊎ IsEitherPawnMove men side p a b m
+    captures held None is = inl (held, is)
+    captures held (Some kind) is =
+        let (pawn, officer) = fits_pawn leads.man m.to kind (subst (FitsPromotion (promotes leads.man m.to)) is leads.promotion) in
+        inr (by_pawn pawn (λ s from. captured p s m kind officer (record { from = from; takes = held; promo_is = is })))
+
+    -- nobody is taken in passing
+    quiet : ¬ IsHeld p.men m.to (other_side p.side) → ¬ Captures p m
+    quiet free captures = elim captures [ inl held ↦ free held | inr passing ↦ let none = sym (none_of p.target has.target_is) ∙ passing.1 in cc ]
+
+    advances : ¬ IsHeld p.men m.to (other_side p.side) → IsPawnOn p.men m.from → IsEitherPawnMove men side p a b m
+    advances free on =
+        by_pawn (ap (λ (x : Man). x.kind) (one_man p.men m.from leads.man on.man leads.stands on.stands) ∙ on.pawn)
+        (λ s from. advanced p s m leads.man m.promo leads.promotion (record { from = from; quiet = quiet free; promo_is = refl }))
+
+    pub zeroing_moves : Zeroes p m → IsPlainCapture p m ⊎ IsEitherPawnMove men side p a b m
+    zeroing_moves zeroes = elim (decided_held p.men m.to (other_side p.side)) [
+      | inl held ↦ captures held m.promo refl
+      | inr free ↦ elim zeroes [ inl held ↦ absurd (free held) | inr on ↦ inr (advances free on) ]
+    ]
+
+  -- a pawn's moves zero
+  pub pawns_zero : (m : Move) → IsEitherPawnMove men side p a b m → Zeroes p m
+  pawns_zero m (inl (pawn, own, is)) = inr (record { man = men.last; stands = subst (λ s. Stands p.men s men.last) (sym (from_there p b m is)) there.other_there; pawn = pawn })
+  pawns_zero m (inr (pawn, own, is)) = inr (record { man = men.one; stands = subst (λ s. Stands p.men s men.one) (sym (from_there p a m is)) there.one_there; pawn = pawn })
+
+-- ---- all moves that zero
+
+-- the captures, and the pawns' other moves
+pub loud_given : (tables : Tables) (c : ℕ) (men : ShelfMen) (side : Side) (a b : ℕ) (p : Setup) → HasStand c false (stand_on men a b) side false p → (own : TableValue) (first last : Option Promotions) (taken pawns : ℕ)
+    → (men.last.kind ≡ P → men.last.side ≡ side → PawnLaws tables men side a b p) → (men.one.kind ≡ P → men.one.side ≡ side → PawnLaws tables (men_swapped men) side b a p) → IsTableAfter tables own false false men.one men.last
+    → IfSome first (λ kinds. HasPromotions tables kinds (men_swapped men)) → IfSome last (λ kinds. HasPromotions tables kinds men) → AreGiven tables p (IsPlainCapture p) taken (zeroing_score taken)
+    → AreRaisedByPawns own first last men side a b pawns → AreGiven tables p (Zeroes p) (max taken pawns) (zeroing_score (max taken pawns))
+loud_given tables c men side a b p has own first last taken pawns last_laws first_laws after has_first has_last captures s =
+    either_zeroing tables p (Zeroes p) (IsPlainCapture p) (IsEitherPawnMove men side p a b) taken pawns (max taken pawns) captures
+    (either_zeroing tables p (IsEitherPawnMove men side p a b) (IsPawnMove men side p b) (IsPawnMove (men_swapped men) side p a) s.by_last s.by_first pawns
+    (raised_given tables men side a b p last_laws own false last s.by_last after has_last s.last_is)
+    (raised_given tables (men_swapped men) side b a p first_laws own true first s.by_first
+    (record { is_table = after.is_table; found = after.found; bytes = after.bytes; class_after = after.class_after }) has_first s.first_is)
+    s.is (λ q m leads is. is) (λ m is. inl is) (λ m is. inr is))
+    refl (λ q m leads zeroes. zeroing_moves c men side a b p has q m leads zeroes) (λ m takes. inl takes.0) (pawns_zero c men side a b p has)
+
+-- where not both sides have pawns
+pub pawn_is_mine : (men : ShelfMen) (side : Side) (a b : ℕ) (p : Setup) → AreTwo p.men men.white men.black men.one a men.last b → ((s t : ℕ) → Stands p.men s (pawn_of side) → ¬ Stands p.men t (pawn_of (other_side side)))
+    → (decided : (men.one.side ≡ side) ⊎ (men.one.side ≡ other_side side)) → men.last.kind ≡ P → men.last.side ≡ side → men.one.kind ≡ P → men.one.side ≡ side
+pawn_is_mine men side a b p are one_side (inl same) last_pawn own pawn = same
+pawn_is_mine men side a b p are one_side (inr theirs) last_pawn own pawn =
+    absurd (one_side b a (are.other_there ∙ ap Some (λ i. record { side = own i; kind = last_pawn i })) (are.one_there ∙ ap Some (λ i. record { side = theirs i; kind = pawn i })))

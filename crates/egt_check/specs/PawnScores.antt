@@ -1,0 +1,90 @@
+-- The greatest scores of the moves of a pawn, with the tables of the classes that he leads to.
+use Rattle.std.specs.Prelude.{◌≡◌, ◌⊎◌, ℕ, max, if◌then◌else◌, Bool, false, true, Option, Some, None}
+use Rattle.egt_board.specs.Turned.{turned_man}
+use Rattle.egt_board.specs.declared.man.Kind.TheVariants.{Q, R, B, N, P}
+use Rattle.egt_board.specs.declared.man.Man.{Man}
+use Rattle.egt_board.specs.declared.man.Side.{Side}
+use Rattle.egt_class.specs.Material.{material_of}
+use Rattle.egt_index.specs.LoneCodes.{IsLoneMan}
+use Rattle.egt_index.specs.ShelfCodes.{AreMenOf}
+use Rattle.egt_index.specs.Size.{has_target}
+use Rattle.egt_index.specs.declared.shelf_codes.ShelfMen.{ShelfMen}
+use Rattle.egt_lanes.specs.Raised.{IsRaised}
+use Rattle.egt_moves.specs.Promotion.{IsOfficer, arriving}
+use Rattle.egt_table.specs.Table.{TableValue}
+use Rattle.egt_table.specs.declared.column.Column.TheVariants.{Mate}
+use Rattle.egt_check.specs.PawnMoves.{AreAdvancedCodes, ArePromotedCodes, IsTableAfter, men_after, officer_of}
+use Rattle.egt_check.specs.Tables.{Tables}
+use Rattle.egt_check.specs.Taken.{IsTableOf, men_swapped}
+use Rattle.egt_check.specs.Worth.{score_at}
+use Rattle.egt_check.specs.declared.pawn_scores.Promotion.{Promotion}
+use Rattle.egt_check.specs.declared.pawn_scores.Promotions.{Promotions}
+
+-- the classes that a promotion of the last man to this kind leads to
+pub record IsPromotionOf (promotion : Promotion) (men : ShelfMen) : Type 0 where
+  pub officer : IsOfficer promotion.kind
+  pub both : AreMenOf promotion.both.now.class (men_after promotion.before promotion.both_flips men (arriving men.last (Some promotion.kind)))
+  pub targets : has_target (material_of promotion.both.now.class) ≡ false
+  pub alone : IsLoneMan promotion.alone.now.class (turned_man promotion.alone_flips (officer_of men.last.side promotion.kind))
+
+-- of each of the four
+pub record ArePromotionsOf (promotions : Promotions) (men : ShelfMen) : Type 0 where
+  pub queen : IsPromotionOf promotions.queen men
+  pub rook : IsPromotionOf promotions.rook men
+  pub bishop : IsPromotionOf promotions.bishop men
+  pub knight : IsPromotionOf promotions.knight men
+
+-- the number raised to the greatest scores after promotions to this kind, with the first man on a and the last on b
+pub record IsPromotionScore (promotion : Promotion) (men : ShelfMen) (side : Side) (a b low high : ℕ) : Type 0 where
+  pub advanced : ℕ
+  pub taken : ℕ
+  pub advanced_raised : IsRaised 0 (AreAdvancedCodes promotion.both.now.class promotion.before promotion.both_flips men side (Some promotion.kind) a b) (score_at promotion.both.now Mate) advanced
+  pub taken_raised : IsRaised 0 (ArePromotedCodes promotion.alone.now.class promotion.alone_flips men side promotion.kind a b) (score_at promotion.alone.now Mate) taken
+  pub is : high ≡ max (max low advanced) taken
+
+-- the greatest score after the pawn's advances, promotions and promoting captures
+pub record ArePawnScores (own : TableValue) (first : Bool) (promotions : Promotions) (men : ShelfMen) (side : Side) (a b score : ℕ) : Type 0 where
+  pub advanced : ℕ
+  pub queen : ℕ
+  pub rook : ℕ
+  pub bishop : ℕ
+  pub advanced_raised : IsRaised 0 (AreAdvancedCodes own.class first false men side None a b) (score_at own Mate) advanced
+  pub queen_is : IsPromotionScore promotions.queen men side a b advanced queen
+  pub rook_is : IsPromotionScore promotions.rook men side a b queen rook
+  pub bishop_is : IsPromotionScore promotions.bishop men side a b rook bishop
+  pub knight_is : IsPromotionScore promotions.knight men side a b bishop score
+
+-- the number raised to that score where the last man is a pawn of that side
+abbrev pub IsRaisedByPawn : (own : TableValue) (first : Bool) (promotions : Option Promotions) (men : ShelfMen) (side : Side) (a b low high : ℕ) → Type 0
+IsRaisedByPawn own first promotions men side a b low high =
+    ((high ≡ low) × ¬ ((men.last.kind ≡ P) × (men.last.side ≡ side)))
+    ⊎ ((men.last.kind ≡ P) × (men.last.side ≡ side) × (kinds : Promotions) × (promotions ≡ Some kinds) × (score : ℕ) × ArePawnScores own first kinds men side a b score × (high ≡ max low score))
+
+-- the greatest of these scores of both men, with the first on a and the last on b
+pub record AreRaisedByPawns (own : TableValue) (first last : Option Promotions) (men : ShelfMen) (side : Side) (a b score : ℕ) : Type 0 where
+  pub by_first : ℕ
+  pub by_last : ℕ
+  pub first_is : IsRaisedByPawn own true first (men_swapped men) side b a 0 by_first
+  pub last_is : IsRaisedByPawn own false last men side a b 0 by_last
+  pub is : score ≡ max by_last by_first
+
+-- the two are the men beside the kings, the second named before the first where `before`
+pub record AreNamed (before : Bool) (men : ShelfMen) (one last : Man) : Type 0 where
+  pub one_is : men.one ≡ (if before then last else one)
+  pub last_is : men.last ≡ (if before then one else last)
+
+-- the tables at hand are those of these classes
+pub record HasPromotion (tables : Tables) (promotion : Promotion) (men : ShelfMen) : Type 0 where
+  pub both : IsTableAfter tables promotion.both.now promotion.before promotion.both_flips men.one (arriving men.last (Some promotion.kind))
+  pub alone : IsTableOf tables promotion.alone.now promotion.alone_flips (officer_of men.last.side promotion.kind)
+
+-- one for each kind that a pawn is promoted to
+pub record HasPromotions (tables : Tables) (promotions : Promotions) (men : ShelfMen) : Type 0 where
+  pub queen : HasPromotion tables promotions.queen men
+  pub rook : HasPromotion tables promotions.rook men
+  pub bishop : HasPromotion tables promotions.bishop men
+  pub knight : HasPromotion tables promotions.knight men
+  pub queen_is : promotions.queen.kind ≡ Q
+  pub rook_is : promotions.rook.kind ≡ R
+  pub bishop_is : promotions.bishop.kind ≡ B
+  pub knight_is : promotions.knight.kind ≡ N

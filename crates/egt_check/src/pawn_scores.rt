@@ -1,0 +1,168 @@
+//! The greatest scores of all moves of a pawn who is the last man beside the kings, whose kings stand on two squares.
+ghost use Rattle.std.specs.Prelude.{◌≡◌, ◌<◌, ℕ, false, true, IfSome};
+ghost use Rattle.egt_board.specs.Turned.{turned_man};
+ghost use Rattle.egt_class.specs.Material.{material_of};
+ghost use Rattle.egt_index.specs.ShelfCodes.{AreMenOf};
+ghost use Rattle.egt_index.specs.Size.{has_target};
+ghost use Rattle.egt_lanes.specs.Blocks.{at};
+ghost use Rattle.egt_check.specs.PawnMoves.{men_after, officer_of};
+ghost use Rattle.egt_check.specs.PawnScores.{ArePawnScores, ArePromotionsOf, AreRaisedByPawns, IsPromotionOf, IsPromotionScore, IsRaisedByPawn};
+ghost use Rattle.egt_check.specs.Taken.{men_swapped};
+
+use crate::advance_blocks::{advance_block, promoting_block};
+use crate::blocks::nothing;
+use crate::move_scores::men_swapped;
+use crate::own_men::{is_of, is_pawn};
+use egt_board::{Kind, Side};
+use egt_index::ShelfMen;
+use egt_lanes::Block;
+use egt_lanes::block::{raise, raise_transposed};
+use egt_table::Table;
+
+/// The tables of the classes that a pawn's promotion to one kind leads to, each with whether colours are exchanged
+/// there.
+#[derive(Drop)]
+pub(crate) struct Promotion<'t> {
+    pub(crate) kind: Kind,
+    /// Where the other man stays.
+    pub(crate) both: &'t Table,
+    pub(crate) both_flips: bool,
+    /// Whether that class names the pawn's new man before the other one.
+    pub(crate) before: bool,
+    /// Where the other man was taken.
+    pub(crate) alone: &'t Table,
+    pub(crate) alone_flips: bool,
+}
+
+/// The same of each kind that a pawn is promoted to.
+#[derive(Drop)]
+pub(crate) struct Promotions<'t> {
+    pub(crate) queen: Promotion<'t>,
+    pub(crate) rook: Promotion<'t>,
+    pub(crate) bishop: Promotion<'t>,
+    pub(crate) knight: Promotion<'t>,
+}
+
+/// Raises the scores to those of the positions after a promotion of the last man, a pawn of that side. False where a
+/// table does not tell.
+fn raise_promotion(promotion: &Promotion, men: &ShelfMen, side: Side, out: &mut Block) -> bool
+    requires of { IsPromotionOf promotion.now men.now }
+    requires mine { men.now.last.side ≡ side }
+    ensures { result ≡ true → (a b : ℕ) → a < 64 → b < 64 → IsPromotionScore promotion.now men.now side a b (at out.old a b) (at out.new a b) }
+{
+    let mut advanced = nothing();
+    if !advance_block(
+        promotion.both,
+        promotion.before,
+        promotion.both_flips,
+        men,
+        Some(promotion.kind),
+        side,
+        &mut advanced,
+    ) {
+        return false;
+    }
+    let mut taken = nothing();
+    if !promoting_block(
+        promotion.alone,
+        promotion.alone_flips,
+        men,
+        promotion.kind,
+        side,
+        &mut taken,
+    ) {
+        return false;
+    }
+    raise(out, &advanced);
+    raise(out, &taken);
+    true
+}
+
+/// The greatest scores of the positions after all advances, promotions and promoting captures of the last man, who is
+/// its class's first where `first`. False where a table does not tell.
+pub(crate) fn pawn_block(
+    own: &Table,
+    first: bool,
+    promotions: &Promotions,
+    men: &ShelfMen,
+    side: Side,
+    out: &mut Block,
+) -> bool
+    requires men { AreMenOf own.now.class (men_after first false men.now men.now.last) }
+    requires targets { has_target (material_of own.now.class) ≡ false }
+    requires promotions { ArePromotionsOf promotions.now men.now }
+    requires mine { men.now.last.side ≡ side }
+    ensures { result ≡ true → (a b : ℕ) → a < 64 → b < 64 → ArePawnScores own.now first promotions.now men.now side a b (at out.new a b) }
+{
+    *out = nothing();
+    if !advance_block(own, first, false, men, None, side, out) {
+        return false;
+    }
+    if !raise_promotion(&promotions.queen, men, side, out) {
+        return false;
+    }
+    if !raise_promotion(&promotions.rook, men, side, out) {
+        return false;
+    }
+    if !raise_promotion(&promotions.bishop, men, side, out) {
+        return false;
+    }
+    raise_promotion(&promotions.knight, men, side, out)
+}
+
+/// Raises the scores to those of all advances, promotions and promoting captures of the last man, where he is a pawn
+/// of that side. False where a table does not tell.
+fn raise_pawn(
+    own: &Table,
+    first: bool,
+    promotions: &Option<Promotions>,
+    men: &ShelfMen,
+    side: Side,
+    out: &mut Block,
+) -> bool
+    requires men { AreMenOf own.now.class (men_after first false men.now men.now.last) }
+    requires targets { has_target (material_of own.now.class) ≡ false }
+    requires promotions { IfSome promotions.now (λ p. ArePromotionsOf p men.now) }
+    ensures { result ≡ true → (a b : ℕ) → a < 64 → b < 64 → IsRaisedByPawn own.now first promotions.now men.now side a b (at out.old a b) (at out.new a b) }
+{
+    if !is_pawn(men.last) || !is_of(men.last, side) {
+        return true;
+    }
+    let Some(of_kinds) = promotions else {
+        return false;
+    };
+    let mut block = nothing();
+    if !pawn_block(own, first, of_kinds, men, side, &mut block) {
+        return false;
+    }
+    raise(out, &block);
+    true
+}
+
+/// The greatest scores of the positions after all advances, promotions and promoting captures of both men, as far as
+/// they are pawns of that side. False where a table does not tell.
+pub(crate) fn pawns_block(
+    own: &Table,
+    first: &Option<Promotions>,
+    last: &Option<Promotions>,
+    men: &ShelfMen,
+    side: Side,
+    out: &mut Block,
+) -> bool
+    requires men { AreMenOf own.now.class men.now }
+    requires targets { has_target (material_of own.now.class) ≡ false }
+    requires first { IfSome first.now (λ p. ArePromotionsOf p (men_swapped men.now)) }
+    requires last { IfSome last.now (λ p. ArePromotionsOf p men.now) }
+    ensures { result ≡ true → (a b : ℕ) → a < 64 → b < 64 → AreRaisedByPawns own.now first.now last.now men.now side a b (at out.new a b) }
+{
+    let mut across = nothing();
+    if !raise_pawn(own, true, first, &men_swapped(men), side, &mut across) {
+        return false;
+    }
+    *out = nothing();
+    if !raise_pawn(own, false, last, men, side, out) {
+        return false;
+    }
+    raise_transposed(out, &across);
+    true
+}
