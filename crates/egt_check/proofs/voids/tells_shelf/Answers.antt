@@ -1,34 +1,12 @@
-use Rattle.std.proofs.Common.{ℕ, ◌<◌, arith, sym, subst}
-use Rattle.std.proofs.lemmas.Bool.{eq-eqb, eqb-true}
-use Rattle.egt_index.specs.Places.{ArePlaces}
-use Rattle.egt_index.specs.Size.{size_of}
-use Rattle.egt_check.proofs.Marks.{are_the_places, shelf_is_short, told_by_places}
+use Rattle.std.proofs.Common.{ℕ, subst}
+use Rattle.std.proofs.lemmas.Bool.{eqb-true}
+use Rattle.egt_index.specs.ShelfCodes.{AreIndexes}
+use Rattle.egt_check.proofs.Marks.{shelf_told}
 use Rattle.egt_check.proofs.voids.tells_shelf.Goals as goal
 
-pub places-places-requires-clause-within : goal.places-places-requires-clause-within
-places-places-requires-clause-within c =
-    let class = c.args.table.now.class in
-    let some = (shelf_is_short class c.requires.targets).some in
-    let within = c.requires.within in
-    let here : c.args.first < size_of class = omega (arith, some, within) in
-    subst (λ (k : ℕ). c.args.first < size_of k) (sym c.requires.rows) here
-
-pub returns-then-marks-places-clause-exact : goal.returns-then-marks-places-clause-exact
-returns-then-marks-places-clause-exact c =
-    let t = c.args.table.now in
+pub returns-then-marks-indexes-clause-told : goal.returns-then-marks-indexes-clause-told
+returns-then-marks-indexes-clause-told c = λ black.
     let marks = c.marks_of-marks.result in
-    let places = c.places-places.result in
-    let are = subst (λ (k : ℕ). ArePlaces k c.args.first places) c.requires.rows c.places-places.ensures.places in (
-      (λ black. told_by_places t c.args.first marks places c.marks_of-marks.ensures are c.if-marks-places.true (eqb-true marks.black places.black black)),
-      (λ tells. eq-eqb marks.black places.black (are_the_places t c.args.first marks places c.marks_of-marks.ensures are tells).1),
-    )
-
-pub returns-else-marks-places-clause-exact : goal.returns-else-marks-places-clause-exact
-returns-else-marks-places-clause-exact c =
-    let t = c.args.table.now in
-    let marks = c.marks_of-marks.result in
-    let places = c.places-places.result in
-    let are = subst (λ (k : ℕ). ArePlaces k c.args.first places) c.requires.rows c.places-places.ensures.places in (
-      (λ white. absurd (c.if-marks-places.false (eqb-true marks.white places.white white))),
-      (λ tells. absurd (c.if-marks-places.false (are_the_places t c.args.first marks places c.marks_of-marks.ensures are tells).0)),
-    )
+    let indexes = c.indexes-indexes.result in
+    let are = subst (λ (k : ℕ). AreIndexes k c.args.shelf indexes) c.requires.rows c.indexes-indexes.ensures.indexes in
+    shelf_told c.args.table.now c.args.shelf marks indexes c.marks_of-marks.ensures are c.if-marks-indexes.true (eqb-true marks.black indexes.black black)
