@@ -46,5 +46,5 @@ module _ (t : TableValue) (men : ShelfMen) (on shelf : ℕ) (side : Side) (is : 
       subst (λ (n : ℕ). TellsMen false t.class n (stand_on men on square) side) (code_plain t.class code targets)
       (subst (λ (passed : Bool). TellsMen passed t.class (code_of t.class code) (stand_on men on square) side) is.1 (is.0.tells side y y_in))
 
-  pub right_lane : (mate zeroing : ℕ) → (score_at t Mate code ≢ 0 → IsRightAt t code mate zeroing) → IsRightLane t men side on square code mate zeroing
-  right_lane mate zeroing right = record { below = below; tells = told; right = right }
+  pub right_lane : (mate zeroing : ℕ) → (score_at t Mate (code_of t.class code) ≢ 0 → IsRightAt t (code_of t.class code) mate zeroing) → IsRightLane t men side on square code mate zeroing
+  right_lane mate zeroing right = record { below = below; tells = told; right = subst (λ (n : ℕ). score_at t Mate n ≢ 0 → IsRightAt t n mate zeroing) (code_plain t.class code targets) right }

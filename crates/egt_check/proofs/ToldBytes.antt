@@ -11,7 +11,7 @@ use Rattle.egt_check.specs.Given.{AreAlike, IsKnown}
 use Rattle.egt_check.specs.Reading.{shown_range}
 use Rattle.egt_check.specs.Tables.{entry_at}
 use Rattle.egt_check.specs.Truth.{IsTrueTable}
-use Rattle.egt_check.specs.Voids.{TellsVoids}
+use Rattle.egt_check.specs.Voids.{AreAllAlike, TellsVoids}
 use Rattle.egt_check.specs.Worth.{HasBytes}
 
 known : (entry : ℕ) → 2 < entry → entry < 254 → IsKnown entry
@@ -40,7 +40,7 @@ drawn mate zeroing first second = record {
     one entry is = record { some = λ none. absurd (omega (arith, is, none)); other = λ two. absurd (omega (arith, is, two)); low = omega (arith, is) }
 
 -- entries that are not 0 are alike
-alike_there : (mate zeroing : ℕ) → AreVoidOrAlike mate zeroing → mate ≢ 0 → AreAlike mate zeroing
+pub alike_there : (mate zeroing : ℕ) → AreVoidOrAlike mate zeroing → mate ≢ 0 → AreAlike mate zeroing
 alike_there mate zeroing (inl (same, low)) some = let first : mate ≡ 1 = omega (arith, low, some) in drawn mate zeroing first (sym same ∙ first)
 alike_there mate zeroing (inr are) some = decided mate zeroing are
 
@@ -49,7 +49,7 @@ none_there : (mate zeroing : ℕ) → AreVoidOrAlike mate zeroing → mate ≡ 0
 none_there mate zeroing (inl (same, low)) none = sym same ∙ none
 none_there mate zeroing (inr are) none = let some = are.mate_some in absurd (omega (arith, some, none))
 
-module _ (t : TableValue) (told : (i : ℕ) → i < size_of t.class → AreVoidOrAlike (entry_at t Mate i) (entry_at t Zeroing i)) (voids : TellsVoids t) where
+module _ (t : TableValue) (told : AreAllAlike t) (voids : TellsVoids t) where
   -- the mate entry of a void code is 0
   void_mate : (i : ℕ) → i < size_of t.class → IsVoid t.class i → entry_at t Mate i ≡ 0
   void_mate i below void = elim (cases_eq (entry_at t Mate i) 0) [

@@ -1,10 +1,7 @@
 //! Tables whose entries have bytes of their own.
-ghost use Rattle.std.specs.Prelude.{◌≡◌, ℕ, ◌<◌, true};
-ghost use Rattle.egt_index.specs.Size.{size_of};
-ghost use Rattle.egt_lanes.specs.Alike.{AreVoidOrAlike};
-ghost use Rattle.egt_table.specs.declared.column.Column.TheVariants.{Mate, Zeroing};
-ghost use Rattle.egt_check.specs.Tables.{entry_at};
+ghost use Rattle.std.specs.Prelude.{◌≡◌, true};
 ghost use Rattle.egt_check.specs.Truth.{IsTrueTable};
+ghost use Rattle.egt_check.specs.Voids.{AreAllAlike};
 ghost use Rattle.egt_check.specs.Worth.{HasBytes};
 
 use crate::voids::tells_voids;
@@ -13,7 +10,7 @@ use egt_table::{Column, Table};
 
 /// Whether at each code both entries are 0, or have bytes of their own, alike in both columns.
 fn are_alike(table: &Table) -> bool
-    ensures { result ≡ true → (i : ℕ) → i < size_of table.now.class → AreVoidOrAlike (entry_at table.now Mate i) (entry_at table.now Zeroing i) }
+    ensures { result ≡ true → AreAllAlike table.now }
 {
     let mate = table.entries(Column::Mate);
     let zeroing = table.entries(Column::Zeroing);
@@ -21,7 +18,7 @@ fn are_alike(table: &Table) -> bool
 }
 
 /// Whether each code that no position has holds 0 in both columns, and each other one entries with a byte of their own,
-/// alike in both columns.
+/// alike in both columns. Of a class with two men beside the kings.
 pub(crate) fn tells_bytes(table: &Table) -> bool
     ensures { result ≡ true → HasBytes table.now }
 {

@@ -1,12 +1,23 @@
-use Rattle.std.proofs.Common.{ℕ, subst}
+use Rattle.std.proofs.Common.{◌≡◌, ◌<◌, ℕ, subst}
 use Rattle.std.proofs.lemmas.Bool.{eqb-true}
-use Rattle.egt_index.specs.ShelfCodes.{AreIndexes}
-use Rattle.egt_check.proofs.Marks.{shelf_told}
+use Rattle.egt_index.specs.Numbers.{places}
+use Rattle.egt_index.specs.Scales.{kind_digits}
+use Rattle.egt_index.specs.ShelfCodes.{AreIndexes, IsShelfOf}
+use Rattle.egt_check.proofs.Marks.{numbers_within, shelf_told}
 use Rattle.egt_check.proofs.voids.tells_shelf.Goals as goal
 
-pub returns-then-marks-indexes-clause-told : goal.returns-then-marks-indexes-clause-told
-returns-then-marks-indexes-clause-told c = λ black.
-    let marks = c.marks_of-marks.result in
+pub marks_of-white-requires-clause-shelf : goal.marks_of-white-requires-clause-shelf
+marks_of-white-requires-clause-shelf c = subst (λ k. IsShelfOf c.in-Some-is_passed.passed k c.args.shelf c.in-Some.men) c.class-class.ensures.class c.in-Some-is_passed.ensures
+
+pub marks_of-black-requires-clause-shelf : goal.marks_of-black-requires-clause-shelf
+marks_of-black-requires-clause-shelf c = subst (λ k. IsShelfOf c.in-Some-is_passed.passed k c.args.shelf c.in-Some.men) c.class-class.ensures.class c.in-Some-is_passed.ensures
+
+pub returns-then-white-indexes-clause-told : goal.returns-then-white-indexes-clause-told
+returns-then-white-indexes-clause-told c = λ black.
+    let t = c.args.table.now in
     let indexes = c.indexes-indexes.result in
     let are = subst (λ (k : ℕ). AreIndexes k c.args.shelf indexes) c.requires.rows c.indexes-indexes.ensures.indexes in
-    shelf_told c.args.table.now c.args.shelf marks indexes c.marks_of-marks.ensures are c.if-marks-indexes.true (eqb-true marks.black indexes.black black)
+    let len = subst (λ k. places k ≡ kind_digits c.in-Some.men.last.kind) c.class-class.ensures.class c.in-Some.ensures.len in
+    shelf_told t c.requires.alike (λ n below. c.numbers_stand_for_codes.ensures.coded t.class n c.class-class.ensures.table.class_in below) c.args.shelf c.marks_of-white.result c.marks_of-black.result indexes
+    (λ k below. c.marks_of-white.ensures k (subst (λ n. k < n) len below)) (λ k below. c.marks_of-black.ensures k (subst (λ n. k < n) len below)) are c.if-white-indexes.true
+    (eqb-true c.marks_of-black.result indexes.black black) (numbers_within t c.args.shelf c.requires.within)
