@@ -3,3 +3,4 @@ pub mod Moved
 pub mod Raised
 pub mod Blocks
 pub mod Pieces
+pub mod Advances
