@@ -29,3 +29,4 @@ pub mod MoveScores
 pub mod RightBlock
 pub mod PawnMoves
 pub mod InPassing
+pub mod ShelfRow

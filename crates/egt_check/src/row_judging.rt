@@ -99,8 +99,8 @@ pub(crate) fn row_is_right(
         IsRightAt table.now (number_in table.now.class shelf side digit) (slice_index mates (digit + kind_less men.now.last.kind)) (slice_index zeroing (digit + kind_less men.now.last.kind)) }
 {
     codes_tell_turned_men();
-    let own = row_of(table, Column::Mate, men, shelf, side);
-    let clock = row_of(table, Column::Zeroing, men, shelf, side);
+    let own = row_of(table, Column::Mate, men, shelf, side, false);
+    let clock = row_of(table, Column::Zeroing, men, shelf, side, false);
     let moving = lanes_of(mates);
     let within = kept(own, moving);
     if differ(own, due(mates), within) || differ(clock, due(zeroing), within) {
