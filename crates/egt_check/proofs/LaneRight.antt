@@ -17,7 +17,8 @@ use Rattle.egt_check.specs.Blocks.{men_on, stand_on}
 use Rattle.egt_check.specs.RightBlock.{IsRightLane}
 use Rattle.egt_check.specs.RightRow.{IsRightAt}
 use Rattle.egt_check.specs.Worth.{score_at}
-use Rattle.egt_check.proofs.RowRead.{code_plain, side_few}
+use Rattle.egt_index.proofs.Halves.{code_plain}
+use Rattle.egt_check.proofs.RowRead.{side_few}
 
 -- a code of a shelf within is below the size
 row_below : (kind : Kind) (shelf first digit size : ℕ) → first < 2 → digit < kind_digits kind → (shelf + 1) * (2 * kind_digits kind) ≤ size → shelf * (2 * kind_digits kind) + first + 2 * digit < size

@@ -1,7 +1,7 @@
 -- What the scores of a shelf's mate entries tell, beside the bits of its indexes.
 use Rattle.std.proofs.Common.{◌≡◌, ◌≢◌, ℕ, ◌+◌, ◌*◌, ◌/◌, ◌%◌, ◌^◌, ◌<◌, ◌==◌, if◌then◌else◌, Bool, true, false, inl, inr, arith, ap, eqb, refl, sym, ◌∙◌, subst}
 use Rattle.std.specs.Int.{bit_at}
-use Rattle.std.proofs.lemmas.Bool.{cases_eq, eqb-true, eqb-false}
+use Rattle.std.proofs.lemmas.Bool.{cases_eq, eqb-true}
 use Rattle.std.proofs.lemmas.Nat.Bits.{bit_at-lt}
 use Rattle.std.proofs.lemmas.Nat.{div-add-mod', div_below, mod_below, shr-shr}
 use Rattle.egt_board.specs.declared.man.Side.{Side}
@@ -11,7 +11,6 @@ use Rattle.egt_index.specs.Numbers.{code_of, number_of, places}
 use Rattle.egt_index.specs.ShelfCodes.{AreIndexed, AreIndexes, IsWithin, number_in}
 use Rattle.egt_index.specs.Size.{size_of}
 use Rattle.egt_index.specs.declared.places.Places.{Places}
-use Rattle.egt_lanes.specs.Alike.{AreVoidOrAlike}
 use Rattle.egt_table.specs.Table.{TableValue}
 use Rattle.egt_table.specs.declared.column.Column.TheVariants.{Mate, Zeroing}
 use Rattle.egt_check.specs.Tables.{entry_at}

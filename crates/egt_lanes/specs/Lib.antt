@@ -4,3 +4,4 @@ pub mod Raised
 pub mod Blocks
 pub mod Pieces
 pub mod Alike
+pub mod Advances
