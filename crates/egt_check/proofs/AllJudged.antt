@@ -52,7 +52,7 @@ pub record Says (tables : Tables) (four : FourMen) (men : ShelfMen) (side : Side
       → entry_at four.own.now Mate i ≡ x → entry_at four.own.now Zeroing i ≡ x → (column : Column) → IsJudged tables four.own.now column i None
 
 -- an entry with a byte of its own has a score
-some_score : (e : ℕ) → e ≢ 0 → e ≢ 2 → e < 254 → byte_score e ≢ 0
+pub some_score : (e : ℕ) → e ≢ 0 → e ≢ 2 → e < 254 → byte_score e ≢ 0
 some_score e some other low none = elim (cases_eq e 1) [
   | inl one ↦ let is = ap byte_score one in omega (arith, is, none)
   | inr more ↦ elim (cases_eq (e % 2) 0) [

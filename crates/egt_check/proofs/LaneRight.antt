@@ -17,7 +17,8 @@ use Rattle.egt_check.specs.Blocks.{men_on, stand_on}
 use Rattle.egt_check.specs.RightBlock.{IsRightLane}
 use Rattle.egt_check.specs.RightRow.{IsRightAt}
 use Rattle.egt_check.specs.Worth.{score_at}
-use Rattle.egt_check.proofs.RowRead.{code_plain, side_few}
+use Rattle.egt_index.proofs.Halves.{code_plain}
+use Rattle.egt_check.proofs.RowRead.{side_few}
 
 -- a code of a shelf within is below the size
 row_below : (kind : Kind) (shelf first digit size : ℕ) → first < 2 → digit < kind_digits kind → (shelf + 1) * (2 * kind_digits kind) ≤ size → shelf * (2 * kind_digits kind) + first + 2 * digit < size
@@ -46,5 +47,5 @@ module _ (t : TableValue) (men : ShelfMen) (on shelf : ℕ) (side : Side) (is : 
       subst (λ (n : ℕ). TellsMen false t.class n (stand_on men on square) side) (code_plain t.class code targets)
       (subst (λ (passed : Bool). TellsMen passed t.class (code_of t.class code) (stand_on men on square) side) is.1 (is.0.tells side y y_in))
 
-  pub right_lane : (mate zeroing : ℕ) → (score_at t Mate code ≢ 0 → IsRightAt t code mate zeroing) → IsRightLane t men side on square code mate zeroing
-  right_lane mate zeroing right = record { below = below; tells = told; right = right }
+  pub right_lane : (mate zeroing : ℕ) → (score_at t Mate (code_of t.class code) ≢ 0 → IsRightAt t (code_of t.class code) mate zeroing) → IsRightLane t men side on square code mate zeroing
+  right_lane mate zeroing right = record { below = below; tells = told; right = subst (λ (n : ℕ). score_at t Mate n ≢ 0 → IsRightAt t n mate zeroing) (code_plain t.class code targets) right }

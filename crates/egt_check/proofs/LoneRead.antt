@@ -114,18 +114,18 @@ not_equal_sides c man c_in is equal =
 
 module _ (t : TableValue) (column : Column) (man : Man) (white black : ℕ) (flips : Bool) (side : Side) (c_in : t.class < 36) (is : IsLoneMan t.class man) (s : ℕ) where
   -- only by turns that exchange colours so
-  some_home : (code : ℕ) → IsSomeTurnedCode t.class code flips (lone_stand white black man s) side → IsHomeCode t.class code flips (lone_stand white black man s) side
+  some_home : (code : ℕ) → IsSomeTurnedCode t.class code flips (lone_stand white black man s) side → IsHomeCode false t.class code flips (lone_stand white black man s) side
   some_home code some = elim some.seen [
     | inl own ↦ elim own.1 [
-      | inl same ↦ (some.turn, record { below = some.is.below; flips_is = own.0; keeps = some.is.keeps }, subst (λ (s : Stand). IsCodeAfter t.class some.turn code s side) same some.is.tells)
+      | inl same ↦ (some.turn, record { below = some.is.below; flips_is = own.0; keeps = some.is.keeps }, subst (λ (s : Stand). IsCodeAfter false t.class some.turn code s side) same some.is.tells)
       | inr other ↦ absurd (let none = other.1 in cc)
     ]
     | inr across ↦ absurd (not_equal_sides t.class man c_in is across.0)
   ]
 
-  home_some : (code : ℕ) → IsHomeCode t.class code flips (lone_stand white black man s) side → IsSomeTurnedCode t.class code flips (lone_stand white black man s) side
+  home_some : (code : ℕ) → IsHomeCode false t.class code flips (lone_stand white black man s) side → IsSomeTurnedCode t.class code flips (lone_stand white black man s) side
   home_some code h = record { turn = h.0; after = lone_stand white black man s; seen = inl (h.1.flips_is, inl refl); is = record { below = h.1.below; keeps = h.1.keeps; tells = h.2 } }
 
-  pub lone_read : (v w : ℕ) → w ≡ 0 → IsRaisedHome t column flips (lone_stand white black man s) side w v → IsRead t column flips (lone_stand white black man s) side v
-  lone_read v w none raised = raised_alike 0 v (λ code. IsHomeCode t.class code flips (lone_stand white black man s) side) (λ code. IsSomeTurnedCode t.class code flips (lone_stand white black man s) side) (score_at t column)
-      (subst (λ low. IsRaisedHome t column flips (lone_stand white black man s) side low v) none raised) some_home home_some
+  pub lone_read : (v w : ℕ) → w ≡ 0 → IsRaisedHome false t column flips (lone_stand white black man s) side w v → IsRead t column flips (lone_stand white black man s) side v
+  lone_read v w none raised = raised_alike 0 v (λ code. IsHomeCode false t.class code flips (lone_stand white black man s) side) (λ code. IsSomeTurnedCode t.class code flips (lone_stand white black man s) side) (score_at t column)
+      (subst (λ low. IsRaisedHome false t column flips (lone_stand white black man s) side low v) none raised) some_home home_some

@@ -1,145 +1,106 @@
--- What the marks of a shelf's mate entries tell, beside the bits of its indexes.
-use Rattle.std.proofs.Common.{◌≡◌, ◌≢◌, ℕ, ◌+◌, ◌-◌, ◌*◌, ◌/◌, ◌%◌, ◌<◌, ◌≤◌, false, cond, inl, inr, Option, Some, None, arith, ap, sym, ◌∙◌, subst}
+-- What the scores of a shelf's mate entries tell, beside the bits of its indexes.
+use Rattle.std.proofs.Common.{◌≡◌, ◌≢◌, ℕ, ◌+◌, ◌*◌, ◌/◌, ◌%◌, ◌^◌, ◌<◌, ◌==◌, if◌then◌else◌, Bool, true, false, inl, inr, arith, ap, eqb, refl, sym, ◌∙◌, subst}
 use Rattle.std.specs.Int.{bit_at}
-use Rattle.std.proofs.lemmas.Bool.{cases_eq, cases_lt}
-use Rattle.std.proofs.lemmas.Nat.{div-add-mod', mod-mul-add}
-use Rattle.std.proofs.lemmas.Nat.Bits.{bit_at-lt, same_from_bits}
-use Rattle.egt_board.specs.declared.man.Kind.{Kind}
-use Rattle.egt_board.specs.declared.man.Kind.TheVariants.{Q, R, B, N, P, K}
-use Rattle.egt_board.specs.declared.man.Man.{Man}
-use Rattle.egt_class.specs.Material.{material_of}
-use Rattle.egt_index.specs.Places.{AreBitsOf, ArePlaces}
-use Rattle.egt_index.specs.Scales.{digits_at, kind_digits}
-use Rattle.egt_index.specs.Shelf.{last_of, shelf_len}
-use Rattle.egt_index.specs.Size.{has_target, men_beside, size_of}
+use Rattle.std.proofs.lemmas.Bool.{cases_eq, eqb-true}
+use Rattle.std.proofs.lemmas.Nat.Bits.{bit_at-lt}
+use Rattle.std.proofs.lemmas.Nat.{div-add-mod', div_below, mod_below, shr-shr}
+use Rattle.egt_board.specs.declared.man.Side.{Side}
+use Rattle.egt_board.specs.declared.man.Side.TheVariants.{White, Black}
+use Rattle.egt_index.specs.Index.{IsVoid}
+use Rattle.egt_index.specs.Numbers.{code_of, number_of, places}
+use Rattle.egt_index.specs.ShelfCodes.{AreIndexed, AreIndexes, IsWithin, number_in}
+use Rattle.egt_index.specs.Size.{size_of}
 use Rattle.egt_index.specs.declared.places.Places.{Places}
 use Rattle.egt_table.specs.Table.{TableValue}
-use Rattle.egt_table.specs.declared.column.Column.TheVariants.{Mate}
+use Rattle.egt_table.specs.declared.column.Column.TheVariants.{Mate, Zeroing}
 use Rattle.egt_check.specs.Tables.{entry_at}
-use Rattle.egt_check.specs.Voids.{AreMarks, AreMarksOf, TellsVoid}
+use Rattle.egt_check.specs.Voids.{AreAllAlike, TellsVoid, TellsVoids, TellsVoidsIn}
+use Rattle.egt_check.specs.Worth.{score_at}
+use Rattle.egt_check.proofs.AllJudged.{some_score}
+use Rattle.egt_check.proofs.QuietGiven.{low_score}
+use Rattle.egt_check.proofs.RowRead.{side_few}
+use Rattle.egt_check.proofs.ToldBytes.{alike_there}
+use Rattle.egt_check.proofs.Worth.{zero_score}
 
--- a shelf without targets has two codes a digit of the last man
-kind_few : (kind : Kind) → (0 < kind_digits kind) × (kind_digits kind ≤ 64)
-kind_few P = (omega arith, omega arith)
-kind_few Q = (omega arith, omega arith)
-kind_few R = (omega arith, omega arith)
-kind_few B = (omega arith, omega arith)
-kind_few N = (omega arith, omega arith)
-kind_few K = (omega arith, omega arith)
+-- a bit of a number that was shifted down
+pub bit_shifted : (n down k : ℕ) → bit_at (n / 2 ^ down) k ≡ bit_at n (k + down)
+bit_shifted n down k = ap (λ m. m % 2) (shr-shr n down k ∙ ap (λ s. n / 2 ^ s) (let e : down + k ≡ k + down = omega arith in e))
 
-digits_few : (o : Option Man) → (0 < digits_at o) × (digits_at o ≤ 64)
-digits_few None = (omega arith, omega arith)
-digits_few (Some man) = kind_few man.kind
+-- a mark
+abbrev pub mark : ℕ → ℕ
+mark score = if score == 0 then 0 else 1
 
-pub record IsShort (len : ℕ) : Type 0 where
-  pub some : 0 < len
-  pub few : len ≤ 128
+mark_none : (score : ℕ) → mark score ≡ 0 → score ≡ 0
+mark_none score = go (eqb score 0) refl
+  where
+    go : (t : Bool) → eqb score 0 ≡ t → ◌≡◌ {A = ℕ} (if t then 0 else 1) 0 → score ≡ 0
+    go true e is = eqb-true score 0 e
+    go false e is = absurd (omega (arith, is))
 
-pub shelf_is_short : (c : ℕ) → has_target (material_of c) ≡ false → IsShort (shelf_len c)
-unfolding shelf_len
-shelf_is_short c none =
-    let few = digits_few (last_of (men_beside (material_of c))) in
-    let is : shelf_len c ≡ 2 * digits_at (last_of (men_beside (material_of c))) = ap (λ b. cond {A = ℕ} b 4 2 * digits_at (last_of (men_beside (material_of c)))) none in
-    let some = few.0 in
-    let most = few.1 in
-    record { some = omega (arith, is, some); few = omega (arith, is, most) }
-
--- a shelf that begins within whole shelves ends there too
-pub shelf_within : (len first size : ℕ) → first % len ≡ 0 → size % len ≡ 0 → first < size → first + len ≤ size
-shelf_within len first size begins whole below = elim (cases_lt size (first + len)) [
-  | inl short ↦
-      let start = div-add-mod' first len in
-      let rest : size ≡ first / len * len + (size - first) = omega arith in
-      let over : size % len ≡ size - first = ap (λ n. n % len) rest ∙ mod-mul-add (first / len) len (size - first) (omega arith) in
-      absurd (omega arith)
-  | inr fits ↦ fits
-]
-
-not_both : {A : Type 0} (n : ℕ) → n ≡ 0 → n ≡ 1 → A
-not_both n none one = absurd (omega arith)
+mark_some : (score : ℕ) → mark score ≡ 1 → score ≢ 0
+mark_some score one none = let is = ap mark none in absurd (omega (arith, is, one))
 
 module _ (t : TableValue) where
-  -- one code more
-  pub marks_more : (start first k bits more entry : ℕ) → start ≤ first → first ≤ start + 1 → AreMarksOf t first (start + 2 * k) bits → entry ≡ entry_at t Mate (first + 2 * k)
-      → (entry ≡ 0 → more ≡ bits) → (entry ≢ 0 → bit_at more k ≡ 1) → ((j : ℕ) → j ≢ k → bit_at more j ≡ bit_at bits j) → AreMarksOf t first (start + 2 * (k + 1)) more
-  marks_more start first k bits more entry above near before is same here others = record { marked = marked; bare = bare }
-    where
-      marked_here : bit_at more k ≡ 1 → entry_at t Mate (first + 2 * k) ≢ 0
-      marked_here one zero =
-          let early = (before.marked k (sym (ap (λ n. bit_at n k) (same (is ∙ zero))) ∙ one)).0 in
-          absurd (omega arith)
+  abbrev pub TellsAt : ℕ → Type 0
+  TellsAt n = TellsVoid t (code_of t.class n)
 
-      bare_here : bit_at more k ≡ 0 → entry_at t Mate (first + 2 * k) ≡ 0
-      bare_here zero = elim (cases_eq entry 0) [
-        | inl none ↦ sym is ∙ none
-        | inr some ↦ not_both (bit_at more k) zero (here some)
-      ]
+  -- the numbers of a shelf within
+  pub numbers_within : (shelf : ℕ) → IsWithin t.class shelf → (side : Side) (k : ℕ) → k < places t.class → number_in t.class shelf side k < size_of t.class
+  numbers_within shelf within side k below = let few = side_few side in omega (arith, within, few, below)
 
-      marked : (j : ℕ) → bit_at more j ≡ 1 → (first + 2 * j < start + 2 * (k + 1)) × (entry_at t Mate (first + 2 * j) ≢ 0)
-      marked j one = elim (cases_eq j k) [
-        | inl e ↦ (omega arith, subst (λ n. entry_at t Mate (first + 2 * n) ≢ 0) (sym e) (marked_here (sym (ap (bit_at more) e) ∙ one)))
-        | inr other ↦ let told = before.marked j (sym (others j other) ∙ one) in let lt = told.0 in (omega arith, told.1)
-      ]
-
-      bare : (j : ℕ) → first + 2 * j < start + 2 * (k + 1) → bit_at more j ≡ 0 → entry_at t Mate (first + 2 * j) ≡ 0
-      bare j lt zero = elim (cases_eq j k) [
-        | inl e ↦ subst (λ n. entry_at t Mate (first + 2 * n) ≡ 0) (sym e) (bare_here (sym (ap (bit_at more) e) ∙ zero))
-        | inr other ↦ before.bare j (omega arith) (sym (others j other) ∙ zero)
-      ]
-
-  -- the same bits tell both of a code, and bits that tell both are the same
-  module _ (first end marks bits : ℕ) (are_marks : AreMarksOf t first end marks) (are_bits : AreBitsOf t.class first end bits) where
-    tells_at : (k : ℕ) → bit_at marks k ≡ bit_at bits k → first + 2 * k < end → TellsVoid t (first + 2 * k)
-    tells_at k same lt = elim (cases_eq (bit_at marks k) 1) [
-      | inl one ↦ record {
-        void = λ zero. absurd ((are_marks.marked k one).1 zero);
-        index = λ some. (are_bits.nodes k (sym same ∙ one)).1;
-      }
-      | inr other ↦
-          let zero : bit_at marks k ≡ 0 = omega (arith, bit_at-lt marks k) in
-          record {
-            void = λ none. are_bits.voids k lt (sym same ∙ zero);
-            index = λ some. absurd (some (are_marks.bare k lt zero));
-          }
+  module _ (alike : AreAllAlike t) (coded : (n : ℕ) → n < size_of t.class → code_of t.class n < size_of t.class) where
+    -- an entry is 0 where its score is
+    score_none : (i : ℕ) → i < size_of t.class → score_at t Mate i ≡ 0 → entry_at t Mate i ≡ 0
+    score_none i below none = elim (cases_eq (entry_at t Mate i) 0) [
+      | inl zero ↦ zero
+      | inr some ↦
+          let known = (alike_there (entry_at t Mate i) (entry_at t Zeroing i) (alike i below) some).mate_known in
+          absurd (some_score (entry_at t Mate i) some known.other known.low (sym (low_score (entry_at t Mate i) known.low) ∙ none))
     ]
 
-    same_at : ((k : ℕ) → first + 2 * k < end → TellsVoid t (first + 2 * k)) → (k : ℕ) → bit_at marks k ≡ bit_at bits k
-    same_at tells k = elim (cases_eq (bit_at marks k) 1) [
-      | inl one ↦ elim (cases_eq (bit_at bits k) 1) [
-        | inl node ↦ one ∙ sym node
+    -- the same bits tell both of a code
+    tells_at : (first marks bits k n : ℕ) → n ≡ first + 2 * k → bit_at marks k ≡ mark (score_at t Mate (code_of t.class n)) → AreIndexed t.class first bits → marks ≡ bits → k < places t.class → n < size_of t.class → TellsAt n
+    tells_at first marks bits k n at marked indexed same below within = record {
+      void = λ zero p ok index.
+          let one = (indexed k).1 (below, subst (λ m. ¬ IsVoid t.class (code_of t.class m)) at (λ void. void p ok index)) in
+          absurd (mark_some (score_at t Mate (code_of t.class n)) (sym marked ∙ ap (λ m. bit_at m k) same ∙ one) (zero_score (entry_at t Mate (code_of t.class n)) zero));
+      index = λ some void. elim (cases_eq (bit_at bits k) 1) [
+        | inl one ↦ ((indexed k).0 one).1 (subst (λ m. IsVoid t.class (code_of t.class m)) at void)
         | inr other ↦
-            let mark = are_marks.marked k one in
-            absurd ((tells k mark.0).index mark.1 (are_bits.voids k mark.0 (omega (arith, bit_at-lt bits k))))
-      ]
-      | inr bare ↦ elim (cases_eq (bit_at bits k) 1) [
-        | inl node ↦
-            let index = are_bits.nodes k node in
-            absurd (index.1 ((tells k index.0).void (are_marks.bare k index.0 (omega (arith, bit_at-lt marks k)))))
-        | inr void ↦ omega (arith, bit_at-lt marks k, bit_at-lt bits k)
-      ]
+            let none : bit_at bits k ≡ 0 = omega (arith, other, bit_at-lt bits k) in
+            some (score_none (code_of t.class n) (coded n within) (mark_none (score_at t Mate (code_of t.class n)) (sym marked ∙ ap (λ m. bit_at m k) same ∙ none)))
+      ];
+    }
+
+    pub shelf_told : (shelf white black : ℕ) (indexes : Places) → ((k : ℕ) → k < places t.class → bit_at white k ≡ mark (score_at t Mate (code_of t.class (number_in t.class shelf White k))))
+        → ((k : ℕ) → k < places t.class → bit_at black k ≡ mark (score_at t Mate (code_of t.class (number_in t.class shelf Black k)))) → AreIndexes t.class shelf indexes → white ≡ indexes.white → black ≡ indexes.black
+        → ((side : Side) (k : ℕ) → k < places t.class → number_in t.class shelf side k < size_of t.class) → TellsVoidsIn t shelf
+    shelf_told shelf white black indexes whites blacks are same_white same_black within White k below =
+        tells_at (shelf * (2 * places t.class)) white indexes.white k (number_in t.class shelf White k) (omega arith) (whites k below) are.white same_white below (within White k below)
+    shelf_told shelf white black indexes whites blacks are same_white same_black within Black k below =
+        tells_at (shelf * (2 * places t.class) + 1) black indexes.black k (number_in t.class shelf Black k) (omega arith) (blacks k below) are.black same_black below (within Black k below)
+
+  -- the codes of all shelves' numbers are all codes
+  module _ (number : (code : ℕ) → code < size_of t.class → (code_of t.class (number_of t.class code) ≡ code) × (number_of t.class code < size_of t.class)) (shelves : ℕ) (whole : shelves * (2 * places t.class) ≡ size_of t.class) (some : 0 < 2 * places t.class)
+      (told : (shelf : ℕ) → shelf < shelves → TellsVoidsIn t shelf) where
+    -- some shelf has the number
+    in_shelf : (n shelf rest : ℕ) → n < size_of t.class → shelf * (2 * places t.class) + rest ≡ n → rest < 2 * places t.class → shelf < shelves → TellsAt n
+    in_shelf n shelf rest below is few shelf_in = elim (cases_eq (rest % 2) 0) [
+      | inl even ↦ subst TellsAt (let at : number_in t.class shelf White (rest / 2) ≡ n = omega (arith, is, even) in at) (told shelf shelf_in White (rest / 2) (omega (arith, few)))
+      | inr odd ↦ subst TellsAt (let at : number_in t.class shelf Black (rest / 2) ≡ n = omega (arith, is, odd) in at) (told shelf shelf_in Black (rest / 2) (omega (arith, few)))
     ]
 
-  -- the marks are the places exactly where each entry of the shelf tells whether its code is an index
-  module _ (first : ℕ) (marks places : Places) (are_marks : AreMarks t first (first + shelf_len t.class) marks) (are_places : ArePlaces t.class first places) where
-    pub told_by_places : marks.white ≡ places.white → marks.black ≡ places.black → (i : ℕ) → first ≤ i → i < first + shelf_len t.class → TellsVoid t i
-    told_by_places white black i from below =
-        let k : ℕ = (i - first) / 2 in
-        elim (cases_eq i (first + 2 * k)) [
-          | inl e ↦ subst (TellsVoid t) (sym e)
-              (tells_at first (first + shelf_len t.class) marks.white places.white are_marks.white are_places.white k (ap (λ n. bit_at n k) white) (omega arith))
-          | inr other ↦
-              let e : first + 1 + 2 * k ≡ i = omega arith in
-              subst (TellsVoid t) e
-              (tells_at (first + 1) (first + shelf_len t.class) marks.black places.black are_marks.black are_places.black k (ap (λ n. bit_at n k) black) (omega arith))
-        ]
+    of_number : (n : ℕ) → n < size_of t.class → TellsAt n
+    of_number n below =
+        in_shelf n (n / (2 * places t.class)) (n % (2 * places t.class)) below (div-add-mod' n (2 * places t.class)) (mod_below n (2 * places t.class) some)
+        (div_below n (2 * places t.class) shelves some (subst (λ size. n < size) (sym whole) below))
 
-    pub are_the_places : ((i : ℕ) → first ≤ i → i < first + shelf_len t.class → TellsVoid t i) → (marks.white ≡ places.white) × (marks.black ≡ places.black)
-    are_the_places tells = (
-      same_from_bits _ _ (same_at first (first + shelf_len t.class) marks.white places.white are_marks.white are_places.white (λ k lt. tells (first + 2 * k) (omega arith) lt)),
-      same_from_bits _ _ (same_at (first + 1) (first + shelf_len t.class) marks.black places.black are_marks.black are_places.black (λ k lt. tells (first + 1 + 2 * k) (omega arith) lt)),
-    )
+    pub all_told : TellsVoids t
+    all_told code below = let there = number code below in subst (TellsVoid t) there.0 (of_number (number_of t.class code) there.1)
 
--- a shelf of a table ends within it
-pub ends_within : (c first size class : ℕ) → class ≡ c → first % shelf_len c ≡ 0 → size_of class % shelf_len class ≡ 0 → size ≡ size_of class → first < size → first + shelf_len c ≤ size_of c
-ends_within c first size class is begins whole sizes below =
-    shelf_within (shelf_len c) first (size_of c) begins (subst (λ (k : ℕ). size_of k % shelf_len k ≡ 0) is whole) (subst (λ (n : ℕ). first < n) (sizes ∙ ap size_of is) below)
+-- a table is whole shelves
+pub whole_shelves : (c size digits : ℕ) → size ≡ size_of c → digits ≡ places c → size_of c % (2 * places c) ≡ 0 → size / (2 * digits) * (2 * places c) ≡ size_of c
+whole_shelves c size digits same_size same none =
+    ap (λ n. n / (2 * digits) * (2 * places c)) same_size
+    ∙ ap (λ n. size_of c / (2 * n) * (2 * places c)) same
+    ∙ (let whole = div-add-mod' (size_of c) (2 * places c) in omega (arith, whole, none))

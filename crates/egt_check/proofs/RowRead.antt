@@ -1,5 +1,5 @@
 -- The entries of a shelf, read by the last man's square.
-use Rattle.std.proofs.Common.{◌≡◌, ℕ, ◌+◌, ◌-◌, ◌*◌, ◌%◌, ◌<◌, ◌≤◌, ◌⊎◌, Bool, true, false, cond, nat_lt, List, take, drop, arith, refl, sym, ap, ◌∙◌, inl, inr, subst}
+use Rattle.std.proofs.Common.{◌≡◌, ℕ, ◌+◌, ◌-◌, ◌*◌, ◌/◌, ◌%◌, ◌<◌, ◌≤◌, ◌⊎◌, if◌then◌else◌, Bool, true, false, List, [], ◌∷◌, take, drop, arith, refl, sym, ap, ◌∙◌, inl, inr, subst}
 use Rattle.std.specs.Prelude.{slice_index}
 use Rattle.std.proofs.lemmas.Bool.{cases_lt, false≢true}
 use Rattle.std.proofs.lemmas.List.{get_or-drop, get_or-take}
@@ -10,22 +10,26 @@ use Rattle.egt_board.specs.declared.man.Kind.TheVariants.{Q, R, B, N, P, K}
 use Rattle.egt_board.specs.declared.man.Man.{Man}
 use Rattle.egt_board.specs.declared.man.Side.{Side}
 use Rattle.egt_board.specs.declared.man.Side.TheVariants.{White, Black}
-use Rattle.egt_class.specs.Material.{material_of}
+use Rattle.egt_class.specs.Material.{Material, material_of}
+use Rattle.egt_index.specs.Digits.{number_from, product}
 use Rattle.egt_index.specs.Numbers.{code_of, half_of, places}
-use Rattle.egt_index.specs.Scales.{kind_digits, kind_less}
-use Rattle.egt_index.specs.ShelfCodes.{IsShelfOf, number_in, stand_with}
-use Rattle.egt_index.specs.Size.{has_target}
+use Rattle.egt_index.specs.Scales.{digits_at, kind_digits, kind_less}
+use Rattle.egt_index.specs.Shelf.{last_of}
+use Rattle.egt_index.specs.ShelfCodes.{IsShelf, IsShelfOf, IsWithin, number_in, stand_with}
+use Rattle.egt_index.specs.Size.{bases, has_target, men_beside, size_of}
 use Rattle.egt_index.specs.Spelled.{IsListed}
 use Rattle.egt_index.specs.StepCodes.{TellsMen}
 use Rattle.egt_index.specs.Stood.{list_of}
 use Rattle.egt_index.specs.declared.shelf_codes.ShelfMen.{ShelfMen}
 use Rattle.egt_index.specs.declared.stand.Stand.{Stand}
+use Rattle.egt_index.proofs.Halves.{code_high, code_low, code_plain, half_targets}
+use Rattle.egt_index.proofs.OnePosition.{one_pawn_each}
 use Rattle.egt_lanes.specs.Raised.{IsRaised}
 use Rattle.egt_lanes.specs.Scores.{byte_score}
 use Rattle.egt_moves.specs.Promotion.{is_pawn}
 use Rattle.egt_table.specs.Table.{TableValue, entries_of}
 use Rattle.egt_table.specs.declared.column.Column.{Column}
-use Rattle.egt_check.specs.Tables.{entry_at}
+use Rattle.egt_check.specs.ShelfRow.{IsShelfRow}
 use Rattle.egt_check.specs.Worth.{score_at}
 
 -- an entry of a piece of a list
@@ -57,79 +61,212 @@ square_in B digit below = omega (arith, below)
 square_in N digit below = omega (arith, below)
 square_in K digit below = omega (arith, below)
 
-pub code_plain : (c n : ℕ) → has_target (material_of c) ≡ false → code_of c n ≡ n
-unfolding code_of
-code_plain c n none = ap (λ b. cond {A = ℕ} b (cond (nat_lt n (half_of c)) (2 * n) (2 * (n - half_of c) + 1)) n) none
-
 pub side_few : (side : Side) → side_number side < 2
 side_few White = omega arith
 side_few Black = omega arith
 
-module _ (t : TableValue) (column : Column) (men : ShelfMen) (shelf : ℕ) (side : Side) (is : IsShelfOf false t.class shelf men) (targets : has_target (material_of t.class) ≡ false)
+-- ---- the class with targets
+
+abbrev pub bit_of : Bool → ℕ
+bit_of passed = if passed then 1 else 0
+
+-- the code's last digit is that of the target
+pub target_digit : (c code : ℕ) (stand : Stand) (side : Side) (passed : Bool) → has_target (material_of c) ≡ true → TellsMen passed c code stand side → code % 2 ≡ bit_of passed
+target_digit c code stand side passed has tells = by passed (tells.ends.number_is ∙ ap (λ b. number_from tells.number (2 ∷ (if b then 2 ∷ [] else [])) (side_number side ∷ (if b then bit_of passed ∷ [] else []))) has)
+  where
+    by : (passed : Bool) → code ≡ number_from tells.number (2 ∷ 2 ∷ []) (side_number side ∷ bit_of passed ∷ []) → code % 2 ≡ bit_of passed
+    by true is = omega (arith, is)
+    by false is = omega (arith, is)
+
+half_is : (c : ℕ) → has_target (material_of c) ≡ true → (size_of c ≡ 18874368) × (half_of c ≡ 9437184)
+unfolding size_of
+half_is c has = let size : size_of c ≡ 18874368 = ap (λ (m : Material). product (bases m)) (one_pawn_each c has) in let half = half_targets c has in (size, omega (arith, size, half))
+
+pub places_is : (c : ℕ) → has_target (material_of c) ≡ true → places c ≡ 48
+unfolding places
+places_is c has = ap (λ (m : Material). digits_at (last_of (men_beside m))) (one_pawn_each c has)
+
+-- whose last man is a pawn
+pub pawn_of_digits : (kind : Kind) → kind_digits kind ≡ 48 → (kind ≡ P) × (kind_less kind ≡ 8)
+pawn_of_digits P is = (refl, refl)
+pawn_of_digits Q is = absurd (omega (arith, is))
+pawn_of_digits R is = absurd (omega (arith, is))
+pawn_of_digits B is = absurd (omega (arith, is))
+pawn_of_digits N is = absurd (omega (arith, is))
+pawn_of_digits K is = absurd (omega (arith, is))
+
+module _ (c shelf : ℕ) (has : has_target (material_of c) ≡ true) (within : IsWithin c shelf) where
+  abbrev first : ℕ
+  first = shelf * (2 * places c)
+
+  first_is : first ≡ shelf * 96
+  first_is = ap (λ p. shelf * (2 * p)) (places_is c has)
+
+  ends : (shelf + 1) * 96 ≤ 18874368
+  ends =
+      let size = (half_is c has).0 in
+      let len = ap (λ p. (shelf + 1) * (2 * p)) (places_is c has) in
+      omega (arith, within, size, len)
+
+  -- the shelf lies in one half of the numbers
+  pub code_in_shelf : (k : ℕ) → k < 96 → code_of c (first + k) ≡ code_of c first + 2 * k
+  code_in_shelf k k_in =
+      let half = (half_is c has).1 in elim (cases_lt first (half_of c)) [
+        | inl low ↦
+            let below : first + k < half_of c = omega (arith, low, half, first_is, k_in) in
+            let here = code_low c first has low in
+            let there = code_low c (first + k) has below in
+            omega (arith, here, there)
+        | inr high ↦
+            let above : half_of c ≤ first + k = omega (arith, high) in
+            let here = code_high c first has high in
+            let there = code_high c (first + k) has above in
+            omega (arith, here, there, high)
+      ]
+
+  pub first_within : code_of c first / 2 * 2 + 192 ≤ size_of c
+  first_within =
+      let size = half_is c has in elim (cases_lt first (half_of c)) [
+        | inl low ↦ let here = code_low c first has low in omega (arith, here, low, first_is, size.0, size.1)
+        | inr high ↦ let here = code_high c first has high in omega (arith, here, high, first_is, size.0, size.1, ends)
+      ]
+
+  -- so is a target's digit alone left out
+  pub first_of_shelf : (men : ShelfMen) (passed : Bool) → IsShelfOf passed c shelf men → code_of c first / 2 * 2 + bit_of passed ≡ code_of c first
+  first_of_shelf men passed is =
+      let some : 0 < kind_digits men.last.kind = omega (arith, is.0.len, places_is c has) in
+      let number : number_in c shelf White 0 ≡ first = omega arith in
+      let digit = target_digit c (code_of c (number_in c shelf White 0)) (stand_with men (0 + kind_less men.last.kind)) White is.0.passed has (is.0.tells White 0 some) in
+      let bit = ap bit_of is.1 in
+      let code = ap (code_of c) number in
+      omega (arith, digit, bit, code)
+
+-- ---- what a row of a shelf's scores tells
+
+module _ (passed : Bool) (t : TableValue) (column : Column) (men : ShelfMen) (shelf : ℕ) (side : Side) (is : IsShelfOf passed t.class shelf men)
     (one : (passed : Bool) (c x y : ℕ) (stand : Stand) (side : Side) → TellsMen passed c x stand side → TellsMen passed c y stand side → x ≡ y)
     (pawns : (passed : Bool) (c code : ℕ) (stand : Stand) (side : Side) (man : Man) (s : ℕ) → TellsMen passed c code stand side → IsListed (list_of stand) man s → MayStand man s) where
   abbrev pub Told : ℕ → ℕ → Type 0
-  Told s code = TellsMen false t.class code (stand_with men s) side
+  Told s code = TellsMen passed t.class code (stand_with men s) side
+
+  abbrev code_at : ℕ → ℕ
+  code_at digit = code_of t.class (number_in t.class shelf side digit)
 
   -- the code with this digit tells the men with the last one on its square
-  told : (s digit : ℕ) → digit < kind_digits men.last.kind → digit + kind_less men.last.kind ≡ s → Told s (number_in t.class shelf side digit)
-  told s digit below at =
-      subst (λ n. Told s n) (code_plain t.class (number_in t.class shelf side digit) targets)
-      (subst (λ b. TellsMen b t.class (code_of t.class (number_in t.class shelf side digit)) (stand_with men s) side) is.1
-      (subst (λ k. TellsMen is.0.passed t.class (code_of t.class (number_in t.class shelf side digit)) (stand_with men k) side) at (is.0.tells side digit below)))
+  told : (s digit : ℕ) → digit < kind_digits men.last.kind → digit + kind_less men.last.kind ≡ s → Told s (code_at digit)
+  told s digit below at = subst (λ b. TellsMen b t.class (code_at digit) (stand_with men s) side) is.1 (subst (λ k. TellsMen is.0.passed t.class (code_at digit) (stand_with men k) side) at (is.0.tells side digit below))
 
-  pub at_digit : (s digit v : ℕ) → digit < kind_digits men.last.kind → digit + kind_less men.last.kind ≡ s → v ≡ score_at t column (number_in t.class shelf side digit) → IsRaised 0 (Told s) (score_at t column) v
-  at_digit s digit v below at value =
+  pub read_digit : (s digit v : ℕ) → digit < kind_digits men.last.kind → digit + kind_less men.last.kind ≡ s → v ≡ score_at t column (code_at digit) → IsRaised 0 (Told s) (score_at t column) v
+  read_digit s digit v below at value =
       let here = told s digit below at in
       record {
         kept = omega arith;
-        above = λ code there. let same = ap (score_at t column) (one false t.class code (number_in t.class shelf side digit) (stand_with men s) side there here) in omega (arith, same, value);
-        reached = inr (number_in t.class shelf side digit, here, value);
+        above = λ code there. let same = ap (score_at t column) (one passed t.class code (code_at digit) (stand_with men s) side there here) in omega (arith, same, value);
+        reached = inr (code_at digit, here, value);
       }
 
   -- no code has a pawn on the first rank or the last
-  pub at_edge : (s v : ℕ) → men.last.kind ≡ P → s < 64 → (s < 8) ⊎ (56 ≤ s) → v ≡ 0 → IsRaised 0 (Told s) (score_at t column) v
-  at_edge s v pawn s_in edge none = record {
+  read_edge : (s v : ℕ) → men.last.kind ≡ P → (s < 8) ⊎ (56 ≤ s) → v ≡ 0 → IsRaised 0 (Told s) (score_at t column) v
+  read_edge s v pawn edge none = record {
     kept = omega arith;
-    above = λ code there. absurd (let may = pawns false t.class code (stand_with men s) side men.last s there (inr (inr (inr (inl (refl, refl))))) pawn in elim edge [
+    above = λ code there. absurd (let may = pawns passed t.class code (stand_with men s) side men.last s there (inr (inr (inr (inl (refl, refl))))) pawn in elim edge [
       | inl low ↦ omega (arith, may.0)
       | inr high ↦ omega (arith, may.1)
     ]);
     reached = inl none;
   }
 
-  -- a lane of what is loaded
-  module _ (entries piece loaded : List ℕ) (len first : ℕ) (entries_are : entries ≡ entries_of column t) (len_is : len ≡ 2 * places t.class) (first_is : first ≡ shelf * len) (piece_is : piece ≡ take (first + len - first) (drop first entries)) where
-    read : (digit v : ℕ) → digit < places t.class → v ≡ slice_index piece (2 * digit + side_number side) → v ≡ entry_at t column (number_in t.class shelf side digit)
-    read digit v below is_piece =
+  pub row_read : (row : List ℕ) → IsShelfRow t column men shelf side row → (s : ℕ) → s < 64 → IsRaised 0 (Told s) (score_at t column) (slice_index row s)
+  row_read row rows s s_in = by (is_pawn men.last.kind) refl
+    where
+      at_digit : (digit : ℕ) → digit < kind_digits men.last.kind → digit + kind_less men.last.kind ≡ s → IsRaised 0 (Told s) (score_at t column) (slice_index row s)
+      at_digit digit below at = read_digit s digit (slice_index row s) below at (ap (slice_index row) (sym at) ∙ rows.digits digit below)
+
+      by : (pawn : Bool) → is_pawn men.last.kind ≡ pawn → IsRaised 0 (Told s) (score_at t column) (slice_index row s)
+      by false kind = let digits = piece_digits men.last.kind kind in at_digit s (omega (arith, digits.0, s_in)) (omega (arith, digits.1))
+      by true kind = let digits = pawn_digits men.last.kind kind in elim (cases_lt s 8) [
+        | inl low ↦ read_edge s (slice_index row s) digits.0 (inl low) (rows.edges digits.0 s s_in (inl low))
+        | inr from ↦ elim (cases_lt s 56) [
+          | inl to ↦ at_digit (s - 8) (omega (arith, digits.1, from, to)) (omega (arith, digits.2, from))
+          | inr high ↦ read_edge s (slice_index row s) digits.0 (inr high) (rows.edges digits.0 s s_in (inr high))
+        ]
+      ]
+
+-- ---- rows of either layout
+
+module _ (t : TableValue) (column : Column) (men : ShelfMen) (shelf : ℕ) (side : Side) (is : IsShelf t.class shelf men) (entries loaded row : List ℕ) (entries_are : entries ≡ entries_of column t)
+    (scored : (s : ℕ) → s < 64 → slice_index row s ≡ byte_score (slice_index loaded s % 256)) where
+  abbrev Row : Type 0
+  Row = IsShelfRow t column men shelf side row
+
+  -- a lane is the score of an entry
+  lane : (s k code : ℕ) → s < 64 → slice_index loaded s ≡ slice_index entries k → k ≡ code → slice_index row s ≡ score_at t column code
+  lane s k code s_in from at = scored s s_in ∙ ap (λ e. byte_score (e % 256)) (from ∙ ap (λ (l : List ℕ). slice_index l k) entries_are ∙ ap (slice_index (entries_of column t)) at)
+
+  none : (s : ℕ) → s < 64 → slice_index loaded s ≡ 0 → slice_index row s ≡ 0
+  none s s_in from = scored s s_in ∙ ap (λ e. byte_score (e % 256)) from
+
+  module _ (targets : has_target (material_of t.class) ≡ false) (piece : List ℕ) (len first : ℕ) (len_is : len ≡ 2 * places t.class) (first_is : first ≡ shelf * len) (piece_is : piece ≡ take (first + len - first) (drop first entries)) where
+    at_number : (s digit : ℕ) → s < 64 → digit < places t.class → slice_index loaded s ≡ slice_index piece (2 * digit + side_number side) → slice_index row s ≡ score_at t column (code_of t.class (number_in t.class shelf side digit))
+    at_number s digit s_in below from =
         let few = side_few side in
-        is_piece ∙ ap (λ (l : List ℕ). slice_index l (2 * digit + side_number side)) piece_is ∙ piece_at entries first len (2 * digit + side_number side) (omega arith) ∙ ap (λ (l : List ℕ). slice_index l (first + (2 * digit + side_number side))) entries_are
-        ∙ ap (slice_index (entries_of column t)) place
+        lane s (first + (2 * digit + side_number side)) (code_of t.class (number_in t.class shelf side digit)) s_in (from ∙ ap (λ (l : List ℕ). slice_index l (2 * digit + side_number side)) piece_is ∙ piece_at entries first len (2 * digit + side_number side) (omega arith))
+        (place ∙ sym (code_plain t.class (number_in t.class shelf side digit) targets))
       where
         place : first + (2 * digit + side_number side) ≡ number_in t.class shelf side digit
         place = let from = first_is ∙ ap (λ k. shelf * k) len_is in omega arith
 
-    abbrev Raised : ℕ → ℕ → Type 0
-    Raised s v = IsRaised 0 (Told s) (score_at t column) v
-
     -- of a piece, who stands on any square
-    pub of_piece : is_pawn men.last.kind ≡ false → (row : List ℕ) (s : ℕ) → s < 64 → slice_index loaded s ≡ slice_index piece (2 * s + side_number side) → slice_index row s ≡ byte_score (slice_index loaded s % 256) → Raised s (slice_index row s)
-    of_piece kind row s s_in lane value =
-        let digits = piece_digits men.last.kind kind in
-        let all = is.0.len in
-        at_digit s s (slice_index row s) (omega arith) (omega arith) (value ∙ ap (λ e. byte_score (e % 256)) (read s (slice_index loaded s) (omega arith) lane))
+    pub of_piece : is_pawn men.last.kind ≡ false → ((s : ℕ) → s < 64 → slice_index loaded s ≡ slice_index piece (2 * s + side_number side)) → Row
+    of_piece kind lanes =
+        let digits = piece_digits men.last.kind kind in record {
+          digits = λ digit below.
+              let square : digit + kind_less men.last.kind ≡ digit = omega (arith, digits.1) in
+              ap (slice_index row) square ∙ at_number digit digit (omega (arith, below, digits.0)) (omega (arith, below, is.len)) (lanes digit (omega (arith, below, digits.0)));
+          edges = λ pawn. absurd (false≢true (sym kind ∙ ap is_pawn pawn));
+        }
 
     -- of a pawn, who stands on neither the first rank nor the last
-    pub of_pawn : is_pawn men.last.kind ≡ true → (row : List ℕ) (s : ℕ) → s < 64 → (8 ≤ s → s < 56 → slice_index loaded s ≡ slice_index piece (2 * (s - 8) + side_number side))
-        → ((s < 8) ⊎ (56 ≤ s) → slice_index loaded s ≡ 0) → slice_index row s ≡ byte_score (slice_index loaded s % 256) → Raised s (slice_index row s)
-    of_pawn kind row s s_in middle edge value = elim (cases_lt s 8) [
-      | inl low ↦ at_edge s (slice_index row s) digits.0 s_in (inl low) (value ∙ ap (λ e. byte_score (e % 256)) (edge (inl low)))
-      | inr from ↦ elim (cases_lt s 56) [
-        | inl to ↦ let all = is.0.len in
-            at_digit s (s - 8) (slice_index row s) (omega (arith, digits.1)) (omega (arith, digits.2)) (value ∙ ap (λ e. byte_score (e % 256)) (read (s - 8) (slice_index loaded s) (omega (arith, digits.1)) (middle from to)))
-        | inr high ↦ at_edge s (slice_index row s) digits.0 s_in (inr high) (value ∙ ap (λ e. byte_score (e % 256)) (edge (inr high)))
-      ]
-    ]
+    pub of_pawn : is_pawn men.last.kind ≡ true → ((s : ℕ) → 8 ≤ s → s < 56 → slice_index loaded s ≡ slice_index piece (2 * (s - 8) + side_number side)) → ((s : ℕ) → s < 64 → (s < 8) ⊎ (56 ≤ s) → slice_index loaded s ≡ 0) → Row
+    of_pawn kind middle edge =
+        let digits = pawn_digits men.last.kind kind in record {
+          digits = λ digit below.
+              let square : digit + kind_less men.last.kind ≡ digit + 8 = omega (arith, digits.2) in
+              let back : digit + 8 - 8 ≡ digit = omega arith in
+              ap (slice_index row) square
+              ∙ at_number (digit + 8) digit (omega (arith, below, digits.1)) (omega (arith, below, is.len)) (middle (digit + 8) (omega arith) (omega (arith, below, digits.1)) ∙ ap (λ k. slice_index piece (2 * k + side_number side)) back);
+          edges = λ pawn s s_in past. none s s_in (edge s s_in past);
+        }
+
+  -- of the class with targets
+  module _ (passed : Bool) (has : has_target (material_of t.class) ≡ true) (within : IsWithin t.class shelf) (piece : List ℕ) (first : ℕ) (first_is : first + bit_of passed ≡ code_of t.class (shelf * (2 * places t.class)))
+      (piece_is : piece ≡ take (first + 192 - first) (drop first entries)) where
+    pub of_targets : ((s : ℕ) → 8 ≤ s → s < 56 → slice_index loaded s ≡ slice_index piece (4 * (s - 8) + 2 * side_number side + bit_of passed)) → ((s : ℕ) → s < 64 → (s < 8) ⊎ (56 ≤ s) → slice_index loaded s ≡ 0) → Row
+    of_targets middle edge =
+        let few = side_few side in
+        let bit : bit_of passed < 2 = small passed in
+        let len : kind_digits men.last.kind ≡ 48 = sym is.len ∙ places_is t.class has in
+        let pawn = pawn_of_digits men.last.kind len in record {
+          digits = λ digit below.
+              let k : ℕ = 4 * digit + 2 * side_number side + bit_of passed in
+              let square : digit + kind_less men.last.kind ≡ digit + 8 = omega (arith, pawn.1) in
+              let back : digit + 8 - 8 ≡ digit = omega arith in
+              let s_in : digit + 8 < 56 = omega (arith, below, len) in
+              let k_in : k < 192 = omega (arith, below, len, few, bit) in
+              let from = middle (digit + 8) (omega arith) s_in ∙ ap (λ d. slice_index piece (4 * d + 2 * side_number side + bit_of passed)) back in
+              ap (slice_index row) square
+              ∙ lane (digit + 8) (first + k) (code_of t.class (number_in t.class shelf side digit)) (omega (arith, s_in)) (from ∙ ap (λ (l : List ℕ). slice_index l k) piece_is ∙ piece_at entries first 192 k k_in) (place digit (omega (arith, below, len)));
+          edges = λ pawn s s_in past. none s s_in (edge s s_in past);
+        }
       where
-        digits : (men.last.kind ≡ P) × (kind_digits men.last.kind ≡ 48) × (kind_less men.last.kind ≡ 8)
-        digits = pawn_digits men.last.kind kind
+        small : (b : Bool) → bit_of b < 2
+        small true = omega arith
+        small false = omega arith
+
+        place : (digit : ℕ) → digit < 48 → first + (4 * digit + 2 * side_number side + bit_of passed) ≡ code_of t.class (number_in t.class shelf side digit)
+        place digit below =
+            let few = side_few side in
+            let number : number_in t.class shelf side digit ≡ shelf * (2 * places t.class) + (side_number side + 2 * digit) = omega arith in
+            let on = code_in_shelf t.class shelf has within (side_number side + 2 * digit) (omega (arith, below, few)) in
+            let code_there = ap (code_of t.class) number ∙ on in
+            omega (arith, code_there, first_is)

@@ -1,29 +1,55 @@
 -- Tables whose entries have bytes of their own.
-use Rattle.std.proofs.Common.{◌≡◌, ◌⊎◌, ℕ, ◌<◌, inl, inr, subst}
+use Rattle.std.proofs.Common.{◌≡◌, ◌≢◌, ℕ, ◌<◌, ◌∙◌, arith, inl, inr, sym}
 use Rattle.std.proofs.lemmas.Bool.{cases_eq}
 use Rattle.egt_index.specs.Index.{IsVoid}
 use Rattle.egt_index.specs.Size.{size_of}
+use Rattle.egt_lanes.specs.Alike.{AreDecided, AreVoidOrAlike}
 use Rattle.egt_table.specs.Table.{TableValue}
 use Rattle.egt_table.specs.declared.column.Column.{Column}
 use Rattle.egt_table.specs.declared.column.Column.TheVariants.{Mate, Zeroing}
-use Rattle.egt_check.specs.declared.by_column.ByColumn.{ByColumn}
-use Rattle.egt_check.specs.Given.{AreAlike}
-use Rattle.egt_check.specs.Score.{number_at}
+use Rattle.egt_check.specs.Given.{AreAlike, IsKnown}
+use Rattle.egt_check.specs.Reading.{shown_range}
 use Rattle.egt_check.specs.Tables.{entry_at}
-use Rattle.egt_check.specs.Voids.{TellsVoids}
+use Rattle.egt_check.specs.Truth.{IsTrueTable}
+use Rattle.egt_check.specs.Voids.{AreAllAlike, TellsVoids}
 use Rattle.egt_check.specs.Worth.{HasBytes}
 
--- both entries are 0, or are alike
-abbrev pub AreVoidOrAlike : ℕ → ℕ → Type 0
-AreVoidOrAlike mate zeroing = ((mate ≡ 0) × (zeroing ≡ 0)) ⊎ AreAlike mate zeroing
+known : (entry : ℕ) → 2 < entry → entry < 254 → IsKnown entry
+known entry some low = record { some = λ is. absurd (omega (arith, is, some)); other = λ is. absurd (omega (arith, is, some)); low = low }
 
-abbrev pub HasByte : TableValue → ℕ → Type 0
-HasByte t i = AreVoidOrAlike (entry_at t Mate i) (entry_at t Zeroing i)
+decided : (mate zeroing : ℕ) → AreDecided mate zeroing → AreAlike mate zeroing
+decided mate zeroing are =
+    let mate_some = are.mate_some in
+    let zeroing_some = are.zeroing_some in
+    record {
+      mate_known = known mate are.mate_some are.mate_low;
+      zeroing_known = known zeroing are.zeroing_some are.zeroing_low;
+      parity = are.parity;
+      drawn = (λ is. absurd (omega (arith, is, mate_some)), λ is. absurd (omega (arith, is, zeroing_some)));
+    }
 
-pub byte_at : (t : TableValue) (i : ℕ) (entries : ByColumn) → ((column : Column) → number_at entries column ≡ entry_at t column i) → AreVoidOrAlike entries.mate entries.zeroing → HasByte t i
-byte_at t i entries are is = subst (λ m. AreVoidOrAlike m (entry_at t Zeroing i)) (are Mate) (subst (λ z. AreVoidOrAlike entries.mate z) (are Zeroing) is)
+drawn : (mate zeroing : ℕ) → mate ≡ 1 → zeroing ≡ 1 → AreAlike mate zeroing
+drawn mate zeroing first second = record {
+  mate_known = one mate first;
+  zeroing_known = one zeroing second;
+  parity = omega (arith, first, second);
+  drawn = (λ _. second, λ _. first);
+}
+  where
+    one : (entry : ℕ) → entry ≡ 1 → IsKnown entry
+    one entry is = record { some = λ none. absurd (omega (arith, is, none)); other = λ two. absurd (omega (arith, is, two)); low = omega (arith, is) }
 
-module _ (t : TableValue) (told : (i : ℕ) → i < size_of t.class → HasByte t i) (voids : TellsVoids t) where
+-- entries that are not 0 are alike
+pub alike_there : (mate zeroing : ℕ) → AreVoidOrAlike mate zeroing → mate ≢ 0 → AreAlike mate zeroing
+alike_there mate zeroing (inl (same, low)) some = let first : mate ≡ 1 = omega (arith, low, some) in drawn mate zeroing first (sym same ∙ first)
+alike_there mate zeroing (inr are) some = decided mate zeroing are
+
+-- beside 0 is 0
+none_there : (mate zeroing : ℕ) → AreVoidOrAlike mate zeroing → mate ≡ 0 → zeroing ≡ 0
+none_there mate zeroing (inl (same, low)) none = sym same ∙ none
+none_there mate zeroing (inr are) none = let some = are.mate_some in absurd (omega (arith, some, none))
+
+module _ (t : TableValue) (told : AreAllAlike t) (voids : TellsVoids t) where
   -- the mate entry of a void code is 0
   void_mate : (i : ℕ) → i < size_of t.class → IsVoid t.class i → entry_at t Mate i ≡ 0
   void_mate i below void = elim (cases_eq (entry_at t Mate i) 0) [
@@ -33,16 +59,14 @@ module _ (t : TableValue) (told : (i : ℕ) → i < size_of t.class → HasByte 
 
   void_entry : (column : Column) (i : ℕ) → i < size_of t.class → IsVoid t.class i → entry_at t column i ≡ 0
   void_entry Mate i below void = void_mate i below void
-  void_entry Zeroing i below void = elim (told i below) [
-    | inl none ↦ none.1
-    | inr alike ↦ absurd (alike.mate_known.some (void_mate i below void))
-  ]
+  void_entry Zeroing i below void = none_there (entry_at t Mate i) (entry_at t Zeroing i) (told i below) (void_mate i below void)
 
   pub has_bytes : HasBytes t
-  has_bytes = record {
-    void = void_entry;
-    alike = λ i below index. elim (told i below) [
-      | inl none ↦ absurd (index ((voids i below).void none.0))
-      | inr alike ↦ alike
-    ];
-  }
+  has_bytes = record { void = void_entry; alike = λ i below index. alike_there (entry_at t Mate i) (entry_at t Zeroing i) (told i below) (λ none. index ((voids i below).void none)) }
+
+-- true entries tell which codes are void
+pub true_voids : (t : TableValue) → IsTrueTable t → TellsVoids t
+true_voids t true i below = record {
+  void = λ zero p ok index. let here = true.true Mate p i ok index in (shown_range (entry_at t Mate i) here.0 here.2).0 zero;
+  index = λ some void. some (true.void Mate i below void);
+}

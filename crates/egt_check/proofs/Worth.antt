@@ -37,7 +37,7 @@ pub record AreWhole (stand : Stand) : Type 0 where
   pub filled : IsFilled stand
   pub on_board : AreOnBoard stand
 
-zero_score : (e : ℕ) → e ≡ 0 → byte_score (e % 256) ≡ 0
+pub zero_score : (e : ℕ) → e ≡ 0 → byte_score (e % 256) ≡ 0
 zero_score e is = ap (λ x. byte_score (x % 256)) is
 
 module _ (facts : Facts) (turning : Turning) (t : TableValue) (column : Column) (is_table : IsTable t) (bytes : HasBytes t) where

@@ -1,5 +1,5 @@
 -- What a block holds: a number for each square of the first man beside the kings and of the last.
-use Rattle.std.specs.Prelude.{if◌then◌else◌, max, List, ◌≡◌, ℕ, ◌/◌, ◌%◌, ◌<◌, ◌==◌, Bool, false, true, not}
+use Rattle.std.specs.Prelude.{if◌then◌else◌, max, List, ◌≡◌, ℕ, ◌/◌, ◌%◌, ◌<◌, ◌==◌, Bool, true, not}
 use Rattle.egt_board.specs.Turned.{turned_side, turned_square}
 use Rattle.std.specs.Int.{bit_at}
 use Rattle.egt_board.specs.Attack.{king_of}
@@ -11,7 +11,7 @@ use Rattle.egt_index.specs.Home.{IsTurnWith}
 use Rattle.egt_index.specs.ShelfCodes.{stand_with}
 use Rattle.egt_index.specs.Size.{has_pawns}
 use Rattle.egt_index.specs.StepCodes.{TellsMen}
-use Rattle.egt_index.specs.TurnedMen.{IsSomeTurnedCode, turned_by}
+use Rattle.egt_index.specs.TurnedMen.{IsSomeTurnedCodeWith, turned_by}
 use Rattle.egt_index.specs.declared.shelf_codes.ShelfMen.{ShelfMen}
 use Rattle.egt_index.specs.declared.stand.Stand.{Stand}
 use Rattle.egt_lanes.specs.Blocks.{at}
@@ -42,21 +42,21 @@ turned_from men on turn = record {
 abbrev pub men_across : ShelfMen → ShelfMen
 men_across men = record { white = men.black; black = men.white; one = men.one; on = men.on; last = men.last }
 
--- the code tells the men where the turn takes them
-abbrev pub IsCodeAfter : ℕ → ℕ → ℕ → Stand → Side → Type 0
-IsCodeAfter c t code stand side = TellsMen false c code (turned_by t stand) (turned_side (t / 8 == 1) side)
+-- the code tells the men where the turn takes them, and a target where one was passed
+abbrev pub IsCodeAfter : (passed : Bool) (c t code : ℕ) → Stand → Side → Type 0
+IsCodeAfter passed c t code stand side = TellsMen passed c code (turned_by t stand) (turned_side (t / 8 == 1) side)
 
 -- where some turn of the class takes them, one that exchanges colours so
-abbrev pub IsHomeCode : (c code : ℕ) (flips : Bool) → Stand → Side → Type 0
-IsHomeCode c code flips stand side = (t : ℕ) × IsTurnWith (has_pawns (material_of c)) flips t × IsCodeAfter c t code stand side
+abbrev pub IsHomeCode : (passed : Bool) (c code : ℕ) (flips : Bool) → Stand → Side → Type 0
+IsHomeCode passed c code flips stand side = (t : ℕ) × IsTurnWith (has_pawns (material_of c)) flips t × IsCodeAfter passed c t code stand side
 
 -- the number raised to the scores of the codes of this turn
-abbrev pub IsRaisedAfter : TableValue → Column → ℕ → Stand → Side → (low high : ℕ) → Type 0
-IsRaisedAfter t column turn stand side low high = IsRaised low (λ code. IsCodeAfter t.class turn code stand side) (score_at t column) high
+abbrev pub IsRaisedAfter : (passed : Bool) → TableValue → Column → ℕ → Stand → Side → (low high : ℕ) → Type 0
+IsRaisedAfter passed t column turn stand side low high = IsRaised low (λ code. IsCodeAfter passed t.class turn code stand side) (score_at t column) high
 
 -- the number raised to the scores of the codes of all such turns
-abbrev pub IsRaisedHome : TableValue → Column → Bool → Stand → Side → (low high : ℕ) → Type 0
-IsRaisedHome t column flips stand side low high = IsRaised low (λ code. IsHomeCode t.class code flips stand side) (score_at t column) high
+abbrev pub IsRaisedHome : (passed : Bool) → TableValue → Column → Bool → Stand → Side → (low high : ℕ) → Type 0
+IsRaisedHome passed t column flips stand side low high = IsRaised low (λ code. IsHomeCode passed t.class code flips stand side) (score_at t column) high
 
 -- the greater of the block's number, of that in the other order where the men are equal, and of that across where both sides have the same men
 abbrev pub settled_at : (equal sides : Bool) (own across : List (List ℕ)) (a b : ℕ) → ℕ
@@ -77,14 +77,14 @@ abbrev pub IsBesideKing : ShelfMen → Side → ℕ → Type 0
 IsBesideKing men side k = (k < 64) × Reaches (λ u. bit_at 0 u ≡ 0) (king_of side) (king_of_men men side) k
 
 -- codes of the men of one of these, where turns take them that exchange colours so
-abbrev pub AreHomeCodes : (c : ℕ) (In : ℕ → Type 0) (men : ℕ → ShelfMen) (flips : Bool) (side : Side) (a b code : ℕ) → Type 0
-AreHomeCodes c In men flips side a b code = (k : ℕ) × In k × IsHomeCode c code flips (stand_on (men k) a b) side
+abbrev pub AreHomeCodes : (passed : Bool) (c : ℕ) (In : ℕ → Type 0) (men : ℕ → ShelfMen) (flips : Bool) (side : Side) (a b code : ℕ) → Type 0
+AreHomeCodes passed c In men flips side a b code = (k : ℕ) × In k × IsHomeCode passed c code flips (stand_on (men k) a b) side
 
 -- codes of the men of one of these, in any colours
-abbrev pub AreTurnedCodes : (c : ℕ) (In : ℕ → Type 0) (men : ℕ → ShelfMen) (flips : Bool) (side : Side) (a b code : ℕ) → Type 0
-AreTurnedCodes c In men flips side a b code = (k : ℕ) × In k × IsSomeTurnedCode c code flips (stand_on (men k) a b) side
+abbrev pub AreTurnedCodes : (passed : Bool) (c : ℕ) (In : ℕ → Type 0) (men : ℕ → ShelfMen) (flips : Bool) (side : Side) (a b code : ℕ) → Type 0
+AreTurnedCodes passed c In men flips side a b code = (k : ℕ) × In k × IsSomeTurnedCodeWith passed c code flips (stand_on (men k) a b) side
 
 -- both blocks are raised from nothing to the codes of these
-pub record AreGathered (t : TableValue) (column : Column) (In : ℕ → Type 0) (men : ℕ → ShelfMen) (flips : Bool) (side : Side) (own across : List (List ℕ)) : Type 0 where
-  pub in_own : (a b : ℕ) → a < 64 → b < 64 → IsRaised 0 (AreHomeCodes t.class In men flips side a b) (score_at t column) (at own a b)
-  pub in_across : has_equal_sides t.class ≡ true → (a b : ℕ) → a < 64 → b < 64 → IsRaised 0 (AreHomeCodes t.class In (λ k. men_across (men k)) (not flips) side b a) (score_at t column) (at across b a)
+pub record AreGathered (passed : Bool) (t : TableValue) (column : Column) (In : ℕ → Type 0) (men : ℕ → ShelfMen) (flips : Bool) (side : Side) (own across : List (List ℕ)) : Type 0 where
+  pub in_own : (a b : ℕ) → a < 64 → b < 64 → IsRaised 0 (AreHomeCodes passed t.class In men flips side a b) (score_at t column) (at own a b)
+  pub in_across : has_equal_sides t.class ≡ true → (a b : ℕ) → a < 64 → b < 64 → IsRaised 0 (AreHomeCodes passed t.class In (λ k. men_across (men k)) (not flips) side b a) (score_at t column) (at across b a)

@@ -30,3 +30,4 @@ pub mod RightBlock
 pub mod PawnMoves
 pub mod InPassing
 pub mod PawnScores
+pub mod ShelfRow

@@ -5,10 +5,8 @@ ghost use Rattle.egt_board.specs.Pawn.{Advances, last_rank, pawn_of};
 ghost use Rattle.egt_board.specs.Square.{rank_of};
 ghost use Rattle.egt_board.specs.SquareSet.{Has};
 ghost use Rattle.egt_board.specs.Turned.{turned_man};
-ghost use Rattle.egt_class.specs.Material.{material_of};
 ghost use Rattle.egt_index.specs.LoneCodes.{IsLoneMan};
 ghost use Rattle.egt_index.specs.ShelfCodes.{AreMenOf};
-ghost use Rattle.egt_index.specs.Size.{has_target};
 ghost use Rattle.egt_lanes.specs.Blocks.{at};
 ghost use Rattle.egt_lanes.specs.Raised.{IsRaised};
 ghost use Rattle.egt_moves.specs.Promotion.{FitsPromotion, IsOfficer, arriving};
@@ -16,7 +14,7 @@ ghost use Rattle.egt_table.specs.declared.column.Column.TheVariants.{Mate};
 ghost use Rattle.egt_check.specs.PawnMoves.{AreAdvancedCodes, ArePromotedCodes, men_after, men_two, officer_of, stand_after};
 ghost use Rattle.egt_check.specs.QuietStands.{IsClear};
 ghost use Rattle.egt_check.specs.Takings.{IsPastKings, left_of, stand_left};
-ghost use Rattle.egt_check.specs.Worth.{IsRead, score_at};
+ghost use Rattle.egt_check.specs.Worth.{IsReadWith, score_at};
 
 use crate::blocks::{nothing, read_block};
 use crate::move_scores::men_swapped;
@@ -95,30 +93,39 @@ fn past_kings(men: &ShelfMen) -> SquareSet
     SquareSet::ALL.without(kings_of(men))
 }
 
-/// The scores of the positions where the last man is now this one, the other side to move: by the first one's square and his. False where the table does
-/// not tell.
+/// The scores of the positions where the last man is now this one, the other side to move, and a target where one was passed: by the first one's square
+/// and his. False where the table does not tell.
 fn read_after(
     child: &Table,
     before: bool,
     flips: bool,
+    passed: bool,
     men: &ShelfMen,
     man: Man,
     side: Side,
     out: &mut Block,
 ) -> bool
     requires men { AreMenOf child.now.class (men_after before flips men.now man) }
-    requires targets { has_target (material_of child.now.class) ≡ false }
-    ensures { result ≡ true → (a t : ℕ) → a < 64 → t < 64 → IsRead child.now Mate flips (stand_after before flips men.now a man t) (other_side side) (at out.new a t) }
+    ensures { result ≡ true → (a t : ℕ) → a < 64 → t < 64 → IsReadWith passed child.now Mate flips (stand_after before flips men.now a man t) (other_side side) (at out.new a t) }
 {
     let after = men_after(before, flips, men, man);
     if !before {
-        return read_block(child, Column::Mate, flips, &after, side.other(), out);
+        return read_block(
+            child,
+            Column::Mate,
+            flips,
+            passed,
+            &after,
+            side.other(),
+            out,
+        );
     }
     let mut scores = nothing();
     if !read_block(
         child,
         Column::Mate,
         flips,
+        passed,
         &after,
         side.other(),
         &mut scores,
@@ -154,7 +161,6 @@ pub(crate) fn advance_block(
     out: &mut Block,
 ) -> bool
     requires men { AreMenOf child.now.class (men_after before flips men.now (arriving men.now.last promo)) }
-    requires targets { has_target (material_of child.now.class) ≡ false }
     requires promo { IfSome promo IsOfficer }
     ensures { result ≡ true → (a b : ℕ) → a < 64 → b < 64 →
         IsRaised 0 (AreAdvancedCodes child.now.class before flips men.now side promo a b) (score_at child.now Mate) (at out.new a b) }
@@ -165,7 +171,7 @@ pub(crate) fn advance_block(
     }
     let man = arriving(men.last, promo);
     let mut scores = nothing();
-    if !read_after(child, before, flips, men, man, side, &mut scores) {
+    if !read_after(child, before, flips, false, men, man, side, &mut scores) {
         return false;
     }
     raise_advances(men, arrivals(promo, side), side, &scores, out);

@@ -58,7 +58,7 @@ fn shelf_is_right(
     let there = men_on(men, on);
     match shelf_of(table.class(), &there, false) {
         Some(number) if number == shelf => {
-            row_is_right(table, &there, number, side, mates, zeroing)
+            row_is_right(table, &there, number, side, false, mates, zeroing)
         }
         _ => false,
     }

@@ -2,12 +2,11 @@
 //! first man, a lane for each of the last. Each code has some turn of these men; codes that are not least score nothing.
 ghost use Rattle.std.specs.Prelude.{◌≡◌, ◌≢◌, ◌/◌, ◌%◌, ◌<◌, ◌↔◌, ◌==◌, ℕ, false, true, not, IsTrue};
 ghost use Rattle.egt_board.specs.Turned.{turned_side, turned_square};
-ghost use Rattle.egt_class.specs.Material.{has_equal_sides, material_of};
+ghost use Rattle.egt_class.specs.Material.{has_equal_sides};
 ghost use Rattle.egt_index.specs.ShelfCodes.{AreMenOf};
-ghost use Rattle.egt_index.specs.Size.{has_target};
 ghost use Rattle.egt_lanes.specs.Blocks.{at};
 ghost use Rattle.egt_check.specs.Blocks.{IsRaisedAfter, IsRaisedHome, men_across, settled_at, stand_on, turned_from};
-ghost use Rattle.egt_check.specs.Worth.{IsRead};
+ghost use Rattle.egt_check.specs.Worth.{IsReadWith};
 
 use crate::rows::{may_stand, row_of};
 use egt_board::{Side, Square};
@@ -44,7 +43,8 @@ pub(crate) fn side_after(side: Side, turn: u8) -> Side
     if turn / 8 == 1 { side.other() } else { side }
 }
 
-/// Raises the row of the first man's square to the scores of the codes after the turn. False where it does not tell.
+/// Raises the row of the first man's square to the scores of the codes after the turn, and with a target where one was passed. False where the table does
+/// not tell.
 #[inline(always)]
 fn raise_row(
     table: &Table,
@@ -53,23 +53,23 @@ fn raise_row(
     on: Square,
     side: Side,
     turn: u8,
+    passed: bool,
     out: &mut Block,
 ) -> bool
     requires men { AreMenOf table.now.class men.now }
-    requires targets { has_target (material_of table.now.class) ≡ false }
     requires turn { turn < 16 }
     ensures others { (a b : ℕ) → a ≢ on → at out.new a b ≡ at out.old a b }
-    ensures raised { result ≡ true → (b : ℕ) → b < 64 → IsRaisedAfter table.now column turn (stand_on men.now on b) side (at out.old on b) (at out.new on b) }
+    ensures raised { result ≡ true → (b : ℕ) → b < 64 → IsRaisedAfter passed table.now column turn (stand_on men.now on b) side (at out.old on b) (at out.new on b) }
 {
     codes_tell_turned_men();
     let there = turned_from(men, on, turn);
     if !may_stand(there.one, there.on) {
         return true;
     }
-    let Some(shelf) = shelf_of(table.class(), &there, false) else {
+    let Some(shelf) = shelf_of(table.class(), &there, passed) else {
         return false;
     };
-    let row = row_of(table, column, &there, shelf, side_after(side, turn));
+    let row = row_of(table, column, &there, shelf, side_after(side, turn), passed);
     let a = usize::from(on.number());
     out[a] = greater(out[a], turned(row, turn));
     true
@@ -82,15 +82,15 @@ fn raise_turned(
     men: &ShelfMen,
     side: Side,
     turn: u8,
+    passed: bool,
     out: &mut Block,
 ) -> bool
     requires men { AreMenOf table.now.class men.now }
-    requires targets { has_target (material_of table.now.class) ≡ false }
     requires turn { turn < 16 }
-    ensures { result ≡ true → (a b : ℕ) → a < 64 → b < 64 → IsRaisedAfter table.now column turn (stand_on men.now a b) side (at out.old a b) (at out.new a b) }
+    ensures { result ≡ true → (a b : ℕ) → a < 64 → b < 64 → IsRaisedAfter passed table.now column turn (stand_on men.now a b) side (at out.old a b) (at out.new a b) }
 {
     for a in 0..64u8 {
-        if !raise_row(table, column, men, Square::at(a), side, turn, out) {
+        if !raise_row(table, column, men, Square::at(a), side, turn, passed, out) {
             return false;
         }
     }
@@ -103,19 +103,19 @@ fn raise_home(
     column: Column,
     men: &ShelfMen,
     flips: bool,
+    passed: bool,
     side: Side,
     out: &mut Block,
 ) -> bool
     requires men { AreMenOf table.now.class men.now }
-    requires targets { has_target (material_of table.now.class) ≡ false }
-    ensures { result ≡ true → (a b : ℕ) → a < 64 → b < 64 → IsRaisedHome table.now column flips (stand_on men.now a b) side (at out.old a b) (at out.new a b) }
+    ensures { result ≡ true → (a b : ℕ) → a < 64 → b < 64 → IsRaisedHome passed table.now column flips (stand_on men.now a b) side (at out.old a b) (at out.new a b) }
 {
     let (first, second) = home(has_pawns(table.class()), flips, men.white);
-    if !raise_turned(table, column, men, side, first, out) {
+    if !raise_turned(table, column, men, side, first, passed, out) {
         return false;
     }
     match second {
-        Some(second) => raise_turned(table, column, men, side, second, out),
+        Some(second) => raise_turned(table, column, men, side, second, passed, out),
         None => true,
     }
 }
@@ -140,24 +140,32 @@ pub(crate) fn gather(
     column: Column,
     men: &ShelfMen,
     flips: bool,
+    passed: bool,
     side: Side,
     own: &mut Block,
     across: &mut Block,
 ) -> bool
     requires men { AreMenOf table.now.class men.now }
-    requires targets { has_target (material_of table.now.class) ≡ false }
-    ensures own { result ≡ true → (a b : ℕ) → a < 64 → b < 64 → IsRaisedHome table.now column flips (stand_on men.now a b) side (at own.old a b) (at own.new a b) }
+    ensures own { result ≡ true → (a b : ℕ) → a < 64 → b < 64 → IsRaisedHome passed table.now column flips (stand_on men.now a b) side (at own.old a b) (at own.new a b) }
     ensures across { result ≡ true → has_equal_sides table.now.class ≡ true → (a b : ℕ) → a < 64 → b < 64 →
-        IsRaisedHome table.now column (not flips) (stand_on (men_across men.now) b a) side (at across.old b a) (at across.new b a) }
+        IsRaisedHome passed table.now column (not flips) (stand_on (men_across men.now) b a) side (at across.old b a) (at across.new b a) }
     ensures same { has_equal_sides table.now.class ≡ false → across.new ≡ across.old }
 {
-    if !raise_home(table, column, men, flips, side, own) {
+    if !raise_home(table, column, men, flips, passed, side, own) {
         return false;
     }
     if !has_equal_sides(table.class()) {
         return true;
     }
-    raise_home(table, column, &men_across(men), !flips, side, across)
+    raise_home(
+        table,
+        column,
+        &men_across(men),
+        !flips,
+        passed,
+        side,
+        across,
+    )
 }
 
 /// A block of nothing.
@@ -188,23 +196,23 @@ pub(crate) fn settle(equal: bool, sides: bool, own: &mut Block, across: &Block)
     }
 }
 
-/// The scores of the positions with these men, in colours exchanged where `flips`, whose squares beside the kings are those of the rows and lanes. False
-/// where the table does not tell.
+/// The scores of the positions with these men, in colours exchanged where `flips`, and a target where one was passed, whose squares beside the kings are
+/// those of the rows and lanes. False where the table does not tell.
 pub(crate) fn read_block(
     table: &Table,
     column: Column,
     flips: bool,
+    passed: bool,
     men: &ShelfMen,
     side: Side,
     out: &mut Block,
 ) -> bool
     requires men { AreMenOf table.now.class men.now }
-    requires targets { has_target (material_of table.now.class) ≡ false }
-    ensures { result ≡ true → (a b : ℕ) → a < 64 → b < 64 → IsRead table.now column flips (stand_on men.now a b) side (at out.new a b) }
+    ensures { result ≡ true → (a b : ℕ) → a < 64 → b < 64 → IsReadWith passed table.now column flips (stand_on men.now a b) side (at out.new a b) }
 {
     *out = nothing();
     let mut across = nothing();
-    if !gather(table, column, men, flips, side, out, &mut across) {
+    if !gather(table, column, men, flips, passed, side, out, &mut across) {
         return false;
     }
     settle(are_equal(men), has_equal_sides(table.class()), out, &across);

@@ -2,9 +2,7 @@
 ghost use Rattle.std.specs.Prelude.{◌≡◌, ◌↔◌, ◌<◌, ℕ, false, true};
 ghost use Rattle.egt_board.specs.Man.{other_side};
 ghost use Rattle.egt_board.specs.SquareSet.{Has};
-ghost use Rattle.egt_class.specs.Material.{material_of};
 ghost use Rattle.egt_index.specs.ShelfCodes.{AreMenOf};
-ghost use Rattle.egt_index.specs.Size.{has_target};
 ghost use Rattle.egt_lanes.specs.Blocks.{at};
 ghost use Rattle.egt_lanes.specs.Raised.{IsRaised};
 ghost use Rattle.egt_check.specs.Blocks.{AreTurnedCodes, IsBesideKing, king_of_men, with_king};
@@ -70,9 +68,8 @@ pub(crate) fn king_block(
     out: &mut Block,
 ) -> bool
     requires men { AreMenOf table.now.class men.now }
-    requires targets { has_target (material_of table.now.class) ≡ false }
     ensures { result ≡ true → (a b : ℕ) → a < 64 → b < 64 →
-        IsRaised 0 (AreTurnedCodes table.now.class (IsBesideKing men.now side) (with_king men.now side) false (other_side side) a b) (score_at table.now column) (at out.new a b) }
+        IsRaised 0 (AreTurnedCodes false table.now.class (IsBesideKing men.now side) (with_king men.now side) false (other_side side) a b) (score_at table.now column) (at out.new a b) }
 {
     *out = nothing();
     let mut across = nothing();
@@ -83,6 +80,7 @@ pub(crate) fn king_block(
             table,
             column,
             &stepped,
+            false,
             false,
             side.other(),
             out,

@@ -59,7 +59,7 @@ fn raise_lone(
 ) -> bool
     requires man { IsLoneMan table.now.class man }
     requires turn { turn < 16 }
-    ensures { result ≡ true → (s : ℕ) → s < 64 → IsRaisedAfter table.now column turn (lone_stand white black man s) side (slice_index out.old s) (slice_index out.new s) }
+    ensures { result ≡ true → (s : ℕ) → s < 64 → IsRaisedAfter false table.now column turn (lone_stand white black man s) side (slice_index out.old s) (slice_index out.new s) }
 {
     let there = (turned_square(turn, white), turned_square(turn, black));
     let Some(first) = lone_row(table.class(), man, there.0, there.1) else {

@@ -4,9 +4,7 @@ ghost use Rattle.std.specs.Int.{bit_at};
 ghost use Rattle.egt_board.specs.Gait.{Reaches};
 ghost use Rattle.egt_board.specs.SquareSet.{Has};
 ghost use Rattle.egt_board.specs.declared.man.Kind.TheVariants.{K};
-ghost use Rattle.egt_class.specs.Material.{material_of};
 ghost use Rattle.egt_index.specs.ShelfCodes.{AreMenOf};
-ghost use Rattle.egt_index.specs.Size.{has_target};
 ghost use Rattle.egt_lanes.specs.Blocks.{at};
 ghost use Rattle.egt_lanes.specs.Pieces.{IsPiece};
 ghost use Rattle.egt_lanes.specs.Raised.{IsRaised};
@@ -81,7 +79,6 @@ pub(crate) fn quiet_block(
     out: &mut Block,
 ) -> bool
     requires men { AreMenOf table.now.class men.now }
-    requires targets { has_target (material_of table.now.class) ≡ false }
     requires one { men.now.one.kind ≢ K }
     requires last { men.now.last.kind ≢ K }
     ensures { result ≡ true → (a b : ℕ) → a < 64 → b < 64 →
@@ -94,7 +91,7 @@ pub(crate) fn quiet_block(
         return true;
     }
     let mut scores = nothing();
-    if !read_block(table, column, false, men, side.other(), &mut scores) {
+    if !read_block(table, column, false, false, men, side.other(), &mut scores) {
         return false;
     }
     raise_first(men, side, &scores, out);

@@ -1,10 +1,10 @@
 //! The judgement of a row of a table's entries by the greatest bytes of the moves.
-ghost use Rattle.std.specs.Prelude.{◌≡◌, ◌≢◌, ◌+◌, ◌*◌, ℕ, ◌<◌, slice_index, true, false, IfSome};
+ghost use Rattle.std.specs.Prelude.{◌≡◌, ◌≢◌, ◌+◌, ◌*◌, ℕ, ◌<◌, slice_index, true, IfSome};
 ghost use Rattle.egt_board.specs.SquareSet.{Has};
-ghost use Rattle.egt_class.specs.Material.{material_of};
+ghost use Rattle.egt_index.specs.Numbers.{code_of};
 ghost use Rattle.egt_index.specs.Scales.{kind_digits, kind_less};
 ghost use Rattle.egt_index.specs.ShelfCodes.{IsShelfOf, IsWithin, number_in};
-ghost use Rattle.egt_index.specs.Size.{has_target, size_of};
+ghost use Rattle.egt_index.specs.Size.{size_of};
 ghost use Rattle.egt_table.specs.declared.column.Column.TheVariants.{Mate};
 ghost use Rattle.egt_check.specs.RightRow.{IsRightAt, IsRightEnd};
 ghost use Rattle.egt_check.specs.Score.{IsAtEnd};
@@ -15,7 +15,7 @@ use crate::rows::row_of;
 use crate::successors::entries_at;
 use egt_board::{Man, Position, Side, SquareSet};
 use egt_index::laws::{codes_spell_one_position, codes_tell_turned_men};
-use egt_index::{ShelfMen, last_digits, position, size};
+use egt_index::{ShelfMen, code_of, last_digits, position, size};
 use egt_lanes::Row;
 use egt_lanes::row::differ;
 use egt_lanes::score::due;
@@ -50,25 +50,27 @@ fn end_is_right(table: &Table, code: u32) -> bool
     entries.mate == entry && entries.zeroing == entry
 }
 
-/// Whether so are the codes of these squares of the man, every other one from his first digit's on.
+/// Whether so are the codes of the numbers of these squares of the man, every other one from his first digit's on.
 fn ends_are_right(table: &Table, man: Man, first: u32, ends: SquareSet) -> bool
     requires { (digit : ℕ) → digit < kind_digits man.kind → first + 2 * digit < size_of table.now.class }
-    ensures { result ≡ true → (digit : ℕ) → digit < kind_digits man.kind → Has ends (digit + kind_less man.kind) → IsRightEnd table.now (first + 2 * digit) }
+    ensures { result ≡ true → (digit : ℕ) → digit < kind_digits man.kind → Has ends (digit + kind_less man.kind) →
+        IsRightEnd table.now (code_of table.now.class (first + 2 * digit)) }
 {
-    let _size = size(table.class());
+    let class = table.class();
+    let _size = size(class);
     let mut rest = ends;
     while let Some(square) = rest.pop_first() {
         let Some(digit) = digit_on(man, square) else {
             return false;
         };
-        if !end_is_right(table, first + 2 * digit) {
+        if !end_is_right(table, code_of(class, first + 2 * digit)) {
             return false;
         }
     }
     true
 }
 
-/// The shelf's first code with that side to move.
+/// The shelf's first number with that side to move.
 fn first_of(table: &Table, shelf: u32, side: Side) -> u32
     requires within { IsWithin table.now.class shelf }
     ensures { result ≡ number_in table.now.class shelf side 0 }
@@ -82,25 +84,25 @@ fn first_of(table: &Table, shelf: u32, side: Side) -> u32
     }
 }
 
-/// Whether the entries of a shelf's codes with that side to move are due to the greatest bytes of the moves, by the last man's square, or tell checkmate
-/// and stalemate.
+/// Whether the entries of a shelf's codes with that side to move are due to the greatest bytes of the moves, by the last
+/// man's square, or tell checkmate and stalemate; `passed` tells whether the positions have a target.
 pub(crate) fn row_is_right(
     table: &Table,
     men: &ShelfMen,
     shelf: u32,
     side: Side,
+    passed: bool,
     mates: Row,
     zeroing: Row,
 ) -> bool
-    requires shelf { IsShelfOf false table.now.class shelf men.now }
+    requires shelf { IsShelfOf passed table.now.class shelf men.now }
     requires within { IsWithin table.now.class shelf }
-    requires targets { has_target (material_of table.now.class) ≡ false }
-    ensures { result ≡ true → (digit : ℕ) → digit < kind_digits men.now.last.kind → score_at table.now Mate (number_in table.now.class shelf side digit) ≢ 0 →
-        IsRightAt table.now (number_in table.now.class shelf side digit) (slice_index mates (digit + kind_less men.now.last.kind)) (slice_index zeroing (digit + kind_less men.now.last.kind)) }
+    ensures { result ≡ true → (digit : ℕ) → digit < kind_digits men.now.last.kind → score_at table.now Mate (code_of table.now.class (number_in table.now.class shelf side digit)) ≢ 0 →
+        IsRightAt table.now (code_of table.now.class (number_in table.now.class shelf side digit)) (slice_index mates (digit + kind_less men.now.last.kind)) (slice_index zeroing (digit + kind_less men.now.last.kind)) }
 {
     codes_tell_turned_men();
-    let own = row_of(table, Column::Mate, men, shelf, side);
-    let clock = row_of(table, Column::Zeroing, men, shelf, side);
+    let own = row_of(table, Column::Mate, men, shelf, side, passed);
+    let clock = row_of(table, Column::Zeroing, men, shelf, side, passed);
     let moving = lanes_of(mates);
     let within = kept(own, moving);
     if differ(own, due(mates), within) || differ(clock, due(zeroing), within) {

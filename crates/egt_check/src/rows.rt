@@ -1,19 +1,22 @@
 //! The scores that a table gives the codes which differ by the last man's square alone.
-ghost use Rattle.std.specs.Prelude.{◌≡◌, ◌↔◌, ℕ, ◌<◌, false, slice_index, IsTrue};
+ghost use Rattle.std.specs.Prelude.{◌≡◌, ◌↔◌, ℕ, ◌+◌, ◌*◌, ◌/◌, ◌<◌, ◌≤◌, false, true, slice_index, IsTrue};
 ghost use Rattle.egt_board.specs.Pawn.{MayStand};
 ghost use Rattle.egt_class.specs.Material.{material_of};
-ghost use Rattle.egt_index.specs.ShelfCodes.{IsShelfOf, IsWithin, stand_with};
-ghost use Rattle.egt_index.specs.Size.{has_target};
+ghost use Rattle.egt_index.specs.Numbers.{code_of, places};
+ghost use Rattle.egt_index.specs.ShelfCodes.{IsShelf, IsShelfOf, IsWithin, stand_with};
+ghost use Rattle.egt_index.specs.Size.{has_target, size_of};
 ghost use Rattle.egt_index.specs.StepCodes.{TellsMen};
 ghost use Rattle.egt_lanes.specs.Raised.{IsRaised};
+ghost use Rattle.egt_check.specs.ShelfRow.{IsShelfRow};
 ghost use Rattle.egt_check.specs.Worth.{score_at};
 
 use crate::own_men::is_pawn;
 use egt_board::{Kind, Man, Side, Square};
+use egt_class::Class;
 use egt_index::laws::codes_tell_turned_men;
-use egt_index::{ShelfMen, last_digits};
+use egt_index::{ShelfMen, code_of, has_target, last_digits, size};
 use egt_lanes::Row;
-use egt_lanes::load::{load, load_pawn};
+use egt_lanes::load::{load, load_pawn, load_target};
 use egt_lanes::score::scores;
 use egt_table::{Column, Table};
 
@@ -24,15 +27,14 @@ pub(crate) fn may_stand(man: Man, square: Square) -> bool
     man.kind != Kind::P || (0 < square.rank() && square.rank() < 7)
 }
 
-/// The scores of the codes that tell these men, who are those of the shelf, by the last man's square. The contract alone reads all of them.
+/// Of a class without targets: its codes are their numbers.
 #[inline(always)]
-pub(crate) fn row_of(table: &Table, column: Column, men: &ShelfMen, shelf: u32, side: Side) -> Row
-    requires shelf { IsShelfOf false table.now.class shelf men.now }
+fn plain_row(table: &Table, column: Column, men: &ShelfMen, shelf: u32, side: Side) -> Row
+    requires shelf { IsShelf table.now.class shelf men.now }
     requires within { IsWithin table.now.class shelf }
     requires targets { has_target (material_of table.now.class) ≡ false }
-    ensures { (s : ℕ) → s < 64 → IsRaised 0 (λ code. TellsMen false table.now.class code (stand_with men.now s) side) (score_at table.now column) (slice_index result s) }
+    ensures { IsShelfRow table.now column men.now shelf side result }
 {
-    codes_tell_turned_men();
     let len = 2 * last_digits(table.class()) as usize;
     let first = shelf as usize * len;
     let entries = &table.entries(column)[first..first + len];
@@ -42,4 +44,57 @@ pub(crate) fn row_of(table: &Table, column: Column, men: &ShelfMen, shelf: u32, 
         load(entries, side)
     };
     scores(loaded)
+}
+
+/// The first of the shelf's codes, without a target's digit. There are four codes for each square of the last man.
+fn first_of_targets(class: Class, shelf: u32) -> u32
+    requires within { IsWithin class shelf }
+    requires targets { has_target (material_of class) ≡ true }
+    ensures first { result ≡ code_of class (shelf * (2 * places class)) / 2 * 2 }
+    ensures within { result + 192 ≤ size_of class }
+{
+    let _size = size(class);
+    code_of(class, shelf * (2 * last_digits(class))) / 2 * 2
+}
+
+/// Of the class with targets: beside each code of the shelf lies the one with the other digit of a target. The contract alone reads the men.
+#[inline(always)]
+fn target_row(
+    table: &Table,
+    column: Column,
+    men: &ShelfMen,
+    shelf: u32,
+    side: Side,
+    passed: bool,
+) -> Row
+    requires shelf { IsShelfOf passed table.now.class shelf men.now }
+    requires within { IsWithin table.now.class shelf }
+    requires targets { has_target (material_of table.now.class) ≡ true }
+    ensures { IsShelfRow table.now column men.now shelf side result }
+{
+    let first = first_of_targets(table.class(), shelf) as usize;
+    let entries = &table.entries(column)[first..first + 192];
+    scores(load_target(entries, side, passed))
+}
+
+/// The scores of the codes that tell these men, who are those of the shelf, by the last man's square, and a target where one was passed.
+#[inline(always)]
+pub(crate) fn row_of(
+    table: &Table,
+    column: Column,
+    men: &ShelfMen,
+    shelf: u32,
+    side: Side,
+    passed: bool,
+) -> Row
+    requires shelf { IsShelfOf passed table.now.class shelf men.now }
+    requires within { IsWithin table.now.class shelf }
+    ensures { (s : ℕ) → s < 64 → IsRaised 0 (λ code. TellsMen passed table.now.class code (stand_with men.now s) side) (score_at table.now column) (slice_index result s) }
+{
+    codes_tell_turned_men();
+    if has_target(table.class()) {
+        target_row(table, column, men, shelf, side, passed)
+    } else {
+        plain_row(table, column, men, shelf, side)
+    }
 }

@@ -21,10 +21,11 @@ ghost use Rattle.egt_check.specs.PawnScores.{AreNamed, ArePromotionsOf, HasPromo
 ghost use Rattle.egt_check.specs.Rules.{IsJudged, KeepsBelow};
 ghost use Rattle.egt_check.specs.Taken.{men_swapped};
 ghost use Rattle.egt_check.specs.Tables.{Tables, beside, table_at};
+ghost use Rattle.egt_check.specs.Truth.{IsTrueTable};
 ghost use Rattle.egt_check.specs.Worth.{HasBytes};
 
 use crate::block_judging::block_is_right;
-use crate::bytes::tells_bytes;
+use crate::bytes::{tells_bytes, true_table_tells_bytes};
 use crate::digits::digits_of;
 use crate::library::Library;
 use crate::move_scores::{FourMen, men_swapped};
@@ -34,7 +35,7 @@ use crate::taken_blocks::turned_man;
 use egt_board::{Kind, Man, Side, Square};
 use egt_class::Class;
 use egt_class::membership::of_men;
-use egt_index::{ShelfMen, last_digits, lone_man, shelf_men, size};
+use egt_index::{ShelfMen, has_target, last_digits, lone_man, shelf_men, size};
 use egt_table::Table;
 
 /// The men with the kings on these squares.
@@ -101,6 +102,7 @@ fn pairs_are_right(four: &FourMen, men: &ShelfMen) -> bool
 /// Whether this is the table of the class in which the man is left alone beside the kings, in colours exchanged where
 /// `flips`, and its bytes tell its entries.
 fn is_left(class: Class, child: &Table, flips: bool, man: Man) -> bool
+    requires { IsTrueTable child.now }
     ensures apart { result ≡ true → child.now.class ≢ class }
     ensures lone { result ≡ true → IsLoneMan child.now.class (turned_man flips man) }
     ensures bytes { result ≡ true → HasBytes child.now }
@@ -109,7 +111,7 @@ fn is_left(class: Class, child: &Table, flips: bool, man: Man) -> bool
         Some(lone) => {
             lone == turned_man(man, flips)
                 && child.class().number() != class.number()
-                && tells_bytes(child)
+                && true_table_tells_bytes(child)
         }
         None => false,
     }
@@ -154,7 +156,10 @@ fn promotion<'t>(
         turned_man(men.one, both_flips),
         turned_man(officer, both_flips),
     )?;
-    if both_class.number() == class.number() || !tells_bytes(both) {
+    if has_target(both_class)
+        || both_class.number() == class.number()
+        || !true_table_tells_bytes(both)
+    {
         return None;
     }
     let (alone_class, alone_flips) = of_men(Some(officer), None);
@@ -231,7 +236,7 @@ pub(crate) fn is_right_by_blocks(table: &Table, library: &Library) -> bool
     if !is_left(class, first, first_flips, men.one) || !is_left(class, last, last_flips, men.last) {
         return false;
     }
-    if !tells_bytes(table) {
+    if has_target(class) || !tells_bytes(table) {
         return false;
     }
     let four = FourMen {

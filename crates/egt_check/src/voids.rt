@@ -1,77 +1,87 @@
 //! Tables whose mate entries are 0 exactly at the codes that no position has.
-ghost use Rattle.std.specs.Prelude.{◌≡◌, ◌≢◌, ◌↔◌, ℕ, ◌+◌, ◌%◌, ◌<◌, ◌≤◌, true, false, IsTrue};
+ghost use Rattle.std.specs.Prelude.{◌≡◌, ℕ, ◌<◌, ◌==◌, if◌then◌else◌, true, IfSome};
 ghost use Rattle.std.specs.Int.{bit_at};
-ghost use Rattle.egt_class.specs.Material.{material_of};
-ghost use Rattle.egt_index.specs.Shelf.{shelf_len};
-ghost use Rattle.egt_index.specs.Size.{has_target, size_of};
-ghost use Rattle.egt_check.specs.Voids.{AreMarks, TellsVoid, TellsVoids};
+ghost use Rattle.egt_board.specs.declared.man.Side.{Side};
+ghost use Rattle.egt_index.specs.Numbers.{code_of};
+ghost use Rattle.egt_index.specs.Scales.{kind_digits};
+ghost use Rattle.egt_index.specs.ShelfCodes.{AreMenOf, IsShelfOf, IsWithin, number_in};
+ghost use Rattle.egt_table.specs.declared.column.Column.TheVariants.{Mate};
+ghost use Rattle.egt_check.specs.Voids.{AreAllAlike, TellsVoids, TellsVoidsIn};
+ghost use Rattle.egt_check.specs.Worth.{score_at};
 
-use egt_index::{Places, Rows, has_target, shelf_len, size};
+use crate::digits::first_square;
+use crate::rows::row_of;
+use egt_board::Side;
+use egt_class::Class;
+use egt_index::laws::{codes_tell_turned_men, numbers_stand_for_codes};
+use egt_index::{Rows, ShelfMen, last_digits, shelf_men, shelf_of, size};
+use egt_lanes::sets::lanes_of;
 use egt_table::{Column, Table};
 
-/// The bits, and bit `k` with them where the entry is not 0.
-#[inline(always)]
-fn marked(bits: u64, k: u32, entry: u16) -> u64
-    requires { k < 64 }
-    ensures bare { entry ≡ 0 → result ≡ bits }
-    ensures here { entry ≢ 0 → bit_at result k ≡ 1 }
-    ensures others { (t : ℕ) → t ≢ k → bit_at result t ≡ bit_at bits t }
+/// Whether the positions of the shelf, which has these men, have a target.
+fn is_passed(class: Class, men: &ShelfMen, shelf: u32) -> Option<bool>
+    requires { AreMenOf class men.now }
+    ensures { IfSome result (λ passed. IsShelfOf passed class shelf men.now) }
 {
-    if entry == 0 { bits } else { bits | 1 << k }
-}
-
-/// Which mate entries of the shelf that begins with `first` are not 0: bit `k` is of the code with the last man's digit `k`.
-fn marks_of(table: &Table, first: u32) -> Places
-    requires targets { has_target (material_of table.now.class) ≡ false }
-    requires within { first + shelf_len table.now.class ≤ size_of table.now.class }
-    ensures { AreMarks table.now first (first + shelf_len table.now.class) result }
-{
-    let class = table.class();
-    let _size = size(class);
-    let digits = shelf_len(class) / 2;
-    let mut marks = Places::default();
-    for k in 0..digits {
-        let code = first + 2 * k;
-        marks.white = marked(marks.white, k, table.entry(Column::Mate, code));
-        marks.black = marked(marks.black, k, table.entry(Column::Mate, code + 1));
+    match shelf_of(class, men, false) {
+        Some(number) if number == shelf => return Some(false),
+        _ => {}
     }
-    marks
+    match shelf_of(class, men, true) {
+        Some(number) if number == shelf => Some(true),
+        _ => None,
+    }
 }
 
-/// Whether the mate entries of the shelf that begins with `first` are 0 exactly where its codes are void.
-fn tells_shelf(table: &Table, rows: &mut Rows, first: u32) -> bool
+/// At which numbers of the shelf with that side to move the mate entry's score is not 0, by the last man's digits, as bits.
+fn marks_of(table: &Table, men: &ShelfMen, shelf: u32, side: Side, passed: bool) -> u64
+    requires shelf { IsShelfOf passed table.now.class shelf men.now }
+    requires within { IsWithin table.now.class shelf }
+    ensures { (k : ℕ) → k < kind_digits men.now.last.kind →
+        bit_at result k ≡ (if score_at table.now Mate (code_of table.now.class (number_in table.now.class shelf side k)) == 0 then 0 else 1) }
+{
+    codes_tell_turned_men();
+    let row = row_of(table, Column::Mate, men, shelf, side, passed);
+    lanes_of(row).bits >> first_square(men.last)
+}
+
+/// Whether the mate entries of the shelf are 0 exactly where its codes are void.
+fn tells_shelf(table: &Table, rows: &mut Rows, shelf: u32) -> bool
     requires rows { rows.old ≡ table.now.class }
-    requires targets { has_target (material_of table.now.class) ≡ false }
-    requires begins { first % shelf_len table.now.class ≡ 0 }
-    requires within { first + shelf_len table.now.class ≤ size_of table.now.class }
+    requires within { IsWithin table.now.class shelf }
+    requires alike { AreAllAlike table.now }
     ensures rows { rows.new ≡ table.now.class }
-    ensures exact { IsTrue result ↔ ((i : ℕ) → first ≤ i → i < first + shelf_len table.now.class → TellsVoid table.now i) }
+    ensures told { result ≡ true → TellsVoidsIn table.now shelf }
 {
-    let places = rows.places(first);
-    let marks = marks_of(table, first);
-    marks.white == places.white && marks.black == places.black
+    numbers_stand_for_codes();
+    let class = table.class();
+    let Some(men) = shelf_men(class, shelf) else {
+        return false;
+    };
+    let Some(passed) = is_passed(class, &men, shelf) else {
+        return false;
+    };
+    let indexes = rows.indexes(shelf);
+    let white = marks_of(table, &men, shelf, Side::White, passed);
+    let black = marks_of(table, &men, shelf, Side::Black, passed);
+    white == indexes.white && black == indexes.black
 }
 
-/// Whether the mate entries are 0 at the codes of no position and at no others, in a table of a class without targets. It is asked once
-/// of the whole table: then an entry tells whether its code is an index.
+/// Whether the mate entries are 0 at the codes of no position and at no others, in a class with two men beside the kings.
+/// It is asked once of the whole table: then an entry tells whether its code is an index.
 pub(crate) fn tells_voids(table: &Table) -> bool
-    ensures told { result ≡ true → TellsVoids table.now }
-    ensures targets { result ≡ true → has_target (material_of table.now.class) ≡ false }
-    ensures all { TellsVoids table.now → has_target (material_of table.now.class) ≡ false → result ≡ true }
+    requires { AreAllAlike table.now }
+    ensures { result ≡ true → TellsVoids table.now }
 {
+    numbers_stand_for_codes();
     let class = table.class();
-    if has_target(class) {
-        return false;
-    }
+    let _number = class.number();
     let mut rows = Rows::new(class);
-    let len = shelf_len(class);
-    let mut first = 0;
-    while first < size(class) {
-        let told = tells_shelf(table, &mut rows, first);
+    for shelf in 0..size(class) / (2 * last_digits(class)) {
+        let told = tells_shelf(table, &mut rows, shelf);
         if !told {
             return false;
         }
-        first += len;
     }
     true
 }

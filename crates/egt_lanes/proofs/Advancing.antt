@@ -1,16 +1,19 @@
 -- Rows raised by a pawn's advances.
-use Rattle.std.proofs.Common.{◌≡◌, ℕ, ◌<◌, ◌==◌, ◌⊎◌, if◌then◌else◌, Bool, true, false, eqb, cond, max, List, get_or, refl, sym, ap, ◌∙◌, subst, inl, inr, arith, eqb-true}
-use Rattle.std.proofs.lemmas.Bool.{eqb-false}
+use Rattle.std.proofs.Common.{◌≡◌, ℕ, ◌<◌, ◌≤◌, ◌==◌, ◌⊎◌, if◌then◌else◌, Bool, true, false, eqb, cond, max, List, get_or, refl, ap, ◌∙◌, subst, inl, inr, arith, eqb-true}
+use Rattle.std.proofs.lemmas.Bool.{cases_eq, eqb-false, false≢true}
 use Rattle.std.specs.Int.{bit_at}
 use Rattle.egt_board.specs.Gait.{Rides}
-use Rattle.egt_board.specs.Pawn.{Advances, farthest_advance, forward, home_rank}
+use Rattle.egt_board.specs.Pawn.{Advances, forward, home_rank}
 use Rattle.egt_board.specs.Square.{rank_of}
+use Rattle.egt_board.specs.Step.{Away}
 use Rattle.egt_board.specs.declared.man.Side.{Side}
+use Rattle.egt_board.specs.declared.man.Side.TheVariants.{White, Black}
 use Rattle.egt_board.specs.declared.step.Step.{Step}
+use Rattle.egt_lanes.specs.Advances.{AdvancesBy}
 use Rattle.egt_lanes.specs.Raised.{IsRaised}
-use Rattle.egt_lanes.proofs.Raising.{raised_among, raised_as, raised_more}
-use Rattle.egt_lanes.proofs.Rays.{IsRidden, Rides-last, Rides-more}
-use Rattle.egt_lanes.proofs.Riding.{HasBit, IsShifted, more_ends, raised_over, ridden_first}
+use Rattle.egt_lanes.proofs.Raising.{raised_again, raised_among, raised_as, raised_by_none, raised_is}
+use Rattle.egt_lanes.proofs.Rays.{IsRidden}
+use Rattle.egt_lanes.proofs.Riding.{HasBit, IsShifted, more_ends, one_ride, raised_over, ride_one, ridden_first}
 
 -- a lane of a row kept to a set of squares
 pub kept_or_none : (bits t v w : ℕ) → w ≡ (if bit_at bits t == 1 then v else 0) → (HasBit bits t × (w ≡ v)) ⊎ (¬ HasBit bits t × (w ≡ 0))
@@ -20,11 +23,27 @@ kept_or_none bits t v w is = go (eqb (bit_at bits t) 1) refl
     go true e = inl (eqb-true _ _ e, is ∙ ap (λ b. cond b v 0) e)
     go false e = inr (eqb-false _ _ e, is ∙ ap (λ b. cond b v 0) e)
 
-module _ (bits homes : ℕ) (side : Side) (row arrived near stopped far : List ℕ)
-    (arrives : (s : ℕ) → s < 64 → get_or arrived s 0 ≡ (if bit_at bits s == 1 then get_or row s 0 else 0)) (first : IsShifted (forward side) arrived near)
-    (stops : (s : ℕ) → s < 64 → get_or stopped s 0 ≡ (if bit_at bits s == 1 then get_or near s 0 else 0)) (second : IsShifted (forward side) stopped far)
-    (are_homes : (s : ℕ) → s < 64 → bit_at homes s ≡ (if rank_of s == home_rank side then 1 else 0)) (s low high : ℕ) (s_in : s < 64)
-    (is : high ≡ max (max low (get_or near s 0)) (if bit_at homes s == 1 then get_or far s 0 else 0)) where
+-- so many squares are at most one or two
+one_goes : (home : Bool) (n : ℕ) → n ≤ 1 → n ≤ cond home 2 1
+one_goes true n few = omega (arith, few)
+one_goes false n few = few
+
+two_go : (home : Bool) → home ≡ true → 2 ≤ cond home 2 1
+two_go true is = omega arith
+two_go false is = absurd (false≢true is)
+
+same_count : (side : Side) (n m s t : ℕ) → Away (forward side) n s t → Away (forward side) m s t → n ≡ m
+same_count White n m s t a b = let one = a.along in let other = b.along in omega (arith, one, other)
+same_count Black n m s t a b = let one = a.along in let other = b.along in omega (arith, one, other)
+
+one_or_two : (n : ℕ) → 0 < n → n ≤ 2 → (n ≡ 1) ⊎ (n ≡ 2)
+one_or_two n some few = elim (cases_eq n 1) [
+  | inl one ↦ inl one
+  | inr more ↦ inr (omega (arith, some, few, more))
+]
+
+module _ (bits : ℕ) (side : Side) (row arrived near : List ℕ) (arrives : (s : ℕ) → s < 64 → get_or arrived s 0 ≡ (if bit_at bits s == 1 then get_or row s 0 else 0)) (first : IsShifted (forward side) arrived near)
+    (s : ℕ) (s_in : s < 64) where
   abbrev d : Step
   d = forward side
 
@@ -34,33 +53,69 @@ module _ (bits homes : ℕ) (side : Side) (row arrived near stopped far : List �
   abbrev f : ℕ → ℕ
   f t = get_or arrived t 0
 
-  near_raised : IsRaised 0 (λ t. Rides F 1 s t d) f (get_or near s 0)
-  near_raised = (ridden_first bits d arrived near first).all s s_in
+  abbrev g : ℕ → ℕ
+  g t = get_or row t 0
 
-  far_raised : IsRaised 0 (λ t. IsRidden F 2 s t d) f (get_or far s 0)
-  far_raised = more_ends bits d arrived near stopped far 1 (omega arith) (ridden_first bits d arrived near first).ends stops second s s_in
+  abbrev home : Bool
+  home = eqb (rank_of s) (home_rank side)
 
-  both_raised : IsRaised 0 (λ t. Rides F 2 s t d) f (max (get_or near s 0) (get_or far s 0))
-  both_raised =
-      raised_as 0 (max (get_or near s 0) (get_or far s 0)) (λ t. IsRidden F 2 s t d ⊎ Rides F 1 s t d) (λ t. Rides F 2 s t d) f (λ t r. Rides-more F 1 s t d r) (λ t r. Rides-last F 1 s t d r)
-      (raised_more 0 (get_or near s 0) (get_or far s 0) (max (get_or near s 0) (get_or far s 0)) (λ t. Rides F 1 s t d) (λ t. IsRidden F 2 s t d) f near_raised far_raised refl)
+  pub by_one : (low high : ℕ) → high ≡ max low (get_or near s 0) → IsRaised low (λ t. AdvancesBy 1 (HasBit bits) side s t) (λ t. get_or row t 0) high
+  by_one low high is =
+      raised_over low (get_or near s 0) high (λ t. AdvancesBy 1 F side s t) g
+      (raised_as 0 (get_or near s 0) (λ t. Rides F 1 s t d × F t) (λ t. AdvancesBy 1 F side s t) g
+      (λ t r. record {
+        advances = record { rides = record { count = r.0.count; moves = r.0.moves; within = one_goes home r.0.count r.0.within; away = r.0.away; clear = r.0.clear }; free = r.1 };
+        away = ride_one F s t d r.0;
+      })
+      (λ t r. (one_ride F s t d r.away, r.advances.free))
+      (raised_among 0 (get_or near s 0) (λ t. Rides F 1 s t d) F g f (λ t r. kept_or_none bits t (g t) (f t) (arrives t r.away.on_board)) ((ridden_first bits d arrived near first).all s s_in)))
+      is
 
-  -- so far at most, and to a free square
-  by_most : (most v : ℕ) → farthest_advance side s ≡ most → IsRaised 0 (λ t. Rides F most s t d) f v → high ≡ max low v → IsRaised low (λ t. Advances F side s t) (λ t. get_or row t 0) high
-  by_most most v far_is raised value =
-      let among = raised_among 0 v (λ t. Rides F most s t d) F (λ t. get_or row t 0) f (λ t r. kept_or_none bits t (get_or row t 0) (f t) (arrives t r.away.on_board)) raised in
-      raised_over low v high (λ t. Advances F side s t) (λ t. get_or row t 0)
-      (raised_as 0 v (λ t. Rides F most s t d × F t) (λ t. Advances F side s t) (λ t. get_or row t 0)
-      (λ t r. record { rides = subst (λ n. Rides F n s t d) (sym far_is) r.0; free = r.1 })
-      (λ t r. (subst (λ n. Rides F n s t d) far_is r.rides, r.free)) among)
-      value
+  module _ (homes : ℕ) (stopped far : List ℕ) (stops : (s : ℕ) → s < 64 → get_or stopped s 0 ≡ (if bit_at bits s == 1 then get_or near s 0 else 0)) (second : IsShifted (forward side) stopped far)
+      (are_homes : (s : ℕ) → s < 64 → bit_at homes s ≡ (if rank_of s == home_rank side then 1 else 0)) where
+    far_raised : IsRaised 0 (λ t. IsRidden F 2 s t d) f (get_or far s 0)
+    far_raised = more_ends bits d arrived near stopped far 1 (omega arith) (ridden_first bits d arrived near first).ends stops second s s_in
 
-  pub advance_raised : IsRaised low (λ t. Advances (HasBit bits) side s t) (λ t. get_or row t 0) high
-  advance_raised = go (eqb (rank_of s) (home_rank side)) refl
-    where
-      value : (b : Bool) → eqb (rank_of s) (home_rank side) ≡ b → high ≡ max (max low (get_or near s 0)) (cond (eqb (cond b 1 0) 1) (get_or far s 0) 0)
-      value b e = is ∙ ap (λ x. max (max low (get_or near s 0)) (cond (eqb x 1) (get_or far s 0) 0)) (are_homes s s_in ∙ ap (λ b. cond b 1 0) e)
+    -- by two squares, and no fewer
+    two_squares : (t : ℕ) → AdvancesBy 2 F side s t → (2 ≤ cond home 2 1) × IsRidden F 2 s t d
+    two_squares t r =
+        let count = same_count side r.advances.rides.count 2 s t r.advances.rides.away r.away in (
+          subst (λ n. n ≤ cond home 2 1) count r.advances.rides.within,
+          record { away = r.away; clear = λ k u some less a. r.advances.rides.clear k u some (omega (arith, count, less)) a },
+        )
 
-      go : (b : Bool) → eqb (rank_of s) (home_rank side) ≡ b → IsRaised low (λ t. Advances (HasBit bits) side s t) (λ t. get_or row t 0) high
-      go true e = by_most 2 (max (get_or near s 0) (get_or far s 0)) (ap (λ b. cond b 2 1) e) both_raised (let v = value true e in omega (arith, v))
-      go false e = by_most 1 (get_or near s 0) (ap (λ b. cond b 2 1) e) near_raised (let v = value false e in omega (arith, v))
+    pub by_two : (low high : ℕ) → high ≡ max low (if bit_at homes s == 1 then get_or far s 0 else 0) → IsRaised low (λ t. AdvancesBy 2 (HasBit bits) side s t) (λ t. get_or row t 0) high
+    by_two low high is = go home refl
+      where
+        value : (b : Bool) → home ≡ b → high ≡ max low (cond (eqb (cond b 1 0) 1) (get_or far s 0) 0)
+        value b e = is ∙ ap (λ x. max low (cond (eqb x 1) (get_or far s 0) 0)) (are_homes s s_in ∙ ap (λ b. cond b 1 0) e)
+
+        go : (b : Bool) → home ≡ b → IsRaised low (λ t. AdvancesBy 2 (HasBit bits) side s t) (λ t. get_or row t 0) high
+        go true e =
+            raised_over low (get_or far s 0) high (λ t. AdvancesBy 2 F side s t) g
+            (raised_as 0 (get_or far s 0) (λ t. IsRidden F 2 s t d × F t) (λ t. AdvancesBy 2 F side s t) g
+            (λ t r. record {
+              advances = record { rides = record { count = 2; moves = omega arith; within = two_go home e; away = r.0.away; clear = r.0.clear }; free = r.1 };
+              away = r.0.away;
+            })
+            (λ t r. ((two_squares t r).1, r.advances.free))
+            (raised_among 0 (get_or far s 0) (λ t. IsRidden F 2 s t d) F g f (λ t r. kept_or_none bits t (g t) (f t) (arrives t r.away.on_board)) far_raised))
+            (value true e)
+        go false e =
+            raised_is low low high (λ t. AdvancesBy 2 F side s t) g (let v = value false e in omega (arith, v))
+            (raised_by_none low (λ t. AdvancesBy 2 F side s t) g (λ t r. let few = subst (λ b. 2 ≤ cond b 2 1) e (two_squares t r).0 in omega (arith, few)))
+
+-- an advance is by one square or by two
+pub by_either : (F : ℕ → Type 0) (side : Side) (s low mid high : ℕ) (g : ℕ → ℕ) → IsRaised low (λ t. AdvancesBy 1 F side s t) g mid → IsRaised mid (λ t. AdvancesBy 2 F side s t) g high → IsRaised low (λ t. Advances F side s t) g high
+by_either F side s low mid high g one two =
+    raised_as low high (λ t. AdvancesBy 2 F side s t ⊎ AdvancesBy 1 F side s t) (λ t. Advances F side s t) g
+    (λ t either. elim either [ inl r ↦ r.advances | inr r ↦ r.advances ])
+    (λ t r. elim (one_or_two r.rides.count r.rides.moves (few (eqb (rank_of s) (home_rank side)) r.rides.count r.rides.within)) [
+      | inl is ↦ inr (record { advances = r; away = subst (λ n. Away (forward side) n s t) is r.rides.away })
+      | inr is ↦ inl (record { advances = r; away = subst (λ n. Away (forward side) n s t) is r.rides.away })
+    ])
+    (raised_again low mid high (λ t. AdvancesBy 1 F side s t) (λ t. AdvancesBy 2 F side s t) g one two)
+  where
+    few : (home : Bool) (n : ℕ) → n ≤ cond home 2 1 → n ≤ 2
+    few true n within = within
+    few false n within = omega (arith, within)

@@ -11,3 +11,4 @@ pub mod Riding
 pub mod Entries
 pub mod Walking
 pub mod Advancing
+pub mod Likeness

@@ -3,3 +3,5 @@ pub mod Moved
 pub mod Raised
 pub mod Blocks
 pub mod Pieces
+pub mod Alike
+pub mod Advances

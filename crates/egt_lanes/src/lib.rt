@@ -1,6 +1,7 @@
 //! A number for each square of the board, worked on all at once: what the checker of tables does to every entry.
 #![tactic(auto)]
 
+pub mod alike;
 pub mod block;
 pub mod load;
 pub mod row;

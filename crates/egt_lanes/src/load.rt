@@ -8,7 +8,7 @@ use std::simd::prelude::*;
 
 /// 64 entries from that place on.
 #[inline(always)]
-fn loaded(entries: &[u16], from: usize) -> Entries
+pub(crate) fn loaded(entries: &[u16], from: usize) -> Entries
     requires { from + 64 ≤ length entries.now }
     ensures { (i : ℕ) → i < 64 → slice_index result i ≡ slice_index entries.now (from + i) }
 {

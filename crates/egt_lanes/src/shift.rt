@@ -6,6 +6,7 @@ ghost use Rattle.egt_board.specs.Gait.{step as the_step};
 ghost use Rattle.egt_board.specs.Pawn.{Advances, forward, home_rank};
 ghost use Rattle.egt_board.specs.Square.{rank_of};
 ghost use Rattle.egt_board.specs.Step.{Away};
+ghost use Rattle.egt_lanes.specs.Advances.{AdvancesBy};
 ghost use Rattle.egt_lanes.specs.Moved.{beside, beyond};
 ghost use Rattle.egt_lanes.specs.Pieces.{IsPiece};
 ghost use Rattle.egt_lanes.specs.Raised.{IsRaised};
@@ -240,14 +241,31 @@ fn pawn_homes(side: Side) -> SquareSet
     }
 }
 
+/// `low` raised at each square by what stands where a pawn of that side advances by one square.
+#[inline(always)]
+pub fn advanced_by_one(low: Row, row: Row, free: SquareSet, side: Side) -> Row
+    ensures { (s : ℕ) → s < 64 → IsRaised (slice_index low s) (λ t. AdvancesBy 1 (λ u. bit_at free.bits u ≡ 1) side s t) (λ t. slice_index row t) (slice_index result s) }
+{
+    greater(low, shifted(kept(row, free), one_ahead(side)))
+}
+
+/// `low` raised at each square by what stands where a pawn of that side advances by two squares.
+#[inline(always)]
+pub fn advanced_by_two(low: Row, row: Row, free: SquareSet, side: Side) -> Row
+    ensures { (s : ℕ) → s < 64 → IsRaised (slice_index low s) (λ t. AdvancesBy 2 (λ u. bit_at free.bits u ≡ 1) side s t) (λ t. slice_index row t) (slice_index result s) }
+{
+    let ahead = one_ahead(side);
+    let near = shifted(kept(row, free), ahead);
+    let far = shifted(kept(near, free), ahead);
+    greater(low, kept(far, pawn_homes(side)))
+}
+
 /// `low` raised at each square by what stands where a pawn of that side advances from there: one square forward, or two
 /// from its original rank, all of them free.
 #[inline(always)]
 pub fn advanced(low: Row, row: Row, free: SquareSet, side: Side) -> Row
     ensures { (s : ℕ) → s < 64 → IsRaised (slice_index low s) (λ t. Advances (λ u. bit_at free.bits u ≡ 1) side s t) (λ t. slice_index row t) (slice_index result s) }
 {
-    let ahead = one_ahead(side);
-    let near = shifted(kept(row, free), ahead);
-    let far = shifted(kept(near, free), ahead);
-    greater(greater(low, near), kept(far, pawn_homes(side)))
+    let near = advanced_by_one(low, row, free, side);
+    advanced_by_two(near, row, free, side)
 }

@@ -1,6 +1,7 @@
 use Rattle.std.proofs.Common.{◌≢◌, ◌+◌, ◌<◌, ℕ, false, ap, subst}
 use Rattle.egt_board.specs.declared.man.Man.{Man}
 use Rattle.std.specs.Prelude.{slice_index}
+use Rattle.egt_index.specs.Numbers.{code_of}
 use Rattle.egt_index.specs.Scales.{kind_digits, kind_less}
 use Rattle.egt_index.specs.ShelfCodes.{IsShelfOf, IsWithin, number_in}
 use Rattle.egt_index.specs.declared.shelf_codes.ShelfMen.{ShelfMen}
@@ -27,5 +28,5 @@ returns-in-Some c = λ told y y_in.
     let last = ap (λ (m : ShelfMen). m.last) c.men_on-there.ensures in
     subst (λ k. IsRightLane t men c.args.side c.args.on b (number_in t.class k c.args.side y) mate zeroing) c.if-number-shelf.true
     (right_lane t men c.args.on n c.args.side is within c.requires.targets y y_in mate zeroing
-    (subst (λ (m : Man). (k : ℕ) → k < kind_digits m.kind → score_at t Mate (number_in t.class n c.args.side k) ≢ 0
-    → IsRightAt t (number_in t.class n c.args.side k) (slice_index c.args.mates (k + kind_less m.kind)) (slice_index c.args.zeroing (k + kind_less m.kind))) last (c.row_is_right.ensures told) y y_in))
+    (subst (λ (m : Man). (k : ℕ) → k < kind_digits m.kind → score_at t Mate (code_of t.class (number_in t.class n c.args.side k)) ≢ 0
+    → IsRightAt t (code_of t.class (number_in t.class n c.args.side k)) (slice_index c.args.mates (k + kind_less m.kind)) (slice_index c.args.zeroing (k + kind_less m.kind))) last (c.row_is_right.ensures told) y y_in))

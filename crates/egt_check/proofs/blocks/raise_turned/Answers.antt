@@ -15,11 +15,11 @@ loop-a-preserved c =
       done = λ a b a_in b_in. elim (cases_lt a n) [
         | inl less ↦
             let other : a ≢ c.at.result = λ e. let same = e ∙ here in omega (arith, same, less) in
-            subst (IsRaisedAfter t c.args.column c.args.turn (stand_on c.args.men.now a b) c.args.side (at c.args.out.now a b)) (sym (c.raise_row.ensures.others a b other)) (before.done a b less b_in)
+            subst (IsRaisedAfter c.args.passed t c.args.column c.args.turn (stand_on c.args.men.now a b) c.args.side (at c.args.out.now a b)) (sym (c.raise_row.ensures.others a b other)) (before.done a b less b_in)
         | inr ge ↦
             let same : c.at.result ≡ a = here ∙ (omega arith) in
-            subst (λ k. IsRaisedAfter t c.args.column c.args.turn (stand_on c.args.men.now k b) c.args.side (at c.args.out.now k b) (at new k b)) same
-            (subst (λ low. IsRaisedAfter t c.args.column c.args.turn (stand_on c.args.men.now c.at.result b) c.args.side low (at new c.at.result b)) (before.left c.at.result b (omega (arith, here))) (raised refl b b_in))
+            subst (λ k. IsRaisedAfter c.args.passed t c.args.column c.args.turn (stand_on c.args.men.now k b) c.args.side (at c.args.out.now k b) (at new k b)) same
+            (subst (λ low. IsRaisedAfter c.args.passed t c.args.column c.args.turn (stand_on c.args.men.now c.at.result b) c.args.side low (at new c.at.result b)) (before.left c.at.result b (omega (arith, here))) (raised refl b b_in))
       ];
       left = λ a b a_in.
           let other : a ≢ c.at.result = λ e. let same = e ∙ here in omega (arith, same, a_in) in

@@ -8,7 +8,7 @@ use Rattle.egt_check.proofs.king_blocks.king_block.Given as goal
 -- both blocks are raised to the codes of the steps so far, and what is left is beside the king
 abbrev pub invariant-loop-to : goal.invariant-loop-to
 invariant-loop-to l =
-    AreGathered l.table l.column (GoneKing l.men l.side l.rest) (with_king l.men l.side) false (other_side l.side) l.out l.across
+    AreGathered false l.table l.column (GoneKing l.men l.side l.rest) (with_king l.men l.side) false (other_side l.side) l.out l.across
     × ((k : ℕ) → k < 64 → Has l.rest k → IsBesideKing l.men l.side k)
 
 abbrev pub decreases-loop-to : goal.decreases-loop-to

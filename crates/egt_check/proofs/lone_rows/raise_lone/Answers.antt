@@ -23,5 +23,5 @@ returns c = λ told s s_in.
     subst (λ w. IsRaised 0 (λ code. TellsMen false t.class code (lone_stand w (turned_square n flips c.args.black) man at) (turned_side flips c.args.side)) (score_at t c.args.column) row) c.turned_square.ensures
     (subst (λ b. IsRaised 0 (λ code. TellsMen false t.class code (lone_stand c.turned_square.result b man at) (turned_side flips c.args.side)) (score_at t c.args.column) row) c.turned_square-2.ensures
     (subst (λ (side : Side). IsRaised 0 (λ code. TellsMen false t.class code (lone_stand c.turned_square.result c.turned_square-2.result man at) side) (score_at t c.args.column) row) c.side_after.ensures told_at)) in
-    raised_max (slice_index c.args.out.now s) (λ code. IsCodeAfter t.class c.args.turn code (lone_stand c.args.white c.args.black man s) c.args.side) (score_at t c.args.column) row (slice_index c.greater.result s) codes
+    raised_max (slice_index c.args.out.now s) (λ code. IsCodeAfter false t.class c.args.turn code (lone_stand c.args.white c.args.black man s) c.args.side) (score_at t c.args.column) row (slice_index c.greater.result s) codes
     (c.greater.ensures s s_in ∙ ap (λ v. max (slice_index c.args.out.now s) v) (c.turned.ensures s s_in))

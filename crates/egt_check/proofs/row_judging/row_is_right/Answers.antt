@@ -1,6 +1,7 @@
 use Rattle.std.proofs.Common.{◌≡◌, ◌≢◌, ◌∙◌, ℕ, ◌+◌, ◌*◌, arith, sym, subst}
 use Rattle.std.specs.Prelude.{slice_index}
 use Rattle.std.specs.Int.{bit_at}
+use Rattle.egt_index.specs.Numbers.{code_of}
 use Rattle.egt_index.specs.Scales.{kind_less}
 use Rattle.egt_index.specs.ShelfCodes.{number_in}
 use Rattle.egt_table.specs.declared.column.Column.TheVariants.{Mate, Zeroing}
@@ -24,9 +25,9 @@ returns c = λ right digit below some.
     let clock = slice_index c.row_of-clock.result b in
     let moves = slice_index c.args.mates b in
     let moving = c.lanes_of-moving.result in
-    let code = number_in t.class shelf side digit in
-    let own_is : own ≡ score_at t Mate code = lane_is t Mate men shelf side c.requires.shelf c.requires.targets laws.one laws.pawns digit own below (c.row_of-own.ensures b b_in) in
-    let clock_is : clock ≡ score_at t Zeroing code = lane_is t Zeroing men shelf side c.requires.shelf c.requires.targets laws.one laws.pawns digit clock below (c.row_of-clock.ensures b b_in) in
+    let code = code_of t.class (number_in t.class shelf side digit) in
+    let own_is : own ≡ score_at t Mate code = lane_is c.args.passed t Mate men shelf side c.requires.shelf laws.one digit own below (c.row_of-own.ensures b b_in) in
+    let clock_is : clock ≡ score_at t Zeroing code = lane_is c.args.passed t Zeroing men shelf side c.requires.shelf laws.one digit clock below (c.row_of-clock.ensures b b_in) in
     let there : own ≢ 0 = λ none. some (sym own_is ∙ none) in
     record {
       due = λ can.
@@ -41,6 +42,6 @@ returns c = λ right digit below some.
           let stands : bit_at c.lanes_of.result.bits b ≡ 1 = c.lanes_of.ensures b b_in ∙ if_not own 0 0 1 there in
           let left = left_at c.lanes_of.result.bits moving.bits c.without-ends.result.bits b (c.without-ends.ensures.squares b) stands stays in
           let first = c.first_of.ensures in
-          let at : c.first_of.result + 2 * digit ≡ code = omega (arith, first) in
-          subst (λ (k : ℕ). IsRightEnd t k) at (c.ends_are_right.ensures right digit below left);
+          let at : c.first_of.result + 2 * digit ≡ number_in t.class shelf side digit = omega (arith, first) in
+          subst (λ (k : ℕ). IsRightEnd t (code_of t.class k)) at (c.ends_are_right.ensures right digit below left);
     }

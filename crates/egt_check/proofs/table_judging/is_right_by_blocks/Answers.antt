@@ -28,7 +28,7 @@ returns c = λ right column.
     c.pairs_are_right.ensures right (beside tables t) (record {
       is_table = c.class-class.ensures.table;
       found = beside_own tables t t.class refl;
-      bytes = c.tells_bytes.ensures.bytes c.if-not-tells_bytes.false;
+      bytes = c.tells_bytes.ensures c.if-not-tells_bytes.false;
       first = table_left tables t first c.of_men-first_class.result.0 c.of_men-first_class.result.1 men.one c.in-Some-get.ensures.shelved (sym c.in-Some-get.ensures.is) first_apart
           (c.is_left.ensures.lone c.if-not-is_left.false) (c.is_left.ensures.bytes c.if-not-is_left.false) c.of_men-first_class.ensures.class;
       last = table_left tables t last c.of_men-last_class.result.0 c.of_men-last_class.result.1 men.last c.in-Some-get-2.ensures.shelved (sym c.in-Some-get-2.ensures.is) last_apart

@@ -1,30 +1,23 @@
-use Rattle.std.proofs.Common.{◌≡◌, ℕ, ◌+◌, ◌*◌, ◌/◌, ◌<◌, ◌≤◌, ap, arith, ◌∙◌}
-use Rattle.egt_index.specs.Shelf.{shelf_len}
+use Rattle.std.proofs.Common.{◌≡◌, ◌∙◌, ◌+◌, ap}
+use Rattle.std.specs.Prelude.{slice_index}
+use Rattle.std.specs.Int.{bit_at}
+use Rattle.egt_index.specs.Numbers.{code_of}
+use Rattle.egt_index.specs.Scales.{kind_less}
+use Rattle.egt_index.specs.ShelfCodes.{number_in}
 use Rattle.egt_table.specs.declared.column.Column.TheVariants.{Mate}
-use Rattle.egt_check.specs.Tables.{entry_at}
-use Rattle.egt_check.proofs.Marks.{marks_more, shelf_is_short}
+use Rattle.egt_check.specs.Worth.{score_at}
+use Rattle.egt_check.proofs.Marks.{bit_shifted, mark}
+use Rattle.egt_check.proofs.RowJudged.{lane_is}
+use Rattle.egt_check.proofs.RowRead.{square_in}
 use Rattle.egt_check.proofs.voids.marks_of.Goals as goal
 
-below : (k len shelf : ℕ) → k < len / 2 → len ≡ shelf → shelf ≤ 128 → k < 64
-below k len shelf lt is few = omega arith
-
-pub marked-requires : goal.marked-requires
-marked-requires c = below c.loop-k.k c.shelf_len-digits.result _ c.loop-k-test.true (c.shelf_len-digits.ensures.is ∙ ap shelf_len c.class-class.ensures.class) (shelf_is_short c.args.table.now.class c.requires.targets).few
-
-pub marked-requires-in-loop-k : goal.marked-requires-in-loop-k
-marked-requires-in-loop-k c = below c.loop-k.k c.shelf_len-digits.result _ c.loop-k-test.true (c.shelf_len-digits.ensures.is ∙ ap shelf_len c.class-class.ensures.class) (shelf_is_short c.args.table.now.class c.requires.targets).few
-
-pub loop-k-preserved : goal.loop-k-preserved
-loop-k-preserved c =
+pub returns : goal.returns
+returns c = λ k below.
     let t = c.args.table.now in
-    let first = c.args.first in
-    let k = c.loop-k.k in
-    let white = c.marked.ensures in
-    let black = c.marked-in-loop-k.ensures in
-    record {
-      white = marks_more t first first k c.loop-k.marks.white _ _ (omega arith) (omega arith) c.loop-k.invariant.white c.entry.ensures white.bare white.here white.others;
-      black = marks_more t first (first + 1) k c.loop-k.marks.black _ _ (omega arith) (omega arith) c.loop-k.invariant.black (c.entry-in-loop-k.ensures ∙ ap (entry_at t Mate) (along first k)) black.bare black.here black.others;
-    }
-  where
-    along : (a k : ℕ) → a + 2 * k + 1 ≡ a + 1 + 2 * k
-    along a k = omega arith
+    let men = c.args.men.now in
+    let b = k + kind_less men.last.kind in
+    let b_in = square_in men.last.kind k below in
+    let lane = slice_index c.row_of-row.result b in
+    let score : lane ≡ score_at t Mate (code_of t.class (number_in t.class c.args.shelf c.args.side k)) =
+    lane_is c.args.passed t Mate men c.args.shelf c.args.side c.requires.shelf c.codes_tell_turned_men.ensures.one k lane below (c.row_of-row.ensures b b_in) in
+    bit_shifted c.lanes_of.result.bits c.first_square.result k ∙ ap (λ less. bit_at c.lanes_of.result.bits (k + less)) c.first_square.ensures ∙ c.lanes_of.ensures b b_in ∙ ap mark score

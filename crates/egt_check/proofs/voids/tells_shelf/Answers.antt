@@ -1,34 +1,23 @@
-use Rattle.std.proofs.Common.{ℕ, ◌<◌, arith, sym, subst}
-use Rattle.std.proofs.lemmas.Bool.{eq-eqb, eqb-true}
-use Rattle.egt_index.specs.Places.{ArePlaces}
-use Rattle.egt_index.specs.Size.{size_of}
-use Rattle.egt_check.proofs.Marks.{are_the_places, shelf_is_short, told_by_places}
+use Rattle.std.proofs.Common.{◌≡◌, ◌<◌, ℕ, subst}
+use Rattle.std.proofs.lemmas.Bool.{eqb-true}
+use Rattle.egt_index.specs.Numbers.{places}
+use Rattle.egt_index.specs.Scales.{kind_digits}
+use Rattle.egt_index.specs.ShelfCodes.{AreIndexes, IsShelfOf}
+use Rattle.egt_check.proofs.Marks.{numbers_within, shelf_told}
 use Rattle.egt_check.proofs.voids.tells_shelf.Goals as goal
 
-pub places-places-requires-clause-within : goal.places-places-requires-clause-within
-places-places-requires-clause-within c =
-    let class = c.args.table.now.class in
-    let some = (shelf_is_short class c.requires.targets).some in
-    let within = c.requires.within in
-    let here : c.args.first < size_of class = omega (arith, some, within) in
-    subst (λ (k : ℕ). c.args.first < size_of k) (sym c.requires.rows) here
+pub marks_of-white-requires-clause-shelf : goal.marks_of-white-requires-clause-shelf
+marks_of-white-requires-clause-shelf c = subst (λ k. IsShelfOf c.in-Some-is_passed.passed k c.args.shelf c.in-Some.men) c.class-class.ensures.class c.in-Some-is_passed.ensures
 
-pub returns-then-marks-places-clause-exact : goal.returns-then-marks-places-clause-exact
-returns-then-marks-places-clause-exact c =
-    let t = c.args.table.now in
-    let marks = c.marks_of-marks.result in
-    let places = c.places-places.result in
-    let are = subst (λ (k : ℕ). ArePlaces k c.args.first places) c.requires.rows c.places-places.ensures.places in (
-      (λ black. told_by_places t c.args.first marks places c.marks_of-marks.ensures are c.if-marks-places.true (eqb-true marks.black places.black black)),
-      (λ tells. eq-eqb marks.black places.black (are_the_places t c.args.first marks places c.marks_of-marks.ensures are tells).1),
-    )
+pub marks_of-black-requires-clause-shelf : goal.marks_of-black-requires-clause-shelf
+marks_of-black-requires-clause-shelf c = subst (λ k. IsShelfOf c.in-Some-is_passed.passed k c.args.shelf c.in-Some.men) c.class-class.ensures.class c.in-Some-is_passed.ensures
 
-pub returns-else-marks-places-clause-exact : goal.returns-else-marks-places-clause-exact
-returns-else-marks-places-clause-exact c =
+pub returns-then-white-indexes-clause-told : goal.returns-then-white-indexes-clause-told
+returns-then-white-indexes-clause-told c = λ black.
     let t = c.args.table.now in
-    let marks = c.marks_of-marks.result in
-    let places = c.places-places.result in
-    let are = subst (λ (k : ℕ). ArePlaces k c.args.first places) c.requires.rows c.places-places.ensures.places in (
-      (λ white. absurd (c.if-marks-places.false (eqb-true marks.white places.white white))),
-      (λ tells. absurd (c.if-marks-places.false (are_the_places t c.args.first marks places c.marks_of-marks.ensures are tells).0)),
-    )
+    let indexes = c.indexes-indexes.result in
+    let are = subst (λ (k : ℕ). AreIndexes k c.args.shelf indexes) c.requires.rows c.indexes-indexes.ensures.indexes in
+    let len = subst (λ k. places k ≡ kind_digits c.in-Some.men.last.kind) c.class-class.ensures.class c.in-Some.ensures.len in
+    shelf_told t c.requires.alike (λ n below. c.numbers_stand_for_codes.ensures.coded t.class n c.class-class.ensures.table.class_in below) c.args.shelf c.marks_of-white.result c.marks_of-black.result indexes
+    (λ k below. c.marks_of-white.ensures k (subst (λ n. k < n) len below)) (λ k below. c.marks_of-black.ensures k (subst (λ n. k < n) len below)) are c.if-white-indexes.true
+    (eqb-true c.marks_of-black.result indexes.black black) (numbers_within t c.args.shelf c.requires.within)

@@ -1,17 +1,10 @@
-use Rattle.std.specs.Prelude.{◌≡◌, ℕ, ◌<◌, ◌≤◌, ◌%◌, ◌-◌}
-use Rattle.egt_index.specs.Shelf.{shelf_len}
-use Rattle.egt_index.specs.Size.{size_of}
-use Rattle.egt_check.specs.Voids.{TellsVoid}
+use Rattle.std.specs.Prelude.{◌≡◌, ℕ, ◌<◌}
+use Rattle.egt_check.specs.Voids.{TellsVoidsIn}
 use Rattle.egt_check.proofs.voids.tells_voids.Given as goal
 
 -- the shelves so far
-abbrev pub invariant-loop-first : goal.invariant-loop-first
-invariant-loop-first l = record {
-  begins : l.first % shelf_len l.table.class ≡ 0;
-  within : l.first ≤ size_of l.table.class;
-  told : (i : ℕ) → i < l.first → TellsVoid l.table i;
+abbrev pub invariant-loop-shelf : goal.invariant-loop-shelf
+invariant-loop-shelf l = record {
   rows : l.rows ≡ l.table.class;
+  told : (shelf : ℕ) → shelf < l.shelf → TellsVoidsIn l.table shelf;
 }
-
-abbrev pub decreases-loop-first : goal.decreases-loop-first
-decreases-loop-first l = size_of l.table.class - l.first
