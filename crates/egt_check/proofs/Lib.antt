@@ -45,3 +45,4 @@ pub mod TakenInPassing
 pub mod PartGiven
 pub mod PawnGiven
 pub mod AdvanceRaising
+pub mod LeapRaising

@@ -30,3 +30,4 @@ pub mod RightBlock
 pub mod PawnMoves
 pub mod InPassing
 pub mod ShelfRow
+pub mod Leaps
