@@ -1,5 +1,5 @@
 -- Blocks of scores after a pawn's advances, by whether they leave a target.
-use Rattle.std.proofs.Common.{◌≡◌, ◌≢◌, ℕ, ◌+◌, ◌-◌, ◌*◌, ◌/◌, ◌<◌, ◌⊎◌, ◌↔◌, Bool, true, false, cond, eqb, min, List, None, arith, sym, ap, subst, inl, inr}
+use Rattle.std.proofs.Common.{◌≡◌, ◌≢◌, ℕ, ◌+◌, ◌-◌, ◌*◌, ◌/◌, ◌<◌, ◌↔◌, Bool, true, false, cond, eqb, min, List, None, arith, sym, ap, subst, inl, inr}
 use Rattle.std.specs.Int.{bit_at}
 use Rattle.std.specs.Prelude.{slice_index}
 use Rattle.std.proofs.lemmas.Bool.{cases_eq, ne_eqb}
@@ -26,7 +26,7 @@ use Rattle.egt_check.specs.PawnMoves.{AreAdvancedCodes, IsAdvance, stand_after}
 use Rattle.egt_check.specs.QuietStands.{IsClear}
 use Rattle.egt_check.specs.Worth.{IsReadWith, score_at}
 use Rattle.egt_check.proofs.AdvanceRaising.{advances_free}
-use Rattle.egt_check.proofs.BlockRaising.{raised_alike, raised_both, raised_by_none}
+use Rattle.egt_check.proofs.BlockRaising.{raised_alike, raised_both}
 use Rattle.egt_check.proofs.LeftTargets.{unpromoted}
 use Rattle.egt_check.proofs.QuietRaising.{raised_through}
 
@@ -89,15 +89,6 @@ module _ (t : TableValue) (first : Bool) (men : ShelfMen) (side : Side) (a b : �
 
   pub steps_alone : men.one ≢ pawn_of (other_side side) → (v : ℕ) → IsRaised 0 (AreAdvancedCodes t.class first false men side None a b) (score_at t Mate) v → IsRaised 0 Steps (score_at t Mate) v
   steps_alone other v raised = raised_alike 0 v (AreAdvancedCodes t.class first false men side None a b) Steps (score_at t Mate) raised (λ code h. (h.0, h.1, h.3)) (λ code h. (h.0, h.1, no_target other h.0, h.2))
-
-  pub no_leaps : (v : ℕ) → v ≡ 0 → (men.last ≢ pawn_of side) ⊎ (men.one ≢ pawn_of (other_side side)) → IsRaised 0 Leaps (score_at t Mate) v
-  no_leaps v none other = subst (IsRaised 0 Leaps (score_at t Mate)) (sym none) (raised_by_none 0 Leaps (score_at t Mate) (λ code h. elim other [
-    | inl last ↦ last (λ i. record { side = h.1.mine i; kind = h.1.pawn i })
-    | inr one ↦ no_target one h.0 h.2
-  ]))
-
-  pub no_steps : (v : ℕ) → v ≡ 0 → men.last ≢ pawn_of side → IsRaised 0 Steps (score_at t Mate) v
-  no_steps v none other = subst (IsRaised 0 Steps (score_at t Mate)) (sym none) (raised_by_none 0 Steps (score_at t Mate) (λ code h. other (λ i. record { side = h.1.mine i; kind = h.1.pawn i })))
 
   module _ (mine : men.last ≡ pawn_of side) (theirs : men.one ≡ pawn_of (other_side side)) (scores : List (List ℕ)) (a_in : a < 64) where
     abbrev Goes : (n u : ℕ) → Type 0

@@ -46,3 +46,4 @@ pub mod PartGiven
 pub mod PawnGiven
 pub mod AdvanceRaising
 pub mod LeapRaising
+pub mod PassingRaising

@@ -31,3 +31,4 @@ pub mod PawnMoves
 pub mod InPassing
 pub mod ShelfRow
 pub mod Leaps
+pub mod PassedRows

@@ -34,7 +34,7 @@ use egt_table::{Column, Table};
 use std::simd::prelude::*;
 
 /// Whether the man is a pawn of that side.
-fn is_pawn_of(man: Man, side: Side) -> bool
+pub(crate) fn is_pawn_of(man: Man, side: Side) -> bool
     ensures { IsTrue result ↔ (man ≡ pawn_of side) }
 {
     man == side.pawn()
