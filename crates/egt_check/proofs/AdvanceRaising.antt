@@ -52,7 +52,7 @@ arrives_unpromoted true bit is = ((λ has. absurd (omega (arith, is, has))), (λ
 arrives_unpromoted false bit is = ((λ has. tt), (λ fits. omega (arith, is)))
 
 -- only which squares are free counts
-advances_free : (F G : ℕ → Type 0) (side : Side) (s t : ℕ) → ((u : ℕ) → u < 64 → F u → G u) → Advances F side s t → Advances G side s t
+pub advances_free : (F G : ℕ → Type 0) (side : Side) (s t : ℕ) → ((u : ℕ) → u < 64 → F u → G u) → Advances F side s t → Advances G side s t
 advances_free F G side s t free r = record { rides = Rides-free F G (farthest_advance side s) s t (forward side) free r.rides; free = free t r.rides.away.on_board r.free }
 
 -- ---- advances

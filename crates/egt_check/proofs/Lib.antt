@@ -47,3 +47,5 @@ pub mod PawnGiven
 pub mod AdvanceRaising
 pub mod PawnsGiven
 pub mod PromotionTables
+pub mod LeapRaising
+pub mod PassingRaising

@@ -114,7 +114,7 @@ not_equal_sides c man c_in is equal =
 
 module _ (t : TableValue) (column : Column) (man : Man) (white black : ℕ) (flips : Bool) (side : Side) (c_in : t.class < 36) (is : IsLoneMan t.class man) (s : ℕ) where
   -- only by turns that exchange colours so
-  some_home : (code : ℕ) → IsSomeTurnedCode t.class code flips (lone_stand white black man s) side → IsHomeCode false t.class code flips (lone_stand white black man s) side
+  pub some_home : (code : ℕ) → IsSomeTurnedCode t.class code flips (lone_stand white black man s) side → IsHomeCode false t.class code flips (lone_stand white black man s) side
   some_home code some = elim some.seen [
     | inl own ↦ elim own.1 [
       | inl same ↦ (some.turn, record { below = some.is.below; flips_is = own.0; keeps = some.is.keeps }, subst (λ (s : Stand). IsCodeAfter false t.class some.turn code s side) same some.is.tells)

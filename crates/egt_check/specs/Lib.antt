@@ -31,3 +31,5 @@ pub mod PawnMoves
 pub mod InPassing
 pub mod PawnScores
 pub mod ShelfRow
+pub mod Leaps
+pub mod PassedRows

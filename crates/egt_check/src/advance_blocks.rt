@@ -1,16 +1,19 @@
 //! The scores of the positions after the last man beside the kings, a pawn, advances or is promoted where he takes the first.
 ghost use Rattle.std.specs.Prelude.{◌≡◌, ◌↔◌, ◌<◌, ◌==◌, ℕ, true, false, IfSome, IsTrue, slice_index};
 ghost use Rattle.egt_board.specs.Man.{other_side};
-ghost use Rattle.egt_board.specs.Pawn.{Advances, last_rank, pawn_of};
+ghost use Rattle.egt_board.specs.Pawn.{Advances, IsBeside, last_rank, pawn_of};
 ghost use Rattle.egt_board.specs.Square.{rank_of};
 ghost use Rattle.egt_board.specs.SquareSet.{Has};
 ghost use Rattle.egt_board.specs.Turned.{turned_man};
 ghost use Rattle.egt_index.specs.LoneCodes.{IsLoneMan};
 ghost use Rattle.egt_index.specs.ShelfCodes.{AreMenOf};
+ghost use Rattle.egt_lanes.specs.Advances.{AdvancesBy};
 ghost use Rattle.egt_lanes.specs.Blocks.{at};
 ghost use Rattle.egt_lanes.specs.Raised.{IsRaised};
 ghost use Rattle.egt_moves.specs.Promotion.{FitsPromotion, IsOfficer, arriving};
 ghost use Rattle.egt_table.specs.declared.column.Column.TheVariants.{Mate};
+ghost use Rattle.egt_check.specs.InPassing.{AreLeapCodes, AreStepCodes};
+ghost use Rattle.egt_check.specs.Leaps.{IsBesideWhere};
 ghost use Rattle.egt_check.specs.PawnMoves.{AreAdvancedCodes, ArePromotedCodes, men_after, men_two, officer_of, stand_after};
 ghost use Rattle.egt_check.specs.QuietStands.{IsClear};
 ghost use Rattle.egt_check.specs.Takings.{IsPastKings, left_of, stand_left};
@@ -25,13 +28,13 @@ use egt_board::{Kind, Man, Side, Square, SquareSet};
 use egt_index::ShelfMen;
 use egt_lanes::block::raise_transposed;
 use egt_lanes::sets::{kept, rank_squares};
-use egt_lanes::shift::advanced;
+use egt_lanes::shift::{advanced, advanced_by_one, advanced_by_two};
 use egt_lanes::{Block, Row};
 use egt_table::{Column, Table};
 use std::simd::prelude::*;
 
 /// Whether the man is a pawn of that side.
-fn is_pawn_of(man: Man, side: Side) -> bool
+pub(crate) fn is_pawn_of(man: Man, side: Side) -> bool
     ensures { IsTrue result ↔ (man ≡ pawn_of side) }
 {
     man == side.pawn()
@@ -175,6 +178,122 @@ pub(crate) fn advance_block(
         return false;
     }
     raise_advances(men, arrivals(promo, side), side, &scores, out);
+    true
+}
+
+/// The squares beside this one.
+fn squares_beside(square: Square) -> SquareSet
+    ensures { (t : ℕ) → t < 64 → Has result t ↔ IsBeside square t }
+{
+    let number = square.number();
+    let mut beside = SquareSet::EMPTY;
+    if square.file() > 0 {
+        beside = beside.with(Square::at(number - 1));
+    }
+    if square.file() < 7 {
+        beside = beside.with(Square::at(number + 1));
+    }
+    beside
+}
+
+/// The squares beside this one, or the others.
+fn squares_where(beside: bool, square: Square) -> SquareSet
+    ensures { (t : ℕ) → t < 64 → Has result t ↔ IsBesideWhere beside square t }
+{
+    let here = squares_beside(square);
+    if beside {
+        here
+    } else {
+        SquareSet::ALL.without(here)
+    }
+}
+
+/// Raises each row to the scores where the last man, a pawn of that side, advances by one square to one of these.
+fn raise_steps(men: &ShelfMen, arrivals: SquareSet, side: Side, scores: &Block, out: &mut Block)
+    ensures { (a b : ℕ) → a < 64 → b < 64 →
+        IsRaised (at out.old a b) (λ t. AdvancesBy 1 (IsClear men.now a) side b t × Has arrivals t) (λ t. at scores.now a t) (at out.new a b) }
+{
+    let open = past_kings(men);
+    for a in 0..64u8 {
+        let row = a as usize;
+        let free = open.less(Square::at(a));
+        out[row] = advanced_by_one(out[row], kept(scores[row], arrivals), free, side);
+    }
+}
+
+/// Raises each row to the scores where the last man, a pawn of that side, advances by two squares to beside the first man, or to elsewhere.
+fn raise_leaps(men: &ShelfMen, beside: bool, side: Side, scores: &Block, out: &mut Block)
+    ensures { (a b : ℕ) → a < 64 → b < 64 →
+        IsRaised (at out.old a b) (λ t. AdvancesBy 2 (IsClear men.now a) side b t × IsBesideWhere beside a t) (λ t. at scores.now a t) (at out.new a b) }
+{
+    let open = past_kings(men);
+    for a in 0..64u8 {
+        let row = a as usize;
+        let square = Square::at(a);
+        let free = open.less(square);
+        let arrivals = squares_where(beside, square);
+        out[row] = advanced_by_two(out[row], kept(scores[row], arrivals), free, side);
+    }
+}
+
+/// The scores of the positions after the last man, a pawn of that side, advanced and left no target, where the first is a pawn of the other. False where
+/// the table does not tell.
+fn step_facing(own: &Table, first: bool, men: &ShelfMen, side: Side, out: &mut Block) -> bool
+    requires men { AreMenOf own.now.class (men_after first false men.now men.now.last) }
+    requires facing { men.now.one ≡ pawn_of (other_side side) }
+    ensures { result ≡ true → (a b : ℕ) → a < 64 → b < 64 → IsRaised 0 (AreStepCodes own.now.class first men.now side a b) (score_at own.now Mate) (at out.new a b) }
+{
+    *out = nothing();
+    if !is_pawn_of(men.last, side) {
+        return true;
+    }
+    let mut scores = nothing();
+    if !read_after(own, first, false, false, men, men.last, side, &mut scores) {
+        return false;
+    }
+    raise_steps(men, arrivals(None, side), side, &scores, out);
+    raise_leaps(men, false, side, &scores, out);
+    true
+}
+
+/// The scores of the positions after the last man, a pawn of that side, advanced and left no target. False where the table does not tell.
+pub(crate) fn step_block(
+    own: &Table,
+    first: bool,
+    men: &ShelfMen,
+    side: Side,
+    out: &mut Block,
+) -> bool
+    requires men { AreMenOf own.now.class (men_after first false men.now men.now.last) }
+    ensures { result ≡ true → (a b : ℕ) → a < 64 → b < 64 → IsRaised 0 (AreStepCodes own.now.class first men.now side a b) (score_at own.now Mate) (at out.new a b) }
+{
+    if is_pawn_of(men.one, side.other()) {
+        step_facing(own, first, men, side, out)
+    } else {
+        advance_block(own, first, false, men, None, side, out)
+    }
+}
+
+/// The scores of the positions after the last man, a pawn of that side, advanced and left a target. False where the table does not tell.
+pub(crate) fn leap_block(
+    own: &Table,
+    first: bool,
+    men: &ShelfMen,
+    side: Side,
+    out: &mut Block,
+) -> bool
+    requires men { AreMenOf own.now.class (men_after first false men.now men.now.last) }
+    ensures { result ≡ true → (a b : ℕ) → a < 64 → b < 64 → IsRaised 0 (AreLeapCodes own.now.class first men.now side a b) (score_at own.now Mate) (at out.new a b) }
+{
+    *out = nothing();
+    if !is_pawn_of(men.last, side) || !is_pawn_of(men.one, side.other()) {
+        return true;
+    }
+    let mut scores = nothing();
+    if !read_after(own, first, false, true, men, men.last, side, &mut scores) {
+        return false;
+    }
+    raise_leaps(men, true, side, &scores, out);
     true
 }
 

@@ -18,6 +18,7 @@ pub mod lone_rows;
 pub mod move_scores;
 pub mod outcome;
 pub mod own_men;
+pub mod passing_blocks;
 pub mod pawn_laws;
 pub mod pawn_scores;
 pub mod quiet_blocks;

@@ -27,7 +27,7 @@ pub(crate) fn may_stand(man: Man, square: Square) -> bool
     man.kind != Kind::P || (0 < square.rank() && square.rank() < 7)
 }
 
-/// Of a class without targets: its codes are their numbers.
+/// The scores of a shelf's codes in a class without targets, where the numbers are the codes.
 #[inline(always)]
 fn plain_row(table: &Table, column: Column, men: &ShelfMen, shelf: u32, side: Side) -> Row
     requires shelf { IsShelf table.now.class shelf men.now }
@@ -57,7 +57,7 @@ fn first_of_targets(class: Class, shelf: u32) -> u32
     code_of(class, shelf * (2 * last_digits(class))) / 2 * 2
 }
 
-/// Of the class with targets: beside each code of the shelf lies the one with the other digit of a target. The contract alone reads the men.
+/// The same in the class with targets, where beside each of them lies the code with the other digit of a target. The contract alone reads the men.
 #[inline(always)]
 fn target_row(
     table: &Table,

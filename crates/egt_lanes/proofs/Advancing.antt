@@ -106,16 +106,19 @@ module _ (bits : ℕ) (side : Side) (row arrived near : List ℕ) (arrives : (s 
             (raised_by_none low (λ t. AdvancesBy 2 F side s t) g (λ t r. let few = subst (λ b. 2 ≤ cond b 2 1) e (two_squares t r).0 in omega (arith, few)))
 
 -- an advance is by one square or by two
-pub by_either : (F : ℕ → Type 0) (side : Side) (s low mid high : ℕ) (g : ℕ → ℕ) → IsRaised low (λ t. AdvancesBy 1 F side s t) g mid → IsRaised mid (λ t. AdvancesBy 2 F side s t) g high → IsRaised low (λ t. Advances F side s t) g high
-by_either F side s low mid high g one two =
-    raised_as low high (λ t. AdvancesBy 2 F side s t ⊎ AdvancesBy 1 F side s t) (λ t. Advances F side s t) g
-    (λ t either. elim either [ inl r ↦ r.advances | inr r ↦ r.advances ])
-    (λ t r. elim (one_or_two r.rides.count r.rides.moves (few (eqb (rank_of s) (home_rank side)) r.rides.count r.rides.within)) [
-      | inl is ↦ inr (record { advances = r; away = subst (λ n. Away (forward side) n s t) is r.rides.away })
-      | inr is ↦ inl (record { advances = r; away = subst (λ n. Away (forward side) n s t) is r.rides.away })
-    ])
-    (raised_again low mid high (λ t. AdvancesBy 1 F side s t) (λ t. AdvancesBy 2 F side s t) g one two)
+pub one_or_two_squares : (F : ℕ → Type 0) (side : Side) (s t : ℕ) → Advances F side s t → AdvancesBy 1 F side s t ⊎ AdvancesBy 2 F side s t
+one_or_two_squares F side s t r = elim (one_or_two r.rides.count r.rides.moves (few (eqb (rank_of s) (home_rank side)) r.rides.count r.rides.within)) [
+  | inl is ↦ inl (record { advances = r; away = subst (λ n. Away (forward side) n s t) is r.rides.away })
+  | inr is ↦ inr (record { advances = r; away = subst (λ n. Away (forward side) n s t) is r.rides.away })
+]
   where
     few : (home : Bool) (n : ℕ) → n ≤ cond home 2 1 → n ≤ 2
     few true n within = within
     few false n within = omega (arith, within)
+
+pub by_either : (F : ℕ → Type 0) (side : Side) (s low mid high : ℕ) (g : ℕ → ℕ) → IsRaised low (λ t. AdvancesBy 1 F side s t) g mid → IsRaised mid (λ t. AdvancesBy 2 F side s t) g high → IsRaised low (λ t. Advances F side s t) g high
+by_either F side s low mid high g one two =
+    raised_as low high (λ t. AdvancesBy 2 F side s t ⊎ AdvancesBy 1 F side s t) (λ t. Advances F side s t) g
+    (λ t either. elim either [ inl r ↦ r.advances | inr r ↦ r.advances ])
+    (λ t r. elim (one_or_two_squares F side s t r) [ inl near ↦ inr near | inr far ↦ inl far ])
+    (raised_again low mid high (λ t. AdvancesBy 1 F side s t) (λ t. AdvancesBy 2 F side s t) g one two)
