@@ -6,8 +6,6 @@ use Rattle.std.specs.FinMap as placement
 use Rattle.std.proofs.lemmas.Bool.{cases_eq}
 use Rattle.std.proofs.lemmas.List.{map-append, take-map, get_or-take, get_or-map, take_more, length-take, length-map}
 use Rattle.egt_board.specs.declared.man.Man.{Man}
-use Rattle.egt_board.specs.declared.man.Kind.TheVariants.{P}
-use Rattle.egt_board.specs.Pawn.{HasNoPawn}
 use Rattle.egt_board.specs.Placement.{Placement}
 use Rattle.egt_board.specs.Listed.{entry_of, men_of, squares_of, FitsBoard}
 use Rattle.egt_board.proofs.Placed.{find-here, find-later}
@@ -118,43 +116,3 @@ Laid-room board men i i_in few laid =
     let le = len-men_of (take i men) in
     let n = length-take i men in
     subst (λ b. placement.len b < 4) (sym laid.shown) (omega arith)
-
--- no man of the list is a pawn
-abbrev pub NoPawnListed : List (Man × ℕ) → Type 0
-NoPawnListed [] = Unit {0}
-NoPawnListed (x ∷ xs) = (x.0.kind ≢ P) × NoPawnListed xs
-
--- then none stands on the board
-pub no_pawn_listed : (xs : List (Man × ℕ)) → NoPawnListed xs → HasNoPawn (men_of xs)
-no_pawn_listed xs none = λ s man stands. go xs none s man (sym (get-men_of xs s) ∙ stands)
-  where
-    go : (xs : List (Man × ℕ)) → NoPawnListed xs → (s : ℕ) (man : Man) → placement.find nat_cmp s (map entry_of xs) ≡ Some man → man.kind ≢ P
-    go [] none s man found = let bad : None ≡ Some man = found in absurd (cc)
-    go (x ∷ xs) none s man found = elim (cases_eq s x.1) [
-      | inl e ↦
-          let both : Some x.0 ≡ Some man = sym (find-here s x.1 x.0 (map entry_of xs) e) ∙ found in
-          let same : x.0 ≡ man = (cc) in
-          subst (λ (m : Man). m.kind ≢ P) same none.0
-      | inr other ↦ go xs none.1 s man (sym (find-later s x.1 x.0 (map entry_of xs) other) ∙ found)
-    ]
-
--- a man more on the board
-len-more : (board : Placement) (s : ℕ) (man : Man) → placement.len (placement.insert board s man) ≤ placement.len board + 1
-len-more board s man = more (placement.contains_key board s) _ _ (placement.len-insert nat_cmp_total board s man)
-  where
-    more : (b : Bool) (l n : ℕ) → l ≡ cond b n (n + 1) → l ≤ n + 1
-    more true l n e = omega arith
-    more false l n e = omega arith
-
-len-none : placement.len {K = ℕ} {X = Man} {R = nat_cmp} placement.empty ≡ 0
-len-none = placement.len-empty nat_cmp Man
-
--- boards of few men have room for another
-pub room_first : placement.len {K = ℕ} {X = Man} {R = nat_cmp} placement.empty < 4
-room_first = omega (arith, len-none)
-
-pub room_second : (s : ℕ) (man : Man) → placement.len (placement.insert {R = nat_cmp} placement.empty s man) < 4
-room_second s man = omega (arith, len-none, len-more placement.empty s man)
-
-pub room_third : (s t : ℕ) (man other : Man) → placement.len (placement.insert (placement.insert {R = nat_cmp} placement.empty s man) t other) < 4
-room_third s t man other = omega (arith, len-none, len-more placement.empty s man, len-more (placement.insert placement.empty s man) t other)

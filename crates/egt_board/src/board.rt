@@ -118,18 +118,6 @@ fn is_ahead(slot: &Slot, new: &Slot) -> bool
     place(slot) < place(new)
 }
 
-/// The number of the square of the slot's man, if it is this one on a square of the set, and else 64.
-fn place_of(slot: &Slot, man: Man, among: SquareSet) -> u8
-    ensures here { (s : ℕ) → slot.now ≡ Some (record { 0 = s; 1 = man }) → Has among s → result ≡ s }
-    ensures is { result < 64 → slot.now ≡ Some (record { 0 = result; 1 = man }) }
-    ensures had { result < 64 → Has among result }
-{
-    match slot {
-        Some(placed) if placed.1 == man && among.contains(placed.0) => placed.0.number(),
-        _ => 64,
-    }
-}
-
 /// What stands first of a new man and what is in a slot; on one square it is the new man.
 fn lesser(new: &Slot, slot: &Slot) -> Slot
     ensures { result ≡ lesser new.now slot.now }
@@ -196,17 +184,6 @@ impl Board {
         let front = either(by_first, &self.first, &self.second);
         let back = either(by_third, &self.third, &self.fourth);
         man_on(square, *either(by_first | by_second, front, back))
-    }
-
-    /// A square of the set on which the man stands.
-    pub fn find(&self, man: Man, among: SquareSet) -> Option<Square>
-        ensures stands { IfSome result (λ s. Stands self.now s man) }
-        ensures had { IfSome result (Has among) }
-        ensures none { IfNone result ((s : ℕ) → Has among s → ¬ Stands self.now s man) }
-    {
-        let front = place_of(&self.first, man, among).min(place_of(&self.second, man, among));
-        let back = place_of(&self.third, man, among).min(place_of(&self.fourth, man, among));
-        Square::new(front.min(back))
     }
 
     /// Puts a man on the square, in place of any that stands there, where there are fewer than four men.

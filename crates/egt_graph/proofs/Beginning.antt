@@ -27,9 +27,6 @@ add_up a b c x y z p q r = omega arith
 count_one : (p : Exit → Bool) (x : Exit) → count_by p (x ∷ []) ≡ cond (p x) 1 0
 count_one p x = let e = count_by-cons p x [] in omega arith
 
-pub Adds_none : (test : ℕ → Exit → Bool) (rounds : List (List ℕ)) (node : ℕ) (exits : List Exit) → Adds test rounds rounds node (take 0 exits)
-Adds_none test rounds node exits n i = elim (cases_Bool (eqb node i)) [ inl t ↦ rw t (omega arith) | inr f ↦ rw f (omega arith) ]
-
 pub Adds_more : (test : ℕ → Exit → Bool) (a b c : List (List ℕ)) (node : ℕ) (exits : List Exit) (k : ℕ) (x : Exit) → Adds test a b node (take k exits)
     → Adds test b c node (x ∷ []) → k < length exits → x ≡ get_or exits k x → Adds test a c node (take (k + 1) exits)
 Adds_more test a b c node exits k x p q lt is n i =
@@ -41,40 +38,6 @@ Adds_more test a b c node exits k x p q lt is n i =
 
     both : cond (eqb node i) (count_by (test n) (take (k + 1) exits)) 0 ≡ cond (eqb node i) (count_by (test n) (take k exits)) 0 + cond (eqb node i) (count_by (test n) (x ∷ [])) 0
     both = elim (cases_Bool (eqb node i)) [ inl t ↦ rw t more | inr f ↦ rw f refl ]
-
--- a node under one number
-pub Adds_one : (test : ℕ → Exit → Bool) (a b : List (List ℕ)) (node m : ℕ) (x : Exit) → ((n : ℕ) → test n x ≡ eqb m n)
-    → ((n : ℕ) → slice_index_or b n [] ≡ cond (eqb n m) (slice_index_or a n [] ++ node ∷ []) (slice_index_or a n []))
-    → Adds test a b node (x ∷ [])
-Adds_one test a b node m x tests adds n i = elim (cases_eq n m) [
-  | inl e ↦
-      let p = ap (count_of i) (adds n ∙ ap (λ t. cond t (slice_index_or a n [] ++ node ∷ []) (slice_index_or a n [])) (eq-eqb n m e)) ∙ sum_by_push (λ y. cond (eqb y i) 1 0) (slice_index_or a n []) node in
-      p ∙ ap (λ k. count_of i (slice_index_or a n []) + k) (one n (eq-eqb m n (sym e)))
-  | inr ne ↦
-      let p = ap (count_of i) (adds n ∙ ap (λ t. cond t (slice_index_or a n [] ++ node ∷ []) (slice_index_or a n [])) (ne_eqb n m ne)) in
-      plus_none _ _ _ p (none n (ne_eqb m n (λ e. ne (sym e))))
-]
-  where
-    one : (n : ℕ) → eqb m n ≡ true → cond (eqb node i) 1 0 ≡ cond (eqb node i) (count_by (test n) (x ∷ [])) 0
-    one n t = ap (λ k. cond (eqb node i) k 0) (sym (count_one (test n) x ∙ ap (λ (b : Bool). cond {A = ℕ} b 1 0) (tests n ∙ t)))
-
-    none : (n : ℕ) → eqb m n ≡ false → cond (eqb node i) (count_by (test n) (x ∷ [])) 0 ≡ 0
-    none n f = ap (λ k. cond (eqb node i) k 0) (count_one (test n) x ∙ ap (λ (b : Bool). cond {A = ℕ} b 1 0) (tests n ∙ f)) ∙ elim (cases_Bool (eqb node i)) [ inl t ↦ rw t refl | inr u ↦ rw u refl ]
-
-    plus_none : (a b c : ℕ) → a ≡ b → c ≡ 0 → a ≡ b + c
-    plus_none a b c p q = omega arith
-
--- a node without exits of the kind
-pub Adds_other : (test : ℕ → Exit → Bool) (a b : List (List ℕ)) (node : ℕ) (x : Exit) → ((n : ℕ) → test n x ≡ false) → b ≡ a → Adds test a b node (x ∷ [])
-Adds_other test a b node x tests e n i =
-    plus_none _ _ _ (ap (λ r. count_of i (slice_index_or r n [])) e)
-    (ap (λ k. cond (eqb node i) k 0) (count_one (test n) x ∙ ap (λ (b : Bool). cond {A = ℕ} b 1 0) (tests n)) ∙ elim (cases_Bool (eqb node i)) [ inl t ↦ rw t refl | inr u ↦ rw u refl ])
-  where
-    plus_none : (a b c : ℕ) → a ≡ b → c ≡ 0 → a ≡ b + c
-    plus_none a b c p q = omega arith
-
-pub Filled_none : (g : Graph) (test : ℕ → Exit → Bool) → IsFilled g test 0 []
-Filled_none g test = record { before = λ n i lt. absurd (omega arith); after = λ n i le. refl }
 
 pub Filled_more : (g : Graph) (test : ℕ → Exit → Bool) (m : ℕ) (a b : List (List ℕ)) → IsFilled g test m a → Adds test a b m (leaves g m) → IsFilled g test (m + 1) b
 Filled_more g test m a b h adds = record {

@@ -6,13 +6,6 @@ use Rattle.std.proofs.lemmas.List.{get_or_append_left, get_or_push, length-appen
 use Rattle.egt_graph.specs.Graph.{Graph}
 use Rattle.egt_graph.specs.Batch.{IsTargets}
 
--- an empty list more changes nothing that is read
-pub get_or_nil_push : (xs : List (List ℕ)) (r : ℕ) → get_or (xs ++ [] ∷ []) r [] ≡ get_or xs r []
-get_or_nil_push [] zero = refl
-get_or_nil_push [] (suc r) = refl
-get_or_nil_push (x ∷ xs) zero = refl
-get_or_nil_push (x ∷ xs) (suc r) = get_or_nil_push xs r
-
 -- the same part of a longer list
 part_kept : (xs ys : List ℕ) (i j : ℕ) → i ≤ j → j ≤ length xs → slice_range (xs ++ ys) i j ≡ slice_range xs i j
 part_kept xs ys i j le within =
@@ -23,9 +16,6 @@ part_new : (xs ys : List ℕ) → slice_range (xs ++ ys) (length xs) (length (xs
 part_new xs ys =
     let e = length-append xs ys in
     ap (take (length (xs ++ ys) - length xs)) (drop_at xs ys (length xs) refl) ∙ take_all _ ys (omega arith)
-
-pub Targets_none : (g : Graph) (nodes targets starts : List ℕ) → IsTargets g nodes targets starts 0
-Targets_none g nodes targets starts = record { ordered = λ k lt. absurd (omega arith); within = λ k lt. absurd (omega arith); moves = λ k lt. absurd (omega arith) }
 
 pub Targets_more : (g : Graph) (nodes targets starts more : List ℕ) (n : ℕ) → IsTargets g nodes targets starts n
     → length starts ≡ n + 1 → slice_index starts n ≡ length targets → more ≡ g.into (slice_index nodes n)

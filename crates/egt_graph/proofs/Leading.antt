@@ -12,7 +12,7 @@ use Rattle.egt_graph.specs.Words.{IsIn, number_at, place_in, word_in}
 use Rattle.egt_graph.specs.declared.word_moves.Pushes.{Pushes}
 use Rattle.egt_graph.specs.declared.word_moves.TurnedWay.{TurnedWay}
 use Rattle.egt_graph.specs.declared.word_moves.Way.{Way}
-use Rattle.egt_graph.proofs.Turning.{shifted_down, shifted_up, shifted_up_low, turned_within_eights, turned_within_word}
+use Rattle.egt_graph.proofs.Turning.{shifted_down, shifted_up, shifted_up_low}
 
 -- ---- sets of places by bits
 
@@ -142,13 +142,6 @@ no_way = record { word = 0; off = 0 }
 
 abbrev pub no_turned_way : TurnedWay
 no_turned_way = record { word = 0; turn = 0 }
-
--- turned ways of a whole word, and those of any eights that only stand the other way round
-pub fits_turns_of_a_word : (turned : List TurnedWay) → FitsTurns 64 turned
-fits_turns_of_a_word turned way has k lt = turned_within_word way.turn k lt
-
-pub fits_turns_of_eights : (span : ℕ) (turned : List TurnedWay) → span % 8 ≡ 0 → All (λ (way : TurnedWay). way.turn < 2) turned → FitsTurns span turned
-fits_turns_of_eights span turned eights each way has k lt = turned_within_eights span way.turn k eights (All-contains (λ (way : TurnedWay). way.turn < 2) turned way each has) lt
 
 pub way_bits : (marks : List ℕ) (way : Way) → way.off < 2 ^ 64 → (k : ℕ) → k < 64 → (bit_at (bit_and (slice_index marks way.word) (bit_not w64 way.off)) k ≡ 1) ↔ LeadsStraight marks k way
 way_bits marks way small k lt = (

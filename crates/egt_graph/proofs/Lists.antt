@@ -21,10 +21,6 @@ pub any_same : {X : Type 0} (p q : X → Bool) → ((x : X) → p x ≡ q x) →
 any_same p q e [] = refl
 any_same p q e (x ∷ xs) = ap₂ (λ a b. a || b) (e x) (any_same p q e xs)
 
-pub all_same : {X : Type 0} (p q : X → Bool) → ((x : X) → p x ≡ q x) → (xs : List X) → list_all p xs ≡ list_all q xs
-all_same p q e [] = refl
-all_same p q e (x ∷ xs) = ap₂ (λ a b. a && b) (e x) (all_same p q e xs)
-
 -- some element passes p, and each passes q
 pub any_all_clash : {X : Type 0} (P : X → Type 0) (p q : X → Bool) → ((x : X) → P x → p x ≡ true → q x ≡ true → ⊥) → (xs : List X) → All P xs → list_any p xs ≡ true → list_all q xs ≡ true → ⊥
 any_all_clash P p q clash [] each some all = false≢true some

@@ -105,12 +105,6 @@ module _ (g : Graph) (span word : ℕ) (few : span ≤ 64) (start : WordStart) (
       empty [] is none = refl
       empty (e ∷ es) is none = absurd (none is)
 
-  pub start_word : IsWordOf span word (is_node g) start.nodes
-  start_word k = (
-    λ one. let n = (starts.nodes k).0 one in (n.0, test_from_node g (number_at span word k) n.1),
-    λ h. (starts.nodes k).1 (h.0, node_from_test g (number_at span word k) h.1),
-  )
-
 -- ---- checkmates
 
 module _ (g : Graph) (i : ℕ) where

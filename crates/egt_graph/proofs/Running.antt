@@ -8,7 +8,7 @@ use Rattle.egt_graph.specs.Rounds.{State, listed, listed_in}
 use Rattle.egt_graph.specs.Run.{IsRun, Holds, IsSchedule}
 use Rattle.egt_graph.specs.Columns.{leaves, count_of, done_of, Amid, Await, Marks, TakesBack, is_open_at}
 use Rattle.egt_graph.specs.declared.answer.Phase.{Phase}
-use Rattle.egt_graph.specs.declared.answer.Phase.TheVariants.{Running, Finished, TooDeep}
+use Rattle.egt_graph.specs.declared.answer.Phase.TheVariants.{Running, Finished}
 use Rattle.egt_graph.specs.declared.game.Exit.{Exit}
 use Rattle.egt_graph.specs.Frontier.{is_node}
 use Rattle.std.proofs.lemmas.Bool.{cases_Bool, cases_lt}
@@ -132,23 +132,6 @@ finished_run g law v es ws ls fs ld wd h es' ws' ls' f none a b c = record {
   losses = h.losses;
   wins = h.wins;
   columns = final_ranks g v.round v.limit h.in_limit none es' (a ∙ h.entries_long) (v.round + 1) (omega arith) f.closed.entry;
-}
-
-pub past_run : (g : Graph) (v : State) (es ws ls : List ℕ) (fs : List Bool) (ld wd : List (List ℕ)) → IsRun g v es ws ls fs ld wd
-    → (es' ws' ls' : List ℕ) → length es' ≡ length es → length ws' ≡ length ws → length ls' ≡ length ls
-    → IsRun g (record v { phase = TooDeep }) es' ws' ls' fs ld wd
-past_run g v es ws ls fs ld wd h es' ws' ls' a b c = record {
-  small = h.small;
-  short = h.short;
-  in_limit = h.in_limit;
-  flags = h.flags;
-  entries_long = a ∙ h.entries_long;
-  waits_long = b ∙ h.waits_long;
-  later_long = c ∙ h.later_long;
-  lost_long = h.lost_long;
-  losses = h.losses;
-  wins = h.wins;
-  columns = tt;
 }
 
 pub none_done : (g : Graph) (n : ℕ) → (j : ℕ) → done_of (replicate n false) j ≡ false

@@ -4,7 +4,7 @@ use Rattle.std.proofs.lemmas.Bool.{cases_Bool, cases_eq, eq-eqb, ne_eqb, lt-ltb,
 use Rattle.std.proofs.lemmas.List.{get_or-set_same, get_or-set_other}
 use Rattle.std.proofs.lemmas.List.Sums.{sum_by_more, sum_by-take-le}
 use Rattle.egt_graph.specs.Columns.{count_of, decided, Marks, TakesBack}
-use Rattle.egt_graph.proofs.Holding.{decided_mark, decided_take, decided_open, decided_shut}
+use Rattle.egt_graph.proofs.Holding.{decided_take, decided_open, decided_shut}
 
 pub counted_more : (i : ℕ) (xs : List ℕ) (k : ℕ) → k < length xs → count_of i (take (k + 1) xs) ≡ count_of i (take k xs) + cond (eqb (get_or xs k 0) i) 1 0
 counted_more i xs k h = sum_by_more (λ y. cond (eqb y i) 1 0) xs k 0 h
@@ -30,25 +30,6 @@ nothing b n = elim (cases_Bool (eqb b 1)) [
 
 pub Marks_none : (es : List ℕ) (xs : List ℕ) (n : ℕ) → Marks es (take 0 xs) n es
 Marks_none es xs n i = nothing (slice_index es i) n
-
-pub Marks_more : (es0 es xs : List ℕ) (n k : ℕ) → Marks es0 (take k xs) n es → k < length xs → get_or xs k 0 < length es
-    → Marks es0 (take (k + 1) xs) n (set es (get_or xs k 0) (decided (get_or es (get_or xs k 0) 0) true false n))
-Marks_more es0 es xs n k h in_list in_range m = elim (cases_eq (get_or xs k 0) m) [
-  | inl e ↦ rw (← e) (
-      let x = get_or xs k 0 in
-      let c = counted_at xs k in_list in
-      get_or-set_same es (get_or xs k 0) _ 0 in_range
-      ∙ ap (λ b. decided b true false n) (h (get_or xs k 0))
-      ∙ decided_mark (get_or es0 (get_or xs k 0) 0) n (ltb 0 (count_of (get_or xs k 0) (take k xs))) true false (λ _. refl)
-      ∙ ap (λ b. decided (get_or es0 (get_or xs k 0) 0) b false n)
-      (or_right (ltb 0 (count_of (get_or xs k 0) (take k xs))) true refl ∙ sym (lt-ltb 0 (count_of (get_or xs k 0) (take (k + 1) xs)) (omega arith))))
-  | inr ne ↦
-      get_or-set_other es (get_or xs k 0) m _ 0 (λ e. ne (sym e)) ∙ h m
-      ∙ ap (λ c. decided (get_or es0 m 0) (ltb 0 c) false n) (sym (counted_past m xs k in_list ne))
-]
-
-pub TakesBack_none : (es ws xs : List ℕ) (n : ℕ) → TakesBack es ws (take 0 xs) n es ws
-TakesBack_none es ws xs n = record { entry = λ i. nothing (slice_index es i) n; waiting = λ i. omega arith }
 
 pub TakesBack_more : (es0 ws0 es ws xs : List ℕ) (n k : ℕ) → TakesBack es0 ws0 (take k xs) n es ws → k < length xs
     → get_or xs k 0 < length es → get_or xs k 0 < length ws → 0 < get_or ws (get_or xs k 0) 0
@@ -86,20 +67,6 @@ TakesBack_more es0 ws0 es ws xs n k h in_list in_es in_ws some = record { entry 
           get_or-set_other es (get_or xs k 0) m _ 0 (λ e. ne (sym e)) ∙ h.entry m
           ∙ ap₂ (λ c w. decided (get_or es0 m 0) false (ltb 0 c && eqb w 0) n) (sym (counted_past m xs k in_list ne)) (sym (past m ne))
     ]
-
-pub counts_down : (ls0 ls xs : List ℕ) (k : ℕ) → ((i : ℕ) → slice_index ls i + count_of i (take k xs) ≡ slice_index ls0 i) → k < length xs
-    → get_or xs k 0 < length ls → 0 < get_or ls (get_or xs k 0) 0
-    → (i : ℕ) → slice_index (set ls (get_or xs k 0) (get_or ls (get_or xs k 0) 0 - 1)) i + count_of i (take (k + 1) xs) ≡ slice_index ls0 i
-counts_down ls0 ls xs k h in_list in_range some m = elim (cases_eq (get_or xs k 0) m) [
-  | inl e ↦ rw (← e) (
-      let c = counted_at xs k in_list in
-      let a = get_or-set_same ls (get_or xs k 0) (get_or ls (get_or xs k 0) 0 - 1) 0 in_range in
-      let w = h (get_or xs k 0) in omega arith)
-  | inr ne ↦
-      let c = counted_past m xs k in_list ne in
-      let a = get_or-set_other ls (get_or xs k 0) m (get_or ls (get_or xs k 0) 0 - 1) 0 (λ e. ne (sym e)) in
-      let w = h m in omega arith
-]
 
 -- a node that is still to come waits for a move
 pub still_waits : (ws0 ws xs : List ℕ) (k : ℕ) → ((i : ℕ) → slice_index ws i + count_of i (take k xs) ≡ slice_index ws0 i)

@@ -76,9 +76,6 @@ pop_fewer bits some small =
 abbrev pub Gathers : (ℕ → Type 0) → ℕ → ℕ → Type 0
 Gathers P k bits = (m : ℕ) → bit_at bits m ≡ 1 ↔ ((m < k) × P m)
 
-pub gathers_none : (P : ℕ → Type 0) → Gathers P 0 0
-gathers_none P m = (λ one. absurd (none_set m one), λ h. absurd (let lt = h.0 in omega (arith, lt)))
-
 pub gathers_set : (P : ℕ → Type 0) (k bits : ℕ) → k < 64 → P k → Gathers P k bits → Gathers P (k + 1) (bit_or bits (1 * 2 ^ k % 18446744073709551616))
 gathers_set P k bits few holds h m = elim (cases_eq m k) [
   | inl e ↦ (

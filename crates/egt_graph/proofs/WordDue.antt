@@ -49,9 +49,6 @@ ready_by p (suc c) q e =
     ∙ sym (ap₂ (λ a b. a || (b && eqb (p - suc c) 0)) (ne_eqb p 0 (λ z. absurd (omega (arith, z, e)))) (lt-ltb 0 (suc c) (omega arith)))
 
 module _ (g : Graph) (r i : ℕ) (pending pending' : List ℕ) (schedule : List (List ℕ)) (less : slice_index pending' i ≡ slice_index pending i - count_of i (slice_index_or schedule (suc r) [])) where
-  abbrev now : ℕ
-  now = count_of i (slice_index_or schedule (suc r) [])
-
   pub waits_next : WaitsFor g r pending schedule i → WaitsFor g (suc r) pending' schedule i
   waits_next h = record {
     wait =
