@@ -23,7 +23,7 @@ use Rattle.egt_board.specs.Coordinate.{Further}
 use Rattle.egt_board.specs.Step.{Away}
 use Rattle.egt_board.specs.Gait.{Rides, OneOf, Reaches, farthest, steps_of}
 use Rattle.egt_board.specs.Mirror.{square_by, side_by, man_by, Allows}
-use Rattle.egt_board.specs.Pawn.{ahead, HasNoPawn}
+use Rattle.egt_board.specs.Pawn.{forward, ahead, home_rank, last_rank, farthest_advance, Advances, HasNoPawn}
 use Rattle.egt_board.specs.Target.{target_rank}
 
 pub square_by-within : (m : Mirror) (s : ℕ) → s < 64 → square_by m s < 64
@@ -252,6 +252,12 @@ side_by-twice Diagonal side = refl
 side_by-twice Colours White = refl
 side_by-twice Colours Black = refl
 
+pub side_by-other : (m : Mirror) (side : Side) → side_by m (other_side side) ≡ other_side (side_by m side)
+side_by-other Files side = refl
+side_by-other Ranks side = refl
+side_by-other Diagonal side = refl
+side_by-other Colours side = refl
+
 pub side_by-turned : (m : Mirror) (side : Side) → side_by m (other_side (side_by m side)) ≡ other_side side
 side_by-turned Files side = refl
 side_by-turned Ranks side = refl
@@ -306,6 +312,16 @@ attacked_back m men men' side t allows shows ok' a =
       reaches = Reaches-by m (IsFree men') (IsFree men) a.man a.from t (suits_of m men (square_by m a.from) (man_by m a.man) allows back) s_in (free_back m men men' shows) a.reaches;
     }
 
+-- under a mirror that suits pawns, forward is forward for the side that the side becomes
+step_by-forward : (m : Mirror) (side : Side) → Suits m P → step_by m (forward side) ≡ forward (side_by m side)
+unfolding step_by turned
+step_by-forward Files White suits = refl
+step_by-forward Files Black suits = refl
+step_by-forward Ranks side suits = absurd (suits refl)
+step_by-forward Diagonal side suits = absurd (suits refl)
+step_by-forward Colours White suits = refl
+step_by-forward Colours Black suits = refl
+
 pub ahead_by : (m : Mirror) (side : Side) (t : ℕ) → Suits m P → 0 < rank_of t → rank_of t < 7 → square_by m (ahead side t) ≡ ahead (side_by m side) (square_by m t)
 ahead_by Files White t suits low high = omega arith
 ahead_by Files Black t suits low high = omega arith
@@ -313,6 +329,42 @@ ahead_by Ranks side t suits low high = absurd (suits refl)
 ahead_by Diagonal side t suits low high = absurd (suits refl)
 ahead_by Colours White t suits low high = omega arith
 ahead_by Colours Black t suits low high = omega arith
+
+-- tests of two facts of which each gives the other
+pub same_test : (a b c d : ℕ) → (a ≡ b → c ≡ d) → (c ≡ d → a ≡ b) → (a == b) ≡ (c == d)
+same_test a b c d there back = elim (eqb_tells a b) [
+  | inl h ↦ h.0 ∙ sym (eq-eqb c d (there h.1))
+  | inr h ↦ elim (eqb_tells c d) [
+    | inl k ↦ absurd (h.1 (back k.1))
+    | inr k ↦ h.0 ∙ sym k.0
+  ]
+]
+
+-- the original rank of a side's pawns becomes that of the side that it becomes
+home_by : (m : Mirror) (side : Side) (s : ℕ) → Suits m P → s < 64 → (rank_of (square_by m s) == home_rank (side_by m side)) ≡ (rank_of s == home_rank side)
+home_by Files side s suits s_in = ap (λ r. r == home_rank side) (rank_by_files s s_in)
+home_by Ranks side s suits s_in = absurd (suits refl)
+home_by Diagonal side s suits s_in = absurd (suits refl)
+home_by Colours White s suits s_in = same_test _ _ _ _ (λ e. omega arith) (λ e. omega arith)
+home_by Colours Black s suits s_in = same_test _ _ _ _ (λ e. omega arith) (λ e. omega arith)
+
+-- and so does the last rank
+pub last_by : (m : Mirror) (side : Side) (s : ℕ) → Suits m P → s < 64 → (rank_of (square_by m s) == last_rank (side_by m side)) ≡ (rank_of s == last_rank side)
+last_by Files side s suits s_in = ap (λ r. r == last_rank side) (rank_by_files s s_in)
+last_by Ranks side s suits s_in = absurd (suits refl)
+last_by Diagonal side s suits s_in = absurd (suits refl)
+last_by Colours White s suits s_in = same_test _ _ _ _ (λ e. omega arith) (λ e. omega arith)
+last_by Colours Black s suits s_in = same_test _ _ _ _ (λ e. omega arith) (λ e. omega arith)
+
+-- a pawn that advances advances in the mirror
+pub Advances-by : (m : Mirror) (F G : ℕ → Type 0) (side : Side) (s t : ℕ) → Suits m P → s < 64 → ((u : ℕ) → u < 64 → F u → G (square_by m u)) → Advances F side s t → Advances G (side_by m side) (square_by m s) (square_by m t)
+Advances-by m F G side s t suits s_in free a = record {
+  rides =
+      let most : farthest_advance side s ≡ farthest_advance (side_by m side) (square_by m s) = ap (λ b. if b then 2 else 1) (sym (home_by m side s suits s_in)) in
+      subst (λ n. Rides G n (square_by m s) (square_by m t) (forward (side_by m side))) most
+      (subst (Rides G (farthest_advance side s) (square_by m s) (square_by m t)) (step_by-forward m side suits) (Rides-by m F G (farthest_advance side s) s t (forward side) s_in free a.rides));
+  free = free t a.rides.away.on_board a.free;
+}
 
 -- no pawn comes by a mirror
 pub no_pawn_by : (m : Mirror) (men men' : Placement) → ShowsMen m men men' → OnBoard men' → HasNoPawn men → HasNoPawn men'
