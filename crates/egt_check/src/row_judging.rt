@@ -84,8 +84,8 @@ fn first_of(table: &Table, shelf: u32, side: Side) -> u32
     }
 }
 
-/// Whether the entries of a shelf's codes with that side to move are due to the greatest bytes of the moves, by the last
-/// man's square, or tell checkmate and stalemate; `passed` tells whether the positions have a target.
+/// Whether the entries of a shelf's codes with that side to move are due to the greatest bytes of the moves, by the
+/// last man's square, or tell checkmate and stalemate; `passed` tells whether the positions have a target.
 pub(crate) fn row_is_right(
     table: &Table,
     men: &ShelfMen,

@@ -33,7 +33,8 @@ fn is_passed(class: Class, men: &ShelfMen, shelf: u32) -> Option<bool>
     }
 }
 
-/// At which numbers of the shelf with that side to move the mate entry's score is not 0, by the last man's digits, as bits.
+/// At which numbers of the shelf with that side to move the mate entry's score is not 0, by the last man's digits, as
+/// bits.
 fn marks_of(table: &Table, men: &ShelfMen, shelf: u32, side: Side, passed: bool) -> u64
     requires shelf { IsShelfOf passed table.now.class shelf men.now }
     requires within { IsWithin table.now.class shelf }
@@ -67,8 +68,8 @@ fn tells_shelf(table: &Table, rows: &mut Rows, shelf: u32) -> bool
     white == indexes.white && black == indexes.black
 }
 
-/// Whether the mate entries are 0 at the codes of no position and at no others, in a class with two men beside the kings.
-/// It is asked once of the whole table: then an entry tells whether its code is an index.
+/// Whether the mate entries are 0 at the codes of no position and at no others, in a class with two men beside the
+/// kings. It is asked once of the whole table: then an entry tells whether its code is an index.
 pub(crate) fn tells_voids(table: &Table) -> bool
     requires { AreAllAlike table.now }
     ensures { result ≡ true → TellsVoids table.now }
