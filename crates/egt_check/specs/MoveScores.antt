@@ -1,11 +1,12 @@
--- The greatest scores of all moves in classes without targets, in both columns.
-use Rattle.std.specs.Prelude.{◌≡◌, ℕ, false, max, Some, IfSome}
+-- The greatest scores of all moves, in both columns.
+use Rattle.std.specs.Prelude.{◌≡◌, ℕ, Bool, true, false, max, Some, IfSome}
 use Rattle.egt_board.specs.declared.man.Side.{Side}
 use Rattle.egt_index.specs.declared.shelf_codes.ShelfMen.{ShelfMen}
 use Rattle.egt_lanes.specs.Raised.{IsRaised}
 use Rattle.egt_lanes.specs.Scores.{zeroing_score}
 use Rattle.egt_table.specs.Table.{IsTable}
 use Rattle.egt_table.specs.declared.column.Column.TheVariants.{Mate, Zeroing}
+use Rattle.egt_check.specs.InPassing.{ArePassingCodes}
 use Rattle.egt_check.specs.PawnMoves.{IsClassOfTwo}
 use Rattle.egt_check.specs.PawnScores.{AreRaisedByPawns, HasPromotions}
 use Rattle.egt_check.specs.QuietStands.{AreQuietCodes}
@@ -14,7 +15,7 @@ use Rattle.egt_check.specs.Taken.{AreLeftCodes, IsTableOf, men_swapped}
 use Rattle.egt_check.specs.Worth.{HasBytes, score_at}
 use Rattle.egt_check.specs.declared.move_scores.FourMen.{FourMen}
 
--- the greatest of quiet moves, of captures that promote no pawn, and of the other moves of pawns, where the first man stands on a and the last on b
+-- the greatest of quiet moves, of captures that promote no pawn, and of the other moves of pawns but captures in passing, where the first man stands on a and the last on b
 pub record AreMoveScores (four : FourMen) (men : ShelfMen) (side : Side) (a b mate zeroing : ℕ) : Type 0 where
   pub quiet_mate : ℕ
   pub quiet_zeroing : ℕ
@@ -28,6 +29,23 @@ pub record AreMoveScores (four : FourMen) (men : ShelfMen) (side : Side) (a b ma
   pub pawns : AreRaisedByPawns four.own.now four.first_pawn four.last_pawn men side a b by_pawns
   pub mate_is : mate ≡ max quiet_mate (max (max by_first by_last) by_pawns)
   pub zeroing_is : zeroing ≡ max quiet_zeroing (zeroing_score (max (max by_first by_last) by_pawns))
+
+-- where there is a target, those raised to the scores of captures in passing, by the last man and by the first
+pub record ArePassedScores (four : FourMen) (men : ShelfMen) (side : Side) (a b mate zeroing : ℕ) : Type 0 where
+  pub plain_mate : ℕ
+  pub plain_zeroing : ℕ
+  pub by_last : ℕ
+  pub by_first : ℕ
+  pub plain : AreMoveScores four men side a b plain_mate plain_zeroing
+  pub last_raised : IsRaised 0 (ArePassingCodes four.last.now.class four.last_flips men side a b) (score_at four.last.now Mate) by_last
+  pub first_raised : IsRaised 0 (ArePassingCodes four.first.now.class four.first_flips (men_swapped men) side b a) (score_at four.first.now Mate) by_first
+  pub mate_is : mate ≡ max plain_mate (max by_last by_first)
+  pub zeroing_is : zeroing ≡ max plain_zeroing (zeroing_score (max by_last by_first))
+
+-- those of all moves, where there is a target or where there is none
+abbrev pub AreAllScores : (passed : Bool) (four : FourMen) (men : ShelfMen) (side : Side) (a b mate zeroing : ℕ) → Type 0
+AreAllScores false = AreMoveScores
+AreAllScores true = ArePassedScores
 
 -- the table, whose bytes tell its entries, and those of the classes that captures and promotions lead to
 pub record AreTablesOf (tables : Tables) (four : FourMen) (men : ShelfMen) : Type 0 where

@@ -1,5 +1,5 @@
 -- The greatest scores of the moves of a pawn, with the tables of the classes that he leads to.
-use Rattle.std.specs.Prelude.{◌≡◌, ◌⊎◌, ℕ, max, if◌then◌else◌, Bool, false, true, Option, Some, None}
+use Rattle.std.specs.Prelude.{◌≡◌, ◌⊎◌, ℕ, max, if◌then◌else◌, Bool, false, true, Option, Some}
 use Rattle.egt_board.specs.Turned.{turned_man}
 use Rattle.egt_board.specs.declared.man.Kind.TheVariants.{Q, R, B, N, P}
 use Rattle.egt_board.specs.declared.man.Man.{Man}
@@ -13,6 +13,7 @@ use Rattle.egt_lanes.specs.Raised.{IsRaised}
 use Rattle.egt_moves.specs.Promotion.{IsOfficer, arriving}
 use Rattle.egt_table.specs.Table.{TableValue}
 use Rattle.egt_table.specs.declared.column.Column.TheVariants.{Mate}
+use Rattle.egt_check.specs.InPassing.{AreLeapCodes, AreStepCodes}
 use Rattle.egt_check.specs.PawnMoves.{AreAdvancedCodes, ArePromotedCodes, IsTableAfter, men_after, officer_of}
 use Rattle.egt_check.specs.Tables.{Tables}
 use Rattle.egt_check.specs.Taken.{IsTableOf, men_swapped}
@@ -44,12 +45,14 @@ pub record IsPromotionScore (promotion : Promotion) (men : ShelfMen) (side : Sid
 
 -- the greatest score after the pawn's advances, promotions and promoting captures
 pub record ArePawnScores (own : TableValue) (first : Bool) (promotions : Promotions) (men : ShelfMen) (side : Side) (a b score : ℕ) : Type 0 where
-  pub advanced : ℕ
+  pub stepped : ℕ
+  pub leapt : ℕ
   pub queen : ℕ
   pub rook : ℕ
   pub bishop : ℕ
-  pub advanced_raised : IsRaised 0 (AreAdvancedCodes own.class first false men side None a b) (score_at own Mate) advanced
-  pub queen_is : IsPromotionScore promotions.queen men side a b advanced queen
+  pub stepped_raised : IsRaised 0 (AreStepCodes own.class first men side a b) (score_at own Mate) stepped
+  pub leapt_raised : IsRaised 0 (AreLeapCodes own.class first men side a b) (score_at own Mate) leapt
+  pub queen_is : IsPromotionScore promotions.queen men side a b (max stepped leapt) queen
   pub rook_is : IsPromotionScore promotions.rook men side a b queen rook
   pub bishop_is : IsPromotionScore promotions.bishop men side a b rook bishop
   pub knight_is : IsPromotionScore promotions.knight men side a b bishop score

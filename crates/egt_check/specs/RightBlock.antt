@@ -1,5 +1,5 @@
 -- Entries of a class with two men beside the kings, by their shelves.
-use Rattle.std.specs.Prelude.{◌≢◌, ℕ, ◌<◌, false}
+use Rattle.std.specs.Prelude.{◌≢◌, ℕ, ◌<◌, Bool}
 use Rattle.egt_board.specs.declared.man.Side.{Side}
 use Rattle.egt_index.specs.Size.{size_of}
 use Rattle.egt_index.specs.StepCodes.{TellsMen}
@@ -10,8 +10,8 @@ use Rattle.egt_check.specs.Blocks.{stand_on}
 use Rattle.egt_check.specs.RightRow.{IsRightAt}
 use Rattle.egt_check.specs.Worth.{score_at}
 
--- the code tells the men with the first on a and the last on b, and its entries are due to these greatest scores
-pub record IsRightLane (t : TableValue) (men : ShelfMen) (side : Side) (a b i mate zeroing : ℕ) : Type 0 where
+-- the code tells the men with the first on a and the last on b, and a target where one was passed, and its entries are due to these greatest scores
+pub record IsRightLane (passed : Bool) (t : TableValue) (men : ShelfMen) (side : Side) (a b i mate zeroing : ℕ) : Type 0 where
   pub below : i < size_of t.class
-  pub tells : TellsMen false t.class i (stand_on men a b) side
+  pub tells : TellsMen passed t.class i (stand_on men a b) side
   pub right : score_at t Mate i ≢ 0 → IsRightAt t i mate zeroing

@@ -1,12 +1,11 @@
 //! The judgement of all entries with the kings on two squares, in classes with two men beside the kings.
-ghost use Rattle.std.specs.Prelude.{◌≡◌, ◌≢◌, ◌+◌, ◌<◌, ℕ, false, true, None, IfSome, slice_index};
+ghost use Rattle.std.specs.Prelude.{◌≡◌, ◌≢◌, ◌+◌, ◌<◌, ℕ, true, None, IfSome, slice_index};
 ghost use Rattle.egt_board.specs.Turned.{turned_man};
 ghost use Rattle.egt_board.specs.declared.man.Kind.TheVariants.{K};
-ghost use Rattle.egt_class.specs.Material.{material_of};
 ghost use Rattle.egt_index.specs.LoneCodes.{IsLoneMan};
+ghost use Rattle.egt_index.specs.Numbers.{code_of};
 ghost use Rattle.egt_index.specs.Scales.{kind_digits, kind_less};
 ghost use Rattle.egt_index.specs.ShelfCodes.{AreMenOf, number_in};
-ghost use Rattle.egt_index.specs.Size.{has_target};
 ghost use Rattle.egt_lanes.specs.Blocks.{at};
 ghost use Rattle.egt_table.specs.declared.column.Column.{Column};
 ghost use Rattle.egt_check.specs.Blocks.{men_on};
@@ -20,9 +19,10 @@ ghost use Rattle.egt_check.specs.Tables.{Tables};
 use crate::blocks::nothing;
 use crate::digits::{digits_of, first_square};
 use crate::laws::entries_due_to_all_moves_are_right;
-use crate::move_scores::{FourMen, move_scores};
+use crate::move_scores::{FourMen, all_scores};
 use crate::row_judging::row_is_right;
 use egt_board::{Side, Square};
+use egt_index::laws::numbers_stand_for_codes;
 use egt_index::{ShelfMen, shelf_of};
 use egt_lanes::{Block, Row};
 use egt_table::Table;
@@ -47,18 +47,19 @@ fn shelf_is_right(
     on: Square,
     shelf: u32,
     side: Side,
+    passed: bool,
     mates: Row,
     zeroing: Row,
 ) -> bool
     requires men { AreMenOf table.now.class men.now }
-    requires targets { has_target (material_of table.now.class) ≡ false }
     ensures { result ≡ true → (y : ℕ) → y < kind_digits men.now.last.kind →
-        IsRightLane table.now men.now side on (y + kind_less men.now.last.kind) (number_in table.now.class shelf side y) (slice_index mates (y + kind_less men.now.last.kind)) (slice_index zeroing (y + kind_less men.now.last.kind)) }
+        IsRightLane passed table.now men.now side on (y + kind_less men.now.last.kind) (code_of table.now.class (number_in table.now.class shelf side y)) (slice_index mates (y + kind_less men.now.last.kind)) (slice_index zeroing (y + kind_less men.now.last.kind)) }
 {
+    numbers_stand_for_codes();
     let there = men_on(men, on);
-    match shelf_of(table.class(), &there, false) {
+    match shelf_of(table.class(), &there, passed) {
         Some(number) if number == shelf => {
-            row_is_right(table, &there, number, side, false, mates, zeroing)
+            row_is_right(table, &there, number, side, passed, mates, zeroing)
         }
         _ => false,
     }
@@ -70,14 +71,14 @@ fn shelves_are_right(
     men: &ShelfMen,
     first: u32,
     side: Side,
+    passed: bool,
     mates: &Block,
     zeroing: &Block,
 ) -> bool
     requires men { AreMenOf table.now.class men.now }
-    requires targets { has_target (material_of table.now.class) ≡ false }
     requires room { first + 64 < 4294967296 }
     ensures { result ≡ true → (x y : ℕ) → x < kind_digits men.now.one.kind → y < kind_digits men.now.last.kind →
-        IsRightLane table.now men.now side (x + kind_less men.now.one.kind) (y + kind_less men.now.last.kind) (number_in table.now.class (first + x) side y)
+        IsRightLane passed table.now men.now side (x + kind_less men.now.one.kind) (y + kind_less men.now.last.kind) (code_of table.now.class (number_in table.now.class (first + x) side y))
         (at mates.now (x + kind_less men.now.one.kind) (y + kind_less men.now.last.kind)) (at zeroing.now (x + kind_less men.now.one.kind) (y + kind_less men.now.last.kind)) }
 {
     let from = first_square(men.one);
@@ -91,6 +92,7 @@ fn shelves_are_right(
             Square::at(square),
             shelf,
             side,
+            passed,
             mates[row],
             zeroing[row],
         ) {
@@ -100,10 +102,16 @@ fn shelves_are_right(
     true
 }
 
-/// Whether all entries of those shelves with that side to move keep the rules.
-pub(crate) fn block_is_right(four: &FourMen, men: &ShelfMen, first: u32, side: Side) -> bool
+/// Whether all entries of those shelves with that side to move keep the rules; `passed` tells whether the positions
+/// have a target.
+pub(crate) fn block_is_right(
+    four: &FourMen,
+    men: &ShelfMen,
+    first: u32,
+    side: Side,
+    passed: bool,
+) -> bool
     requires men { AreMenOf four.now.own.now.class men.now }
-    requires targets { has_target (material_of four.now.own.now.class) ≡ false }
     requires one { men.now.one.kind ≢ K }
     requires last { men.now.last.kind ≢ K }
     requires first_left { IsLoneMan four.now.first.now.class (turned_man four.now.first_flips men.now.one) }
@@ -112,13 +120,13 @@ pub(crate) fn block_is_right(four: &FourMen, men: &ShelfMen, first: u32, side: S
     requires last_pawn { IfSome four.now.last_pawn (λ kinds. ArePromotionsOf kinds men.now) }
     requires room { first + 64 < 4294967296 }
     ensures { result ≡ true → (tables : Tables) → AreTablesOf tables four.now men.now → (x y : ℕ) → x < kind_digits men.now.one.kind → y < kind_digits men.now.last.kind → (column : Column) →
-        IsJudged tables four.now.own.now column (number_in four.now.own.now.class (first + x) side y) None }
+        IsJudged tables four.now.own.now column (code_of four.now.own.now.class (number_in four.now.own.now.class (first + x) side y)) None }
 {
     entries_due_to_all_moves_are_right();
     let mut mates = nothing();
     let mut zeroing = nothing();
-    if !move_scores(four, men, side, &mut mates, &mut zeroing) {
+    if !all_scores(four, men, side, passed, &mut mates, &mut zeroing) {
         return false;
     }
-    shelves_are_right(four.own, men, first, side, &mates, &zeroing)
+    shelves_are_right(four.own, men, first, side, passed, &mates, &zeroing)
 }

@@ -28,11 +28,10 @@ ghost use Rattle.egt_check.specs.Score.{IsAtEnd};
 ghost use Rattle.egt_index.specs.Index.{IsVoid};
 ghost use Rattle.egt_lanes.specs.Scores.{byte_score, due_score, zeroing_score};
 ghost use Rattle.egt_check.specs.Taken.{AreLeftCodes, IsTableOf, men_swapped};
-ghost use Rattle.egt_check.specs.MoveScores.{AreMoveScores, AreTablesOf};
+ghost use Rattle.egt_check.specs.MoveScores.{AreAllScores, AreTablesOf};
 ghost use Rattle.egt_check.specs.RightRow.{IsRightAt};
 ghost use Rattle.egt_check.specs.declared.move_scores.FourMen.{FourMen};
-ghost use Rattle.egt_class.specs.Material.{material_of};
-ghost use Rattle.egt_index.specs.Size.{has_target, size_of};
+ghost use Rattle.egt_index.specs.Size.{size_of};
 ghost use Rattle.egt_index.specs.StepCodes.{TellsMen};
 ghost use Rattle.egt_table.specs.declared.column.Column.TheVariants.{Mate, Zeroing};
 ghost use Rattle.egt_check.specs.Worth.{HasBytes, score_at};
@@ -44,11 +43,12 @@ ghost use Rattle.egt_check.specs.Truth.{IsTrueTable, HasTrueChildren};
 
 use crate::facts::facts;
 use crate::pawn_laws::{
-    codes_after_advances_give_the_advances, codes_after_promoting_captures_give_them,
+    codes_after_advances_beside_pawns_give_them, codes_after_advances_give_the_advances, codes_after_captures_in_passing_give_them,
+    codes_after_promoting_captures_give_them, pawns_moves_are_of_four_kinds,
 };
 use egt_class::laws::{men_beside_are_counted, moves_lead_into_the_class_or_a_child};
 use egt_index::laws::{
-    a_class_without_targets_has_pawns_of_one_side, a_code_is_an_index_or_void, codes_follow_steps,
+    a_code_is_an_index_or_void, codes_follow_steps,
     codes_spell_one_position, codes_tell_turned_men, numbers_stand_for_codes, stands_follow_moves,
 };
 
@@ -159,22 +159,23 @@ pub fn codes_after_captures_give_the_captures()
     captures_lead_to_three_men();
 }
 
-/// In a class without targets, entries that are due to the greatest scores of all moves keep the rules, whether or
-/// not their code is an index.
+/// Entries that are due to the greatest scores of all moves keep the rules, whether or not their code is an index.
 pub fn entries_due_to_all_moves_are_right()
-    ensures { (tables : Tables) (four : FourMen) (men : ShelfMen) (side : Side) (a b i mate zeroing : ℕ) → AreTablesOf tables four men → men.one.kind ≢ K → men.last.kind ≢ K → has_target (material_of four.own.now.class) ≡ false →
-        i < size_of four.own.now.class → TellsMen false four.own.now.class i (stand_on men a b) side → AreMoveScores four men side a b mate zeroing → (score_at four.own.now Mate i ≢ 0 → IsRightAt four.own.now i mate zeroing) →
+    ensures { (tables : Tables) (four : FourMen) (men : ShelfMen) (side : Side) (passed : Bool) (a b i mate zeroing : ℕ) → AreTablesOf tables four men → men.one.kind ≢ K → men.last.kind ≢ K →
+        i < size_of four.own.now.class → TellsMen passed four.own.now.class i (stand_on men a b) side → AreAllScores passed four men side a b mate zeroing → (score_at four.own.now Mate i ≢ 0 → IsRightAt four.own.now i mate zeroing) →
         (column : Column) → IsJudged tables four.own.now column i None }
 {
     facts();
-    a_class_without_targets_has_pawns_of_one_side();
     a_code_is_an_index_or_void();
     codes_follow_steps();
     numbers_stand_for_codes();
     quiet_codes_give_the_quiet_moves();
     codes_after_captures_give_the_captures();
     codes_after_advances_give_the_advances();
+    codes_after_advances_beside_pawns_give_them();
     codes_after_promoting_captures_give_them();
+    codes_after_captures_in_passing_give_them();
+    pawns_moves_are_of_four_kinds();
     moves_of_either_kind_give_all();
     due_bytes_are_right();
 }

@@ -1,19 +1,18 @@
 //! The greatest scores, in both columns, of the moves of a side with two men beside the kings, who stand on two
-//! squares, in classes without targets.
+//! squares.
 ghost use Rattle.std.specs.Prelude.{◌≡◌, ◌≢◌, ◌<◌, max, ℕ, false, true, IfSome};
 ghost use Rattle.egt_board.specs.Turned.{turned_man};
 ghost use Rattle.egt_board.specs.declared.man.Kind.TheVariants.{K};
-ghost use Rattle.egt_class.specs.Material.{material_of};
 ghost use Rattle.egt_index.specs.LoneCodes.{IsLoneMan};
 ghost use Rattle.egt_index.specs.ShelfCodes.{AreMenOf};
-ghost use Rattle.egt_index.specs.Size.{has_target};
 ghost use Rattle.egt_lanes.specs.Blocks.{at};
 ghost use Rattle.egt_lanes.specs.Scores.{zeroing_score};
-ghost use Rattle.egt_check.specs.MoveScores.{AreMoveScores};
+ghost use Rattle.egt_check.specs.MoveScores.{AreAllScores, AreMoveScores, ArePassedScores};
 ghost use Rattle.egt_check.specs.PawnScores.{ArePromotionsOf};
 ghost use Rattle.egt_check.specs.Taken.{men_swapped};
 
 use crate::blocks::nothing;
+use crate::passing_blocks::passing_block;
 use crate::pawn_scores::{Promotions, pawns_block};
 use crate::quiet_blocks::quiet_block;
 use crate::taken_blocks::taken_block;
@@ -64,9 +63,9 @@ fn raise_zeroed(out: &mut Block, mates: &Block)
     }
 }
 
-/// The greatest scores of all moves of that side, in the mate column and in the zeroing column. False where a table
-/// does not tell.
-pub(crate) fn move_scores(
+/// The greatest scores of all moves of that side but captures in passing, in the mate column and in the zeroing
+/// column. False where a table does not tell.
+fn move_scores(
     four: &FourMen,
     men: &ShelfMen,
     side: Side,
@@ -74,7 +73,6 @@ pub(crate) fn move_scores(
     zeroing: &mut Block,
 ) -> bool
     requires men { AreMenOf four.now.own.now.class men.now }
-    requires targets { has_target (material_of four.now.own.now.class) ≡ false }
     requires one { men.now.one.kind ≢ K }
     requires last { men.now.last.kind ≢ K }
     requires first_left { IsLoneMan four.now.first.now.class (turned_man four.now.first_flips men.now.one) }
@@ -114,4 +112,64 @@ pub(crate) fn move_scores(
     raise(mates, &taken);
     raise_zeroed(zeroing, &taken);
     true
+}
+
+/// The same of all moves where there is a target.
+fn passed_scores(
+    four: &FourMen,
+    men: &ShelfMen,
+    side: Side,
+    mates: &mut Block,
+    zeroing: &mut Block,
+) -> bool
+    requires men { AreMenOf four.now.own.now.class men.now }
+    requires one { men.now.one.kind ≢ K }
+    requires last { men.now.last.kind ≢ K }
+    requires first_left { IsLoneMan four.now.first.now.class (turned_man four.now.first_flips men.now.one) }
+    requires last_left { IsLoneMan four.now.last.now.class (turned_man four.now.last_flips men.now.last) }
+    requires first_pawn { IfSome four.now.first_pawn (λ kinds. ArePromotionsOf kinds (men_swapped men.now)) }
+    requires last_pawn { IfSome four.now.last_pawn (λ kinds. ArePromotionsOf kinds men.now) }
+    ensures { result ≡ true → (a b : ℕ) → a < 64 → b < 64 → ArePassedScores four.now men.now side a b (at mates.new a b) (at zeroing.new a b) }
+{
+    if !move_scores(four, men, side, mates, zeroing) {
+        return false;
+    }
+    let mut taken = nothing();
+    if !passing_block(four.last, four.last_flips, men, side, &mut taken) {
+        return false;
+    }
+    let mut across = nothing();
+    let swapped = men_swapped(men);
+    if !passing_block(four.first, four.first_flips, &swapped, side, &mut across) {
+        return false;
+    }
+    raise_transposed(&mut taken, &across);
+    raise(mates, &taken);
+    raise_zeroed(zeroing, &taken);
+    true
+}
+
+/// The same of all moves; `passed` tells whether there is a target.
+pub(crate) fn all_scores(
+    four: &FourMen,
+    men: &ShelfMen,
+    side: Side,
+    passed: bool,
+    mates: &mut Block,
+    zeroing: &mut Block,
+) -> bool
+    requires men { AreMenOf four.now.own.now.class men.now }
+    requires one { men.now.one.kind ≢ K }
+    requires last { men.now.last.kind ≢ K }
+    requires first_left { IsLoneMan four.now.first.now.class (turned_man four.now.first_flips men.now.one) }
+    requires last_left { IsLoneMan four.now.last.now.class (turned_man four.now.last_flips men.now.last) }
+    requires first_pawn { IfSome four.now.first_pawn (λ kinds. ArePromotionsOf kinds (men_swapped men.now)) }
+    requires last_pawn { IfSome four.now.last_pawn (λ kinds. ArePromotionsOf kinds men.now) }
+    ensures { result ≡ true → (a b : ℕ) → a < 64 → b < 64 → AreAllScores passed four.now men.now side a b (at mates.new a b) (at zeroing.new a b) }
+{
+    if passed {
+        passed_scores(four, men, side, mates, zeroing)
+    } else {
+        move_scores(four, men, side, mates, zeroing)
+    }
 }

@@ -1,15 +1,13 @@
 //! The greatest scores of all moves of a pawn who is the last man beside the kings, whose kings stand on two squares.
 ghost use Rattle.std.specs.Prelude.{◌≡◌, ◌<◌, ℕ, false, true, IfSome};
 ghost use Rattle.egt_board.specs.Turned.{turned_man};
-ghost use Rattle.egt_class.specs.Material.{material_of};
 ghost use Rattle.egt_index.specs.ShelfCodes.{AreMenOf};
-ghost use Rattle.egt_index.specs.Size.{has_target};
 ghost use Rattle.egt_lanes.specs.Blocks.{at};
 ghost use Rattle.egt_check.specs.PawnMoves.{men_after, officer_of};
 ghost use Rattle.egt_check.specs.PawnScores.{ArePawnScores, ArePromotionsOf, AreRaisedByPawns, IsPromotionOf, IsPromotionScore, IsRaisedByPawn};
 ghost use Rattle.egt_check.specs.Taken.{men_swapped};
 
-use crate::advance_blocks::{advance_block, promoting_block};
+use crate::advance_blocks::{advance_block, leap_block, promoting_block, step_block};
 use crate::blocks::nothing;
 use crate::move_scores::men_swapped;
 use crate::own_men::{is_of, is_pawn};
@@ -89,15 +87,18 @@ pub(crate) fn pawn_block(
     out: &mut Block,
 ) -> bool
     requires men { AreMenOf own.now.class (men_after first false men.now men.now.last) }
-    requires targets { has_target (material_of own.now.class) ≡ false }
     requires promotions { ArePromotionsOf promotions.now men.now }
     requires mine { men.now.last.side ≡ side }
     ensures { result ≡ true → (a b : ℕ) → a < 64 → b < 64 → ArePawnScores own.now first promotions.now men.now side a b (at out.new a b) }
 {
-    *out = nothing();
-    if !advance_block(own, first, false, men, None, side, out) {
+    if !step_block(own, first, men, side, out) {
         return false;
     }
+    let mut leaps = nothing();
+    if !leap_block(own, first, men, side, &mut leaps) {
+        return false;
+    }
+    raise(out, &leaps);
     if !raise_promotion(&promotions.queen, men, side, out) {
         return false;
     }
@@ -121,7 +122,6 @@ fn raise_pawn(
     out: &mut Block,
 ) -> bool
     requires men { AreMenOf own.now.class (men_after first false men.now men.now.last) }
-    requires targets { has_target (material_of own.now.class) ≡ false }
     requires promotions { IfSome promotions.now (λ p. ArePromotionsOf p men.now) }
     ensures { result ≡ true → (a b : ℕ) → a < 64 → b < 64 → IsRaisedByPawn own.now first promotions.now men.now side a b (at out.old a b) (at out.new a b) }
 {
@@ -150,7 +150,6 @@ pub(crate) fn pawns_block(
     out: &mut Block,
 ) -> bool
     requires men { AreMenOf own.now.class men.now }
-    requires targets { has_target (material_of own.now.class) ≡ false }
     requires first { IfSome first.now (λ p. ArePromotionsOf p (men_swapped men.now)) }
     requires last { IfSome last.now (λ p. ArePromotionsOf p men.now) }
     ensures { result ≡ true → (a b : ℕ) → a < 64 → b < 64 → AreRaisedByPawns own.now first.now last.now men.now side a b (at out.new a b) }

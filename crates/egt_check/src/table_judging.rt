@@ -1,17 +1,16 @@
-//! The judgement of a whole table of a class without targets, with two men beside the kings, block by block.
+//! The judgement of a whole table of a class with two men beside the kings, block by block.
 ghost use Rattle.std.specs.Prelude.{◌≡◌, ◌≢◌, ◌+◌, ◌<◌, ℕ, false, true, Some, None, IfSome};
 ghost use Rattle.egt_board.specs.Turned.{turned_man};
 ghost use Rattle.egt_board.specs.Setup.{Setup};
 ghost use Rattle.egt_board.specs.declared.man.Kind.TheVariants.{K};
 ghost use Rattle.egt_board.specs.declared.man.Side.{Side};
-ghost use Rattle.egt_class.specs.Material.{material_of};
 ghost use Rattle.egt_class.specs.Membership.{IsOf};
 ghost use Rattle.egt_class.specs.Pair.{IsBeside};
 ghost use Rattle.egt_index.specs.LoneCodes.{IsLoneMan};
-ghost use Rattle.egt_index.specs.Numbers.{places};
+ghost use Rattle.egt_index.specs.Numbers.{code_of, places};
 ghost use Rattle.egt_index.specs.Scales.{kind_digits};
 ghost use Rattle.egt_index.specs.ShelfCodes.{AreMenOf, number_in};
-ghost use Rattle.egt_index.specs.Size.{has_target, size_of};
+ghost use Rattle.egt_index.specs.Size.{size_of};
 ghost use Rattle.egt_index.specs.declared.shelf_codes.ShelfMen.{ShelfMen};
 ghost use Rattle.egt_moves.specs.Promotion.{IsOfficer};
 ghost use Rattle.egt_table.specs.Table.{TableValue};
@@ -32,9 +31,11 @@ use crate::move_scores::{FourMen, men_swapped};
 use crate::own_men::is_pawn;
 use crate::pawn_scores::{Promotion, Promotions};
 use crate::taken_blocks::turned_man;
+use crate::voids::is_passed;
 use egt_board::{Kind, Man, Side, Square};
 use egt_class::Class;
 use egt_class::membership::of_men;
+use egt_index::laws::numbers_stand_for_codes;
 use egt_index::{ShelfMen, has_target, last_digits, lone_man, shelf_men, size};
 use egt_table::Table;
 
@@ -54,7 +55,6 @@ fn with_kings(men: &ShelfMen, white: Square, black: Square) -> ShelfMen
 /// Whether all entries of the shelves from this one on, one for each digit of the first man, keep the rules.
 fn pair_is_right(four: &FourMen, men: &ShelfMen, first: u32) -> bool
     requires men { AreMenOf four.now.own.now.class men.now }
-    requires targets { has_target (material_of four.now.own.now.class) ≡ false }
     requires one { men.now.one.kind ≢ K }
     requires last { men.now.last.kind ≢ K }
     requires first_left { IsLoneMan four.now.first.now.class (turned_man four.now.first_flips men.now.one) }
@@ -63,20 +63,22 @@ fn pair_is_right(four: &FourMen, men: &ShelfMen, first: u32) -> bool
     requires last_pawn { IfSome four.now.last_pawn (λ kinds. ArePromotionsOf kinds men.now) }
     requires room { first + 64 < 4294967296 }
     ensures { result ≡ true → (tables : Tables) → AreTablesOf tables four.now men.now → (x y : ℕ) (side : Side) → x < kind_digits men.now.one.kind → y < kind_digits men.now.last.kind → (column : Column) →
-        IsJudged tables four.now.own.now column (number_in four.now.own.now.class (first + x) side y) None }
+        IsJudged tables four.now.own.now column (code_of four.now.own.now.class (number_in four.now.own.now.class (first + x) side y)) None }
 {
     let Some(here) = shelf_men(four.own.class(), first) else {
         return false;
     };
+    let Some(passed) = is_passed(four.own.class(), &here, first) else {
+        return false;
+    };
     let there = with_kings(men, here.white, here.black);
-    block_is_right(four, &there, first, Side::White)
-        && block_is_right(four, &there, first, Side::Black)
+    block_is_right(four, &there, first, Side::White, passed)
+        && block_is_right(four, &there, first, Side::Black, passed)
 }
 
 /// Whether all entries of the class keep the rules.
 fn pairs_are_right(four: &FourMen, men: &ShelfMen) -> bool
     requires men { AreMenOf four.now.own.now.class men.now }
-    requires targets { has_target (material_of four.now.own.now.class) ≡ false }
     requires one { men.now.one.kind ≢ K }
     requires last { men.now.last.kind ≢ K }
     requires first_left { IsLoneMan four.now.first.now.class (turned_man four.now.first_flips men.now.one) }
@@ -86,6 +88,7 @@ fn pairs_are_right(four: &FourMen, men: &ShelfMen) -> bool
     requires wide { places four.now.own.now.class ≡ kind_digits men.now.last.kind }
     ensures { result ≡ true → (tables : Tables) → AreTablesOf tables four.now men.now → (column : Column) → KeepsBelow tables four.now.own.now column (size_of four.now.own.now.class) }
 {
+    numbers_stand_for_codes();
     let class = four.own.class();
     let step = u32::from(digits_of(men.one));
     let shelves = size(class).div_ceil(2 * last_digits(class));
@@ -213,8 +216,8 @@ fn is_own_class(class: Class, men: &ShelfMen) -> bool
     own.number() == class.number() && !flips
 }
 
-/// Whether all entries of the table keep the rules beside those of the successors, of a class without targets, with
-/// two men beside the kings. False of any other, and where a table does not tell it by bytes.
+/// Whether all entries of the table keep the rules beside those of the successors, of a class with two men beside the
+/// kings. False of any other, and where a table does not tell it by bytes.
 pub(crate) fn is_right_by_blocks(table: &Table, library: &Library) -> bool
     ensures { result ≡ true → (column : Column) → KeepsBelow (beside (table_at library.now) table.now) table.now column (size_of table.now.class) }
 {
@@ -236,7 +239,7 @@ pub(crate) fn is_right_by_blocks(table: &Table, library: &Library) -> bool
     if !is_left(class, first, first_flips, men.one) || !is_left(class, last, last_flips, men.last) {
         return false;
     }
-    if has_target(class) || !tells_bytes(table) {
+    if !tells_bytes(table) {
         return false;
     }
     let four = FourMen {

@@ -19,7 +19,7 @@ use egt_lanes::sets::lanes_of;
 use egt_table::{Column, Table};
 
 /// Whether the positions of the shelf, which has these men, have a target.
-fn is_passed(class: Class, men: &ShelfMen, shelf: u32) -> Option<bool>
+pub(crate) fn is_passed(class: Class, men: &ShelfMen, shelf: u32) -> Option<bool>
     requires { AreMenOf class men.now }
     ensures { IfSome result (λ passed. IsShelfOf passed class shelf men.now) }
 {
