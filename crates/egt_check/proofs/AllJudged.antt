@@ -1,5 +1,5 @@
 -- Entries that are due to the greatest scores of all moves keep the rules.
-use Rattle.std.proofs.Common.{◌≡◌, ◌≢◌, ℕ, ◌%◌, ◌<◌, ◌⊎◌, false, None, arith, sym, ap, ◌∙◌, inl, inr}
+use Rattle.std.proofs.Common.{◌≡◌, ◌≢◌, ℕ, ◌%◌, ◌<◌, ◌⊎◌, Bool, false, None, arith, sym, ap, ◌∙◌, inl, inr}
 use Rattle.std.proofs.lemmas.Bool.{cases_eq}
 use Rattle.egt_board.specs.Settled.{IsSettled}
 use Rattle.egt_board.specs.Setup.{Setup, IsAdmissible}
@@ -21,7 +21,7 @@ use Rattle.egt_table.specs.declared.column.Column.{Column}
 use Rattle.egt_table.specs.declared.column.Column.TheVariants.{Mate, Zeroing}
 use Rattle.egt_check.specs.Blocks.{stand_on}
 use Rattle.egt_check.specs.Given.{AreAlike, AreGiven}
-use Rattle.egt_check.specs.MoveScores.{AreMoveScores, AreTablesOf}
+use Rattle.egt_check.specs.MoveScores.{AreAllScores, AreTablesOf}
 use Rattle.egt_check.specs.RightRow.{IsRightAt}
 use Rattle.egt_check.specs.Rules.{IsJudged}
 use Rattle.egt_check.specs.Score.{IsAtEnd}
@@ -40,11 +40,11 @@ no_pawn N piece e = cc
 no_pawn K piece e = piece
 
 -- what other laws say of this position
-pub record Says (tables : Tables) (four : FourMen) (men : ShelfMen) (side : Side) (a b : ℕ) : Type 0 where
+pub record Says (tables : Tables) (four : FourMen) (men : ShelfMen) (side : Side) (passed : Bool) (a b : ℕ) : Type 0 where
   pub or_void : (i : ℕ) → ((p : Setup) × Spells four.own.now.class i p × IsIndex four.own.now.class p i) ⊎ IsVoid four.own.now.class i
   pub settled : (i : ℕ) (p : Setup) → IsAdmissible p → IsIndex four.own.now.class p i → Spells four.own.now.class i p → IsSettled p
-  pub stands : (i : ℕ) (p : Setup) → Spells four.own.now.class i p → IsSettled p → TellsMen false four.own.now.class i (stand_on men a b) side → HasStand four.own.now.class false (stand_on men a b) side false p
-  pub given : (p : Setup) (mate zeroing : ℕ) → HasStand four.own.now.class false (stand_on men a b) side false p → AreMoveScores four men side a b mate zeroing → AreGiven tables p (λ m. Unit {0}) mate zeroing
+  pub stands : (i : ℕ) (p : Setup) → Spells four.own.now.class i p → IsSettled p → TellsMen passed four.own.now.class i (stand_on men a b) side → HasStand four.own.now.class false (stand_on men a b) side passed p
+  pub given : (p : Setup) (mate zeroing : ℕ) → HasStand four.own.now.class false (stand_on men a b) side passed p → AreAllScores passed four men side a b mate zeroing → AreGiven tables p (λ m. Unit {0}) mate zeroing
   pub due : (i : ℕ) (p : Setup) (g z : ℕ) → Spells four.own.now.class i p → ¬ IsVoid four.own.now.class i → AreAlike (entry_at four.own.now Mate i) (entry_at four.own.now Zeroing i) → AreGiven tables p (λ m. Unit {0}) g z → g ≢ 0
       → byte_score (entry_at four.own.now Mate i) ≡ due_score g → byte_score (entry_at four.own.now Zeroing i) ≡ due_score z → (column : Column) → IsJudged tables four.own.now column i None
   pub none : (p : Setup) (g z : ℕ) → IsAdmissible p → AreGiven tables p (λ m. Unit {0}) g z → g ≡ 0 → NoMove chess p
@@ -61,14 +61,14 @@ some_score e some other low none = elim (cases_eq e 1) [
   ]
 ]
 
-module _ (tables : Tables) (four : FourMen) (men : ShelfMen) (side : Side) (a b : ℕ) (says : Says tables four men side a b) (are : AreTablesOf tables four men) (i : ℕ) (below : i < size_of four.own.now.class) where
+module _ (tables : Tables) (four : FourMen) (men : ShelfMen) (side : Side) (passed : Bool) (a b : ℕ) (says : Says tables four men side passed a b) (are : AreTablesOf tables four men) (i : ℕ) (below : i < size_of four.own.now.class) where
   abbrev pub own : TableValue
   own = four.own.now
 
   of_void : IsVoid own.class i → (column : Column) → IsJudged tables own column i None
   of_void void column = void_judged tables own i column void None (are.bytes.void column i below void)
 
-  module _ (p : Setup) (spells : Spells own.class i p) (index : IsIndex own.class p i) (mate zeroing : ℕ) (scores : AreMoveScores four men side a b mate zeroing) (tells : TellsMen false own.class i (stand_on men a b) side)
+  module _ (p : Setup) (spells : Spells own.class i p) (index : IsIndex own.class p i) (mate zeroing : ℕ) (scores : AreAllScores passed four men side a b mate zeroing) (tells : TellsMen passed own.class i (stand_on men a b) side)
       (right : score_at own Mate i ≢ 0 → IsRightAt own i mate zeroing) where
     not_void : ¬ IsVoid own.class i
     not_void void = void p spells.admissible index
@@ -76,7 +76,7 @@ module _ (tables : Tables) (four : FourMen) (men : ShelfMen) (side : Side) (a b 
     alike : AreAlike (entry_at own Mate i) (entry_at own Zeroing i)
     alike = are.bytes.alike i below not_void
 
-    has : HasStand own.class false (stand_on men a b) side false p
+    has : HasStand own.class false (stand_on men a b) side passed p
     has = says.stands i p spells (says.settled i p spells.admissible index spells) tells
 
     given : AreGiven tables p (λ m. Unit {0}) mate zeroing
@@ -95,7 +95,7 @@ module _ (tables : Tables) (four : FourMen) (men : ShelfMen) (side : Side) (a b 
           says.due i p mate zeroing spells not_void alike given some (sym (low_score (entry_at own Mate i) alike.mate_known.low) ∙ first) (sym (low_score (entry_at own Zeroing i) alike.zeroing_known.low) ∙ second) column
     ]
 
-  pub all_judged : (mate zeroing : ℕ) → TellsMen false own.class i (stand_on men a b) side → AreMoveScores four men side a b mate zeroing → (score_at own Mate i ≢ 0 → IsRightAt own i mate zeroing) → (column : Column) → IsJudged tables own column i None
+  pub all_judged : (mate zeroing : ℕ) → TellsMen passed own.class i (stand_on men a b) side → AreAllScores passed four men side a b mate zeroing → (score_at own Mate i ≢ 0 → IsRightAt own i mate zeroing) → (column : Column) → IsJudged tables own column i None
   all_judged mate zeroing tells scores right column = elim (says.or_void i) [
     | inl spelled ↦ of_index spelled.0 spelled.1 spelled.2 mate zeroing scores tells right column
     | inr void ↦ of_void void column

@@ -1,14 +1,13 @@
 -- The code of a lane of a shelf.
-use Rattle.std.proofs.Common.{◌≡◌, ◌≢◌, ℕ, ◌+◌, ◌*◌, ◌<◌, ◌≤◌, Bool, false, arith, sym, subst}
+use Rattle.std.proofs.Common.{◌≡◌, ◌≢◌, ℕ, ◌+◌, ◌*◌, ◌<◌, ◌≤◌, Bool, arith, sym, subst}
 use Rattle.egt_board.specs.Images.{side_number}
 use Rattle.egt_board.specs.declared.man.Kind.{Kind}
 use Rattle.egt_board.specs.declared.man.Kind.TheVariants.{Q, R, B, N, P, K}
 use Rattle.egt_board.specs.declared.man.Side.{Side}
-use Rattle.egt_class.specs.Material.{material_of}
 use Rattle.egt_index.specs.Numbers.{code_of, places}
 use Rattle.egt_index.specs.Scales.{kind_digits, kind_less}
 use Rattle.egt_index.specs.ShelfCodes.{IsShelfOf, IsWithin, number_in}
-use Rattle.egt_index.specs.Size.{has_target, size_of}
+use Rattle.egt_index.specs.Size.{size_of}
 use Rattle.egt_index.specs.StepCodes.{TellsMen}
 use Rattle.egt_index.specs.declared.shelf_codes.ShelfMen.{ShelfMen}
 use Rattle.egt_table.specs.Table.{TableValue}
@@ -17,7 +16,6 @@ use Rattle.egt_check.specs.Blocks.{men_on, stand_on}
 use Rattle.egt_check.specs.RightBlock.{IsRightLane}
 use Rattle.egt_check.specs.RightRow.{IsRightAt}
 use Rattle.egt_check.specs.Worth.{score_at}
-use Rattle.egt_index.proofs.Halves.{code_plain}
 use Rattle.egt_check.proofs.RowRead.{side_few}
 
 -- a code of a shelf within is below the size
@@ -29,23 +27,22 @@ row_below B shelf first digit size few below ends = omega (arith, few, below, en
 row_below N shelf first digit size few below ends = omega (arith, few, below, ends)
 row_below K shelf first digit size few below ends = omega (arith, few, below, ends)
 
-module _ (t : TableValue) (men : ShelfMen) (on shelf : ℕ) (side : Side) (is : IsShelfOf false t.class shelf (men_on men on)) (within : IsWithin t.class shelf) (targets : has_target (material_of t.class) ≡ false) (y : ℕ) (y_in : y < kind_digits men.last.kind) where
-  abbrev pub code : ℕ
-  code = number_in t.class shelf side y
+module _ (passed : Bool) (t : TableValue) (men : ShelfMen) (on shelf : ℕ) (side : Side) (is : IsShelfOf passed t.class shelf (men_on men on)) (within : IsWithin t.class shelf)
+    (coded : (n : ℕ) → n < size_of t.class → code_of t.class n < size_of t.class) (y : ℕ) (y_in : y < kind_digits men.last.kind) where
+  abbrev pub number : ℕ
+  number = number_in t.class shelf side y
 
   abbrev pub square : ℕ
   square = y + kind_less men.last.kind
 
-  pub below : code < size_of t.class
+  below : number < size_of t.class
   below =
       let wide : places t.class ≡ kind_digits men.last.kind = is.0.len in
       subst (λ w. shelf * (2 * w) + side_number side + 2 * y < size_of t.class) (sym wide)
       (row_below men.last.kind shelf (side_number side) y (size_of t.class) (side_few side) y_in (subst (λ w. (shelf + 1) * (2 * w) ≤ size_of t.class) wide within))
 
-  told : TellsMen false t.class code (stand_on men on square) side
-  told =
-      subst (λ (n : ℕ). TellsMen false t.class n (stand_on men on square) side) (code_plain t.class code targets)
-      (subst (λ (passed : Bool). TellsMen passed t.class (code_of t.class code) (stand_on men on square) side) is.1 (is.0.tells side y y_in))
+  told : TellsMen passed t.class (code_of t.class number) (stand_on men on square) side
+  told = subst (λ (b : Bool). TellsMen b t.class (code_of t.class number) (stand_on men on square) side) is.1 (is.0.tells side y y_in)
 
-  pub right_lane : (mate zeroing : ℕ) → (score_at t Mate (code_of t.class code) ≢ 0 → IsRightAt t (code_of t.class code) mate zeroing) → IsRightLane t men side on square code mate zeroing
-  right_lane mate zeroing right = record { below = below; tells = told; right = subst (λ (n : ℕ). score_at t Mate n ≢ 0 → IsRightAt t n mate zeroing) (code_plain t.class code targets) right }
+  pub right_lane : (mate zeroing : ℕ) → (score_at t Mate (code_of t.class number) ≢ 0 → IsRightAt t (code_of t.class number) mate zeroing) → IsRightLane passed t men side on square (code_of t.class number) mate zeroing
+  right_lane mate zeroing right = record { below = coded number below; tells = told; right = right }

@@ -12,9 +12,10 @@ use Rattle.egt_board.specs.declared.man.Side.TheVariants.{White, Black}
 use Rattle.egt_class.specs.Membership.{IsOf}
 use Rattle.egt_class.specs.Pair.{IsBeside}
 use Rattle.egt_index.specs.LoneCodes.{IsLoneMan}
-use Rattle.egt_index.specs.Numbers.{places}
+use Rattle.egt_index.specs.Numbers.{code_of, number_of, places}
 use Rattle.egt_index.specs.Scales.{kind_digits}
 use Rattle.egt_index.specs.ShelfCodes.{number_in}
+use Rattle.egt_index.specs.Size.{size_of}
 use Rattle.egt_table.specs.Table.{TableValue}
 use Rattle.egt_table.specs.declared.column.Column.{Column}
 use Rattle.egt_check.specs.Rules.{IsJudged, Keeps, KeepsBelow}
@@ -61,15 +62,26 @@ lane_at kind first many i = elim (digits_are kind) [
   | inr narrow ↦ subst (λ w. first * (2 * w) ≤ i → i < (first + many) * (2 * w) → IsLane w first many i) (sym narrow) (lane_of_48 first many i)
 ]
 
-pub keeps_pair : (tables : Tables) (t : TableValue) (column : Column) (kind : Kind) (first many : ℕ) → places t.class ≡ kind_digits kind → KeepsBelow tables t column (first * (2 * kind_digits kind))
-    → ((x y : ℕ) (side : Side) → x < many → y < kind_digits kind → IsJudged tables t column (number_in t.class (first + x) side y) None) → KeepsBelow tables t column ((first + many) * (2 * kind_digits kind))
-keeps_pair tables t column kind first many wide kept judged = λ i i_in. elim (cases_lt i (first * (2 * kind_digits kind))) [
-  | inl before ↦ kept i before
+-- the entries at the codes of all numbers below n keep the rules
+abbrev pub NumbersKeep : Tables → TableValue → Column → ℕ → Type 0
+NumbersKeep tables t column n = (k : ℕ) → k < n → IsJudged tables t column (code_of t.class k) None
+
+pub keeps_pair : (tables : Tables) (t : TableValue) (column : Column) (kind : Kind) (first many : ℕ) → places t.class ≡ kind_digits kind → NumbersKeep tables t column (first * (2 * kind_digits kind))
+    → ((x y : ℕ) (side : Side) → x < many → y < kind_digits kind → IsJudged tables t column (code_of t.class (number_in t.class (first + x) side y)) None) → NumbersKeep tables t column ((first + many) * (2 * kind_digits kind))
+keeps_pair tables t column kind first many wide kept judged = λ k k_in. elim (cases_lt k (first * (2 * kind_digits kind))) [
+  | inl before ↦ kept k before
   | inr past ↦
-      let lane = lane_at kind first many i past i_in in
-      let is : number_in t.class (first + lane.x) lane.side lane.y ≡ i = ap (λ w. (first + lane.x) * (2 * w) + side_number lane.side + 2 * lane.y) wide ∙ lane.is in
-      subst (λ (n : ℕ). (rule : Rule) → Keeps tables t column n rule) is (judged lane.x lane.y lane.side lane.x_in lane.y_in)
+      let lane = lane_at kind first many k past k_in in
+      let is : number_in t.class (first + lane.x) lane.side lane.y ≡ k = ap (λ w. (first + lane.x) * (2 * w) + side_number lane.side + 2 * lane.y) wide ∙ lane.is in
+      subst (λ (n : ℕ). (rule : Rule) → Keeps tables t column (code_of t.class n) rule) is (judged lane.x lane.y lane.side lane.x_in lane.y_in)
 ]
+
+-- each code is that of its number
+pub keeps_codes : (tables : Tables) (t : TableValue) (column : Column) (n : ℕ) → ((i : ℕ) → i < size_of t.class → code_of t.class (number_of t.class i) ≡ i) → ((i : ℕ) → i < size_of t.class → number_of t.class i < size_of t.class)
+    → size_of t.class ≤ n → NumbersKeep tables t column n → KeepsBelow tables t column (size_of t.class)
+keeps_codes tables t column n code within all kept i below =
+    let few = within i below in
+    subst (λ (k : ℕ). (rule : Rule) → Keeps tables t column k rule) (code i below) (kept (number_of t.class i) (omega (arith, few, all)))
 
 -- the table of a class that a capture leaves, beside that of another class
 pub table_left : (tables : Tables) (t u : TableValue) (c : ℕ) (flips : Bool) (man : Man) → IsShelved tables c u → tables c ≡ Some u → u.class ≢ t.class

@@ -1,5 +1,6 @@
 use Rattle.std.proofs.Common.{◌≡◌, ◌+◌, arith, inl, inr, subst}
 use Rattle.std.proofs.lemmas.Bool.{cases_lt}
+use Rattle.egt_index.specs.Numbers.{code_of}
 use Rattle.egt_index.specs.Scales.{kind_less}
 use Rattle.egt_index.specs.ShelfCodes.{number_in}
 use Rattle.egt_lanes.specs.Blocks.{at}
@@ -23,7 +24,7 @@ loop-digit-preserved c = λ x y under y_in. elim (cases_lt x c.loop-digit.digit)
       let square : c.at.result ≡ x + less = omega (arith, on, row) in
       let shelf : c.args.first + c.from.result ≡ c.args.first + x = omega (arith, digit, under, here) in
       let right = c.shelf_is_right.ensures c.if-not-shelf_is_right.false y y_in in
-      let there = subst (λ s. IsRightLane t men side s b (number_in t.class (c.args.first + c.from.result) side y) (at c.args.mates.now (c.first_square-from.result + n) b) (at c.args.zeroing.now (c.first_square-from.result + n) b)) square right in
-      let lane = subst (λ k. IsRightLane t men side (x + less) b (number_in t.class k side y) (at c.args.mates.now (c.first_square-from.result + n) b) (at c.args.zeroing.now (c.first_square-from.result + n) b)) shelf there in
-      subst (λ r. IsRightLane t men side (x + less) b (number_in t.class (c.args.first + x) side y) (at c.args.mates.now r b) (at c.args.zeroing.now r b)) row lane
+      let there = subst (λ s. IsRightLane c.args.passed t men side s b (code_of t.class (number_in t.class (c.args.first + c.from.result) side y)) (at c.args.mates.now (c.first_square-from.result + n) b) (at c.args.zeroing.now (c.first_square-from.result + n) b)) square right in
+      let lane = subst (λ k. IsRightLane c.args.passed t men side (x + less) b (code_of t.class (number_in t.class k side y)) (at c.args.mates.now (c.first_square-from.result + n) b) (at c.args.zeroing.now (c.first_square-from.result + n) b)) shelf there in
+      subst (λ r. IsRightLane c.args.passed t men side (x + less) b (code_of t.class (number_in t.class (c.args.first + x) side y)) (at c.args.mates.now r b) (at c.args.zeroing.now r b)) row lane
 ]

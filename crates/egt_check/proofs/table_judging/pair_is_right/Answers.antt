@@ -2,6 +2,7 @@ use Rattle.std.proofs.Common.{◌≡◌, ◌+◌, ◌<◌, ℕ, Option, None, If
 use Rattle.egt_board.specs.declared.man.Side.TheVariants.{White, Black}
 use Rattle.egt_index.specs.declared.shelf_codes.ShelfMen.{ShelfMen}
 use Rattle.egt_check.specs.MoveScores.{AreTablesOf}
+use Rattle.egt_index.specs.Numbers.{code_of}
 use Rattle.egt_index.specs.Scales.{kind_digits}
 use Rattle.egt_index.specs.ShelfCodes.{number_in}
 use Rattle.egt_check.specs.Rules.{IsJudged}
@@ -51,7 +52,7 @@ returns-then-block_is_right c = λ right tables are x y side x_in y_in column.
     }) in
     let x_there = subst (λ (men : ShelfMen). x < kind_digits men.one.kind) (sym c.with_kings-there.ensures) x_in in
     let y_there = subst (λ (men : ShelfMen). y < kind_digits men.last.kind) (sym c.with_kings-there.ensures) y_in in
-    elim side as (λ k. IsJudged tables four.own.now column (number_in four.own.now.class (c.args.first + x) k y) None) [
+    elim side as (λ k. IsJudged tables four.own.now column (code_of four.own.now.class (number_in four.own.now.class (c.args.first + x) k y)) None) [
       | White ↦ c.block_is_right.ensures c.if-block_is_right.true tables there x y x_there y_there column
       | Black ↦ c.block_is_right-then-block_is_right.ensures right tables there x y x_there y_there column
     ]
