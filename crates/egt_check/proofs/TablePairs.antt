@@ -1,6 +1,8 @@
 -- Whole tables of classes with two men beside the kings: entries that keep the rules, the shelves of two kings more, and the tables that captures lead to.
-use Rattle.std.proofs.Common.{◌≡◌, ◌≢◌, ℕ, ◌+◌, ◌-◌, ◌*◌, ◌/◌, ◌%◌, ◌<◌, ◌≤◌, ◌⊎◌, Bool, ne_eqb, refl, inl, inr, Some, None, sym, ap, ◌∙◌, subst, arith}
+use Rattle.std.proofs.Common.{◌≡◌, ◌≢◌, ℕ, min, ◌+◌, ◌-◌, ◌*◌, ◌/◌, ◌%◌, ◌<◌, ◌≤◌, ◌⊎◌, Bool, ne_eqb, refl, inl, inr, Some, None, sym, ap, ◌∙◌, subst, arith}
 use Rattle.std.proofs.lemmas.Bool.{cases_lt}
+use Rattle.std.proofs.lemmas.Grind.{div_ceil_times}
+use Rattle.std.proofs.Math.Nat.{mul-le-mul_right}
 use Rattle.egt_board.specs.Setup.{Setup}
 use Rattle.egt_board.specs.Turned.{turned_man}
 use Rattle.egt_board.specs.Images.{side_number}
@@ -75,6 +77,13 @@ keeps_pair tables t column kind first many wide kept judged = λ k k_in. elim (c
       let is : number_in t.class (first + lane.x) lane.side lane.y ≡ k = ap (λ w. (first + lane.x) * (2 * w) + side_number lane.side + 2 * lane.y) wide ∙ lane.is in
       subst (λ (n : ℕ). (rule : Rule) → Keeps tables t column (code_of t.class n) rule) is (judged lane.x lane.y lane.side lane.x_in lane.y_in)
 ]
+
+-- the shelves hold all numbers
+pub all_shelves : (size digits wide shelves first : ℕ) → 0 < digits → digits ≡ wide → shelves ≡ size / (2 * digits) + min 1 (size % (2 * digits)) → shelves ≤ first → size ≤ first * (2 * wide)
+all_shelves size digits wide shelves first some same is past =
+    let up = (div_ceil_times size (2 * digits) (omega (arith, some))).0 in
+    let more = mul-le-mul_right (2 * digits) past in
+    subst (λ w. size ≤ first * (2 * w)) same (subst (λ n. size ≤ n * (2 * digits) → size ≤ first * (2 * digits)) is (λ le. omega (arith, le, more)) up)
 
 -- each code is that of its number
 pub keeps_codes : (tables : Tables) (t : TableValue) (column : Column) (n : ℕ) → ((i : ℕ) → i < size_of t.class → code_of t.class (number_of t.class i) ≡ i) → ((i : ℕ) → i < size_of t.class → number_of t.class i < size_of t.class)
