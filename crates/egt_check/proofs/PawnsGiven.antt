@@ -1,10 +1,7 @@
 -- The greatest scores of all moves of pawns: their advances, and the captures by which they are promoted.
 use Rattle.std.proofs.Common.{◌≡◌, ◌≢◌, ℕ, ◌⊎◌, max, Bool, true, false, Option, Some, None, IfSome, arith, refl, sym, ap, ◌∙◌, inl, inr, subst}
-use Rattle.std.proofs.lemmas.Bool.{cases_lt}
 use Rattle.egt_board.specs.Attack.{king_of}
-use Rattle.egt_board.specs.DecidedMen.{decided_held}
 use Rattle.egt_board.specs.Man.{other_side}
-use Rattle.egt_board.specs.Pawn.{pawn_of}
 use Rattle.egt_board.specs.Placement.{Stands, IsHeld, one_man}
 use Rattle.egt_board.specs.Setup.{Setup}
 use Rattle.egt_board.specs.declared.man.Kind.{Kind}
@@ -16,10 +13,9 @@ use Rattle.egt_index.specs.Stood.{HasStand}
 use Rattle.egt_index.specs.declared.shelf_codes.ShelfMen.{ShelfMen}
 use Rattle.egt_lanes.specs.Raised.{IsRaised}
 use Rattle.egt_lanes.specs.Scores.{zeroing_score}
-use Rattle.egt_moves.specs.Chess.{IsPawnOn, Zeroes}
-use Rattle.egt_moves.specs.Exchange.{Captures}
+use Rattle.egt_moves.specs.Chess.{Zeroes}
 use Rattle.egt_moves.specs.Legal.{Leads}
-use Rattle.egt_moves.specs.Promotion.{FitsPromotion, IsOfficer, arriving, is_pawn, promotes}
+use Rattle.egt_moves.specs.Promotion.{FitsPromotion, IsOfficer, is_pawn, promotes}
 use Rattle.egt_moves.specs.declared.chess_move.Move.{Move}
 use Rattle.egt_moves.proofs.Admissible.{pawn_told}
 use Rattle.egt_table.specs.Table.{TableValue}
@@ -37,8 +33,6 @@ use Rattle.egt_check.specs.declared.pawn_scores.Promotion.{Promotion}
 use Rattle.egt_check.specs.declared.pawn_scores.Promotions.{Promotions}
 use Rattle.egt_check.proofs.EitherGiven.{same_given, union_given}
 use Rattle.egt_check.proofs.PawnGiven.{zeroing_max}
-use Rattle.egt_check.proofs.PawnAdvances.{none_of}
-use Rattle.egt_check.proofs.TakenGiven.{zeroing_above}
 use Rattle.egt_check.proofs.TwoBeside.{AreTwo, are_in, who}
 
 -- ---- moves of two kinds that zero

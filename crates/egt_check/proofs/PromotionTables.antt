@@ -30,7 +30,6 @@ module _ (men : ShelfMen) (white black : ℕ) where
   promotion_there promotion is = record {
     officer = is.officer;
     both = after_there promotion.both.now.class promotion.before promotion.both_flips (arriving men.last (Some promotion.kind)) is.both;
-    targets = is.targets;
     alone = is.alone;
   }
 

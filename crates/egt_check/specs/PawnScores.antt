@@ -4,10 +4,8 @@ use Rattle.egt_board.specs.Turned.{turned_man}
 use Rattle.egt_board.specs.declared.man.Kind.TheVariants.{Q, R, B, N, P}
 use Rattle.egt_board.specs.declared.man.Man.{Man}
 use Rattle.egt_board.specs.declared.man.Side.{Side}
-use Rattle.egt_class.specs.Material.{material_of}
 use Rattle.egt_index.specs.LoneCodes.{IsLoneMan}
 use Rattle.egt_index.specs.ShelfCodes.{AreMenOf}
-use Rattle.egt_index.specs.Size.{has_target}
 use Rattle.egt_index.specs.declared.shelf_codes.ShelfMen.{ShelfMen}
 use Rattle.egt_lanes.specs.Raised.{IsRaised}
 use Rattle.egt_moves.specs.Promotion.{IsOfficer, arriving}
@@ -25,7 +23,6 @@ use Rattle.egt_check.specs.declared.pawn_scores.Promotions.{Promotions}
 pub record IsPromotionOf (promotion : Promotion) (men : ShelfMen) : Type 0 where
   pub officer : IsOfficer promotion.kind
   pub both : AreMenOf promotion.both.now.class (men_after promotion.before promotion.both_flips men (arriving men.last (Some promotion.kind)))
-  pub targets : has_target (material_of promotion.both.now.class) ≡ false
   pub alone : IsLoneMan promotion.alone.now.class (turned_man promotion.alone_flips (officer_of men.last.side promotion.kind))
 
 -- of each of the four

@@ -36,7 +36,7 @@ use egt_board::{Kind, Man, Side, Square};
 use egt_class::Class;
 use egt_class::membership::of_men;
 use egt_index::laws::numbers_stand_for_codes;
-use egt_index::{ShelfMen, has_target, last_digits, lone_man, shelf_men, size};
+use egt_index::{ShelfMen, last_digits, lone_man, shelf_men, size};
 use egt_table::Table;
 
 /// The men with the kings on these squares.
@@ -159,10 +159,7 @@ fn promotion<'t>(
         turned_man(men.one, both_flips),
         turned_man(officer, both_flips),
     )?;
-    if has_target(both_class)
-        || both_class.number() == class.number()
-        || !true_table_tells_bytes(both)
-    {
+    if both_class.number() == class.number() || !true_table_tells_bytes(both) {
         return None;
     }
     let (alone_class, alone_flips) = of_men(Some(officer), None);

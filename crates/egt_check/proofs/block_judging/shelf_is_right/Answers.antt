@@ -1,4 +1,4 @@
-use Rattle.std.proofs.Common.{◌≢◌, ◌+◌, ◌<◌, ℕ, false, ap, subst}
+use Rattle.std.proofs.Common.{◌≢◌, ◌+◌, ◌<◌, ℕ, ap, subst}
 use Rattle.egt_board.specs.declared.man.Man.{Man}
 use Rattle.std.specs.Prelude.{slice_index}
 use Rattle.egt_index.specs.Numbers.{code_of}

@@ -25,6 +25,6 @@ returns c = λ _ tables are column.
     let size = c.size.ensures ∙ ap (λ k. size_of k) class in
     let past = c.loop-first-test.false in
     let all =
-        subst (λ n. n ≤ c.loop-first.first * (2 * kind_digits men.last.kind)) size
-        (all_shelves c.size.result c.last_digits.result (kind_digits men.last.kind) c.div_ceil-shelves.result c.loop-first.first c.last_digits.ensures.some digits c.div_ceil-shelves.ensures (omega (arith, past))) in
+    subst (λ n. n ≤ c.loop-first.first * (2 * kind_digits men.last.kind)) size
+    (all_shelves c.size.result c.last_digits.result (kind_digits men.last.kind) c.div_ceil-shelves.result c.loop-first.first c.last_digits.ensures.some digits c.div_ceil-shelves.ensures (omega (arith, past))) in
     keeps_codes tables t column (c.loop-first.first * (2 * kind_digits men.last.kind)) (λ i below. laws.code t.class i class_in below) (λ i below. laws.within t.class i class_in below) all (c.loop-first.invariant tables are column)
