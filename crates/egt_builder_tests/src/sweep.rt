@@ -1,5 +1,6 @@
 //! The builder, and both games over a class.
 mod builds;
+mod damaged;
 mod figures;
 mod games;
 mod nearest;

@@ -1,0 +1,101 @@
+//! Tables of four men with other entries: what the checker names first.
+use super::built;
+use egt_check::{Library, Reject, check};
+use egt_class::Class;
+use egt_fixtures::shelf::named;
+use egt_graph::Ranks;
+use egt_sweep::build;
+use egt_table::{Column, Table};
+use std::alloc::Global;
+use std::test::*;
+
+/// Black to move, kings b1 and h8, rooks c4 and e2: an index of two rooks.
+const ROOKS: u32 = 1_041_973;
+
+/// The same with the rooks in the other order, which no position has for its index.
+const ROOKS_EXCHANGED: u32 = 1_043_737;
+
+/// All men on the last squares.
+const LAST: u32 = 5_242_879;
+
+/// An entry of one column that is changed.
+#[derive(Clone, Copy)]
+struct Change {
+    column: Column,
+    code: u32,
+    entry: u16,
+}
+
+/// The column's entries, changed where the change is of it.
+fn changed(alloc: Global, table: &Table, column: Column, change: Change) -> Option<Ranks> {
+    let mut entries = Vec::from_slice(alloc, table.entries(column)).ok()?;
+    if change.column == column {
+        *entries.get_mut(change.code as usize)? = change.entry;
+    }
+    Some(Ranks::from_entries(entries))
+}
+
+/// The column and the index that the checker names of the table with the change; `None` where it takes it.
+fn named_first(
+    alloc: Global,
+    table: &Table,
+    library: &Library,
+    change: Change,
+) -> Option<(Column, u32)> {
+    let mate = changed(alloc, table, Column::Mate, change)?;
+    let zeroing = changed(alloc, table, Column::Zeroing, change)?;
+    let damaged = Table::from_ranks(table.class(), mate, zeroing).ok()?;
+    match check(&damaged, library) {
+        Err(Reject::Rejected { column, index, .. }) => Some((column, index)),
+        _ => None,
+    }
+}
+
+/// Two rooks beside the kings, and what they rest on.
+fn two_rooks(alloc: Global) -> Result<(Library, Table), Fail> {
+    let library = built(alloc, &["KK", "KRK"])?;
+    let table = build(alloc, named("KRRK")?, &library, 32_000)?;
+    Ok((library, table))
+}
+
+#[test]
+fn codes_of_no_position(rt: HostRuntime) -> Result<(), Fail> {
+    let (library, table) = two_rooks(rt.alloc())?;
+    for column in Column::ALL {
+        for code in [0, ROOKS_EXCHANGED, LAST] {
+            for entry in [1, 2, 65_535] {
+                let change = Change {
+                    column,
+                    code,
+                    entry,
+                };
+                let found = named_first(rt.alloc(), &table, &library, change);
+                assert!(rt; found == Some((column, code)), "{code} {entry}");
+            }
+        }
+    }
+    Ok(())
+}
+
+// A wrong entry is named, or one before it whose moves lead there.
+#[test]
+fn an_entry_of_a_position(rt: HostRuntime) -> Result<(), Fail> {
+    let (library, table) = two_rooks(rt.alloc())?;
+    for column in Column::ALL {
+        let right = table.entries(column).get(ROOKS as usize).copied();
+        for entry in [0, 1, 2, 3, 4, 252, 253, 254, 255, 256, 257, 64_003, 65_535] {
+            let change = Change {
+                column,
+                code: ROOKS,
+                entry,
+            };
+            let found = named_first(rt.alloc(), &table, &library, change);
+            let is_named = match found {
+                Some((named, index)) => named == column && index <= ROOKS,
+                None => right == Some(entry),
+            };
+            assert!(rt; is_named, "{entry}");
+        }
+    }
+    Ok(())
+}
