@@ -1,18 +1,27 @@
-use Rattle.std.proofs.Common.{◌≡◌, ◌*◌, ◌/◌, arith, sym, subst}
+use Rattle.std.proofs.Common.{◌≡◌, ◌*◌, ◌/◌, ◌%◌, ◌∙◌, ℕ, arith, sym, subst}
 use Rattle.std.proofs.Math.Nat.{div-le_self}
 use Rattle.egt_index.specs.Numbers.{half_of, places}
+use Rattle.egt_index.specs.Size.{size_of}
 use Rattle.egt_index.proofs.Halves.{half_whole, half_within}
 use Rattle.egt_index.proofs.IndexTotal.{few}
 use Rattle.egt_index.proofs.numbers.fronts.Goals as goal
 
-pub returns-clause-whole : goal.returns-clause-whole
-returns-clause-whole c =
-    subst (λ h. h / (2 * c.last_digits.result) * (2 * places c.args.class) ≡ half_of c.args.class) (sym c.half.ensures)
-    (half_whole c.args.class c.last_digits.result c.last_digits.ensures.is c.last_digits.ensures.whole)
+-- the half in shelves of so many digits
+whole : (c digits half : ℕ) → digits ≡ places c → size_of c % (2 * places c) ≡ 0 → half ≡ half_of c → half / (2 * digits) * (2 * places c) ≡ half_of c
+whole c digits half is rest half_is = subst (λ h. h / (2 * digits) * (2 * places c) ≡ half_of c) (sym half_is) (half_whole c digits is rest)
 
-pub returns-clause-few : goal.returns-clause-few
-returns-clause-few c =
+pub returns-in-64-clause-whole : goal.returns-in-64-clause-whole
+returns-in-64-clause-whole c = whole c.args.class 64 c.half.result (sym c.in-64.is ∙ c.last_digits.ensures.is) c.last_digits.ensures.whole c.half.ensures
+
+pub returns-in-48-clause-whole : goal.returns-in-48-clause-whole
+returns-in-48-clause-whole c = whole c.args.class 48 c.half-in-48.result (sym c.in-48.is ∙ c.last_digits.ensures.is) c.last_digits.ensures.whole c.half-in-48.ensures
+
+pub returns-in_default-clause-whole : goal.returns-in_default-clause-whole
+returns-in_default-clause-whole c = whole c.args.class c.last_digits.result c.half-in_default.result c.last_digits.ensures.is c.last_digits.ensures.whole c.half-in_default.ensures
+
+pub returns-in_default-clause-few : goal.returns-in_default-clause-few
+returns-in_default-clause-few c =
     let size = few c.args.class (omega (arith, c.number-number.ensures.below, c.number-number.ensures.value)) in
     let half = half_within c.args.class in
-    let le = div-le_self c.half.result (2 * c.last_digits.result) in
+    let le = div-le_self c.half-in_default.result (2 * c.last_digits.result) in
     omega arith
