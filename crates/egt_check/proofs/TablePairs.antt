@@ -64,18 +64,28 @@ lane_at kind first many i = elim (digits_are kind) [
   | inr narrow ↦ subst (λ w. first * (2 * w) ≤ i → i < (first + many) * (2 * w) → IsLane w first many i) (sym narrow) (lane_of_48 first many i)
 ]
 
--- the entries at the codes of all numbers below n keep the rules
-abbrev pub NumbersKeep : Tables → TableValue → Column → ℕ → Type 0
-NumbersKeep tables t column n = (k : ℕ) → k < n → IsJudged tables t column (code_of t.class k) None
+-- the entries at the codes of all numbers from start on and below n keep the rules
+abbrev pub NumbersKeep : Tables → TableValue → Column → (start n : ℕ) → Type 0
+NumbersKeep tables t column start n = (k : ℕ) → start ≤ k → k < n → IsJudged tables t column (code_of t.class k) None
 
-pub keeps_pair : (tables : Tables) (t : TableValue) (column : Column) (kind : Kind) (first many : ℕ) → places t.class ≡ kind_digits kind → NumbersKeep tables t column (first * (2 * kind_digits kind))
-    → ((x y : ℕ) (side : Side) → x < many → y < kind_digits kind → IsJudged tables t column (code_of t.class (number_in t.class (first + x) side y)) None) → NumbersKeep tables t column ((first + many) * (2 * kind_digits kind))
-keeps_pair tables t column kind first many wide kept judged = λ k k_in. elim (cases_lt k (first * (2 * kind_digits kind))) [
-  | inl before ↦ kept k before
+pub keeps_pair : (tables : Tables) (t : TableValue) (column : Column) (kind : Kind) (start first many : ℕ) → places t.class ≡ kind_digits kind → NumbersKeep tables t column start (first * (2 * kind_digits kind))
+    → ((x y : ℕ) (side : Side) → x < many → y < kind_digits kind → IsJudged tables t column (code_of t.class (number_in t.class (first + x) side y)) None) → NumbersKeep tables t column start ((first + many) * (2 * kind_digits kind))
+keeps_pair tables t column kind start first many wide kept judged = λ k from k_in. elim (cases_lt k (first * (2 * kind_digits kind))) [
+  | inl before ↦ kept k from before
   | inr past ↦
       let lane = lane_at kind first many k past k_in in
       let is : number_in t.class (first + lane.x) lane.side lane.y ≡ k = ap (λ w. (first + lane.x) * (2 * w) + side_number lane.side + 2 * lane.y) wide ∙ lane.is in
       subst (λ (n : ℕ). (rule : Rule) → Keeps tables t column (code_of t.class n) rule) is (judged lane.x lane.y lane.side lane.x_in lane.y_in)
+]
+
+-- those of the first shelves, and of as many that begin no later than where these end, are one range
+pub keeps_halves : (tables : Tables) (t : TableValue) (column : Column) (wide half first : ℕ) → half ≤ first → NumbersKeep tables t column 0 (first * wide) → NumbersKeep tables t column (half * wide) ((first + half) * wide)
+    → NumbersKeep tables t column 0 ((first + half) * wide)
+keeps_halves tables t column wide half first meet lower upper = λ k from below. elim (cases_lt k (first * wide)) [
+  | inl before ↦ lower k from before
+  | inr past ↦
+      let met = mul-le-mul_right wide meet in
+      upper k (omega (arith, met, past)) below
 ]
 
 -- the shelves hold all numbers
@@ -87,10 +97,10 @@ all_shelves size digits wide shelves first some same is past =
 
 -- each code is that of its number
 pub keeps_codes : (tables : Tables) (t : TableValue) (column : Column) (n : ℕ) → ((i : ℕ) → i < size_of t.class → code_of t.class (number_of t.class i) ≡ i) → ((i : ℕ) → i < size_of t.class → number_of t.class i < size_of t.class)
-    → size_of t.class ≤ n → NumbersKeep tables t column n → KeepsBelow tables t column (size_of t.class)
+    → size_of t.class ≤ n → NumbersKeep tables t column 0 n → KeepsBelow tables t column (size_of t.class)
 keeps_codes tables t column n code within all kept i below =
     let few = within i below in
-    subst (λ (k : ℕ). (rule : Rule) → Keeps tables t column k rule) (code i below) (kept (number_of t.class i) (omega (arith, few, all)))
+    subst (λ (k : ℕ). (rule : Rule) → Keeps tables t column k rule) (code i below) (kept (number_of t.class i) (omega arith) (omega (arith, few, all)))
 
 -- the table of a class that a capture leaves, beside that of another class
 pub table_left : (tables : Tables) (t u : TableValue) (c : ℕ) (flips : Bool) (man : Man) → IsShelved tables c u → tables c ≡ Some u → u.class ≢ t.class

@@ -1,5 +1,5 @@
 //! The judgement of all entries with the kings on two squares, in classes with two men beside the kings.
-ghost use Rattle.std.specs.Prelude.{◌≡◌, ◌≢◌, ◌+◌, ◌<◌, ℕ, true, None, IfSome, slice_index};
+ghost use Rattle.std.specs.Prelude.{◌≡◌, ◌≢◌, ◌+◌, ◌<◌, ℕ, true, IfSome, slice_index};
 ghost use Rattle.egt_board.specs.Turned.{turned_man};
 ghost use Rattle.egt_board.specs.declared.man.Kind.TheVariants.{K};
 ghost use Rattle.egt_index.specs.LoneCodes.{IsLoneMan};
@@ -11,15 +11,14 @@ ghost use Rattle.egt_table.specs.declared.column.Column.{Column};
 ghost use Rattle.egt_check.specs.Blocks.{men_on};
 ghost use Rattle.egt_check.specs.MoveScores.{AreTablesOf};
 ghost use Rattle.egt_check.specs.PawnScores.{ArePromotionsOf};
-ghost use Rattle.egt_check.specs.RightBlock.{IsRightLane};
-ghost use Rattle.egt_check.specs.Rules.{IsJudged};
+ghost use Rattle.egt_check.specs.RightBlock.{AreJudged, IsRightLane};
 ghost use Rattle.egt_check.specs.Taken.{men_swapped};
 ghost use Rattle.egt_check.specs.Tables.{Tables};
 
 use crate::blocks::nothing;
 use crate::digits::{digits_of, first_square};
 use crate::laws::entries_due_to_all_moves_are_right;
-use crate::move_scores::{FourMen, all_scores};
+use crate::move_scores::{FourMen, move_scores, raise_passed};
 use crate::row_judging::row_is_right;
 use egt_board::{Side, Square};
 use egt_index::laws::numbers_stand_for_codes;
@@ -102,14 +101,14 @@ fn shelves_are_right(
     true
 }
 
-/// Whether all entries of those shelves with that side to move keep the rules; `passed` tells whether the positions
-/// have a target.
+/// Whether all entries of those shelves with that side to move keep the rules, and of those `half` further on, whose
+/// positions have a target; 0 in a class without targets. Both have the same scores but for captures in passing.
 pub(crate) fn block_is_right(
     four: &FourMen,
     men: &ShelfMen,
     first: u32,
+    half: u32,
     side: Side,
-    passed: bool,
 ) -> bool
     requires men { AreMenOf four.now.own.now.class men.now }
     requires one { men.now.one.kind ≢ K }
@@ -118,15 +117,24 @@ pub(crate) fn block_is_right(
     requires last_left { IsLoneMan four.now.last.now.class (turned_man four.now.last_flips men.now.last) }
     requires first_pawn { IfSome four.now.first_pawn (λ kinds. ArePromotionsOf kinds (men_swapped men.now)) }
     requires last_pawn { IfSome four.now.last_pawn (λ kinds. ArePromotionsOf kinds men.now) }
-    requires room { first + 64 < 4294967296 }
-    ensures { result ≡ true → (tables : Tables) → AreTablesOf tables four.now men.now → (x y : ℕ) → x < kind_digits men.now.one.kind → y < kind_digits men.now.last.kind → (column : Column) →
-        IsJudged tables four.now.own.now column (code_of four.now.own.now.class (number_in four.now.own.now.class (first + x) side y)) None }
+    requires room { first + half + 64 < 4294967296 }
+    ensures { result ≡ true → (tables : Tables) → AreTablesOf tables four.now men.now → (column : Column) →
+        AreJudged tables four.now.own.now column men.now first side × AreJudged tables four.now.own.now column men.now (first + half) side }
 {
     entries_due_to_all_moves_are_right();
     let mut mates = nothing();
     let mut zeroing = nothing();
-    if !all_scores(four, men, side, passed, &mut mates, &mut zeroing) {
+    if !move_scores(four, men, side, &mut mates, &mut zeroing) {
         return false;
     }
-    shelves_are_right(four.own, men, first, side, passed, &mates, &zeroing)
+    if !shelves_are_right(four.own, men, first, side, false, &mates, &zeroing) {
+        return false;
+    }
+    if half == 0 {
+        return true;
+    }
+    if !raise_passed(four, men, side, &mut mates, &mut zeroing) {
+        return false;
+    }
+    shelves_are_right(four.own, men, first + half, side, true, &mates, &zeroing)
 }

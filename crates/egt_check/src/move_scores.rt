@@ -7,7 +7,7 @@ ghost use Rattle.egt_index.specs.LoneCodes.{IsLoneMan};
 ghost use Rattle.egt_index.specs.ShelfCodes.{AreMenOf};
 ghost use Rattle.egt_lanes.specs.Blocks.{at};
 ghost use Rattle.egt_lanes.specs.Scores.{zeroing_score};
-ghost use Rattle.egt_check.specs.MoveScores.{AreAllScores, AreMoveScores, ArePassedScores};
+ghost use Rattle.egt_check.specs.MoveScores.{AreMoveScores, ArePassedScores};
 ghost use Rattle.egt_check.specs.PawnScores.{ArePromotionsOf};
 ghost use Rattle.egt_check.specs.Taken.{men_swapped};
 
@@ -65,7 +65,7 @@ fn raise_zeroed(out: &mut Block, mates: &Block)
 
 /// The greatest scores of all moves of that side but captures in passing, in the mate column and in the zeroing
 /// column. False where a table does not tell.
-fn move_scores(
+pub(crate) fn move_scores(
     four: &FourMen,
     men: &ShelfMen,
     side: Side,
@@ -114,26 +114,19 @@ fn move_scores(
     true
 }
 
-/// The same of all moves where there is a target.
-fn passed_scores(
+/// Raises those to the scores of captures in passing: then they are of all moves where there is a target.
+pub(crate) fn raise_passed(
     four: &FourMen,
     men: &ShelfMen,
     side: Side,
     mates: &mut Block,
     zeroing: &mut Block,
 ) -> bool
-    requires men { AreMenOf four.now.own.now.class men.now }
-    requires one { men.now.one.kind ≢ K }
-    requires last { men.now.last.kind ≢ K }
     requires first_left { IsLoneMan four.now.first.now.class (turned_man four.now.first_flips men.now.one) }
     requires last_left { IsLoneMan four.now.last.now.class (turned_man four.now.last_flips men.now.last) }
-    requires first_pawn { IfSome four.now.first_pawn (λ kinds. ArePromotionsOf kinds (men_swapped men.now)) }
-    requires last_pawn { IfSome four.now.last_pawn (λ kinds. ArePromotionsOf kinds men.now) }
-    ensures { result ≡ true → (a b : ℕ) → a < 64 → b < 64 → ArePassedScores four.now men.now side a b (at mates.new a b) (at zeroing.new a b) }
+    ensures { result ≡ true → (a b : ℕ) → a < 64 → b < 64 → AreMoveScores four.now men.now side a b (at mates.old a b) (at zeroing.old a b) →
+        ArePassedScores four.now men.now side a b (at mates.new a b) (at zeroing.new a b) }
 {
-    if !move_scores(four, men, side, mates, zeroing) {
-        return false;
-    }
     let mut taken = nothing();
     if !passing_block(four.last, four.last_flips, men, side, &mut taken) {
         return false;
@@ -147,29 +140,4 @@ fn passed_scores(
     raise(mates, &taken);
     raise_zeroed(zeroing, &taken);
     true
-}
-
-/// The same of all moves; `passed` tells whether there is a target.
-pub(crate) fn all_scores(
-    four: &FourMen,
-    men: &ShelfMen,
-    side: Side,
-    passed: bool,
-    mates: &mut Block,
-    zeroing: &mut Block,
-) -> bool
-    requires men { AreMenOf four.now.own.now.class men.now }
-    requires one { men.now.one.kind ≢ K }
-    requires last { men.now.last.kind ≢ K }
-    requires first_left { IsLoneMan four.now.first.now.class (turned_man four.now.first_flips men.now.one) }
-    requires last_left { IsLoneMan four.now.last.now.class (turned_man four.now.last_flips men.now.last) }
-    requires first_pawn { IfSome four.now.first_pawn (λ kinds. ArePromotionsOf kinds (men_swapped men.now)) }
-    requires last_pawn { IfSome four.now.last_pawn (λ kinds. ArePromotionsOf kinds men.now) }
-    ensures { result ≡ true → (a b : ℕ) → a < 64 → b < 64 → AreAllScores passed four.now men.now side a b (at mates.new a b) (at zeroing.new a b) }
-{
-    if passed {
-        passed_scores(four, men, side, mates, zeroing)
-    } else {
-        move_scores(four, men, side, mates, zeroing)
-    }
 }

@@ -1,5 +1,5 @@
 //! The judgement of a whole table of a class with two men beside the kings, block by block.
-ghost use Rattle.std.specs.Prelude.{◌≡◌, ◌≢◌, ◌+◌, ◌<◌, ℕ, false, true, Some, None, IfSome};
+ghost use Rattle.std.specs.Prelude.{◌≡◌, ◌≢◌, ◌+◌, ◌*◌, ◌<◌, ◌≤◌, false, true, Some, None, IfSome};
 ghost use Rattle.egt_board.specs.Turned.{turned_man};
 ghost use Rattle.egt_board.specs.Setup.{Setup};
 ghost use Rattle.egt_board.specs.declared.man.Kind.TheVariants.{K};
@@ -7,9 +7,9 @@ ghost use Rattle.egt_board.specs.declared.man.Side.{Side};
 ghost use Rattle.egt_class.specs.Membership.{IsOf};
 ghost use Rattle.egt_class.specs.Pair.{IsBeside};
 ghost use Rattle.egt_index.specs.LoneCodes.{IsLoneMan};
-ghost use Rattle.egt_index.specs.Numbers.{code_of, places};
+ghost use Rattle.egt_index.specs.Numbers.{places};
 ghost use Rattle.egt_index.specs.Scales.{kind_digits};
-ghost use Rattle.egt_index.specs.ShelfCodes.{AreMenOf, number_in};
+ghost use Rattle.egt_index.specs.ShelfCodes.{AreMenOf};
 ghost use Rattle.egt_index.specs.Size.{size_of};
 ghost use Rattle.egt_index.specs.declared.shelf_codes.ShelfMen.{ShelfMen};
 ghost use Rattle.egt_moves.specs.Promotion.{IsOfficer};
@@ -17,7 +17,8 @@ ghost use Rattle.egt_table.specs.Table.{TableValue};
 ghost use Rattle.egt_table.specs.declared.column.Column.{Column};
 ghost use Rattle.egt_check.specs.MoveScores.{AreTablesOf};
 ghost use Rattle.egt_check.specs.PawnScores.{AreNamed, ArePromotionsOf, HasPromotion, HasPromotions, IsPromotionOf};
-ghost use Rattle.egt_check.specs.Rules.{IsJudged, KeepsBelow};
+ghost use Rattle.egt_check.specs.RightBlock.{AreJudged};
+ghost use Rattle.egt_check.specs.Rules.{KeepsBelow};
 ghost use Rattle.egt_check.specs.Taken.{men_swapped};
 ghost use Rattle.egt_check.specs.Tables.{Tables, beside, table_at};
 ghost use Rattle.egt_check.specs.Truth.{IsTrueTable};
@@ -31,12 +32,11 @@ use crate::move_scores::{FourMen, men_swapped};
 use crate::own_men::is_pawn;
 use crate::pawn_scores::{Promotion, Promotions};
 use crate::taken_blocks::turned_man;
-use crate::voids::is_passed;
 use egt_board::{Kind, Man, Side, Square};
 use egt_class::Class;
 use egt_class::membership::of_men;
 use egt_index::laws::numbers_stand_for_codes;
-use egt_index::{ShelfMen, last_digits, lone_man, shelf_men, size};
+use egt_index::{ShelfMen, has_target, last_digits, lone_man, shelf_men, size};
 use egt_table::Table;
 
 /// The men with the kings on these squares.
@@ -52,8 +52,9 @@ fn with_kings(men: &ShelfMen, white: Square, black: Square) -> ShelfMen
     }
 }
 
-/// Whether all entries of the shelves from this one on, one for each digit of the first man, keep the rules.
-fn pair_is_right(four: &FourMen, men: &ShelfMen, first: u32) -> bool
+/// Whether all entries of the shelves from this one on, one for each digit of the first man, keep the rules, and of
+/// those `half` further on, which have the same men and a target; 0 in a class without targets.
+fn pair_is_right(four: &FourMen, men: &ShelfMen, first: u32, half: u32) -> bool
     requires men { AreMenOf four.now.own.now.class men.now }
     requires one { men.now.one.kind ≢ K }
     requires last { men.now.last.kind ≢ K }
@@ -61,19 +62,23 @@ fn pair_is_right(four: &FourMen, men: &ShelfMen, first: u32) -> bool
     requires last_left { IsLoneMan four.now.last.now.class (turned_man four.now.last_flips men.now.last) }
     requires first_pawn { IfSome four.now.first_pawn (λ kinds. ArePromotionsOf kinds (men_swapped men.now)) }
     requires last_pawn { IfSome four.now.last_pawn (λ kinds. ArePromotionsOf kinds men.now) }
-    requires room { first + 64 < 4294967296 }
-    ensures { result ≡ true → (tables : Tables) → AreTablesOf tables four.now men.now → (x y : ℕ) (side : Side) → x < kind_digits men.now.one.kind → y < kind_digits men.now.last.kind → (column : Column) →
-        IsJudged tables four.now.own.now column (code_of four.now.own.now.class (number_in four.now.own.now.class (first + x) side y)) None }
+    requires room { first + half + 64 < 4294967296 }
+    ensures { result ≡ true → (tables : Tables) → AreTablesOf tables four.now men.now → (column : Column) (side : Side) →
+        AreJudged tables four.now.own.now column men.now first side × AreJudged tables four.now.own.now column men.now (first + half) side }
 {
     let Some(here) = shelf_men(four.own.class(), first) else {
         return false;
     };
-    let Some(passed) = is_passed(four.own.class(), &here, first) else {
-        return false;
-    };
     let there = with_kings(men, here.white, here.black);
-    block_is_right(four, &there, first, Side::White, passed)
-        && block_is_right(four, &there, first, Side::Black, passed)
+    block_is_right(four, &there, first, half, Side::White)
+        && block_is_right(four, &there, first, half, Side::Black)
+}
+
+/// How many of the class's shelves have a target: the upper half, or none.
+fn with_targets(class: Class, shelves: u32) -> u32
+    ensures { 2 * result ≤ shelves }
+{
+    if has_target(class) { shelves / 2 } else { 0 }
 }
 
 /// Whether all entries of the class keep the rules.
@@ -92,9 +97,10 @@ fn pairs_are_right(four: &FourMen, men: &ShelfMen) -> bool
     let class = four.own.class();
     let step = u32::from(digits_of(men.one));
     let shelves = size(class).div_ceil(2 * last_digits(class));
+    let half = with_targets(class, shelves);
     let mut first = 0;
-    while first < shelves {
-        if !pair_is_right(four, men, first) {
+    while first < shelves - half {
+        if !pair_is_right(four, men, first, half) {
             return false;
         }
         first += step;

@@ -1,11 +1,9 @@
-use Rattle.std.proofs.Common.{◌≡◌, ◌+◌, ◌<◌, ℕ, Option, None, IfSome, sym, subst}
+use Rattle.std.proofs.Common.{◌≡◌, ◌+◌, ℕ, Option, IfSome, sym, subst}
+use Rattle.egt_board.specs.declared.man.Side.{Side}
 use Rattle.egt_board.specs.declared.man.Side.TheVariants.{White, Black}
 use Rattle.egt_index.specs.declared.shelf_codes.ShelfMen.{ShelfMen}
 use Rattle.egt_check.specs.MoveScores.{AreTablesOf}
-use Rattle.egt_index.specs.Numbers.{code_of}
-use Rattle.egt_index.specs.Scales.{kind_digits}
-use Rattle.egt_index.specs.ShelfCodes.{number_in}
-use Rattle.egt_check.specs.Rules.{IsJudged}
+use Rattle.egt_check.specs.RightBlock.{AreJudged}
 use Rattle.egt_check.specs.PawnScores.{ArePromotionsOf}
 use Rattle.egt_check.specs.Taken.{men_swapped}
 use Rattle.egt_check.specs.declared.pawn_scores.Promotions.{Promotions}
@@ -34,7 +32,7 @@ pub block_is_right-requires-then-block_is_right-clause-last_pawn : goal.block_is
 block_is_right-requires-then-block_is_right-clause-last_pawn c = last_there c.args.four.now.last_pawn c.args.men.now c.with_kings-there.result c.in-Some.here.white c.in-Some.here.black c.with_kings-there.ensures c.requires.last_pawn
 
 pub returns-then-block_is_right : goal.returns-then-block_is_right
-returns-then-block_is_right c = λ right tables are x y side x_in y_in column.
+returns-then-block_is_right c = λ told tables are column side.
     let four = c.args.four.now in
     let men = c.args.men.now in
     let white = c.in-Some.here.white in
@@ -50,9 +48,9 @@ returns-then-block_is_right c = λ right tables are x y side x_in y_in column.
       first_pawn = tables_there (men_swapped men) white black tables four.first_pawn are.first_pawn;
       last_pawn = tables_there men white black tables four.last_pawn are.last_pawn;
     }) in
-    let x_there = subst (λ (men : ShelfMen). x < kind_digits men.one.kind) (sym c.with_kings-there.ensures) x_in in
-    let y_there = subst (λ (men : ShelfMen). y < kind_digits men.last.kind) (sym c.with_kings-there.ensures) y_in in
-    elim side as (λ k. IsJudged tables four.own.now column (code_of four.own.now.class (number_in four.own.now.class (c.args.first + x) k y)) None) [
-      | White ↦ c.block_is_right.ensures c.if-block_is_right.true tables there x y x_there y_there column
-      | Black ↦ c.block_is_right-then-block_is_right.ensures right tables there x y x_there y_there column
+    let right = λ (side : Side) (judged : AreJudged tables four.own.now column c.with_kings-there.result c.args.first side × AreJudged tables four.own.now column c.with_kings-there.result (c.args.first + c.args.half) side).
+    subst (λ (men : ShelfMen). AreJudged tables four.own.now column men c.args.first side × AreJudged tables four.own.now column men (c.args.first + c.args.half) side) c.with_kings-there.ensures judged in
+    elim side as (λ k. AreJudged tables four.own.now column men c.args.first k × AreJudged tables four.own.now column men (c.args.first + c.args.half) k) [
+      | White ↦ right White (c.block_is_right.ensures c.if-block_is_right.true tables there column)
+      | Black ↦ right Black (c.block_is_right-then-block_is_right.ensures told tables there column)
     ]

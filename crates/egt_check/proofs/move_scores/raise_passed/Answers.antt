@@ -6,19 +6,19 @@ use Rattle.egt_lanes.specs.Scores.{zeroing_score}
 use Rattle.egt_table.specs.declared.column.Column.TheVariants.{Mate}
 use Rattle.egt_check.specs.InPassing.{ArePassingCodes}
 use Rattle.egt_check.specs.Worth.{score_at}
-use Rattle.egt_check.proofs.move_scores.passed_scores.Goals as goal
+use Rattle.egt_check.proofs.move_scores.raise_passed.Goals as goal
 
 pub returns : goal.returns
-returns c = λ told a b a_in b_in.
-    let mate = at c.move_scores.new.mates a b in
-    let slow = at c.move_scores.new.zeroing a b in
+returns c = λ told a b a_in b_in plain.
+    let mate = at c.args.mates.now a b in
+    let slow = at c.args.zeroing.now a b in
     let taken = c.raise_transposed.ensures a b a_in b_in in
     let four = c.args.four.now in record {
       plain_mate = mate;
       plain_zeroing = slow;
       by_last = at c.passing_block.new.out a b;
       by_first = at c.passing_block-2.new.out b a;
-      plain = c.move_scores.ensures c.if-not-move_scores.false a b a_in b_in;
+      plain = plain;
       last_raised = c.passing_block.ensures c.if-not-passing_block.false a b a_in b_in;
       first_raised =
           subst (λ (men : ShelfMen). IsRaised 0 (ArePassingCodes four.first.now.class four.first_flips men c.args.side b a) (score_at four.first.now Mate) (at c.passing_block-2.new.out b a))
