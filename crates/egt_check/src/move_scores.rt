@@ -79,6 +79,7 @@ fn move_scores(
     requires last_left { IsLoneMan four.now.last.now.class (turned_man four.now.last_flips men.now.last) }
     requires first_pawn { IfSome four.now.first_pawn (λ kinds. ArePromotionsOf kinds (men_swapped men.now)) }
     requires last_pawn { IfSome four.now.last_pawn (λ kinds. ArePromotionsOf kinds men.now) }
+    requires same { men.now.one ≡ men.now.last → four.now.first_pawn ≡ four.now.last_pawn }
     ensures { result ≡ true → (a b : ℕ) → a < 64 → b < 64 → AreMoveScores four.now men.now side a b (at mates.new a b) (at zeroing.new a b) }
 {
     if !quiet_block(four.own, Column::Mate, men, side, mates) {
@@ -129,6 +130,7 @@ fn passed_scores(
     requires last_left { IsLoneMan four.now.last.now.class (turned_man four.now.last_flips men.now.last) }
     requires first_pawn { IfSome four.now.first_pawn (λ kinds. ArePromotionsOf kinds (men_swapped men.now)) }
     requires last_pawn { IfSome four.now.last_pawn (λ kinds. ArePromotionsOf kinds men.now) }
+    requires same { men.now.one ≡ men.now.last → four.now.first_pawn ≡ four.now.last_pawn }
     ensures { result ≡ true → (a b : ℕ) → a < 64 → b < 64 → ArePassedScores four.now men.now side a b (at mates.new a b) (at zeroing.new a b) }
 {
     if !move_scores(four, men, side, mates, zeroing) {
@@ -165,6 +167,7 @@ pub(crate) fn all_scores(
     requires last_left { IsLoneMan four.now.last.now.class (turned_man four.now.last_flips men.now.last) }
     requires first_pawn { IfSome four.now.first_pawn (λ kinds. ArePromotionsOf kinds (men_swapped men.now)) }
     requires last_pawn { IfSome four.now.last_pawn (λ kinds. ArePromotionsOf kinds men.now) }
+    requires same { men.now.one ≡ men.now.last → four.now.first_pawn ≡ four.now.last_pawn }
     ensures { result ≡ true → (a b : ℕ) → a < 64 → b < 64 → AreAllScores passed four.now men.now side a b (at mates.new a b) (at zeroing.new a b) }
 {
     if passed {
