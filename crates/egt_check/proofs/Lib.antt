@@ -23,6 +23,7 @@ pub mod Worth
 pub mod RowRead
 pub mod LoneRead
 pub mod BlockRaising
+pub mod EqualPawns
 pub mod QuietRaising
 pub mod TablePairs
 pub mod Taking

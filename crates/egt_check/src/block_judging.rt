@@ -117,6 +117,7 @@ pub(crate) fn block_is_right(
     requires last_left { IsLoneMan four.now.last.now.class (turned_man four.now.last_flips men.now.last) }
     requires first_pawn { IfSome four.now.first_pawn (λ kinds. ArePromotionsOf kinds (men_swapped men.now)) }
     requires last_pawn { IfSome four.now.last_pawn (λ kinds. ArePromotionsOf kinds men.now) }
+    requires same { men.now.one ≡ men.now.last → four.now.first_pawn ≡ four.now.last_pawn }
     requires room { first + half + 64 < 4294967296 }
     ensures { result ≡ true → (tables : Tables) → AreTablesOf tables four.now men.now → (column : Column) →
         AreJudged tables four.now.own.now column men.now first side × AreJudged tables four.now.own.now column men.now (first + half) side }

@@ -79,6 +79,7 @@ pub(crate) fn move_scores(
     requires last_left { IsLoneMan four.now.last.now.class (turned_man four.now.last_flips men.now.last) }
     requires first_pawn { IfSome four.now.first_pawn (λ kinds. ArePromotionsOf kinds (men_swapped men.now)) }
     requires last_pawn { IfSome four.now.last_pawn (λ kinds. ArePromotionsOf kinds men.now) }
+    requires same { men.now.one ≡ men.now.last → four.now.first_pawn ≡ four.now.last_pawn }
     ensures { result ≡ true → (a b : ℕ) → a < 64 → b < 64 → AreMoveScores four.now men.now side a b (at mates.new a b) (at zeroing.new a b) }
 {
     if !quiet_block(four.own, Column::Mate, men, side, mates) {

@@ -8,18 +8,19 @@ ghost use Rattle.egt_check.specs.PawnScores.{ArePawnScores, ArePromotionsOf, Are
 ghost use Rattle.egt_check.specs.Taken.{men_swapped};
 
 use crate::advance_blocks::{advance_block, leap_block, promoting_block, step_block};
-use crate::blocks::nothing;
+use crate::blocks::{are_equal, nothing};
 use crate::move_scores::men_swapped;
 use crate::own_men::{is_of, is_pawn};
 use egt_board::{Kind, Side};
 use egt_index::ShelfMen;
+use egt_index::men::has_equal_sides;
 use egt_lanes::Block;
 use egt_lanes::block::{raise, raise_transposed};
 use egt_table::Table;
 
 /// The tables of the classes that a pawn's promotion to one kind leads to, each with whether colours are exchanged
 /// there.
-#[derive(Drop)]
+#[derive(Clone, Copy)]
 pub(crate) struct Promotion<'t> {
     pub(crate) kind: Kind,
     /// Where the other man stays.
@@ -33,7 +34,7 @@ pub(crate) struct Promotion<'t> {
 }
 
 /// The same of each kind that a pawn is promoted to.
-#[derive(Drop)]
+#[derive(Clone, Copy)]
 pub(crate) struct Promotions<'t> {
     pub(crate) queen: Promotion<'t>,
     pub(crate) rook: Promotion<'t>,
@@ -152,14 +153,21 @@ pub(crate) fn pawns_block(
     requires men { AreMenOf own.now.class men.now }
     requires first { IfSome first.now (λ p. ArePromotionsOf p (men_swapped men.now)) }
     requires last { IfSome last.now (λ p. ArePromotionsOf p men.now) }
+    requires same { men.now.one ≡ men.now.last → first.now ≡ last.now }
     ensures { result ≡ true → (a b : ℕ) → a < 64 → b < 64 → AreRaisedByPawns own.now first.now last.now men.now side a b (at out.new a b) }
 {
-    let mut across = nothing();
-    if !raise_pawn(own, true, first, &men_swapped(men), side, &mut across) {
-        return false;
-    }
     *out = nothing();
     if !raise_pawn(own, false, last, men, side, out) {
+        return false;
+    }
+    // What equal men are promoted to is told once: in either order of the two the codes are the same.
+    if are_equal(men) && !has_equal_sides(own.class()) {
+        let copy = *out;
+        raise_transposed(out, &copy);
+        return true;
+    }
+    let mut across = nothing();
+    if !raise_pawn(own, true, first, &men_swapped(men), side, &mut across) {
         return false;
     }
     raise_transposed(out, &across);

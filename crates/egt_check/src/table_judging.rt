@@ -25,6 +25,7 @@ ghost use Rattle.egt_check.specs.Truth.{IsTrueTable};
 ghost use Rattle.egt_check.specs.Worth.{HasBytes};
 
 use crate::block_judging::block_is_right;
+use crate::blocks::are_equal;
 use crate::bytes::{tells_bytes, true_table_tells_bytes};
 use crate::digits::digits_of;
 use crate::library::Library;
@@ -62,6 +63,7 @@ fn pair_is_right(four: &FourMen, men: &ShelfMen, first: u32, half: u32) -> bool
     requires last_left { IsLoneMan four.now.last.now.class (turned_man four.now.last_flips men.now.last) }
     requires first_pawn { IfSome four.now.first_pawn (λ kinds. ArePromotionsOf kinds (men_swapped men.now)) }
     requires last_pawn { IfSome four.now.last_pawn (λ kinds. ArePromotionsOf kinds men.now) }
+    requires same { men.now.one ≡ men.now.last → four.now.first_pawn ≡ four.now.last_pawn }
     requires room { first + half + 64 < 4294967296 }
     ensures { result ≡ true → (tables : Tables) → AreTablesOf tables four.now men.now → (column : Column) (side : Side) →
         AreJudged tables four.now.own.now column men.now first side × AreJudged tables four.now.own.now column men.now (first + half) side }
@@ -90,6 +92,7 @@ fn pairs_are_right(four: &FourMen, men: &ShelfMen) -> bool
     requires last_left { IsLoneMan four.now.last.now.class (turned_man four.now.last_flips men.now.last) }
     requires first_pawn { IfSome four.now.first_pawn (λ kinds. ArePromotionsOf kinds (men_swapped men.now)) }
     requires last_pawn { IfSome four.now.last_pawn (λ kinds. ArePromotionsOf kinds men.now) }
+    requires same { men.now.one ≡ men.now.last → four.now.first_pawn ≡ four.now.last_pawn }
     requires wide { places four.now.own.now.class ≡ kind_digits men.now.last.kind }
     ensures { result ≡ true → (tables : Tables) → AreTablesOf tables four.now men.now → (column : Column) → KeepsBelow tables four.now.own.now column (size_of four.now.own.now.class) }
 {
@@ -204,6 +207,26 @@ fn promotions<'t>(library: &'t Library, class: Class, men: &ShelfMen) -> Option<
     })
 }
 
+/// The same of the first man; they are those of the last where the two are equal.
+fn first_promotions<'t>(
+    library: &'t Library,
+    class: Class,
+    men: &ShelfMen,
+    last: &Option<Promotions<'t>>,
+) -> Option<Promotions<'t>>
+    requires of { IfSome last.now (λ kinds. ArePromotionsOf kinds men.now) }
+    requires has { IfSome last.now (λ kinds. (t : TableValue) → t.class ≡ class → HasPromotions (beside (table_at library.now) t) kinds men.now) }
+    ensures of { IfSome result (λ kinds. ArePromotionsOf kinds (men_swapped men.now)) }
+    ensures has { IfSome result (λ kinds. (t : TableValue) → t.class ≡ class → HasPromotions (beside (table_at library.now) t) kinds (men_swapped men.now)) }
+    ensures same { men.now.one ≡ men.now.last → result ≡ last.now }
+{
+    if are_equal(men) {
+        *last
+    } else {
+        promotions(library, class, &men_swapped(men))
+    }
+}
+
 /// Whether the man is a king.
 fn is_king(man: Man) -> bool
     ensures { result ≡ false → man.kind ≢ K }
@@ -245,14 +268,15 @@ pub(crate) fn is_right_by_blocks(table: &Table, library: &Library) -> bool
     if !tells_bytes(table) {
         return false;
     }
+    let last_pawn = promotions(library, class, &men);
     let four = FourMen {
         own: table,
         first,
         first_flips,
         last,
         last_flips,
-        first_pawn: promotions(library, class, &men_swapped(&men)),
-        last_pawn: promotions(library, class, &men),
+        first_pawn: first_promotions(library, class, &men, &last_pawn),
+        last_pawn,
     };
     pairs_are_right(&four, &men)
 }

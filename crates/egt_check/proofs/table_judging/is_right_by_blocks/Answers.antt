@@ -6,7 +6,6 @@ use Rattle.egt_class.specs.Material.{material_of}
 use Rattle.egt_class.specs.Membership.{IsOf}
 use Rattle.egt_class.specs.Pair.{IsBeside}
 use Rattle.egt_index.specs.Size.{men_in_order}
-use Rattle.egt_index.specs.declared.shelf_codes.ShelfMen.{ShelfMen}
 use Rattle.egt_table.specs.Table.{TableValue}
 use Rattle.egt_check.specs.PawnScores.{HasPromotions}
 use Rattle.egt_check.specs.Taken.{men_swapped}
@@ -38,9 +37,8 @@ returns c = λ right column.
         of = subst (λ (k : ℕ). (p : Setup) → IsBeside p (Some men.one) (Some men.last) → IsOf k false p) c.class-class.ensures.class (c.is_own_class.ensures c.if-not-is_own_class.false);
         order = subst (λ (k : ℕ). men_in_order (material_of k) ≡ king_of White ∷ king_of Black ∷ men.one ∷ men.last ∷ []) c.class-class.ensures.class (sym c.in-Some.ensures.men_of.are);
       };
-      first_pawn = beside_any tables t.class (men_swapped men) c.promotions.result
-          (subst (λ (k : ℕ). IfSome c.promotions.result (λ kinds. (u : TableValue) → u.class ≡ k → HasPromotions (beside tables u) kinds (men_swapped men))) c.class-class.ensures.class
-          (subst (λ (other : ShelfMen). IfSome c.promotions.result (λ kinds. (u : TableValue) → u.class ≡ c.class-class.result → HasPromotions (beside tables u) kinds other)) c.men_swapped.ensures c.promotions.ensures.has)) t refl;
-      last_pawn = beside_any tables t.class men c.promotions-2.result
-          (subst (λ (k : ℕ). IfSome c.promotions-2.result (λ kinds. (u : TableValue) → u.class ≡ k → HasPromotions (beside tables u) kinds men)) c.class-class.ensures.class c.promotions-2.ensures.has) t refl;
+      first_pawn = beside_any tables t.class (men_swapped men) c.first_promotions.result
+          (subst (λ (k : ℕ). IfSome c.first_promotions.result (λ kinds. (u : TableValue) → u.class ≡ k → HasPromotions (beside tables u) kinds (men_swapped men))) c.class-class.ensures.class c.first_promotions.ensures.has) t refl;
+      last_pawn = beside_any tables t.class men c.promotions-last_pawn.result
+          (subst (λ (k : ℕ). IfSome c.promotions-last_pawn.result (λ kinds. (u : TableValue) → u.class ≡ k → HasPromotions (beside tables u) kinds men)) c.class-class.ensures.class c.promotions-last_pawn.ensures.has) t refl;
     }) column

@@ -1,0 +1,18 @@
+use Rattle.std.proofs.Common.{◌≡◌, IfSome, subst}
+use Rattle.egt_index.specs.declared.shelf_codes.ShelfMen.{ShelfMen}
+use Rattle.egt_table.specs.Table.{TableValue}
+use Rattle.egt_check.specs.PawnScores.{ArePromotionsOf, HasPromotions}
+use Rattle.egt_check.specs.Tables.{beside, table_at}
+use Rattle.egt_check.proofs.EqualPawns.{same_order}
+use Rattle.egt_check.proofs.table_judging.first_promotions.Goals as goal
+
+pub returns-then-are_equal-clause-of : goal.returns-then-are_equal-clause-of
+returns-then-are_equal-clause-of c = subst (λ (men : ShelfMen). IfSome c.args.last.now (λ kinds. ArePromotionsOf kinds men)) (same_order c.args.men.now (c.are_equal.ensures.0 c.if-are_equal.true)) c.requires.of
+
+pub returns-then-are_equal-clause-has : goal.returns-then-are_equal-clause-has
+returns-then-are_equal-clause-has c =
+    subst (λ (men : ShelfMen). IfSome c.args.last.now (λ kinds. (t : TableValue) → t.class ≡ c.args.class → HasPromotions (beside (table_at c.args.library.now) t) kinds men)) (same_order c.args.men.now (c.are_equal.ensures.0 c.if-are_equal.true)) c.requires.has
+
+pub returns-else-are_equal-clause-has : goal.returns-else-are_equal-clause-has
+returns-else-are_equal-clause-has c =
+    subst (λ (men : ShelfMen). IfSome c.promotions.result (λ kinds. (t : TableValue) → t.class ≡ c.args.class → HasPromotions (beside (table_at c.args.library.now) t) kinds men)) c.men_swapped.ensures c.promotions.ensures.has
