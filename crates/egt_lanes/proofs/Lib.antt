@@ -12,3 +12,4 @@ pub mod Entries
 pub mod Walking
 pub mod Advancing
 pub mod Likeness
+pub mod Nearness

@@ -4,17 +4,17 @@ use Rattle.std.proofs.lemmas.Nat.{and_mask, le_or_l, le_or_r}
 use lib.Lanes.{zip2, sel_l, fold_l, top, Each1}
 use Rattle.egt_lanes.specs.Alike.{AreVoidOrAlike}
 
-abbrev below : ℕ → ℕ → ℕ
+abbrev pub below : ℕ → ℕ → ℕ
 below a b = cond (ltb a b) 65535 0
 
-abbrev less : ℕ → ℕ → ℕ
+abbrev pub less : ℕ → ℕ → ℕ
 less a b = (a + (2 ^ 16 - b)) % 2 ^ 16
 
 -- x where the mask is set, else y
-abbrev chosen : ℕ → ℕ → ℕ → ℕ
+abbrev pub chosen : ℕ → ℕ → ℕ → ℕ
 chosen m x y = cond (top 15 m) x y
 
-abbrev select : List ℕ → List ℕ → List ℕ → List ℕ
+abbrev pub select : List ℕ → List ℕ → List ℕ → List ℕ
 select ms xs ys = sel_l (map (top 15) ms) xs ys
 
 -- of n lanes
@@ -38,7 +38,7 @@ limit_is low = go (ltb low 3) refl
     go false e = inr (ltb-false _ _ e, refl)
 
 -- nothing is left of a number only under one that is no less
-none_over : (a b : ℕ) → a < 65536 → b < 65536 → less (chosen (below a b) b a) b ≡ 0 → a ≤ b
+pub none_over : (a b : ℕ) → a < 65536 → b < 65536 → less (chosen (below a b) b a) b ≡ 0 → a ≤ b
 none_over a b a_in b_in = go (ltb a b) refl
   where
     go : (t : Bool) → ltb a b ≡ t → less (chosen (cond t 65535 0) b a) b ≡ 0 → a ≤ b

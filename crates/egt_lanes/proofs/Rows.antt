@@ -6,7 +6,7 @@ use Rattle.std.proofs.lemmas.Simd.{length-replicate, length-zip2, mask_l-mod, bi
 use Rattle.std.proofs.lemmas.Bool.{cases_eq, eqb-false}
 use Rattle.std.specs.Int.{bit_at}
 use lib.Lanes.{zip2, sel_l, mask_l, top, Each1}
-use Rattle.egt_lanes.specs.Scores.{byte_score, zeroing_score, due_score}
+use Rattle.egt_lanes.specs.Scores.{byte_score, zeroing_score, due_score, reach_score, reach_due_score}
 use Rattle.egt_lanes.proofs.Tests.{agreed}
 
 abbrev pub below : ℕ → ℕ → ℕ
@@ -113,6 +113,46 @@ pub due_at : (xs : List ℕ) (i : ℕ) → i < length xs → Each1 (Fits w8) xs 
 due_at [] i p fits = absurd (omega arith)
 due_at (x ∷ xs) zero p fits = due_is x fits.0.fits
 due_at (x ∷ xs) (suc i) p fits = due_at xs i (omega arith) fits.1
+
+abbrev pub reach_scores : ℕ → List ℕ → List ℕ
+reach_scores n xs =
+    let one = replicate n 1 in
+    select (zip2 same xs one) (replicate n 128) (zip2 less (replicate n 0) (zip2 less (select (zip2 below xs one) one xs) one))
+
+reach_scored : ℕ → ℕ
+reach_scored x = chosen (same x 1) 128 (less 0 (less (chosen (below x 1) 1 x) 1))
+
+reach_scored_is : (x : ℕ) → x < 256 → reach_scored x ≡ reach_score x
+unfolding reach_scored
+reach_scored_is x x_in = agreed reach_scored reach_score 256 tt x x_in
+
+pub reach_scores_at : (xs : List ℕ) (i : ℕ) → i < length xs → Each1 (Fits w8) xs → get_or (reach_scores (length xs) xs) i 0 ≡ reach_score (get_or xs i 0)
+unfolding reach_scored
+reach_scores_at [] i p fits = absurd (omega arith)
+reach_scores_at (x ∷ xs) zero p fits = reach_scored_is x fits.0.fits
+reach_scores_at (x ∷ xs) (suc i) p fits = reach_scores_at xs i (omega arith) fits.1
+
+-- by the scores less one
+abbrev pub reach_due_by : ℕ → List ℕ → List ℕ
+reach_due_by n xs = select (zip2 below xs (replicate n 128)) (replicate n 128) xs
+
+abbrev pub reach_due : ℕ → List ℕ → List ℕ
+reach_due n xs = reach_due_by n (zip2 less (select (zip2 below xs (replicate n 1)) (replicate n 1) xs) (replicate n 1))
+
+reach_due_of : ℕ → ℕ
+reach_due_of x =
+    let y = less (chosen (below x 1) 1 x) 1 in
+    chosen (below y 128) 128 y
+
+reach_due_is : (x : ℕ) → x < 256 → reach_due_of x ≡ reach_due_score x
+unfolding reach_due_of
+reach_due_is x x_in = agreed reach_due_of reach_due_score 256 tt x x_in
+
+pub reach_due_at : (xs : List ℕ) (i : ℕ) → i < length xs → Each1 (Fits w8) xs → get_or (reach_due (length xs) xs) i 0 ≡ reach_due_score (get_or xs i 0)
+unfolding reach_due_of
+reach_due_at [] i p fits = absurd (omega arith)
+reach_due_at (x ∷ xs) zero p fits = reach_due_is x fits.0.fits
+reach_due_at (x ∷ xs) (suc i) p fits = reach_due_at xs i (omega arith) fits.1
 
 -- ---- a choice by equal lanes
 

@@ -4,4 +4,5 @@ pub mod Raised
 pub mod Blocks
 pub mod Pieces
 pub mod Alike
+pub mod Near
 pub mod Advances

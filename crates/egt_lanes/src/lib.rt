@@ -4,6 +4,7 @@
 pub mod alike;
 pub mod block;
 pub mod load;
+pub mod near;
 pub mod row;
 pub mod score;
 pub mod sets;

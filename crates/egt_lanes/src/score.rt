@@ -1,6 +1,6 @@
 //! Scores: a byte for an entry of a table, the greater the better for whoever moves there.
 ghost use Rattle.std.specs.Prelude.{◌≡◌, ℕ, ◌<◌, ◌≤◌, ◌+◌, ◌*◌, ◌-◌, ◌%◌, slice_index, length};
-ghost use Rattle.egt_lanes.specs.Scores.{byte_score, zeroing_score, due_score};
+ghost use Rattle.egt_lanes.specs.Scores.{byte_score, zeroing_score, due_score, reach_score, reach_due_score};
 
 use crate::row::Row;
 use std::simd::prelude::*;
@@ -55,4 +55,33 @@ pub fn due(row: Row) -> Row
     let lost = Row::splat(0) - row;
     let won = Row::splat(254) - row;
     row.simd_ge(Row::splat(128)).select(lost, won)
+}
+
+/// The scores of entries below 256 of the column of the nearest mates.
+#[inline(always)]
+fn byte_reach_scores(entries: Row) -> Row
+    ensures { (s : ℕ) → s < 64 → slice_index result s ≡ reach_score (slice_index entries s) }
+{
+    let one = Row::splat(1);
+    // 0 stays 0, where there is no position.
+    let loss = Row::splat(0) - entries.saturating_sub(one);
+    entries.simd_eq(one).select(Row::splat(128), loss)
+}
+
+/// The scores of entries of the column of the nearest mates, of which the low byte counts: 0 is of no position, 1 of a dead
+/// one, and 2 + n of one from which n plies of both sides lead to a checkmate. Entries below 128 have scores of their own.
+#[inline(always)]
+pub fn reach_scores(entries: Entries) -> Row
+    ensures { (s : ℕ) → s < 64 → slice_index result s ≡ reach_score (slice_index entries s % 256) }
+{
+    byte_reach_scores(low_bytes(entries))
+}
+
+/// What the own scores in that column have to be, by the greatest of the scores after a move.
+#[inline(always)]
+pub fn reach_due(row: Row) -> Row
+    ensures { (s : ℕ) → s < 64 → slice_index result s ≡ reach_due_score (slice_index row s) }
+{
+    // A score is one less for each ply, and that of a draw is the least.
+    row.saturating_sub(Row::splat(1)).simd_max(Row::splat(128))
 }
