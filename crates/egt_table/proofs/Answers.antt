@@ -5,12 +5,11 @@ use Rattle.byteorder.specs.Endian.{little_number}
 use Rattle.egt_index.specs.Size.{size_of}
 use Rattle.egt_table.specs.declared.fault.FileFault.{FileFault}
 use Rattle.egt_table.specs.declared.fault.FileFault.TheVariants as faults
-use Rattle.egt_table.specs.File.{AreBytes, Field, bytes_of, column_bytes, entries_bytes, HasHeader, IsAnswer, first_fault, header_fields, header_fault, header_of, file_fault, file_length}
-use Rattle.egt_table.specs.Reading.{CountsFault, IsCut, IsMisfit}
-use Rattle.egt_table.proofs.Entries.{entries_length}
+use Rattle.egt_table.specs.File.{AreBytes, Field, bytes_of, column_bytes, entries_bytes, HasHeader, IsAnswer, first_fault, header_fields, header_fault, header_of, file_fault, file_length, version_of, version_told}
+use Rattle.egt_table.specs.Reading.{CountsFault, IsAll, IsCut, IsMisfit, IsVersion, length_in, reach_in}
 use Rattle.egt_table.proofs.Fields.{AllFit, fault_in_front, fields_right, no_fault, widths}
-use Rattle.egt_table.specs.Table.{TableValue, IsTable, columns}
-use Rattle.egt_table.specs.declared.column.Column.TheVariants.{Mate, Zeroing}
+use Rattle.egt_table.proofs.Versions.{body_is, body_length, reach_kept, told_of_all, told_of_table, version_small}
+use Rattle.egt_table.specs.Table.{TableValue, IsTable, columns_of}
 use Rattle.std.specs.List.{flat_map}
 
 -- the faults of fields
@@ -37,13 +36,13 @@ found_in (field ∷ fields) bytes fault all e =
       | inr here ↦ subst IsOfField here all.0
     ]
 
-pub of_field : (class : ℕ) (bytes : List ℕ) (fault : FileFault) → header_fault class bytes ≡ Some fault → IsOfField fault
+pub of_field : (version class : ℕ) (bytes : List ℕ) (fault : FileFault) → first_fault (header_fields version class) bytes ≡ Some fault → IsOfField fault
 unfolding header_fields
-of_field class bytes fault e = found_in (header_fields class) bytes fault (tt, (tt, (tt, (tt, (tt, (tt, tt)))))) e
+of_field version class bytes fault e = found_in (header_fields version class) bytes fault (tt, (tt, (tt, (tt, (tt, (tt, tt)))))) e
 
-header_widths : (class : ℕ) → widths (header_fields class) ≡ 16
+header_widths : (version class : ℕ) → widths (header_fields version class) ≡ 16
 unfolding header_fields
-header_widths class = refl
+header_widths version class = refl
 
 -- a fault of a field is the file's
 file_fault_of : (class : ℕ) (bytes : List ℕ) (fault : FileFault) → 16 ≤ length bytes → header_fault class bytes ≡ Some fault → file_fault class bytes ≡ Some fault
@@ -58,26 +57,33 @@ pub not_counted : (fault : FileFault) (old new : ℕ) → IsOfField fault → ne
 not_counted faults.Device old new k e = absurd k
 not_counted fault old new k e = e
 
+-- the fault of a header is that of all bytes
+fault_of_all : (version class : ℕ) (bytes header rest : List ℕ) → bytes ≡ header ++ rest → length header ≡ 16 → version ≡ version_told header
+    → header_fault class bytes ≡ first_fault (header_fields version class) header
+fault_of_all version class bytes header rest p l v =
+    let told : version_told bytes ≡ version = told_of_all bytes header rest p (omega arith) ∙ sym v in
+    let front = fault_in_front (header_fields version class) header rest (omega (arith, header_widths version class)) in
+    ap (λ (n : ℕ). first_fault (header_fields n class) bytes) told ∙ ap (λ (w : List ℕ). first_fault (header_fields version class) w) p ∙ front
+
 -- what a header tells of all bytes
-pub header_answer : (class : ℕ) (left new : Option (List ℕ)) (header : List ℕ) (fault : FileFault) → Consumes left new header → length header ≡ 16 → header_fault class header ≡ Some fault
-    → IfSome left (λ bytes. IsAnswer class bytes fault)
-header_answer class None new header fault p l e = tt
-header_answer class (Some bytes) None header fault p l e = absurd p
-header_answer class (Some bytes) (Some rest) header fault p l e =
-    let front = fault_in_front (header_fields class) header rest (omega (arith, header_widths class)) in
-    let here : header_fault class bytes ≡ Some fault = ap (λ (w : List ℕ). header_fault class w) p ∙ front ∙ e in
-    answer_of class bytes fault (of_field class bytes fault here) (file_fault_of class bytes fault (omega (arith, ap length p, length-append {A = ℕ})) here)
+pub header_answer : (version class : ℕ) (left new : Option (List ℕ)) (header : List ℕ) (fault : FileFault) → Consumes left new header → length header ≡ 16 → version ≡ version_told header
+    → first_fault (header_fields version class) header ≡ Some fault → IfSome left (λ bytes. IsAnswer class bytes fault)
+header_answer version class None new header fault p l v e = tt
+header_answer version class (Some bytes) None header fault p l v e = absurd p
+header_answer version class (Some bytes) (Some rest) header fault p l v e =
+    let here : header_fault class bytes ≡ Some fault = fault_of_all version class bytes header rest p l v ∙ e in
+    answer_of class bytes fault (of_field (version_told bytes) class bytes fault here)
+    (file_fault_of class bytes fault (omega (arith, ap length p, length-append {A = ℕ})) here)
 
-pub header_is_right : (class : ℕ) (left new : Option (List ℕ)) (header : List ℕ) → Consumes left new header → length header ≡ 16 → header_fault class header ≡ None
-    → IfSome left (HasHeader class)
-header_is_right class None new header p l e = tt
-header_is_right class (Some bytes) None header p l e = absurd p
-header_is_right class (Some bytes) (Some rest) header p l e =
-    let front = fault_in_front (header_fields class) header rest (omega (arith, header_widths class)) in
-    (omega (arith, ap length p, length-append {A = ℕ}), ap (λ (w : List ℕ). header_fault class w) p ∙ front ∙ e)
+pub header_is_right : (version class : ℕ) (left new : Option (List ℕ)) (header : List ℕ) → Consumes left new header → length header ≡ 16 → version ≡ version_told header
+    → first_fault (header_fields version class) header ≡ None → IfSome left (λ bytes. HasHeader class bytes × (version_told bytes ≡ version))
+header_is_right version class None new header p l v e = tt
+header_is_right version class (Some bytes) None header p l v e = absurd p
+header_is_right version class (Some bytes) (Some rest) header p l v e =
+    ((omega (arith, ap length p, length-append {A = ℕ}), fault_of_all version class bytes header rest p l v ∙ e), told_of_all bytes header rest p (omega arith) ∙ sym v)
 
-pub header_is : (class : ℕ) (header : List ℕ) → AreBytes header → length header ≡ 16 → header_fault class header ≡ None → header ≡ header_of class
-header_is class header b l e = fields_right (header_fields class) header b (l ∙ sym (header_widths class)) e
+pub header_is : (version class : ℕ) (header : List ℕ) → AreBytes header → length header ≡ 16 → first_fault (header_fields version class) header ≡ None → header ≡ header_of version class
+header_is version class header b l e = fields_right (header_fields version class) header b (l ∙ sym (header_widths version class)) e
 
 -- what came before a cut
 pub cut_more : (left mid : Option (List ℕ)) (done : List ℕ) (n m : ℕ) (fault : FileFault) → Consumes left mid done → IsCut n mid fault → length done + n ≤ m → IsCut m left fault
@@ -104,48 +110,75 @@ misfit_more (Some xs) None done n faults.Trailing p q h = absurd p
 misfit_more (Some xs) (Some ys) done n faults.Trailing p q h = omega (arith, ap length p, length-append {A = ℕ})
 misfit_more left mid done n fault p q h = absurd q
 
-too_short : (class : ℕ) (bytes : List ℕ) → HasHeader class bytes → length bytes < file_length class → file_fault class bytes ≡ Some faults.Short
+too_short : (class : ℕ) (bytes : List ℕ) → HasHeader class bytes → length bytes < file_length (version_told bytes) class → file_fault class bytes ≡ Some faults.Short
 too_short class bytes h l =
     let long : nat_lt (length bytes) 16 ≡ false = le-ltb (length bytes) 16 h.0 in
-    let short : nat_lt (length bytes) (file_length class) ≡ true = lt-ltb (length bytes) (file_length class) l in
+    let short : nat_lt (length bytes) (file_length (version_told bytes) class) ≡ true = lt-ltb (length bytes) (file_length (version_told bytes) class) l in
     rw (long, h.1, short) refl
 
-too_long : (class : ℕ) (bytes : List ℕ) → HasHeader class bytes → file_length class < length bytes → file_fault class bytes ≡ Some faults.Trailing
+too_long : (class : ℕ) (bytes : List ℕ) → HasHeader class bytes → file_length (version_told bytes) class < length bytes → file_fault class bytes ≡ Some faults.Trailing
 too_long class bytes h l =
     let long : nat_lt (length bytes) 16 ≡ false = le-ltb (length bytes) 16 h.0 in
-    let not_short : nat_lt (length bytes) (file_length class) ≡ false = le-ltb (length bytes) (file_length class) (omega arith) in
-    let more : nat_lt (file_length class) (length bytes) ≡ true = lt-ltb (file_length class) (length bytes) l in
+    let not_short : nat_lt (length bytes) (file_length (version_told bytes) class) ≡ false = le-ltb (length bytes) (file_length (version_told bytes) class) (omega arith) in
+    let more : nat_lt (file_length (version_told bytes) class) (length bytes) ≡ true = lt-ltb (file_length (version_told bytes) class) (length bytes) l in
     rw (long, h.1, not_short, more) refl
 
 -- what the columns tell of all bytes
-pub columns_answer : (class : ℕ) (left mid : Option (List ℕ)) (header : List ℕ) (n : ℕ) (fault : FileFault)
-    → Consumes left mid header → length header ≡ 16 → 16 + n ≡ file_length class → IfSome left (HasHeader class) → IsMisfit n mid fault → IfSome left (λ bytes. IsAnswer class bytes fault)
-columns_answer class None mid header n fault p l s h q = tt
-columns_answer class (Some bytes) None header n fault p l s h q = absurd p
-columns_answer class (Some bytes) (Some rest) header n faults.Device p l s h q = tt
-columns_answer class (Some bytes) (Some rest) header n faults.Short p l s h q = too_short class bytes h (omega (arith, ap length p, length-append {A = ℕ}))
-columns_answer class (Some bytes) (Some rest) header n faults.Trailing p l s h q = too_long class bytes h (omega (arith, ap length p, length-append {A = ℕ}))
-columns_answer class (Some bytes) (Some rest) header n fault p l s h q = absurd q
+pub columns_answer : (version class : ℕ) (left mid : Option (List ℕ)) (header : List ℕ) (n : ℕ) (fault : FileFault)
+    → Consumes left mid header → length header ≡ 16 → 16 + n ≡ file_length version class → IfSome left (λ bytes. HasHeader class bytes × (version_told bytes ≡ version)) → IsMisfit n mid fault
+    → IfSome left (λ bytes. IsAnswer class bytes fault)
+columns_answer version class None mid header n fault p l s h q = tt
+columns_answer version class (Some bytes) None header n fault p l s h q = absurd p
+columns_answer version class (Some bytes) (Some rest) header n faults.Device p l s h q = tt
+columns_answer version class (Some bytes) (Some rest) header n faults.Short p l s h q =
+    let whole : length bytes ≡ 16 + length rest = omega (arith, ap length p, length-append {A = ℕ}) in
+    let here : length bytes < file_length version class = omega arith in
+    too_short class bytes h.0 (subst (λ (v : ℕ). length bytes < file_length v class) (sym h.1) here)
+columns_answer version class (Some bytes) (Some rest) header n faults.Trailing p l s h q =
+    let whole : length bytes ≡ 16 + length rest = omega (arith, ap length p, length-append {A = ℕ}) in
+    let here : file_length version class < length bytes = omega arith in
+    too_long class bytes h.0 (subst (λ (v : ℕ). file_length v class < length bytes) (sym h.1) here)
+columns_answer version class (Some bytes) (Some rest) header n fault p l s h q = absurd q
 
-pub header_of_length : (class : ℕ) → length (header_of class) ≡ 16
+pub header_of_length : (version class : ℕ) → length (header_of version class) ≡ 16
 unfolding header_fields
-header_of_length class = refl
+header_of_length version class = refl
 
-fields_fit : (class : ℕ) → class < 36 → size_of class < 2 ^ 32 → AllFit (header_fields class)
+-- what the header and the columns tell of all bytes
+pub table_is_read : (version class : ℕ) (left mid : Option (List ℕ)) (mate zeroing reach : List ℕ) → IsVersion version → length reach ≡ length_in version class
+    → Consumes left mid (header_of version class) → IsAll mid (entries_bytes mate ++ (entries_bytes zeroing ++ entries_bytes reach))
+    → IfSome left (λ bytes. bytes ≡ bytes_of (record { class = class; mate = mate; zeroing = zeroing; reach = reach_in version reach }))
+table_is_read version class None mid mate zeroing reach v l p q = tt
+table_is_read version class (Some bytes) None mate zeroing reach v l p q = absurd p
+table_is_read version class (Some bytes) (Some rest) mate zeroing reach v l p q =
+    let t : TableValue = record { class = class; mate = mate; zeroing = zeroing; reach = reach_in version reach } in
+    let kept = reach_kept version class reach v l in
+    let columns = body_is t ∙ ap (λ (w : List ℕ). entries_bytes mate ++ (entries_bytes zeroing ++ entries_bytes w)) kept.1 in
+    p ∙ ap (λ (w : List ℕ). header_of version class ++ w) (q ∙ sym columns)
+    ∙ ap (λ (n : ℕ). header_of n class ++ flat_map (column_bytes t) (columns_of t)) (sym kept.0)
+
+fields_fit : (version class : ℕ) → version ≤ 2 → class < 36 → size_of class < 2 ^ 32 → AllFit (header_fields version class)
 unfolding header_fields
-fields_fit class c s = (omega arith, (omega arith, (omega arith, (omega arith, (omega arith, (s, tt))))))
+fields_fit version class v c s = (omega arith, (omega arith, (omega arith, (omega arith, (omega arith, (s, tt))))))
+
+-- the header of a table's file has no fault
+header_right : (t : TableValue) → IsTable t → size_of t.class < 2 ^ 32 → header_fault t.class (bytes_of t) ≡ None
+header_right t h s =
+    ap (λ (n : ℕ). first_fault (header_fields n t.class) (bytes_of t)) (told_of_table t)
+    ∙ no_fault (header_fields (version_of t.reach) t.class) (flat_map (column_bytes t) (columns_of t)) (fields_fit (version_of t.reach) t.class (version_small t.reach) h.class_in s)
+
+written_length : (t : TableValue) → IsTable t → length (bytes_of t) ≡ file_length (version_told (bytes_of t)) t.class
+written_length t h =
+    let is : length (bytes_of t) ≡ file_length (version_of t.reach) t.class =
+    omega (arith, header_of_length (version_of t.reach) t.class, length-append (header_of (version_of t.reach) t.class) (flat_map (column_bytes t) (columns_of t)), body_length t h) in
+    is ∙ ap (λ (n : ℕ). file_length n t.class) (sym (told_of_table t))
 
 -- the file of a table has no fault
 pub written_right : (t : TableValue) → IsTable t → size_of t.class < 2 ^ 32 → file_fault t.class (bytes_of t) ≡ None
 written_right t h s =
-    let header = no_fault (header_fields t.class) (flat_map (column_bytes t) columns) (fields_fit t.class h.class_in s) in
-    let mate = entries_length t.mate in
-    let zeroing = entries_length t.zeroing in
-    let mate_size = h.sizes Mate in
-    let zeroing_size = h.sizes Zeroing in
-    let is : length (bytes_of t) ≡ file_length t.class =
-    omega (arith, header_of_length t.class, length-append (header_of t.class) (flat_map (column_bytes t) columns), length-append (entries_bytes t.mate) (entries_bytes t.zeroing ++ []), length-append (entries_bytes t.zeroing) []) in
+    let header = header_right t h s in
+    let is = written_length t h in
     let long : nat_lt (length (bytes_of t)) 16 ≡ false = le-ltb (length (bytes_of t)) 16 (omega arith) in
-    let not_short : nat_lt (length (bytes_of t)) (file_length t.class) ≡ false = le-ltb (length (bytes_of t)) (file_length t.class) (omega arith) in
-    let not_long : nat_lt (file_length t.class) (length (bytes_of t)) ≡ false = le-ltb (file_length t.class) (length (bytes_of t)) (omega arith) in
+    let not_short : nat_lt (length (bytes_of t)) (file_length (version_told (bytes_of t)) t.class) ≡ false = le-ltb (length (bytes_of t)) (file_length (version_told (bytes_of t)) t.class) (omega arith) in
+    let not_long : nat_lt (file_length (version_told (bytes_of t)) t.class) (length (bytes_of t)) ≡ false = le-ltb (file_length (version_told (bytes_of t)) t.class) (length (bytes_of t)) (omega arith) in
     rw (long, header, not_short, not_long) refl

@@ -6,7 +6,7 @@ use Rattle.egt_index.specs.Size.{size_of}
 use Rattle.egt_table.specs.declared.column.Column.{Column}
 use Rattle.egt_table.specs.declared.fault.FileFault.{FileFault}
 use Rattle.egt_table.specs.declared.fault.FileFault.TheVariants as faults
-use Rattle.egt_table.specs.Table.{TableValue, entries_of, columns}
+use Rattle.egt_table.specs.Table.{TableValue, entries_of, columns_of}
 
 abbrev pub AreBytes : List ℕ → Type 0
 AreBytes xs = (i : ℕ) → slice_index xs i < 256
@@ -15,8 +15,13 @@ AreBytes xs = (i : ℕ) → slice_index xs i < 256
 abbrev pub magic : ℕ
 magic = 0x42544745
 
-abbrev pub version : ℕ
-version = 1
+-- a file without the column of the nearest mates is of version 1, one with it of version 2
+abbrev pub version_of : Option (List ℕ) → ℕ
+version_of None = 1
+version_of (Some entries) = 2
+
+abbrev pub columns_in : ℕ → ℕ
+columns_in version = version + 1
 
 abbrev pub layout : ℕ
 layout = 1
@@ -28,13 +33,13 @@ pub record Field : Type 0 where
   pub fault : FileFault
 
 -- the header's fields in their order
-unfoldable pub header_fields : ℕ → List Field
-header_fields class =
+unfoldable pub header_fields : (version class : ℕ) → List Field
+header_fields version class =
     record { width = 4; value = magic; fault = faults.Magic }
     ∷ record { width = 2; value = version; fault = faults.Version }
     ∷ record { width = 2; value = layout; fault = faults.Layout }
     ∷ record { width = 2; value = class; fault = faults.Class }
-    ∷ record { width = 2; value = length columns; fault = faults.Columns }
+    ∷ record { width = 2; value = columns_in version; fault = faults.Columns }
     ∷ record { width = 4; value = size_of class; fault = faults.Count }
     ∷ []
 
@@ -44,8 +49,8 @@ field_bytes field = little_bytes field.width field.value
 abbrev pub header_length : ℕ
 header_length = 16
 
-abbrev pub header_of : ℕ → List ℕ
-header_of class = flat_map field_bytes (header_fields class)
+abbrev pub header_of : (version class : ℕ) → List ℕ
+header_of version class = flat_map field_bytes (header_fields version class)
 
 -- two bytes an entry
 abbrev pub entries_bytes : List ℕ → List ℕ
@@ -54,12 +59,12 @@ entries_bytes entries = flat_map (little_bytes 2) entries
 abbrev pub column_bytes : TableValue → Column → List ℕ
 column_bytes t column = entries_bytes (entries_of column t)
 
--- the header, and then each column
+-- the header, and then each column that is there
 abbrev pub bytes_of : TableValue → List ℕ
-bytes_of t = header_of t.class ++ flat_map (column_bytes t) columns
+bytes_of t = header_of (version_of t.reach) t.class ++ flat_map (column_bytes t) (columns_of t)
 
-abbrev pub file_length : ℕ → ℕ
-file_length class = header_length + length columns * (2 * size_of class)
+abbrev pub file_length : (version class : ℕ) → ℕ
+file_length version class = header_length + columns_in version * (2 * size_of class)
 
 -- the fault of the first field that has another number than it is to have
 abbrev pub first_fault : List Field → List ℕ → Option FileFault
@@ -67,14 +72,18 @@ first_fault [] bytes = None
 first_fault (field ∷ fields) bytes =
     if little_number field.width bytes == field.value then first_fault fields (drop field.width bytes) else Some field.fault
 
+-- the version that the bytes tell; any other than 2 is to be 1
+abbrev pub version_told : List ℕ → ℕ
+version_told bytes = if little_number 2 (drop 4 bytes) == 2 then 2 else 1
+
 abbrev pub header_fault : ℕ → List ℕ → Option FileFault
-header_fault class bytes = first_fault (header_fields class) bytes
+header_fault class bytes = first_fault (header_fields (version_told bytes) class) bytes
 
 -- too few bytes, or too many
 abbrev pub length_fault : ℕ → List ℕ → Option FileFault
 length_fault class bytes =
-    if nat_lt (length bytes) (file_length class) then Some faults.Short
-    else (if nat_lt (file_length class) (length bytes) then Some faults.Trailing else None)
+    if nat_lt (length bytes) (file_length (version_told bytes) class) then Some faults.Short
+    else (if nat_lt (file_length (version_told bytes) class) (length bytes) then Some faults.Trailing else None)
 
 abbrev pub or_else : Option FileFault → Option FileFault → Option FileFault
 or_else None later = later

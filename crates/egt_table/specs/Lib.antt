@@ -4,3 +4,4 @@ pub mod Fault
 pub mod Table
 pub mod File
 pub mod Reading
+pub mod Offsets

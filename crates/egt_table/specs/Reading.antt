@@ -1,5 +1,6 @@
 -- What reading a part of a file gives.
-use Rattle.std.specs.Prelude.{◌≡◌, ℕ, ◌<◌, List, length, Option, Some, None, Result, MatchResult}
+use Rattle.std.specs.Prelude.{◌≡◌, ℕ, ◌<◌, ◌==◌, ◌⊎◌, if◌then◌else◌, List, length, Option, Some, None, Result, MatchResult}
+use Rattle.egt_index.specs.Size.{size_of}
 use Rattle.egt_table.specs.declared.fault.FileFault.{FileFault}
 use Rattle.egt_table.specs.declared.fault.FileFault.TheVariants as faults
 use Rattle.egt_table.specs.Stream.{risen}
@@ -32,3 +33,14 @@ IsMisfit n left fault = ⊥
 abbrev pub IsAll : Option (List ℕ) → List ℕ → Type 0
 IsAll None bytes = Unit {0}
 IsAll (Some left) bytes = left ≡ bytes
+
+abbrev pub IsVersion : ℕ → Type 0
+IsVersion version = (version ≡ 1) ⊎ (version ≡ 2)
+
+-- how many entries the column of the nearest mates has in a file of the version
+abbrev pub length_in : (version class : ℕ) → ℕ
+length_in version class = if version == 2 then size_of class else 0
+
+-- the column of the nearest mates, where a file of the version has it
+abbrev pub reach_in : ℕ → List ℕ → Option (List ℕ)
+reach_in version entries = if version == 2 then Some entries else None

@@ -15,7 +15,7 @@ pub enum FileFault {
     /// They do not begin with `EGTB`.
     #[error("the file is no table")]
     Magic,
-    /// Another version than 1.
+    /// Another version than 1 and 2.
     #[error("the file is of another version")]
     Version,
     /// Another layout than 1.
@@ -24,7 +24,7 @@ pub enum FileFault {
     /// Another class than the one asked for.
     #[error("the table is of another class")]
     Class,
-    /// Another number of columns.
+    /// Another number of columns than files of the version have.
     #[error("the table has another number of columns")]
     Columns,
     /// Another number of entries than the class has codes.

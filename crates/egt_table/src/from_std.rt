@@ -1,5 +1,5 @@
 //! Streams over the standard library's.
-ghost use Rattle.std.specs.Prelude.{◌≡◌};
+ghost use Rattle.std.specs.Prelude.{◌≡◌, ◌-◌, ◌^◌};
 
 use crate::device::Device;
 use crate::stream::{Sink, Source};
@@ -18,6 +18,7 @@ impl<T: Read> FromStd<T> {
     pub fn new(inner: T) -> Self
         ensures left { ⟦<FromStd<T> as Source>⟧.left result ≡ T.remaining inner }
         ensures failures { ⟦<FromStd<T> as Source>⟧.failures result ≡ 0 }
+        ensures turns { ⟦<FromStd<T> as Source>⟧.turns result ≡ 2 ^ 64 - 1 }
     {
         FromStd {
             inner,
@@ -28,13 +29,27 @@ impl<T: Read> FromStd<T> {
 }
 
 impl<T: Read> Source for FromStd<T> {
+    ghost use Rattle.std.specs.Prelude.{◌≡◌, ◌-◌, ◌<◌, ◌≤◌, length, IfOk, IsErr};
+    ghost use Rattle.std.specs.Io.KnownBytes.{ReadConsumes};
+    ghost use Rattle.egt_table.specs.Stream.{CountsFailure};
+
     ghost left = { λ s. T.remaining s.inner };
 
     ghost failures = { λ s. s.failures };
 
     ghost turns = { λ s. s.turns };
 
-    fn pull(&mut self, buffer: &mut [u8]) -> Result<usize, Device> {
+    fn pull(&mut self, buffer: &mut [u8]) -> Result<usize, Device>
+        ensures bound { IfOk result (λ n. n ≤ length buffer.new) }
+        ensures bytes { ReadConsumes (T.remaining self.old.inner) (T.remaining self.new.inner) result buffer.new }
+        ensures falls { IfOk result (λ n. 0 < n → self.new.turns < self.old.turns) }
+        ensures failures { CountsFailure result self.old.failures self.new.failures }
+
+        // It takes one of the calls that are left. Where none is left, it fails and leaves the reader as it is.
+        ensures takes { self.new.turns ≡ self.old.turns - 1 }
+        ensures spent { self.old.turns ≡ 0 → IsErr result }
+        ensures apart { self.old.turns ≡ 0 → self.new.inner ≡ self.old.inner }
+    {
         if self.turns == 0 {
             self.failures = self.failures.saturating_add(1);
             return Err(Device);

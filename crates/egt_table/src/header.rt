@@ -1,9 +1,8 @@
 //! The header of a table's file.
 ghost use Rattle.std.specs.Prelude.{◌≡◌, ◌≤◌, length, drop, None, Some, OnOk, IfErr};
 ghost use Rattle.byteorder.specs.Endian.{little_number};
-ghost use Rattle.egt_table.specs.File.{header_of, header_fault};
+ghost use Rattle.egt_table.specs.File.{columns_in as number_of_columns, first_fault, header_fields, header_of, version_told as told_by};
 
-use crate::column::Column;
 use crate::fault::FileFault;
 use byteorder::{ByteOrder, LittleEndian};
 use egt_class::Class;
@@ -15,22 +14,33 @@ pub(crate) const LENGTH: usize = 16;
 /// The bytes of `EGTB`.
 const MAGIC: u32 = 0x4254_4745;
 
-const VERSION: u16 = 1;
+/// The version of files without the column of the nearest mates.
+pub(crate) const WITHOUT_REACH: u16 = 1;
+
+/// The version of files with it.
+pub(crate) const WITH_REACH: u16 = 2;
 
 const LAYOUT: u16 = 1;
 
-const COLUMNS: u16 = Column::ALL.len() as u16;
+/// How many columns a file of the version has.
+fn columns_in(version: u16) -> u16
+    requires { version ≤ 2 }
+    ensures { result ≡ number_of_columns version }
+{
+    version + 1
+}
 
-/// The header of the class's file.
-pub(crate) fn header(class: Class) -> [u8; LENGTH]
-    ensures { result ≡ header_of class }
+/// The header of the class's file of the version.
+pub(crate) fn header(version: u16, class: Class) -> [u8; LENGTH]
+    requires { version ≤ 2 }
+    ensures { result ≡ header_of version class }
 {
     let mut header = [0; LENGTH];
     LittleEndian::write_u32(&mut header[0..4], MAGIC);
-    LittleEndian::write_u16(&mut header[4..6], VERSION);
+    LittleEndian::write_u16(&mut header[4..6], version);
     LittleEndian::write_u16(&mut header[6..8], LAYOUT);
     LittleEndian::write_u16(&mut header[8..10], u16::from(class.number()));
-    LittleEndian::write_u16(&mut header[10..12], COLUMNS);
+    LittleEndian::write_u16(&mut header[10..12], columns_in(version));
     LittleEndian::write_u32(&mut header[12..16], size(class));
     header
 }
@@ -53,18 +63,34 @@ fn front_u32(bytes: &[u8]) -> (u32, &[u8])
     (LittleEndian::read_u32(bytes), bytes.split_at(4).1)
 }
 
-/// Compares the header with that of the class's file. The fault is that of the first field that differs.
+/// The version that a header tells. Any other than 2 is to be 1.
+pub(crate) fn version_told(header: &[u8; LENGTH]) -> u16
+    ensures { result ≡ told_by header.now }
+{
+    if LittleEndian::read_u16(&header[4..6]) == WITH_REACH {
+        WITH_REACH
+    } else {
+        WITHOUT_REACH
+    }
+}
+
+/// Compares the header with that of the class's file of the version. The fault is that of the first field that differs.
 #[tactic(auto, unfolding(crate::specs::File::header_fields))]
-pub(crate) fn check_header(class: Class, header: &[u8; LENGTH]) -> Result<(), FileFault>
-    ensures right { OnOk result (header_fault class header.now ≡ None) }
-    ensures fault { IfErr result (λ fault. header_fault class header.now ≡ Some fault) }
+pub(crate) fn check_header(
+    version: u16,
+    class: Class,
+    header: &[u8; LENGTH],
+) -> Result<(), FileFault>
+    requires { version ≤ 2 }
+    ensures right { OnOk result (first_fault (header_fields version class) header.now ≡ None) }
+    ensures fault { IfErr result (λ fault. first_fault (header_fields version class) header.now ≡ Some fault) }
 {
     let (magic, rest) = front_u32(header);
     if magic != MAGIC {
         return Err(FileFault::Magic);
     }
-    let (version, rest) = front_u16(rest);
-    if version != VERSION {
+    let (told, rest) = front_u16(rest);
+    if told != version {
         return Err(FileFault::Version);
     }
     let (layout, rest) = front_u16(rest);
@@ -76,7 +102,7 @@ pub(crate) fn check_header(class: Class, header: &[u8; LENGTH]) -> Result<(), Fi
         return Err(FileFault::Class);
     }
     let (columns, rest) = front_u16(rest);
-    if columns != COLUMNS {
+    if columns != columns_in(version) {
         return Err(FileFault::Columns);
     }
     let (count, _) = front_u32(rest);

@@ -2,6 +2,7 @@
 ghost use Rattle.std.specs.Prelude.{◌≡◌, ◌<◌, ◌^◌, ℕ, List, length, None};
 ghost use Rattle.byteorder.specs.Endian.{little_bytes, little_number};
 ghost use Rattle.egt_table.specs.File.{AreBytes, bytes_of, file_fault};
+ghost use Rattle.egt_table.specs.Offsets.{EntriesFit, EntriesStand, HeaderStands};
 ghost use Rattle.egt_table.specs.Table.{IsTable, TableValue};
 
 use egt_class::Class;
@@ -24,3 +25,16 @@ pub fn a_written_file_has_no_fault(class: Class)
 {
     let _fits = size(class);
 }
+
+/// Where the numbers of a file stand: those of the header, and each entry of each column that is there.
+pub fn numbers_stand_at_their_offsets(class: Class)
+    ensures header { (t : TableValue) → IsTable t → t.class ≡ class → HeaderStands t (bytes_of t) }
+    ensures entries { (t : TableValue) → IsTable t → t.class ≡ class → EntriesFit t → EntriesStand t (bytes_of t) }
+{
+    let _fits = size(class);
+}
+
+/// Two tables with the same file are the same.
+pub fn a_file_is_of_one_table()
+    ensures { (t u : TableValue) → IsTable t → IsTable u → EntriesFit t → EntriesFit u → bytes_of t ≡ bytes_of u → t ≡ u }
+{}

@@ -2,24 +2,25 @@
 ghost use Rattle.std.specs.Prelude.{◌≡◌, ◌+◌, ◌*◌, ◌≤◌, [], ◌++◌, length, IfOk, IfErr, IfSome, OnOk};
 ghost use Rattle.std.specs.Io.KnownBytes.{Consumes, IsAtEnd};
 ghost use Rattle.egt_index.specs.Size.{size_of};
-ghost use Rattle.egt_table.specs.File.{HasHeader, IsAnswer, Reads, entries_bytes, header_of};
-ghost use Rattle.egt_table.specs.Reading.{CountsDevice, IsAll, IsCut, IsMisfit};
+ghost use Rattle.egt_table.specs.File.{HasHeader, IsAnswer, Reads, entries_bytes, header_of, version_told as told_by};
+ghost use Rattle.egt_table.specs.Reading.{CountsDevice, IsAll, IsCut, IsMisfit, IsVersion, length_in, reach_in};
 
 use crate::fault::FileFault;
-use crate::header::{LENGTH, check_header};
+use crate::header::{LENGTH, WITH_REACH, check_header, version_told};
 use crate::stream::Source;
 use crate::table::Table;
 use crate::transfer::{PIECE, PIECE_BYTES, fill};
 use byteorder::{ByteOrder, LittleEndian};
 use egt_class::Class;
-use egt_graph::Ranks;
+use egt_graph::{Nears, Ranks};
 use egt_index::size;
 use std::alloc::{AllocError, Global};
 
-/// Takes the header off the source.
-fn read_header<S: Source>(class: Class, source: &mut S) -> Result<(), FileFault>
-    ensures header { OnOk result (Consumes (S.left source.old) (S.left source.new) (header_of class)) }
-    ensures right { OnOk result (IfSome (S.left source.old) (HasHeader class)) }
+/// Takes the header off the source, and gives the version that it tells.
+fn read_header<S: Source>(class: Class, source: &mut S) -> Result<u16, FileFault>
+    ensures header { IfOk result (λ version. Consumes (S.left source.old) (S.left source.new) (header_of version class)) }
+    ensures right { IfOk result (λ version. IfSome (S.left source.old) (λ bytes. HasHeader class bytes × (told_by bytes ≡ version))) }
+    ensures version { IfOk result IsVersion }
     ensures fault { IfErr result (λ fault. IfSome (S.left source.old) (λ bytes. IsAnswer class bytes fault)) }
     ensures failures { CountsDevice result (S.failures source.old) (S.failures source.new) }
 {
@@ -28,7 +29,9 @@ fn read_header<S: Source>(class: Class, source: &mut S) -> Result<(), FileFault>
     if n < LENGTH {
         return Err(FileFault::Short);
     }
-    check_header(class, &header)
+    let version = version_told(&header);
+    check_header(version, class, &header)?;
+    Ok(version)
 }
 
 /// Takes the bytes of at most 2,048 entries off the source.
@@ -85,26 +88,62 @@ fn read_columns<S: Source>(
     source: &mut S,
     mate: &mut [u16],
     zeroing: &mut [u16],
+    reach: &mut [u16],
 ) -> Result<(), FileFault>
-    ensures bytes { OnOk result (IsAll (S.left source.old) (entries_bytes mate.new ++ entries_bytes zeroing.new)) }
-    ensures fault { IfErr result (λ fault. IsMisfit (2 * length mate.old + 2 * length zeroing.old) (S.left source.old) fault) }
+    ensures bytes { OnOk result (IsAll (S.left source.old) (entries_bytes mate.new ++ (entries_bytes zeroing.new ++ entries_bytes reach.new))) }
+    ensures fault { IfErr result (λ fault. IsMisfit (2 * length mate.old + 2 * length zeroing.old + 2 * length reach.old) (S.left source.old) fault) }
     ensures failures { CountsDevice result (S.failures source.old) (S.failures source.new) }
 {
     read_entries(source, mate)?;
     read_entries(source, zeroing)?;
+    read_entries(source, reach)?;
     read_end(source)
 }
 
-/// Room for a column.
-fn room(alloc: Global, class: Class) -> Result<Vec<u16>, AllocError>
-    ensures { IfOk result (λ entries. length entries.items ≡ size_of class) }
+/// How many entries the column of the nearest mates has in a file of the version: none where it is not there.
+fn reach_len(version: u16, class: Class) -> usize
+    ensures { result ≡ length_in version class }
 {
-    vec![in alloc; 0; size(class) as usize]
+    if version == WITH_REACH {
+        size(class) as usize
+    } else {
+        0
+    }
+}
+
+/// Room for a column.
+fn room(alloc: Global, len: usize) -> Result<Vec<u16>, AllocError>
+    ensures { IfOk result (λ entries. length entries.items ≡ len) }
+{
+    vec![in alloc; 0; len]
+}
+
+/// The table of the columns of a file of the version.
+fn table_of(version: u16, class: Class, mate: Vec<u16>, zeroing: Vec<u16>, reach: Vec<u16>) -> Table
+    requires mate { length mate.items ≡ size_of class }
+    requires zeroing { length zeroing.items ≡ size_of class }
+    requires reach { length reach.items ≡ length_in version class }
+    ensures { result ≡ record { class = class; mate = mate.items; zeroing = zeroing.items; reach = reach_in version reach.items } }
+{
+    let mate = Ranks::from_entries(mate);
+    let zeroing = Ranks::from_entries(zeroing);
+    let table = match Table::from_ranks(class, mate, zeroing) {
+        Ok(table) => table,
+        Err(_) => unreachable!(),
+    };
+    if version != WITH_REACH {
+        return table;
+    }
+    match table.with_reach(Nears::from_entries(reach)) {
+        Ok(table) => table,
+        Err(_) => unreachable!(),
+    }
 }
 
 impl Table {
     /// The table of the class whose file the bytes are that the source has left. Nothing is reserved before the header is
-    /// right. How much of the source was read after a fault is not said.
+    /// right, and room for the column of the nearest mates only where the header says that it is there. How much of the
+    /// source was read after a fault is not said.
     ///
     /// # Errors
     ///
@@ -116,17 +155,12 @@ impl Table {
         ensures reads { IfSome (S.left source.old) (λ bytes. Reads class bytes result) }
         ensures failures { CountsDevice result (S.failures source.old) (S.failures source.new) }
     {
-        read_header(class, source)?;
-        let mut mate = room(alloc, class)?;
-        let mut zeroing = room(alloc, class)?;
-        read_columns(source, &mut mate, &mut zeroing)?;
-        match Table::from_ranks(
-            class,
-            Ranks::from_entries(mate),
-            Ranks::from_entries(zeroing),
-        ) {
-            Ok(table) => Ok(table),
-            Err(_) => unreachable!(),
-        }
+        let version = read_header(class, source)?;
+        let size = size(class) as usize;
+        let mut mate = room(alloc, size)?;
+        let mut zeroing = room(alloc, size)?;
+        let mut reach = room(alloc, reach_len(version, class))?;
+        read_columns(source, &mut mate, &mut zeroing, &mut reach)?;
+        Ok(table_of(version, class, mate, zeroing, reach))
     }
 }

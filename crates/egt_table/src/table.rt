@@ -1,40 +1,48 @@
 //! Tables.
-ghost use Rattle.std.specs.Prelude.{◌≡◌, ◌<◌, ◌↔◌, length, slice_index, IsOk, IfOk, IfErr};
+ghost use Rattle.std.specs.Prelude.{◌≡◌, ◌<◌, ◌↔◌, length, slice_index, IsSome, IsOk, IfOk, IfErr, IsTrue};
 ghost use Rattle.egt_index.specs.Size.{size_of};
-ghost use Rattle.egt_table.specs.Table.{IsTable, entries_of};
+ghost use Rattle.egt_table.specs.Table.{HasColumn, IsTable, columns_of, entries_of};
 
 use crate::column::Column;
 use egt_class::Class;
-use egt_graph::Ranks;
+use egt_graph::{Nears, Ranks};
 use egt_index::size;
 use std::marker::Model;
 
-/// The table of a class: in each column one entry a code. An entry is 0 for a code that spells no position, 1 for a draw,
-/// `2 + 2n` for a win in n plies and `3 + 2n` for a loss in n plies. What the entries say is not judged here.
+/// The table of a class: in each column one entry a code. What the entries say is not judged here.
+///
+/// An entry of the columns of mates and of zeroing moves is 0 for a code that spells no position, 1 for a draw, `2 + 2n` for a
+/// win in n plies and `3 + 2n` for a loss in n plies.
+///
+/// The column of the nearest mates may be there or not. An entry of it is 0 for a code that spells no position, 1 for a dead
+/// position, from which no moves of both sides end in checkmate (FIDE Laws of Chess 2023, article 5.2.2), and `2 + n` where n
+/// plies of both sides lead to a checkmate and no fewer do.
 #[derive(Drop)]
 pub struct Table {
     class: Class,
     mate: Ranks,
     zeroing: Ranks,
+    reach: Option<Nears>,
 }
 
 impl Model for Table {
-    ghost use Rattle.std.specs.Prelude.{◌≡◌, ◌<◌, length};
+    ghost use Rattle.std.specs.Prelude.{◌≡◌, ◌<◌, length, IfSome};
     ghost use Rattle.egt_index.specs.Size.{size_of};
     ghost use Rattle.egt_table.specs.Table.{TableValue};
 
     ghost Value = { TableValue };
 
-    ghost view = { λ t. record { class = t.class; mate = t.mate; zeroing = t.zeroing } };
+    ghost view = { λ t. record { class = t.class; mate = t.mate; zeroing = t.zeroing; reach = t.reach } };
 
-    ghost invariant = { λ t. (t.class < 36) × (length t.mate ≡ size_of t.class) × (length t.zeroing ≡ size_of t.class) };
+    ghost invariant = { λ t. (t.class < 36) × (length t.mate ≡ size_of t.class) × (length t.zeroing ≡ size_of t.class)
+        × IfSome t.reach (λ entries. length entries ≡ size_of t.class) };
 }
 
 impl Table {
-    /// The table with these columns, which are moved into it. Both come back exactly where one of them has not as many
+    /// The table with these two columns, which are moved into it. Both come back exactly where one of them has not as many
     /// entries as the class has codes.
     pub fn from_ranks(class: Class, mate: Ranks, zeroing: Ranks) -> Result<Table, (Ranks, Ranks)>
-        ensures table { IfOk result (λ t. t ≡ record { class = class; mate = mate; zeroing = zeroing }) }
+        ensures table { IfOk result (λ t. t ≡ record { class = class; mate = mate; zeroing = zeroing; reach = None }) }
         ensures back { IfErr result (λ columns. columns ≡ (mate, zeroing)) }
         ensures exact { IsOk result ↔ ((length mate ≡ size_of class) × (length zeroing ≡ size_of class)) }
     {
@@ -47,6 +55,26 @@ impl Table {
             class,
             mate,
             zeroing,
+            reach: None,
+        })
+    }
+
+    /// The table with the column of the nearest mates beside the two that it has. It takes no memory. Both come back exactly
+    /// where the table has such a column already, or where this one has not as many entries as the class has codes.
+    pub fn with_reach(self, nears: Nears) -> Result<Table, (Table, Nears)>
+        ensures table { IfOk result (λ t. t ≡ record { class = self.class; mate = self.mate; zeroing = self.zeroing; reach = Some nears }) }
+        ensures back { IfErr result (λ both. both ≡ (self, nears)) }
+        ensures exact { IsOk result ↔ ((self.reach ≡ None) × (length nears ≡ size_of self.class)) }
+    {
+        let size = size(self.class) as usize;
+        if self.reach.is_some() || nears.entries().len() != size {
+            return Err((self, nears));
+        }
+        Ok(Table {
+            class: self.class,
+            mate: self.mate,
+            zeroing: self.zeroing,
+            reach: Some(nears),
         })
     }
 
@@ -57,20 +85,44 @@ impl Table {
         self.class
     }
 
-    /// The entries of a column, by code.
+    /// Whether the column of the nearest mates is there.
+    pub fn has_reach(&self) -> bool
+        ensures { IsTrue result ↔ IsSome self.now.reach }
+    {
+        self.reach.is_some()
+    }
+
+    /// The columns that are there, in the order of files.
+    pub fn columns(&self) -> &'static [Column]
+        ensures { result.now ≡ columns_of self.now }
+    {
+        if self.has_reach() {
+            &Column::ALL
+        } else {
+            &Column::ALL[..2]
+        }
+    }
+
+    /// The entries of a column that is there, by code.
     pub fn entries(&self, column: Column) -> &[u16]
+        requires there { HasColumn column self.now }
         ensures entries { result.now ≡ entries_of column self.now }
         ensures size { length result.now ≡ size_of self.now.class }
     {
         match column {
             Column::Mate => self.mate.entries(),
             Column::Zeroing => self.zeroing.entries(),
+            Column::Reach => match &self.reach {
+                Some(nears) => nears.entries(),
+                None => unreachable!(),
+            },
         }
     }
 
-    /// The entry of a column at a code of the class.
+    /// The entry of a column that is there, at a code of the class.
     pub fn entry(&self, column: Column, index: u32) -> u16
-        requires { index < size_of self.now.class }
+        requires there { HasColumn column self.now }
+        requires index { index < size_of self.now.class }
         ensures { result ≡ slice_index (entries_of column self.now) index }
     {
         self.entries(column)[index as usize]

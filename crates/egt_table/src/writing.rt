@@ -1,12 +1,11 @@
 //! Tables written to files.
 ghost use Rattle.std.specs.Prelude.{◌≡◌, ◌≤◌, length, OnOk, OnErr};
 ghost use Rattle.std.specs.Io.KnownBytes.{Appends};
-ghost use Rattle.egt_table.specs.File.{bytes_of, entries_bytes};
+ghost use Rattle.egt_table.specs.File.{bytes_of, entries_bytes, version_of};
 ghost use Rattle.egt_table.specs.Stream.{CountsFailure, AppendsFront};
 
-use crate::column::Column;
 use crate::device::Device;
-use crate::header::header;
+use crate::header::{WITH_REACH, WITHOUT_REACH, header};
 use crate::stream::Sink;
 use crate::table::Table;
 use crate::transfer::{PIECE, PIECE_BYTES, push_all};
@@ -45,6 +44,17 @@ fn push_entries<S: Sink>(sink: &mut S, entries: &[u16]) -> Result<(), Device>
 }
 
 impl Table {
+    /// The version of the table's file.
+    fn version(&self) -> u16
+        ensures { result ≡ version_of self.now.reach }
+    {
+        if self.has_reach() {
+            WITH_REACH
+        } else {
+            WITHOUT_REACH
+        }
+    }
+
     /// Writes the table's file. It takes no memory.
     ///
     /// # Errors
@@ -55,9 +65,9 @@ impl Table {
         ensures front { OnErr result (AppendsFront (S.written sink.old) (S.written sink.new) (bytes_of self.now)) }
         ensures failures { CountsFailure result (S.failures sink.old) (S.failures sink.new) }
     {
-        push_all(sink, &header(self.class()))?;
-        for column in Column::ALL {
-            push_entries(sink, self.entries(column))?;
+        push_all(sink, &header(self.version(), self.class()))?;
+        for column in self.columns() {
+            push_entries(sink, self.entries(*column))?;
         }
         Ok(())
     }

@@ -2,11 +2,11 @@ use Rattle.std.proofs.Common.{◌≡◌, take}
 use Rattle.std.specs.List.{flat_map}
 use Rattle.std.specs.Io.KnownBytes.{Appends}
 use Rattle.egt_table.specs.File.{column_bytes}
-use Rattle.egt_table.specs.Table.{columns}
+use Rattle.egt_table.specs.Table.{columns_of}
 use Rattle.egt_table.proofs.table.Table.write.Given as goal
 
 abbrev pub invariant-loop-column : goal.invariant-loop-column
 invariant-loop-column g l = record {
-  bytes : Appends (g.S.Sink.written l.initial.sink) (g.S.Sink.written l.sink) (flat_map (column_bytes l.self) (take l.column-index columns));
+  bytes : Appends (g.S.Sink.written l.initial.sink) (g.S.Sink.written l.sink) (flat_map (column_bytes l.self) (take l.column-index (columns_of l.self)));
   failures : g.S.Sink.failures l.sink ≡ g.S.Sink.failures l.initial.sink;
 }

@@ -1,0 +1,103 @@
+-- Files of both versions: what their bytes tell of the version, and what stands behind the header.
+use Rattle.std.proofs.Common.{◌≡◌, ℕ, suc, zero, ◌+◌, ◌*◌, ◌<◌, ◌≤◌, ◌==◌, inl, inr, List, [], ◌++◌, length, drop, get_or, Option, Some, None, IsSome, refl, sym, ap, ◌∙◌, arith, length-append, length-drop, true, false, if◌then◌else◌}
+use Rattle.std.specs.List.{flat_map}
+use Rattle.std.proofs.lemmas.List.{append-nil, drop-append-le, nil_from_length}
+use Rattle.byteorder.specs.Endian.{little_number}
+use Rattle.byteorder.specs.Numbers.{little_from-append}
+use Rattle.egt_index.specs.Size.{size_of}
+use Rattle.egt_table.specs.declared.column.Column.{Column}
+use Rattle.egt_table.specs.declared.column.Column.TheVariants.{Mate, Zeroing, Reach}
+use Rattle.egt_table.specs.File.{bytes_of, column_bytes, columns_in, entries_bytes, file_length, header_fields, header_of, version_of, version_told}
+use Rattle.egt_table.specs.Reading.{IsVersion, length_in, reach_in}
+use Rattle.egt_table.specs.Table.{HasColumn, IsTable, TableValue, columns_of, entries_or_none, reach_columns}
+use Rattle.egt_table.proofs.Entries.{entries_length}
+
+-- the version stands in the first six bytes
+pub told_of_all : (bytes header rest : List ℕ) → bytes ≡ header ++ rest → 6 ≤ length header → version_told bytes ≡ version_told header
+told_of_all bytes header rest p h =
+    let behind : drop 4 (header ++ rest) ≡ drop 4 header ++ rest = drop-append-le 4 header rest (omega arith) in
+    let number : little_number 2 (drop 4 header ++ rest) ≡ little_number 2 (drop 4 header) = little_from-append 2 (drop 4 header) rest (omega (arith, length-drop {A = ℕ})) in
+    rw (p, behind, number) refl
+
+one_or_two : (n : ℕ) → IsVersion (if n == 2 then 2 else 1)
+one_or_two n = elim (n == 2) as (λ b. IsVersion (if b then 2 else 1)) [ true ↦ inr refl | false ↦ inl refl ]
+
+pub told_is_version : (bytes : List ℕ) → IsVersion (version_told bytes)
+told_is_version bytes = one_or_two (little_number 2 (drop 4 bytes))
+
+pub version_small : (reach : Option (List ℕ)) → version_of reach ≤ 2
+version_small None = omega arith
+version_small (Some entries) = omega arith
+
+told_of_header : (reach : Option (List ℕ)) (class : ℕ) → version_told (header_of (version_of reach) class) ≡ version_of reach
+unfolding header_fields
+told_of_header None class = refl
+told_of_header (Some entries) class = refl
+
+pub told_of_table : (t : TableValue) → version_told (bytes_of t) ≡ version_of t.reach
+unfolding header_fields
+told_of_table t =
+    let header = header_of (version_of t.reach) t.class in
+    told_of_all (bytes_of t) header (flat_map (column_bytes t) (columns_of t)) refl (omega arith) ∙ told_of_header t.reach t.class
+
+-- the column of the nearest mates is kept where the file has it
+pub reach_kept : (version class : ℕ) (reach : List ℕ) → IsVersion version → length reach ≡ length_in version class
+    → (version_of (reach_in version reach) ≡ version) × (entries_or_none (reach_in version reach) ≡ reach)
+reach_kept version class reach (inl one) l =
+    let none : length_in version class ≡ 0 = rw one refl in
+    let empty : reach ≡ [] = nil_from_length reach (l ∙ none) in
+    rw one (refl, sym empty)
+reach_kept version class reach (inr two) l = rw two (refl, refl)
+
+-- the bytes of the columns, by name
+third_bytes : (f : Column → List ℕ) (reach : Option (List ℕ)) → f Reach ≡ entries_bytes (entries_or_none reach)
+    → flat_map f (reach_columns reach) ≡ entries_bytes (entries_or_none reach)
+third_bytes f None e = refl
+third_bytes f (Some entries) e = append-nil (f Reach) ∙ e
+
+pub body_is : (t : TableValue) → flat_map (column_bytes t) (columns_of t) ≡ entries_bytes t.mate ++ (entries_bytes t.zeroing ++ entries_bytes (entries_or_none t.reach))
+body_is t = ap (λ (w : List ℕ). entries_bytes t.mate ++ (entries_bytes t.zeroing ++ w)) (third_bytes (column_bytes t) t.reach refl)
+
+third_length : (reach : Option (List ℕ)) (size : ℕ) → (IsSome reach → length (entries_or_none reach) ≡ size)
+    → 2 * size + (2 * size + 2 * length (entries_or_none reach)) ≡ columns_in (version_of reach) * (2 * size)
+third_length None size h = omega arith
+third_length (Some entries) size h = let is : length entries ≡ size = h refl in omega arith
+
+pub body_length : (t : TableValue) → IsTable t → length (flat_map (column_bytes t) (columns_of t)) ≡ columns_in (version_of t.reach) * (2 * size_of t.class)
+body_length t h =
+    let reach = entries_or_none t.reach in
+    omega (
+      arith,
+      ap length (body_is t),
+      third_length t.reach (size_of t.class) (h.sizes Reach),
+      h.sizes Mate tt,
+      h.sizes Zeroing tt,
+      entries_length t.mate,
+      entries_length t.zeroing,
+      entries_length reach,
+      length-append (entries_bytes t.mate) (entries_bytes t.zeroing ++ entries_bytes reach),
+      length-append (entries_bytes t.zeroing) (entries_bytes reach),
+    )
+
+-- each column of a table is there
+third_there : (t : TableValue) (reach : Option (List ℕ)) (i : ℕ) → (IsSome reach → IsSome t.reach) → i < length (reach_columns reach) → HasColumn (get_or (reach_columns reach) i Mate) t
+third_there t None i h l = absurd (omega arith)
+third_there t (Some entries) zero h l = h refl
+third_there t (Some entries) (suc i) h l = tt
+
+pub column_there : (t : TableValue) (i : ℕ) → i < length (columns_of t) → HasColumn (get_or (columns_of t) i Mate) t
+column_there t zero l = tt
+column_there t (suc zero) l = tt
+column_there t (suc (suc i)) l = third_there t t.reach i (λ h. h) (omega arith)
+
+-- how many bytes a file of the version has
+pub length_of_file : (version class mate zeroing reach : ℕ) → IsVersion version → mate ≡ size_of class → zeroing ≡ size_of class → reach ≡ length_in version class
+    → 16 + (2 * mate + 2 * zeroing + 2 * reach) ≡ file_length version class
+length_of_file version class mate zeroing reach (inl one) m z r =
+    let none : length_in version class ≡ 0 = rw one refl in
+    let columns : columns_in version * (2 * size_of class) ≡ 4 * size_of class = rw one (omega arith) in
+    omega arith
+length_of_file version class mate zeroing reach (inr two) m z r =
+    let all : length_in version class ≡ size_of class = rw two refl in
+    let columns : columns_in version * (2 * size_of class) ≡ 6 * size_of class = rw two (omega arith) in
+    omega arith
