@@ -18,11 +18,11 @@ use Rattle.egt_lanes.specs.Blocks.{at}
 use Rattle.egt_lanes.specs.Raised.{IsRaised}
 use Rattle.egt_moves.specs.Promotion.{FitsPromotion, IsOfficer, arriving, promotes}
 use Rattle.egt_table.specs.Table.{TableValue}
-use Rattle.egt_table.specs.declared.column.Column.TheVariants.{Mate}
+use Rattle.egt_table.specs.declared.column.Column.{Column}
 use Rattle.egt_check.specs.PawnMoves.{AreAdvancedCodes, ArePromotedCodes, officer_of, stand_after}
 use Rattle.egt_check.specs.QuietStands.{IsClear}
 use Rattle.egt_check.specs.Takings.{IsPastKings, left_of, stand_left}
-use Rattle.egt_check.specs.Worth.{IsRead, score_at}
+use Rattle.egt_check.specs.Worth.{IsRead, column_score}
 use Rattle.egt_check.proofs.BlockRaising.{raised_alike}
 use Rattle.egt_check.proofs.QuietRaising.{left_without, raised_through}
 
@@ -67,12 +67,12 @@ arrived_raised F G side s arrivals low high row arrived same keeps raised =
     (λ t. advances_free G F side s t (λ u u_in. (same u u_in).1))
     (λ t. advances_free F G side s t (λ u u_in. (same u u_in).0)))
 
-module _ (t : TableValue) (before flips : Bool) (men : ShelfMen) (side : Side) (promo : Option Kind) (a b : ℕ) where
+module _ (t : TableValue) (column : Column) (before flips : Bool) (men : ShelfMen) (side : Side) (promo : Option Kind) (a b : ℕ) where
   abbrev pub Advanced : ℕ → Type 0
   Advanced = AreAdvancedCodes t.class before flips men side promo a b
 
   module _ (mine : men.last ≡ pawn_of side) (arrivals : ℕ) (are : (u : ℕ) → u < 64 → (bit_at arrivals u ≡ 1) ↔ FitsPromotion (eqb (rank_of u) (last_rank side)) promo) (man : Man) (man_is : man ≡ arriving men.last promo)
-      (scores : List (List ℕ)) (read : (i u : ℕ) → i < 64 → u < 64 → IsRead t Mate flips (stand_after before flips men i man u) (other_side side) (at scores i u)) (a_in : a < 64) where
+      (scores : List (List ℕ)) (read : (i u : ℕ) → i < 64 → u < 64 → IsRead t column flips (stand_after before flips men i man u) (other_side side) (at scores i u)) (a_in : a < 64) where
     -- he advances there, and it is one of these squares
     abbrev Arrives : ℕ → Type 0
     Arrives u = Advances (IsClear men a) side b u × (bit_at arrivals u ≡ 1)
@@ -102,10 +102,10 @@ module _ (t : TableValue) (before flips : Bool) (men : ShelfMen) (side : Side) (
       subst (λ (x : Man). IsSomeTurnedCode t.class code flips (stand_after before flips men a x h.0) (other_side side)) man_is h.2,
     )
 
-    pub all_advances : (low v : ℕ) → low ≡ 0 → IsRaised low Arrives (λ u. at scores a u) v → IsRaised 0 Advanced (score_at t Mate) v
+    pub all_advances : (low v : ℕ) → low ≡ 0 → IsRaised low Arrives (λ u. at scores a u) v → IsRaised 0 Advanced (column_score t column) v
     all_advances low v none raised =
-        raised_alike 0 v (λ code. (u : ℕ) × Arrives u × Codes u code) Advanced (score_at t Mate)
-        (raised_through 0 v Arrives Codes (score_at t Mate) (λ u. at scores a u) (λ u h. read a u a_in h.0.rides.away.on_board) (subst (λ n. IsRaised n Arrives (λ u. at scores a u) v) none raised)) advance_there advance_back
+        raised_alike 0 v (λ code. (u : ℕ) × Arrives u × Codes u code) Advanced (column_score t column)
+        (raised_through 0 v Arrives Codes (column_score t column) (λ u. at scores a u) (λ u h. read a u a_in h.0.rides.away.on_board) (subst (λ n. IsRaised n Arrives (λ u. at scores a u) v) none raised)) advance_there advance_back
 
 -- ---- captures that promote
 
@@ -113,13 +113,13 @@ bit_true : (x : Bool) (bit : ℕ) → bit ≡ cond x 1 0 → bit ≡ 1 → x ≡
 bit_true true bit is one = refl
 bit_true false bit is one = absurd (omega (arith, is, one))
 
-module _ (t : TableValue) (flips : Bool) (men : ShelfMen) (side : Side) (kind : Kind) (a b : ℕ) where
+module _ (t : TableValue) (column : Column) (flips : Bool) (men : ShelfMen) (side : Side) (kind : Kind) (a b : ℕ) where
   abbrev pub Promoted : ℕ → Type 0
   Promoted = ArePromotedCodes t.class flips men side kind a b
 
   module _ (officer : IsOfficer kind) (mine : men.last ≡ pawn_of side) (theirs : men.one.side ≡ other_side side) (lasts : ℕ) (are : (u : ℕ) → u < 64 → bit_at lasts u ≡ cond (eqb (rank_of u) (last_rank side)) 1 0) (scores arrived : List ℕ)
       (keeps : (u : ℕ) → u < 64 → slice_index arrived u ≡ cond (eqb (bit_at lasts u) 1) (slice_index scores u) 0)
-      (read : (u : ℕ) → u < 64 → IsRead t Mate flips (stand_left flips (left_of men (officer_of side kind) u)) (other_side side) (slice_index scores u)) (a_in : a < 64) where
+      (read : (u : ℕ) → u < 64 → IsRead t column flips (stand_left flips (left_of men (officer_of side kind) u)) (other_side side) (slice_index scores u)) (a_in : a < 64) where
     -- he takes on a
     abbrev Takes : ℕ → Type 0
     Takes u = (u ≡ a) × Reaches (IsPastKings men) men.last b u
@@ -159,8 +159,8 @@ module _ (t : TableValue) (flips : Bool) (men : ShelfMen) (side : Side) (kind : 
           subst (λ u. Left u code) same h.2,
         )
 
-    pub all_captures : (low v : ℕ) → low ≡ 0 → IsRaised low Takes (slice_index arrived) v → (w : ℕ) → w ≡ v → IsRaised 0 Promoted (score_at t Mate) w
+    pub all_captures : (low v : ℕ) → low ≡ 0 → IsRaised low Takes (slice_index arrived) v → (w : ℕ) → w ≡ v → IsRaised 0 Promoted (column_score t column) w
     all_captures low v none raised w is =
         let among = raised_among 0 v Takes (λ u. bit_at lasts u ≡ 1) (slice_index scores) (slice_index arrived) (λ u h. kept_or_none lasts u (slice_index scores u) (slice_index arrived u) (keeps u (in_board u h.0)))
         (subst (λ n. IsRaised n Takes (slice_index arrived) v) none raised) in
-        subst (IsRaised 0 Promoted (score_at t Mate)) (sym is) (raised_alike 0 v (λ code. (u : ℕ) × TakesLast u × Left u code) Promoted (score_at t Mate) (raised_through 0 v TakesLast Left (score_at t Mate) (slice_index scores) (λ u h. read u (in_board u h.0.0)) among) capture_there capture_back)
+        subst (IsRaised 0 Promoted (column_score t column)) (sym is) (raised_alike 0 v (λ code. (u : ℕ) × TakesLast u × Left u code) Promoted (column_score t column) (raised_through 0 v TakesLast Left (column_score t column) (slice_index scores) (λ u h. read u (in_board u h.0.0)) among) capture_there capture_back)

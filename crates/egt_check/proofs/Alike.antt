@@ -7,7 +7,7 @@ use Rattle.egt_class.specs.Membership.{IsOf}
 use Rattle.egt_index.specs.Code.{Spells}
 use Rattle.egt_index.specs.Index.{IsIndex}
 use Rattle.egt_moves.specs.Arena.{Value}
-use Rattle.egt_table.specs.declared.column.Column.{Column}
+use Rattle.egt_check.specs.declared.metric.Metric.{Metric}
 use Rattle.egt_check.specs.Alike.{StepAlike}
 use Rattle.egt_check.specs.Facts.{Facts}
 use Rattle.egt_check.specs.Tables.{Tables, ShowsOf}
@@ -63,8 +63,8 @@ module _ (facts : Facts) where
       subst (λ j. IsIndex c q j) (sym same) other.1
 
   -- so the same is shown of it
-  pub image_shows : (tables : Tables) (column : Column) (v : Value) (p q : Setup) → IsAdmissible p → AreImages p q → ShowsOf tables column p v → ShowsOf tables column q v
-  image_shows tables column v p q ok images shown =
+  pub image_shows : (tables : Tables) (metric : Metric) (v : Value) (p q : Setup) → IsAdmissible p → AreImages p q → ShowsOf tables metric p v → ShowsOf tables metric q v
+  image_shows tables metric v p q ok images shown =
       let e = shown.1 in
       let turned = facts.image_class p q e.class e.flipped ok images e.of in (
         shown.0,
@@ -82,9 +82,9 @@ module _ (facts : Facts) where
         shown.2,
       )
 
-  pub images_show_alike : (tables : Tables) (column : Column) (v : Value) (p q : Setup) → IsAdmissible p → AreImages p q → ShowsOf tables column p v ↔ ShowsOf tables column q v
-  images_show_alike tables column v p q ok images =
-      (image_shows tables column v p q ok images, image_shows tables column v q p (facts.image_admissible p q ok images) (facts.images_back p q ok images))
+  pub images_show_alike : (tables : Tables) (metric : Metric) (v : Value) (p q : Setup) → IsAdmissible p → AreImages p q → ShowsOf tables metric p v ↔ ShowsOf tables metric q v
+  images_show_alike tables metric v p q ok images =
+      (image_shows tables metric v p q ok images, image_shows tables metric v q p (facts.image_admissible p q ok images) (facts.images_back p q ok images))
 
   -- a position plays like the one that its index spells
   pub spelled_alike : (one_spelled : (c code : ℕ) (p q : Setup) → Spells c code p → Spells c code q → p ≡ q) (c i : ℕ) (p q : Setup) → IsAdmissible p → IsIndex c p i → Spells c i q → StepAlike p q

@@ -17,8 +17,8 @@ use Rattle.egt_lanes.specs.Scores.{byte_score, due_score}
 use Rattle.egt_moves.specs.Arena.{NoMove}
 use Rattle.egt_moves.specs.Chess.{chess}
 use Rattle.egt_table.specs.Table.{TableValue}
-use Rattle.egt_table.specs.declared.column.Column.{Column}
-use Rattle.egt_table.specs.declared.column.Column.TheVariants.{Mate, Zeroing}
+use Rattle.egt_check.specs.declared.metric.Metric.{Metric}
+use Rattle.egt_check.specs.declared.metric.Metric.TheVariants.{Mate, Zeroing}
 use Rattle.egt_check.specs.Blocks.{stand_on}
 use Rattle.egt_check.specs.Given.{AreAlike, AreGiven}
 use Rattle.egt_check.specs.MoveScores.{AreAllScores, AreTablesOf}
@@ -46,10 +46,10 @@ pub record Says (tables : Tables) (four : FourMen) (men : ShelfMen) (side : Side
   pub stands : (i : ℕ) (p : Setup) → Spells four.own.now.class i p → IsSettled p → TellsMen passed four.own.now.class i (stand_on men a b) side → HasStand four.own.now.class false (stand_on men a b) side passed p
   pub given : (p : Setup) (mate zeroing : ℕ) → HasStand four.own.now.class false (stand_on men a b) side passed p → AreAllScores passed four men side a b mate zeroing → AreGiven tables p (λ m. Unit {0}) mate zeroing
   pub due : (i : ℕ) (p : Setup) (g z : ℕ) → Spells four.own.now.class i p → ¬ IsVoid four.own.now.class i → AreAlike (entry_at four.own.now Mate i) (entry_at four.own.now Zeroing i) → AreGiven tables p (λ m. Unit {0}) g z → g ≢ 0
-      → byte_score (entry_at four.own.now Mate i) ≡ due_score g → byte_score (entry_at four.own.now Zeroing i) ≡ due_score z → (column : Column) → IsJudged tables four.own.now column i None
+      → byte_score (entry_at four.own.now Mate i) ≡ due_score g → byte_score (entry_at four.own.now Zeroing i) ≡ due_score z → (metric : Metric) → IsJudged tables four.own.now metric i None
   pub none : (p : Setup) (g z : ℕ) → IsAdmissible p → AreGiven tables p (λ m. Unit {0}) g z → g ≡ 0 → NoMove chess p
   pub end : (i : ℕ) (p : Setup) (x : ℕ) → Spells four.own.now.class i p → ¬ IsVoid four.own.now.class i → AreAlike (entry_at four.own.now Mate i) (entry_at four.own.now Zeroing i) → NoMove chess p → IsAtEnd p x
-      → entry_at four.own.now Mate i ≡ x → entry_at four.own.now Zeroing i ≡ x → (column : Column) → IsJudged tables four.own.now column i None
+      → entry_at four.own.now Mate i ≡ x → entry_at four.own.now Zeroing i ≡ x → (metric : Metric) → IsJudged tables four.own.now metric i None
 
 -- an entry with a byte of its own has a score
 pub some_score : (e : ℕ) → e ≢ 0 → e ≢ 2 → e < 254 → byte_score e ≢ 0
@@ -65,8 +65,8 @@ module _ (tables : Tables) (four : FourMen) (men : ShelfMen) (side : Side) (pass
   abbrev pub own : TableValue
   own = four.own.now
 
-  of_void : IsVoid own.class i → (column : Column) → IsJudged tables own column i None
-  of_void void column = void_judged tables own i column void None (are.bytes.void column i below void)
+  of_void : IsVoid own.class i → (metric : Metric) → IsJudged tables own metric i None
+  of_void void metric = void_judged tables own i metric void None (are.bytes.void metric i below void)
 
   module _ (p : Setup) (spells : Spells own.class i p) (index : IsIndex own.class p i) (mate zeroing : ℕ) (scores : AreAllScores passed four men side a b mate zeroing) (tells : TellsMen passed own.class i (stand_on men a b) side)
       (right : score_at own Mate i ≢ 0 → IsRightAt own i mate zeroing) where
@@ -85,18 +85,18 @@ module _ (tables : Tables) (four : FourMen) (men : ShelfMen) (side : Side) (pass
     judged : IsRightAt own i mate zeroing
     judged = right (λ none. some_score (entry_at own Mate i) alike.mate_known.some alike.mate_known.other alike.mate_known.low (sym (low_score (entry_at own Mate i) alike.mate_known.low) ∙ none))
 
-    of_index : (column : Column) → IsJudged tables own column i None
-    of_index column = elim (cases_eq mate 0) [
+    of_index : (metric : Metric) → IsJudged tables own metric i None
+    of_index metric = elim (cases_eq mate 0) [
       | inl none ↦
           let (x, at_end, first, second) = judged.end none p spells in
-          says.end i p x spells not_void alike (says.none p mate zeroing spells.admissible given none) at_end first second column
+          says.end i p x spells not_void alike (says.none p mate zeroing spells.admissible given none) at_end first second metric
       | inr some ↦
           let (first, second) = judged.due some in
-          says.due i p mate zeroing spells not_void alike given some (sym (low_score (entry_at own Mate i) alike.mate_known.low) ∙ first) (sym (low_score (entry_at own Zeroing i) alike.zeroing_known.low) ∙ second) column
+          says.due i p mate zeroing spells not_void alike given some (sym (low_score (entry_at own Mate i) alike.mate_known.low) ∙ first) (sym (low_score (entry_at own Zeroing i) alike.zeroing_known.low) ∙ second) metric
     ]
 
-  pub all_judged : (mate zeroing : ℕ) → TellsMen passed own.class i (stand_on men a b) side → AreAllScores passed four men side a b mate zeroing → (score_at own Mate i ≢ 0 → IsRightAt own i mate zeroing) → (column : Column) → IsJudged tables own column i None
-  all_judged mate zeroing tells scores right column = elim (says.or_void i) [
-    | inl spelled ↦ of_index spelled.0 spelled.1 spelled.2 mate zeroing scores tells right column
-    | inr void ↦ of_void void column
+  pub all_judged : (mate zeroing : ℕ) → TellsMen passed own.class i (stand_on men a b) side → AreAllScores passed four men side a b mate zeroing → (score_at own Mate i ≢ 0 → IsRightAt own i mate zeroing) → (metric : Metric) → IsJudged tables own metric i None
+  all_judged mate zeroing tells scores right metric = elim (says.or_void i) [
+    | inl spelled ↦ of_index spelled.0 spelled.1 spelled.2 mate zeroing scores tells right metric
+    | inr void ↦ of_void void metric
   ]

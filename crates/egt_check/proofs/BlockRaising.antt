@@ -22,7 +22,7 @@ use Rattle.egt_lanes.specs.Raised.{IsRaised}
 use Rattle.egt_table.specs.Table.{TableValue}
 use Rattle.egt_table.specs.declared.column.Column.{Column}
 use Rattle.egt_check.specs.Blocks.{AreGathered, AreHomeCodes, AreTurnedCodes, IsBesideKing, IsCodeAfter, IsHomeCode, men_across, settled_at, stand_on, with_king}
-use Rattle.egt_check.specs.Worth.{score_at}
+use Rattle.egt_check.specs.Worth.{column_score}
 
 -- ---- the greatest of some numbers
 
@@ -174,13 +174,13 @@ module _ (passed : Bool) (t : TableValue) (column : Column) (In : ℕ → Type 0
   OwnCodes : ℕ → Type 0
   OwnCodes code = AreHomeCodes passed t.class In men flips side a b code ⊎ ((k : ℕ) × In k × ((men k).one ≡ (men k).last) × IsHomeCode passed t.class code flips (stand_on (men k) b a) side)
 
-  own_raised : (e : Bool) → equal ≡ e → IsRaised 0 OwnCodes (score_at t column) (cond e (max (at own a b) (at own b a)) (at own a b))
+  own_raised : (e : Bool) → equal ≡ e → IsRaised 0 OwnCodes (column_score t column) (cond e (max (at own a b) (at own b a)) (at own a b))
   unfolding OwnCodes
-  own_raised true is = raised_greater (at own a b) (at own b a) (max (at own a b) (at own b a)) (AreHomeCodes passed t.class In men flips side a b) (AreHomeCodes passed t.class In men flips side b a) OwnCodes (score_at t column) (gathered.in_own a b a_in b_in) (gathered.in_own b a b_in a_in) refl
+  own_raised true is = raised_greater (at own a b) (at own b a) (max (at own a b) (at own b a)) (AreHomeCodes passed t.class In men flips side a b) (AreHomeCodes passed t.class In men flips side b a) OwnCodes (column_score t column) (gathered.in_own a b a_in b_in) (gathered.in_own b a b_in a_in) refl
       (λ code h. elim h [ inl here ↦ inl here | inr there ↦ inr (there.0, there.1, there.3) ])
       (λ code here. inl here)
       (λ code there. inr (there.0, there.1, same is there.0, there.2))
-  own_raised false is = raised_alike 0 (at own a b) (AreHomeCodes passed t.class In men flips side a b) OwnCodes (score_at t column) (gathered.in_own a b a_in b_in)
+  own_raised false is = raised_alike 0 (at own a b) (AreHomeCodes passed t.class In men flips side a b) OwnCodes (column_score t column) (gathered.in_own a b a_in b_in)
       (λ code h. elim h [ inl here ↦ here | inr there ↦ absurd (differ is there.0 there.2) ])
       (λ code here. inl here)
 
@@ -189,10 +189,10 @@ module _ (passed : Bool) (t : TableValue) (column : Column) (In : ℕ → Type 0
   all_codes code (inl here) = (here.0, here.1, home_is_some passed t.class flips side code (men here.0) a b here.2)
   all_codes code (inr there) = (there.0, there.1, other_is_some passed t.class flips side code (men there.0) a b there.2 there.3)
 
-  pub settled_raised : (sides : Bool) → has_equal_sides t.class ≡ sides → IsRaised 0 (AreTurnedCodes passed t.class In men flips side a b) (score_at t column) (settled_at equal sides own across a b)
+  pub settled_raised : (sides : Bool) → has_equal_sides t.class ≡ sides → IsRaised 0 (AreTurnedCodes passed t.class In men flips side a b) (column_score t column) (settled_at equal sides own across a b)
   unfolding OwnCodes
   settled_raised true is =
-      raised_greater _ (at across b a) _ OwnCodes (AreHomeCodes passed t.class In (λ k. men_across (men k)) (not flips) side b a) (AreTurnedCodes passed t.class In men flips side a b) (score_at t column) (own_raised equal refl) (gathered.in_across is a b a_in b_in) refl
+      raised_greater _ (at across b a) _ OwnCodes (AreHomeCodes passed t.class In (λ k. men_across (men k)) (not flips) side b a) (AreTurnedCodes passed t.class In men flips side a b) (column_score t column) (own_raised equal refl) (gathered.in_across is a b a_in b_in) refl
       (λ code h. elim (some_parted passed t.class flips side code (men h.0) a b h.2) [
         | inl here ↦ inl (inl (h.0, h.1, here))
         | inr (inl other) ↦ inl (inr (h.0, h.1, other.0, other.1))
@@ -201,8 +201,8 @@ module _ (passed : Bool) (t : TableValue) (column : Column) (In : ℕ → Type 0
       all_codes
       (λ code beyond. (beyond.0, beyond.1, across_is_some passed t.class flips side code (men beyond.0) a b is beyond.2))
   settled_raised false is =
-      subst (IsRaised 0 (AreTurnedCodes passed t.class In men flips side a b) (score_at t column)) (omega arith)
-      (raised_alike 0 _ OwnCodes (AreTurnedCodes passed t.class In men flips side a b) (score_at t column) (own_raised equal refl)
+      subst (IsRaised 0 (AreTurnedCodes passed t.class In men flips side a b) (column_score t column)) (omega arith)
+      (raised_alike 0 _ OwnCodes (AreTurnedCodes passed t.class In men flips side a b) (column_score t column) (own_raised equal refl)
       (λ code h. elim (some_parted passed t.class flips side code (men h.0) a b h.2) [
         | inl here ↦ inl (h.0, h.1, here)
         | inr (inl other) ↦ inr (h.0, h.1, other.0, other.1)
@@ -216,14 +216,14 @@ told_equal equal men is = (is.0, λ no same. false≢true (sym no ∙ is.1 same)
 -- one family of men, gathered into nothing
 module _ (passed : Bool) (t : TableValue) (column : Column) (men : ShelfMen) (flips : Bool) (side : Side) (own across own_before across_before : List (List ℕ)) where
   pub gathered_alone : ((a b : ℕ) → a < 64 → b < 64 → at own_before a b ≡ 0) → ((a b : ℕ) → a < 64 → b < 64 → at across_before a b ≡ 0)
-      → ((a b : ℕ) → a < 64 → b < 64 → IsRaised (at own_before a b) (λ code. IsHomeCode passed t.class code flips (stand_on men a b) side) (score_at t column) (at own a b))
-      → (has_equal_sides t.class ≡ true → (a b : ℕ) → a < 64 → b < 64 → IsRaised (at across_before b a) (λ code. IsHomeCode passed t.class code (not flips) (stand_on (men_across men) b a) side) (score_at t column) (at across b a))
+      → ((a b : ℕ) → a < 64 → b < 64 → IsRaised (at own_before a b) (λ code. IsHomeCode passed t.class code flips (stand_on men a b) side) (column_score t column) (at own a b))
+      → (has_equal_sides t.class ≡ true → (a b : ℕ) → a < 64 → b < 64 → IsRaised (at across_before b a) (λ code. IsHomeCode passed t.class code (not flips) (stand_on (men_across men) b a) side) (column_score t column) (at across b a))
       → AreGathered passed t column (λ k. k ≡ 0) (λ k. men) flips side own across
   gathered_alone none none_across own_raised across_raised = record {
-    in_own = λ a b a_in b_in. raised_alike 0 (at own a b) (λ code. IsHomeCode passed t.class code flips (stand_on men a b) side) (AreHomeCodes passed t.class (λ k. k ≡ 0) (λ k. men) flips side a b) (score_at t column)
-        (subst (λ low. IsRaised low (λ code. IsHomeCode passed t.class code flips (stand_on men a b) side) (score_at t column) (at own a b)) (none a b a_in b_in) (own_raised a b a_in b_in)) (λ code h. h.2) (λ code h. (0, refl, h));
-    in_across = λ equal a b a_in b_in. raised_alike 0 (at across b a) (λ code. IsHomeCode passed t.class code (not flips) (stand_on (men_across men) b a) side) (AreHomeCodes passed t.class (λ k. k ≡ 0) (λ k. men_across men) (not flips) side b a) (score_at t column)
-        (subst (λ low. IsRaised low (λ code. IsHomeCode passed t.class code (not flips) (stand_on (men_across men) b a) side) (score_at t column) (at across b a)) (none_across b a b_in a_in) (across_raised equal a b a_in b_in)) (λ code h. h.2) (λ code h. (0, refl, h));
+    in_own = λ a b a_in b_in. raised_alike 0 (at own a b) (λ code. IsHomeCode passed t.class code flips (stand_on men a b) side) (AreHomeCodes passed t.class (λ k. k ≡ 0) (λ k. men) flips side a b) (column_score t column)
+        (subst (λ low. IsRaised low (λ code. IsHomeCode passed t.class code flips (stand_on men a b) side) (column_score t column) (at own a b)) (none a b a_in b_in) (own_raised a b a_in b_in)) (λ code h. h.2) (λ code h. (0, refl, h));
+    in_across = λ equal a b a_in b_in. raised_alike 0 (at across b a) (λ code. IsHomeCode passed t.class code (not flips) (stand_on (men_across men) b a) side) (AreHomeCodes passed t.class (λ k. k ≡ 0) (λ k. men_across men) (not flips) side b a) (column_score t column)
+        (subst (λ low. IsRaised low (λ code. IsHomeCode passed t.class code (not flips) (stand_on (men_across men) b a) side) (column_score t column) (at across b a)) (none_across b a b_in a_in) (across_raised equal a b a_in b_in)) (λ code h. h.2) (λ code h. (0, refl, h));
   }
 
 -- ---- a king's steps
@@ -235,18 +235,18 @@ GoneKing men side rest k = IsBesideKing men side k × (bit_at rest.bits k ≡ 0)
 module _ (passed : Bool) (t : TableValue) (column : Column) (men : ℕ → ShelfMen) (flips : Bool) (side : Side) where
   pub gathered_none : (In : ℕ → Type 0) (own across : List (List ℕ)) → ((k : ℕ) → ¬ In k) → ((a b : ℕ) → a < 64 → b < 64 → at own a b ≡ 0) → ((a b : ℕ) → a < 64 → b < 64 → at across a b ≡ 0) → AreGathered passed t column In men flips side own across
   gathered_none In own across none own_none across_none = record {
-    in_own = λ a b a_in b_in. subst (IsRaised 0 (AreHomeCodes passed t.class In men flips side a b) (score_at t column)) (sym (own_none a b a_in b_in)) (raised_by_none 0 (AreHomeCodes passed t.class In men flips side a b) (score_at t column) (λ code h. none h.0 h.1));
-    in_across = λ equal a b a_in b_in. subst (IsRaised 0 (AreHomeCodes passed t.class In (λ k. men_across (men k)) (not flips) side b a) (score_at t column)) (sym (across_none b a b_in a_in))
-        (raised_by_none 0 (AreHomeCodes passed t.class In (λ k. men_across (men k)) (not flips) side b a) (score_at t column) (λ code h. none h.0 h.1));
+    in_own = λ a b a_in b_in. subst (IsRaised 0 (AreHomeCodes passed t.class In men flips side a b) (column_score t column)) (sym (own_none a b a_in b_in)) (raised_by_none 0 (AreHomeCodes passed t.class In men flips side a b) (column_score t column) (λ code h. none h.0 h.1));
+    in_across = λ equal a b a_in b_in. subst (IsRaised 0 (AreHomeCodes passed t.class In (λ k. men_across (men k)) (not flips) side b a) (column_score t column)) (sym (across_none b a b_in a_in))
+        (raised_by_none 0 (AreHomeCodes passed t.class In (λ k. men_across (men k)) (not flips) side b a) (column_score t column) (λ code h. none h.0 h.1));
   }
 
   -- one more of them
   pub gathered_more : (A In : ℕ → Type 0) (n : ℕ) (own across own_new across_new : List (List ℕ)) → AreGathered passed t column A men flips side own across
-      → ((a b : ℕ) → a < 64 → b < 64 → IsRaised (at own a b) (λ code. IsHomeCode passed t.class code flips (stand_on (men n) a b) side) (score_at t column) (at own_new a b))
-      → (has_equal_sides t.class ≡ true → (a b : ℕ) → a < 64 → b < 64 → IsRaised (at across b a) (λ code. IsHomeCode passed t.class code (not flips) (stand_on (men_across (men n)) b a) side) (score_at t column) (at across_new b a))
+      → ((a b : ℕ) → a < 64 → b < 64 → IsRaised (at own a b) (λ code. IsHomeCode passed t.class code flips (stand_on (men n) a b) side) (column_score t column) (at own_new a b))
+      → (has_equal_sides t.class ≡ true → (a b : ℕ) → a < 64 → b < 64 → IsRaised (at across b a) (λ code. IsHomeCode passed t.class code (not flips) (stand_on (men_across (men n)) b a) side) (column_score t column) (at across_new b a))
       → ((k : ℕ) → In k → A k ⊎ (k ≡ n)) → ((k : ℕ) → A k → In k) → In n → AreGathered passed t column In men flips side own_new across_new
   gathered_more A In n own across own_new across_new before in_own in_across covers a_in n_in = record {
-    in_own = λ a b a_low b_low. raised_both 0 (at own a b) (at own_new a b) (AreHomeCodes passed t.class A men flips side a b) (λ code. IsHomeCode passed t.class code flips (stand_on (men n) a b) side) (AreHomeCodes passed t.class In men flips side a b) (score_at t column)
+    in_own = λ a b a_low b_low. raised_both 0 (at own a b) (at own_new a b) (AreHomeCodes passed t.class A men flips side a b) (λ code. IsHomeCode passed t.class code flips (stand_on (men n) a b) side) (AreHomeCodes passed t.class In men flips side a b) (column_score t column)
         (before.in_own a b a_low b_low) (in_own a b a_low b_low)
         (λ code h. elim (covers h.0 h.1) [
           | inl old ↦ inl (h.0, old, h.2)
@@ -254,7 +254,7 @@ module _ (passed : Bool) (t : TableValue) (column : Column) (men : ℕ → Shelf
         ])
         (λ code h. (h.0, a_in h.0 h.1, h.2)) (λ code h. (n, n_in, h));
     in_across = λ equal a b a_low b_low. raised_both 0 (at across b a) (at across_new b a) (AreHomeCodes passed t.class A (λ k. men_across (men k)) (not flips) side b a) (λ code. IsHomeCode passed t.class code (not flips) (stand_on (men_across (men n)) b a) side)
-        (AreHomeCodes passed t.class In (λ k. men_across (men k)) (not flips) side b a) (score_at t column) (before.in_across equal a b a_low b_low) (in_across equal a b a_low b_low)
+        (AreHomeCodes passed t.class In (λ k. men_across (men k)) (not flips) side b a) (column_score t column) (before.in_across equal a b a_low b_low) (in_across equal a b a_low b_low)
         (λ code h. elim (covers h.0 h.1) [
           | inl old ↦ inl (h.0, old, h.2)
           | inr new ↦ inr (subst (λ k. IsHomeCode passed t.class code (not flips) (stand_on (men_across (men k)) b a) side) new h.2)
@@ -264,8 +264,8 @@ module _ (passed : Bool) (t : TableValue) (column : Column) (men : ℕ → Shelf
 
   pub gathered_alike : (A In : ℕ → Type 0) (own across : List (List ℕ)) → AreGathered passed t column A men flips side own across → ((k : ℕ) → In k → A k) → ((k : ℕ) → A k → In k) → AreGathered passed t column In men flips side own across
   gathered_alike A In own across before covers a_in = record {
-    in_own = λ a b a_low b_low. raised_alike 0 (at own a b) (AreHomeCodes passed t.class A men flips side a b) (AreHomeCodes passed t.class In men flips side a b) (score_at t column) (before.in_own a b a_low b_low) (λ code h. (h.0, covers h.0 h.1, h.2)) (λ code h. (h.0, a_in h.0 h.1, h.2));
-    in_across = λ equal a b a_low b_low. raised_alike 0 (at across b a) (AreHomeCodes passed t.class A (λ k. men_across (men k)) (not flips) side b a) (AreHomeCodes passed t.class In (λ k. men_across (men k)) (not flips) side b a) (score_at t column) (before.in_across equal a b a_low b_low)
+    in_own = λ a b a_low b_low. raised_alike 0 (at own a b) (AreHomeCodes passed t.class A men flips side a b) (AreHomeCodes passed t.class In men flips side a b) (column_score t column) (before.in_own a b a_low b_low) (λ code h. (h.0, covers h.0 h.1, h.2)) (λ code h. (h.0, a_in h.0 h.1, h.2));
+    in_across = λ equal a b a_low b_low. raised_alike 0 (at across b a) (AreHomeCodes passed t.class A (λ k. men_across (men k)) (not flips) side b a) (AreHomeCodes passed t.class In (λ k. men_across (men k)) (not flips) side b a) (column_score t column) (before.in_across equal a b a_low b_low)
         (λ code h. (h.0, covers h.0 h.1, h.2)) (λ code h. (h.0, a_in h.0 h.1, h.2));
   }
 

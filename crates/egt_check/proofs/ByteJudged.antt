@@ -8,9 +8,9 @@ use Rattle.egt_moves.specs.Arena.{Value, NoMove}
 use Rattle.egt_moves.specs.Chess.{chess}
 use Rattle.egt_moves.specs.Legal.{Leads}
 use Rattle.egt_moves.specs.declared.chess_move.Move.{Move}
-use Rattle.egt_table.specs.declared.column.Column.{Column}
-use Rattle.egt_table.specs.declared.column.Column.TheVariants.{Mate, Zeroing}
-use Rattle.egt_check.specs.declared.by_column.ByColumn.{ByColumn}
+use Rattle.egt_check.specs.declared.metric.Metric.{Metric}
+use Rattle.egt_check.specs.declared.metric.Metric.TheVariants.{Mate, Zeroing}
+use Rattle.egt_check.specs.declared.by_metric.ByMetric.{ByMetric}
 use Rattle.egt_check.specs.declared.outcome.Outcome.{Outcome}
 use Rattle.egt_check.specs.declared.outcome.Outcome.TheVariants as outcomes
 use Rattle.egt_check.specs.Entry.{Shows}
@@ -41,7 +41,7 @@ if_same a b x y same = ap (λ (t : Bool). cond t x y) (eq-eqb a b same)
 byte_win : (x : ℕ) → x ≢ 0 → x ≢ 1 → x % 2 ≡ 0 → byte_score x ≡ (x - 2) / 2
 byte_win x some odd even = if_not x 0 _ _ some ∙ if_not x 1 _ _ odd ∙ if_same (x % 2) 0 _ _ even
 
-byte_loss : (x : ℕ) → x ≢ 1 → x % 2 ≡ 1 → byte_score x ≡ 255 - (x - 3) / 2
+pub byte_loss : (x : ℕ) → x ≢ 1 → x % 2 ≡ 1 → byte_score x ≡ 255 - (x - 3) / 2
 byte_loss x other odd = if_not x 0 _ _ (λ e. omega (arith, e, odd)) ∙ if_not x 1 _ _ other ∙ if_not (x % 2) 0 _ _ (λ e. omega (arith, e, odd))
 
 -- what an entry with a byte of its own shows, and its byte
@@ -175,7 +175,7 @@ module _ (facts : Facts) (tables : Tables) (p : Setup) (ok : IsAdmissible p) (q 
   unfolding o
   seen said shown = record { next = q; leads = leads; has = has; mate_shown = byte_shows o.0 h.first (byte_score h.first) o.1; zeroing_shown = shown; zeroes_is = h.zeroes_is }
     where
-      has : (column : Column) → HasEntry tables column q (number_at (record { mate = h.first; zeroing = h.second }) column)
+      has : (metric : Metric) → HasEntry tables metric q (number_at (record { mate = h.first; zeroing = h.second }) metric)
       has Mate = h.has_first
       has Zeroing = h.has_second
 
@@ -412,14 +412,14 @@ module _ (facts : Facts) (tables : Tables) (t : TableValue) (i : ℕ) (p : Setup
       (subst (λ w. SameKind (value_of own.0) w) (shows_once (entry_at t Zeroing i) (value_of other.0) w zeroing_shown y) (same_kinds own.0 other.0 (entry_at t Mate i) (entry_at t Zeroing i) alike mate_shown zeroing_shown))
 
   -- entries that are due, or draws in the zeroing column
-  judged_by : (due : ByColumn) → ((column : Column) → IsDue (ShowsOf tables) column p (number_at due column)) → entry_at t Mate i ≡ due.mate → (IsCompared Zeroing other.0 → entry_at t Zeroing i ≡ due.zeroing) → (column : Column) → IsJudged tables t column i None
+  judged_by : (due : ByMetric) → ((metric : Metric) → IsDue (ShowsOf tables) metric p (number_at due metric)) → entry_at t Mate i ≡ due.mate → (IsCompared Zeroing other.0 → entry_at t Zeroing i ≡ due.zeroing) → (metric : Metric) → IsJudged tables t metric i None
   unfolding own other
   judged_by due is_due mate zeroing =
       right_judged tables t i p spells alone index (record { mate = entry_at t Mate i; zeroing = entry_at t Zeroing i }) due numbers is_due
       (record { outcome = own.0; shows = mate_shown; agrees = tt; is = λ compared. mate })
       (record { outcome = other.0; shows = zeroing_shown; agrees = agrees; is = zeroing })
     where
-      numbers : (column : Column) → number_at (record { mate = entry_at t Mate i; zeroing = entry_at t Zeroing i }) column ≡ entry_at t column i
+      numbers : (metric : Metric) → number_at (record { mate = entry_at t Mate i; zeroing = entry_at t Zeroing i }) metric ≡ entry_at t metric i
       numbers Mate = refl
       numbers Zeroing = refl
 
@@ -468,16 +468,16 @@ module _ (facts : Facts) (tables : Tables) (t : TableValue) (i : ℕ) (p : Setup
           subst (ComesOf first.0) (sym one) (comes_drawn first.0 (stands_drawn 32002 g first.0 drawn first.1))
     ]
 
-    best : (column : Column) → IsBest (ShowsOf tables) column p (number_at (record { mate = first.0; zeroing = second.0 }) column)
+    best : (metric : Metric) → IsBest (ShowsOf tables) metric p (number_at (record { mate = first.0; zeroing = second.0 }) metric)
     unfolding first second
     best Mate = mate_best facts tables p spells.admissible g z given some first.0 first.1
     best Zeroing = zeroing_best facts tables p spells.admissible g z given some second.0 second.1
 
-    due : (x : ℕ) → ComesOf second.0 x → (column : Column) → IsDue (ShowsOf tables) column p (number_at (record { mate = entry_at t Mate i; zeroing = x }) column)
+    due : (x : ℕ) → ComesOf second.0 x → (metric : Metric) → IsDue (ShowsOf tables) metric p (number_at (record { mate = entry_at t Mate i; zeroing = x }) metric)
     unfolding first second
     due x comes = both_due (ShowsOf tables) p (one_after facts tables p spells.admissible) (record { mate = first.0; zeroing = second.0 }) (record { mate = entry_at t Mate i; zeroing = x }) best mate_comes comes
 
-    pub due_judged : (column : Column) → IsJudged tables t column i None
+    pub due_judged : (metric : Metric) → IsJudged tables t metric i None
     unfolding own other first second
     due_judged = elim (cases_eq (entry_at t Zeroing i) 1) [
       | inr not ↦
@@ -495,5 +495,5 @@ module _ (facts : Facts) (tables : Tables) (t : TableValue) (i : ℕ) (p : Setup
 
   -- without a move the entries tell checkmate or stalemate
   module _ (stuck : NoMove chess p) (x : ℕ) (end : IsAtEnd p x) (mate : entry_at t Mate i ≡ x) (zeroing : entry_at t Zeroing i ≡ x) where
-    pub end_judged : (column : Column) → IsJudged tables t column i None
+    pub end_judged : (metric : Metric) → IsJudged tables t metric i None
     end_judged = judged_by (record { mate = x; zeroing = x }) (at_end_due (ShowsOf tables) p x stuck end) mate (λ compared. zeroing)

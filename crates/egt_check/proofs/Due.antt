@@ -7,9 +7,9 @@ use Rattle.egt_moves.specs.Chess.{chess}
 use Rattle.egt_moves.specs.Standing.{StandsAs}
 use Rattle.egt_moves.specs.declared.outcome.Standing.{Standing}
 use Rattle.egt_moves.specs.declared.outcome.Standing.TheVariants.{Checkmate, Stalemate, HasMove}
-use Rattle.egt_table.specs.declared.column.Column.{Column}
-use Rattle.egt_table.specs.declared.column.Column.TheVariants.{Mate, Zeroing}
-use Rattle.egt_check.specs.declared.by_column.ByColumn.{ByColumn}
+use Rattle.egt_check.specs.declared.metric.Metric.{Metric}
+use Rattle.egt_check.specs.declared.metric.Metric.TheVariants.{Mate, Zeroing}
+use Rattle.egt_check.specs.declared.by_metric.ByMetric.{ByMetric}
 use Rattle.egt_check.specs.declared.outcome.Outcome.{Outcome}
 use Rattle.egt_check.specs.declared.outcome.Outcome.TheVariants as outcomes
 use Rattle.egt_check.specs.Entry.{longest, IsShort, entry_of}
@@ -18,13 +18,13 @@ use Rattle.egt_check.specs.Score.{number_at, value_of, Says, IsCounted, IsSaid, 
 
 -- what each column shows of a position is one thing, for which an entry has room
 pub record IsOne (shows : Shown) (q : Setup) : Type 0 where
-  pub one : (column : Column) (v w : Value) → shows column q v → shows column q w → v ≡ w
-  pub short : (column : Column) (v : Value) → shows column q v → IsShort v
+  pub one : (metric : Metric) (v w : Value) → shows metric q v → shows metric q w → v ≡ w
+  pub short : (metric : Metric) (v : Value) → shows metric q v → IsShort v
 
 -- what a column shows of a position, or that it shows nothing
-abbrev pub IsShownOf : Shown → Column → Setup → Option Outcome → Type 0
-IsShownOf shows column q (Some outcome) = shows column q (value_of outcome)
-IsShownOf shows column q None = (v : Value) → ¬ shows column q v
+abbrev pub IsShownOf : Shown → Metric → Setup → Option Outcome → Type 0
+IsShownOf shows metric q (Some outcome) = shows metric q (value_of outcome)
+IsShownOf shows metric q None = (v : Value) → ¬ shows metric q v
 
 pub same_value : (a b : Outcome) → value_of a ≡ value_of b → a ≡ b
 same_value (outcomes.Win i) (outcomes.Win j) e = cc
@@ -42,9 +42,9 @@ is_counted (outcomes.Win k) short = short.1
 is_counted (outcomes.Loss k) short = short
 is_counted outcomes.Draw short = tt
 
-pub said_counted : (shows : Shown) (column : Column) (p q : Setup) (m : chess.Move p q) (said : Option Outcome) → IsSaid shows column p q m said → IfSome said IsCounted
-said_counted shows column p q m (Some outcome) h = h.1
-said_counted shows column p q m None h = tt
+pub said_counted : (shows : Shown) (metric : Metric) (p q : Setup) (m : chess.Move p q) (said : Option Outcome) → IsSaid shows metric p q m said → IfSome said IsCounted
+said_counted shows metric p q m (Some outcome) h = h.1
+said_counted shows metric p q m None h = tt
 
 module _ (shows : Shown) (p q : Setup) (m : chess.Move p q) (one : IsOne shows q) where
   -- the count of a step that zeroes, or else of its successor's entry
@@ -68,7 +68,7 @@ module _ (shows : Shown) (p q : Setup) (m : chess.Move p q) (one : IsOne shows q
   mate_says outcomes.Draw shown = shown
 
   -- a step says one thing
-  says_once : (column : Column) (a b : Outcome) → Says shows column p q m a → Says shows column p q m b → a ≡ b
+  says_once : (metric : Metric) (a b : Outcome) → Says shows metric p q m a → Says shows metric p q m b → a ≡ b
   says_once Mate a b x y = same_value a b (one.one Mate (value_of a) (value_of b) (mate_shows a x) (mate_shows b y))
   says_once Zeroing (outcomes.Win i) (outcomes.Win j) x y = ap outcomes.Win (same_count Win i j (λ e. cc) x.1 y.1)
   says_once Zeroing (outcomes.Win i) (outcomes.Loss j) x y = let e = one.one Mate (Win x.0.0) (Loss y.0.0) x.0.1 y.0.1 in cc
@@ -78,9 +78,9 @@ module _ (shows : Shown) (p q : Setup) (m : chess.Move p q) (one : IsOne shows q
   says_once Zeroing (outcomes.Win i) outcomes.Draw x y = absurd y
   says_once Zeroing (outcomes.Loss i) outcomes.Draw x y = absurd y
 
-  pub said_is : (column : Column) (said : Option Outcome) (b : Outcome) → IsSaid shows column p q m said → Says shows column p q m b → said ≡ Some b
-  said_is column (Some a) b x y = ap Some (says_once column a b x.0 y)
-  said_is column None b x y = absurd (x b y)
+  pub said_is : (metric : Metric) (said : Option Outcome) (b : Outcome) → IsSaid shows metric p q m said → Says shows metric p q m b → said ≡ Some b
+  said_is metric (Some a) b x y = ap Some (says_once metric a b x.0 y)
+  said_is metric None b x y = absurd (x b y)
 
   -- in the mate column a step says what the successor's entry shows
   pub mate_said : (shown : Option Outcome) → IsShownOf shows Mate q shown → IsSaid shows Mate p q m shown
@@ -192,47 +192,47 @@ no_loss_at_once (Some (outcomes.Win k)) e = omega arith
 no_loss_at_once (Some outcomes.Draw) e = omega arith
 no_loss_at_once None e = omega arith
 
-module _ (shows : Shown) (column : Column) (p : Setup) (one : (q : Setup) → chess.Move p q → IsOne shows q) (best : ℕ) (is : IsBest shows column p best) where
+module _ (shows : Shown) (metric : Metric) (p : Setup) (one : (q : Setup) → chess.Move p q → IsOne shows q) (best : ℕ) (is : IsBest shows metric p best) where
   -- what the best step says
   abbrev best_said : Option Outcome
   best_said = is.reached.said
 
   best_counted : IfSome best_said IsCounted
-  best_counted = said_counted shows column p is.next is.step best_said is.reached.is_said
+  best_counted = said_counted shows metric p is.next is.step best_said is.reached.is_said
 
-  best_says : (outcome : Outcome) → best_said ≡ Some outcome → Says shows column p is.next is.step outcome
-  best_says outcome e = (subst (IsSaid shows column p is.next is.step) e is.reached.is_said).0
+  best_says : (outcome : Outcome) → best_said ≡ Some outcome → Says shows metric p is.next is.step outcome
+  best_says outcome e = (subst (IsSaid shows metric p is.next is.step) e is.reached.is_said).0
 
   -- no step says what scores higher
-  highest : (q : Setup) (m : chess.Move p q) (outcome : Outcome) → Says shows column p q m outcome → (score_of (Some outcome) ≤ score_of best_said) × IsCounted outcome
+  highest : (q : Setup) (m : chess.Move p q) (outcome : Outcome) → Says shows metric p q m outcome → (score_of (Some outcome) ≤ score_of best_said) × IsCounted outcome
   highest q m outcome says =
       let s = is.passed q m in
-      let e : s.1.said ≡ Some outcome = said_is shows p q m (one q m) column s.1.said outcome s.1.is_said says in
+      let e : s.1.said ≡ Some outcome = said_is shows p q m (one q m) metric s.1.said outcome s.1.is_said says in
       let low : score_of s.1.said ≤ score_of best_said = omega (arith, s.2, s.1.is, is.reached.is) in
-      (subst (λ said. score_of said ≤ score_of best_said) e low, subst (λ said. IfSome said IsCounted) e (said_counted shows column p q m s.1.said s.1.is_said))
+      (subst (λ said. score_of said ≤ score_of best_said) e low, subst (λ said. IfSome said IsCounted) e (said_counted shows metric p q m s.1.said s.1.is_said))
 
   -- where some step says a loss, the best says none that is later
-  least_loss : (n : ℕ) (q : Setup) (m : chess.Move p q) → Says shows column p q m (outcomes.Loss n) → (k : ℕ) × (best_said ≡ Some (outcomes.Loss k)) × (k ≤ n)
+  least_loss : (n : ℕ) (q : Setup) (m : chess.Move p q) → Says shows metric p q m (outcomes.Loss n) → (k : ℕ) × (best_said ≡ Some (outcomes.Loss k)) × (k ≤ n)
   least_loss n q m says =
       let h = highest q m (outcomes.Loss n) says in
       let l = above_draw best_said best_counted (omega (arith, h.0, h.1)) in
       (l.0, l.1, omega (arith, l.2, h.0, h.1))
 
-  win_due : (n : ℕ) → FitsBeside shows column p (Win n) ↔ (entry_before best_said ≡ entry_of (Win n))
+  win_due : (n : ℕ) → FitsBeside shows metric p (Win n) ↔ (entry_before best_said ≡ entry_of (Win n))
   win_due zero = ((λ h. absurd h), (λ e. no_win_at_once best_said e))
   win_due (suc n) = (there, back)
     where
-      there : FitsBeside shows column p (Win (suc n)) → entry_before best_said ≡ entry_of (Win (suc n))
+      there : FitsBeside shows metric p (Win (suc n)) → entry_before best_said ≡ entry_of (Win (suc n))
       there h =
           let l = least_loss n h.0.0 h.0.1 h.0.2 in
           let least : n ≤ l.0 = h.1 is.next is.step l.0 (best_says (outcomes.Loss l.0) l.1) in
           let same : l.0 ≡ n = omega (arith, l.2) in
           ap entry_before l.1 ∙ ap (λ i. entry_of (Win (suc i))) same
 
-      back : entry_before best_said ≡ entry_of (Win (suc n)) → FitsBeside shows column p (Win (suc n))
+      back : entry_before best_said ≡ entry_of (Win (suc n)) → FitsBeside shows metric p (Win (suc n))
       back e =
           let s = win_is_due best_said n e in
-          let least : (q : Setup) (m : chess.Move p q) (k : ℕ) → Counts shows column Loss p q m k → n ≤ k =
+          let least : (q : Setup) (m : chess.Move p q) (k : ℕ) → Counts shows metric Loss p q m k → n ≤ k =
           λ q m k counts.
           let l = least_loss k q m counts in
           let same : Some (outcomes.Loss n) ≡ Some (outcomes.Loss l.0) = sym s ∙ l.1 in
@@ -241,29 +241,29 @@ module _ (shows : Shown) (column : Column) (p : Setup) (one : (q : Setup) → ch
           ((is.next, is.step, best_says (outcomes.Loss n) s), least)
 
   -- where the best step says a win, each says a win, and none a later one
-  each_win : (n : ℕ) → best_said ≡ Some (outcomes.Win n) → (q : Setup) (m : chess.Move p q) → (k : ℕ) × Says shows column p q m (outcomes.Win k) × (k ≤ n)
+  each_win : (n : ℕ) → best_said ≡ Some (outcomes.Win n) → (q : Setup) (m : chess.Move p q) → (k : ℕ) × Says shows metric p q m (outcomes.Win k) × (k ≤ n)
   each_win n e q m =
       let s = is.passed q m in
       let counts : IsCounted (outcomes.Win n) = subst (λ said. IfSome said IsCounted) e best_counted in
       let high : score_of best_said ≡ n = ap score_of e in
       let low : score_of s.1.said ≤ n = omega (arith, s.2, s.1.is, is.reached.is) in
-      let w = below_draw s.1.said (said_counted shows column p q m s.1.said s.1.is_said) (omega (arith, counts)) in
-      (w.0, (subst (IsSaid shows column p q m) w.1 s.1.is_said).0, omega (arith, w.2))
+      let w = below_draw s.1.said (said_counted shows metric p q m s.1.said s.1.is_said) (omega (arith, counts)) in
+      (w.0, (subst (IsSaid shows metric p q m) w.1 s.1.is_said).0, omega (arith, w.2))
 
-  loss_due : Ends chess → (n : ℕ) → FitsBeside shows column p (Loss n) ↔ (entry_before best_said ≡ entry_of (Loss n))
+  loss_due : Ends chess → (n : ℕ) → FitsBeside shows metric p (Loss n) ↔ (entry_before best_said ≡ entry_of (Loss n))
   loss_due ends zero = ((λ mate. absurd (ends p mate is.next is.step)), (λ e. absurd (no_loss_at_once best_said e)))
   loss_due ends (suc n) = (there, back)
     where
-      there : FitsBeside shows column p (Loss (suc n)) → entry_before best_said ≡ entry_of (Loss (suc n))
+      there : FitsBeside shows metric p (Loss (suc n)) → entry_before best_said ≡ entry_of (Loss (suc n))
       there h =
           let w = h.1 is.next is.step in
-          let e : best_said ≡ Some (outcomes.Win w.0) = said_is shows p is.next is.step (one is.next is.step) column best_said (outcomes.Win w.0) is.reached.is_said w.1 in
+          let e : best_said ≡ Some (outcomes.Win w.0) = said_is shows p is.next is.step (one is.next is.step) metric best_said (outcomes.Win w.0) is.reached.is_said w.1 in
           let high : score_of best_said ≡ w.0 = ap score_of e in
           let reached = highest h.0.0 h.0.1 (outcomes.Win n) h.0.2 in
           let same : w.0 ≡ n = omega (arith, w.2, reached.0) in
           ap entry_before e ∙ ap (λ i. entry_of (Loss (suc i))) same
 
-      back : entry_before best_said ≡ entry_of (Loss (suc n)) → FitsBeside shows column p (Loss (suc n))
+      back : entry_before best_said ≡ entry_of (Loss (suc n)) → FitsBeside shows metric p (Loss (suc n))
       back e =
           let s = loss_is_due best_said n e in
           ((is.next, is.step, best_says (outcomes.Win n) s), λ q m. each_win n s q m)
@@ -305,28 +305,28 @@ module _ (shows : Shown) (p : Setup) (one : (q : Setup) → chess.Move p q → I
           (never, inr (is.next, is.step, best_says shows Mate p one best is outcomes.Draw s))
 
 -- the entry that comes of the best score is due
-pub best_is_due : (shows : Shown) (column : Column) (p : Setup) → ((q : Setup) → chess.Move p q → IsOne shows q) → Ends chess → (best x : ℕ) → IsBest shows column p best → ((said : Option Outcome) → IfSome said IsCounted → best ≡ score_of said → x ≡ entry_before said) → IsDue shows column p x
-best_is_due shows column p one ends best x is due =
-    let e : x ≡ entry_before is.reached.said = due is.reached.said (best_counted shows column p one best is) is.reached.is in
-    subst (IsDue shows column p) (sym e) (record {
-      win = win_due shows column p one best is;
-      loss = loss_due shows column p one best is ends;
-      draw = drawn column is;
+pub best_is_due : (shows : Shown) (metric : Metric) (p : Setup) → ((q : Setup) → chess.Move p q → IsOne shows q) → Ends chess → (best x : ℕ) → IsBest shows metric p best → ((said : Option Outcome) → IfSome said IsCounted → best ≡ score_of said → x ≡ entry_before said) → IsDue shows metric p x
+best_is_due shows metric p one ends best x is due =
+    let e : x ≡ entry_before is.reached.said = due is.reached.said (best_counted shows metric p one best is) is.reached.is in
+    subst (IsDue shows metric p) (sym e) (record {
+      win = win_due shows metric p one best is;
+      loss = loss_due shows metric p one best is ends;
+      draw = drawn metric is;
     })
   where
-    drawn : (column : Column) (is : IsBest shows column p best) → IsDueDraw shows column p (entry_before is.reached.said)
+    drawn : (metric : Metric) (is : IsBest shows metric p best) → IsDueDraw shows metric p (entry_before is.reached.said)
     drawn Mate is = draw_due shows p one best is
     drawn Zeroing is = tt
 
 -- where there is no step, the entry tells checkmate or stalemate
-pub mated_is_due : (shows : Shown) (column : Column) (p : Setup) → NoMove chess p → chess.Checkmate p → IsDue shows column p 3
-mated_is_due shows column p stuck mate = record { win = win; loss = loss; draw = draw column }
+pub mated_is_due : (shows : Shown) (metric : Metric) (p : Setup) → NoMove chess p → chess.Checkmate p → IsDue shows metric p 3
+mated_is_due shows metric p stuck mate = record { win = win; loss = loss; draw = draw metric }
   where
-    win : (n : ℕ) → FitsBeside shows column p (Win n) ↔ (3 ≡ entry_of (Win n))
+    win : (n : ℕ) → FitsBeside shows metric p (Win n) ↔ (3 ≡ entry_of (Win n))
     win zero = ((λ h. absurd h), (λ e. omega arith))
     win (suc n) = ((λ h. absurd (stuck h.0.0 h.0.1)), (λ e. absurd (omega arith)))
 
-    loss : (n : ℕ) → FitsBeside shows column p (Loss n) ↔ (3 ≡ entry_of (Loss n))
+    loss : (n : ℕ) → FitsBeside shows metric p (Loss n) ↔ (3 ≡ entry_of (Loss n))
     loss zero = ((λ h. refl), (λ e. mate))
     loss (suc n) = ((λ h. absurd (stuck h.0.0 h.0.1)), (λ e. absurd (omega arith)))
 
@@ -334,28 +334,28 @@ mated_is_due shows column p stuck mate = record { win = win; loss = loss; draw =
     over (inl stale) = stale.1 mate
     over (inr some) = stuck some.0 some.1
 
-    draw : (column : Column) → IsDueDraw shows column p 3
+    draw : (metric : Metric) → IsDueDraw shows metric p 3
     draw Mate = ((λ h. absurd (over h.1)), (λ e. absurd (omega arith)))
     draw Zeroing = tt
 
-pub stale_is_due : (shows : Shown) (column : Column) (p : Setup) → IsStalemate chess p → IsDue shows column p 1
-stale_is_due shows column p stale = record { win = win; loss = loss; draw = draw column }
+pub stale_is_due : (shows : Shown) (metric : Metric) (p : Setup) → IsStalemate chess p → IsDue shows metric p 1
+stale_is_due shows metric p stale = record { win = win; loss = loss; draw = draw metric }
   where
-    win : (n : ℕ) → FitsBeside shows column p (Win n) ↔ (1 ≡ entry_of (Win n))
+    win : (n : ℕ) → FitsBeside shows metric p (Win n) ↔ (1 ≡ entry_of (Win n))
     win zero = ((λ h. absurd h), (λ e. omega arith))
     win (suc n) = ((λ h. absurd (stale.0 h.0.0 h.0.1)), (λ e. absurd (omega arith)))
 
-    loss : (n : ℕ) → FitsBeside shows column p (Loss n) ↔ (1 ≡ entry_of (Loss n))
+    loss : (n : ℕ) → FitsBeside shows metric p (Loss n) ↔ (1 ≡ entry_of (Loss n))
     loss zero = ((λ mate. absurd (stale.1 mate)), (λ e. absurd (omega arith)))
     loss (suc n) = ((λ h. absurd (stale.0 h.0.0 h.0.1)), (λ e. absurd (omega arith)))
 
-    draw : (column : Column) → IsDueDraw shows column p 1
+    draw : (metric : Metric) → IsDueDraw shows metric p 1
     draw Mate = ((λ h. refl), (λ e. ((λ q m k. absurd (stale.0 q m)), inl stale)))
     draw Zeroing = tt
 
-pub end_is_due : (shows : Shown) (column : Column) (p : Setup) (x : ℕ) → NoMove chess p → IsAtEnd p x → IsDue shows column p x
-end_is_due shows column p x stuck (inl mate) = subst (IsDue shows column p) (sym mate.1) (mated_is_due shows column p stuck mate.0)
-end_is_due shows column p x stuck (inr stale) = subst (IsDue shows column p) (sym stale.1) (stale_is_due shows column p stale.0)
+pub end_is_due : (shows : Shown) (metric : Metric) (p : Setup) (x : ℕ) → NoMove chess p → IsAtEnd p x → IsDue shows metric p x
+end_is_due shows metric p x stuck (inl mate) = subst (IsDue shows metric p) (sym mate.1) (mated_is_due shows metric p stuck mate.0)
+end_is_due shows metric p x stuck (inr stale) = subst (IsDue shows metric p) (sym stale.1) (stale_is_due shows metric p stale.0)
 
 -- who is not checkmated and has no legal move is stalemated
 pub stale_unless_mated : (p : Setup) (s : Standing) → StandsAs p s → (s ≡ Checkmate → ⊥) → NoMove chess p → IsStalemate chess p
@@ -370,10 +370,10 @@ checkmate_ends p mate q step = mate.stuck step.0 (q, step.1)
 abbrev pub ComesOf : ℕ → ℕ → Type 0
 ComesOf best x = (said : Option Outcome) → IfSome said IsCounted → best ≡ score_of said → x ≡ entry_before said
 
-pub both_due : (shows : Shown) (p : Setup) → ((q : Setup) → chess.Move p q → IsOne shows q) → (best due : ByColumn) → ((column : Column) → IsBest shows column p (number_at best column)) → ComesOf best.mate due.mate → ComesOf best.zeroing due.zeroing → (column : Column) → IsDue shows column p (number_at due column)
+pub both_due : (shows : Shown) (p : Setup) → ((q : Setup) → chess.Move p q → IsOne shows q) → (best due : ByMetric) → ((metric : Metric) → IsBest shows metric p (number_at best metric)) → ComesOf best.mate due.mate → ComesOf best.zeroing due.zeroing → (metric : Metric) → IsDue shows metric p (number_at due metric)
 both_due shows p one best due is mate zeroing Mate = best_is_due shows Mate p one checkmate_ends best.mate due.mate (is Mate) mate
 both_due shows p one best due is mate zeroing Zeroing = best_is_due shows Zeroing p one checkmate_ends best.zeroing due.zeroing (is Zeroing) zeroing
 
-pub at_end_due : (shows : Shown) (p : Setup) (x : ℕ) → NoMove chess p → IsAtEnd p x → (column : Column) → IsDue shows column p (number_at (record { mate = x; zeroing = x }) column)
+pub at_end_due : (shows : Shown) (p : Setup) (x : ℕ) → NoMove chess p → IsAtEnd p x → (metric : Metric) → IsDue shows metric p (number_at (record { mate = x; zeroing = x }) metric)
 at_end_due shows p x stuck end Mate = end_is_due shows Mate p x stuck end
 at_end_due shows p x stuck end Zeroing = end_is_due shows Zeroing p x stuck end

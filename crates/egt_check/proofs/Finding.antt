@@ -1,22 +1,21 @@
 -- In which table the entry of a position is found.
-use Rattle.std.proofs.Common.{◌≡◌, ℕ, ◌<◌, ◌⊎◌, inl, inr, Bool, false, eqb, Option, Some, None, refl, sym, subst, arith}
-use Rattle.std.specs.Option.{IsSome, option_map}
+use Rattle.std.proofs.Common.{◌≡◌, ℕ, ◌<◌, ◌⊎◌, inl, inr, Bool, false, eqb, Option, Some, None, refl, sym, subst, ◌∙◌, arith}
+use Rattle.std.specs.Option.{IsSome, IfSome, option_map}
 use Rattle.std.specs.List.{Contains}
 use Rattle.std.proofs.lemmas.Bool.{eq-eqb}
 use Rattle.std.proofs.lemmas.Bool.Decides.{eqb_tells}
 use Rattle.egt_board.specs.Setup.{Setup, IsAdmissible}
 use Rattle.egt_class.specs.Children.{children_of}
 use Rattle.egt_class.specs.Membership.{IsOf}
-use Rattle.egt_index.specs.Index.{IsIndex}
+use Rattle.egt_index.specs.Size.{size_of}
 use Rattle.egt_moves.specs.declared.chess_move.Move.{Move}
 use Rattle.egt_moves.specs.Legal.{Leads}
-use Rattle.egt_table.specs.declared.column.Column.{Column}
 use Rattle.egt_table.specs.Table.{TableValue}
-use Rattle.egt_check.specs.declared.by_column.ByColumn.{ByColumn}
 use Rattle.egt_check.specs.Facts.{Facts}
-use Rattle.egt_check.specs.Score.{number_at}
-use Rattle.egt_check.specs.Steps.{HasTable, IsInClass}
-use Rattle.egt_check.specs.Tables.{Tables, beside, entry_at, HasEntry, HasChildren}
+use Rattle.egt_check.specs.Place.{IsPlaceOf, HasReachAt}
+use Rattle.egt_check.specs.Steps.{IsInClass}
+use Rattle.egt_check.specs.Tables.{Tables, beside, HasChildren, HasReachChildren}
+use Rattle.egt_check.specs.declared.successors.Place.{Place}
 
 pub beside_own : (tables : Tables) (t : TableValue) (c : ℕ) → c ≡ t.class → beside tables t c ≡ Some t
 beside_own tables t c own = rw (eq-eqb c t.class own)
@@ -35,46 +34,41 @@ pub some_before : {A B : Type 0} (f : A → B) (o : Option A) (x : Option B) →
 some_before f (Some a) x e there = refl
 some_before f None x e there = subst IsSome (sym e) there
 
--- the entries at the position's index in the table of its class are its entries
-pub entry_found : (tables : Tables) (p : Setup) (c i : ℕ) (flipped : Bool) (t : TableValue) (numbers : ByColumn) → c < 36 → IsOf c flipped p → tables c ≡ Some t → IsIndex c p i → ((column : Column) → number_at numbers column ≡ entry_at t column i) → (column : Column) → HasEntry tables column p (number_at numbers column)
-entry_found tables p c i flipped t numbers below of found is_index are column = record {
-  class = c;
-  below = below;
-  flipped = flipped;
-  of = of;
-  table = t;
-  found = found;
-  index = i;
-  is_index = is_index;
-  is = are column;
-}
-
 -- what comes before a class is one
 pub lower : (c d : ℕ) → c < 36 → d < c → d < 36
 lower c d below less = omega arith
 
-module _ (facts : Facts) (tables : Tables) where
-  -- the class of a position that has a table has one
-  pub table_there : (p : Setup) (c : ℕ) (flipped : Bool) → HasTable tables p → c < 36 → IsOf c flipped p → IsSome (tables c)
-  table_there p c flipped has below of =
-      subst (λ d. IsSome (tables d)) (facts.one_class p has.class c has.flipped flipped has.below below has.of of) has.there
+-- what is so of a class and of its children is so of the class of each position after a step
+pub after_step : (facts : Facts) (Has : ℕ → Type 0) (c : ℕ) (p q : Setup) (m : Move) → c < 36 → IsAdmissible p → IsInClass c p → Leads p m q
+    → Has c → ((d : ℕ) → Contains (children_of c) d → Has d) → (place : Place) → IsPlaceOf place q → Has place.class
+after_step facts Has c p q m below ok own leads here children place at = by (facts.step_class p q m c own.0 below ok own.1 leads)
+  where
+    same : (d : ℕ) (turned : Bool) → d < 36 → IsOf d turned q → d ≡ place.class
+    same d turned inside of = facts.one_class q d place.class turned at.flipped inside at.below of at.of
 
-  -- a step from a class whose children have their tables leads to a position that has one
-  pub step_has_table : (t : TableValue) (p q : Setup) (m : Move) → t.class < 36 → IsAdmissible p → IsInClass t.class p → HasChildren tables t.class → Leads p m q → HasTable (beside tables t) q
-  step_has_table t p q m below ok own children leads = by (facts.step_class p q m t.class own.0 below ok own.1 leads)
-    where
-      by : IsOf t.class own.0 q ⊎ ((d : ℕ) × (turned : Bool) × Contains (children_of t.class) d × IsOf d turned q) → HasTable (beside tables t) q
-      by (inl of) = record {
-        class = t.class;
-        below = below;
-        flipped = own.0;
-        of = of;
-        there = subst IsSome (sym (beside_own tables t t.class refl)) refl;
-      }
-      by (inr child) = record {
-        class = child.0;
-        below = lower t.class child.0 below (facts.child_below t.class child.0 below child.2);
-        flipped = child.1;
-        of = child.3;
-        there = beside_some tables t child.0 (children child.0 child.2);
-      }
+    by : IsOf c own.0 q ⊎ ((d : ℕ) × (turned : Bool) × Contains (children_of c) d × IsOf d turned q) → Has place.class
+    by (inl of) = subst Has (same c own.0 below of) here
+    by (inr child) =
+        subst Has (same child.0 child.1 (lower c child.0 below (facts.child_below c child.0 below child.2)) child.3) (children child.0 child.2)
+
+reach_of : (o : Option TableValue) → IsSome o → IfSome o (λ u. IsSome u.reach) → (u : TableValue) × (o ≡ Some u) × IsSome u.reach
+reach_of (Some u) there has = (u, refl, has)
+reach_of None there has = let none = there in cc
+
+-- the class of the table and those of its children have tables, with the column of the nearest mates where the table has it
+module _ (tables : Tables) (t : TableValue) where
+  pub own_some : IsSome (beside tables t t.class)
+  own_some = subst IsSome (sym (beside_own tables t t.class refl)) refl
+
+  pub own_reach : IsSome t.reach → HasReachAt (beside tables t) t.class
+  own_reach there = (t, beside_own tables t t.class refl, there)
+
+  pub child_reach : HasChildren tables t.class → HasReachChildren tables t.class → (d : ℕ) → Contains (children_of t.class) d → IsSome t.reach → HasReachAt (beside tables t) d
+  child_reach children reach_children d child own = elim (eqb_tells d t.class) [
+    | inl same ↦ (t, beside_own tables t d same.1, own)
+    | inr other ↦ let found = reach_of (tables d) (children d child) (reach_children d child) in (found.0, beside_other tables t d other.0 ∙ found.1, found.2)
+  ]
+
+-- the position's index in a class has an entry
+pub place_below : (facts : Facts) (p : Setup) (place : Place) → IsPlaceOf place p → place.index < size_of place.class
+place_below facts p place at = facts.index_below p place.class place.index at.is_index

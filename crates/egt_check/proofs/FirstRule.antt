@@ -5,8 +5,8 @@ use Rattle.egt_board.specs.Setup.{Setup}
 use Rattle.egt_index.specs.Code.{Spells}
 use Rattle.egt_index.specs.Index.{IsVoid}
 use Rattle.egt_moves.specs.Arena.{Value, Win, Loss, Draw}
-use Rattle.egt_table.specs.declared.column.Column.{Column}
-use Rattle.egt_table.specs.declared.column.Column.TheVariants.{Mate, Zeroing}
+use Rattle.egt_check.specs.declared.metric.Metric.{Metric}
+use Rattle.egt_check.specs.declared.metric.Metric.TheVariants.{Mate, Zeroing}
 use Rattle.egt_table.specs.Table.{TableValue}
 use Rattle.egt_check.specs.declared.outcome.Outcome.{Outcome}
 use Rattle.egt_check.specs.declared.outcome.Outcome.TheVariants as outcomes
@@ -42,100 +42,106 @@ something x some none range = elim (cases_lt (x % 2) 1) [
 ]
 
 module _ (tables : Tables) (t : TableValue) (i : ℕ) where
-  agrees_in : (column : Column) → Agree column (entry_at t Mate i) (entry_at t column i) → AgreesInKind t column i
+  agrees_in : (metric : Metric) → Agree metric (entry_at t Mate i) (entry_at t metric i) → AgreesInKind t metric i
   agrees_in Mate agrees = tt
   agrees_in Zeroing agrees = agrees
 
-  agrees_by : (column : Column) → AgreesInKind t column i → Agree column (entry_at t Mate i) (entry_at t column i)
+  agrees_by : (metric : Metric) → AgreesInKind t metric i → Agree metric (entry_at t Mate i) (entry_at t metric i)
   agrees_by Mate agrees = tt
   agrees_by Zeroing agrees = agrees
 
   -- the rules before the n-th
-  kept_before : (column : Column) (n : ℕ) → (0 < n → Keeps tables t column i rules.Void) → (1 < n → Keeps tables t column i rules.Range) → (2 < n → Keeps tables t column i rules.Kind) → (3 < n → Keeps tables t column i rules.Win) → (4 < n → Keeps tables t column i rules.Loss) → (5 < n → Keeps tables t column i rules.Draw) → (rule : Rule) → rule_place rule < n → Keeps tables t column i rule
-  kept_before column n void range kind win loss draw rules.Void lt = void lt
-  kept_before column n void range kind win loss draw rules.Range lt = range lt
-  kept_before column n void range kind win loss draw rules.Kind lt = kind lt
-  kept_before column n void range kind win loss draw rules.Win lt = win lt
-  kept_before column n void range kind win loss draw rules.Loss lt = loss lt
-  kept_before column n void range kind win loss draw rules.Draw lt = draw lt
+  kept_before : (metric : Metric) (n : ℕ) → (0 < n → Keeps tables t metric i rules.Void) → (1 < n → Keeps tables t metric i rules.Range) → (2 < n → Keeps tables t metric i rules.Kind) → (3 < n → Keeps tables t metric i rules.Win) → (4 < n → Keeps tables t metric i rules.Loss) → (5 < n → Keeps tables t metric i rules.Draw) → (rule : Rule) → rule_place rule < n → Keeps tables t metric i rule
+  kept_before metric n void range kind win loss draw rules.Void lt = void lt
+  kept_before metric n void range kind win loss draw rules.Range lt = range lt
+  kept_before metric n void range kind win loss draw rules.Kind lt = kind lt
+  kept_before metric n void range kind win loss draw rules.Win lt = win lt
+  kept_before metric n void range kind win loss draw rules.Loss lt = loss lt
+  kept_before metric n void range kind win loss draw rules.Draw lt = draw lt
+  kept_before metric n void range kind win loss draw rules.Reach lt = tt
+  kept_before metric n void range kind win loss draw rules.Dead lt = tt
 
-  place_below : (rule : Rule) → rule_place rule < 6
+  place_below : (rule : Rule) → rule_place rule < 8
   place_below rules.Void = omega arith
   place_below rules.Range = omega arith
   place_below rules.Kind = omega arith
   place_below rules.Win = omega arith
   place_below rules.Loss = omega arith
   place_below rules.Draw = omega arith
+  place_below rules.Reach = omega arith
+  place_below rules.Dead = omega arith
 
   -- where no position has the index
-  pub void_judged : (column : Column) → IsVoid t.class i → (rule : Option Rule) → FindsVoid (entry_at t column i) rule → IsJudged tables t column i rule
-  void_judged column void None zero =
-      λ rule. kept_before column 6
+  pub void_judged : (metric : Metric) → IsVoid t.class i → (rule : Option Rule) → FindsVoid (entry_at t metric i) rule → IsJudged tables t metric i rule
+  void_judged metric void None zero =
+      λ rule. kept_before metric 8
       (λ lt. ((λ e. void), (λ v. zero)))
       (λ lt. (omega (arith, zero), omega (arith, zero)))
-      (λ lt. agrees_in column (nothing column zero))
+      (λ lt. agrees_in metric (nothing metric zero))
       (λ lt n shows. absurd (not_zero _ (Win n) shows zero))
       (λ lt n shows. absurd (not_zero _ (Loss n) shows zero))
       (λ lt shows. absurd (not_zero _ Draw shows zero))
       rule (place_below rule)
     where
-      nothing : (column : Column) → entry_at t column i ≡ 0 → Agree column (entry_at t Mate i) (entry_at t column i)
+      nothing : (metric : Metric) → entry_at t metric i ≡ 0 → Agree metric (entry_at t Mate i) (entry_at t metric i)
       nothing Mate e = tt
       nothing Zeroing e = λ v w there here. absurd (not_zero _ w here e)
-  void_judged column void (Some rules.Void) other = record {
+  void_judged metric void (Some rules.Void) other = record {
     broken = λ keeps. other (keeps.1 void);
     kept = λ rule lt. absurd (omega arith);
   }
-  void_judged column void (Some rules.Range) found = absurd found
-  void_judged column void (Some rules.Kind) found = absurd found
-  void_judged column void (Some rules.Win) found = absurd found
-  void_judged column void (Some rules.Loss) found = absurd found
-  void_judged column void (Some rules.Draw) found = absurd found
+  void_judged metric void (Some rules.Range) found = absurd found
+  void_judged metric void (Some rules.Kind) found = absurd found
+  void_judged metric void (Some rules.Win) found = absurd found
+  void_judged metric void (Some rules.Loss) found = absurd found
+  void_judged metric void (Some rules.Draw) found = absurd found
+  void_judged metric void (Some rules.Reach) found = absurd found
+  void_judged metric void (Some rules.Dead) found = absurd found
 
-module _ (tables : Tables) (t : TableValue) (i : ℕ) (p : Setup) (spelled : Spells t.class i p) (alone : (q : Setup) → Spells t.class i q → q ≡ p) (index : ¬ IsVoid t.class i) (column : Column) (due : ℕ) (is_due : IsDue (ShowsOf tables) column p due) where
+module _ (tables : Tables) (t : TableValue) (i : ℕ) (p : Setup) (spelled : Spells t.class i p) (alone : (q : Setup) → Spells t.class i q → q ≡ p) (index : ¬ IsVoid t.class i) (metric : Metric) (due : ℕ) (is_due : IsDue (ShowsOf tables) metric p due) where
   abbrev here : ℕ
-  here = entry_at t column i
+  here = entry_at t metric i
 
   abbrev mate_entry : ℕ
   mate_entry = entry_at t Mate i
 
-  kept_void : here ≢ 0 → Keeps tables t column i rules.Void
+  kept_void : here ≢ 0 → Keeps tables t metric i rules.Void
   kept_void some = ((λ e. absurd (some e)), (λ void. absurd (index void)))
 
   -- the value that is shown fits where the entry is the one that is due
-  value_fits : (outcome : Outcome) → Shows here (value_of outcome) → (IsCompared column outcome → here ≡ due) → FitsBeside (ShowsOf tables) column p (value_of outcome)
-  value_fits (outcomes.Win n) shows is = (is_due.win n).1 (sym (is (compared column)) ∙ shows.1)
+  value_fits : (outcome : Outcome) → Shows here (value_of outcome) → (IsCompared metric outcome → here ≡ due) → FitsBeside (ShowsOf tables) metric p (value_of outcome)
+  value_fits (outcomes.Win n) shows is = (is_due.win n).1 (sym (is (compared metric)) ∙ shows.1)
     where
-      compared : (column : Column) → IsCompared column (outcomes.Win n)
+      compared : (metric : Metric) → IsCompared metric (outcomes.Win n)
       compared Mate = tt
       compared Zeroing = tt
-  value_fits (outcomes.Loss n) shows is = (is_due.loss n).1 (sym (is (compared column)) ∙ shows.1)
+  value_fits (outcomes.Loss n) shows is = (is_due.loss n).1 (sym (is (compared metric)) ∙ shows.1)
     where
-      compared : (column : Column) → IsCompared column (outcomes.Loss n)
+      compared : (metric : Metric) → IsCompared metric (outcomes.Loss n)
       compared Mate = tt
       compared Zeroing = tt
-  value_fits outcomes.Draw shows is = by column is_due.draw is shows.1
+  value_fits outcomes.Draw shows is = by metric is_due.draw is shows.1
     where
-      by : (column : Column) → IsDueDraw (ShowsOf tables) column p due → (IsCompared column outcomes.Draw → here ≡ due) → here ≡ entry_of Draw → FitsBeside (ShowsOf tables) column p Draw
+      by : (metric : Metric) → IsDueDraw (ShowsOf tables) metric p due → (IsCompared metric outcomes.Draw → here ≡ due) → here ≡ entry_of Draw → FitsBeside (ShowsOf tables) metric p Draw
       by Mate draw is e = draw.1 (sym (is tt) ∙ e)
       by Zeroing draw is e = tt
 
-  fits : (outcome : Outcome) → Shows here (value_of outcome) → (IsCompared column outcome → here ≡ due) → (v : Value) → Fits tables t column i v
+  fits : (outcome : Outcome) → Shows here (value_of outcome) → (IsCompared metric outcome → here ≡ due) → (v : Value) → Fits tables t metric i v
   fits outcome shows is v shows_v q spells =
-      subst (λ w. FitsBeside (ShowsOf tables) column q w) (shows_once here (value_of outcome) v shows shows_v)
-      (subst (λ r. FitsBeside (ShowsOf tables) column r (value_of outcome)) (sym (alone q spells)) (value_fits outcome shows is))
+      subst (λ w. FitsBeside (ShowsOf tables) metric q w) (shows_once here (value_of outcome) v shows shows_v)
+      (subst (λ r. FitsBeside (ShowsOf tables) metric r (value_of outcome)) (sym (alone q spells)) (value_fits outcome shows is))
 
   -- an entry that shows something keeps the rules on other kinds
-  fits_other : (v w : Value) → Shows here v → (v ≡ w → ⊥) → Fits tables t column i w
+  fits_other : (v w : Value) → Shows here v → (v ≡ w → ⊥) → Fits tables t metric i w
   fits_other v w shows other shows_w = absurd (other (shows_once here v w shows shows_w))
 
   -- the first rule that is broken, or that all are kept
-  pub judged : (rule : Option Rule) → Finds column mate_entry here due rule → IsJudged tables t column i rule
+  pub judged : (rule : Option Rule) → Finds metric mate_entry here due rule → IsJudged tables t metric i rule
   judged None right =
-      λ rule. kept_before tables t i column 6
+      λ rule. kept_before tables t i metric 8
       (λ lt. kept_void (not_zero here (value_of right.outcome) right.shows))
       (λ lt. in_range here (value_of right.outcome) right.shows)
-      (λ lt. agrees_in tables t i column right.agrees)
+      (λ lt. agrees_in tables t i metric right.agrees)
       (λ lt n. fits right.outcome right.shows right.is (Win n))
       (λ lt n. fits right.outcome right.shows right.is (Loss n))
       (λ lt. fits right.outcome right.shows right.is Draw)
@@ -146,13 +152,13 @@ module _ (tables : Tables) (t : TableValue) (i : ℕ) (p : Setup) (spelled : Spe
   }
   judged (Some rules.Range) found = record {
     broken = λ keeps. something here found.0 found.1 keeps;
-    kept = kept_before tables t i column 1
+    kept = kept_before tables t i metric 1
         (λ lt. kept_void found.0)
         (λ lt. absurd (omega arith)) (λ lt. absurd (omega arith)) (λ lt. absurd (omega arith)) (λ lt. absurd (omega arith)) (λ lt. absurd (omega arith));
   }
   judged (Some rules.Kind) found = record {
-    broken = λ keeps. found.differs (agrees_by tables t i column keeps);
-    kept = kept_before tables t i column 2
+    broken = λ keeps. found.differs (agrees_by tables t i metric keeps);
+    kept = kept_before tables t i metric 2
         (λ lt. kept_void (not_zero here (value_of found.outcome) found.shows))
         (λ lt. in_range here (value_of found.outcome) found.shows)
         (λ lt. absurd (omega arith)) (λ lt. absurd (omega arith)) (λ lt. absurd (omega arith)) (λ lt. absurd (omega arith));
@@ -161,34 +167,36 @@ module _ (tables : Tables) (t : TableValue) (i : ℕ) (p : Setup) (spelled : Spe
       let wrong = found.1 in
       record {
         broken = λ keeps. wrong.other (wrong.shows.1 ∙ sym ((is_due.win found.0).0 (keeps found.0 wrong.shows p spelled)));
-        kept = kept_before tables t i column 3
+        kept = kept_before tables t i metric 3
             (λ lt. kept_void (not_zero here (Win found.0) wrong.shows))
             (λ lt. in_range here (Win found.0) wrong.shows)
-            (λ lt. agrees_in tables t i column wrong.agrees)
+            (λ lt. agrees_in tables t i metric wrong.agrees)
             (λ lt. absurd (omega arith)) (λ lt. absurd (omega arith)) (λ lt. absurd (omega arith));
       }
   judged (Some rules.Loss) found =
       let wrong = found.1 in
       record {
         broken = λ keeps. wrong.other (wrong.shows.1 ∙ sym ((is_due.loss found.0).0 (keeps found.0 wrong.shows p spelled)));
-        kept = kept_before tables t i column 4
+        kept = kept_before tables t i metric 4
             (λ lt. kept_void (not_zero here (Loss found.0) wrong.shows))
             (λ lt. in_range here (Loss found.0) wrong.shows)
-            (λ lt. agrees_in tables t i column wrong.agrees)
+            (λ lt. agrees_in tables t i metric wrong.agrees)
             (λ lt n. fits_other (Loss found.0) (Win n) wrong.shows (λ e. cc))
             (λ lt. absurd (omega arith)) (λ lt. absurd (omega arith));
       }
   judged (Some rules.Draw) wrong = record {
-    broken = λ keeps. undrawn column is_due.draw wrong.compared wrong.other wrong.shows.1 (keeps wrong.shows p spelled);
-    kept = kept_before tables t i column 5
+    broken = λ keeps. undrawn metric is_due.draw wrong.compared wrong.other wrong.shows.1 (keeps wrong.shows p spelled);
+    kept = kept_before tables t i metric 5
         (λ lt. kept_void (not_zero here Draw wrong.shows))
         (λ lt. in_range here Draw wrong.shows)
-        (λ lt. agrees_in tables t i column wrong.agrees)
+        (λ lt. agrees_in tables t i metric wrong.agrees)
         (λ lt n. fits_other Draw (Win n) wrong.shows (λ e. cc))
         (λ lt n. fits_other Draw (Loss n) wrong.shows (λ e. cc))
         (λ lt. absurd (omega arith));
   }
     where
-      undrawn : (column : Column) → IsDueDraw (ShowsOf tables) column p due → IsCompared column outcomes.Draw → here ≢ due → here ≡ entry_of Draw → FitsBeside (ShowsOf tables) column p Draw → ⊥
+      undrawn : (metric : Metric) → IsDueDraw (ShowsOf tables) metric p due → IsCompared metric outcomes.Draw → here ≢ due → here ≡ entry_of Draw → FitsBeside (ShowsOf tables) metric p Draw → ⊥
       undrawn Mate draw compared other e fit = other (e ∙ sym (draw.0 fit))
       undrawn Zeroing draw compared other e fit = compared
+  judged (Some rules.Reach) found = absurd found
+  judged (Some rules.Dead) found = absurd found

@@ -11,11 +11,12 @@ use Rattle.egt_index.specs.Size.{size_of}
 use Rattle.egt_index.specs.StepCodes.{TellsMen}
 use Rattle.egt_index.specs.declared.shelf_codes.ShelfMen.{ShelfMen}
 use Rattle.egt_table.specs.Table.{TableValue}
-use Rattle.egt_table.specs.declared.column.Column.TheVariants.{Mate}
+use Rattle.egt_table.specs.declared.column.Column.TheVariants as columns
+use Rattle.egt_check.specs.declared.metric.Metric.TheVariants.{Mate}
 use Rattle.egt_check.specs.Blocks.{men_on, stand_on}
-use Rattle.egt_check.specs.RightBlock.{IsRightLane}
-use Rattle.egt_check.specs.RightRow.{IsRightAt}
-use Rattle.egt_check.specs.Worth.{score_at}
+use Rattle.egt_check.specs.RightBlock.{IsRightLane, IsRightReachLane}
+use Rattle.egt_check.specs.RightRow.{IsRightAt, IsRightReachAt}
+use Rattle.egt_check.specs.Worth.{column_score, score_at}
 use Rattle.egt_check.proofs.RowRead.{side_few}
 
 -- a code of a shelf within is below the size
@@ -46,3 +47,6 @@ module _ (passed : Bool) (t : TableValue) (men : ShelfMen) (on shelf : ℕ) (sid
 
   pub right_lane : (mate zeroing : ℕ) → (score_at t Mate (code_of t.class number) ≢ 0 → IsRightAt t (code_of t.class number) mate zeroing) → IsRightLane passed t men side on square (code_of t.class number) mate zeroing
   right_lane mate zeroing right = record { below = coded number below; tells = told; right = right }
+
+  pub right_reach_lane : (reach : ℕ) → (column_score t columns.Reach (code_of t.class number) ≢ 0 → IsRightReachAt t (code_of t.class number) reach) → IsRightReachLane passed t men side on square (code_of t.class number) reach
+  right_reach_lane reach right = record { below = coded number below; tells = told; right = right }

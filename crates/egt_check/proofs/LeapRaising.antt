@@ -19,12 +19,12 @@ use Rattle.egt_lanes.specs.Blocks.{at}
 use Rattle.egt_lanes.specs.Raised.{IsRaised}
 use Rattle.egt_moves.specs.Promotion.{FitsPromotion, promotes}
 use Rattle.egt_table.specs.Table.{TableValue}
-use Rattle.egt_table.specs.declared.column.Column.TheVariants.{Mate}
+use Rattle.egt_table.specs.declared.column.Column.{Column}
 use Rattle.egt_check.specs.InPassing.{AreLeapCodes, AreStepCodes, AreTwoRanksApart, LeavesTarget}
 use Rattle.egt_check.specs.Leaps.{IsBesideWhere}
 use Rattle.egt_check.specs.PawnMoves.{AreAdvancedCodes, IsAdvance, stand_after}
 use Rattle.egt_check.specs.QuietStands.{IsClear}
-use Rattle.egt_check.specs.Worth.{IsReadWith, score_at}
+use Rattle.egt_check.specs.Worth.{IsReadWith, column_score}
 use Rattle.egt_check.proofs.AdvanceRaising.{advances_free}
 use Rattle.egt_check.proofs.BlockRaising.{raised_alike, raised_both}
 use Rattle.egt_check.proofs.LeftTargets.{unpromoted}
@@ -76,7 +76,7 @@ arrived_by n F G In side s arrivals low high row arrived same are keeps raised =
 
 -- ---- codes after them
 
-module _ (t : TableValue) (first : Bool) (men : ShelfMen) (side : Side) (a b : ℕ) where
+module _ (t : TableValue) (column : Column) (first : Bool) (men : ShelfMen) (side : Side) (a b : ℕ) where
   abbrev pub Steps : ℕ → Type 0
   Steps = AreStepCodes t.class first men side a b
 
@@ -87,8 +87,8 @@ module _ (t : TableValue) (first : Bool) (men : ShelfMen) (side : Side) (a b : �
   no_target : men.one ≢ pawn_of (other_side side) → (u : ℕ) → ¬ LeavesTarget men side a b u
   no_target other u leaves = other (λ i. record { side = leaves.theirs i; kind = leaves.pawn i })
 
-  pub steps_alone : men.one ≢ pawn_of (other_side side) → (v : ℕ) → IsRaised 0 (AreAdvancedCodes t.class first false men side None a b) (score_at t Mate) v → IsRaised 0 Steps (score_at t Mate) v
-  steps_alone other v raised = raised_alike 0 v (AreAdvancedCodes t.class first false men side None a b) Steps (score_at t Mate) raised (λ code h. (h.0, h.1, h.3)) (λ code h. (h.0, h.1, no_target other h.0, h.2))
+  pub steps_alone : men.one ≢ pawn_of (other_side side) → (v : ℕ) → IsRaised 0 (AreAdvancedCodes t.class first false men side None a b) (column_score t column) v → IsRaised 0 Steps (column_score t column) v
+  steps_alone other v raised = raised_alike 0 v (AreAdvancedCodes t.class first false men side None a b) Steps (column_score t column) raised (λ code h. (h.0, h.1, h.3)) (λ code h. (h.0, h.1, no_target other h.0, h.2))
 
   module _ (mine : men.last ≡ pawn_of side) (theirs : men.one ≡ pawn_of (other_side side)) (scores : List (List ℕ)) (a_in : a < 64) where
     abbrev Goes : (n u : ℕ) → Type 0
@@ -124,13 +124,13 @@ module _ (t : TableValue) (first : Bool) (men : ShelfMen) (side : Side) (a b : �
     After : (In : ℕ → Type 0) (passed : Bool) → ℕ → Type 0
     After In passed code = (u : ℕ) × In u × Codes passed u code
 
-    pub all_steps : ((i u : ℕ) → i < 64 → u < 64 → IsReadWith false t Mate false (stand_after first false men i men.last u) (other_side side) (at scores i u)) → (arrivals : ℕ) → ((u : ℕ) → u < 64 → (bit_at arrivals u ≡ 1) ↔ FitsPromotion (eqb (rank_of u) (last_rank side)) None)
-        → (low mid v : ℕ) → low ≡ 0 → IsRaised low (λ u. AdvancesBy 1 (IsClear men a) side b u × (bit_at arrivals u ≡ 1)) (λ u. at scores a u) mid → IsRaised mid (λ u. AdvancesBy 2 (IsClear men a) side b u × IsBesideWhere false a u) (λ u. at scores a u) v → IsRaised 0 Steps (score_at t Mate) v
+    pub all_steps : ((i u : ℕ) → i < 64 → u < 64 → IsReadWith false t column false (stand_after first false men i men.last u) (other_side side) (at scores i u)) → (arrivals : ℕ) → ((u : ℕ) → u < 64 → (bit_at arrivals u ≡ 1) ↔ FitsPromotion (eqb (rank_of u) (last_rank side)) None)
+        → (low mid v : ℕ) → low ≡ 0 → IsRaised low (λ u. AdvancesBy 1 (IsClear men a) side b u × (bit_at arrivals u ≡ 1)) (λ u. at scores a u) mid → IsRaised mid (λ u. AdvancesBy 2 (IsClear men a) side b u × IsBesideWhere false a u) (λ u. at scores a u) v → IsRaised 0 Steps (column_score t column) v
     unfolding After
     all_steps read arrivals are low mid v none one two =
-        raised_both 0 mid v (After (Near arrivals) false) (After (Far false) false) Steps (score_at t Mate)
-        (raised_through 0 mid (Near arrivals) (Codes false) (score_at t Mate) (λ u. at scores a u) (λ u h. read a u a_in h.0.away.on_board) (subst (λ n. IsRaised n (Near arrivals) (λ u. at scores a u) mid) none one))
-        (raised_through mid v (Far false) (Codes false) (score_at t Mate) (λ u. at scores a u) (λ u h. read a u a_in h.0.away.on_board) two)
+        raised_both 0 mid v (After (Near arrivals) false) (After (Far false) false) Steps (column_score t column)
+        (raised_through 0 mid (Near arrivals) (Codes false) (column_score t column) (λ u. at scores a u) (λ u h. read a u a_in h.0.away.on_board) (subst (λ n. IsRaised n (Near arrivals) (λ u. at scores a u) mid) none one))
+        (raised_through mid v (Far false) (Codes false) (column_score t column) (λ u. at scores a u) (λ u h. read a u a_in h.0.away.on_board) two)
         (λ code h. elim (one_or_two_squares (IsClear men a) side b h.0 h.1.advances) [
           | inl near ↦ inl (h.0, (near, (are h.0 near.away.on_board).1 (subst (λ x. FitsPromotion x None) (ap (λ (x : Man). promotes x h.0) mine) h.1.fits)), h.3)
           | inr far ↦ inr (h.0, (far, λ beside. h.2 (leaves h.0 far beside)), h.3)
@@ -138,12 +138,12 @@ module _ (t : TableValue) (first : Bool) (men : ShelfMen) (side : Side) (a b : �
         (λ code h. (h.0, advance_of h.0 h.1.0.advances ((are h.0 h.1.0.away.on_board).0 h.1.1), (λ left. not_apart (IsClear men a) side b h.0 h.1.0 left.two), h.2))
         (λ code h. (h.0, leap_of h.0 h.1.0, (λ left. h.1.1 left.beside), h.2))
 
-    pub all_leaps : ((i u : ℕ) → i < 64 → u < 64 → IsReadWith true t Mate false (stand_after first false men i men.last u) (other_side side) (at scores i u))
-        → (low v : ℕ) → low ≡ 0 → IsRaised low (λ u. AdvancesBy 2 (IsClear men a) side b u × IsBesideWhere true a u) (λ u. at scores a u) v → IsRaised 0 Leaps (score_at t Mate) v
+    pub all_leaps : ((i u : ℕ) → i < 64 → u < 64 → IsReadWith true t column false (stand_after first false men i men.last u) (other_side side) (at scores i u))
+        → (low v : ℕ) → low ≡ 0 → IsRaised low (λ u. AdvancesBy 2 (IsClear men a) side b u × IsBesideWhere true a u) (λ u. at scores a u) v → IsRaised 0 Leaps (column_score t column) v
     unfolding After
     all_leaps read low v none two =
-        raised_alike 0 v (After (Far true) true) Leaps (score_at t Mate)
-        (raised_through 0 v (Far true) (Codes true) (score_at t Mate) (λ u. at scores a u) (λ u h. read a u a_in h.0.away.on_board) (subst (λ n. IsRaised n (Far true) (λ u. at scores a u) v) none two))
+        raised_alike 0 v (After (Far true) true) Leaps (column_score t column)
+        (raised_through 0 v (Far true) (Codes true) (column_score t column) (λ u. at scores a u) (λ u h. read a u a_in h.0.away.on_board) (subst (λ n. IsRaised n (Far true) (λ u. at scores a u) v) none two))
         (λ code h. elim (one_or_two_squares (IsClear men a) side b h.0 h.1.advances) [
           | inl near ↦ absurd (not_apart (IsClear men a) side b h.0 near h.2.two)
           | inr far ↦ (h.0, (far, h.2.beside), h.3)

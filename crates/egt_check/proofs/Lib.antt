@@ -2,6 +2,8 @@ pub mod Carry
 pub mod Alike
 pub mod Told
 pub mod TrueTables
+pub mod ReachTold
+pub mod TrueReach
 pub mod Due
 pub mod Showing
 pub mod Finding
@@ -50,3 +52,10 @@ pub mod PawnsGiven
 pub mod PromotionTables
 pub mod LeapRaising
 pub mod PassingRaising
+pub mod Nearing
+pub mod ReachRule
+pub mod Ascending
+pub mod NearReading
+pub mod NearBytes
+pub mod NearScores
+pub mod NearJudged

@@ -19,13 +19,13 @@ use Rattle.egt_index.specs.Stood.{list_of}
 use Rattle.egt_index.specs.TurnedMen.{IsSomeTurnedCode}
 use Rattle.egt_index.specs.declared.stand.Stand.{Stand}
 use Rattle.egt_lanes.specs.Raised.{IsRaised}
-use Rattle.egt_lanes.specs.Scores.{byte_score}
+use Rattle.egt_check.proofs.RowRead.{no_score}
 use Rattle.egt_moves.specs.Promotion.{is_pawn}
 use Rattle.egt_table.specs.Table.{TableValue, entries_of}
 use Rattle.egt_table.specs.declared.column.Column.{Column}
 use Rattle.egt_check.specs.Blocks.{IsCodeAfter, IsHomeCode, IsRaisedHome}
 use Rattle.egt_check.specs.Tables.{entry_at}
-use Rattle.egt_check.specs.Worth.{IsRead, score_at}
+use Rattle.egt_check.specs.Worth.{IsRead, column_score, entry_score}
 use Rattle.egt_check.proofs.BlockRaising.{raised_alike}
 use Rattle.egt_check.proofs.RowRead.{pawn_digits, piece_at, piece_digits}
 
@@ -42,17 +42,17 @@ module _ (t : TableValue) (column : Column) (man : Man) (white black first : ℕ
   abbrev code_at : ℕ → ℕ
   code_at digit = first + side_number side + 2 * digit
 
-  pub at_digit : (s digit v : ℕ) → digit < kind_digits man.kind → digit + kind_less man.kind ≡ s → v ≡ score_at t column (code_at digit) → IsRaised 0 (Told s) (score_at t column) v
+  pub at_digit : (s digit v : ℕ) → digit < kind_digits man.kind → digit + kind_less man.kind ≡ s → v ≡ column_score t column (code_at digit) → IsRaised 0 (Told s) (column_score t column) v
   at_digit s digit v below at value =
       let here : Told s (code_at digit) = subst (λ k. Told k (code_at digit)) at (is.tells side digit below) in
       record {
         kept = omega arith;
-        above = λ code there. let same = ap (score_at t column) (one false t.class code (code_at digit) (lone_stand white black man s) side there here) in omega (arith, same, value);
+        above = λ code there. let same = ap (column_score t column) (one false t.class code (code_at digit) (lone_stand white black man s) side there here) in omega (arith, same, value);
         reached = inr (code_at digit, here, value);
       }
 
   -- no code has a pawn on the first rank or the last
-  pub at_edge : (s v : ℕ) → man.kind ≡ P → (s < 8) ⊎ (56 ≤ s) → v ≡ 0 → IsRaised 0 (Told s) (score_at t column) v
+  pub at_edge : (s v : ℕ) → man.kind ≡ P → (s < 8) ⊎ (56 ≤ s) → v ≡ 0 → IsRaised 0 (Told s) (column_score t column) v
   at_edge s v pawn edge none = record {
     kept = omega arith;
     above = λ code there. absurd (let may = pawns false t.class code (lone_stand white black man s) side man s there (inr (inr (inl (refl, refl)))) pawn in elim edge [
@@ -64,29 +64,29 @@ module _ (t : TableValue) (column : Column) (man : Man) (white black first : ℕ
 
   -- a lane of what is loaded
   module _ (entries loaded : List ℕ) (entries_are : entries ≡ entries_of column t) where
-    read : (len digit v : ℕ) → 2 * digit + side_number side < len → v ≡ slice_index (take (first + len - first) (drop first entries)) (2 * digit + side_number side) → v ≡ entry_at t column (code_at digit)
+    read : (len digit v : ℕ) → 2 * digit + side_number side < len → v ≡ slice_index (take (first + len - first) (drop first entries)) (2 * digit + side_number side) → v ≡ slice_index (entries_of column t) (code_at digit)
     read len digit v below is_piece =
         is_piece ∙ piece_at entries first len (2 * digit + side_number side) below ∙ ap (λ (l : List ℕ). slice_index l (first + (2 * digit + side_number side))) entries_are ∙ ap (slice_index (entries_of column t)) (omega arith)
 
     abbrev Raised : ℕ → ℕ → Type 0
-    Raised s v = IsRaised 0 (Told s) (score_at t column) v
+    Raised s v = IsRaised 0 (Told s) (column_score t column) v
 
     -- of a piece, who stands on any square
-    pub of_piece : is_pawn man.kind ≡ false → (row : List ℕ) (s : ℕ) → s < 64 → slice_index loaded s ≡ slice_index (take (first + 128 - first) (drop first entries)) (2 * s + side_number side) → slice_index row s ≡ byte_score (slice_index loaded s % 256) → Raised s (slice_index row s)
+    pub of_piece : is_pawn man.kind ≡ false → (row : List ℕ) (s : ℕ) → s < 64 → slice_index loaded s ≡ slice_index (take (first + 128 - first) (drop first entries)) (2 * s + side_number side) → slice_index row s ≡ entry_score column (slice_index loaded s % 256) → Raised s (slice_index row s)
     of_piece kind row s s_in lane value =
         let digits = piece_digits man.kind kind in
         let few = side_few side in
-        at_digit s s (slice_index row s) (omega arith) (omega arith) (value ∙ ap (λ e. byte_score (e % 256)) (read 128 s (slice_index loaded s) (omega arith) lane))
+        at_digit s s (slice_index row s) (omega arith) (omega arith) (value ∙ ap (λ e. entry_score column (e % 256)) (read 128 s (slice_index loaded s) (omega arith) lane))
 
     -- of a pawn, who stands on neither the first rank nor the last
     pub of_pawn : is_pawn man.kind ≡ true → (row : List ℕ) (s : ℕ) → s < 64 → (8 ≤ s → s < 56 → slice_index loaded s ≡ slice_index (take (first + 96 - first) (drop first entries)) (2 * (s - 8) + side_number side))
-        → ((s < 8) ⊎ (56 ≤ s) → slice_index loaded s ≡ 0) → slice_index row s ≡ byte_score (slice_index loaded s % 256) → Raised s (slice_index row s)
+        → ((s < 8) ⊎ (56 ≤ s) → slice_index loaded s ≡ 0) → slice_index row s ≡ entry_score column (slice_index loaded s % 256) → Raised s (slice_index row s)
     of_pawn kind row s s_in middle edge value = elim (cases_lt s 8) [
-      | inl low ↦ at_edge s (slice_index row s) digits.0 (inl low) (value ∙ ap (λ e. byte_score (e % 256)) (edge (inl low)))
+      | inl low ↦ at_edge s (slice_index row s) digits.0 (inl low) (value ∙ ap (λ e. entry_score column (e % 256)) (edge (inl low)) ∙ no_score column)
       | inr from ↦ elim (cases_lt s 56) [
         | inl to ↦ let few = side_few side in
-            at_digit s (s - 8) (slice_index row s) (omega (arith, digits.1)) (omega (arith, digits.2)) (value ∙ ap (λ e. byte_score (e % 256)) (read 96 (s - 8) (slice_index loaded s) (omega arith) (middle from to)))
-        | inr high ↦ at_edge s (slice_index row s) digits.0 (inr high) (value ∙ ap (λ e. byte_score (e % 256)) (edge (inr high)))
+            at_digit s (s - 8) (slice_index row s) (omega (arith, digits.1)) (omega (arith, digits.2)) (value ∙ ap (λ e. entry_score column (e % 256)) (read 96 (s - 8) (slice_index loaded s) (omega arith) (middle from to)))
+        | inr high ↦ at_edge s (slice_index row s) digits.0 (inr high) (value ∙ ap (λ e. entry_score column (e % 256)) (edge (inr high)) ∙ no_score column)
       ]
     ]
       where
@@ -127,5 +127,5 @@ module _ (t : TableValue) (column : Column) (man : Man) (white black : ℕ) (fli
   home_some code h = record { turn = h.0; after = lone_stand white black man s; seen = inl (h.1.flips_is, inl refl); is = record { below = h.1.below; keeps = h.1.keeps; tells = h.2 } }
 
   pub lone_read : (v w : ℕ) → w ≡ 0 → IsRaisedHome false t column flips (lone_stand white black man s) side w v → IsRead t column flips (lone_stand white black man s) side v
-  lone_read v w none raised = raised_alike 0 v (λ code. IsHomeCode false t.class code flips (lone_stand white black man s) side) (λ code. IsSomeTurnedCode t.class code flips (lone_stand white black man s) side) (score_at t column)
+  lone_read v w none raised = raised_alike 0 v (λ code. IsHomeCode false t.class code flips (lone_stand white black man s) side) (λ code. IsSomeTurnedCode t.class code flips (lone_stand white black man s) side) (column_score t column)
       (subst (λ low. IsRaisedHome false t column flips (lone_stand white black man s) side low v) none raised) some_home home_some

@@ -28,11 +28,11 @@ use Rattle.egt_lanes.specs.Blocks.{at}
 use Rattle.egt_lanes.specs.Raised.{IsRaised}
 use Rattle.egt_moves.specs.Promotion.{is_pawn}
 use Rattle.egt_table.specs.Table.{TableValue}
-use Rattle.egt_table.specs.declared.column.Column.TheVariants.{Mate}
+use Rattle.egt_table.specs.declared.column.Column.{Column}
 use Rattle.egt_check.specs.InPassing.{ArePassingCodes}
 use Rattle.egt_check.specs.PassedRows.{IsAtPassed, IsPastPawns}
 use Rattle.egt_check.specs.Takings.{IsPastKings, left_of, stand_left}
-use Rattle.egt_check.specs.Worth.{IsRead, score_at}
+use Rattle.egt_check.specs.Worth.{IsRead, column_score}
 use Rattle.egt_check.proofs.BlockRaising.{raised_alike, raised_by_none}
 use Rattle.egt_check.proofs.LoneRead.{some_home}
 use Rattle.egt_check.proofs.QuietRaising.{raised_through}
@@ -95,12 +95,12 @@ turned_kind : (flips : Bool) (man : Man) → (turned_man flips man).kind ≡ man
 turned_kind true man = refl
 turned_kind false man = refl
 
-module _ (t : TableValue) (flips : Bool) (man : Man) (pawn : man.kind ≡ P) (c_in : t.class < 36) (lone : IsLoneMan t.class (turned_man flips man))
+module _ (t : TableValue) (column : Column) (flips : Bool) (man : Man) (pawn : man.kind ≡ P) (c_in : t.class < 36) (lone : IsLoneMan t.class (turned_man flips man))
     (pawns : (passed : Bool) (c code : ℕ) (stand : Stand) (side : Side) (man : Man) (s : ℕ) → TellsMen passed c code stand side → IsListed (list_of stand) man s → MayStand man s) where
   pub none_past : (white black s : ℕ) (side : Side) (code : ℕ) → s < 64 → IsPastPawns s → ¬ IsSomeTurnedCode t.class code flips (lone_stand white black (turned_man flips man) s) side
   none_past white black s side code s_in past some =
       let kind : (turned_man flips man).kind ≡ P = turned_kind flips man ∙ pawn in
-      let home = some_home t Mate (turned_man flips man) white black flips side c_in lone s code some in
+      let home = some_home t column (turned_man flips man) white black flips side c_in lone s code some in
       let few : home.0 % 8 < 2 = subst (λ b. home.0 % 8 < symmetries b) (lone_pawn t.class (turned_man flips man) c_in lone kind) home.1.keeps in
       let there : ℕ = turned_square (home.0 % 8) (eqb (home.0 / 8) 1) s in
       let may = pawns false t.class code _ _ (turned_man flips man) there home.2 (inr (inr (inl (refl, refl)))) kind in
@@ -127,13 +127,13 @@ rows_set Is out n row n_in r here = record {
 
 -- ---- captures in passing
 
-module _ (t : TableValue) (flips : Bool) (men : ShelfMen) (side : Side) (a b : ℕ) where
+module _ (t : TableValue) (column : Column) (flips : Bool) (men : ShelfMen) (side : Side) (a b : ℕ) where
   abbrev pub Passing : ℕ → Type 0
   Passing = ArePassingCodes t.class flips men side a b
 
   module _ (mine : men.last ≡ pawn_of side) (theirs : men.one ≡ pawn_of (other_side side)) (c_in : t.class < 36) (lone : IsLoneMan t.class (turned_man flips men.last))
       (pawns : (passed : Bool) (c code : ℕ) (stand : Stand) (side : Side) (man : Man) (s : ℕ) → TellsMen passed c code stand side → IsListed (list_of stand) man s → MayStand man s)
-      (scores : List ℕ) (read : (u : ℕ) → u < 64 → IsRead t Mate flips (stand_left flips (left_of men men.last u)) (other_side side) (slice_index scores u)) where
+      (scores : List ℕ) (read : (u : ℕ) → u < 64 → IsRead t column flips (stand_left flips (left_of men men.last u)) (other_side side) (slice_index scores u)) where
     abbrev to : ℕ
     to = ahead side a
 
@@ -156,16 +156,16 @@ module _ (t : TableValue) (flips : Bool) (men : ShelfMen) (side : Side) (a b : �
     )
 
     pub all_passing : (arrived takes nothings : List (List ℕ)) → ((u v : ℕ) → u < 64 → v < 64 → at nothings u v ≡ 0) → b < 64 → ((u : ℕ) → u < 64 → at arrived u b ≡ at takes b u)
-        → ((u : ℕ) → u < 64 → IsRaised (at nothings b u) (λ v. (v ≡ u) × Reaches (IsPastKings men) men.last b v) (slice_index scores) (at takes b u)) → (v : ℕ) → IsAtPassed side arrived a b v → IsRaised 0 Passing (score_at t Mate) v
+        → ((u : ℕ) → u < 64 → IsRaised (at nothings b u) (λ v. (v ≡ u) × Reaches (IsPastKings men) men.last b v) (slice_index scores) (at takes b u)) → (v : ℕ) → IsAtPassed side arrived a b v → IsRaised 0 Passing (column_score t column) v
     all_passing arrived takes nothings none b_in turned raised v (inl here) =
         let zero = none b to b_in here.0 in
         let is : v ≡ at takes b to = here.1 ∙ turned to here.0 in
-        subst (IsRaised 0 Passing (score_at t Mate)) (sym is)
-        (raised_alike 0 (at takes b to) (λ code. (u : ℕ) × Takes u × Left u code) Passing (score_at t Mate)
-        (raised_through 0 (at takes b to) Takes Left (score_at t Mate) (slice_index scores) (λ u h. read u (let same = h.0 in let in_board = here.0 in omega (arith, same, in_board))) (subst (λ n. IsRaised n Takes (slice_index scores) (at takes b to)) zero (raised to here.0)))
+        subst (IsRaised 0 Passing (column_score t column)) (sym is)
+        (raised_alike 0 (at takes b to) (λ code. (u : ℕ) × Takes u × Left u code) Passing (column_score t column)
+        (raised_through 0 (at takes b to) Takes Left (column_score t column) (slice_index scores) (λ u h. read u (let same = h.0 in let in_board = here.0 in omega (arith, same, in_board))) (subst (λ n. IsRaised n Takes (slice_index scores) (at takes b to)) zero (raised to here.0)))
         (λ code h. (to, (refl, h.0.reaches), h.1))
         passing_back)
     all_passing arrived takes nothings none b_in turned raised v (inr past) =
-        subst (IsRaised 0 Passing (score_at t Mate)) (sym past.1)
-        (raised_by_none 0 Passing (score_at t Mate)
-        (λ code h. none_past t flips men.last (ap (λ (x : Man). x.kind) mine) c_in lone pawns (if flips then men.black else men.white) (if flips then men.white else men.black) to (other_side side) code (Reaches-on_board (IsPastKings men) men.last b to h.0.reaches) past.0 h.1))
+        subst (IsRaised 0 Passing (column_score t column)) (sym past.1)
+        (raised_by_none 0 Passing (column_score t column)
+        (λ code h. none_past t column flips men.last (ap (λ (x : Man). x.kind) mine) c_in lone pawns (if flips then men.black else men.white) (if flips then men.white else men.black) to (other_side side) code (Reaches-on_board (IsPastKings men) men.last b to h.0.reaches) past.0 h.1))

@@ -28,7 +28,7 @@ use Rattle.egt_moves.specs.Legal.{Leads}
 use Rattle.egt_moves.specs.Promotion.{arriving, is_pawn, promotes}
 use Rattle.egt_moves.specs.declared.chess_move.Move.{Move}
 use Rattle.egt_table.specs.Table.{TableValue}
-use Rattle.egt_table.specs.declared.column.Column.TheVariants.{Mate}
+use Rattle.egt_check.specs.declared.metric.Metric.TheVariants.{Mate}
 use Rattle.egt_check.specs.Facts.{Facts}
 use Rattle.egt_check.specs.Given.{AreGiven}
 use Rattle.egt_moves.proofs.After.{sides_differ}

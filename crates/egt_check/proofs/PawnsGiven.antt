@@ -19,7 +19,8 @@ use Rattle.egt_moves.specs.Promotion.{FitsPromotion, IsOfficer, is_pawn, promote
 use Rattle.egt_moves.specs.declared.chess_move.Move.{Move}
 use Rattle.egt_moves.proofs.Admissible.{pawn_told}
 use Rattle.egt_table.specs.Table.{TableValue}
-use Rattle.egt_table.specs.declared.column.Column.TheVariants.{Mate}
+use Rattle.egt_table.specs.declared.column.Column.TheVariants as columns
+use Rattle.egt_check.specs.declared.metric.Metric.TheVariants.{Mate}
 use Rattle.egt_check.specs.Blocks.{stand_on}
 use Rattle.egt_check.specs.Given.{AreGiven}
 use Rattle.egt_check.specs.InPassing.{AreLeapCodes, ArePassingCodes, AreStepCodes, IsOfFourKinds, IsPassingFrom}
@@ -70,7 +71,7 @@ pub record PawnLaws (tables : Tables) (men : ShelfMen) (first : Bool) (side : Si
 module _ (tables : Tables) (men : ShelfMen) (first : Bool) (side : Side) (a b : ℕ) (p : Setup) where
   module _ (laws : PawnLaws tables men first side a b p) (mine : men.last.side ≡ side) where
     promoted_given : (C : Move → Type 0) (promotion : Promotion) (kind : Kind) (low high : ℕ) → AreGiven tables p C low (zeroing_score low) → HasPromotion tables promotion men → promotion.kind ≡ kind
-        → IsPromotionScore promotion men side a b low high → AreGiven tables p (WithPromotions C p b kind) high (zeroing_score high)
+        → IsPromotionScore columns.Mate promotion men side a b low high → AreGiven tables p (WithPromotions C p b kind) high (zeroing_score high)
     promoted_given C promotion kind low high given has kind_is score =
         either_zeroing tables p (WithPromotions C p b kind) (λ m. C m ⊎ IsAdvanceFrom p b (Some kind) m) (IsPromotingCaptureFrom p b kind) (max low score.advanced) score.taken high
         (either_zeroing tables p (λ m. C m ⊎ IsAdvanceFrom p b (Some kind) m) C (IsAdvanceFrom p b (Some kind)) low score.advanced (max low score.advanced) given
@@ -81,7 +82,7 @@ module _ (tables : Tables) (men : ShelfMen) (first : Bool) (side : Side) (a b : 
         score.is (λ q m leads is. is) (λ m is. inl is) (λ m is. inr is)
 
     moves_given : (own : TableValue) (promotions : Promotions) (score : ℕ) → IsTableAfter tables own first false men.one men.last → HasPromotions tables promotions men
-        → ArePawnScores own first promotions men side a b score → AreGiven tables p (IsMoveFrom p b) score (zeroing_score score)
+        → ArePawnScores columns.Mate own first promotions men side a b score → AreGiven tables p (IsMoveFrom p b) score (zeroing_score score)
     moves_given own promotions score after has s =
         let plain = laws.advances own s.stepped s.leapt after s.stepped_raised s.leapt_raised in
         let queen = promoted_given (IsAdvanceFrom p b None) promotions.queen Q (max s.stepped s.leapt) s.queen plain has.queen has.queen_is s.queen_is in
@@ -94,7 +95,7 @@ module _ (tables : Tables) (men : ShelfMen) (first : Bool) (side : Side) (a b : 
   none_given none = record { above = λ q m leads is. absurd (none (is.0, is.1)); mate_given = inl refl; zeroing_given = inl refl }
 
   pub raised_given : (men.last.kind ≡ P → men.last.side ≡ side → PawnLaws tables men first side a b p) → (own : TableValue) (promotions : Option Promotions) (high : ℕ) → IsTableAfter tables own first false men.one men.last
-      → IfSome promotions (λ kinds. HasPromotions tables kinds men) → IsRaisedByPawn own first promotions men side a b 0 high → AreGiven tables p (IsPawnMove men side p b) high (zeroing_score high)
+      → IfSome promotions (λ kinds. HasPromotions tables kinds men) → IsRaisedByPawn columns.Mate own first promotions men side a b 0 high → AreGiven tables p (IsPawnMove men side p b) high (zeroing_score high)
   raised_given laws own promotions high after has (inl (same, none)) = subst (λ n. AreGiven tables p (IsPawnMove men side p b) n (zeroing_score n)) (sym same) (none_given none)
   raised_given laws own promotions high after has (inr (pawn, mine, kinds, some, score, scores, is)) =
       let same : high ≡ score = omega (arith, is) in
@@ -288,7 +289,7 @@ pub loud_given : (tables : Tables) (c : ℕ) (men : ShelfMen) (side : Side) (pas
     → (men.last.kind ≡ P → men.last.side ≡ side → PawnLaws tables men false side a b p) → (men.one.kind ≡ P → men.one.side ≡ side → PawnLaws tables (men_swapped men) true side b a p)
     → IsTableAfter tables own false false men.one men.last
     → IfSome first (λ kinds. HasPromotions tables kinds (men_swapped men)) → IfSome last (λ kinds. HasPromotions tables kinds men) → AreGiven tables p (IsPlainCapture p) taken (zeroing_score taken)
-    → AreRaisedByPawns own first last men side a b pawns → AreGiven tables p (IsEitherPassing men p a b) passing (zeroing_score passing)
+    → AreRaisedByPawns columns.Mate own first last men side a b pawns → AreGiven tables p (IsEitherPassing men p a b) passing (zeroing_score passing)
     → AreGiven tables p (Zeroes p) (max (max taken pawns) passing) (zeroing_score (max (max taken pawns) passing))
 loud_given tables c men side passed a b p has kinds own first last taken pawns passing last_laws first_laws after has_first has_last captures s by_passing =
     either_zeroing tables p (Zeroes p) (λ m. IsPlainCapture p m ⊎ IsEitherPawnMove men side p a b m) (IsEitherPassing men p a b) (max taken pawns) passing (max (max taken pawns) passing)

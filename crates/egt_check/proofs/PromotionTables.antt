@@ -1,45 +1,72 @@
--- The tables of promotions, wherever the kings stand.
-use Rattle.std.proofs.Common.{◌≡◌, ℕ, Bool, true, false, Option, Some, None, IfSome}
+-- The tables of the classes that promotions lead to, wherever the kings stand.
+use Rattle.std.proofs.Common.{◌≡◌, ◌≢◌, ℕ, ◌<◌, Bool, true, false, [], ◌∷◌, Option, Some, None, IfSome, arith, sym, ap, ◌∙◌, subst}
+use Rattle.egt_board.specs.Attack.{king_of}
+use Rattle.egt_board.specs.Setup.{Setup}
+use Rattle.egt_board.specs.Turned.{turned_man}
+use Rattle.egt_board.specs.declared.man.Side.TheVariants.{White, Black}
+use Rattle.egt_class.specs.Material.{material_of}
+use Rattle.egt_class.specs.Membership.{IsOf}
+use Rattle.egt_class.specs.Pair.{IsBeside}
+use Rattle.egt_index.specs.Size.{men_in_order}
 use Rattle.egt_board.specs.declared.man.Man.{Man}
 use Rattle.egt_index.specs.ShelfCodes.{AreMenOf}
 use Rattle.egt_index.specs.declared.shelf_codes.ShelfMen.{ShelfMen}
 use Rattle.egt_moves.specs.Promotion.{arriving}
-use Rattle.egt_table.specs.Table.{TableValue}
-use Rattle.egt_check.specs.PawnMoves.{men_after}
-use Rattle.egt_check.specs.PawnScores.{ArePromotionsOf, HasPromotion, HasPromotions, IsPromotionOf}
+use Rattle.egt_table.specs.Table.{HasColumn, TableValue}
+use Rattle.egt_table.specs.declared.column.Column.{Column}
+use Rattle.egt_check.specs.MoveScores.{AreFourMen, AreTablesOf}
+use Rattle.egt_check.specs.Library.{IsShelved}
+use Rattle.egt_check.specs.Parts.{column_of, promotions_in, some_promotions_in, table_in, tables_in}
+use Rattle.egt_check.specs.PawnMoves.{IsClassAfter, IsTableAfter, men_after}
+use Rattle.egt_check.specs.PawnScores.{AreNamed, ArePromotionsOf, HasPromotion, HasPromotions, IsPromotionOf}
 use Rattle.egt_check.specs.Tables.{Tables, beside}
+use Rattle.egt_check.specs.Taken.{men_swapped}
+use Rattle.egt_check.specs.Worth.{HasBytes}
+use Rattle.egt_check.specs.declared.move_scores.FourMen.{FourMen}
+use Rattle.egt_check.specs.declared.part.Part.{Part}
+use Rattle.egt_check.specs.declared.part.Part.TheVariants.{Values, Reach}
 use Rattle.egt_check.specs.declared.pawn_scores.Promotion.{Promotion}
 use Rattle.egt_check.specs.declared.pawn_scores.Promotions.{Promotions}
+use Rattle.egt_check.proofs.NearReading.{is_table_in}
+use Rattle.egt_check.proofs.TablePairs.{found_beside}
 
 -- the tables of some promotions, found beside any table of the class
-pub beside_any : (tables : Tables) (c : ℕ) (men : ShelfMen) (promotions : Option Promotions) → IfSome promotions (λ kinds. (t : TableValue) → t.class ≡ c → HasPromotions (beside tables t) kinds men) → (t : TableValue) → t.class ≡ c
-    → IfSome promotions (λ kinds. HasPromotions (beside tables t) kinds men)
-beside_any tables c men None has t same = tt
-beside_any tables c men (Some kinds) has t same = has t same
+pub beside_any : (part : Part) (tables : Tables) (c : ℕ) (men : ShelfMen) (promotions : Option Promotions)
+    → IfSome promotions (λ kinds. (t : TableValue) → t.class ≡ c → HasPromotions (tables_in part (beside tables t)) (promotions_in part kinds) men) → (t : TableValue) → t.class ≡ c
+    → IfSome (some_promotions_in part promotions) (λ kinds. HasPromotions (tables_in part (beside tables t)) kinds men)
+beside_any Values tables c men None has t same = tt
+beside_any Values tables c men (Some kinds) has t same = has t same
+beside_any Reach tables c men None has t same = tt
+beside_any Reach tables c men (Some kinds) has t same = has t same
+
+-- the men with the kings on these squares
+abbrev pub men_there : ShelfMen → (white black : ℕ) → ShelfMen
+men_there men white black = record { white = white; black = black; one = men.one; on = men.on; last = men.last }
 
 module _ (men : ShelfMen) (white black : ℕ) where
-  -- the men with the kings on these squares
-  abbrev pub there : ShelfMen
-  there = record { white = white; black = black; one = men.one; on = men.on; last = men.last }
+  abbrev there : ShelfMen
+  there = men_there men white black
 
   after_there : (c : ℕ) (before flips : Bool) (man : Man) → AreMenOf c (men_after before flips men man) → AreMenOf c (men_after before flips there man)
   after_there c false flips man are = record { are = are.are; one_beside = are.one_beside; last_beside = are.last_beside }
   after_there c true flips man are = record { are = are.are; one_beside = are.one_beside; last_beside = are.last_beside }
 
-  promotion_there : (promotion : Promotion) → IsPromotionOf promotion men → IsPromotionOf promotion there
-  promotion_there promotion is = record {
+  promotion_there : (column : Column) (promotion : Promotion) → IsPromotionOf column promotion men → IsPromotionOf column promotion there
+  promotion_there column promotion is = record {
     officer = is.officer;
+    both_there = is.both_there;
+    alone_there = is.alone_there;
     both = after_there promotion.both.now.class promotion.before promotion.both_flips (arriving men.last (Some promotion.kind)) is.both;
     alone = is.alone;
   }
 
-  pub promotions_there : (promotions : Option Promotions) → IfSome promotions (λ kinds. ArePromotionsOf kinds men) → IfSome promotions (λ kinds. ArePromotionsOf kinds there)
-  promotions_there None are = tt
-  promotions_there (Some kinds) are = record {
-    queen = promotion_there kinds.queen are.queen;
-    rook = promotion_there kinds.rook are.rook;
-    bishop = promotion_there kinds.bishop are.bishop;
-    knight = promotion_there kinds.knight are.knight;
+  pub promotions_there : (column : Column) (promotions : Option Promotions) → IfSome promotions (λ kinds. ArePromotionsOf column kinds men) → IfSome promotions (λ kinds. ArePromotionsOf column kinds there)
+  promotions_there column None are = tt
+  promotions_there column (Some kinds) are = record {
+    queen = promotion_there column kinds.queen are.queen;
+    rook = promotion_there column kinds.rook are.rook;
+    bishop = promotion_there column kinds.bishop are.bishop;
+    knight = promotion_there column kinds.knight are.knight;
   }
 
   table_there : (tables : Tables) (promotion : Promotion) → HasPromotion tables promotion men → HasPromotion tables promotion there
@@ -57,3 +84,60 @@ module _ (men : ShelfMen) (white black : ℕ) where
     bishop_is = has.bishop_is;
     knight_is = has.knight_is;
   }
+
+module _ (men : ShelfMen) (white black : ℕ) where
+  pub four_there : (column : Column) (four : FourMen) → AreFourMen column four men → AreFourMen column four (men_there men white black)
+  four_there column four are = record {
+    own_there = are.own_there;
+    first_there = are.first_there;
+    last_there = are.last_there;
+    men_of = record { are = are.men_of.are; one_beside = are.men_of.one_beside; last_beside = are.men_of.last_beside };
+    one = are.one;
+    last = are.last;
+    first_left = are.first_left;
+    last_left = are.last_left;
+    first_pawn = promotions_there (men_swapped men) white black column four.first_pawn are.first_pawn;
+    last_pawn = promotions_there men white black column four.last_pawn are.last_pawn;
+    same = are.same;
+  }
+
+  pub tables_of_there : (tables : Tables) (four : FourMen) → AreTablesOf tables four men → AreTablesOf tables four (men_there men white black)
+  tables_of_there tables four are = record {
+    is_table = are.is_table;
+    found = are.found;
+    bytes = are.bytes;
+    first = are.first;
+    last = are.last;
+    own_after = are.own_after;
+    first_pawn = tables_there (men_swapped men) white black tables four.first_pawn are.first_pawn;
+    last_pawn = tables_there men white black tables four.last_pawn are.last_pawn;
+  }
+
+-- ---- the table of a class that a promotion leads to
+
+-- men beside the kings in the other order
+beside_swapped : (p : Setup) (one other : Option Man) → IsBeside p one other → IsBeside p other one
+beside_swapped p one other is = record { kings = is.kings; others = λ man beside. let count = is.others man beside in omega (arith, count); first_other = is.second_other; second_other = is.first_other }
+
+in_order : (c : ℕ) (men : ShelfMen) (next last : Man) → AreMenOf c men → men.one ≡ next → men.last ≡ last → men_in_order (material_of c) ≡ king_of White ∷ king_of Black ∷ next ∷ last ∷ []
+in_order c men next last are one_is last_is = sym are.are ∙ ap (λ (m : Man). king_of White ∷ king_of Black ∷ m ∷ men.last ∷ []) one_is ∙ ap (λ (m : Man). king_of White ∷ king_of Black ∷ next ∷ m ∷ []) last_is
+
+class_after : (before : Bool) (c : ℕ) (flips : Bool) (one man : Man) (men : ShelfMen) → c < 36 → ((p : Setup) → IsBeside p (Some one) (Some man) → IsOf c flips p) → AreMenOf c men
+    → AreNamed before men (turned_man flips one) (turned_man flips man) → IsClassAfter before c flips one man
+class_after false c flips one man men below of are named = record { below = below; of = of; order = in_order c men (turned_man flips one) (turned_man flips man) are named.one_is named.last_is }
+class_after true c flips one man men below of are named = record {
+  below = below;
+  of = λ p beside. of p (beside_swapped p (Some man) (Some one) beside);
+  order = in_order c men (turned_man flips man) (turned_man flips one) are named.one_is named.last_is;
+}
+
+-- the table of the class of these two, found beside that of another class
+pub table_after : (part : Part) (tables : Tables) (t u : TableValue) (c : ℕ) (before flips : Bool) (one man : Man) (men : ShelfMen) → IsShelved tables c u → tables c ≡ Some u → u.class ≢ t.class → HasColumn (column_of part) u
+    → HasBytes (table_in part u) → ((p : Setup) → IsBeside p (Some one) (Some man) → IsOf c flips p) → AreMenOf c men → AreNamed before men (turned_man flips one) (turned_man flips man)
+    → IsTableAfter (tables_in part (beside tables t)) (table_in part u) before flips one man
+table_after part tables t u c before flips one man men shelved found apart there bytes of are named = record {
+  is_table = is_table_in part u there shelved.table;
+  found = found_beside part tables t u apart (ap tables shelved.class ∙ found) there;
+  bytes = bytes;
+  class_after = subst (λ k. IsClassAfter before k flips one man) (sym shelved.class) (class_after before c flips one man men (subst (λ k. k < 36) shelved.class shelved.table.class_in) of are named);
+}

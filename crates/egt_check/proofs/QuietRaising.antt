@@ -20,7 +20,7 @@ use Rattle.egt_table.specs.declared.column.Column.{Column}
 use Rattle.egt_check.specs.Blocks.{AreTurnedCodes, IsBesideKing, stand_on, with_king}
 use Rattle.egt_check.specs.QuietStands.{AreQuietCodes, IsClear}
 use Rattle.egt_check.specs.QuietSteps.{IsFirstStep, IsLastStep}
-use Rattle.egt_check.specs.Worth.{IsRead, score_at}
+use Rattle.egt_check.specs.Worth.{IsRead, column_score}
 use Rattle.egt_check.proofs.BlockRaising.{raised_alike, raised_both}
 
 -- ---- sets of squares
@@ -95,10 +95,10 @@ open_is_clear men kings b is u u_in = (
 )
 
 module _ (t : TableValue) (column : Column) (men : ShelfMen) (side : Side) (a b : ℕ) (low : ℕ)
-    (king : IsRaised 0 (AreTurnedCodes false t.class (IsBesideKing men side) (with_king men side) false (other_side side) a b) (score_at t column) low) where
+    (king : IsRaised 0 (AreTurnedCodes false t.class (IsBesideKing men side) (with_king men side) false (other_side side) a b) (column_score t column) low) where
   -- only the king has steps
-  pub king_alone : (men.one.side ≡ side → men.one.kind ≡ P) → (men.last.side ≡ side → men.last.kind ≡ P) → IsRaised 0 (AreQuietCodes t.class men side a b) (score_at t column) low
-  king_alone other others = raised_alike 0 low (AreTurnedCodes false t.class (IsBesideKing men side) (with_king men side) false (other_side side) a b) (AreQuietCodes t.class men side a b) (score_at t column) king
+  pub king_alone : (men.one.side ≡ side → men.one.kind ≡ P) → (men.last.side ≡ side → men.last.kind ≡ P) → IsRaised 0 (AreQuietCodes t.class men side a b) (column_score t column) low
+  king_alone other others = raised_alike 0 low (AreTurnedCodes false t.class (IsBesideKing men side) (with_king men side) false (other_side side) a b) (AreQuietCodes t.class men side a b) (column_score t column) king
       (λ code h. elim h.1 [
         | inl k ↦ (k.0, k.1, subst (λ (s : Stand). IsSomeTurnedCode t.class code false s (other_side side)) k.2 h.2)
         | inr (inl one) ↦ absurd (one.1 (other one.0))
@@ -112,23 +112,23 @@ module _ (t : TableValue) (column : Column) (men : ShelfMen) (side : Side) (a b 
     NoLast : ℕ → Type 0
     NoLast code = AreTurnedCodes false t.class (IsBesideKing men side) (with_king men side) false (other_side side) a b code ⊎ ((u : ℕ) × IsFirstStep men side a b u × IsSomeTurnedCode t.class code false (stand_on men u b) (other_side side))
 
-    by_first : IsRaised low (λ code. (u : ℕ) × IsFirstStep men side a b u × IsSomeTurnedCode t.class code false (stand_on men u b) (other_side side)) (score_at t column) mid
-    by_first = raised_through low mid (IsFirstStep men side a b) (λ u code. IsSomeTurnedCode t.class code false (stand_on men u b) (other_side side)) (score_at t column) (λ u. at scores u b)
+    by_first : IsRaised low (λ code. (u : ℕ) × IsFirstStep men side a b u × IsSomeTurnedCode t.class code false (stand_on men u b) (other_side side)) (column_score t column) mid
+    by_first = raised_through low mid (IsFirstStep men side a b) (λ u code. IsSomeTurnedCode t.class code false (stand_on men u b) (other_side side)) (column_score t column) (λ u. at scores u b)
         (λ u step. read u b (Reaches-on_board (IsClear men b) men.one a u step.2) b_in) first
 
-    by_last : IsRaised mid (λ code. (u : ℕ) × IsLastStep men side a b u × IsSomeTurnedCode t.class code false (stand_on men a u) (other_side side)) (score_at t column) high
-    by_last = raised_through mid high (IsLastStep men side a b) (λ u code. IsSomeTurnedCode t.class code false (stand_on men a u) (other_side side)) (score_at t column) (λ u. at scores a u)
+    by_last : IsRaised mid (λ code. (u : ℕ) × IsLastStep men side a b u × IsSomeTurnedCode t.class code false (stand_on men a u) (other_side side)) (column_score t column) high
+    by_last = raised_through mid high (IsLastStep men side a b) (λ u code. IsSomeTurnedCode t.class code false (stand_on men a u) (other_side side)) (column_score t column) (λ u. at scores a u)
         (λ u step. read a u a_in (Reaches-on_board (IsClear men a) men.last b u step.2)) last
 
-    by_both : IsRaised 0 NoLast (score_at t column) mid
+    by_both : IsRaised 0 NoLast (column_score t column) mid
     unfolding NoLast
     by_both = raised_both 0 low mid (AreTurnedCodes false t.class (IsBesideKing men side) (with_king men side) false (other_side side) a b)
-        (λ code. (u : ℕ) × IsFirstStep men side a b u × IsSomeTurnedCode t.class code false (stand_on men u b) (other_side side)) NoLast (score_at t column) king by_first
+        (λ code. (u : ℕ) × IsFirstStep men side a b u × IsSomeTurnedCode t.class code false (stand_on men u b) (other_side side)) NoLast (column_score t column) king by_first
         (λ code h. h) (λ code h. inl h) (λ code h. inr h)
 
-    pub all_quiet : IsRaised 0 (AreQuietCodes t.class men side a b) (score_at t column) high
+    pub all_quiet : IsRaised 0 (AreQuietCodes t.class men side a b) (column_score t column) high
     unfolding NoLast
-    all_quiet = raised_both 0 mid high NoLast (λ code. (u : ℕ) × IsLastStep men side a b u × IsSomeTurnedCode t.class code false (stand_on men a u) (other_side side)) (AreQuietCodes t.class men side a b) (score_at t column) by_both by_last
+    all_quiet = raised_both 0 mid high NoLast (λ code. (u : ℕ) × IsLastStep men side a b u × IsSomeTurnedCode t.class code false (stand_on men a u) (other_side side)) (AreQuietCodes t.class men side a b) (column_score t column) by_both by_last
         (λ code h. elim h.1 [
           | inl k ↦ inl (inl (k.0, k.1, subst (λ (s : Stand). IsSomeTurnedCode t.class code false s (other_side side)) k.2 h.2))
           | inr (inl one) ↦ inl (inr (one.2, (one.0, one.1, one.4), subst (λ (s : Stand). IsSomeTurnedCode t.class code false s (other_side side)) one.5 h.2))

@@ -11,7 +11,7 @@ use Rattle.egt_index.specs.declared.stand.Stand.{Stand}
 use Rattle.egt_lanes.specs.Raised.{IsRaised}
 use Rattle.egt_table.specs.Table.{TableValue}
 use Rattle.egt_table.specs.declared.column.Column.{Column}
-use Rattle.egt_check.specs.Worth.{score_at}
+use Rattle.egt_check.specs.Worth.{column_score}
 
 -- the greatest of one number is that number
 raised_alone : (In : ℕ → Type 0) (f : ℕ → ℕ) (v t : ℕ) → In t → ((u : ℕ) → In u → u ≡ t) → IsRaised 0 In f v → v ≡ f t
@@ -29,9 +29,9 @@ module _ (passed : Bool) (t : TableValue) (column : Column) (men : ShelfMen) (sh
   told digit below = subst (λ b. TellsMen b t.class (code_of t.class (number_in t.class shelf side digit)) (stand_with men (digit + kind_less men.last.kind)) side) is.1 (is.0.tells side digit below)
 
   -- a lane of the row is the score at one code
-  pub lane_is : (digit v : ℕ) → digit < kind_digits men.last.kind → IsRaised 0 (Told digit) (score_at t column) v → v ≡ score_at t column (code_of t.class (number_in t.class shelf side digit))
+  pub lane_is : (digit v : ℕ) → digit < kind_digits men.last.kind → IsRaised 0 (Told digit) (column_score t column) v → v ≡ column_score t column (code_of t.class (number_in t.class shelf side digit))
   lane_is digit v below raised =
-      raised_alone (Told digit) (score_at t column) v (code_of t.class (number_in t.class shelf side digit)) (told digit below)
+      raised_alone (Told digit) (column_score t column) v (code_of t.class (number_in t.class shelf side digit)) (told digit below)
       (λ code there. one passed t.class code (code_of t.class (number_in t.class shelf side digit)) (stand_with men (digit + kind_less men.last.kind)) side there (told digit below)) raised
 
 -- a square is left where one set has it and the other lacks it

@@ -25,12 +25,12 @@ use Rattle.egt_index.specs.declared.stand.Stand.{Stand}
 use Rattle.egt_index.proofs.Halves.{code_high, code_low, code_plain, half_targets}
 use Rattle.egt_index.proofs.OnePosition.{one_pawn_each}
 use Rattle.egt_lanes.specs.Raised.{IsRaised}
-use Rattle.egt_lanes.specs.Scores.{byte_score}
 use Rattle.egt_moves.specs.Promotion.{is_pawn}
 use Rattle.egt_table.specs.Table.{TableValue, entries_of}
 use Rattle.egt_table.specs.declared.column.Column.{Column}
+use Rattle.egt_table.specs.declared.column.Column.TheVariants as columns
 use Rattle.egt_check.specs.ShelfRow.{IsShelfRow}
-use Rattle.egt_check.specs.Worth.{score_at}
+use Rattle.egt_check.specs.Worth.{column_score, entry_score}
 
 -- an entry of a piece of a list
 pub piece_at : (xs : List ℕ) (first len k : ℕ) → k < len → slice_index (take (first + len - first) (drop first xs)) k ≡ slice_index xs (first + k)
@@ -156,17 +156,17 @@ module _ (passed : Bool) (t : TableValue) (column : Column) (men : ShelfMen) (sh
   told : (s digit : ℕ) → digit < kind_digits men.last.kind → digit + kind_less men.last.kind ≡ s → Told s (code_at digit)
   told s digit below at = subst (λ b. TellsMen b t.class (code_at digit) (stand_with men s) side) is.1 (subst (λ k. TellsMen is.0.passed t.class (code_at digit) (stand_with men k) side) at (is.0.tells side digit below))
 
-  pub read_digit : (s digit v : ℕ) → digit < kind_digits men.last.kind → digit + kind_less men.last.kind ≡ s → v ≡ score_at t column (code_at digit) → IsRaised 0 (Told s) (score_at t column) v
+  pub read_digit : (s digit v : ℕ) → digit < kind_digits men.last.kind → digit + kind_less men.last.kind ≡ s → v ≡ column_score t column (code_at digit) → IsRaised 0 (Told s) (column_score t column) v
   read_digit s digit v below at value =
       let here = told s digit below at in
       record {
         kept = omega arith;
-        above = λ code there. let same = ap (score_at t column) (one passed t.class code (code_at digit) (stand_with men s) side there here) in omega (arith, same, value);
+        above = λ code there. let same = ap (column_score t column) (one passed t.class code (code_at digit) (stand_with men s) side there here) in omega (arith, same, value);
         reached = inr (code_at digit, here, value);
       }
 
   -- no code has a pawn on the first rank or the last
-  read_edge : (s v : ℕ) → men.last.kind ≡ P → (s < 8) ⊎ (56 ≤ s) → v ≡ 0 → IsRaised 0 (Told s) (score_at t column) v
+  read_edge : (s v : ℕ) → men.last.kind ≡ P → (s < 8) ⊎ (56 ≤ s) → v ≡ 0 → IsRaised 0 (Told s) (column_score t column) v
   read_edge s v pawn edge none = record {
     kept = omega arith;
     above = λ code there. absurd (let may = pawns passed t.class code (stand_with men s) side men.last s there (inr (inr (inr (inl (refl, refl))))) pawn in elim edge [
@@ -176,13 +176,13 @@ module _ (passed : Bool) (t : TableValue) (column : Column) (men : ShelfMen) (sh
     reached = inl none;
   }
 
-  pub row_read : (row : List ℕ) → IsShelfRow t column men shelf side row → (s : ℕ) → s < 64 → IsRaised 0 (Told s) (score_at t column) (slice_index row s)
+  pub row_read : (row : List ℕ) → IsShelfRow t column men shelf side row → (s : ℕ) → s < 64 → IsRaised 0 (Told s) (column_score t column) (slice_index row s)
   row_read row rows s s_in = by (is_pawn men.last.kind) refl
     where
-      at_digit : (digit : ℕ) → digit < kind_digits men.last.kind → digit + kind_less men.last.kind ≡ s → IsRaised 0 (Told s) (score_at t column) (slice_index row s)
+      at_digit : (digit : ℕ) → digit < kind_digits men.last.kind → digit + kind_less men.last.kind ≡ s → IsRaised 0 (Told s) (column_score t column) (slice_index row s)
       at_digit digit below at = read_digit s digit (slice_index row s) below at (ap (slice_index row) (sym at) ∙ rows.digits digit below)
 
-      by : (pawn : Bool) → is_pawn men.last.kind ≡ pawn → IsRaised 0 (Told s) (score_at t column) (slice_index row s)
+      by : (pawn : Bool) → is_pawn men.last.kind ≡ pawn → IsRaised 0 (Told s) (column_score t column) (slice_index row s)
       by false kind = let digits = piece_digits men.last.kind kind in at_digit s (omega (arith, digits.0, s_in)) (omega (arith, digits.1))
       by true kind = let digits = pawn_digits men.last.kind kind in elim (cases_lt s 8) [
         | inl low ↦ read_edge s (slice_index row s) digits.0 (inl low) (rows.edges digits.0 s s_in (inl low))
@@ -192,22 +192,28 @@ module _ (passed : Bool) (t : TableValue) (column : Column) (men : ShelfMen) (sh
         ]
       ]
 
+-- no position has no score
+pub no_score : (column : Column) → entry_score column 0 ≡ 0
+no_score columns.Mate = refl
+no_score columns.Zeroing = refl
+no_score columns.Reach = refl
+
 -- ---- rows of either layout
 
 module _ (t : TableValue) (column : Column) (men : ShelfMen) (shelf : ℕ) (side : Side) (is : IsShelf t.class shelf men) (entries loaded row : List ℕ) (entries_are : entries ≡ entries_of column t)
-    (scored : (s : ℕ) → s < 64 → slice_index row s ≡ byte_score (slice_index loaded s % 256)) where
+    (scored : (s : ℕ) → s < 64 → slice_index row s ≡ entry_score column (slice_index loaded s % 256)) where
   abbrev Row : Type 0
   Row = IsShelfRow t column men shelf side row
 
   -- a lane is the score of an entry
-  lane : (s k code : ℕ) → s < 64 → slice_index loaded s ≡ slice_index entries k → k ≡ code → slice_index row s ≡ score_at t column code
-  lane s k code s_in from at = scored s s_in ∙ ap (λ e. byte_score (e % 256)) (from ∙ ap (λ (l : List ℕ). slice_index l k) entries_are ∙ ap (slice_index (entries_of column t)) at)
+  lane : (s k code : ℕ) → s < 64 → slice_index loaded s ≡ slice_index entries k → k ≡ code → slice_index row s ≡ column_score t column code
+  lane s k code s_in from at = scored s s_in ∙ ap (λ e. entry_score column (e % 256)) (from ∙ ap (λ (l : List ℕ). slice_index l k) entries_are ∙ ap (slice_index (entries_of column t)) at)
 
   none : (s : ℕ) → s < 64 → slice_index loaded s ≡ 0 → slice_index row s ≡ 0
-  none s s_in from = scored s s_in ∙ ap (λ e. byte_score (e % 256)) from
+  none s s_in from = scored s s_in ∙ ap (λ e. entry_score column (e % 256)) from ∙ no_score column
 
   module _ (targets : has_target (material_of t.class) ≡ false) (piece : List ℕ) (len first : ℕ) (len_is : len ≡ 2 * places t.class) (first_is : first ≡ shelf * len) (piece_is : piece ≡ take (first + len - first) (drop first entries)) where
-    at_number : (s digit : ℕ) → s < 64 → digit < places t.class → slice_index loaded s ≡ slice_index piece (2 * digit + side_number side) → slice_index row s ≡ score_at t column (code_of t.class (number_in t.class shelf side digit))
+    at_number : (s digit : ℕ) → s < 64 → digit < places t.class → slice_index loaded s ≡ slice_index piece (2 * digit + side_number side) → slice_index row s ≡ column_score t column (code_of t.class (number_in t.class shelf side digit))
     at_number s digit s_in below from =
         let few = side_few side in
         lane s (first + (2 * digit + side_number side)) (code_of t.class (number_in t.class shelf side digit)) s_in (from ∙ ap (λ (l : List ℕ). slice_index l (2 * digit + side_number side)) piece_is ∙ piece_at entries first len (2 * digit + side_number side) (omega arith))

@@ -4,9 +4,9 @@ use Rattle.egt_board.specs.Setup.{Setup}
 use Rattle.egt_index.specs.Code.{Spells}
 use Rattle.egt_index.specs.Index.{IsVoid}
 use Rattle.egt_table.specs.Table.{TableValue}
-use Rattle.egt_table.specs.declared.column.Column.{Column}
-use Rattle.egt_table.specs.declared.column.Column.TheVariants.{Mate, Zeroing}
-use Rattle.egt_check.specs.declared.by_column.ByColumn.{ByColumn}
+use Rattle.egt_check.specs.declared.metric.Metric.{Metric}
+use Rattle.egt_check.specs.declared.metric.Metric.TheVariants.{Mate, Zeroing}
+use Rattle.egt_check.specs.declared.by_metric.ByMetric.{ByMetric}
 use Rattle.egt_check.specs.Judged.{Finds}
 use Rattle.egt_check.specs.Rules.{IsJudged}
 use Rattle.egt_check.specs.Score.{IsDue, number_at}
@@ -14,8 +14,8 @@ use Rattle.egt_check.specs.Tables.{Tables, ShowsOf, entry_at}
 use Rattle.egt_check.proofs.FirstRule.{judged}
 
 -- entries that are due are right
-pub right_judged : (tables : Tables) (t : TableValue) (i : ℕ) (p : Setup) → Spells t.class i p → ((q : Setup) → Spells t.class i q → q ≡ p) → ¬ IsVoid t.class i → (entries due : ByColumn) → ((column : Column) → number_at entries column ≡ entry_at t column i)
-    → ((column : Column) → IsDue (ShowsOf tables) column p (number_at due column)) → Finds Mate entries.mate entries.mate due.mate None → Finds Zeroing entries.mate entries.zeroing due.zeroing None → (column : Column) → IsJudged tables t column i None
+pub right_judged : (tables : Tables) (t : TableValue) (i : ℕ) (p : Setup) → Spells t.class i p → ((q : Setup) → Spells t.class i q → q ≡ p) → ¬ IsVoid t.class i → (entries due : ByMetric) → ((metric : Metric) → number_at entries metric ≡ entry_at t metric i)
+    → ((metric : Metric) → IsDue (ShowsOf tables) metric p (number_at due metric)) → Finds Mate entries.mate entries.mate due.mate None → Finds Zeroing entries.mate entries.zeroing due.zeroing None → (metric : Metric) → IsJudged tables t metric i None
 right_judged tables t i p spelled alone index entries due is is_due mate zeroing Mate =
     judged tables t i p spelled alone index Mate due.mate (is_due Mate) None (subst (λ (x : ℕ). Finds Mate x x due.mate None) (is Mate) mate)
 right_judged tables t i p spelled alone index entries due is is_due mate zeroing Zeroing =

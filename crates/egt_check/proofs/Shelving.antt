@@ -7,7 +7,9 @@ use Rattle.std.proofs.lemmas.List.{get_or-set_other, get_or-set_same, length-set
 use Rattle.std.proofs.lemmas.Bool.Decides.{eqb_tells}
 use Rattle.egt_class.specs.Children.{children_of}
 use Rattle.egt_table.specs.Table.{TableValue, IsTable}
-use Rattle.egt_check.specs.Library.{IsShelved, IsLibrary}
+use Rattle.egt_check.specs.declared.reject.Reject.{Reject}
+use Rattle.egt_check.specs.declared.reject.Reject.TheVariants.{Missing, NoReach, Rejected, AlreadyThere}
+use Rattle.egt_check.specs.Library.{IsLibrary, IsRefused, IsShelved, IsTurnedAway, ReachesDown}
 use Rattle.egt_check.specs.Tables.{Tables, table_at, beside, HasChildren}
 use Rattle.egt_check.specs.Truth.{IsTrueTable, HasTrueChildren}
 use Rattle.egt_check.proofs.Finding.{lower, beside_own, beside_other, beside_some}
@@ -56,6 +58,12 @@ module _ (lower_child : (c d : ℕ) → c < 36 → Contains (children_of c) d �
       let other : beside (table_at places) t d ≡ table_at places d = beside_other (table_at places) t d (apart t.class d less) in
       (u.0, other ∙ u.1, u.2, u.3)
 
+  -- the children of an accepted table have the column of the nearest mates where it has
+  pub down_beside : ReachesDown (table_at places) t → ReachesDown (beside (table_at places) t) t
+  down_beside down there d child =
+      let other : beside (table_at places) t d ≡ table_at places d = beside_other (table_at places) t d (apart t.class d (lower_child t.class d table.class_in child)) in
+      subst (λ o. IfSome o (λ u. IsSome u.reach)) (sym other) (down there d child)
+
   abbrev more : Tables
   more = table_at (set places t.class (Some t))
 
@@ -85,6 +93,13 @@ module _ (lower_child : (c d : ℕ) → c < 36 → Contains (children_of c) d �
           by (inr other) =
               subst (λ o. IfSome o (IsShelved more c)) (sym (beside_other (table_at places) t c other.0))
               (if_shelved_there (table_at places) more c (table_at places c) stays (library.shelved c below))
+
+-- a refused table is turned away where its class has none
+pub turned_away : (tables : Tables) (t : TableValue) (reject : Reject) → tables t.class ≡ None → IsRefused tables t reject → IsTurnedAway tables t reject
+turned_away tables t (Missing d) free refused = (free, refused)
+turned_away tables t (NoReach d) free refused = (free, refused)
+turned_away tables t (Rejected column i rule) free refused = (free, refused)
+turned_away tables t AlreadyThere free refused = absurd refused
 
 -- all places are free so far
 pub record AreFreeSoFar (places : Places) (n : ℕ) : Type 0 where

@@ -4,7 +4,7 @@ use Rattle.egt_board.specs.Setup.{Setup, IsAdmissible}
 use Rattle.egt_index.specs.Index.{IsIndex}
 use Rattle.egt_moves.specs.Arena.{Value, Win, Loss, Draw}
 use Rattle.egt_moves.specs.Chess.{chess}
-use Rattle.egt_table.specs.declared.column.Column.{Column}
+use Rattle.egt_check.specs.declared.metric.Metric.{Metric}
 use Rattle.egt_check.specs.declared.outcome.Outcome.{Outcome}
 use Rattle.egt_check.specs.Entry.{Shows}
 use Rattle.egt_check.specs.Facts.{Facts}
@@ -26,25 +26,25 @@ shows_once x Draw Draw a b = refl
 
 module _ (facts : Facts) (tables : Tables) (p : Setup) (ok : IsAdmissible p) where
   -- a position has one entry
-  pub one_entry : (column : Column) (x y : ℕ) → HasEntry tables column p x → HasEntry tables column p y → x ≡ y
-  one_entry column x y a b =
+  pub one_entry : (metric : Metric) (x y : ℕ) → HasEntry tables metric p x → HasEntry tables metric p y → x ≡ y
+  one_entry metric x y a b =
       let class : a.class ≡ b.class = facts.one_class p a.class b.class a.flipped b.flipped a.below b.below a.of b.of in
       let found : Some a.table ≡ Some b.table = sym a.found ∙ ap tables class ∙ b.found in
       let table : a.table ≡ b.table = cc in
       let there : IsIndex b.class p a.index = subst (λ c. IsIndex c p a.index) class a.is_index in
       let index : a.index ≡ b.index = facts.one_index p b.class a.index b.index ok there b.is_index in
-      a.is ∙ ap (λ t. entry_at t column a.index) table ∙ ap (entry_at b.table column) index ∙ sym b.is
+      a.is ∙ ap (λ t. entry_at t metric a.index) table ∙ ap (entry_at b.table metric) index ∙ sym b.is
 
   pub one_shown : IsOne (ShowsOf tables) p
   one_shown = record {
-    one = λ column v w a b. shows_once a.0 v w a.2 (subst (λ x. Shows x w) (one_entry column b.0 a.0 b.1 a.1) b.2);
-    short = λ column v a. a.2.0;
+    one = λ metric v w a b. shows_once a.0 v w a.2 (subst (λ x. Shows x w) (one_entry metric b.0 a.0 b.1 a.1) b.2);
+    short = λ metric v a. a.2.0;
   }
 
   -- the tables show of the position what its entry shows
-  pub shown_of : (column : Column) (x : ℕ) (shown : Option Outcome) → HasEntry tables column p x → IsShownBy x shown → IsShownOf (ShowsOf tables) column p shown
-  shown_of column x (Some outcome) has shows = (x, has, shows)
-  shown_of column x None has none = λ v a. none v (subst (λ y. Shows y v) (one_entry column a.0 x a.1 has) a.2)
+  pub shown_of : (metric : Metric) (x : ℕ) (shown : Option Outcome) → HasEntry tables metric p x → IsShownBy x shown → IsShownOf (ShowsOf tables) metric p shown
+  shown_of metric x (Some outcome) has shows = (x, has, shows)
+  shown_of metric x None has none = λ v a. none v (subst (λ y. Shows y v) (one_entry metric a.0 x a.1 has) a.2)
 
 -- and of each position after a step from one
 pub one_after : (facts : Facts) (tables : Tables) (p : Setup) → IsAdmissible p → (q : Setup) → chess.Move p q → IsOne (ShowsOf tables) q

@@ -1,4 +1,4 @@
--- Whole tables of classes with two men beside the kings: entries that keep the rules, the shelves of two kings more, and the tables that captures lead to.
+-- Whole tables of classes with two men beside the kings: what holds at all codes, shelf by shelf, and the tables that moves lead to.
 use Rattle.std.proofs.Common.{◌≡◌, ◌≢◌, ℕ, min, ◌+◌, ◌-◌, ◌*◌, ◌/◌, ◌%◌, ◌<◌, ◌≤◌, ◌⊎◌, Bool, ne_eqb, refl, inl, inr, Some, None, sym, ap, ◌∙◌, subst, arith}
 use Rattle.std.proofs.lemmas.Bool.{cases_lt}
 use Rattle.std.proofs.lemmas.Grind.{div_ceil_times}
@@ -18,15 +18,15 @@ use Rattle.egt_index.specs.Numbers.{code_of, number_of, places}
 use Rattle.egt_index.specs.Scales.{kind_digits}
 use Rattle.egt_index.specs.ShelfCodes.{number_in}
 use Rattle.egt_index.specs.Size.{size_of}
-use Rattle.egt_table.specs.Table.{TableValue}
-use Rattle.egt_table.specs.declared.column.Column.{Column}
-use Rattle.egt_check.specs.Rules.{IsJudged, Keeps, KeepsBelow}
+use Rattle.egt_table.specs.Table.{HasColumn, TableValue}
+use Rattle.egt_check.specs.declared.part.Part.{Part}
+use Rattle.egt_check.specs.Parts.{column_of, table_in, tables_in}
 use Rattle.egt_check.specs.Library.{IsShelved}
 use Rattle.egt_check.specs.Tables.{Tables, beside}
 use Rattle.egt_check.specs.Taken.{IsTableOf}
 use Rattle.egt_check.specs.Worth.{HasBytes}
-use Rattle.egt_check.specs.declared.rule.Rule.{Rule}
 use Rattle.egt_check.proofs.Finding.{beside_other}
+use Rattle.egt_check.proofs.NearReading.{found_in, is_table_in}
 
 -- a code of shelves that each have so many digits
 pub record IsLane (wide first many i : ℕ) : Type 0 where
@@ -64,24 +64,23 @@ lane_at kind first many i = elim (digits_are kind) [
   | inr narrow ↦ subst (λ w. first * (2 * w) ≤ i → i < (first + many) * (2 * w) → IsLane w first many i) (sym narrow) (lane_of_48 first many i)
 ]
 
--- the entries at the codes of all numbers from start on and below n keep the rules
-abbrev pub NumbersKeep : Tables → TableValue → Column → (start n : ℕ) → Type 0
-NumbersKeep tables t column start n = (k : ℕ) → start ≤ k → k < n → IsJudged tables t column (code_of t.class k) None
+-- what holds at the codes of all numbers from start on and below n
+abbrev pub NumbersKeep : (Right : ℕ → Type 0) (c start n : ℕ) → Type 0
+NumbersKeep Right c start n = (k : ℕ) → start ≤ k → k < n → Right (code_of c k)
 
-pub keeps_pair : (tables : Tables) (t : TableValue) (column : Column) (kind : Kind) (start first many : ℕ) → places t.class ≡ kind_digits kind → NumbersKeep tables t column start (first * (2 * kind_digits kind))
-    → ((x y : ℕ) (side : Side) → x < many → y < kind_digits kind → IsJudged tables t column (code_of t.class (number_in t.class (first + x) side y)) None) → NumbersKeep tables t column start ((first + many) * (2 * kind_digits kind))
-keeps_pair tables t column kind start first many wide kept judged = λ k from k_in. elim (cases_lt k (first * (2 * kind_digits kind))) [
+pub keeps_pair : (Right : ℕ → Type 0) (c : ℕ) (kind : Kind) (start first many : ℕ) → places c ≡ kind_digits kind → NumbersKeep Right c start (first * (2 * kind_digits kind))
+    → ((x y : ℕ) (side : Side) → x < many → y < kind_digits kind → Right (code_of c (number_in c (first + x) side y))) → NumbersKeep Right c start ((first + many) * (2 * kind_digits kind))
+keeps_pair Right c kind start first many wide kept judged = λ k from k_in. elim (cases_lt k (first * (2 * kind_digits kind))) [
   | inl before ↦ kept k from before
   | inr past ↦
       let lane = lane_at kind first many k past k_in in
-      let is : number_in t.class (first + lane.x) lane.side lane.y ≡ k = ap (λ w. (first + lane.x) * (2 * w) + side_number lane.side + 2 * lane.y) wide ∙ lane.is in
-      subst (λ (n : ℕ). (rule : Rule) → Keeps tables t column (code_of t.class n) rule) is (judged lane.x lane.y lane.side lane.x_in lane.y_in)
+      let is : number_in c (first + lane.x) lane.side lane.y ≡ k = ap (λ w. (first + lane.x) * (2 * w) + side_number lane.side + 2 * lane.y) wide ∙ lane.is in
+      subst (λ n. Right (code_of c n)) is (judged lane.x lane.y lane.side lane.x_in lane.y_in)
 ]
 
 -- those of the first shelves, and of as many that begin no later than where these end, are one range
-pub keeps_halves : (tables : Tables) (t : TableValue) (column : Column) (wide half first : ℕ) → half ≤ first → NumbersKeep tables t column 0 (first * wide) → NumbersKeep tables t column (half * wide) ((first + half) * wide)
-    → NumbersKeep tables t column 0 ((first + half) * wide)
-keeps_halves tables t column wide half first meet lower upper = λ k from below. elim (cases_lt k (first * wide)) [
+pub keeps_halves : (Right : ℕ → Type 0) (c wide half first : ℕ) → half ≤ first → NumbersKeep Right c 0 (first * wide) → NumbersKeep Right c (half * wide) ((first + half) * wide) → NumbersKeep Right c 0 ((first + half) * wide)
+keeps_halves Right c wide half first meet lower upper = λ k from below. elim (cases_lt k (first * wide)) [
   | inl before ↦ lower k from before
   | inr past ↦
       let met = mul-le-mul_right wide meet in
@@ -96,18 +95,21 @@ all_shelves size digits wide shelves first some same is past =
     subst (λ w. size ≤ first * (2 * w)) same (subst (λ n. size ≤ n * (2 * digits) → size ≤ first * (2 * digits)) is (λ le. omega (arith, le, more)) up)
 
 -- each code is that of its number
-pub keeps_codes : (tables : Tables) (t : TableValue) (column : Column) (n : ℕ) → ((i : ℕ) → i < size_of t.class → code_of t.class (number_of t.class i) ≡ i) → ((i : ℕ) → i < size_of t.class → number_of t.class i < size_of t.class)
-    → size_of t.class ≤ n → NumbersKeep tables t column 0 n → KeepsBelow tables t column (size_of t.class)
-keeps_codes tables t column n code within all kept i below =
+pub keeps_codes : (Right : ℕ → Type 0) (c n : ℕ) → ((i : ℕ) → i < size_of c → code_of c (number_of c i) ≡ i) → ((i : ℕ) → i < size_of c → number_of c i < size_of c) → size_of c ≤ n → NumbersKeep Right c 0 n → (i : ℕ) → i < size_of c → Right i
+keeps_codes Right c n code within all kept i below =
     let few = within i below in
-    subst (λ (k : ℕ). (rule : Rule) → Keeps tables t column k rule) (code i below) (kept (number_of t.class i) (omega arith) (omega (arith, few, all)))
+    subst Right (code i below) (kept (number_of c i) (omega arith) (omega (arith, few, all)))
 
--- the table of a class that a capture leaves, beside that of another class
-pub table_left : (tables : Tables) (t u : TableValue) (c : ℕ) (flips : Bool) (man : Man) → IsShelved tables c u → tables c ≡ Some u → u.class ≢ t.class
-    → IsLoneMan u.class (turned_man flips man) → HasBytes u → ((p : Setup) → IsBeside p (Some man) None → IsOf c flips p) → IsTableOf (beside tables t) u flips man
-table_left tables t u c flips man shelved found apart lone bytes of = record {
-  is_table = shelved.table;
-  found = beside_other tables t u.class (ne_eqb u.class t.class apart) ∙ ap tables shelved.class ∙ found;
+-- the table of a class that a move leads to, beside that of another class
+pub found_beside : (part : Part) (tables : Tables) (t u : TableValue) → u.class ≢ t.class → tables u.class ≡ Some u → HasColumn (column_of part) u → tables_in part (beside tables t) u.class ≡ Some (table_in part u)
+found_beside part tables t u apart found there = found_in part (beside tables t) u there (beside_other tables t u.class (ne_eqb u.class t.class apart) ∙ found)
+
+-- the same where a capture leaves one man
+pub table_left : (part : Part) (tables : Tables) (t u : TableValue) (c : ℕ) (flips : Bool) (man : Man) → IsShelved tables c u → tables c ≡ Some u → u.class ≢ t.class → HasColumn (column_of part) u
+    → IsLoneMan u.class (turned_man flips man) → HasBytes (table_in part u) → ((p : Setup) → IsBeside p (Some man) None → IsOf c flips p) → IsTableOf (tables_in part (beside tables t)) (table_in part u) flips man
+table_left part tables t u c flips man shelved found apart there lone bytes of = record {
+  is_table = is_table_in part u there shelved.table;
+  found = found_beside part tables t u apart (ap tables shelved.class ∙ found) there;
   bytes = bytes;
   class_of = record {
     below = shelved.table.class_in;

@@ -18,8 +18,8 @@ use Rattle.egt_lanes.proofs.Raising.{raised_as}
 use Rattle.egt_moves.specs.Legal.{Leads}
 use Rattle.egt_moves.specs.declared.chess_move.Move.{Move}
 use Rattle.egt_table.specs.Table.{TableValue}
-use Rattle.egt_table.specs.declared.column.Column.{Column}
-use Rattle.egt_table.specs.declared.column.Column.TheVariants.{Mate, Zeroing}
+use Rattle.egt_check.specs.declared.metric.Metric.{Metric}
+use Rattle.egt_check.specs.declared.metric.Metric.TheVariants.{Mate, Zeroing}
 use Rattle.egt_check.specs.Blocks.{IsBesideKing, stand_on, with_king}
 use Rattle.egt_check.specs.Facts.{Facts}
 use Rattle.egt_check.specs.Given.{AreAlike, AreGiven, HasScores, IsGiven}
@@ -89,8 +89,8 @@ module _ (facts : Facts) (turning : Turning) (tables : Tables) (p : Setup) (men 
     alike : AreAlike (entry_at t Mate i) (entry_at t Zeroing i)
     alike = is.bytes.alike i (facts.index_below q t.class i index) (λ void. void q there.admissible index)
 
-    entry : (column : Column) → HasEntry tables column q (entry_at t column i)
-    entry column = record {
+    entry : (metric : Metric) → HasEntry tables metric q (entry_at t metric i)
+    entry metric = record {
       class = t.class;
       below = is.is_table.class_in;
       flipped = flips;

@@ -17,11 +17,11 @@ use Rattle.egt_lanes.proofs.Raising.{raised_by_one, raised_is}
 use Rattle.egt_lanes.specs.Blocks.{at}
 use Rattle.egt_lanes.specs.Raised.{IsRaised}
 use Rattle.egt_table.specs.Table.{TableValue}
-use Rattle.egt_table.specs.declared.column.Column.TheVariants.{Mate}
+use Rattle.egt_table.specs.declared.column.Column.{Column}
 use Rattle.egt_check.specs.Blocks.{IsBesideKing, with_king}
 use Rattle.egt_check.specs.Taken.{AreLeftCodes}
 use Rattle.egt_check.specs.Takings.{IsPastKings, Left, left_of, stand_left}
-use Rattle.egt_check.specs.Worth.{IsRead, score_at}
+use Rattle.egt_check.specs.Worth.{IsRead, column_score}
 use Rattle.egt_check.proofs.BlockRaising.{GoneKing, raised_alike, raised_both, raised_by_none, same_beside}
 use Rattle.egt_check.proofs.QuietRaising.{raised_through}
 
@@ -55,39 +55,39 @@ abbrev pub AreGone : (c : ℕ) (flips : Bool) → ShelfMen → Side → SquareSe
 AreGone c flips men side rest b a code = GoneKing men side rest b × IsSomeTurnedCode c code flips (stand_left flips (left_of (with_king men side b) men.one a)) (other_side side)
 
 -- each row holds the scores of the squares so far, and what is left is beside the king
-pub record RowsTaken (t : TableValue) (flips : Bool) (men : ShelfMen) (side : Side) (rest : SquareSet) (out : List (List ℕ)) : Type 0 where
+pub record RowsTaken (t : TableValue) (column : Column) (flips : Bool) (men : ShelfMen) (side : Side) (rest : SquareSet) (out : List (List ℕ)) : Type 0 where
   pub long : length out ≡ 64
-  pub done : (b a : ℕ) → b < 64 → a < 64 → IsRaised 0 (AreGone t.class flips men side rest b a) (score_at t Mate) (at out b a)
+  pub done : (b a : ℕ) → b < 64 → a < 64 → IsRaised 0 (AreGone t.class flips men side rest b a) (column_score t column) (at out b a)
   pub left : (k : ℕ) → k < 64 → Has rest k → IsBesideKing men side k
 
-module _ (t : TableValue) (flips : Bool) (men : ShelfMen) (side : Side) where
-  pub taken_none : (rest : SquareSet) (out : List (List ℕ)) → length out ≡ 64 → ((a b : ℕ) → a < 64 → b < 64 → at out a b ≡ 0) → ((k : ℕ) → k < 64 → Has rest k ↔ IsBesideKing men side k) → RowsTaken t flips men side rest out
+module _ (t : TableValue) (column : Column) (flips : Bool) (men : ShelfMen) (side : Side) where
+  pub taken_none : (rest : SquareSet) (out : List (List ℕ)) → length out ≡ 64 → ((a b : ℕ) → a < 64 → b < 64 → at out a b ≡ 0) → ((k : ℕ) → k < 64 → Has rest k ↔ IsBesideKing men side k) → RowsTaken t column flips men side rest out
   taken_none rest out long zero is = record {
     long = long;
-    done = λ b a b_in a_in. subst (IsRaised 0 (AreGone t.class flips men side rest b a) (score_at t Mate)) (sym (zero b a b_in a_in))
-        (raised_by_none 0 (AreGone t.class flips men side rest b a) (score_at t Mate) (λ code h. let has = (is b b_in).1 h.0.0 in let none = h.0.1 in omega (arith, has, none)));
+    done = λ b a b_in a_in. subst (IsRaised 0 (AreGone t.class flips men side rest b a) (column_score t column)) (sym (zero b a b_in a_in))
+        (raised_by_none 0 (AreGone t.class flips men side rest b a) (column_score t column) (λ code h. let has = (is b b_in).1 h.0.0 in let none = h.0.1 in omega (arith, has, none)));
     left = λ k k_in. (is k k_in).0;
   }
 
   module _ (rest new : SquareSet) (out : List (List ℕ)) (to : ℕ) (row : List ℕ) (to_in : to < 64) (had : Has rest to) (gone : bit_at new.bits to ≡ 0) (others : (k : ℕ) → k ≢ to → bit_at new.bits k ≡ bit_at rest.bits k)
-      (read : (a : ℕ) → a < 64 → IsRead t Mate flips (stand_left flips (left_of (with_king men side to) (with_king men side to).one a)) (other_side side) (slice_index row a)) (before : RowsTaken t flips men side rest out) where
-    there : (a : ℕ) → a < 64 → IsRaised 0 (AreGone t.class flips men side new to a) (score_at t Mate) (slice_index row a)
-    there a a_in = raised_alike 0 (slice_index row a) (λ code. IsSomeTurnedCode t.class code flips (stand_left flips (left_of (with_king men side to) men.one a)) (other_side side)) (AreGone t.class flips men side new to a) (score_at t Mate)
-        (subst (λ (m : Man). IsRead t Mate flips (stand_left flips (left_of (with_king men side to) m a)) (other_side side) (slice_index row a)) (same_beside men side to).0 (read a a_in))
+      (read : (a : ℕ) → a < 64 → IsRead t column flips (stand_left flips (left_of (with_king men side to) (with_king men side to).one a)) (other_side side) (slice_index row a)) (before : RowsTaken t column flips men side rest out) where
+    there : (a : ℕ) → a < 64 → IsRaised 0 (AreGone t.class flips men side new to a) (column_score t column) (slice_index row a)
+    there a a_in = raised_alike 0 (slice_index row a) (λ code. IsSomeTurnedCode t.class code flips (stand_left flips (left_of (with_king men side to) men.one a)) (other_side side)) (AreGone t.class flips men side new to a) (column_score t column)
+        (subst (λ (m : Man). IsRead t column flips (stand_left flips (left_of (with_king men side to) m a)) (other_side side) (slice_index row a)) (same_beside men side to).0 (read a a_in))
         (λ code h. h.1) (λ code h. ((before.left to to_in had, gone), h))
 
-    pub taken_more : RowsTaken t flips men side new (set out to row)
+    pub taken_more : RowsTaken t column flips men side new (set out to row)
     taken_more = record {
       long = omega (arith, before.long, length-set {A = List ℕ});
       done = λ b a b_in a_in. elim (cases_eq b to) [
         | inl same ↦
             let now : at (set out to row) b a ≡ slice_index row a = ap (λ x. get_or x a 0) (get_or-set_at out to b row [] same (omega (arith, before.long))) in
-            subst (IsRaised 0 (AreGone t.class flips men side new b a) (score_at t Mate)) (sym now)
-            (subst (λ k. IsRaised 0 (AreGone t.class flips men side new k a) (score_at t Mate) (slice_index row a)) (sym same) (there a a_in))
+            subst (IsRaised 0 (AreGone t.class flips men side new b a) (column_score t column)) (sym now)
+            (subst (λ k. IsRaised 0 (AreGone t.class flips men side new k a) (column_score t column) (slice_index row a)) (sym same) (there a a_in))
         | inr other ↦
             let kept : at (set out to row) b a ≡ at out b a = ap (λ x. get_or x a 0) (get_or-set_other out to b row [] other) in
-            subst (IsRaised 0 (AreGone t.class flips men side new b a) (score_at t Mate)) (sym kept)
-            (raised_alike 0 (at out b a) (AreGone t.class flips men side rest b a) (AreGone t.class flips men side new b a) (score_at t Mate) (before.done b a b_in a_in)
+            subst (IsRaised 0 (AreGone t.class flips men side new b a) (column_score t column)) (sym kept)
+            (raised_alike 0 (at out b a) (AreGone t.class flips men side rest b a) (AreGone t.class flips men side new b a) (column_score t column) (before.done b a b_in a_in)
             (λ code h. ((h.0.0, sym (others b other) ∙ h.0.1), h.1)) (λ code h. ((h.0.0, others b other ∙ h.0.1), h.1)))
       ];
       left = λ k k_in has. elim (cases_eq k to) [
@@ -96,16 +96,16 @@ module _ (t : TableValue) (flips : Bool) (men : ShelfMen) (side : Side) where
       ];
     }
 
-  pub taken_all : (rest : SquareSet) (out : List (List ℕ)) → RowsTaken t flips men side rest out → ((k : ℕ) → bit_at rest.bits k ≡ 0) → (b a : ℕ) → b < 64 → a < 64 → IsRaised 0 (AreBeside t.class flips men side b a) (score_at t Mate) (at out b a)
-  taken_all rest out rows none b a b_in a_in = raised_alike 0 (at out b a) (AreGone t.class flips men side rest b a) (AreBeside t.class flips men side b a) (score_at t Mate) (rows.done b a b_in a_in)
+  pub taken_all : (rest : SquareSet) (out : List (List ℕ)) → RowsTaken t column flips men side rest out → ((k : ℕ) → bit_at rest.bits k ≡ 0) → (b a : ℕ) → b < 64 → a < 64 → IsRaised 0 (AreBeside t.class flips men side b a) (column_score t column) (at out b a)
+  taken_all rest out rows none b a b_in a_in = raised_alike 0 (at out b a) (AreGone t.class flips men side rest b a) (AreBeside t.class flips men side b a) (column_score t column) (rows.done b a b_in a_in)
       (λ code h. ((h.0, none b), h.1)) (λ code h. (h.0.0, h.1))
 
   -- ---- by either
 
   module _ (a b : ℕ) where
     -- the rows taken into nothing
-    pub king_raised : (low u v : ℕ) → low ≡ 0 → v ≡ max low u → IsRaised 0 (AreBeside t.class flips men side b a) (score_at t Mate) u → IsRaised 0 (AreBeside t.class flips men side b a) (score_at t Mate) v
-    king_raised low u v none is raised = raised_is 0 u v (AreBeside t.class flips men side b a) (score_at t Mate) (omega (arith, none, is)) raised
+    pub king_raised : (low u v : ℕ) → low ≡ 0 → v ≡ max low u → IsRaised 0 (AreBeside t.class flips men side b a) (column_score t column) u → IsRaised 0 (AreBeside t.class flips men side b a) (column_score t column) v
+    king_raised low u v none is raised = raised_is 0 u v (AreBeside t.class flips men side b a) (column_score t column) (omega (arith, none, is)) raised
 
     by_king : men.last.side ≡ other_side side → (code : ℕ) → AreBeside t.class flips men side b a code → AreLeftCodes t.class flips men side a b code
     by_king foe code h = (left_of (with_king men side b) men.one a, inl (foe, h.0, refl), h.1)
@@ -114,20 +114,20 @@ module _ (t : TableValue) (flips : Bool) (men : ShelfMen) (side : Side) where
     told code left to same is = subst (λ (l : Left). IsSomeTurnedCode t.class code flips (stand_left flips l) (other_side side)) same is
 
     -- the first man takes nobody
-    pub king_takes : (v : ℕ) → men.last.side ≡ other_side side → men.one.side ≢ side → IsRaised 0 (AreBeside t.class flips men side b a) (score_at t Mate) v → IsRaised 0 (AreLeftCodes t.class flips men side a b) (score_at t Mate) v
-    king_takes v foe not raised = raised_alike 0 v (AreBeside t.class flips men side b a) (AreLeftCodes t.class flips men side a b) (score_at t Mate) raised
+    pub king_takes : (v : ℕ) → men.last.side ≡ other_side side → men.one.side ≢ side → IsRaised 0 (AreBeside t.class flips men side b a) (column_score t column) v → IsRaised 0 (AreLeftCodes t.class flips men side a b) (column_score t column) v
+    king_takes v foe not raised = raised_alike 0 v (AreBeside t.class flips men side b a) (AreLeftCodes t.class flips men side a b) (column_score t column) raised
         (λ code h. elim h.1 [
           | inl king ↦ (king.1, told code h.0 (left_of (with_king men side b) men.one a) king.2 h.2)
           | inr one ↦ absurd (not one.0)
         ])
         (by_king foe)
 
-    pub both_take : (low high : ℕ) (scores : List ℕ) → b < 64 → men.last.side ≡ other_side side → men.one.side ≡ side → IsRaised 0 (AreBeside t.class flips men side b a) (score_at t Mate) low
-        → ((s : ℕ) → s < 64 → IsRead t Mate flips (stand_left flips (left_of men men.one s)) (other_side side) (slice_index scores s)) → IsRaised low (IsTake men a b) (slice_index scores) high
-        → IsRaised 0 (AreLeftCodes t.class flips men side a b) (score_at t Mate) high
+    pub both_take : (low high : ℕ) (scores : List ℕ) → b < 64 → men.last.side ≡ other_side side → men.one.side ≡ side → IsRaised 0 (AreBeside t.class flips men side b a) (column_score t column) low
+        → ((s : ℕ) → s < 64 → IsRead t column flips (stand_left flips (left_of men men.one s)) (other_side side) (slice_index scores s)) → IsRaised low (IsTake men a b) (slice_index scores) high
+        → IsRaised 0 (AreLeftCodes t.class flips men side a b) (column_score t column) high
     both_take low high scores b_in foe own king read first = raised_both 0 low high (AreBeside t.class flips men side b a)
-        (λ code. (s : ℕ) × IsTake men a b s × IsSomeTurnedCode t.class code flips (stand_left flips (left_of men men.one s)) (other_side side)) (AreLeftCodes t.class flips men side a b) (score_at t Mate) king
-        (raised_through low high (IsTake men a b) (λ s code. IsSomeTurnedCode t.class code flips (stand_left flips (left_of men men.one s)) (other_side side)) (score_at t Mate) (slice_index scores)
+        (λ code. (s : ℕ) × IsTake men a b s × IsSomeTurnedCode t.class code flips (stand_left flips (left_of men men.one s)) (other_side side)) (AreLeftCodes t.class flips men side a b) (column_score t column) king
+        (raised_through low high (IsTake men a b) (λ s code. IsSomeTurnedCode t.class code flips (stand_left flips (left_of men men.one s)) (other_side side)) (column_score t column) (slice_index scores)
         (λ s take. read s (omega (arith, take.0, b_in))) first)
         (λ code h. elim h.1 [
           | inl king ↦ inl (king.1, told code h.0 (left_of (with_king men side b) men.one a) king.2 h.2)

@@ -5,47 +5,47 @@ use Rattle.egt_board.specs.DecidedSetup.{decided_admissible}
 use Rattle.egt_board.specs.Setup.{Setup, IsAdmissible}
 use Rattle.egt_index.specs.Index.{IsIndex}
 use Rattle.egt_moves.specs.Arena.{Value, Draw}
-use Rattle.egt_table.specs.declared.column.Column.{Column}
+use Rattle.egt_check.specs.declared.metric.Metric.{Metric}
 use Rattle.egt_table.specs.Table.{TableValue}
 use Rattle.egt_check.specs.Facts.{Facts}
 use Rattle.egt_check.specs.Tables.{Tables, entry_at, HasEntry, ShowsOf}
 use Rattle.egt_check.specs.Reading.{read, read_shown}
 
 module _ (facts : Facts) (tables : Tables) where
-  value_in : Column → ℕ → Option TableValue → Value
-  value_in column i None = Draw
-  value_in column i (Some t) = read (entry_at t column i)
+  value_in : Metric → ℕ → Option TableValue → Value
+  value_in metric i None = Draw
+  value_in metric i (Some t) = read (entry_at t metric i)
 
-  value_of : Column → (p : Setup) → Decided (IsAdmissible p) → Value
-  value_of column p (inl ok) =
+  value_of : Metric → (p : Setup) → Decided (IsAdmissible p) → Value
+  value_of metric p (inl ok) =
       let own = facts.classes p ok in
-      value_in column (facts.some_index p own.0 own.1 own.2 ok own.3).0 (tables own.0)
-  value_of column p (inr not) = Draw
+      value_in metric (facts.some_index p own.0 own.1 own.2 ok own.3).0 (tables own.0)
+  value_of metric p (inr not) = Draw
 
   -- what the position's entry shows; a draw where there is no entry, or it shows nothing
-  pub value_at : Column → Setup → Value
-  value_at column p = value_of column p (decided_admissible p)
+  pub value_at : Metric → Setup → Value
+  value_at metric p = value_of metric p (decided_admissible p)
 
-  found_value : (column : Column) (i j : ℕ) (o : Option TableValue) (t : TableValue) → o ≡ Some t → i ≡ j → value_in column i o ≡ read (entry_at t column j)
+  found_value : (metric : Metric) (i j : ℕ) (o : Option TableValue) (t : TableValue) → o ≡ Some t → i ≡ j → value_in metric i o ≡ read (entry_at t metric j)
   unfolding value_in
-  found_value column i j None t found same = absurd (let x : None ≡ Some t = found in cc)
-  found_value column i j (Some own) t found same = let e : own ≡ t = (let x : Some own ≡ Some t = found in cc) in ap (λ (x : TableValue). read (entry_at x column i)) e ∙ ap (λ k. read (entry_at t column k)) same
+  found_value metric i j None t found same = absurd (let x : None ≡ Some t = found in cc)
+  found_value metric i j (Some own) t found same = let e : own ≡ t = (let x : Some own ≡ Some t = found in cc) in ap (λ (x : TableValue). read (entry_at x metric i)) e ∙ ap (λ k. read (entry_at t metric k)) same
 
-  entry_value : (column : Column) (p : Setup) (x : ℕ) → IsAdmissible p → (d : Decided (IsAdmissible p)) → HasEntry tables column p x → value_of column p d ≡ read x
+  entry_value : (metric : Metric) (p : Setup) (x : ℕ) → IsAdmissible p → (d : Decided (IsAdmissible p)) → HasEntry tables metric p x → value_of metric p d ≡ read x
   unfolding value_of
-  entry_value column p x ok (inr not) e = absurd (not ok)
-  entry_value column p x ok (inl own_ok) e =
+  entry_value metric p x ok (inr not) e = absurd (not ok)
+  entry_value metric p x ok (inl own_ok) e =
       let own = facts.classes p own_ok in
       let index = facts.some_index p own.0 own.1 own.2 own_ok own.3 in
       let same : own.0 ≡ e.class = facts.one_class p own.0 e.class own.1 e.flipped own.2 e.below own.3 e.of in
       let one : index.0 ≡ e.index = facts.one_index p e.class index.0 e.index ok (subst (λ c. IsIndex c p index.0) same index.1) e.is_index in
-      found_value column index.0 e.index (tables own.0) e.table (ap tables same ∙ e.found) one ∙ ap read (sym e.is)
+      found_value metric index.0 e.index (tables own.0) e.table (ap tables same ∙ e.found) one ∙ ap read (sym e.is)
 
   -- what is shown of a position is told
-  pub shown_told : (column : Column) (p : Setup) (v : Value) → IsAdmissible p → ShowsOf tables column p v → value_at column p ≡ v
+  pub shown_told : (metric : Metric) (p : Setup) (v : Value) → IsAdmissible p → ShowsOf tables metric p v → value_at metric p ≡ v
   unfolding value_at
-  shown_told column p v ok shown = entry_value column p shown.0 ok (decided_admissible p) shown.1 ∙ read_shown shown.0 v shown.2
+  shown_told metric p v ok shown = entry_value metric p shown.0 ok (decided_admissible p) shown.1 ∙ read_shown shown.0 v shown.2
 
   -- and what is told is shown, of a position of which anything is shown
-  pub told_shown : (column : Column) (p : Setup) (v : Value) → IsAdmissible p → (w : Value) × ShowsOf tables column p w → value_at column p ≡ v → ShowsOf tables column p v
-  told_shown column p v ok some told = subst (ShowsOf tables column p) (sym (shown_told column p some.0 ok some.1) ∙ told) some.1
+  pub told_shown : (metric : Metric) (p : Setup) (v : Value) → IsAdmissible p → (w : Value) × ShowsOf tables metric p w → value_at metric p ≡ v → ShowsOf tables metric p v
+  told_shown metric p v ok some told = subst (ShowsOf tables metric p) (sym (shown_told metric p some.0 ok some.1) ∙ told) some.1

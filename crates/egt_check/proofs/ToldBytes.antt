@@ -5,8 +5,8 @@ use Rattle.egt_index.specs.Index.{IsVoid}
 use Rattle.egt_index.specs.Size.{size_of}
 use Rattle.egt_lanes.specs.Alike.{AreDecided, AreVoidOrAlike}
 use Rattle.egt_table.specs.Table.{TableValue}
-use Rattle.egt_table.specs.declared.column.Column.{Column}
-use Rattle.egt_table.specs.declared.column.Column.TheVariants.{Mate, Zeroing}
+use Rattle.egt_check.specs.declared.metric.Metric.{Metric}
+use Rattle.egt_check.specs.declared.metric.Metric.TheVariants.{Mate, Zeroing}
 use Rattle.egt_check.specs.Given.{AreAlike, IsKnown}
 use Rattle.egt_check.specs.Reading.{shown_range}
 use Rattle.egt_check.specs.Tables.{entry_at}
@@ -57,7 +57,7 @@ module _ (t : TableValue) (told : AreAllAlike t) (voids : TellsVoids t) where
     | inr some ↦ absurd ((voids i below).index some void)
   ]
 
-  void_entry : (column : Column) (i : ℕ) → i < size_of t.class → IsVoid t.class i → entry_at t column i ≡ 0
+  void_entry : (metric : Metric) (i : ℕ) → i < size_of t.class → IsVoid t.class i → entry_at t metric i ≡ 0
   void_entry Mate i below void = void_mate i below void
   void_entry Zeroing i below void = none_there (entry_at t Mate i) (entry_at t Zeroing i) (told i below) (void_mate i below void)
 

@@ -14,8 +14,8 @@ use Rattle.egt_index.specs.Size.{size_of}
 use Rattle.egt_moves.specs.Arena.{Value, Win, Loss, Draw}
 use Rattle.egt_moves.specs.Chess.{chess}
 use Rattle.egt_moves.specs.Entries as entries
-use Rattle.egt_table.specs.declared.column.Column.{Column}
-use Rattle.egt_table.specs.declared.column.Column.TheVariants.{Mate, Zeroing}
+use Rattle.egt_check.specs.declared.metric.Metric.{Metric}
+use Rattle.egt_check.specs.declared.metric.Metric.TheVariants.{Mate, Zeroing}
 use Rattle.egt_table.specs.Table.{TableValue, IsTable}
 use Rattle.egt_check.specs.declared.rule.Rule.{Rule}
 use Rattle.egt_check.specs.declared.rule.Rule.TheVariants as rules
@@ -23,7 +23,7 @@ use Rattle.egt_check.specs.Alike.{StepAlike}
 use Rattle.egt_check.specs.Entry.{Shows}
 use Rattle.egt_check.specs.Facts.{Facts}
 use Rattle.egt_check.specs.Fits.{Shown, FitsBeside}
-use Rattle.egt_check.specs.Rules.{Fits, Keeps, KeepsRules}
+use Rattle.egt_check.specs.Rules.{Fits, Keeps, KeepsBelow}
 use Rattle.egt_check.specs.Tables.{Tables, entry_at, HasEntry, ShowsOf}
 use Rattle.egt_check.specs.Truth.{Tells, IsTrueTable, HasTrueChildren}
 use Rattle.egt_check.proofs.Alike.{settled_image_alike, indexed_class, images_show_alike}
@@ -33,11 +33,11 @@ use Rattle.egt_check.proofs.Told.{value_at, shown_told, told_shown}
 
 module _ (facts : Facts) (tables : Tables) (t : TableValue) (sized : IsTable t) (here : tables t.class ≡ Some t) (children : HasTrueChildren tables t.class) where
   -- a position of the table's class
-  abbrev Own : Setup → Type 0
+  abbrev pub Own : Setup → Type 0
   Own p = IsAdmissible p × ((flipped : Bool) × IsOf t.class flipped p)
 
   -- a position of a child
-  abbrev Child : Setup → Type 0
+  abbrev pub Child : Setup → Type 0
   Child q = IsAdmissible q × ((d : ℕ) × (flipped : Bool) × Contains (children_of t.class) d × IsOf d flipped q)
 
   decided_own : (p : Setup) → Decided (Own p)
@@ -53,48 +53,48 @@ module _ (facts : Facts) (tables : Tables) (t : TableValue) (sized : IsTable t) 
       of_admissible (inl ok) = of_class ok (facts.classes p ok)
       of_admissible (inr not) = inr (λ h. not h.0)
 
-  own : Setup → Bool
+  pub own : Setup → Bool
   own p = tells (decided_own p)
 
-  is_own : (p : Setup) → Own p → IsTrue (own p)
+  pub is_own : (p : Setup) → Own p → IsTrue (own p)
   unfolding own
   is_own p h = tells_where (decided_own p) h
 
-  owned : (p : Setup) → IsTrue (own p) → Own p
+  pub owned : (p : Setup) → IsTrue (own p) → Own p
   unfolding own
   owned p h = tells_so (decided_own p) h
 
   -- a step stays in the class or leads to a child
-  step : (p q : Setup) → Own p → chess.Move p q → Own q ⊎ Child q
+  pub step : (p q : Setup) → Own p → chess.Move p q → Own q ⊎ Child q
   step p q o m =
       let ok = facts.step_admissible p q m.0 o.0 m.1 in
       ⊎_map (λ of. (ok, (o.1.0, of))) (λ child. (ok, child)) (facts.step_class p q m.0 t.class o.1.0 sized.class_in o.0 o.1.1 m.1)
 
   -- a table's entry of a position of its class
-  entry_there : (column : Column) (u : TableValue) (d : ℕ) (flipped : Bool) (p : Setup) (i : ℕ) → d < 36 → tables d ≡ Some u → IsOf d flipped p → IsIndex d p i → HasEntry tables column p (entry_at u column i)
-  entry_there column u d flipped p i d_in found of is = record { class = d; below = d_in; flipped = flipped; of = of; table = u; found = found; index = i; is_index = is; is = refl }
+  entry_there : (metric : Metric) (u : TableValue) (d : ℕ) (flipped : Bool) (p : Setup) (i : ℕ) → d < 36 → tables d ≡ Some u → IsOf d flipped p → IsIndex d p i → HasEntry tables metric p (entry_at u metric i)
+  entry_there metric u d flipped p i d_in found of is = record { class = d; below = d_in; flipped = flipped; of = of; table = u; found = found; index = i; is_index = is; is = refl }
 
   -- what a true table shows
-  true_shown : (column : Column) (u : TableValue) (d : ℕ) (flipped : Bool) (p : Setup) → d < 36 → tables d ≡ Some u → u.class ≡ d → IsTrueTable u → IsAdmissible p → IsOf d flipped p →
-      (v : Value) × Tells column p v × ShowsOf tables column p v
-  true_shown column u d flipped p d_in found class truth ok of =
+  true_shown : (metric : Metric) (u : TableValue) (d : ℕ) (flipped : Bool) (p : Setup) → d < 36 → tables d ≡ Some u → u.class ≡ d → IsTrueTable u → IsAdmissible p → IsOf d flipped p →
+      (v : Value) × Tells metric p v × ShowsOf tables metric p v
+  true_shown metric u d flipped p d_in found class truth ok of =
       let index = facts.some_index p d flipped d_in ok of in
-      let tells = truth.true column p index.0 ok (subst (λ c. IsIndex c p index.0) (sym class) index.1) in
-      (tells.0, tells.1, (entry_at u column index.0, entry_there column u d flipped p index.0 d_in found of index.1, tells.2))
+      let tells = truth.true metric p index.0 ok (subst (λ c. IsIndex c p index.0) (sym class) index.1) in
+      (tells.0, tells.1, (entry_at u metric index.0, entry_there metric u d flipped p index.0 d_in found of index.1, tells.2))
 
-  child_shown : (column : Column) (q : Setup) → Child q → (v : Value) × Tells column q v × ShowsOf tables column q v
-  child_shown column q child =
+  child_shown : (metric : Metric) (q : Setup) → Child q → (v : Value) × Tells metric q v × ShowsOf tables metric q v
+  child_shown metric q child =
       let d = child.1.0 in
       let u = children d child.1.2 in
       let below = facts.child_below t.class d sized.class_in child.1.2 in
-      true_shown column u.0 d child.1.1 q (omega (arith, below, sized.class_in)) u.1 u.2 u.3 child.0 child.1.3
+      true_shown metric u.0 d child.1.1 q (omega (arith, below, sized.class_in)) u.1 u.2 u.3 child.0 child.1.3
 
   -- what is told of positions
   told : Shown
-  told column q v = value_at facts tables column q ≡ v
+  told metric q v = value_at facts tables metric q ≡ v
 
-  child_tells : (column : Column) (q : Setup) → Child q → Tells column q (value_at facts tables column q)
-  child_tells column q child = let s = child_shown column q child in subst (Tells column q) (sym (shown_told facts tables column q s.0 child.0 s.2)) s.1
+  child_tells : (metric : Metric) (q : Setup) → Child q → Tells metric q (value_at facts tables metric q)
+  child_tells metric q child = let s = child_shown metric q child in subst (Tells metric q) (sym (shown_told facts tables metric q s.0 child.0 s.2)) s.1
 
   -- checkmate leaves no move
   mate_ends : (p : Setup) → chess.Checkmate p → (q : Setup) → chess.Move p q → ⊥
@@ -134,21 +134,21 @@ module _ (facts : Facts) (tables : Tables) (t : TableValue) (sized : IsTable t) 
 
   -- something is shown of each position of the class
   abbrev AllShown : Type 0
-  AllShown = (column : Column) (p : Setup) → Own p → (v : Value) × ShowsOf tables column p v
+  AllShown = (metric : Metric) (p : Setup) → Own p → (v : Value) × ShowsOf tables metric p v
 
   module _ (all : AllShown) where
-    next_shown : (column : Column) (p q : Setup) → Own p → chess.Move p q → (v : Value) × ShowsOf tables column q v
-    next_shown column p q o m = ⊎_elim (all column q) (λ child. let s = child_shown column q child in (s.0, s.2)) (step p q o m)
+    next_shown : (metric : Metric) (p q : Setup) → Own p → chess.Move p q → (v : Value) × ShowsOf tables metric q v
+    next_shown metric p q o m = ⊎_elim (all metric q) (λ child. let s = child_shown metric q child in (s.0, s.2)) (step p q o m)
 
     -- what is shown of a successor is told of it, and of its images
-    shown_alike : (p q q' : Setup) → Own p → chess.Move p q → (IsAdmissible q → (column : Column) (v : Value) → ShowsOf tables column q v ↔ ShowsOf tables column q' v) → ShownAlike (ShowsOf tables) told q' q
+    shown_alike : (p q q' : Setup) → Own p → chess.Move p q → (IsAdmissible q → (metric : Metric) (v : Value) → ShowsOf tables metric q v ↔ ShowsOf tables metric q' v) → ShownAlike (ShowsOf tables) told q' q
     unfolding told
-    shown_alike p q q' o m same column v =
+    shown_alike p q q' o m same metric v =
         let ok = facts.step_admissible p q m.0 o.0 m.1 in
-        (λ shown. shown_told facts tables column q v ok ((same ok column v).1 shown), λ tells. (same ok column v).0 (told_shown facts tables column q v ok (next_shown column p q o m) tells))
+        (λ shown. shown_told facts tables metric q v ok ((same ok metric v).1 shown), λ tells. (same ok metric v).0 (told_shown facts tables metric q v ok (next_shown metric p q o m) tells))
 
     turned : (q q' : Setup) → ShownAlike (ShowsOf tables) told q' q → ShownAlike told (ShowsOf tables) q q'
-    turned q q' alike column v = ((alike column v).1, (alike column v).0)
+    turned q q' alike metric v = ((alike metric v).1, (alike metric v).0)
 
     -- a position of the class plays like one whose steps lead to images
     plays_like : (p p' : Setup) → Own p → IsAdmissible p' → StepAlike p p' → PlaysLike (ShowsOf tables) told p' p
@@ -156,43 +156,43 @@ module _ (facts : Facts) (tables : Tables) (t : TableValue) (sized : IsTable t) 
       checkmate = (alike.checkmate.1, alike.checkmate.0);
       there = λ q' m'.
           let s = alike.back q' m' in
-          let same = λ (column : Column) (v : Value). images_show_alike facts tables column v q' s.0 (facts.step_admissible p' q' m'.0 ok' m'.1) s.3 in
-          (s.0, s.1, s.2, shown_alike p s.0 q' o s.1 (λ ok column v. ((same column v).1, (same column v).0)));
+          let same = λ (metric : Metric) (v : Value). images_show_alike facts tables metric v q' s.0 (facts.step_admissible p' q' m'.0 ok' m'.1) s.3 in
+          (s.0, s.1, s.2, shown_alike p s.0 q' o s.1 (λ ok metric v. ((same metric v).1, (same metric v).0)));
       back = λ q m.
           let s = alike.there q m in
-          (s.0, s.1, s.2, turned q s.0 (shown_alike p q s.0 o m (λ ok column v. images_show_alike facts tables column v q s.0 ok s.3)));
+          (s.0, s.1, s.2, turned q s.0 (shown_alike p q s.0 o m (λ ok metric v. images_show_alike facts tables metric v q s.0 ok s.3)));
     }
 
   -- a table that keeps the rules is true
-  module _ (keeps : KeepsRules tables t) where
-    own_shown : (column : Column) (p : Setup) (i : ℕ) → IsAdmissible p → IsIndex t.class p i → (v : Value) × Shows (entry_at t column i) v
-    own_shown column p i ok is =
+  module _ (keeps : (metric : Metric) → KeepsBelow tables t metric (size_of t.class)) where
+    own_shown : (metric : Metric) (p : Setup) (i : ℕ) → IsAdmissible p → IsIndex t.class p i → (v : Value) × Shows (entry_at t metric i) v
+    own_shown metric p i ok is =
         let below = facts.index_below p t.class i is in
-        let void : Keeps tables t column i rules.Void = keeps column i below rules.Void in
-        let range : Keeps tables t column i rules.Range = keeps column i below rules.Range in
-        in_range (entry_at t column i) (λ e. void.0 e p ok is) range.0 range.1
+        let void : Keeps tables t metric i rules.Void = keeps metric i below rules.Void in
+        let range : Keeps tables t metric i rules.Range = keeps metric i below rules.Range in
+        in_range (entry_at t metric i) (λ e. void.0 e p ok is) range.0 range.1
 
     all_shown : AllShown
-    all_shown column p o =
+    all_shown metric p o =
         let index = facts.some_index p t.class o.1.0 sized.class_in o.0 o.1.1 in
-        let s = own_shown column p index.0 o.0 index.1 in
-        (s.0, (entry_at t column index.0, entry_there column t t.class o.1.0 p index.0 sized.class_in here o.1.1 index.1, s.1))
+        let s = own_shown metric p index.0 o.0 index.1 in
+        (s.0, (entry_at t metric index.0, entry_there metric t t.class o.1.0 p index.0 sized.class_in here o.1.1 index.1, s.1))
 
-    by_rule : (column : Column) (i : ℕ) (v : Value) → i < size_of t.class → Fits tables t column i v
-    by_rule column i (Win n) below = (keeps column i below rules.Win) n
-    by_rule column i (Loss n) below = (keeps column i below rules.Loss) n
-    by_rule column i Draw below = keeps column i below rules.Draw
+    by_rule : (metric : Metric) (i : ℕ) (v : Value) → i < size_of t.class → Fits tables t metric i v
+    by_rule metric i (Win n) below = (keeps metric i below rules.Win) n
+    by_rule metric i (Loss n) below = (keeps metric i below rules.Loss) n
+    by_rule metric i Draw below = keeps metric i below rules.Draw
 
-    own_fits : (column : Column) (p : Setup) → Own p → FitsBeside told column p (value_at facts tables column p)
-    own_fits column p o =
+    own_fits : (metric : Metric) (p : Setup) → Own p → FitsBeside told metric p (value_at facts tables metric p)
+    own_fits metric p o =
         let index = facts.some_index p t.class o.1.0 sized.class_in o.0 o.1.1 in
         let is = index.1 in
-        let s = own_shown column p index.0 o.0 is in
+        let s = own_shown metric p index.0 o.0 is in
         let below = facts.index_below p t.class index.0 is in
-        let fits = by_rule column index.0 s.0 below s.1 is.image is.spells in
+        let fits = by_rule metric index.0 s.0 below s.1 is.image is.spells in
         let alike = settled_image_alike facts p is.settled is.image o.0 is.settles is.images in
-        let tells = shown_told facts tables column p s.0 o.0 (entry_at t column index.0, entry_there column t t.class o.1.0 p index.0 sized.class_in here o.1.1 is, s.1) in
-        subst (FitsBeside told column p) (sym tells) (carry (ShowsOf tables) told is.image p (plays_like all_shown p is.image o is.spells.admissible alike) column s.0 fits)
+        let tells = shown_told facts tables metric p s.0 o.0 (entry_at t metric index.0, entry_there metric t t.class o.1.0 p index.0 sized.class_in here o.1.1 is, s.1) in
+        subst (FitsBeside told metric p) (sym tells) (carry (ShowsOf tables) told is.image p (plays_like all_shown p is.image o is.spells.admissible alike) metric s.0 fits)
 
     agree : (p : Setup) → Own p → entries.SameKind (value_at facts tables Mate p) (value_at facts tables Zeroing p)
     agree p o =
@@ -201,7 +201,7 @@ module _ (facts : Facts) (tables : Tables) (t : TableValue) (sized : IsTable t) 
         let zeroing = own_shown Zeroing p index.0 o.0 index.1 in
         let below = facts.index_below p t.class index.0 index.1 in
         let kind : Keeps tables t Zeroing index.0 rules.Kind = keeps Zeroing index.0 below rules.Kind in
-        let there = λ (column : Column). entry_there column t t.class o.1.0 p index.0 sized.class_in here o.1.1 index.1 in
+        let there = λ (metric : Metric). entry_there metric t t.class o.1.0 p index.0 sized.class_in here o.1.1 index.1 in
         subst (λ v. entries.SameKind v (value_at facts tables Zeroing p)) (sym (shown_told facts tables Mate p mate.0 o.0 (entry_at t Mate index.0, there Mate, mate.1)))
         (subst (entries.SameKind mate.0) (sym (shown_told facts tables Zeroing p zeroing.0 o.0 (entry_at t Zeroing index.0, there Zeroing, zeroing.1))) (kind mate.0 zeroing.0 mate.1 zeroing.1))
 
@@ -219,36 +219,33 @@ module _ (facts : Facts) (tables : Tables) (t : TableValue) (sized : IsTable t) 
       fits = λ p o. fits_zeroing p (value_at facts tables Zeroing p) (own_fits Zeroing p (owned p o));
     }
 
-    tells_true : (column : Column) (p : Setup) → Own p → Tells column p (value_at facts tables column p)
+    tells_true : (metric : Metric) (p : Setup) → Own p → Tells metric p (value_at facts tables metric p)
     tells_true Mate p o = facts.values_by_rules own (value_at facts tables Mate) judged p (is_own p o)
     tells_true Zeroing p o = facts.distances_by_rules own (value_at facts tables Mate) (value_at facts tables Zeroing) judged zeroing_judged p (is_own p o)
 
-    entry_true : (column : Column) (p : Setup) (i : ℕ) → IsAdmissible p → IsIndex t.class p i → (v : Value) × Tells column p v × Shows (entry_at t column i) v
-    entry_true column p i ok is =
+    pub entry_true : (metric : Metric) (p : Setup) (i : ℕ) → IsAdmissible p → IsIndex t.class p i → (v : Value) × Tells metric p v × Shows (entry_at t metric i) v
+    entry_true metric p i ok is =
         let of = indexed_class facts t.class i p ok is in
-        let s = own_shown column p i ok is in
-        let shown = shown_told facts tables column p s.0 ok (entry_at t column i, entry_there column t t.class of.0 p i sized.class_in here of.1 is, s.1) in
-        (s.0, subst (Tells column p) shown (tells_true column p (ok, of)), s.1)
+        let s = own_shown metric p i ok is in
+        let shown = shown_told facts tables metric p s.0 ok (entry_at t metric i, entry_there metric t t.class of.0 p i sized.class_in here of.1 is, s.1) in
+        (s.0, subst (Tells metric p) shown (tells_true metric p (ok, of)), s.1)
 
-    pub kept_is_true : IsTrueTable t
-    kept_is_true = record {
-      void = λ column i below void. (let rule : Keeps tables t column i rules.Void = keeps column i below rules.Void in rule.1 void);
-      true = entry_true;
-    }
+    pub void_true : (metric : Metric) (i : ℕ) → i < size_of t.class → IsVoid t.class i → entry_at t metric i ≡ 0
+    void_true metric i below void = let rule : Keeps tables t metric i rules.Void = keeps metric i below rules.Void in rule.1 void
 
   -- a true table keeps the rules
   module _ (truth : IsTrueTable t) where
-    true_own : (column : Column) (p : Setup) → Own p → (v : Value) × Tells column p v × ShowsOf tables column p v
-    true_own column p o = true_shown column t t.class o.1.0 p sized.class_in here refl truth o.0 o.1.1
+    true_own : (metric : Metric) (p : Setup) → Own p → (v : Value) × Tells metric p v × ShowsOf tables metric p v
+    true_own metric p o = true_shown metric t t.class o.1.0 p sized.class_in here refl truth o.0 o.1.1
 
-    own_tells : (column : Column) (p : Setup) → Own p → Tells column p (value_at facts tables column p)
-    own_tells column p o = let s = true_own column p o in subst (Tells column p) (sym (shown_told facts tables column p s.0 o.0 s.2)) s.1
+    own_tells : (metric : Metric) (p : Setup) → Own p → Tells metric p (value_at facts tables metric p)
+    own_tells metric p o = let s = true_own metric p o in subst (Tells metric p) (sym (shown_told facts tables metric p s.0 o.0 s.2)) s.1
 
     all_true : AllShown
-    all_true column p o = let s = true_own column p o in (s.0, s.2)
+    all_true metric p o = let s = true_own metric p o in (s.0, s.2)
 
-    true_over : (column : Column) (p q : Setup) → IsTrue (own p) → chess.Move p q → IsTrue (own q) ⊎ Tells column q (value_at facts tables column q)
-    true_over column p q o m = ⊎_map (is_own q) (child_tells column q) (step p q (owned p o) m)
+    true_over : (metric : Metric) (p q : Setup) → IsTrue (own p) → chess.Move p q → IsTrue (own q) ⊎ Tells metric q (value_at facts tables metric q)
+    true_over metric p q o m = ⊎_map (is_own q) (child_tells metric q) (step p q (owned p o) m)
 
     true_judged : entries.JudgedOver chess (λ p. IsTrue (own p)) (value_at facts tables Mate)
     true_judged = facts.rules_by_values own (value_at facts tables Mate) (λ p o. own_tells Mate p (owned p o)) (true_over Mate)
@@ -257,7 +254,7 @@ module _ (facts : Facts) (tables : Tables) (t : TableValue) (sized : IsTable t) 
     true_zeroing = facts.rules_by_distances own (value_at facts tables Mate) (value_at facts tables Zeroing)
         (λ p o. own_tells Mate p (owned p o)) (λ p o. own_tells Zeroing p (owned p o)) (true_over Mate) (true_over Zeroing)
 
-    true_fits : (column : Column) (p : Setup) → Own p → FitsBeside told column p (value_at facts tables column p)
+    true_fits : (metric : Metric) (p : Setup) → Own p → FitsBeside told metric p (value_at facts tables metric p)
     true_fits Mate p o = mate_fits p (value_at facts tables Mate p) (true_judged.fits p (is_own p o))
     true_fits Zeroing p o = zeroing_fits p (value_at facts tables Zeroing p) (true_zeroing.fits p (is_own p o))
 
@@ -265,17 +262,17 @@ module _ (facts : Facts) (tables : Tables) (t : TableValue) (sized : IsTable t) 
     plays_itself : (p : Setup) → Own p → PlaysLike told (ShowsOf tables) p p
     plays_itself p o = record {
       checkmate = ((λ mate. mate), (λ mate. mate));
-      there = λ q m. (q, m, ((λ z. z), (λ z. z)), turned all_true q q (shown_alike all_true p q q o m (λ ok column v. ((λ s. s), (λ s. s)))));
-      back = λ q m. (q, m, ((λ z. z), (λ z. z)), shown_alike all_true p q q o m (λ ok column v. ((λ s. s), (λ s. s))));
+      there = λ q m. (q, m, ((λ z. z), (λ z. z)), turned all_true q q (shown_alike all_true p q q o m (λ ok metric v. ((λ s. s), (λ s. s)))));
+      back = λ q m. (q, m, ((λ z. z), (λ z. z)), shown_alike all_true p q q o m (λ ok metric v. ((λ s. s), (λ s. s))));
     }
 
     -- where nothing is shown the entry is 0
-    unshown : (column : Column) (i : ℕ) → i < size_of t.class → ((v : Value) → ¬ Shows (entry_at t column i) v) → entry_at t column i ≡ 0
-    unshown column i below none = truth.void column i below (λ p ok is. let s = truth.true column p i ok is in none s.0 s.2)
+    unshown : (metric : Metric) (i : ℕ) → i < size_of t.class → ((v : Value) → ¬ Shows (entry_at t metric i) v) → entry_at t metric i ≡ 0
+    unshown metric i below none = truth.void metric i below (λ p ok is. let s = truth.true metric p i ok is in none s.0 s.2)
 
     -- what spells a code whose entry shows something has it as its index
-    spelled_index : (column : Column) (i : ℕ) (v : Value) (p : Setup) → i < size_of t.class → Shows (entry_at t column i) v → Spells t.class i p → IsIndex t.class p i
-    spelled_index column i v p below shown spells = of_same (cases_eq index.0 i)
+    spelled_index : (metric : Metric) (i : ℕ) (v : Value) (p : Setup) → i < size_of t.class → Shows (entry_at t metric i) v → Spells t.class i p → IsIndex t.class p i
+    spelled_index metric i v p below shown spells = of_same (cases_eq index.0 i)
       where
         of : (flipped : Bool) × IsOf t.class flipped p
         of = facts.spelled_class t.class i p spells
@@ -287,15 +284,15 @@ module _ (facts : Facts) (tables : Tables) (t : TableValue) (sized : IsTable t) 
         of_same (inl e) = subst (IsIndex t.class p) e index.1
         of_same (inr other) =
             let void : IsVoid t.class i = (λ q ok is. other (facts.one_index p t.class index.0 i spells.admissible index.1 (facts.index_spells q p t.class i ok is spells))) in
-            absurd ((shown_range (entry_at t column i) v shown).0 (truth.void column i below void))
+            absurd ((shown_range (entry_at t metric i) v shown).0 (truth.void metric i below void))
 
-    fits_true : (column : Column) (i : ℕ) (v : Value) → i < size_of t.class → Fits tables t column i v
-    fits_true column i v below shown p spells =
-        let is = spelled_index column i v p below shown spells in
+    fits_true : (metric : Metric) (i : ℕ) (v : Value) → i < size_of t.class → Fits tables t metric i v
+    fits_true metric i v below shown p spells =
+        let is = spelled_index metric i v p below shown spells in
         let of = indexed_class facts t.class i p spells.admissible is in
         let o : Own p = (spells.admissible, of) in
-        let tells = shown_told facts tables column p v spells.admissible (entry_at t column i, entry_there column t t.class of.0 p i sized.class_in here of.1 is, shown) in
-        carry told (ShowsOf tables) p p (plays_itself p o) column v (subst (FitsBeside told column p) tells (true_fits column p o))
+        let tells = shown_told facts tables metric p v spells.admissible (entry_at t metric i, entry_there metric t t.class of.0 p i sized.class_in here of.1 is, shown) in
+        carry told (ShowsOf tables) p p (plays_itself p o) metric v (subst (FitsBeside told metric p) tells (true_fits metric p o))
 
     decided_kind : (v w : Value) → Decided (entries.SameKind v w)
     decided_kind (Win m) (Win n) = inl tt
@@ -314,7 +311,7 @@ module _ (facts : Facts) (tables : Tables) (t : TableValue) (sized : IsTable t) 
         same : (p : Setup) → IsAdmissible p → IsIndex t.class p i → entries.SameKind v w
         same p ok is =
             let of = indexed_class facts t.class i p ok is in
-            let there = λ (column : Column). entry_there column t t.class of.0 p i sized.class_in here of.1 is in
+            let there = λ (metric : Metric). entry_there metric t t.class of.0 p i sized.class_in here of.1 is in
             subst (λ x. entries.SameKind x w) (shown_told facts tables Mate p v ok (entry_at t Mate i, there Mate, mate))
             (subst (entries.SameKind (value_at facts tables Mate p)) (shown_told facts tables Zeroing p w ok (entry_at t Zeroing i, there Zeroing, zeroing)) (true_zeroing.kind p (is_own p (ok, of))))
 
@@ -322,22 +319,24 @@ module _ (facts : Facts) (tables : Tables) (t : TableValue) (sized : IsTable t) 
         of_decided (inl h) = h
         of_decided (inr not) = absurd ((shown_range (entry_at t Mate i) v mate).0 (truth.void Mate i below (λ p ok is. not (same p ok is))))
 
-    not_two : (column : Column) (i : ℕ) → i < size_of t.class → entry_at t column i ≢ 2
-    not_two column i below two =
-        let void = unshown column i below (λ v s. (shown_range (entry_at t column i) v s).1 two) in
+    not_two : (metric : Metric) (i : ℕ) → i < size_of t.class → entry_at t metric i ≢ 2
+    not_two metric i below two =
+        let void = unshown metric i below (λ v s. (shown_range (entry_at t metric i) v s).1 two) in
         omega (arith, two, void)
 
-    not_high : (column : Column) (i : ℕ) → i < size_of t.class → (64003 < entry_at t column i) ⊎ (entry_at t column i ≤ 64003) → entry_at t column i ≤ 64003
-    not_high column i below (inr le) = le
-    not_high column i below (inl high) =
-        let void = unshown column i below (λ v s. let le = (shown_range (entry_at t column i) v s).2 in omega (arith, le, high)) in
+    not_high : (metric : Metric) (i : ℕ) → i < size_of t.class → (64003 < entry_at t metric i) ⊎ (entry_at t metric i ≤ 64003) → entry_at t metric i ≤ 64003
+    not_high metric i below (inr le) = le
+    not_high metric i below (inl high) =
+        let void = unshown metric i below (λ v s. let le = (shown_range (entry_at t metric i) v s).2 in omega (arith, le, high)) in
         omega (arith, high, void)
 
-    pub true_keeps : (column : Column) (i : ℕ) → i < size_of t.class → (rule : Rule) → Keeps tables t column i rule
-    true_keeps column i below rules.Void = (λ zero p ok is. let s = truth.true column p i ok is in (shown_range (entry_at t column i) s.0 s.2).0 zero, λ void. truth.void column i below void)
-    true_keeps column i below rules.Range = (not_two column i below, not_high column i below (cases_lt 64003 (entry_at t column i)))
+    pub true_keeps : (metric : Metric) (i : ℕ) → i < size_of t.class → (rule : Rule) → Keeps tables t metric i rule
+    true_keeps metric i below rules.Void = (λ zero p ok is. let s = truth.true metric p i ok is in (shown_range (entry_at t metric i) s.0 s.2).0 zero, λ void. truth.void metric i below void)
+    true_keeps metric i below rules.Range = (not_two metric i below, not_high metric i below (cases_lt 64003 (entry_at t metric i)))
     true_keeps Mate i below rules.Kind = tt
     true_keeps Zeroing i below rules.Kind = kind_true i below
-    true_keeps column i below rules.Win = λ n. fits_true column i (Win n) below
-    true_keeps column i below rules.Loss = λ n. fits_true column i (Loss n) below
-    true_keeps column i below rules.Draw = fits_true column i Draw below
+    true_keeps metric i below rules.Win = λ n. fits_true metric i (Win n) below
+    true_keeps metric i below rules.Loss = λ n. fits_true metric i (Loss n) below
+    true_keeps metric i below rules.Draw = fits_true metric i Draw below
+    true_keeps metric i below rules.Reach = tt
+    true_keeps metric i below rules.Dead = tt

@@ -1,5 +1,5 @@
 -- The greatest score of the codes of some men, wherever turns take them, is that of the positions with these men.
-use Rattle.std.proofs.Common.{◌≡◌, ℕ, ◌%◌, ◌<◌, ◌≤◌, ◌⊎◌, Bool, true, false, arith, sym, ap, ◌∙◌, inl, inr}
+use Rattle.std.proofs.Common.{◌≡◌, ℕ, ◌%◌, ◌<◌, ◌≤◌, ◌⊎◌, Bool, true, false, length, arith, sym, ap, ◌∙◌, inl, inr}
 use Rattle.std.proofs.lemmas.Bool.{cases_lt, false≢true}
 use Rattle.std.proofs.lemmas.List.{get_or_past}
 use Rattle.egt_board.specs.Images.{AreImages}
@@ -15,10 +15,12 @@ use Rattle.egt_index.specs.Went.{AreOnBoard}
 use Rattle.egt_index.specs.declared.stand.Stand.{Stand}
 use Rattle.egt_lanes.specs.Raised.{IsRaised}
 use Rattle.egt_lanes.specs.Scores.{byte_score}
-use Rattle.egt_table.specs.Table.{IsTable, TableValue, entries_of}
-use Rattle.egt_table.specs.declared.column.Column.{Column}
+use Rattle.egt_table.specs.Table.{IsTable, TableValue}
+use Rattle.egt_table.specs.declared.column.Column.TheVariants as columns
+use Rattle.egt_check.specs.declared.metric.Metric.{Metric}
+use Rattle.egt_check.specs.declared.metric.Metric.TheVariants.{Mate, Zeroing}
 use Rattle.egt_check.specs.Facts.{Facts}
-use Rattle.egt_check.specs.Tables.{entry_at}
+use Rattle.egt_check.specs.Tables.{entries_in, entry_at}
 use Rattle.egt_check.specs.Worth.{HasBytes, IsBestOf, IsBestWith, IsScoreWith, score_at}
 
 -- what codes tell of turned men, by the law of egt_index
@@ -40,12 +42,16 @@ pub record AreWhole (stand : Stand) : Type 0 where
 pub zero_score : (e : ℕ) → e ≡ 0 → byte_score (e % 256) ≡ 0
 zero_score e is = ap (λ x. byte_score (x % 256)) is
 
-module _ (facts : Facts) (turning : Turning) (t : TableValue) (column : Column) (is_table : IsTable t) (bytes : HasBytes t) where
+module _ (facts : Facts) (turning : Turning) (t : TableValue) (metric : Metric) (is_table : IsTable t) (bytes : HasBytes t) where
+  sized : (metric : Metric) → length (entries_in metric t) ≡ size_of t.class
+  sized Mate = is_table.sizes columns.Mate tt
+  sized Zeroing = is_table.sizes columns.Zeroing tt
+
   -- a void code has no score
-  void_score : (code : ℕ) → IsVoid t.class code → score_at t column code ≡ 0
+  void_score : (code : ℕ) → IsVoid t.class code → score_at t metric code ≡ 0
   void_score code void = elim (cases_lt code (size_of t.class)) [
-    | inl below ↦ zero_score (entry_at t column code) (bytes.void column code below void)
-    | inr past ↦ zero_score (entry_at t column code) (get_or_past (entries_of column t) code 0 (let size = is_table.sizes column in omega arith))
+    | inl below ↦ zero_score (entry_at t metric code) (bytes.void metric code below void)
+    | inr past ↦ zero_score (entry_at t metric code) (get_or_past (entries_in metric t) code 0 (let size = sized metric in omega arith))
   ]
 
   -- images have one index
@@ -59,14 +65,14 @@ module _ (facts : Facts) (turning : Turning) (t : TableValue) (column : Column) 
           record { here = here.0; there = there.0; settles_here = here.1; settles_there = there.1; images = facts.images_settle q r here.0 there.0 q_ok images here.1 there.1 }
 
   module _ (passed : Bool) (settled : passed ≡ true → SpellsSettled) (In : Stand → Type 0) (flips : Bool) (side : Side) (w : ℕ) (whole : (stand : Stand) → In stand → AreWhole stand)
-      (raised : IsRaised 0 (λ code. (stand : Stand) × In stand × IsSomeTurnedCodeWith passed t.class code flips stand side) (score_at t column) w) where
-    above : (stand : Stand) (q : Setup) → In stand → HasStand t.class flips stand side passed q → (i : ℕ) × IsIndex t.class q i × (score_at t column i ≤ w)
+      (raised : IsRaised 0 (λ code. (stand : Stand) × In stand × IsSomeTurnedCodeWith passed t.class code flips stand side) (score_at t metric) w) where
+    above : (stand : Stand) (q : Setup) → In stand → HasStand t.class flips stand side passed q → (i : ℕ) × IsIndex t.class q i × (score_at t metric i ≤ w)
     above stand q in_stands has =
         let index = facts.some_index q t.class flips is_table.class_in has.admissible has.is_of in
         (index.0, index.1, raised.above index.0 (stand, in_stands, turning.index passed t.class index.0 flips stand side q is_table.class_in (whole stand in_stands).filled has index.1))
 
     -- a code with a score is an index, and of a position with these men
-    reached_by : (code : ℕ) (stand : Stand) → In stand → IsSomeTurnedCodeWith passed t.class code flips stand side → w ≡ score_at t column code → (w ≡ 0) ⊎ IsScoreWith passed t column In flips side w
+    reached_by : (code : ℕ) (stand : Stand) → In stand → IsSomeTurnedCodeWith passed t.class code flips stand side → w ≡ score_at t metric code → (w ≡ 0) ⊎ IsScoreWith passed t metric In flips side w
     reached_by code stand in_stands turned is = elim (turning.or_void t.class code is_table.class_in) [
       | inr void ↦ inl (is ∙ void_score code void)
       | inl spelled ↦
@@ -79,17 +85,17 @@ module _ (facts : Facts) (turning : Turning) (t : TableValue) (column : Column) 
             has = there.1;
             index = index.0;
             is_index = index.1;
-            is = is ∙ ap (score_at t column) (sym (same_index there.0 spelled.0 index.0 code there.1.admissible spelled.1.admissible there.2 index.1 spelled.2));
+            is = is ∙ ap (score_at t metric) (sym (same_index there.0 spelled.0 index.0 code there.1.admissible spelled.1.admissible there.2 index.1 spelled.2));
           })
     ]
 
-    pub best_with : IsBestWith passed t column In flips side w
+    pub best_with : IsBestWith passed t metric In flips side w
     best_with = record {
       above = above;
       reached = elim raised.reached [ inl none ↦ inl none | inr h ↦ reached_by h.0 h.1.0 h.1.1 h.1.2 h.2 ];
     }
 
   -- the same of positions without a target
-  pub best_of : (In : Stand → Type 0) (flips : Bool) (side : Side) (w : ℕ) → ((stand : Stand) → In stand → AreWhole stand) → IsRaised 0 (λ code. (stand : Stand) × In stand × IsSomeTurnedCode t.class code flips stand side) (score_at t column) w
-      → IsBestOf t column In flips side w
+  pub best_of : (In : Stand → Type 0) (flips : Bool) (side : Side) (w : ℕ) → ((stand : Stand) → In stand → AreWhole stand) → IsRaised 0 (λ code. (stand : Stand) × In stand × IsSomeTurnedCode t.class code flips stand side) (score_at t metric) w
+      → IsBestOf t metric In flips side w
   best_of = best_with false (λ some. absurd (false≢true some))

@@ -18,7 +18,7 @@ use Rattle.egt_lanes.specs.Blocks.{at}
 use Rattle.egt_lanes.specs.Raised.{IsRaised}
 use Rattle.egt_table.specs.Table.{TableValue}
 use Rattle.egt_table.specs.declared.column.Column.{Column}
-use Rattle.egt_check.specs.Worth.{score_at}
+use Rattle.egt_check.specs.Worth.{column_score}
 
 -- the men with the first one on the square
 abbrev pub men_on : ShelfMen → ℕ → ShelfMen
@@ -52,11 +52,11 @@ IsHomeCode passed c code flips stand side = (t : ℕ) × IsTurnWith (has_pawns (
 
 -- the number raised to the scores of the codes of this turn
 abbrev pub IsRaisedAfter : (passed : Bool) → TableValue → Column → ℕ → Stand → Side → (low high : ℕ) → Type 0
-IsRaisedAfter passed t column turn stand side low high = IsRaised low (λ code. IsCodeAfter passed t.class turn code stand side) (score_at t column) high
+IsRaisedAfter passed t column turn stand side low high = IsRaised low (λ code. IsCodeAfter passed t.class turn code stand side) (column_score t column) high
 
 -- the number raised to the scores of the codes of all such turns
 abbrev pub IsRaisedHome : (passed : Bool) → TableValue → Column → Bool → Stand → Side → (low high : ℕ) → Type 0
-IsRaisedHome passed t column flips stand side low high = IsRaised low (λ code. IsHomeCode passed t.class code flips stand side) (score_at t column) high
+IsRaisedHome passed t column flips stand side low high = IsRaised low (λ code. IsHomeCode passed t.class code flips stand side) (column_score t column) high
 
 -- the greater of the block's number, of that in the other order where the men are equal, and of that across where both sides have the same men
 abbrev pub settled_at : (equal sides : Bool) (own across : List (List ℕ)) (a b : ℕ) → ℕ
@@ -86,5 +86,5 @@ AreTurnedCodes passed c In men flips side a b code = (k : ℕ) × In k × IsSome
 
 -- both blocks are raised from nothing to the codes of these
 pub record AreGathered (passed : Bool) (t : TableValue) (column : Column) (In : ℕ → Type 0) (men : ℕ → ShelfMen) (flips : Bool) (side : Side) (own across : List (List ℕ)) : Type 0 where
-  pub in_own : (a b : ℕ) → a < 64 → b < 64 → IsRaised 0 (AreHomeCodes passed t.class In men flips side a b) (score_at t column) (at own a b)
-  pub in_across : has_equal_sides t.class ≡ true → (a b : ℕ) → a < 64 → b < 64 → IsRaised 0 (AreHomeCodes passed t.class In (λ k. men_across (men k)) (not flips) side b a) (score_at t column) (at across b a)
+  pub in_own : (a b : ℕ) → a < 64 → b < 64 → IsRaised 0 (AreHomeCodes passed t.class In men flips side a b) (column_score t column) (at own a b)
+  pub in_across : has_equal_sides t.class ≡ true → (a b : ℕ) → a < 64 → b < 64 → IsRaised 0 (AreHomeCodes passed t.class In (λ k. men_across (men k)) (not flips) side b a) (column_score t column) (at across b a)

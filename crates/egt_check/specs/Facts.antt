@@ -1,5 +1,5 @@
 -- What holds of play, images, classes and indexes, by the laws of the crates below.
-use Rattle.std.specs.Prelude.{◌≡◌, ℕ, ◌<◌, ◌⊎◌, ◌↔◌, Bool, IsTrue}
+use Rattle.std.specs.Prelude.{◌≡◌, ℕ, ◌<◌, ◌⊎◌, ◌↔◌, Bool, Option, IsTrue}
 use Rattle.std.specs.List.{Contains}
 use Rattle.egt_board.specs.Images.{AreImages}
 use Rattle.egt_board.specs.Settled.{SettlesTo}
@@ -12,6 +12,7 @@ use Rattle.egt_index.specs.Size.{size_of}
 use Rattle.egt_moves.specs.Arena.{Value, HasValue}
 use Rattle.egt_moves.specs.Chess.{chess, Zeroes}
 use Rattle.egt_moves.specs.Entries.{JudgedOver, ZeroingJudgedOver}
+use Rattle.egt_moves.specs.Reach.{HasReach, ReachJudgedOver}
 use Rattle.egt_moves.specs.Legal.{Leads}
 use Rattle.egt_moves.specs.Standing.{IsCheckmate}
 use Rattle.egt_moves.specs.Zeroing.{HasZeroing}
@@ -63,3 +64,9 @@ pub record Facts : Type 0 where
       ((p q : Setup) → IsTrue (own p) → chess.Move p q → IsTrue (own q) ⊎ HasValue chess q (e q)) →
       ((p q : Setup) → IsTrue (own p) → chess.Move p q → IsTrue (own q) ⊎ HasZeroing chess q (z q)) →
       ZeroingJudgedOver chess (λ p. IsTrue (own p)) e z
+  pub reach_by_rules : (own : Setup → Bool) (e : Setup → Option ℕ) → ReachJudgedOver chess (λ p. IsTrue (own p)) e →
+      (p : Setup) → IsTrue (own p) → HasReach chess p (e p)
+  pub rules_by_reach : (own : Setup → Bool) (e : Setup → Option ℕ) →
+      ((p : Setup) → IsTrue (own p) → HasReach chess p (e p)) →
+      ((p q : Setup) → IsTrue (own p) → chess.Move p q → IsTrue (own q) ⊎ HasReach chess q (e q)) →
+      ReachJudgedOver chess (λ p. IsTrue (own p)) e

@@ -1,6 +1,8 @@
 pub mod Entry
 pub mod Tables
 pub mod Fits
+pub mod Reach
+pub mod NearTables
 pub mod Rules
 pub mod Truth
 pub mod Library
@@ -33,3 +35,8 @@ pub mod PawnScores
 pub mod ShelfRow
 pub mod Leaps
 pub mod PassedRows
+pub mod Place
+pub mod Nearest
+pub mod ReachJudged
+pub mod Parts
+pub mod ReachScores

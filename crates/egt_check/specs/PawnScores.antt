@@ -9,63 +9,65 @@ use Rattle.egt_index.specs.ShelfCodes.{AreMenOf}
 use Rattle.egt_index.specs.declared.shelf_codes.ShelfMen.{ShelfMen}
 use Rattle.egt_lanes.specs.Raised.{IsRaised}
 use Rattle.egt_moves.specs.Promotion.{IsOfficer, arriving}
-use Rattle.egt_table.specs.Table.{TableValue}
-use Rattle.egt_table.specs.declared.column.Column.TheVariants.{Mate}
+use Rattle.egt_table.specs.Table.{HasColumn, TableValue}
+use Rattle.egt_table.specs.declared.column.Column.{Column}
 use Rattle.egt_check.specs.InPassing.{AreLeapCodes, AreStepCodes}
 use Rattle.egt_check.specs.PawnMoves.{AreAdvancedCodes, ArePromotedCodes, IsTableAfter, men_after, officer_of}
 use Rattle.egt_check.specs.Tables.{Tables}
 use Rattle.egt_check.specs.Taken.{IsTableOf, men_swapped}
-use Rattle.egt_check.specs.Worth.{score_at}
+use Rattle.egt_check.specs.Worth.{column_score}
 use Rattle.egt_check.specs.declared.pawn_scores.Promotion.{Promotion}
 use Rattle.egt_check.specs.declared.pawn_scores.Promotions.{Promotions}
 
--- the classes that a promotion of the last man to this kind leads to
-pub record IsPromotionOf (promotion : Promotion) (men : ShelfMen) : Type 0 where
+-- the classes that a promotion of the last man to this kind leads to, whose tables have the column
+pub record IsPromotionOf (column : Column) (promotion : Promotion) (men : ShelfMen) : Type 0 where
   pub officer : IsOfficer promotion.kind
+  pub both_there : HasColumn column promotion.both.now
+  pub alone_there : HasColumn column promotion.alone.now
   pub both : AreMenOf promotion.both.now.class (men_after promotion.before promotion.both_flips men (arriving men.last (Some promotion.kind)))
   pub alone : IsLoneMan promotion.alone.now.class (turned_man promotion.alone_flips (officer_of men.last.side promotion.kind))
 
 -- of each of the four
-pub record ArePromotionsOf (promotions : Promotions) (men : ShelfMen) : Type 0 where
-  pub queen : IsPromotionOf promotions.queen men
-  pub rook : IsPromotionOf promotions.rook men
-  pub bishop : IsPromotionOf promotions.bishop men
-  pub knight : IsPromotionOf promotions.knight men
+pub record ArePromotionsOf (column : Column) (promotions : Promotions) (men : ShelfMen) : Type 0 where
+  pub queen : IsPromotionOf column promotions.queen men
+  pub rook : IsPromotionOf column promotions.rook men
+  pub bishop : IsPromotionOf column promotions.bishop men
+  pub knight : IsPromotionOf column promotions.knight men
 
--- the number raised to the greatest scores after promotions to this kind, with the first man on a and the last on b
-pub record IsPromotionScore (promotion : Promotion) (men : ShelfMen) (side : Side) (a b low high : ℕ) : Type 0 where
+-- the number raised to the greatest scores in the column after promotions to this kind, with the first man on a and the last on b
+pub record IsPromotionScore (column : Column) (promotion : Promotion) (men : ShelfMen) (side : Side) (a b low high : ℕ) : Type 0 where
   pub advanced : ℕ
   pub taken : ℕ
-  pub advanced_raised : IsRaised 0 (AreAdvancedCodes promotion.both.now.class promotion.before promotion.both_flips men side (Some promotion.kind) a b) (score_at promotion.both.now Mate) advanced
-  pub taken_raised : IsRaised 0 (ArePromotedCodes promotion.alone.now.class promotion.alone_flips men side promotion.kind a b) (score_at promotion.alone.now Mate) taken
+  pub advanced_raised : IsRaised 0 (AreAdvancedCodes promotion.both.now.class promotion.before promotion.both_flips men side (Some promotion.kind) a b) (column_score promotion.both.now column) advanced
+  pub taken_raised : IsRaised 0 (ArePromotedCodes promotion.alone.now.class promotion.alone_flips men side promotion.kind a b) (column_score promotion.alone.now column) taken
   pub is : high ≡ max (max low advanced) taken
 
 -- the greatest score after the pawn's advances, promotions and promoting captures
-pub record ArePawnScores (own : TableValue) (first : Bool) (promotions : Promotions) (men : ShelfMen) (side : Side) (a b score : ℕ) : Type 0 where
+pub record ArePawnScores (column : Column) (own : TableValue) (first : Bool) (promotions : Promotions) (men : ShelfMen) (side : Side) (a b score : ℕ) : Type 0 where
   pub stepped : ℕ
   pub leapt : ℕ
   pub queen : ℕ
   pub rook : ℕ
   pub bishop : ℕ
-  pub stepped_raised : IsRaised 0 (AreStepCodes own.class first men side a b) (score_at own Mate) stepped
-  pub leapt_raised : IsRaised 0 (AreLeapCodes own.class first men side a b) (score_at own Mate) leapt
-  pub queen_is : IsPromotionScore promotions.queen men side a b (max stepped leapt) queen
-  pub rook_is : IsPromotionScore promotions.rook men side a b queen rook
-  pub bishop_is : IsPromotionScore promotions.bishop men side a b rook bishop
-  pub knight_is : IsPromotionScore promotions.knight men side a b bishop score
+  pub stepped_raised : IsRaised 0 (AreStepCodes own.class first men side a b) (column_score own column) stepped
+  pub leapt_raised : IsRaised 0 (AreLeapCodes own.class first men side a b) (column_score own column) leapt
+  pub queen_is : IsPromotionScore column promotions.queen men side a b (max stepped leapt) queen
+  pub rook_is : IsPromotionScore column promotions.rook men side a b queen rook
+  pub bishop_is : IsPromotionScore column promotions.bishop men side a b rook bishop
+  pub knight_is : IsPromotionScore column promotions.knight men side a b bishop score
 
 -- the number raised to that score where the last man is a pawn of that side
-abbrev pub IsRaisedByPawn : (own : TableValue) (first : Bool) (promotions : Option Promotions) (men : ShelfMen) (side : Side) (a b low high : ℕ) → Type 0
-IsRaisedByPawn own first promotions men side a b low high =
+abbrev pub IsRaisedByPawn : (column : Column) (own : TableValue) (first : Bool) (promotions : Option Promotions) (men : ShelfMen) (side : Side) (a b low high : ℕ) → Type 0
+IsRaisedByPawn column own first promotions men side a b low high =
     ((high ≡ low) × ¬ ((men.last.kind ≡ P) × (men.last.side ≡ side)))
-    ⊎ ((men.last.kind ≡ P) × (men.last.side ≡ side) × (kinds : Promotions) × (promotions ≡ Some kinds) × (score : ℕ) × ArePawnScores own first kinds men side a b score × (high ≡ max low score))
+    ⊎ ((men.last.kind ≡ P) × (men.last.side ≡ side) × (kinds : Promotions) × (promotions ≡ Some kinds) × (score : ℕ) × ArePawnScores column own first kinds men side a b score × (high ≡ max low score))
 
 -- the greatest of these scores of both men, with the first on a and the last on b
-pub record AreRaisedByPawns (own : TableValue) (first last : Option Promotions) (men : ShelfMen) (side : Side) (a b score : ℕ) : Type 0 where
+pub record AreRaisedByPawns (column : Column) (own : TableValue) (first last : Option Promotions) (men : ShelfMen) (side : Side) (a b score : ℕ) : Type 0 where
   pub by_first : ℕ
   pub by_last : ℕ
-  pub first_is : IsRaisedByPawn own true first (men_swapped men) side b a 0 by_first
-  pub last_is : IsRaisedByPawn own false last men side a b 0 by_last
+  pub first_is : IsRaisedByPawn column own true first (men_swapped men) side b a 0 by_first
+  pub last_is : IsRaisedByPawn column own false last men side a b 0 by_last
   pub is : score ≡ max by_last by_first
 
 -- the two are the men beside the kings, the second named before the first where `before`

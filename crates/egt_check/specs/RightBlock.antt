@@ -8,13 +8,16 @@ use Rattle.egt_index.specs.Size.{size_of}
 use Rattle.egt_index.specs.StepCodes.{TellsMen}
 use Rattle.egt_index.specs.declared.shelf_codes.ShelfMen.{ShelfMen}
 use Rattle.egt_table.specs.Table.{TableValue}
-use Rattle.egt_table.specs.declared.column.Column.{Column}
-use Rattle.egt_table.specs.declared.column.Column.TheVariants.{Mate}
+use Rattle.egt_table.specs.declared.column.Column.TheVariants as columns
+use Rattle.egt_check.specs.declared.metric.Metric.{Metric}
+use Rattle.egt_check.specs.declared.metric.Metric.TheVariants.{Mate}
+use Rattle.egt_check.specs.declared.part.Part.{Part}
+use Rattle.egt_check.specs.declared.part.Part.TheVariants.{Values, Reach}
 use Rattle.egt_check.specs.Blocks.{stand_on}
-use Rattle.egt_check.specs.RightRow.{IsRightAt}
-use Rattle.egt_check.specs.Rules.{IsJudged}
+use Rattle.egt_check.specs.RightRow.{IsRightAt, IsRightReachAt}
+use Rattle.egt_check.specs.Rules.{IsJudged, IsJudgedBy, KeepsReach}
 use Rattle.egt_check.specs.Tables.{Tables}
-use Rattle.egt_check.specs.Worth.{score_at}
+use Rattle.egt_check.specs.Worth.{column_score, score_at}
 
 -- the code tells the men with the first on a and the last on b, and a target where one was passed, and its entries are due to these greatest scores
 pub record IsRightLane (passed : Bool) (t : TableValue) (men : ShelfMen) (side : Side) (a b i mate zeroing : ℕ) : Type 0 where
@@ -22,6 +25,17 @@ pub record IsRightLane (passed : Bool) (t : TableValue) (men : ShelfMen) (side :
   pub tells : TellsMen passed t.class i (stand_on men a b) side
   pub right : score_at t Mate i ≢ 0 → IsRightAt t i mate zeroing
 
--- the entries of the shelves from this one on keep the rules, with that side to move: one shelf for each digit of the first man
-abbrev pub AreJudged : (tables : Tables) (t : TableValue) (column : Column) (men : ShelfMen) (first : ℕ) (side : Side) → Type 0
-AreJudged tables t column men first side = (x y : ℕ) → x < kind_digits men.one.kind → y < kind_digits men.last.kind → IsJudged tables t column (code_of t.class (number_in t.class (first + x) side y)) None
+-- the same of the column of the nearest mates
+pub record IsRightReachLane (passed : Bool) (t : TableValue) (men : ShelfMen) (side : Side) (a b i reach : ℕ) : Type 0 where
+  pub below : i < size_of t.class
+  pub tells : TellsMen passed t.class i (stand_on men a b) side
+  pub right : column_score t columns.Reach i ≢ 0 → IsRightReachAt t i reach
+
+-- the part's entries at the code keep the rules
+abbrev pub KeepsPart : Part → Tables → TableValue → ℕ → Type 0
+KeepsPart Values tables t i = (metric : Metric) → IsJudged tables t metric i None
+KeepsPart Reach tables t i = IsJudgedBy (KeepsReach tables t i) None
+
+-- the part's entries of the shelves from this one on keep the rules, with that side to move: one shelf for each digit of the first man
+abbrev pub AreJudged : (part : Part) (tables : Tables) (t : TableValue) (men : ShelfMen) (first : ℕ) (side : Side) → Type 0
+AreJudged part tables t men first side = (x y : ℕ) → x < kind_digits men.one.kind → y < kind_digits men.last.kind → KeepsPart part tables t (code_of t.class (number_in t.class (first + x) side y))

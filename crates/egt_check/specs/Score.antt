@@ -1,17 +1,17 @@
--- Scores of steps: one number a column, so that the greatest over all steps says which entry is due.
+-- Scores of steps: one number a metric, so that the greatest over all steps says which entry is due.
 use Rattle.std.specs.Prelude.{◌≡◌, ℕ, suc, ◌-◌, ◌≤◌, ◌⊎◌, ◌↔◌, Bool, true, false, max, Option, Some, None}
 use Rattle.egt_board.specs.Setup.{Setup}
 use Rattle.egt_moves.specs.Arena.{Value, Win, Loss, Draw, IsStalemate}
 use Rattle.egt_moves.specs.Chess.{chess}
-use Rattle.egt_table.specs.declared.column.Column.{Column}
-use Rattle.egt_table.specs.declared.column.Column.TheVariants.{Mate, Zeroing}
-use Rattle.egt_check.specs.declared.by_column.ByColumn.{ByColumn}
+use Rattle.egt_check.specs.declared.metric.Metric.{Metric}
+use Rattle.egt_check.specs.declared.metric.Metric.TheVariants.{Mate, Zeroing}
+use Rattle.egt_check.specs.declared.by_metric.ByMetric.{ByMetric}
 use Rattle.egt_check.specs.declared.outcome.Outcome.{Outcome}
 use Rattle.egt_check.specs.declared.outcome.Outcome.TheVariants as outcomes
 use Rattle.egt_check.specs.Entry.{longest, entry_of, Shows}
 use Rattle.egt_check.specs.Fits.{Shown, Counts, FitsBeside}
 
-abbrev pub number_at : ByColumn → Column → ℕ
+abbrev pub number_at : ByMetric → Metric → ℕ
 number_at numbers Mate = numbers.mate
 number_at numbers Zeroing = numbers.zeroing
 
@@ -26,15 +26,15 @@ IsShownBy x (Some outcome) = Shows x (value_of outcome)
 IsShownBy x None = (v : Value) → ¬ Shows x v
 
 -- a step to a successor that is drawn says so, but not in the zeroing column, where nothing is asked of a draw
-abbrev pub SaysDraw : Shown → Column → Setup → Type 0
+abbrev pub SaysDraw : Shown → Metric → Setup → Type 0
 SaysDraw shows Mate q = shows Mate q Draw
 SaysDraw shows Zeroing q = ⊥
 
 -- what a step says: the number for which it counts, to a successor that is won or lost
-abbrev pub Says : Shown → Column → (p q : Setup) → chess.Move p q → Outcome → Type 0
-Says shows column p q m (outcomes.Win k) = Counts shows column Win p q m k
-Says shows column p q m (outcomes.Loss k) = Counts shows column Loss p q m k
-Says shows column p q m outcomes.Draw = SaysDraw shows column q
+abbrev pub Says : Shown → Metric → (p q : Setup) → chess.Move p q → Outcome → Type 0
+Says shows metric p q m (outcomes.Win k) = Counts shows metric Win p q m k
+Says shows metric p q m (outcomes.Loss k) = Counts shows metric Loss p q m k
+Says shows metric p q m outcomes.Draw = SaysDraw shows metric q
 
 -- its number has room in an entry
 abbrev pub IsCounted : Outcome → Type 0
@@ -43,9 +43,9 @@ IsCounted (outcomes.Loss k) = k ≤ longest
 IsCounted outcomes.Draw = Unit {0}
 
 -- what a step says, or that it says nothing
-abbrev pub IsSaid : Shown → Column → (p q : Setup) → chess.Move p q → Option Outcome → Type 0
-IsSaid shows column p q m (Some outcome) = Says shows column p q m outcome × IsCounted outcome
-IsSaid shows column p q m None = (outcome : Outcome) → ¬ Says shows column p q m outcome
+abbrev pub IsSaid : Shown → Metric → (p q : Setup) → chess.Move p q → Option Outcome → Type 0
+IsSaid shows metric p q m (Some outcome) = Says shows metric p q m outcome × IsCounted outcome
+IsSaid shows metric p q m None = (outcome : Outcome) → ¬ Says shows metric p q m outcome
 
 -- the sooner a loss comes, the higher; then a draw; then nothing; then wins, the later the higher
 abbrev pub score_of : Option Outcome → ℕ
@@ -62,17 +62,17 @@ is_decisive (Some outcomes.Draw) = false
 is_decisive None = false
 
 -- the step has this score
-pub record Scores (shows : Shown) (column : Column) (p q : Setup) (m : chess.Move p q) (score : ℕ) : Type 0 where
+pub record Scores (shows : Shown) (metric : Metric) (p q : Setup) (m : chess.Move p q) (score : ℕ) : Type 0 where
   pub said : Option Outcome
-  pub is_said : IsSaid shows column p q m said
+  pub is_said : IsSaid shows metric p q m said
   pub is : score ≡ score_of said
 
 -- some step from p has this score, and none has a greater one
-pub record IsBest (shows : Shown) (column : Column) (p : Setup) (best : ℕ) : Type 0 where
+pub record IsBest (shows : Shown) (metric : Metric) (p : Setup) (best : ℕ) : Type 0 where
   pub next : Setup
   pub step : chess.Move p next
-  pub reached : Scores shows column p next step best
-  pub passed : (q : Setup) (m : chess.Move p q) → (score : ℕ) × Scores shows column p q m score × (score ≤ best)
+  pub reached : Scores shows metric p next step best
+  pub passed : (q : Setup) (m : chess.Move p q) → (score : ℕ) × Scores shows metric p q m score × (score ≤ best)
 
 -- what a step says in the zeroing column, by what the entries of its successor show: a step that zeroes counts 0
 abbrev pub loss_in : Option Outcome → Option Outcome
@@ -111,12 +111,12 @@ entry_before (Some (outcomes.Win k)) = entry_of (Loss (suc k))
 entry_before (Some outcomes.Draw) = entry_of Draw
 entry_before None = 0
 
-abbrev pub IsDueDraw : Shown → Column → Setup → ℕ → Type 0
+abbrev pub IsDueDraw : Shown → Metric → Setup → ℕ → Type 0
 IsDueDraw shows Mate p x = FitsBeside shows Mate p Draw ↔ (x ≡ entry_of Draw)
 IsDueDraw shows Zeroing p x = Unit {0}
 
 -- no entry but x shows a value that fits the position; of a draw in the zeroing column nothing is said
-pub record IsDue (shows : Shown) (column : Column) (p : Setup) (x : ℕ) : Type 0 where
-  pub win : (n : ℕ) → FitsBeside shows column p (Win n) ↔ (x ≡ entry_of (Win n))
-  pub loss : (n : ℕ) → FitsBeside shows column p (Loss n) ↔ (x ≡ entry_of (Loss n))
-  pub draw : IsDueDraw shows column p x
+pub record IsDue (shows : Shown) (metric : Metric) (p : Setup) (x : ℕ) : Type 0 where
+  pub win : (n : ℕ) → FitsBeside shows metric p (Win n) ↔ (x ≡ entry_of (Win n))
+  pub loss : (n : ℕ) → FitsBeside shows metric p (Loss n) ↔ (x ≡ entry_of (Loss n))
+  pub draw : IsDueDraw shows metric p x

@@ -8,9 +8,9 @@ use Rattle.egt_index.specs.ShelfCodes.{number_in}
 use Rattle.egt_index.specs.declared.shelf_codes.ShelfMen.{ShelfMen}
 use Rattle.egt_table.specs.Table.{TableValue}
 use Rattle.egt_table.specs.declared.column.Column.{Column}
-use Rattle.egt_check.specs.Worth.{score_at}
+use Rattle.egt_check.specs.Worth.{column_score}
 
 -- those with that side to move, and nothing where a pawn may not stand
 pub record IsShelfRow (t : TableValue) (column : Column) (men : ShelfMen) (shelf : ℕ) (side : Side) (row : List ℕ) : Type 0 where
-  pub digits : (digit : ℕ) → digit < kind_digits men.last.kind → slice_index row (digit + kind_less men.last.kind) ≡ score_at t column (code_of t.class (number_in t.class shelf side digit))
+  pub digits : (digit : ℕ) → digit < kind_digits men.last.kind → slice_index row (digit + kind_less men.last.kind) ≡ column_score t column (code_of t.class (number_in t.class shelf side digit))
   pub edges : men.last.kind ≡ P → (s : ℕ) → s < 64 → (s < 8) ⊎ (56 ≤ s) → slice_index row s ≡ 0

@@ -1,5 +1,5 @@
 -- The steps from a position and the tables in which their successors are found.
-use Rattle.std.specs.Prelude.{◌≡◌, ℕ, ◌<◌, Bool, List, Option, IsSome, ◌↔◌, IsTrue, None}
+use Rattle.std.specs.Prelude.{◌≡◌, ℕ, Bool, List, Option, ◌↔◌, IsTrue, None}
 use Rattle.egt_board.specs.Setup.{Setup}
 use Rattle.egt_class.specs.Membership.{IsOf}
 use Rattle.egt_moves.specs.Chess.{Zeroes}
@@ -7,19 +7,11 @@ use Rattle.egt_moves.specs.Legal.{IsLegal, plain, passed}
 use Rattle.egt_moves.specs.declared.chess_move.Move.{Move}
 use Rattle.egt_table.specs.Table.{TableValue}
 use Rattle.egt_check.specs.Fits.{Shown}
-use Rattle.egt_check.specs.Tables.{Tables, table_at, beside, ShowsOf}
+use Rattle.egt_check.specs.Tables.{table_at, beside, ShowsOf}
 use Rattle.egt_moves.specs.Exchange.{Captures}
 use Rattle.egt_board.specs.Placement.{Stands}
 use Rattle.egt_board.specs.declared.man.Man.{Man}
 use Rattle.egt_moves.specs.Promotion.{is_pawn}
-
--- the position's class has a table
-pub record HasTable (tables : Tables) (p : Setup) : Type 0 where
-  pub class : ℕ
-  pub below : class < 36
-  pub flipped : Bool
-  pub of : IsOf class flipped p
-  pub there : IsSome (tables class)
 
 -- the position is of the class, in whatever colours
 abbrev pub IsInClass : ℕ → Setup → Type 0

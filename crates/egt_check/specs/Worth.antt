@@ -1,5 +1,5 @@
 -- What a table says of a class's men on their squares, as scores in bytes.
-use Rattle.std.specs.Prelude.{◌≡◌, ℕ, ◌%◌, ◌<◌, ◌≤◌, ◌⊎◌, Bool, false}
+use Rattle.std.specs.Prelude.{◌≡◌, ℕ, ◌%◌, ◌<◌, ◌≤◌, ◌⊎◌, Bool, false, slice_index}
 use Rattle.egt_board.specs.Setup.{Setup}
 use Rattle.egt_board.specs.declared.man.Side.{Side}
 use Rattle.egt_index.specs.Index.{IsIndex, IsVoid}
@@ -8,20 +8,32 @@ use Rattle.egt_index.specs.Stood.{HasStand}
 use Rattle.egt_index.specs.TurnedMen.{IsSomeTurnedCodeWith}
 use Rattle.egt_index.specs.declared.stand.Stand.{Stand}
 use Rattle.egt_lanes.specs.Raised.{IsRaised}
-use Rattle.egt_lanes.specs.Scores.{byte_score}
-use Rattle.egt_table.specs.Table.{TableValue}
+use Rattle.egt_lanes.specs.Scores.{byte_score, reach_score}
+use Rattle.egt_table.specs.Table.{TableValue, entries_of}
 use Rattle.egt_table.specs.declared.column.Column.{Column}
-use Rattle.egt_table.specs.declared.column.Column.TheVariants.{Mate, Zeroing}
+use Rattle.egt_table.specs.declared.column.Column.TheVariants as columns
+use Rattle.egt_check.specs.declared.metric.Metric.{Metric}
+use Rattle.egt_check.specs.declared.metric.Metric.TheVariants.{Mate, Zeroing}
 use Rattle.egt_check.specs.Given.{AreAlike}
 use Rattle.egt_check.specs.Tables.{entry_at}
 
 -- the score of the entry at the code
-abbrev pub score_at : TableValue → Column → ℕ → ℕ
-score_at t column code = byte_score (entry_at t column code % 256)
+abbrev pub score_at : TableValue → Metric → ℕ → ℕ
+score_at t metric code = byte_score (entry_at t metric code % 256)
+
+-- the score of an entry below 256 of the column
+abbrev pub entry_score : Column → ℕ → ℕ
+entry_score columns.Mate e = byte_score e
+entry_score columns.Zeroing e = byte_score e
+entry_score columns.Reach e = reach_score e
+
+-- the same at the code, by columns
+abbrev pub column_score : TableValue → Column → ℕ → ℕ
+column_score t column code = entry_score column (slice_index (entries_of column t) code % 256)
 
 -- the greatest score of the codes that tell the men where turns take them, and a target where one was passed
 abbrev pub IsReadWith : Bool → TableValue → Column → Bool → Stand → Side → ℕ → Type 0
-IsReadWith passed t column flips stand side w = IsRaised 0 (λ code. IsSomeTurnedCodeWith passed t.class code flips stand side) (score_at t column) w
+IsReadWith passed t column flips stand side w = IsRaised 0 (λ code. IsSomeTurnedCodeWith passed t.class code flips stand side) (column_score t column) w
 
 -- and no target
 abbrev pub IsRead : TableValue → Column → Bool → Stand → Side → ℕ → Type 0
@@ -29,28 +41,28 @@ IsRead = IsReadWith false
 
 -- each void entry is 0, and each other one has a byte of its own, alike in both columns
 pub record HasBytes (t : TableValue) : Type 0 where
-  pub void : (column : Column) (i : ℕ) → i < size_of t.class → IsVoid t.class i → entry_at t column i ≡ 0
+  pub void : (metric : Metric) (i : ℕ) → i < size_of t.class → IsVoid t.class i → entry_at t metric i ≡ 0
   pub alike : (i : ℕ) → i < size_of t.class → ¬ IsVoid t.class i → AreAlike (entry_at t Mate i) (entry_at t Zeroing i)
 
 -- the score of the entry of a position with some of these men, and a target where one was passed
-pub record IsScoreWith (passed : Bool) (t : TableValue) (column : Column) (In : Stand → Type 0) (flips : Bool) (side : Side) (w : ℕ) : Type 0 where
+pub record IsScoreWith (passed : Bool) (t : TableValue) (metric : Metric) (In : Stand → Type 0) (flips : Bool) (side : Side) (w : ℕ) : Type 0 where
   pub stand : Stand
   pub in_stands : In stand
   pub position : Setup
   pub has : HasStand t.class flips stand side passed position
   pub index : ℕ
   pub is_index : IsIndex t.class position index
-  pub is : w ≡ score_at t column index
+  pub is : w ≡ score_at t metric index
 
 -- and no target
-abbrev pub IsScoreOf : TableValue → Column → (Stand → Type 0) → Bool → Side → ℕ → Type 0
+abbrev pub IsScoreOf : TableValue → Metric → (Stand → Type 0) → Bool → Side → ℕ → Type 0
 IsScoreOf = IsScoreWith false
 
 -- the greatest score of the entries of all such positions, or 0 where there is none
-pub record IsBestWith (passed : Bool) (t : TableValue) (column : Column) (In : Stand → Type 0) (flips : Bool) (side : Side) (w : ℕ) : Type 0 where
-  pub above : (stand : Stand) (q : Setup) → In stand → HasStand t.class flips stand side passed q → (i : ℕ) × IsIndex t.class q i × (score_at t column i ≤ w)
-  pub reached : (w ≡ 0) ⊎ IsScoreWith passed t column In flips side w
+pub record IsBestWith (passed : Bool) (t : TableValue) (metric : Metric) (In : Stand → Type 0) (flips : Bool) (side : Side) (w : ℕ) : Type 0 where
+  pub above : (stand : Stand) (q : Setup) → In stand → HasStand t.class flips stand side passed q → (i : ℕ) × IsIndex t.class q i × (score_at t metric i ≤ w)
+  pub reached : (w ≡ 0) ⊎ IsScoreWith passed t metric In flips side w
 
 -- of those without a target
-abbrev pub IsBestOf : TableValue → Column → (Stand → Type 0) → Bool → Side → ℕ → Type 0
+abbrev pub IsBestOf : TableValue → Metric → (Stand → Type 0) → Bool → Side → ℕ → Type 0
 IsBestOf = IsBestWith false

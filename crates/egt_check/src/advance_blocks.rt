@@ -11,13 +11,13 @@ ghost use Rattle.egt_lanes.specs.Advances.{AdvancesBy};
 ghost use Rattle.egt_lanes.specs.Blocks.{at};
 ghost use Rattle.egt_lanes.specs.Raised.{IsRaised};
 ghost use Rattle.egt_moves.specs.Promotion.{FitsPromotion, IsOfficer, arriving};
-ghost use Rattle.egt_table.specs.declared.column.Column.TheVariants.{Mate};
+ghost use Rattle.egt_table.specs.Table.{HasColumn};
 ghost use Rattle.egt_check.specs.InPassing.{AreLeapCodes, AreStepCodes};
 ghost use Rattle.egt_check.specs.Leaps.{IsBesideWhere};
 ghost use Rattle.egt_check.specs.PawnMoves.{AreAdvancedCodes, ArePromotedCodes, men_after, men_two, officer_of, stand_after};
 ghost use Rattle.egt_check.specs.QuietStands.{IsClear};
 ghost use Rattle.egt_check.specs.Takings.{IsPastKings, left_of, stand_left};
-ghost use Rattle.egt_check.specs.Worth.{IsReadWith, score_at};
+ghost use Rattle.egt_check.specs.Worth.{IsReadWith, column_score};
 
 use crate::blocks::{nothing, read_block};
 use crate::move_scores::men_swapped;
@@ -100,6 +100,7 @@ fn past_kings(men: &ShelfMen) -> SquareSet
 /// and his. False where the table does not tell.
 fn read_after(
     child: &Table,
+    column: Column,
     before: bool,
     flips: bool,
     passed: bool,
@@ -108,25 +109,18 @@ fn read_after(
     side: Side,
     out: &mut Block,
 ) -> bool
+    requires there { HasColumn column child.now }
     requires men { AreMenOf child.now.class (men_after before flips men.now man) }
-    ensures { result ≡ true → (a t : ℕ) → a < 64 → t < 64 → IsReadWith passed child.now Mate flips (stand_after before flips men.now a man t) (other_side side) (at out.new a t) }
+    ensures { result ≡ true → (a t : ℕ) → a < 64 → t < 64 → IsReadWith passed child.now column flips (stand_after before flips men.now a man t) (other_side side) (at out.new a t) }
 {
     let after = men_after(before, flips, men, man);
     if !before {
-        return read_block(
-            child,
-            Column::Mate,
-            flips,
-            passed,
-            &after,
-            side.other(),
-            out,
-        );
+        return read_block(child, column, flips, passed, &after, side.other(), out);
     }
     let mut scores = nothing();
     if !read_block(
         child,
-        Column::Mate,
+        column,
         flips,
         passed,
         &after,
@@ -156,6 +150,7 @@ fn raise_advances(men: &ShelfMen, arrivals: SquareSet, side: Side, scores: &Bloc
 /// The scores of the positions after the last man, a pawn of that side, advanced, and was promoted so on the last rank. False where the table does not tell.
 pub(crate) fn advance_block(
     child: &Table,
+    column: Column,
     before: bool,
     flips: bool,
     men: &ShelfMen,
@@ -163,10 +158,11 @@ pub(crate) fn advance_block(
     side: Side,
     out: &mut Block,
 ) -> bool
+    requires there { HasColumn column child.now }
     requires men { AreMenOf child.now.class (men_after before flips men.now (arriving men.now.last promo)) }
     requires promo { IfSome promo IsOfficer }
     ensures { result ≡ true → (a b : ℕ) → a < 64 → b < 64 →
-        IsRaised 0 (AreAdvancedCodes child.now.class before flips men.now side promo a b) (score_at child.now Mate) (at out.new a b) }
+        IsRaised 0 (AreAdvancedCodes child.now.class before flips men.now side promo a b) (column_score child.now column) (at out.new a b) }
 {
     *out = nothing();
     if !is_pawn_of(men.last, side) {
@@ -174,7 +170,17 @@ pub(crate) fn advance_block(
     }
     let man = arriving(men.last, promo);
     let mut scores = nothing();
-    if !read_after(child, before, flips, false, men, man, side, &mut scores) {
+    if !read_after(
+        child,
+        column,
+        before,
+        flips,
+        false,
+        men,
+        man,
+        side,
+        &mut scores,
+    ) {
         return false;
     }
     raise_advances(men, arrivals(promo, side), side, &scores, out);
@@ -238,17 +244,35 @@ fn raise_leaps(men: &ShelfMen, beside: bool, side: Side, scores: &Block, out: &m
 
 /// The scores of the positions after the last man, a pawn of that side, advanced and left no target, where the first is a pawn of the other. False where
 /// the table does not tell.
-fn step_facing(own: &Table, first: bool, men: &ShelfMen, side: Side, out: &mut Block) -> bool
+fn step_facing(
+    own: &Table,
+    column: Column,
+    first: bool,
+    men: &ShelfMen,
+    side: Side,
+    out: &mut Block,
+) -> bool
+    requires there { HasColumn column own.now }
     requires men { AreMenOf own.now.class (men_after first false men.now men.now.last) }
     requires facing { men.now.one ≡ pawn_of (other_side side) }
-    ensures { result ≡ true → (a b : ℕ) → a < 64 → b < 64 → IsRaised 0 (AreStepCodes own.now.class first men.now side a b) (score_at own.now Mate) (at out.new a b) }
+    ensures { result ≡ true → (a b : ℕ) → a < 64 → b < 64 → IsRaised 0 (AreStepCodes own.now.class first men.now side a b) (column_score own.now column) (at out.new a b) }
 {
     *out = nothing();
     if !is_pawn_of(men.last, side) {
         return true;
     }
     let mut scores = nothing();
-    if !read_after(own, first, false, false, men, men.last, side, &mut scores) {
+    if !read_after(
+        own,
+        column,
+        first,
+        false,
+        false,
+        men,
+        men.last,
+        side,
+        &mut scores,
+    ) {
         return false;
     }
     raise_steps(men, arrivals(None, side), side, &scores, out);
@@ -259,38 +283,52 @@ fn step_facing(own: &Table, first: bool, men: &ShelfMen, side: Side, out: &mut B
 /// The scores of the positions after the last man, a pawn of that side, advanced and left no target. False where the table does not tell.
 pub(crate) fn step_block(
     own: &Table,
+    column: Column,
     first: bool,
     men: &ShelfMen,
     side: Side,
     out: &mut Block,
 ) -> bool
+    requires there { HasColumn column own.now }
     requires men { AreMenOf own.now.class (men_after first false men.now men.now.last) }
-    ensures { result ≡ true → (a b : ℕ) → a < 64 → b < 64 → IsRaised 0 (AreStepCodes own.now.class first men.now side a b) (score_at own.now Mate) (at out.new a b) }
+    ensures { result ≡ true → (a b : ℕ) → a < 64 → b < 64 → IsRaised 0 (AreStepCodes own.now.class first men.now side a b) (column_score own.now column) (at out.new a b) }
 {
     if is_pawn_of(men.one, side.other()) {
-        step_facing(own, first, men, side, out)
+        step_facing(own, column, first, men, side, out)
     } else {
-        advance_block(own, first, false, men, None, side, out)
+        advance_block(own, column, first, false, men, None, side, out)
     }
 }
 
 /// The scores of the positions after the last man, a pawn of that side, advanced and left a target. False where the table does not tell.
 pub(crate) fn leap_block(
     own: &Table,
+    column: Column,
     first: bool,
     men: &ShelfMen,
     side: Side,
     out: &mut Block,
 ) -> bool
+    requires there { HasColumn column own.now }
     requires men { AreMenOf own.now.class (men_after first false men.now men.now.last) }
-    ensures { result ≡ true → (a b : ℕ) → a < 64 → b < 64 → IsRaised 0 (AreLeapCodes own.now.class first men.now side a b) (score_at own.now Mate) (at out.new a b) }
+    ensures { result ≡ true → (a b : ℕ) → a < 64 → b < 64 → IsRaised 0 (AreLeapCodes own.now.class first men.now side a b) (column_score own.now column) (at out.new a b) }
 {
     *out = nothing();
     if !is_pawn_of(men.last, side) || !is_pawn_of(men.one, side.other()) {
         return true;
     }
     let mut scores = nothing();
-    if !read_after(own, first, false, true, men, men.last, side, &mut scores) {
+    if !read_after(
+        own,
+        column,
+        first,
+        false,
+        true,
+        men,
+        men.last,
+        side,
+        &mut scores,
+    ) {
         return false;
     }
     raise_leaps(men, true, side, &scores, out);
@@ -301,16 +339,18 @@ pub(crate) fn leap_block(
 /// not tell.
 pub(crate) fn promoting_block(
     child: &Table,
+    column: Column,
     flips: bool,
     men: &ShelfMen,
     kind: Kind,
     side: Side,
     out: &mut Block,
 ) -> bool
+    requires there { HasColumn column child.now }
     requires lone { IsLoneMan child.now.class (turned_man flips (officer_of side kind)) }
     requires officer { IsOfficer kind }
     ensures { result ≡ true → (a b : ℕ) → a < 64 → b < 64 →
-        IsRaised 0 (ArePromotedCodes child.now.class flips men.now side kind a b) (score_at child.now Mate) (at out.new a b) }
+        IsRaised 0 (ArePromotedCodes child.now.class flips men.now side kind a b) (column_score child.now column) (at out.new a b) }
 {
     *out = nothing();
     if !is_pawn_of(men.last, side) || !is_of(men.one, side.other()) {
@@ -324,7 +364,7 @@ pub(crate) fn promoting_block(
         last: men.last,
     };
     let mut scores = Row::splat(0);
-    if !read_left(child, flips, &promoted, side, &mut scores) {
+    if !read_left(child, column, flips, &promoted, side, &mut scores) {
         return false;
     }
     let arrived = kept(scores, rank_squares(side.last_rank()));

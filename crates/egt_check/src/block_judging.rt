@@ -1,18 +1,14 @@
 //! The judgement of all entries with the kings on two squares, in classes with two men beside the kings.
-ghost use Rattle.std.specs.Prelude.{◌≡◌, ◌≢◌, ◌+◌, ◌<◌, ℕ, true, IfSome, slice_index};
-ghost use Rattle.egt_board.specs.Turned.{turned_man};
-ghost use Rattle.egt_board.specs.declared.man.Kind.TheVariants.{K};
-ghost use Rattle.egt_index.specs.LoneCodes.{IsLoneMan};
+ghost use Rattle.std.specs.Prelude.{◌≡◌, ◌+◌, ◌<◌, ℕ, true, slice_index};
 ghost use Rattle.egt_index.specs.Numbers.{code_of};
 ghost use Rattle.egt_index.specs.Scales.{kind_digits, kind_less};
 ghost use Rattle.egt_index.specs.ShelfCodes.{AreMenOf, number_in};
 ghost use Rattle.egt_lanes.specs.Blocks.{at};
-ghost use Rattle.egt_table.specs.declared.column.Column.{Column};
+ghost use Rattle.egt_table.specs.declared.column.Column.TheVariants as columns;
+ghost use Rattle.egt_check.specs.declared.part.Part.TheVariants as parts;
 ghost use Rattle.egt_check.specs.Blocks.{men_on};
-ghost use Rattle.egt_check.specs.MoveScores.{AreTablesOf};
-ghost use Rattle.egt_check.specs.PawnScores.{ArePromotionsOf};
+ghost use Rattle.egt_check.specs.MoveScores.{AreFourMen, AreTablesOf};
 ghost use Rattle.egt_check.specs.RightBlock.{AreJudged, IsRightLane};
-ghost use Rattle.egt_check.specs.Taken.{men_swapped};
 ghost use Rattle.egt_check.specs.Tables.{Tables};
 
 use crate::blocks::nothing;
@@ -27,7 +23,7 @@ use egt_lanes::{Block, Row};
 use egt_table::Table;
 
 /// The men with the first one on the square.
-fn men_on(men: &ShelfMen, on: Square) -> ShelfMen
+pub(crate) fn men_on(men: &ShelfMen, on: Square) -> ShelfMen
     ensures { result ≡ men_on men.now on }
 {
     ShelfMen {
@@ -110,17 +106,10 @@ pub(crate) fn block_is_right(
     half: u32,
     side: Side,
 ) -> bool
-    requires men { AreMenOf four.now.own.now.class men.now }
-    requires one { men.now.one.kind ≢ K }
-    requires last { men.now.last.kind ≢ K }
-    requires first_left { IsLoneMan four.now.first.now.class (turned_man four.now.first_flips men.now.one) }
-    requires last_left { IsLoneMan four.now.last.now.class (turned_man four.now.last_flips men.now.last) }
-    requires first_pawn { IfSome four.now.first_pawn (λ kinds. ArePromotionsOf kinds (men_swapped men.now)) }
-    requires last_pawn { IfSome four.now.last_pawn (λ kinds. ArePromotionsOf kinds men.now) }
-    requires same { men.now.one ≡ men.now.last → four.now.first_pawn ≡ four.now.last_pawn }
+    requires men { AreFourMen columns.Mate four.now men.now }
     requires room { first + half + 64 < 4294967296 }
-    ensures { result ≡ true → (tables : Tables) → AreTablesOf tables four.now men.now → (column : Column) →
-        AreJudged tables four.now.own.now column men.now first side × AreJudged tables four.now.own.now column men.now (first + half) side }
+    ensures { result ≡ true → (tables : Tables) → AreTablesOf tables four.now men.now →
+        AreJudged parts.Values tables four.now.own.now men.now first side × AreJudged parts.Values tables four.now.own.now men.now (first + half) side }
 {
     entries_due_to_all_moves_are_right();
     let mut mates = nothing();

@@ -5,6 +5,7 @@ ghost use Rattle.egt_board.specs.Turned.{turned_side, turned_square};
 ghost use Rattle.egt_class.specs.Material.{has_equal_sides};
 ghost use Rattle.egt_index.specs.ShelfCodes.{AreMenOf};
 ghost use Rattle.egt_lanes.specs.Blocks.{at};
+ghost use Rattle.egt_table.specs.Table.{HasColumn};
 ghost use Rattle.egt_check.specs.Blocks.{IsRaisedAfter, IsRaisedHome, men_across, settled_at, stand_on, turned_from};
 ghost use Rattle.egt_check.specs.Worth.{IsReadWith};
 
@@ -56,6 +57,7 @@ fn raise_row(
     passed: bool,
     out: &mut Block,
 ) -> bool
+    requires there { HasColumn column table.now }
     requires men { AreMenOf table.now.class men.now }
     requires turn { turn < 16 }
     ensures others { (a b : ℕ) → a ≢ on → at out.new a b ≡ at out.old a b }
@@ -85,6 +87,7 @@ fn raise_turned(
     passed: bool,
     out: &mut Block,
 ) -> bool
+    requires there { HasColumn column table.now }
     requires men { AreMenOf table.now.class men.now }
     requires turn { turn < 16 }
     ensures { result ≡ true → (a b : ℕ) → a < 64 → b < 64 → IsRaisedAfter passed table.now column turn (stand_on men.now a b) side (at out.old a b) (at out.new a b) }
@@ -107,6 +110,7 @@ fn raise_home(
     side: Side,
     out: &mut Block,
 ) -> bool
+    requires there { HasColumn column table.now }
     requires men { AreMenOf table.now.class men.now }
     ensures { result ≡ true → (a b : ℕ) → a < 64 → b < 64 → IsRaisedHome passed table.now column flips (stand_on men.now a b) side (at out.old a b) (at out.new a b) }
 {
@@ -145,6 +149,7 @@ pub(crate) fn gather(
     own: &mut Block,
     across: &mut Block,
 ) -> bool
+    requires there { HasColumn column table.now }
     requires men { AreMenOf table.now.class men.now }
     ensures own { result ≡ true → (a b : ℕ) → a < 64 → b < 64 → IsRaisedHome passed table.now column flips (stand_on men.now a b) side (at own.old a b) (at own.new a b) }
     ensures across { result ≡ true → has_equal_sides table.now.class ≡ true → (a b : ℕ) → a < 64 → b < 64 →
@@ -207,6 +212,7 @@ pub(crate) fn read_block(
     side: Side,
     out: &mut Block,
 ) -> bool
+    requires there { HasColumn column table.now }
     requires men { AreMenOf table.now.class men.now }
     ensures { result ≡ true → (a b : ℕ) → a < 64 → b < 64 → IsReadWith passed table.now column flips (stand_on men.now a b) side (at out.new a b) }
 {

@@ -1,11 +1,16 @@
 //! Tables whose entries have bytes of their own.
-ghost use Rattle.std.specs.Prelude.{◌≡◌, true};
+ghost use Rattle.std.specs.Prelude.{◌≡◌, true, IsSome};
+ghost use Rattle.egt_table.specs.Table.{HasColumn};
+ghost use Rattle.egt_check.specs.declared.part.Part.TheVariants as parts;
+ghost use Rattle.egt_check.specs.Parts.{column_of, table_in};
 ghost use Rattle.egt_check.specs.Truth.{IsTrueTable};
-ghost use Rattle.egt_check.specs.Voids.{AreAllAlike};
+ghost use Rattle.egt_check.specs.Voids.{AreAllAlike, TellsVoids};
 ghost use Rattle.egt_check.specs.Worth.{HasBytes};
 
+use crate::part::Part;
 use crate::voids::tells_voids;
 use egt_lanes::alike::columns_are_alike;
+use egt_lanes::near::column_is_near;
 use egt_table::{Column, Table};
 
 /// Whether at each code both entries are 0, or have bytes of their own, alike in both columns.
@@ -26,9 +31,30 @@ pub(crate) fn tells_bytes(table: &Table) -> bool
 }
 
 /// The same of a true table, which is not asked which codes no position has.
-pub(crate) fn true_table_tells_bytes(table: &Table) -> bool
+fn true_table_tells_bytes(table: &Table) -> bool
     requires { IsTrueTable table.now }
     ensures { result ≡ true → HasBytes table.now }
 {
     are_alike(table)
+}
+
+/// Whether the entries of the nearest mates have bytes of their own, and are 0 where the mate entries are.
+pub(crate) fn tells_reach_bytes(table: &Table) -> bool
+    requires there { IsSome table.now.reach }
+    requires voids { TellsVoids table.now }
+    ensures { result ≡ true → HasBytes (table_in parts.Reach table.now) }
+{
+    column_is_near(table.entries(Column::Mate), table.entries(Column::Reach))
+}
+
+/// Whether a true table has the part's columns, and their bytes tell its entries.
+pub(crate) fn true_table_tells(table: &Table, part: Part) -> bool
+    requires { IsTrueTable table.now }
+    ensures there { result ≡ true → HasColumn (column_of part) table.now }
+    ensures bytes { result ≡ true → HasBytes (table_in part table.now) }
+{
+    match part {
+        Part::Values => true_table_tells_bytes(table),
+        Part::Reach => table.has_reach() && tells_reach_bytes(table),
+    }
 }

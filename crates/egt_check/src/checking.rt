@@ -1,15 +1,18 @@
 //! The judgement of a whole table.
-ghost use Rattle.std.specs.Prelude.{◌≡◌, ◌↔◌, ◌≤◌, IsOk, IfOk, IfErr, IfSome, IfNone};
+ghost use Rattle.std.specs.Prelude.{◌≡◌, ◌↔◌, ◌≤◌, IsOk, IfOk, IfErr, IfSome, IfNone, IsSome, IsTrue};
 ghost use Rattle.egt_index.specs.Size.{size_of};
-ghost use Rattle.egt_table.specs.declared.column.Column.{Column};
-ghost use Rattle.egt_table.specs.declared.column.Column.TheVariants.{Mate};
-ghost use Rattle.egt_check.specs.Tables.{table_at, beside, HasChildren};
-ghost use Rattle.egt_check.specs.Library.{IsAccepted, IsRefused, IsFirstBreak, IsFirstMissing};
-ghost use Rattle.egt_check.specs.Rules.{KeepsBelow, KeepsRules};
-ghost use Rattle.egt_check.specs.FirstBad.{earlier, IsFirstBad};
+ghost use Rattle.egt_table.specs.declared.column.Column.TheVariants as columns;
+ghost use Rattle.egt_check.specs.declared.metric.Metric.{Metric};
+ghost use Rattle.egt_check.specs.declared.metric.Metric.TheVariants.{Mate};
+ghost use Rattle.egt_check.specs.Tables.{table_at, beside, HasChildren, HasReachChildren};
+ghost use Rattle.egt_check.specs.Library.{IsAccepted, IsRefused, IsFirstBreak, IsFirstLacking, IsFirstMissing, LacksReach, ReachesDown};
+ghost use Rattle.egt_check.specs.Rules.{KeepsBelow, KeepsReachBelow};
+ghost use Rattle.egt_check.specs.FirstBad.{earlier, IsFirstBad, IsFirstBadReach};
 
 use crate::judging::judge;
 use crate::library::Library;
+use crate::reach_blocks::reach_is_right_by_blocks;
+use crate::reach_judging::judge_reach;
 use crate::reject::Reject;
 use crate::rule::Rule;
 use crate::table_judging::is_right_by_blocks;
@@ -27,6 +30,31 @@ pub fn first_missing(class: Class, library: &Library) -> Option<Class>
     let children = children(class);
     for child in children.as_slice() {
         if library.get(*child).is_none() {
+            return Some(*child);
+        }
+    }
+    None
+}
+
+/// Whether the class has a table that lacks the column of the nearest mates.
+fn lacks_reach(library: &Library, class: Class) -> bool
+    ensures { IsTrue result ↔ LacksReach (table_at library.now class) }
+{
+    match library.get(class) {
+        Some(table) => !table.has_reach(),
+        None => false,
+    }
+}
+
+/// The least child of the class whose table lacks the column of the nearest mates, if there is one.
+pub fn first_lacking(class: Class, library: &Library) -> Option<Class>
+    ensures some { IfSome result (IsFirstLacking (table_at library.now) class) }
+    ensures none { IfNone result (HasReachChildren (table_at library.now) class) }
+{
+    children_have_smaller_numbers();
+    let children = children(class);
+    for child in children.as_slice() {
+        if lacks_reach(library, *child) {
             return Some(*child);
         }
     }
@@ -58,10 +86,10 @@ fn judge_from(
 ) -> Result<Option<(u32, Rule)>, (u32, Rule)>
     requires children { HasChildren (table_at library.now) table.now.class }
     requires within { first ≤ size_of table.now.class }
-    requires before { (column : Column) → KeepsBelow (beside (table_at library.now) table.now) table.now column first }
+    requires before { (metric : Metric) → KeepsBelow (beside (table_at library.now) table.now) table.now metric first }
     ensures kept { IfOk result (λ bad. KeepsBelow (beside (table_at library.now) table.now) table.now Mate (size_of table.now.class)) }
     ensures zeroing { IfOk result (IsFirstBad (beside (table_at library.now) table.now) table.now (size_of table.now.class)) }
-    ensures broken { IfErr result (λ bad. IsFirstBreak (beside (table_at library.now) table.now) table.now Mate bad.0 bad.1) }
+    ensures broken { IfErr result (λ bad. IsFirstBreak (beside (table_at library.now) table.now) table.now columns.Mate bad.0 bad.1) }
 {
     let mut bad = None;
     for index in first..size(table.class()) {
@@ -79,7 +107,7 @@ fn judge_table(table: &Table, library: &Library) -> Result<Option<(u32, Rule)>, 
     requires { HasChildren (table_at library.now) table.now.class }
     ensures kept { IfOk result (λ bad. KeepsBelow (beside (table_at library.now) table.now) table.now Mate (size_of table.now.class)) }
     ensures zeroing { IfOk result (IsFirstBad (beside (table_at library.now) table.now) table.now (size_of table.now.class)) }
-    ensures broken { IfErr result (λ bad. IsFirstBreak (beside (table_at library.now) table.now) table.now Mate bad.0 bad.1) }
+    ensures broken { IfErr result (λ bad. IsFirstBreak (beside (table_at library.now) table.now) table.now columns.Mate bad.0 bad.1) }
 {
     if is_right_by_blocks(table, library) {
         return Ok(None);
@@ -87,11 +115,12 @@ fn judge_table(table: &Table, library: &Library) -> Result<Option<(u32, Rule)>, 
     judge_from(table, library, 0)
 }
 
-/// Judges every entry of a table whose class's children have their tables: the mate column to its first bad entry, and the
-/// zeroing column beside it.
-fn judge_all(table: &Table, library: &Library) -> Result<(), Reject>
-    requires { HasChildren (table_at library.now) table.now.class }
-    ensures exact { IsOk result ↔ KeepsRules (beside (table_at library.now) table.now) table.now }
+/// Judges every entry of the mate column and of the zeroing column of a table whose class's children have their tables: the mate column to its first
+/// bad entry, and the zeroing column beside it.
+fn judge_values(table: &Table, library: &Library) -> Result<(), Reject>
+    requires children { HasChildren (table_at library.now) table.now.class }
+    requires down { ReachesDown (table_at library.now) table.now }
+    ensures exact { IsOk result ↔ ((metric : Metric) → KeepsBelow (beside (table_at library.now) table.now) table.now metric (size_of table.now.class)) }
     ensures reason { IfErr result (IsRefused (table_at library.now) table.now) }
 {
     match judge_table(table, library) {
@@ -109,19 +138,79 @@ fn judge_all(table: &Table, library: &Library) -> Result<(), Reject>
     }
 }
 
-/// Whether every entry of the table keeps every rule beside the entries of the successors, which stand in the table itself or
-/// in those of its children. It takes no memory.
-///
-/// # Errors
-///
-/// `Missing` with the least child that the library has no table of; else `Rejected` with the first column that has a bad entry,
-/// mate before zeroing, the least index of one there, and the first rule that it breaks.
-pub fn check(table: &Table, library: &Library) -> Result<(), Reject>
-    ensures exact { IsOk result ↔ IsAccepted (table_at library.now) table.now }
+/// The first bad entry of the column of the nearest mates and the first rule that it breaks, if there is one.
+fn first_bad_reach(table: &Table, library: &Library) -> Option<(u32, Rule)>
+    requires there { IsSome table.now.reach }
+    requires children { HasChildren (table_at library.now) table.now.class }
+    requires reach_children { HasReachChildren (table_at library.now) table.now.class }
+    ensures some { IfSome result (λ bad. IsFirstBadReach (beside (table_at library.now) table.now) table.now bad.0 bad.1) }
+    ensures none { IfNone result (KeepsReachBelow (beside (table_at library.now) table.now) table.now (size_of table.now.class)) }
+{
+    for index in 0..size(table.class()) {
+        if let Some(rule) = judge_reach(table, library, index) {
+            return Some((index, rule));
+        }
+    }
+    None
+}
+
+/// Judges every entry of the column of the nearest mates, where all others keep the rules: by blocks where that tells that all are right, else one by
+/// one.
+fn judge_reaches(table: &Table, library: &Library) -> Result<(), Reject>
+    requires there { IsSome table.now.reach }
+    requires children { HasChildren (table_at library.now) table.now.class }
+    requires reach_children { HasReachChildren (table_at library.now) table.now.class }
+    requires values { (metric : Metric) → KeepsBelow (beside (table_at library.now) table.now) table.now metric (size_of table.now.class) }
+    ensures exact { IsOk result ↔ KeepsReachBelow (beside (table_at library.now) table.now) table.now (size_of table.now.class) }
+    ensures reason { IfErr result (IsRefused (table_at library.now) table.now) }
+{
+    if reach_is_right_by_blocks(table, library) {
+        return Ok(());
+    }
+    match first_bad_reach(table, library) {
+        Some((index, rule)) => Err(Reject::Rejected {
+            column: Column::Reach,
+            index,
+            rule,
+        }),
+        None => Ok(()),
+    }
+}
+
+/// Sees that the children's tables have what the judgement reads.
+fn check_children(table: &Table, library: &Library) -> Result<(), Reject>
+    ensures exact { IsOk result ↔ (HasChildren (table_at library.now) table.now.class × ReachesDown (table_at library.now) table.now) }
     ensures reason { IfErr result (IsRefused (table_at library.now) table.now) }
 {
     if let Some(child) = first_missing(table.class(), library) {
         return Err(Reject::Missing(child));
     }
-    judge_all(table, library)
+    if !table.has_reach() {
+        return Ok(());
+    }
+    match first_lacking(table.class(), library) {
+        Some(child) => Err(Reject::NoReach(child)),
+        None => Ok(()),
+    }
+}
+
+/// Whether every entry of the table keeps every rule beside the entries of the successors, which stand in the table itself or
+/// in those of its children. It takes no memory.
+///
+/// # Errors
+///
+/// `Missing` with the least child that the library has no table of; else, where the table has the column of the nearest mates, `NoReach` with the least
+/// child whose table lacks it; else `Rejected` with the first column that has a bad entry, mate before zeroing before reach, the least index of one
+/// there, and the first rule that it breaks.
+pub fn check(table: &Table, library: &Library) -> Result<(), Reject>
+    ensures exact { IsOk result ↔ IsAccepted (table_at library.now) table.now }
+    ensures reason { IfErr result (IsRefused (table_at library.now) table.now) }
+{
+    check_children(table, library)?;
+    judge_values(table, library)?;
+    if table.has_reach() {
+        judge_reaches(table, library)
+    } else {
+        Ok(())
+    }
 }

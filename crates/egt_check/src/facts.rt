@@ -15,6 +15,7 @@ use egt_index::laws::{
 use egt_moves::laws::{
     entries_are_true, images_keep_steps, moves_lead_to_one, settling_keeps_steps, true_entries_fit,
 };
+use egt_moves::reaching::reach_entries_are_true;
 
 /// What holds of play, images, classes and indexes.
 pub fn facts()
@@ -29,6 +30,7 @@ pub fn facts()
     moves_lead_to_one();
     entries_are_true();
     true_entries_fit();
+    reach_entries_are_true();
     every_position_has_a_class();
     a_position_has_one_class();
     settling_keeps_the_class();

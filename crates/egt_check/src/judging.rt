@@ -3,15 +3,15 @@ ghost use Rattle.std.specs.Prelude.{◌≡◌, ◌↔◌, ◌<◌, ◌==◌, if�
 ghost use Rattle.egt_index.specs.Size.{size_of};
 ghost use Rattle.egt_moves.specs.Arena.{NoMove};
 ghost use Rattle.egt_moves.specs.Chess.{chess};
-ghost use Rattle.egt_table.specs.declared.column.Column.{Column};
-ghost use Rattle.egt_table.specs.declared.column.Column.TheVariants.{Mate, Zeroing};
+ghost use Rattle.egt_check.specs.declared.metric.Metric.{Metric};
+ghost use Rattle.egt_check.specs.declared.metric.Metric.TheVariants.{Mate, Zeroing};
 ghost use Rattle.egt_check.specs.Judged.{rule_of, IsOfKind, Finds, FindsVoid};
 ghost use Rattle.egt_check.specs.Rules.{IsJudged};
 ghost use Rattle.egt_check.specs.Score.{number_at, IsAtEnd, IsDue};
 ghost use Rattle.egt_check.specs.Steps.{IsInClass, shown_by};
 ghost use Rattle.egt_check.specs.Tables.{table_at, beside, HasChildren};
 
-use crate::by_column::ByColumn;
+use crate::by_metric::ByMetric;
 use crate::facts::facts;
 use crate::library::Library;
 use crate::outcome::{Outcome, entry_before, shown};
@@ -97,7 +97,7 @@ fn judge_zeroing(mate: u16, zeroing: u16, due: u16) -> Option<Rule>
 }
 
 /// The first rules that the mate entry and the zeroing entry of a position break beside those that are due, if they break one.
-fn judge_entries(entries: &ByColumn, due: &ByColumn) -> (Option<Rule>, Option<Rule>)
+fn judge_entries(entries: &ByMetric, due: &ByMetric) -> (Option<Rule>, Option<Rule>)
     ensures mate { Finds Mate entries.now.mate entries.now.mate due.now.mate result.0 }
     ensures zeroing { Finds Zeroing entries.now.mate entries.now.zeroing due.now.zeroing result.1 }
 {
@@ -119,21 +119,21 @@ fn entry_at_end(position: &Position) -> u16
 }
 
 /// The entries that are due to a position of the table's class.
-fn due(table: &Table, library: &Library, position: &Position) -> ByColumn
+fn due(table: &Table, library: &Library, position: &Position) -> ByMetric
     requires own { IsInClass table.now.class position.now }
     requires children { HasChildren (table_at library.now) table.now.class }
-    ensures { (column : Column) → IsDue (shown_by library.now table.now) column position.now (number_at result column) }
+    ensures { (metric : Metric) → IsDue (shown_by library.now table.now) metric position.now (number_at result metric) }
 {
     facts();
     let _side = position.side();
     match best(table, library, position) {
-        Some(best) => ByColumn {
+        Some(best) => ByMetric {
             mate: entry_before(best.mate),
             zeroing: entry_before(best.zeroing),
         },
         None => {
             let entry = entry_at_end(position);
-            ByColumn {
+            ByMetric {
                 mate: entry,
                 zeroing: entry,
             }
@@ -142,7 +142,7 @@ fn due(table: &Table, library: &Library, position: &Position) -> ByColumn
 }
 
 /// The first rules that the mate entry and the zeroing entry break where no position has the index, if they break one.
-fn judge_voids(entries: &ByColumn) -> (Option<Rule>, Option<Rule>)
+fn judge_voids(entries: &ByMetric) -> (Option<Rule>, Option<Rule>)
     ensures mate { FindsVoid entries.now.mate result.0 }
     ensures zeroing { FindsVoid entries.now.zeroing result.1 }
 {

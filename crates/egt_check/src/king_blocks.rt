@@ -5,8 +5,9 @@ ghost use Rattle.egt_board.specs.SquareSet.{Has};
 ghost use Rattle.egt_index.specs.ShelfCodes.{AreMenOf};
 ghost use Rattle.egt_lanes.specs.Blocks.{at};
 ghost use Rattle.egt_lanes.specs.Raised.{IsRaised};
+ghost use Rattle.egt_table.specs.Table.{HasColumn};
 ghost use Rattle.egt_check.specs.Blocks.{AreTurnedCodes, IsBesideKing, king_of_men, with_king};
-ghost use Rattle.egt_check.specs.Worth.{score_at};
+ghost use Rattle.egt_check.specs.Worth.{column_score};
 
 use crate::blocks::{are_equal, gather, nothing, settle};
 use egt_board::gait::reach_past;
@@ -67,9 +68,10 @@ pub(crate) fn king_block(
     side: Side,
     out: &mut Block,
 ) -> bool
+    requires there { HasColumn column table.now }
     requires men { AreMenOf table.now.class men.now }
     ensures { result ≡ true → (a b : ℕ) → a < 64 → b < 64 →
-        IsRaised 0 (AreTurnedCodes false table.now.class (IsBesideKing men.now side) (with_king men.now side) false (other_side side) a b) (score_at table.now column) (at out.new a b) }
+        IsRaised 0 (AreTurnedCodes false table.now.class (IsBesideKing men.now side) (with_king men.now side) false (other_side side) a b) (column_score table.now column) (at out.new a b) }
 {
     *out = nothing();
     let mut across = nothing();

@@ -14,7 +14,7 @@ ghost use Rattle.egt_moves.specs.Legal.{Leads};
 ghost use Rattle.egt_moves.specs.declared.chess_move.Move.{Move};
 ghost use Rattle.egt_board.specs.declared.man.Side.{Side};
 ghost use Rattle.egt_index.specs.declared.stand.Stand.{Stand};
-ghost use Rattle.egt_table.specs.declared.column.Column.{Column};
+ghost use Rattle.egt_check.specs.declared.metric.Metric.{Metric};
 ghost use Rattle.egt_board.specs.Man.{other_side};
 ghost use Rattle.egt_board.specs.declared.man.Kind.TheVariants.{K};
 ghost use Rattle.egt_index.specs.Stood.{HasStand};
@@ -33,11 +33,12 @@ ghost use Rattle.egt_check.specs.RightRow.{IsRightAt};
 ghost use Rattle.egt_check.specs.declared.move_scores.FourMen.{FourMen};
 ghost use Rattle.egt_index.specs.Size.{size_of};
 ghost use Rattle.egt_index.specs.StepCodes.{TellsMen};
-ghost use Rattle.egt_table.specs.declared.column.Column.TheVariants.{Mate, Zeroing};
+ghost use Rattle.egt_check.specs.declared.metric.Metric.TheVariants.{Mate, Zeroing};
 ghost use Rattle.egt_check.specs.Worth.{HasBytes, score_at};
 ghost use Rattle.egt_lanes.specs.Raised.{IsRaised};
 ghost use Rattle.egt_moves.specs.Arena.{NoMove};
 ghost use Rattle.egt_check.specs.Tables.{Tables, entry_at};
+ghost use Rattle.egt_check.specs.Library.{ReachesDown};
 ghost use Rattle.egt_check.specs.Rules.{KeepsRules};
 ghost use Rattle.egt_check.specs.Truth.{IsTrueTable, HasTrueChildren};
 
@@ -54,10 +55,10 @@ use egt_index::laws::{
 };
 
 /// Where the children's tables are true, the entries of a table keep all rules exactly where the table is true: each entry is
-/// the value or the zeroing distance of its position, void entries are 0, and no distance is above 32,000.
+/// the value, the zeroing distance or the distance of the nearest mate of its position, void entries are 0, and no distance is above 32,000.
 pub fn rules_are_kept_by_true_tables_alone()
     ensures { (tables : Tables) (t : TableValue) → IsTable t → tables t.class ≡ Some t → HasTrueChildren tables t.class →
-        KeepsRules tables t ↔ IsTrueTable t }
+        ReachesDown tables t → KeepsRules tables t ↔ IsTrueTable t }
 {
     facts();
 }
@@ -91,10 +92,10 @@ pub fn a_quiet_move_moves_one_man()
 pub fn due_bytes_are_right()
     ensures due { (tables : Tables) (t : TableValue) (i : ℕ) (p : Setup) (g z : ℕ) → Spells t.class i p → ¬ IsVoid t.class i → AreAlike (entry_at t Mate i) (entry_at t Zeroing i) →
         AreGiven tables p (λ m. Unit {0}) g z → g ≢ 0 → byte_score (entry_at t Mate i) ≡ due_score g → byte_score (entry_at t Zeroing i) ≡ due_score z →
-        (column : Column) → IsJudged tables t column i None }
+        (metric : Metric) → IsJudged tables t metric i None }
     ensures none { (tables : Tables) (p : Setup) (g z : ℕ) → IsAdmissible p → AreGiven tables p (λ m. Unit {0}) g z → g ≡ 0 → NoMove chess p }
     ensures end { (tables : Tables) (t : TableValue) (i : ℕ) (p : Setup) (x : ℕ) → Spells t.class i p → ¬ IsVoid t.class i → AreAlike (entry_at t Mate i) (entry_at t Zeroing i) →
-        NoMove chess p → IsAtEnd p x → entry_at t Mate i ≡ x → entry_at t Zeroing i ≡ x → (column : Column) → IsJudged tables t column i None }
+        NoMove chess p → IsAtEnd p x → entry_at t Mate i ≡ x → entry_at t Zeroing i ≡ x → (metric : Metric) → IsJudged tables t metric i None }
 {
     facts();
     codes_spell_one_position();
@@ -160,16 +161,11 @@ pub fn codes_after_captures_give_the_captures()
     captures_lead_to_three_men();
 }
 
-/// Entries that are due to the greatest scores of all moves keep the rules, whether or not their code is an index.
-pub fn entries_due_to_all_moves_are_right()
-    ensures { (tables : Tables) (four : FourMen) (men : ShelfMen) (side : Side) (passed : Bool) (a b i mate zeroing : ℕ) → AreTablesOf tables four men → men.one.kind ≢ K → men.last.kind ≢ K →
-        i < size_of four.own.now.class → TellsMen passed four.own.now.class i (stand_on men a b) side → AreAllScores passed four men side a b mate zeroing → (score_at four.own.now Mate i ≢ 0 → IsRightAt four.own.now i mate zeroing) →
-        (column : Column) → IsJudged tables four.own.now column i None }
+/// The greatest scores of the codes after all moves are those of the moves, in both columns.
+pub fn all_scores_give_all_moves()
+    ensures { (tables : Tables) (four : FourMen) (men : ShelfMen) (side : Side) (passed : Bool) (a b : ℕ) (p : Setup) (mate zeroing : ℕ) → AreTablesOf tables four men → men.one.kind ≢ K → men.last.kind ≢ K →
+        HasStand four.own.now.class false (stand_on men a b) side passed p → AreAllScores passed four men side a b mate zeroing → AreGiven tables p (λ m. Unit {0}) mate zeroing }
 {
-    facts();
-    a_code_is_an_index_or_void();
-    codes_follow_steps();
-    numbers_stand_for_codes();
     quiet_codes_give_the_quiet_moves();
     codes_after_captures_give_the_captures();
     codes_after_advances_give_the_advances();
@@ -178,5 +174,17 @@ pub fn entries_due_to_all_moves_are_right()
     codes_after_captures_in_passing_give_them();
     pawns_moves_are_of_four_kinds();
     moves_of_either_kind_give_all();
+}
+
+/// Entries that are due to the greatest scores of all moves keep the rules, whether or not their code is an index.
+pub fn entries_due_to_all_moves_are_right()
+    ensures { (tables : Tables) (four : FourMen) (men : ShelfMen) (side : Side) (passed : Bool) (a b i mate zeroing : ℕ) → AreTablesOf tables four men → men.one.kind ≢ K → men.last.kind ≢ K →
+        i < size_of four.own.now.class → TellsMen passed four.own.now.class i (stand_on men a b) side → AreAllScores passed four men side a b mate zeroing → (score_at four.own.now Mate i ≢ 0 → IsRightAt four.own.now i mate zeroing) →
+        (metric : Metric) → IsJudged tables four.own.now metric i None }
+{
+    a_code_is_an_index_or_void();
+    codes_follow_steps();
+    numbers_stand_for_codes();
+    all_scores_give_all_moves();
     due_bytes_are_right();
 }

@@ -3,11 +3,13 @@ ghost use Rattle.std.specs.Prelude.{◌≡◌, ℕ, ◌<◌, false, true, slice_
 ghost use Rattle.egt_index.specs.LoneCodes.{IsLoneMan, IsLoneRow, lone_stand};
 ghost use Rattle.egt_index.specs.StepCodes.{TellsMen};
 ghost use Rattle.egt_lanes.specs.Raised.{IsRaised};
+ghost use Rattle.egt_table.specs.Table.{HasColumn};
 ghost use Rattle.egt_check.specs.Blocks.{IsRaisedAfter};
-ghost use Rattle.egt_check.specs.Worth.{IsRead, score_at};
+ghost use Rattle.egt_check.specs.Worth.{IsRead, column_score};
 
 use crate::blocks::side_after;
 use crate::own_men::is_pawn;
+use crate::rows::column_scores;
 use egt_board::{Man, Side, Square};
 use egt_index::home::home;
 use egt_index::laws::codes_tell_turned_men;
@@ -16,7 +18,6 @@ use egt_index::{has_pawns, lone_row};
 use egt_lanes::Row;
 use egt_lanes::load::{load, load_pawn};
 use egt_lanes::row::greater;
-use egt_lanes::score::scores;
 use egt_lanes::turn::turned;
 use egt_table::{Column, Table};
 use std::simd::prelude::*;
@@ -32,8 +33,9 @@ fn lone_row_of(
     first: u32,
     side: Side,
 ) -> Row
-    requires { IsLoneRow table.now.class first white black man }
-    ensures { (s : ℕ) → s < 64 → IsRaised 0 (λ code. TellsMen false table.now.class code (lone_stand white black man s) side) (score_at table.now column) (slice_index result s) }
+    requires there { HasColumn column table.now }
+    requires lone { IsLoneRow table.now.class first white black man }
+    ensures { (s : ℕ) → s < 64 → IsRaised 0 (λ code. TellsMen false table.now.class code (lone_stand white black man s) side) (column_score table.now column) (slice_index result s) }
 {
     codes_tell_turned_men();
     let first = first as usize;
@@ -43,7 +45,7 @@ fn lone_row_of(
     } else {
         load(&entries[first..first + 128], side)
     };
-    scores(loaded)
+    column_scores(column, loaded)
 }
 
 /// Raises the row to the scores of the codes after the turn. False where it does not tell.
@@ -57,6 +59,7 @@ fn raise_lone(
     turn: u8,
     out: &mut Row,
 ) -> bool
+    requires there { HasColumn column table.now }
     requires man { IsLoneMan table.now.class man }
     requires turn { turn < 16 }
     ensures { result ≡ true → (s : ℕ) → s < 64 → IsRaisedAfter false table.now column turn (lone_stand white black man s) side (slice_index out.old s) (slice_index out.new s) }
@@ -90,7 +93,8 @@ pub(crate) fn read_lone(
     side: Side,
     out: &mut Row,
 ) -> bool
-    requires { IsLoneMan table.now.class man }
+    requires there { HasColumn column table.now }
+    requires man { IsLoneMan table.now.class man }
     ensures { result ≡ true → (s : ℕ) → s < 64 → IsRead table.now column flips (lone_stand white black man s) side (slice_index out.new s) }
 {
     let _number = table.class().number();

@@ -1,14 +1,9 @@
-//! The greatest scores, in both columns, of the moves of a side with two men beside the kings, who stand on two
-//! squares.
-ghost use Rattle.std.specs.Prelude.{◌≡◌, ◌≢◌, ◌<◌, max, ℕ, false, true, IfSome};
-ghost use Rattle.egt_board.specs.Turned.{turned_man};
-ghost use Rattle.egt_board.specs.declared.man.Kind.TheVariants.{K};
-ghost use Rattle.egt_index.specs.LoneCodes.{IsLoneMan};
-ghost use Rattle.egt_index.specs.ShelfCodes.{AreMenOf};
+//! The greatest scores of the moves of a side with two men beside the kings, who stand on two squares.
+ghost use Rattle.std.specs.Prelude.{◌≡◌, ◌<◌, max, ℕ, true};
 ghost use Rattle.egt_lanes.specs.Blocks.{at};
 ghost use Rattle.egt_lanes.specs.Scores.{zeroing_score};
-ghost use Rattle.egt_check.specs.MoveScores.{AreMoveScores, ArePassedScores};
-ghost use Rattle.egt_check.specs.PawnScores.{ArePromotionsOf};
+ghost use Rattle.egt_table.specs.declared.column.Column.TheVariants as columns;
+ghost use Rattle.egt_check.specs.MoveScores.{AreFourMen, AreMoveScores, ArePassedScores, ArePassingCaptures, AreZeroingMoves};
 ghost use Rattle.egt_check.specs.Taken.{men_swapped};
 
 use crate::blocks::nothing;
@@ -63,6 +58,80 @@ fn raise_zeroed(out: &mut Block, mates: &Block)
     }
 }
 
+/// The greatest scores in the column of all moves of that side that zero but captures in passing. False where a table
+/// does not tell.
+pub(crate) fn zeroing_moves(
+    four: &FourMen,
+    column: Column,
+    men: &ShelfMen,
+    side: Side,
+    out: &mut Block,
+) -> bool
+    requires { AreFourMen column four.now men.now }
+    ensures { result ≡ true → (a b : ℕ) → a < 64 → b < 64 → AreZeroingMoves column four.now men.now side a b (at out.new a b) }
+{
+    if !taken_block(four.first, column, four.first_flips, men, side, out) {
+        return false;
+    }
+    let mut across = nothing();
+    let swapped = men_swapped(men);
+    if !taken_block(
+        four.last,
+        column,
+        four.last_flips,
+        &swapped,
+        side,
+        &mut across,
+    ) {
+        return false;
+    }
+    raise_transposed(out, &across);
+    let mut pawns = nothing();
+    if !pawns_block(
+        four.own,
+        column,
+        &four.first_pawn,
+        &four.last_pawn,
+        men,
+        side,
+        &mut pawns,
+    ) {
+        return false;
+    }
+    raise(out, &pawns);
+    true
+}
+
+/// The same of the captures in passing.
+pub(crate) fn passing_captures(
+    four: &FourMen,
+    column: Column,
+    men: &ShelfMen,
+    side: Side,
+    out: &mut Block,
+) -> bool
+    requires { AreFourMen column four.now men.now }
+    ensures { result ≡ true → (a b : ℕ) → a < 64 → b < 64 → ArePassingCaptures column four.now men.now side a b (at out.new a b) }
+{
+    if !passing_block(four.last, column, four.last_flips, men, side, out) {
+        return false;
+    }
+    let mut across = nothing();
+    let swapped = men_swapped(men);
+    if !passing_block(
+        four.first,
+        column,
+        four.first_flips,
+        &swapped,
+        side,
+        &mut across,
+    ) {
+        return false;
+    }
+    raise_transposed(out, &across);
+    true
+}
+
 /// The greatest scores of all moves of that side but captures in passing, in the mate column and in the zeroing
 /// column. False where a table does not tell.
 pub(crate) fn move_scores(
@@ -72,14 +141,7 @@ pub(crate) fn move_scores(
     mates: &mut Block,
     zeroing: &mut Block,
 ) -> bool
-    requires men { AreMenOf four.now.own.now.class men.now }
-    requires one { men.now.one.kind ≢ K }
-    requires last { men.now.last.kind ≢ K }
-    requires first_left { IsLoneMan four.now.first.now.class (turned_man four.now.first_flips men.now.one) }
-    requires last_left { IsLoneMan four.now.last.now.class (turned_man four.now.last_flips men.now.last) }
-    requires first_pawn { IfSome four.now.first_pawn (λ kinds. ArePromotionsOf kinds (men_swapped men.now)) }
-    requires last_pawn { IfSome four.now.last_pawn (λ kinds. ArePromotionsOf kinds men.now) }
-    requires same { men.now.one ≡ men.now.last → four.now.first_pawn ≡ four.now.last_pawn }
+    requires { AreFourMen columns.Mate four.now men.now }
     ensures { result ≡ true → (a b : ℕ) → a < 64 → b < 64 → AreMoveScores four.now men.now side a b (at mates.new a b) (at zeroing.new a b) }
 {
     if !quiet_block(four.own, Column::Mate, men, side, mates) {
@@ -88,30 +150,12 @@ pub(crate) fn move_scores(
     if !quiet_block(four.own, Column::Zeroing, men, side, zeroing) {
         return false;
     }
-    let mut taken = nothing();
-    if !taken_block(four.first, four.first_flips, men, side, &mut taken) {
+    let mut zeroed = nothing();
+    if !zeroing_moves(four, Column::Mate, men, side, &mut zeroed) {
         return false;
     }
-    let mut across = nothing();
-    let swapped = men_swapped(men);
-    if !taken_block(four.last, four.last_flips, &swapped, side, &mut across) {
-        return false;
-    }
-    raise_transposed(&mut taken, &across);
-    let mut pawns = nothing();
-    if !pawns_block(
-        four.own,
-        &four.first_pawn,
-        &four.last_pawn,
-        men,
-        side,
-        &mut pawns,
-    ) {
-        return false;
-    }
-    raise(&mut taken, &pawns);
-    raise(mates, &taken);
-    raise_zeroed(zeroing, &taken);
+    raise(mates, &zeroed);
+    raise_zeroed(zeroing, &zeroed);
     true
 }
 
@@ -123,21 +167,14 @@ pub(crate) fn raise_passed(
     mates: &mut Block,
     zeroing: &mut Block,
 ) -> bool
-    requires first_left { IsLoneMan four.now.first.now.class (turned_man four.now.first_flips men.now.one) }
-    requires last_left { IsLoneMan four.now.last.now.class (turned_man four.now.last_flips men.now.last) }
+    requires { AreFourMen columns.Mate four.now men.now }
     ensures { result ≡ true → (a b : ℕ) → a < 64 → b < 64 → AreMoveScores four.now men.now side a b (at mates.old a b) (at zeroing.old a b) →
         ArePassedScores four.now men.now side a b (at mates.new a b) (at zeroing.new a b) }
 {
     let mut taken = nothing();
-    if !passing_block(four.last, four.last_flips, men, side, &mut taken) {
+    if !passing_captures(four, Column::Mate, men, side, &mut taken) {
         return false;
     }
-    let mut across = nothing();
-    let swapped = men_swapped(men);
-    if !passing_block(four.first, four.first_flips, &swapped, side, &mut across) {
-        return false;
-    }
-    raise_transposed(&mut taken, &across);
     raise(mates, &taken);
     raise_zeroed(zeroing, &taken);
     true

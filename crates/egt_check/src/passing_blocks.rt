@@ -5,10 +5,10 @@ ghost use Rattle.egt_board.specs.Turned.{turned_man};
 ghost use Rattle.egt_index.specs.LoneCodes.{IsLoneMan};
 ghost use Rattle.egt_lanes.specs.Blocks.{at};
 ghost use Rattle.egt_lanes.specs.Raised.{IsRaised};
-ghost use Rattle.egt_table.specs.declared.column.Column.TheVariants.{Mate};
+ghost use Rattle.egt_table.specs.Table.{HasColumn};
 ghost use Rattle.egt_check.specs.InPassing.{ArePassingCodes};
 ghost use Rattle.egt_check.specs.PassedRows.{IsAtPassed, IsPastPawns};
-ghost use Rattle.egt_check.specs.Worth.{score_at};
+ghost use Rattle.egt_check.specs.Worth.{column_score};
 
 use crate::advance_blocks::is_pawn_of;
 use crate::blocks::nothing;
@@ -19,7 +19,7 @@ use egt_index::ShelfMen;
 use egt_index::laws::codes_tell_turned_men;
 use egt_lanes::block::raise_transposed;
 use egt_lanes::{Block, Row};
-use egt_table::Table;
+use egt_table::{Column, Table};
 use std::simd::prelude::*;
 
 /// The square one ahead for that side, if a pawn may stand there.
@@ -58,13 +58,15 @@ fn take_passed(side: Side, arrived: &Block, out: &mut Block)
 /// two squares. False where the table does not tell.
 pub(crate) fn passing_block(
     child: &Table,
+    column: Column,
     flips: bool,
     men: &ShelfMen,
     side: Side,
     out: &mut Block,
 ) -> bool
-    requires { IsLoneMan child.now.class (turned_man flips men.now.last) }
-    ensures { result ≡ true → (a b : ℕ) → a < 64 → b < 64 → IsRaised 0 (ArePassingCodes child.now.class flips men.now side a b) (score_at child.now Mate) (at out.new a b) }
+    requires there { HasColumn column child.now }
+    requires lone { IsLoneMan child.now.class (turned_man flips men.now.last) }
+    ensures { result ≡ true → (a b : ℕ) → a < 64 → b < 64 → IsRaised 0 (ArePassingCodes child.now.class flips men.now side a b) (column_score child.now column) (at out.new a b) }
 {
     codes_tell_turned_men();
     let _number = child.class().number();
@@ -74,7 +76,7 @@ pub(crate) fn passing_block(
     }
     let swapped = men_swapped(men);
     let mut scores = Row::splat(0);
-    if !read_left(child, flips, &swapped, side, &mut scores) {
+    if !read_left(child, column, flips, &swapped, side, &mut scores) {
         return false;
     }
     let mut takes = nothing();

@@ -18,7 +18,7 @@ ghost use Rattle.egt_moves.specs.Legal.{Leads};
 ghost use Rattle.egt_moves.specs.Promotion.{arriving};
 ghost use Rattle.egt_moves.specs.declared.chess_move.Move.{Move};
 ghost use Rattle.egt_table.specs.Table.{TableValue};
-ghost use Rattle.egt_table.specs.declared.column.Column.TheVariants.{Mate};
+ghost use Rattle.egt_check.specs.declared.metric.Metric.TheVariants.{Mate};
 ghost use Rattle.egt_check.specs.Given.{AreGiven};
 ghost use Rattle.egt_check.specs.InPassing.{AreLeapCodes, ArePassingCodes, AreStepCodes, IsOfFourKinds, IsPassingCapture, IsPassingFrom, LeavesTarget};
 ghost use Rattle.egt_check.specs.PawnMoves.{AreAdvancedCodes, ArePromotedCodes, IsAdvance, IsAdvanceFrom, IsClassAfter, IsPromotingCapture, IsPromotingCaptureFrom, IsTableAfter, officer_of, stand_after, stand_in};

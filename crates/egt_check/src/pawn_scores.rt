@@ -3,6 +3,7 @@ ghost use Rattle.std.specs.Prelude.{◌≡◌, ◌<◌, ℕ, false, true, IfSome
 ghost use Rattle.egt_board.specs.Turned.{turned_man};
 ghost use Rattle.egt_index.specs.ShelfCodes.{AreMenOf};
 ghost use Rattle.egt_lanes.specs.Blocks.{at};
+ghost use Rattle.egt_table.specs.Table.{HasColumn};
 ghost use Rattle.egt_check.specs.PawnMoves.{men_after, officer_of};
 ghost use Rattle.egt_check.specs.PawnScores.{ArePawnScores, ArePromotionsOf, AreRaisedByPawns, IsPromotionOf, IsPromotionScore, IsRaisedByPawn};
 ghost use Rattle.egt_check.specs.Taken.{men_swapped};
@@ -16,7 +17,7 @@ use egt_index::ShelfMen;
 use egt_index::men::has_equal_sides;
 use egt_lanes::Block;
 use egt_lanes::block::{raise, raise_transposed};
-use egt_table::Table;
+use egt_table::{Column, Table};
 
 /// The tables of the classes that a pawn's promotion to one kind leads to, each with whether colours are exchanged
 /// there.
@@ -44,14 +45,21 @@ pub(crate) struct Promotions<'t> {
 
 /// Raises the scores to those of the positions after a promotion of the last man, a pawn of that side. False where a
 /// table does not tell.
-fn raise_promotion(promotion: &Promotion, men: &ShelfMen, side: Side, out: &mut Block) -> bool
-    requires of { IsPromotionOf promotion.now men.now }
+fn raise_promotion(
+    promotion: &Promotion,
+    column: Column,
+    men: &ShelfMen,
+    side: Side,
+    out: &mut Block,
+) -> bool
+    requires of { IsPromotionOf column promotion.now men.now }
     requires mine { men.now.last.side ≡ side }
-    ensures { result ≡ true → (a b : ℕ) → a < 64 → b < 64 → IsPromotionScore promotion.now men.now side a b (at out.old a b) (at out.new a b) }
+    ensures { result ≡ true → (a b : ℕ) → a < 64 → b < 64 → IsPromotionScore column promotion.now men.now side a b (at out.old a b) (at out.new a b) }
 {
     let mut advanced = nothing();
     if !advance_block(
         promotion.both,
+        column,
         promotion.before,
         promotion.both_flips,
         men,
@@ -64,6 +72,7 @@ fn raise_promotion(promotion: &Promotion, men: &ShelfMen, side: Side, out: &mut 
     let mut taken = nothing();
     if !promoting_block(
         promotion.alone,
+        column,
         promotion.alone_flips,
         men,
         promotion.kind,
@@ -81,50 +90,54 @@ fn raise_promotion(promotion: &Promotion, men: &ShelfMen, side: Side, out: &mut 
 /// its class's first where `first`. False where a table does not tell.
 pub(crate) fn pawn_block(
     own: &Table,
+    column: Column,
     first: bool,
     promotions: &Promotions,
     men: &ShelfMen,
     side: Side,
     out: &mut Block,
 ) -> bool
+    requires there { HasColumn column own.now }
     requires men { AreMenOf own.now.class (men_after first false men.now men.now.last) }
-    requires promotions { ArePromotionsOf promotions.now men.now }
+    requires promotions { ArePromotionsOf column promotions.now men.now }
     requires mine { men.now.last.side ≡ side }
-    ensures { result ≡ true → (a b : ℕ) → a < 64 → b < 64 → ArePawnScores own.now first promotions.now men.now side a b (at out.new a b) }
+    ensures { result ≡ true → (a b : ℕ) → a < 64 → b < 64 → ArePawnScores column own.now first promotions.now men.now side a b (at out.new a b) }
 {
-    if !step_block(own, first, men, side, out) {
+    if !step_block(own, column, first, men, side, out) {
         return false;
     }
     let mut leaps = nothing();
-    if !leap_block(own, first, men, side, &mut leaps) {
+    if !leap_block(own, column, first, men, side, &mut leaps) {
         return false;
     }
     raise(out, &leaps);
-    if !raise_promotion(&promotions.queen, men, side, out) {
+    if !raise_promotion(&promotions.queen, column, men, side, out) {
         return false;
     }
-    if !raise_promotion(&promotions.rook, men, side, out) {
+    if !raise_promotion(&promotions.rook, column, men, side, out) {
         return false;
     }
-    if !raise_promotion(&promotions.bishop, men, side, out) {
+    if !raise_promotion(&promotions.bishop, column, men, side, out) {
         return false;
     }
-    raise_promotion(&promotions.knight, men, side, out)
+    raise_promotion(&promotions.knight, column, men, side, out)
 }
 
 /// Raises the scores to those of all advances, promotions and promoting captures of the last man, where he is a pawn
 /// of that side. False where a table does not tell.
 fn raise_pawn(
     own: &Table,
+    column: Column,
     first: bool,
     promotions: &Option<Promotions>,
     men: &ShelfMen,
     side: Side,
     out: &mut Block,
 ) -> bool
+    requires there { HasColumn column own.now }
     requires men { AreMenOf own.now.class (men_after first false men.now men.now.last) }
-    requires promotions { IfSome promotions.now (λ p. ArePromotionsOf p men.now) }
-    ensures { result ≡ true → (a b : ℕ) → a < 64 → b < 64 → IsRaisedByPawn own.now first promotions.now men.now side a b (at out.old a b) (at out.new a b) }
+    requires promotions { IfSome promotions.now (λ p. ArePromotionsOf column p men.now) }
+    ensures { result ≡ true → (a b : ℕ) → a < 64 → b < 64 → IsRaisedByPawn column own.now first promotions.now men.now side a b (at out.old a b) (at out.new a b) }
 {
     if !is_pawn(men.last) || !is_of(men.last, side) {
         return true;
@@ -133,7 +146,7 @@ fn raise_pawn(
         return false;
     };
     let mut block = nothing();
-    if !pawn_block(own, first, of_kinds, men, side, &mut block) {
+    if !pawn_block(own, column, first, of_kinds, men, side, &mut block) {
         return false;
     }
     raise(out, &block);
@@ -144,20 +157,22 @@ fn raise_pawn(
 /// they are pawns of that side. False where a table does not tell.
 pub(crate) fn pawns_block(
     own: &Table,
+    column: Column,
     first: &Option<Promotions>,
     last: &Option<Promotions>,
     men: &ShelfMen,
     side: Side,
     out: &mut Block,
 ) -> bool
+    requires there { HasColumn column own.now }
     requires men { AreMenOf own.now.class men.now }
-    requires first { IfSome first.now (λ p. ArePromotionsOf p (men_swapped men.now)) }
-    requires last { IfSome last.now (λ p. ArePromotionsOf p men.now) }
+    requires first { IfSome first.now (λ p. ArePromotionsOf column p (men_swapped men.now)) }
+    requires last { IfSome last.now (λ p. ArePromotionsOf column p men.now) }
     requires same { men.now.one ≡ men.now.last → first.now ≡ last.now }
-    ensures { result ≡ true → (a b : ℕ) → a < 64 → b < 64 → AreRaisedByPawns own.now first.now last.now men.now side a b (at out.new a b) }
+    ensures { result ≡ true → (a b : ℕ) → a < 64 → b < 64 → AreRaisedByPawns column own.now first.now last.now men.now side a b (at out.new a b) }
 {
     *out = nothing();
-    if !raise_pawn(own, false, last, men, side, out) {
+    if !raise_pawn(own, column, false, last, men, side, out) {
         return false;
     }
     // What equal men are promoted to is told once: in either order of the two the codes are the same.
@@ -167,7 +182,15 @@ pub(crate) fn pawns_block(
         return true;
     }
     let mut across = nothing();
-    if !raise_pawn(own, true, first, &men_swapped(men), side, &mut across) {
+    if !raise_pawn(
+        own,
+        column,
+        true,
+        first,
+        &men_swapped(men),
+        side,
+        &mut across,
+    ) {
         return false;
     }
     raise_transposed(out, &across);

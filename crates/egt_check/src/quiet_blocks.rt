@@ -8,9 +8,10 @@ ghost use Rattle.egt_index.specs.ShelfCodes.{AreMenOf};
 ghost use Rattle.egt_lanes.specs.Blocks.{at};
 ghost use Rattle.egt_lanes.specs.Pieces.{IsPiece};
 ghost use Rattle.egt_lanes.specs.Raised.{IsRaised};
+ghost use Rattle.egt_table.specs.Table.{HasColumn};
 ghost use Rattle.egt_check.specs.QuietStands.{AreQuietCodes, IsClear};
 ghost use Rattle.egt_check.specs.QuietSteps.{IsFirstStep, IsLastStep};
-ghost use Rattle.egt_check.specs.Worth.{score_at};
+ghost use Rattle.egt_check.specs.Worth.{column_score};
 
 use crate::blocks::{nothing, read_block};
 use crate::king_blocks::king_block;
@@ -78,11 +79,12 @@ pub(crate) fn quiet_block(
     side: Side,
     out: &mut Block,
 ) -> bool
+    requires there { HasColumn column table.now }
     requires men { AreMenOf table.now.class men.now }
     requires one { men.now.one.kind ≢ K }
     requires last { men.now.last.kind ≢ K }
     ensures { result ≡ true → (a b : ℕ) → a < 64 → b < 64 →
-        IsRaised 0 (AreQuietCodes table.now.class men.now side a b) (score_at table.now column) (at out.new a b) }
+        IsRaised 0 (AreQuietCodes table.now.class men.now side a b) (column_score table.now column) (at out.new a b) }
 {
     if !king_block(table, column, men, side, out) {
         return false;

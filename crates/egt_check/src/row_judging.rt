@@ -5,12 +5,15 @@ ghost use Rattle.egt_index.specs.Numbers.{code_of};
 ghost use Rattle.egt_index.specs.Scales.{kind_digits, kind_less};
 ghost use Rattle.egt_index.specs.ShelfCodes.{IsShelfOf, IsWithin, number_in};
 ghost use Rattle.egt_index.specs.Size.{size_of};
-ghost use Rattle.egt_table.specs.declared.column.Column.TheVariants.{Mate};
-ghost use Rattle.egt_check.specs.RightRow.{IsRightAt, IsRightEnd};
+ghost use Rattle.egt_table.specs.Table.{HasColumn};
+ghost use Rattle.egt_check.specs.declared.metric.Metric.TheVariants.{Mate};
+ghost use Rattle.egt_check.specs.Parts.{column_of};
+ghost use Rattle.egt_check.specs.RightRow.{IsRightAt, IsRightEndOf};
 ghost use Rattle.egt_check.specs.Score.{IsAtEnd};
 ghost use Rattle.egt_check.specs.Worth.{score_at};
 
 use crate::digits::digit_on;
+use crate::part::Part;
 use crate::rows::row_of;
 use crate::successors::entries_at;
 use egt_board::{Man, Position, Side, SquareSet};
@@ -34,10 +37,11 @@ fn entry_without_move(position: &Position) -> Option<u16>
     }
 }
 
-/// Whether the code's position is checkmate or stalemate, and the entries tell it.
-fn end_is_right(table: &Table, code: u32) -> bool
-    requires { code < size_of table.now.class }
-    ensures { result ≡ true → IsRightEnd table.now code }
+/// Whether the code's position is checkmate or stalemate, and the entries of the part tell it.
+fn end_is_right(table: &Table, part: Part, code: u32) -> bool
+    requires there { HasColumn (column_of part) table.now }
+    requires code { code < size_of table.now.class }
+    ensures { result ≡ true → IsRightEndOf part table.now code }
 {
     codes_spell_one_position();
     let Some(position) = position(table.class(), code) else {
@@ -46,15 +50,28 @@ fn end_is_right(table: &Table, code: u32) -> bool
     let Some(entry) = entry_without_move(&position) else {
         return false;
     };
-    let entries = entries_at(table, code);
-    entries.mate == entry && entries.zeroing == entry
+    match part {
+        Part::Values => {
+            let entries = entries_at(table, code);
+            entries.mate == entry && entries.zeroing == entry
+        }
+        // Checkmate is 2 there and 3 in the other columns, any other end 1 in all.
+        Part::Reach => table.entry(Column::Reach, code) == entry / 2 + 1,
+    }
 }
 
 /// Whether so are the codes of the numbers of these squares of the man, every other one from his first digit's on.
-fn ends_are_right(table: &Table, man: Man, first: u32, ends: SquareSet) -> bool
-    requires { (digit : ℕ) → digit < kind_digits man.kind → first + 2 * digit < size_of table.now.class }
+pub(crate) fn ends_are_right(
+    table: &Table,
+    part: Part,
+    man: Man,
+    first: u32,
+    ends: SquareSet,
+) -> bool
+    requires there { HasColumn (column_of part) table.now }
+    requires codes { (digit : ℕ) → digit < kind_digits man.kind → first + 2 * digit < size_of table.now.class }
     ensures { result ≡ true → (digit : ℕ) → digit < kind_digits man.kind → Has ends (digit + kind_less man.kind) →
-        IsRightEnd table.now (code_of table.now.class (first + 2 * digit)) }
+        IsRightEndOf part table.now (code_of table.now.class (first + 2 * digit)) }
 {
     let class = table.class();
     let _size = size(class);
@@ -63,7 +80,7 @@ fn ends_are_right(table: &Table, man: Man, first: u32, ends: SquareSet) -> bool
         let Some(digit) = digit_on(man, square) else {
             return false;
         };
-        if !end_is_right(table, code_of(class, first + 2 * digit)) {
+        if !end_is_right(table, part, code_of(class, first + 2 * digit)) {
             return false;
         }
     }
@@ -71,7 +88,7 @@ fn ends_are_right(table: &Table, man: Man, first: u32, ends: SquareSet) -> bool
 }
 
 /// The shelf's first number with that side to move.
-fn first_of(table: &Table, shelf: u32, side: Side) -> u32
+pub(crate) fn first_of(table: &Table, shelf: u32, side: Side) -> u32
     requires within { IsWithin table.now.class shelf }
     ensures { result ≡ number_in table.now.class shelf side 0 }
 {
@@ -109,5 +126,11 @@ pub(crate) fn row_is_right(
         return false;
     }
     let ends = lanes_of(own).without(moving);
-    ends_are_right(table, men.last, first_of(table, shelf, side), ends)
+    ends_are_right(
+        table,
+        Part::Values,
+        men.last,
+        first_of(table, shelf, side),
+        ends,
+    )
 }

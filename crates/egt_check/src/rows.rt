@@ -1,5 +1,5 @@
 //! The scores that a table gives the codes which differ by the last man's square alone.
-ghost use Rattle.std.specs.Prelude.{◌≡◌, ◌↔◌, ℕ, ◌+◌, ◌*◌, ◌/◌, ◌<◌, ◌≤◌, false, true, slice_index, IsTrue};
+ghost use Rattle.std.specs.Prelude.{◌≡◌, ◌↔◌, ℕ, ◌+◌, ◌*◌, ◌/◌, ◌%◌, ◌<◌, ◌≤◌, false, true, slice_index, IsTrue};
 ghost use Rattle.egt_board.specs.Pawn.{MayStand};
 ghost use Rattle.egt_class.specs.Material.{material_of};
 ghost use Rattle.egt_index.specs.Numbers.{code_of, places};
@@ -7,8 +7,9 @@ ghost use Rattle.egt_index.specs.ShelfCodes.{IsShelf, IsShelfOf, IsWithin, stand
 ghost use Rattle.egt_index.specs.Size.{has_target, size_of};
 ghost use Rattle.egt_index.specs.StepCodes.{TellsMen};
 ghost use Rattle.egt_lanes.specs.Raised.{IsRaised};
+ghost use Rattle.egt_table.specs.Table.{HasColumn};
 ghost use Rattle.egt_check.specs.ShelfRow.{IsShelfRow};
-ghost use Rattle.egt_check.specs.Worth.{score_at};
+ghost use Rattle.egt_check.specs.Worth.{column_score, entry_score};
 
 use crate::own_men::is_pawn;
 use egt_board::{Kind, Man, Side, Square};
@@ -17,7 +18,7 @@ use egt_index::laws::codes_tell_turned_men;
 use egt_index::{ShelfMen, code_of, has_target, last_digits, size};
 use egt_lanes::Row;
 use egt_lanes::load::{load, load_pawn, load_target};
-use egt_lanes::score::scores;
+use egt_lanes::score::{Entries, reach_scores, scores};
 use egt_table::{Column, Table};
 
 /// Whether the man may stand on the square: a pawn on neither the first rank nor the last.
@@ -27,9 +28,21 @@ pub(crate) fn may_stand(man: Man, square: Square) -> bool
     man.kind != Kind::P || (0 < square.rank() && square.rank() < 7)
 }
 
+/// The scores of entries of the column, of which the low byte counts.
+#[inline(always)]
+pub(crate) fn column_scores(column: Column, entries: Entries) -> Row
+    ensures { (s : ℕ) → s < 64 → slice_index result s ≡ entry_score column (slice_index entries s % 256) }
+{
+    match column {
+        Column::Mate | Column::Zeroing => scores(entries),
+        Column::Reach => reach_scores(entries),
+    }
+}
+
 /// The scores of a shelf's codes in a class without targets, where the numbers are the codes.
 #[inline(always)]
 fn plain_row(table: &Table, column: Column, men: &ShelfMen, shelf: u32, side: Side) -> Row
+    requires there { HasColumn column table.now }
     requires shelf { IsShelf table.now.class shelf men.now }
     requires within { IsWithin table.now.class shelf }
     requires targets { has_target (material_of table.now.class) ≡ false }
@@ -43,7 +56,7 @@ fn plain_row(table: &Table, column: Column, men: &ShelfMen, shelf: u32, side: Si
     } else {
         load(entries, side)
     };
-    scores(loaded)
+    column_scores(column, loaded)
 }
 
 /// The first of the shelf's codes, without a target's digit. There are four codes for each square of the last man.
@@ -67,6 +80,7 @@ fn target_row(
     side: Side,
     passed: bool,
 ) -> Row
+    requires there { HasColumn column table.now }
     requires shelf { IsShelfOf passed table.now.class shelf men.now }
     requires within { IsWithin table.now.class shelf }
     requires targets { has_target (material_of table.now.class) ≡ true }
@@ -74,7 +88,7 @@ fn target_row(
 {
     let first = first_of_targets(table.class(), shelf) as usize;
     let entries = &table.entries(column)[first..first + 192];
-    scores(load_target(entries, side, passed))
+    column_scores(column, load_target(entries, side, passed))
 }
 
 /// The scores of the codes that tell these men, who are those of the shelf, by the last man's square, and a target where one was passed.
@@ -87,9 +101,10 @@ pub(crate) fn row_of(
     side: Side,
     passed: bool,
 ) -> Row
+    requires there { HasColumn column table.now }
     requires shelf { IsShelfOf passed table.now.class shelf men.now }
     requires within { IsWithin table.now.class shelf }
-    ensures { (s : ℕ) → s < 64 → IsRaised 0 (λ code. TellsMen passed table.now.class code (stand_with men.now s) side) (score_at table.now column) (slice_index result s) }
+    ensures { (s : ℕ) → s < 64 → IsRaised 0 (λ code. TellsMen passed table.now.class code (stand_with men.now s) side) (column_score table.now column) (slice_index result s) }
 {
     codes_tell_turned_men();
     if has_target(table.class()) {

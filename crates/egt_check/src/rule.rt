@@ -5,7 +5,7 @@
 pub enum Rule {
     /// The entry is 0 exactly where the index is void.
     Void,
-    /// It is not 2, and at most 64,003.
+    /// It is not 2, and at most 64,003; in the column of the nearest mates at most 32,002.
     Range,
     /// The zeroing entry shows a win, a loss or a draw as the mate entry does.
     Kind,
@@ -15,6 +15,10 @@ pub enum Rule {
     Loss,
     /// No successor of a draw is lost, and it is stalemate or some successor is drawn.
     Draw,
+    /// The nearest mate is 0 plies away at checkmate, and else one more than the least number among the successors.
+    Reach,
+    /// A dead position is no checkmate, and no successor shows a number (FIDE Laws of Chess 2023, article 5.2.2).
+    Dead,
 }
 
 impl Rule {
@@ -32,6 +36,8 @@ impl Rule {
             Rule::Win => "win",
             Rule::Loss => "loss",
             Rule::Draw => "draw",
+            Rule::Reach => "reach",
+            Rule::Dead => "dead",
         }
     }
 }

@@ -1,21 +1,23 @@
 //! The best of a position's steps.
-ghost use Rattle.std.specs.Prelude.{◌≡◌, ◌≢◌, ◌↔◌, ◌<◌, max, Bool, true, false, Some, None, IsTrue, IsSome, IfSome, IfNone};
+ghost use Rattle.std.specs.Prelude.{◌≡◌, ◌↔◌, ◌<◌, ◌≤◌, max, ℕ, Some, None, IsTrue, IsSome, IfSome, IfNone};
 ghost use Rattle.std.specs.Option.{option_map};
 ghost use Rattle.egt_board.specs.Setup.{Setup, IsAdmissible};
-ghost use Rattle.egt_class.specs.Membership.{IsOf};
-ghost use Rattle.egt_index.specs.Index.{IsIndex};
 ghost use Rattle.egt_index.specs.Size.{size_of};
 ghost use Rattle.egt_moves.specs.AllMen.{AreMenOf};
-ghost use Rattle.egt_moves.specs.Arena.{NoMove};
+ghost use Rattle.egt_moves.specs.Arena.{EachMove, NoMove};
+ghost use Rattle.egt_moves.specs.Entries.{IsLeast};
 ghost use Rattle.egt_moves.specs.Chess.{chess, Zeroes};
 ghost use Rattle.egt_moves.specs.Legal.{Leads, IsLegal};
-ghost use Rattle.egt_table.specs.declared.column.Column.{Column};
+ghost use Rattle.egt_check.specs.declared.metric.Metric.{Metric};
+ghost use Rattle.egt_check.specs.Nearest.{nearer};
+ghost use Rattle.egt_check.specs.Place.{IsPlaceOf, HasReachAt};
 ghost use Rattle.egt_check.specs.Raised.{AreRaised};
+ghost use Rattle.egt_check.specs.Reach.{HasReachEntry, ShowsReach, ShowsReachOf};
 ghost use Rattle.egt_check.specs.Score.{number_at, greater, Scores, IsBest};
-ghost use Rattle.egt_check.specs.Steps.{HasTable, IsInClass, shown_by};
-ghost use Rattle.egt_check.specs.Tables.{table_at, beside, entry_at, HasEntry, HasChildren};
+ghost use Rattle.egt_check.specs.Steps.{IsInClass, shown_by};
+ghost use Rattle.egt_check.specs.Tables.{table_at, beside, entry_at, HasEntry, HasChildren, HasReachChildren};
 
-use crate::by_column::ByColumn;
+use crate::by_metric::ByMetric;
 use crate::facts::facts;
 use crate::library::Library;
 use crate::outcome::{mate_score, zeroing_score};
@@ -26,79 +28,110 @@ use egt_moves::{Men, Move, is_told_by_men, legal_moves, play_legal, zeroing};
 use egt_table::{Column, Table};
 
 /// A table's entries at an index.
-pub(crate) fn entries_at(table: &Table, index: u32) -> ByColumn
+pub(crate) fn entries_at(table: &Table, index: u32) -> ByMetric
     requires { index < size_of table.now.class }
-    ensures { (column : Column) → number_at result column ≡ entry_at table.now column index }
+    ensures { (metric : Metric) → number_at result metric ≡ entry_at table.now metric index }
 {
-    ByColumn {
+    ByMetric {
         mate: table.entry(Column::Mate, index),
         zeroing: table.entry(Column::Zeroing, index),
     }
 }
 
-/// The entries at an index in the table of its class: this one, or one of the library.
-fn entries_in(table: &Table, library: &Library, class: Class, index: u32) -> ByColumn
-    requires there { IsSome (beside (table_at library.now) table.now class) }
-    requires below { index < size_of class }
-    ensures { (column : Column) (q : Setup) (flipped : Bool) → IsOf class flipped q → IsIndex class q index →
-        HasEntry (beside (table_at library.now) table.now) column q (number_at result column) }
+/// Where a position's entries stand: in the table of a class, at an index there.
+#[derive(Clone, Copy)]
+struct Place {
+    class: Class,
+    index: u32,
+}
+
+/// The table of a class: this one, or one of the library.
+fn table_of<'a>(table: &'a Table, library: &'a Library, class: Class) -> &'a Table
+    requires { IsSome (beside (table_at library.now) table.now class) }
+    ensures found { beside (table_at library.now) table.now class ≡ Some result.now }
+    ensures class { result.now.class ≡ class }
 {
-    let _number = class.number();
     if class == table.class() {
-        entries_at(table, index)
+        table
     } else {
-        entries_at(library.get(class).unwrap(), index)
+        library.get(class).unwrap()
     }
 }
 
-/// The entries of a position in the table of its class.
-fn entries_of(table: &Table, library: &Library, position: &Position) -> ByColumn
-    requires { HasTable (beside (table_at library.now) table.now) position.now }
-    ensures { (column : Column) →
-        HasEntry (beside (table_at library.now) table.now) column position.now (number_at result column) }
+/// The entries at a place.
+fn entries_in(table: &Table, library: &Library, place: Place) -> ByMetric
+    requires there { IsSome (beside (table_at library.now) table.now place.class) }
+    requires below { place.index < size_of place.class }
+    ensures { (metric : Metric) (q : Setup) → IsPlaceOf place q → HasEntry (beside (table_at library.now) table.now) metric q (number_at result metric) }
 {
-    facts();
+    entries_at(table_of(table, library, place.class), place.index)
+}
+
+/// The entry of the column of the nearest mates at a place.
+fn reach_in(table: &Table, library: &Library, place: Place) -> u16
+    requires there { HasReachAt (beside (table_at library.now) table.now) place.class }
+    requires below { place.index < size_of place.class }
+    ensures { (q : Setup) → IsPlaceOf place q → HasReachEntry (beside (table_at library.now) table.now) q result }
+{
+    table_of(table, library, place.class).entry(Column::Reach, place.index)
+}
+
+/// The place of a position's entries.
+fn place_of(position: &Position) -> Place
+    ensures { IsPlaceOf result position.now }
+{
     let (class, _) = of(position);
     let _number = class.number();
-    entries_in(table, library, class, index(class, position))
+    Place {
+        class,
+        index: index(class, position),
+    }
 }
 
 /// The same of a position without a target, by its men alone.
-fn entries_by_men(table: &Table, library: &Library, men: &Men) -> ByColumn
-    requires { (q : Setup) × IsAdmissible q × AreMenOf q men.now × (q.target ≡ None) × HasTable (beside (table_at library.now) table.now) q }
-    ensures { (column : Column) (q : Setup) → IsAdmissible q → AreMenOf q men.now → q.target ≡ None →
-        HasEntry (beside (table_at library.now) table.now) column q (number_at result column) }
+fn place_by_men(men: &Men) -> Place
+    requires { (q : Setup) × IsAdmissible q × AreMenOf q men.now × (q.target ≡ None) }
+    ensures { (q : Setup) → IsAdmissible q → AreMenOf q men.now → q.target ≡ None → IsPlaceOf result q }
 {
-    facts();
     let (class, index) = indexed_by_men(men.white, men.black, men.one, men.other, men.side);
     let _number = class.number();
-    entries_in(table, library, class, index)
+    Place { class, index }
 }
 
-/// The entries of where a legal move leads. The position there is not made where the men tell it.
+/// The place of the entries of where a legal move leads. The position there is not made where the men tell the place.
+fn place_after(position: &Position, men: &Men, chess_move: &Move) -> Place
+    requires legal { IsLegal position.now chess_move.now }
+    requires men { AreMenOf position.now men.now }
+    ensures { (q : Setup) → Leads position.now chess_move.now q → IsPlaceOf result q }
+{
+    facts();
+    let _side = position.side();
+    if is_told_by_men(position, chess_move.from, chess_move.to) {
+        let next = men.after(chess_move);
+        return place_by_men(&next);
+    }
+    place_of(&play_legal(position, *chess_move))
+}
+
+/// The entries of where a legal move leads.
 fn entries_after(
     table: &Table,
     library: &Library,
     position: &Position,
     men: &Men,
     chess_move: &Move,
-) -> ByColumn
+) -> ByMetric
     requires legal { IsLegal position.now chess_move.now }
     requires own { IsInClass table.now.class position.now }
     requires children { HasChildren (table_at library.now) table.now.class }
     requires men { AreMenOf position.now men.now }
-    ensures { (column : Column) (q : Setup) → Leads position.now chess_move.now q →
-        HasEntry (beside (table_at library.now) table.now) column q (number_at result column) }
+    ensures { (metric : Metric) (q : Setup) → Leads position.now chess_move.now q →
+        HasEntry (beside (table_at library.now) table.now) metric q (number_at result metric) }
 {
     facts();
     let _side = position.side();
     let _class = table.class();
-    if is_told_by_men(position, chess_move.from, chess_move.to) {
-        let next = men.after(chess_move);
-        return entries_by_men(table, library, &next);
-    }
-    let next = play_legal(position, *chess_move);
-    entries_of(table, library, &next)
+    entries_in(table, library, place_after(position, men, chess_move))
 }
 
 /// The scores of a legal move to a position with these entries.
@@ -107,20 +140,20 @@ fn scores(
     library: &Library,
     position: &Position,
     chess_move: &Move,
-    entries: ByColumn,
+    entries: ByMetric,
     zeroes: bool,
-) -> ByColumn
+) -> ByMetric
     requires legal { IsLegal position.now chess_move.now }
-    requires entries { (column : Column) (q : Setup) → Leads position.now chess_move.now q →
-        HasEntry (beside (table_at library.now) table.now) column q (number_at entries column) }
+    requires entries { (metric : Metric) (q : Setup) → Leads position.now chess_move.now q →
+        HasEntry (beside (table_at library.now) table.now) metric q (number_at entries metric) }
     requires zeroes { IsTrue zeroes ↔ Zeroes position.now chess_move.now }
-    ensures { (column : Column) (q : Setup) (leads : Leads position.now chess_move.now q) →
-        Scores (shown_by library.now table.now) column position.now q (chess_move.now, leads) (number_at result column) }
+    ensures { (metric : Metric) (q : Setup) (leads : Leads position.now chess_move.now q) →
+        Scores (shown_by library.now table.now) metric position.now q (chess_move.now, leads) (number_at result metric) }
 {
     facts();
     let _side = position.side();
-    let ByColumn { mate, zeroing } = entries;
-    ByColumn {
+    let ByMetric { mate, zeroing } = entries;
+    ByMetric {
         mate: mate_score(mate),
         zeroing: zeroing_score(mate, zeroing, zeroes),
     }
@@ -128,10 +161,10 @@ fn scores(
 
 /// In each column the greater of two scores.
 #[inline(always)]
-fn higher(best: ByColumn, scores: ByColumn) -> ByColumn
-    ensures { (column : Column) → number_at result column ≡ max (number_at best column) (number_at scores column) }
+fn higher(best: ByMetric, scores: ByMetric) -> ByMetric
+    ensures { (metric : Metric) → number_at result metric ≡ max (number_at best metric) (number_at scores metric) }
 {
-    ByColumn {
+    ByMetric {
         mate: best.mate.max(scores.mate),
         zeroing: best.zeroing.max(scores.zeroing),
     }
@@ -139,9 +172,9 @@ fn higher(best: ByColumn, scores: ByColumn) -> ByColumn
 
 /// In each column the greater of two scores, if there are two.
 #[inline(always)]
-fn raised(best: Option<ByColumn>, scores: ByColumn) -> ByColumn
-    ensures { (column : Column) →
-        number_at result column ≡ greater (option_map (λ numbers. number_at numbers column) best) (number_at scores column) }
+fn raised(best: Option<ByMetric>, scores: ByMetric) -> ByMetric
+    ensures { (metric : Metric) →
+        number_at result metric ≡ greater (option_map (λ numbers. number_at numbers metric) best) (number_at scores metric) }
 {
     match best {
         Some(best) => higher(best, scores),
@@ -156,8 +189,8 @@ fn best_after(
     position: &Position,
     men: &Men,
     chess_move: &Move,
-    best: Option<ByColumn>,
-) -> Option<ByColumn>
+    best: Option<ByMetric>,
+) -> Option<ByMetric>
     requires legal { IsLegal position.now chess_move.now }
     requires own { IsInClass table.now.class position.now }
     requires children { HasChildren (table_at library.now) table.now.class }
@@ -170,12 +203,78 @@ fn best_after(
     Some(raised(best, scores))
 }
 
+/// The entry of the column of the nearest mates of where a legal move leads.
+fn reach_after(
+    table: &Table,
+    library: &Library,
+    position: &Position,
+    men: &Men,
+    chess_move: &Move,
+) -> u16
+    requires there { IsSome table.now.reach }
+    requires legal { IsLegal position.now chess_move.now }
+    requires own { IsInClass table.now.class position.now }
+    requires children { HasChildren (table_at library.now) table.now.class }
+    requires reach_children { HasReachChildren (table_at library.now) table.now.class }
+    requires men { AreMenOf position.now men.now }
+    ensures { (q : Setup) → Leads position.now chess_move.now q → HasReachEntry (beside (table_at library.now) table.now) q result }
+{
+    facts();
+    let _side = position.side();
+    let _class = table.class();
+    reach_in(table, library, place_after(position, men, chess_move))
+}
+
+/// The number of plies that an entry of the column of the nearest mates shows, if it shows one.
+fn reach_shown(entry: u16) -> Option<u16>
+    ensures some { IfSome result (λ n. ShowsReach entry (Some n)) }
+    ensures none { IfNone result ((n : ℕ) → ¬ ShowsReach entry (Some n)) }
+{
+    if 2 <= entry && entry <= 32_002 {
+        Some(entry - 2)
+    } else {
+        None
+    }
+}
+
+/// The less of two numbers, or the one that is there.
+fn nearer(one: Option<u16>, other: Option<u16>) -> Option<u16>
+    ensures { result ≡ nearer one other }
+{
+    match (one, other) {
+        (Some(one), Some(other)) => Some(one.min(other)),
+        (one, None) => one,
+        (None, other) => other,
+    }
+}
+
+/// The least number of plies that the column of the nearest mates shows of where a legal move leads, if one is shown.
+pub(crate) fn least_reach(table: &Table, library: &Library, position: &Position) -> Option<u16>
+    requires there { IsSome table.now.reach }
+    requires own { IsInClass table.now.class position.now }
+    requires children { HasChildren (table_at library.now) table.now.class }
+    requires reach_children { HasReachChildren (table_at library.now) table.now.class }
+    ensures some { IfSome result (λ n. (n ≤ 32000) × IsLeast chess position.now (λ q m k. ShowsReachOf (beside (table_at library.now) table.now) q (Some k)) n) }
+    ensures none { IfNone result (EachMove chess position.now (λ q. (k : ℕ) → ¬ ShowsReachOf (beside (table_at library.now) table.now) q (Some k))) }
+{
+    facts();
+    let _side = position.side();
+    let men = Men::of(position);
+    let moves = legal_moves(position);
+    let mut least = None;
+    for chess_move in moves.as_slice() {
+        let reach = reach_after(table, library, position, &men, chess_move);
+        least = nearer(least, reach_shown(reach));
+    }
+    least
+}
+
 /// In each column the best score of a legal move, if there is a move.
-pub(crate) fn best(table: &Table, library: &Library, position: &Position) -> Option<ByColumn>
+pub(crate) fn best(table: &Table, library: &Library, position: &Position) -> Option<ByMetric>
     requires own { IsInClass table.now.class position.now }
     requires children { HasChildren (table_at library.now) table.now.class }
     ensures some { IfSome result
-        (λ best. (column : Column) → IsBest (shown_by library.now table.now) column position.now (number_at best column)) }
+        (λ best. (metric : Metric) → IsBest (shown_by library.now table.now) metric position.now (number_at best metric)) }
     ensures none { IfNone result (NoMove chess position.now) }
 {
     let men = Men::of(position);

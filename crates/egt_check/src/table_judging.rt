@@ -1,5 +1,5 @@
 //! The judgement of a whole table of a class with two men beside the kings, block by block.
-ghost use Rattle.std.specs.Prelude.{◌≡◌, ◌≢◌, ◌+◌, ◌*◌, ◌<◌, ◌≤◌, false, true, Some, None, IfSome};
+ghost use Rattle.std.specs.Prelude.{◌≡◌, ◌≢◌, ◌+◌, ◌*◌, ◌<◌, ◌≤◌, ℕ, false, true, Some, None, IfSome};
 ghost use Rattle.egt_board.specs.Turned.{turned_man};
 ghost use Rattle.egt_board.specs.Setup.{Setup};
 ghost use Rattle.egt_board.specs.declared.man.Kind.TheVariants.{K};
@@ -13,11 +13,12 @@ ghost use Rattle.egt_index.specs.ShelfCodes.{AreMenOf};
 ghost use Rattle.egt_index.specs.Size.{size_of};
 ghost use Rattle.egt_index.specs.declared.shelf_codes.ShelfMen.{ShelfMen};
 ghost use Rattle.egt_moves.specs.Promotion.{IsOfficer};
-ghost use Rattle.egt_table.specs.Table.{TableValue};
-ghost use Rattle.egt_table.specs.declared.column.Column.{Column};
-ghost use Rattle.egt_check.specs.MoveScores.{AreTablesOf};
+ghost use Rattle.egt_table.specs.Table.{HasColumn, TableValue};
+ghost use Rattle.egt_check.specs.declared.metric.Metric.{Metric};
+ghost use Rattle.egt_check.specs.MoveScores.{AreFourMen, AreTablesOf};
+ghost use Rattle.egt_check.specs.Parts.{column_of, four_in, promotion_in, promotions_in, table_in, tables_in};
 ghost use Rattle.egt_check.specs.PawnScores.{AreNamed, ArePromotionsOf, HasPromotion, HasPromotions, IsPromotionOf};
-ghost use Rattle.egt_check.specs.RightBlock.{AreJudged};
+ghost use Rattle.egt_check.specs.RightBlock.{AreJudged, KeepsPart};
 ghost use Rattle.egt_check.specs.Rules.{KeepsBelow};
 ghost use Rattle.egt_check.specs.Taken.{men_swapped};
 ghost use Rattle.egt_check.specs.Tables.{Tables, beside, table_at};
@@ -26,12 +27,14 @@ ghost use Rattle.egt_check.specs.Worth.{HasBytes};
 
 use crate::block_judging::block_is_right;
 use crate::blocks::are_equal;
-use crate::bytes::{tells_bytes, true_table_tells_bytes};
+use crate::bytes::{tells_bytes, true_table_tells};
 use crate::digits::digits_of;
 use crate::library::Library;
 use crate::move_scores::{FourMen, men_swapped};
 use crate::own_men::is_pawn;
+use crate::part::Part;
 use crate::pawn_scores::{Promotion, Promotions};
+use crate::reach_blocks::reach_block_is_right;
 use crate::taken_blocks::turned_man;
 use egt_board::{Kind, Man, Side, Square};
 use egt_class::Class;
@@ -53,27 +56,41 @@ fn with_kings(men: &ShelfMen, white: Square, black: Square) -> ShelfMen
     }
 }
 
-/// Whether all entries of the shelves from this one on, one for each digit of the first man, keep the rules, and of
-/// those `half` further on, which have the same men and a target; 0 in a class without targets.
-fn pair_is_right(four: &FourMen, men: &ShelfMen, first: u32, half: u32) -> bool
-    requires men { AreMenOf four.now.own.now.class men.now }
-    requires one { men.now.one.kind ≢ K }
-    requires last { men.now.last.kind ≢ K }
-    requires first_left { IsLoneMan four.now.first.now.class (turned_man four.now.first_flips men.now.one) }
-    requires last_left { IsLoneMan four.now.last.now.class (turned_man four.now.last_flips men.now.last) }
-    requires first_pawn { IfSome four.now.first_pawn (λ kinds. ArePromotionsOf kinds (men_swapped men.now)) }
-    requires last_pawn { IfSome four.now.last_pawn (λ kinds. ArePromotionsOf kinds men.now) }
-    requires same { men.now.one ≡ men.now.last → four.now.first_pawn ≡ four.now.last_pawn }
+/// Whether all entries of the part keep the rules, of those shelves with that side to move and of those `half` further
+/// on, whose positions have a target.
+fn side_is_right(
+    four: &FourMen,
+    men: &ShelfMen,
+    part: Part,
+    first: u32,
+    half: u32,
+    side: Side,
+) -> bool
+    requires men { AreFourMen (column_of part) four.now men.now }
     requires room { first + half + 64 < 4294967296 }
-    ensures { result ≡ true → (tables : Tables) → AreTablesOf tables four.now men.now → (column : Column) (side : Side) →
-        AreJudged tables four.now.own.now column men.now first side × AreJudged tables four.now.own.now column men.now (first + half) side }
+    ensures { result ≡ true → (tables : Tables) → AreTablesOf (tables_in part tables) (four_in part four.now) men.now →
+        AreJudged part tables four.now.own.now men.now first side × AreJudged part tables four.now.own.now men.now (first + half) side }
+{
+    match part {
+        Part::Values => block_is_right(four, men, first, half, side),
+        Part::Reach => reach_block_is_right(four, men, first, half, side),
+    }
+}
+
+/// Whether all entries of the part keep the rules, of the shelves from this one on, one for each digit of the first man,
+/// and of those `half` further on, which have the same men and a target; 0 in a class without targets.
+fn pair_is_right(four: &FourMen, men: &ShelfMen, part: Part, first: u32, half: u32) -> bool
+    requires men { AreFourMen (column_of part) four.now men.now }
+    requires room { first + half + 64 < 4294967296 }
+    ensures { result ≡ true → (tables : Tables) → AreTablesOf (tables_in part tables) (four_in part four.now) men.now → (side : Side) →
+        AreJudged part tables four.now.own.now men.now first side × AreJudged part tables four.now.own.now men.now (first + half) side }
 {
     let Some(here) = shelf_men(four.own.class(), first) else {
         return false;
     };
     let there = with_kings(men, here.white, here.black);
-    block_is_right(four, &there, first, half, Side::White)
-        && block_is_right(four, &there, first, half, Side::Black)
+    side_is_right(four, &there, part, first, half, Side::White)
+        && side_is_right(four, &there, part, first, half, Side::Black)
 }
 
 /// How many of the class's shelves have a target: the upper half, or none.
@@ -83,18 +100,11 @@ fn with_targets(class: Class, shelves: u32) -> u32
     if has_target(class) { shelves / 2 } else { 0 }
 }
 
-/// Whether all entries of the class keep the rules.
-fn pairs_are_right(four: &FourMen, men: &ShelfMen) -> bool
-    requires men { AreMenOf four.now.own.now.class men.now }
-    requires one { men.now.one.kind ≢ K }
-    requires last { men.now.last.kind ≢ K }
-    requires first_left { IsLoneMan four.now.first.now.class (turned_man four.now.first_flips men.now.one) }
-    requires last_left { IsLoneMan four.now.last.now.class (turned_man four.now.last_flips men.now.last) }
-    requires first_pawn { IfSome four.now.first_pawn (λ kinds. ArePromotionsOf kinds (men_swapped men.now)) }
-    requires last_pawn { IfSome four.now.last_pawn (λ kinds. ArePromotionsOf kinds men.now) }
-    requires same { men.now.one ≡ men.now.last → four.now.first_pawn ≡ four.now.last_pawn }
+/// Whether all entries of the part keep the rules, at all codes of the class.
+pub(crate) fn pairs_are_right(four: &FourMen, men: &ShelfMen, part: Part) -> bool
+    requires men { AreFourMen (column_of part) four.now men.now }
     requires wide { places four.now.own.now.class ≡ kind_digits men.now.last.kind }
-    ensures { result ≡ true → (tables : Tables) → AreTablesOf tables four.now men.now → (column : Column) → KeepsBelow tables four.now.own.now column (size_of four.now.own.now.class) }
+    ensures { result ≡ true → (tables : Tables) → AreTablesOf (tables_in part tables) (four_in part four.now) men.now → (i : ℕ) → i < size_of four.now.own.now.class → KeepsPart part tables four.now.own.now i }
 {
     numbers_stand_for_codes();
     let class = four.own.class();
@@ -103,7 +113,7 @@ fn pairs_are_right(four: &FourMen, men: &ShelfMen) -> bool
     let half = with_targets(class, shelves);
     let mut first = 0;
     while first < shelves - half {
-        if !pair_is_right(four, men, first, half) {
+        if !pair_is_right(four, men, part, first, half) {
             return false;
         }
         first += step;
@@ -112,18 +122,19 @@ fn pairs_are_right(four: &FourMen, men: &ShelfMen) -> bool
 }
 
 /// Whether this is the table of the class in which the man is left alone beside the kings, in colours exchanged where
-/// `flips`, and its bytes tell its entries.
-fn is_left(class: Class, child: &Table, flips: bool, man: Man) -> bool
+/// `flips`, and its bytes tell its entries of the part.
+fn is_left(class: Class, child: &Table, flips: bool, man: Man, part: Part) -> bool
     requires { IsTrueTable child.now }
     ensures apart { result ≡ true → child.now.class ≢ class }
     ensures lone { result ≡ true → IsLoneMan child.now.class (turned_man flips man) }
-    ensures bytes { result ≡ true → HasBytes child.now }
+    ensures there { result ≡ true → HasColumn (column_of part) child.now }
+    ensures bytes { result ≡ true → HasBytes (table_in part child.now) }
 {
     match lone_man(child.class()) {
         Some(lone) => {
             lone == turned_man(man, flips)
                 && child.class().number() != class.number()
-                && true_table_tells_bytes(child)
+                && true_table_tells(child, part)
         }
         None => false,
     }
@@ -145,17 +156,18 @@ fn named_before(class: Class, one: Man, last: Man) -> Option<bool>
 }
 
 /// The tables of the classes that a promotion of the last man to this kind leads to. `None` where one of them is
-/// missing or does not tell its entries by bytes.
+/// missing or does not tell its entries of the part by bytes.
 fn promotion<'t>(
     library: &'t Library,
     class: Class,
     men: &ShelfMen,
     kind: Kind,
+    part: Part,
 ) -> Option<Promotion<'t>>
     requires officer { IsOfficer kind }
     ensures kind { IfSome result (λ promotion. promotion.kind ≡ kind) }
-    ensures of { IfSome result (λ promotion. IsPromotionOf promotion men.now) }
-    ensures has { IfSome result (λ promotion. (t : TableValue) → t.class ≡ class → HasPromotion (beside (table_at library.now) t) promotion men.now) }
+    ensures of { IfSome result (λ promotion. IsPromotionOf (column_of part) promotion men.now) }
+    ensures has { IfSome result (λ promotion. (t : TableValue) → t.class ≡ class → HasPromotion (tables_in part (beside (table_at library.now) t)) (promotion_in part promotion) men.now) }
 {
     let officer = Man {
         side: men.last.side,
@@ -168,12 +180,12 @@ fn promotion<'t>(
         turned_man(men.one, both_flips),
         turned_man(officer, both_flips),
     )?;
-    if both_class.number() == class.number() || !true_table_tells_bytes(both) {
+    if both_class.number() == class.number() || !true_table_tells(both, part) {
         return None;
     }
     let (alone_class, alone_flips) = of_men(Some(officer), None);
     let alone = library.get(alone_class)?;
-    if !is_left(class, alone, alone_flips, officer) {
+    if !is_left(class, alone, alone_flips, officer, part) {
         return None;
     }
     Some(Promotion {
@@ -188,17 +200,22 @@ fn promotion<'t>(
 
 /// The same of each kind that the last man, a pawn, is promoted to. `None` of a piece, and where a table is missing
 /// or does not tell.
-fn promotions<'t>(library: &'t Library, class: Class, men: &ShelfMen) -> Option<Promotions<'t>>
-    ensures of { IfSome result (λ kinds. ArePromotionsOf kinds men.now) }
-    ensures has { IfSome result (λ kinds. (t : TableValue) → t.class ≡ class → HasPromotions (beside (table_at library.now) t) kinds men.now) }
+fn promotions<'t>(
+    library: &'t Library,
+    class: Class,
+    men: &ShelfMen,
+    part: Part,
+) -> Option<Promotions<'t>>
+    ensures of { IfSome result (λ kinds. ArePromotionsOf (column_of part) kinds men.now) }
+    ensures has { IfSome result (λ kinds. (t : TableValue) → t.class ≡ class → HasPromotions (tables_in part (beside (table_at library.now) t)) (promotions_in part kinds) men.now) }
 {
     if !is_pawn(men.last) {
         return None;
     }
-    let queen = promotion(library, class, men, Kind::Q)?;
-    let rook = promotion(library, class, men, Kind::R)?;
-    let bishop = promotion(library, class, men, Kind::B)?;
-    let knight = promotion(library, class, men, Kind::N)?;
+    let queen = promotion(library, class, men, Kind::Q, part)?;
+    let rook = promotion(library, class, men, Kind::R, part)?;
+    let bishop = promotion(library, class, men, Kind::B, part)?;
+    let knight = promotion(library, class, men, Kind::N, part)?;
     Some(Promotions {
         queen,
         rook,
@@ -212,18 +229,19 @@ fn first_promotions<'t>(
     library: &'t Library,
     class: Class,
     men: &ShelfMen,
+    part: Part,
     last: &Option<Promotions<'t>>,
 ) -> Option<Promotions<'t>>
-    requires of { IfSome last.now (λ kinds. ArePromotionsOf kinds men.now) }
-    requires has { IfSome last.now (λ kinds. (t : TableValue) → t.class ≡ class → HasPromotions (beside (table_at library.now) t) kinds men.now) }
-    ensures of { IfSome result (λ kinds. ArePromotionsOf kinds (men_swapped men.now)) }
-    ensures has { IfSome result (λ kinds. (t : TableValue) → t.class ≡ class → HasPromotions (beside (table_at library.now) t) kinds (men_swapped men.now)) }
+    requires of { IfSome last.now (λ kinds. ArePromotionsOf (column_of part) kinds men.now) }
+    requires has { IfSome last.now (λ kinds. (t : TableValue) → t.class ≡ class → HasPromotions (tables_in part (beside (table_at library.now) t)) (promotions_in part kinds) men.now) }
+    ensures of { IfSome result (λ kinds. ArePromotionsOf (column_of part) kinds (men_swapped men.now)) }
+    ensures has { IfSome result (λ kinds. (t : TableValue) → t.class ≡ class → HasPromotions (tables_in part (beside (table_at library.now) t)) (promotions_in part kinds) (men_swapped men.now)) }
     ensures same { men.now.one ≡ men.now.last → result ≡ last.now }
 {
     if are_equal(men) {
         *last
     } else {
-        promotions(library, class, &men_swapped(men))
+        promotions(library, class, &men_swapped(men), part)
     }
 }
 
@@ -242,41 +260,55 @@ fn is_own_class(class: Class, men: &ShelfMen) -> bool
     own.number() == class.number() && !flips
 }
 
-/// Whether all entries of the table keep the rules beside those of the successors, of a class with two men beside the
-/// kings. False of any other, and where a table does not tell it by bytes.
-pub(crate) fn is_right_by_blocks(table: &Table, library: &Library) -> bool
-    ensures { result ≡ true → (column : Column) → KeepsBelow (beside (table_at library.now) table.now) table.now column (size_of table.now.class) }
+/// The table of a class with these men, and those of the classes that their moves lead to, which tell their entries of
+/// the part by bytes. `None` where one of them is missing or does not, and where the class has other men.
+pub(crate) fn four_men<'t>(
+    table: &'t Table,
+    library: &'t Library,
+    men: &ShelfMen,
+    part: Part,
+) -> Option<FourMen<'t>>
+    requires there { HasColumn (column_of part) table.now }
+    requires men { AreMenOf table.now.class men.now }
+    ensures own { IfSome result (λ four. four.own.now ≡ table.now) }
+    ensures of { IfSome result (λ four. AreFourMen (column_of part) four men.now) }
+    ensures tables { IfSome result (λ four. HasBytes (table_in part table.now) → AreTablesOf (tables_in part (beside (table_at library.now) table.now)) (four_in part four) men.now) }
 {
     let class = table.class();
-    let Some(men) = shelf_men(class, 0) else {
-        return false;
-    };
-    if is_king(men.one) || is_king(men.last) || !is_own_class(class, &men) {
-        return false;
+    if is_king(men.one) || is_king(men.last) || !is_own_class(class, men) {
+        return None;
     }
     let (first_class, first_flips) = of_men(Some(men.one), None);
     let (last_class, last_flips) = of_men(Some(men.last), None);
-    let Some(first) = library.get(first_class) else {
-        return false;
-    };
-    let Some(last) = library.get(last_class) else {
-        return false;
-    };
-    if !is_left(class, first, first_flips, men.one) || !is_left(class, last, last_flips, men.last) {
-        return false;
+    let first = library.get(first_class)?;
+    let last = library.get(last_class)?;
+    if !is_left(class, first, first_flips, men.one, part)
+        || !is_left(class, last, last_flips, men.last, part)
+    {
+        return None;
     }
-    if !tells_bytes(table) {
-        return false;
-    }
-    let last_pawn = promotions(library, class, &men);
-    let four = FourMen {
+    let last_pawn = promotions(library, class, men, part);
+    Some(FourMen {
         own: table,
         first,
         first_flips,
         last,
         last_flips,
-        first_pawn: first_promotions(library, class, &men, &last_pawn),
+        first_pawn: first_promotions(library, class, men, part, &last_pawn),
         last_pawn,
+    })
+}
+
+/// Whether all entries of the mate column and of the zeroing column keep the rules beside those of the successors, of a
+/// class with two men beside the kings. False of any other, and where a table does not tell it by bytes.
+pub(crate) fn is_right_by_blocks(table: &Table, library: &Library) -> bool
+    ensures { result ≡ true → (metric : Metric) → KeepsBelow (beside (table_at library.now) table.now) table.now metric (size_of table.now.class) }
+{
+    let Some(men) = shelf_men(table.class(), 0) else {
+        return false;
     };
-    pairs_are_right(&four, &men)
+    let Some(four) = four_men(table, library, &men, Part::Values) else {
+        return false;
+    };
+    tells_bytes(table) && pairs_are_right(&four, &men, Part::Values)
 }

@@ -7,11 +7,11 @@ ghost use Rattle.egt_index.specs.LoneCodes.{IsLoneMan};
 ghost use Rattle.egt_index.specs.TurnedMen.{IsSomeTurnedCode};
 ghost use Rattle.egt_lanes.specs.Blocks.{at};
 ghost use Rattle.egt_lanes.specs.Raised.{IsRaised};
-ghost use Rattle.egt_table.specs.declared.column.Column.TheVariants.{Mate};
+ghost use Rattle.egt_table.specs.Table.{HasColumn};
 ghost use Rattle.egt_check.specs.Blocks.{IsBesideKing, with_king};
 ghost use Rattle.egt_check.specs.Taken.{AreLeftCodes};
 ghost use Rattle.egt_check.specs.Takings.{IsPastKings, left_of, stand_left};
-ghost use Rattle.egt_check.specs.Worth.{IsRead, score_at};
+ghost use Rattle.egt_check.specs.Worth.{IsRead, column_score};
 
 use crate::blocks::nothing;
 use crate::king_blocks::{beside_king, with_king};
@@ -38,42 +38,43 @@ pub(crate) fn turned_man(man: Man, flips: bool) -> Man
 /// The scores of the positions with the first man alone beside the kings, the other side to move, by his square. False where the table does not tell.
 pub(crate) fn read_left(
     child: &Table,
+    column: Column,
     flips: bool,
     men: &ShelfMen,
     side: Side,
     out: &mut Row,
 ) -> bool
-    requires { IsLoneMan child.now.class (turned_man flips men.now.one) }
-    ensures { result ≡ true → (s : ℕ) → s < 64 → IsRead child.now Mate flips (stand_left flips (left_of men.now men.now.one s)) (other_side side) (slice_index out.new s) }
+    requires there { HasColumn column child.now }
+    requires lone { IsLoneMan child.now.class (turned_man flips men.now.one) }
+    ensures { result ≡ true → (s : ℕ) → s < 64 → IsRead child.now column flips (stand_left flips (left_of men.now men.now.one s)) (other_side side) (slice_index out.new s) }
 {
     let white = if flips { men.black } else { men.white };
     let black = if flips { men.white } else { men.black };
     let man = turned_man(men.one, flips);
-    read_lone(
-        child,
-        Column::Mate,
-        man,
-        white,
-        black,
-        flips,
-        side.other(),
-        out,
-    )
+    read_lone(child, column, man, white, black, flips, side.other(), out)
 }
 
 /// The scores where that side's king takes the last man: a row for each square on which it does, a lane for each of the first man's. False where the table
 /// does not tell.
-fn read_beside(child: &Table, flips: bool, men: &ShelfMen, side: Side, out: &mut Block) -> bool
-    requires { IsLoneMan child.now.class (turned_man flips men.now.one) }
+fn read_beside(
+    child: &Table,
+    column: Column,
+    flips: bool,
+    men: &ShelfMen,
+    side: Side,
+    out: &mut Block,
+) -> bool
+    requires there { HasColumn column child.now }
+    requires lone { IsLoneMan child.now.class (turned_man flips men.now.one) }
     ensures { result ≡ true → (b a : ℕ) → b < 64 → a < 64 →
-        IsRaised 0 (λ code. IsBesideKing men.now side b × IsSomeTurnedCode child.now.class code flips (stand_left flips (left_of (with_king men.now side b) men.now.one a)) (other_side side)) (score_at child.now Mate) (at out.new b a) }
+        IsRaised 0 (λ code. IsBesideKing men.now side b × IsSomeTurnedCode child.now.class code flips (stand_left flips (left_of (with_king men.now side b) men.now.one a)) (other_side side)) (column_score child.now column) (at out.new b a) }
 {
     *out = nothing();
     let mut rest = beside_king(men, side);
     while let Some(to) = rest.pop_first() {
         let stepped = with_king(men, side, to);
         let mut row = Row::splat(0);
-        if !read_left(child, flips, &stepped, side, &mut row) {
+        if !read_left(child, column, flips, &stepped, side, &mut row) {
             return false;
         }
         out[usize::from(to.number())] = row;
@@ -97,20 +98,22 @@ pub(crate) fn raise_takes(men: &ShelfMen, scores: &Row, out: &mut Block)
 /// The scores of the positions after that side took the last man, by the king or by the first man. False where the table does not tell.
 pub(crate) fn taken_block(
     child: &Table,
+    column: Column,
     flips: bool,
     men: &ShelfMen,
     side: Side,
     out: &mut Block,
 ) -> bool
-    requires { IsLoneMan child.now.class (turned_man flips men.now.one) }
-    ensures { result ≡ true → (a b : ℕ) → a < 64 → b < 64 → IsRaised 0 (AreLeftCodes child.now.class flips men.now side a b) (score_at child.now Mate) (at out.new a b) }
+    requires there { HasColumn column child.now }
+    requires lone { IsLoneMan child.now.class (turned_man flips men.now.one) }
+    ensures { result ≡ true → (a b : ℕ) → a < 64 → b < 64 → IsRaised 0 (AreLeftCodes child.now.class flips men.now side a b) (column_score child.now column) (at out.new a b) }
 {
     *out = nothing();
     if !is_of(men.last, side.other()) {
         return true;
     }
     let mut beside = nothing();
-    if !read_beside(child, flips, men, side, &mut beside) {
+    if !read_beside(child, column, flips, men, side, &mut beside) {
         return false;
     }
     raise_transposed(out, &beside);
@@ -118,7 +121,7 @@ pub(crate) fn taken_block(
         return true;
     }
     let mut scores = Row::splat(0);
-    if !read_left(child, flips, men, side, &mut scores) {
+    if !read_left(child, column, flips, men, side, &mut scores) {
         return false;
     }
     raise_takes(men, &scores, out);

@@ -5,7 +5,7 @@ ghost use Rattle.egt_board.specs.declared.man.Side.{Side};
 ghost use Rattle.egt_index.specs.Numbers.{code_of};
 ghost use Rattle.egt_index.specs.Scales.{kind_digits};
 ghost use Rattle.egt_index.specs.ShelfCodes.{AreMenOf, IsShelfOf, IsWithin, number_in};
-ghost use Rattle.egt_table.specs.declared.column.Column.TheVariants.{Mate};
+ghost use Rattle.egt_check.specs.declared.metric.Metric.TheVariants.{Mate};
 ghost use Rattle.egt_check.specs.Voids.{AreAllAlike, TellsVoids, TellsVoidsIn};
 ghost use Rattle.egt_check.specs.Worth.{score_at};
 

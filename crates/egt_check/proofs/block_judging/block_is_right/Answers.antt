@@ -4,26 +4,27 @@ use Rattle.egt_index.specs.Scales.{kind_less}
 use Rattle.egt_index.specs.ShelfCodes.{number_in}
 use Rattle.egt_lanes.specs.Blocks.{at}
 use Rattle.egt_check.specs.RightBlock.{AreJudged}
+use Rattle.egt_check.specs.declared.part.Part.TheVariants.{Values}
 use Rattle.egt_check.proofs.RowRead.{square_in}
 use Rattle.egt_check.proofs.block_judging.block_is_right.Goals as goal
 
 pub returns-then-half-eq0 : goal.returns-then-half-eq0
-returns-then-half-eq0 c = λ _ tables are column.
+returns-then-half-eq0 c = λ _ tables are.
     let four = c.args.four.now in
     let men = c.args.men.now in
     let side = c.args.side in
-    let lower : AreJudged tables four.own.now column men c.args.first side = λ x y x_in y_in.
+    let lower : AreJudged Values tables four.own.now men c.args.first side = λ x y x_in y_in.
     let a = x + kind_less men.one.kind in
     let b = y + kind_less men.last.kind in
     let scores = c.move_scores.ensures c.if-not-move_scores.false a b (square_in men.one.kind x x_in) (square_in men.last.kind y y_in) in
     let lane = c.shelves_are_right.ensures c.if-not-shelves_are_right.false x y x_in y_in in
     c.entries_due_to_all_moves_are_right.ensures tables four men side false a b (code_of four.own.now.class (number_in four.own.now.class (c.args.first + x) side y)) (at c.move_scores.new.mates a b) (at c.move_scores.new.zeroing a b)
-    are c.requires.one c.requires.last lane.below lane.tells scores lane.right column in
+    are c.requires.men.one c.requires.men.last lane.below lane.tells scores lane.right in
     let none = c.if-half-eq0.true in
-    (lower, subst (λ n. AreJudged tables four.own.now column men n side) (omega (arith, none)) lower)
+    (lower, subst (λ n. AreJudged Values tables four.own.now men n side) (omega (arith, none)) lower)
 
 pub returns : goal.returns
-returns c = λ told tables are column.
+returns c = λ told tables are.
     let four = c.args.four.now in
     let men = c.args.men.now in
     let side = c.args.side in
@@ -33,7 +34,7 @@ returns c = λ told tables are column.
           let b = y + kind_less men.last.kind in
           let lane = c.shelves_are_right.ensures c.if-not-shelves_are_right.false x y x_in y_in in
           c.entries_due_to_all_moves_are_right.ensures tables four men side false a b (code_of four.own.now.class (number_in four.own.now.class (c.args.first + x) side y)) (at c.move_scores.new.mates a b) (at c.move_scores.new.zeroing a b)
-          are c.requires.one c.requires.last lane.below lane.tells (scores a b (square_in men.one.kind x x_in) (square_in men.last.kind y y_in)) lane.right column,
+          are c.requires.men.one c.requires.men.last lane.below lane.tells (scores a b (square_in men.one.kind x x_in) (square_in men.last.kind y y_in)) lane.right,
       λ x y x_in y_in.
           let a = x + kind_less men.one.kind in
           let b = y + kind_less men.last.kind in
@@ -41,5 +42,5 @@ returns c = λ told tables are column.
           let b_in = square_in men.last.kind y y_in in
           let lane = c.shelves_are_right-2.ensures told x y x_in y_in in
           c.entries_due_to_all_moves_are_right.ensures tables four men side true a b (code_of four.own.now.class (number_in four.own.now.class (c.args.first + c.args.half + x) side y)) (at c.raise_passed.new.mates a b) (at c.raise_passed.new.zeroing a b)
-          are c.requires.one c.requires.last lane.below lane.tells (c.raise_passed.ensures c.if-not-raise_passed.false a b a_in b_in (scores a b a_in b_in)) lane.right column,
+          are c.requires.men.one c.requires.men.last lane.below lane.tells (c.raise_passed.ensures c.if-not-raise_passed.false a b a_in b_in (scores a b a_in b_in)) lane.right,
     )

@@ -4,7 +4,7 @@ use Rattle.egt_index.specs.Home.{AreHome}
 use Rattle.egt_index.specs.Size.{has_pawns}
 use Rattle.egt_lanes.specs.Blocks.{at}
 use Rattle.egt_check.specs.Blocks.{stand_on}
-use Rattle.egt_check.specs.Worth.{score_at}
+use Rattle.egt_check.specs.Worth.{column_score}
 use Rattle.egt_check.proofs.BlockRaising.{home_by_one, home_by_two}
 use Rattle.egt_check.proofs.blocks.raise_home.Goals as goal
 
@@ -13,7 +13,7 @@ returns-in-Some c = λ told a b a_in b_in.
     let t = c.args.table.now in
     let pawns = c.has_pawns.ensures ∙ ap (λ k. has_pawns (material_of k)) c.class.ensures.class in
     let home = subst (λ (o : Option _). AreHome (has_pawns (material_of t.class)) c.args.flips c.args.men.now.white c.home-first.result.0 o) c.in-Some.is (subst (λ (p : Bool). AreHome p c.args.flips c.args.men.now.white c.home-first.result.0 c.home-first.result.1) pawns c.home-first.ensures) in
-    home_by_two c.args.passed t.class c.args.flips (stand_on c.args.men.now a b) c.args.side c.home-first.result.0 c.in-Some.second home (at c.args.out.now a b) (at c.raise_turned.new.out a b) (at c.raise_turned-in-Some.new.out a b) (score_at t c.args.column)
+    home_by_two c.args.passed t.class c.args.flips (stand_on c.args.men.now a b) c.args.side c.home-first.result.0 c.in-Some.second home (at c.args.out.now a b) (at c.raise_turned.new.out a b) (at c.raise_turned-in-Some.new.out a b) (column_score t c.args.column)
     (c.if-not-raise_turned.ensures refl a b a_in b_in) (c.raise_turned-in-Some.ensures told a b a_in b_in)
 
 pub returns-in-None : goal.returns-in-None
@@ -21,4 +21,4 @@ returns-in-None c = λ told a b a_in b_in.
     let t = c.args.table.now in
     let pawns = c.has_pawns.ensures ∙ ap (λ k. has_pawns (material_of k)) c.class.ensures.class in
     let home = subst (λ (o : Option _). AreHome (has_pawns (material_of t.class)) c.args.flips c.args.men.now.white c.home-first.result.0 o) c.in-None.is (subst (λ (p : Bool). AreHome p c.args.flips c.args.men.now.white c.home-first.result.0 c.home-first.result.1) pawns c.home-first.ensures) in
-    home_by_one c.args.passed t.class c.args.flips (stand_on c.args.men.now a b) c.args.side c.home-first.result.0 home (at c.args.out.now a b) (at c.raise_turned.new.out a b) (score_at t c.args.column) (c.if-not-raise_turned.ensures refl a b a_in b_in)
+    home_by_one c.args.passed t.class c.args.flips (stand_on c.args.men.now a b) c.args.side c.home-first.result.0 home (at c.args.out.now a b) (at c.raise_turned.new.out a b) (column_score t c.args.column) (c.if-not-raise_turned.ensures refl a b a_in b_in)

@@ -9,7 +9,7 @@ use Rattle.egt_index.specs.declared.shelf_codes.ShelfMen.{ShelfMen}
 use Rattle.egt_lanes.specs.Blocks.{at}
 use Rattle.egt_lanes.specs.Raised.{IsRaised}
 use Rattle.egt_check.specs.Blocks.{IsCodeAfter, stand_on}
-use Rattle.egt_check.specs.Worth.{score_at}
+use Rattle.egt_check.specs.Worth.{column_score}
 use Rattle.egt_check.proofs.BlockRaising.{raised_max, turned_in}
 use Rattle.egt_check.proofs.blocks.raise_row.Goals as goal
 
@@ -23,9 +23,9 @@ returns-clause-raised c = λ told b b_in.
     let s_in = turned_in (eqb (c.args.turn / 8) 1) (c.args.turn % 8) b (omega arith) b_in in
     let row = c.row_of-row.ensures s s_in in
     let codes =
-    subst (λ (men : ShelfMen). IsRaised 0 (λ code. TellsMen c.args.passed t.class code (stand_with men s) (turned_side (eqb (c.args.turn / 8) 1) c.args.side)) (score_at t c.args.column) (slice_index c.row_of-row.result s)) c.turned_from-there.ensures
-    (subst (λ (side : Side). IsRaised 0 (λ code. TellsMen c.args.passed t.class code (stand_with c.turned_from-there.result s) side) (score_at t c.args.column) (slice_index c.row_of-row.result s)) c.side_after.ensures row) in
+    subst (λ (men : ShelfMen). IsRaised 0 (λ code. TellsMen c.args.passed t.class code (stand_with men s) (turned_side (eqb (c.args.turn / 8) 1) c.args.side)) (column_score t c.args.column) (slice_index c.row_of-row.result s)) c.turned_from-there.ensures
+    (subst (λ (side : Side). IsRaised 0 (λ code. TellsMen c.args.passed t.class code (stand_with c.turned_from-there.result s) side) (column_score t c.args.column) (slice_index c.row_of-row.result s)) c.side_after.ensures row) in
     let place = c.from-a.ensures ∙ c.number.ensures.value in
-    raised_max (at c.args.out.now c.args.on b) (λ code. IsCodeAfter c.args.passed t.class c.args.turn code (stand_on c.args.men.now c.args.on b) c.args.side) (score_at t c.args.column) (slice_index c.row_of-row.result s) _ codes
+    raised_max (at c.args.out.now c.args.on b) (λ code. IsCodeAfter c.args.passed t.class c.args.turn code (stand_on c.args.men.now c.args.on b) c.args.side) (column_score t c.args.column) (slice_index c.row_of-row.result s) _ codes
     (ap (λ (r : List ℕ). get_or r b 0) (get_or-set_at c.args.out.now c.from-a.result c.args.on c.greater.result [] (sym place) (omega arith)) ∙ c.greater.ensures b b_in
     ∙ ap (λ k. max (slice_index (get_or c.args.out.now k []) b) (slice_index c.turned.result b)) place ∙ ap (λ v. max (at c.args.out.now c.args.on b) v) (c.turned.ensures b b_in))

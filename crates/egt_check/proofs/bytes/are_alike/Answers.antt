@@ -1,6 +1,6 @@
 use Rattle.std.proofs.Common.{◌<◌, ℕ, List, ap, subst, sym, slice_index}
 use Rattle.egt_lanes.specs.Alike.{AreVoidOrAlike}
-use Rattle.egt_table.specs.declared.column.Column.TheVariants.{Zeroing}
+use Rattle.egt_check.specs.declared.metric.Metric.TheVariants.{Zeroing}
 use Rattle.egt_check.specs.Tables.{entry_at}
 use Rattle.egt_check.proofs.bytes.are_alike.Goals as goal
 

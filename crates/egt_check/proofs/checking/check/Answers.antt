@@ -1,8 +1,15 @@
-use Rattle.std.proofs.Common.{ℕ, subst}
-use Rattle.egt_check.specs.Tables.{table_at, HasChildren}
+use Rattle.std.proofs.Common.{refl}
 use Rattle.egt_check.proofs.checking.check.Goals as goal
 
-pub returns-clause-exact : goal.returns-clause-exact
-returns-clause-exact c =
-    let children = subst (λ (k : ℕ). HasChildren (table_at c.args.library.now) k) c.class.ensures.class c.in_default.ensures.none in
-    ((λ ok. record { children = children; rules = c.judge_all.ensures.exact.0 ok }), (λ accepted. c.judge_all.ensures.exact.1 accepted.rules))
+pub returns-then-has_reach-clause-exact : goal.returns-then-has_reach-clause-exact
+returns-then-has_reach-clause-exact c =
+    let here = c.has_reach.ensures.0 c.if-has_reach.true in
+    let read = c.in_ok-check_children.ensures.exact.0 refl in
+    let values = c.in_ok-judge_values.ensures.exact.0 refl in (
+      (λ ok. record {
+        children = read.0;
+        reach_children = read.1;
+        rules = record { values = values; reach = λ there. c.judge_reaches.ensures.exact.0 ok };
+      }),
+      (λ accepted. c.judge_reaches.ensures.exact.1 (accepted.rules.reach here)),
+    )

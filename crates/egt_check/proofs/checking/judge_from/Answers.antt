@@ -1,6 +1,6 @@
 use Rattle.std.proofs.Common.{◌≡◌, ◌+◌, ap, subst, sym, ◌∙◌, arith}
 use Rattle.egt_index.specs.Size.{size_of}
-use Rattle.egt_table.specs.declared.column.Column.TheVariants.{Mate, Zeroing}
+use Rattle.egt_check.specs.declared.metric.Metric.TheVariants.{Mate, Zeroing}
 use Rattle.egt_check.specs.FirstBad.{IsFirstBad}
 use Rattle.egt_check.specs.Rules.{IsJudged, KeepsBelow}
 use Rattle.egt_check.specs.Tables.{table_at, beside}

@@ -31,4 +31,6 @@ returns c = record {
   distances_by_rules = c.entries_are_true.ensures.distances;
   rules_by_values = c.true_entries_fit.ensures.values;
   rules_by_distances = c.true_entries_fit.ensures.distances;
+  reach_by_rules = c.reach_entries_are_true.ensures.are_true;
+  rules_by_reach = c.reach_entries_are_true.ensures.fit;
 }

@@ -2,7 +2,7 @@ use Rattle.std.proofs.Common.{ℕ, false, sym, subst}
 use Rattle.egt_board.specs.Setup.{Setup}
 use Rattle.egt_index.specs.Code.{Spells}
 use Rattle.egt_index.specs.Index.{IsVoid}
-use Rattle.egt_table.specs.declared.column.Column.TheVariants.{Mate, Zeroing}
+use Rattle.egt_check.specs.declared.metric.Metric.TheVariants.{Mate, Zeroing}
 use Rattle.egt_check.specs.Judged.{Finds, FindsVoid}
 use Rattle.egt_check.specs.Tables.{table_at, beside, entry_at}
 use Rattle.egt_check.proofs.FirstRule.{judged, void_judged}

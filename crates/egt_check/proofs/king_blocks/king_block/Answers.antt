@@ -8,7 +8,7 @@ use Rattle.egt_index.specs.declared.shelf_codes.ShelfMen.{ShelfMen}
 use Rattle.egt_lanes.specs.Blocks.{at}
 use Rattle.egt_lanes.specs.Raised.{IsRaised}
 use Rattle.egt_check.specs.Blocks.{AreTurnedCodes, IsBesideKing, IsHomeCode, men_across, stand_on, with_king}
-use Rattle.egt_check.specs.Worth.{score_at}
+use Rattle.egt_check.specs.Worth.{column_score}
 use Rattle.egt_check.proofs.BlockRaising.{GoneKing, gathered_alike, gathered_more, gathered_none, same_beside, settled_raised, told_equal}
 use Rattle.egt_check.proofs.king_blocks.king_block.Goals as goal
 
@@ -29,11 +29,11 @@ loop-to-preserved c =
     let gathered = c.if-not-gather.ensures in (
       gathered_more false t c.args.column (with_king men side) false (other_side side) (GoneKing men side c.loop-to.rest) (GoneKing men side c.pop_first.new.self) to c.loop-to.out c.loop-to.across c.gather.new.own c.gather.new.across c.loop-to.invariant.0
           (λ a b a_in b_in.
-          subst (λ (s : Side). IsRaised (at c.loop-to.out a b) (λ code. IsHomeCode false t.class code false (stand_on (with_king men side to) a b) s) (score_at t c.args.column) (at c.gather.new.own a b)) c.other.ensures
-          (subst (λ (m : ShelfMen). IsRaised (at c.loop-to.out a b) (λ code. IsHomeCode false t.class code false (stand_on m a b) c.other.result) (score_at t c.args.column) (at c.gather.new.own a b)) c.with_king-stepped.ensures (gathered.own refl a b a_in b_in)))
+          subst (λ (s : Side). IsRaised (at c.loop-to.out a b) (λ code. IsHomeCode false t.class code false (stand_on (with_king men side to) a b) s) (column_score t c.args.column) (at c.gather.new.own a b)) c.other.ensures
+          (subst (λ (m : ShelfMen). IsRaised (at c.loop-to.out a b) (λ code. IsHomeCode false t.class code false (stand_on m a b) c.other.result) (column_score t c.args.column) (at c.gather.new.own a b)) c.with_king-stepped.ensures (gathered.own refl a b a_in b_in)))
           (λ equal a b a_in b_in.
-          subst (λ (s : Side). IsRaised (at c.loop-to.across b a) (λ code. IsHomeCode false t.class code (not false) (stand_on (men_across (with_king men side to)) b a) s) (score_at t c.args.column) (at c.gather.new.across b a)) c.other.ensures
-          (subst (λ (m : ShelfMen). IsRaised (at c.loop-to.across b a) (λ code. IsHomeCode false t.class code (not false) (stand_on (men_across m) b a) c.other.result) (score_at t c.args.column) (at c.gather.new.across b a)) c.with_king-stepped.ensures (gathered.across refl equal a b a_in b_in)))
+          subst (λ (s : Side). IsRaised (at c.loop-to.across b a) (λ code. IsHomeCode false t.class code (not false) (stand_on (men_across (with_king men side to)) b a) s) (column_score t c.args.column) (at c.gather.new.across b a)) c.other.ensures
+          (subst (λ (m : ShelfMen). IsRaised (at c.loop-to.across b a) (λ code. IsHomeCode false t.class code (not false) (stand_on (men_across m) b a) c.other.result) (column_score t c.args.column) (at c.gather.new.across b a)) c.with_king-stepped.ensures (gathered.across refl equal a b a_in b_in)))
           (λ k gone. elim (cases_eq k to) [
             | inl same ↦ inr same
             | inr other ↦ inl (gone.0, sym (c.in-Some.ensures.others k other) ∙ gone.1)
@@ -59,7 +59,7 @@ returns c = λ told a b a_in b_in.
     let all =
     gathered_alike false t c.args.column (with_king men side) false (other_side side) (GoneKing men side c.loop-to.rest) (IsBesideKing men side) c.loop-to.out c.loop-to.across c.loop-to.invariant.0
     (λ k near. (near, c.in_default.ensures.empty k)) (λ k gone. gone.0) in
-    subst (IsRaised 0 (AreTurnedCodes false t.class (IsBesideKing men side) (with_king men side) false (other_side side) a b) (score_at t c.args.column)) (sym (c.settle.ensures a b a_in b_in))
+    subst (IsRaised 0 (AreTurnedCodes false t.class (IsBesideKing men side) (with_king men side) false (other_side side) a b) (column_score t c.args.column)) (sym (c.settle.ensures a b a_in b_in))
     (settled_raised false t c.args.column (IsBesideKing men side) (with_king men side) false (other_side side) c.loop-to.out c.loop-to.across all c.are_equal.result
     (λ is k. (same_beside men side k).0 ∙ equal.0 is ∙ sym (same_beside men side k).1)
     (λ is k same. equal.1 is (sym (same_beside men side k).0 ∙ same ∙ (same_beside men side k).1))

@@ -6,7 +6,7 @@ use Rattle.egt_index.specs.LoneCodes.{lone_stand}
 use Rattle.egt_index.specs.StepCodes.{TellsMen}
 use Rattle.egt_lanes.specs.Raised.{IsRaised}
 use Rattle.egt_check.specs.Blocks.{IsCodeAfter}
-use Rattle.egt_check.specs.Worth.{score_at}
+use Rattle.egt_check.specs.Worth.{column_score}
 use Rattle.egt_check.proofs.BlockRaising.{raised_max, turned_in}
 use Rattle.egt_check.proofs.lone_rows.raise_lone.Goals as goal
 
@@ -20,8 +20,8 @@ returns c = λ told s s_in.
     let row = slice_index c.lone_row_of-row.result at in
     let told_at = c.lone_row_of-row.ensures at (turned_in flips n s (omega arith) s_in) in
     let codes =
-    subst (λ w. IsRaised 0 (λ code. TellsMen false t.class code (lone_stand w (turned_square n flips c.args.black) man at) (turned_side flips c.args.side)) (score_at t c.args.column) row) c.turned_square.ensures
-    (subst (λ b. IsRaised 0 (λ code. TellsMen false t.class code (lone_stand c.turned_square.result b man at) (turned_side flips c.args.side)) (score_at t c.args.column) row) c.turned_square-2.ensures
-    (subst (λ (side : Side). IsRaised 0 (λ code. TellsMen false t.class code (lone_stand c.turned_square.result c.turned_square-2.result man at) side) (score_at t c.args.column) row) c.side_after.ensures told_at)) in
-    raised_max (slice_index c.args.out.now s) (λ code. IsCodeAfter false t.class c.args.turn code (lone_stand c.args.white c.args.black man s) c.args.side) (score_at t c.args.column) row (slice_index c.greater.result s) codes
+    subst (λ w. IsRaised 0 (λ code. TellsMen false t.class code (lone_stand w (turned_square n flips c.args.black) man at) (turned_side flips c.args.side)) (column_score t c.args.column) row) c.turned_square.ensures
+    (subst (λ b. IsRaised 0 (λ code. TellsMen false t.class code (lone_stand c.turned_square.result b man at) (turned_side flips c.args.side)) (column_score t c.args.column) row) c.turned_square-2.ensures
+    (subst (λ (side : Side). IsRaised 0 (λ code. TellsMen false t.class code (lone_stand c.turned_square.result c.turned_square-2.result man at) side) (column_score t c.args.column) row) c.side_after.ensures told_at)) in
+    raised_max (slice_index c.args.out.now s) (λ code. IsCodeAfter false t.class c.args.turn code (lone_stand c.args.white c.args.black man s) c.args.side) (column_score t c.args.column) row (slice_index c.greater.result s) codes
     (c.greater.ensures s s_in ∙ ap (λ v. max (slice_index c.args.out.now s) v) (c.turned.ensures s s_in))

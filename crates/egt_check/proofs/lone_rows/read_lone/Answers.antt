@@ -5,7 +5,7 @@ use Rattle.egt_class.specs.Material.{material_of}
 use Rattle.egt_index.specs.Home.{AreHome}
 use Rattle.egt_index.specs.LoneCodes.{lone_stand}
 use Rattle.egt_index.specs.Size.{has_pawns}
-use Rattle.egt_check.specs.Worth.{score_at}
+use Rattle.egt_check.specs.Worth.{column_score}
 use Rattle.egt_check.proofs.BlockRaising.{home_by_one, home_by_two}
 use Rattle.egt_check.proofs.LoneRead.{lone_read}
 use Rattle.egt_check.proofs.lone_rows.read_lone.Goals as goal
@@ -15,9 +15,9 @@ returns-in-Some c = λ told s s_in.
     let t = c.args.table.now in
     let pawns = c.has_pawns.ensures ∙ ap (λ k. has_pawns (material_of k)) c.class-2.ensures.class in
     let home = subst (λ (o : Option _). AreHome (has_pawns (material_of t.class)) c.args.flips c.args.white c.home-first.result.0 o) c.in-Some.is (subst (λ (p : Bool). AreHome p c.args.flips c.args.white c.home-first.result.0 c.home-first.result.1) pawns c.home-first.ensures) in
-    lone_read t c.args.column c.args.man c.args.white c.args.black c.args.flips c.args.side (subst (λ k. k < 36) c.class.ensures.class (omega (arith, c.number-number.ensures.below, c.number-number.ensures.value))) c.requires s
+    lone_read t c.args.column c.args.man c.args.white c.args.black c.args.flips c.args.side (subst (λ k. k < 36) c.class.ensures.class (omega (arith, c.number-number.ensures.below, c.number-number.ensures.value))) c.requires.man s
     (slice_index c.raise_lone-in-Some.new.out s) (get_or (replicate 64 0) s 0) (get_or-replicate 64 s 0 0 s_in)
-    (home_by_two false t.class c.args.flips (lone_stand c.args.white c.args.black c.args.man s) c.args.side c.home-first.result.0 c.in-Some.second home (get_or (replicate 64 0) s 0) (slice_index c.raise_lone.new.out s) (slice_index c.raise_lone-in-Some.new.out s) (score_at t c.args.column)
+    (home_by_two false t.class c.args.flips (lone_stand c.args.white c.args.black c.args.man s) c.args.side c.home-first.result.0 c.in-Some.second home (get_or (replicate 64 0) s 0) (slice_index c.raise_lone.new.out s) (slice_index c.raise_lone-in-Some.new.out s) (column_score t c.args.column)
     (c.if-not-raise_lone.ensures refl s s_in) (c.raise_lone-in-Some.ensures told s s_in))
 
 pub returns-in-None : goal.returns-in-None
@@ -25,6 +25,6 @@ returns-in-None c = λ told s s_in.
     let t = c.args.table.now in
     let pawns = c.has_pawns.ensures ∙ ap (λ k. has_pawns (material_of k)) c.class-2.ensures.class in
     let home = subst (λ (o : Option _). AreHome (has_pawns (material_of t.class)) c.args.flips c.args.white c.home-first.result.0 o) c.in-None.is (subst (λ (p : Bool). AreHome p c.args.flips c.args.white c.home-first.result.0 c.home-first.result.1) pawns c.home-first.ensures) in
-    lone_read t c.args.column c.args.man c.args.white c.args.black c.args.flips c.args.side (subst (λ k. k < 36) c.class.ensures.class (omega (arith, c.number-number.ensures.below, c.number-number.ensures.value))) c.requires s
+    lone_read t c.args.column c.args.man c.args.white c.args.black c.args.flips c.args.side (subst (λ k. k < 36) c.class.ensures.class (omega (arith, c.number-number.ensures.below, c.number-number.ensures.value))) c.requires.man s
     (slice_index c.raise_lone.new.out s) (get_or (replicate 64 0) s 0) (get_or-replicate 64 s 0 0 s_in)
-    (home_by_one false t.class c.args.flips (lone_stand c.args.white c.args.black c.args.man s) c.args.side c.home-first.result.0 home (get_or (replicate 64 0) s 0) (slice_index c.raise_lone.new.out s) (score_at t c.args.column) (c.if-not-raise_lone.ensures refl s s_in))
+    (home_by_one false t.class c.args.flips (lone_stand c.args.white c.args.black c.args.man s) c.args.side c.home-first.result.0 home (get_or (replicate 64 0) s 0) (slice_index c.raise_lone.new.out s) (column_score t c.args.column) (c.if-not-raise_lone.ensures refl s s_in))

@@ -14,7 +14,7 @@ returns c = λ told a b a_in b_in.
       stepped_raised = c.step_block.ensures c.if-not-step_block.false a b a_in b_in;
       leapt_raised = c.leap_block.ensures c.if-not-leap_block.false a b a_in b_in;
       queen_is =
-          subst (λ n. IsPromotionScore c.args.promotions.now.queen c.args.men.now c.args.side a b n queen) (c.raise.ensures a b a_in b_in)
+          subst (λ n. IsPromotionScore c.args.column c.args.promotions.now.queen c.args.men.now c.args.side a b n queen) (c.raise.ensures a b a_in b_in)
           (c.raise_promotion.ensures c.if-not-raise_promotion.false a b a_in b_in);
       rook_is = c.raise_promotion-2.ensures c.if-not-raise_promotion-2.false a b a_in b_in;
       bishop_is = c.raise_promotion-3.ensures c.if-not-raise_promotion-3.false a b a_in b_in;

@@ -18,9 +18,9 @@ returns-then-not-has_equal_sides c = λ told a b a_in b_in.
     let by_last = at c.raise_pawn.new.out a b in record {
       by_first = by_first;
       by_last = by_last;
-      first_is = raised_as_last own men apart equal c.args.first.now c.args.last.now side b a 0 by_first (c.requires.same equal)
-          (subst (λ n. IsRaisedByPawn own false c.args.last.now men side b a n by_first) (c.nothing.ensures b a b_in a_in) (c.raise_pawn.ensures c.if-not-raise_pawn.false b a b_in a_in));
-      last_is = subst (λ n. IsRaisedByPawn own false c.args.last.now men side a b n by_last) (c.nothing.ensures a b a_in b_in) (c.raise_pawn.ensures c.if-not-raise_pawn.false a b a_in b_in);
+      first_is = raised_as_last c.args.column own men apart equal c.args.first.now c.args.last.now side b a 0 by_first (c.requires.same equal)
+          (subst (λ n. IsRaisedByPawn c.args.column own false c.args.last.now men side b a n by_first) (c.nothing.ensures b a b_in a_in) (c.raise_pawn.ensures c.if-not-raise_pawn.false b a b_in a_in));
+      last_is = subst (λ n. IsRaisedByPawn c.args.column own false c.args.last.now men side a b n by_last) (c.nothing.ensures a b a_in b_in) (c.raise_pawn.ensures c.if-not-raise_pawn.false a b a_in b_in);
       is = c.raise_transposed.ensures a b a_in b_in;
     }
 
@@ -34,8 +34,8 @@ returns c = λ told a b a_in b_in.
       by_first = by_first;
       by_last = by_last;
       first_is =
-          subst (λ n. IsRaisedByPawn own true c.args.first.now (men_swapped men) side b a n by_first) (c.nothing-across.ensures b a b_in a_in)
-          (subst (λ (other : ShelfMen). IsRaisedByPawn own true c.args.first.now other side b a (at c.nothing-across.result b a) by_first) c.men_swapped.ensures (c.raise_pawn-2.ensures c.if-not-raise_pawn-2.false b a b_in a_in));
-      last_is = subst (λ n. IsRaisedByPawn own false c.args.last.now men side a b n by_last) (c.nothing.ensures a b a_in b_in) (c.raise_pawn.ensures c.if-not-raise_pawn.false a b a_in b_in);
+          subst (λ n. IsRaisedByPawn c.args.column own true c.args.first.now (men_swapped men) side b a n by_first) (c.nothing-across.ensures b a b_in a_in)
+          (subst (λ (other : ShelfMen). IsRaisedByPawn c.args.column own true c.args.first.now other side b a (at c.nothing-across.result b a) by_first) c.men_swapped.ensures (c.raise_pawn-2.ensures c.if-not-raise_pawn-2.false b a b_in a_in));
+      last_is = subst (λ n. IsRaisedByPawn c.args.column own false c.args.last.now men side a b n by_last) (c.nothing.ensures a b a_in b_in) (c.raise_pawn.ensures c.if-not-raise_pawn.false a b a_in b_in);
       is = c.raise_transposed-2.ensures a b a_in b_in;
     }

@@ -1,20 +1,45 @@
-use Rattle.std.proofs.Common.{◌∙◌, sym, subst}
+use Rattle.std.proofs.Common.{◌≡◌, ℕ, ◌+◌, ◌/◌, ◌∙◌, arith, inl, inr, sym, subst}
 use Rattle.std.proofs.lemmas.Bool.{eqb-true}
+use Rattle.egt_board.specs.Setup.{Setup}
 use Rattle.egt_index.specs.Code.{Spells}
-use Rattle.egt_table.specs.declared.column.Column.TheVariants.{Mate, Zeroing}
+use Rattle.egt_check.specs.declared.metric.Metric.TheVariants.{Mate, Zeroing}
+use Rattle.egt_check.specs.declared.part.Part.{Part}
+use Rattle.egt_check.specs.NearTables.{near_entry}
+use Rattle.egt_check.specs.RightRow.{IsRightEnd, IsRightEndOf, IsRightReachEnd}
 use Rattle.egt_check.specs.Score.{IsAtEnd}
+use Rattle.egt_check.specs.Tables.{reach_at}
 use Rattle.egt_check.proofs.row_judging.end_is_right.Goals as goal
 
+-- checkmate and stalemate as they are read
+read_end : (p : Setup) (x reach : ℕ) → IsAtEnd p x → reach ≡ x / 2 + 1 → near_entry reach ≡ x
+read_end p x reach (inl mated) is = let entry = mated.1 in omega (arith, entry, is)
+read_end p x reach (inr stale) is = let entry = stale.1 in omega (arith, entry, is)
+
 pub returns-then-entries-entry : goal.returns-then-entries-entry
-returns-then-entries-entry c = λ same p spells.
-    let class = c.args.table.now.class in
+returns-then-entries-entry c = λ same.
+    let t = c.args.table.now in
     let code = c.args.code in
     let here = c.in-Some.position in
     let entry = c.in-Some-entry_without_move.entry in
     let spelled = subst (λ k. Spells k code here) c.class.ensures.class c.in-Some.ensures.spells in
-    let one = c.codes_spell_one_position.ensures class code here p spelled spells in (
+    let right : IsRightEnd t code = λ p spells. (
       entry,
-      subst (λ q. IsAtEnd q entry) one c.in-Some-entry_without_move.ensures,
+      subst (λ q. IsAtEnd q entry) (c.codes_spell_one_position.ensures t.class code here p spelled spells) c.in-Some-entry_without_move.ensures,
       sym (c.entries_at-entries.ensures Mate) ∙ c.if-entries-entry.true,
       sym (c.entries_at-entries.ensures Zeroing) ∙ eqb-true c.entries_at-entries.result.zeroing entry same,
-    )
+    ) in
+    subst (λ (part : Part). IsRightEndOf part t code) (sym c.in-Values.is) right
+
+pub returns-in-Reach : goal.returns-in-Reach
+returns-in-Reach c = λ same.
+    let t = c.args.table.now in
+    let code = c.args.code in
+    let here = c.in-Some.position in
+    let entry = c.in-Some-entry_without_move.entry in
+    let spelled = subst (λ k. Spells k code here) c.class.ensures.class c.in-Some.ensures.spells in
+    let right : IsRightReachEnd t code = λ p spells. (
+      entry,
+      subst (λ q. IsAtEnd q entry) (c.codes_spell_one_position.ensures t.class code here p spelled spells) c.in-Some-entry_without_move.ensures,
+      read_end here entry (reach_at t code) c.in-Some-entry_without_move.ensures (sym c.entry.ensures ∙ eqb-true c.entry.result (entry / 2 + 1) same),
+    ) in
+    subst (λ (part : Part). IsRightEndOf part t code) (sym c.in-Reach.is) right

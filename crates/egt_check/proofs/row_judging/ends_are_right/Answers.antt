@@ -3,12 +3,12 @@ use Rattle.std.proofs.lemmas.Bool.{cases_eq}
 use Rattle.egt_index.specs.Numbers.{code_of}
 use Rattle.egt_index.specs.Scales.{kind_less}
 use Rattle.egt_index.specs.Size.{size_of}
-use Rattle.egt_check.specs.RightRow.{IsRightEnd}
+use Rattle.egt_check.specs.RightRow.{IsRightEndOf}
 use Rattle.egt_check.proofs.row_judging.ends_are_right.Goals as goal
 
 pub overflow_add-first : goal.overflow_add-first
 overflow_add-first c =
-    let below = c.requires c.in-Some-digit_on.digit c.in-Some-digit_on.ensures.below in
+    let below = c.requires.codes c.in-Some-digit_on.digit c.in-Some-digit_on.ensures.below in
     let size : c.size-size.result ≡ size_of c.args.table.now.class = c.size-size.ensures ∙ ap (λ k. size_of k) c.class-class.ensures.class in
     let fits = c.size-size.type_inv in
     omega (arith, below, size, fits)
@@ -22,7 +22,7 @@ loop-square-preserved c = λ digit below has gone. elim (cases_eq (digit + kind_
       let is = c.in-Some-digit_on.ensures.is in
       let digit_is : c.in-Some-digit_on.digit ≡ digit = omega (arith, same, is) in
       let code_is = c.code_of.ensures.is ∙ ap (λ k. code_of k (c.args.first + 2 * c.in-Some-digit_on.digit)) c.class-class.ensures.class ∙ ap (λ k. code_of c.args.table.now.class (c.args.first + 2 * k)) digit_is in
-      subst (λ k. IsRightEnd c.args.table.now k) code_is (c.end_is_right.ensures c.if-not-end_is_right.false)
+      subst (λ k. IsRightEndOf c.args.part c.args.table.now k) code_is (c.end_is_right.ensures c.if-not-end_is_right.false)
   | inr other ↦ c.loop-square.invariant digit below has (sym (c.in-Some.ensures.others (digit + kind_less c.args.man.kind) other) ∙ gone)
 ]
 

@@ -3,12 +3,12 @@ use Rattle.std.specs.Int.{bit_at}
 use Rattle.egt_board.specs.SquareSet.{Has}
 use Rattle.egt_index.specs.Numbers.{code_of}
 use Rattle.egt_index.specs.Scales.{kind_digits, kind_less}
-use Rattle.egt_check.specs.RightRow.{IsRightEnd}
+use Rattle.egt_check.specs.RightRow.{IsRightEndOf}
 use Rattle.egt_check.proofs.row_judging.ends_are_right.Given as goal
 
 -- the squares that are no longer left
 abbrev pub invariant-loop-square : goal.invariant-loop-square
-invariant-loop-square l = (digit : ℕ) → digit < kind_digits l.man.kind → Has l.fn.ends (digit + kind_less l.man.kind) → bit_at l.rest.bits (digit + kind_less l.man.kind) ≡ 0 → IsRightEnd l.table (code_of l.table.class (l.first + 2 * digit))
+invariant-loop-square l = (digit : ℕ) → digit < kind_digits l.man.kind → Has l.fn.ends (digit + kind_less l.man.kind) → bit_at l.rest.bits (digit + kind_less l.man.kind) ≡ 0 → IsRightEndOf l.part l.table (code_of l.table.class (l.first + 2 * digit))
 
 abbrev pub decreases-loop-square : goal.decreases-loop-square
 decreases-loop-square l = l.rest.bits

@@ -4,7 +4,8 @@ use Rattle.std.specs.Int.{bit_at}
 use Rattle.egt_index.specs.Numbers.{code_of}
 use Rattle.egt_index.specs.Scales.{kind_less}
 use Rattle.egt_index.specs.ShelfCodes.{number_in}
-use Rattle.egt_table.specs.declared.column.Column.TheVariants.{Mate, Zeroing}
+use Rattle.egt_table.specs.declared.column.Column.TheVariants as columns
+use Rattle.egt_check.specs.declared.metric.Metric.TheVariants.{Mate, Zeroing}
 use Rattle.egt_check.specs.RightRow.{IsRightEnd}
 use Rattle.egt_check.specs.Worth.{score_at}
 use Rattle.egt_check.proofs.ByteJudged.{if_not, if_same}
@@ -26,8 +27,8 @@ returns c = λ right digit below some.
     let moves = slice_index c.args.mates b in
     let moving = c.lanes_of-moving.result in
     let code = code_of t.class (number_in t.class shelf side digit) in
-    let own_is : own ≡ score_at t Mate code = lane_is c.args.passed t Mate men shelf side c.requires.shelf laws.one digit own below (c.row_of-own.ensures b b_in) in
-    let clock_is : clock ≡ score_at t Zeroing code = lane_is c.args.passed t Zeroing men shelf side c.requires.shelf laws.one digit clock below (c.row_of-clock.ensures b b_in) in
+    let own_is : own ≡ score_at t Mate code = lane_is c.args.passed t columns.Mate men shelf side c.requires.shelf laws.one digit own below (c.row_of-own.ensures b b_in) in
+    let clock_is : clock ≡ score_at t Zeroing code = lane_is c.args.passed t columns.Zeroing men shelf side c.requires.shelf laws.one digit clock below (c.row_of-clock.ensures b b_in) in
     let there : own ≢ 0 = λ none. some (sym own_is ∙ none) in
     record {
       due = λ can.

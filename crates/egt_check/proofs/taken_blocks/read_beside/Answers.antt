@@ -3,7 +3,6 @@ use Rattle.std.specs.Prelude.{slice_index}
 use Rattle.std.proofs.Math.ListN.{set}
 use Rattle.egt_board.specs.Man.{other_side}
 use Rattle.egt_index.specs.declared.shelf_codes.ShelfMen.{ShelfMen}
-use Rattle.egt_table.specs.declared.column.Column.TheVariants.{Mate}
 use Rattle.egt_check.specs.Takings.{left_of, stand_left}
 use Rattle.egt_check.specs.Worth.{IsRead}
 use Rattle.egt_check.proofs.Taking.{RowsTaken, taken_all, taken_more, taken_none}
@@ -11,7 +10,7 @@ use Rattle.egt_check.proofs.taken_blocks.read_beside.Goals as goal
 
 pub loop-to-init : goal.loop-to-init
 loop-to-init c =
-    taken_none c.args.child.now c.args.flips c.args.men.now c.args.side c.beside_king-rest.result c.nothing.result (omega (arith, c.nothing.type_inv)) c.nothing.ensures c.beside_king-rest.ensures
+    taken_none c.args.child.now c.args.column c.args.flips c.args.men.now c.args.side c.beside_king-rest.result c.nothing.result (omega (arith, c.nothing.type_inv)) c.nothing.ensures c.beside_king-rest.ensures
 
 pub loop-to-preserved : goal.loop-to-preserved
 loop-to-preserved c =
@@ -21,10 +20,10 @@ loop-to-preserved c =
     let to = c.in-Some.to in
     let row = c.read_left.new.out in
     let more =
-    taken_more t c.args.flips men side c.loop-to.rest c.pop_first.new.self c.loop-to.out to row (omega arith) c.in-Some.ensures.had c.in-Some.ensures.gone c.in-Some.ensures.others
-    (λ a a_in. subst (λ (m : ShelfMen). IsRead t Mate c.args.flips (stand_left c.args.flips (left_of m m.one a)) (other_side side) (slice_index row a)) c.with_king-stepped.ensures (c.if-not-read_left.ensures refl a a_in))
+    taken_more t c.args.column c.args.flips men side c.loop-to.rest c.pop_first.new.self c.loop-to.out to row (omega arith) c.in-Some.ensures.had c.in-Some.ensures.gone c.in-Some.ensures.others
+    (λ a a_in. subst (λ (m : ShelfMen). IsRead t c.args.column c.args.flips (stand_left c.args.flips (left_of m m.one a)) (other_side side) (slice_index row a)) c.with_king-stepped.ensures (c.if-not-read_left.ensures refl a a_in))
     c.loop-to.invariant in
-    subst (λ k. RowsTaken t c.args.flips men side c.pop_first.new.self (set c.loop-to.out k row)) (omega (arith, c.number.ensures.value, c.from.ensures)) more
+    subst (λ k. RowsTaken t c.args.column c.args.flips men side c.pop_first.new.self (set c.loop-to.out k row)) (omega (arith, c.number.ensures.value, c.from.ensures)) more
 
 pub returns : goal.returns
-returns c = λ told. taken_all c.args.child.now c.args.flips c.args.men.now c.args.side c.loop-to.rest c.loop-to.out c.loop-to.invariant c.in_default.ensures.empty
+returns c = λ told. taken_all c.args.child.now c.args.column c.args.flips c.args.men.now c.args.side c.loop-to.rest c.loop-to.out c.loop-to.invariant c.in_default.ensures.empty

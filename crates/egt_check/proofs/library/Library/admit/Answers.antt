@@ -1,8 +1,8 @@
-use Rattle.std.proofs.Common.{ℕ, Some, refl, sym, subst, ◌∙◌, set}
+use Rattle.std.proofs.Common.{rules, ◌≡◌, ℕ, Some, None, refl, sym, subst, ◌∙◌, set}
 use Rattle.egt_check.specs.Library.{IsLibrary, IsAccepted}
 use Rattle.egt_check.specs.Tables.{table_at, beside}
 use Rattle.egt_check.proofs.Finding.{beside_own}
-use Rattle.egt_check.proofs.Shelving.{true_children, one_more}
+use Rattle.egt_check.proofs.Shelving.{down_beside, true_children, one_more, turned_away}
 use Rattle.egt_check.proofs.library.Library.admit.Goals as goal
 
 pub invariant_of-self : goal.invariant_of-self
@@ -13,6 +13,11 @@ invariant_of-self c =
     let child = c.children_have_smaller_numbers.ensures.smaller in
     let accepted = subst (λ v. IsAccepted (table_at v) t) (sym c.self.view_is) (c.in_default.ensures.exact.0 refl) in
     let children = true_children child places c.self.invariant t table accepted.children in
-    let holds = (c.rules_are_kept_by_true_tables_alone.ensures (beside (table_at places) t) t table (beside_own (table_at places) t t.class refl) children).0 accepted.rules in
+    let holds = (c.rules_are_kept_by_true_tables_alone.ensures (beside (table_at places) t) t table (beside_own (table_at places) t t.class refl) children (down_beside child places c.self.invariant t table accepted.reach_children)).0 accepted.rules in
     subst (λ (i : ℕ). IsLibrary (set places i (Some t))) (sym (c.from-place.ensures ∙ c.number.ensures.value ∙ c.class.ensures.class))
     (one_more child places c.self.invariant t table holds accepted.children)
+
+pub returns-in-Err-clause-reason : goal.returns-in-Err-clause-reason
+returns-in-Err-clause-reason c =
+    let free : table_at c.args.self.now c.args.table.class ≡ None = search rules in
+    turned_away (table_at c.args.self.now) c.args.table c.in-Err.reject free c.in-Err.ensures.reason

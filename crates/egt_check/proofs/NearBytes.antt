@@ -1,0 +1,45 @@
+-- Tables whose entries of the nearest mates have bytes of their own.
+use Rattle.std.proofs.Common.{◌≡◌, ◌≢◌, ℕ, ◌*◌, ◌-◌, ◌<◌, arith, inl, inr, refl}
+use Rattle.std.proofs.lemmas.Bool.{cases_eq}
+use Rattle.egt_index.specs.Index.{IsVoid}
+use Rattle.egt_index.specs.Size.{size_of}
+use Rattle.egt_lanes.specs.Near.{IsVoidOrNear}
+use Rattle.egt_table.specs.Table.{TableValue}
+use Rattle.egt_check.specs.declared.metric.Metric.{Metric}
+use Rattle.egt_check.specs.declared.metric.Metric.TheVariants.{Mate, Zeroing}
+use Rattle.egt_check.specs.Given.{AreAlike, IsKnown}
+use Rattle.egt_check.specs.Tables.{entry_at, reach_at}
+use Rattle.egt_check.specs.Voids.{TellsVoids}
+use Rattle.egt_check.specs.Worth.{HasBytes}
+use Rattle.egt_check.proofs.NearReading.{near, near_at}
+
+-- an entry as it is read
+near_known : (read entry : ℕ) → read ≡ 2 * entry - 1 → entry ≢ 0 → entry < 128 → IsKnown read
+near_known read entry is some low = record {
+  some = λ none. omega (arith, is, none, some);
+  other = λ two. omega (arith, is, two);
+  low = omega (arith, is, low);
+}
+
+known_alike : (read : ℕ) → IsKnown read → AreAlike read read
+known_alike read known = record { mate_known = known; zeroing_known = known; parity = refl; drawn = (λ is. is, λ is. is) }
+
+module _ (t : TableValue) (voids : TellsVoids t) (told : (i : ℕ) → i < size_of t.class → IsVoidOrNear (entry_at t Mate i) (reach_at t i)) where
+  -- it is 0 where the mate entry is
+  void_read : (i : ℕ) → i < size_of t.class → IsVoid t.class i → entry_at (near t) Mate i ≡ 0
+  void_read i below void = elim (cases_eq (entry_at t Mate i) 0) [
+    | inl mate ↦ let read = near_at t i in let none = (told i below).1.1 mate in omega (arith, read, none)
+    | inr some ↦ absurd ((voids i below).index some void)
+  ]
+
+  void_entry : (metric : Metric) (i : ℕ) → i < size_of t.class → IsVoid t.class i → entry_at (near t) metric i ≡ 0
+  void_entry Mate = void_read
+  void_entry Zeroing = void_read
+
+  alike : (i : ℕ) → i < size_of t.class → ¬ IsVoid t.class i → AreAlike (entry_at (near t) Mate i) (entry_at (near t) Zeroing i)
+  alike i below index =
+      known_alike (entry_at (near t) Mate i)
+      (near_known (entry_at (near t) Mate i) (reach_at t i) (near_at t i) (λ none. index ((voids i below).void ((told i below).1.0 none))) (told i below).0)
+
+  pub has_near_bytes : HasBytes (near t)
+  has_near_bytes = record { void = void_entry; alike = alike }

@@ -1,0 +1,46 @@
+use Rattle.std.proofs.Common.{◌+◌, true, false, subst, arith}
+use Rattle.egt_index.specs.Numbers.{code_of}
+use Rattle.egt_index.specs.Scales.{kind_less}
+use Rattle.egt_index.specs.ShelfCodes.{number_in}
+use Rattle.egt_lanes.specs.Blocks.{at}
+use Rattle.egt_check.specs.RightBlock.{AreJudged}
+use Rattle.egt_check.specs.declared.part.Part.TheVariants.{Reach}
+use Rattle.egt_check.proofs.RowRead.{square_in}
+use Rattle.egt_check.proofs.reach_blocks.reach_block_is_right.Goals as goal
+
+pub returns-then-half-eq0 : goal.returns-then-half-eq0
+returns-then-half-eq0 c = λ _ tables are.
+    let four = c.args.four.now in
+    let men = c.args.men.now in
+    let side = c.args.side in
+    let lower : AreJudged Reach tables four.own.now men c.args.first side = λ x y x_in y_in.
+    let a = x + kind_less men.one.kind in
+    let b = y + kind_less men.last.kind in
+    let scores = c.reach_scores.ensures c.if-not-reach_scores.false a b (square_in men.one.kind x x_in) (square_in men.last.kind y y_in) in
+    let lane = c.reach_shelves_are_right.ensures c.if-not-reach_shelves_are_right.false x y x_in y_in in
+    c.reach_entries_due_to_all_moves_are_right.ensures tables four men side false a b (code_of four.own.now.class (number_in four.own.now.class (c.args.first + x) side y)) (at c.reach_scores.new.out a b)
+    are c.requires.men.one c.requires.men.last lane.below lane.tells scores lane.right in
+    let none = c.if-half-eq0.true in
+    (lower, subst (λ n. AreJudged Reach tables four.own.now men n side) (omega (arith, none)) lower)
+
+pub returns : goal.returns
+returns c = λ told tables are.
+    let four = c.args.four.now in
+    let men = c.args.men.now in
+    let side = c.args.side in
+    let scores = c.reach_scores.ensures c.if-not-reach_scores.false in (
+      λ x y x_in y_in.
+          let a = x + kind_less men.one.kind in
+          let b = y + kind_less men.last.kind in
+          let lane = c.reach_shelves_are_right.ensures c.if-not-reach_shelves_are_right.false x y x_in y_in in
+          c.reach_entries_due_to_all_moves_are_right.ensures tables four men side false a b (code_of four.own.now.class (number_in four.own.now.class (c.args.first + x) side y)) (at c.reach_scores.new.out a b)
+          are c.requires.men.one c.requires.men.last lane.below lane.tells (scores a b (square_in men.one.kind x x_in) (square_in men.last.kind y y_in)) lane.right,
+      λ x y x_in y_in.
+          let a = x + kind_less men.one.kind in
+          let b = y + kind_less men.last.kind in
+          let a_in = square_in men.one.kind x x_in in
+          let b_in = square_in men.last.kind y y_in in
+          let lane = c.reach_shelves_are_right-2.ensures told x y x_in y_in in
+          c.reach_entries_due_to_all_moves_are_right.ensures tables four men side true a b (code_of four.own.now.class (number_in four.own.now.class (c.args.first + c.args.half + x) side y)) (at c.raise_passed_reach.new.out a b)
+          are c.requires.men.one c.requires.men.last lane.below lane.tells (c.raise_passed_reach.ensures c.if-not-raise_passed_reach.false a b a_in b_in (scores a b a_in b_in)) lane.right,
+    )

@@ -1,0 +1,13 @@
+use Rattle.std.specs.Prelude.{ℕ, ◌+◌, ◌<◌}
+use Rattle.egt_index.specs.Numbers.{code_of}
+use Rattle.egt_index.specs.Scales.{kind_digits, kind_less}
+use Rattle.egt_index.specs.ShelfCodes.{number_in}
+use Rattle.egt_lanes.specs.Blocks.{at}
+use Rattle.egt_check.specs.RightBlock.{IsRightReachLane}
+use Rattle.egt_check.proofs.reach_blocks.reach_shelves_are_right.Given as goal
+
+-- the shelves below this digit are right
+abbrev pub invariant-loop-digit : goal.invariant-loop-digit
+invariant-loop-digit l = (x y : ℕ) → x < l.digit → y < kind_digits l.men.last.kind →
+    IsRightReachLane l.passed l.table l.men l.side (x + kind_less l.men.one.kind) (y + kind_less l.men.last.kind) (code_of l.table.class (number_in l.table.class (l.first + x) l.side y))
+    (at l.scores (x + kind_less l.men.one.kind) (y + kind_less l.men.last.kind))

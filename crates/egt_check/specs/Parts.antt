@@ -1,0 +1,75 @@
+-- The parts of a table that are judged one after the other, and the tables as they are seen then: the column of the nearest mates is seen as a mate
+-- column.
+use Rattle.std.specs.Prelude.{ℕ, List, map, Option, None, option_map}
+use Rattle.std.specs.Borrow.{Bor}
+use Rattle.egt_table.specs.Table.{TableValue, entries_or_none}
+use Rattle.egt_table.specs.declared.column.Column.{Column}
+use Rattle.egt_table.specs.declared.column.Column.TheVariants as columns
+use Rattle.egt_check.specs.NearTables.{near_entry, near_tables}
+use Rattle.egt_check.specs.Tables.{Tables}
+use Rattle.egt_check.specs.declared.move_scores.FourMen.{FourMen}
+use Rattle.egt_check.specs.declared.part.Part.{Part}
+use Rattle.egt_check.specs.declared.part.Part.TheVariants.{Values, Reach}
+use Rattle.egt_check.specs.declared.pawn_scores.Promotion.{Promotion}
+use Rattle.egt_check.specs.declared.pawn_scores.Promotions.{Promotions}
+
+-- the column that scores come from, of moves that zero too
+abbrev pub column_of : Part → Column
+column_of Values = columns.Mate
+column_of Reach = columns.Reach
+
+abbrev pub mate_in : Part → TableValue → List ℕ
+mate_in Values t = t.mate
+mate_in Reach t = map near_entry (entries_or_none t.reach)
+
+abbrev pub zeroing_in : Part → TableValue → List ℕ
+zeroing_in Values t = t.zeroing
+zeroing_in Reach t = map near_entry (entries_or_none t.reach)
+
+abbrev pub reach_in : Part → TableValue → Option (List ℕ)
+reach_in Values t = t.reach
+reach_in Reach t = None
+
+-- the table as the part is judged
+abbrev pub table_in : Part → TableValue → TableValue
+table_in part t = record { class = t.class; mate = mate_in part t; zeroing = zeroing_in part t; reach = reach_in part t }
+
+abbrev pub tables_in : Part → Tables → Tables
+tables_in Values tables = tables
+tables_in Reach tables = near_tables tables
+
+abbrev pub reference_in : Part → Bor TableValue → Bor TableValue
+reference_in part r = record { ref_ptr = r.ref_ptr; now = table_in part r.now }
+
+abbrev pub promotion_in : Part → Promotion → Promotion
+promotion_in part p = record {
+  kind = p.kind;
+  both = reference_in part p.both;
+  both_flips = p.both_flips;
+  before = p.before;
+  alone = reference_in part p.alone;
+  alone_flips = p.alone_flips;
+}
+
+abbrev pub promotions_in : Part → Promotions → Promotions
+promotions_in part kinds = record {
+  queen = promotion_in part kinds.queen;
+  rook = promotion_in part kinds.rook;
+  bishop = promotion_in part kinds.bishop;
+  knight = promotion_in part kinds.knight;
+}
+
+abbrev pub some_promotions_in : Part → Option Promotions → Option Promotions
+some_promotions_in Values some = some
+some_promotions_in Reach some = option_map (promotions_in Reach) some
+
+abbrev pub four_in : Part → FourMen → FourMen
+four_in part four = record {
+  own = reference_in part four.own;
+  first = reference_in part four.first;
+  first_flips = four.first_flips;
+  last = reference_in part four.last;
+  last_flips = four.last_flips;
+  first_pawn = some_promotions_in part four.first_pawn;
+  last_pawn = some_promotions_in part four.last_pawn;
+}

@@ -1,0 +1,72 @@
+//! What holds of the column of the nearest mates beside the moves. These functions do nothing: a caller calls one to
+//! know what it ensures.
+ghost use Rattle.std.specs.Prelude.{◌≡◌, ◌≢◌, ◌<◌, ℕ, Bool, false, None};
+ghost use Rattle.egt_board.specs.Setup.{Setup};
+ghost use Rattle.egt_board.specs.declared.man.Kind.TheVariants.{K};
+ghost use Rattle.egt_board.specs.declared.man.Side.{Side};
+ghost use Rattle.egt_index.specs.Code.{Spells};
+ghost use Rattle.egt_index.specs.Index.{IsVoid};
+ghost use Rattle.egt_index.specs.Size.{size_of};
+ghost use Rattle.egt_index.specs.StepCodes.{TellsMen};
+ghost use Rattle.egt_index.specs.Stood.{HasStand};
+ghost use Rattle.egt_index.specs.declared.shelf_codes.ShelfMen.{ShelfMen};
+ghost use Rattle.egt_lanes.specs.Scores.{reach_due_score, reach_score};
+ghost use Rattle.egt_moves.specs.Arena.{NoMove};
+ghost use Rattle.egt_moves.specs.Chess.{chess};
+ghost use Rattle.egt_table.specs.Table.{TableValue};
+ghost use Rattle.egt_table.specs.declared.column.Column.TheVariants as columns;
+ghost use Rattle.egt_check.specs.declared.move_scores.FourMen.{FourMen};
+ghost use Rattle.egt_check.specs.declared.part.Part.TheVariants.{Reach};
+ghost use Rattle.egt_check.specs.Blocks.{stand_on};
+ghost use Rattle.egt_check.specs.Given.{AreGiven};
+ghost use Rattle.egt_check.specs.MoveScores.{AreTablesOf};
+ghost use Rattle.egt_check.specs.NearTables.{near_entry, near_tables};
+ghost use Rattle.egt_check.specs.Parts.{four_in};
+ghost use Rattle.egt_check.specs.ReachScores.{AreAllReachScores};
+ghost use Rattle.egt_check.specs.RightRow.{IsRightReachAt};
+ghost use Rattle.egt_check.specs.Rules.{IsJudgedBy, KeepsReach};
+ghost use Rattle.egt_check.specs.Score.{IsAtEnd};
+ghost use Rattle.egt_check.specs.Tables.{Tables, reach_at};
+ghost use Rattle.egt_check.specs.Worth.{column_score};
+
+use crate::facts::facts;
+use crate::laws::{all_scores_give_all_moves, due_bytes_are_right};
+use egt_index::laws::{
+    a_code_is_an_index_or_void, codes_follow_steps, codes_spell_one_position,
+    numbers_stand_for_codes,
+};
+
+/// Entries of a position that are due to the greatest scores of all moves keep the rules. Where there is no move, so do those that tell checkmate or
+/// stalemate.
+pub fn due_reaches_are_right()
+    ensures due { (tables : Tables) (t : TableValue) (i : ℕ) (p : Setup) (g z : ℕ) → Spells t.class i p → ¬ IsVoid t.class i → reach_at t i ≢ 0 → reach_at t i < 128 →
+        AreGiven (near_tables tables) p (λ m. Unit {0}) g z → g ≢ 0 → reach_score (reach_at t i) ≡ reach_due_score g → IsJudgedBy (KeepsReach tables t i) None }
+    ensures end { (tables : Tables) (t : TableValue) (i : ℕ) (p : Setup) (x : ℕ) → Spells t.class i p → ¬ IsVoid t.class i → NoMove chess p → IsAtEnd p x → near_entry (reach_at t i) ≡ x →
+        IsJudgedBy (KeepsReach tables t i) None }
+{
+    facts();
+    codes_spell_one_position();
+}
+
+/// The greatest scores in that column of the codes after all moves are those of the moves, in tables where it is read as a mate column.
+pub fn all_reach_scores_give_all_moves()
+    ensures { (tables : Tables) (four : FourMen) (men : ShelfMen) (side : Side) (passed : Bool) (a b : ℕ) (p : Setup) (reach : ℕ) → AreTablesOf (near_tables tables) (four_in Reach four) men → men.one.kind ≢ K → men.last.kind ≢ K →
+        HasStand four.own.now.class false (stand_on men a b) side passed p → AreAllReachScores passed four men side a b reach → (zeroing : ℕ) × AreGiven (near_tables tables) p (λ m. Unit {0}) reach zeroing }
+{
+    a_code_is_an_index_or_void();
+    all_scores_give_all_moves();
+}
+
+/// Entries that are due to the greatest scores of all moves keep the rules, whether or not their code is an index.
+pub fn reach_entries_due_to_all_moves_are_right()
+    ensures { (tables : Tables) (four : FourMen) (men : ShelfMen) (side : Side) (passed : Bool) (a b i reach : ℕ) → AreTablesOf (near_tables tables) (four_in Reach four) men → men.one.kind ≢ K → men.last.kind ≢ K →
+        i < size_of four.own.now.class → TellsMen passed four.own.now.class i (stand_on men a b) side → AreAllReachScores passed four men side a b reach → (column_score four.own.now columns.Reach i ≢ 0 → IsRightReachAt four.own.now i reach) →
+        IsJudgedBy (KeepsReach tables four.own.now i) None }
+{
+    a_code_is_an_index_or_void();
+    codes_follow_steps();
+    numbers_stand_for_codes();
+    all_reach_scores_give_all_moves();
+    due_bytes_are_right();
+    due_reaches_are_right();
+}

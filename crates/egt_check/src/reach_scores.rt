@@ -1,0 +1,51 @@
+//! The greatest scores, in the column of the nearest mates, of the moves of a side with two men beside the kings, who
+//! stand on two squares. That of a move is the less the more plies it is from there to a checkmate, and least where
+//! there is none.
+ghost use Rattle.std.specs.Prelude.{◌≡◌, ◌<◌, ℕ, true};
+ghost use Rattle.egt_lanes.specs.Blocks.{at};
+ghost use Rattle.egt_table.specs.declared.column.Column.TheVariants as columns;
+ghost use Rattle.egt_check.specs.MoveScores.{AreFourMen};
+ghost use Rattle.egt_check.specs.ReachScores.{ArePassedReachScores, AreReachScores};
+
+use crate::blocks::nothing;
+use crate::move_scores::{FourMen, passing_captures, zeroing_moves};
+use crate::quiet_blocks::quiet_block;
+use egt_board::Side;
+use egt_index::ShelfMen;
+use egt_lanes::Block;
+use egt_lanes::block::raise;
+use egt_table::Column;
+
+/// The greatest scores of all moves of that side but captures in passing. False where a table does not tell.
+pub(crate) fn reach_scores(four: &FourMen, men: &ShelfMen, side: Side, out: &mut Block) -> bool
+    requires { AreFourMen columns.Reach four.now men.now }
+    ensures { result ≡ true → (a b : ℕ) → a < 64 → b < 64 → AreReachScores four.now men.now side a b (at out.new a b) }
+{
+    if !quiet_block(four.own, Column::Reach, men, side, out) {
+        return false;
+    }
+    let mut zeroed = nothing();
+    if !zeroing_moves(four, Column::Reach, men, side, &mut zeroed) {
+        return false;
+    }
+    raise(out, &zeroed);
+    true
+}
+
+/// Raises those to the scores of captures in passing: then they are of all moves where there is a target.
+pub(crate) fn raise_passed_reach(
+    four: &FourMen,
+    men: &ShelfMen,
+    side: Side,
+    out: &mut Block,
+) -> bool
+    requires { AreFourMen columns.Reach four.now men.now }
+    ensures { result ≡ true → (a b : ℕ) → a < 64 → b < 64 → AreReachScores four.now men.now side a b (at out.old a b) → ArePassedReachScores four.now men.now side a b (at out.new a b) }
+{
+    let mut taken = nothing();
+    if !passing_captures(four, Column::Reach, men, side, &mut taken) {
+        return false;
+    }
+    raise(out, &taken);
+    true
+}
