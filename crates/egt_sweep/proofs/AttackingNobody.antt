@@ -14,8 +14,8 @@ use Rattle.egt_moves.specs.Legal.{Leads}
 use Rattle.egt_moves.specs.Moves.{moves_from, played}
 use Rattle.egt_moves.specs.Promotion.{promotes}
 use Rattle.egt_moves.specs.declared.chess_move.Move.{Move}
-use Rattle.egt_table.specs.declared.column.Column.{Column}
-use Rattle.egt_table.specs.declared.column.Column.TheVariants.{Mate}
+use Rattle.egt_check.specs.declared.metric.Metric.{Metric}
+use Rattle.egt_check.specs.declared.metric.Metric.TheVariants.{Mate}
 use Rattle.egt_check.specs.Tables.{Tables}
 use Rattle.egt_sweep.specs.Edges.{GoesOn}
 use Rattle.egt_sweep.specs.Laws.{Laws}
@@ -47,9 +47,9 @@ module _ (laws : Laws) (c : ℕ) (p : Setup) (c_in : c < 36) (ok : IsAdmissible 
   ]
 
   -- so all his moves go on, if he is no pawn
-  pub piece_goes_on : (column : Column) → man.kind ≢ P → (m : Move) (q : Setup) → m.from ≡ from → Leads p m q → GoesOn column c p m q
-  piece_goes_on column piece m q here leads =
-      quiet_goes_on laws c column p q m c_in ok of leads (λ zeroes. elim zeroes [
+  pub piece_goes_on : (metric : Metric) → man.kind ≢ P → (m : Move) (q : Setup) → m.from ≡ from → Leads p m q → GoesOn metric c p m q
+  piece_goes_on metric piece m q here leads =
+      quiet_goes_on laws c metric p q m c_in ok of leads (λ zeroes. elim zeroes [
         | inl held ↦ takes_nobody m q leads here held
         | inr pawn ↦ piece (ap (λ (x : Man). x.kind) (one_man p.men from man pawn.man stands (subst (λ s. Stands p.men s pawn.man) here pawn.stands)) ∙ pawn.pawn)
       ])
@@ -83,8 +83,8 @@ none_told None told = refl
 none_told (Some t) told = absurd (false≢true (sym told))
 
 -- a man all of whose moves go on has no exits
-pub none_from : (laws : Laws) (tables : Tables) (column : Column) (c : ℕ) (p : Setup) (from : ℕ) → IsAdmissible p → ((m : Move) (q : Setup) → m.from ≡ from → Leads p m q → GoesOn column c p m q)
-    → exits_by tables column c p (moves_from from 64) ≡ []
-none_from laws tables column c p from ok on =
-    from_none (λ m. option_to_list (exit_by tables column c p m (played p m))) from (λ to promo.
-    nothing_told laws tables column c p (record { from = from; to = to; promo = promo }) ok (λ q leads. on (record { from = from; to = to; promo = promo }) q refl leads))
+pub none_from : (laws : Laws) (tables : Tables) (metric : Metric) (c : ℕ) (p : Setup) (from : ℕ) → IsAdmissible p → ((m : Move) (q : Setup) → m.from ≡ from → Leads p m q → GoesOn metric c p m q)
+    → exits_by tables metric c p (moves_from from 64) ≡ []
+none_from laws tables metric c p from ok on =
+    from_none (λ m. option_to_list (exit_by tables metric c p m (played p m))) from (λ to promo.
+    nothing_told laws tables metric c p (record { from = from; to = to; promo = promo }) ok (λ q leads. on (record { from = from; to = to; promo = promo }) q refl leads))

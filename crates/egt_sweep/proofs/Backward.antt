@@ -17,8 +17,8 @@ use Rattle.egt_moves.specs.Chess.{Zeroes, IsPawnOn}
 use Rattle.egt_moves.specs.Exchange.{Captures}
 use Rattle.egt_moves.specs.Legal.{Leads}
 use Rattle.egt_moves.specs.declared.chess_move.Move.{Move}
-use Rattle.egt_table.specs.declared.column.Column.{Column}
-use Rattle.egt_table.specs.declared.column.Column.TheVariants.{Mate, Zeroing}
+use Rattle.egt_check.specs.declared.metric.Metric.{Metric}
+use Rattle.egt_check.specs.declared.metric.Metric.TheVariants.{Mate, Zeroing}
 use Rattle.egt_unmoves.specs.Unmoves.{TakesBack, IsUnmove}
 use Rattle.egt_unmoves.specs.declared.unmove.Unmove.{Unmove}
 use Rattle.egt_sweep.specs.Edges.{IsAt, GoesOn, Connects, GoesBack, ComesFrom}
@@ -77,21 +77,21 @@ module _ (laws : Laws) (c : ℕ) (below : c < 36) where
   no_promo (Some kind) none = absurd (none refl)
 
   -- nor does one that does not zero
-  quiet : (column : Column) (p q : Setup) (m : Move) → IsAdmissible p → (flipped : Bool) × IsOf c flipped p → Leads p m q → GoesOn column c p m q → (¬ Captures p m) × (m.promo ≡ None)
+  quiet : (metric : Metric) (p q : Setup) (m : Move) → IsAdmissible p → (flipped : Bool) × IsOf c flipped p → Leads p m q → GoesOn metric c p m q → (¬ Captures p m) × (m.promo ≡ None)
   quiet Mate p q m ok of leads on = ((λ captures. stays_quiet p q m ok of leads on (inl captures)), no_promo m.promo (λ some. stays_quiet p q m ok of leads on (inr some)))
   quiet Zeroing p q m ok of leads on = ((λ captures. elim captures [ inl held ↦ on (inl held) | inr passing ↦ on (inr passing.0) ]), no_promotion p q m leads (λ pawn. on (inr pawn)) m.promo refl)
 
-  goes_back : (column : Column) (p q : Setup) (m : Move) (b : Bool) → GoesOn column c p m q → (IsTrue b ↔ IsPawnOn p.men m.from) → (w : Unmove) → w.pawn ≡ b → GoesBack column w
+  goes_back : (metric : Metric) (p q : Setup) (m : Move) (b : Bool) → GoesOn metric c p m q → (IsTrue b ↔ IsPawnOn p.men m.from) → (w : Unmove) → w.pawn ≡ b → GoesBack metric w
   goes_back Mate p q m b on is w e = tt
   goes_back Zeroing p q m b on is w e = λ pawn. on (inr (is.0 (subst IsTrue e pawn)))
 
   -- each edge to the index of q is taken back by an unmove of q
-  pub taken_back : (column : Column) (k j : ℕ) (q : Setup) → IsAt c j q → Connects column c k j → (w : Unmove) × IsUnmove q w × ComesFrom column c w k
-  taken_back column k j q at edge =
+  pub taken_back : (metric : Metric) (k j : ℕ) (q : Setup) → IsAt c j q → Connects metric c k j → (w : Unmove) × IsUnmove q w × ComesFrom metric c w k
+  taken_back metric k j q at edge =
       let b = edge.from in
       let ok = edge.at.spells.admissible in
       let of = laws.indexed_class b c k ok edge.at.index in
-      let still = quiet column b edge.to edge.move ok of edge.leads edge.on in
+      let still = quiet metric b edge.to edge.move ok of edge.leads edge.on in
       let to_ok = laws.facts.step_admissible b edge.to edge.move ok edge.leads in
       let alike = (laws.facts.like_index edge.to q c j j to_ok at.spells.admissible edge.index at.index).0 refl in
       let there : alike.there ≡ q = settled_self q alike.there (at_settled j q at) alike.settles_there in
@@ -103,9 +103,9 @@ module _ (laws : Laws) (c : ℕ) (below : c < 36) where
         pawn = (tells_so pawn, tells_where pawn);
       } in
       let w = laws.like_unmoves alike.here q u (laws.facts.settled_admissible edge.to alike.here to_ok alike.settles_here) images (edge.move, back) in
-      (w.0, w.1, (goes_back column b edge.to edge.move (tells pawn) edge.on (tells_so pawn, tells_where pawn) w.0 w.3, image_index k b w.0.before ok w.2 edge.at.index))
+      (w.0, w.1, (goes_back metric b edge.to edge.move (tells pawn) edge.on (tells_so pawn, tells_where pawn) w.0 w.3, image_index k b w.0.before ok w.2 edge.at.index))
 
-  goes_forth : (column : Column) (b q r : Setup) (m n : Move) (u : Unmove) → u.before ≡ b → TakesBack u m q → (Zeroes b m ↔ Zeroes r n) → (x : Setup) → (i : ℕ) × IsIndex c x i → GoesBack column u → GoesOn column c r n x
+  goes_forth : (metric : Metric) (b q r : Setup) (m n : Move) (u : Unmove) → u.before ≡ b → TakesBack u m q → (Zeroes b m ↔ Zeroes r n) → (x : Setup) → (i : ℕ) × IsIndex c x i → GoesBack metric u → GoesOn metric c r n x
   goes_forth Mate b q r m n u e back zeroes x index goes = index
   goes_forth Zeroing b q r m n u e back zeroes x index goes = λ z. elim (zeroes.1 z) [
     | inl held ↦ back.comes.no_capture (subst (λ y. Captures y m) (sym e) (inl held))
@@ -113,8 +113,8 @@ module _ (laws : Laws) (c : ℕ) (below : c < 36) where
   ]
 
   -- and each unmove takes an edge back
-  pub leads_back : (column : Column) (k j : ℕ) (q : Setup) (u : Unmove) → IsAt c j q → IsUnmove q u → ComesFrom column c u k → Connects column c k j
-  leads_back column k j q u at (m, back) from = of_spelled (laws.index_or_void c k below)
+  pub leads_back : (metric : Metric) (k j : ℕ) (q : Setup) (u : Unmove) → IsAt c j q → IsUnmove q u → ComesFrom metric c u k → Connects metric c k j
+  leads_back metric k j q u at (m, back) from = of_spelled (laws.index_or_void c k below)
     where
       b : Setup
       b = u.before
@@ -147,7 +147,7 @@ module _ (laws : Laws) (c : ℕ) (below : c < 36) where
           }) in
           subst (IsIndex c led) same index.1
 
-      of_spelled : ((p : Setup) × Spells c k p × IsIndex c p k) ⊎ IsVoid c k → Connects column c k j
+      of_spelled : ((p : Setup) × Spells c k p × IsIndex c p k) ⊎ IsVoid c k → Connects metric c k j
       of_spelled (inr void) = absurd (void b ok from.1)
       of_spelled (inl spelled) =
           let alike = laws.plays_alike b spelled.0 c k ok from.1 spelled.1 in
@@ -159,7 +159,7 @@ module _ (laws : Laws) (c : ℕ) (below : c < 36) where
             move = step.1.0;
             to = step.0;
             leads = step.1.1;
-            on = goes_forth column b q spelled.0 m step.1.0 u refl back step.2 step.0 (j, index) from.0;
+            on = goes_forth metric b q spelled.0 m step.1.0 u refl back step.2 step.0 (j, index) from.0;
             index = index;
           }
 
@@ -174,9 +174,9 @@ module _ (laws : Laws) (c : ℕ) (below : c < 36) where
       (own.1, subst (λ d. IsOf d own.1 u.before) same own.3)
 
   -- the unmoves of the position at an index come from exactly the nodes that lead to it
-  pub sources_are : (column : Column) (q : Setup) (items listed : List Unmove) (j k : ℕ) → items ≡ listed → ((u : Unmove) → Contains listed u ↔ IsUnmove q u) → IsAt c j q →
-      ((u : Unmove) × Contains items u × ComesFrom column c u k) ↔ Connects column c k j
-  sources_are column q items listed j k same exact at = (
-    λ h. leads_back column k j q h.0 at ((exact h.0).0 (subst (λ us. Contains us h.0) same h.1)) h.2,
-    λ edge. let w = taken_back column k j q at edge in (w.0, subst (λ us. Contains us w.0) (sym same) ((exact w.0).1 w.1), w.2),
+  pub sources_are : (metric : Metric) (q : Setup) (items listed : List Unmove) (j k : ℕ) → items ≡ listed → ((u : Unmove) → Contains listed u ↔ IsUnmove q u) → IsAt c j q →
+      ((u : Unmove) × Contains items u × ComesFrom metric c u k) ↔ Connects metric c k j
+  sources_are metric q items listed j k same exact at = (
+    λ h. leads_back metric k j q h.0 at ((exact h.0).0 (subst (λ us. Contains us h.0) same h.1)) h.2,
+    λ edge. let w = taken_back metric k j q at edge in (w.0, subst (λ us. Contains us w.0) (sym same) ((exact w.0).1 w.1), w.2),
   )

@@ -1,5 +1,5 @@
 -- Tables made of the ranks of a class's two games are true.
-use Rattle.std.proofs.Common.{◌≡◌, ℕ, zero, suc, ◌<◌, ◌≤◌, ◌↔◌, Some, not, IsTrue, List, length, slice_index, sym, ap, ◌∙◌, subst, arith}
+use Rattle.std.proofs.Common.{◌≡◌, ℕ, zero, suc, ◌<◌, ◌≤◌, None, not, IsTrue, List, length, slice_index, sym, ap, ◌∙◌, subst, arith}
 use Rattle.std.proofs.lemmas.Bool.{false≢true}
 use Rattle.egt_board.specs.Setup.{Setup, IsAdmissible}
 use Rattle.egt_index.specs.Index.{IsIndex, IsVoid}
@@ -11,21 +11,19 @@ use Rattle.egt_graph.specs.Graph.{Graph, IsNode}
 use Rattle.egt_graph.specs.Value.{decided_within, entry_of, HasRank, IsWithin, AreRanks, SomeAbove}
 use Rattle.egt_graph.specs.declared.game.Exit.{Exit}
 use Rattle.egt_graph.specs.declared.game.Exit.TheVariants as exits
+use Rattle.egt_check.specs.declared.metric.Metric.{Metric}
+use Rattle.egt_check.specs.declared.metric.Metric.TheVariants.{Mate, Zeroing}
 use Rattle.egt_table.specs.declared.column.Column.{Column}
-use Rattle.egt_table.specs.declared.column.Column.TheVariants.{Mate, Zeroing}
-use Rattle.egt_table.specs.Table.{TableValue, IsTable, entries_of}
+use Rattle.egt_table.specs.declared.column.Column.TheVariants as columns
+use Rattle.egt_table.specs.Table.{TableValue, HasColumn, IsTable, entries_of}
 use Rattle.egt_check.specs.Entry.{Shows}
-use Rattle.egt_check.specs.Library.{IsAccepted}
-use Rattle.egt_check.specs.Rules.{KeepsRules}
-use Rattle.egt_check.specs.Tables.{Tables, beside, entry_at, HasChildren}
-use Rattle.egt_check.specs.Truth.{Tells, IsTrueTable, HasTrueChildren}
+use Rattle.egt_check.specs.Tables.{Tables, beside, entry_at}
+use Rattle.egt_check.specs.Truth.{Tells, IsTrueTable}
 use Rattle.egt_sweep.specs.Built.{IsWithinLimit, AllWithinLimit}
 use Rattle.egt_sweep.specs.ClassGame.{class_game}
 use Rattle.egt_sweep.specs.Laws.{Laws}
 use Rattle.egt_sweep.specs.MateColumn.{mate_table, ShowsValues}
 use Rattle.egt_sweep.specs.Nodes.{exit_of}
-use Rattle.egt_sweep.proofs.OutOfClass.{beside_own}
-use Rattle.egt_sweep.proofs.Shown.{beside_children}
 use Rattle.egt_sweep.proofs.Linked.{node_at, spelled_there, void_is}
 
 -- the ranks of these nodes are what P tells
@@ -42,16 +40,16 @@ entry_tells g i x limit (exits.Win (suc n)) P never short told rank within e = (
 entry_tells g i x limit (exits.Loss n) P never short told rank within e = (Loss n, told (Loss n) rank, (omega (arith, within, short), e), within)
 entry_tells g i x limit exits.Draw P never short told rank within e = (Draw, told Draw rank, (tt, e), tt)
 
-module _ (laws : Laws) (c : ℕ) (below : c < 36) (tables : Tables) (column : Column) (limit : ℕ) (short : limit ≤ 32000) (entries : List ℕ) (are : AreRanks (class_game tables column c) limit entries) where
-  node : (i : ℕ) (p : Setup) → IsAdmissible p → IsIndex c p i → IsNode (class_game tables column c) i
+module _ (laws : Laws) (c : ℕ) (below : c < 36) (tables : Tables) (metric : Metric) (limit : ℕ) (short : limit ≤ 32000) (entries : List ℕ) (are : AreRanks (class_game tables metric c) limit entries) where
+  node : (i : ℕ) (p : Setup) → IsAdmissible p → IsIndex c p i → IsNode (class_game tables metric c) i
   node i p ok is = record { in_range = laws.facts.index_below p c i is; not_void = ap not (spelled_there laws c i p below ok is) }
 
   -- each entry of a position shows what its rank is
-  pub ranks_tell : (P : Setup → Value → Type 0) → ((p : Setup) → ¬ P p (Win 0)) → RanksTell (class_game tables column c) c P →
+  pub ranks_tell : (P : Setup → Value → Type 0) → ((p : Setup) → ¬ P p (Win 0)) → RanksTell (class_game tables metric c) c P →
       (p : Setup) (i : ℕ) → IsAdmissible p → IsIndex c p i → TellsWithin limit (slice_index entries i) (P p)
   ranks_tell P never told p i ok is =
       let rank = are.ranks i (node i p ok is) in
-      entry_tells (class_game tables column c) i (slice_index entries i) limit rank.0 (P p) (never p) short (λ v h. told i p v ok is h) rank.1 rank.2 rank.3
+      entry_tells (class_game tables metric c) i (slice_index entries i) limit rank.0 (P p) (never p) short (λ v h. told i p v ok is h) rank.1 rank.2 rank.3
 
   -- void entries are 0
   pub voids_are : (i : ℕ) → i < size_of c → IsVoid c i → slice_index entries i ≡ 0
@@ -85,41 +83,32 @@ module _ (laws : Laws) (c : ℕ) (below : c < 36) (tables : Tables) (limit : ℕ
 
   module _ (others : Tables) (zeroing : List ℕ) (are_zeroing : AreRanks (class_game others Zeroing c) limit zeroing) (told_zeroing : RanksTell (class_game others Zeroing c) c (HasZeroing chess)) where
     built : TableValue
-    built = record { class = c; mate = mate; zeroing = zeroing }
+    built = record { class = c; mate = mate; zeroing = zeroing; reach = None }
 
     zeroes : (p : Setup) (i : ℕ) → IsAdmissible p → IsIndex c p i → TellsWithin limit (slice_index zeroing i) (HasZeroing chess p)
     zeroes = ranks_tell laws c below others Zeroing limit short zeroing are_zeroing (HasZeroing chess) (λ p h. h) told_zeroing
 
-    voids : (column : Column) (i : ℕ) → i < size_of c → IsVoid c i → entry_at built column i ≡ 0
+    voids : (metric : Metric) (i : ℕ) → i < size_of c → IsVoid c i → entry_at built metric i ≡ 0
     unfolding built
     voids Mate i lt void = voids_are laws c below tables Mate limit short mate are_mate i lt void
     voids Zeroing i lt void = voids_are laws c below others Zeroing limit short zeroing are_zeroing i lt void
 
-    tells : (column : Column) (p : Setup) (i : ℕ) → IsAdmissible p → IsIndex c p i → (v : Value) × Tells column p v × Shows (entry_at built column i) v
+    tells : (metric : Metric) (p : Setup) (i : ℕ) → IsAdmissible p → IsIndex c p i → (v : Value) × Tells metric p v × Shows (entry_at built metric i) v
     unfolding built
     tells Mate p i ok is = let told = mates p i ok is in (told.0, told.1, told.2)
     tells Zeroing p i ok is = let told = zeroes p i ok is in (told.0, told.1, told.2)
 
-    sizes : (column : Column) → length (entries_of column built) ≡ size_of c
+    sizes : (column : Column) → HasColumn column built → length (entries_of column built) ≡ size_of c
     unfolding built
-    sizes Mate = are_mate.all
-    sizes Zeroing = are_zeroing.all
+    sizes columns.Mate there = are_mate.all
+    sizes columns.Zeroing there = are_zeroing.all
+    sizes columns.Reach there = absurd (false≢true there)
 
-    built_is_table : IsTable (record { class = c; mate = mate; zeroing = zeroing })
+    pub built_is_table : IsTable (record { class = c; mate = mate; zeroing = zeroing; reach = None })
     unfolding built
     built_is_table = record { class_in = below; sizes = sizes }
 
     -- the table of both is true
-    pub built_is_true : IsTrueTable (record { class = c; mate = mate; zeroing = zeroing })
+    pub built_is_true : IsTrueTable (record { class = c; mate = mate; zeroing = zeroing; reach = None })
     unfolding built
-    built_is_true = record { void = voids; true = tells }
-
-    -- and a check beside the tables at hand accepts it
-    pub built_is_accepted : HasChildren tables c → HasTrueChildren tables c →
-        ((at_hand : Tables) (t : TableValue) → IsTable t → at_hand t.class ≡ Some t → HasTrueChildren at_hand t.class → KeepsRules at_hand t ↔ IsTrueTable t) →
-        IsAccepted tables (record { class = c; mate = mate; zeroing = zeroing })
-    unfolding built
-    built_is_accepted children true_children rules = record {
-      children = children;
-      rules = (rules (beside tables built) built built_is_table (beside_own tables built) (beside_children laws tables built below true_children)).1 built_is_true;
-    }
+    built_is_true = record { void = voids; true = tells; reach = λ there. absurd (false≢true there) }

@@ -23,8 +23,8 @@ use Rattle.egt_graph.specs.Graph.{Graph, IsNode}
 use Rattle.egt_graph.specs.Passing.{passing_has, passing_is_below, passing_passes}
 use Rattle.egt_graph.specs.StandIns.{StandsFor}
 use Rattle.egt_graph.proofs.WordRounds.{any_contains, contains_any}
-use Rattle.egt_table.specs.declared.column.Column.{Column}
-use Rattle.egt_table.specs.declared.column.Column.TheVariants.{Mate, Zeroing}
+use Rattle.egt_check.specs.declared.metric.Metric.{Metric}
+use Rattle.egt_check.specs.declared.metric.Metric.TheVariants.{Mate, Zeroing}
 use Rattle.egt_check.specs.Alike.{StepAlike}
 use Rattle.egt_check.specs.Tables.{Tables}
 use Rattle.egt_words.specs.Told.{Advances, Quietly}
@@ -112,17 +112,17 @@ module _ (laws : Laws) (c : ℕ) (c_in : c < 36) where
       plain None is = refl
       plain (Some k) is = absurd (never (inr (subst IsSome (sym is) refl)))
 
-  module _ (tables : Tables) (column : Column) (moves : CodeMoves) (tells : TellsGame c moves) where
+  module _ (tables : Tables) (metric : Metric) (moves : CodeMoves) (tells : TellsGame c moves) where
     g : Graph
-    g = code_game tables column c moves
+    g = code_game tables metric c moves
 
     h : Graph
-    h = class_game tables column c
+    h = class_game tables metric c
 
     -- from the numbers of p and r to what stands for them
     module _ (i j : ℕ) (p r : Setup) (here : IsNumbered c i p) (there : IsNumbered c j r) where
-      connects_by : (m : Move) (q : Setup) → Leads p m q → (IsIndex c q (index_of c j)) → ((m' : Move) (p' q' : Setup) → (Zeroes p m ↔ Zeroes p' m') → Leads p' m' q' → IsIndex c q' (index_of c j) → GoesOn column c p' m' q')
-          → Connects column c (index_of c i) (index_of c j)
+      connects_by : (m : Move) (q : Setup) → Leads p m q → (IsIndex c q (index_of c j)) → ((m' : Move) (p' q' : Setup) → (Zeroes p m ↔ Zeroes p' m') → Leads p' m' q' → IsIndex c q' (index_of c j) → GoesOn metric c p' m' q')
+          → Connects metric c (index_of c i) (index_of c j)
       connects_by m q leads index on =
           let (p', at, alike) = stood_for i p here in
           let (q', (m', leads'), zeroes, images) = alike.there q (m, leads) in
@@ -133,22 +133,22 @@ module _ (laws : Laws) (c : ℕ) (c_in : c < 36) where
           record { from = p'; at = at; move = m'; to = q'; leads = leads'; on = on m' p' q' zeroes leads' there'; index = there' }
 
       -- a quiet move
-      by_quiet : Quietly p r → ((column' : Column) → column' ≡ column → Connects column c (index_of c i) (index_of c j))
-      by_quiet quiet = λ column' is.
+      by_quiet : Quietly p r → ((metric' : Metric) → metric' ≡ metric → Connects metric c (index_of c i) (index_of c j))
+      by_quiet quiet = λ metric' is.
           let q_ok = laws.facts.step_admissible p quiet.to quiet.move here.spells.admissible quiet.leads in
           let back = laws.facts.images_back quiet.to r q_ok quiet.image in
           let is_of = laws.facts.spelled_class c (code_of c j) r there.spells in
           let (k, index) = image_has r quiet.to is_of.0 there.spells.admissible back is_of.1 in
           let same = image_index r quiet.to (index_of c j) k there.spells.admissible back (index_at j r there) index in
           let index' = subst (IsIndex c quiet.to) (sym same) index in
-          connects_by quiet.move quiet.to quiet.leads index' (λ m' p' q' zeroes leads' there'. goes column m' p' q' zeroes there')
+          connects_by quiet.move quiet.to quiet.leads index' (λ m' p' q' zeroes leads' there'. goes metric m' p' q' zeroes there')
         where
-          goes : (column : Column) (m' : Move) (p' q' : Setup) → (Zeroes p quiet.move ↔ Zeroes p' m') → IsIndex c q' (index_of c j) → GoesOn column c p' m' q'
+          goes : (metric : Metric) (m' : Move) (p' q' : Setup) → (Zeroes p quiet.move ↔ Zeroes p' m') → IsIndex c q' (index_of c j) → GoesOn metric c p' m' q'
           goes Mate m' p' q' zeroes index = (index_of c j, index)
           goes Zeroing m' p' q' zeroes index = λ z. quiet.quiet (zeroes.1 z)
 
       -- a pawn's
-      by_pawn : Advances p r → column ≡ Mate → Connects column c (index_of c i) (index_of c j)
+      by_pawn : Advances p r → metric ≡ Mate → Connects metric c (index_of c i) (index_of c j)
       by_pawn pawn is =
           let p_of = laws.facts.spelled_class c (code_of c i) p here.spells in
           let q_ok = laws.facts.step_admissible p pawn.to pawn.move here.spells.admissible pawn.leads in
@@ -156,28 +156,28 @@ module _ (laws : Laws) (c : ℕ) (c_in : c < 36) where
           let (k, index) = laws.facts.some_index pawn.to c p_of.0 c_in q_ok q_of in
           let same = (laws.facts.like_index pawn.to r c k (index_of c j) q_ok there.spells.admissible index (index_at j r there)).1 pawn.image in
           connects_by pawn.move pawn.to pawn.leads (subst (IsIndex c pawn.to) same index)
-          (λ m' p' q' zeroes leads' there'. subst (λ (col : Column). GoesOn col c p' m' q') (sym is) (index_of c j, there'))
+          (λ m' p' q' zeroes leads' there'. subst (λ (col : Metric). GoesOn col c p' m' q') (sym is) (index_of c j, there'))
 
-    moved : (i j : ℕ) → leads_by column c moves i j ≡ true → (is_mate c i ≡ false) × ((p : Setup) × IsNumbered c i p) × ((r : Setup) × IsNumbered c j r) × (goes_by column moves i j ≡ true)
+    moved : (i j : ℕ) → leads_by metric c moves i j ≡ true → (is_mate c i ≡ false) × ((p : Setup) × IsNumbered c i p) × ((r : Setup) × IsNumbered c j r) × (goes_by metric moves i j ≡ true)
     moved i j t =
-        let first = and_parts (not (is_mate c i)) (is_some (numbered c i) && (is_some (numbered c j) && goes_by column moves i j)) t in
-        let second = and_parts (is_some (numbered c i)) (is_some (numbered c j) && goes_by column moves i j) first.1 in
-        let third = and_parts (is_some (numbered c j)) (goes_by column moves i j) second.1 in
+        let first = and_parts (not (is_mate c i)) (is_some (numbered c i) && (is_some (numbered c j) && goes_by metric moves i j)) t in
+        let second = and_parts (is_some (numbered c i)) (is_some (numbered c j) && goes_by metric moves i j) first.1 in
+        let third = and_parts (is_some (numbered c j)) (goes_by metric moves i j) second.1 in
         (no (is_mate c i) first.0, some_numbered laws c i second.0, some_numbered laws c j third.0, third.1)
       where
         no : (b : Bool) → not b ≡ true → b ≡ false
         no true t = absurd (false≢true t)
         no false t = refl
 
-    connected : (i j : ℕ) (p r : Setup) → IsNumbered c i p → IsNumbered c j r → (col : Column) → col ≡ column → goes_by col moves i j ≡ true → Connects column c (index_of c i) (index_of c j)
+    connected : (i j : ℕ) (p r : Setup) → IsNumbered c i p → IsNumbered c j r → (col : Metric) → col ≡ metric → goes_by col moves i j ≡ true → Connects metric c (index_of c i) (index_of c j)
     connected i j p r here there Mate is t = elim (or_either (moves.quiet i j) (moves.pawn i j) t) [
-      | inl quiet ↦ by_quiet i j p r here there (tells.quiet i j p r here quiet there) column refl
+      | inl quiet ↦ by_quiet i j p r here there (tells.quiet i j p r here quiet there) metric refl
       | inr pawn ↦ by_pawn i j p r here there (tells.pawn i j p r here pawn there) (sym is)
     ]
-    connected i j p r here there Zeroing is t = by_quiet i j p r here there (tells.quiet i j p r here t there) column refl
+    connected i j p r here there Zeroing is t = by_quiet i j p r here there (tells.quiet i j p r here t there) metric refl
 
     -- what a connection is told by
-    told_by : (i k : ℕ) (p : Setup) → IsNumbered c i p → (col : Column) → col ≡ column → Connects column c (index_of c i) k → (j : ℕ) × ((r : Setup) × IsNumbered c j r) × (goes_by col moves i j ≡ true) × (index_of c j ≡ k)
+    told_by : (i k : ℕ) (p : Setup) → IsNumbered c i p → (col : Metric) → col ≡ metric → Connects metric c (index_of c i) k → (j : ℕ) × ((r : Setup) × IsNumbered c j r) × (goes_by col moves i j ≡ true) × (index_of c j ≡ k)
     told_by i k p here col is edge = of_zeroing (decided_zeroes p step.1.0)
       where
         stood : (p' : Setup) × IsAt c (index_of c i) p' × StepAlike p p'
@@ -204,17 +204,17 @@ module _ (laws : Laws) (c : ℕ) (c_in : c < 36) where
         is_of : (flipped : Bool) × IsOf c flipped p
         is_of = laws.facts.spelled_class c (code_of c i) p here.spells
 
-        by_pawn_there : (col' : Column) → col' ≡ column → GoesOn column c edge.from edge.move edge.to → Zeroes p step.1.0 → (j : ℕ) × ((r : Setup) × IsNumbered c j r) × (goes_by col' moves i j ≡ true) × (index_of c j ≡ k)
+        by_pawn_there : (col' : Metric) → col' ≡ metric → GoesOn metric c edge.from edge.move edge.to → Zeroes p step.1.0 → (j : ℕ) × ((r : Setup) × IsNumbered c j r) × (goes_by col' moves i j ≡ true) × (index_of c j ≡ k)
         by_pawn_there Mate same on zeroes =
             let plain = stays_plain p step.0 step.1.0 k is_of.0 here.spells.admissible is_of.1 step.1.1 index in
             let pawn = pawns p step.0 step.1.0 k here.spells.admissible is_of step.1.1 index zeroes in
             let (j, goes, (r, there, alike)) = tells.all_pawn i p step.0 step.1.0 here step.1.1 pawn plain.0 plain.1 in
             (j, (r, there), either_or (moves.quiet i j) (moves.pawn i j) (inr goes), sym ((laws.facts.like_index step.0 r c k (index_of c j) q_ok there.spells.admissible index (index_at j r there)).1 alike))
         by_pawn_there Zeroing same on zeroes =
-            let quiet : ¬ Zeroes edge.from edge.move = subst (λ (x : Column). GoesOn x c edge.from edge.move edge.to) (sym same) on in
+            let quiet : ¬ Zeroes edge.from edge.move = subst (λ (x : Metric). GoesOn x c edge.from edge.move edge.to) (sym same) on in
             absurd (quiet (subst (λ (x : Setup). Zeroes x edge.move) (sym from_is) (step.2.1 zeroes)))
 
-        goes_on : (col' : Column) (j : ℕ) → moves.quiet i j ≡ true → goes_by col' moves i j ≡ true
+        goes_on : (col' : Metric) (j : ℕ) → moves.quiet i j ≡ true → goes_by col' moves i j ≡ true
         goes_on Mate j goes = either_or (moves.quiet i j) (moves.pawn i j) (inl goes)
         goes_on Zeroing j goes = goes
 
@@ -224,7 +224,7 @@ module _ (laws : Laws) (c : ℕ) (c_in : c < 36) where
             let (j, goes, (r, there, images)) = tells.all_quiet i p step.0 step.1.0 here step.1.1 quiet in
             (j, (r, there), goes_on col j goes, sym (image_index step.0 r k (index_of c j) q_ok images index (index_at j r there)))
 
-    pub stands_for : StandsFor (code_game tables column c moves) (class_game tables column c) (index_of c)
+    pub stands_for : StandsFor (code_game tables metric c moves) (class_game tables metric c) (index_of c)
     unfolding g h
     stands_for = record {
       node = λ i node.
@@ -233,31 +233,31 @@ module _ (laws : Laws) (c : ℕ) (c_in : c < 36) where
           record { in_range = laws.facts.index_below p' c (index_of c i) at.index; not_void = ap not (there_is laws c (index_of c i) p' at) };
       mated = λ i node. refl;
       forth = λ i j node edge.
-          let t = passing_passes (size_of c) (λ k. leads_by column c moves i k) j edge in
+          let t = passing_passes (size_of c) (λ k. leads_by metric c moves i k) j edge in
           let (unmated, (p, here), (r, there), goes) = moved i j t in
-          passing_has (size_of c) (λ k. connects column c (index_of c i) k) (index_of c j) (laws.facts.index_below r c (index_of c j) (index_at j r there))
-          ((connects_is laws column c (index_of c i) (index_of c j) c_in).1 (connected i j p r here there column refl goes));
+          passing_has (size_of c) (λ k. connects metric c (index_of c i) k) (index_of c j) (laws.facts.index_below r c (index_of c j) (index_at j r there))
+          ((connects_is laws metric c (index_of c i) (index_of c j) c_in).1 (connected i j p r here there metric refl goes));
       back = λ i k node edge.
           let (p, here) = node_told laws c i node.not_void in
-          let t = passing_passes (size_of c) (λ n. connects column c (index_of c i) n) k edge in
-          let (j, (r, there), goes, is) = told_by i k p here column refl ((connects_is laws column c (index_of c i) k c_in).0 t) in (
+          let t = passing_passes (size_of c) (λ n. connects metric c (index_of c i) n) k edge in
+          let (j, (r, there), goes, is) = told_by i k p here metric refl ((connects_is laws metric c (index_of c i) k c_in).0 t) in (
             j,
-            passing_has (size_of c) (λ n. leads_by column c moves i n) j (number_below laws c c_in j r there)
-                (all_of (is_mate c i) (is_some (numbered c i)) (is_some (numbered c j)) (goes_by column moves i j) (alive i k t) (told_node laws c i p here) (told_node laws c j r there) goes),
+            passing_has (size_of c) (λ n. leads_by metric c moves i n) j (number_below laws c c_in j r there)
+                (all_of (is_mate c i) (is_some (numbered c i)) (is_some (numbered c j)) (goes_by metric moves i j) (alive i k t) (told_node laws c i p here) (told_node laws c j r there) goes),
             is,
           );
       exits = λ i node test. refl;
     }
       where
-        alive : (i k : ℕ) → connects column c (index_of c i) k ≡ true → is_mate c i ≡ false
+        alive : (i k : ℕ) → connects metric c (index_of c i) k ≡ true → is_mate c i ≡ false
         alive i k t = elim (cases_Bool (is_mate c i)) [
           | inr f ↦ f
-          | inl mate ↦ absurd (false≢true (sym (stuck_edge tables column c (index_of c i) k mate) ∙ t))
+          | inl mate ↦ absurd (false≢true (sym (stuck_edge tables metric c (index_of c i) k mate) ∙ t))
         ]
 
 -- ---- where it is known that the moves are told, but not how
 
-module _ (laws : Laws) (c : ℕ) (c_in : c < 36) (tables : Tables) (column : Column) (moves : CodeMoves) (told : ∥ TellsGame c moves ∥₁) where
+module _ (laws : Laws) (c : ℕ) (c_in : c < 36) (tables : Tables) (metric : Metric) (moves : CodeMoves) (told : ∥ TellsGame c moves ∥₁) where
   below_prop : (a b : ℕ) → IsProp (a < b)
   below_prop a b = hlevel props
 
@@ -271,23 +271,23 @@ module _ (laws : Laws) (c : ℕ) (c_in : c < 36) (tables : Tables) (column : Col
   first = index_of c
 
   -- a node of the one game among those that a told move leads to, by its index
-  found : (i k : ℕ) → IsNode (code_game tables column c moves) i → Contains ((class_game tables column c).out (first i)) k → list_any (λ j. eqb (first j) k) ((code_game tables column c moves).out i) ≡ true
-  found i k node edge = ∥∥₁_elim told (true_prop (list_any (λ j. eqb (first j) k) ((code_game tables column c moves).out i)))
-      (λ tells. let (j, has, is) = (stands_for laws c c_in tables column moves tells).back i k node edge in contains_any (λ j. eqb (first j) k) ((code_game tables column c moves).out i) j has (eq-eqb (first j) k is))
+  found : (i k : ℕ) → IsNode (code_game tables metric c moves) i → Contains ((class_game tables metric c).out (first i)) k → list_any (λ j. eqb (first j) k) ((code_game tables metric c moves).out i) ≡ true
+  found i k node edge = ∥∥₁_elim told (true_prop (list_any (λ j. eqb (first j) k) ((code_game tables metric c moves).out i)))
+      (λ tells. let (j, has, is) = (stands_for laws c c_in tables metric moves tells).back i k node edge in contains_any (λ j. eqb (first j) k) ((code_game tables metric c moves).out i) j has (eq-eqb (first j) k is))
 
-  pub stands_told : StandsFor (code_game tables column c moves) (class_game tables column c) (index_of c)
+  pub stands_told : StandsFor (code_game tables metric c moves) (class_game tables metric c) (index_of c)
   stands_told = record {
     node = λ i node. record {
-      in_range = ∥∥₁_elim told (below_prop (first i) (size_of c)) (λ tells. ((stands_for laws c c_in tables column moves tells).node i node).in_range);
-      not_void = ∥∥₁_elim told (false_prop (not (is_some (position_at c (first i))))) (λ tells. ((stands_for laws c c_in tables column moves tells).node i node).not_void);
+      in_range = ∥∥₁_elim told (below_prop (first i) (size_of c)) (λ tells. ((stands_for laws c c_in tables metric moves tells).node i node).in_range);
+      not_void = ∥∥₁_elim told (false_prop (not (is_some (position_at c (first i))))) (λ tells. ((stands_for laws c c_in tables metric moves tells).node i node).not_void);
     };
     mated = λ i node. refl;
     forth = λ i j node edge.
-        passing_has (size_of c) (λ k. connects column c (first i) k) (first j)
-        (∥∥₁_elim told (below_prop (first j) (size_of c)) (λ tells. passing_is_below (size_of c) (λ k. connects column c (first i) k) (first j) ((stands_for laws c c_in tables column moves tells).forth i j node edge)))
-        (∥∥₁_elim told (true_prop (connects column c (first i) (first j))) (λ tells. passing_passes (size_of c) (λ k. connects column c (first i) k) (first j) ((stands_for laws c c_in tables column moves tells).forth i j node edge)));
+        passing_has (size_of c) (λ k. connects metric c (first i) k) (first j)
+        (∥∥₁_elim told (below_prop (first j) (size_of c)) (λ tells. passing_is_below (size_of c) (λ k. connects metric c (first i) k) (first j) ((stands_for laws c c_in tables metric moves tells).forth i j node edge)))
+        (∥∥₁_elim told (true_prop (connects metric c (first i) (first j))) (λ tells. passing_passes (size_of c) (λ k. connects metric c (first i) k) (first j) ((stands_for laws c c_in tables metric moves tells).forth i j node edge)));
     back = λ i k node edge.
-        let (j, has, is) = any_contains (λ j. eqb (first j) k) ((code_game tables column c moves).out i) (found i k node edge) in
+        let (j, has, is) = any_contains (λ j. eqb (first j) k) ((code_game tables metric c moves).out i) (found i k node edge) in
         (j, has, eqb-true (first j) k is);
     exits = λ i node test. refl;
   }

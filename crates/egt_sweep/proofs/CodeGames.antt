@@ -19,8 +19,8 @@ use Rattle.egt_graph.specs.Words.{IsIn, IsWordStart, number_at, place_in, word_i
 use Rattle.egt_graph.specs.declared.word_moves.Pushes.{Pushes}
 use Rattle.egt_graph.specs.declared.word_moves.TurnedWay.{TurnedWay}
 use Rattle.egt_graph.specs.declared.word_moves.Way.{Way}
-use Rattle.egt_table.specs.declared.column.Column.{Column}
-use Rattle.egt_table.specs.declared.column.Column.TheVariants.{Mate, Zeroing}
+use Rattle.egt_check.specs.declared.metric.Metric.{Metric}
+use Rattle.egt_check.specs.declared.metric.Metric.TheVariants.{Mate, Zeroing}
 use Rattle.egt_check.specs.Tables.{Tables}
 use Rattle.egt_index.specs.Numbers.{IsNumbered, code_of, places}
 use Rattle.egt_words.specs.Told.{GoesByPawnBy, GoesQuietlyBy, TellsLists}
@@ -39,14 +39,14 @@ use Rattle.egt_sweep.proofs.Numbered.{node_told, number_below, some_numbered, to
 use Rattle.egt_sweep.proofs.CodeStarts.{no_exits, start_prop, tells_none}
 
 -- in the game of mates a pawn's moves go on too
-abbrev pub pawns_go : Column → Bool
+abbrev pub pawns_go : Metric → Bool
 pawns_go Mate = true
 pawns_go Zeroing = false
 
 -- what is told of the word leads from the place to the number
-abbrev pub GoesAt : Column → (c : ℕ) → CodeLists → (span word k j : ℕ) → Type 0
-GoesAt column c lists span word k j =
-    GoesQuietlyBy span k j (ways_at lists word) (turned_at lists word) (roams_at lists word) ⊎ ((pawns_go column ≡ true) × GoesByPawnBy span k j (pawn_ways_at lists word) (pushes_at lists word))
+abbrev pub GoesAt : Metric → (c : ℕ) → CodeLists → (span word k j : ℕ) → Type 0
+GoesAt metric c lists span word k j =
+    GoesQuietlyBy span k j (ways_at lists word) (turned_at lists word) (roams_at lists word) ⊎ ((pawns_go metric ≡ true) × GoesByPawnBy span k j (pawn_ways_at lists word) (pushes_at lists word))
 
 mated_told : (o : Option Setup) (p : Setup) → o ≡ Some p → is_mated o ≡ true → IsCheckmate p
 mated_told o p is t = of_some p (sym (ap is_mated is) ∙ t)
@@ -69,14 +69,14 @@ module _ (laws : Laws) (c : ℕ) (lists : CodeLists) (told : IsTold c lists) whe
   word_lists word lt = (told.holds.each word lt).tells
 
   -- a position from which a told move leads is no checkmate
-  alive : (i j : ℕ) (column : Column) → is_some (numbered c i) ≡ true → is_some (numbered c j) ≡ true → goes_by column moves i j ≡ true → is_mate c i ≡ false
-  alive i j column here there goes = ∥∥₁_elim game (Bool-set (is_mate c i) false) (λ tells. elim (cases_Bool (is_mate c i)) [
+  alive : (i j : ℕ) (metric : Metric) → is_some (numbered c i) ≡ true → is_some (numbered c j) ≡ true → goes_by metric moves i j ≡ true → is_mate c i ≡ false
+  alive i j metric here there goes = ∥∥₁_elim game (Bool-set (is_mate c i) false) (λ tells. elim (cases_Bool (is_mate c i)) [
     | inr f ↦ f
     | inl mate ↦ absurd (stuck tells mate)
   ])
     where
       stuck : TellsGame c moves → is_mate c i ≡ true → ⊥
-      stuck tells mate = of_column column goes
+      stuck tells mate = of_column metric goes
         where
           p : (p : Setup) × IsNumbered c i p
           p = some_numbered laws c i here
@@ -89,7 +89,7 @@ module _ (laws : Laws) (c : ℕ) (lists : CodeLists) (told : IsTold c lists) whe
               let (p', at, alike) = stood_for laws c c_in i p.0 p.1 in
               alike.checkmate.1 (mated_told (position_at c (index_of c i)) p' ((position_is laws c (index_of c i) p').1 at) mate)
 
-          of_column : (column : Column) → goes_by column moves i j ≡ true → ⊥
+          of_column : (metric : Metric) → goes_by metric moves i j ≡ true → ⊥
           of_column Zeroing t = let quiet = tells.quiet i j p.0 r.0 p.1 t r.1 in mated.stuck quiet.move (quiet.to, quiet.leads)
           of_column Mate t = elim (or_either (moves.quiet i j) (moves.pawn i j) t) [
             | inl q ↦ let quiet = tells.quiet i j p.0 r.0 p.1 q r.1 in mated.stuck quiet.move (quiet.to, quiet.leads)
@@ -117,13 +117,13 @@ module _ (laws : Laws) (c : ℕ) (lists : CodeLists) (told : IsTold c lists) whe
         ∙ ap (λ (w : ℕ). pawn_test (places c) k j (pawn_ways_at lists w) (pushes_at lists w)) word_is
 
     -- the game goes by what is told of the word
-    goes_there : (column : Column) (j : ℕ) → GoesAt column c lists (places c) word k j → goes_by column moves i j ≡ true
+    goes_there : (metric : Metric) (j : ℕ) → GoesAt metric c lists (places c) word k j → goes_by metric moves i j ≡ true
     goes_there Mate j (inl quiet) = either_or (moves.quiet i j) (moves.pawn i j) (inl (quiet_here j ∙ (quiet_is (places c) k j (ways_at lists word) (turned_at lists word) (roams_at lists word)).1 quiet))
     goes_there Mate j (inr (go, pawn)) = either_or (moves.quiet i j) (moves.pawn i j) (inr (pawn_here j ∙ (pawn_is (places c) k j (pawn_ways_at lists word) (pushes_at lists word)).1 pawn))
     goes_there Zeroing j (inl quiet) = quiet_here j ∙ (quiet_is (places c) k j (ways_at lists word) (turned_at lists word) (roams_at lists word)).1 quiet
     goes_there Zeroing j (inr (go, pawn)) = absurd (false≢true go)
 
-    pub there_goes : (column : Column) (j : ℕ) → goes_by column moves i j ≡ true → GoesAt column c lists (places c) word k j
+    pub there_goes : (metric : Metric) (j : ℕ) → goes_by metric moves i j ≡ true → GoesAt metric c lists (places c) word k j
     there_goes Mate j t = elim (or_either (moves.quiet i j) (moves.pawn i j) t) [
       | inl q ↦ inl ((quiet_is (places c) k j (ways_at lists word) (turned_at lists word) (roams_at lists word)).0 (sym (quiet_here j) ∙ q))
       | inr w ↦ inr (refl, (pawn_is (places c) k j (pawn_ways_at lists word) (pushes_at lists word)).0 (sym (pawn_here j) ∙ w))
@@ -131,55 +131,55 @@ module _ (laws : Laws) (c : ℕ) (lists : CodeLists) (told : IsTold c lists) whe
     there_goes Zeroing j t = inl ((quiet_is (places c) k j (ways_at lists word) (turned_at lists word) (roams_at lists word)).0 (sym (quiet_here j) ∙ t))
 
   -- those of the asked nodes from which told moves lead into marks of nodes
-  pub codes_lead : (tables : Tables) (column : Column) (word asked result : ℕ) (marks : List ℕ)
-      → ((k : ℕ) → bit_at asked k ≡ 1 → (k < places c) × IsNode (code_game tables column c moves) (number_at (places c) word k))
-      → ((i : ℕ) → IsIn (places c) marks i → IsNode (code_game tables column c moves) i)
-      → ((k : ℕ) → bit_at result k ≡ 1 ↔ ((bit_at asked k ≡ 1) × ((j : ℕ) × GoesAt column c lists (places c) word k j × IsIn (places c) marks j)))
-      → (k : ℕ) → bit_at result k ≡ 1 ↔ ((bit_at asked k ≡ 1) × ((j : ℕ) × Contains ((code_game tables column c moves).out (number_at (places c) word k)) j × IsIn (places c) marks j))
-  codes_lead tables column word asked result marks asked_nodes marked led k = (
+  pub codes_lead : (tables : Tables) (metric : Metric) (word asked result : ℕ) (marks : List ℕ)
+      → ((k : ℕ) → bit_at asked k ≡ 1 → (k < places c) × IsNode (code_game tables metric c moves) (number_at (places c) word k))
+      → ((i : ℕ) → IsIn (places c) marks i → IsNode (code_game tables metric c moves) i)
+      → ((k : ℕ) → bit_at result k ≡ 1 ↔ ((bit_at asked k ≡ 1) × ((j : ℕ) × GoesAt metric c lists (places c) word k j × IsIn (places c) marks j)))
+      → (k : ℕ) → bit_at result k ≡ 1 ↔ ((bit_at asked k ≡ 1) × ((j : ℕ) × Contains ((code_game tables metric c moves).out (number_at (places c) word k)) j × IsIn (places c) marks j))
+  codes_lead tables metric word asked result marks asked_nodes marked led k = (
     λ one.
         let (bit, (j, goes, is)) = (led k).0 one in
         let (k_in, node) = asked_nodes k bit in
         let there = marked j is in
-        let t = goes_there word k k_in column j goes in
+        let t = goes_there word k k_in metric j goes in
         let here = not_not (is_some (numbered c (number_at (places c) word k))) node.not_void in
         let has = not_not (is_some (numbered c j)) there.not_void in (
           bit,
           (
             j,
-            passing_has (size_of c) (λ n. leads_by column c moves (number_at (places c) word k) n) j there.in_range
-                (all_of (is_mate c (number_at (places c) word k)) (is_some (numbered c (number_at (places c) word k))) (is_some (numbered c j)) (goes_by column moves (number_at (places c) word k) j)
-                (alive (number_at (places c) word k) j column here has t) here has t),
+            passing_has (size_of c) (λ n. leads_by metric c moves (number_at (places c) word k) n) j there.in_range
+                (all_of (is_mate c (number_at (places c) word k)) (is_some (numbered c (number_at (places c) word k))) (is_some (numbered c j)) (goes_by metric moves (number_at (places c) word k) j)
+                (alive (number_at (places c) word k) j metric here has t) here has t),
             is,
           ),
         ),
     λ h.
         let (bit, (j, has, is)) = h in
         let (k_in, node) = asked_nodes k bit in
-        let t = passing_passes (size_of c) (λ n. leads_by column c moves (number_at (places c) word k) n) j has in
-        (led k).1 (bit, (j, there_goes word k k_in column j (goes_of (number_at (places c) word k) j t), is)),
+        let t = passing_passes (size_of c) (λ n. leads_by metric c moves (number_at (places c) word k) n) j has in
+        (led k).1 (bit, (j, there_goes word k k_in metric j (goes_of (number_at (places c) word k) j t), is)),
   )
     where
       not_not : (b : Bool) → not b ≡ false → b ≡ true
       not_not true t = refl
       not_not false t = absurd (false≢true (sym t))
 
-      goes_of : (i j : ℕ) → leads_by column c moves i j ≡ true → goes_by column moves i j ≡ true
+      goes_of : (i j : ℕ) → leads_by metric c moves i j ≡ true → goes_by metric moves i j ≡ true
       goes_of i j t =
-          let first = and_parts (not (is_mate c i)) (is_some (numbered c i) && (is_some (numbered c j) && goes_by column moves i j)) t in
-          let second = and_parts (is_some (numbered c i)) (is_some (numbered c j) && goes_by column moves i j) first.1 in
-          (and_parts (is_some (numbered c j)) (goes_by column moves i j) second.1).1
+          let first = and_parts (not (is_mate c i)) (is_some (numbered c i) && (is_some (numbered c j) && goes_by metric moves i j)) t in
+          let second = and_parts (is_some (numbered c i)) (is_some (numbered c j) && goes_by metric moves i j) first.1 in
+          (and_parts (is_some (numbered c j)) (goes_by metric moves i j) second.1).1
 
   -- the same, told of the word's moves under other names
-  pub codes_lead_by : (tables : Tables) (column : Column) (word asked result : ℕ) (marks : List ℕ)
-      → ((k : ℕ) → bit_at asked k ≡ 1 → (k < places c) × IsNode (code_game tables column c moves) (number_at (places c) word k))
-      → ((i : ℕ) → IsIn (places c) marks i → IsNode (code_game tables column c moves) i)
+  pub codes_lead_by : (tables : Tables) (metric : Metric) (word asked result : ℕ) (marks : List ℕ)
+      → ((k : ℕ) → bit_at asked k ≡ 1 → (k < places c) × IsNode (code_game tables metric c moves) (number_at (places c) word k))
+      → ((i : ℕ) → IsIn (places c) marks i → IsNode (code_game tables metric c moves) i)
       → (span : ℕ) (ways : List Way) (turned : List TurnedWay) (pawn_ways : List Way) (pushes : Pushes) (roams : Option Roaming)
       → span ≡ places c → ways ≡ ways_at lists word → turned ≡ turned_at lists word → pawn_ways ≡ pawn_ways_at lists word → pushes ≡ pushes_at lists word → roams ≡ roams_at lists word
-      → ((k : ℕ) → bit_at result k ≡ 1 ↔ ((bit_at asked k ≡ 1) × ((j : ℕ) × GoesWith (pawns_go column) span k j ways turned pawn_ways pushes roams × IsIn span marks j)))
-      → (k : ℕ) → bit_at result k ≡ 1 ↔ ((bit_at asked k ≡ 1) × ((j : ℕ) × Contains ((code_game tables column c moves).out (number_at (places c) word k)) j × IsIn (places c) marks j))
-  codes_lead_by tables column word asked result marks asked_nodes marked span ways turned pawn_ways pushes roams span_is ways_are turned_are pawn_ways_are pushes_are roams_are led =
-      codes_lead tables column word asked result marks asked_nodes marked
+      → ((k : ℕ) → bit_at result k ≡ 1 ↔ ((bit_at asked k ≡ 1) × ((j : ℕ) × GoesWith (pawns_go metric) span k j ways turned pawn_ways pushes roams × IsIn span marks j)))
+      → (k : ℕ) → bit_at result k ≡ 1 ↔ ((bit_at asked k ≡ 1) × ((j : ℕ) × Contains ((code_game tables metric c moves).out (number_at (places c) word k)) j × IsIn (places c) marks j))
+  codes_lead_by tables metric word asked result marks asked_nodes marked span ways turned pawn_ways pushes roams span_is ways_are turned_are pawn_ways_are pushes_are roams_are led =
+      codes_lead tables metric word asked result marks asked_nodes marked
       (subst (λ (x : Option Roaming). Led (places c) (ways_at lists word) (turned_at lists word) (pawn_ways_at lists word) (pushes_at lists word) x) roams_are
       (subst (λ (x : Pushes). Led (places c) (ways_at lists word) (turned_at lists word) (pawn_ways_at lists word) x roams) pushes_are
       (subst (λ (x : List Way). Led (places c) (ways_at lists word) (turned_at lists word) x pushes roams) pawn_ways_are
@@ -188,19 +188,19 @@ module _ (laws : Laws) (c : ℕ) (lists : CodeLists) (told : IsTold c lists) whe
       (subst (λ (s : ℕ). Led s ways turned pawn_ways pushes roams) span_is led))))))
     where
       Led : (span : ℕ) → List Way → List TurnedWay → List Way → Pushes → Option Roaming → Type 0
-      Led span ways turned pawn_ways pushes roams = (k : ℕ) → bit_at result k ≡ 1 ↔ ((bit_at asked k ≡ 1) × ((j : ℕ) × GoesWith (pawns_go column) span k j ways turned pawn_ways pushes roams × IsIn span marks j))
+      Led span ways turned pawn_ways pushes roams = (k : ℕ) → bit_at result k ≡ 1 ↔ ((bit_at asked k ≡ 1) × ((j : ℕ) × GoesWith (pawns_go metric) span k j ways turned pawn_ways pushes roams × IsIn span marks j))
 
   -- the bits of nodes
-  pub code_nodes : (tables : Tables) (column : Column) (word : ℕ) → word < words_of (places c) (size_of c)
-      → (k : ℕ) → bit_at (nodes_at lists word) k ≡ 1 ↔ ((k < places c) × IsNode (code_game tables column c moves) (number_at (places c) word k))
-  code_nodes tables column word lt k = ∥∥₁_elim (word_lists word lt) prop (λ tells. (
+  pub code_nodes : (tables : Tables) (metric : Metric) (word : ℕ) → word < words_of (places c) (size_of c)
+      → (k : ℕ) → bit_at (nodes_at lists word) k ≡ 1 ↔ ((k < places c) × IsNode (code_game tables metric c moves) (number_at (places c) word k))
+  code_nodes tables metric word lt k = ∥∥₁_elim (word_lists word lt) prop (λ tells. (
     λ one.
         let (k_in, (p, spells)) = (tells.nodes_are k).0 one in
         (k_in, record { in_range = number_below laws c c_in (number_at (places c) word k) p spells; not_void = ap not (told_node laws c (number_at (places c) word k) p spells) }),
     λ h. (tells.nodes_are k).1 (h.0, node_told laws c (number_at (places c) word k) h.1.not_void),
   ))
     where
-      prop : IsProp (bit_at (nodes_at lists word) k ≡ 1 ↔ ((k < places c) × IsNode (code_game tables column c moves) (number_at (places c) word k)))
+      prop : IsProp (bit_at (nodes_at lists word) k ≡ 1 ↔ ((k < places c) × IsNode (code_game tables metric c moves) (number_at (places c) word k)))
       prop = hlevel (props, ℕ_set, Bool-set)
 
   -- where no move takes or promotes the node has no exits in the game of mates

@@ -13,8 +13,8 @@ use Rattle.egt_graph.specs.StandIns.{AreKept, StandInsAreAsDeep, StandInsShareEn
 use Rattle.egt_graph.specs.Value.{AreRanks, SomeAbove}
 use Rattle.egt_graph.specs.declared.solver.SolveFault.{SolveFault}
 use Rattle.egt_graph.specs.declared.solver.SolveFault.TheVariants.{TooDeep}
-use Rattle.egt_table.specs.declared.column.Column.{Column}
-use Rattle.egt_table.specs.declared.column.Column.TheVariants.{Mate}
+use Rattle.egt_check.specs.declared.metric.Metric.{Metric}
+use Rattle.egt_check.specs.declared.metric.Metric.TheVariants.{Mate}
 use Rattle.egt_check.specs.Tables.{Tables}
 use Rattle.egt_index.specs.Numbers.{number_of, places}
 use Rattle.egt_sweep.specs.ClassGame.{class_game, class_game_is_lawful}
@@ -40,7 +40,7 @@ same_fault {T} x y e = ap fault_or e
     fault_or (Err fault) = fault
 
 abbrev pub CodesStand : Type 0
-CodesStand = (tables : Tables) (column : Column) (c : ℕ) (moves : CodeMoves) → c < 36 → ∥ TellsGame c moves ∥₁ → StandsFor (code_game tables column c moves) (class_game tables column c) (index_of c)
+CodesStand = (tables : Tables) (metric : Metric) (c : ℕ) (moves : CodeMoves) → c < 36 → ∥ TellsGame c moves ∥₁ → StandsFor (code_game tables metric c moves) (class_game tables metric c) (index_of c)
 
 module _ (laws : Laws) (c : ℕ) (c_in : c < 36) where
   void_told : (i : ℕ) → not (is_some (position_at c i)) ≡ true → IsVoid c i
@@ -48,12 +48,12 @@ module _ (laws : Laws) (c : ℕ) (c_in : c < 36) where
       (λ (h : (p : Setup) × Spells c i p × IsIndex c p i). absurd (false≢true (ap not (sym (there_is laws c i h.0 (record { spells = h.1; index = h.2 }))) ∙ t)))
       (λ (void : IsVoid c i). void) (laws.index_or_void c i c_in)
 
-  module _ (tables : Tables) (column : Column) (moves : CodeMoves) where
+  module _ (tables : Tables) (metric : Metric) (moves : CodeMoves) where
     abbrev g : Graph
-    g = code_game tables column c moves
+    g = code_game tables metric c moves
 
     abbrev h : Graph
-    h = class_game tables column c
+    h = class_game tables metric c
 
     pub kept_nodes : (entries ranks : List ℕ) → AreOfIndexes c entries ranks → AreKept g h (index_of c) (number_of c) entries ranks
     kept_nodes entries ranks are = record {
@@ -80,17 +80,17 @@ odd_node g limit entries ranks n j odd = elim (cases_lt j g.size) [
     none : slice_index entries j ≡ 0 → ⊥
     none zero = let one = odd.0 in omega (arith, zero, one)
 
-module _ (laws : Laws) (c : ℕ) (lists : CodeLists) (told : IsTold c lists) (tables : Tables) (column : Column) (stand : CodesStand) where
-  stands : StandsFor (game_by tables column c lists) (class_game tables column c) (index_of c)
-  stands = stand tables column c (moves_told c lists) told.class_in (told_game laws c lists told)
+module _ (laws : Laws) (c : ℕ) (lists : CodeLists) (told : IsTold c lists) (tables : Tables) (metric : Metric) (stand : CodesStand) where
+  pub stands : StandsFor (game_by tables metric c lists) (class_game tables metric c) (index_of c)
+  stands = stand tables metric c (moves_told c lists) told.class_in (told_game laws c lists told)
 
-  pub ranks_kept : StandInsTellRanks → (limit : ℕ) (entries ranks : List ℕ) → AreRanks (game_by tables column c lists) limit entries → AreOfIndexes c entries ranks → AreRanks (class_game tables column c) limit ranks
+  pub ranks_kept : StandInsTellRanks → (limit : ℕ) (entries ranks : List ℕ) → AreRanks (game_by tables metric c lists) limit entries → AreOfIndexes c entries ranks → AreRanks (class_game tables metric c) limit ranks
   ranks_kept law limit entries ranks are kept =
-      law (game_by tables column c lists) (class_game tables column c) (index_of c) (number_of c) (code_game_is_lawful tables column c (moves_told c lists)) stands limit entries ranks
-      (kept_nodes laws c told.class_in tables column (moves_told c lists) entries ranks kept) are
+      law (game_by tables metric c lists) (class_game tables metric c) (index_of c) (number_of c) (code_game_is_lawful tables metric c (moves_told c lists)) stands limit entries ranks
+      (kept_nodes laws c told.class_in tables metric (moves_told c lists) entries ranks kept) are
 
-  pub too_deep_too : StandInsAreAsDeep → (limit : ℕ) → SomeAbove (game_by tables column c lists) limit → SomeAbove (class_game tables column c) limit
-  too_deep_too law limit some = law (game_by tables column c lists) (class_game tables column c) (index_of c) (code_game_is_lawful tables column c (moves_told c lists)) stands limit some
+  pub too_deep_too : StandInsAreAsDeep → (limit : ℕ) → SomeAbove (game_by tables metric c lists) limit → SomeAbove (class_game tables metric c) limit
+  too_deep_too law limit some = law (game_by tables metric c lists) (class_game tables metric c) (index_of c) (code_game_is_lawful tables metric c (moves_told c lists)) stands limit some
 
 module _ (laws : Laws) (c : ℕ) (lists : CodeLists) (told : IsTold c lists) (tables : Tables) (stand : CodesStand) (shared : StandInsShareEntries) where
   pub mates_told : (limit : ℕ) (ranks : List ℕ) (codes : CodeEntries) → AreRanks (game_by tables Mate c lists) limit codes.entries → AreOfIndexes c codes.entries ranks → AreExitMarks (game_by tables Mate c lists) (places c) codes.exits

@@ -14,7 +14,7 @@ use Rattle.egt_graph.specs.declared.word_moves.Pushes.{Pushes}
 use Rattle.egt_graph.specs.declared.word_moves.TurnedWay.{TurnedWay}
 use Rattle.egt_graph.specs.declared.word_moves.Way.{Way}
 use Rattle.egt_index.specs.Size.{size_of}
-use Rattle.egt_table.specs.declared.column.Column.{Column}
+use Rattle.egt_check.specs.declared.metric.Metric.{Metric}
 use Rattle.egt_check.specs.Tables.{Tables}
 use Rattle.egt_index.specs.Numbers.{places}
 use Rattle.egt_words.specs.Told.{GoesRoamingIf}
@@ -86,14 +86,14 @@ known_told sources lists from ways turned pawn_ways pushes roams ways_are turned
     (subst (λ (x : List Way). KnowsMoves sources from x turned pawn_ways pushes roams) ways_are known))))
 
 module _ (laws : Laws) (c : ℕ) (lists : CodeLists) (told : IsTold c lists) (sources : CodeSources) (are : AreSources c lists sources) where
-  knows : (column : Column) (word k j : ℕ) → word < words_of (places c) (size_of c) → k < places c → KnowsWord sources lists word → GoesAt column c lists (places c) word k j
+  knows : (metric : Metric) (word k j : ℕ) → word < words_of (places c) (size_of c) → k < places c → KnowsWord sources lists word → GoesAt metric c lists (places c) word k j
       → IsSource sources (word_in (places c) j) word
-  knows column word k j lt k_in known goes = by goes
+  knows metric word k j lt k_in known goes = by goes
     where
       fits : CodesFit (places c) (words_of (places c) (size_of c)) (ways_at lists word) (turned_at lists word) (pawn_ways_at lists word) (pushes_at lists word) (roams_at lists word)
       fits = codes_fit c lists told word lt (words_of (places c) (size_of c)) (omega arith) (places c) refl _ _ _ _ _ refl refl refl refl refl
 
-      by : GoesAt column c lists (places c) word k j → IsSource sources (word_in (places c) j) word
+      by : GoesAt metric c lists (places c) word k j → IsSource sources (word_in (places c) j) word
       by (inl (inl (inl way))) = straight sources (places c) word k j k_in (ways_at lists word) known.by_ways way
       by (inl (inl (inr way))) = turned_there sources (places c) word k j k_in (turned_at lists word) fits.turns known.by_turned way
       by (inl (inr roams)) = roamed sources (places c) word k j (words_of (places c) (size_of c)) (roams_at lists word) fits.roams_in known.by_roams roams
@@ -101,13 +101,13 @@ module _ (laws : Laws) (c : ℕ) (lists : CodeLists) (told : IsTold c lists) (so
       by (inr (pawns, inr pushes)) = pushed_there sources (places c) word k j (pushes_at lists word) fits.pushes_stay known.by_pushes known.by_leaps pushes
 
   -- so marks of them are marks of all words from which an edge leads to the word
-  pub codes_touch : (tables : Tables) (column : Column) (word n : ℕ) (touched : List ℕ) → words_of (places c) (size_of c) ≤ 64 * n
+  pub codes_touch : (tables : Tables) (metric : Metric) (word n : ℕ) (touched : List ℕ) → words_of (places c) (size_of c) ≤ 64 * n
       → ((from : ℕ) → from < 64 * n → IsSource sources word from → IsTouched touched from)
-      → (i j : ℕ) → IsNode (code_game tables column c (moves_told c lists)) i → Contains ((code_game tables column c (moves_told c lists)).out i) j → word_in (places c) j ≡ word
+      → (i j : ℕ) → IsNode (code_game tables metric c (moves_told c lists)) i → Contains ((code_game tables metric c (moves_told c lists)).out i) j → word_in (places c) j ≡ word
       → IsTouched touched (word_in (places c) i)
-  codes_touch tables column word n touched long marked i j node has to =
+  codes_touch tables metric word n touched long marked i j node has to =
       ∥∥₁_elim (are.known from lt) (ℕ_set (bit_at (slice_index touched (from / 64)) (from % 64)) 1)
-      (λ known. marked from (omega (arith, lt, long)) (subst (λ w. IsSource sources w from) to (knows column from (place_in (places c) i) j lt small known goes)))
+      (λ known. marked from (omega (arith, lt, long)) (subst (λ w. IsSource sources w from) to (knows metric from (place_in (places c) i) j lt small known goes)))
     where
       from : ℕ
       from = word_in (places c) i
@@ -121,13 +121,13 @@ module _ (laws : Laws) (c : ℕ) (lists : CodeLists) (told : IsTold c lists) (so
       here : number_at (places c) from (place_in (places c) i) ≡ i
       here = number_at-places (places c) i told.some
 
-      goes_of : leads_by column c (moves_told c lists) i j ≡ true → goes_by column (moves_told c lists) i j ≡ true
+      goes_of : leads_by metric c (moves_told c lists) i j ≡ true → goes_by metric (moves_told c lists) i j ≡ true
       goes_of t =
-          let first = and_parts (not (is_mate c i)) (is_some (numbered c i) && (is_some (numbered c j) && goes_by column (moves_told c lists) i j)) t in
-          let second = and_parts (is_some (numbered c i)) (is_some (numbered c j) && goes_by column (moves_told c lists) i j) first.1 in
-          (and_parts (is_some (numbered c j)) (goes_by column (moves_told c lists) i j) second.1).1
+          let first = and_parts (not (is_mate c i)) (is_some (numbered c i) && (is_some (numbered c j) && goes_by metric (moves_told c lists) i j)) t in
+          let second = and_parts (is_some (numbered c i)) (is_some (numbered c j) && goes_by metric (moves_told c lists) i j) first.1 in
+          (and_parts (is_some (numbered c j)) (goes_by metric (moves_told c lists) i j) second.1).1
 
-      goes : GoesAt column c lists (places c) from (place_in (places c) i) j
+      goes : GoesAt metric c lists (places c) from (place_in (places c) i) j
       goes =
-          there_goes laws c lists told from (place_in (places c) i) small column j
-          (subst (λ m. goes_by column (moves_told c lists) m j ≡ true) (sym here) (goes_of (passing_passes (size_of c) (λ m. leads_by column c (moves_told c lists) i m) j has)))
+          there_goes laws c lists told from (place_in (places c) i) small metric j
+          (subst (λ m. goes_by metric (moves_told c lists) m j ≡ true) (sym here) (goes_of (passing_passes (size_of c) (λ m. leads_by metric c (moves_told c lists) i m) j has)))

@@ -12,7 +12,7 @@ use Rattle.egt_graph.specs.Words.{TellsExits, IsWordStart}
 use Rattle.egt_graph.specs.declared.game.Exit.{Exit}
 use Rattle.egt_graph.specs.Graph.{Graph}
 use Rattle.egt_graph.specs.declared.words.WordStart.{WordStart}
-use Rattle.egt_table.specs.declared.column.Column.TheVariants.{Mate}
+use Rattle.egt_check.specs.declared.metric.Metric.TheVariants.{Mate}
 use Rattle.egt_check.specs.Tables.{Tables}
 use Rattle.egt_sweep.specs.Edges.{IsAt, GoesOn}
 use Rattle.egt_sweep.specs.Laws.{Laws}

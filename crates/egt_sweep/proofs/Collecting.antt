@@ -9,7 +9,7 @@ use Rattle.egt_board.specs.Setup.{Setup, IsAdmissible}
 use Rattle.egt_index.specs.Index.{IsIndex}
 use Rattle.egt_moves.specs.Legal.{Leads, IsLegal}
 use Rattle.egt_moves.specs.declared.chess_move.Move.{Move}
-use Rattle.egt_table.specs.declared.column.Column.{Column}
+use Rattle.egt_check.specs.declared.metric.Metric.{Metric}
 use Rattle.egt_unmoves.specs.declared.unmove.Unmove.{Unmove}
 use Rattle.egt_sweep.specs.Edges.{IsAt, GoesOn, LeadsOn, Connects, GoesBack, ComesFrom}
 use Rattle.egt_sweep.specs.Laws.{Laws}
@@ -52,12 +52,12 @@ module _ {X : Type 0} (gives : X → ℕ → Type 0) (xs : List X) where
   unfolding Collected
   collected_all n k all = (λ found. (found.0, found.1, found.3), λ h. (h.0, h.1, omega (arith, h.1.1, all), h.2))
 
-module _ (laws : Laws) (column : Column) (c : ℕ) (p : Setup) where
+module _ (laws : Laws) (metric : Metric) (c : ℕ) (p : Setup) where
   one_next : (m : Move) (q r : Setup) → Leads p m q → Leads p m r → q ≡ r
   one_next m q r here there = let same : Some q ≡ Some r = sym ((laws.played p q m).0 here) ∙ (laws.played p r m).0 there in cc
 
   -- the move that goes on leads on to one index
-  pub leads_on_once : (m : Move) (q : Setup) (i k : ℕ) → IsAdmissible p → Leads p m q → GoesOn column c p m q → IsIndex c q i → (k ≡ i) ↔ LeadsOn column c p m k
+  pub leads_on_once : (m : Move) (q : Setup) (i k : ℕ) → IsAdmissible p → Leads p m q → GoesOn metric c p m q → IsIndex c q i → (k ≡ i) ↔ LeadsOn metric c p m k
   leads_on_once m q i k ok leads on is = (
     λ e. (q, leads, on, subst (IsIndex c q) (sym e) is),
     λ led. let same = one_next m led.0 q led.1 leads in
@@ -65,18 +65,18 @@ module _ (laws : Laws) (column : Column) (c : ℕ) (p : Setup) where
   )
 
   -- one that does not go on leads on to none
-  pub leads_on_never : (m : Move) (q : Setup) (k : ℕ) → Leads p m q → ¬ GoesOn column c p m q → LeadsOn column c p m k → ⊥
-  leads_on_never m q k leads off led = off (subst (GoesOn column c p m) (one_next m led.0 q led.1 leads) led.2)
+  pub leads_on_never : (m : Move) (q : Setup) (k : ℕ) → Leads p m q → ¬ GoesOn metric c p m q → LeadsOn metric c p m k → ⊥
+  leads_on_never m q k leads off led = off (subst (GoesOn metric c p m) (one_next m led.0 q led.1 leads) led.2)
 
   -- the edges of the index are where the legal moves lead on to
-  pub edges_collected : (moves listed : List Move) (i k : ℕ) → moves ≡ listed → ((m : Move) → Contains listed m ↔ IsLegal p m) → IsAt c i p → ((m : Move) × Contains moves m × LeadsOn column c p m k) ↔ Connects column c i k
+  pub edges_collected : (moves listed : List Move) (i k : ℕ) → moves ≡ listed → ((m : Move) → Contains listed m ↔ IsLegal p m) → IsAt c i p → ((m : Move) × Contains moves m × LeadsOn metric c p m k) ↔ Connects metric c i k
   edges_collected moves listed i k same legal at = (λ found. record { from = p; at = at; move = found.0; to = found.2.0; leads = found.2.1; on = found.2.2; index = found.2.3 }, found_back)
     where
-      found_back : Connects column c i k → (m : Move) × Contains moves m × LeadsOn column c p m k
+      found_back : Connects metric c i k → (m : Move) × Contains moves m × LeadsOn metric c p m k
       found_back edge =
           let e : edge.from ≡ p = laws.one_spelled c i edge.from p edge.at.spells at.spells in
           let leads = subst (λ x. Leads x edge.move edge.to) e edge.leads in
-          let on = subst (λ x. GoesOn column c x edge.move edge.to) e edge.on in
+          let on = subst (λ x. GoesOn metric c x edge.move edge.to) e edge.on in
           let has = subst (λ ms. Contains ms edge.move) (sym same) ((legal edge.move).1 (edge.to, leads)) in
           (edge.move, has, (edge.to, leads, on, edge.index))
 
@@ -107,5 +107,5 @@ collected_start gives xs list empty =
     (none_ascend, omega arith, λ k. (λ has. absurd (omega (arith, has.1)), λ found. absurd (collected_none gives xs k found)))
 
 -- what comes from unmoves one goes back by
-pub back_on : (column : Column) (c : ℕ) (u : Unmove) (i k : ℕ) → GoesBack column u → IsIndex c u.before i → ((j : ℕ) → IsIndex c u.before j → j ≡ i) → (k ≡ i) ↔ ComesFrom column c u k
-back_on column c u i k goes is one = (λ e. (goes, subst (IsIndex c u.before) (sym e) is), λ from. one k from.1)
+pub back_on : (metric : Metric) (c : ℕ) (u : Unmove) (i k : ℕ) → GoesBack metric u → IsIndex c u.before i → ((j : ℕ) → IsIndex c u.before j → j ≡ i) → (k ≡ i) ↔ ComesFrom metric c u k
+back_on metric c u i k goes is one = (λ e. (goes, subst (IsIndex c u.before) (sym e) is), λ from. one k from.1)

@@ -38,3 +38,7 @@ pub mod CodeStarts
 pub mod Remaining
 pub mod KeptEntries
 pub mod CodeRanks
+pub mod NearEntries
+pub mod NearNumbers
+pub mod JoinedTables
+pub mod CodeNears

@@ -23,8 +23,8 @@ use Rattle.egt_moves.specs.DecidedMoves.{decided_zeroes}
 use Rattle.egt_moves.specs.Legal.{Leads}
 use Rattle.egt_moves.specs.Moves.{moves_of, played}
 use Rattle.egt_moves.specs.declared.chess_move.Move.{Move}
-use Rattle.egt_table.specs.declared.column.Column.{Column}
-use Rattle.egt_table.specs.declared.column.Column.TheVariants.{Mate, Zeroing}
+use Rattle.egt_check.specs.declared.metric.Metric.{Metric}
+use Rattle.egt_check.specs.declared.metric.Metric.TheVariants.{Mate, Zeroing}
 use Rattle.egt_sweep.specs.Edges.{IsAt, GoesOn, Connects}
 use Rattle.egt_sweep.specs.Nodes.{spelled_by, spelled, is_turned, first_of, index_in, is_number, has_index, kept_if, position_at, goes_on, leads_on, connects_from, connects}
 
@@ -179,7 +179,7 @@ module _ (laws : Laws) where
 
   -- ---- moves that go on
 
-  goes_told : (column : Column) (c : ℕ) (p q : Setup) (m : Move) → IsAdmissible q → goes_on column c p m q ≡ true → GoesOn column c p m q
+  goes_told : (metric : Metric) (c : ℕ) (p q : Setup) (m : Move) → IsAdmissible q → goes_on metric c p m q ≡ true → GoesOn metric c p m q
   goes_told Mate c p q m ok t = let some = index_some (index_in c q) t in (some.0, (index_is c some.0 q ok).0 some.1)
     where
       index_some : (o : Option ℕ) → is_some o ≡ true → (i : ℕ) × (o ≡ Some i)
@@ -187,7 +187,7 @@ module _ (laws : Laws) where
       index_some (Some i) t = (i, refl)
   goes_told Zeroing c p q m ok t = λ z. false≢true (sym (not-true (tells (decided_zeroes p m)) t) ∙ tells_where (decided_zeroes p m) z)
 
-  told_goes : (column : Column) (c : ℕ) (p q : Setup) (m : Move) → IsAdmissible q → GoesOn column c p m q → goes_on column c p m q ≡ true
+  told_goes : (metric : Metric) (c : ℕ) (p q : Setup) (m : Move) → IsAdmissible q → GoesOn metric c p m q → goes_on metric c p m q ≡ true
   told_goes Mate c p q m ok on = ap is_some ((index_is c on.0 q ok).1 on.1)
   told_goes Zeroing c p q m ok on = of_told (decided_zeroes p m)
     where
@@ -195,42 +195,42 @@ module _ (laws : Laws) where
       of_told (inl z) = absurd (on z)
       of_told (inr z) = refl
 
-  pub goes_is : (column : Column) (c : ℕ) (p q : Setup) (m : Move) → IsAdmissible q → (goes_on column c p m q ≡ true) ↔ GoesOn column c p m q
-  goes_is column c p q m ok = (goes_told column c p q m ok, told_goes column c p q m ok)
+  pub goes_is : (metric : Metric) (c : ℕ) (p q : Setup) (m : Move) → IsAdmissible q → (goes_on metric c p m q ≡ true) ↔ GoesOn metric c p m q
+  goes_is metric c p q m ok = (goes_told metric c p q m ok, told_goes metric c p q m ok)
 
-  leads_told : (column : Column) (c j : ℕ) (p : Setup) (m : Move) (o : Option Setup) → IsAdmissible p → o ≡ played p m → leads_on column c j p m o ≡ true → (q : Setup) × Leads p m q × GoesOn column c p m q × IsIndex c q j
-  leads_told column c j p m None ok e t = absurd (false≢true t)
-  leads_told column c j p m (Some q) ok e t =
+  leads_told : (metric : Metric) (c j : ℕ) (p : Setup) (m : Move) (o : Option Setup) → IsAdmissible p → o ≡ played p m → leads_on metric c j p m o ≡ true → (q : Setup) × Leads p m q × GoesOn metric c p m q × IsIndex c q j
+  leads_told metric c j p m None ok e t = absurd (false≢true t)
+  leads_told metric c j p m (Some q) ok e t =
       let leads = (laws.played p q m).1 (sym e) in
       let q_ok = laws.facts.step_admissible p q m ok leads in
-      let parts = and_parts (goes_on column c p m q) (is_number j (index_in c q)) t in
-      (q, leads, goes_told column c p q m q_ok parts.0, (index_is c j q q_ok).0 (number_told j (index_in c q) parts.1))
+      let parts = and_parts (goes_on metric c p m q) (is_number j (index_in c q)) t in
+      (q, leads, goes_told metric c p q m q_ok parts.0, (index_is c j q q_ok).0 (number_told j (index_in c q) parts.1))
 
-  told_leads : (column : Column) (c j : ℕ) (p q : Setup) (m : Move) (o : Option Setup) → IsAdmissible p → o ≡ Some q → Leads p m q → GoesOn column c p m q → IsIndex c q j → leads_on column c j p m o ≡ true
-  told_leads column c j p q m o ok e leads on index =
+  told_leads : (metric : Metric) (c j : ℕ) (p q : Setup) (m : Move) (o : Option Setup) → IsAdmissible p → o ≡ Some q → Leads p m q → GoesOn metric c p m q → IsIndex c q j → leads_on metric c j p m o ≡ true
+  told_leads metric c j p q m o ok e leads on index =
       let q_ok = laws.facts.step_admissible p q m ok leads in
-      subst (λ x. leads_on column c j p m x ≡ true) (sym e)
-      (both (goes_on column c p m q) (is_number j (index_in c q)) (told_goes column c p q m q_ok on) (told_number j (index_in c q) ((index_is c j q q_ok).1 index)))
+      subst (λ x. leads_on metric c j p m x ≡ true) (sym e)
+      (both (goes_on metric c p m q) (is_number j (index_in c q)) (told_goes metric c p q m q_ok on) (told_number j (index_in c q) ((index_is c j q q_ok).1 index)))
     where
       both : (a b : Bool) → a ≡ true → b ≡ true → (a && b) ≡ true
       both true b t u = u
       both false b t u = t
 
-  edge_told : (column : Column) (c i j : ℕ) (o : Option Setup) → o ≡ position_at c i → connects_from column c j o ≡ true → Connects column c i j
-  edge_told column c i j None e t = absurd (false≢true t)
-  edge_told column c i j (Some p) e t =
+  edge_told : (metric : Metric) (c i j : ℕ) (o : Option Setup) → o ≡ position_at c i → connects_from metric c j o ≡ true → Connects metric c i j
+  edge_told metric c i j None e t = absurd (false≢true t)
+  edge_told metric c i j (Some p) e t =
       let at = (position_is c i p).0 (sym e) in
-      let some = Any-from_list_any (λ m. leads_on column c j p m (played p m)) (moves_of p) t in
-      let led = leads_told column c j p some.1 (played p some.1) at.spells.admissible refl some.4 in
+      let some = Any-from_list_any (λ m. leads_on metric c j p m (played p m)) (moves_of p) t in
+      let led = leads_told metric c j p some.1 (played p some.1) at.spells.admissible refl some.4 in
       record { from = p; at = at; move = some.1; to = led.0; leads = led.1; on = led.2; index = led.3 }
 
-  told_edge : (column : Column) (c i j : ℕ) (edge : Connects column c i j) → connects_from column c j (Some edge.from) ≡ true
-  told_edge column c i j edge =
+  told_edge : (metric : Metric) (c i j : ℕ) (edge : Connects metric c i j) → connects_from metric c j (Some edge.from) ≡ true
+  told_edge metric c i j edge =
       let p = edge.from in
       let ok = edge.at.spells.admissible in
       let has = (laws.listed p edge.move ok).1 (edge.to, edge.leads) in
-      list_any-from_Any (λ m. leads_on column c j p m (played p m)) (moves_of p)
-      (has.0, edge.move, has.1, has.2, told_leads column c j p edge.to edge.move (played p edge.move) ok ((laws.played p edge.to edge.move).0 edge.leads) edge.leads edge.on edge.index)
+      list_any-from_Any (λ m. leads_on metric c j p m (played p m)) (moves_of p)
+      (has.0, edge.move, has.1, has.2, told_leads metric c j p edge.to edge.move (played p edge.move) ok ((laws.played p edge.to edge.move).0 edge.leads) edge.leads edge.on edge.index)
 
   -- an index that a position has spells a position
   pub spelled_there : (c j : ℕ) (q : Setup) → c < 36 → IsAdmissible q → IsIndex c q j → is_some (position_at c j) ≡ true
@@ -238,21 +238,21 @@ module _ (laws : Laws) where
       (λ (h : (p : Setup) × Spells c j p × IsIndex c p j). there_is c j h.0 (record { spells = h.1; index = h.2 }))
       (λ (void : IsVoid c j). absurd (void q ok is)) (laws.index_or_void c j below)
 
-  edge_connects : (column : Column) (c i j : ℕ) → c < 36 → Connects column c i j → connects column c i j ≡ true
+  edge_connects : (metric : Metric) (c i j : ℕ) → c < 36 → Connects metric c i j → connects metric c i j ≡ true
   unfolding connects
-  edge_connects column c i j below edge =
+  edge_connects metric c i j below edge =
       let q_ok = laws.facts.step_admissible edge.from edge.to edge.move edge.at.spells.admissible edge.leads in
-      both (is_some (position_at c j)) (connects_from column c j (position_at c i)) (spelled_there c j edge.to below q_ok edge.index)
-      (subst (λ x. connects_from column c j x ≡ true) (sym ((position_is c i edge.from).1 edge.at)) (told_edge column c i j edge))
+      both (is_some (position_at c j)) (connects_from metric c j (position_at c i)) (spelled_there c j edge.to below q_ok edge.index)
+      (subst (λ x. connects_from metric c j x ≡ true) (sym ((position_is c i edge.from).1 edge.at)) (told_edge metric c i j edge))
     where
       both : (a b : Bool) → a ≡ true → b ≡ true → (a && b) ≡ true
       both true b t u = u
       both false b t u = t
 
-  connects_edge : (column : Column) (c i j : ℕ) → connects column c i j ≡ true → Connects column c i j
+  connects_edge : (metric : Metric) (c i j : ℕ) → connects metric c i j ≡ true → Connects metric c i j
   unfolding connects
-  connects_edge column c i j t = edge_told column c i j (position_at c i) refl (and_parts (is_some (position_at c j)) (connects_from column c j (position_at c i)) t).1
+  connects_edge metric c i j t = edge_told metric c i j (position_at c i) refl (and_parts (is_some (position_at c j)) (connects_from metric c j (position_at c i)) t).1
 
   -- the test tells exactly the moves that go on
-  pub connects_is : (column : Column) (c i j : ℕ) → c < 36 → (connects column c i j ≡ true) ↔ Connects column c i j
-  connects_is column c i j below = (connects_edge column c i j, edge_connects column c i j below)
+  pub connects_is : (metric : Metric) (c i j : ℕ) → c < 36 → (connects metric c i j ≡ true) ↔ Connects metric c i j
+  connects_is metric c i j below = (connects_edge metric c i j, edge_connects metric c i j below)

@@ -18,7 +18,7 @@ use Rattle.egt_moves.specs.Moves.{moves_of, played}
 use Rattle.egt_moves.specs.declared.chess_move.Move.{Move}
 use Rattle.egt_graph.specs.Graph.{IsAlike}
 use Rattle.egt_graph.specs.declared.game.Exit.TheVariants as exits
-use Rattle.egt_table.specs.declared.column.Column.TheVariants.{Mate, Zeroing}
+use Rattle.egt_check.specs.declared.metric.Metric.TheVariants.{Mate, Zeroing}
 use Rattle.egt_table.specs.Table.{TableValue}
 use Rattle.egt_check.specs.Entry.{Shows}
 use Rattle.egt_check.specs.Reading.{read, read_shown}

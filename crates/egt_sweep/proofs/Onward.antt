@@ -20,8 +20,8 @@ use Rattle.egt_moves.specs.Legal.{Leads, IsLegal, plain, men_left}
 use Rattle.egt_moves.specs.Promotion.{FitsPromotion, promotes, is_pawn, arriving}
 use Rattle.egt_moves.specs.Targets.{IsLegalTarget}
 use Rattle.egt_moves.specs.declared.chess_move.Move.{Move}
-use Rattle.egt_table.specs.declared.column.Column.{Column}
-use Rattle.egt_table.specs.declared.column.Column.TheVariants.{Mate, Zeroing}
+use Rattle.egt_check.specs.declared.metric.Metric.{Metric}
+use Rattle.egt_check.specs.declared.metric.Metric.TheVariants.{Mate, Zeroing}
 use Rattle.egt_sweep.specs.Edges.{GoesOn}
 use Rattle.egt_sweep.specs.Laws.{Laws}
 use Rattle.egt_sweep.specs.Ways.{Stays, IsOnward}
@@ -95,14 +95,14 @@ arrives_within laws p q m ok leads =
 
 module _ (laws : Laws) (c : ℕ) (p : Setup) (c_in : c < 36) (ok : IsAdmissible p) (of : (flipped : Bool) × IsOf c flipped p) where
   -- a piece's way to a square without an enemy
-  pub piece_onward : (column : Column) (man : Man) (from t : ℕ) → Stands p.men from man → man.kind ≢ P → ¬ IsHeld p.men t (other_side p.side) → IsLegalTarget p from t → IsOnward column c p from t
-  piece_onward column man from t stands piece free target =
+  pub piece_onward : (metric : Metric) (man : Man) (from t : ℕ) → Stands p.men from man → man.kind ≢ P → ¬ IsHeld p.men t (other_side p.side) → IsLegalTarget p from t → IsOnward metric c p from t
+  piece_onward metric man from t stands piece free target =
       let legal = plain_legal p man from t stands (piece_stays man t piece) target in
       record {
         within = arrives_within laws p legal.0 (plain from t) ok legal.1;
         to = legal.0;
         leads = legal.1;
-        on = quiet_goes_on laws c column p legal.0 (plain from t) c_in ok of legal.1 (λ zeroes. elim zeroes [
+        on = quiet_goes_on laws c metric p legal.0 (plain from t) c_in ok of legal.1 (λ zeroes. elim zeroes [
           | inl held ↦ free held
           | inr pawn ↦ piece (ap (λ (x : Man). x.kind) (one_man p.men from man pawn.man stands pawn.stands) ∙ pawn.pawn)
         ]);
@@ -134,23 +134,23 @@ module _ (laws : Laws) (c : ℕ) (p : Setup) (c_in : c < 36) (ok : IsAdmissible 
   some_promo (Some kind) none = absurd (none refl)
 
   -- what goes on takes nothing
-  pub on_quiet : (column : Column) (q : Setup) (m : Move) → Leads p m q → GoesOn column c p m q → ¬ Captures p m
+  pub on_quiet : (metric : Metric) (q : Setup) (m : Move) → Leads p m q → GoesOn metric c p m q → ¬ Captures p m
   on_quiet Mate q m leads on captures = changed_class q m leads (inl captures) on
   on_quiet Zeroing q m leads on (inl held) = on (inl held)
   on_quiet Zeroing q m leads on (inr passing) = on (inr passing.0)
 
   -- and promotes nothing
-  pub on_plain : (column : Column) (q : Setup) (m : Move) → Leads p m q → GoesOn column c p m q → m.promo ≡ None
+  pub on_plain : (metric : Metric) (q : Setup) (m : Move) → Leads p m q → GoesOn metric c p m q → m.promo ≡ None
   on_plain Mate q m leads on = some_promo m.promo (λ some. changed_class q m leads (inr some) on)
   on_plain Zeroing q m leads on = no_promotion p q m leads (λ pawn. on (inr pawn)) m.promo refl
 
   -- a pawn that goes on stays what it is, and takes nothing in passing
-  pub on_stays : (column : Column) (q : Setup) (m : Move) (man : Man) → Stands p.men m.from man → man.kind ≡ P → Leads p m q → GoesOn column c p m q → Stays p man m.to
-  on_stays column q m man stands pawn leads on = (
+  pub on_stays : (metric : Metric) (q : Setup) (m : Move) (man : Man) → Stands p.men m.from man → man.kind ≡ P → Leads p m q → GoesOn metric c p m q → Stays p man m.to
+  on_stays metric q m man stands pawn leads on = (
     λ last. let same : man ≡ leads.man = one_man p.men m.from man leads.man stands leads.stands in
-        let fits = subst (λ (o : Option Kind). FitsPromotion (promotes leads.man m.to) o) (on_plain column q m leads on) leads.promotion in
+        let fits = subst (λ (o : Option Kind). FitsPromotion (promotes leads.man m.to) o) (on_plain metric q m leads on) leads.promotion in
         none_fits (promotes leads.man m.to) fits (subst (λ (x : Man). promotes x m.to ≡ true) same (told_promotes man.kind pawn last)),
-    λ target. on_quiet column q m leads on (inr (record { man = man; stands = stands; pawn = pawn }, target)),
+    λ target. on_quiet metric q m leads on (inr (record { man = man; stands = stands; pawn = pawn }, target)),
   )
     where
       none_fits : (b : Bool) → FitsPromotion b None → b ≡ true → ⊥
@@ -169,14 +169,14 @@ module _ (laws : Laws) (c : ℕ) (p : Setup) (c_in : c < 36) (ok : IsAdmissible 
   no_pawn_on q m man stands pawn on = on (inr (record { man = man; stands = stands; pawn = pawn }))
 
 -- a legal move to one of the squares to which the man goes on goes on
-pub man_goes_on : (laws : Laws) (c : ℕ) (p : Setup) (column : Column) (from : ℕ) (set : SquareSet) → ((t : ℕ) → Has set t → IsOnward column c p from t) →
-    (m : Move) (q : Setup) → m.from ≡ from → Has set m.to → Leads p m q → GoesOn column c p m q
-man_goes_on laws c p column from set sound m q here has leads =
+pub man_goes_on : (laws : Laws) (c : ℕ) (p : Setup) (metric : Metric) (from : ℕ) (set : SquareSet) → ((t : ℕ) → Has set t → IsOnward metric c p from t) →
+    (m : Move) (q : Setup) → m.from ≡ from → Has set m.to → Leads p m q → GoesOn metric c p m q
+man_goes_on laws c p metric from set sound m q here has leads =
     let onward = sound m.to has in
     let plain_is = one_plain p q onward.to m from here leads onward.leads in
     let there : Leads p (plain from m.to) q = subst (λ (n : Move). Leads p n q) plain_is leads in
     let one : onward.to ≡ q = (let e = sym ((laws.played p onward.to (plain from m.to)).0 onward.leads) ∙ (laws.played p q (plain from m.to)).0 there in cc) in
-    subst (λ (n : Move). GoesOn column c p n q) (sym plain_is) (subst (GoesOn column c p (plain from m.to)) one onward.on)
+    subst (λ (n : Move). GoesOn metric c p n q) (sym plain_is) (subst (GoesOn metric c p (plain from m.to)) one onward.on)
 
 -- no man of the side to move stands outside the set
 pub not_held : (p : Setup) (set : SquareSet) → ((s : ℕ) → IsHeld p.men s p.side → Has set s) → (m : Move) (q : Setup) → bit_at set.bits m.from ≡ 0 → Leads p m q → ⊥

@@ -1,5 +1,5 @@
 -- What is told of where the moves that leave a class lead.
-use Rattle.std.proofs.Common.{◌≡◌, ◌≢◌, ℕ, zero, suc, ◌-◌, ◌/◌, ◌%◌, ◌<◌, ◌≤◌, Bool, true, false, List, [], ◌∷◌, ◌++◌, if◌then◌else◌, Option, Some, None, IsSome, eqb, refl, sym, ap, ◌∙◌, subst, inl, inr, arith}
+use Rattle.std.proofs.Common.{◌≡◌, ◌≢◌, ℕ, zero, suc, ◌-◌, ◌/◌, ◌%◌, ◌<◌, ◌≤◌, Bool, true, false, List, [], ◌∷◌, ◌++◌, if◌then◌else◌, Option, Some, None, IsSome, IfSome, eqb, refl, sym, ap, ◌∙◌, subst, inl, inr, arith}
 use Rattle.std.proofs.Math.Logic.{⊎_elim}
 use Rattle.std.proofs.lemmas.Bool.{cases_eq, eqb-true, eq-eqb}
 use Rattle.std.proofs.lemmas.List.{append-nil}
@@ -18,13 +18,14 @@ use Rattle.egt_moves.specs.Promotion.{FitsPromotion, promotes, choices_of}
 use Rattle.egt_moves.specs.declared.chess_move.Move.{Move}
 use Rattle.egt_graph.specs.declared.game.Exit.{Exit}
 use Rattle.egt_graph.specs.declared.game.Exit.TheVariants as exits
-use Rattle.egt_table.specs.declared.column.Column.{Column}
-use Rattle.egt_table.specs.declared.column.Column.TheVariants.{Mate}
+use Rattle.egt_check.specs.declared.metric.Metric.{Metric}
+use Rattle.egt_check.specs.declared.metric.Metric.TheVariants.{Mate}
 use Rattle.egt_table.specs.Table.{TableValue}
 use Rattle.egt_check.specs.Entry.{Shows}
 use Rattle.egt_check.specs.Reading.{read, read_shown}
 use Rattle.egt_check.specs.Tables.{Tables, entry_at, beside, HasChildren}
-use Rattle.egt_sweep.specs.Aiming.{column_of, known}
+use Rattle.egt_check.specs.NearTables.{near_if, near_of, near_tables}
+use Rattle.egt_sweep.specs.Aiming.{metric_of, known, Knows}
 use Rattle.egt_sweep.specs.Edges.{GoesOn}
 use Rattle.egt_sweep.specs.MateColumn.{mate_table}
 use Rattle.egt_sweep.specs.declared.aim.Aim.{Aim}
@@ -50,14 +51,14 @@ loss_shown x (Win n) s ne odd = absurd (odd (omega (arith, s.1)))
 loss_shown x (Loss n) s ne odd = ap Loss (omega (arith, s.1))
 loss_shown x Draw s ne odd = absurd (ne s.1)
 
-pub exit_draw : (column : Column) (x : ℕ) (v : Value) → Shows x v → x ≡ 1 → exits.Draw ≡ exit_of column (read x)
-exit_draw column x v s e = sym (ap (exit_of column) (read_shown x v s ∙ draw_shown x v s e))
+pub exit_draw : (metric : Metric) (x : ℕ) (v : Value) → Shows x v → x ≡ 1 → exits.Draw ≡ exit_of metric (read x)
+exit_draw metric x v s e = sym (ap (exit_of metric) (read_shown x v s ∙ draw_shown x v s e))
 
-pub exit_win : (column : Column) (x n : ℕ) (v : Value) → Shows x v → x % 2 ≡ 0 → n ≡ plies_told column ((x - 2) / 2) → exits.Win n ≡ exit_of column (read x)
-exit_win column x n v s e told = ap exits.Win told ∙ sym (ap (exit_of column) (read_shown x v s ∙ win_shown x v s e))
+pub exit_win : (metric : Metric) (x n : ℕ) (v : Value) → Shows x v → x % 2 ≡ 0 → n ≡ plies_told metric ((x - 2) / 2) → exits.Win n ≡ exit_of metric (read x)
+exit_win metric x n v s e told = ap exits.Win told ∙ sym (ap (exit_of metric) (read_shown x v s ∙ win_shown x v s e))
 
-pub exit_loss : (column : Column) (x n : ℕ) (v : Value) → Shows x v → x ≢ 1 → x % 2 ≢ 0 → n ≡ plies_told column ((x - 3) / 2) → exits.Loss n ≡ exit_of column (read x)
-exit_loss column x n v s ne odd told = ap exits.Loss told ∙ sym (ap (exit_of column) (read_shown x v s ∙ loss_shown x v s ne odd))
+pub exit_loss : (metric : Metric) (x n : ℕ) (v : Value) → Shows x v → x ≢ 1 → x % 2 ≢ 0 → n ≡ plies_told metric ((x - 3) / 2) → exits.Loss n ≡ exit_of metric (read x)
+exit_loss metric x n v s ne odd told = ap exits.Loss told ∙ sym (ap (exit_of metric) (read_shown x v s ∙ loss_shown x v s ne odd))
 
 module _ (laws : Laws) (tables : Tables) where
   none_in : (c n : ℕ) (q : Setup) (flipped : Bool) → c < 36 → n < 36 → IsAdmissible q → IsOf c flipped q → n ≢ c → (o : Option ℕ) → o ≡ index_in n q → o ≡ None
@@ -89,54 +90,54 @@ module _ (laws : Laws) (tables : Tables) where
         ∙ shown_is c i t q flipped c_in ok of found is n (omega (arith, lt, other)) (omega (arith, le))
   ]
 
-  exit_by_test : Column → Setup → Bool → Option Exit
-  exit_by_test column q true = None
-  exit_by_test column q false = Some (exit_of column (shown_below tables 36 q))
+  exit_by_test : Metric → Setup → Bool → Option Exit
+  exit_by_test metric q true = None
+  exit_by_test metric q false = Some (exit_of metric (shown_below tables 36 q))
 
-  test_exit : (column : Column) (c : ℕ) (p q : Setup) (m : Move) (b : Bool) → goes_on column c p m q ≡ b → exit_by tables column c p m (Some q) ≡ exit_by_test column q b
+  test_exit : (metric : Metric) (c : ℕ) (p q : Setup) (m : Move) (b : Bool) → goes_on metric c p m q ≡ b → exit_by tables metric c p m (Some q) ≡ exit_by_test metric q b
   unfolding exit_by_test
-  test_exit column c p q m true e = ap (λ x. if x then None else Some (exit_of column (shown_below tables 36 q))) e
-  test_exit column c p q m false e = ap (λ x. if x then None else Some (exit_of column (shown_below tables 36 q))) e
+  test_exit metric c p q m true e = ap (λ x. if x then None else Some (exit_of metric (shown_below tables 36 q))) e
+  test_exit metric c p q m false e = ap (λ x. if x then None else Some (exit_of metric (shown_below tables 36 q))) e
 
   played_is : (p q : Setup) (m : Move) → Leads p m q → played p m ≡ Some q
   played_is p q m leads = (laws.played p q m).0 leads
 
   -- a move that goes on has no exit
-  goes_no_exit : (column : Column) (c : ℕ) (p q : Setup) (m : Move) → IsAdmissible p → Leads p m q → GoesOn column c p m q → (es : List Exit) →
-      es ≡ es ++ option_to_list (exit_by tables column c p m (played p m))
+  goes_no_exit : (metric : Metric) (c : ℕ) (p q : Setup) (m : Move) → IsAdmissible p → Leads p m q → GoesOn metric c p m q → (es : List Exit) →
+      es ≡ es ++ option_to_list (exit_by tables metric c p m (played p m))
   unfolding exit_by_test
-  goes_no_exit column c p q m ok leads on es =
+  goes_no_exit metric c p q m ok leads on es =
       let q_ok = laws.facts.step_admissible p q m ok leads in
-      let none = ap (exit_by tables column c p m) (played_is p q m leads) ∙ test_exit column c p q m true ((goes_is laws column c p q m q_ok).1 on) in
+      let none = ap (exit_by tables metric c p m) (played_is p q m leads) ∙ test_exit metric c p q m true ((goes_is laws metric c p q m q_ok).1 on) in
       sym (ap (λ (o : Option Exit). es ++ option_to_list o) none ∙ append-nil es)
 
   -- so nothing is told of a move that is illegal or goes on
-  pub nothing_told : (column : Column) (c : ℕ) (p : Setup) (m : Move) → IsAdmissible p → ((q : Setup) → Leads p m q → GoesOn column c p m q) → option_to_list (exit_by tables column c p m (played p m)) ≡ []
-  nothing_told column c p m ok on = of_played (played p m) refl
+  pub nothing_told : (metric : Metric) (c : ℕ) (p : Setup) (m : Move) → IsAdmissible p → ((q : Setup) → Leads p m q → GoesOn metric c p m q) → option_to_list (exit_by tables metric c p m (played p m)) ≡ []
+  nothing_told metric c p m ok on = of_played (played p m) refl
     where
-      of_played : (o : Option Setup) → played p m ≡ o → option_to_list (exit_by tables column c p m (played p m)) ≡ []
-      of_played None e = ap (λ (x : Option Setup). option_to_list (exit_by tables column c p m x)) e
-      of_played (Some q) e = let leads = (laws.played p q m).1 e in sym (goes_no_exit column c p q m ok leads (on q leads) [])
+      of_played : (o : Option Setup) → played p m ≡ o → option_to_list (exit_by tables metric c p m (played p m)) ≡ []
+      of_played None e = ap (λ (x : Option Setup). option_to_list (exit_by tables metric c p m x)) e
+      of_played (Some q) e = let leads = (laws.played p q m).1 e in sym (goes_no_exit metric c p q m ok leads (on q leads) [])
 
-  goes_false : (column : Column) (c : ℕ) (p q : Setup) (m : Move) → IsAdmissible q → ¬ GoesOn column c p m q → (b : Bool) → goes_on column c p m q ≡ b → b ≡ false
-  goes_false column c p q m ok off true e = absurd (off ((goes_is laws column c p q m ok).0 e))
-  goes_false column c p q m ok off false e = refl
+  goes_false : (metric : Metric) (c : ℕ) (p q : Setup) (m : Move) → IsAdmissible q → ¬ GoesOn metric c p m q → (b : Bool) → goes_on metric c p m q ≡ b → b ≡ false
+  goes_false metric c p q m ok off true e = absurd (off ((goes_is laws metric c p q m ok).0 e))
+  goes_false metric c p q m ok off false e = refl
 
   -- and any other has one
-  pub off_has_exit : (column : Column) (c : ℕ) (p q : Setup) (m : Move) (e : Exit) → IsAdmissible p → Leads p m q → ¬ GoesOn column c p m q → e ≡ exit_of column (shown_below tables 36 q) → (es : List Exit) →
-      es ++ e ∷ [] ≡ es ++ option_to_list (exit_by tables column c p m (played p m))
+  pub off_has_exit : (metric : Metric) (c : ℕ) (p q : Setup) (m : Move) (e : Exit) → IsAdmissible p → Leads p m q → ¬ GoesOn metric c p m q → e ≡ exit_of metric (shown_below tables 36 q) → (es : List Exit) →
+      es ++ e ∷ [] ≡ es ++ option_to_list (exit_by tables metric c p m (played p m))
   unfolding exit_by_test
-  off_has_exit column c p q m e ok leads off is es =
+  off_has_exit metric c p q m e ok leads off is es =
       let q_ok = laws.facts.step_admissible p q m ok leads in
-      let some = ap (exit_by tables column c p m) (played_is p q m leads) ∙ test_exit column c p q m false (goes_false column c p q m q_ok off (goes_on column c p m q) refl) in
+      let some = ap (exit_by tables metric c p m) (played_is p q m leads) ∙ test_exit metric c p q m false (goes_false metric c p q m q_ok off (goes_on metric c p m q) refl) in
       ap (λ (x : Exit). es ++ x ∷ []) is ∙ sym (ap (λ (o : Option Exit). es ++ option_to_list o) some)
 
 -- of the moves between two squares those that promote as they must are told
-pub between_told : (laws : Laws) (tables : Tables) (column : Column) (c : ℕ) (p : Setup) (man : Man) (from to : ℕ) (b : Bool) → IsAdmissible p → Stands p.men from man → promotes man to ≡ b →
-    flat_map (told_of (λ m. option_to_list (exit_by tables column c p m (played p m))) from to) (choices_of b) ≡ exits_by tables column c p (moves_between from to)
-between_told laws tables column c p man from to b ok stands told =
-    choices_told (λ m. option_to_list (exit_by tables column c p m (played p m))) from to b
-    (λ promo unfit. nothing_told laws tables column c p (record { from = from; to = to; promo = promo }) ok
+pub between_told : (laws : Laws) (tables : Tables) (metric : Metric) (c : ℕ) (p : Setup) (man : Man) (from to : ℕ) (b : Bool) → IsAdmissible p → Stands p.men from man → promotes man to ≡ b →
+    flat_map (told_of (λ m. option_to_list (exit_by tables metric c p m (played p m))) from to) (choices_of b) ≡ exits_by tables metric c p (moves_between from to)
+between_told laws tables metric c p man from to b ok stands told =
+    choices_told (λ m. option_to_list (exit_by tables metric c p m (played p m))) from to b
+    (λ promo unfit. nothing_told laws tables metric c p (record { from = from; to = to; promo = promo }) ok
     (λ q there. absurd (unfit (subst (λ (x : Bool). FitsPromotion x promo) (ap (λ (x : Man). promotes x to) (one_man p.men from there.man man there.stands stands) ∙ told) there.promotion))))
 
 pub mapped_some : {A B : Type 0} (f : A → B) (o : Option A) (x : Option B) → option_map f o ≡ x → IsSome x → IsSome o
@@ -176,11 +177,19 @@ test_false m n other false e = refl
 pub beside_other : (tables : Tables) (t : TableValue) (d : ℕ) → d ≢ t.class → beside tables t d ≡ tables d
 beside_other tables t d other = ap (λ (b : Bool). if b then Some t else tables d) (test_false d t.class other (eqb d t.class) refl)
 
+near_there : (o : Option TableValue) → IsSome o → IfSome o (λ t. IsSome t.reach) → IsSome (near_of o)
+near_there None some reach = some
+near_there (Some t) some reach = of_column t.class t.reach reach
+  where
+    of_column : (c : ℕ) (entries : Option (List ℕ)) → IsSome entries → IsSome (near_if c entries)
+    of_column c None some = some
+    of_column c (Some entries) some = refl
+
 -- where a move leaves the game, it leads to where something is known
-pub known_there : (laws : Laws) (tables : Tables) (aim : Aim) (c : ℕ) (p q : Setup) (m : Move) → c < 36 → IsAdmissible p → (flipped : Bool) × IsOf c flipped p → HasChildren tables c → Leads p m q → ¬ GoesOn (column_of aim) c p m q →
+pub known_there : (laws : Laws) (tables : Tables) (aim : Aim) (c : ℕ) (p q : Setup) (m : Move) → c < 36 → IsAdmissible p → (flipped : Bool) × IsOf c flipped p → HasChildren tables c → Knows tables c aim → Leads p m q → ¬ GoesOn (metric_of aim) c p m q →
     (d : ℕ) (flipped : Bool) → d < 36 → IsOf d flipped q → IsSome (known tables c aim d)
-known_there laws tables aims.Mate c p q m c_in ok of children leads off d flipped d_in d_of = child_there laws tables c p q m c_in ok of children leads off d flipped d_in d_of
-known_there laws tables (aims.Zeroing ranks) c p q m c_in ok of children leads off d flipped d_in d_of = ⊎_elim
+known_there laws tables aims.Mate c p q m c_in ok of children knows leads off d flipped d_in d_of = child_there laws tables c p q m c_in ok of children leads off d flipped d_in d_of
+known_there laws tables (aims.Zeroing ranks) c p q m c_in ok of children knows leads off d flipped d_in d_of = ⊎_elim
     (λ (own : IsOf c of.0 q).
     let same = laws.facts.one_class q c d of.0 flipped c_in d_in own d_of in
     subst (λ e. IsSome (beside tables (mate_table c ranks.now) e)) same (ap is_some (beside_own tables (mate_table c ranks.now))))
@@ -189,3 +198,5 @@ known_there laws tables (aims.Zeroing ranks) c p q m c_in ok of children leads o
     let same = laws.facts.one_class q child.0 d child.1 flipped (omega (arith, below, c_in)) d_in child.3 d_of in
     beside_some (mate_table c ranks.now) (tables d) (eqb d c) (subst (λ e. IsSome (tables e)) same (children child.0 child.2)))
     (laws.facts.step_class p q m c of.0 c_in ok of.1 leads)
+known_there laws tables aims.Reach c p q m c_in ok of children knows leads off d flipped d_in d_of =
+    child_there laws (near_tables tables) c p q m c_in ok of (λ e child. near_there (tables e) (children e child) (knows e child)) leads off d flipped d_in d_of

@@ -6,7 +6,7 @@ use Rattle.egt_class.specs.Membership.{IsOf}
 use Rattle.egt_index.specs.Index.{IsIndex}
 use Rattle.egt_index.specs.Size.{size_of}
 use Rattle.egt_moves.specs.Arena.{Value}
-use Rattle.egt_table.specs.declared.column.Column.TheVariants.{Mate}
+use Rattle.egt_check.specs.declared.metric.Metric.TheVariants.{Mate}
 use Rattle.egt_table.specs.Table.{TableValue}
 use Rattle.egt_check.specs.Entry.{Shows}
 use Rattle.egt_check.specs.Reading.{in_range, read}
@@ -20,15 +20,15 @@ use Rattle.egt_sweep.proofs.OutOfClass.{shown_is}
 module _ (laws : Laws) where
   -- the index of a position has an entry
   pub own_bound : (own c i : ℕ) (mates entries : List ℕ) → IsMateColumn own mates → c ≡ own → IsIndexed c i → entries ≡ mates → i < length entries
-  own_bound own c i mates entries column same at is =
+  own_bound own c i mates entries metric same at is =
       let lt = subst (λ d. i < size_of d) same (laws.facts.index_below at.position c i at.index) in
-      subst (λ (xs : List ℕ). i < length xs) (sym is) (subst (λ n. i < n) (sym column.0) lt)
+      subst (λ (xs : List ℕ). i < length xs) (sym is) (subst (λ n. i < n) (sym metric.0) lt)
 
   -- which shows a value
   pub own_shows : (own c i : ℕ) (mates entries : List ℕ) → c < 36 → IsMateColumn own mates → c ≡ own → IsIndexed c i → entries ≡ mates → (v : Value) × Shows (slice_index entries i) v
-  own_shows own c i mates entries below column same at is =
+  own_shows own c i mates entries below metric same at is =
       let index = subst (λ d. IsIndex d at.position i) same at.index in
-      let range = column.1 i (laws.facts.index_below at.position own i index) (spelled_there laws own i at.position (subst (λ d. d < 36) same below) at.admissible index) in
+      let range = metric.1 i (laws.facts.index_below at.position own i index) (spelled_there laws own i at.position (subst (λ d. d < 36) same below) at.admissible index) in
       subst (λ (xs : List ℕ). (v : Value) × Shows (slice_index xs i) v) (sym is) (in_range (slice_index mates i) range.0 range.1 range.2)
 
   -- what the entry shows is what is known of the position

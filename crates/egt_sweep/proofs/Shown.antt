@@ -10,7 +10,7 @@ use Rattle.egt_moves.specs.Arena.{Value, HasValue}
 use Rattle.egt_moves.specs.Chess.{chess}
 use Rattle.egt_moves.specs.Legal.{Leads}
 use Rattle.egt_moves.specs.declared.chess_move.Move.{Move}
-use Rattle.egt_table.specs.declared.column.Column.TheVariants.{Mate, Zeroing}
+use Rattle.egt_check.specs.declared.metric.Metric.TheVariants.{Mate, Zeroing}
 use Rattle.egt_table.specs.Table.{TableValue}
 use Rattle.egt_check.specs.Reading.{read_shown}
 use Rattle.egt_check.specs.Tables.{Tables, beside, entry_at}
@@ -41,7 +41,7 @@ module _ (laws : Laws) (tables : Tables) where
         table_value child.0 child.1 u.0 q (omega (arith, lt, below)) u.1 u.2 (λ p i p_ok is. u.3.true Mate p i p_ok is) ok child.3
 
     -- moves that leave the class lead to positions of its children
-    pub mates_left : ShowsLeft tables Mate c
+    pub mates_left : ShowsLeft (HasValue chess) tables Mate c
     mates_left p q m ok of leads off =
         let q_ok = laws.facts.step_admissible p q m ok leads in
         ⊎_elim
@@ -62,7 +62,7 @@ module _ (laws : Laws) (tables : Tables) where
           (λ (child : (d : ℕ) × (turned : Bool) × Contains (children_of c) d × IsOf d turned q). child_value q q_ok child)
           (laws.facts.step_class p q m c of.0 below ok of.1 leads)
 
-      pub zeroing_left : ShowsLeft tables Zeroing c
+      pub zeroing_left : ShowsLeft (HasValue chess) tables Zeroing c
       zeroing_left p q m ok of leads off = step_value p q m ok of leads
 
 -- the children's tables beside another of the class

@@ -13,7 +13,7 @@ use Rattle.egt_moves.specs.Standing.{IsCheckmate, StandsAs}
 use Rattle.egt_moves.specs.declared.outcome.Standing.{Standing}
 use Rattle.egt_moves.specs.declared.outcome.Standing.TheVariants.{Stalemate, HasMove}
 use Rattle.egt_graph.specs.Passing.{passing_below, passing_is}
-use Rattle.egt_table.specs.declared.column.Column.{Column}
+use Rattle.egt_check.specs.declared.metric.Metric.{Metric}
 use Rattle.egt_sweep.specs.Edges.{IsAt, Connects}
 use Rattle.egt_sweep.specs.Laws.{Laws}
 use Rattle.egt_sweep.specs.Nodes.{position_at, is_mated, connects}
@@ -52,13 +52,13 @@ module _ (laws : Laws) (c i : ℕ) where
   not_mated_told p at none = mated_at p at false (sym (told_false (decided_checkmate p) none))
 
   -- an ascending list of exactly the edges is the graph's
-  pub edges_told : (column : Column) (xs : List ℕ) → c < 36 → IsStrictlyIncreasing xs → ((k : ℕ) → Contains xs k ↔ Connects column c i k) → xs ≡ passing_below (size_of c) (λ j. connects column c i j)
-  edges_told column xs below ascends exact = passing_is (size_of c) (λ j. connects column c i j) xs ascends
-      (λ k has. let edge = (exact k).0 has in (laws.facts.index_below edge.to c k edge.index, (connects_is laws column c i k below).1 edge))
-      (λ k lt t. (exact k).1 ((connects_is laws column c i k below).0 t))
+  pub edges_told : (metric : Metric) (xs : List ℕ) → c < 36 → IsStrictlyIncreasing xs → ((k : ℕ) → Contains xs k ↔ Connects metric c i k) → xs ≡ passing_below (size_of c) (λ j. connects metric c i j)
+  edges_told metric xs below ascends exact = passing_is (size_of c) (λ j. connects metric c i j) xs ascends
+      (λ k has. let edge = (exact k).0 has in (laws.facts.index_below edge.to c k edge.index, (connects_is laws metric c i k below).1 edge))
+      (λ k lt t. (exact k).1 ((connects_is laws metric c i k below).0 t))
 
   -- so is one of exactly the nodes that lead here
-  pub sources_told : (column : Column) (xs : List ℕ) → c < 36 → IsStrictlyIncreasing xs → ((k : ℕ) → Contains xs k ↔ Connects column c k i) → xs ≡ passing_below (size_of c) (λ k. connects column c k i)
-  sources_told column xs below ascends exact = passing_is (size_of c) (λ k. connects column c k i) xs ascends
-      (λ k has. let edge = (exact k).0 has in (laws.facts.index_below edge.from c k edge.at.index, (connects_is laws column c k i below).1 edge))
-      (λ k lt t. (exact k).1 ((connects_is laws column c k i below).0 t))
+  pub sources_told : (metric : Metric) (xs : List ℕ) → c < 36 → IsStrictlyIncreasing xs → ((k : ℕ) → Contains xs k ↔ Connects metric c k i) → xs ≡ passing_below (size_of c) (λ k. connects metric c k i)
+  sources_told metric xs below ascends exact = passing_is (size_of c) (λ k. connects metric c k i) xs ascends
+      (λ k has. let edge = (exact k).0 has in (laws.facts.index_below edge.from c k edge.at.index, (connects_is laws metric c k i below).1 edge))
+      (λ k lt t. (exact k).1 ((connects_is laws metric c k i below).0 t))

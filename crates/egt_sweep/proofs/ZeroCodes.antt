@@ -20,7 +20,7 @@ use Rattle.egt_graph.specs.Words.{IsIn, IsWordOf, IsWordStart, TellsExits, numbe
 use Rattle.egt_graph.specs.declared.word_moves.Pushes.{Pushes}
 use Rattle.egt_graph.specs.declared.word_moves.Way.{Way}
 use Rattle.egt_graph.specs.declared.words.WordStart.{WordStart}
-use Rattle.egt_table.specs.declared.column.Column.TheVariants.{Mate, Zeroing}
+use Rattle.egt_check.specs.declared.metric.Metric.TheVariants.{Mate, Zeroing}
 use Rattle.egt_check.specs.Tables.{HasChildren, Tables, beside}
 use Rattle.egt_index.specs.Numbers.{IsNumbered, code_of, places}
 use Rattle.egt_words.specs.Told.{GoesByPawnBy}
@@ -115,7 +115,7 @@ pawns_led c lists word nodes bits marks span pawn_ways pushes here span_is ways_
     Led : (span : ℕ) → List Way → Pushes → List ℕ → Type 0
     Led span pawn_ways pushes marks = (k : ℕ) → bit_at bits k ≡ 1 ↔ ((bit_at nodes k ≡ 1) × ((j : ℕ) × GoesByPawnBy span k j pawn_ways pushes × IsIn span marks j))
 
-module _ (laws : Laws) (c : ℕ) (lists : CodeLists) (told : IsTold c lists) (tables : Tables) (mates : List ℕ) (column : IsMateColumn c mates) (children : HasChildren tables c)
+module _ (laws : Laws) (c : ℕ) (lists : CodeLists) (told : IsTold c lists) (tables : Tables) (mates : List ℕ) (metric : IsMateColumn c mates) (children : HasChildren tables c)
     -- the entries of all codes are those of their indexes
     (entries : List ℕ) (same : (j : ℕ) → IsNode (code_game tables Mate c (moves_told c lists)) j → slice_index entries j ≡ slice_index mates (index_of c j))
     (voids : (n j : ℕ) → IsOddAbove n (slice_index entries j) → IsNode (code_game tables Mate c (moves_told c lists)) j) where
@@ -199,7 +199,7 @@ module _ (laws : Laws) (c : ℕ) (lists : CodeLists) (told : IsTold c lists) (ta
         tells_node =
             let (p, here) = node_told laws c i (bits_node k one).1.not_void in
             let (p', at, alike) = stood_for laws c told.class_in i p here in
-            tells_exits laws c told.class_in tables mates column children first p' at (bit_at start.leaving k) (bit_at start.lost k) (bit_at start.held k) (bit_at-lt start.leaving k) (bit_at-lt start.held k) leaving_told losing_told holding_told
+            tells_exits laws c told.class_in tables mates metric children first p' at (bit_at start.leaving k) (bit_at start.lost k) (bit_at start.held k) (bit_at-lt start.leaving k) (bit_at-lt start.held k) leaving_told losing_told holding_told
 
   -- what the word begins with
   module _ (word nodes : ℕ) (word_in_class : word < words_of (places c) (size_of c)) (nodes_are : nodes ≡ nodes_at lists word)

@@ -24,8 +24,8 @@ use Rattle.egt_graph.specs.declared.game.Exit.{Exit}
 use Rattle.egt_graph.specs.declared.game.Exit.TheVariants as exits
 use Rattle.egt_graph.proofs.Nodes.{leaves_at, test_from_node}
 use Rattle.egt_graph.proofs.WordBits.{either_set, set_first, set_second}
-use Rattle.egt_table.specs.declared.column.Column.{Column}
-use Rattle.egt_table.specs.declared.column.Column.TheVariants.{Mate, Zeroing}
+use Rattle.egt_check.specs.declared.metric.Metric.{Metric}
+use Rattle.egt_check.specs.declared.metric.Metric.TheVariants.{Mate, Zeroing}
 use Rattle.egt_check.specs.Entry.{Shows}
 use Rattle.egt_check.specs.Reading.{in_range, read, read_shown}
 use Rattle.egt_check.specs.Tables.{Tables, beside, HasChildren}
@@ -107,7 +107,7 @@ held_shown n x Draw s = (λ t. let e = s.1 in (omega (arith, e), omega (arith, e
 abbrev pub SomeExit : List Exit → (c i : ℕ) → List ℕ → (Exit → Bool) → (ℕ → Type 0) → Type 0
 SomeExit left c i mates before Told = (list_any before left ≡ true) ⊎ ((j : ℕ) × PushesTo c i j × Told (slice_index mates j))
 
-module _ (laws : Laws) (c : ℕ) (c_in : c < 36) (tables : Tables) (mates : List ℕ) (column : IsMateColumn c mates) where
+module _ (laws : Laws) (c : ℕ) (c_in : c < 36) (tables : Tables) (mates : List ℕ) (metric : IsMateColumn c mates) where
   abbrev others : Tables
   others = beside tables (mate_table c mates)
 
@@ -118,7 +118,7 @@ module _ (laws : Laws) (c : ℕ) (c_in : c < 36) (tables : Tables) (mates : List
 
   entry_shows : (q : Setup) (j : ℕ) → IsAdmissible q → IsIndex c q j → (v : Value) × Shows (slice_index mates j) v
   entry_shows q j ok is =
-      let range = column.1 j (laws.facts.index_below q c j is) (spelled_there laws c j q c_in ok is) in
+      let range = metric.1 j (laws.facts.index_below q c j is) (spelled_there laws c j q c_in ok is) in
       in_range (slice_index mates j) range.0 range.1 range.2
 
   module _ (children : HasChildren tables c) (i : ℕ) (p : Setup) (at : IsAt c i p) where
@@ -136,12 +136,12 @@ module _ (laws : Laws) (c : ℕ) (c_in : c < 36) (tables : Tables) (mates : List
     abbrev pub IsOfPush : Exit → Type 0
     IsOfPush e = (j : ℕ) × PushesTo c i j × (e ≡ ExitTo (slice_index mates j))
 
-    listed : (shown : Tables) (game : Column) → exits_at shown game c i ≡ exits_from shown game c (Some p)
+    listed : (shown : Tables) (game : Metric) → exits_at shown game c i ≡ exits_from shown game c (Some p)
     unfolding exits_at
     listed shown game = ap (exits_from shown game c) ((position_is laws c i p).1 at)
 
     -- by moves
-    told_of : Tables → Column → Move → List Exit
+    told_of : Tables → Metric → Move → List Exit
     told_of shown game m = option_to_list (exit_by shown game c p m (played p m))
 
     stays_of : Move → List Exit

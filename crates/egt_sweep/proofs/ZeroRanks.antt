@@ -13,7 +13,7 @@ use Rattle.egt_moves.specs.Entries.{Fits, JudgedOver}
 use Rattle.egt_moves.specs.Zeroing.{HasZeroing, ZeroesLosingWithin, ZeroesWinningWithin}
 use Rattle.egt_graph.specs.Value.{is_lost_before, is_won_before, mated_within, mates_within, decided_within, HasRank}
 use Rattle.egt_graph.specs.declared.game.Exit.{Exit}
-use Rattle.egt_table.specs.declared.column.Column.TheVariants.{Mate, Zeroing}
+use Rattle.egt_check.specs.declared.metric.Metric.TheVariants.{Mate, Zeroing}
 use Rattle.egt_table.specs.Table.{TableValue}
 use Rattle.egt_check.specs.Tables.{Tables}
 use Rattle.egt_check.specs.Truth.{HasTrueChildren}

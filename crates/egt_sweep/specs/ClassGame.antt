@@ -15,8 +15,8 @@ use Rattle.egt_moves.specs.declared.chess_move.Move.{Move}
 use Rattle.egt_graph.specs.Graph.{Graph, IsNode, IsGame, HasShortDistance}
 use Rattle.egt_graph.specs.Passing.{passing_below, passing_has, passing_passes, passing_all, passing_ascends, passing_none}
 use Rattle.egt_index.specs.Size.{size_of}
-use Rattle.egt_table.specs.declared.column.Column.{Column}
-use Rattle.egt_table.specs.declared.column.Column.TheVariants.{Mate, Zeroing}
+use Rattle.egt_check.specs.declared.metric.Metric.{Metric}
+use Rattle.egt_check.specs.declared.metric.Metric.TheVariants.{Mate, Zeroing}
 use Rattle.egt_table.specs.Table.{TableValue}
 use Rattle.egt_check.specs.Entry.{IsShort}
 use Rattle.egt_check.specs.Reading.{read, read_short}
@@ -24,14 +24,14 @@ use Rattle.egt_check.specs.Tables.{Tables, entry_at}
 use Rattle.egt_sweep.specs.Nodes.{position_at, connects, connects_from, is_mated, exits_at, exits_from, exit_by, exit_of, shown_in, shown_below, or_else, goes_on, index_in}
 
 -- nodes are the indexes, and edges the moves that go on
-abbrev pub class_game : Tables → Column → ℕ → Graph
-class_game tables column c = record {
+abbrev pub class_game : Tables → Metric → ℕ → Graph
+class_game tables metric c = record {
   size = size_of c;
   void = λ i. not (is_some (position_at c i));
   mated = λ i. is_mated (position_at c i);
-  out = λ i. passing_below (size_of c) (λ j. connects column c i j);
-  into = λ j. passing_below (size_of c) (λ i. connects column c i j);
-  exits = λ i. exits_at tables column c i;
+  out = λ i. passing_below (size_of c) (λ j. connects metric c i j);
+  into = λ j. passing_below (size_of c) (λ i. connects metric c i j);
+  exits = λ i. exits_at tables metric c i;
 }
 
 -- ---- nothing goes on from checkmate
@@ -54,7 +54,7 @@ mated_stuck p t = let mate = tells_so (decided_checkmate p) t in mate.stuck
 -- ---- an entry has room for what is told of an exit
 
 IsShortValue : Value → Type 0
-IsShortValue v = (column : Column) → HasShortDistance (exit_of column v)
+IsShortValue v = (metric : Metric) → HasShortDistance (exit_of metric v)
 
 short_value : (v : Value) → IsShort v → IsShortValue v
 unfolding IsShortValue
@@ -79,48 +79,48 @@ unfolding shown_below
 short_below tables zero q = short_value Draw tt
 short_below tables (suc n) q = short_shown (tables n) (index_in n q) (shown_below tables n q) (short_below tables n q)
 
-short_exit : (tables : Tables) (column : Column) (c : ℕ) (p q : Setup) (m : Move) (b : Bool) → All HasShortDistance (option_to_list (if b then None else Some (exit_of column (shown_below tables 36 q))))
+short_exit : (tables : Tables) (metric : Metric) (c : ℕ) (p q : Setup) (m : Move) (b : Bool) → All HasShortDistance (option_to_list (if b then None else Some (exit_of metric (shown_below tables 36 q))))
 unfolding IsShortValue
-short_exit tables column c p q m true = All-nil HasShortDistance
-short_exit tables column c p q m false = All-cons HasShortDistance (exit_of column (shown_below tables 36 q)) [] (short_below tables 36 q column) (All-nil HasShortDistance)
+short_exit tables metric c p q m true = All-nil HasShortDistance
+short_exit tables metric c p q m false = All-cons HasShortDistance (exit_of metric (shown_below tables 36 q)) [] (short_below tables 36 q metric) (All-nil HasShortDistance)
 
-short_step : (tables : Tables) (column : Column) (c : ℕ) (p : Setup) (m : Move) (o : Option Setup) → All HasShortDistance (option_to_list (exit_by tables column c p m o))
-short_step tables column c p m None = All-nil HasShortDistance
-short_step tables column c p m (Some q) = short_exit tables column c p q m (goes_on column c p m q)
+short_step : (tables : Tables) (metric : Metric) (c : ℕ) (p : Setup) (m : Move) (o : Option Setup) → All HasShortDistance (option_to_list (exit_by tables metric c p m o))
+short_step tables metric c p m None = All-nil HasShortDistance
+short_step tables metric c p m (Some q) = short_exit tables metric c p q m (goes_on metric c p m q)
 
-short_steps : (tables : Tables) (column : Column) (c : ℕ) (p : Setup) (ms : List Move) → All HasShortDistance (flat_map (λ m. option_to_list (exit_by tables column c p m (played p m))) ms)
-short_steps tables column c p [] = All-nil HasShortDistance
-short_steps tables column c p (m ∷ ms) =
-    All-append HasShortDistance (option_to_list (exit_by tables column c p m (played p m))) (flat_map (λ k. option_to_list (exit_by tables column c p k (played p k))) ms)
-    (short_step tables column c p m (played p m)) (short_steps tables column c p ms)
+short_steps : (tables : Tables) (metric : Metric) (c : ℕ) (p : Setup) (ms : List Move) → All HasShortDistance (flat_map (λ m. option_to_list (exit_by tables metric c p m (played p m))) ms)
+short_steps tables metric c p [] = All-nil HasShortDistance
+short_steps tables metric c p (m ∷ ms) =
+    All-append HasShortDistance (option_to_list (exit_by tables metric c p m (played p m))) (flat_map (λ k. option_to_list (exit_by tables metric c p k (played p k))) ms)
+    (short_step tables metric c p m (played p m)) (short_steps tables metric c p ms)
 
-short_exits_from : (tables : Tables) (column : Column) (c : ℕ) (o : Option Setup) → All HasShortDistance (exits_from tables column c o)
-short_exits_from tables column c None = All-nil HasShortDistance
-short_exits_from tables column c (Some p) = short_steps tables column c p (moves_of p)
+short_exits_from : (tables : Tables) (metric : Metric) (c : ℕ) (o : Option Setup) → All HasShortDistance (exits_from tables metric c o)
+short_exits_from tables metric c None = All-nil HasShortDistance
+short_exits_from tables metric c (Some p) = short_steps tables metric c p (moves_of p)
 
 -- ---- the law
 
-module _ (tables : Tables) (column : Column) (c : ℕ) where
+module _ (tables : Tables) (metric : Metric) (c : ℕ) where
   g : Graph
-  g = class_game tables column c
+  g = class_game tables metric c
 
   some_not_void : (o : Option Setup) → is_some o ≡ true → not (is_some o) ≡ false
   some_not_void None t = absurd (false≢true t)
   some_not_void (Some p) t = refl
 
-  from_some : (j : ℕ) (o : Option Setup) → connects_from column c j o ≡ true → is_some o ≡ true
+  from_some : (j : ℕ) (o : Option Setup) → connects_from metric c j o ≡ true → is_some o ≡ true
   from_some j None t = t
   from_some j (Some p) t = refl
 
-  to_node : (i j : ℕ) → connects column c i j ≡ true → is_some (position_at c j) ≡ true
+  to_node : (i j : ℕ) → connects metric c i j ≡ true → is_some (position_at c j) ≡ true
   unfolding connects
-  to_node i j t = (and_parts (is_some (position_at c j)) (connects_from column c j (position_at c i)) t).0
+  to_node i j t = (and_parts (is_some (position_at c j)) (connects_from metric c j (position_at c i)) t).0
 
-  from_node : (i j : ℕ) → connects column c i j ≡ true → is_some (position_at c i) ≡ true
+  from_node : (i j : ℕ) → connects metric c i j ≡ true → is_some (position_at c i) ≡ true
   unfolding connects
-  from_node i j t = from_some j (position_at c i) (and_parts (is_some (position_at c j)) (connects_from column c j (position_at c i)) t).1
+  from_node i j t = from_some j (position_at c i) (and_parts (is_some (position_at c j)) (connects_from metric c j (position_at c i)) t).1
 
-  stuck_from : (j : ℕ) (o : Option Setup) → is_mated o ≡ true → connects_from column c j o ≡ false
+  stuck_from : (j : ℕ) (o : Option Setup) → is_mated o ≡ true → connects_from metric c j o ≡ false
   stuck_from j None t = refl
   stuck_from j (Some p) t = rw (no_moves p (mated_stuck p t)) refl
 
@@ -128,39 +128,39 @@ module _ (tables : Tables) (column : Column) (c : ℕ) where
   and_false true x e = e
   and_false false x e = refl
 
-  pub stuck_edge : (i j : ℕ) → is_mated (position_at c i) ≡ true → connects column c i j ≡ false
+  pub stuck_edge : (i j : ℕ) → is_mated (position_at c i) ≡ true → connects metric c i j ≡ false
   unfolding connects
-  stuck_edge i j t = and_false (is_some (position_at c j)) (connects_from column c j (position_at c i)) (stuck_from j (position_at c i) t)
+  stuck_edge i j t = and_false (is_some (position_at c j)) (connects_from metric c j (position_at c i)) (stuck_from j (position_at c i) t)
 
-  stuck_exits : (o : Option Setup) → is_mated o ≡ true → exits_from tables column c o ≡ []
+  stuck_exits : (o : Option Setup) → is_mated o ≡ true → exits_from tables metric c o ≡ []
   stuck_exits None t = refl
   stuck_exits (Some p) t = rw (no_moves p (mated_stuck p t)) refl
 
-  pub exits_short : (i : ℕ) → All HasShortDistance (exits_at tables column c i)
+  pub exits_short : (i : ℕ) → All HasShortDistance (exits_at tables metric c i)
   unfolding exits_at
-  exits_short i = short_exits_from tables column c (position_at c i)
+  exits_short i = short_exits_from tables metric c (position_at c i)
 
-  pub exits_none : (i : ℕ) → is_mated (position_at c i) ≡ true → exits_at tables column c i ≡ []
+  pub exits_none : (i : ℕ) → is_mated (position_at c i) ≡ true → exits_at tables metric c i ≡ []
   unfolding exits_at
   exits_none i t = stuck_exits (position_at c i) t
 
-  out_node : (i j : ℕ) → j < size_of c → connects column c i j ≡ true → IsNode g j
+  out_node : (i j : ℕ) → j < size_of c → connects metric c i j ≡ true → IsNode g j
   unfolding g
   out_node i j lt t = record { in_range = lt; not_void = some_not_void (position_at c j) (to_node i j t) }
 
-  into_node : (i j : ℕ) → i < size_of c → connects column c i j ≡ true → IsNode g i
+  into_node : (i j : ℕ) → i < size_of c → connects metric c i j ≡ true → IsNode g i
   unfolding g
   into_node i j lt t = record { in_range = lt; not_void = some_not_void (position_at c i) (from_node i j t) }
 
-  pub class_game_is_lawful : IsGame (class_game tables column c)
+  pub class_game_is_lawful : IsGame (class_game tables metric c)
   unfolding g
   class_game_is_lawful = record {
-    out_nodes = λ i node. passing_all (IsNode g) (size_of c) (λ j. connects column c i j) (out_node i);
-    into_nodes = λ j node. passing_all (IsNode g) (size_of c) (λ i. connects column c i j) (λ i. into_node i j);
-    out_ascends = λ i node. passing_ascends (size_of c) (λ j. connects column c i j);
-    into_ascends = λ j node. passing_ascends (size_of c) (λ i. connects column c i j);
-    back = λ i j here there edge. passing_has (size_of c) (λ k. connects column c k j) i here.in_range (passing_passes (size_of c) (λ k. connects column c i k) j edge);
-    forth = λ i j here there edge. passing_has (size_of c) (λ k. connects column c i k) j there.in_range (passing_passes (size_of c) (λ k. connects column c k j) i edge);
+    out_nodes = λ i node. passing_all (IsNode g) (size_of c) (λ j. connects metric c i j) (out_node i);
+    into_nodes = λ j node. passing_all (IsNode g) (size_of c) (λ i. connects metric c i j) (λ i. into_node i j);
+    out_ascends = λ i node. passing_ascends (size_of c) (λ j. connects metric c i j);
+    into_ascends = λ j node. passing_ascends (size_of c) (λ i. connects metric c i j);
+    back = λ i j here there edge. passing_has (size_of c) (λ k. connects metric c k j) i here.in_range (passing_passes (size_of c) (λ k. connects metric c i k) j edge);
+    forth = λ i j here there edge. passing_has (size_of c) (λ k. connects metric c i k) j there.in_range (passing_passes (size_of c) (λ k. connects metric c k j) i edge);
     short_exits = λ i node. exits_short i;
-    mate_ends = λ i node t. (passing_none (size_of c) (λ j. connects column c i j) (λ j. stuck_edge i j t), exits_none i t);
+    mate_ends = λ i node t. (passing_none (size_of c) (λ j. connects metric c i j) (λ j. stuck_edge i j t), exits_none i t);
   }

@@ -17,8 +17,8 @@ use Rattle.egt_moves.specs.Legal.{Leads}
 use Rattle.egt_moves.specs.declared.chess_move.Move.{Move}
 use Rattle.egt_graph.specs.Graph.{Graph, IsGame, IsNode}
 use Rattle.egt_graph.specs.Passing.{passing_below, passing_has, passing_passes, passing_all, passing_ascends, passing_none}
-use Rattle.egt_table.specs.declared.column.Column.{Column}
-use Rattle.egt_table.specs.declared.column.Column.TheVariants.{Mate, Zeroing}
+use Rattle.egt_check.specs.declared.metric.Metric.{Metric}
+use Rattle.egt_check.specs.declared.metric.Metric.TheVariants.{Mate, Zeroing}
 use Rattle.egt_check.specs.Tables.{Tables}
 use Rattle.egt_words.specs.Told.{Advances, Quietly}
 use Rattle.egt_sweep.specs.ClassGame.{exits_none, exits_short}
@@ -30,7 +30,7 @@ pub record CodeMoves : Type 0 where
   pub pawn : ℕ → ℕ → Bool
 
 -- those that go on in the game of the column
-abbrev pub goes_by : Column → CodeMoves → ℕ → ℕ → Bool
+abbrev pub goes_by : Metric → CodeMoves → ℕ → ℕ → Bool
 goes_by Mate moves i j = moves.quiet i j || moves.pawn i j
 goes_by Zeroing moves i j = moves.quiet i j
 
@@ -67,55 +67,55 @@ abbrev pub is_mate : ℕ → ℕ → Bool
 is_mate c i = is_mated (position_at c (index_of c i))
 
 -- a told move goes on from the number to the number
-abbrev pub leads_by : Column → ℕ → CodeMoves → ℕ → ℕ → Bool
-leads_by column c moves i j = not (is_mate c i) && (is_some (numbered c i) && (is_some (numbered c j) && goes_by column moves i j))
+abbrev pub leads_by : Metric → ℕ → CodeMoves → ℕ → ℕ → Bool
+leads_by metric c moves i j = not (is_mate c i) && (is_some (numbered c i) && (is_some (numbered c j) && goes_by metric moves i j))
 
 -- nodes are the numbers that stand for positions, and edges the told moves that go on; a node has the exits of the index of its position
-abbrev pub code_game : Tables → Column → ℕ → CodeMoves → Graph
-code_game tables column c moves = record {
+abbrev pub code_game : Tables → Metric → ℕ → CodeMoves → Graph
+code_game tables metric c moves = record {
   size = size_of c;
   void = λ i. not (is_some (numbered c i));
   mated = λ i. is_mate c i;
-  out = λ i. passing_below (size_of c) (λ j. leads_by column c moves i j);
-  into = λ j. passing_below (size_of c) (λ i. leads_by column c moves i j);
-  exits = λ i. exits_at tables column c (index_of c i);
+  out = λ i. passing_below (size_of c) (λ j. leads_by metric c moves i j);
+  into = λ j. passing_below (size_of c) (λ i. leads_by metric c moves i j);
+  exits = λ i. exits_at tables metric c (index_of c i);
 }
 
 -- ---- the law
 
-module _ (tables : Tables) (column : Column) (c : ℕ) (moves : CodeMoves) where
+module _ (tables : Tables) (metric : Metric) (c : ℕ) (moves : CodeMoves) where
   g : Graph
-  g = code_game tables column c moves
+  g = code_game tables metric c moves
 
   not_void : (b : Bool) → b ≡ true → not b ≡ false
   not_void b t = ap not t
 
-  parts : (i j : ℕ) → leads_by column c moves i j ≡ true → (is_some (numbered c i) ≡ true) × (is_some (numbered c j) ≡ true)
+  parts : (i j : ℕ) → leads_by metric c moves i j ≡ true → (is_some (numbered c i) ≡ true) × (is_some (numbered c j) ≡ true)
   parts i j t =
-      let first = and_parts (not (is_mate c i)) (is_some (numbered c i) && (is_some (numbered c j) && goes_by column moves i j)) t in
-      let second = and_parts (is_some (numbered c i)) (is_some (numbered c j) && goes_by column moves i j) first.1 in
-      (second.0, (and_parts (is_some (numbered c j)) (goes_by column moves i j) second.1).0)
+      let first = and_parts (not (is_mate c i)) (is_some (numbered c i) && (is_some (numbered c j) && goes_by metric moves i j)) t in
+      let second = and_parts (is_some (numbered c i)) (is_some (numbered c j) && goes_by metric moves i j) first.1 in
+      (second.0, (and_parts (is_some (numbered c j)) (goes_by metric moves i j) second.1).0)
 
-  out_node : (i j : ℕ) → j < size_of c → leads_by column c moves i j ≡ true → IsNode g j
+  out_node : (i j : ℕ) → j < size_of c → leads_by metric c moves i j ≡ true → IsNode g j
   unfolding g
   out_node i j lt t = record { in_range = lt; not_void = not_void (is_some (numbered c j)) (parts i j t).1 }
 
-  into_node : (i j : ℕ) → i < size_of c → leads_by column c moves i j ≡ true → IsNode g i
+  into_node : (i j : ℕ) → i < size_of c → leads_by metric c moves i j ≡ true → IsNode g i
   unfolding g
   into_node i j lt t = record { in_range = lt; not_void = not_void (is_some (numbered c i)) (parts i j t).0 }
 
-  stuck : (i j : ℕ) → is_mate c i ≡ true → leads_by column c moves i j ≡ false
-  stuck i j t = ap (λ b. not b && (is_some (numbered c i) && (is_some (numbered c j) && goes_by column moves i j))) t
+  stuck : (i j : ℕ) → is_mate c i ≡ true → leads_by metric c moves i j ≡ false
+  stuck i j t = ap (λ b. not b && (is_some (numbered c i) && (is_some (numbered c j) && goes_by metric moves i j))) t
 
-  pub code_game_is_lawful : IsGame (code_game tables column c moves)
+  pub code_game_is_lawful : IsGame (code_game tables metric c moves)
   unfolding g
   code_game_is_lawful = record {
-    out_nodes = λ i node. passing_all (IsNode g) (size_of c) (λ j. leads_by column c moves i j) (out_node i);
-    into_nodes = λ j node. passing_all (IsNode g) (size_of c) (λ i. leads_by column c moves i j) (λ i. into_node i j);
-    out_ascends = λ i node. passing_ascends (size_of c) (λ j. leads_by column c moves i j);
-    into_ascends = λ j node. passing_ascends (size_of c) (λ i. leads_by column c moves i j);
-    back = λ i j here there edge. passing_has (size_of c) (λ k. leads_by column c moves k j) i here.in_range (passing_passes (size_of c) (λ k. leads_by column c moves i k) j edge);
-    forth = λ i j here there edge. passing_has (size_of c) (λ k. leads_by column c moves i k) j there.in_range (passing_passes (size_of c) (λ k. leads_by column c moves k j) i edge);
-    short_exits = λ i node. exits_short tables column c (index_of c i);
-    mate_ends = λ i node t. (passing_none (size_of c) (λ j. leads_by column c moves i j) (λ j. stuck i j t), exits_none tables column c (index_of c i) t);
+    out_nodes = λ i node. passing_all (IsNode g) (size_of c) (λ j. leads_by metric c moves i j) (out_node i);
+    into_nodes = λ j node. passing_all (IsNode g) (size_of c) (λ i. leads_by metric c moves i j) (λ i. into_node i j);
+    out_ascends = λ i node. passing_ascends (size_of c) (λ j. leads_by metric c moves i j);
+    into_ascends = λ j node. passing_ascends (size_of c) (λ i. leads_by metric c moves i j);
+    back = λ i j here there edge. passing_has (size_of c) (λ k. leads_by metric c moves k j) i here.in_range (passing_passes (size_of c) (λ k. leads_by metric c moves i k) j edge);
+    forth = λ i j here there edge. passing_has (size_of c) (λ k. leads_by metric c moves i k) j there.in_range (passing_passes (size_of c) (λ k. leads_by metric c moves k j) i edge);
+    short_exits = λ i node. exits_short tables metric c (index_of c i);
+    mate_ends = λ i node t. (passing_none (size_of c) (λ j. leads_by metric c moves i j) (λ j. stuck i j t), exits_none tables metric c (index_of c i) t);
   }

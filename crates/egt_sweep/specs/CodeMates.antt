@@ -5,8 +5,8 @@ use Rattle.egt_index.specs.Size.{size_of}
 use Rattle.egt_graph.specs.ExitMarks.{AreExitMarks}
 use Rattle.egt_graph.specs.Graph.{Graph, IsNode}
 use Rattle.egt_graph.specs.Words.{word_in}
-use Rattle.egt_table.specs.declared.column.Column.{Column}
-use Rattle.egt_table.specs.declared.column.Column.TheVariants.{Mate}
+use Rattle.egt_check.specs.declared.metric.Metric.{Metric}
+use Rattle.egt_check.specs.declared.metric.Metric.TheVariants.{Mate}
 use Rattle.egt_check.specs.Tables.{Tables}
 use Rattle.egt_index.specs.Numbers.{number_of, places}
 use Rattle.egt_sweep.specs.CodeGame.{code_game, index_of}
@@ -31,8 +31,8 @@ pub record AreKeptBelow (c m : ℕ) (entries kept : List ℕ) : Type 0 where
   pub left : (i : ℕ) → m ≤ word_in (places c) (number_of c i) → slice_index kept i ≡ 0
 
 -- the game over the numbers by what the lists tell
-abbrev pub game_by : Tables → Column → ℕ → CodeLists → Graph
-game_by tables column c lists = code_game tables column c (moves_told c lists)
+abbrev pub game_by : Tables → Metric → ℕ → CodeLists → Graph
+game_by tables metric c lists = code_game tables metric c (moves_told c lists)
 
 -- the entries are of all numbers, each that of the index for which the number stands; the marks are of the exits of all numbers
 pub record TellMates (tables : Tables) (c : ℕ) (lists : CodeLists) (mates : List ℕ) (codes : CodeEntries) : Type 0 where

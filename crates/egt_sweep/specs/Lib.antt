@@ -2,6 +2,7 @@ pub mod Laws
 pub mod Nodes
 pub mod Edges
 pub mod ClassGame
+pub mod ReachGame
 pub mod Plies
 pub mod MateColumn
 pub mod Aiming

@@ -1,5 +1,5 @@
 -- The mate column of a class that has no table yet, beside the tables at hand.
-use Rattle.std.specs.Prelude.{◌≡◌, ◌≢◌, ℕ, ◌<◌, ◌≤◌, true, List, length, slice_index}
+use Rattle.std.specs.Prelude.{◌≡◌, ◌≢◌, ℕ, ◌<◌, ◌≤◌, true, List, length, slice_index, None}
 use Rattle.std.specs.Option.{is_some}
 use Rattle.egt_board.specs.Setup.{Setup, IsAdmissible}
 use Rattle.egt_index.specs.Index.{IsIndex}
@@ -7,7 +7,7 @@ use Rattle.egt_index.specs.Size.{size_of}
 use Rattle.egt_moves.specs.Arena.{Value, HasValue}
 use Rattle.egt_moves.specs.Chess.{chess}
 use Rattle.egt_graph.specs.Value.{AreRanks}
-use Rattle.egt_table.specs.declared.column.Column.TheVariants.{Mate}
+use Rattle.egt_check.specs.declared.metric.Metric.TheVariants.{Mate}
 use Rattle.egt_table.specs.Table.{TableValue}
 use Rattle.egt_check.specs.Entry.{Shows, longest}
 use Rattle.egt_check.specs.Tables.{Tables, entry_at}
@@ -27,7 +27,7 @@ IsMateColumn c entries = (length entries ≡ size_of c)
 
 -- a table of these mate entries; what its zeroing column has does not matter
 abbrev pub mate_table : ℕ → List ℕ → TableValue
-mate_table c entries = record { class = c; mate = entries; zeroing = entries }
+mate_table c entries = record { class = c; mate = entries; zeroing = entries; reach = None }
 
 -- the ranks of the class's game of mates, as solving it gives them
 abbrev pub AreMateRanks : Tables → ℕ → List ℕ → Type 0

@@ -20,8 +20,8 @@ use Rattle.egt_moves.specs.declared.chess_move.Move.{Move}
 use Rattle.egt_graph.specs.declared.game.Exit.{Exit}
 use Rattle.egt_graph.specs.declared.game.Exit.TheVariants as exits
 use Rattle.egt_graph.specs.Passing.{passing_below}
-use Rattle.egt_table.specs.declared.column.Column.{Column}
-use Rattle.egt_table.specs.declared.column.Column.TheVariants.{Mate, Zeroing}
+use Rattle.egt_check.specs.declared.metric.Metric.{Metric}
+use Rattle.egt_check.specs.declared.metric.Metric.TheVariants.{Mate, Zeroing}
 use Rattle.egt_table.specs.Table.{TableValue}
 use Rattle.egt_check.specs.Reading.{read}
 use Rattle.egt_check.specs.Tables.{Tables, entry_at}
@@ -71,33 +71,33 @@ is_mated None = false
 is_mated (Some p) = tells (decided_checkmate p)
 
 -- the move goes on in the game
-abbrev pub goes_on : Column → ℕ → Setup → Move → Setup → Bool
+abbrev pub goes_on : Metric → ℕ → Setup → Move → Setup → Bool
 goes_on Mate c p m q = is_some (index_in c q)
 goes_on Zeroing c p m q = not (tells (decided_zeroes p m))
 
 -- the move leads on to a position whose index is j
-abbrev pub leads_on : Column → ℕ → ℕ → Setup → Move → Option Setup → Bool
-leads_on column c j p m None = false
-leads_on column c j p m (Some q) = goes_on column c p m q && is_number j (index_in c q)
+abbrev pub leads_on : Metric → ℕ → ℕ → Setup → Move → Option Setup → Bool
+leads_on metric c j p m None = false
+leads_on metric c j p m (Some q) = goes_on metric c p m q && is_number j (index_in c q)
 
-abbrev pub connects_from : Column → ℕ → ℕ → Option Setup → Bool
-connects_from column c j None = false
-connects_from column c j (Some p) = list_any (λ m. leads_on column c j p m (played p m)) (moves_of p)
+abbrev pub connects_from : Metric → ℕ → ℕ → Option Setup → Bool
+connects_from metric c j None = false
+connects_from metric c j (Some p) = list_any (λ m. leads_on metric c j p m (played p m)) (moves_of p)
 
 -- some move goes on from the position at i to one whose index is j
-unfoldable pub connects : Column → ℕ → ℕ → ℕ → Bool
-connects column c i j = is_some (position_at c j) && connects_from column c j (position_at c i)
+unfoldable pub connects : Metric → ℕ → ℕ → ℕ → Bool
+connects metric c i j = is_some (position_at c j) && connects_from metric c j (position_at c i)
 
 -- the plies that are told of a value outside the game: in the game of zeroing moves the move itself has zeroed
-abbrev pub plies_told : Column → ℕ → ℕ
+abbrev pub plies_told : Metric → ℕ → ℕ
 plies_told Mate n = n
 plies_told Zeroing n = 0
 
 -- the value as it is told outside the game
-abbrev pub exit_of : Column → Value → Exit
-exit_of column (Win n) = exits.Win (plies_told column n)
-exit_of column (Loss n) = exits.Loss (plies_told column n)
-exit_of column Draw = exits.Draw
+abbrev pub exit_of : Metric → Value → Exit
+exit_of metric (Win n) = exits.Win (plies_told metric n)
+exit_of metric (Loss n) = exits.Loss (plies_told metric n)
+exit_of metric Draw = exits.Draw
 
 -- what the tables of the classes below n show of the position
 abbrev pub shown_in : Option TableValue → Option ℕ → Option Value
@@ -112,18 +112,18 @@ unfoldable pub shown_below : Tables → ℕ → Setup → Value
 shown_below tables zero q = Draw
 shown_below tables (suc n) q = or_else (shown_in (tables n) (index_in n q)) (shown_below tables n q)
 
-abbrev pub exit_by : Tables → Column → ℕ → Setup → Move → Option Setup → Option Exit
-exit_by tables column c p m None = None
-exit_by tables column c p m (Some q) = if goes_on column c p m q then None else Some (exit_of column (shown_below tables 36 q))
+abbrev pub exit_by : Tables → Metric → ℕ → Setup → Move → Option Setup → Option Exit
+exit_by tables metric c p m None = None
+exit_by tables metric c p m (Some q) = if goes_on metric c p m q then None else Some (exit_of metric (shown_below tables 36 q))
 
 -- what is told of where those of these moves lead that leave the game
-abbrev pub exits_by : Tables → Column → ℕ → Setup → List Move → List Exit
-exits_by tables column c p moves = flat_map (λ m. option_to_list (exit_by tables column c p m (played p m))) moves
+abbrev pub exits_by : Tables → Metric → ℕ → Setup → List Move → List Exit
+exits_by tables metric c p moves = flat_map (λ m. option_to_list (exit_by tables metric c p m (played p m))) moves
 
-abbrev pub exits_from : Tables → Column → ℕ → Option Setup → List Exit
-exits_from tables column c None = []
-exits_from tables column c (Some p) = exits_by tables column c p (moves_of p)
+abbrev pub exits_from : Tables → Metric → ℕ → Option Setup → List Exit
+exits_from tables metric c None = []
+exits_from tables metric c (Some p) = exits_by tables metric c p (moves_of p)
 
 -- what is told of where the moves that leave the game lead, in the order of moves
-unfoldable pub exits_at : Tables → Column → ℕ → ℕ → List Exit
-exits_at tables column c i = exits_from tables column c (position_at c i)
+unfoldable pub exits_at : Tables → Metric → ℕ → ℕ → List Exit
+exits_at tables metric c i = exits_from tables metric c (position_at c i)

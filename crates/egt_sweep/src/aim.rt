@@ -1,8 +1,8 @@
 //! What a game over a class is played for.
 ghost use Rattle.std.specs.Prelude.{◌≡◌};
 
+use egt_check::Metric;
 use egt_graph::Ranks;
-use egt_table::Column;
 
 /// The end to which a game's ranks count the plies.
 #[derive(Clone, Copy)]
@@ -12,18 +12,22 @@ pub(crate) enum Aim<'l> {
     /// The next zeroing move or checkmate. Moves that do not zero go on, and the others leave the game; where one of them stays in the
     /// class, these mate ranks of the class tell what it reaches.
     Zeroing(&'l Ranks),
+    /// The nearest checkmate of either side. Moves that stay in the class go on, and the others leave the game: as a loss in as many plies as the nearest
+    /// checkmate is away from where they lead, or as a draw where there is none.
+    Reach,
 }
 
 impl Aim<'_> {
-    ghost use Rattle.egt_sweep.specs.Aiming.{column_of};
+    ghost use Rattle.egt_sweep.specs.Aiming.{metric_of};
 
-    /// The column that the game's ranks are.
-    pub(crate) fn column(&self) -> Column
-        ensures { result ≡ column_of self.now }
+    /// Which moves go on in the game: those that stay in the class, or those that do not zero.
+    pub(crate) fn metric(&self) -> Metric
+        ensures { result ≡ metric_of self.now }
     {
         match self {
-            Aim::Mate => Column::Mate,
-            Aim::Zeroing(_ranks) => Column::Zeroing,
+            Aim::Mate => Metric::Mate,
+            Aim::Zeroing(_ranks) => Metric::Zeroing,
+            Aim::Reach => Metric::Mate,
         }
     }
 }

@@ -1,11 +1,14 @@
 //! The builder of tables.
-ghost use Rattle.std.specs.Prelude.{◌≡◌, ◌≤◌, ℕ, IfOk, IfErr, IfSome};
+ghost use Rattle.std.specs.Prelude.{◌≡◌, ◌≤◌, ℕ, Some, length, IfOk, IfErr, IfSome, IsSome};
+ghost use Rattle.egt_graph.specs.Near.{AreNears};
 ghost use Rattle.egt_graph.specs.Value.{AreRanks};
-ghost use Rattle.egt_table.specs.declared.column.Column.TheVariants.{Mate, Zeroing};
-ghost use Rattle.egt_check.specs.Tables.{table_at, beside, HasChildren};
-ghost use Rattle.egt_sweep.specs.Built.{IsBuilt, IsNotBuilt, HasNoFalseChild};
+ghost use Rattle.egt_index.specs.Size.{size_of};
+ghost use Rattle.egt_check.specs.declared.metric.Metric.TheVariants.{Mate, Zeroing};
+ghost use Rattle.egt_check.specs.Tables.{table_at, beside, HasChildren, HasReachChildren};
+ghost use Rattle.egt_sweep.specs.Built.{AllWithinLimit, IsBuilt, IsNotBuilt, HasNoFalseChild, SomeReachesFar};
 ghost use Rattle.egt_sweep.specs.ClassGame.{class_game};
 ghost use Rattle.egt_sweep.specs.MateColumn.{mate_table};
+ghost use Rattle.egt_sweep.specs.ReachGame.{reach_game};
 ghost use Rattle.egt_sweep.specs.CodeMates.{CodesTell};
 ghost use Rattle.egt_sweep.specs.declared.build_fault.BuildFault.TheVariants.{NoMemory};
 
@@ -15,22 +18,25 @@ use crate::drawn_children::has_one_game;
 use crate::laws::laws;
 use crate::mate_game::MateGame;
 use crate::mates::{Mates, solve_mates};
-use crate::missing::Missing;
-use crate::ranks::{mate_ranks_are_values, zeroing_ranks_are_distances};
+use crate::ranks::{
+    mate_ranks_are_values, reach_numbers_are_the_nearest_mates, zeroing_ranks_are_distances,
+};
+use crate::reach_game::ReachGame;
+use crate::reaches::solve_reaches;
 use crate::zero_game::ZeroGame;
 use crate::zeroing::solve_zeroing;
 use egt_check::laws::rules_are_kept_by_true_tables_alone;
-use egt_check::{Library, first_missing};
+use egt_check::{Library, first_lacking, first_missing};
 use egt_class::{Class, children};
 use egt_graph::laws::alike_games_have_the_same_ranks;
-use egt_graph::{Ranks, SolveFault};
+use egt_graph::{Nears, Ranks, SolveFault};
 use egt_index::laws::a_class_without_pawns_has_none;
 use egt_moves::laws::one_value;
 use egt_table::Table;
 use std::alloc::Global;
 
 /// What the children's tables show is true. This does nothing: a library says so of each table that it hands out.
-fn children_are_true(class: Class, library: &Library)
+pub(crate) fn children_are_true(class: Class, library: &Library)
     ensures { HasNoFalseChild (table_at library.now) class }
 {
     let children = children(class);
@@ -47,7 +53,8 @@ pub(crate) fn mate_ranks(
     limit: u16,
     words: &Option<CodeWords>,
 ) -> Result<Mates, BuildFault>
-    requires { limit ≤ 32000 }
+    requires limit { limit ≤ 32000 }
+    requires reach_children { HasReachChildren (table_at library.now) class }
     ensures children { IfOk result (λ _. HasChildren (table_at library.now) class) }
     ensures ranks { IfOk result (λ told. AreRanks (class_game (table_at library.now) Mate class) limit told.ranks) }
     ensures codes { IfOk result (CodesTell (table_at library.now) class words.now) }
@@ -91,6 +98,7 @@ pub(crate) fn zeroing_ranks<'x>(
 ) -> Result<Ranks, BuildFault>
     requires limit { limit ≤ 32000 }
     requires children { HasChildren (table_at library.now) class }
+    requires reach_children { HasReachChildren (table_at library.now) class }
     requires mates { AreRanks (class_game (table_at library.now) Mate class) limit mates.now.ranks }
     requires codes { CodesTell (table_at library.now) class words.now mates.now }
     ensures ranks { IfOk result (AreRanks (class_game (beside (table_at library.now) (mate_table class mates.now.ranks)) Zeroing class) limit) }
@@ -117,16 +125,22 @@ pub(crate) fn zeroing_ranks<'x>(
     }
 }
 
-/// The moves between the class's codes, if they are told by words. That a child lacks its table is said before that memory does.
-fn told_words(
+/// The moves between the class's codes, if they are told by words. That a child lacks its table or its column of the nearest mates is said before that
+/// memory does.
+pub(crate) fn told_words(
     alloc: Global,
     class: Class,
     library: &Library,
 ) -> Result<Option<CodeWords>, BuildFault>
-    ensures { (limit : ℕ) → IfErr result (IsNotBuilt (table_at library.now) class limit) }
+    ensures children { IfOk result (λ _. HasChildren (table_at library.now) class) }
+    ensures reach_children { IfOk result (λ _. HasReachChildren (table_at library.now) class) }
+    ensures refused { (limit : ℕ) → IfErr result (IsNotBuilt (table_at library.now) class limit) }
 {
     if let Some(child) = first_missing(class, library) {
-        return Err(BuildFault::from(Missing { class: child }));
+        return Err(BuildFault::Missing(child));
+    }
+    if let Some(child) = first_lacking(class, library) {
+        return Err(BuildFault::NoReach(child));
     }
     match CodeWords::of(alloc, class) {
         Ok(words) => Ok(words),
@@ -134,14 +148,65 @@ fn told_words(
     }
 }
 
-/// The table of a class whose children have their tables in the library, with no mate distance above `limit`, which is at most
-/// 32,000. First the mate column is made, then the zeroing column, by retrograde analysis (Thompson 1986). No check is run, and none is needed:
-/// every entry is true, and the library takes the table unless it has one of the class.
+/// The table of these columns, where each is as long as the class asks.
+fn joined(class: Class, mates: Ranks, zeroing: Ranks, nears: Nears) -> Option<Table>
+    ensures table { IfSome result (λ t. t ≡ record { class = class; mate = mates; zeroing = zeroing; reach = Some nears }) }
+    ensures exact { length mates ≡ size_of class → length zeroing ≡ size_of class → length nears ≡ size_of class → IsSome result }
+{
+    let table = Table::from_ranks(class, mates, zeroing).ok()?;
+    table.with_reach(nears).ok()
+}
+
+/// The column of the nearest mates of a class.
+pub(crate) fn reach_column(
+    alloc: Global,
+    class: Class,
+    library: &Library,
+    words: &Option<CodeWords>,
+) -> Result<Nears, SolveFault>
+    requires children { HasChildren (table_at library.now) class }
+    requires reach_children { HasReachChildren (table_at library.now) class }
+    ensures nears { IfOk result (AreNears (reach_game (table_at library.now) class)) }
+    ensures too_deep { result ≡ Err SolveFault.TooDeep → SomeReachesFar class }
+{
+    laws();
+    reach_numbers_are_the_nearest_mates();
+    children_are_true(class, library);
+    let _number = class.number();
+    match ReachGame::new(class, library) {
+        Ok(game) => solve_reaches(alloc, &game, words),
+        Err(_lacking) => unreachable!(),
+    }
+}
+
+/// The same as a part of a build whose other columns are made.
+fn reach_part(
+    alloc: Global,
+    class: Class,
+    library: &Library,
+    words: &Option<CodeWords>,
+) -> Result<Nears, BuildFault>
+    requires children { HasChildren (table_at library.now) class }
+    requires reach_children { HasReachChildren (table_at library.now) class }
+    ensures nears { IfOk result (AreNears (reach_game (table_at library.now) class)) }
+    ensures refused { (limit : ℕ) → AllWithinLimit class limit → IfErr result (IsNotBuilt (table_at library.now) class limit) }
+{
+    match reach_column(alloc, class, library, words) {
+        Ok(nears) => Ok(nears),
+        Err(SolveFault::NoMemory) => Err(BuildFault::NoMemory),
+        Err(SolveFault::TooDeep) => Err(BuildFault::TooDeep(32_000)),
+    }
+}
+
+/// The table of a class whose children have their tables in the library, each with the column of the nearest mates, with no mate distance above `limit`,
+/// which is at most 32,000. First the mate column is made, then the zeroing column, then that of the nearest mates, by retrograde analysis (Thompson
+/// 1986). No check is run, and none is needed: every entry is true, and the library takes the table unless it has one of the class.
 ///
 /// # Errors
 ///
-/// `Missing` with the least child that has no table; else `NoMemory` where a growth was refused, and `TooDeep` with the limit where
-/// some position of the class has a mate distance above it.
+/// `Missing` with the least child that has no table; else `NoReach` with the least child whose table lacks that column; else `NoMemory` where a growth was
+/// refused, and `TooDeep` with the limit where some position of the class has a mate distance above it, or with 32,000 where none has and the nearest mate
+/// of some position is farther away than 32,000 plies.
 pub fn build(
     alloc: Global,
     class: Class,
@@ -155,6 +220,7 @@ pub fn build(
     laws();
     mate_ranks_are_values();
     zeroing_ranks_are_distances();
+    reach_numbers_are_the_nearest_mates();
     rules_are_kept_by_true_tables_alone();
     one_value();
     children_are_true(class, library);
@@ -162,8 +228,9 @@ pub fn build(
     let words = told_words(alloc, class, library)?;
     let mates = mate_ranks(alloc, class, library, limit, &words)?;
     let zeroing = zeroing_ranks(alloc, class, library, &mates, limit, &words)?;
-    match Table::from_ranks(class, mates.ranks, zeroing) {
-        Ok(table) => Ok(table),
-        Err(_columns) => unreachable!(),
+    let nears = reach_part(alloc, class, library, &words)?;
+    match joined(class, mates.ranks, zeroing, nears) {
+        Some(table) => Ok(table),
+        None => unreachable!(),
     }
 }

@@ -13,7 +13,7 @@ ghost use Rattle.egt_moves.specs.Moves.{moves_from};
 ghost use Rattle.egt_moves.specs.Room.{most_moves};
 ghost use Rattle.egt_moves.specs.declared.chess_move.Move.{Move};
 ghost use Rattle.egt_check.specs.Tables.{table_at, HasChildren};
-ghost use Rattle.egt_sweep.specs.Aiming.{column_of, known, KnowsOwn};
+ghost use Rattle.egt_sweep.specs.Aiming.{metric_of, known, Knows};
 ghost use Rattle.egt_sweep.specs.Edges.{GoesOn};
 ghost use Rattle.egt_sweep.specs.Nodes.{exits_by, exits_from};
 
@@ -24,11 +24,10 @@ use crate::quiet::pawn_stays;
 use crate::ways::onward;
 use arrayvec::ArrayVec;
 use egt_board::{Camps, Kind, Man, Position, Square};
-use egt_check::Library;
+use egt_check::{Library, Metric};
 use egt_class::Class;
 use egt_graph::Exit;
 use egt_moves::legal_targets_of;
-use egt_table::Column;
 
 /// Whether the man attacks none of the side that waits.
 fn attacks_nobody(position: &Position, camps: Camps, man: Man, from: Square) -> bool
@@ -43,7 +42,7 @@ fn attacks_nobody(position: &Position, camps: Camps, man: Man, from: Square) -> 
 /// moves are not found, so it may be false though they do.
 #[inline(always)]
 fn goes_on(
-    column: Column,
+    metric: Metric,
     class: Class,
     position: &Position,
     camps: Camps,
@@ -53,14 +52,14 @@ fn goes_on(
     requires camps { AreCamps position.now camps }
     requires of { (flipped : Bool) × IsOf class flipped position.now }
     requires stands { Stands position.now.men from man }
-    ensures { IsTrue result → (m : Move) (q : Setup) → m.from ≡ from → Leads position.now m q → GoesOn column class position.now m q }
+    ensures { IsTrue result → (m : Move) (q : Setup) → m.from ≡ from → Leads position.now m q → GoesOn metric class position.now m q }
 {
     laws();
     let _number = class.number();
     let _side = position.side();
     match man.kind {
         Kind::P => {
-            if !pawn_stays(column, position, man, from) {
+            if !pawn_stays(metric, position, man, from) {
                 return false;
             }
             if position.target().is_some() {
@@ -83,25 +82,25 @@ fn add_exits_of(
     from: Square,
     exits: &mut ArrayVec<Exit, 64>,
 )
-    requires knows { KnowsOwn class aim.now }
+    requires knows { Knows (table_at library.now) class aim.now }
     requires of { (flipped : Bool) × IsOf class flipped position.now }
     requires children { HasChildren (table_at library.now) class }
     requires camps { AreCamps position.now camps }
     requires held { IsHeld position.now.men from position.now.side }
     requires room { (man : Man) → Stands position.now.men from man → array_vec_len exits.old + most_moves man.kind ≤ 64 }
-    ensures exits { exits.new.items ≡ exits.old.items ++ exits_by (known (table_at library.now) class aim.now) (column_of aim.now) class position.now (moves_from from 64) }
+    ensures exits { exits.new.items ≡ exits.old.items ++ exits_by (known (table_at library.now) class aim.now) (metric_of aim.now) class position.now (moves_from from 64) }
     ensures room { (man : Man) → Stands position.now.men from man → array_vec_len exits.new ≤ array_vec_len exits.old + most_moves man.kind }
 {
     laws();
     let _number = class.number();
     let _side = position.side();
-    let column = aim.column();
+    let metric = aim.metric();
     let man = position.at(from).unwrap();
-    if goes_on(column, class, position, camps, man, from) {
+    if goes_on(metric, class, position, camps, man, from) {
         return;
     }
     let targets = legal_targets_of(position, camps, man, from);
-    let onward = onward(column, class, position, camps, man, from, targets);
+    let onward = onward(metric, class, position, camps, man, from, targets);
     let leaving = targets.without(onward);
     add_exits(aim, class, library, position, from, leaving, exits);
 }
@@ -114,11 +113,11 @@ pub(crate) fn add_exits_of_side(
     position: &Position,
     exits: &mut ArrayVec<Exit, 64>,
 )
-    requires knows { KnowsOwn class aim.now }
+    requires knows { Knows (table_at library.now) class aim.now }
     requires of { (flipped : Bool) × IsOf class flipped position.now }
     requires children { HasChildren (table_at library.now) class }
     requires empty { exits.old.items ≡ [] }
-    ensures { exits.new.items ≡ exits_from (known (table_at library.now) class aim.now) (column_of aim.now) class (Some position.now) }
+    ensures { exits.new.items ≡ exits_from (known (table_at library.now) class aim.now) (metric_of aim.now) class (Some position.now) }
 {
     laws();
     let camps = position.camps();

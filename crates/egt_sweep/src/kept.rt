@@ -1,4 +1,4 @@
-//! The ranks of a class, kept of the entries of all its numbers.
+//! The entries of a class, kept of those of all its numbers.
 ghost use Rattle.std.specs.Prelude.{◌≡◌, ◌+◌, ◌<◌, length, IfOk};
 ghost use Rattle.egt_graph.specs.Words.{words_of};
 ghost use Rattle.egt_index.specs.Numbers.{places};
@@ -8,7 +8,7 @@ ghost use Rattle.egt_sweep.specs.CodeMates.{AreKeptBelow, AreOfIndexes};
 use crate::code_words::{CodeWords, word_count};
 use crate::laws::laws;
 use egt_board::SquareSet;
-use egt_graph::{Ranks, number_at};
+use egt_graph::number_at;
 use egt_index::{code_of, size};
 use std::alloc::{AllocError, Global};
 
@@ -35,13 +35,13 @@ fn keep_word(words: &CodeWords, word: u32, entries: &[u16], kept: &mut [u16])
 }
 
 /// Of the entries of all numbers those of the indexes, each in its place; the others are 0.
-pub(crate) fn kept_ranks(
+pub(crate) fn kept_entries(
     alloc: Global,
     words: &CodeWords,
     entries: &[u16],
-) -> Result<Ranks, AllocError>
+) -> Result<Vec<u16>, AllocError>
     requires { length entries.now ≡ size_of words.now.class }
-    ensures { IfOk result (AreOfIndexes words.now.class entries.now) }
+    ensures { IfOk result (λ kept. AreOfIndexes words.now.class entries.now kept.items) }
 {
     laws();
     let size = size(words.class);
@@ -49,5 +49,5 @@ pub(crate) fn kept_ranks(
     for word in 0..word_count(words.class) {
         keep_word(words, word as u32, entries, kept.as_mut_slice());
     }
-    Ok(Ranks::from_entries(kept))
+    Ok(kept)
 }

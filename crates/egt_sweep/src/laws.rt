@@ -2,7 +2,7 @@
 ghost use Rattle.std.specs.Prelude.{◌<◌, ℕ};
 ghost use Rattle.egt_check.specs.Tables.{Tables};
 ghost use Rattle.egt_graph.specs.StandIns.{StandsFor};
-ghost use Rattle.egt_table.specs.declared.column.Column.{Column};
+ghost use Rattle.egt_check.specs.declared.metric.Metric.{Metric};
 ghost use Rattle.egt_sweep.specs.ClassGame.{class_game};
 ghost use Rattle.egt_sweep.specs.CodeGame.{CodeMoves, TellsGame, code_game, index_of};
 ghost use Rattle.egt_sweep.specs.Laws.{Laws};
@@ -41,7 +41,7 @@ pub(crate) fn laws()
 
 /// The numbers of a class, by told moves, stand for its indexes: each for that of the position for which it stands.
 pub(crate) fn codes_stand_for_indexes()
-    ensures { (tables : Tables) (column : Column) (c : ℕ) (moves : CodeMoves) → c < 36 → ∥ TellsGame c moves ∥₁ → StandsFor (code_game tables column c moves) (class_game tables column c) (index_of c) }
+    ensures { (tables : Tables) (metric : Metric) (c : ℕ) (moves : CodeMoves) → c < 36 → ∥ TellsGame c moves ∥₁ → StandsFor (code_game tables metric c moves) (class_game tables metric c) (index_of c) }
 {
     laws();
 }

@@ -15,11 +15,12 @@ ghost use Rattle.egt_moves.specs.Moves.{played, moves_between, moves_from};
 ghost use Rattle.egt_moves.specs.Room.{most_choices};
 ghost use Rattle.egt_moves.specs.Targets.{IsLegalTarget};
 ghost use Rattle.egt_moves.specs.declared.chess_move.Move.{Move};
-ghost use Rattle.egt_table.specs.declared.column.Column.TheVariants.{Mate};
+ghost use Rattle.egt_check.specs.declared.metric.Metric.TheVariants.{Mate};
 ghost use Rattle.egt_check.specs.Entry.{Shows};
+ghost use Rattle.egt_check.specs.NearTables.{near_tables};
 ghost use Rattle.egt_check.specs.Reading.{read};
 ghost use Rattle.egt_check.specs.Tables.{table_at, entry_at, HasChildren};
-ghost use Rattle.egt_sweep.specs.Aiming.{column_of, known, KnowsOwn};
+ghost use Rattle.egt_sweep.specs.Aiming.{metric_of, known, Knows};
 ghost use Rattle.egt_sweep.specs.Edges.{GoesOn};
 ghost use Rattle.egt_sweep.specs.MateColumn.{IsIndexed};
 ghost use Rattle.egt_sweep.specs.Nodes.{plies_told, exit_of, shown_below, exit_by, exits_by};
@@ -29,7 +30,7 @@ use crate::aim::Aim;
 use crate::laws::laws;
 use arrayvec::ArrayVec;
 use egt_board::{Position, Square, SquareSet};
-use egt_check::Library;
+use egt_check::{Library, Metric};
 use egt_class::{Class, of};
 use egt_graph::Exit;
 use egt_index::{index, indexed_by_men};
@@ -37,26 +38,26 @@ use egt_moves::{Men, Move, is_told_by_men, play_legal, promotions};
 use egt_table::Column;
 
 /// The plies of an exit: in the game of zeroing moves none are left.
-fn plies_told(column: Column, plies: u16) -> u16
-    ensures { result ≡ plies_told column plies }
+fn plies_told(metric: Metric, plies: u16) -> u16
+    ensures { result ≡ plies_told metric plies }
 {
-    match column {
-        Column::Mate => plies,
-        Column::Zeroing => 0,
+    match metric {
+        Metric::Mate => plies,
+        Metric::Zeroing => 0,
     }
 }
 
 /// The value that a mate entry shows, as an exit.
-fn exit_shown(column: Column, entry: u16) -> Exit
+fn exit_shown(metric: Metric, entry: u16) -> Exit
     requires { (v : Value) × Shows entry v }
-    ensures { result ≡ exit_of column (read entry) }
+    ensures { result ≡ exit_of metric (read entry) }
 {
     if entry == 1 {
         Exit::Draw
     } else if entry % 2 == 0 {
-        Exit::Win(plies_told(column, (entry - 2) / 2))
+        Exit::Win(plies_told(metric, (entry - 2) / 2))
     } else {
-        Exit::Loss(plies_told(column, (entry - 3) / 2))
+        Exit::Loss(plies_told(metric, (entry - 3) / 2))
     }
 }
 
@@ -72,9 +73,21 @@ fn table_entry(library: &Library, class: Class, index: u32) -> u16
     table.entry(Column::Mate, index)
 }
 
+/// The entry of the column of the nearest mates there, read as a mate entry: as a loss in so many plies, or as a draw.
+fn near_entry(library: &Library, class: Class, index: u32) -> u16
+    requires there { IsSome (near_tables (table_at library.now) class) }
+    requires indexed { IsIndexed class index }
+    ensures shows { (v : Value) × Shows result v }
+    ensures is { IfSome (near_tables (table_at library.now) class) (λ t. result ≡ entry_at t Mate index) }
+{
+    laws();
+    let table = library.get(class).unwrap();
+    2 * table.entry(Column::Reach, index) - 1
+}
+
 /// The mate entry at the index of a position in a class, whose own ranks are read where they are known.
 fn mate_entry(aim: &Aim<'_>, own: Class, library: &Library, class: Class, index: u32) -> u16
-    requires knows { KnowsOwn own aim.now }
+    requires knows { Knows (table_at library.now) own aim.now }
     requires there { IsSome (known (table_at library.now) own aim.now class) }
     requires indexed { IsIndexed class index }
     ensures shows { (v : Value) × Shows result v }
@@ -91,27 +104,28 @@ fn mate_entry(aim: &Aim<'_>, own: Class, library: &Library, class: Class, index:
                 table_entry(library, class, index)
             }
         }
+        Aim::Reach => near_entry(library, class, index),
     }
 }
 
 /// The value of a position with the index in a class that has its table.
 fn exit_in(aim: &Aim<'_>, own: Class, library: &Library, class: Class, index: u32) -> Exit
-    requires knows { KnowsOwn own aim.now }
+    requires knows { Knows (table_at library.now) own aim.now }
     requires there { IsSome (known (table_at library.now) own aim.now class) }
     requires indexed { IsIndexed class index }
-    ensures { (q : Setup) → IsAdmissible q → IsIndex class q index → result ≡ exit_of (column_of aim.now) (shown_below (known (table_at library.now) own aim.now) 36 q) }
+    ensures { (q : Setup) → IsAdmissible q → IsIndex class q index → result ≡ exit_of (metric_of aim.now) (shown_below (known (table_at library.now) own aim.now) 36 q) }
 {
     laws();
     let _number = class.number();
     let entry = mate_entry(aim, own, library, class, index);
-    exit_shown(aim.column(), entry)
+    exit_shown(aim.metric(), entry)
 }
 
 /// The value of a position whose class has its table.
 fn exit_at(aim: &Aim<'_>, own: Class, library: &Library, next: &Position) -> Exit
-    requires knows { KnowsOwn own aim.now }
+    requires knows { Knows (table_at library.now) own aim.now }
     requires there { (c : ℕ) (flipped : Bool) → c < 36 → IsOf c flipped next.now → IsSome (known (table_at library.now) own aim.now c) }
-    ensures { result ≡ exit_of (column_of aim.now) (shown_below (known (table_at library.now) own aim.now) 36 next.now) }
+    ensures { result ≡ exit_of (metric_of aim.now) (shown_below (known (table_at library.now) own aim.now) 36 next.now) }
 {
     laws();
     let (class, _flipped) = of(next);
@@ -122,9 +136,9 @@ fn exit_at(aim: &Aim<'_>, own: Class, library: &Library, next: &Position) -> Exi
 
 /// The same of a position without a target, by its men alone.
 fn exit_by_men(aim: &Aim<'_>, own: Class, library: &Library, next: &Men) -> Exit
-    requires knows { KnowsOwn own aim.now }
+    requires knows { Knows (table_at library.now) own aim.now }
     requires there { (q : Setup) × IsAdmissible q × AreMenOf q next.now × (q.target ≡ None) × ((c : ℕ) (flipped : Bool) → c < 36 → IsOf c flipped q → IsSome (known (table_at library.now) own aim.now c)) }
-    ensures { (q : Setup) → IsAdmissible q → AreMenOf q next.now → q.target ≡ None → result ≡ exit_of (column_of aim.now) (shown_below (known (table_at library.now) own aim.now) 36 q) }
+    ensures { (q : Setup) → IsAdmissible q → AreMenOf q next.now → q.target ≡ None → result ≡ exit_of (metric_of aim.now) (shown_below (known (table_at library.now) own aim.now) 36 q) }
 {
     let (class, index) = indexed_by_men(next.white, next.black, next.one, next.other, next.side);
     let _number = class.number();
@@ -141,14 +155,14 @@ fn exit_after(
     told: bool,
     chess_move: &Move,
 ) -> Exit
-    requires knows { KnowsOwn class aim.now }
+    requires knows { Knows (table_at library.now) class aim.now }
     requires of { (flipped : Bool) × IsOf class flipped position.now }
     requires children { HasChildren (table_at library.now) class }
     requires men { AreMenOf position.now men.now }
     requires legal { IsLegal position.now chess_move.now }
     requires told { told ≡ true → (q : Setup) → Leads position.now chess_move.now q → (position.now.target ≢ Some chess_move.now.to) × (q.target ≡ None) }
-    requires leaves { (q : Setup) → Leads position.now chess_move.now q → ¬ GoesOn (column_of aim.now) class position.now chess_move.now q }
-    ensures { (q : Setup) → Leads position.now chess_move.now q → result ≡ exit_of (column_of aim.now) (shown_below (known (table_at library.now) class aim.now) 36 q) }
+    requires leaves { (q : Setup) → Leads position.now chess_move.now q → ¬ GoesOn (metric_of aim.now) class position.now chess_move.now q }
+    ensures { (q : Setup) → Leads position.now chess_move.now q → result ≡ exit_of (metric_of aim.now) (shown_below (known (table_at library.now) class aim.now) 36 q) }
 {
     laws();
     let _side = position.side();
@@ -172,15 +186,15 @@ fn add_exit(
     chess_move: &Move,
     list: &mut ArrayVec<Exit, 64>,
 )
-    requires knows { KnowsOwn class aim.now }
+    requires knows { Knows (table_at library.now) class aim.now }
     requires of { (flipped : Bool) × IsOf class flipped position.now }
     requires children { HasChildren (table_at library.now) class }
     requires men { AreMenOf position.now men.now }
     requires legal { IsLegal position.now chess_move.now }
     requires told { told ≡ true → (q : Setup) → Leads position.now chess_move.now q → (position.now.target ≢ Some chess_move.now.to) × (q.target ≡ None) }
-    requires leaves { (q : Setup) → Leads position.now chess_move.now q → ¬ GoesOn (column_of aim.now) class position.now chess_move.now q }
+    requires leaves { (q : Setup) → Leads position.now chess_move.now q → ¬ GoesOn (metric_of aim.now) class position.now chess_move.now q }
     requires room { array_vec_len list.old < 64 }
-    ensures items { list.new.items ≡ list.old.items ++ option_to_list (exit_by (known (table_at library.now) class aim.now) (column_of aim.now) class position.now chess_move.now (played position.now chess_move.now)) }
+    ensures items { list.new.items ≡ list.old.items ++ option_to_list (exit_by (known (table_at library.now) class aim.now) (metric_of aim.now) class position.now chess_move.now (played position.now chess_move.now)) }
     ensures few { array_vec_len list.new ≤ array_vec_len list.old + 1 }
 {
     laws();
@@ -199,13 +213,13 @@ fn add_exits_to(
     to: Square,
     list: &mut ArrayVec<Exit, 64>,
 )
-    requires knows { KnowsOwn class aim.now }
+    requires knows { Knows (table_at library.now) class aim.now }
     requires of { (flipped : Bool) × IsOf class flipped position.now }
     requires children { HasChildren (table_at library.now) class }
     requires target { IsLegalTarget position.now from to }
-    requires leaves { (m : Move) (q : Setup) → m.from ≡ from → m.to ≡ to → Leads position.now m q → ¬ GoesOn (column_of aim.now) class position.now m q }
+    requires leaves { (m : Move) (q : Setup) → m.from ≡ from → m.to ≡ to → Leads position.now m q → ¬ GoesOn (metric_of aim.now) class position.now m q }
     requires room { (man : Man) → Stands position.now.men from man → array_vec_len list.old + most_choices man.kind ≤ 64 }
-    ensures items { list.new.items ≡ list.old.items ++ exits_by (known (table_at library.now) class aim.now) (column_of aim.now) class position.now (moves_between from to) }
+    ensures items { list.new.items ≡ list.old.items ++ exits_by (known (table_at library.now) class aim.now) (metric_of aim.now) class position.now (moves_between from to) }
     ensures few { (man : Man) → Stands position.now.men from man → array_vec_len list.new ≤ array_vec_len list.old + most_choices man.kind }
 {
     laws();
@@ -232,14 +246,14 @@ pub(crate) fn add_exits(
     targets: SquareSet,
     list: &mut ArrayVec<Exit, 64>,
 )
-    requires knows { KnowsOwn class aim.now }
+    requires knows { Knows (table_at library.now) class aim.now }
     requires of { (flipped : Bool) × IsOf class flipped position.now }
     requires children { HasChildren (table_at library.now) class }
     requires targets { (t : ℕ) → Has targets t → IsLegalTarget position.now from t }
-    requires leaves { AllLeave (column_of aim.now) class position.now from targets }
-    requires others { OthersGoOn (column_of aim.now) class position.now from targets }
+    requires leaves { AllLeave (metric_of aim.now) class position.now from targets }
+    requires others { OthersGoOn (metric_of aim.now) class position.now from targets }
     requires room { (man : Man) → Stands position.now.men from man → array_vec_len list.old + most_choices man.kind * size_of targets ≤ 64 }
-    ensures items { list.new.items ≡ list.old.items ++ exits_by (known (table_at library.now) class aim.now) (column_of aim.now) class position.now (moves_from from 64) }
+    ensures items { list.new.items ≡ list.old.items ++ exits_by (known (table_at library.now) class aim.now) (metric_of aim.now) class position.now (moves_from from 64) }
     ensures few { (man : Man) → Stands position.now.men from man → array_vec_len list.new ≤ array_vec_len list.old + most_choices man.kind * size_of targets }
 {
     laws();

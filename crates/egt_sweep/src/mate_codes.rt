@@ -1,9 +1,10 @@
-//! The game of mates over the numbers of a class, by words.
+//! The games over the numbers of a class in which the moves that stay in it go on, by words: that of mates and that of the nearest mates.
 ghost use Rattle.std.specs.Prelude.{◌≡◌, ◌≤◌, IfOk};
 ghost use Rattle.egt_graph.specs.Value.{AreRanks, SomeAbove};
 ghost use Rattle.egt_check.specs.Tables.{table_at, HasChildren};
-ghost use Rattle.egt_table.specs.declared.column.Column.TheVariants.{Mate};
+ghost use Rattle.egt_check.specs.declared.metric.Metric.TheVariants.{Mate};
 ghost use Rattle.egt_index.specs.Numbers.{places};
+ghost use Rattle.egt_sweep.specs.Aiming.{known, Knows, knows_prop, metric_of};
 ghost use Rattle.egt_sweep.specs.ClassGame.{class_game};
 ghost use Rattle.egt_sweep.specs.CodeGame.{code_game_is_lawful};
 ghost use Rattle.egt_sweep.specs.CodeLists.{moves_told};
@@ -11,7 +12,7 @@ ghost use Rattle.egt_sweep.specs.CodeMates.{TellMates, game_by};
 
 use crate::aim::Aim;
 use crate::code_words::CodeWords;
-use crate::kept::kept_ranks;
+use crate::kept::kept_entries;
 use crate::laws::{codes_stand_for_indexes, laws};
 use crate::nodes::{is_mated, list_exits};
 use arrayvec::ArrayVec;
@@ -21,20 +22,24 @@ use egt_graph::{Exit, ExitMarks, Ranks, Shelved, SolveFault, WordStart, solve_by
 use egt_index::size;
 use std::alloc::Global;
 
-/// The game of mates over the numbers of a class whose children have their tables in the library.
+/// The game over the numbers of a class whose children have their tables in the library, in which moves that stay in the class go on.
 #[derive(Drop)]
 pub(crate) struct MateCodes<'l> {
     pub(crate) library: &'l Library,
     pub(crate) words: &'l CodeWords,
+    /// Mates, or the nearest mates.
+    pub(crate) aim: Aim<'l>,
     ghost children: { HasChildren (table_at library.now) words.now.class },
+    ghost stays: { metric_of aim ≡ Mate },
+    ghost knows: { Knows (table_at library.now) words.now.class aim } by { knows_prop (table_at library.now) words.now.class aim },
 }
 
 impl Shelved for MateCodes<'_> {
-    ghost graph = { λ g. game_by (table_at g.library.now) Mate g.words.now.class g.words.now.lists };
+    ghost graph = { λ g. game_by (known (table_at g.library.now) g.words.now.class g.aim) Mate g.words.now.class g.words.now.lists };
 
     ghost span = { λ g. places g.words.now.class };
 
-    ghost lawful = { λ g. code_game_is_lawful (table_at g.library.now) Mate g.words.now.class (moves_told g.words.now.class g.words.now.lists) };
+    ghost lawful = { λ g. code_game_is_lawful (known (table_at g.library.now) g.words.now.class g.aim) Mate g.words.now.class (moves_told g.words.now.class g.words.now.lists) };
 
     fn size(&self) -> u32 {
         size(self.words.class)
@@ -51,7 +56,7 @@ impl Shelved for MateCodes<'_> {
         let class = self.words.class;
         let _number = class.number();
         let index = self.words.index_of(i);
-        list_exits(&Aim::Mate, class, self.library, index, exits);
+        list_exits(&self.aim, class, self.library, index, exits);
     }
 
     fn span(&self) -> u32 {
@@ -93,10 +98,10 @@ pub(crate) struct CodeEntries {
 }
 
 /// The ranks of the class's game of mates, and what its numbers tell.
-pub(crate) fn solve_mate_codes(
+pub(crate) fn solve_mate_codes<'x>(
     alloc: Global,
-    library: &Library,
-    words: &CodeWords,
+    library: &'x Library,
+    words: &'x CodeWords,
     limit: u16,
 ) -> Result<(Ranks, CodeEntries), SolveFault>
     requires limit { limit ≤ 32000 }
@@ -108,7 +113,13 @@ pub(crate) fn solve_mate_codes(
     laws();
     codes_stand_for_indexes();
     stand_ins_tell_ranks();
-    let (entries, exits) = solve_by_words(alloc, &MateCodes { library, words }, limit)?;
-    let ranks = kept_ranks(alloc, words, entries.entries())?;
+    let game = MateCodes {
+        library,
+        words,
+        aim: Aim::Mate,
+    };
+    let (entries, exits) = solve_by_words(alloc, &game, limit)?;
+    let kept = kept_entries(alloc, words, entries.entries())?;
+    let ranks = Ranks::from_entries(kept);
     Ok((ranks, CodeEntries { entries, exits }))
 }

@@ -1,17 +1,16 @@
 //! The game of mates over a class.
 ghost use Rattle.egt_check.specs.Tables.{table_at, HasChildren};
-ghost use Rattle.egt_table.specs.declared.column.Column.TheVariants.{Mate};
+ghost use Rattle.egt_check.specs.declared.metric.Metric.TheVariants.{Mate};
 ghost use Rattle.egt_sweep.specs.ClassGame.{class_game, class_game_is_lawful};
 
 use crate::aim::Aim;
 use crate::missing::Missing;
 use crate::nodes::{exits, is_mated, is_void, predecessors, successors};
 use arrayvec::ArrayVec;
-use egt_check::{Library, first_missing};
+use egt_check::{Library, Metric, first_missing};
 use egt_class::Class;
 use egt_graph::{Exit, Game};
 use egt_index::size;
-use egt_table::Column;
 
 /// The game whose nodes are the indexes of a class, whose edges are the moves that stay in it, and whose exits are the others, with the mate
 /// value of where they lead.
@@ -62,7 +61,7 @@ impl Game for MateGame<'_> {
     }
 
     fn out(&self, i: u32) -> ArrayVec<u32, 64> {
-        successors(Column::Mate, self.class, i)
+        successors(Metric::Mate, self.class, i)
     }
 
     fn degree(&self, i: u32) -> usize {
@@ -70,7 +69,7 @@ impl Game for MateGame<'_> {
     }
 
     fn into(&self, j: u32) -> ArrayVec<u32, 128> {
-        predecessors(Column::Mate, self.class, j)
+        predecessors(Metric::Mate, self.class, j)
     }
 
     fn exits(&self, i: u32) -> ArrayVec<Exit, 64> {

@@ -4,7 +4,7 @@ ghost use Rattle.std.specs.Option.{is_some};
 ghost use Rattle.egt_index.specs.Size.{size_of};
 ghost use Rattle.egt_graph.specs.Passing.{passing_below};
 ghost use Rattle.egt_check.specs.Tables.{table_at, HasChildren};
-ghost use Rattle.egt_sweep.specs.Aiming.{column_of, known, KnowsOwn};
+ghost use Rattle.egt_sweep.specs.Aiming.{metric_of, known, Knows};
 ghost use Rattle.egt_sweep.specs.Edges.{IsAt};
 ghost use Rattle.egt_sweep.specs.Nodes.{position_at, is_mated, connects, exits_at};
 
@@ -15,12 +15,11 @@ use crate::laws::laws;
 use crate::sources::sources;
 use arrayvec::ArrayVec;
 use egt_board::Position;
-use egt_check::Library;
+use egt_check::{Library, Metric};
 use egt_class::Class;
 use egt_graph::Exit;
 use egt_index::{position, position_of};
 use egt_moves::{Standing, standing};
-use egt_table::Column;
 
 /// Whether no position has the index.
 pub(crate) fn is_void(class: Class, index: u32) -> bool
@@ -54,25 +53,25 @@ pub(crate) fn is_mated(class: Class, index: u32) -> bool
 }
 
 /// The nodes that moves which go on lead to from a node.
-pub(crate) fn successors(column: Column, class: Class, index: u32) -> ArrayVec<u32, 64>
+pub(crate) fn successors(metric: Metric, class: Class, index: u32) -> ArrayVec<u32, 64>
     requires { IsFalse (not (is_some (position_at class index))) }
-    ensures { result.items ≡ passing_below (size_of class) (λ j. connects column class index j) }
+    ensures { result.items ≡ passing_below (size_of class) (λ j. connects metric class index j) }
 {
     laws();
     let _number = class.number();
     let position = node(class, index);
-    edges(column, class, &position)
+    edges(metric, class, &position)
 }
 
 /// The nodes from which moves that go on lead to a node.
-pub(crate) fn predecessors(column: Column, class: Class, index: u32) -> ArrayVec<u32, 128>
+pub(crate) fn predecessors(metric: Metric, class: Class, index: u32) -> ArrayVec<u32, 128>
     requires { IsFalse (not (is_some (position_at class index))) }
-    ensures { result.items ≡ passing_below (size_of class) (λ i. connects column class i index) }
+    ensures { result.items ≡ passing_below (size_of class) (λ i. connects metric class i index) }
 {
     laws();
     let _number = class.number();
     let position = node(class, index);
-    sources(column, class, &position)
+    sources(metric, class, &position)
 }
 
 /// Fills the list, in the place of what it had, with the values of where the moves lead that leave the game from a node, in the order of
@@ -85,9 +84,9 @@ pub(crate) fn list_exits(
     list: &mut ArrayVec<Exit, 64>,
 )
     requires node { IsFalse (not (is_some (position_at class index))) }
-    requires knows { KnowsOwn class aim.now }
+    requires knows { Knows (table_at library.now) class aim.now }
     requires children { HasChildren (table_at library.now) class }
-    ensures { list.new.items ≡ exits_at (known (table_at library.now) class aim.now) (column_of aim.now) class index }
+    ensures { list.new.items ≡ exits_at (known (table_at library.now) class aim.now) (metric_of aim.now) class index }
 {
     laws();
     let position = node(class, index);
@@ -103,9 +102,9 @@ pub(crate) fn exits(
     index: u32,
 ) -> ArrayVec<Exit, 64>
     requires node { IsFalse (not (is_some (position_at class index))) }
-    requires knows { KnowsOwn class aim.now }
+    requires knows { Knows (table_at library.now) class aim.now }
     requires children { HasChildren (table_at library.now) class }
-    ensures { result.items ≡ exits_at (known (table_at library.now) class aim.now) (column_of aim.now) class index }
+    ensures { result.items ≡ exits_at (known (table_at library.now) class aim.now) (metric_of aim.now) class index }
 {
     let mut list = ArrayVec::new();
     list_exits(aim, class, library, index, &mut list);

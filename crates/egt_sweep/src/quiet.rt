@@ -3,10 +3,10 @@ ghost use Rattle.std.specs.Prelude.{◌≡◌, ◌↔◌, ℕ, IsTrue};
 ghost use Rattle.egt_board.specs.Pawn.{Advances};
 ghost use Rattle.egt_board.specs.Placement.{IsFree};
 ghost use Rattle.egt_sweep.specs.Ways.{Stays};
-ghost use Rattle.egt_table.specs.declared.column.Column.TheVariants.{Mate};
+ghost use Rattle.egt_check.specs.declared.metric.Metric.TheVariants.{Mate};
 
 use egt_board::{Man, Position, Square};
-use egt_table::Column;
+use egt_check::Metric;
 
 /// Whether a pawn that goes to the free square takes nothing in passing and promotes nothing.
 pub(crate) fn stays(position: &Position, man: Man, to: Square) -> bool
@@ -29,11 +29,11 @@ fn advances_stay(position: &Position, pawn: Man, from: Square) -> bool
 }
 
 /// Whether all advances of the pawn go on in the game: none is promoted, and moves of pawns do.
-pub(crate) fn pawn_stays(column: Column, position: &Position, pawn: Man, from: Square) -> bool
-    ensures { IsTrue result → (column ≡ Mate) × ((t : ℕ) → Advances (IsFree position.now.men) pawn.side from t → Stays position.now pawn t) }
+pub(crate) fn pawn_stays(metric: Metric, position: &Position, pawn: Man, from: Square) -> bool
+    ensures { IsTrue result → (metric ≡ Mate) × ((t : ℕ) → Advances (IsFree position.now.men) pawn.side from t → Stays position.now pawn t) }
 {
-    match column {
-        Column::Mate => advances_stay(position, pawn, from),
-        Column::Zeroing => false,
+    match metric {
+        Metric::Mate => advances_stay(position, pawn, from),
+        Metric::Zeroing => false,
     }
 }

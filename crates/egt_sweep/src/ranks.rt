@@ -1,25 +1,29 @@
 //! What the ranks of games mean. These functions do nothing: a caller calls one to know what it ensures.
-ghost use Rattle.std.specs.Prelude.{ℕ, ◌<◌, IsTrue};
+ghost use Rattle.std.specs.Prelude.{ℕ, ◌<◌, Option, IsTrue};
 ghost use Rattle.egt_board.specs.Setup.{Setup, IsAdmissible};
 ghost use Rattle.egt_index.specs.Index.{IsIndex};
 ghost use Rattle.egt_moves.specs.Arena.{Value, HasValue};
 ghost use Rattle.egt_moves.specs.Chess.{chess};
+ghost use Rattle.egt_moves.specs.Reach.{HasReach};
 ghost use Rattle.egt_moves.specs.Zeroing.{HasZeroing};
+ghost use Rattle.egt_graph.specs.Near.{HasNear, SomeFar};
 ghost use Rattle.egt_graph.specs.Value.{decided_within, HasRank, SomeAbove};
-ghost use Rattle.egt_table.specs.declared.column.Column.TheVariants.{Mate, Zeroing};
+ghost use Rattle.egt_check.specs.declared.metric.Metric.TheVariants.{Mate, Zeroing};
 ghost use Rattle.egt_table.specs.Table.{TableValue};
-ghost use Rattle.egt_check.specs.Tables.{Tables, beside};
+ghost use Rattle.egt_check.specs.Tables.{Tables, beside, HasReachChildren};
 ghost use Rattle.egt_check.specs.Truth.{HasTrueChildren};
-ghost use Rattle.egt_sweep.specs.Built.{IsWithinLimit, SomeAboveLimit};
+ghost use Rattle.egt_sweep.specs.Built.{IsWithinLimit, SomeAboveLimit, SomeReachesFar};
 ghost use Rattle.egt_sweep.specs.ClassGame.{class_game};
 ghost use Rattle.egt_sweep.specs.MateColumn.{ShowsValues};
 ghost use Rattle.egt_sweep.specs.Nodes.{exit_of};
+ghost use Rattle.egt_sweep.specs.ReachGame.{reach_game};
 ghost use Rattle.egt_sweep.specs.Plies.{Plies};
 
 use crate::laws::laws;
 use egt_moves::laws::{
     all_images_are_alike, halves_meet, least_plies, more_plies, one_value, zeroes_in_time,
 };
+use egt_moves::reaching::{more_plies_reach_more, one_reach, reach_is_kept};
 
 /// What holds of forced mates, of zeroing moves and of images.
 fn plies()
@@ -56,4 +60,18 @@ pub fn zeroing_ranks_are_distances()
 {
     laws();
     plies();
+}
+
+/// Where the children's tables are true and have the column of the nearest mates, the numbers of the game of the nearest mates over a class are how far the
+/// nearest checkmates are from its positions; and where some number is greater than an entry can hold, so far away is that of some position.
+pub fn reach_numbers_are_the_nearest_mates()
+    ensures numbers { (tables : Tables) (c i : ℕ) (p : Setup) (number : Option ℕ) → c < 36 → HasTrueChildren tables c → HasReachChildren tables c →
+        IsAdmissible p → IsIndex c p i → HasNear (reach_game tables c) i number → HasReach chess p number }
+    ensures far { (tables : Tables) (c : ℕ) → c < 36 → HasTrueChildren tables c → HasReachChildren tables c → SomeFar (reach_game tables c) →
+        SomeReachesFar c }
+{
+    laws();
+    more_plies_reach_more();
+    one_reach();
+    reach_is_kept();
 }

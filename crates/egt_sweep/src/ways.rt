@@ -14,8 +14,8 @@ ghost use Rattle.egt_sweep.specs.Ways.{Stays, IsOnward};
 use crate::laws::laws;
 use crate::quiet::stays;
 use egt_board::{Camps, Kind, Man, Position, Square, SquareSet};
+use egt_check::Metric;
 use egt_class::Class;
-use egt_table::Column;
 
 /// Those of the pawn's targets, which are free squares, to which it goes and takes nothing in passing and promotes nothing.
 fn staying(position: &Position, man: Man, targets: SquareSet) -> SquareSet
@@ -34,7 +34,7 @@ fn staying(position: &Position, man: Man, targets: SquareSet) -> SquareSet
 /// Those of the legal targets of the man on the square to which it goes on in the game.
 #[inline(always)]
 pub(crate) fn onward(
-    column: Column,
+    metric: Metric,
     class: Class,
     position: &Position,
     camps: Camps,
@@ -46,17 +46,17 @@ pub(crate) fn onward(
     requires of { (flipped : Bool) × IsOf class flipped position.now }
     requires stands { Stands position.now.men from man }
     requires targets { (t : ℕ) → Has targets t ↔ IsLegalTarget position.now from t }
-    ensures sound { (t : ℕ) → Has result t → IsOnward column class position.now from t }
-    ensures complete { (m : Move) (q : Setup) → m.from ≡ from → Leads position.now m q → GoesOn column class position.now m q → Has result m.to }
+    ensures sound { (t : ℕ) → Has result t → IsOnward metric class position.now from t }
+    ensures complete { (m : Move) (q : Setup) → m.from ≡ from → Leads position.now m q → GoesOn metric class position.now m q → Has result m.to }
 {
     laws();
     let _number = class.number();
     let _side = position.side();
     let free = targets.without(camps.enemy);
     match man.kind {
-        Kind::P => match column {
-            Column::Mate => staying(position, man, free),
-            Column::Zeroing => SquareSet::EMPTY,
+        Kind::P => match metric {
+            Metric::Mate => staying(position, man, free),
+            Metric::Zeroing => SquareSet::EMPTY,
         },
         _ => free,
     }

@@ -4,7 +4,7 @@ ghost use Rattle.egt_graph.specs.Value.{AreRanks, SomeAbove};
 ghost use Rattle.egt_graph.specs.Words.{words_of};
 ghost use Rattle.egt_index.specs.Size.{size_of};
 ghost use Rattle.egt_check.specs.Tables.{table_at, beside, HasChildren};
-ghost use Rattle.egt_table.specs.declared.column.Column.TheVariants.{Mate, Zeroing};
+ghost use Rattle.egt_check.specs.declared.metric.Metric.TheVariants.{Mate, Zeroing};
 ghost use Rattle.egt_index.specs.Numbers.{places};
 ghost use Rattle.egt_sweep.specs.ClassGame.{class_game};
 ghost use Rattle.egt_sweep.specs.CodeGame.{code_game_is_lawful};
@@ -15,7 +15,7 @@ ghost use Rattle.egt_sweep.specs.OddMarks.{AreOddMarks};
 
 use crate::aim::Aim;
 use crate::code_words::CodeWords;
-use crate::kept::kept_ranks;
+use crate::kept::kept_entries;
 use crate::laws::{codes_stand_for_indexes, laws};
 use crate::mate_codes::CodeEntries;
 use crate::nodes::{is_mated, list_exits};
@@ -156,6 +156,6 @@ pub(crate) fn solve_zero_codes(
     stand_ins_tell_ranks();
     let game = ZeroCodes::of(alloc, library, words, mates, codes)?;
     let (entries, _exits) = solve_by_words(alloc, &game, limit)?;
-    let ranks = kept_ranks(alloc, words, entries.entries())?;
-    Ok(ranks)
+    let kept = kept_entries(alloc, words, entries.entries())?;
+    Ok(Ranks::from_entries(kept))
 }

@@ -2,7 +2,7 @@
 ghost use Rattle.std.specs.Prelude.{◌≡◌, ◌≢◌, ◌<◌, ◌≤◌, ℕ, true, length, slice_index};
 ghost use Rattle.std.specs.Option.{is_some};
 ghost use Rattle.egt_check.specs.Tables.{table_at, beside, HasChildren};
-ghost use Rattle.egt_table.specs.declared.column.Column.TheVariants.{Zeroing};
+ghost use Rattle.egt_check.specs.declared.metric.Metric.TheVariants.{Zeroing};
 ghost use Rattle.egt_sweep.specs.ClassGame.{class_game, class_game_is_lawful};
 ghost use Rattle.egt_sweep.specs.MateColumn.{mate_table, IsMateColumn};
 
@@ -10,11 +10,10 @@ use crate::aim::Aim;
 use crate::missing::Missing;
 use crate::nodes::{exits, is_mated, is_void, predecessors, successors};
 use arrayvec::ArrayVec;
-use egt_check::{Library, first_missing};
+use egt_check::{Library, Metric, first_missing};
 use egt_class::Class;
 use egt_graph::{Exit, Game, Ranks};
 use egt_index::size;
-use egt_table::Column;
 
 /// The game whose nodes are the indexes of a class, whose edges are the moves that do not zero, and whose exits are the others: a win or
 /// a loss in 0 or a draw, as where they lead is won, lost or drawn for the side to move there.
@@ -79,7 +78,7 @@ impl Game for ZeroGame<'_> {
     }
 
     fn out(&self, i: u32) -> ArrayVec<u32, 64> {
-        successors(Column::Zeroing, self.class, i)
+        successors(Metric::Zeroing, self.class, i)
     }
 
     fn degree(&self, i: u32) -> usize {
@@ -87,7 +86,7 @@ impl Game for ZeroGame<'_> {
     }
 
     fn into(&self, j: u32) -> ArrayVec<u32, 128> {
-        predecessors(Column::Zeroing, self.class, j)
+        predecessors(Metric::Zeroing, self.class, j)
     }
 
     fn exits(&self, i: u32) -> ArrayVec<Exit, 64> {

@@ -2,7 +2,7 @@
 ghost use Rattle.std.specs.Prelude.{◌≡◌, ◌≤◌, IfOk};
 ghost use Rattle.egt_graph.specs.Value.{AreRanks, SomeAbove};
 ghost use Rattle.egt_check.specs.Tables.{table_at, beside};
-ghost use Rattle.egt_table.specs.declared.column.Column.TheVariants.{Zeroing};
+ghost use Rattle.egt_check.specs.declared.metric.Metric.TheVariants.{Zeroing};
 ghost use Rattle.egt_sweep.specs.ClassGame.{class_game};
 ghost use Rattle.egt_sweep.specs.CodeMates.{CodesTell};
 ghost use Rattle.egt_sweep.specs.MateColumn.{mate_table};

@@ -1,7 +1,7 @@
-use Rattle.std.proofs.Common.{ℕ, ◌<◌, List, Option, Err, refl, ap, ◌∙◌, subst}
+use Rattle.std.proofs.Common.{ℕ, ◌<◌, List, Option, Err, inl, refl, ap, ◌∙◌, subst}
 use Rattle.egt_graph.specs.Value.{SomeAbove}
 use Rattle.egt_table.specs.Table.{TableValue}
-use Rattle.egt_table.specs.declared.column.Column.TheVariants.{Mate}
+use Rattle.egt_check.specs.declared.metric.Metric.TheVariants.{Mate}
 use Rattle.egt_check.specs.Tables.{table_at}
 use Rattle.egt_sweep.specs.ClassGame.{class_game}
 use Rattle.egt_sweep.proofs.TrueChildren.{true_children}
@@ -17,4 +17,4 @@ returns-in-Err-TooDeep-clause-refused c =
     let above = c.solve_mates.ensures.too_deep (c.in-Err-TooDeep.is ∙ ap Err c.in-Err-TooDeep.field-0-is) in
     let here = subst (λ (xs : List (Option TableValue)). SomeAbove (class_game (table_at xs) Mate c.args.class) c.args.limit) made.library
     (subst (λ (k : ℕ). SomeAbove (class_game (table_at game.library.now) Mate k) c.args.limit) made.class above) in
-    (children, refl, c.mate_ranks_are_values.ensures.above (table_at places) c.args.class c.args.limit below (true_children (table_at places) c.args.class c.children_are_true.ensures children) here)
+    (children, c.requires.reach_children, inl (refl, c.mate_ranks_are_values.ensures.above (table_at places) c.args.class c.args.limit below (true_children (table_at places) c.args.class c.children_are_true.ensures children) here))

@@ -10,4 +10,4 @@ use Rattle.egt_sweep.proofs.edges.edges.Given as goal
 abbrev pub invariant-loop-chess_move : goal.invariant-loop-chess_move
 invariant-loop-chess_move l =
     IsStrictlyIncreasing l.list.items × (array_vec_len l.list ≤ l.chess_move-index)
-    × ((k : ℕ) → Contains l.list.items k ↔ Collected (LeadsOn l.column l.class l.position) l.chess_move-items l.chess_move-index k)
+    × ((k : ℕ) → Contains l.list.items k ↔ Collected (LeadsOn l.metric l.class l.position) l.chess_move-items l.chess_move-index k)

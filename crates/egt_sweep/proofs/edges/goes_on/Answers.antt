@@ -1,6 +1,6 @@
 use Rattle.std.proofs.Common.{◌↔◌, ℕ, ◌<◌, not, IsTrue, sym, subst}
 use Rattle.egt_class.specs.Membership.{IsOf}
-use Rattle.egt_table.specs.declared.column.Column.{Column}
+use Rattle.egt_check.specs.declared.metric.Metric.{Metric}
 use Rattle.egt_sweep.specs.Edges.{GoesOn}
 use Rattle.egt_sweep.proofs.Staying.{does_not_zero, quiet_stays, stays_in_class, tests_equal}
 use Rattle.egt_sweep.proofs.edges.goes_on.Goals as goal
@@ -10,7 +10,7 @@ returns-in-Mate-clause-on c =
     let q = c.args.next.now in
     let equal = tests_equal c.eq.result c.of-own.result.0 c.args.class c.eq.ensures in
     let stays = stays_in_class c.laws.ensures c.args.class c.of-own.result.0 c.of-own.result.1 q (subst (λ (n : ℕ). n < 36) c.number-number.ensures.value c.number-number.ensures.below) (subst (λ (n : ℕ). n < 36) c.number-own_number.ensures.value c.number-own_number.ensures.below) c.side-2.ensures.admissible c.of-own.ensures.class in
-    subst (λ (column : Column). IsTrue c.eq.result ↔ GoesOn column c.args.class c.args.position.now c.args.chess_move.now q) (sym c.in-Mate.is)
+    subst (λ (metric : Metric). IsTrue c.eq.result ↔ GoesOn metric c.args.class c.args.position.now c.args.chess_move.now q) (sym c.in-Mate.is)
     (λ t. stays.0 (equal.0 t), λ on. equal.1 (stays.1 on))
 
 pub returns-in-Mate-clause-class : goal.returns-in-Mate-clause-class
@@ -20,7 +20,7 @@ returns-in-Mate-clause-class c t =
 
 pub returns-in-Zeroing-clause-on : goal.returns-in-Zeroing-clause-on
 returns-in-Zeroing-clause-on c =
-    subst (λ (column : Column). IsTrue (not c.zeroing.result) ↔ GoesOn column c.args.class c.args.position.now c.args.chess_move.now c.args.next.now) (sym c.in-Zeroing.is)
+    subst (λ (metric : Metric). IsTrue (not c.zeroing.result) ↔ GoesOn metric c.args.class c.args.position.now c.args.chess_move.now c.args.next.now) (sym c.in-Zeroing.is)
     (does_not_zero c.zeroing.result c.zeroing.ensures)
 
 pub returns-in-Zeroing-clause-class : goal.returns-in-Zeroing-clause-class

@@ -2,9 +2,9 @@ use Rattle.std.proofs.Common.{◌++◌, sym, ap, ◌∙◌, subst, arith}
 use Rattle.std.proofs.lemmas.List.{append-nil}
 use Rattle.std.proofs.lemmas.Nat.Bits.{bit_at-lt}
 use Rattle.egt_board.specs.SquareSet.{Has, size_of}
-use Rattle.egt_table.specs.declared.column.Column.{Column}
+use Rattle.egt_check.specs.declared.metric.Metric.{Metric}
 use Rattle.egt_check.specs.Tables.{table_at}
-use Rattle.egt_sweep.specs.Aiming.{column_of, known}
+use Rattle.egt_sweep.specs.Aiming.{metric_of, known}
 use Rattle.egt_sweep.specs.Edges.{GoesOn}
 use Rattle.egt_sweep.proofs.AttackingNobody.{none_from}
 use Rattle.egt_sweep.proofs.Onward.{man_goes_on, targeted}
@@ -15,8 +15,8 @@ pub returns-then-goes_on-clause-exits : goal.returns-then-goes_on-clause-exits
 returns-then-goes_on-clause-exits c =
     let p = c.args.position.now in
     sym (ap (λ es. c.args.exits.now.items ++ es)
-    (none_from c.laws.ensures (known (table_at c.args.library.now) c.args.class c.args.aim.now) (column_of c.args.aim.now) c.args.class p c.args.from c.side-side.ensures.admissible
-    (λ m q here leads. subst (λ (column : Column). GoesOn column c.args.class p m q) c.column-column.ensures (c.goes_on.ensures c.if-goes_on.true m q here leads)))
+    (none_from c.laws.ensures (known (table_at c.args.library.now) c.args.class c.args.aim.now) (metric_of c.args.aim.now) c.args.class p c.args.from c.side-side.ensures.admissible
+    (λ m q here leads. subst (λ (metric : Metric). GoesOn metric c.args.class p m q) c.metric-metric.ensures (c.goes_on.ensures c.if-goes_on.true m q here leads)))
     ∙ append-nil c.args.exits.now.items)
 
 pub add_exits-requires-clause-targets : goal.add_exits-requires-clause-targets
@@ -29,7 +29,7 @@ add_exits-requires-clause-targets c t has =
 pub add_exits-requires-clause-leaves : goal.add_exits-requires-clause-leaves
 add_exits-requires-clause-leaves c m q here has leads on =
     let squares = c.without-leaving.ensures.squares m.to in
-    let onward = c.onward-onward.ensures.complete m q here leads (subst (λ (column : Column). GoesOn column c.args.class c.args.position.now m q) (sym c.column-column.ensures) on) in
+    let onward = c.onward-onward.ensures.complete m q here leads (subst (λ (metric : Metric). GoesOn metric c.args.class c.args.position.now m q) (sym c.metric-metric.ensures) on) in
     omega (arith, has, squares, onward)
 
 pub add_exits-requires-clause-others : goal.add_exits-requires-clause-others
@@ -38,8 +38,8 @@ add_exits-requires-clause-others c m q here off leads =
     let target : Has c.legal_targets_of-targets.result m.to = (c.legal_targets_of-targets.ensures.legal m.to).1 (targeted c.args.position.now m c.args.from here (q, leads)) in
     let small = bit_at-lt c.onward-onward.result.bits m.to in
     let onward : Has c.onward-onward.result m.to = omega (arith, off, squares, target, small) in
-    subst (λ (column : Column). GoesOn column c.args.class c.args.position.now m q) c.column-column.ensures
-    (man_goes_on c.laws.ensures c.args.class c.args.position.now c.column-column.result c.args.from c.onward-onward.result c.onward-onward.ensures.sound m q here onward leads)
+    subst (λ (metric : Metric). GoesOn metric c.args.class c.args.position.now m q) c.metric-metric.ensures
+    (man_goes_on c.laws.ensures c.args.class c.args.position.now c.metric-metric.result c.args.from c.onward-onward.result c.onward-onward.ensures.sound m q here onward leads)
 
 pub add_exits-requires-clause-room : goal.add_exits-requires-clause-room
 add_exits-requires-clause-room c man stands =

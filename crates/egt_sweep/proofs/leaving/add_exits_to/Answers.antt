@@ -6,7 +6,7 @@ use Rattle.std.proofs.lemmas.List.{get_or_default, take_all}
 use Rattle.egt_moves.specs.Moves.{played}
 use Rattle.egt_moves.specs.Promotion.{promotes}
 use Rattle.egt_check.specs.Tables.{table_at}
-use Rattle.egt_sweep.specs.Aiming.{column_of, known}
+use Rattle.egt_sweep.specs.Aiming.{metric_of, known}
 use Rattle.egt_sweep.specs.Nodes.{exit_by}
 use Rattle.egt_sweep.proofs.Walked.{told_of, few_choices}
 use Rattle.egt_sweep.proofs.OutOfClass.{between_told}
@@ -34,14 +34,14 @@ pub returns-clause-items : goal.returns-clause-items
 returns-clause-items c =
     let p = c.args.position.now in
     let tables = known (table_at c.args.library.now) c.args.class c.args.aim.now in
-    let column = column_of c.args.aim.now in
+    let metric = metric_of c.args.aim.now in
     let leads = c.requires.target.1.1 in
     let items = c.promotions-promo-items.result.now in
     let before = c.args.list.now.items in
-    let told = told_of (λ m. option_to_list (exit_by tables column c.args.class p m (played p m))) c.args.from c.args.to in
+    let told = told_of (λ m. option_to_list (exit_by tables metric c.args.class p m (played p m))) c.args.from c.args.to in
     c.loop-promo.invariant.0
     ∙ ap (λ xs. before ++ flat_map told xs) (take_all c.loop-promo.promo-index items (omega (arith, c.loop-promo-test.false)) ∙ c.promotions-promo-items.ensures.listed leads.man leads.stands)
-    ∙ ap (λ ys. before ++ ys) (between_told c.laws.ensures tables column c.args.class p leads.man c.args.from c.args.to (promotes leads.man c.args.to) c.side-side.ensures.admissible leads.stands refl)
+    ∙ ap (λ ys. before ++ ys) (between_told c.laws.ensures tables metric c.args.class p leads.man c.args.from c.args.to (promotes leads.man c.args.to) c.side-side.ensures.admissible leads.stands refl)
 
 pub returns-clause-few : goal.returns-clause-few
 returns-clause-few c man stands =

@@ -1,5 +1,5 @@
 use Rattle.std.proofs.Common.{◌≡◌, ℕ, ◌<◌, Option, IfSome, sym, subst}
-use Rattle.egt_table.specs.declared.column.Column.TheVariants.{Mate}
+use Rattle.egt_check.specs.declared.metric.Metric.TheVariants.{Mate}
 use Rattle.egt_table.specs.Table.{TableValue}
 use Rattle.egt_index.specs.Index.{IsIndex}
 use Rattle.egt_index.specs.Size.{size_of}
@@ -12,8 +12,8 @@ use Rattle.egt_sweep.proofs.leaving.table_entry.Goals as goal
 pub unwrap-table-requires : goal.unwrap-table-requires
 unwrap-table-requires c = mapped_some _ c.get.result (table_at c.args.library.now c.args.class) c.get.ensures.is c.requires.there
 
-pub entry-requires : goal.entry-requires
-entry-requires c =
+pub entry-requires-clause-index : goal.entry-requires-clause-index
+entry-requires-clause-index c =
     let shelved = subst (λ (o : Option _). IfSome o (λ t. IsShelved (table_at c.args.library.now) c.args.class t.now)) c.unwrap-table.ensures c.get.ensures.shelved in
     subst (λ (d : ℕ). c.args.index < size_of d) (sym shelved.class) (c.laws.ensures.facts.index_below c.requires.indexed.position c.args.class c.args.index c.requires.indexed.index)
 

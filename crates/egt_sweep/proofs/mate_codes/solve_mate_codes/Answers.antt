@@ -1,7 +1,7 @@
-use Rattle.std.proofs.Common.{Err, ap, subst}
+use Rattle.std.proofs.Common.{Err, sym, ap, subst}
 use Rattle.std.proofs.lemmas.Result.{err_from_is_err_and}
 use Rattle.egt_check.specs.Tables.{table_at}
-use Rattle.egt_table.specs.declared.column.Column.TheVariants.{Mate}
+use Rattle.egt_check.specs.declared.metric.Metric.TheVariants.{Mate}
 use Rattle.egt_sweep.specs.CodeMates.{AreOfIndexes}
 use Rattle.egt_sweep.proofs.CodeRanks.{same_fault, mates_told, ranks_kept, too_deep_too}
 use Rattle.egt_sweep.proofs.mate_codes.solve_mate_codes.Goals as goal
@@ -12,12 +12,18 @@ returns-in_err-entries-clause-too_deep c =
     rw (p.1, p.2) (λ deep. too_deep_too c.laws.ensures c.args.words.now.class c.args.words.now.lists c.args.words.now.told (table_at c.args.library.now) Mate c.codes_stand_for_indexes.ensures c.stand_ins_tell_ranks.ensures.deep c.args.limit
     (c.in_err-entries.ensures.too_deep (ap Err (same_fault _ _ deep))))
 
+-- of the entries of all numbers those of the indexes
+kept : (c : goal.After-from_entries-ranks) → AreOfIndexes c.args.words.now.class c.in_ok-entries.entries c.from_entries-ranks.result
+kept c =
+    let class = c.args.words.now.class in
+    subst (AreOfIndexes class c.in_ok-entries.entries) (sym c.from_entries-ranks.ensures) (subst (λ xs. AreOfIndexes class xs c.in_ok-kept.kept.items) c.entries-2.ensures c.in_ok-kept.ensures)
+
 pub returns-clause-ranks : goal.returns-clause-ranks
 returns-clause-ranks c =
     ranks_kept c.laws.ensures c.args.words.now.class c.args.words.now.lists c.args.words.now.told (table_at c.args.library.now) Mate c.codes_stand_for_indexes.ensures c.stand_ins_tell_ranks.ensures.ranks c.args.limit
-    c.in_ok-entries.entries c.in_ok-ranks.ranks c.in_ok-entries.ensures.ok (subst (λ xs. AreOfIndexes c.args.words.now.class xs c.in_ok-ranks.ranks) c.entries-2.ensures c.in_ok-ranks.ensures)
+    c.in_ok-entries.entries c.from_entries-ranks.result c.in_ok-entries.ensures.ok (kept c)
 
 pub returns-clause-codes : goal.returns-clause-codes
 returns-clause-codes c =
     mates_told c.laws.ensures c.args.words.now.class c.args.words.now.lists c.args.words.now.told (table_at c.args.library.now) c.codes_stand_for_indexes.ensures c.stand_ins_tell_ranks.ensures.entries c.args.limit
-    c.in_ok-ranks.ranks _ c.in_ok-entries.ensures.ok (subst (λ xs. AreOfIndexes c.args.words.now.class xs c.in_ok-ranks.ranks) c.entries-2.ensures c.in_ok-ranks.ensures) c.in_ok-entries.ensures.exits
+    c.from_entries-ranks.result _ c.in_ok-entries.ensures.ok (kept c) c.in_ok-entries.ensures.exits

@@ -11,5 +11,5 @@ sources-requires-clause-settled c =
     at_settled c.laws.ensures c.args.class (subst (λ (n : ℕ). n < 36) c.number-number.ensures.value c.number-number.ensures.below) c.args.index c.node-position.result c.node-position.ensures
 
 pub returns : goal.returns
-returns c = sources_told c.laws.ensures c.args.class c.args.index c.args.column c.sources.result.items (subst (λ (n : ℕ). n < 36) c.number-number.ensures.value c.number-number.ensures.below)
+returns c = sources_told c.laws.ensures c.args.class c.args.index c.args.metric c.sources.result.items (subst (λ (n : ℕ). n < 36) c.number-number.ensures.value c.number-number.ensures.below)
     c.sources.ensures.ascending (c.sources.ensures.exact c.args.index c.node-position.ensures)

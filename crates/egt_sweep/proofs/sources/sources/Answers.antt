@@ -8,7 +8,7 @@ use Rattle.egt_sweep.proofs.Collecting.{collected_start, collected_more, collect
 use Rattle.egt_sweep.proofs.sources.sources.Goals as goal
 
 pub loop-unmove-init : goal.loop-unmove-init
-loop-unmove-init c = collected_start (ComesFrom c.args.column c.args.class) c.as_slice-unmove-items.result.now c.new-list.result.items c.new-list.ensures
+loop-unmove-init c = collected_start (ComesFrom c.args.metric c.args.class) c.as_slice-unmove-items.result.now c.new-list.result.items c.new-list.ensures
 
 pub add_source-requires-clause-of : goal.add_source-requires-clause-of
 add_source-requires-clause-of c =
@@ -22,14 +22,14 @@ loop-unmove-preserved c = (
   c.add_source.ensures.ascending,
   omega (arith, c.add_source.ensures.few, c.loop-unmove.invariant.1),
   λ k. members_then (c.add_source.ensures.members k) (c.loop-unmove.invariant.2 k)
-      (collected_more (ComesFrom c.args.column c.args.class) c.as_slice-unmove-items.result.now c.loop-unmove.unmove-index c.unmove-item.result k c.loop-unmove-test.true c.unmove-item.is),
+      (collected_more (ComesFrom c.args.metric c.args.class) c.as_slice-unmove-items.result.now c.loop-unmove.unmove-index c.unmove-item.result k c.loop-unmove-test.true c.unmove-item.is),
 )
 
 pub returns-clause-exact : goal.returns-clause-exact
 returns-clause-exact c j at k =
     let items = c.as_slice-unmove-items.result.now in
     let below = subst (λ (n : ℕ). n < 36) c.number-number.ensures.value c.number-number.ensures.below in
-    let all = collected_all (ComesFrom c.args.column c.args.class) items c.loop-unmove.unmove-index k (omega (arith, c.loop-unmove-test.false)) in
-    let are = sources_are c.laws.ensures c.args.class below c.args.column c.args.position.now items c.unmoves-unmoves.result.items j k c.as_slice-unmove-items.ensures.value c.unmoves-unmoves.ensures.exact at in
+    let all = collected_all (ComesFrom c.args.metric c.args.class) items c.loop-unmove.unmove-index k (omega (arith, c.loop-unmove-test.false)) in
+    let are = sources_are c.laws.ensures c.args.class below c.args.metric c.args.position.now items c.unmoves-unmoves.result.items j k c.as_slice-unmove-items.ensures.value c.unmoves-unmoves.ensures.exact at in
     let here = c.loop-unmove.invariant.2 k in
     (λ h. are.0 (all.0 (here.0 h)), λ h. here.1 (all.1 (are.1 h)))

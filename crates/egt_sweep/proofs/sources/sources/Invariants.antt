@@ -10,4 +10,4 @@ use Rattle.egt_sweep.proofs.sources.sources.Given as goal
 abbrev pub invariant-loop-unmove : goal.invariant-loop-unmove
 invariant-loop-unmove l =
     IsStrictlyIncreasing l.list.items × (array_vec_len l.list ≤ l.unmove-index)
-    × ((k : ℕ) → Contains l.list.items k ↔ Collected (ComesFrom l.column l.class) l.unmove-items l.unmove-index k)
+    × ((k : ℕ) → Contains l.list.items k ↔ Collected (ComesFrom l.metric l.class) l.unmove-items l.unmove-index k)

@@ -1,10 +1,11 @@
-use Rattle.std.proofs.Common.{◌≡◌, ℕ, Err, List, ap, subst}
+use Rattle.std.proofs.Common.{◌≡◌, ℕ, Err, List, sym, ap, subst}
 use Rattle.std.proofs.lemmas.Result.{err_from_is_err_and}
 use Rattle.egt_check.specs.Tables.{beside, table_at}
 use Rattle.egt_check.specs.declared.library.Library.{Library}
 use Rattle.egt_graph.specs.Graph.{Graph}
 use Rattle.egt_graph.specs.Value.{AreRanks, SomeAbove}
-use Rattle.egt_table.specs.declared.column.Column.TheVariants.{Zeroing}
+use Rattle.egt_check.specs.declared.metric.Metric.TheVariants.{Zeroing}
+use Rattle.egt_sweep.specs.ClassGame.{class_game}
 use Rattle.egt_sweep.specs.CodeMates.{AreOfIndexes, game_by}
 use Rattle.egt_sweep.specs.MateColumn.{mate_table}
 use Rattle.egt_sweep.specs.declared.code_words.CodeWords.{CodeWords}
@@ -28,7 +29,8 @@ returns-in_err-entries-clause-too_deep c =
 pub returns-clause-ok : goal.returns-clause-ok
 returns-clause-ok c =
     let words = c.args.words.now in
-    ranks_kept c.laws.ensures words.class words.lists words.told (beside (table_at c.args.library.now) (mate_table words.class c.args.mates.now)) Zeroing c.codes_stand_for_indexes.ensures c.stand_ins_tell_ranks.ensures.ranks c.args.limit
-    c.in_ok-entries.entries c.in_ok-ranks.ranks
+    subst (AreRanks (class_game (beside (table_at c.args.library.now) (mate_table words.class c.args.mates.now)) Zeroing words.class) c.args.limit) (sym c.from_entries.ensures)
+    (ranks_kept c.laws.ensures words.class words.lists words.told (beside (table_at c.args.library.now) (mate_table words.class c.args.mates.now)) Zeroing c.codes_stand_for_indexes.ensures c.stand_ins_tell_ranks.ensures.ranks c.args.limit
+    c.in_ok-entries.entries c.in_ok-kept.kept.items
     (along (λ g. AreRanks g c.args.limit c.in_ok-entries.entries) _ _ _ _ _ _ c.in_ok-game.ensures.library c.in_ok-game.ensures.words c.in_ok-game.ensures.mates c.in_ok-entries.ensures.ok)
-    (subst (λ xs. AreOfIndexes words.class xs c.in_ok-ranks.ranks) c.entries-2.ensures c.in_ok-ranks.ensures)
+    (subst (λ xs. AreOfIndexes words.class xs c.in_ok-kept.kept.items) c.entries-2.ensures c.in_ok-kept.ensures))

@@ -7,7 +7,7 @@ use Rattle.egt_sweep.specs.CodeMates.{game_by}
 use Rattle.egt_sweep.specs.OddMarks.{IsOddAbove}
 use Rattle.egt_sweep.proofs.CodeMarks.{marked_in}
 use Rattle.egt_sweep.proofs.ZeroCodes.{nodes_marked}
-use Rattle.egt_table.specs.declared.column.Column.TheVariants.{Mate}
+use Rattle.egt_check.specs.declared.metric.Metric.TheVariants.{Mate}
 use Rattle.egt_sweep.proofs.zero_codes.ZeroCodes.of.Goals as goal
 
 pub odd_marks-requires-clause-nodes : goal.odd_marks-requires-clause-nodes
