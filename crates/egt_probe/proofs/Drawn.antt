@@ -1,12 +1,13 @@
 -- Drawn positions.
-use Rattle.std.proofs.Common.{◌≢◌, ℕ, zero, suc, ◌≤◌, inr, arith}
+use Rattle.std.proofs.Common.{◌≢◌, ℕ, zero, suc, ◌≤◌, Option, Some, None, IsSome, refl, inr, arith}
 use Rattle.egt_board.specs.Setup.{Setup}
 use Rattle.egt_moves.specs.Arena.{Value, Win, Loss, Draw, HasValue, MatesWithin}
 use Rattle.egt_moves.specs.Chess.{chess}
-use Rattle.egt_moves.specs.Standing.{IsStuck, IsStalemate}
+use Rattle.egt_moves.specs.Standing.{IsStuck, IsStalemate, CanMove}
 use Rattle.egt_moves.specs.declared.chess_move.Move.{Move}
 use Rattle.egt_check.specs.Entry.{Shows}
 use Rattle.egt_probe.specs.Facts.{Facts}
+use Rattle.egt_probe.specs.Hold.{IsHold}
 use Rattle.egt_probe.specs.Search.{Misses}
 use Rattle.egt_probe.proofs.SameKinds.{lost_within}
 
@@ -29,3 +30,8 @@ module _ (facts : Facts) (p : Setup) (drawn : HasValue chess p Draw) where
   stalemate none =
       let stuck : IsStuck p = stuck_within 32000 (omega arith) none in
       record { stuck = stuck; quiet = λ check. (drawn 0).0 (record { stuck = stuck; check = check }) }
+
+-- where there is a legal move, one holds the draw
+pub held : (p : Setup) (o : Option Move) → CanMove p → IsHold p o → IsSome o
+held p None moves hold = absurd (hold.1.stuck moves.move moves.legal)
+held p (Some m) moves hold = refl

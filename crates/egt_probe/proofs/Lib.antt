@@ -1,4 +1,5 @@
 pub mod Shelved
+pub mod DeadOrNot
 pub mod SameKinds
 pub mod Ordered
 pub mod Best

@@ -1,5 +1,5 @@
 -- A line has one report.
-use Rattle.std.proofs.Common.{◌≡◌, ℕ, zero, suc, ◌<◌, ◌≤◌, ◌⊎◌, true, false, IsTrue, List, [], ◌∷◌, ◌++◌, length, Option, Some, None, refl, sym, ap, ◌∙◌, subst, inl, inr, arith}
+use Rattle.std.proofs.Common.{◌≡◌, ℕ, zero, suc, ◌<◌, ◌≤◌, ◌⊎◌, true, false, is_some, IsSome, List, [], ◌∷◌, ◌++◌, length, Option, Some, None, refl, sym, ap, ◌∙◌, subst, inl, inr, arith}
 use Rattle.std.proofs.lemmas.Bool.{cases_lt}
 use Rattle.egt_board.specs.declared.man.Kind.{Kind}
 use Rattle.egt_board.specs.declared.man.Kind.TheVariants.{Q, R, B, N, P, K}
@@ -12,13 +12,15 @@ use Rattle.egt_moves.specs.Found.{mate_by}
 use Rattle.egt_moves.specs.Legal.{Leads}
 use Rattle.egt_moves.specs.Order.{place_of, promotion_place}
 use Rattle.egt_moves.specs.declared.chess_move.Move.{Move}
+use Rattle.egt_probe.specs.declared.outcome.Outcome.TheVariants as outcomes
 use Rattle.egt_probe.specs.Answer.{Reports}
 use Rattle.egt_probe.specs.Facts.{Facts}
 use Rattle.egt_probe.specs.Hold.{IsHold}
 use Rattle.egt_probe.specs.Line.{IsFirstTo, next_value, plies_of, IsLine}
 use Rattle.egt_probe.specs.Loaded.{Loaded, IsOfClass, IsMissing}
-use Rattle.egt_probe.specs.Report.{PositionReport, Unloaded, Decisive, Drawn, Report, Long, Refused, Answered}
-use Rattle.egt_probe.specs.Text.{decided_text, drawn_text, missing_text, refused_text}
+use Rattle.egt_probe.specs.Report.{PositionReport, Unloaded, Decisive, Dead, Drawn, verdict_of, Report, Long, Refused, Answered}
+use Rattle.egt_probe.specs.Text.{decided_text, dead_text, drawn_text, missing_text, refused_text}
+use Rattle.egt_probe.specs.Verdict.{IsVerdict}
 
 -- the next value is one ply nearer
 next_plies : (v w : Value) → next_value v ≡ Some w → plies_of v ≡ suc (plies_of w)
@@ -125,14 +127,21 @@ module _ (facts : Facts) where
   same_class : (p : Setup) (c d : ℕ) → IsOfClass c p → IsOfClass d p → c ≡ d
   same_class p c d here there = facts.one_class p c d here.flipped there.flipped here.below there.below here.of there.of
 
-  not_both : (loaded : Loaded) (p : Setup) (c d : ℕ) → IsMissing loaded p c → IsOfClass d p → IsTrue (loaded d) → ⊥
+  not_both : (loaded : Loaded) (p : Setup) (c d : ℕ) → IsMissing loaded p c → IsOfClass d p → IsSome (loaded d) → ⊥
   not_both loaded p c d missing of there =
       let same = same_class p c d missing.of of in
-      let bad : false ≡ true = sym missing.absent ∙ ap loaded same ∙ there in cc
+      let bad : false ≡ true = sym missing.absent ∙ ap (λ (k : ℕ). is_some (loaded k)) same ∙ there in cc
+
+  -- no dead position with a legal move is told to be drawn alone
+  dead_or_drawn : (loaded : Loaded) (p : Setup) (c d : ℕ) → IsVerdict loaded p (verdict_of c outcomes.Dead) → IsVerdict loaded p (verdict_of d outcomes.Draw) → ⊥
+  dead_or_drawn loaded p c d dead drawn =
+      let column = ap loaded (same_class p d c drawn.class dead.class) ∙ dead.dead.0 in
+      (drawn.dead column dead.dead.1).stuck dead.dead.2.move dead.dead.2.legal
 
   one_position_report : (loaded : Loaded) (p : Setup) (one other : List ℕ) → IsAdmissible p → PositionReport loaded p one → PositionReport loaded p other → one ≡ other
   one_position_report loaded p one other ok (Unloaded c miss e) (Unloaded d miss' e') = e ∙ ap missing_text (same_class p c d miss.of miss'.of) ∙ sym e'
   one_position_report loaded p one other ok (Unloaded c miss e) (Decisive d w n z ms there v line e') = absurd (not_both loaded p c d miss v.class there)
+  one_position_report loaded p one other ok (Unloaded c miss e) (Dead d held v hold e') = absurd (not_both loaded p c d miss v.class (ap is_some v.dead.0))
   one_position_report loaded p one other ok (Unloaded c miss e) (Drawn d held there v hold e') = absurd (not_both loaded p c d miss v.class there)
   one_position_report loaded p one other ok (Decisive c w n z ms there v line e) (Unloaded d miss e') = absurd (not_both loaded p d c miss v.class there)
   one_position_report loaded p one other ok (Decisive c w n z ms there v line e) (Decisive d x k y ns there' v' line' e') =
@@ -143,11 +152,22 @@ module _ (facts : Facts) where
       let moves : ms ≡ ns = one_line p (mate_by p.side w n) ms ns ok line back in
       e ∙ ap (λ (a : ℕ). decided_text a w n z ms) class ∙ ap (λ (s : Side). decided_text d s n z ms) mates.0 ∙ ap (λ (j : ℕ). decided_text d x j z ms) mates.1 ∙ ap (λ (j : ℕ). decided_text d x k j ms) zeroes.1
       ∙ ap (decided_text d x k y) moves ∙ sym e'
+  one_position_report loaded p one other ok (Decisive c w n z ms there v line e) (Dead d held v' hold e') =
+      absurd (not_drawn p.side w n (facts.one_value p (mate_by p.side w n) Draw v.mate v'.mate))
   one_position_report loaded p one other ok (Decisive c w n z ms there v line e) (Drawn d held there' v' hold e') =
       absurd (not_drawn p.side w n (facts.one_value p (mate_by p.side w n) Draw v.mate v'.mate))
+  one_position_report loaded p one other ok (Dead c held v hold e) (Unloaded d miss e') = absurd (not_both loaded p d c miss v.class (ap is_some v.dead.0))
+  one_position_report loaded p one other ok (Dead c held v hold e) (Decisive d x k y ns there' v' line' e') =
+      absurd (not_drawn p.side x k (facts.one_value p (mate_by p.side x k) Draw v'.mate v.mate))
+  one_position_report loaded p one other ok (Dead c held v hold e) (Dead d held' v' hold' e') =
+      let holds = one_hold p (Some held) (Some held') ok hold hold' in
+      let moves : held ≡ held' = cc in
+      e ∙ ap (λ (a : ℕ). dead_text a held) (same_class p c d v.class v'.class) ∙ ap (dead_text d) moves ∙ sym e'
+  one_position_report loaded p one other ok (Dead c held v hold e) (Drawn d held' there' v' hold' e') = absurd (dead_or_drawn loaded p c d v v')
   one_position_report loaded p one other ok (Drawn c held there v hold e) (Unloaded d miss e') = absurd (not_both loaded p d c miss v.class there)
   one_position_report loaded p one other ok (Drawn c held there v hold e) (Decisive d x k y ns there' v' line' e') =
       absurd (not_drawn p.side x k (facts.one_value p (mate_by p.side x k) Draw v'.mate v.mate))
+  one_position_report loaded p one other ok (Drawn c held there v hold e) (Dead d held' v' hold' e') = absurd (dead_or_drawn loaded p d c v' v)
   one_position_report loaded p one other ok (Drawn c held there v hold e) (Drawn d held' there' v' hold' e') =
       e ∙ ap (λ (a : ℕ). drawn_text a held) (same_class p c d v.class v'.class) ∙ ap (drawn_text d) (one_hold p held held' ok hold hold') ∙ sym e'
 
@@ -165,7 +185,7 @@ module _ (facts : Facts) where
       one_position_report loaded fen.position one other spells.admissible told (subst (λ (f : Fen). PositionReport loaded f.position other) same told')
 
 module _ (facts : Facts) (loaded others : Loaded) (same : (c : ℕ) → loaded c ≡ others c) where
-  -- the reports of some lines are the same wherever the same classes are loaded
+  -- the reports of some lines are the same wherever the same classes are loaded, with the same columns
   pub one_answer : (lines : List (List ℕ)) (one other : List ℕ) → Reports loaded lines one → Reports others lines other → one ≡ other
   one_answer [] one other here there = here ∙ sym there
   one_answer (line ∷ lines) one other here there =

@@ -29,6 +29,9 @@ decided_text c winner plies zeroing ms =
 abbrev pub drawn_text : ℕ → Option Move → List ℕ
 drawn_text c held = name_of c ++ codes " draw hold " ++ held_text held
 
+abbrev pub dead_text : ℕ → Move → List ℕ
+dead_text c held = name_of c ++ codes " dead hold " ++ text_of held
+
 abbrev pub missing_text : ℕ → List ℕ
 missing_text c = codes "error probe 11 Missing " ++ name_of c
 

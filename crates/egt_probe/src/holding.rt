@@ -1,7 +1,8 @@
 //! The move that holds a draw.
-ghost use Rattle.std.specs.Prelude.{IfOk, IfErr};
+ghost use Rattle.std.specs.Prelude.{Some, IfOk, IfErr};
 ghost use Rattle.egt_moves.specs.Arena.{Draw, HasValue};
 ghost use Rattle.egt_moves.specs.Chess.{chess};
+ghost use Rattle.egt_moves.specs.Standing.{CanMove};
 ghost use Rattle.egt_probe.specs.Fault.{IsHoldFault};
 ghost use Rattle.egt_probe.specs.Hold.{IsHold};
 ghost use Rattle.egt_probe.specs.Loaded.{IsLoaded};
@@ -32,7 +33,18 @@ pub(crate) fn drawing_move(library: &Library, position: &Position) -> Option<Mov
     }
 }
 
-/// The first move in the order of moves that holds the draw of a drawn position; `None` where it is stalemate. It takes no memory.
+/// The first move of a drawn position with a legal move that leads to a drawn one.
+pub(crate) fn holding_move(library: &Library, position: &Position) -> Move
+    requires loaded { IsLoaded (loaded_in library.now) position.now }
+    requires drawn { HasValue chess position.now Draw }
+    requires moves { CanMove position.now }
+    ensures { IsHold position.now (Some result) }
+{
+    drawing_move(library, position).unwrap()
+}
+
+/// The first move in the order of moves that holds the draw of a drawn position, dead or not; `None` where it is stalemate. It takes
+/// no memory.
 ///
 /// # Errors
 ///
@@ -45,7 +57,7 @@ pub fn hold(library: &Library, position: &Position) -> Result<Option<Move>, Hold
     match verdict(library, position) {
         Err(missing) => Err(HoldFault::Missing(missing.class)),
         Ok(verdict) => match verdict.value {
-            Outcome::Draw => Ok(drawing_move(library, position)),
+            Outcome::Draw | Outcome::Dead => Ok(drawing_move(library, position)),
             Outcome::Decided { .. } => Err(HoldFault::Decisive),
         },
     }

@@ -4,6 +4,7 @@ ghost use Rattle.egt_board.specs.Man.{other_side};
 ghost use Rattle.egt_board.specs.Setup.{Setup};
 ghost use Rattle.egt_moves.specs.Arena.{Value, MatesWithin, IsMatedWithin, CannotMateBefore, AvoidsMateBefore, IsDraw};
 ghost use Rattle.egt_moves.specs.Chess.{chess};
+ghost use Rattle.egt_moves.specs.Reach.{IsDead};
 ghost use Rattle.egt_moves.specs.declared.chess_move.Move.{Move};
 ghost use Rattle.egt_probe.specs.Answer.{Reports};
 ghost use Rattle.egt_probe.specs.Line.{IsLine, plies_of};
@@ -15,13 +16,17 @@ ghost use Rattle.egt_probe.specs.declared.outcome.Outcome.TheVariants as outcome
 use crate::facts::facts;
 
 /// "Mates in n plies" means that the winner forces checkmate within n plies against every defence and that the defender keeps from
-/// it for less than n, "draw" that neither side can ever force it.
+/// it for less than n, "draw" that neither side can ever force it, and "dead" that no legal moves of both sides lead to it, which is a
+/// draw too.
 pub fn what_a_verdict_means()
-    ensures mover_mates { (p : Setup) (c n z : ℕ) → IsVerdict p (verdict_of c (outcomes.Decided p.side n z)) →
+    ensures mover_mates { (loaded : Loaded) (p : Setup) (c n z : ℕ) → IsVerdict loaded p (verdict_of c (outcomes.Decided p.side n z)) →
         MatesWithin chess n p × CannotMateBefore chess n p }
-    ensures mover_is_mated { (p : Setup) (c n z : ℕ) → IsVerdict p (verdict_of c (outcomes.Decided (other_side p.side) n z)) →
+    ensures mover_is_mated { (loaded : Loaded) (p : Setup) (c n z : ℕ) →
+        IsVerdict loaded p (verdict_of c (outcomes.Decided (other_side p.side) n z)) →
         IsMatedWithin chess n p × AvoidsMateBefore chess n p }
-    ensures draw { (p : Setup) (c : ℕ) → IsVerdict p (verdict_of c outcomes.Draw) → IsDraw chess p }
+    ensures draw { (loaded : Loaded) (p : Setup) (c : ℕ) → IsVerdict loaded p (verdict_of c outcomes.Draw) → IsDraw chess p }
+    ensures dead { (loaded : Loaded) (p : Setup) (c : ℕ) → IsVerdict loaded p (verdict_of c outcomes.Dead) →
+        IsDraw chess p × IsDead chess p }
 {}
 
 /// A line of best play has as many moves as there are plies to mate.
@@ -29,14 +34,16 @@ pub fn a_line_has_a_move_a_ply()
     ensures { (p : Setup) (v : Value) (ms : List Move) → IsLine p v ms → length ms ≡ plies_of v }
 {}
 
-/// A line has one report, by the rules of play and the classes that are loaded alone.
+/// A line has one report, by the rules of play, the classes that are loaded and which of their tables have the column of the nearest
+/// mates, alone.
 pub fn a_line_has_one_report()
     ensures { (loaded : Loaded) (line one other : List ℕ) → Report loaded line one → Report loaded line other → one ≡ other }
 {
     facts();
 }
 
-/// Where the same classes are loaded, the same lines have the same reports.
+/// Where the same classes are loaded, and the same of their tables have the column of the nearest mates, the same lines have the
+/// same reports.
 pub fn the_same_classes_give_the_same_reports()
     ensures { (loaded others : Loaded) (lines : List (List ℕ)) (one other : List ℕ) → ((c : ℕ) → loaded c ≡ others c) →
         Reports loaded lines one → Reports others lines other → one ≡ other }

@@ -1,15 +1,19 @@
 //! Positions looked up in tables.
-ghost use Rattle.std.specs.Prelude.{◌↔◌, IsOk, IfOk, IfErr, IsTrue};
+ghost use Rattle.std.specs.Prelude.{◌↔◌, IsOk, IfOk, IfErr, IsSome, MatchBool, Some, is_some};
 ghost use Rattle.egt_board.specs.Setup.{Setup};
-ghost use Rattle.egt_moves.specs.Arena.{Value};
+ghost use Rattle.egt_index.specs.Index.{IsIndex};
+ghost use Rattle.egt_moves.specs.Arena.{Value, HasValue};
+ghost use Rattle.egt_moves.specs.Chess.{chess};
 ghost use Rattle.egt_moves.specs.Entries.{SameKind};
 ghost use Rattle.egt_moves.specs.Legal.{Leads};
+ghost use Rattle.egt_moves.specs.Zeroing.{HasZeroing};
 ghost use Rattle.egt_moves.specs.declared.chess_move.Move.{Move};
 ghost use Rattle.egt_check.specs.Entry.{Shows};
+ghost use Rattle.egt_check.specs.Truth.{IsTrueTable};
 ghost use Rattle.egt_probe.specs.Loaded.{IsLoaded, IsMissing};
 ghost use Rattle.egt_probe.specs.Search.{ShowsValue};
 ghost use Rattle.egt_probe.specs.Shelves.{loaded_in};
-ghost use Rattle.egt_probe.specs.Verdict.{IsVerdict, IsWithin, mate_value, zeroing_value};
+ghost use Rattle.egt_probe.specs.Verdict.{IsVerdict, IsWithin, TellsDead, mate_value, zeroing_value};
 
 use crate::facts::facts;
 use crate::outcome::{Missing, Outcome, Verdict};
@@ -17,9 +21,14 @@ use egt_board::{Position, Side};
 use egt_check::Library;
 use egt_class::of;
 use egt_index::index;
-use egt_table::Column;
+use egt_moves::{Standing, standing};
+use egt_table::{Column, Table};
 
-/// The outcome that the entries of the two columns show of a position with that side to move.
+/// The entry of a dead position in the column of the nearest mates.
+const DEAD: u16 = 1;
+
+/// The outcome that the entries of the columns of mates and of zeroing moves show of a position with that side to move. They do not
+/// tell which draws are dead.
 fn outcome_shown(side: Side, mate: u16, zeroing: u16) -> Outcome
     requires { (v : Value) × (w : Value) × Shows mate v × Shows zeroing w × SameKind v w }
     ensures mate { Shows mate (mate_value side result) }
@@ -37,30 +46,81 @@ fn outcome_shown(side: Side, mate: u16, zeroing: u16) -> Outcome
     }
 }
 
+/// The outcome of the position, whose index this is, by the two columns that each table has. They do not tell which draws are dead.
+fn decided_or_drawn(table: &Table, index: u32, position: &Position) -> Outcome
+    requires truth { IsTrueTable table.now }
+    requires index { IsIndex table.now.class position.now index }
+    ensures mate { HasValue chess position.now (mate_value position.now.side result) }
+    ensures zeroing { HasZeroing chess position.now (zeroing_value position.now.side result) }
+    ensures within { IsWithin result }
+{
+    facts();
+    let mate = table.entry(Column::Mate, index);
+    let zeroing = table.entry(Column::Zeroing, index);
+    outcome_shown(position.side(), mate, zeroing)
+}
+
+/// Whether the position, whose index this is, is dead and has a legal move, as far as the table tells: `false` where it lacks the
+/// column of the nearest mates.
+fn is_dead(table: &Table, index: u32, position: &Position) -> bool
+    requires truth { IsTrueTable table.now }
+    requires index { IsIndex table.now.class position.now index }
+    ensures { let column = Some (is_some table.now.reach) in
+        MatchBool result (TellsDead column position.now Outcome.Dead) (TellsDead column position.now Outcome.Draw) }
+{
+    facts();
+    let _side = position.side();
+    if !table.has_reach() {
+        return false;
+    }
+    if table.entry(Column::Reach, index) != DEAD {
+        return false;
+    }
+    matches!(standing(position), Standing::HasMove)
+}
+
+/// The outcome of the position, whose index this is, by all columns of the table.
+fn outcome_at(table: &Table, index: u32, position: &Position) -> Outcome
+    requires truth { IsTrueTable table.now }
+    requires index { IsIndex table.now.class position.now index }
+    ensures mate { HasValue chess position.now (mate_value position.now.side result) }
+    ensures zeroing { HasZeroing chess position.now (zeroing_value position.now.side result) }
+    ensures dead { TellsDead (Some (is_some table.now.reach)) position.now result }
+    ensures within { IsWithin result }
+{
+    let shown = decided_or_drawn(table, index, position);
+    if let Outcome::Decided { .. } = shown {
+        return shown;
+    }
+    if is_dead(table, index, position) {
+        Outcome::Dead
+    } else {
+        Outcome::Draw
+    }
+}
+
 /// The class of the position and its outcome: who forces checkmate, in how many plies, and in how many a capture, a move of a pawn
-/// or checkmate, or that nobody does. It takes no memory.
+/// or checkmate, or that nobody does. Where the table has the column of the nearest mates, it also tells which draws with a legal
+/// move are dead. It takes no memory.
 ///
 /// # Errors
 ///
 /// `Missing` with the position's class where the library has no table of it.
 pub fn verdict(library: &Library, position: &Position) -> Result<Verdict, Missing>
-    ensures verdict { IfOk result (λ v. IsVerdict position.now v) }
+    ensures verdict { IfOk result (λ v. IsVerdict (loaded_in library.now) position.now v) }
     ensures within { IfOk result (λ v. IsWithin v.value) }
-    ensures there { IfOk result (λ v. IsTrue (loaded_in library.now v.class)) }
+    ensures there { IfOk result (λ v. IsSome (loaded_in library.now v.class)) }
     ensures missing { IfErr result (λ missing. IsMissing (loaded_in library.now) position.now missing.class) }
     ensures exact { IsOk result ↔ IsLoaded (loaded_in library.now) position.now }
 {
     facts();
     let (class, _) = of(position);
     let _number = class.number();
-    let side = position.side();
     let Some(table) = library.get(class) else {
         return Err(Missing { class });
     };
     let index = index(class, position);
-    let mate = table.entry(Column::Mate, index);
-    let zeroing = table.entry(Column::Zeroing, index);
-    let value = outcome_shown(side, mate, zeroing);
+    let value = outcome_at(table, index, position);
     Ok(Verdict { class, value })
 }
 

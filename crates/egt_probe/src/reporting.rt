@@ -5,11 +5,11 @@ ghost use Rattle.egt_probe.specs.Shelves.{loaded_in};
 ghost use Rattle.egt_probe.specs.Answer.{Holds};
 
 use crate::best_line::best_line;
-use crate::holding::drawing_move;
+use crate::holding::{drawing_move, holding_move};
 use crate::looking::verdict;
 use crate::open_line::OpenLine;
 use crate::outcome::Outcome;
-use crate::wording::{decided_text, drawn_text, long_text, missing_text, refused_text};
+use crate::wording::{dead_text, decided_text, drawn_text, long_text, missing_text, refused_text};
 use egt_board::Position;
 use egt_check::Library;
 use egt_fen::read;
@@ -29,6 +29,7 @@ fn position_report(
     };
     match verdict.value {
         Outcome::Draw => drawn_text(alloc, verdict.class, drawing_move(library, position)),
+        Outcome::Dead => dead_text(alloc, verdict.class, &holding_move(library, position)),
         Outcome::Decided {
             winner,
             plies,

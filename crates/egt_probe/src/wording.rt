@@ -1,7 +1,7 @@
 //! The texts of reports.
 ghost use Rattle.std.specs.Prelude.{◌≡◌, ◌++◌, OnOk, IfOk};
 ghost use Rattle.egt_moves.specs.Text.{text_of};
-ghost use Rattle.egt_probe.specs.Text.{side_name, moves_text, held_text, decided_text, drawn_text, missing_text, refused_text, long_text};
+ghost use Rattle.egt_probe.specs.Text.{side_name, moves_text, held_text, decided_text, dead_text, drawn_text, missing_text, refused_text, long_text};
 
 use egt_board::Side;
 use egt_class::{Class, name};
@@ -96,6 +96,17 @@ pub(crate) fn drawn_text(
     text.extend_from_slice(name(class).as_bytes())?;
     text.extend_from_slice(b" draw hold ")?;
     push_held(&mut text, held)?;
+    Ok(text)
+}
+
+/// The report of a dead position of the class that has a legal move.
+pub(crate) fn dead_text(alloc: Global, class: Class, held: &Move) -> Result<Vec<u8>, AllocError>
+    ensures { IfOk result (λ text. text.items ≡ dead_text class held.now) }
+{
+    let mut text = Vec::with_capacity(alloc, ROOM)?;
+    text.extend_from_slice(name(class).as_bytes())?;
+    text.extend_from_slice(b" dead hold ")?;
+    push_move(&mut text, held)?;
     Ok(text)
 }
 

@@ -4,7 +4,8 @@ use Rattle.egt_moves.specs.Found.{mate_by}
 use Rattle.egt_moves.specs.declared.chess_move.Move.{Move}
 use Rattle.egt_probe.specs.declared.outcome.Outcome.{Outcome}
 use Rattle.egt_probe.specs.Line.{IsLine}
-use Rattle.egt_probe.specs.Report.{Unloaded, Decisive, Drawn, verdict_of}
+use Rattle.egt_probe.specs.Report.{Unloaded, Decisive, Dead, Drawn, verdict_of}
+use Rattle.egt_probe.specs.Shelves.{loaded_in}
 use Rattle.egt_probe.specs.Verdict.{IsVerdict}
 use Rattle.egt_probe.proofs.reporting.position_report.Goals as goal
 
@@ -14,8 +15,14 @@ returns-in-Err c = IfOk-weaker c.missing_text.result _ _ (λ text e. Unloaded c.
 pub returns-in-Draw : goal.returns-in-Draw
 returns-in-Draw c =
     let verdict = c.in-Ok.verdict in
-    let drawn = subst (λ (v : Outcome). IsVerdict c.args.position.now (verdict_of verdict.class v)) c.in-Draw.is c.in-Ok.ensures.verdict in
+    let drawn = subst (λ (v : Outcome). IsVerdict (loaded_in c.args.library.now) c.args.position.now (verdict_of verdict.class v)) c.in-Draw.is c.in-Ok.ensures.verdict in
     IfOk-weaker c.drawn_text.result _ _ (λ text e. Drawn verdict.class c.drawing_move.result c.in-Ok.ensures.there drawn c.drawing_move.ensures e) c.drawn_text.ensures
+
+pub returns-in-Dead : goal.returns-in-Dead
+returns-in-Dead c =
+    let verdict = c.in-Ok.verdict in
+    let dead = subst (λ (v : Outcome). IsVerdict (loaded_in c.args.library.now) c.args.position.now (verdict_of verdict.class v)) c.in-Dead.is c.in-Ok.ensures.verdict in
+    IfOk-weaker c.dead_text.result _ _ (λ text e. Dead verdict.class c.holding_move.result dead c.holding_move.ensures e) c.dead_text.ensures
 
 pub returns-in_ok-moves-in-Decided : goal.returns-in_ok-moves-in-Decided
 returns-in_ok-moves-in-Decided c =
@@ -25,6 +32,6 @@ returns-in_ok-moves-in-Decided c =
     let zeroing = c.in-Decided.zeroing in
     let ms = c.deref.result.now in
     let p = c.args.position.now in
-    let decided = subst (λ (v : Outcome). IsVerdict p (verdict_of verdict.class v)) c.in-Decided.is c.in-Ok.ensures.verdict in
+    let decided = subst (λ (v : Outcome). IsVerdict (loaded_in c.args.library.now) p (verdict_of verdict.class v)) c.in-Decided.is c.in-Ok.ensures.verdict in
     let line = subst (λ (l : List Move). IsLine p (mate_by p.side winner plies) l) (sym c.deref.ensures.value) c.in_ok-moves-in-Decided.ensures in
     IfOk-weaker c.decided_text.result _ _ (λ text e. Decisive verdict.class winner plies zeroing ms c.in-Ok.ensures.there decided line e) c.decided_text.ensures

@@ -1,0 +1,29 @@
+use Rattle.std.proofs.Common.{◌≡◌, ℕ, refl, subst}
+use Rattle.egt_board.specs.declared.man.Side.{Side}
+use Rattle.egt_moves.specs.Arena.{Draw, HasValue}
+use Rattle.egt_moves.specs.Chess.{chess}
+use Rattle.egt_moves.specs.Zeroing.{HasZeroing}
+use Rattle.egt_probe.specs.declared.outcome.Outcome.{Outcome}
+use Rattle.egt_probe.specs.declared.outcome.Outcome.TheVariants as outcomes
+use Rattle.egt_probe.specs.Verdict.{mate_value, zeroing_value}
+use Rattle.egt_probe.proofs.looking.outcome_at.Goals as goal
+
+-- what is not decided is a draw
+undecided : (s : Side) (o : Outcome) → ((w : Side) (n z : ℕ) → o ≡ outcomes.Decided w n z → ⊥) → (mate_value s o ≡ Draw) × (zeroing_value s o ≡ Draw)
+undecided s outcomes.Draw not = (refl, refl)
+undecided s outcomes.Dead not = (refl, refl)
+undecided s (outcomes.Decided w n z) not = absurd (not w n z refl)
+
+pub returns-then-is_dead : goal.returns-then-is_dead
+returns-then-is_dead c =
+    let p = c.args.position.now in
+    let shown = c.decided_or_drawn-shown.ensures in
+    let drawn = undecided p.side c.decided_or_drawn-shown.result c.in_default.not-Decided in
+    record { mate = subst (HasValue chess p) drawn.0 shown.mate; zeroing = subst (HasZeroing chess p) drawn.1 shown.zeroing; dead = c.if-is_dead.ensures; within = tt }
+
+pub returns-else-is_dead : goal.returns-else-is_dead
+returns-else-is_dead c =
+    let p = c.args.position.now in
+    let shown = c.decided_or_drawn-shown.ensures in
+    let drawn = undecided p.side c.decided_or_drawn-shown.result c.in_default.not-Decided in
+    record { mate = subst (HasValue chess p) drawn.0 shown.mate; zeroing = subst (HasZeroing chess p) drawn.1 shown.zeroing; dead = c.if-is_dead.ensures; within = tt }
