@@ -1,8 +1,8 @@
--- What the entries of a column say in all: how many show what, and the most plies of a win and of a loss.
+-- What a table says in all: how many mate entries show what, the most plies of a win and of a loss, and how many positions are dead.
 use Rattle.std.specs.Prelude.{◌≡◌, ℕ, ◌-◌, ◌/◌, ◌%◌, ◌≤◌, ◌<◌, ◌==◌, ◌&&◌, nat_le, Bool, true, false, List, [], ◌∷◌, ◌++◌, length, slice_index, count_by, Option, Some, None, codes, decimal}
 use Rattle.egt_class.specs.Name.{name_of}
-use Rattle.egt_table.specs.Table.{TableValue, entries_of}
-use Rattle.egt_table.specs.declared.column.Column.TheVariants.{Mate}
+use Rattle.egt_table.specs.Table.{TableValue}
+use Rattle.std.specs.Option.{option_map}
 use Rattle.egt_tool.specs.declared.statistics.Statistics.{Statistics}
 use Rattle.egt_tool.specs.declared.tally.Shown.{Shown}
 use Rattle.egt_tool.specs.declared.tally.Shown.TheVariants.{Void, Draw, Win, Loss}
@@ -26,14 +26,16 @@ IsLongest passes xs n (Some most) =
     ((k : ℕ) × (k < n) × (passes (slice_index xs k) ≡ true) × (most ≡ plies_of (slice_index xs k)))
     × ((k : ℕ) → k < n → passes (slice_index xs k) ≡ true → plies_of (slice_index xs k) ≤ most)
 
-pub record AreStatistics (xs : List ℕ) (s : Statistics) : Type 0 where
-  pub entries : s.entries ≡ length xs
-  pub void : s.void ≡ count_by (shows Void) xs
-  pub draws : s.draws ≡ count_by (shows Draw) xs
-  pub wins : s.wins ≡ count_by (shows Win) xs
-  pub losses : s.losses ≡ count_by (shows Loss) xs
-  pub longest_win : IsLongest (shows Win) xs (length xs) s.longest_win
-  pub longest_loss : IsLongest (shows Loss) xs (length xs) s.longest_loss
+pub record AreStatistics (t : TableValue) (s : Statistics) : Type 0 where
+  pub entries : s.entries ≡ length t.mate
+  pub void : s.void ≡ count_by (shows Void) t.mate
+  pub draws : s.draws ≡ count_by (shows Draw) t.mate
+  pub wins : s.wins ≡ count_by (shows Win) t.mate
+  pub losses : s.losses ≡ count_by (shows Loss) t.mate
+  pub longest_win : IsLongest (shows Win) t.mate (length t.mate) s.longest_win
+  pub longest_loss : IsLongest (shows Loss) t.mate (length t.mate) s.longest_loss
+  -- a dead position has the entry 1, as a draw has in the mate column
+  pub dead : s.dead ≡ option_map (count_by (shows Draw)) t.reach
 
 -- a line of a name and what is told of it; 32 is the space, and 10 the line feed
 abbrev pub line_of : List ℕ → List ℕ → List ℕ
@@ -49,9 +51,10 @@ lines_of c s =
     line_of (codes "class") (name_of c) ++ line_of (codes "entries") (decimal s.entries) ++ line_of (codes "void") (decimal s.void)
     ++ line_of (codes "draws") (decimal s.draws) ++ line_of (codes "wins") (decimal s.wins) ++ line_of (codes "losses") (decimal s.losses)
     ++ line_of (codes "longest win") (number_or_none s.longest_win) ++ line_of (codes "longest loss") (number_or_none s.longest_loss)
+    ++ line_of (codes "dead") (number_or_none s.dead)
 
--- the text tells the statistics of the table's mate column
+-- the text tells the statistics of the table
 pub record TellsStatistics (t : TableValue) (text : List ℕ) : Type 0 where
   pub statistics : Statistics
-  pub of : AreStatistics (entries_of Mate t) statistics
+  pub of : AreStatistics t statistics
   pub lines : text ≡ lines_of t.class statistics

@@ -8,6 +8,7 @@ mod fault;
 mod listing;
 mod loading;
 mod mate_text;
+mod migrate;
 mod moves;
 mod printer;
 mod probe;

@@ -3,6 +3,7 @@ use crate::build::build_table;
 use crate::check::check_table;
 use crate::listing::print_classes;
 use crate::mate_text::print_mate;
+use crate::migrate::migrate_table;
 use crate::moves::print_moves;
 use crate::printer::Printer;
 use crate::probe::probe_lines;
@@ -59,6 +60,7 @@ fn dispatch<R: Files + AllocGlobal, I: Source, O: Sink>(
         },
         "probe" => probe_lines(rt, word(given, "DIR"), class_word(given)?, input, out),
         "check" => check_table(rt, word(given, "DIR"), class_word(given)?, out),
+        "migrate" => migrate_table(rt, word(given, "DIR"), class_word(given)?, out),
         "stats" => print_statistics(rt, word(given, "DIR"), class_word(given)?, out),
         _ => Err(RunFault::Usage),
     }

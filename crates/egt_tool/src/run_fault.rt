@@ -62,6 +62,7 @@ fn column_name(column: Column) -> &'static str {
     match column {
         Column::Mate => "mate",
         Column::Zeroing => "zeroing",
+        Column::Reach => "reach",
     }
 }
 
@@ -71,7 +72,7 @@ fn write_reject<W: fmt::Write>(reject: &Reject, f: &mut fmt::Formatter<W>) -> fm
     let told = reject.name();
     write!(f, "check {number} {told}")?;
     match reject {
-        Reject::Missing(child) => {
+        Reject::Missing(child) | Reject::NoReach(child) => {
             let child = name(*child);
             write!(f, " {child}")
         }
@@ -92,7 +93,7 @@ fn write_reject<W: fmt::Write>(reject: &Reject, f: &mut fmt::Formatter<W>) -> fm
 fn write_built<W: fmt::Write>(fault: &BuildFault, f: &mut fmt::Formatter<W>) -> fmt::Result {
     match fault {
         BuildFault::TooDeep(limit) => write!(f, " {limit}"),
-        BuildFault::Missing(child) => {
+        BuildFault::Missing(child) | BuildFault::NoReach(child) => {
             let child = name(*child);
             write!(f, " {child}")
         }

@@ -35,17 +35,27 @@ fn push_number(text: &mut Vec<u8>, name: &str, number: u32) -> Result<(), AllocE
 fn push_number_or_none(
     text: &mut Vec<u8>,
     name: &str,
-    number: Option<u16>,
+    number: Option<u32>,
 ) -> Result<(), AllocError>
     ensures { OnOk result (text.new.items ≡ text.old.items ++ line_of name.now (number_or_none number)) }
 {
     match number {
-        Some(number) => push_number(text, name, u32::from(number)),
+        Some(number) => push_number(text, name, number),
         None => push_line(text, name, b"-"),
     }
 }
 
-/// The eight lines of the statistics of a class's table.
+/// The number of plies as one that is printed.
+fn widened(plies: Option<u16>) -> Option<u32>
+    ensures { result ≡ plies }
+{
+    match plies {
+        Some(plies) => Some(u32::from(plies)),
+        None => None,
+    }
+}
+
+/// The nine lines of the statistics of a class's table.
 fn lines(alloc: Global, class: Class, statistics: &Statistics) -> Result<Vec<u8>, AllocError>
     ensures { IfOk result (λ text. text.items ≡ lines_of class statistics.now) }
 {
@@ -56,13 +66,14 @@ fn lines(alloc: Global, class: Class, statistics: &Statistics) -> Result<Vec<u8>
     push_number(&mut text, "draws", statistics.draws)?;
     push_number(&mut text, "wins", statistics.wins)?;
     push_number(&mut text, "losses", statistics.losses)?;
-    push_number_or_none(&mut text, "longest win", statistics.longest_win)?;
-    push_number_or_none(&mut text, "longest loss", statistics.longest_loss)?;
+    push_number_or_none(&mut text, "longest win", widened(statistics.longest_win))?;
+    push_number_or_none(&mut text, "longest loss", widened(statistics.longest_loss))?;
+    push_number_or_none(&mut text, "dead", statistics.dead)?;
     Ok(text)
 }
 
-/// What the table's mate column says in all, as eight lines: `class`, `entries`, `void`, `draws`, `wins`, `losses`, `longest win`
-/// and `longest loss`, each with a space, its value and a line feed; the value is `-` where there is no win or no loss.
+/// What the table says in all, as nine lines: `class`, `entries`, `void`, `draws`, `wins`, `losses`, `longest win`, `longest loss` and `dead`, each with
+/// a space, its value and a line feed; the value is `-` where there is no win, no loss or no column of the nearest mates.
 ///
 /// # Errors
 ///

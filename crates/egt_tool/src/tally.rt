@@ -1,7 +1,8 @@
 //! How many entries of a table show something, and the most plies.
 ghost use Rattle.std.specs.Prelude.{◌≡◌, length, count_by, max, option_map, unwrap_or};
-ghost use Rattle.egt_table.specs.Table.{entries_of};
+ghost use Rattle.egt_table.specs.Table.{HasColumn, entries_of};
 ghost use Rattle.egt_table.specs.declared.column.Column.TheVariants.{Mate};
+ghost use Rattle.egt_tool.specs.declared.tally.Shown.TheVariants as kinds;
 ghost use Rattle.egt_tool.specs.Statistics.{shows, plies_of, IsLongest};
 
 use egt_index::size;
@@ -34,17 +35,29 @@ fn shows(shown: Shown, entry: u16) -> bool
     }
 }
 
-/// How many mate entries show this.
-pub(crate) fn count(table: &Table, shown: Shown) -> u32
-    ensures { result ≡ count_by (shows shown) (entries_of Mate table.now) }
+/// How many entries of the column show this.
+pub(crate) fn count(table: &Table, column: Column, shown: Shown) -> u32
+    requires { HasColumn column table.now }
+    ensures { result ≡ count_by (shows shown) (entries_of column table.now) }
 {
     let mut count = 0;
     for index in 0..size(table.class()) {
-        if shows(shown, table.entry(Column::Mate, index)) {
+        if shows(shown, table.entry(column, index)) {
             count += 1;
         }
     }
     count
+}
+
+/// How many positions are dead, where the table has the column of the nearest mates: their entry there is that of a draw elsewhere.
+pub(crate) fn dead(table: &Table) -> Option<u32>
+    ensures { result ≡ option_map (count_by (shows kinds.Draw)) table.now.reach }
+{
+    if table.has_reach() {
+        Some(count(table, Column::Reach, Shown::Draw))
+    } else {
+        None
+    }
 }
 
 /// The plies of the entry, or those that are known already where they are more.

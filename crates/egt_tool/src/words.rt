@@ -71,9 +71,16 @@ fn check_command<'a>(alloc: Global) -> Result<Command<'a>, AllocError> {
         .arg(class_word(alloc))
 }
 
+fn migrate_command<'a>(alloc: Global) -> Result<Command<'a>, AllocError> {
+    Command::new(alloc, "migrate")
+        .about("Gives the table of a class the column of the nearest mates, if it lacks it")
+        .arg(folder_word(alloc))?
+        .arg(class_word(alloc))
+}
+
 fn stats_command<'a>(alloc: Global) -> Result<Command<'a>, AllocError> {
     Command::new(alloc, "stats")
-        .about("Prints how many positions of a class are won, drawn and lost")
+        .about("Prints how many positions of a class are won, drawn, lost and dead")
         .arg(folder_word(alloc))?
         .arg(class_word(alloc))
 }
@@ -88,6 +95,7 @@ pub(crate) fn command<'a>(alloc: Global) -> Result<Command<'a>, AllocError> {
         .subcommand(list_command(alloc))?
         .subcommand(build_command(alloc)?)?
         .subcommand(check_command(alloc)?)?
+        .subcommand(migrate_command(alloc)?)?
         .subcommand(probe_command(alloc)?)?
         .subcommand(stats_command(alloc)?)
 }

@@ -2,7 +2,6 @@ use Rattle.std.proofs.Common.{◌≡◌, ◌<◌, ◌≤◌, length, count_by, s
 use Rattle.std.proofs.lemmas.List.{take_all}
 use Rattle.egt_index.specs.Size.{size_of}
 use Rattle.egt_table.specs.Table.{entries_of}
-use Rattle.egt_table.specs.declared.column.Column.TheVariants.{Mate}
 use Rattle.egt_tool.specs.Statistics.{shows}
 use Rattle.egt_tool.proofs.Tallying.{count_more, count_same}
 use Rattle.egt_tool.proofs.tally.count.Goals as goal
@@ -10,8 +9,8 @@ use Rattle.egt_tool.proofs.tally.count.Goals.{then-shows, else-shows}
 
 pub loop-index-preserved : goal.loop-index-preserved
 loop-index-preserved c =
-    let xs = entries_of Mate c.args.table.now in
-    let size : length xs ≡ c.size-index-end.result = c.class.ensures.table.sizes Mate ∙ sym (c.size-index-end.ensures ∙ ap size_of c.class.ensures.class) in
+    let xs = entries_of c.args.column c.args.table.now in
+    let size : length xs ≡ c.size-index-end.result = c.class.ensures.table.sizes c.args.column c.requires ∙ sym (c.size-index-end.ensures ∙ ap size_of c.class.ensures.class) in
     let inside : c.loop-index.index < length xs = subst (λ n. c.loop-index.index < n) (sym size) c.loop-index-test.true in
     elim c.if-shows.branch [
       | then-shows w ↦ (let few = c.loop-index.invariant.few in let is = w.count-is in record {
@@ -26,7 +25,7 @@ loop-index-preserved c =
 
 pub returns : goal.returns
 returns c =
-    let xs = entries_of Mate c.args.table.now in
-    let size : length xs ≡ c.size-index-end.result = c.class.ensures.table.sizes Mate ∙ sym (c.size-index-end.ensures ∙ ap size_of c.class.ensures.class) in
+    let xs = entries_of c.args.column c.args.table.now in
+    let size : length xs ≡ c.size-index-end.result = c.class.ensures.table.sizes c.args.column c.requires ∙ sym (c.size-index-end.ensures ∙ ap size_of c.class.ensures.class) in
     let all : length xs ≤ c.loop-index.index = subst (λ n. n ≤ c.loop-index.index) (sym size) c.loop-index-test.false in
     c.loop-index.invariant.counted ∙ ap (λ ys. count_by (shows c.args.shown) ys) (take_all c.loop-index.index xs all)

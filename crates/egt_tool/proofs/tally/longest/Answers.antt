@@ -10,7 +10,7 @@ use Rattle.egt_tool.proofs.tally.longest.Goals.{then-shows, else-shows}
 pub loop-index-preserved : goal.loop-index-preserved
 loop-index-preserved c =
     let xs = entries_of Mate c.args.table.now in
-    let size : length xs ≡ c.size-index-end.result = c.class.ensures.table.sizes Mate ∙ sym (c.size-index-end.ensures ∙ ap size_of c.class.ensures.class) in
+    let size : length xs ≡ c.size-index-end.result = c.class.ensures.table.sizes Mate tt ∙ sym (c.size-index-end.ensures ∙ ap size_of c.class.ensures.class) in
     let inside : c.loop-index.index < length xs = subst (λ n. c.loop-index.index < n) (sym size) c.loop-index-test.true in
     elim c.if-shows.branch [
       | then-shows w ↦
@@ -24,7 +24,7 @@ loop-index-preserved c =
 pub returns : goal.returns
 returns c =
     let xs = entries_of Mate c.args.table.now in
-    let size : length xs ≡ c.size-index-end.result = c.class.ensures.table.sizes Mate ∙ sym (c.size-index-end.ensures ∙ ap size_of c.class.ensures.class) in
+    let size : length xs ≡ c.size-index-end.result = c.class.ensures.table.sizes Mate tt ∙ sym (c.size-index-end.ensures ∙ ap size_of c.class.ensures.class) in
     let at_most = c.loop-index.auto.index-end in
     let at_least = c.loop-index-test.false in
     let all : c.loop-index.index ≡ length xs = omega (arith, size, at_most, at_least) in
