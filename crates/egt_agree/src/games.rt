@@ -8,12 +8,11 @@ use crate::setup::Setup;
 use crate::steps::{Step, steps};
 use crate::tables::mate_told;
 use arrayvec::ArrayVec;
-use egt_check::Library;
+use egt_check::{Library, Metric};
 use egt_class::Class;
 use egt_graph::{Exit, Game, Ranks, solve};
 use egt_index::position;
 use egt_sweep::{MateGame, ZeroGame};
-use egt_table::Column;
 use std::alloc::Global;
 
 /// What no game tells.
@@ -22,7 +21,7 @@ const UNKNOWN: Exit = Exit::Win(u16::MAX);
 /// The game of mates or of zeroing moves over a class, as plain play has it, beside the children's tables and the class's own mate entries.
 #[derive(Clone, Copy)]
 struct Plain<'l> {
-    column: Column,
+    metric: Metric,
     class: Class,
     library: &'l Library,
     mates: &'l [u16],
@@ -39,9 +38,9 @@ struct Node {
 impl Plain<'_> {
     /// Whether the move goes on in the game.
     fn goes_on(&self, step: &Step) -> bool {
-        match self.column {
-            Column::Mate => step.class == self.class,
-            Column::Zeroing => !step.zeroes,
+        match self.metric {
+            Metric::Mate => step.class == self.class,
+            Metric::Zeroing => !step.zeroes,
         }
     }
 
@@ -56,7 +55,7 @@ impl Plain<'_> {
 
     /// What a move out of the game brings: where moves zero, that is at once.
     fn exit(&self, step: &Step) -> Exit {
-        let counts = self.column == Column::Mate;
+        let counts = self.metric == Metric::Mate;
         match self.said(step) {
             Some(Told::Win(plies)) => Exit::Win(if counts { plies } else { 0 }),
             Some(Told::Loss(plies)) => Exit::Loss(if counts { plies } else { 0 }),
@@ -202,7 +201,7 @@ fn codes_agree<G: Game>(game: &G, plain: &Plain<'_>, step: u32) -> Result<u32, u
 /// At how many codes at these steps the class's game of mates tells right; the first where it does not, and 0 where there is no game.
 pub fn mate_game_agrees(class: Class, library: &Library, step: u32) -> Result<u32, u32> {
     let plain = Plain {
-        column: Column::Mate,
+        metric: Metric::Mate,
         class,
         library,
         mates: &[],
@@ -236,7 +235,7 @@ fn zero_game_over<'x>(
     requires { AreMateRanks (table_at library.now) class ranks.now }
 {
     let plain = Plain {
-        column: Column::Zeroing,
+        metric: Metric::Zeroing,
         class,
         library,
         mates: ranks.entries(),

@@ -1,5 +1,5 @@
 //! Holds what is fast against plain forms that walk the board. `egt_agree DIR CLASS` reads the tables of the class and of those below it
-//! from a folder and prints a line: that both entries of the class's codes are what those of the positions after each legal move give, and
+//! from a folder and prints a line: that the entries of the class's codes are what those of the positions after each legal move give, and
 //! that legal moves, moves backwards and both games over the class are the plain ones; or the first code at which one of them differs, and then
 //! its status is 1. All codes of classes of two and three men are asked, and of the others every so many. The tests ask the same of fewer codes.
 //! `egt_agree solved DIR CLASS` solves both games over the class by counters, which takes a while for four men, and holds their ranks against its table.

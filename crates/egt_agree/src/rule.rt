@@ -76,3 +76,24 @@ pub fn best(successors: &[Told], in_check: bool) -> Told {
         None => Told::Draw,
     }
 }
+
+/// The entry of the nearest mate by those of the successors: one more than the least that tells of a mate, or that of a dead position where none
+/// does; without a move in check, that of checkmate.
+pub fn nearest(successors: &[u16], in_check: bool) -> u16 {
+    if successors.is_empty() && in_check {
+        return 2;
+    }
+    let mut least = None;
+    for successor in successors {
+        if *successor > 1 {
+            least = Some(match least {
+                Some(other) => (*successor).min(other),
+                None => *successor,
+            });
+        }
+    }
+    match least {
+        Some(entry) => entry.saturating_add(1),
+        None => 1,
+    }
+}

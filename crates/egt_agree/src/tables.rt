@@ -1,18 +1,31 @@
 //! Entries of tables: those of a class against what the entries of the positions after each legal move give.
-use crate::rule::{Told, best, entry, said_by};
+ghost use Rattle.std.specs.Prelude.{◌≡◌, true};
+ghost use Rattle.egt_table.specs.Table.{HasColumn};
+
+use crate::rule::{Told, best, entry, nearest, said_by};
 use crate::setup::Setup;
 use crate::steps::{Step, steps};
 use arrayvec::ArrayVec;
 use egt_board::Position;
-use egt_check::Library;
+use egt_check::{Library, Metric};
 use egt_class::Class;
 use egt_index::{position, size};
-use egt_table::Column;
+use egt_table::{Column, Table};
 
-/// The entry of an index in the table of a class.
+/// Whether the column is there.
+fn has(table: &Table, column: Column) -> bool
+    ensures { result ≡ true → HasColumn column table.now }
+{
+    match column {
+        Column::Mate | Column::Zeroing => true,
+        Column::Reach => table.has_reach(),
+    }
+}
+
+/// The entry of an index in the table of a class, where the column is there.
 pub fn entry_at(library: &Library, column: Column, class: Class, index: u32) -> Option<u16> {
     let table = library.get(class)?;
-    if index < size(table.class()) {
+    if has(table, column) && index < size(table.class()) {
         Some(table.entry(column, index))
     } else {
         None
@@ -37,30 +50,54 @@ fn zeroing_told(library: &Library, step: &Step) -> Option<Told> {
     }
 }
 
-/// What the entry of the position is to be, by those of its successors.
-fn wanted(library: &Library, column: Column, position: &Position) -> Option<u16> {
+/// What the entry of the position is to be in the column that the metric stands for, by those of its successors.
+fn wanted_told(library: &Library, metric: Metric, steps: &[Step], in_check: bool) -> Option<u16> {
     let mut successors = ArrayVec::<Told, 64>::new();
-    for step in steps(position).as_slice() {
-        let told = match column {
-            Column::Mate => mate_told(library, step)?,
-            Column::Zeroing => zeroing_told(library, step)?,
+    for step in steps {
+        let told = match metric {
+            Metric::Mate => mate_told(library, step)?,
+            Metric::Zeroing => zeroing_told(library, step)?,
         };
         successors.try_push(told).ok()?;
     }
-    let setup = Setup::of(position);
-    let in_check = setup.is_in_check(setup.side);
     Some(entry(best(successors.as_slice(), in_check)))
 }
 
-/// Whether both entries of the code are what those of the successors give, and 0 where it spells no position.
+/// What its entry is to be in the column of the nearest mates.
+fn wanted_reach(library: &Library, steps: &[Step], in_check: bool) -> Option<u16> {
+    let mut successors = ArrayVec::<u16, 64>::new();
+    for step in steps {
+        let reach = entry_at(library, Column::Reach, step.class, step.index)?;
+        successors.try_push(reach).ok()?;
+    }
+    Some(nearest(successors.as_slice(), in_check))
+}
+
+/// What the entry of the position is to be, by those of its successors.
+fn wanted(library: &Library, column: Column, position: &Position) -> Option<u16> {
+    let steps = steps(position);
+    let steps = steps.as_slice();
+    let setup = Setup::of(position);
+    let in_check = setup.is_in_check(setup.side);
+    match column {
+        Column::Mate => wanted_told(library, Metric::Mate, steps, in_check),
+        Column::Zeroing => wanted_told(library, Metric::Zeroing, steps, in_check),
+        Column::Reach => wanted_reach(library, steps, in_check),
+    }
+}
+
+/// Whether the code's entry of each column of the class's table is what those of the successors give, and 0 where it spells no position.
 pub fn entries_agree(library: &Library, class: Class, code: u32) -> bool {
+    let Some(table) = library.get(class) else {
+        return false;
+    };
     let spelled = position(class, code);
-    for column in Column::ALL {
+    for column in table.columns() {
         let wanted = match &spelled {
-            Some(position) => wanted(library, column, position),
+            Some(position) => wanted(library, *column, position),
             None => Some(0),
         };
-        if wanted.is_none() || entry_at(library, column, class, code) != wanted {
+        if wanted.is_none() || entry_at(library, *column, class, code) != wanted {
             return false;
         }
     }

@@ -1,11 +1,10 @@
 //! The calls in which a growth of memory may be refused, each with what it is made on. What a call answers is told by a number.
-use egt_check::Library;
+use egt_check::{Library, check};
 use egt_class::Class;
 use egt_fen::{Fen, write};
 use egt_graph::{Nears, Ranks, Rounds, SolveFault, nearest, solve};
-use egt_index::size;
 use egt_probe::{AnswerFault, LineFault, answer, line};
-use egt_sweep::{BuildFault, MateGame, build};
+use egt_sweep::{BuildFault, MateGame, MigrateFault, build, migrate};
 use egt_table::{Column, FileFault, MemorySink, MemorySource, Table};
 use std::alloc::Global;
 
@@ -40,12 +39,17 @@ fn of_bytes(bytes: &[u8]) -> Answered {
     Answered::Something(sum)
 }
 
-fn of_entries(entries: &[u16]) -> Answered {
-    let mut sum = 0;
+/// Mixes all entries into a number.
+fn mixed_all(sum: u64, entries: &[u16]) -> u64 {
+    let mut sum = sum;
     for entry in entries {
         sum = mixed(sum, u64::from(*entry));
     }
-    Answered::Something(sum)
+    sum
+}
+
+fn of_entries(entries: &[u16]) -> Answered {
+    Answered::Something(mixed_all(0, entries))
 }
 
 fn of_ranks(ranks: &Ranks) -> Answered {
@@ -57,10 +61,10 @@ fn of_nears(nears: &Nears) -> Answered {
 }
 
 fn of_table(table: &Table) -> Answered {
-    let mut sum = 0;
-    for index in 0..size(table.class()) {
-        sum = mixed(sum, u64::from(table.entry(Column::Mate, index)));
-        sum = mixed(sum, u64::from(table.entry(Column::Zeroing, index)));
+    let mut sum = mixed_all(0, table.entries(Column::Mate));
+    sum = mixed_all(sum, table.entries(Column::Zeroing));
+    if table.has_reach() {
+        sum = mixed_all(sum, table.entries(Column::Reach));
     }
     Answered::Something(sum)
 }
@@ -181,6 +185,29 @@ impl Growing for Build<'_> {
         match build(alloc, self.class, self.library, LIMIT) {
             Ok(table) => of_table(&table),
             Err(BuildFault::NoMemory) => Answered::WantOfMemory,
+            Err(_) => Answered::Else,
+        }
+    }
+}
+
+/// `migrate` of tables that were made before, of a class without the column of the nearest mates.
+#[derive(Drop)]
+pub struct Migrate<'a> {
+    pub library: &'a Library,
+    pub tables: Vec<Table>,
+}
+
+impl Growing for Migrate<'_> {
+    fn made(&mut self, alloc: Global) -> Answered {
+        let Some(table) = self.tables.pop() else {
+            return Answered::Else;
+        };
+        if check(&table, self.library).is_err() {
+            return Answered::Else;
+        }
+        match migrate(alloc, table, self.library) {
+            Ok(table) => of_table(&table),
+            Err((_table, MigrateFault::NoMemory)) => Answered::WantOfMemory,
             Err(_) => Answered::Else,
         }
     }

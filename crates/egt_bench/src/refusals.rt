@@ -1,15 +1,15 @@
 //! A call made where a growth of memory may be refused, and made again: `scripts/refusals` refuses the growths one by one.
 use crate::folder::below;
 use crate::growing::{
-    Answer, Answered, Build, Expand, Growing, Line, Nearest, NewLibrary, NewRounds, Read, Solve,
-    Write,
+    Answer, Answered, Build, Expand, Growing, Line, Migrate, Nearest, NewLibrary, NewRounds, Read,
+    Solve, Write,
 };
 use egt_check::Library;
 use egt_class::{Class, by_name};
 use egt_fen::{Fen, read};
-use egt_graph::Rounds;
+use egt_graph::{Ranks, Rounds};
 use egt_sweep::{MateGame, build};
-use egt_table::{MemorySink, Table};
+use egt_table::{Column, MemorySink, Table};
 use std::alloc::Global;
 use std::io;
 
@@ -19,7 +19,7 @@ k7/1Q6/1K6/8/8/8/8/8 b - - 0 1\nk7/2Q5/8/8/8/8/8/4K3 b - - 0 1\n8/8/8/4k3/8/4K3/
 
 const REPORTS: &[u8] =
     b"KQK white mates in 2 plies zeroing 2 line a8b8 d1d8\nerror fen 1 FieldCount\n\
-KQK draw hold b2c2\nKQK white mates in 0 plies zeroing 0 line -\nKQK draw hold -\nKK draw hold e3d2\n";
+KQK draw hold b2c2\nKQK white mates in 0 plies zeroing 0 line -\nKQK draw hold -\nKK dead hold e3d2\n";
 
 /// A position of KQK that White wins.
 const LONG: &[u8] = b"8/8/8/3k4/8/8/8/KQ6 w - - 0 1";
@@ -89,6 +89,18 @@ fn file_of(alloc: Global, class: Class, library: &Library) -> io::Result<Vec<u8>
     Ok(Vec::from_slice(alloc, sink.bytes())?)
 }
 
+/// The table without the column of the nearest mates.
+fn without_reach(alloc: Global, table: &Table) -> io::Result<Table> {
+    let mate = Vec::from_slice(alloc, table.entries(Column::Mate))?;
+    let zeroing = Vec::from_slice(alloc, table.entries(Column::Zeroing))?;
+    let mate = Ranks::from_entries(mate);
+    let zeroing = Ranks::from_entries(zeroing);
+    match Table::from_ranks(table.class(), mate, zeroing) {
+        Ok(table) => Ok(table),
+        Err(_columns) => Err(io::Error::from(io::ErrorKind::InvalidInput)),
+    }
+}
+
 /// The position of a text that spells one.
 fn position_of(text: &[u8]) -> io::Result<Fen> {
     match read(text) {
@@ -126,6 +138,15 @@ fn run_beside(
             },
             stage,
         ),
+        "migrate" => {
+            let mut tables = Vec::new(alloc);
+            if let Some(table) = library.get(class) {
+                for _ in 0..2 {
+                    tables.push(without_reach(alloc, table)?)?;
+                }
+            }
+            run(rt, &mut Migrate { library, tables }, stage)
+        }
         "answer" => {
             let mut sinks = Vec::new(alloc);
             for _ in 0..2 {
@@ -184,7 +205,7 @@ pub fn refuse(rt: &HostRuntime, call: &str, class: &str, stage: Stage) -> io::Re
         _ => {}
     }
     let mut wanted = below(class);
-    wanted[usize::from(class.number())] = matches!(call, "read" | "line" | "answer");
+    wanted[usize::from(class.number())] = matches!(call, "read" | "line" | "migrate" | "answer");
     let mut library = Library::new(rt.alloc())?;
     if !fill(rt.alloc(), &wanted, &mut library) {
         return println!(rt; "no table below the class");
@@ -198,7 +219,7 @@ pub fn refuse(rt: &HostRuntime, call: &str, class: &str, stage: Stage) -> io::Re
             },
             stage,
         ),
-        "read" | "line" | "answer" => run_beside(rt, call, class, &library, stage),
+        "read" | "line" | "migrate" | "answer" => run_beside(rt, call, class, &library, stage),
         _ => run_over(rt, call, class, &library, stage),
     }
 }

@@ -1,8 +1,9 @@
-//! The builder, and both games over a class.
+//! The builder, and the three games over a class.
 mod builds;
 mod damaged;
 mod figures;
 mod games;
+mod migrates;
 mod nearest;
 mod orders;
 mod refused;

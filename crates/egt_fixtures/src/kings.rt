@@ -2,7 +2,7 @@
 //! another code is less and spells the same position in another image.
 use crate::shelf::file_of;
 use egt_class::Class;
-use egt_graph::Ranks;
+use egt_graph::{Nears, Ranks};
 use egt_table::{NoMemory, Table};
 use std::alloc::Global;
 use std::test::Fail;
@@ -10,8 +10,11 @@ use std::test::Fail;
 /// How many codes two kings have.
 pub const SIZE: u32 = 1280;
 
-/// How many bytes their table's file has.
+/// How many bytes their table's file has, without the column of the nearest mates.
 pub const LENGTH: usize = 5136;
+
+/// How many it has with that column.
+pub const WHOLE_LENGTH: usize = 7696;
 
 /// The squares of the triangle a1 d1 d4.
 const TRIANGLE: [u8; 10] = [0, 1, 2, 3, 9, 10, 11, 18, 19, 27];
@@ -54,7 +57,7 @@ fn code(white: u8, black: u8, side: u32) -> Option<u32> {
     None
 }
 
-/// The entry of a code: 1 for a draw, 0 where it is void.
+/// The entry of a code in each column: 1 for a draw, which is a dead position, 0 where it is void.
 pub fn entry(own: u32) -> u16 {
     let white = TRIANGLE[(own / 128 % 10) as usize];
     let black = (own / 2 % 64) as u8;
@@ -107,6 +110,20 @@ pub fn table_with(
     }
 }
 
+/// The same with the column of the nearest mates, and other entries there.
+pub fn whole_table_with(
+    alloc: Global,
+    mate: &[(u32, u16)],
+    zeroing: &[(u32, u16)],
+    reach: &[(u32, u16)],
+) -> Result<Table, Fail> {
+    let nears = Nears::from_entries(changed(entries(alloc)?, reach));
+    match table_with(alloc, mate, zeroing)?.with_reach(nears) {
+        Ok(table) => Ok(table),
+        Err(_both) => Err(Fail::from("a column of another length")),
+    }
+}
+
 fn changed(mut entries: Vec<u16>, changes: &[(u32, u16)]) -> Vec<u16> {
     for &(code, other) in changes {
         if let Some(entry) = entries.get_mut(code as usize) {
@@ -119,4 +136,9 @@ fn changed(mut entries: Vec<u16>, changes: &[(u32, u16)]) -> Vec<u16> {
 /// The file of the table of two kings.
 pub fn kings_file(alloc: Global) -> Result<Vec<u8>, Fail> {
     file_of(alloc, &table_with(alloc, &[], &[])?)
+}
+
+/// The file of the same with the column of the nearest mates.
+pub fn whole_kings_file(alloc: Global) -> Result<Vec<u8>, Fail> {
+    file_of(alloc, &whole_table_with(alloc, &[], &[], &[])?)
 }

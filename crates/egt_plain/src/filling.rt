@@ -3,7 +3,7 @@ use crate::code::{PlainPosition, THIRD, code_count};
 use crate::tables::PlainTables;
 use egt_board::{Kind, Man, Position, Side, Square};
 use egt_class::{Class, of};
-use egt_graph::Ranks;
+use egt_graph::{Nears, Ranks};
 use egt_index::{index, size};
 use egt_table::{Column, Table};
 use std::alloc::{AllocError, AllocFailed, Global};
@@ -182,7 +182,21 @@ pub fn columns_of(
     ))
 }
 
-/// The product's table of a class that was solved, by number.
+/// The column of the nearest mates of a class that was solved, by number, as the product has it.
+///
+/// # Errors
+///
+/// Those of `columns_of`.
+pub fn reach_of(alloc: Global, tables: &PlainTables, class: u8) -> Result<Vec<u16>, Unlike> {
+    let indexes = indexes(alloc, class)?;
+    let Some(asked) = Class::new(class) else {
+        return Err(Unlike::Position);
+    };
+    let reach = tables.entries(usize::from(class), Column::Reach);
+    filled(alloc, asked, &indexes, reach)
+}
+
+/// The product's table of a class that was solved, by number, without the column of the nearest mates.
 ///
 /// # Errors
 ///
@@ -199,5 +213,19 @@ pub fn table_of(alloc: Global, tables: &PlainTables, class: u8) -> Result<Table,
     ) {
         Ok(table) => Ok(table),
         Err(_columns) => Err(Unlike::Position),
+    }
+}
+
+/// The same with the column of the nearest mates.
+///
+/// # Errors
+///
+/// Those of `columns_of`.
+pub fn whole_table_of(alloc: Global, tables: &PlainTables, class: u8) -> Result<Table, Unlike> {
+    let table = table_of(alloc, tables, class)?;
+    let nears = Nears::from_entries(reach_of(alloc, tables, class)?);
+    match table.with_reach(nears) {
+        Ok(table) => Ok(table),
+        Err(_both) => Err(Unlike::Position),
     }
 }

@@ -1,6 +1,7 @@
 //! The tables of the classes.
 use crate::code::{PlainPosition, THIRD};
 use crate::mates::solve_mates;
+use crate::reach::solve_reach;
 use crate::zeroing::solve_zeroing;
 use egt_table::Column;
 use std::alloc::{AllocError, Global};
@@ -10,10 +11,12 @@ use std::alloc::{AllocError, Global};
 pub(crate) struct PlainTable {
     pub(crate) mate: Vec<u16>,
     pub(crate) zeroing: Vec<u16>,
+    pub(crate) reach: Vec<u16>,
 }
 
 /// The tables of the classes 0 to some number of at most 5. An entry is 0 for a code that is no position, 1 for a draw, `2 + 2n` for a
-/// win in n plies and `3 + 2n` for a loss in n plies.
+/// win in n plies and `3 + 2n` for a loss in n plies; in the column of the nearest mates 1 for a dead position and `2 + n` where n plies of both
+/// sides lead to a checkmate.
 #[derive(Drop)]
 pub struct PlainTables {
     pub(crate) tables: Vec<PlainTable>,
@@ -28,7 +31,12 @@ impl PlainTables {
         for third in THIRD.iter().take(classes) {
             let mate = solve_mates(alloc, *third, &solved)?;
             let zeroing = solve_zeroing(alloc, *third, &mate, &solved)?;
-            solved.tables.push(PlainTable { mate, zeroing })?;
+            let reach = solve_reach(alloc, *third, &mate, &solved)?;
+            solved.tables.push(PlainTable {
+                mate,
+                zeroing,
+                reach,
+            })?;
         }
         Ok(solved)
     }
@@ -39,6 +47,7 @@ impl PlainTables {
             Some(table) => match column {
                 Column::Mate => &table.mate,
                 Column::Zeroing => &table.zeroing,
+                Column::Reach => &table.reach,
             },
             None => &[],
         }
@@ -58,6 +67,11 @@ impl PlainTables {
     /// Its mate entry.
     pub(crate) fn mate_of(&self, position: PlainPosition) -> u16 {
         self.entry_of(Column::Mate, position)
+    }
+
+    /// Its entry in the column of the nearest mates.
+    pub(crate) fn reach_of(&self, position: PlainPosition) -> u16 {
+        self.entry_of(Column::Reach, position)
     }
 }
 

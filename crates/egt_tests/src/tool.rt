@@ -2,6 +2,7 @@
 mod build;
 mod files;
 mod list;
+mod migrate;
 mod moves;
 mod pawns;
 mod search;
@@ -110,4 +111,40 @@ fn folder(rt: &HostRuntime, name: &str) -> Result<String, Fail> {
     let _ = fs::remove_dir_all(rt, folder.as_str());
     fs::create_dir(rt, folder.as_str())?;
     Ok(folder)
+}
+
+/// Whether the folder has the file.
+fn has_file(rt: &HostRuntime, folder: &str, file: &str) -> Option<bool> {
+    let path = format!(in rt.alloc(); "{folder}/{file}").ok()?;
+    Some(fs::read(rt, path.as_str()).is_ok())
+}
+
+/// Writes a file of the folder.
+fn put(rt: &HostRuntime, folder: &str, file: &str, bytes: &[u8]) -> Result<(), Fail> {
+    let path = format!(in rt.alloc(); "{folder}/{file}")?;
+    fs::write(rt, path.as_str(), bytes)?;
+    Ok(())
+}
+
+/// The bytes with another at one place.
+fn changed(alloc: Global, bytes: &[u8], place: usize, byte: u8) -> Result<Vec<u8>, Fail> {
+    let mut changed = Vec::new(alloc);
+    changed.extend_from_slice(bytes)?;
+    if let Some(old) = changed.get_mut(place) {
+        *old = byte;
+    }
+    Ok(changed)
+}
+
+/// Whether `check` and `stats` of a class both end with this status and print this line alone, to the standard error.
+fn both_print(rt: &HostRuntime, folder: &str, class: &str, status: u8, line: &str) -> Option<bool> {
+    let check = prints(rt, &["check", folder, class], status, "", line)?;
+    let stats = prints(rt, &["stats", folder, class], status, "", line)?;
+    Some(check && stats)
+}
+
+/// Whether both print this line of the folder's file of two kings where that has these bytes.
+fn is_damaged(rt: &HostRuntime, folder: &str, bytes: &[u8], line: &str) -> Result<bool, Fail> {
+    put(rt, folder, "KK.egt", bytes)?;
+    Ok(both_print(rt, folder, "KK", 1, line) == Some(true))
 }

@@ -1,6 +1,6 @@
 //! What is answered to whole inputs.
 use egt_check::Library;
-use egt_fixtures::shelf::library_below;
+use egt_fixtures::shelf::{library_below, whole_library_below};
 use egt_probe::answer;
 use egt_table::{MemorySink, MemorySource};
 use std::alloc::Global;
@@ -69,6 +69,26 @@ fn queens(rt: HostRuntime) -> Result<(), Fail> {
             (
                 "k7/8/8/8/8/8/8/R6K w - - 0 1\n",
                 "error fen 11 WaitingInCheck\n",
+            ),
+        ],
+    )
+}
+
+// A stalemate is told as a draw, though it is dead, and so is a draw from which a mate may come.
+#[test]
+fn dead_positions(rt: HostRuntime) -> Result<(), Fail> {
+    let library = whole_library_below(rt.alloc(), 2)?;
+    expect_answers(
+        &rt,
+        rt.alloc(),
+        &library,
+        &[
+            ("8/8/8/4k3/8/4K3/8/8 w - - 0 1\n", "KK dead hold e3d2\n"),
+            ("k7/2Q5/8/8/8/8/8/4K3 b - - 0 1\n", "KQK draw hold -\n"),
+            ("8/8/8/8/8/8/1kQ5/7K b - - 0 1\n", "KQK draw hold b2c2\n"),
+            (
+                "k7/8/1K6/8/8/8/8/3Q4 b - - 0 1\n",
+                "KQK white mates in 2 plies zeroing 2 line a8b8 d1d8\n",
             ),
         ],
     )

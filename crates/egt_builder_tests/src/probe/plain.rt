@@ -1,16 +1,25 @@
-//! The verdicts of all positions of the first six classes, against plain tables.
+//! The verdicts of all positions of the first six classes, against plain tables, with the column of the nearest mates and without.
 use egt_board::{Position, Side};
 use egt_check::Library;
-use egt_fixtures::shelf::library_of;
+use egt_fixtures::shelf::{library_of, whole_library_of};
 use egt_plain::{PlainPosition, PlainTables, THIRD, position_of};
 use egt_probe::{Outcome, verdict};
 use egt_table::Column;
 use std::test::*;
 
+/// Whether the side to move has a legal move. A move that leaves its king in check leads to no position.
+fn has_move(plain: PlainPosition) -> bool {
+    plain
+        .successors()
+        .as_slice()
+        .iter()
+        .any(|next| next.position.is_position())
+}
+
 /// What entries of a position tell, with that side to move.
-fn outcome(mover: Side, mate: u16, zeroing: u16) -> Outcome {
+fn outcome(mover: Side, mate: u16, zeroing: u16, dead: bool) -> Outcome {
     if mate <= 1 {
-        return Outcome::Draw;
+        return if dead { Outcome::Dead } else { Outcome::Draw };
     }
     Outcome::Decided {
         winner: if mate % 2 == 0 { mover } else { mover.other() },
@@ -28,21 +37,24 @@ fn is_judged(library: &Library, position: &Position, class: u8, outcome: Outcome
 }
 
 /// How many positions of the class have another verdict than the plain tables give, as they stand or with colours exchanged, and
-/// how many there are.
-fn compared(library: &Library, tables: &PlainTables, class: u8) -> (u32, u32) {
+/// how many there are. Dead positions are told where the library's tables have the column of the nearest mates.
+fn compared(library: &Library, tables: &PlainTables, class: u8, whole: bool) -> (u32, u32) {
     let mates = tables.entries(usize::from(class), Column::Mate);
     let zeroings = tables.entries(usize::from(class), Column::Zeroing);
+    let reaches = tables.entries(usize::from(class), Column::Reach);
     let third = match THIRD.get(usize::from(class)) {
         Some(third) => *third,
         None => None,
     };
     let mut unlike = 0u32;
     let mut positions = 0u32;
-    for (code, (mate, zeroing)) in mates.iter().zip(zeroings).enumerate() {
-        if let Some(position) = position_of(PlainPosition::of_code(third, code)) {
+    for (code, ((mate, zeroing), reach)) in mates.iter().zip(zeroings).zip(reaches).enumerate() {
+        let plain = PlainPosition::of_code(third, code);
+        if let Some(position) = position_of(plain) {
             let turned = position.flip_colours();
-            let here = outcome(position.side(), *mate, *zeroing);
-            let there = outcome(turned.side(), *mate, *zeroing);
+            let dead = whole && *reach == 1 && has_move(plain);
+            let here = outcome(position.side(), *mate, *zeroing, dead);
+            let there = outcome(turned.side(), *mate, *zeroing, dead);
             let alike = is_judged(library, &position, class, here)
                 && is_judged(library, &turned, class, there);
             unlike = unlike.saturating_add(u32::from(!alike));
@@ -55,14 +67,25 @@ fn compared(library: &Library, tables: &PlainTables, class: u8) -> (u32, u32) {
 #[test]
 fn every_position_of_three_men(rt: HostRuntime) -> Result<(), Fail> {
     let tables = PlainTables::solve(rt.alloc(), 6)?;
-    let library = library_of(rt.alloc(), &tables, 6)?;
-    let (unlike, kings) = compared(&library, &tables, 0);
+    let library = whole_library_of(rt.alloc(), &tables, 6)?;
+    let (unlike, kings) = compared(&library, &tables, 0, true);
     assert_eq!(rt; unlike, 0);
     assert_eq!(rt; kings, 7224);
     for class in 1..6u8 {
-        let (unlike, positions) = compared(&library, &tables, class);
+        let (unlike, positions) = compared(&library, &tables, class, true);
         assert_eq!(rt; unlike, 0);
         assert!(rt; positions > 300_000);
     }
+    Ok(())
+}
+
+#[test]
+fn every_position_without_the_column(rt: HostRuntime) -> Result<(), Fail> {
+    let tables = PlainTables::solve(rt.alloc(), 2)?;
+    let library = library_of(rt.alloc(), &tables, 2)?;
+    assert_eq!(rt; compared(&library, &tables, 0, false), (0, 7224));
+    let (unlike, positions) = compared(&library, &tables, 1, false);
+    assert_eq!(rt; unlike, 0);
+    assert!(rt; positions > 300_000);
     Ok(())
 }

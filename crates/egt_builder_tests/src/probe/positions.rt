@@ -2,7 +2,7 @@
 use egt_board::{Position, Side};
 use egt_class::Class;
 use egt_fen::read;
-use egt_fixtures::shelf::library_below;
+use egt_fixtures::shelf::{library_below, whole_library_below};
 use egt_probe::{AnswerFault, HoldFault, LineFault, Outcome, hold, line, verdict};
 use std::test::*;
 
@@ -57,6 +57,25 @@ fn a_drawn_position(rt: HostRuntime) -> Result<(), Fail> {
     assert_eq!(rt; fault, LineFault::Drawn);
     let stalemate = position("k7/2Q5/8/8/8/8/8/4K3 b - - 0 1")?;
     assert_eq!(rt; hold(&library, &stalemate), Ok(None));
+    Ok(())
+}
+
+#[test]
+fn a_dead_position(rt: HostRuntime) -> Result<(), Fail> {
+    let library = whole_library_below(rt.alloc(), 1)?;
+    let here = position("8/8/8/4k3/8/4K3/8/8 w - - 0 1")?;
+    let Ok(verdict) = verdict(&library, &here) else {
+        return Err(Fail::from("the table is there"));
+    };
+    assert_eq!(rt; verdict.value, Outcome::Dead);
+    let Err(fault) = line(rt.alloc(), &library, &here) else {
+        return Err(Fail::from("nobody mates"));
+    };
+    assert_eq!(rt; fault, LineFault::Drawn);
+    let Ok(Some(held)) = hold(&library, &here) else {
+        return Err(Fail::from("a draw with a move"));
+    };
+    assert!(rt; held.text().as_str() == "e3d2");
     Ok(())
 }
 

@@ -34,10 +34,12 @@ fn a_queen_mates_within_ten_moves(rt: HostRuntime) -> Result<(), Fail> {
     assert_eq!(rt; longest_win(&table), 19);
 
     // Kings on b6 and a8, a queen on d1: mate in one with White to move, and in two plies with Black to move.
-    for column in Column::ALL {
+    for column in [Column::Mate, Column::Zeroing] {
         assert_eq!(rt; entry_of(&table, column, 41_022), Some(4));
         assert_eq!(rt; entry_of(&table, column, 41_023), Some(7));
     }
+    assert_eq!(rt; entry_of(&table, Column::Reach, 41_022), Some(3));
+    assert_eq!(rt; entry_of(&table, Column::Reach, 41_023), Some(4));
     assert!(rt; library.admit(table).is_ok());
     Ok(())
 }
@@ -94,15 +96,16 @@ fn the_least_child_is_missing(rt: HostRuntime) -> Result<(), Fail> {
 fn the_file_of_a_queen(rt: HostRuntime) -> Result<(), Fail> {
     let table = made(built_over(rt.alloc(), &["KK"], "KQK", 20)?)?;
     let bytes = file_of(rt.alloc(), &table)?;
-    assert_eq!(rt; bytes.len(), 327_696);
+    assert_eq!(rt; bytes.len(), 491_536);
     assert_eq!(rt;
         bytes.get(..16),
         Some([
-            0x45, 0x47, 0x54, 0x42, 1, 0, 1, 0, 1, 0, 2, 0, 0, 0x40, 1, 0
+            0x45, 0x47, 0x54, 0x42, 2, 0, 1, 0, 1, 0, 3, 0, 0, 0x40, 1, 0
         ]
         .as_slice())
     );
     assert_eq!(rt; bytes.get(82_060..82_064), Some([4, 0, 7, 0].as_slice()));
     assert_eq!(rt; bytes.get(245_900..245_904), Some([4, 0, 7, 0].as_slice()));
+    assert_eq!(rt; bytes.get(409_740..409_744), Some([3, 0, 4, 0].as_slice()));
     Ok(())
 }

@@ -3,7 +3,7 @@ use super::built;
 use egt_check::{Library, Reject, check};
 use egt_class::Class;
 use egt_fixtures::shelf::named;
-use egt_graph::Ranks;
+use egt_graph::{Nears, Ranks};
 use egt_sweep::build;
 use egt_table::{Column, Table};
 use std::alloc::Global;
@@ -26,13 +26,32 @@ struct Change {
     entry: u16,
 }
 
+/// The column's entries; none where the table lacks it.
+fn entries_of(table: &Table, column: Column) -> &[u16] {
+    match column {
+        Column::Mate => table.entries(Column::Mate),
+        Column::Zeroing => table.entries(Column::Zeroing),
+        Column::Reach if table.has_reach() => table.entries(Column::Reach),
+        Column::Reach => &[],
+    }
+}
+
 /// The column's entries, changed where the change is of it.
-fn changed(alloc: Global, table: &Table, column: Column, change: Change) -> Option<Ranks> {
-    let mut entries = Vec::from_slice(alloc, table.entries(column)).ok()?;
+fn changed(alloc: Global, table: &Table, column: Column, change: Change) -> Option<Vec<u16>> {
+    let mut entries = Vec::from_slice(alloc, entries_of(table, column)).ok()?;
     if change.column == column {
         *entries.get_mut(change.code as usize)? = change.entry;
     }
-    Some(Ranks::from_entries(entries))
+    Some(entries)
+}
+
+/// The table with the change.
+fn damaged(alloc: Global, table: &Table, change: Change) -> Option<Table> {
+    let mate = Ranks::from_entries(changed(alloc, table, Column::Mate, change)?);
+    let zeroing = Ranks::from_entries(changed(alloc, table, Column::Zeroing, change)?);
+    let reach = Nears::from_entries(changed(alloc, table, Column::Reach, change)?);
+    let damaged = Table::from_ranks(table.class(), mate, zeroing).ok()?;
+    damaged.with_reach(reach).ok()
 }
 
 /// The column and the index that the checker names of the table with the change; `None` where it takes it.
@@ -42,10 +61,7 @@ fn named_first(
     library: &Library,
     change: Change,
 ) -> Option<(Column, u32)> {
-    let mate = changed(alloc, table, Column::Mate, change)?;
-    let zeroing = changed(alloc, table, Column::Zeroing, change)?;
-    let damaged = Table::from_ranks(table.class(), mate, zeroing).ok()?;
-    match check(&damaged, library) {
+    match check(&damaged(alloc, table, change)?, library) {
         Err(Reject::Rejected { column, index, .. }) => Some((column, index)),
         _ => None,
     }
@@ -82,7 +98,7 @@ fn codes_of_no_position(rt: HostRuntime) -> Result<(), Fail> {
 fn an_entry_of_a_position(rt: HostRuntime) -> Result<(), Fail> {
     let (library, table) = two_rooks(rt.alloc())?;
     for column in Column::ALL {
-        let right = table.entries(column).get(ROOKS as usize).copied();
+        let right = entries_of(&table, column).get(ROOKS as usize).copied();
         for entry in [0, 1, 2, 3, 4, 252, 253, 254, 255, 256, 257, 64_003, 65_535] {
             let change = Change {
                 column,

@@ -1,9 +1,9 @@
 //! Tables that are built, beside public figures and beside tables of sweeps forward.
 use super::{built, longest_win};
 use egt_class::Class;
-use egt_fixtures::shelf::{file_of, library_of, named};
+use egt_fixtures::shelf::{file_of, named, whole_library_of};
 use egt_index::size;
-use egt_plain::{PlainTables, table_of};
+use egt_plain::{PlainTables, whole_table_of};
 use egt_sweep::build;
 use egt_table::{Column, Table};
 use std::alloc::Global;
@@ -74,9 +74,9 @@ fn a_bishop_and_a_knight(rt: HostRuntime) -> Result<(), Fail> {
 /// Whether the file of the class, of the first six, is the same where it is built as where it is made by sweeps forward.
 fn is_swept(alloc: Global, tables: &PlainTables, number: u8) -> Result<bool, Fail> {
     let class = Class::new(number).ok_or("no class")?;
-    let library = library_of(alloc, tables, number)?;
+    let library = whole_library_of(alloc, tables, number)?;
     let backward = file_of(alloc, &build(alloc, class, &library, 32_000)?)?;
-    let forward = file_of(alloc, &table_of(alloc, tables, number)?)?;
+    let forward = file_of(alloc, &whole_table_of(alloc, tables, number)?)?;
     Ok(backward.as_slice() == forward.as_slice())
 }
 

@@ -1,14 +1,16 @@
-//! How far the nearest mate is with two kings and with a queen.
-use egt_fixtures::shelf::{library_below, named};
-use egt_graph::nearest;
-use egt_sweep::MateGame;
+//! How far the nearest mate is, and the game that tells it.
+use egt_check::Library;
+use egt_class::Class;
+use egt_fixtures::shelf::{library_below, named, whole_library_below};
+use egt_graph::{Exit, Game, nearest};
+use egt_sweep::{BuildFault, ReachGame};
 use std::test::*;
 
 // Two kings go round for ever, and a queen mates in a ply or two from two worked positions. Nobody is mated once she is taken.
 #[test]
 fn kings_and_a_queen(rt: HostRuntime) -> Result<(), Fail> {
-    let library = library_below(rt.alloc(), 1)?;
-    let Ok(kings) = MateGame::new(named("KK")?, &library) else {
+    let library = whole_library_below(rt.alloc(), 1)?;
+    let Ok(kings) = ReachGame::new(named("KK")?, &library) else {
         return Err(Fail::from("a child is missing"));
     };
     let nears = nearest(rt.alloc(), &kings)?;
@@ -22,11 +24,75 @@ fn kings_and_a_queen(rt: HostRuntime) -> Result<(), Fail> {
         }
     }
     assert_eq!(rt; (dead, void, nears.entries().len()), (462, 818, 1_280));
-    let Ok(queen) = MateGame::new(named("KQK")?, &library) else {
+    let Ok(queen) = ReachGame::new(named("KQK")?, &library) else {
         return Err(Fail::from("a child is missing"));
     };
     let nears = nearest(rt.alloc(), &queen)?;
     assert_eq!(rt; nears.entries().get(41_022), Some(&3));
     assert_eq!(rt; nears.entries().get(41_023), Some(&4));
+    Ok(())
+}
+
+/// Whether one of the exits is a loss.
+fn has_loss(exits: &[Exit]) -> bool {
+    exits.iter().any(|exit| matches!(exit, Exit::Loss(_)))
+}
+
+/// How many nodes of the game have exits, and at how many of them one is a loss.
+fn count_leaving<G: Game>(game: &G) -> (u32, u32) {
+    let mut leaving = 0u32;
+    let mut losing = 0u32;
+    for node in 0..game.size() {
+        if !game.void(node) {
+            let exits = game.exits(node);
+            leaving = leaving.wrapping_add(u32::from(!exits.is_empty()));
+            losing = losing.wrapping_add(u32::from(has_loss(exits.as_slice())));
+        }
+    }
+    (leaving, losing)
+}
+
+// White to move, king f7, pawn g7, black king h7. With a queen on g8, h7h6 and g8g6 lead to mate; with a rook there h7h6,
+// g8g1, h6h7 and g1h1. A bishop or a knight mates nobody.
+#[test]
+fn a_pawn_that_promotes(rt: HostRuntime) -> Result<(), Fail> {
+    let library = whole_library_below(rt.alloc(), 5)?;
+    let Ok(pawn) = ReachGame::new(named("KPK")?, &library) else {
+        return Err(Fail::from("a child is missing"));
+    };
+    if pawn.size() <= 164_434 || pawn.void(164_434) {
+        return Err(Fail::from("no position has the number"));
+    }
+    assert_eq!(rt;
+        pawn.exits(164_434).as_slice(),
+        [Exit::Win(2), Exit::Win(4), Exit::Draw, Exit::Draw].as_slice()
+    );
+    // No exit is a loss, though who is to move is mated after some: what counts is how far away that is.
+    let (leaving, losing) = count_leaving(&pawn);
+    assert!(rt; leaving > 0 && losing == 0);
+    Ok(())
+}
+
+/// What the class's game lacks; `None` where there is one.
+fn lacked(class: Class, library: &Library) -> Option<BuildFault> {
+    match ReachGame::new(class, library) {
+        Ok(_game) => None,
+        Err(fault) => Some(fault),
+    }
+}
+
+#[test]
+fn children_that_are_wanted(rt: HostRuntime) -> Result<(), Fail> {
+    let kings = named("KK")?;
+    let empty = Library::new(rt.alloc())?;
+    let queen = named("KQK")?;
+    assert_eq!(rt; lacked(queen, &empty), Some(BuildFault::Missing(kings)));
+    let lacking = library_below(rt.alloc(), 1)?;
+    assert_eq!(rt; lacked(queen, &lacking), Some(BuildFault::NoReach(kings)));
+    // A table that is missing is named before one that lacks the column.
+    assert_eq!(rt;
+        lacked(named("KPK")?, &lacking),
+        Some(BuildFault::Missing(queen))
+    );
     Ok(())
 }

@@ -2,8 +2,8 @@
 use super::reference::{Columns, Reference};
 use egt_check::{Library, Reject, check};
 use egt_class::Class;
-use egt_fixtures::shelf::library_of;
-use egt_graph::Ranks;
+use egt_fixtures::shelf::{library_of, whole_library_of};
+use egt_graph::{Nears, Ranks};
 use egt_plain::PlainTables;
 use egt_table::{Column, Table};
 use std::alloc::Global;
@@ -13,13 +13,15 @@ use std::test::*;
 fn table(alloc: Global, number: u8, columns: &Columns) -> Option<Table> {
     let mate = Vec::from_slice(alloc, columns.of(Column::Mate)).ok()?;
     let zeroing = Vec::from_slice(alloc, columns.of(Column::Zeroing)).ok()?;
+    let reach = Vec::from_slice(alloc, columns.of(Column::Reach)).ok()?;
     let class = Class::new(number)?;
-    Table::from_ranks(
+    let table = Table::from_ranks(
         class,
         Ranks::from_entries(mate),
         Ranks::from_entries(zeroing),
     )
-    .ok()
+    .ok()?;
+    table.with_reach(Nears::from_entries(reach)).ok()
 }
 
 /// Whether the library has a table of each class below a number.
@@ -37,11 +39,13 @@ fn the_first_six_classes_are_admitted_in_order(rt: HostRuntime) -> Result<(), Fa
     let tables = PlainTables::solve(rt.alloc(), 6)?;
     let library = library_of(rt.alloc(), &tables, 6)?;
     assert!(rt; has_all(&library, 6) == Some(true));
+    let whole = whole_library_of(rt.alloc(), &tables, 6)?;
+    assert!(rt; has_all(&whole, 6) == Some(true));
     Ok(())
 }
 
 /// The entries that are tried in the place of a true one.
-fn tried(entry: u16) -> [u16; 13] {
+fn tried(entry: u16) -> [u16; 15] {
     [
         0,
         1,
@@ -49,6 +53,8 @@ fn tried(entry: u16) -> [u16; 13] {
         3,
         4,
         5,
+        32_002,
+        32_003,
         64_003,
         64_004,
         65_535,
@@ -138,6 +144,12 @@ fn each_mate_entry_of_two_kings_changed(rt: HostRuntime) -> Result<(), Fail> {
 }
 
 #[test]
+fn each_reach_entry_of_two_kings_changed(rt: HostRuntime) -> Result<(), Fail> {
+    assert!(rt; kings_are_judged(rt.alloc(), Column::Reach)?);
+    Ok(())
+}
+
+#[test]
 fn each_zeroing_entry_of_two_kings_changed(rt: HostRuntime) -> Result<(), Fail> {
     assert!(rt; kings_are_judged(rt.alloc(), Column::Zeroing)?);
     Ok(())
@@ -160,7 +172,7 @@ fn are_positions(reference: &Reference<'_>, indexes: &[u32]) -> bool {
         .all(|index| reference.position(*index).is_some())
 }
 
-/// Whether the checker answers as the plain rules do where the entry of one is changed in either column.
+/// Whether the checker answers as the plain rules do where the entry of one is changed in any column.
 fn is_judged(
     alloc: Global,
     number: u8,
@@ -204,7 +216,7 @@ fn is_refused(
 fn entries_of_a_queen_changed(rt: HostRuntime) -> Result<(), Fail> {
     let tables = PlainTables::solve(rt.alloc(), 2)?;
     let mut reference = Reference::new(rt.alloc(), &tables, 1)?;
-    let library = library_of(rt.alloc(), &tables, 1)?;
+    let library = whole_library_of(rt.alloc(), &tables, 1)?;
     let wanted = [
         0,
         position_from(&reference, 1234),
@@ -224,7 +236,7 @@ fn entries_of_a_queen_changed(rt: HostRuntime) -> Result<(), Fail> {
 fn entries_of_a_pawn_changed(rt: HostRuntime) -> Result<(), Fail> {
     let tables = PlainTables::solve(rt.alloc(), 6)?;
     let mut reference = Reference::new(rt.alloc(), &tables, 5)?;
-    let library = library_of(rt.alloc(), &tables, 5)?;
+    let library = whole_library_of(rt.alloc(), &tables, 5)?;
     let wanted = [
         position_from(&reference, 50_001),
         164_434,

@@ -1,16 +1,17 @@
 //! The rules of entries, written plainly over plain positions: what the checker is to answer.
 use arrayvec::ArrayVec;
 use egt_check::{Reject, Rule};
-use egt_plain::{PlainPosition, PlainTables, THIRD, columns_of, indexes};
+use egt_plain::{PlainPosition, PlainTables, THIRD, columns_of, indexes, reach_of};
 use egt_table::Column;
 use std::alloc::Global;
 use std::test::Fail;
 
-/// The two columns of a table, by index.
+/// The columns of a table, by index.
 #[derive(Drop)]
 pub(super) struct Columns {
     pub(super) mate: Vec<u16>,
     pub(super) zeroing: Vec<u16>,
+    pub(super) reach: Vec<u16>,
 }
 
 impl Columns {
@@ -18,6 +19,7 @@ impl Columns {
         match column {
             Column::Mate => &self.mate,
             Column::Zeroing => &self.zeroing,
+            Column::Reach => &self.reach,
         }
     }
 
@@ -34,6 +36,7 @@ impl Columns {
         match column {
             Column::Mate => put(&mut self.mate, index, entry),
             Column::Zeroing => put(&mut self.zeroing, index, entry),
+            Column::Reach => put(&mut self.reach, index, entry),
         }
     }
 }
@@ -61,6 +64,7 @@ pub(super) struct Step {
     pub(super) own: Option<u32>,
     mate: u16,
     zeroing: u16,
+    reach: u16,
     zeroes: bool,
 }
 
@@ -107,6 +111,7 @@ fn after(number: Option<u16>) -> Option<u16> {
 impl<'t> Reference<'t> {
     pub(super) fn new(alloc: Global, tables: &'t PlainTables, class: u8) -> Result<Self, Fail> {
         let (mate, zeroing) = columns_of(alloc, tables, class)?;
+        let reach = reach_of(alloc, tables, class)?;
         let index_of_code = indexes(alloc, class)?;
         let mut position_of_index = vec![in alloc; None; mate.len()]?;
         let third = THIRD[usize::from(class) % THIRD.len()];
@@ -120,7 +125,11 @@ impl<'t> Reference<'t> {
         Ok(Reference {
             class,
             tables,
-            columns: Columns { mate, zeroing },
+            columns: Columns {
+                mate,
+                zeroing,
+                reach,
+            },
             index_of_code,
             position_of_index,
         })
@@ -153,6 +162,7 @@ impl<'t> Reference<'t> {
                     own,
                     mate: self.tables.entry_of(Column::Mate, successor.position),
                     zeroing: self.tables.entry_of(Column::Zeroing, successor.position),
+                    reach: self.tables.entry_of(Column::Reach, successor.position),
                     zeroes: successor.zeroes,
                 });
             }
@@ -172,7 +182,7 @@ impl<'t> Reference<'t> {
         let of_mate = of_kind(shown(mate), lost);
         match column {
             Column::Mate => of_mate,
-            Column::Zeroing => {
+            Column::Zeroing | Column::Reach => {
                 if of_mate.is_none() {
                     None
                 } else if step.zeroes {
@@ -225,8 +235,61 @@ impl<'t> Reference<'t> {
         false
     }
 
+    /// The least number that a step's reach entry shows.
+    fn nearest(&self, columns: &Columns, steps: &[Step]) -> Option<u16> {
+        let mut least = None;
+        for step in steps {
+            let entry = match step.own {
+                Some(index) => columns.entry(Column::Reach, index),
+                None => step.reach,
+            };
+            if 2 <= entry && entry <= 32_002 {
+                least = Some(match least {
+                    Some(known) => entry.min(known),
+                    None => entry,
+                });
+            }
+        }
+        least
+    }
+
+    /// The first rule that the reach entry of an index breaks.
+    fn broken_reach(&self, columns: &Columns, index: u32) -> Option<Rule> {
+        let entry = columns.entry(Column::Reach, index);
+        let Some(position) = self.position(index) else {
+            return if entry == 0 { None } else { Some(Rule::Void) };
+        };
+        if entry == 0 {
+            return Some(Rule::Void);
+        }
+        if entry > 32_002 {
+            return Some(Rule::Range);
+        }
+        let list = self.steps(position);
+        let steps = list.as_slice();
+        let checkmate = steps.is_empty() && position.black_moves && position.checks_black();
+        let due = if checkmate {
+            2
+        } else {
+            match self.nearest(columns, steps) {
+                Some(entry) => entry.saturating_add(1),
+                None => 1,
+            }
+        };
+        if entry == due {
+            None
+        } else if entry == 1 {
+            Some(Rule::Dead)
+        } else {
+            Some(Rule::Reach)
+        }
+    }
+
     /// The first rule that the entry of an index breaks.
     fn broken(&self, columns: &Columns, column: Column, index: u32) -> Option<Rule> {
+        if column == Column::Reach {
+            return self.broken_reach(columns, index);
+        }
         let entry = columns.entry(column, index);
         let Some(position) = self.position(index) else {
             return if entry == 0 { None } else { Some(Rule::Void) };

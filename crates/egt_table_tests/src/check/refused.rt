@@ -1,8 +1,8 @@
 //! What the checker answers to tables that are not true.
 use egt_check::{Library, Reject, Rule, check};
 use egt_class::Class;
-use egt_fixtures::kings::table_with;
-use egt_graph::Ranks;
+use egt_fixtures::kings::{table_with, whole_table_with};
+use egt_graph::{Nears, Ranks};
 use egt_table::{Column, Table};
 use std::alloc::Global;
 use std::test::*;
@@ -112,5 +112,67 @@ fn the_mate_column_comes_first(rt: HostRuntime) -> Result<(), Fail> {
         check(&table, &library),
         rejected(Column::Mate, 5, Rule::Void)
     );
+    Ok(())
+}
+
+// FIDE Laws of Chess 2023, article 5.2.2: all positions of two kings are dead.
+#[test]
+fn each_rule_of_the_column_of_the_nearest_mates(rt: HostRuntime) -> Result<(), Fail> {
+    let library = Library::new(rt.alloc())?;
+    let whole = whole_table_with(rt.alloc(), &[], &[], &[])?;
+    assert_eq!(rt; check(&whole, &library), Ok(()));
+    let cases = [
+        (4, 0, Rule::Void),
+        (4, 2, Rule::Reach),
+        (4, 3, Rule::Reach),
+        (4, 32_002, Rule::Reach),
+        (4, 32_003, Rule::Range),
+        (4, 65_535, Rule::Range),
+        (0, 1, Rule::Void),
+    ];
+    for (code, entry, rule) in cases {
+        let table = whole_table_with(rt.alloc(), &[], &[], &[(code, entry)])?;
+        assert_eq!(rt;
+            check(&table, &library),
+            rejected(Column::Reach, code, rule),
+            "{entry}"
+        );
+    }
+    Ok(())
+}
+
+#[test]
+fn the_column_of_the_nearest_mates_comes_last(rt: HostRuntime) -> Result<(), Fail> {
+    let table = whole_table_with(rt.alloc(), &[], &[(1279, 1)], &[(0, 1)])?;
+    let library = Library::new(rt.alloc())?;
+    assert_eq!(rt;
+        check(&table, &library),
+        rejected(Column::Zeroing, 1279, Rule::Void)
+    );
+    Ok(())
+}
+
+/// A table of a queen with nothing but zeros, and with the column of the nearest mates.
+fn empty_queen(alloc: Global) -> Result<Table, Fail> {
+    let mate = Ranks::from_entries(vec![in alloc; 0; 81_920]?);
+    let zeroing = Ranks::from_entries(vec![in alloc; 0; 81_920]?);
+    let Ok(table) = Table::from_ranks(Class::at(1), mate, zeroing) else {
+        return Err(Fail::from("a column of another length"));
+    };
+    match table.with_reach(Nears::from_entries(vec![in alloc; 0; 81_920]?)) {
+        Ok(table) => Ok(table),
+        Err(_both) => Err(Fail::from("a column of another length")),
+    }
+}
+
+#[test]
+fn a_child_lacks_the_column(rt: HostRuntime) -> Result<(), Fail> {
+    let queen = empty_queen(rt.alloc())?;
+    let mut library = Library::new(rt.alloc())?;
+    assert_eq!(rt; check(&queen, &library), Err(Reject::Missing(Class::at(0))));
+    assert!(rt; library.admit(table_with(rt.alloc(), &[], &[])?).is_ok());
+    let lacking = Reject::NoReach(Class::at(0));
+    assert_eq!(rt; check(&queen, &library), Err(lacking));
+    assert!(rt; lacking.number() == 17 && lacking.name() == "NoReach");
     Ok(())
 }

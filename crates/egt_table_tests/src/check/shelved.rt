@@ -50,6 +50,9 @@ fn refusals_by_number_and_name(rt: HostRuntime) -> Result<(), Fail> {
     assert!(rt;
         Reject::AlreadyThere.number() == 13 && Reject::AlreadyThere.name() == "AlreadyThere"
     );
+    let lacking = Reject::NoReach(Class::at(0));
+    assert!(rt; lacking.number() == 17 && lacking.name() == "NoReach");
     assert!(rt; Rule::Void.name() == "void" && Rule::Draw.name() == "draw");
+    assert!(rt; Rule::Reach.name() == "reach" && Rule::Dead.name() == "dead");
     Ok(())
 }

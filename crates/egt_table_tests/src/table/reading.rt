@@ -1,7 +1,9 @@
 //! What is read, and which fault other bytes have.
 use super::has_kings;
 use egt_class::Class;
-use egt_fixtures::kings::{LENGTH, class, flip, kings_file, table_with};
+use egt_fixtures::kings::{
+    LENGTH, class, flip, kings_file, table_with, whole_kings_file, whole_table_with,
+};
 use egt_fixtures::shelf::{entry_of, file_of};
 use egt_table::{Column, FailingSource, MemorySource, Table};
 use std::alloc::Global;
@@ -26,6 +28,67 @@ fn are_kings(alloc: Global, bytes: &[u8]) -> Option<bool> {
 fn two_kings(rt: HostRuntime) -> Result<(), Fail> {
     let bytes = kings_file(rt.alloc())?;
     assert!(rt; are_kings(rt.alloc(), &bytes) == Some(true));
+    Ok(())
+}
+
+/// Whether the bytes are their file with the column of the nearest mates.
+fn are_whole(alloc: Global, bytes: &[u8]) -> Option<bool> {
+    let table = Table::read(alloc, class(), &mut MemorySource::new(bytes)).ok()?;
+    let mut same = table.has_reach();
+    for column in Column::ALL {
+        same = same && has_kings(&table, column, 0);
+    }
+    Some(same)
+}
+
+#[test]
+fn two_kings_with_three_columns(rt: HostRuntime) -> Result<(), Fail> {
+    let bytes = whole_kings_file(rt.alloc())?;
+    assert!(rt; are_whole(rt.alloc(), &bytes) == Some(true));
+    let written = whole_table_with(rt.alloc(), &[(4, 7)], &[(5, 9)], &[(6, 0x0102)])?;
+    let bytes = file_of(rt.alloc(), &written)?;
+    let table = Table::read(rt.alloc(), class(), &mut MemorySource::new(&bytes))?;
+    for (column, code, wanted) in [
+        (Column::Mate, 4, 7),
+        (Column::Zeroing, 5, 9),
+        (Column::Reach, 6, 0x0102),
+    ] {
+        assert!(rt; entry_of(&table, column, code) == Some(wanted), "{code}");
+    }
+    Ok(())
+}
+
+// A version, a number of columns, and the fault: of a file of two columns, and of one of three.
+const VERSIONS: [(u8, u8, u8, u8); 6] = [
+    (1, 2, 0, 9),
+    (2, 3, 2, 0),
+    (1, 3, 7, 7),
+    (2, 2, 7, 7),
+    (3, 3, 4, 4),
+    (0, 2, 4, 4),
+];
+
+/// The fault of the bytes with another version and another number of columns.
+fn fault_of_version(alloc: Global, whole: &[u8], version: u8, columns: u8) -> Option<u8> {
+    let mut bytes = Vec::from_slice(alloc, whole).ok()?;
+    for (place, byte) in [(4, version), (10, columns)] {
+        if let Some(old) = bytes.get_mut(place) {
+            *old = byte;
+        }
+    }
+    Some(fault_of(alloc, class(), &bytes))
+}
+
+#[test]
+fn versions_and_numbers_of_columns(rt: HostRuntime) -> Result<(), Fail> {
+    let two = kings_file(rt.alloc())?;
+    let three = whole_kings_file(rt.alloc())?;
+    for (version, columns, of_two, of_three) in VERSIONS {
+        let found = fault_of_version(rt.alloc(), &two, version, columns);
+        assert!(rt; found == Some(of_two), "{version} {columns}");
+        let found = fault_of_version(rt.alloc(), &three, version, columns);
+        assert!(rt; found == Some(of_three), "{version} {columns}");
+    }
     Ok(())
 }
 

@@ -1,5 +1,5 @@
 //! What is written.
-use egt_fixtures::kings::{LENGTH, kings_file, table_with};
+use egt_fixtures::kings::{LENGTH, kings_file, table_with, whole_kings_file};
 use egt_fixtures::shelf::file_of;
 use egt_table::{FailingSink, MemorySink, Table};
 use std::alloc::Global;
@@ -23,6 +23,18 @@ fn two_kings(rt: HostRuntime) -> Result<(), Fail> {
     // Both kings on a1; the kings on a1 and c1, White to move.
     assert!(rt; has(&bytes, 16, &[0, 0]));
     assert!(rt; has(&bytes, 24, &[1, 0]));
+    Ok(())
+}
+
+const WHOLE_HEADER: [u8; 16] = [0x45, 0x47, 0x54, 0x42, 2, 0, 1, 0, 0, 0, 3, 0, 0, 5, 0, 0];
+
+#[test]
+fn two_kings_with_three_columns(rt: HostRuntime) -> Result<(), Fail> {
+    let bytes = whole_kings_file(rt.alloc())?;
+    assert_eq!(rt; bytes.len(), 7696);
+    assert!(rt; has(&bytes, 0, &WHOLE_HEADER));
+    // The kings on a1 and c1, White to move: a dead position.
+    assert!(rt; has(&bytes, 5144, &[1, 0]));
     Ok(())
 }
 

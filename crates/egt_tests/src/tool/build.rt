@@ -1,13 +1,7 @@
 //! Tables built into files, and positions looked up in them.
-use super::{Step, folder, goes, is_wrong, run_on};
+use super::{Step, folder, goes, has_file, is_wrong, run_on};
 use std::test::Fail;
 use std::{fs, str};
-
-/// Whether the folder has the file.
-fn has_file(rt: &HostRuntime, folder: &str, file: &str) -> Option<bool> {
-    let path = format!(in rt.alloc(); "{folder}/{file}").ok()?;
-    Some(fs::read(rt, path.as_str()).is_ok())
-}
 
 #[test]
 fn an_empty_folder(rt: HostRuntime) -> Result<(), Fail> {
@@ -123,14 +117,14 @@ const REPORTS: [Step; 13] = [
         "probe DIR KPK",
         "8/8/8/4k3/8/4K3/8/8 w - - 0 1\n",
         0,
-        "KK draw hold e3d2\n",
+        "KK dead hold e3d2\n",
         "",
     ),
     (
         "probe DIR KPK",
         "8/8/8/3k4/8/3N4/3K4/8 w - - 0 1\n",
         0,
-        "KNK draw hold d2c1\n",
+        "KNK dead hold d2c1\n",
         "",
     ),
     (
@@ -170,7 +164,7 @@ fn tells_long_lines(rt: &HostRuntime, folder: &str, reports: &str) -> Option<boo
     Some(run_on(rt, &["probe", folder, "KK"], &input)?.is(0, reports, ""))
 }
 
-const LONG_REPORTS: &str = "error probe 14 LongLine\nerror fen 1 FieldCount\nKK draw hold e3d2\n";
+const LONG_REPORTS: &str = "error probe 14 LongLine\nerror fen 1 FieldCount\nKK dead hold e3d2\n";
 
 /// A pawn that has just advanced by two squares, where none can take it: with the target, and without.
 const PASSED: [&str; 2] = [

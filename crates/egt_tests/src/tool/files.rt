@@ -1,36 +1,18 @@
 //! Checks and statistics of tables in files.
-use super::{fails, folder, is_wrong, prints, run_on};
+use super::{both_print, changed, fails, folder, is_damaged, is_wrong, prints, put, run_on};
 use egt_fixtures::kings::kings_file;
 use egt_fixtures::shelf::file_of;
 use egt_plain::{PlainTables, table_of};
-use std::alloc::Global;
 use std::fs;
 use std::test::Fail;
 
-/// Writes a file of the folder.
-fn put(rt: &HostRuntime, folder: &str, file: &str, bytes: &[u8]) -> Result<(), Fail> {
-    let path = format!(in rt.alloc(); "{folder}/{file}")?;
-    fs::write(rt, path.as_str(), bytes)?;
-    Ok(())
-}
-
-/// The bytes with another at one place.
-fn changed(alloc: Global, bytes: &[u8], place: usize, byte: u8) -> Result<Vec<u8>, Fail> {
-    let mut changed = Vec::new(alloc);
-    changed.extend_from_slice(bytes)?;
-    if let Some(old) = changed.get_mut(place) {
-        *old = byte;
-    }
-    Ok(changed)
-}
-
-/// The first bytes of the file of two kings.
+/// The first bytes of the file of two kings, of version 1.
 const HEADER: [u8; 26] = [
     0x45, 0x47, 0x54, 0x42, 1, 0, 1, 0, 0, 0, 2, 0, 0, 5, 0, 0, 0, 0, 0, 0, 0, 0, 0, 0, 1, 0,
 ];
 
 const STATISTICS: &str =
-    "class KK\nentries 1280\nvoid 818\ndraws 462\nwins 0\nlosses 0\nlongest win -\nlongest loss -\n";
+    "class KK\nentries 1280\nvoid 818\ndraws 462\nwins 0\nlosses 0\nlongest win -\nlongest loss -\ndead -\n";
 
 /// Whether the command prints this of the folder's file of two kings, and tells a device that fails.
 fn shows_kings(rt: &HostRuntime, folder: &str, command: &str, out: &str) -> Option<bool> {
@@ -52,20 +34,14 @@ fn the_file_of_two_kings(rt: HostRuntime) -> Result<(), Fail> {
     Ok(())
 }
 
-/// Whether `check` and `stats` of a class both end with this status and print this line alone, to the standard error.
-fn both_print(rt: &HostRuntime, folder: &str, class: &str, status: u8, line: &str) -> Option<bool> {
-    let check = prints(rt, &["check", folder, class], status, "", line)?;
-    let stats = prints(rt, &["stats", folder, class], status, "", line)?;
-    Some(check && stats)
-}
-
 /// A byte of the file of two kings, another byte in its place, and the line that is printed then.
-const CHANGES: [(usize, u8, &str); 23] = [
+const CHANGES: [(usize, u8, &str); 24] = [
     (0, 0, "error KK file 3 Magic\n"),
     (1, 0, "error KK file 3 Magic\n"),
     (2, 0, "error KK file 3 Magic\n"),
     (3, 0, "error KK file 3 Magic\n"),
-    (4, 2, "error KK file 4 Version\n"),
+    (4, 2, "error KK file 7 Columns\n"),
+    (4, 3, "error KK file 4 Version\n"),
     (5, 1, "error KK file 4 Version\n"),
     (6, 0, "error KK file 5 Layout\n"),
     (7, 1, "error KK file 5 Layout\n"),
@@ -85,12 +61,6 @@ const CHANGES: [(usize, u8, &str); 23] = [
     (2584, 4, "error KK check 12 Rejected zeroing 4 kind\n"),
     (2584, 2, "error KK check 12 Rejected zeroing 4 range\n"),
 ];
-
-/// Whether both print this line of the folder's file of two kings where that has these bytes.
-fn is_damaged(rt: &HostRuntime, folder: &str, bytes: &[u8], line: &str) -> Result<bool, Fail> {
-    put(rt, folder, "KK.egt", bytes)?;
-    Ok(both_print(rt, folder, "KK", 1, line) == Some(true))
-}
 
 #[test]
 fn damaged_files(rt: HostRuntime) -> Result<(), Fail> {

@@ -1,0 +1,114 @@
+//! Tables without the column of the nearest mates get it, or say why not.
+ghost use Rattle.std.specs.Prelude.{OnOk};
+ghost use Rattle.egt_check.specs.Library.{IsAccepted};
+ghost use Rattle.egt_check.specs.Tables.{table_at};
+
+use super::built;
+use egt_check::{Library, check};
+use egt_class::Class;
+use egt_fixtures::kings::{table_with, whole_kings_file, whole_table_with};
+use egt_fixtures::shelf::{file_of, library_below, named};
+use egt_plain::{PlainTables, table_of};
+use egt_sweep::{BuildFault, MigrateFault, build, migrate};
+use egt_table::Table;
+use std::alloc::Global;
+use std::test::*;
+
+/// Sees that the table is true beside the library.
+fn see_true(table: &Table, library: &Library) -> Result<(), Fail>
+    ensures { OnOk result (IsAccepted (table_at library.now) table.now) }
+{
+    match check(table, library) {
+        Ok(()) => Ok(()),
+        Err(_reject) => Err(Fail::from("the table is not true")),
+    }
+}
+
+/// What is answered where a true table is migrated beside the library.
+fn migrated(
+    alloc: Global,
+    table: Table,
+    library: &Library,
+) -> Result<Result<Table, (Table, MigrateFault)>, Fail> {
+    see_true(&table, library)?;
+    Ok(migrate(alloc, table, library))
+}
+
+/// Whether the class's table of plain sweeps becomes by its third column the table that is built, byte for byte.
+fn is_as_built(
+    alloc: Global,
+    tables: &PlainTables,
+    class: Class,
+    library: &Library,
+) -> Result<bool, Fail> {
+    let table = table_of(alloc, tables, class.number())?;
+    let Ok(table) = migrated(alloc, table, library)? else {
+        return Err(Fail::from("the table was refused"));
+    };
+    let built = build(alloc, class, library, 32_000)?;
+    Ok(file_of(alloc, &table)?.as_slice() == file_of(alloc, &built)?.as_slice())
+}
+
+#[test]
+fn migrated_tables_are_those_that_are_built(rt: HostRuntime) -> Result<(), Fail> {
+    let tables = PlainTables::solve(rt.alloc(), 5)?;
+    let empty = Library::new(rt.alloc())?;
+    assert!(rt; is_as_built(rt.alloc(), &tables, named("KK")?, &empty)?);
+    let kings = built(rt.alloc(), &["KK"])?;
+    for name in ["KQK", "KNK"] {
+        assert!(rt;
+            is_as_built(rt.alloc(), &tables, named(name)?, &kings)?,
+            "{name}"
+        );
+    }
+    Ok(())
+}
+
+#[test]
+fn a_table_that_has_the_column(rt: HostRuntime) -> Result<(), Fail> {
+    let library = Library::new(rt.alloc())?;
+    let table = whole_table_with(rt.alloc(), &[], &[], &[])?;
+    let Err((table, fault)) = migrated(rt.alloc(), table, &library)? else {
+        return Err(Fail::from("the table was migrated"));
+    };
+    assert_eq!(rt; fault, MigrateFault::HasReach);
+    assert!(rt; fault.number() == 5 && fault.name() == "HasReach");
+    let file = file_of(rt.alloc(), &table)?;
+    assert!(rt; file.as_slice() == whole_kings_file(rt.alloc())?.as_slice());
+    Ok(())
+}
+
+// A library that has the class's own table without the column refuses nothing: only the children's columns are asked for.
+#[test]
+fn the_own_table_is_not_asked(rt: HostRuntime) -> Result<(), Fail> {
+    let library = library_below(rt.alloc(), 1)?;
+    let table = table_with(rt.alloc(), &[], &[])?;
+    let Ok(table) = migrated(rt.alloc(), table, &library)? else {
+        return Err(Fail::from("the table was refused"));
+    };
+    let file = file_of(rt.alloc(), &table)?;
+    assert!(rt; file.as_slice() == whole_kings_file(rt.alloc())?.as_slice());
+    Ok(())
+}
+
+#[test]
+fn a_child_lacks_the_column(rt: HostRuntime) -> Result<(), Fail> {
+    let tables = PlainTables::solve(rt.alloc(), 2)?;
+    let library = library_below(rt.alloc(), 1)?;
+    let kings = named("KK")?;
+    let queen = table_of(rt.alloc(), &tables, 1)?;
+    let before = file_of(rt.alloc(), &queen)?;
+    let Err((queen, fault)) = migrated(rt.alloc(), queen, &library)? else {
+        return Err(Fail::from("the table was migrated"));
+    };
+    assert_eq!(rt; fault, MigrateFault::NoReach(kings));
+    assert!(rt; fault.number() == 4 && fault.name() == "NoReach");
+    assert!(rt; file_of(rt.alloc(), &queen)?.as_slice() == before.as_slice());
+
+    let Err(fault) = build(rt.alloc(), named("KQK")?, &library, 32_000) else {
+        return Err(Fail::from("the table was built"));
+    };
+    assert_eq!(rt; fault, BuildFault::NoReach(kings));
+    assert!(rt; fault.number() == 4 && fault.name() == "NoReach");
+    Ok(())
+}
