@@ -13,6 +13,8 @@ mod tables;
 mod zeroing;
 
 pub use code::{PlainPosition, THIRD, code_count};
-pub use filling::{Unlike, columns_of, indexes, plain_code, position_of, reach_of, table_of, whole_table_of};
+pub use filling::{
+    Unlike, columns_of, indexes, plain_code, position_of, reach_of, table_of, whole_table_of,
+};
 pub use moves::{Successor, Successors};
 pub use tables::PlainTables;
