@@ -7,7 +7,7 @@ use Rattle.std.proofs.lemmas.Bool.{cases_eq}
 use Rattle.egt_board.specs.declared.man.Side.{Side}
 use Rattle.egt_board.specs.declared.man.Man.{Man}
 use Rattle.egt_board.specs.Placement.{Placement, Stands, IsFree, get-remove_same, get-remove_other}
-use Rattle.egt_board.specs.Gait.{Reaches, Reaches-free}
+use Rattle.egt_board.specs.AttackLines.{Reaches, Reaches-free}
 use Rattle.egt_board.specs.Board.{Slot, listed, placed, InOrder, AreKept}
 use Rattle.egt_board.specs.Slots.{slots_of}
 use Rattle.egt_board.specs.declared.board.Board.TheInside.{Inside}

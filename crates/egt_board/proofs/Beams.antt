@@ -10,7 +10,7 @@ use Rattle.egt_board.specs.declared.step.Step.{Step}
 use Rattle.egt_board.specs.Square.{file_of, rank_of}
 use Rattle.egt_board.specs.Coordinate.{Further}
 use Rattle.egt_board.specs.Step.{Away}
-use Rattle.egt_board.specs.Gait.{Rides, OneOf}
+use Rattle.egt_board.specs.AttackLines.{Rides, OneOf}
 use Rattle.egt_board.proofs.Rides.{AreReached, Rode, Rode-none, Rode-more, reach_edge}
 use Rattle.egt_board.proofs.Steps.{bit_of_either}
 

@@ -12,7 +12,7 @@ use Rattle.egt_board.specs.Lookup.{row_by}
 use Rattle.egt_board.specs.declared.step.Step.{Step}
 use Rattle.egt_board.specs.declared.tables.TheConstants.{LONE, BETWEEN, BEHIND}
 use Rattle.egt_board.specs.Step.{Away}
-use Rattle.egt_board.specs.Gait.{Reaches, farthest, steps_of}
+use Rattle.egt_board.specs.AttackLines.{Reaches, farthest, steps_of}
 use Rattle.egt_board.specs.Between.{IsBetween}
 use Rattle.egt_board.proofs.Bits.{bit_at-within}
 use Rattle.egt_board.proofs.Towards.{within_board, toward, distance, are_aligned, joined, on_line, Away-sum, Away-rest}

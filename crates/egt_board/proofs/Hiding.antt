@@ -12,7 +12,7 @@ use Rattle.egt_board.specs.declared.step.Way.TheVariants.{Up, Down, Still}
 use Rattle.egt_board.specs.declared.step.Step.{Step}
 use Rattle.egt_board.specs.Square.{file_of, rank_of}
 use Rattle.egt_board.specs.Step.{Away}
-use Rattle.egt_board.specs.Gait.{Rides, OneOf, Reaches, Rides-free, Reaches-free, steps_of, farthest, is_slider, straight_steps, diagonal_steps, knight_steps, pawn_steps}
+use Rattle.egt_board.specs.AttackLines.{Rides, OneOf, Reaches, Rides-free, Reaches-free, steps_of, farthest, is_slider, straight_steps, diagonal_steps, knight_steps, pawn_steps}
 use Rattle.egt_board.specs.Safety.{Stops}
 use Rattle.egt_board.specs.Between.{IsRoyal, IsBetween}
 use Rattle.egt_board.proofs.Bits.{not_both}

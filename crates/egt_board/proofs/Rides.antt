@@ -5,7 +5,7 @@ use Rattle.std.proofs.lemmas.Nat.Bits.{bit_at-zero}
 use Rattle.std.proofs.lemmas.Bool.{cases_eq, cases_lt}
 use Rattle.egt_board.specs.declared.step.Step.{Step}
 use Rattle.egt_board.specs.Step.{Away}
-use Rattle.egt_board.specs.Gait.{Rides}
+use Rattle.egt_board.specs.AttackLines.{Rides}
 use Rattle.egt_board.proofs.Geometry.{Away-zero, Away-more, Away-same, Away-next}
 
 abbrev Open : ℕ → ℕ → Type 0

@@ -16,7 +16,7 @@ use Rattle.egt_board.specs.declared.step.Step.{Step}
 use Rattle.egt_board.specs.Coordinate.{Further}
 use Rattle.egt_board.specs.Square.{file_of, rank_of}
 use Rattle.egt_board.specs.Placement.{Placement, Stands, IsFree, get-insert_same, get-insert_other}
-use Rattle.egt_board.specs.Gait.{Rides, OneOf, Reaches, Reaches-free, steps_of, farthest}
+use Rattle.egt_board.specs.AttackLines.{Rides, OneOf, Reaches, Reaches-free, steps_of, farthest}
 use Rattle.egt_board.specs.Board.{Slot, listed, placed, InOrder, AreKept}
 use Rattle.egt_board.specs.Slots.{slots_of}
 use Rattle.egt_board.specs.Position.{find-below, first_half, second_half}

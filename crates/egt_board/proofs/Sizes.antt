@@ -18,7 +18,7 @@ use Rattle.egt_board.specs.Coordinate.{Further}
 use Rattle.egt_board.specs.Step.{Away}
 use Rattle.egt_board.specs.Square.{file_of, rank_of}
 use Rattle.egt_board.specs.SquareSet.{total, size_of, most_reached}
-use Rattle.egt_board.specs.Gait.{Rides, OneOf, Reaches, farthest, steps_of, straight_steps, diagonal_steps, knight_steps, pawn_steps}
+use Rattle.egt_board.specs.AttackLines.{Rides, OneOf, Reaches, farthest, steps_of, straight_steps, diagonal_steps, knight_steps, pawn_steps}
 use Rattle.egt_board.specs.Pawn.{Advances}
 
 pub total-le : (f g : ℕ → ℕ) (n : ℕ) → ((t : ℕ) → t < n → f t ≤ g t) → total f n ≤ total g n

@@ -3,7 +3,7 @@ use Rattle.std.proofs.Common.{ℕ, ◌<◌, arith, sym, subst, inl, inr}
 use Rattle.egt_board.specs.declared.man.Side.{Side}
 use Rattle.egt_board.specs.declared.step.Step.{Step}
 use Rattle.egt_board.specs.Attack.{king_of}
-use Rattle.egt_board.specs.Gait.{Rides, Reaches}
+use Rattle.egt_board.specs.AttackLines.{Rides, Reaches}
 use Rattle.egt_board.specs.Step.{Away}
 
 -- a king goes one step

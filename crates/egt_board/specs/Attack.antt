@@ -6,7 +6,7 @@ use Rattle.egt_board.specs.declared.man.Man.{Man}
 use Rattle.egt_board.specs.Man.{other_side}
 use Rattle.egt_board.specs.Placement.{Placement, Stands, IsFree}
 use Rattle.egt_board.specs.Board.{Slot}
-use Rattle.egt_board.specs.Gait.{Reaches}
+use Rattle.egt_board.specs.AttackLines.{Reaches}
 
 -- a man of this side attacks the square; whether that man may move plays no part
 pub record IsAttacked (men : Placement) (t : ℕ) (side : Side) : Type 0 where

@@ -3,7 +3,7 @@ use Rattle.std.specs.Prelude.{◌≡◌, ℕ, ◌+◌, ◌<◌}
 use Rattle.egt_board.specs.declared.step.Way.{Way}
 use Rattle.egt_board.specs.declared.step.Way.TheVariants.{Up, Down, Still}
 use Rattle.egt_board.specs.declared.step.Step.{Step}
-use Rattle.egt_board.specs.Gait.{step}
+use Rattle.egt_board.specs.AttackLines.{step}
 use Rattle.egt_board.specs.Step.{Away}
 
 abbrev pub size_of_way : Way → ℕ

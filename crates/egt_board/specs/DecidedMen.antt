@@ -17,7 +17,7 @@ use Rattle.egt_board.specs.declared.step.Step.{Step}
 use Rattle.egt_board.specs.Man.{other_side}
 use Rattle.egt_board.specs.Attack.{king_of, IsAttacked, IsInCheck}
 use Rattle.egt_board.specs.Coordinate.{Further}
-use Rattle.egt_board.specs.Gait.{OneOf, Rides, Reaches, steps_of, farthest}
+use Rattle.egt_board.specs.AttackLines.{OneOf, Rides, Reaches, steps_of, farthest}
 use Rattle.egt_board.specs.Pawn.{Advances, farthest_advance, forward}
 use Rattle.egt_board.specs.Placement.{Placement, Stands, IsFree, IsHeld, one_man, untied}
 use Rattle.egt_board.specs.Square.{file_of, rank_of}

@@ -6,7 +6,7 @@ pub mod SquareSet
 pub mod Placement
 pub mod Board
 pub mod Slots
-pub mod Gait
+pub mod AttackLines
 pub mod Between
 pub mod Lookup
 pub mod Attack

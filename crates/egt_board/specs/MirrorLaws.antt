@@ -21,7 +21,7 @@ use Rattle.egt_board.specs.declared.step.Step.{Step}
 use Rattle.egt_board.specs.Square.{file_of, rank_of}
 use Rattle.egt_board.specs.Coordinate.{Further}
 use Rattle.egt_board.specs.Step.{Away}
-use Rattle.egt_board.specs.Gait.{Rides, OneOf, Reaches, farthest, steps_of}
+use Rattle.egt_board.specs.AttackLines.{Rides, OneOf, Reaches, farthest, steps_of}
 use Rattle.egt_board.specs.Mirror.{square_by, side_by, man_by, Allows}
 use Rattle.egt_board.specs.Pawn.{forward, ahead, home_rank, last_rank, farthest_advance, Advances, HasNoPawn}
 use Rattle.egt_board.specs.Target.{target_rank}

@@ -8,7 +8,7 @@ use Rattle.egt_board.specs.declared.step.Step.{Step}
 use Rattle.egt_board.specs.declared.step.Way.TheVariants.{Up, Down, Still}
 use Rattle.egt_board.specs.Square.{file_of, rank_of}
 use Rattle.egt_board.specs.Placement.{Placement, Stands}
-use Rattle.egt_board.specs.Gait.{step, Rides}
+use Rattle.egt_board.specs.AttackLines.{step, Rides}
 
 -- the pawn of that side
 abbrev pub pawn_of : Side → Man

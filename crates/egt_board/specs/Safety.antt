@@ -7,7 +7,7 @@ use Rattle.egt_board.specs.declared.man.Man.{Man}
 use Rattle.egt_board.specs.Placement.{Placement, Stands, IsFree}
 use Rattle.egt_board.specs.Attack.{IsAttacked}
 use Rattle.egt_board.specs.Board.{Slot}
-use Rattle.egt_board.specs.Gait.{Reaches}
+use Rattle.egt_board.specs.AttackLines.{Reaches}
 
 -- with a man come to t, no man of that side attacks the square
 abbrev pub IsKeptFrom : Placement → ℕ → Man → ℕ → Side → Type 0

@@ -4,13 +4,13 @@ ghost use Rattle.std.specs.FinMap as map;
 ghost use Rattle.std.specs.Int.{bit_at};
 ghost use Rattle.egt_board.specs.Attack.{IsAttacked, IsInCheck, AttacksFrom};
 ghost use Rattle.egt_board.specs.Camps.{IsOccupied};
-ghost use Rattle.egt_board.specs.Gait.{Reaches};
+ghost use Rattle.egt_board.specs.AttackLines.{Reaches};
 ghost use Rattle.egt_board.specs.Placement.{IsFree};
 ghost use Rattle.egt_board.specs.Setup.{IsKingOn};
 ghost use Rattle.egt_board.specs.SquareSet.{Has, size_of, most_reached};
 
 use crate::board::{Board, Slot};
-use crate::gait;
+use crate::attack_lines;
 use crate::man::{Man, Side};
 use crate::square::Square;
 use crate::square_set::SquareSet;
@@ -21,7 +21,7 @@ fn attacks_from(slot: &Slot, side: Side, square: Square, occupied: SquareSet) ->
 {
     match slot {
         Some(placed) => {
-            placed.1.side == side && gait::attacks(placed.1, placed.0, square, occupied)
+            placed.1.side == side && attack_lines::attacks(placed.1, placed.0, square, occupied)
         }
         None => false,
     }
@@ -43,7 +43,7 @@ impl Board {
         ensures reached { (t : ℕ) → Has result t ↔ Reaches (IsFree self.now) man from t }
         ensures few { size_of result ≤ most_reached man.kind }
     {
-        gait::reach_past(man, from, all)
+        attack_lines::reach_past(man, from, all)
     }
 
     /// Whether a man of that side attacks the square, even if it may not move itself.

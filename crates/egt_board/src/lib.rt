@@ -9,7 +9,7 @@ pub mod board;
 pub mod camps;
 pub mod counting;
 pub mod fault;
-pub mod gait;
+pub mod attack_lines;
 pub mod king;
 pub mod laws;
 pub mod listed;

@@ -5,7 +5,7 @@ ghost use Rattle.std.specs.FinMap as map;
 ghost use Rattle.std.specs.Int.{bit_at};
 ghost use Rattle.egt_board.specs.Attack.{IsAttacked, AttacksFrom, king_of};
 ghost use Rattle.egt_board.specs.Camps.{IsOccupied};
-ghost use Rattle.egt_board.specs.Gait.{Reaches};
+ghost use Rattle.egt_board.specs.AttackLines.{Reaches};
 ghost use Rattle.egt_board.specs.Placement.{Placement, Stands, IsFree};
 ghost use Rattle.egt_board.specs.Safety.{IsKeptFrom, IsSeenAs, StopsSlot};
 ghost use Rattle.egt_board.specs.SquareSet.{Has};
@@ -13,7 +13,7 @@ ghost use Rattle.egt_board.specs.declared.man.Man.{Man};
 ghost use Rattle.egt_board.specs.declared.man.Side.{Side};
 
 use crate::board::{Board, Slot};
-use crate::gait;
+use crate::attack_lines;
 use crate::man::{Man, Side};
 use crate::square::Square;
 use crate::square_set::SquareSet;
@@ -26,7 +26,7 @@ fn attacked_by(slot: &Slot, side: Side, occupied: SquareSet) -> SquareSet
         return SquareSet::EMPTY;
     };
     if placed.1.side == side {
-        gait::reach(placed.1, placed.0, occupied)
+        attack_lines::reach(placed.1, placed.0, occupied)
     } else {
         SquareSet::EMPTY
     }
@@ -41,7 +41,7 @@ fn stops(slot: &Slot, side: Side, to: Square, occupied: SquareSet) -> SquareSet
         return SquareSet::ALL;
     };
     if placed.1.side == side {
-        gait::stops(placed.1, placed.0, to, occupied)
+        attack_lines::stops(placed.1, placed.0, to, occupied)
     } else {
         SquareSet::ALL
     }

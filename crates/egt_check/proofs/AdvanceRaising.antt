@@ -3,7 +3,7 @@ use Rattle.std.proofs.Common.{◌≡◌, ◌≢◌, ℕ, ◌-◌, ◌<◌, ◌�
 use Rattle.std.specs.Int.{bit_at}
 use Rattle.std.specs.Prelude.{slice_index}
 use Rattle.std.proofs.lemmas.Nat.Bits.{bit_at_ones}
-use Rattle.egt_board.specs.Gait.{Reaches, Rides-free}
+use Rattle.egt_board.specs.AttackLines.{Reaches, Rides-free}
 use Rattle.egt_board.specs.Man.{other_side}
 use Rattle.egt_board.specs.Pawn.{Advances, farthest_advance, forward, last_rank, pawn_of}
 use Rattle.egt_board.specs.Square.{rank_of}

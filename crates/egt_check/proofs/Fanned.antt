@@ -6,7 +6,7 @@ use Rattle.egt_board.specs.declared.man.Kind.TheVariants.{Q, R, B, N, P, K}
 use Rattle.egt_board.specs.declared.man.Man.{Man}
 use Rattle.egt_board.specs.declared.step.Step.{Step}
 use Rattle.egt_board.specs.Attack.{IsInCheck}
-use Rattle.egt_board.specs.Gait.{OneOf, Reaches, Rides, farthest, steps_of}
+use Rattle.egt_board.specs.AttackLines.{OneOf, Reaches, Rides, farthest, steps_of}
 use Rattle.egt_board.specs.Man.{other_side}
 use Rattle.egt_board.specs.Pawn.{ahead, last_rank}
 use Rattle.egt_board.specs.Placement.{Placement, Stands, IsFree}

@@ -1,6 +1,6 @@
 -- No man passes or reaches the square on which it stands.
 use Rattle.std.proofs.Common.{◌≢◌, ℕ, ◌<◌, List, [], ◌∷◌, inl, inr, arith, subst}
-use Rattle.egt_board.specs.Gait.{OneOf, Reaches, Rides, farthest, step, steps_of}
+use Rattle.egt_board.specs.AttackLines.{OneOf, Reaches, Rides, farthest, step, steps_of}
 use Rattle.egt_board.specs.Step.{Away}
 use Rattle.egt_board.specs.declared.man.Kind.{Kind}
 use Rattle.egt_board.specs.declared.man.Kind.TheVariants.{Q, R, B, N, P, K}

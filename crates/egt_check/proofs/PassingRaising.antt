@@ -5,7 +5,7 @@ use Rattle.std.specs.List.{list_any}
 use Rattle.std.proofs.lemmas.Bool.{cases_eq, cases_lt, false≢true, le-ltb, lt-ltb}
 use Rattle.std.proofs.lemmas.Grind.{get_or-set_at}
 use Rattle.std.proofs.Math.ListN.{set, length-set}
-use Rattle.egt_board.specs.Gait.{Reaches, Reaches-on_board}
+use Rattle.egt_board.specs.AttackLines.{Reaches, Reaches-on_board}
 use Rattle.egt_board.specs.Man.{other_side}
 use Rattle.egt_board.specs.Pawn.{MayStand, ahead, pawn_of}
 use Rattle.egt_board.specs.Square.{rank_of}

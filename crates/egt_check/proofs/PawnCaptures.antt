@@ -2,7 +2,7 @@
 use Rattle.std.proofs.Common.{◌≡◌, ◌≢◌, ℕ, ◌*◌, ◌/◌, ◌+◌, if◌then◌else◌, Bool, true, false, Option, Some, None, refl, sym, ap, ◌∙◌, subst, inl, inr, arith}
 use Rattle.std.specs.FinMap as placement
 use Rattle.egt_board.specs.Attack.{IsInCheck, king_of}
-use Rattle.egt_board.specs.Gait.{OneOf, Reaches, Rides, farthest, pawn_steps, steps_of}
+use Rattle.egt_board.specs.AttackLines.{OneOf, Reaches, Rides, farthest, pawn_steps, steps_of}
 use Rattle.egt_board.specs.Man.{other_side}
 use Rattle.egt_board.specs.Pawn.{ahead}
 use Rattle.egt_board.specs.Placement.{Placement, Stands, IsFree, IsHeld, one_man}

@@ -4,7 +4,7 @@ use Rattle.std.proofs.Common.{◌≡◌, ℕ, ◌<◌, ◌==◌, ◌⊎◌, ◌�
 use Rattle.std.proofs.lemmas.Bool.{and_parts, cases_lt, false≢true}
 use Rattle.std.proofs.lemmas.Bool.Decides.{eqb_tells}
 use Rattle.std.specs.FinMap as placement
-use Rattle.egt_board.specs.Gait.{Reaches-on_board}
+use Rattle.egt_board.specs.AttackLines.{Reaches-on_board}
 use Rattle.egt_board.specs.Man.{other_side}
 use Rattle.egt_board.specs.Pawn.{ahead, last_rank}
 use Rattle.egt_board.specs.Placement.{IsHeld}

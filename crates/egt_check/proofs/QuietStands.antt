@@ -4,7 +4,7 @@ use Rattle.std.specs.FinMap as map
 use Rattle.std.specs.Int.{bit_at}
 use Rattle.std.proofs.lemmas.Bool.Decides.{eqb_tells}
 use Rattle.egt_board.specs.Attack.{IsInCheck, king_of}
-use Rattle.egt_board.specs.Gait.{Reaches, Reaches-free, Reaches-on_board}
+use Rattle.egt_board.specs.AttackLines.{Reaches, Reaches-free, Reaches-on_board}
 use Rattle.egt_board.specs.Man.{other_side}
 use Rattle.egt_board.specs.Placement.{Placement, Stands, IsFree, one_man}
 use Rattle.egt_board.specs.Setup.{Setup, IsAdmissible}

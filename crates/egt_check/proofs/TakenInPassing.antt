@@ -5,7 +5,7 @@ use Rattle.std.specs.Option.{is_some}
 use Rattle.std.proofs.lemmas.Bool.{cases_eq, eq-eqb}
 use Rattle.egt_board.specs.Attack.{IsInCheck, king_of}
 use Rattle.egt_board.specs.DecidedMen.{decided_held}
-use Rattle.egt_board.specs.Gait.{Reaches}
+use Rattle.egt_board.specs.AttackLines.{Reaches}
 use Rattle.egt_board.specs.Man.{other_side}
 use Rattle.egt_board.specs.Pawn.{ahead, pawn_of}
 use Rattle.egt_board.specs.Placement.{Placement, Stands, IsFree, IsHeld, get-remove_other, get-remove_same, one_man}

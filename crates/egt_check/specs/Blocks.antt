@@ -3,7 +3,7 @@ use Rattle.std.specs.Prelude.{if◌then◌else◌, max, List, ◌≡◌, ℕ, �
 use Rattle.egt_board.specs.Turned.{turned_side, turned_square}
 use Rattle.std.specs.Int.{bit_at}
 use Rattle.egt_board.specs.Attack.{king_of}
-use Rattle.egt_board.specs.Gait.{Reaches}
+use Rattle.egt_board.specs.AttackLines.{Reaches}
 use Rattle.egt_board.specs.declared.man.Side.{Side}
 use Rattle.egt_board.specs.declared.man.Side.TheVariants.{White, Black}
 use Rattle.egt_class.specs.Material.{has_equal_sides, material_of}

@@ -1,7 +1,7 @@
 -- Pawns that face each other: advances that leave a target, and captures in passing (FIDE Laws of Chess 2023, articles
 -- 3.7.3.1 and 3.7.3.2). The last man beside the kings, a pawn on b, moves, and the first stands on a.
 use Rattle.std.specs.Prelude.{◌≡◌, ℕ, ◌+◌, ◌⊎◌, Bool, false, true, None, Some, IfSome}
-use Rattle.egt_board.specs.Gait.{Reaches}
+use Rattle.egt_board.specs.AttackLines.{Reaches}
 use Rattle.egt_board.specs.Man.{other_side}
 use Rattle.egt_board.specs.Pawn.{IsBeside, ahead}
 use Rattle.egt_board.specs.Setup.{Setup}

@@ -1,7 +1,7 @@
 -- The men after the moves of a pawn who stands beside the kings as the last of two men.
 use Rattle.std.specs.Prelude.{◌≡◌, ℕ, ◌<◌, if◌then◌else◌, Bool, true, false, [], ◌∷◌, Option, Some}
 use Rattle.egt_board.specs.Attack.{king_of}
-use Rattle.egt_board.specs.Gait.{Reaches}
+use Rattle.egt_board.specs.AttackLines.{Reaches}
 use Rattle.egt_board.specs.Man.{other_side}
 use Rattle.egt_board.specs.Pawn.{Advances}
 use Rattle.egt_board.specs.Placement.{IsHeld}

@@ -1,6 +1,6 @@
 -- Where the pieces beside the kings go quietly.
 use Rattle.std.specs.Prelude.{◌≡◌, ◌≢◌, ℕ}
-use Rattle.egt_board.specs.Gait.{Reaches}
+use Rattle.egt_board.specs.AttackLines.{Reaches}
 use Rattle.egt_board.specs.declared.man.Kind.TheVariants.{P}
 use Rattle.egt_board.specs.declared.man.Side.{Side}
 use Rattle.egt_index.specs.declared.shelf_codes.ShelfMen.{ShelfMen}

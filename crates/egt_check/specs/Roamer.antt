@@ -1,7 +1,7 @@
 -- The last man of a shelf's positions, who stands on another square in each: where his legal moves lead.
 use Rattle.std.specs.Prelude.{◌≡◌, ◌≢◌, ℕ}
 use Rattle.std.specs.Int.{bit_at}
-use Rattle.egt_board.specs.Gait.{Reaches}
+use Rattle.egt_board.specs.AttackLines.{Reaches}
 use Rattle.egt_board.specs.declared.man.Man.{Man}
 use Rattle.egt_board.specs.declared.square_set.SquareSet.{SquareSet}
 

@@ -1,7 +1,7 @@
 -- Captures that promote no pawn and are not in passing, and the men after those of a side.
 use Rattle.std.specs.Prelude.{◌≡◌, ◌≢◌, ℕ, ◌<◌, ◌⊎◌, Bool, if◌then◌else◌, [], ◌∷◌, Some, None}
 use Rattle.egt_board.specs.Attack.{king_of}
-use Rattle.egt_board.specs.Gait.{Reaches}
+use Rattle.egt_board.specs.AttackLines.{Reaches}
 use Rattle.egt_board.specs.Man.{other_side}
 use Rattle.egt_board.specs.Placement.{IsHeld}
 use Rattle.egt_board.specs.Setup.{Setup}

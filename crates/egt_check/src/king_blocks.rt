@@ -10,7 +10,7 @@ ghost use Rattle.egt_check.specs.Blocks.{AreTurnedCodes, IsBesideKing, king_of_m
 ghost use Rattle.egt_check.specs.Worth.{column_score};
 
 use crate::blocks::{are_equal, gather, nothing, settle};
-use egt_board::gait::reach_past;
+use egt_board::attack_lines::reach_past;
 use egt_board::{Kind, Man, Side, Square, SquareSet};
 use egt_index::ShelfMen;
 use egt_index::men::has_equal_sides;

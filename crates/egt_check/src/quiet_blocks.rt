@@ -1,7 +1,7 @@
 //! The scores of the positions after each quiet step of a side, of its king or of a piece, in classes with two men beside the kings.
 ghost use Rattle.std.specs.Prelude.{◌≡◌, ◌≢◌, ◌↔◌, ◌<◌, ℕ, false, true};
 ghost use Rattle.std.specs.Int.{bit_at};
-ghost use Rattle.egt_board.specs.Gait.{Reaches};
+ghost use Rattle.egt_board.specs.AttackLines.{Reaches};
 ghost use Rattle.egt_board.specs.SquareSet.{Has};
 ghost use Rattle.egt_board.specs.declared.man.Kind.TheVariants.{K};
 ghost use Rattle.egt_index.specs.ShelfCodes.{AreMenOf};

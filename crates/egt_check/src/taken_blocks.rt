@@ -1,6 +1,6 @@
 //! The scores of the positions after the last man beside the kings was taken.
 ghost use Rattle.std.specs.Prelude.{◌≡◌, ◌<◌, ℕ, true, slice_index};
-ghost use Rattle.egt_board.specs.Gait.{Reaches};
+ghost use Rattle.egt_board.specs.AttackLines.{Reaches};
 ghost use Rattle.egt_board.specs.Man.{other_side};
 ghost use Rattle.egt_board.specs.Turned.{turned_man};
 ghost use Rattle.egt_index.specs.LoneCodes.{IsLoneMan};
@@ -18,7 +18,7 @@ use crate::king_blocks::{beside_king, with_king};
 use crate::lone_rows::read_lone;
 use crate::own_men::is_of;
 use crate::quiet_blocks::kings_of;
-use egt_board::gait::reach_past;
+use egt_board::attack_lines::reach_past;
 use egt_board::{Man, Mirror, Side, Square};
 use egt_index::ShelfMen;
 use egt_lanes::block::raise_transposed;

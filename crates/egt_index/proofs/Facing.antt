@@ -15,7 +15,7 @@ use Rattle.egt_board.specs.declared.step.Way.TheVariants.{Up, Down, Still}
 use Rattle.egt_board.specs.declared.step.Step.{Step}
 use Rattle.egt_board.specs.Attack.{IsAttacked}
 use Rattle.egt_board.specs.Coordinate.{Further}
-use Rattle.egt_board.specs.Gait.{OneOf, Rides, Reaches, Reaches-free, straight_steps, diagonal_steps, knight_steps, pawn_steps, steps_of, farthest}
+use Rattle.egt_board.specs.AttackLines.{OneOf, Rides, Reaches, Reaches-free, straight_steps, diagonal_steps, knight_steps, pawn_steps, steps_of, farthest}
 use Rattle.egt_board.specs.Man.{other_side}
 use Rattle.egt_board.specs.Pawn.{pawn_of}
 use Rattle.egt_board.specs.Placement.{Placement, Stands, IsFree, get-insert_same, get-insert_other, one_man}

@@ -5,7 +5,7 @@ use Rattle.egt_board.specs.declared.man.Side.{Side}
 use Rattle.egt_board.specs.declared.man.Side.TheVariants.{White, Black}
 use Rattle.egt_board.specs.declared.step.Step.{Step}
 use Rattle.egt_board.specs.Attack.{king_of, IsInCheck}
-use Rattle.egt_board.specs.Gait.{Reaches, Rides}
+use Rattle.egt_board.specs.AttackLines.{Reaches, Rides}
 use Rattle.egt_board.specs.Placement.{Placement, IsFree}
 use Rattle.egt_board.specs.Setup.{Setup, IsKingOn}
 use Rattle.egt_board.specs.Step.{Away}

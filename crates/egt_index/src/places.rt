@@ -23,7 +23,7 @@ use crate::passed::{may_pass, passed_places};
 use crate::row::{Row, Rows};
 use crate::shelf::{last_digits, shelf_len};
 use crate::stand::Stand;
-use egt_board::gait::reach_past;
+use egt_board::attack_lines::reach_past;
 use egt_board::safety::reach_passes_over_its_end;
 use egt_board::{Board, Kind, Man, Side, Square, SquareSet};
 use egt_class::Class;

@@ -2,7 +2,7 @@
 use Rattle.std.proofs.Common.{◌≡◌, ℕ, ◌<◌, ◌≤◌, ◌==◌, ◌⊎◌, if◌then◌else◌, Bool, true, false, eqb, cond, max, List, get_or, refl, ap, ◌∙◌, subst, inl, inr, arith, eqb-true}
 use Rattle.std.proofs.lemmas.Bool.{cases_eq, eqb-false, false≢true}
 use Rattle.std.specs.Int.{bit_at}
-use Rattle.egt_board.specs.Gait.{Rides}
+use Rattle.egt_board.specs.AttackLines.{Rides}
 use Rattle.egt_board.specs.Pawn.{Advances, forward, home_rank}
 use Rattle.egt_board.specs.Square.{rank_of}
 use Rattle.egt_board.specs.Step.{Away}

@@ -7,7 +7,7 @@ use Rattle.egt_board.specs.declared.step.Step.{Step}
 use Rattle.egt_board.specs.Coordinate.{Further}
 use Rattle.egt_board.specs.Square.{file_of, rank_of}
 use Rattle.egt_board.specs.Step.{Away}
-use Rattle.egt_board.specs.Gait.{Rides}
+use Rattle.egt_board.specs.AttackLines.{Rides}
 
 -- ---- files and ranks
 

@@ -7,7 +7,7 @@ use Rattle.egt_board.specs.declared.man.Side.{Side}
 use Rattle.egt_board.specs.declared.man.Kind.{Kind}
 use Rattle.egt_board.specs.declared.step.Step.{Step}
 use Rattle.egt_board.specs.Step.{Away}
-use Rattle.egt_board.specs.Gait.{Rides, OneOf, farthest, steps_of}
+use Rattle.egt_board.specs.AttackLines.{Rides, OneOf, farthest, steps_of}
 use Rattle.egt_board.specs.declared.man.Kind.TheVariants.{P, K}
 use Rattle.egt_lanes.specs.Pieces.{IsPiece}
 use Rattle.egt_lanes.specs.Raised.{IsRaised}

@@ -1,8 +1,8 @@
 //! Rows moved by the steps of men.
 ghost use Rattle.std.specs.Prelude.{◌≡◌, ℕ, ◌<◌, ◌≤◌, ◌==◌, slice_index, if◌then◌else◌};
 ghost use Rattle.std.specs.Int.{bit_at};
-ghost use Rattle.egt_board.specs.Gait.{OneOf, Reaches, Rides, straight_steps, diagonal_steps, knight_steps};
-ghost use Rattle.egt_board.specs.Gait.{step as the_step};
+ghost use Rattle.egt_board.specs.AttackLines.{OneOf, Reaches, Rides, straight_steps, diagonal_steps, knight_steps};
+ghost use Rattle.egt_board.specs.AttackLines.{step as the_step};
 ghost use Rattle.egt_board.specs.Pawn.{Advances, forward, home_rank};
 ghost use Rattle.egt_board.specs.Square.{rank_of};
 ghost use Rattle.egt_board.specs.Step.{Away};

@@ -1,7 +1,7 @@
 //! The first man's moves: the rows of the squares that he reaches, raised into the row of his own.
 ghost use Rattle.std.specs.Prelude.{◌≡◌, ℕ, ◌<◌, slice_index};
 ghost use Rattle.std.specs.List.{All};
-ghost use Rattle.egt_board.specs.Gait.{OneOf, Reaches, Rides};
+ghost use Rattle.egt_board.specs.AttackLines.{OneOf, Reaches, Rides};
 ghost use Rattle.egt_lanes.specs.Blocks.{at, IsOpen};
 ghost use Rattle.egt_lanes.specs.Pieces.{IsPiece};
 ghost use Rattle.egt_lanes.specs.Raised.{IsRaised};

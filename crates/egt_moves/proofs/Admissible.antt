@@ -15,7 +15,7 @@ use Rattle.egt_board.specs.Square.{file_of, rank_of}
 use Rattle.egt_board.specs.Placement.{Stands, IsFree}
 use Rattle.egt_board.specs.Pawn.{ahead, pawn_of, last_rank, home_rank, farthest_advance, Advances, PawnsFit}
 use Rattle.egt_board.specs.Target.{IsTarget, FitsTarget, target_rank}
-use Rattle.egt_board.specs.Gait.{Rides, OneOf, farthest, steps_of, pawn_steps}
+use Rattle.egt_board.specs.AttackLines.{Rides, OneOf, farthest, steps_of, pawn_steps}
 use Rattle.egt_board.specs.Attack.{IsInCheck}
 use Rattle.egt_board.specs.Setup.{Setup, IsAdmissible, IsKingOn, HasKings}
 use Rattle.egt_moves.specs.declared.chess_move.Move.{Move}

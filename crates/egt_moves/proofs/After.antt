@@ -13,7 +13,7 @@ pub use Rattle.egt_board.specs.Placement.{one_man}
 use Rattle.egt_board.specs.Placement.{Placement, Stands, IsFree, IsHeld, get-insert_same, get-insert_other, get-remove_same, get-remove_other}
 use Rattle.egt_board.specs.Pawn.{ahead, pawn_of}
 use Rattle.egt_board.specs.Target.{IsTarget}
-use Rattle.egt_board.specs.Gait.{Reaches, Reaches-free}
+use Rattle.egt_board.specs.AttackLines.{Reaches, Reaches-free}
 use Rattle.egt_board.specs.Attack.{king_of, IsInCheck}
 use Rattle.egt_board.specs.Setup.{Setup, IsAdmissible, IsKingOn}
 use Rattle.egt_moves.specs.declared.chess_move.Move.{Move}

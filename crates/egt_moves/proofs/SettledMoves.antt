@@ -9,7 +9,7 @@ use Rattle.egt_board.specs.declared.man.Man.{Man}
 use Rattle.egt_board.specs.Man.{other_side}
 use Rattle.egt_board.specs.Square.{rank_of}
 use Rattle.egt_board.specs.Placement.{Stands, IsFree}
-use Rattle.egt_board.specs.Gait.{Rides, OneOf, pawn_steps}
+use Rattle.egt_board.specs.AttackLines.{Rides, OneOf, pawn_steps}
 use Rattle.egt_board.specs.Pawn.{pawn_of, ahead, home_rank, farthest_advance, Advances, IsBeside, HasPawnBeside}
 use Rattle.egt_board.specs.Target.{IsTarget, target_rank}
 use Rattle.egt_board.specs.Setup.{Setup, IsAdmissible}

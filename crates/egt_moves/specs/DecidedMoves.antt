@@ -5,7 +5,7 @@ use Rattle.egt_board.specs.declared.man.Kind.{Kind}
 use Rattle.egt_board.specs.declared.man.Kind.TheVariants.{Q, R, B, N, P, K}
 use Rattle.egt_board.specs.Man.{other_side}
 use Rattle.egt_board.specs.Attack.{IsInCheck}
-use Rattle.egt_board.specs.Gait.{Reaches, Reaches-on_board}
+use Rattle.egt_board.specs.AttackLines.{Reaches, Reaches-on_board}
 use Rattle.egt_board.specs.Pawn.{Advances}
 use Rattle.egt_board.specs.Placement.{Stands, IsFree, IsHeld, one_man}
 use Rattle.egt_board.specs.Setup.{Setup}

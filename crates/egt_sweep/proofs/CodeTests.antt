@@ -5,7 +5,7 @@ use Rattle.std.proofs.lemmas.List.Folds.{Any-from_list_any, list_any-from_Any}
 use Rattle.std.specs.Int.{bit_at}
 use Rattle.std.specs.List.{Contains, list_any}
 use Rattle.egt_board.specs.Decided.{tells_so, tells_where}
-use Rattle.egt_board.specs.Gait.{Reaches-on_board}
+use Rattle.egt_board.specs.AttackLines.{Reaches-on_board}
 use Rattle.egt_graph.specs.WordMoves.{GoesByWord, GoesLeaping, GoesPushed, GoesPushedIf, GoesStraight, GoesTurned, GoesWithin, IsAhead, turned_place}
 use Rattle.egt_graph.specs.Words.{number_at}
 use Rattle.egt_graph.specs.declared.word_moves.Pushes.{Pushes}

@@ -3,7 +3,7 @@ use Rattle.std.proofs.Common.{◌≡◌, ◌≢◌, ◌↔◌, ◌⊎◌, ℕ, �
 use Rattle.std.specs.Int.{bit_at}
 use Rattle.std.proofs.lemmas.Bool.{cases_eq, false≢true}
 use Rattle.std.proofs.lemmas.Nat.Bits.{bit_at-lt}
-use Rattle.egt_board.specs.Gait.{Reaches-on_board}
+use Rattle.egt_board.specs.AttackLines.{Reaches-on_board}
 use Rattle.egt_board.specs.SquareSet.{Has}
 use Rattle.egt_board.specs.declared.man.Man.{Man}
 use Rattle.egt_board.specs.declared.square_set.SquareSet.{SquareSet}

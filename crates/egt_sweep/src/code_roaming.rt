@@ -6,7 +6,7 @@ ghost use Rattle.egt_graph.specs.Words.{IsIn};
 ghost use Rattle.egt_sweep.specs.Roaming.{ComesTo};
 ghost use Rattle.egt_words.specs.Told.{GoesRoaming};
 
-use egt_board::gait::reach_past;
+use egt_board::attack_lines::reach_past;
 use egt_board::{Square, SquareSet};
 use egt_words::Roaming;
 

@@ -5,7 +5,7 @@ use Rattle.std.proofs.lemmas.Bool.{cases_eq}
 use Rattle.egt_board.specs.declared.man.Side.{Side}
 use Rattle.egt_board.specs.declared.man.Man.{Man}
 use Rattle.egt_board.specs.Attack.{king_of, IsAttacked, IsInCheck}
-use Rattle.egt_board.specs.Gait.{Reaches, Reaches-free}
+use Rattle.egt_board.specs.AttackLines.{Reaches, Reaches-free}
 use Rattle.egt_board.specs.Man.{other_side}
 use Rattle.egt_board.specs.Placement.{Placement, Stands, IsFree, one_man, get-insert_same, get-insert_other, get-remove_same, get-remove_other}
 use Rattle.egt_board.specs.Safety.{IsKeptFrom}

@@ -16,7 +16,7 @@ use Rattle.egt_board.specs.Man.{other_side}
 use Rattle.egt_board.specs.Square.{file_of, rank_of}
 use Rattle.egt_board.specs.Coordinate.{Further}
 use Rattle.egt_board.specs.Step.{Away}
-use Rattle.egt_board.specs.Gait.{OneOf, Rides, Reaches, straight_steps, diagonal_steps, knight_steps, pawn_steps, steps_of, farthest}
+use Rattle.egt_board.specs.AttackLines.{OneOf, Rides, Reaches, straight_steps, diagonal_steps, knight_steps, pawn_steps, steps_of, farthest}
 use Rattle.egt_board.specs.Pawn.{pawn_of, ahead, forward, home_rank, farthest_advance, Advances}
 use Rattle.egt_board.specs.Placement.{Placement, IsFree}
 use Rattle.egt_moves.specs.Legal.{passed, is_two_ranks}

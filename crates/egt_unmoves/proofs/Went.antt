@@ -9,7 +9,7 @@ use Rattle.egt_board.specs.declared.man.Kind.{Kind}
 use Rattle.egt_board.specs.declared.man.Kind.TheVariants.{Q, R, B, N, P, K}
 use Rattle.egt_board.specs.declared.man.Man.{Man}
 use Rattle.egt_board.specs.Attack.{king_of, IsInCheck}
-use Rattle.egt_board.specs.Gait.{Rides-free}
+use Rattle.egt_board.specs.AttackLines.{Rides-free}
 use Rattle.egt_board.specs.Man.{other_side}
 use Rattle.egt_board.specs.Pawn.{pawn_of, ahead, forward, last_rank, farthest_advance, MayStand, Advances, HasPawnBeside}
 use Rattle.egt_board.specs.Placement.{Placement, Stands, IsFree, one_man, get-insert_other, get-remove_other}

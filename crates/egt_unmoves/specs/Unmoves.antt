@@ -5,7 +5,7 @@ use Rattle.std.specs.FinMap as map
 use Rattle.egt_board.specs.declared.man.Kind.TheVariants.{P}
 use Rattle.egt_board.specs.declared.man.Man.{Man}
 use Rattle.egt_board.specs.Attack.{IsInCheck}
-use Rattle.egt_board.specs.Gait.{Reaches}
+use Rattle.egt_board.specs.AttackLines.{Reaches}
 use Rattle.egt_board.specs.Man.{other_side}
 use Rattle.egt_board.specs.Pawn.{pawn_of, MayStand, Advances}
 use Rattle.egt_board.specs.Placement.{Placement, Stands, IsFree}

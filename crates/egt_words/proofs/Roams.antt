@@ -1,7 +1,7 @@
 -- The moves of the last man, a piece, from all places at once.
 use Rattle.std.proofs.Common.{◌≡◌, ◌≢◌, ◌↔◌, ℕ, ◌+◌, ◌<◌, false, refl, sym, ◌∙◌, subst, arith}
 use Rattle.std.specs.Int.{bit_at}
-use Rattle.egt_board.specs.Gait.{Reaches, Reaches-free, Reaches-on_board}
+use Rattle.egt_board.specs.AttackLines.{Reaches, Reaches-free, Reaches-on_board}
 use Rattle.egt_board.specs.Man.{other_side}
 use Rattle.egt_board.specs.Placement.{IsFree, Stands}
 use Rattle.egt_board.specs.Setup.{Setup}

@@ -3,7 +3,7 @@ use Rattle.std.proofs.Common.{◌≡◌, ◌≢◌, ◌⊎◌, ℕ, ◌<◌, sym
 use Rattle.std.specs.Int.{bit_at}
 use Rattle.std.proofs.lemmas.Nat.Bits.{bit_at-lt}
 use Rattle.egt_board.specs.Attack.{king_of}
-use Rattle.egt_board.specs.Gait.{Reaches, Reaches-free}
+use Rattle.egt_board.specs.AttackLines.{Reaches, Reaches-free}
 use Rattle.egt_board.specs.SquareSet.{Has}
 use Rattle.egt_board.specs.declared.man.Kind.TheVariants.{P}
 use Rattle.egt_board.specs.declared.man.Man.{Man}

@@ -4,7 +4,7 @@ use Rattle.std.specs.Int.{bit_at}
 use Rattle.std.proofs.lemmas.Bool.{cases_eq}
 use Rattle.std.proofs.lemmas.Nat.Bits.{bit_at-lt, bit_at-zero}
 use Rattle.egt_board.specs.Between.{IsBetween}
-use Rattle.egt_board.specs.Gait.{Reaches, Reaches-free, Reaches-on_board}
+use Rattle.egt_board.specs.AttackLines.{Reaches, Reaches-free, Reaches-on_board}
 use Rattle.egt_board.specs.Images.{AreImages}
 use Rattle.egt_board.specs.Placement.{IsFree, Stands}
 use Rattle.egt_board.specs.Safety.{Stops}

@@ -1,6 +1,6 @@
 -- From which places of a word no move of the side to move takes or promotes.
 use Rattle.std.specs.Prelude.{◌≡◌, ◌≢◌, ℕ, ◌+◌}
-use Rattle.egt_board.specs.Gait.{Reaches}
+use Rattle.egt_board.specs.AttackLines.{Reaches}
 use Rattle.egt_board.specs.Pawn.{ahead, last_rank}
 use Rattle.egt_board.specs.Square.{rank_of}
 use Rattle.egt_board.specs.declared.man.Kind.TheVariants.{P}

@@ -9,7 +9,7 @@ ghost use Rattle.egt_words.specs.Standing.{IsHeldOn, IsRivalAt, IsStanding, leas
 ghost use Rattle.egt_words.specs.Staying.{IsFoeOn, LastStays, MayPromote, ReachesPast, StandingStay, StaysAt};
 
 use crate::standing::{held, is_of, is_pawn, king_at, king_of, least, places_on, rivals_at};
-use egt_board::gait::reach_past;
+use egt_board::attack_lines::reach_past;
 use egt_board::{Man, Side, Square, SquareSet};
 use egt_index::ShelfMen;
 

@@ -12,7 +12,7 @@ ghost use Rattle.egt_words.specs.Told.{word_of};
 use crate::standing::{held, places_on};
 use crate::told::Told;
 use crate::word::word_with;
-use egt_board::gait::{reach_past, stops};
+use egt_board::attack_lines::{reach_past, stops};
 use egt_board::{Kind, Man, Side, Square, SquareSet};
 use egt_check::laws::a_quiet_move_moves_one_man;
 use egt_class::Class;

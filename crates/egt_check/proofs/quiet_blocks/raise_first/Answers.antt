@@ -1,5 +1,5 @@
 use Rattle.std.proofs.Common.{ℕ}
-use Rattle.egt_board.specs.Gait.{Reaches}
+use Rattle.egt_board.specs.AttackLines.{Reaches}
 use Rattle.egt_lanes.specs.Blocks.{IsOpen, at}
 use Rattle.egt_check.specs.QuietStands.{IsClear}
 use Rattle.egt_check.specs.QuietSteps.{IsFirstStep}

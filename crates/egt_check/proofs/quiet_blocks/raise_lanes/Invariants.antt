@@ -1,4 +1,4 @@
-use Rattle.egt_board.specs.Gait.{Reaches}
+use Rattle.egt_board.specs.AttackLines.{Reaches}
 use Rattle.egt_lanes.specs.Blocks.{at}
 use Rattle.egt_check.specs.QuietStands.{IsClear}
 use Rattle.egt_check.proofs.QuietRaising.{RowsRaised}

@@ -1,5 +1,5 @@
 use Rattle.std.proofs.Common.{◌≡◌, get_or, subst, arith}
-use Rattle.egt_board.specs.Gait.{Rides}
+use Rattle.egt_board.specs.AttackLines.{Rides}
 use Rattle.egt_lanes.specs.Raised.{IsRaised}
 use Rattle.egt_lanes.proofs.Riding.{HasBit, ridden_first, ridden_more}
 use Rattle.egt_lanes.proofs.shift.ridden.Goals as goal

@@ -1,7 +1,7 @@
 use Rattle.std.proofs.Common.{ℕ, List, get_or, ap}
 use Rattle.egt_board.specs.declared.man.Kind.TheVariants.{Q, R, B, N}
 use Rattle.egt_board.specs.declared.step.Step.{Step}
-use Rattle.egt_board.specs.Gait.{Rides, straight_steps, diagonal_steps}
+use Rattle.egt_board.specs.AttackLines.{Rides, straight_steps, diagonal_steps}
 use Rattle.egt_lanes.specs.Blocks.{at, IsOpen}
 use Rattle.egt_lanes.proofs.Riding.{both_lists, reached_by, no_piece}
 use Rattle.egt_lanes.proofs.walk.moved.Goals as goal

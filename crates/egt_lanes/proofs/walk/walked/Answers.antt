@@ -3,7 +3,7 @@ use Rattle.std.specs.Int.{bit_at}
 use Rattle.std.proofs.lemmas.Bool.{cases_eq, false≢true}
 use Rattle.std.proofs.lemmas.Nat.Bits.{bit_at-lt}
 use Rattle.std.proofs.lemmas.Simd.{get_or-replicate}
-use Rattle.egt_board.specs.Gait.{Rides}
+use Rattle.egt_board.specs.AttackLines.{Rides}
 use Rattle.egt_lanes.specs.Blocks.{at, IsOpen}
 use Rattle.egt_lanes.specs.Raised.{IsRaised}
 use Rattle.egt_lanes.proofs.Walking.{walk_begins, walk_stops, walk_goes_on, walk_at_edge}

@@ -1,7 +1,7 @@
 use Rattle.std.proofs.Common.{ℕ, List, get_or, arith}
 use Rattle.egt_board.specs.declared.step.Step.{Step}
 use Rattle.egt_board.specs.declared.step.Way.TheVariants.{Up}
-use Rattle.egt_board.specs.Gait.{Rides, step}
+use Rattle.egt_board.specs.AttackLines.{Rides, step}
 use Rattle.egt_lanes.specs.Blocks.{at, IsOpen}
 use Rattle.egt_lanes.proofs.Riding.{next_of_list}
 use Rattle.egt_lanes.proofs.walk.walked_along.Goals as goal

@@ -1,5 +1,5 @@
 use Rattle.std.proofs.Common.{ℕ, ◌<◌, take, get_or}
-use Rattle.egt_board.specs.Gait.{Rides, OneOf}
+use Rattle.egt_board.specs.AttackLines.{Rides, OneOf}
 use Rattle.egt_lanes.specs.Blocks.{at, IsOpen}
 use Rattle.egt_lanes.specs.Raised.{IsRaised}
 use Rattle.egt_lanes.proofs.walk.walked_along.Given as goal

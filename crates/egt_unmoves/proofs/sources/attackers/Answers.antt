@@ -1,6 +1,6 @@
 use Rattle.std.proofs.Common.{arith, subst}
 use Rattle.egt_board.specs.Placement.{IsFree}
-use Rattle.egt_board.specs.Gait.{Reaches}
+use Rattle.egt_board.specs.AttackLines.{Reaches}
 use Rattle.egt_unmoves.proofs.Ways.{attacks_back}
 use Rattle.egt_unmoves.proofs.sources.attackers.Goals as goal
 

@@ -5,7 +5,7 @@ use Rattle.std.proofs.lemmas.Bool.{false≢true}
 use Rattle.std.proofs.lemmas.Nat.Bits.{bit_at-lt}
 use Rattle.egt_board.specs.declared.square_set.SquareSet.{SquareSet}
 use Rattle.egt_board.specs.Attack.{IsInCheck}
-use Rattle.egt_board.specs.Gait.{Reaches}
+use Rattle.egt_board.specs.AttackLines.{Reaches}
 use Rattle.egt_board.specs.Pawn.{Advances}
 use Rattle.egt_board.specs.Placement.{Placement, IsFree}
 use Rattle.egt_unmoves.specs.Unmoves.{Went, men_before}

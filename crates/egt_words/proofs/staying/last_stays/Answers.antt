@@ -1,6 +1,6 @@
 use Rattle.std.proofs.Common.{◌≡◌, ◌≢◌, ◌+◌, sym, ap, ◌∙◌, subst, arith}
 use Rattle.std.specs.Int.{bit_at}
-use Rattle.egt_board.specs.Gait.{Reaches, Reaches-on_board}
+use Rattle.egt_board.specs.AttackLines.{Reaches, Reaches-on_board}
 use Rattle.egt_words.specs.Standing.{IsHeldOn, least_of}
 use Rattle.egt_words.specs.Staying.{MayPromote}
 use Rattle.egt_words.proofs.Stays.{reaches_with}

@@ -1,7 +1,7 @@
 use Rattle.std.proofs.Common.{◌≡◌, sym, ap, ◌∙◌, subst, inl, inr, arith}
 use Rattle.std.specs.Int.{bit_at}
 use Rattle.std.proofs.lemmas.Nat.Bits.{bit_at-lt}
-use Rattle.egt_board.specs.Gait.{Reaches, Reaches-on_board}
+use Rattle.egt_board.specs.AttackLines.{Reaches, Reaches-on_board}
 use Rattle.egt_board.specs.declared.man.Man.{Man}
 use Rattle.egt_words.specs.Standing.{IsHeldOn}
 use Rattle.egt_words.proofs.Stays.{king_or_one, reaches_bits}

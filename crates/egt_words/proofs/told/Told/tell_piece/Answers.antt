@@ -1,7 +1,7 @@
 use Rattle.std.proofs.Common.{refl, arith}
 use Rattle.std.specs.Int.{bit_at}
 use Rattle.std.proofs.lemmas.Nat.Bits.{bit_at-lt}
-use Rattle.egt_board.specs.Gait.{Reaches-on_board}
+use Rattle.egt_board.specs.AttackLines.{Reaches-on_board}
 use Rattle.egt_board.specs.SquareSet.{Has}
 use Rattle.egt_board.proofs.Bits.{bit_at-within}
 use Rattle.egt_check.specs.Fan.{IsGoal}

@@ -1,7 +1,7 @@
 use Rattle.std.proofs.Common.{sym, ◌∙◌, arith}
 use Rattle.std.proofs.lemmas.Bool.{false≢true}
 use Rattle.egt_board.proofs.Hiding.{Reaches-bare, attacks_open}
-use Rattle.egt_board.proofs.gait.attacks.Goals as goal
+use Rattle.egt_board.proofs.attack_lines.attacks.Goals as goal
 
 pub returns-then-contains : goal.returns-then-contains
 returns-then-contains c =

@@ -2,7 +2,7 @@ use Rattle.std.proofs.Common.{arith, rules, ◌+◌}
 use Rattle.egt_board.proofs.Rides.{Rode-more, reach_more, reach_stopped, reach_edge}
 use Rattle.egt_board.proofs.Bits.{bit_at_untold}
 use Rattle.egt_board.proofs.Geometry.{Away-more}
-use Rattle.egt_board.proofs.gait.ride.Goals as goal
+use Rattle.egt_board.proofs.attack_lines.ride.Goals as goal
 
 pub returns-in_default : goal.returns-in_default
 returns-in_default c =

@@ -3,7 +3,7 @@ use Rattle.std.specs.Int.{bit_at}
 use Rattle.std.proofs.lemmas.Bool.{false≢true}
 use Rattle.std.proofs.lemmas.Nat.Bits.{bit_at_ones}
 use Rattle.egt_board.proofs.Hiding.{stops_none, stops_between}
-use Rattle.egt_board.proofs.gait.stops.Goals as goal
+use Rattle.egt_board.proofs.attack_lines.stops.Goals as goal
 
 pub returns-then-attacks : goal.returns-then-attacks
 returns-then-attacks c = λ t t_in.

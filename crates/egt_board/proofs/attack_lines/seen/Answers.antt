@@ -1,5 +1,5 @@
 use Rattle.egt_board.proofs.Hiding.{Sees-none, Sees-more, Sees-all}
-use Rattle.egt_board.proofs.gait.seen.Goals as goal
+use Rattle.egt_board.proofs.attack_lines.seen.Goals as goal
 
 pub loop-blocker-init : goal.loop-blocker-init
 loop-blocker-init c = Sees-none c.args.from c.args.squares.bits c.args.occupied.bits c.common-blockers.result.bits c.common-blockers.ensures.squares

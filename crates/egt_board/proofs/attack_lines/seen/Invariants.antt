@@ -1,5 +1,5 @@
 use Rattle.egt_board.proofs.Hiding.{Sees}
-use Rattle.egt_board.proofs.gait.seen.Given as goal
+use Rattle.egt_board.proofs.attack_lines.seen.Given as goal
 
 abbrev pub invariant-loop-blocker : goal.invariant-loop-blocker
 invariant-loop-blocker l = Sees l.from l.fn.squares.bits l.fn.occupied.bits l.left.bits l.blockers.bits

@@ -2,7 +2,7 @@
 ghost use Rattle.std.specs.Prelude.{◌≡◌, ℕ, ◌<◌, ◌≤◌, ◌↔◌, IsTrue};
 ghost use Rattle.std.specs.Int.{bit_at};
 ghost use Rattle.egt_board.specs.Between.{IsBetween};
-ghost use Rattle.egt_board.specs.Gait.{Reaches, Rides};
+ghost use Rattle.egt_board.specs.AttackLines.{Reaches, Rides};
 ghost use Rattle.egt_board.specs.Safety.{Stops};
 ghost use Rattle.egt_board.specs.SquareSet.{Has, size_of, most_reached};
 
