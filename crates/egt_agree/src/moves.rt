@@ -81,7 +81,7 @@ fn are_targets(position: &Position, moves: &[Move], from: Square) -> bool {
     }
     match position.at(from) {
         Some(man) if man.side == position.side() => {
-            legal_targets_of(position, position.camps(), man, from) == wanted
+            legal_targets_of(position, position.occupancy(), man, from) == wanted
         }
         _ => true,
     }

@@ -14,7 +14,7 @@ pub mod Safety
 pub mod Pawn
 pub mod Target
 pub mod Setup
-pub mod Camps
+pub mod Occupancy
 pub mod Settled
 pub mod Fault
 pub mod Listed

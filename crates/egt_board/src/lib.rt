@@ -6,7 +6,7 @@
 pub mod attack;
 pub mod beside;
 pub mod board;
-pub mod camps;
+pub mod occupancy;
 pub mod counting;
 pub mod fault;
 pub mod attack_lines;
@@ -29,7 +29,7 @@ mod tables;
 pub mod target;
 
 pub use board::Board;
-pub use camps::Camps;
+pub use occupancy::Occupancy;
 pub use fault::PosFault;
 pub use man::{Kind, Man, Side};
 pub use mirror::Mirror;

@@ -4,7 +4,7 @@ ghost use Rattle.std.specs.Prelude.{◌≡◌, ◌≢◌, ℕ, ◌<◌, ◌↔�
 ghost use Rattle.std.specs.FinMap as map;
 ghost use Rattle.std.specs.Int.{bit_at};
 ghost use Rattle.egt_board.specs.Attack.{IsAttacked, AttacksFrom, king_of};
-ghost use Rattle.egt_board.specs.Camps.{IsOccupied};
+ghost use Rattle.egt_board.specs.Occupancy.{IsOccupied};
 ghost use Rattle.egt_board.specs.AttackLines.{Reaches};
 ghost use Rattle.egt_board.specs.Placement.{Placement, Stands, IsFree};
 ghost use Rattle.egt_board.specs.Safety.{IsKeptFrom, IsSeenAs, StopsSlot};

@@ -5,23 +5,23 @@ use Rattle.egt_board.specs.declared.man.Side.{Side}
 use Rattle.egt_board.specs.declared.man.Man.{Man}
 use Rattle.egt_board.specs.Man.{other_side}
 use Rattle.egt_board.specs.Attack.{king_of}
-use Rattle.egt_board.specs.Camps.{AreCamps}
+use Rattle.egt_board.specs.Occupancy.{IsOccupancy}
 use Rattle.egt_board.specs.AttackLines.{Reaches}
 use Rattle.egt_board.specs.Placement.{Placement, Stands, IsFree, one_man, get-insert_same, get-insert_other, get-remove_same, get-remove_other}
 use Rattle.egt_board.specs.Safety.{IsKeptFrom}
 use Rattle.egt_board.specs.Setup.{Setup, IsAdmissible, IsKingOn}
 use Rattle.egt_board.specs.SquareSet.{Has}
-use Rattle.egt_board.specs.declared.camps.Camps.{Camps}
+use Rattle.egt_board.specs.declared.occupancy.Occupancy.{Occupancy}
 use Rattle.egt_moves.proofs.After.{sides_differ, side_twice, not_free}
 
 -- kings attack each other
 abbrev pub BothAttack : Type 0
 BothAttack = (men others : Placement) (side other : Side) (s t : ℕ) → s < 64 → Reaches (IsFree men) (king_of side) s t → Reaches (IsFree others) (king_of other) t s
 
-pub lone_king_kept : BothAttack → (p : Setup) → IsAdmissible p → (camps : Camps) → AreCamps p camps → (man : Man) (from t king lone : ℕ) → man.side ≡ p.side
-    → IsKingOn p.men p.side king → IsKingOn p.men (other_side p.side) lone → ((s : ℕ) → Has camps.enemy s → s ≡ lone)
+pub lone_king_kept : BothAttack → (p : Setup) → IsAdmissible p → (occupancy : Occupancy) → IsOccupancy p occupancy → (man : Man) (from t king lone : ℕ) → man.side ≡ p.side
+    → IsKingOn p.men p.side king → IsKingOn p.men (other_side p.side) lone → ((s : ℕ) → Has occupancy.enemy s → s ≡ lone)
     → IsKeptFrom (map.remove p.men from) t man king (other_side p.side)
-lone_king_kept both p ok camps are man from t king lone mine home away alone attack = ok.quiet (record {
+lone_king_kept both p ok occupancy are man from t king lone mine home away alone attack = ok.quiet (record {
   square = lone;
   stands = away.stands;
   attacked = record { from = king; man = king_of p.side; stands = home.stands; theirs = sym (side_twice p.side); reaches = back };

@@ -1,7 +1,7 @@
 //! Where a man may go, and the board after it has gone there.
 ghost use Rattle.std.specs.Prelude.{◌≡◌, ℕ, ◌≤◌, ◌↔◌, ◌⊎◌, IsTrue, Some};
 ghost use Rattle.egt_board.specs.Attack.{IsInCheck};
-ghost use Rattle.egt_board.specs.Camps.{AreCamps};
+ghost use Rattle.egt_board.specs.Occupancy.{IsOccupancy};
 ghost use Rattle.egt_board.specs.Placement.{Stands, IsHeld};
 ghost use Rattle.egt_board.specs.Setup.{IsAdmissible, IsKingOn};
 ghost use Rattle.egt_board.specs.SquareSet.{Has, size_of};
@@ -13,11 +13,11 @@ ghost use Rattle.egt_moves.specs.Room.{most_goals};
 
 use crate::chess_move::Move;
 use crate::promotion::arriving;
-use egt_board::{Board, Camps, Kind, Man, Position, Square, SquareSet};
+use egt_board::{Board, Occupancy, Kind, Man, Position, Square, SquareSet};
 
 /// The squares that a piece or king on `from` may go to where its king is left aside.
-fn piece_targets(position: &Position, camps: Camps, man: Man, from: Square) -> SquareSet
-    requires camps { AreCamps position.now camps }
+fn piece_targets(position: &Position, occupancy: Occupancy, man: Man, from: Square) -> SquareSet
+    requires occupancy { IsOccupancy position.now occupancy }
     requires mine { man.side ≡ position.now.side }
     requires piece { man.kind ≡ P → ⊥ }
     ensures goes { (t : ℕ) → Has result t ↔ PieceGoes position.now man from t }
@@ -25,24 +25,24 @@ fn piece_targets(position: &Position, camps: Camps, man: Man, from: Square) -> S
 {
     position
         .board()
-        .reach_past(man, from, camps.occupied())
-        .without(camps.own)
+        .reach_past(man, from, occupancy.occupied())
+        .without(occupancy.own)
 }
 
 /// The squares that an enemy man holds or a pawn has just passed.
-fn takeable(position: &Position, camps: Camps) -> SquareSet
-    requires { AreCamps position.now camps }
+fn takeable(position: &Position, occupancy: Occupancy) -> SquareSet
+    requires { IsOccupancy position.now occupancy }
     ensures { (t : ℕ) → Has result t ↔ (IsHeld position.now.men t (other_side position.now.side) ⊎ (position.now.target ≡ Some t)) }
 {
     match position.target() {
-        Some(target) => camps.enemy.with(target),
-        None => camps.enemy,
+        Some(target) => occupancy.enemy.with(target),
+        None => occupancy.enemy,
     }
 }
 
 /// The squares that a pawn on `from` may go to where its king is left aside.
-fn pawn_targets(position: &Position, camps: Camps, man: Man, from: Square) -> SquareSet
-    requires camps { AreCamps position.now camps }
+fn pawn_targets(position: &Position, occupancy: Occupancy, man: Man, from: Square) -> SquareSet
+    requires occupancy { IsOccupancy position.now occupancy }
     requires mine { man.side ≡ position.now.side }
     requires pawn { man.kind ≡ P }
     ensures goes { (t : ℕ) → Has result t ↔ Goes position.now man from t }
@@ -51,22 +51,22 @@ fn pawn_targets(position: &Position, camps: Camps, man: Man, from: Square) -> Sq
     let advances = position.board().advances(man.side, from);
     let takes = position
         .board()
-        .reach_past(man, from, camps.occupied())
-        .common(takeable(position, camps));
+        .reach_past(man, from, occupancy.occupied())
+        .common(takeable(position, occupancy));
     advances.union(takes)
 }
 
 /// The squares that the man on `from`, one of the side to move, may go to where its king is left aside.
-pub(crate) fn targets(position: &Position, camps: Camps, man: Man, from: Square) -> SquareSet
-    requires camps { AreCamps position.now camps }
+pub(crate) fn targets(position: &Position, occupancy: Occupancy, man: Man, from: Square) -> SquareSet
+    requires occupancy { IsOccupancy position.now occupancy }
     requires mine { man.side ≡ position.now.side }
     ensures goes { (t : ℕ) → Has result t ↔ Goes position.now man from t }
     ensures few { size_of result ≤ most_goals man.kind }
 {
     if man.kind == Kind::P {
-        pawn_targets(position, camps, man, from)
+        pawn_targets(position, occupancy, man, from)
     } else {
-        piece_targets(position, camps, man, from)
+        piece_targets(position, occupancy, man, from)
     }
 }
 

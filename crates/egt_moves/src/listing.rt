@@ -2,7 +2,7 @@
 ghost use Rattle.std.specs.Prelude.{◌≡◌, ◌+◌, ◌*◌, ◌<◌, ◌≤◌, ◌↔◌, ◌⊎◌};
 ghost use Rattle.std.specs.List.{Contains};
 ghost use Rattle.arrayvec.specs.ArrayVec.{array_vec_len};
-ghost use Rattle.egt_board.specs.Camps.{AreCamps};
+ghost use Rattle.egt_board.specs.Occupancy.{IsOccupancy};
 ghost use Rattle.egt_board.specs.Placement.{Stands};
 ghost use Rattle.egt_moves.specs.Legal.{IsLegal};
 ghost use Rattle.egt_moves.specs.Moves.{moves_of};
@@ -15,7 +15,7 @@ use crate::chess_move::Move;
 use crate::promotion::{OFFICERS, promotes};
 use crate::targets::legal_goals;
 use arrayvec::ArrayVec;
-use egt_board::{Camps, Man, Position, Square};
+use egt_board::{Occupancy, Man, Position, Square};
 
 /// Adds the moves of the man from `from` to `to`, in order: one, or one for each man that a pawn may become.
 fn push_choices(man: Man, from: Square, to: Square, moves: &mut ArrayVec<Move, 64>)
@@ -47,12 +47,12 @@ fn push_choices(man: Man, from: Square, to: Square, moves: &mut ArrayVec<Move, 6
 /// Adds the legal moves of the man on `from`, one of the side to move, in order.
 fn push_moves(
     position: &Position,
-    camps: Camps,
+    occupancy: Occupancy,
     man: Man,
     from: Square,
     moves: &mut ArrayVec<Move, 64>,
 )
-    requires camps { AreCamps position.now camps }
+    requires occupancy { IsOccupancy position.now occupancy }
     requires stands { Stands position.now.men from man }
     requires mine { man.side ≡ position.now.side }
     requires room { array_vec_len moves.old + most_moves man.kind ≤ 64 }
@@ -63,7 +63,7 @@ fn push_moves(
         ↔ (Contains moves.old.items m ⊎ ((m.from ≡ from) × IsLegal position.now m)) }
     ensures few { array_vec_len moves.new ≤ array_vec_len moves.old + most_moves man.kind }
 {
-    let mut left = legal_goals(position, camps, man, from);
+    let mut left = legal_goals(position, occupancy, man, from);
     while let Some(to) = left.pop_first() {
         push_choices(man, from, to, moves);
     }
@@ -78,12 +78,12 @@ pub fn legal_moves(position: &Position) -> ArrayVec<Move, 64>
     ensures listed { result.items ≡ moves_of position.now }
 {
     let side = position.side();
-    let camps = position.camps();
+    let occupancy = position.occupancy();
     let mut moves = ArrayVec::new();
     let mut rest = position.of(side);
     while let Some(from) = rest.pop_first() {
         let man = position.at(from).unwrap();
-        push_moves(position, camps, man, from, &mut moves);
+        push_moves(position, occupancy, man, from, &mut moves);
     }
     moves
 }

@@ -63,7 +63,7 @@ pub fn play(position: &Position, chess_move: Move) -> Option<Position>
     if !fits_promotion(man, to, promo) {
         return None;
     }
-    if !legal_goals(position, position.camps(), man, from).contains(to) {
+    if !legal_goals(position, position.occupancy(), man, from).contains(to) {
         return None;
     }
     Some(played(position, man, &chess_move))

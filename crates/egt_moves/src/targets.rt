@@ -2,7 +2,7 @@
 ghost use Rattle.std.specs.Prelude.{◌≡◌, ◌≢◌, ℕ, ◌<◌, ◌≤◌, ◌↔◌, Some, IsTrue, IfSome, IfNone};
 ghost use Rattle.std.specs.FinMap as map;
 ghost use Rattle.egt_board.specs.Attack.{IsAttacked, IsInCheck};
-ghost use Rattle.egt_board.specs.Camps.{AreCamps};
+ghost use Rattle.egt_board.specs.Occupancy.{IsOccupancy};
 ghost use Rattle.egt_board.specs.Man.{other_side};
 ghost use Rattle.egt_board.specs.Placement.{Stands};
 ghost use Rattle.egt_board.specs.Safety.{IsKeptFrom};
@@ -17,11 +17,11 @@ ghost use Rattle.egt_moves.specs.Targets.{IsLegalTarget, IsSafeGoal};
 
 use crate::going::{is_safe, targets};
 use egt_board::safety::{attacks_pass_over_no_occupant, kings_attack_each_other};
-use egt_board::{Camps, Kind, Man, Position, Square, SquareSet};
+use egt_board::{Occupancy, Kind, Man, Position, Square, SquareSet};
 
 /// The squares that the enemy attacks once the man on `from`, one of the side to move, is lifted.
-fn danger(position: &Position, camps: Camps, from: Square) -> SquareSet
-    requires camps { AreCamps position.now camps }
+fn danger(position: &Position, occupancy: Occupancy, from: Square) -> SquareSet
+    requires occupancy { IsOccupancy position.now occupancy }
     requires mine { (man : Man) → Stands position.now.men from man → man.side ≡ position.now.side }
     ensures attacked { (t : ℕ) → t < 64 → Has result t ↔ IsAttacked (map.remove position.now.men from) t (other_side position.now.side) }
     ensures admissible { IsAdmissible position.now }
@@ -29,7 +29,7 @@ fn danger(position: &Position, camps: Camps, from: Square) -> SquareSet
     let enemy = position.side().other();
     position
         .board()
-        .danger_without(enemy, from, camps.occupied())
+        .danger_without(enemy, from, occupancy.occupied())
 }
 
 /// Is this the only square of the camp?
@@ -41,8 +41,8 @@ fn is_lone(camp: SquareSet, king: Square) -> bool
 
 /// The squares to which this man, lifted from `from`, may come so that the enemy does not attack `king`: all of them where the enemy has
 /// his king alone.
-fn shelter(position: &Position, camps: Camps, man: Man, from: Square, king: Square) -> SquareSet
-    requires camps { AreCamps position.now camps }
+fn shelter(position: &Position, occupancy: Occupancy, man: Man, from: Square, king: Square) -> SquareSet
+    requires occupancy { IsOccupancy position.now occupancy }
     requires stands { Stands position.now.men from man }
     requires mine { man.side ≡ position.now.side }
     requires home { IsKingOn position.now.men position.now.side king }
@@ -50,24 +50,24 @@ fn shelter(position: &Position, camps: Camps, man: Man, from: Square, king: Squa
     ensures admissible { IsAdmissible position.now }
 {
     let enemy = position.side().other();
-    if is_lone(camps.enemy, position.king(enemy)) {
+    if is_lone(occupancy.enemy, position.king(enemy)) {
         kings_attack_each_other();
         return SquareSet::ALL;
     }
     position
         .board()
-        .shelter_without(king, enemy, from, camps.occupied())
+        .shelter_without(king, enemy, from, occupancy.occupied())
 }
 
 /// Those of the squares to which the king on `from` may go without being attacked there.
 fn king_goals(
     position: &Position,
-    camps: Camps,
+    occupancy: Occupancy,
     man: Man,
     from: Square,
     goals: SquareSet,
 ) -> SquareSet
-    requires camps { AreCamps position.now camps }
+    requires occupancy { IsOccupancy position.now occupancy }
     requires stands { Stands position.now.men from man }
     requires mine { man.side ≡ position.now.side }
     requires king { man.kind ≡ K }
@@ -76,7 +76,7 @@ fn king_goals(
     ensures few { size_of result ≤ size_of goals }
 {
     attacks_pass_over_no_occupant();
-    goals.without(danger(position, camps, from))
+    goals.without(danger(position, occupancy, from))
 }
 
 /// The target, where the man goes there as a pawn that takes in passing.
@@ -98,15 +98,15 @@ fn passing_goal(position: &Position, man: Man, goals: SquareSet) -> Option<Squar
 }
 
 /// The squares where the man that went there from `from` shields its king, or there is nothing to be shielded from.
-fn shields(position: &Position, camps: Camps, man: Man, from: Square, goals: SquareSet) -> SquareSet
-    requires camps { AreCamps position.now camps }
+fn shields(position: &Position, occupancy: Occupancy, man: Man, from: Square, goals: SquareSet) -> SquareSet
+    requires occupancy { IsOccupancy position.now occupancy }
     requires stands { Stands position.now.men from man }
     requires mine { man.side ≡ position.now.side }
     requires other { man.kind ≡ K → ⊥ }
     requires goes { (t : ℕ) → Has goals t ↔ Goes position.now man from t }
     ensures { (t : ℕ) → Goes position.now man from t → Has result t ↔ ¬ IsInCheck (men_after position.now man (plain from t)) position.now.side }
 {
-    let shelter = shelter(position, camps, man, from, position.king(man.side));
+    let shelter = shelter(position, occupancy, man, from, position.king(man.side));
     let Some(target) = passing_goal(position, man, goals) else {
         return shelter;
     };
@@ -115,32 +115,32 @@ fn shields(position: &Position, camps: Camps, man: Man, from: Square, goals: Squ
 }
 
 /// The squares to which the man on `from`, one of the side to move, legally goes.
-pub(crate) fn legal_goals(position: &Position, camps: Camps, man: Man, from: Square) -> SquareSet
-    requires camps { AreCamps position.now camps }
+pub(crate) fn legal_goals(position: &Position, occupancy: Occupancy, man: Man, from: Square) -> SquareSet
+    requires occupancy { IsOccupancy position.now occupancy }
     requires stands { Stands position.now.men from man }
     requires mine { man.side ≡ position.now.side }
     ensures safe { (t : ℕ) → Has result t ↔ IsSafeGoal position.now man from t }
     ensures few { size_of result ≤ most_goals man.kind }
 {
-    let goals = targets(position, camps, man, from);
+    let goals = targets(position, occupancy, man, from);
     if man.kind == Kind::K {
-        king_goals(position, camps, man, from, goals)
+        king_goals(position, occupancy, man, from, goals)
     } else {
-        goals.common(shields(position, camps, man, from, goals))
+        goals.common(shields(position, occupancy, man, from, goals))
     }
 }
 
 /// The squares to which a legal move of the man on `from` goes, one of the side to move: what `legal_targets` answers, where the caller
 /// knows the man and the squares of either side's men.
-pub fn legal_targets_of(position: &Position, camps: Camps, man: Man, from: Square) -> SquareSet
-    requires camps { AreCamps position.now camps }
+pub fn legal_targets_of(position: &Position, occupancy: Occupancy, man: Man, from: Square) -> SquareSet
+    requires occupancy { IsOccupancy position.now occupancy }
     requires stands { Stands position.now.men from man }
     requires mine { man.side ≡ position.now.side }
     ensures legal { (t : ℕ) → Has result t ↔ IsLegalTarget position.now from t }
     ensures few { size_of result ≤ most_goals man.kind }
 {
     let _side = position.side();
-    legal_goals(position, camps, man, from)
+    legal_goals(position, occupancy, man, from)
 }
 
 /// The squares to which a legal move goes from this one; none where no man of the side to move stands.
@@ -152,7 +152,7 @@ pub fn legal_targets(position: &Position, from: Square) -> SquareSet
         return SquareSet::EMPTY;
     };
     if man.side == position.side() {
-        legal_goals(position, position.camps(), man, from)
+        legal_goals(position, position.occupancy(), man, from)
     } else {
         SquareSet::EMPTY
     }

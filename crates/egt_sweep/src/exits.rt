@@ -1,7 +1,7 @@
 //! The values of where the moves of a side that leave the game lead: legal moves are found for those men alone that may leave it.
 ghost use Rattle.std.specs.Prelude.{◌≡◌, ◌+◌, ◌++◌, ◌≤◌, ℕ, Bool, Some, [], IsTrue};
 ghost use Rattle.arrayvec.specs.ArrayVec.{array_vec_len};
-ghost use Rattle.egt_board.specs.Camps.{AreCamps};
+ghost use Rattle.egt_board.specs.Occupancy.{IsOccupancy};
 ghost use Rattle.egt_board.specs.AttackLines.{Reaches};
 ghost use Rattle.egt_board.specs.Man.{other_side};
 ghost use Rattle.egt_board.specs.Placement.{Stands, IsFree, IsHeld};
@@ -23,19 +23,19 @@ use crate::leaving::add_exits;
 use crate::quiet::pawn_stays;
 use crate::ways::onward;
 use arrayvec::ArrayVec;
-use egt_board::{Camps, Kind, Man, Position, Square};
+use egt_board::{Occupancy, Kind, Man, Position, Square};
 use egt_check::{Library, Metric};
 use egt_class::Class;
 use egt_graph::Exit;
 use egt_moves::legal_targets_of;
 
 /// Whether the man attacks none of the side that waits.
-fn attacks_nobody(position: &Position, camps: Camps, man: Man, from: Square) -> bool
-    requires { AreCamps position.now camps }
+fn attacks_nobody(position: &Position, occupancy: Occupancy, man: Man, from: Square) -> bool
+    requires { IsOccupancy position.now occupancy }
     ensures { IsTrue result → (t : ℕ) → Reaches (IsFree position.now.men) man from t → ¬ IsHeld position.now.men t (other_side position.now.side) }
 {
-    let reached = position.board().reach_past(man, from, camps.occupied());
-    reached.common(camps.enemy).is_empty()
+    let reached = position.board().reach_past(man, from, occupancy.occupied());
+    reached.common(occupancy.enemy).is_empty()
 }
 
 /// Whether all moves of the man go on, as his squares tell: he attacks nobody, and if he is a pawn no move of his is of another sort. His legal
@@ -45,11 +45,11 @@ fn goes_on(
     metric: Metric,
     class: Class,
     position: &Position,
-    camps: Camps,
+    occupancy: Occupancy,
     man: Man,
     from: Square,
 ) -> bool
-    requires camps { AreCamps position.now camps }
+    requires occupancy { IsOccupancy position.now occupancy }
     requires of { (flipped : Bool) × IsOf class flipped position.now }
     requires stands { Stands position.now.men from man }
     ensures { IsTrue result → (m : Move) (q : Setup) → m.from ≡ from → Leads position.now m q → GoesOn metric class position.now m q }
@@ -65,9 +65,9 @@ fn goes_on(
             if position.target().is_some() {
                 return false;
             }
-            attacks_nobody(position, camps, man, from)
+            attacks_nobody(position, occupancy, man, from)
         }
-        _ => attacks_nobody(position, camps, man, from),
+        _ => attacks_nobody(position, occupancy, man, from),
     }
 }
 
@@ -78,14 +78,14 @@ fn add_exits_of(
     class: Class,
     library: &Library,
     position: &Position,
-    camps: Camps,
+    occupancy: Occupancy,
     from: Square,
     exits: &mut ArrayVec<Exit, 64>,
 )
     requires knows { Knows (table_at library.now) class aim.now }
     requires of { (flipped : Bool) × IsOf class flipped position.now }
     requires children { HasChildren (table_at library.now) class }
-    requires camps { AreCamps position.now camps }
+    requires occupancy { IsOccupancy position.now occupancy }
     requires held { IsHeld position.now.men from position.now.side }
     requires room { (man : Man) → Stands position.now.men from man → array_vec_len exits.old + most_moves man.kind ≤ 64 }
     ensures exits { exits.new.items ≡ exits.old.items ++ exits_by (known (table_at library.now) class aim.now) (metric_of aim.now) class position.now (moves_from from 64) }
@@ -96,11 +96,11 @@ fn add_exits_of(
     let _side = position.side();
     let metric = aim.metric();
     let man = position.at(from).unwrap();
-    if goes_on(metric, class, position, camps, man, from) {
+    if goes_on(metric, class, position, occupancy, man, from) {
         return;
     }
-    let targets = legal_targets_of(position, camps, man, from);
-    let onward = onward(metric, class, position, camps, man, from, targets);
+    let targets = legal_targets_of(position, occupancy, man, from);
+    let onward = onward(metric, class, position, occupancy, man, from, targets);
     let leaving = targets.without(onward);
     add_exits(aim, class, library, position, from, leaving, exits);
 }
@@ -120,9 +120,9 @@ pub(crate) fn add_exits_of_side(
     ensures { exits.new.items ≡ exits_from (known (table_at library.now) class aim.now) (metric_of aim.now) class (Some position.now) }
 {
     laws();
-    let camps = position.camps();
+    let occupancy = position.occupancy();
     let mut rest = position.of(position.side());
     while let Some(from) = rest.pop_first() {
-        add_exits_of(aim, class, library, position, camps, from, exits);
+        add_exits_of(aim, class, library, position, occupancy, from, exits);
     }
 }

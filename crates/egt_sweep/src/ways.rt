@@ -1,6 +1,6 @@
 //! To which squares a man goes on in the game.
 ghost use Rattle.std.specs.Prelude.{◌≡◌, ℕ, ◌↔◌, Bool};
-ghost use Rattle.egt_board.specs.Camps.{AreCamps};
+ghost use Rattle.egt_board.specs.Occupancy.{IsOccupancy};
 ghost use Rattle.egt_board.specs.Placement.{Stands};
 ghost use Rattle.egt_board.specs.Setup.{Setup};
 ghost use Rattle.egt_board.specs.SquareSet.{Has};
@@ -13,7 +13,7 @@ ghost use Rattle.egt_sweep.specs.Ways.{Stays, IsOnward};
 
 use crate::laws::laws;
 use crate::quiet::stays;
-use egt_board::{Camps, Kind, Man, Position, Square, SquareSet};
+use egt_board::{Occupancy, Kind, Man, Position, Square, SquareSet};
 use egt_check::Metric;
 use egt_class::Class;
 
@@ -37,12 +37,12 @@ pub(crate) fn onward(
     metric: Metric,
     class: Class,
     position: &Position,
-    camps: Camps,
+    occupancy: Occupancy,
     man: Man,
     from: Square,
     targets: SquareSet,
 ) -> SquareSet
-    requires camps { AreCamps position.now camps }
+    requires occupancy { IsOccupancy position.now occupancy }
     requires of { (flipped : Bool) × IsOf class flipped position.now }
     requires stands { Stands position.now.men from man }
     requires targets { (t : ℕ) → Has targets t ↔ IsLegalTarget position.now from t }
@@ -52,7 +52,7 @@ pub(crate) fn onward(
     laws();
     let _number = class.number();
     let _side = position.side();
-    let free = targets.without(camps.enemy);
+    let free = targets.without(occupancy.enemy);
     match man.kind {
         Kind::P => match metric {
             Metric::Mate => staying(position, man, free),

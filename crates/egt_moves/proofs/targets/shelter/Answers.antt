@@ -10,7 +10,7 @@ returns-clause-kept c = λ t t_in.
 
 pub returns-then-is_lone-clause-kept : goal.returns-then-is_lone-clause-kept
 returns-then-is_lone-clause-kept c = λ t t_in. (
-  λ _. lone_king_kept c.kings_attack_each_other.ensures c.args.position.now c.side.ensures.admissible c.args.camps c.requires.camps c.args.man c.args.from t c.args.king c.king.result
+  λ _. lone_king_kept c.kings_attack_each_other.ensures c.args.position.now c.side.ensures.admissible c.args.occupancy c.requires.occupancy c.args.man c.args.from t c.args.king c.king.result
       c.requires.mine c.requires.home (rw (c.other-enemy.ensures, c.side.ensures.side) at c.king.ensures) (c.is_lone.ensures c.if-is_lone.true),
   λ _. bit_at_ones 64 t t_in,
 )

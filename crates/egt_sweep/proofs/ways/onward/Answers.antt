@@ -17,10 +17,10 @@ returns-in-Mate-clause-sound c t has =
     let stays = (c.staying.ensures t).0 has in
     let squares = c.without-free.ensures.squares t in
     let there : Has c.args.targets t = omega (arith, stays.0, squares) in
-    let gone : bit_at c.args.camps.enemy.bits t ≡ 0 = omega (arith, stays.0, squares) in
+    let gone : bit_at c.args.occupancy.enemy.bits t ≡ 0 = omega (arith, stays.0, squares) in
     subst (λ (metric : Metric). IsOnward metric c.args.class p c.args.from t) (sym c.in-Mate.is)
     (pawn_onward c.laws.ensures c.args.class p (subst (λ (n : ℕ). n < 36) c.number-number.ensures.value c.number-number.ensures.below) c.side-side.ensures.admissible c.requires.of c.args.man c.args.from t c.requires.stands
-    (λ held. let enemy : Has c.args.camps.enemy t = (c.requires.camps.enemy t).1 held in omega (arith, gone, enemy))
+    (λ held. let enemy : Has c.args.occupancy.enemy t = (c.requires.occupancy.enemy t).1 held in omega (arith, gone, enemy))
     stays.1 ((c.requires.targets t).0 there))
 
 pub returns-in-Mate-clause-complete : goal.returns-in-Mate-clause-complete
@@ -32,9 +32,9 @@ returns-in-Mate-clause-complete c m q is leads on =
     let there : Has c.args.targets m.to = (c.requires.targets m.to).1 (targeted p m c.args.from is (q, leads)) in
     let squares = c.without-free.ensures.squares m.to in
     let quiet : Captures p m → _ = on_quiet c.laws.ensures c.args.class p c_in ok c.requires.of c.args.metric q m leads on in
-    let bit = bit_at-lt c.args.camps.enemy.bits m.to in
-    let free : Has c.without-free.result m.to = elim (cases_eq (bit_at c.args.camps.enemy.bits m.to) 1) [
-      | inl enemy ↦ absurd (quiet (inl ((c.requires.camps.enemy m.to).0 enemy)))
+    let bit = bit_at-lt c.args.occupancy.enemy.bits m.to in
+    let free : Has c.without-free.result m.to = elim (cases_eq (bit_at c.args.occupancy.enemy.bits m.to) 1) [
+      | inl enemy ↦ absurd (quiet (inl ((c.requires.occupancy.enemy m.to).0 enemy)))
       | inr none ↦ omega (arith, there, squares, bit, none)
     ] in
     (c.staying.ensures m.to).1 (free, on_stays c.laws.ensures c.args.class p c_in ok c.requires.of c.args.metric q m c.args.man stands c.in-P.is leads on)
@@ -55,17 +55,17 @@ returns-in_default c =
       sound = λ t has.
           let squares = c.without-free.ensures.squares t in
           let there : Has c.args.targets t = omega (arith, has, squares) in
-          let gone : bit_at c.args.camps.enemy.bits t ≡ 0 = omega (arith, has, squares) in
+          let gone : bit_at c.args.occupancy.enemy.bits t ≡ 0 = omega (arith, has, squares) in
           piece_onward c.laws.ensures c.args.class p c_in ok c.requires.of c.args.metric c.args.man c.args.from t c.requires.stands c.in_default.not-P
-          (λ held. let enemy : Has c.args.camps.enemy t = (c.requires.camps.enemy t).1 held in omega (arith, gone, enemy))
+          (λ held. let enemy : Has c.args.occupancy.enemy t = (c.requires.occupancy.enemy t).1 held in omega (arith, gone, enemy))
           ((c.requires.targets t).0 there);
       complete = λ m q is leads on.
           let there : Has c.args.targets m.to = (c.requires.targets m.to).1 (targeted p m c.args.from is (q, leads)) in
           let squares = c.without-free.ensures.squares m.to in
           let quiet : Captures p m → _ = on_quiet c.laws.ensures c.args.class p c_in ok c.requires.of c.args.metric q m leads on in
-          let bit = bit_at-lt c.args.camps.enemy.bits m.to in
-          elim (cases_eq (bit_at c.args.camps.enemy.bits m.to) 1) [
-            | inl enemy ↦ absurd (quiet (inl ((c.requires.camps.enemy m.to).0 enemy)))
+          let bit = bit_at-lt c.args.occupancy.enemy.bits m.to in
+          elim (cases_eq (bit_at c.args.occupancy.enemy.bits m.to) 1) [
+            | inl enemy ↦ absurd (quiet (inl ((c.requires.occupancy.enemy m.to).0 enemy)))
             | inr none ↦ omega (arith, there, squares, bit, none)
           ];
     }

@@ -1,5 +1,5 @@
 use Rattle.egt_board.proofs.BothSides.{other_held}
-use Rattle.egt_board.proofs.position.Position.camps.Goals as goal
+use Rattle.egt_board.proofs.position.Position.occupancy.Goals as goal
 
 pub returns : goal.returns
 returns c =

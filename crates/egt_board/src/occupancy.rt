@@ -1,6 +1,6 @@
 //! The squares of either side's men.
 ghost use Rattle.std.specs.Prelude.{◌≡◌, ◌≤◌, ℕ};
-ghost use Rattle.egt_board.specs.Camps.{AreCamps, IsOccupied};
+ghost use Rattle.egt_board.specs.Occupancy.{IsOccupancy, IsOccupied};
 ghost use Rattle.egt_board.specs.Setup.{Setup, IsAdmissible};
 ghost use Rattle.egt_board.specs.SquareSet.{size_of};
 
@@ -9,15 +9,15 @@ use crate::square_set::SquareSet;
 
 /// The squares of the men of the side to move, and of those of the side that waits: found once for a position, they serve each man.
 #[derive(Clone, Copy)]
-pub struct Camps {
+pub struct Occupancy {
     pub own: SquareSet,
     pub enemy: SquareSet,
 }
 
-impl Camps {
+impl Occupancy {
     /// The squares of all men.
     pub fn occupied(self) -> SquareSet
-        ensures { (p : Setup) → AreCamps p self → IsOccupied p.men result }
+        ensures { (p : Setup) → IsOccupancy p self → IsOccupied p.men result }
     {
         self.own.union(self.enemy)
     }
@@ -25,11 +25,11 @@ impl Camps {
 
 impl Position {
     /// The squares of either side's men.
-    pub fn camps(&self) -> Camps
-        ensures { AreCamps self.now result }
+    pub fn occupancy(&self) -> Occupancy
+        ensures { IsOccupancy self.now result }
     {
         let own = self.of(self.side());
-        Camps {
+        Occupancy {
             own,
             enemy: self.board().occupied().without(own),
         }
