@@ -12,7 +12,7 @@ use Rattle.egt_board.specs.declared.man.Man.{Man}
 use Rattle.egt_board.specs.declared.man.Side.{Side}
 use Rattle.egt_board.specs.declared.man.Side.TheVariants.{White, Black}
 use Rattle.egt_board.specs.Attack.{king_of}
-use Rattle.egt_board.specs.Beside.{holds_king, without_king, AreBeside}
+use Rattle.egt_board.specs.NonKings.{holds_king, without_king, AreBeside}
 use Rattle.egt_board.specs.Board.{Slot, listed, padded, placed, InOrder, AreKept}
 use Rattle.egt_board.specs.Images.{side_number}
 use Rattle.egt_board.specs.Placement.{Placement, Stands}

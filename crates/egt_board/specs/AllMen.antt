@@ -4,7 +4,7 @@ use Rattle.std.proofs.Common.{arith}
 use Rattle.egt_board.specs.declared.man.Kind.TheVariants.{K}
 use Rattle.egt_board.specs.declared.man.Man.{Man}
 use Rattle.egt_board.specs.declared.man.Side.TheVariants.{White, Black}
-use Rattle.egt_board.specs.Beside.{StandsBeside, AreBeside}
+use Rattle.egt_board.specs.NonKings.{StandsBeside, AreBeside}
 use Rattle.egt_board.specs.Placement.{Placement, Stands}
 use Rattle.egt_board.specs.Setup.{IsKingOn}
 

@@ -32,5 +32,5 @@ pub mod DecidedSetup
 pub mod DecidedTurns
 pub mod Counting
 pub mod Corners
-pub mod Beside
+pub mod NonKings
 pub mod AllMen

@@ -4,7 +4,7 @@
 #![tactic(auto)]
 
 pub mod attack;
-pub mod beside;
+pub mod non_kings;
 pub mod board;
 pub mod occupancy;
 pub mod counting;

@@ -70,7 +70,7 @@ fn beside(position: &Position) -> (Option<Man>, Option<Man>)
     one_square_changes();
     one_king_is_counted();
     let _side = position.side();
-    let (first, second) = position.board().beside_kings();
+    let (first, second) = position.board().non_kings();
     (man_of(first), man_of(second))
 }
 

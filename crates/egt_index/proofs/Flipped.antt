@@ -7,7 +7,7 @@ use Rattle.std.proofs.lemmas.List.{get_or_default}
 use Rattle.egt_board.specs.declared.man.Man.{Man}
 use Rattle.egt_board.specs.declared.man.Side.TheVariants.{White, Black}
 use Rattle.egt_board.specs.AllMen.{HasBeside}
-use Rattle.egt_board.specs.Beside.{StandsBeside}
+use Rattle.egt_board.specs.NonKings.{StandsBeside}
 use Rattle.egt_board.specs.Man.{other_side}
 use Rattle.egt_board.specs.Placement.{Stands}
 use Rattle.egt_board.specs.Setup.{Setup, IsAdmissible}

@@ -11,7 +11,7 @@ use Rattle.egt_board.specs.declared.man.Kind.TheVariants.{K}
 use Rattle.egt_board.specs.declared.man.Man.{Man}
 use Rattle.egt_board.specs.Attack.{king_of}
 use Rattle.egt_board.specs.AllMen.{HasBeside}
-use Rattle.egt_board.specs.Beside.{StandsBeside}
+use Rattle.egt_board.specs.NonKings.{StandsBeside}
 use Rattle.egt_board.specs.Counting.{is_man}
 use Rattle.egt_board.specs.Images.{man_number, side_number}
 use Rattle.egt_board.specs.Man.{other_side}

@@ -157,7 +157,7 @@ pub(crate) fn standing_of(class: Class, position: &Position) -> Standing
     let _number = class.number();
     let _side = position.side();
     let (first, second) = beside(class);
-    let (one, other) = position.board().beside_kings();
+    let (one, other) = position.board().non_kings();
     let white = position.king(Side::White);
     let black = position.king(Side::Black);
     let flipped = !is_among(&first, &one, &other);

@@ -10,7 +10,7 @@ use Rattle.egt_board.specs.declared.man.Kind.TheVariants.{K}
 use Rattle.egt_board.specs.declared.man.Man.{Man}
 use Rattle.egt_board.specs.AllMen.{HasAllMen, AreApart}
 use Rattle.egt_board.specs.Attack.{king_of, IsInCheck}
-use Rattle.egt_board.specs.Beside.{StandsBeside}
+use Rattle.egt_board.specs.NonKings.{StandsBeside}
 use Rattle.egt_board.specs.Man.{other_side}
 use Rattle.egt_board.specs.Pawn.{ahead, last_rank}
 use Rattle.egt_board.specs.Square.{rank_of}

@@ -54,7 +54,7 @@ impl Men {
         ensures { AreMenOf position.now result }
     {
         let _side = position.side();
-        let (one, other) = position.board().beside_kings();
+        let (one, other) = position.board().non_kings();
         Men {
             white: position.king(Side::White),
             black: position.king(Side::Black),

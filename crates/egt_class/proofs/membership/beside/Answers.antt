@@ -1,6 +1,6 @@
 use Rattle.std.proofs.Common.{subst}
 use Rattle.egt_board.specs.AllMen.{in_any_order}
-use Rattle.egt_board.specs.Beside.{AreBeside}
+use Rattle.egt_board.specs.NonKings.{AreBeside}
 use Rattle.egt_board.specs.Placement.{Placement}
 use Rattle.egt_class.proofs.Beside.{one_king_each}
 use Rattle.egt_class.proofs.TwoBeside.{are_beside}
@@ -9,6 +9,6 @@ use Rattle.egt_class.proofs.membership.beside.Goals as goal
 pub returns : goal.returns
 returns c =
     let ok = c.side-side.ensures.admissible in
-    let are = subst (λ (men : Placement). AreBeside men c.beside_kings-first.result.0 c.beside_kings-first.result.1) c.board.ensures c.beside_kings-first.ensures in
-    let is = are_beside c.one_square_changes.ensures.cleared c.args.position.now c.beside_kings-first.result.0 c.beside_kings-first.result.1 ok.on_board (one_king_each c.args.position.now ok c.one_king_is_counted.ensures) (in_any_order c.args.position.now.men c.beside_kings-first.result.0 c.beside_kings-first.result.1 are) in
+    let are = subst (λ (men : Placement). AreBeside men c.non_kings-first.result.0 c.non_kings-first.result.1) c.board.ensures c.non_kings-first.ensures in
+    let is = are_beside c.one_square_changes.ensures.cleared c.args.position.now c.non_kings-first.result.0 c.non_kings-first.result.1 ok.on_board (one_king_each c.args.position.now ok c.one_king_is_counted.ensures) (in_any_order c.args.position.now.men c.non_kings-first.result.0 c.non_kings-first.result.1 are) in
     rw (c.man_of.ensures, c.man_of-2.ensures) is

@@ -5,12 +5,12 @@ use Rattle.egt_board.specs.Placement.{Placement}
 use Rattle.egt_index.proofs.Flipped.{colours_told}
 use Rattle.egt_index.proofs.stand.standing_of.Goals as goal
 
-beside : (c : goal.After-stand_by) → HasBeside c.args.position.now.men c.beside_kings-one.result.0 c.beside_kings-one.result.1
-beside c = subst (λ (men : Placement). HasBeside men c.beside_kings-one.result.0 c.beside_kings-one.result.1) c.board.ensures (in_any_order _ _ _ c.beside_kings-one.ensures)
+beside : (c : goal.After-stand_by) → HasBeside c.args.position.now.men c.non_kings-one.result.0 c.non_kings-one.result.1
+beside c = subst (λ (men : Placement). HasBeside men c.non_kings-one.result.0 c.non_kings-one.result.1) c.board.ensures (in_any_order _ _ _ c.non_kings-one.ensures)
 
 pub returns-clause-is_of : goal.returns-clause-is_of
 returns-clause-is_of c =
-    colours_told c.facts.ensures c.args.class c.requires.0 c.args.position.now c.beside-first.result.0 (option_to_list c.beside-first.result.1) c.beside_kings-one.result.0 c.beside_kings-one.result.1 c.is_among-flipped.result
+    colours_told c.facts.ensures c.args.class c.requires.0 c.args.position.now c.beside-first.result.0 (option_to_list c.beside-first.result.1) c.non_kings-one.result.0 c.non_kings-one.result.1 c.is_among-flipped.result
     (omega (arith, c.number-number.ensures.below, c.number-number.ensures.value)) c.side-side.ensures.admissible c.requires.1 c.beside-first.ensures.colours c.beside-first.ensures.men (beside c) c.is_among-flipped.ensures
 
 pub returns-clause-stood : goal.returns-clause-stood

@@ -1,7 +1,7 @@
 //! The men of a board beside the kings.
 ghost use Rattle.std.specs.Prelude.{◌≡◌, ◌≢◌, ℕ, IfSome, IfNone, if◌then◌else◌};
 ghost use Rattle.std.specs.Option.{option_map};
-ghost use Rattle.egt_board.specs.Beside.{AreBeside, holds_king, without_king};
+ghost use Rattle.egt_board.specs.NonKings.{AreBeside, holds_king, without_king};
 ghost use Rattle.egt_board.specs.Setup.{HasKings};
 
 use crate::board::{Board, Slot};
@@ -44,7 +44,7 @@ fn without_king<'a>(one: &'a Slot, two: &'a Slot, three: &'a Slot) -> &'a Slot
 impl Board {
     /// The one or two men beside the kings, in order of square, of a board with one king a side.
     #[inline(always)]
-    pub fn beside_kings(&self) -> (Option<(Man, Square)>, Option<(Man, Square)>)
+    pub fn non_kings(&self) -> (Option<(Man, Square)>, Option<(Man, Square)>)
         requires { HasKings self.now }
         ensures { AreBeside self.now result.0 result.1 }
     {

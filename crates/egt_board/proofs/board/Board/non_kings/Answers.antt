@@ -1,5 +1,5 @@
 use Rattle.egt_board.proofs.KingsAside.{aside}
-use Rattle.egt_board.proofs.board.Board.beside_kings.Goals as goal
+use Rattle.egt_board.proofs.board.Board.non_kings.Goals as goal
 
 pub returns : goal.returns
 returns c =
