@@ -27,7 +27,7 @@ use Rattle.egt_check.specs.declared.metric.Metric.{Metric}
 use Rattle.egt_check.specs.declared.metric.Metric.TheVariants.{Mate, Zeroing}
 use Rattle.egt_check.specs.Alike.{StepAlike}
 use Rattle.egt_check.specs.Tables.{Tables}
-use Rattle.egt_words.specs.Told.{Advances, Quietly}
+use Rattle.egt_words.specs.MoveLists.{Advances, Quietly}
 use Rattle.egt_sweep.specs.ClassGame.{class_game, stuck_edge}
 use Rattle.egt_sweep.specs.CodeGame.{CodeMoves, TellsGame, code_game, goes_by, index_from, index_of, is_mate, leads_by, number_or, numbered}
 use Rattle.egt_sweep.specs.Edges.{Connects, GoesOn, IsAt}

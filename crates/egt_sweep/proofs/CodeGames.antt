@@ -23,7 +23,7 @@ use Rattle.egt_check.specs.declared.metric.Metric.{Metric}
 use Rattle.egt_check.specs.declared.metric.Metric.TheVariants.{Mate, Zeroing}
 use Rattle.egt_check.specs.Tables.{Tables}
 use Rattle.egt_index.specs.Numbers.{IsNumbered, code_of, places}
-use Rattle.egt_words.specs.Told.{GoesByPawnBy, GoesQuietlyBy, TellsLists}
+use Rattle.egt_words.specs.MoveLists.{GoesByPawnBy, GoesQuietlyBy, TellsLists}
 use Rattle.egt_words.specs.declared.roaming.Roaming.{Roaming}
 use Rattle.egt_sweep.specs.CodeGame.{CodeMoves, TellsGame, code_game, goes_by, index_of, is_mate, leads_by, numbered}
 use Rattle.egt_sweep.specs.CodeLists.{GoesWith, IsTold, moves_told, nodes_at, pawn_ways_at, pushes_at, roams_at, staying_at, turned_at, ways_at}

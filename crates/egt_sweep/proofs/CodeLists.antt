@@ -26,9 +26,9 @@ use Rattle.egt_index.specs.Size.{men_beside, size_of}
 use Rattle.egt_index.specs.declared.places.Places.{Places}
 use Rattle.egt_index.specs.declared.shelf_codes.ShelfMen.{ShelfMen}
 use Rattle.egt_index.specs.Numbers.{places}
-use Rattle.egt_words.specs.Told.{AreNodes, Fit, SpellsAt, TellsLists, TellsWord, word_of}
+use Rattle.egt_words.specs.MoveLists.{AreNodes, Fit, SpellsAt, TellsLists, TellsWord, word_of}
 use Rattle.egt_words.specs.declared.roaming.Roaming.{Roaming}
-use Rattle.egt_words.specs.declared.told.Told.{Told}
+use Rattle.egt_words.specs.declared.move_lists.MoveLists.{MoveLists}
 use Rattle.egt_sweep.specs.CodeGame.{TellsGame}
 use Rattle.egt_sweep.specs.CodeLists.{AreIndexes, CodesFit, HoldsBelow, HoldsWord, IsAdded, IsTold, RoamsTo, begin_of, indexes_at, moves_told, nodes_at, pawn_ways_at, pushes_at, roams_at, staying_at, turned_at, ways_at}
 use Rattle.egt_sweep.specs.Laws.{Laws}
@@ -83,7 +83,7 @@ tells_same c word nodes staying nodes' staying' ways ways' turned turned' pawn_w
     (subst (λ (x : Pushes). TellsLists c word nodes staying ways turned pawn_ways x roams') (sym same_pushes)
     (subst (λ (x : Option Roaming). TellsLists c word nodes staying ways turned pawn_ways pushes x) (sym same_roams) tells))))))
 
-module _ (c m : ℕ) (old new : CodeLists) (nodes indexes : ℕ) (told : Told) (holds : HoldsBelow c m old) (added : IsAdded old new nodes indexes told) where
+module _ (c m : ℕ) (old new : CodeLists) (nodes indexes : ℕ) (told : MoveLists) (holds : HoldsBelow c m old) (added : IsAdded old new nodes indexes told) where
   -- a word's parts begin where they began
   begin_kept : (word : ℕ) → word ≤ m → begin_of new word ≡ begin_of old word
   begin_kept word le = at_kept new.starts.items old.starts.items _ word (m + 1) _ added.starts_more holds.starts_long (omega (arith, le))

@@ -17,7 +17,7 @@ use Rattle.egt_index.specs.Size.{size_of}
 use Rattle.egt_check.specs.declared.metric.Metric.{Metric}
 use Rattle.egt_check.specs.Tables.{Tables}
 use Rattle.egt_index.specs.Numbers.{places}
-use Rattle.egt_words.specs.Told.{GoesRoamingIf}
+use Rattle.egt_words.specs.MoveLists.{GoesRoamingIf}
 use Rattle.egt_words.specs.declared.roaming.Roaming.{Roaming}
 use Rattle.egt_sweep.specs.CodeGame.{code_game, goes_by, is_mate, leads_by, numbered}
 use Rattle.egt_sweep.specs.CodeLists.{CodesFit, IsTold, RoamsTo, moves_told, pawn_ways_at, pushes_at, roams_at, turned_at, ways_at}

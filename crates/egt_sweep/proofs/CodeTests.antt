@@ -11,7 +11,7 @@ use Rattle.egt_graph.specs.Words.{number_at}
 use Rattle.egt_graph.specs.declared.word_moves.Pushes.{Pushes}
 use Rattle.egt_graph.specs.declared.word_moves.TurnedWay.{TurnedWay}
 use Rattle.egt_graph.specs.declared.word_moves.Way.{Way}
-use Rattle.egt_words.specs.Told.{GoesByPawnBy, GoesQuietlyBy, GoesRoamingIf}
+use Rattle.egt_words.specs.MoveLists.{GoesByPawnBy, GoesQuietlyBy, GoesRoamingIf}
 use Rattle.egt_words.specs.declared.roaming.Roaming.{Roaming}
 use Rattle.egt_sweep.specs.CodeLists.{GoesWith}
 use Rattle.egt_sweep.specs.CodeTests.{ahead_test, decided_roaming, leapt_test, pawn_test, pushed_test, quiet_test, roaming_test, straight_test, turned_test}

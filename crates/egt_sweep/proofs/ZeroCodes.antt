@@ -23,7 +23,7 @@ use Rattle.egt_graph.specs.declared.words.WordStart.{WordStart}
 use Rattle.egt_check.specs.declared.metric.Metric.TheVariants.{Mate, Zeroing}
 use Rattle.egt_check.specs.Tables.{HasChildren, Tables, beside}
 use Rattle.egt_index.specs.Numbers.{IsNumbered, code_of, places}
-use Rattle.egt_words.specs.Told.{GoesByPawnBy}
+use Rattle.egt_words.specs.MoveLists.{GoesByPawnBy}
 use Rattle.egt_sweep.specs.CodeGame.{CodeMoves, TellsGame, code_game, index_of}
 use Rattle.egt_sweep.specs.CodeLists.{IsTold, moves_told, nodes_at, pawn_ways_at, pushes_at}
 use Rattle.egt_sweep.specs.Edges.{PushesTo}
@@ -129,10 +129,10 @@ module _ (laws : Laws) (c : ℕ) (lists : CodeLists) (told : IsTold c lists) (ta
     bits_node : (k : ℕ) → bit_at nodes k ≡ 1 → (k < places c) × IsNode game (number_at (places c) word k)
     bits_node k one = (code_nodes laws c lists told tables Mate word word_in_class k).0 (subst (λ n. bit_at n k ≡ 1) nodes_are one)
 
-    pushed_into : (P : ℕ → Type 0) (Told : ℕ → Type 0) (marks : List ℕ) → AreMarksOf (places c) (size_of c) P marks → ((j : ℕ) → P j → IsNode game j × Told (slice_index mates (index_of c j)))
-        → ((j : ℕ) → IsNode game j → Told (slice_index mates (index_of c j)) → P j) → (bits : ℕ) → PawnsLed c lists (places c) word nodes bits marks
-        → (k : ℕ) → bit_at nodes k ≡ 1 → bit_at bits k ≡ 1 ↔ ((n : ℕ) × PushesTo c (index_of c (number_at (places c) word k)) n × Told (slice_index mates n))
-    pushed_into P Told marks are full back bits led k one = (
+    pushed_into : (P : ℕ → Type 0) (MoveLists : ℕ → Type 0) (marks : List ℕ) → AreMarksOf (places c) (size_of c) P marks → ((j : ℕ) → P j → IsNode game j × MoveLists (slice_index mates (index_of c j)))
+        → ((j : ℕ) → IsNode game j → MoveLists (slice_index mates (index_of c j)) → P j) → (bits : ℕ) → PawnsLed c lists (places c) word nodes bits marks
+        → (k : ℕ) → bit_at nodes k ≡ 1 → bit_at bits k ≡ 1 ↔ ((n : ℕ) × PushesTo c (index_of c (number_at (places c) word k)) n × MoveLists (slice_index mates n))
+    pushed_into P MoveLists marks are full back bits led k one = (
       λ bit.
           let (_, (j, goes, is)) = (led k).0 bit in
           let (node, holds) = full j (in_marked (places c) (size_of c) told.some P marks are j is) in
@@ -154,7 +154,7 @@ module _ (laws : Laws) (c : ℕ) (lists : CodeLists) (told : IsTold c lists) (ta
             (
               j,
               (pawn_is (places c) k j (pawn_ways_at lists word) (pushes_at lists word)).0 (sym (pawn_here laws c lists told word k at.0 j) ∙ goes),
-              marked_in (places c) (size_of c) told.some P marks are j below (back j node (subst (λ x. Told (slice_index mates x)) (sym is) holds)),
+              marked_in (places c) (size_of c) told.some P marks are j below (back j node (subst (λ x. MoveLists (slice_index mates x)) (sym is) holds)),
             ),
           ),
     )

@@ -105,7 +105,7 @@ held_shown n x Draw s = (λ t. let e = s.1 in (omega (arith, e), omega (arith, e
 
 -- an exit of the game of mates passes the test, or a pawn's move in the class leads to a number with such an entry
 abbrev pub SomeExit : List Exit → (c i : ℕ) → List ℕ → (Exit → Bool) → (ℕ → Type 0) → Type 0
-SomeExit left c i mates before Told = (list_any before left ≡ true) ⊎ ((j : ℕ) × PushesTo c i j × Told (slice_index mates j))
+SomeExit left c i mates before Wanted = (list_any before left ≡ true) ⊎ ((j : ℕ) × PushesTo c i j × Wanted (slice_index mates j))
 
 module _ (laws : Laws) (c : ℕ) (c_in : c < 36) (tables : Tables) (mates : List ℕ) (metric : IsMateColumn c mates) where
   abbrev others : Tables
@@ -210,9 +210,9 @@ module _ (laws : Laws) (c : ℕ) (c_in : c < 36) (tables : Tables) (mates : List
     push_shows : (j : ℕ) → PushesTo c i j → (v : Value) × Shows (slice_index mates j) v
     push_shows j push = entry_shows push.to j (laws.facts.step_admissible push.from push.to push.move push.at.spells.admissible push.leads) push.index
 
-    any_told : (test before : Exit → Bool) (Told : ℕ → Type 0) → ((e : Exit) → test (zeroed e) ≡ before e) → ((x : ℕ) (v : Value) → Shows x v → (test (exit_of Zeroing v) ≡ true) ↔ Told x)
-        → (list_any test (exits_at others Zeroing c i) ≡ true) ↔ SomeExit (exits_at tables Mate c i) c i mates before Told
-    any_told test before Told same shown = (
+    any_told : (test before : Exit → Bool) (Wanted : ℕ → Type 0) → ((e : Exit) → test (zeroed e) ≡ before e) → ((x : ℕ) (v : Value) → Shows x v → (test (exit_of Zeroing v) ≡ true) ↔ Wanted x)
+        → (list_any test (exits_at others Zeroing c i) ≡ true) ↔ SomeExit (exits_at tables Mate c i) c i mates before Wanted
+    any_told test before Wanted same shown = (
       λ t.
           let (e, has, passes) = any_in test (exits_at others Zeroing c i) t in
           ⊎_map (λ (of : IsOfMates e). in_any before (exits_at tables Mate c i) of.0 of.1 (sym (same of.0) ∙ sym (ap test of.2) ∙ passes))
@@ -221,14 +221,14 @@ module _ (laws : Laws) (c : ℕ) (c_in : c < 36) (tables : Tables) (mates : List
           (λ (t : list_any before (exits_at tables Mate c i) ≡ true).
           let (x, has, passes) = any_in before (exits_at tables Mate c i) t in
           in_any test (exits_at others Zeroing c i) (zeroed x) (mates_exit x has) (same x ∙ passes))
-          (λ (push : (j : ℕ) × PushesTo c i j × Told (slice_index mates j)).
+          (λ (push : (j : ℕ) × PushesTo c i j × Wanted (slice_index mates j)).
           in_any test (exits_at others Zeroing c i) (ExitTo (slice_index mates push.0)) (push_exit push.0 push.1) ((entry push.0 push.1).1 push.2)) h,
     )
       where
-        entry : (j : ℕ) → PushesTo c i j → (test (ExitTo (slice_index mates j)) ≡ true) ↔ Told (slice_index mates j)
+        entry : (j : ℕ) → PushesTo c i j → (test (ExitTo (slice_index mates j)) ≡ true) ↔ Wanted (slice_index mates j)
         entry j push =
             let shows = push_shows j push in
-            subst (λ (w : Value). (test (exit_of Zeroing w) ≡ true) ↔ Told (slice_index mates j)) (sym (read_shown (slice_index mates j) shows.0 shows.1)) (shown (slice_index mates j) shows.0 shows.1)
+            subst (λ (w : Value). (test (exit_of Zeroing w) ≡ true) ↔ Wanted (slice_index mates j)) (sym (read_shown (slice_index mates j) shows.0 shows.1)) (shown (slice_index mates j) shows.0 shows.1)
 
     -- so three bits tell what there is among them
     pub tells_exits : (some losing holding : ℕ) → some < 2 → holding < 2
@@ -245,9 +245,9 @@ module _ (laws : Laws) (c : ℕ) (c_in : c < 36) (tables : Tables) (mates : List
           ∙ other_bit holding holding_few;
     }
       where
-        told : (test before : Exit → Bool) (Told : ℕ → Type 0) → ((e : Exit) → test (zeroed e) ≡ before e) → ((x : ℕ) (v : Value) → Shows x v → (test (exit_of Zeroing v) ≡ true) ↔ Told x)
-            → (bit : ℕ) → (bit ≡ 1 ↔ SomeExit (exits_at tables Mate c i) c i mates before Told) → list_any test (exits_at others Zeroing c i) ≡ (bit == 1)
-        told test before Told same shown bit = bit_told (list_any test (exits_at others Zeroing c i)) bit (SomeExit (exits_at tables Mate c i) c i mates before Told) (any_told test before Told same shown)
+        told : (test before : Exit → Bool) (Wanted : ℕ → Type 0) → ((e : Exit) → test (zeroed e) ≡ before e) → ((x : ℕ) (v : Value) → Shows x v → (test (exit_of Zeroing v) ≡ true) ↔ Wanted x)
+            → (bit : ℕ) → (bit ≡ 1 ↔ SomeExit (exits_at tables Mate c i) c i mates before Wanted) → list_any test (exits_at others Zeroing c i) ≡ (bit == 1)
+        told test before Wanted same shown bit = bit_told (list_any test (exits_at others Zeroing c i)) bit (SomeExit (exits_at tables Mate c i) c i mates before Wanted) (any_told test before Wanted same shown)
 
 -- ---- bits of nodes
 

@@ -20,7 +20,7 @@ use Rattle.egt_graph.specs.Passing.{passing_below, passing_has, passing_passes, 
 use Rattle.egt_check.specs.declared.metric.Metric.{Metric}
 use Rattle.egt_check.specs.declared.metric.Metric.TheVariants.{Mate, Zeroing}
 use Rattle.egt_check.specs.Tables.{Tables}
-use Rattle.egt_words.specs.Told.{Advances, Quietly}
+use Rattle.egt_words.specs.MoveLists.{Advances, Quietly}
 use Rattle.egt_sweep.specs.ClassGame.{exits_none, exits_short}
 use Rattle.egt_sweep.specs.Nodes.{exits_at, index_in, is_mated, kept_if, position_at, spelled}
 

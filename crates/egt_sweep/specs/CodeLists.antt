@@ -9,9 +9,9 @@ use Rattle.egt_graph.specs.declared.word_moves.Way.{Way}
 use Rattle.egt_index.specs.Index.{IsVoid}
 use Rattle.egt_index.specs.Size.{size_of}
 use Rattle.egt_index.specs.Numbers.{code_of, places}
-use Rattle.egt_words.specs.Told.{GoesByPawnBy, GoesQuietlyBy, TellsLists}
+use Rattle.egt_words.specs.MoveLists.{GoesByPawnBy, GoesQuietlyBy, TellsLists}
 use Rattle.egt_words.specs.declared.roaming.Roaming.{Roaming}
-use Rattle.egt_words.specs.declared.told.Told.{Told}
+use Rattle.egt_words.specs.declared.move_lists.MoveLists.{MoveLists}
 use Rattle.egt_sweep.specs.CodeGame.{CodeMoves}
 use Rattle.egt_sweep.specs.CodeTests.{pawn_test, quiet_test}
 use Rattle.egt_sweep.specs.declared.code_words.CodeLists.{CodeLists}
@@ -75,7 +75,7 @@ pub record HoldsBelow (c m : ℕ) (lists : CodeLists) : Type 0 where
   pub each : (word : ℕ) → word < m → HoldsWord c lists word
 
 -- the new lists hold what the old ones do, and at the end what is told of one more word
-pub record IsAdded (old new : CodeLists) (nodes indexes : ℕ) (told : Told) : Type 0 where
+pub record IsAdded (old new : CodeLists) (nodes indexes : ℕ) (told : MoveLists) : Type 0 where
   pub nodes_more : new.nodes.items ≡ old.nodes.items ++ nodes ∷ []
   pub indexes_more : new.indexes.items ≡ old.indexes.items ++ indexes ∷ []
   pub staying_more : new.staying.items ≡ old.staying.items ++ told.staying ∷ []

@@ -3,7 +3,7 @@ ghost use Rattle.std.specs.Prelude.{◌≡◌, ◌↔◌, ◌<◌, ℕ, length};
 ghost use Rattle.std.specs.Int.{bit_at};
 ghost use Rattle.egt_graph.specs.Words.{IsIn};
 ghost use Rattle.egt_sweep.specs.CodeLists.{CodesFit};
-ghost use Rattle.egt_words.specs.Told.{GoesByPawnBy};
+ghost use Rattle.egt_words.specs.MoveLists.{GoesByPawnBy};
 
 use crate::code_words::WordCodes;
 use egt_graph::lead_by;

@@ -4,7 +4,7 @@ ghost use Rattle.std.specs.Int.{bit_at};
 ghost use Rattle.egt_board.specs.SquareSet.{Has};
 ghost use Rattle.egt_graph.specs.Words.{IsIn};
 ghost use Rattle.egt_sweep.specs.Roaming.{ComesTo};
-ghost use Rattle.egt_words.specs.Told.{GoesRoaming};
+ghost use Rattle.egt_words.specs.MoveLists.{GoesRoaming};
 
 use egt_board::attack_lines::reach_past;
 use egt_board::{Square, SquareSet};

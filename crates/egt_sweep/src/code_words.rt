@@ -14,7 +14,7 @@ use egt_board::Side;
 use egt_class::Class;
 use egt_graph::{Pushes, TurnedWay, Way, is_in, lead_by, words_of};
 use egt_index::{Rows, ShelfMen, last_digits, positions_of, shelf_men, size};
-use egt_words::{Roaming, Told};
+use egt_words::{Roaming, MoveLists};
 use std::alloc::{AllocError, Global};
 
 /// Where a word's moves begin in the lists of all words; they end where those of the next begin.
@@ -73,7 +73,7 @@ impl CodeLists {
     ghost use Rattle.egt_graph.specs.Words.{words_of};
     ghost use Rattle.egt_sweep.specs.CodeLists.{AreIndexes, HoldsBelow, IsAdded, IsTold, pawn_ways_at, pushes_at, roams_at, turned_at, ways_at};
     ghost use Rattle.egt_index.specs.Numbers.{places};
-    ghost use Rattle.egt_words.specs.Told.{AreNodes, word_of};
+    ghost use Rattle.egt_words.specs.MoveLists.{AreNodes, word_of};
 
     /// The lists of no words. The contract alone reads the class.
     fn nothing(alloc: Global, _class: Class) -> Result<CodeLists, AllocError>
@@ -95,7 +95,7 @@ impl CodeLists {
     }
 
     /// Adds what is told of the next word.
-    fn add(&mut self, nodes: u64, indexes: u64, told: &Told) -> Result<(), AllocError>
+    fn add(&mut self, nodes: u64, indexes: u64, told: &MoveLists) -> Result<(), AllocError>
         ensures { IfOk result (λ _. IsAdded self.old self.new nodes indexes told.now) }
     {
         self.ways.extend_from_slice(told.ways.as_slice())?;
@@ -117,7 +117,7 @@ impl CodeLists {
     /// Tells of the shelf's word with that side to move, which is the next. False where something is not told. What is told of a word is lent.
     fn tell(
         &mut self,
-        told: &mut Told,
+        told: &mut MoveLists,
         class: Class,
         shelf: u32,
         men: &ShelfMen,
@@ -142,7 +142,7 @@ impl CodeLists {
     /// Tells of both words of the shelf.
     fn tell_shelf(
         &mut self,
-        told: &mut Told,
+        told: &mut MoveLists,
         rows: &mut Rows,
         class: Class,
         shelf: u32,
@@ -188,7 +188,7 @@ impl CodeLists {
         ensures { IfOk result (λ done. done ≡ true → HoldsBelow class (2 * shelves) self.new) }
     {
         let mut rows = Rows::new(class);
-        let mut told = Told::nothing();
+        let mut told = MoveLists::nothing();
         for shelf in 0..shelves {
             if !self.tell_shelf(&mut told, &mut rows, class, shelf)? {
                 return Ok(false);
@@ -365,7 +365,7 @@ impl WordCodes<'_> {
     ghost use Rattle.egt_graph.specs.WordMoves.{GoesStraight};
     ghost use Rattle.egt_graph.specs.Words.{IsIn};
     ghost use Rattle.egt_sweep.specs.CodeLists.{CodesFit, GoesWith, RoamsTo};
-    ghost use Rattle.egt_words.specs.Told.{GoesRoamingIf};
+    ghost use Rattle.egt_words.specs.MoveLists.{GoesRoamingIf};
 
     /// From which of the places asked for a pawn who stands on the same square in all positions goes into the marks.
     #[inline(always)]

@@ -12,8 +12,8 @@ use Rattle.egt_index.specs.Numbers.{IsNumbered, places}
 use Rattle.egt_index.specs.Size.{size_of}
 use Rattle.egt_words.specs.Standing.{IsAt}
 use Rattle.egt_words.specs.Steps.{AreSteps, GoesStanding, Keeps, SameBesideSteps, TellsQuiet}
-use Rattle.egt_words.specs.Told.{Quietly}
-use Rattle.egt_words.specs.declared.told.Told.{Told}
+use Rattle.egt_words.specs.MoveLists.{Quietly}
+use Rattle.egt_words.specs.declared.move_lists.MoveLists.{MoveLists}
 
 module _ {X : Type 0} (xs ys : List X) (x : X) (is : ys ≡ xs ++ x ∷ []) where
   pub old_in : (y : X) → Contains xs y → Contains ys y
@@ -25,7 +25,7 @@ module _ {X : Type 0} (xs ys : List X) (x : X) (is : ys ≡ xs ++ x ∷ []) wher
   pub old_or_new : (y : X) → Contains ys y → Contains xs y ⊎ (y ≡ x)
   old_or_new y has = elim (Contains-push_cases xs x y (subst (λ (l : List X). Contains l y) is has)) [ inl before ↦ inl before | inr e ↦ inr (sym e) ]
 
-module _ (c word : ℕ) (old new : Told) where
+module _ (c word : ℕ) (old new : MoveLists) where
   module _ (way : Way) (ways : new.ways.items ≡ old.ways.items ++ way ∷ []) (turned : new.turned.items ≡ old.turned.items) where
     pub way_keeps : Keeps c old new
     way_keeps k j (inl some) = inl (some.0, old_in old.ways.items new.ways.items way ways some.0 some.1, some.2, some.3)
@@ -87,13 +87,13 @@ module _ (c word : ℕ) (old new : Told) where
 
 -- ---- one after the other
 
-pub kept_on : (c : ℕ) (first next last : Told) → Keeps c first next → Keeps c next last → Keeps c first last
+pub kept_on : (c : ℕ) (first next last : MoveLists) → Keeps c first next → Keeps c next last → Keeps c first last
 kept_on c first next last one two k j goes = two k j (one k j goes)
 
-pub told_kept : (c word from to : ℕ) (old new : Told) → Keeps c old new → TellsQuiet c word (GoesStanding c old) from to → TellsQuiet c word (GoesStanding c new) from to
+pub told_kept : (c word from to : ℕ) (old new : MoveLists) → Keeps c old new → TellsQuiet c word (GoesStanding c old) from to → TellsQuiet c word (GoesStanding c new) from to
 told_kept c word from to old new keeps told k p q m at leads quiet from_is to_is =
     let found = told k p q m at leads quiet from_is to_is in
     record { number = found.number; goes = keeps k found.number found.goes; image = found.image; is = found.is; images = found.images }
 
-pub same_on : (first next last : Told) → SameBesideSteps first next → SameBesideSteps next last → SameBesideSteps first last
-same_on first next last one two = two ∙ ap (λ (t : Told). record t { ways = last.ways; turned = last.turned }) one
+pub same_on : (first next last : MoveLists) → SameBesideSteps first next → SameBesideSteps next last → SameBesideSteps first last
+same_on first next last one two = two ∙ ap (λ (t : MoveLists). record t { ways = last.ways; turned = last.turned }) one

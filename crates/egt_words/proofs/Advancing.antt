@@ -37,7 +37,7 @@ use Rattle.egt_check.proofs.Leaping.{LeapsTo, advances_by, advances_two, and_fal
 use Rattle.egt_check.proofs.Pushing.{unlast, untold}
 use Rattle.egt_check.proofs.Still.{KeepsClass, next_rank, one_or_other}
 use Rattle.egt_words.specs.Steps.{IsAdvance, SettlesIn}
-use Rattle.egt_words.specs.Told as told
+use Rattle.egt_words.specs.MoveLists as told
 
 -- ---- squares
 

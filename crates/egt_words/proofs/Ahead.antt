@@ -33,9 +33,9 @@ use Rattle.egt_check.proofs.Pushing.{advances_ahead}
 use Rattle.egt_check.proofs.Still.{KeepsClass}
 use Rattle.egt_words.specs.Standing.{IsAt, IsHeldOn, IsRivalAt, least_of}
 use Rattle.egt_words.specs.Steps.{AreAhead, GoesAhead, IsAdvance, IsLeap, IsLeapWord, IsPassingLeap, IsPawnGoal, IsQuietLeap, IsStepWay, SettlesIn, TellsOpen}
-use Rattle.egt_words.specs.Told.{word_of}
-use Rattle.egt_words.specs.Told as told
-use Rattle.egt_words.specs.declared.told.Told.{Told}
+use Rattle.egt_words.specs.MoveLists.{word_of}
+use Rattle.egt_words.specs.MoveLists as told
+use Rattle.egt_words.specs.declared.move_lists.MoveLists.{MoveLists}
 use Rattle.egt_words.proofs.Adding.{new_in, old_in, old_or_new}
 use Rattle.egt_words.proofs.Advancing.{IsReady, StandsWith, becomes, leap_apart, leaps_back, led_gone, ranks, settles_bare, settles_itself, stays, steps_back, steps_of}
 use Rattle.egt_words.proofs.AtPlace.{below, free_beside, last_stands, off_his, ok, one_listed, one_with}
@@ -76,12 +76,12 @@ few_digits K = omega arith
 
 -- ---- one more way in the list
 
-pub record AddedAhead (c word from to off : ℕ) (old new : Told) : Type 0 where
+pub record AddedAhead (c word from to off : ℕ) (old new : MoveLists) : Type 0 where
   pub steps : AreAhead c word new
   pub kept : (k j : ℕ) → GoesAhead c old k j → GoesAhead c new k j
   pub tells : TellsOpen c word (GoesAhead c new) from to off
 
-module _ (c word from to : ℕ) (way : Way) (old new : Told) (are : AreAhead c word old) (added : new.pawn_ways.items ≡ old.pawn_ways.items ++ way ∷ []) (within : way.word < words_of (places c) (size_of c))
+module _ (c word from to : ℕ) (way : Way) (old new : MoveLists) (are : AreAhead c word old) (added : new.pawn_ways.items ≡ old.pawn_ways.items ++ way ∷ []) (within : way.word < words_of (places c) (size_of c))
     (comes : (k : ℕ) (p r : Setup) → IsAt c word k p → bit_at way.off k ≡ 0 → IsNumbered c (number_at (places c) way.word k) r → told.Advances p r)
     (tells : (k : ℕ) (p q : Setup) (m : Move) → IsAt c word k p → bit_at way.off k ≡ 0 → GoesAhead c new k (number_at (places c) way.word k) → IsAdvance p m q → m.from ≡ from → m.to ≡ to → SettlesIn c (GoesAhead c new k) q) where
   by : (k j : ℕ) (p r : Setup) → IsAt c word k p → IsNumbered c j r → (other : Way) → bit_at other.off k ≡ 0 → j ≡ number_at (places c) other.word k → Contains old.pawn_ways.items other ⊎ (other ≡ way) → told.Advances p r
@@ -196,7 +196,7 @@ module _ (c shelf : ℕ) (men : ShelfMen) (side : Side) (is : IsShelf c shelf me
           (settles_bare p (fine k p at) men.one men.on men.last (k + least_of men) (are k p at) to (steps_of p (fine k p at) men.one men.on men.last (k + least_of men) (are k p at) q m to advance from_is to_is) facts keeps c
           (led_gone p (fine k p at) men.one men.on men.last (k + least_of men) (are k p at) q m to advance from_is to_is) Goes number follows (unready unshut) goes)
 
-    module _ (facts : Facts) (keeps : KeepsClass) (way : TurnedWay) (step : IsStepWay c (word_of shelf side) men.on to (least_of men) way) (none : way.turn ≡ 0) (old new : Told) (old_are : AreAhead c (word_of shelf side) old)
+    module _ (facts : Facts) (keeps : KeepsClass) (way : TurnedWay) (step : IsStepWay c (word_of shelf side) men.on to (least_of men) way) (none : way.turn ≡ 0) (old new : MoveLists) (old_are : AreAhead c (word_of shelf side) old)
         (added : new.pawn_ways.items ≡ old.pawn_ways.items ++ record { word = way.word; off = off } ∷ []) where
       follows : (k : ℕ) (p : Setup) → IsAt c (word_of shelf side) k p → FollowsStep c (code_of c (number_at (places c) way.word k)) men.on to p
       follows k p at =
@@ -232,7 +232,7 @@ module _ (c shelf : ℕ) (men : ShelfMen) (side : Side) (is : IsShelf c shelf me
           (settles_itself p (fine k p at) men.one men.on men.last (k + least_of men) (are k p at) to (steps_of p (fine k p at) men.one men.on men.last (k + least_of men) (are k p at) q m to advance from_is to_is) facts keeps c
           (led_gone p (fine k p at) men.one men.on men.last (k + least_of men) (are k p at) q m to advance from_is to_is) Goes number follows leaps (rival_ready k p at to rival) goes)
 
-    module _ (facts : Facts) (keeps : KeepsClass) (leap_word : ℕ) (leap : IsLeapWord c (word_of shelf side) men.on to (least_of men) leap_word) (old new : Told) (old_are : AreAhead c (word_of shelf side) old)
+    module _ (facts : Facts) (keeps : KeepsClass) (leap_word : ℕ) (leap : IsLeapWord c (word_of shelf side) men.on to (least_of men) leap_word) (old new : MoveLists) (old_are : AreAhead c (word_of shelf side) old)
         (added : new.pawn_ways.items ≡ old.pawn_ways.items ++ record { word = leap_word; off = off } ∷ []) where
       leads : (k : ℕ) (p : Setup) → IsAt c (word_of shelf side) k p → FollowsLeap c (code_of c (number_at (places c) leap_word k)) men.on to p
       leads k p at = leap.follows k p at (off_his c shelf men side is k p at men.one men.on (one_listed c shelf men side is k p at))
@@ -277,7 +277,7 @@ passing held men side to takers within leap takers_are = record {
 }
 
 -- what leads by one of the old ways leads by one of the new
-pub ahead_kept : (c : ℕ) (old new : Told) → ((k j : ℕ) → GoesAhead c old k j → GoesAhead c new k j) → (k : ℕ) (q : Setup) → SettlesIn c (GoesAhead c old k) q → SettlesIn c (GoesAhead c new k) q
+pub ahead_kept : (c : ℕ) (old new : MoveLists) → ((k j : ℕ) → GoesAhead c old k j → GoesAhead c new k j) → (k : ℕ) (q : Setup) → SettlesIn c (GoesAhead c old k) q → SettlesIn c (GoesAhead c new k) q
 ahead_kept c old new keeps k q found = record { number = found.number; goes = keeps k found.number found.goes; image = found.image; is = found.is; alike = found.alike }
 
 -- the places of both sets

@@ -22,7 +22,7 @@ use Rattle.egt_index.proofs.Lined.{all_apart}
 use Rattle.egt_index.proofs.Listing.{listed}
 use Rattle.egt_index.proofs.StepCodes.{told_stands}
 use Rattle.egt_words.specs.Standing.{IsAt, IsHeldOn, least_of, standing}
-use Rattle.egt_words.specs.Told.{word_of}
+use Rattle.egt_words.specs.MoveLists.{word_of}
 use Rattle.egt_words.proofs.Advancing.{StandsWith}
 use Rattle.egt_words.proofs.Places.{number_is}
 

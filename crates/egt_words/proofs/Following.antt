@@ -22,7 +22,7 @@ use Rattle.egt_index.proofs.Carried.{stayed}
 use Rattle.egt_index.proofs.Moved.{untargeted_settled}
 use Rattle.egt_words.specs.Standing.{IsAt, IsWordWith, least_of}
 use Rattle.egt_words.specs.Steps.{IsLeapWord, IsStepWay}
-use Rattle.egt_words.specs.Told.{word_of}
+use Rattle.egt_words.specs.MoveLists.{word_of}
 use Rattle.egt_words.proofs.AtPlace.{below, has}
 use Rattle.egt_words.proofs.Places.{told_at, word_in}
 use Rattle.egt_words.proofs.Turning.{turned_last}

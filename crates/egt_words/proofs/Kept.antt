@@ -29,7 +29,7 @@ use Rattle.egt_check.proofs.Pushing.{unlast}
 use Rattle.egt_check.proofs.Still.{pawn_is}
 use Rattle.egt_words.specs.Standing.{IsAt, IsHeldOn, IsStanding, least_of, standing}
 use Rattle.egt_words.specs.Staying.{IsFoeOn, MayPromote, ReachesPast, StaysAt}
-use Rattle.egt_words.specs.Told.{word_of}
+use Rattle.egt_words.specs.MoveLists.{word_of}
 use Rattle.egt_words.proofs.Advancing.{beside_back}
 use Rattle.egt_words.proofs.AtPlace.{has, last_stands, mover, ok, pawns, taken, who}
 

@@ -19,7 +19,7 @@ use Rattle.egt_index.specs.declared.shelf_codes.ShelfMen.{ShelfMen}
 use Rattle.egt_index.specs.declared.stand.Stand.{Stand}
 use Rattle.egt_index.proofs.Carried.{stayed, went}
 use Rattle.egt_words.specs.Standing.{IsAt, IsWordWith, least_of, standing}
-use Rattle.egt_words.specs.Told.{word_of}
+use Rattle.egt_words.specs.MoveLists.{word_of}
 use Rattle.egt_words.proofs.AtPlace.{has, off_his}
 use Rattle.egt_words.proofs.Following.{CodesFollow, LeapsFollow}
 use Rattle.egt_words.proofs.Places.{told_at}

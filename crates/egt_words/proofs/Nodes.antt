@@ -7,7 +7,7 @@ use Rattle.egt_graph.specs.Words.{number_at}
 use Rattle.egt_index.specs.Numbers.{IsNumbered, places}
 use Rattle.egt_index.specs.ShelfCodes.{ArePositions, AreNumbered}
 use Rattle.egt_index.specs.declared.places.Places.{Places}
-use Rattle.egt_words.specs.Told.{AreNodes, word_of}
+use Rattle.egt_words.specs.MoveLists.{AreNodes, word_of}
 use Rattle.egt_words.proofs.Places.{number_is}
 
 module _ (c shelf : ℕ) where

@@ -14,7 +14,7 @@ use Rattle.egt_index.specs.Size.{size_of}
 use Rattle.egt_index.specs.StepCodes.{TellsMen}
 use Rattle.egt_index.specs.declared.shelf_codes.ShelfMen.{ShelfMen}
 use Rattle.egt_words.specs.Standing.{IsWordWith, least_of}
-use Rattle.egt_words.specs.Told.{word_of}
+use Rattle.egt_words.specs.MoveLists.{word_of}
 
 some_digits : (kind : Kind) → 48 ≤ kind_digits kind
 some_digits Q = omega arith

@@ -30,8 +30,8 @@ use Rattle.egt_check.proofs.Still.{KeepsClass}
 use Rattle.egt_words.specs.Pushing.{IsDouble, IsMet, IsSingle, goes_up}
 use Rattle.egt_words.specs.Standing.{IsAt, IsHeldOn, IsWordWith, least_of}
 use Rattle.egt_words.specs.Steps.{ArePushes, IsAdvance, SettlesIn}
-use Rattle.egt_words.specs.Told.{word_of}
-use Rattle.egt_words.specs.Told as told
+use Rattle.egt_words.specs.MoveLists.{word_of}
+use Rattle.egt_words.specs.MoveLists as told
 use Rattle.egt_words.proofs.Advancing.{IsReady, StandsWith, becomes, beside_back, leap_apart, leaps_back, led_gone, settles_bare, settles_itself, stays, steps_back, steps_of}
 use Rattle.egt_words.proofs.Ahead.{next_apart, not_both, one_beyond}
 use Rattle.egt_words.proofs.AtPlace.{below, free_beside, last_with, ok, taken}

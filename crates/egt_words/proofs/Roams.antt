@@ -23,7 +23,7 @@ use Rattle.egt_moves.specs.declared.chess_move.Move.{Move}
 use Rattle.egt_check.specs.Roamer.{GoesFree}
 use Rattle.egt_words.specs.Standing.{IsAt, IsHeldOn, IsWordWith, least_of}
 use Rattle.egt_words.specs.Steps.{ComesTo, IsRoaming}
-use Rattle.egt_words.specs.Told.{GoesRoaming, Quietly, word_of}
+use Rattle.egt_words.specs.MoveLists.{GoesRoaming, Quietly, word_of}
 use Rattle.egt_words.specs.declared.roaming.Roaming.{Roaming}
 use Rattle.egt_words.proofs.AtPlace.{free_beside, last_stands, mover, ok}
 use Rattle.egt_words.proofs.Following.{CodesFollow, numbered}

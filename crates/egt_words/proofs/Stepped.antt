@@ -17,8 +17,8 @@ use Rattle.egt_index.specs.declared.shelf_codes.ShelfMen.{ShelfMen}
 use Rattle.egt_check.specs.Fan.{IsGoal}
 use Rattle.egt_words.specs.Standing.{IsHeldOn, IsStanding, least_of}
 use Rattle.egt_words.specs.Steps.{AddsOne, AddsShut, AreSteps, GoesStanding, IsStepWay, Keeps, TellsQuiet}
-use Rattle.egt_words.specs.Told.{word_of}
-use Rattle.egt_words.specs.declared.told.Told.{Told}
+use Rattle.egt_words.specs.MoveLists.{word_of}
+use Rattle.egt_words.specs.declared.move_lists.MoveLists.{MoveLists}
 use Rattle.egt_words.proofs.Adding.{turn_goes, turn_keeps, turn_steps, way_goes, way_keeps, way_steps}
 use Rattle.egt_words.proofs.Stepping.{QuietMoves, comes, goes_along, goes_unshut, king_goes, leads, unshut_goes}
 
@@ -27,14 +27,14 @@ pub unturned : (k : ℕ) → turned_place 0 k ≡ k
 unfolding turned_place
 unturned k = refl
 
-pub record Stepped (c word from to : ℕ) (told : Bool) (old new : Told) : Type 0 where
+pub record Stepped (c word from to : ℕ) (told : Bool) (old new : MoveLists) : Type 0 where
   pub steps : AreSteps c word new
   pub keeps : Keeps c old new
   pub tells : told ≡ true → TellsQuiet c word (GoesStanding c new) from to
 
 module _ (c shelf : ℕ) (men : ShelfMen) (side : Side) (is : IsShelf c shelf men) (man : Man) (from to : ℕ) (still : IsStanding men side man from) (piece : man.kind ≢ P)
     (held : SquareSet) (held_is : (t : ℕ) → Has held t ↔ IsHeldOn men t) (goal : IsGoal held man from to) (law : QuietMoves) (way : TurnedWay) (step : IsStepWay c (word_of shelf side) from to (least_of men) way)
-    (old new : Told) (are : AreSteps c (word_of shelf side) old) where
+    (old new : MoveLists) (are : AreSteps c (word_of shelf side) old) where
   abbrev word : ℕ
   word = word_of shelf side
 
@@ -42,7 +42,7 @@ module _ (c shelf : ℕ) (men : ShelfMen) (side : Side) (is : IsShelf c shelf me
   refused : new ≡ old → Stepped c word from to false old new
   refused same = record {
     steps = subst (AreSteps c word) (sym same) are;
-    keeps = λ k j goes. subst (λ (t : Told). GoesStanding c t k j) (sym same) goes;
+    keeps = λ k j goes. subst (λ (t : MoveLists). GoesStanding c t k j) (sym same) goes;
     tells = λ e. absurd (false≢true e);
   }
 
@@ -73,7 +73,7 @@ module _ (c shelf : ℕ) (men : ShelfMen) (side : Side) (is : IsShelf c shelf me
       here = record { word = way.word; off = off }
 
       turned_is : new.turned.items ≡ old.turned.items
-      turned_is = ap (λ (t : Told). t.turned.items) same
+      turned_is = ap (λ (t : MoveLists). t.turned.items) same
 
       at_place : (k : ℕ) → number_at (places c) way.word k ≡ at_number k
       at_place k = ap (number_at (places c) way.word) (sym (ap (λ n. turned_place n k) none ∙ unturned k))
@@ -97,7 +97,7 @@ module _ (c shelf : ℕ) (men : ShelfMen) (side : Side) (is : IsShelf c shelf me
   }
     where
       ways_is : new.ways.items ≡ old.ways.items
-      ways_is = ap (λ (t : Told). t.ways.items) same
+      ways_is = ap (λ (t : MoveLists). t.ways.items) same
 
   pub straight_if : (told : Bool) → way.turn ≡ 0 → new ≡ record old { ways = new.ways } → (told ≡ false → new.ways ≡ old.ways) → (told ≡ true → AddsShut man from to (least_of men) way.word old.ways.items new.ways.items) → Stepped c word from to told old new
   straight_if true none same full added = straight none same (added refl)

@@ -30,7 +30,7 @@ use Rattle.egt_check.specs.Fan.{IsGoal}
 use Rattle.egt_check.proofs.Fanned.{king_reaches}
 use Rattle.egt_words.specs.Standing.{IsAt, IsHeldOn, IsStanding, least_of}
 use Rattle.egt_words.specs.Steps.{IsStepWay}
-use Rattle.egt_words.specs.Told.{Quietly, word_of}
+use Rattle.egt_words.specs.MoveLists.{Quietly, word_of}
 use Rattle.egt_words.proofs.AtPlace.{free_beside, held_by, last_stands, mover, off_his, ok, stands, taken}
 use Rattle.egt_words.proofs.Following.{numbered}
 use Rattle.egt_words.proofs.Quiet.{quietly, reached}

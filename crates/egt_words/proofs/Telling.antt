@@ -25,9 +25,9 @@ use Rattle.egt_moves.specs.declared.chess_move.Move.{Move}
 use Rattle.egt_words.specs.Standing.{IsAt, king_square_of, least_of}
 use Rattle.egt_words.specs.Staying.{StaysAt}
 use Rattle.egt_words.specs.Steps.{AreAhead, AreNoPushes, ArePushes, AreSteps, ComesTo, GoesAhead, GoesStanding, IsAdvance, IsClear, IsRoaming, SameBesideSteps, SettlesIn, TellsAdvance, TellsLast, TellsOne, TellsQuiet}
-use Rattle.egt_words.specs.Told.{AreNodes, Fits, GoesByPawn, GoesQuietly, GoesRoamingIf, SpellsAt, TellsWord, word_of}
+use Rattle.egt_words.specs.MoveLists.{AreNodes, Fits, GoesByPawn, GoesQuietly, GoesRoamingIf, SpellsAt, TellsWord, word_of}
 use Rattle.egt_words.specs.declared.roaming.Roaming.{Roaming}
-use Rattle.egt_words.specs.declared.told.Told.{Told}
+use Rattle.egt_words.specs.declared.move_lists.MoveLists.{MoveLists}
 use Rattle.egt_words.proofs.AtPlace.{last_stands, mover, ok, one_listed, stands, who}
 use Rattle.egt_words.proofs.Kept.{no_capture, no_promotion_at_all}
 use Rattle.egt_words.proofs.Places.{word_within}
@@ -36,10 +36,10 @@ use Rattle.egt_words.proofs.Stays.{king_no_pawn, king_or_one}
 
 -- ---- what other men's moves leave as it was
 
-pub steps_same : (c word : ℕ) (old new : Told) → new ≡ record old { pawn_ways = new.pawn_ways } → AreSteps c word old → AreSteps c word new
+pub steps_same : (c word : ℕ) (old new : MoveLists) → new ≡ record old { pawn_ways = new.pawn_ways } → AreSteps c word old → AreSteps c word new
 steps_same c word old new same are = subst (AreSteps c word) (sym same) (record { ways = are.ways; turned = are.turned; turns = are.turns; quiet = are.quiet })
 
-pub ahead_same : (c word : ℕ) (old new : Told) → SameBesideSteps old new → AreAhead c word old → AreAhead c word new
+pub ahead_same : (c word : ℕ) (old new : MoveLists) → SameBesideSteps old new → AreAhead c word old → AreAhead c word new
 ahead_same c word old new same are = subst (AreAhead c word) (sym same) (record { ways = are.ways; advances = are.advances })
 
 none_in : {X : Type 0} (xs : List X) (x : X) → xs ≡ [] → Contains xs x → ⊥
@@ -58,13 +58,13 @@ piece_ahead p q m man from there piece advance from_is =
     piece (ap (λ (x : Man). x.kind) (one_man p.men m.from man pawn.man (subst (λ s. Stands p.men s man) (sym from_is) there) pawn.stands) ∙ pawn.pawn)
 
 module _ (c shelf : ℕ) (men : ShelfMen) (side : Side) (is : IsShelf c shelf men) where
-  pub pawn_told : (told : Told) → men.one.kind ≡ P → ((t : ℕ) → TellsAdvance c (word_of shelf side) (GoesAhead c told) men.on t) → TellsOne c (word_of shelf side) men told
+  pub pawn_told : (told : MoveLists) → men.one.kind ≡ P → ((t : ℕ) → TellsAdvance c (word_of shelf side) (GoesAhead c told) men.on t) → TellsOne c (word_of shelf side) men told
   pawn_told told pawn advances = record {
     quiet = λ t k p q m at leads quiet from_is to_is. absurd (quiet_pawn p q m men.one men.on (stands c shelf men side is k p at men.one men.on (one_listed c shelf men side is k p at)) pawn quiet from_is);
     advances = advances;
   }
 
-  pub piece_told : (told : Told) → men.one.kind ≢ P → ((t : ℕ) → TellsQuiet c (word_of shelf side) (GoesStanding c told) men.on t) → TellsOne c (word_of shelf side) men told
+  pub piece_told : (told : MoveLists) → men.one.kind ≢ P → ((t : ℕ) → TellsQuiet c (word_of shelf side) (GoesStanding c told) men.on t) → TellsOne c (word_of shelf side) men told
   piece_told told piece quiet = record {
     quiet = quiet;
     advances = λ t k p q m at advance from_is to_is. absurd (piece_ahead p q m men.one men.on (stands c shelf men side is k p at men.one men.on (one_listed c shelf men side is k p at)) piece advance from_is);
@@ -154,7 +154,7 @@ module _ (c shelf : ℕ) (men : ShelfMen) (side : Side) (is : IsShelf c shelf me
         let at = at_node k found.0 node found.1 in
         (ok c shelf men side is k found.0 at).pawns men.on men.one (stands c shelf men side is k found.0 at men.one men.on (one_listed c shelf men side is k found.0 at))
 
-    module _ (told : Told) (steps : AreSteps c (word_of shelf side) told) (ahead : AreAhead c (word_of shelf side) told) (last : TellsLast c (word_of shelf side) men side told.pushes told.roams)
+    module _ (told : MoveLists) (steps : AreSteps c (word_of shelf side) told) (ahead : AreAhead c (word_of shelf side) told) (last : TellsLast c (word_of shelf side) men side told.pushes told.roams)
         (king : (t : ℕ) → TellsQuiet c (word_of shelf side) (GoesStanding c told) (king_square_of men side) t) (one : men.one.side ≡ side → TellsOne c (word_of shelf side) men told)
         (within : (k : ℕ) → bit_at told.staying k ≡ 1 → bit_at nodes k ≡ 1) (stay : (k : ℕ) → bit_at told.staying k ≡ 1 → StaysAt men side k) where
       abbrev ToImage : ℕ → Setup → Type 0
@@ -232,7 +232,7 @@ module _ (c shelf : ℕ) (men : ShelfMen) (side : Side) (is : IsShelf c shelf me
       }
 
   -- where there is none nothing is to be told
-  pub tells_none : IsWithin c shelf → (nodes : ℕ) → AreNodes c (word_of shelf side) nodes → ((k : ℕ) → bit_at nodes k ≡ 0) → (told : Told) → IsClear told → TellsWord c (word_of shelf side) nodes told
+  pub tells_none : IsWithin c shelf → (nodes : ℕ) → AreNodes c (word_of shelf side) nodes → ((k : ℕ) → bit_at nodes k ≡ 0) → (told : MoveLists) → IsClear told → TellsWord c (word_of shelf side) nodes told
   tells_none within nodes are none told clear = record {
     nodes_are = are;
     quiet = λ k j p r node. absurd (off k node);

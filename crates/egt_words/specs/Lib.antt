@@ -1,4 +1,4 @@
-pub mod Told
+pub mod MoveLists
 pub mod Standing
 pub mod Steps
 pub mod Pushing

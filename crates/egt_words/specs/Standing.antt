@@ -12,7 +12,7 @@ use Rattle.egt_index.specs.Scales.{kind_less}
 use Rattle.egt_index.specs.ShelfCodes.{IsShelf, IsWithin}
 use Rattle.egt_index.specs.Spelled.{IsListed}
 use Rattle.egt_index.specs.declared.shelf_codes.ShelfMen.{ShelfMen}
-use Rattle.egt_words.specs.Told.{SpellsAt, word_of}
+use Rattle.egt_words.specs.MoveLists.{SpellsAt, word_of}
 
 -- p is the position at the place
 pub record IsAt (c word k : ℕ) (p : Setup) : Type 0 where

@@ -26,9 +26,9 @@ use Rattle.egt_moves.specs.Exchange.{Captures}
 use Rattle.egt_moves.specs.Legal.{Leads}
 use Rattle.egt_moves.specs.declared.chess_move.Move.{Move}
 use Rattle.egt_words.specs.Standing.{IsAt, IsRivalAt, least_of}
-use Rattle.egt_words.specs.Told.{Advances, GoesRoaming, GoesRoamingIf, Quietly}
+use Rattle.egt_words.specs.MoveLists.{Advances, GoesRoaming, GoesRoamingIf, Quietly}
 use Rattle.egt_words.specs.declared.roaming.Roaming.{Roaming}
-use Rattle.egt_words.specs.declared.told.Told.{Told}
+use Rattle.egt_words.specs.declared.move_lists.MoveLists.{MoveLists}
 
 -- the step leads from each place, if the last man does not stand on `from` there, to the turned place of the other word
 pub record IsStepWay (c word from to least : ℕ) (way : TurnedWay) : Type 0 where
@@ -75,22 +75,22 @@ abbrev pub TellsLastQuiet : (c word least : ℕ) → (ℕ → ℕ → Type 0) �
 TellsLastQuiet c word least Goes = (k : ℕ) (p q : Setup) (m : Move) → IsAt c word k p → Leads p m q → ¬ Zeroes p m → m.from ≡ k + least → ComesTo c (Goes k) q
 
 -- the moves of men who stand still and are no pawns
-abbrev pub GoesStanding : ℕ → Told → (k j : ℕ) → Type 0
+abbrev pub GoesStanding : ℕ → MoveLists → (k j : ℕ) → Type 0
 GoesStanding c told k j = GoesStraight (places c) k j told.ways.items ⊎ GoesTurned (places c) k j told.turned.items
 
 -- all of these are of words of the class, and of moves that do not zero
-pub record AreSteps (c word : ℕ) (told : Told) : Type 0 where
+pub record AreSteps (c word : ℕ) (told : MoveLists) : Type 0 where
   pub ways : (way : Way) → Contains told.ways.items way → way.word < words_of (places c) (size_of c)
   pub turned : (way : TurnedWay) → Contains told.turned.items way → way.word < words_of (places c) (size_of c)
   pub turns : FitsTurns (places c) told.turned.items
   pub quiet : AreQuiet c word (GoesStanding c told)
 
 -- nothing that was told is lost
-abbrev pub Keeps : ℕ → (old new : Told) → Type 0
+abbrev pub Keeps : ℕ → (old new : MoveLists) → Type 0
 Keeps c old new = (k j : ℕ) → GoesStanding c old k j → GoesStanding c new k j
 
 -- the same but for the steps of these men
-abbrev pub SameBesideSteps : (old new : Told) → Type 0
+abbrev pub SameBesideSteps : (old new : MoveLists) → Type 0
 SameBesideSteps old new = new ≡ record old { ways = new.ways; turned = new.turned }
 
 -- ---- advances of pawns
@@ -127,11 +127,11 @@ abbrev pub TellsLastAdvances : (c word least : ℕ) → (ℕ → ℕ → Type 0)
 TellsLastAdvances c word least Goes = (k : ℕ) (p q : Setup) (m : Move) → IsAt c word k p → IsAdvance p m q → m.from ≡ k + least → SettlesIn c (Goes k) q
 
 -- the advances of a pawn who stands still
-abbrev pub GoesAhead : ℕ → Told → (k j : ℕ) → Type 0
+abbrev pub GoesAhead : ℕ → MoveLists → (k j : ℕ) → Type 0
 GoesAhead c told k j = GoesStraight (places c) k j told.pawn_ways.items
 
 -- all of these are of words of the class, and of advances
-pub record AreAhead (c word : ℕ) (told : Told) : Type 0 where
+pub record AreAhead (c word : ℕ) (told : MoveLists) : Type 0 where
   pub ways : (way : Way) → Contains told.pawn_ways.items way → way.word < words_of (places c) (size_of c)
   pub advances : AreAdvances c word (GoesAhead c told)
 
@@ -183,7 +183,7 @@ pub record IsRoaming (c word : ℕ) (men : ShelfMen) (roaming : Roaming) : Type 
 -- ---- the men together
 
 -- all moves of the man beside the kings who stands still are told, if he is of the side to move
-pub record TellsOne (c word : ℕ) (men : ShelfMen) (told : Told) : Type 0 where
+pub record TellsOne (c word : ℕ) (men : ShelfMen) (told : MoveLists) : Type 0 where
   pub quiet : (t : ℕ) → TellsQuiet c word (GoesStanding c told) men.on t
   pub advances : (t : ℕ) → TellsAdvance c word (GoesAhead c told) men.on t
 
@@ -198,7 +198,7 @@ pub record TellsLast (c word : ℕ) (men : ShelfMen) (side : Side) (pushes : Pus
   pub all_advances : men.last.side ≡ side → TellsLastAdvances c word (least_of men) (λ k j. GoesPushed (places c) k j pushes)
 
 -- the same but for the moves of who stands still
-abbrev pub SameBesideStanding : (old new : Told) → Type 0
+abbrev pub SameBesideStanding : (old new : MoveLists) → Type 0
 SameBesideStanding old new = new ≡ record old { ways = new.ways; turned = new.turned; pawn_ways = new.pawn_ways }
 
 -- no push and no leap leads anywhere
@@ -210,7 +210,7 @@ pub record AreNoPushes (pushes : Pushes) : Type 0 where
   pub leaps : pushes.leaps ≡ 0
 
 -- nothing is told of moves
-pub record IsClear (told : Told) : Type 0 where
+pub record IsClear (told : MoveLists) : Type 0 where
   pub ways : told.ways.items ≡ []
   pub turned : told.turned.items ≡ []
   pub pawn_ways : told.pawn_ways.items ≡ []

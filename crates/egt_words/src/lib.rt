@@ -8,8 +8,8 @@ mod roaming;
 mod standing;
 mod staying;
 mod steps;
-mod told;
+mod move_lists;
 mod word;
 
 pub use roaming::Roaming;
-pub use told::Told;
+pub use move_lists::MoveLists;

@@ -12,7 +12,7 @@ ghost use Rattle.egt_words.specs.Standing.{IsHeldOn};
 
 use crate::standing::{held, places_on, rivals_at};
 use crate::steps::{leap_to, step_to};
-use crate::told::Told;
+use crate::move_lists::MoveLists;
 use egt_board::{Man, Side, Square, SquareSet};
 use egt_check::facts::facts;
 use egt_class::Class;
@@ -39,9 +39,9 @@ fn place_on(square: Square, last: Man) -> u64
     places_on(SquareSet::EMPTY.with(square), last)
 }
 
-impl Told {
+impl MoveLists {
     ghost use Rattle.egt_words.specs.Steps.{AreAhead, GoesAhead, IsLeap, IsPassingLeap, IsPawnGoal, TellsAdvance, TellsOpen};
-    ghost use Rattle.egt_words.specs.Told.{word_of};
+    ghost use Rattle.egt_words.specs.MoveLists.{word_of};
 
     /// Adds an advance after which there is no target, which does not lead from the places of `off`. False where it is not told. The contract alone reads
     /// the shelf and `_held`.

@@ -9,7 +9,7 @@ ghost use Rattle.egt_index.specs.Size.{size_of};
 ghost use Rattle.egt_words.specs.Pushing.{IsDouble, IsSingle, LeadsInto, goes_up};
 ghost use Rattle.egt_words.specs.Standing.{IsWordWith};
 ghost use Rattle.egt_words.specs.Steps.{ArePushes};
-ghost use Rattle.egt_words.specs.Told.{word_of};
+ghost use Rattle.egt_words.specs.MoveLists.{word_of};
 
 use crate::standing::{held, rivals_beside};
 use crate::word::word_with;

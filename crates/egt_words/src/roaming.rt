@@ -22,7 +22,7 @@ pub struct Roaming {
 
 impl Roaming {
     ghost use Rattle.egt_words.specs.Steps.{IsRoaming};
-    ghost use Rattle.egt_words.specs.Told.{word_of};
+    ghost use Rattle.egt_words.specs.MoveLists.{word_of};
 
     /// The last man of the shelf, a piece of the side to move. `None` where no shelf has the positions after he went. The contract alone reads the shelf.
     pub(crate) fn of(class: Class, _shelf: u32, men: &ShelfMen, side: Side) -> Option<Roaming>

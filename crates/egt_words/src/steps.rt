@@ -7,10 +7,10 @@ ghost use Rattle.egt_index.specs.ShelfCodes.{IsShelf};
 ghost use Rattle.egt_check.specs.Fan.{IsGoal};
 ghost use Rattle.egt_words.specs.Standing.{IsHeldOn, IsStanding, least_of};
 ghost use Rattle.egt_words.specs.Steps.{AreShut, IsLeapWord, IsStepWay};
-ghost use Rattle.egt_words.specs.Told.{word_of};
+ghost use Rattle.egt_words.specs.MoveLists.{word_of};
 
 use crate::standing::{held, places_on};
-use crate::told::Told;
+use crate::move_lists::MoveLists;
 use crate::word::word_with;
 use egt_board::attack_lines::{reach_past, stops};
 use egt_board::{Kind, Man, Side, Square, SquareSet};
@@ -71,7 +71,7 @@ pub(crate) fn off(man: Man, from: Square, to: Square, last: Man) -> u64
     places_on(stops(man, from, to, SquareSet::EMPTY).less(from), last)
 }
 
-impl Told {
+impl MoveLists {
     ghost use Rattle.egt_words.specs.Steps.{AddsOne, AddsShut, AreSteps, GoesStanding, Keeps, SameBesideSteps, TellsQuiet};
 
     /// Adds a step that changes no place. False where there is no room.

@@ -2,7 +2,7 @@
 ghost use Rattle.std.specs.Prelude.{◌≡◌, ◌^◌, ◌<◌, IfSome};
 ghost use Rattle.egt_index.specs.ShelfCodes.{AreMenOf};
 ghost use Rattle.egt_words.specs.Standing.{IsWordWith};
-ghost use Rattle.egt_words.specs.Told.{word_of};
+ghost use Rattle.egt_words.specs.MoveLists.{word_of};
 
 use egt_board::Side;
 use egt_class::Class;

@@ -1,7 +1,7 @@
 use Rattle.std.proofs.Common.{sym, subst}
 use Rattle.egt_board.specs.declared.man.Side.{Side}
 use Rattle.egt_index.proofs.ShelfCodes.{last_told}
-use Rattle.egt_words.specs.Told.{AreNodes, word_of}
+use Rattle.egt_words.specs.MoveLists.{AreNodes, word_of}
 use Rattle.egt_words.proofs.Nodes.{black_nodes, white_nodes}
 use Rattle.egt_builder_tests.proofs.words.nodes_of.Goals as goal
 

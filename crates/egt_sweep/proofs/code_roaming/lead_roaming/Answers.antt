@@ -3,7 +3,7 @@ use Rattle.std.specs.Int.{bit_at}
 use Rattle.std.proofs.lemmas.Nat.Bits.{bit_at-zero}
 use Rattle.egt_board.specs.declared.square_set.SquareSet.{SquareSet}
 use Rattle.egt_graph.specs.Words.{IsIn, IsIn-number_at, number_at}
-use Rattle.egt_words.specs.Told.{GoesRoaming}
+use Rattle.egt_words.specs.MoveLists.{GoesRoaming}
 use Rattle.egt_words.specs.declared.roaming.Roaming.{Roaming}
 use Rattle.egt_sweep.specs.Roaming.{ComesTo}
 use Rattle.egt_sweep.proofs.Comes.{on_board}

@@ -1,5 +1,5 @@
 use Rattle.std.proofs.Common.{rules}
-use Rattle.egt_words.specs.Told.{word_of}
+use Rattle.egt_words.specs.MoveLists.{word_of}
 use Rattle.egt_sweep.proofs.CodeLists.{holds_one_more}
 use Rattle.egt_sweep.proofs.code_words.CodeLists.tell.Goals as goal
 

@@ -2,7 +2,7 @@ use Rattle.std.proofs.Common.{◌≡◌, ◌⊎◌, ℕ, if◌then◌else◌, tr
 use Rattle.std.proofs.lemmas.Nat.{or_lt}
 use Rattle.egt_graph.specs.WordMoves.{GoesByWord, GoesStraight}
 use Rattle.egt_graph.proofs.Leading.{by_both, left_within}
-use Rattle.egt_words.specs.Told.{GoesRoamingIf}
+use Rattle.egt_words.specs.MoveLists.{GoesRoamingIf}
 use Rattle.egt_sweep.proofs.CodeTests.{goes_sorts}
 use Rattle.egt_sweep.proofs.code_words.WordCodes.lead.Goals as goal
 use Rattle.egt_sweep.proofs.code_words.WordCodes.lead.Goals.{then-pawns, else-pawns}

@@ -1,6 +1,6 @@
 use Rattle.std.proofs.Common.{ℕ, [], Some, inl, inr, arith}
 use Rattle.egt_graph.specs.WordMoves.{GoesByWord}
-use Rattle.egt_words.specs.Told.{GoesByPawnBy}
+use Rattle.egt_words.specs.MoveLists.{GoesByPawnBy}
 use Rattle.egt_sweep.proofs.code_words.WordCodes.lead_pawns.Goals as goal
 
 pub returns : goal.returns

@@ -20,7 +20,7 @@ use Rattle.egt_moves.specs.Exchange.{Captures}
 use Rattle.egt_moves.specs.Legal.{Leads}
 use Rattle.egt_moves.specs.declared.chess_move.Move.{Move}
 use Rattle.egt_words.specs.declared.roaming.Roaming.{Roaming}
-use Rattle.egt_words.specs.declared.told.Told.{Told}
+use Rattle.egt_words.specs.declared.move_lists.MoveLists.{MoveLists}
 
 -- the word of a shelf's numbers with that side to move
 abbrev pub word_of : ℕ → Side → ℕ
@@ -68,14 +68,14 @@ GoesRoamingIf span k j (Some roaming) = GoesRoaming span k j roaming
 abbrev pub GoesQuietlyBy : (span k j : ℕ) → List Way → List TurnedWay → Option Roaming → Type 0
 GoesQuietlyBy span k j ways turned roams = (GoesStraight span k j ways ⊎ GoesTurned span k j turned) ⊎ GoesRoamingIf span k j roams
 
-abbrev pub GoesQuietly : (span k j : ℕ) → Told → Type 0
+abbrev pub GoesQuietly : (span k j : ℕ) → MoveLists → Type 0
 GoesQuietly span k j told = GoesQuietlyBy span k j told.ways.items told.turned.items told.roams
 
 -- a pawn's move does
 abbrev pub GoesByPawnBy : (span k j : ℕ) → List Way → Pushes → Type 0
 GoesByPawnBy span k j pawn_ways pushes = GoesStraight span k j pawn_ways ⊎ GoesPushed span k j pushes
 
-abbrev pub GoesByPawn : (span k j : ℕ) → Told → Type 0
+abbrev pub GoesByPawn : (span k j : ℕ) → MoveLists → Type 0
 GoesByPawn span k j told = GoesByPawnBy span k j told.pawn_ways.items told.pushes
 
 -- all words are of the class, and no move leads past the places
@@ -88,7 +88,7 @@ pub record Fit (c : ℕ) (ways : List Way) (turned : List TurnedWay) (pawn_ways 
   pub pushed : FitsPushes (places c) pushes
   pub roam_word : IfSome roams (λ roaming. (places c ≡ 64) × (roaming.word < words_of (places c) (size_of c)))
 
-abbrev pub Fits : (c : ℕ) → Told → Type 0
+abbrev pub Fits : (c : ℕ) → MoveLists → Type 0
 Fits c told = Fit c told.ways.items told.turned.items told.pawn_ways.items told.pushes told.roams
 
 -- these are the moves from the word's positions that stay in the class, each to a number of an image of where it leads; at the places of `staying` no
@@ -105,5 +105,5 @@ pub record TellsLists (c word nodes staying : ℕ) (ways : List Way) (turned : L
   pub staying_nodes : (k : ℕ) → bit_at staying k ≡ 1 → bit_at nodes k ≡ 1
   pub stays : (k : ℕ) (p q : Setup) (m : Move) → bit_at staying k ≡ 1 → SpellsAt c word k p → Leads p m q → ¬ Captures p m × (m.promo ≡ None)
 
-abbrev pub TellsWord : (c word nodes : ℕ) → Told → Type 0
+abbrev pub TellsWord : (c word nodes : ℕ) → MoveLists → Type 0
 TellsWord c word nodes told = TellsLists c word nodes told.staying told.ways.items told.turned.items told.pawn_ways.items told.pushes told.roams

@@ -16,7 +16,7 @@ use egt_index::ShelfMen;
 
 /// The moves from all positions of a word.
 #[derive(Drop)]
-pub struct Told {
+pub struct MoveLists {
     /// The moves that do not zero of the men who stand on the same squares in all positions.
     pub ways: ArrayVec<Way, 56>,
     /// Those of the white king after which a turn brings him home.
@@ -31,15 +31,15 @@ pub struct Told {
     pub staying: u64,
 }
 
-impl Told {
+impl MoveLists {
     ghost use Rattle.egt_words.specs.Steps.{AreAhead, AreNoPushes, AreSteps, GoesAhead, GoesStanding, IsClear, Keeps, SameBesideStanding, TellsLast, TellsOne};
-    ghost use Rattle.egt_words.specs.Told.{AreNodes, TellsWord, word_of};
+    ghost use Rattle.egt_words.specs.MoveLists.{AreNodes, TellsWord, word_of};
 
     /// Nothing is told.
-    pub fn nothing() -> Told
+    pub fn nothing() -> MoveLists
         ensures { IsClear result }
     {
-        Told {
+        MoveLists {
             ways: ArrayVec::new(),
             turned: ArrayVec::new(),
             pawn_ways: ArrayVec::new(),
