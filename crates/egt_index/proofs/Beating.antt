@@ -25,7 +25,7 @@ use Rattle.egt_index.specs.Index.{IsIndex}
 use Rattle.egt_index.specs.Size.{base_of, bases, king_base, men_bases, men_beside, has_pawns, has_target}
 use Rattle.egt_index.specs.Stood.{HasStand, list_of, AllStand, on_square_of}
 use Rattle.egt_index.specs.Turns.{IsTurn, CodeAfter}
-use Rattle.egt_index.specs.declared.beaten.Coded.{Coded}
+use Rattle.egt_index.specs.declared.least_code.Coded.{Coded}
 use Rattle.egt_index.specs.declared.stand.Stand.{Stand}
 use Rattle.egt_index.proofs.Best.{code_found, turn_number, turn_of}
 use Rattle.egt_index.proofs.Classes.{image_in_colours}

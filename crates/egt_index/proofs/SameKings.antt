@@ -2,7 +2,7 @@
 use Rattle.std.proofs.Common.{◌≡◌, ℕ, Option, Some, None, sym, ap, ◌∙◌, subst}
 use Rattle.egt_index.specs.Beaten.{AnswersFor}
 use Rattle.egt_index.specs.Stood.{Entry, on_square_of}
-use Rattle.egt_index.specs.declared.beaten.Coded.{Coded}
+use Rattle.egt_index.specs.declared.least_code.Coded.{Coded}
 use Rattle.egt_index.specs.declared.stand.Stand.{Stand}
 
 pub kings_answered : (asked : Option Coded) (stand other : Stand) → AnswersFor asked stand other → (other.white ≡ stand.white) × (other.black ≡ stand.black)

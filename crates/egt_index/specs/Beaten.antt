@@ -9,7 +9,7 @@ use Rattle.egt_index.specs.Home.{BringsHome}
 use Rattle.egt_index.specs.Size.{has_pawns}
 use Rattle.egt_index.specs.Stood.{Entry, HasStand, list_of}
 use Rattle.egt_index.specs.Turns.{IsTurn}
-use Rattle.egt_index.specs.declared.beaten.Coded.{Coded}
+use Rattle.egt_index.specs.declared.least_code.Coded.{Coded}
 use Rattle.egt_index.specs.declared.stand.Stand.{Stand}
 
 -- the code spells p by the digits of the men on these squares

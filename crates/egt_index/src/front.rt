@@ -2,7 +2,7 @@
 //! codes follow one another.
 ghost use Rattle.egt_index.specs.Front.{IsFrontOf};
 
-use crate::beaten::{Told, told_in_order};
+use crate::least_code::{Leastness, told_in_order};
 use crate::facts::facts;
 use crate::spelling::{board_of, stand_before};
 use crate::stand::{Stand, are_apart, are_kings_near};
@@ -34,9 +34,9 @@ pub(crate) fn front_of(class: Class, number: u32) -> Option<Front>
         return None;
     }
     let tied = match told_in_order(class, &stand, None) {
-        Told::Beaten => return None,
-        Told::Least => false,
-        Told::Tied => true,
+        Leastness::Beaten => return None,
+        Leastness::Least => false,
+        Leastness::Tied => true,
     };
     let board = board_of(&stand);
     Some(Front { stand, board, tied })

@@ -1,7 +1,7 @@
 //! Codes of positions: one number for all images of a position, so that a table has one entry for them.
 #![tactic(auto)]
 
-pub mod beaten;
+pub mod least_code;
 pub mod codes;
 pub mod digits;
 pub mod facts;

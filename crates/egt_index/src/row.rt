@@ -10,7 +10,7 @@ ghost use Rattle.egt_index.specs.Index.{IsIndex, IsVoid};
 ghost use Rattle.egt_index.specs.Row.{row_len, IsInRow, IsRow, IsRowOf};
 ghost use Rattle.egt_index.specs.Stood.{HasStand};
 
-use crate::beaten::is_least;
+use crate::least_code::is_least;
 use crate::facts::facts;
 use crate::front::{Front, front_of};
 use crate::men::has_target;

@@ -1,7 +1,7 @@
 use Rattle.std.proofs.Common.{refl}
 use Rattle.egt_words.specs.MoveLists.{word_of}
 use Rattle.egt_words.proofs.Ahead.{AddedAhead, added_quiet}
-use Rattle.egt_words.proofs.told.MoveLists.add_advance.Goals as goal
+use Rattle.egt_words.proofs.move_lists.MoveLists.add_advance.Goals as goal
 
 pub returns : goal.returns
 returns c =

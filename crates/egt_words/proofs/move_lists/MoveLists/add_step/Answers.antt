@@ -1,6 +1,6 @@
 use Rattle.egt_words.specs.MoveLists.{word_of}
 use Rattle.egt_words.proofs.Stepped.{Stepped, straight_if, turning_if}
-use Rattle.egt_words.proofs.told.MoveLists.add_step.Goals as goal
+use Rattle.egt_words.proofs.move_lists.MoveLists.add_step.Goals as goal
 
 straight_of : (c : goal.After-add_way) → Stepped c.args.class (word_of c.args._shelf c.args.side) c.args.from c.args.to c.add_way.result c.args.self.now c.add_way.new.self
 straight_of c =

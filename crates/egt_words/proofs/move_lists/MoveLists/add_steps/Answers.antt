@@ -3,7 +3,7 @@ use Rattle.std.proofs.lemmas.Bool.{cases_eq}
 use Rattle.egt_check.proofs.Spreading.{had_before}
 use Rattle.egt_words.specs.MoveLists.{word_of}
 use Rattle.egt_words.proofs.Adding.{kept_on, same_on, told_kept}
-use Rattle.egt_words.proofs.told.MoveLists.add_steps.Goals as goal
+use Rattle.egt_words.proofs.move_lists.MoveLists.add_steps.Goals as goal
 
 pub returns-then-not-add_step-clause-keeps : goal.returns-then-not-add_step-clause-keeps
 returns-then-not-add_step-clause-keeps c = kept_on c.args.class c.args.self.now c.loop-to.self c.add_step.new.self c.loop-to.invariant.keeps c.add_step.ensures.keeps

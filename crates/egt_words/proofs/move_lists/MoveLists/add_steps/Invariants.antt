@@ -2,7 +2,7 @@ use Rattle.std.proofs.Common.{ℕ, ◌⊎◌}
 use Rattle.egt_board.specs.SquareSet.{Has}
 use Rattle.egt_words.specs.Steps.{AreSteps, GoesStanding, Keeps, SameBesideSteps, TellsQuiet}
 use Rattle.egt_words.specs.MoveLists.{word_of}
-use Rattle.egt_words.proofs.told.MoveLists.add_steps.Given as goal
+use Rattle.egt_words.proofs.move_lists.MoveLists.add_steps.Given as goal
 
 -- of each square it is told, or it is still to be looked at
 abbrev pub invariant-loop-to : goal.invariant-loop-to

@@ -3,7 +3,7 @@ use Rattle.std.specs.Int.{bit_at}
 use Rattle.std.proofs.lemmas.Nat.Bits.{bit_at-zero}
 use Rattle.egt_check.proofs.Leaping.{two_ahead_stays}
 use Rattle.egt_words.proofs.Ahead.{ahead_kept, either_shut, on_word, open_or_met, passing, unset}
-use Rattle.egt_words.proofs.told.MoveLists.tell_beyond.Goals as goal
+use Rattle.egt_words.proofs.move_lists.MoveLists.tell_beyond.Goals as goal
 
 pub add_advance-requires-clause-goal : goal.add_advance-requires-clause-goal
 add_advance-requires-clause-goal c =

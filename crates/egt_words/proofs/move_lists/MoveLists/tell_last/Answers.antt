@@ -1,7 +1,7 @@
 use Rattle.std.proofs.Common.{refl, sym, ◌∙◌}
 use Rattle.std.proofs.lemmas.Bool.{false≢true}
 use Rattle.egt_words.proofs.Telling.{last_pawn_told, last_piece_told, last_waits}
-use Rattle.egt_words.proofs.told.MoveLists.tell_last.Goals as goal
+use Rattle.egt_words.proofs.move_lists.MoveLists.tell_last.Goals as goal
 
 pub returns-then-not-is_of-clause-told : goal.returns-then-not-is_of-clause-told
 returns-then-not-is_of-clause-told c = λ _.

@@ -1,7 +1,7 @@
 use Rattle.std.proofs.Common.{◌≡◌, ◌∙◌, subst}
 use Rattle.std.specs.Int.{bit_at}
 use Rattle.egt_words.proofs.Ahead.{one_beyond}
-use Rattle.egt_words.proofs.told.MoveLists.tell_leap.Goals as goal
+use Rattle.egt_words.proofs.move_lists.MoveLists.tell_leap.Goals as goal
 
 pub tell_beyond-requires-clause-leap : goal.tell_beyond-requires-clause-leap
 tell_beyond-requires-clause-leap c = record { home = c.in-Some.ensures.some.0; away = c.in-Some.ensures.some.1; between = subst (λ s. bit_at c.args.held.bits s ≡ 0) c.requires.next c.requires.between }

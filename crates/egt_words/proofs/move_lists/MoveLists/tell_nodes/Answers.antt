@@ -8,7 +8,7 @@ use Rattle.egt_words.specs.declared.roaming.Roaming.{Roaming}
 use Rattle.egt_words.specs.declared.move_lists.MoveLists.{MoveLists}
 use Rattle.egt_words.proofs.Adding.{told_kept}
 use Rattle.egt_words.proofs.Telling.{node_digit, one_stands, tells_word}
-use Rattle.egt_words.proofs.told.MoveLists.tell_nodes.Goals as goal
+use Rattle.egt_words.proofs.move_lists.MoveLists.tell_nodes.Goals as goal
 
 pub staying_of-self-requires-clause-nodes : goal.staying_of-self-requires-clause-nodes
 staying_of-self-requires-clause-nodes c = node_digit c.args.class c.args.shelf c.args.men.now c.args.side c.requires.men c.args.nodes c.requires.nodes

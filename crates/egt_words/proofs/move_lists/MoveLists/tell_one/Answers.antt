@@ -2,7 +2,7 @@ use Rattle.std.proofs.Common.{sym, ◌∙◌}
 use Rattle.std.proofs.lemmas.Bool.{false≢true}
 use Rattle.egt_words.specs.MoveLists.{word_of}
 use Rattle.egt_words.proofs.Telling.{ahead_same, pawn_told, piece_told, steps_same}
-use Rattle.egt_words.proofs.told.MoveLists.tell_one.Goals as goal
+use Rattle.egt_words.proofs.move_lists.MoveLists.tell_one.Goals as goal
 
 pub returns-then-is_pawn-clause-steps : goal.returns-then-is_pawn-clause-steps
 returns-then-is_pawn-clause-steps c = steps_same c.args.class (word_of c.args.shelf c.args.side) c.args.self.now c.tell_pawn.new.self c.tell_pawn.ensures.same c.requires.steps

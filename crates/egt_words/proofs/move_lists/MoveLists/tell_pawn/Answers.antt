@@ -4,8 +4,8 @@ use Rattle.egt_board.specs.Pawn.{ahead, last_rank}
 use Rattle.egt_board.specs.Square.{rank_of}
 use Rattle.egt_board.specs.SquareSet.{Has}
 use Rattle.egt_words.proofs.Ahead.{ahead_kept, goes_ahead, none_ahead, unheld_ahead}
-use Rattle.egt_words.proofs.told.MoveLists.tell_pawn.Goals as goal
-use Rattle.egt_words.proofs.told.MoveLists.tell_pawn.Goals.{then-rank-last_rank-via-then-rank-last_rank, then-rank-last_rank-via-else-rank-last_rank+then-contains}
+use Rattle.egt_words.proofs.move_lists.MoveLists.tell_pawn.Goals as goal
+use Rattle.egt_words.proofs.move_lists.MoveLists.tell_pawn.Goals.{then-rank-last_rank-via-then-rank-last_rank, then-rank-last_rank-via-else-rank-last_rank+then-contains}
 
 pub returns-then-rank-last_rank-clause-told : goal.returns-then-rank-last_rank-clause-told
 returns-then-rank-last_rank-clause-told c told t k p q m at advance from_is to_is =

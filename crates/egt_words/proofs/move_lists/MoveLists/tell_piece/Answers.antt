@@ -7,7 +7,7 @@ use Rattle.egt_board.proofs.Bits.{bit_at-within}
 use Rattle.egt_check.specs.Fan.{IsGoal}
 use Rattle.egt_check.proofs.Spreading.{left_over, over_left}
 use Rattle.egt_words.proofs.Stepping.{is_goal}
-use Rattle.egt_words.proofs.told.MoveLists.tell_piece.Goals as goal
+use Rattle.egt_words.proofs.move_lists.MoveLists.tell_piece.Goals as goal
 
 pub add_steps-requires-clause-goals : goal.add_steps-requires-clause-goals
 add_steps-requires-clause-goals c = λ t has.

@@ -7,7 +7,7 @@ ghost use Rattle.egt_index.specs.Beaten.{SpellsAt, KeepsWith, IsBeaten, AllAsked
 ghost use Rattle.egt_index.specs.Index.{IsIndex};
 ghost use Rattle.egt_index.specs.Stood.{HasStand, IsInOrder};
 ghost use Rattle.egt_index.specs.declared.stand.Stand.{Stand};
-ghost use Rattle.egt_index.specs.declared.beaten.Told.TheVariants.{Beaten, Least, Tied};
+ghost use Rattle.egt_index.specs.declared.least_code.Leastness.TheVariants.{Beaten, Least, Tied};
 
 use crate::facts::facts;
 use crate::home::{home, still_home};
@@ -28,7 +28,7 @@ pub(crate) struct Coded {
 
 /// What images tell of one code, or of all codes that spell a position with the same men on the same squares.
 #[derive(Clone, Copy)]
-pub(crate) enum Told {
+pub(crate) enum Leastness {
     /// Some image has a lesser code.
     Beaten,
     /// No image has one.
@@ -59,26 +59,26 @@ fn is_less(other: Option<u32>, code: u32) -> bool
 }
 
 /// What the code tells of one that is less, or not.
-fn told_by_code(is_less: bool) -> Told
+fn told_by_code(is_less: bool) -> Leastness
     ensures beaten { result ≡ Beaten → is_less ≡ true }
     ensures least { result ≡ Least → is_less ≡ false }
     ensures sure { result ≡ Tied → ⊥ }
 {
-    if is_less { Told::Beaten } else { Told::Least }
+    if is_less { Leastness::Beaten } else { Leastness::Least }
 }
 
 /// What two images tell together.
-fn both(one: Told, other: Told) -> Told
+fn both(one: Leastness, other: Leastness) -> Leastness
     ensures beaten { result ≡ Beaten → (one ≡ Beaten) ⊎ (other ≡ Beaten) }
     ensures least { result ≡ Least → (one ≡ Least) × (other ≡ Least) }
     ensures tied { result ≡ Tied → (one ≡ Tied) ⊎ (other ≡ Tied) }
 {
     match one {
-        Told::Beaten => Told::Beaten,
-        Told::Least => other,
-        Told::Tied => match other {
-            Told::Beaten => Told::Beaten,
-            _ => Told::Tied,
+        Leastness::Beaten => Leastness::Beaten,
+        Leastness::Least => other,
+        Leastness::Tied => match other {
+            Leastness::Beaten => Leastness::Beaten,
+            _ => Leastness::Tied,
         },
     }
 }
@@ -86,7 +86,7 @@ fn both(one: Told, other: Told) -> Told
 /// What the image tells that the turn, which brings a king home, makes of a settled position. The kings' digits are the highest,
 /// so other squares of theirs decide.
 #[inline(always)]
-fn told_by(class: Class, stand: &Stand, turn: u8, asked: Option<Coded>) -> Told
+fn told_by(class: Class, stand: &Stand, turn: u8, asked: Option<Coded>) -> Leastness
     requires { turn < 16 }
     ensures beats { result ≡ Beaten → (other : Stand) → AnswersFor asked stand.now other → TurnBeats class other asked turn }
     ensures keeps { result ≡ Least → (other : Stand) → AnswersFor asked stand.now other → TurnKeeps class other asked turn }
@@ -97,23 +97,23 @@ fn told_by(class: Class, stand: &Stand, turn: u8, asked: Option<Coded>) -> Told
     let own = kings(stand, turn / 8 == 1);
     let image = kings_after(stand.white, stand.black, turn);
     if image < own {
-        return Told::Beaten;
+        return Leastness::Beaten;
     }
     if own < image {
-        return Told::Least;
+        return Leastness::Least;
     }
     match asked {
         Some(coded) => {
             let other = code_after(class, stand, coded.side, coded.passed, turn);
             told_by_code(is_less(other, coded.code))
         }
-        None => Told::Tied,
+        None => Leastness::Tied,
     }
 }
 
 /// What the images in the same colours tell, where equal men stand in order.
 #[inline(always)]
-fn told_straight(class: Class, stand: &Stand, asked: Option<Coded>) -> Told
+fn told_straight(class: Class, stand: &Stand, asked: Option<Coded>) -> Leastness
     ensures beats { result ≡ Beaten → (other : Stand) → AnswersFor asked stand.now other → AllAsked class other asked (IsBeaten class) }
     ensures keeps { result ≡ Least → (other : Stand) → AnswersFor asked stand.now other → IsInOrder other.next other.last → AllAsked class other asked (λ p code. KeepsWith class p false code) }
     ensures sure { result ≡ Tied → asked ≡ None }
@@ -122,12 +122,12 @@ fn told_straight(class: Class, stand: &Stand, asked: Option<Coded>) -> Told
     let _number = class.number();
     match still_home(has_pawns(class), stand.white) {
         Some(turn) => told_by(class, stand, turn, asked),
-        None => Told::Least,
+        None => Leastness::Least,
     }
 }
 
 /// What the images in exchanged colours tell, of a class whose sides have the same men.
-fn told_exchanged(class: Class, stand: &Stand, asked: Option<Coded>) -> Told
+fn told_exchanged(class: Class, stand: &Stand, asked: Option<Coded>) -> Leastness
     requires { has_equal_sides class ≡ true }
     ensures beats { result ≡ Beaten → (other : Stand) → AnswersFor asked stand.now other → AllAsked class other asked (IsBeaten class) }
     ensures keeps { result ≡ Least → (other : Stand) → AnswersFor asked stand.now other → AllAsked class other asked (λ p code. KeepsWith class p true code) }
@@ -147,7 +147,7 @@ fn told_exchanged(class: Class, stand: &Stand, asked: Option<Coded>) -> Told
 /// What the images tell of the codes that spell settled positions with these men on their squares, where equal men stand in order: of the
 /// one that is asked about, or, by the kings alone, of all of them.
 #[inline(always)]
-pub(crate) fn told_in_order(class: Class, stand: &Stand, asked: Option<Coded>) -> Told
+pub(crate) fn told_in_order(class: Class, stand: &Stand, asked: Option<Coded>) -> Leastness
     ensures beaten { result ≡ Beaten → (other : Stand) → AnswersFor asked stand.now other → AllAsked class other asked (λ p code. ¬ IsIndex class p code) }
     ensures least { result ≡ Least → (other : Stand) → AnswersFor asked stand.now other → IsInOrder other.next other.last → AllAsked class other asked (IsIndex class) }
     ensures sure { result ≡ Tied → asked ≡ None }
@@ -171,7 +171,7 @@ pub(crate) fn is_least(class: Class, stand: &Stand, side: Side, passed: bool, co
 {
     let asked = Coded { side, passed, code };
     match told_in_order(class, stand, Some(asked)) {
-        Told::Least => true,
+        Leastness::Least => true,
         _ => false,
     }
 }

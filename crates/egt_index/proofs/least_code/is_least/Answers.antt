@@ -1,15 +1,15 @@
 use Rattle.std.proofs.Common.{◌≡◌, Some, None, refl}
 use Rattle.std.proofs.lemmas.Bool.{false≢true}
-use Rattle.egt_index.specs.declared.beaten.Coded.{Coded}
-use Rattle.egt_index.specs.declared.beaten.Told.{Told}
-use Rattle.egt_index.specs.declared.beaten.Told.TheVariants.{Beaten, Least, Tied}
-use Rattle.egt_index.proofs.beaten.is_least.Goals as goal
+use Rattle.egt_index.specs.declared.least_code.Coded.{Coded}
+use Rattle.egt_index.specs.declared.least_code.Leastness.{Leastness}
+use Rattle.egt_index.specs.declared.least_code.Leastness.TheVariants.{Beaten, Least, Tied}
+use Rattle.egt_index.proofs.least_code.is_least.Goals as goal
 
 pub returns-in-Least-clause-least : goal.returns-in-Least-clause-least
 returns-in-Least-clause-least c = λ h p has s. c.in-Least.ensures.least refl c.args.stand.now refl c.requires p c.args.side c.args.passed c.args.code (refl, refl, refl) has s
 
 -- one code alone is not tied
-only_beaten : (told : Told) (coded : Coded) → (told ≡ Least → ⊥) → (told ≡ Tied → Some coded ≡ None) → told ≡ Beaten
+only_beaten : (told : Leastness) (coded : Coded) → (told ≡ Least → ⊥) → (told ≡ Tied → Some coded ≡ None) → told ≡ Beaten
 only_beaten Beaten coded not sure = refl
 only_beaten Least coded not sure = absurd (not refl)
 only_beaten Tied coded not sure = absurd (let none = sure refl in cc)

@@ -4,11 +4,11 @@ use Rattle.egt_board.specs.declared.man.Side.{Side}
 use Rattle.egt_board.specs.Setup.{Setup}
 use Rattle.egt_index.specs.Beaten.{Beats, Keeps, IsAsked, TurnBeats, TurnKeeps}
 use Rattle.egt_index.specs.Stood.{HasStand}
-use Rattle.egt_index.specs.declared.beaten.Coded.{Coded}
+use Rattle.egt_index.specs.declared.least_code.Coded.{Coded}
 use Rattle.egt_index.specs.declared.stand.Stand.{Stand}
 use Rattle.egt_index.proofs.Beating.{beaten_by_code, beaten_by_kings, kept_by_code, kept_by_kings}
 use Rattle.egt_index.proofs.SameKings.{one_answered, same_by_kings}
-use Rattle.egt_index.proofs.beaten.told_by.Goals as goal
+use Rattle.egt_index.proofs.least_code.told_by.Goals as goal
 
 -- the kings' squares as a number, before the turn and after it
 own : ℕ → ℕ → ℕ → ℕ

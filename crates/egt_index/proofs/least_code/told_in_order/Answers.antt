@@ -1,6 +1,6 @@
 use Rattle.std.proofs.Common.{arith, inl, inr, sym, ◌∙◌}
 use Rattle.egt_index.proofs.Beating.{index_kept, no_index, keeps_exchanged}
-use Rattle.egt_index.proofs.beaten.told_in_order.Goals as goal
+use Rattle.egt_index.proofs.least_code.told_in_order.Goals as goal
 
 pub returns-then-has_equal_sides-clause-beaten : goal.returns-then-has_equal_sides-clause-beaten
 returns-then-has_equal_sides-clause-beaten c = λ h other answers p side passed code asked has s. no_index c.facts.ensures c.args.class code p has.admissible has.settled (elim (c.both.ensures.beaten h) [

@@ -11,8 +11,8 @@ use Rattle.egt_index.specs.declared.stand.Stand.{Stand}
 use Rattle.egt_index.proofs.Beating.{keeps_with, turn_beaten, turn_kept, white_home}
 use Rattle.egt_index.proofs.SameKings.{kings_answered}
 use Rattle.egt_index.proofs.Swapping.{keeps_in_order, least_in_order}
-use Rattle.egt_index.proofs.beaten.told_straight.Goals.{After-still_home}
-use Rattle.egt_index.proofs.beaten.told_straight.Goals as goal
+use Rattle.egt_index.proofs.least_code.told_straight.Goals.{After-still_home}
+use Rattle.egt_index.proofs.least_code.told_straight.Goals as goal
 
 pub told_by-requires : goal.told_by-requires
 told_by-requires c = subst (λ (o : Option ℕ). IfSome o (λ t. t < 16)) c.in-Some.is c.still_home.ensures.below

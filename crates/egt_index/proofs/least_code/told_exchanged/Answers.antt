@@ -9,8 +9,8 @@ use Rattle.egt_index.specs.Stood.{HasStand}
 use Rattle.egt_index.specs.declared.stand.Stand.{Stand}
 use Rattle.egt_index.proofs.Beating.{keeps_with, has_exchanged, turn_beaten, turn_kept}
 use Rattle.egt_index.proofs.SameKings.{exchanged_of, exchanged_answered, kings_answered}
-use Rattle.egt_index.proofs.beaten.told_exchanged.Goals.{After-told_by-one}
-use Rattle.egt_index.proofs.beaten.told_exchanged.Goals as goal
+use Rattle.egt_index.proofs.least_code.told_exchanged.Goals.{After-told_by-one}
+use Rattle.egt_index.proofs.least_code.told_exchanged.Goals as goal
 
 -- the men for which these answer, in exchanged colours
 answered : (c : After-told_by-one) (other : Stand) → AnswersFor c.args.asked c.args.stand.now other → AnswersFor c.args.asked c.exchanged-stand.result (exchanged_of other)
