@@ -3,7 +3,7 @@ ghost use Rattle.std.specs.Prelude.{IfOk};
 ghost use Rattle.egt_check.specs.Tables.{table_at};
 ghost use Rattle.egt_sweep.specs.MateColumn.{AreMateRanks};
 
-use crate::rule::{Told, said_by};
+use crate::rule::{Value, said_by};
 use crate::setup::Setup;
 use crate::steps::{Step, steps};
 use crate::tables::mate_told;
@@ -45,7 +45,7 @@ impl Plain<'_> {
     }
 
     /// What the mate entry says of where the move leads.
-    fn said(&self, step: &Step) -> Option<Told> {
+    fn said(&self, step: &Step) -> Option<Value> {
         if step.class == self.class {
             said_by(*self.mates.get(step.index as usize)?)
         } else {
@@ -57,9 +57,9 @@ impl Plain<'_> {
     fn exit(&self, step: &Step) -> Exit {
         let counts = self.metric == Metric::Mate;
         match self.said(step) {
-            Some(Told::Win(plies)) => Exit::Win(if counts { plies } else { 0 }),
-            Some(Told::Loss(plies)) => Exit::Loss(if counts { plies } else { 0 }),
-            Some(Told::Draw) => Exit::Draw,
+            Some(Value::Win(plies)) => Exit::Win(if counts { plies } else { 0 }),
+            Some(Value::Loss(plies)) => Exit::Loss(if counts { plies } else { 0 }),
+            Some(Value::Draw) => Exit::Draw,
             None => UNKNOWN,
         }
     }

@@ -2,7 +2,7 @@
 
 /// What an entry says of the side to move: it wins or loses in so many plies, or draws.
 #[derive(Clone, Copy, Debug, Default, PartialEq, Eq)]
-pub enum Told {
+pub enum Value {
     Win(u16),
     Loss(u16),
     #[default]
@@ -10,35 +10,35 @@ pub enum Told {
 }
 
 /// What the entry says, if it says something.
-pub fn said_by(entry: u16) -> Option<Told> {
+pub fn said_by(entry: u16) -> Option<Value> {
     match entry {
         0 | 2 => None,
-        1 => Some(Told::Draw),
+        1 => Some(Value::Draw),
         _ => {
             let plies = (entry / 2).saturating_sub(1);
             Some(if entry % 2 == 0 {
-                Told::Win(plies)
+                Value::Win(plies)
             } else {
-                Told::Loss(plies)
+                Value::Loss(plies)
             })
         }
     }
 }
 
 /// The entry that says so.
-pub fn entry(told: Told) -> u16 {
+pub fn entry(told: Value) -> u16 {
     match told {
-        Told::Win(plies) => plies.saturating_mul(2).saturating_add(2),
-        Told::Loss(plies) => plies.saturating_mul(2).saturating_add(3),
-        Told::Draw => 1,
+        Value::Win(plies) => plies.saturating_mul(2).saturating_add(2),
+        Value::Loss(plies) => plies.saturating_mul(2).saturating_add(3),
+        Value::Draw => 1,
     }
 }
 
 /// The least number of plies in which one of these loses.
-fn least_loss(successors: &[Told]) -> Option<u16> {
+fn least_loss(successors: &[Value]) -> Option<u16> {
     let mut least = None;
     for successor in successors {
-        if let Told::Loss(plies) = successor {
+        if let Value::Loss(plies) = successor {
             least = Some(match least {
                 Some(other) => (*plies).min(other),
                 None => *plies,
@@ -49,10 +49,10 @@ fn least_loss(successors: &[Told]) -> Option<u16> {
 }
 
 /// The greatest number of plies in which one of these wins, where all do.
-fn greatest_win(successors: &[Told]) -> Option<u16> {
+fn greatest_win(successors: &[Value]) -> Option<u16> {
     let mut greatest = None;
     for successor in successors {
-        let Told::Win(plies) = successor else {
+        let Value::Win(plies) = successor else {
             return None;
         };
         greatest = Some(match greatest {
@@ -64,16 +64,16 @@ fn greatest_win(successors: &[Told]) -> Option<u16> {
 }
 
 /// What the best move of these brings; without a move, checkmate where the king is in check, and stalemate where not.
-pub fn best(successors: &[Told], in_check: bool) -> Told {
+pub fn best(successors: &[Value], in_check: bool) -> Value {
     if successors.is_empty() {
-        return if in_check { Told::Loss(0) } else { Told::Draw };
+        return if in_check { Value::Loss(0) } else { Value::Draw };
     }
     if let Some(plies) = least_loss(successors) {
-        return Told::Win(plies.saturating_add(1));
+        return Value::Win(plies.saturating_add(1));
     }
     match greatest_win(successors) {
-        Some(plies) => Told::Loss(plies.saturating_add(1)),
-        None => Told::Draw,
+        Some(plies) => Value::Loss(plies.saturating_add(1)),
+        None => Value::Draw,
     }
 }
 

@@ -2,7 +2,7 @@
 ghost use Rattle.std.specs.Prelude.{◌≡◌, true};
 ghost use Rattle.egt_table.specs.Table.{HasColumn};
 
-use crate::rule::{Told, best, entry, nearest, said_by};
+use crate::rule::{Value, best, entry, nearest, said_by};
 use crate::setup::Setup;
 use crate::steps::{Step, steps};
 use arrayvec::ArrayVec;
@@ -33,26 +33,26 @@ pub fn entry_at(library: &Library, column: Column, class: Class, index: u32) -> 
 }
 
 /// What the mate entry says of where a move leads.
-pub fn mate_told(library: &Library, step: &Step) -> Option<Told> {
+pub fn mate_told(library: &Library, step: &Step) -> Option<Value> {
     said_by(entry_at(library, Column::Mate, step.class, step.index)?)
 }
 
 /// The same of the zeroing entry, with no plies left where the move has zeroed; none where both entries do not say the same but for
 /// plies.
-fn zeroing_told(library: &Library, step: &Step) -> Option<Told> {
+fn zeroing_told(library: &Library, step: &Step) -> Option<Value> {
     let mate = mate_told(library, step)?;
     let zeroing = said_by(entry_at(library, Column::Zeroing, step.class, step.index)?)?;
     match (mate, zeroing) {
-        (Told::Win(_), Told::Win(plies)) => Some(Told::Win(if step.zeroes { 0 } else { plies })),
-        (Told::Loss(_), Told::Loss(plies)) => Some(Told::Loss(if step.zeroes { 0 } else { plies })),
-        (Told::Draw, Told::Draw) => Some(Told::Draw),
+        (Value::Win(_), Value::Win(plies)) => Some(Value::Win(if step.zeroes { 0 } else { plies })),
+        (Value::Loss(_), Value::Loss(plies)) => Some(Value::Loss(if step.zeroes { 0 } else { plies })),
+        (Value::Draw, Value::Draw) => Some(Value::Draw),
         _ => None,
     }
 }
 
 /// What the entry of the position is to be in the column that the metric stands for, by those of its successors.
 fn wanted_told(library: &Library, metric: Metric, steps: &[Step], in_check: bool) -> Option<u16> {
-    let mut successors = ArrayVec::<Told, 64>::new();
+    let mut successors = ArrayVec::<Value, 64>::new();
     for step in steps {
         let told = match metric {
             Metric::Mate => mate_told(library, step)?,
