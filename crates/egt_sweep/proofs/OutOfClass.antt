@@ -25,11 +25,11 @@ use Rattle.egt_check.specs.Entry.{Shows}
 use Rattle.egt_check.specs.Reading.{read, read_shown}
 use Rattle.egt_check.specs.Tables.{Tables, entry_at, beside, HasChildren}
 use Rattle.egt_check.specs.NearTables.{near_if, near_of, near_tables}
-use Rattle.egt_sweep.specs.Aiming.{metric_of, known, Knows}
+use Rattle.egt_sweep.specs.Objective.{metric_of, known, Knows}
 use Rattle.egt_sweep.specs.Edges.{GoesOn}
 use Rattle.egt_sweep.specs.MateColumn.{mate_table}
-use Rattle.egt_sweep.specs.declared.aim.Aim.{Aim}
-use Rattle.egt_sweep.specs.declared.aim.Aim.TheVariants as aims
+use Rattle.egt_sweep.specs.declared.objective.Objective.{Objective}
+use Rattle.egt_sweep.specs.declared.objective.Objective.TheVariants as objectives
 use Rattle.egt_sweep.specs.Laws.{Laws}
 use Rattle.egt_sweep.specs.Nodes.{index_in, plies_told, exit_of, exit_by, exits_by, shown_in, shown_below, or_else, goes_on}
 use Rattle.egt_sweep.proofs.Linked.{index_is, goes_is}
@@ -186,10 +186,10 @@ near_there (Some t) some reach = of_column t.class t.reach reach
     of_column c (Some entries) some = refl
 
 -- where a move leaves the game, it leads to where something is known
-pub known_there : (laws : Laws) (tables : Tables) (aim : Aim) (c : ℕ) (p q : Setup) (m : Move) → c < 36 → IsAdmissible p → (flipped : Bool) × IsOf c flipped p → HasChildren tables c → Knows tables c aim → Leads p m q → ¬ GoesOn (metric_of aim) c p m q →
-    (d : ℕ) (flipped : Bool) → d < 36 → IsOf d flipped q → IsSome (known tables c aim d)
-known_there laws tables aims.Mate c p q m c_in ok of children knows leads off d flipped d_in d_of = child_there laws tables c p q m c_in ok of children leads off d flipped d_in d_of
-known_there laws tables (aims.Zeroing ranks) c p q m c_in ok of children knows leads off d flipped d_in d_of = ⊎_elim
+pub known_there : (laws : Laws) (tables : Tables) (objective : Objective) (c : ℕ) (p q : Setup) (m : Move) → c < 36 → IsAdmissible p → (flipped : Bool) × IsOf c flipped p → HasChildren tables c → Knows tables c objective → Leads p m q → ¬ GoesOn (metric_of objective) c p m q →
+    (d : ℕ) (flipped : Bool) → d < 36 → IsOf d flipped q → IsSome (known tables c objective d)
+known_there laws tables objectives.Mate c p q m c_in ok of children knows leads off d flipped d_in d_of = child_there laws tables c p q m c_in ok of children leads off d flipped d_in d_of
+known_there laws tables (objectives.Zeroing ranks) c p q m c_in ok of children knows leads off d flipped d_in d_of = ⊎_elim
     (λ (own : IsOf c of.0 q).
     let same = laws.facts.one_class q c d of.0 flipped c_in d_in own d_of in
     subst (λ e. IsSome (beside tables (mate_table c ranks.now) e)) same (ap is_some (beside_own tables (mate_table c ranks.now))))
@@ -198,5 +198,5 @@ known_there laws tables (aims.Zeroing ranks) c p q m c_in ok of children knows l
     let same = laws.facts.one_class q child.0 d child.1 flipped (omega (arith, below, c_in)) d_in child.3 d_of in
     beside_some (mate_table c ranks.now) (tables d) (eqb d c) (subst (λ e. IsSome (tables e)) same (children child.0 child.2)))
     (laws.facts.step_class p q m c of.0 c_in ok of.1 leads)
-known_there laws tables aims.Reach c p q m c_in ok of children knows leads off d flipped d_in d_of =
+known_there laws tables objectives.Reach c p q m c_in ok of children knows leads off d flipped d_in d_of =
     child_there laws (near_tables tables) c p q m c_in ok of (λ e child. near_there (tables e) (children e child) (knows e child)) leads off d flipped d_in d_of

@@ -5,7 +5,7 @@ pub mod ClassGame
 pub mod ReachGame
 pub mod Plies
 pub mod MateColumn
-pub mod Aiming
+pub mod Objective
 pub mod Built
 pub mod Fault
 pub mod Ways

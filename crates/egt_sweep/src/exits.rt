@@ -13,11 +13,11 @@ ghost use Rattle.egt_moves.specs.Moves.{moves_from};
 ghost use Rattle.egt_moves.specs.Room.{most_moves};
 ghost use Rattle.egt_moves.specs.declared.chess_move.Move.{Move};
 ghost use Rattle.egt_check.specs.Tables.{table_at, HasChildren};
-ghost use Rattle.egt_sweep.specs.Aiming.{metric_of, known, Knows};
+ghost use Rattle.egt_sweep.specs.Objective.{metric_of, known, Knows};
 ghost use Rattle.egt_sweep.specs.Edges.{GoesOn};
 ghost use Rattle.egt_sweep.specs.Nodes.{exits_by, exits_from};
 
-use crate::aim::Aim;
+use crate::objective::Objective;
 use crate::laws::laws;
 use crate::leaving::add_exits;
 use crate::quiet::pawn_stays;
@@ -74,7 +74,7 @@ fn goes_on(
 /// Adds the values of where the man's moves that leave the game lead, in the order of moves.
 #[inline(always)]
 fn add_exits_of(
-    aim: &Aim<'_>,
+    objective: &Objective<'_>,
     class: Class,
     library: &Library,
     position: &Position,
@@ -82,19 +82,19 @@ fn add_exits_of(
     from: Square,
     exits: &mut ArrayVec<Exit, 64>,
 )
-    requires knows { Knows (table_at library.now) class aim.now }
+    requires knows { Knows (table_at library.now) class objective.now }
     requires of { (flipped : Bool) × IsOf class flipped position.now }
     requires children { HasChildren (table_at library.now) class }
     requires occupancy { IsOccupancy position.now occupancy }
     requires held { IsHeld position.now.men from position.now.side }
     requires room { (man : Man) → Stands position.now.men from man → array_vec_len exits.old + most_moves man.kind ≤ 64 }
-    ensures exits { exits.new.items ≡ exits.old.items ++ exits_by (known (table_at library.now) class aim.now) (metric_of aim.now) class position.now (moves_from from 64) }
+    ensures exits { exits.new.items ≡ exits.old.items ++ exits_by (known (table_at library.now) class objective.now) (metric_of objective.now) class position.now (moves_from from 64) }
     ensures room { (man : Man) → Stands position.now.men from man → array_vec_len exits.new ≤ array_vec_len exits.old + most_moves man.kind }
 {
     laws();
     let _number = class.number();
     let _side = position.side();
-    let metric = aim.metric();
+    let metric = objective.metric();
     let man = position.at(from).unwrap();
     if goes_on(metric, class, position, occupancy, man, from) {
         return;
@@ -102,27 +102,27 @@ fn add_exits_of(
     let targets = legal_targets_of(position, occupancy, man, from);
     let onward = onward(metric, class, position, occupancy, man, from, targets);
     let leaving = targets.without(onward);
-    add_exits(aim, class, library, position, from, leaving, exits);
+    add_exits(objective, class, library, position, from, leaving, exits);
 }
 
 /// Fills the list with the values of where the moves that leave the game lead, in the order of moves.
 pub(crate) fn add_exits_of_side(
-    aim: &Aim<'_>,
+    objective: &Objective<'_>,
     class: Class,
     library: &Library,
     position: &Position,
     exits: &mut ArrayVec<Exit, 64>,
 )
-    requires knows { Knows (table_at library.now) class aim.now }
+    requires knows { Knows (table_at library.now) class objective.now }
     requires of { (flipped : Bool) × IsOf class flipped position.now }
     requires children { HasChildren (table_at library.now) class }
     requires empty { exits.old.items ≡ [] }
-    ensures { exits.new.items ≡ exits_from (known (table_at library.now) class aim.now) (metric_of aim.now) class (Some position.now) }
+    ensures { exits.new.items ≡ exits_from (known (table_at library.now) class objective.now) (metric_of objective.now) class (Some position.now) }
 {
     laws();
     let occupancy = position.occupancy();
     let mut rest = position.of(position.side());
     while let Some(from) = rest.pop_first() {
-        add_exits_of(aim, class, library, position, occupancy, from, exits);
+        add_exits_of(objective, class, library, position, occupancy, from, exits);
     }
 }

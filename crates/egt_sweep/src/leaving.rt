@@ -20,13 +20,13 @@ ghost use Rattle.egt_check.specs.Entry.{Shows};
 ghost use Rattle.egt_check.specs.NearTables.{near_tables};
 ghost use Rattle.egt_check.specs.Reading.{read};
 ghost use Rattle.egt_check.specs.Tables.{table_at, entry_at, HasChildren};
-ghost use Rattle.egt_sweep.specs.Aiming.{metric_of, known, Knows};
+ghost use Rattle.egt_sweep.specs.Objective.{metric_of, known, Knows};
 ghost use Rattle.egt_sweep.specs.Edges.{GoesOn};
 ghost use Rattle.egt_sweep.specs.MateColumn.{IsIndexed};
 ghost use Rattle.egt_sweep.specs.Nodes.{plies_told, exit_of, shown_below, exit_by, exits_by};
 ghost use Rattle.egt_sweep.specs.Ways.{AllLeave, OthersGoOn};
 
-use crate::aim::Aim;
+use crate::objective::Objective;
 use crate::laws::laws;
 use arrayvec::ArrayVec;
 use egt_board::{Position, Square, SquareSet};
@@ -86,17 +86,17 @@ fn near_entry(library: &Library, class: Class, index: u32) -> u16
 }
 
 /// The mate entry at the index of a position in a class, whose own ranks are read where they are known.
-fn mate_entry(aim: &Aim<'_>, own: Class, library: &Library, class: Class, index: u32) -> u16
-    requires knows { Knows (table_at library.now) own aim.now }
-    requires there { IsSome (known (table_at library.now) own aim.now class) }
+fn mate_entry(objective: &Objective<'_>, own: Class, library: &Library, class: Class, index: u32) -> u16
+    requires knows { Knows (table_at library.now) own objective.now }
+    requires there { IsSome (known (table_at library.now) own objective.now class) }
     requires indexed { IsIndexed class index }
     ensures shows { (v : Value) × Shows result v }
-    ensures is { IfSome (known (table_at library.now) own aim.now class) (λ t. result ≡ entry_at t Mate index) }
+    ensures is { IfSome (known (table_at library.now) own objective.now class) (λ t. result ≡ entry_at t Mate index) }
 {
     laws();
-    match aim {
-        Aim::Mate => table_entry(library, class, index),
-        Aim::Zeroing(ranks) => {
+    match objective {
+        Objective::Mate => table_entry(library, class, index),
+        Objective::Zeroing(ranks) => {
             if class == own {
                 let _number = class.number();
                 ranks.entries()[index as usize]
@@ -104,50 +104,50 @@ fn mate_entry(aim: &Aim<'_>, own: Class, library: &Library, class: Class, index:
                 table_entry(library, class, index)
             }
         }
-        Aim::Reach => near_entry(library, class, index),
+        Objective::Reach => near_entry(library, class, index),
     }
 }
 
 /// The value of a position with the index in a class that has its table.
-fn exit_in(aim: &Aim<'_>, own: Class, library: &Library, class: Class, index: u32) -> Exit
-    requires knows { Knows (table_at library.now) own aim.now }
-    requires there { IsSome (known (table_at library.now) own aim.now class) }
+fn exit_in(objective: &Objective<'_>, own: Class, library: &Library, class: Class, index: u32) -> Exit
+    requires knows { Knows (table_at library.now) own objective.now }
+    requires there { IsSome (known (table_at library.now) own objective.now class) }
     requires indexed { IsIndexed class index }
-    ensures { (q : Setup) → IsAdmissible q → IsIndex class q index → result ≡ exit_of (metric_of aim.now) (shown_below (known (table_at library.now) own aim.now) 36 q) }
+    ensures { (q : Setup) → IsAdmissible q → IsIndex class q index → result ≡ exit_of (metric_of objective.now) (shown_below (known (table_at library.now) own objective.now) 36 q) }
 {
     laws();
     let _number = class.number();
-    let entry = mate_entry(aim, own, library, class, index);
-    exit_shown(aim.metric(), entry)
+    let entry = mate_entry(objective, own, library, class, index);
+    exit_shown(objective.metric(), entry)
 }
 
 /// The value of a position whose class has its table.
-fn exit_at(aim: &Aim<'_>, own: Class, library: &Library, next: &Position) -> Exit
-    requires knows { Knows (table_at library.now) own aim.now }
-    requires there { (c : ℕ) (flipped : Bool) → c < 36 → IsOf c flipped next.now → IsSome (known (table_at library.now) own aim.now c) }
-    ensures { result ≡ exit_of (metric_of aim.now) (shown_below (known (table_at library.now) own aim.now) 36 next.now) }
+fn exit_at(objective: &Objective<'_>, own: Class, library: &Library, next: &Position) -> Exit
+    requires knows { Knows (table_at library.now) own objective.now }
+    requires there { (c : ℕ) (flipped : Bool) → c < 36 → IsOf c flipped next.now → IsSome (known (table_at library.now) own objective.now c) }
+    ensures { result ≡ exit_of (metric_of objective.now) (shown_below (known (table_at library.now) own objective.now) 36 next.now) }
 {
     laws();
     let (class, _flipped) = of(next);
     let _side = next.side();
     let _number = class.number();
-    exit_in(aim, own, library, class, index(class, next))
+    exit_in(objective, own, library, class, index(class, next))
 }
 
 /// The same of a position without a target, by its men alone.
-fn exit_by_men(aim: &Aim<'_>, own: Class, library: &Library, next: &Men) -> Exit
-    requires knows { Knows (table_at library.now) own aim.now }
-    requires there { (q : Setup) × IsAdmissible q × AreMenOf q next.now × (q.target ≡ None) × ((c : ℕ) (flipped : Bool) → c < 36 → IsOf c flipped q → IsSome (known (table_at library.now) own aim.now c)) }
-    ensures { (q : Setup) → IsAdmissible q → AreMenOf q next.now → q.target ≡ None → result ≡ exit_of (metric_of aim.now) (shown_below (known (table_at library.now) own aim.now) 36 q) }
+fn exit_by_men(objective: &Objective<'_>, own: Class, library: &Library, next: &Men) -> Exit
+    requires knows { Knows (table_at library.now) own objective.now }
+    requires there { (q : Setup) × IsAdmissible q × AreMenOf q next.now × (q.target ≡ None) × ((c : ℕ) (flipped : Bool) → c < 36 → IsOf c flipped q → IsSome (known (table_at library.now) own objective.now c)) }
+    ensures { (q : Setup) → IsAdmissible q → AreMenOf q next.now → q.target ≡ None → result ≡ exit_of (metric_of objective.now) (shown_below (known (table_at library.now) own objective.now) 36 q) }
 {
     let (class, index) = indexed_by_men(next.white, next.black, next.one, next.other, next.side);
     let _number = class.number();
-    exit_in(aim, own, library, class, index)
+    exit_in(objective, own, library, class, index)
 }
 
 /// The value of where the move, which leaves the game, leads. The position there is not made where the men tell it.
 fn exit_after(
-    aim: &Aim<'_>,
+    objective: &Objective<'_>,
     class: Class,
     library: &Library,
     position: &Position,
@@ -155,29 +155,29 @@ fn exit_after(
     told: bool,
     chess_move: &Move,
 ) -> Exit
-    requires knows { Knows (table_at library.now) class aim.now }
+    requires knows { Knows (table_at library.now) class objective.now }
     requires of { (flipped : Bool) × IsOf class flipped position.now }
     requires children { HasChildren (table_at library.now) class }
     requires men { AreMenOf position.now men.now }
     requires legal { IsLegal position.now chess_move.now }
     requires told { told ≡ true → (q : Setup) → Leads position.now chess_move.now q → (position.now.target ≢ Some chess_move.now.to) × (q.target ≡ None) }
-    requires leaves { (q : Setup) → Leads position.now chess_move.now q → ¬ GoesOn (metric_of aim.now) class position.now chess_move.now q }
-    ensures { (q : Setup) → Leads position.now chess_move.now q → result ≡ exit_of (metric_of aim.now) (shown_below (known (table_at library.now) class aim.now) 36 q) }
+    requires leaves { (q : Setup) → Leads position.now chess_move.now q → ¬ GoesOn (metric_of objective.now) class position.now chess_move.now q }
+    ensures { (q : Setup) → Leads position.now chess_move.now q → result ≡ exit_of (metric_of objective.now) (shown_below (known (table_at library.now) class objective.now) 36 q) }
 {
     laws();
     let _side = position.side();
     let _number = class.number();
     if told {
         let next = men.after(chess_move);
-        return exit_by_men(aim, class, library, &next);
+        return exit_by_men(objective, class, library, &next);
     }
     let next = play_legal(position, *chess_move);
-    exit_at(aim, class, library, &next)
+    exit_at(objective, class, library, &next)
 }
 
 /// Adds the value of where the move, which leaves the game, leads.
 fn add_exit(
-    aim: &Aim<'_>,
+    objective: &Objective<'_>,
     class: Class,
     library: &Library,
     position: &Position,
@@ -186,26 +186,26 @@ fn add_exit(
     chess_move: &Move,
     list: &mut ArrayVec<Exit, 64>,
 )
-    requires knows { Knows (table_at library.now) class aim.now }
+    requires knows { Knows (table_at library.now) class objective.now }
     requires of { (flipped : Bool) × IsOf class flipped position.now }
     requires children { HasChildren (table_at library.now) class }
     requires men { AreMenOf position.now men.now }
     requires legal { IsLegal position.now chess_move.now }
     requires told { told ≡ true → (q : Setup) → Leads position.now chess_move.now q → (position.now.target ≢ Some chess_move.now.to) × (q.target ≡ None) }
-    requires leaves { (q : Setup) → Leads position.now chess_move.now q → ¬ GoesOn (metric_of aim.now) class position.now chess_move.now q }
+    requires leaves { (q : Setup) → Leads position.now chess_move.now q → ¬ GoesOn (metric_of objective.now) class position.now chess_move.now q }
     requires room { array_vec_len list.old < 64 }
-    ensures items { list.new.items ≡ list.old.items ++ option_to_list (exit_by (known (table_at library.now) class aim.now) (metric_of aim.now) class position.now chess_move.now (played position.now chess_move.now)) }
+    ensures items { list.new.items ≡ list.old.items ++ option_to_list (exit_by (known (table_at library.now) class objective.now) (metric_of objective.now) class position.now chess_move.now (played position.now chess_move.now)) }
     ensures few { array_vec_len list.new ≤ array_vec_len list.old + 1 }
 {
     laws();
     let _side = position.side();
-    let exit = exit_after(aim, class, library, position, men, told, chess_move);
+    let exit = exit_after(objective, class, library, position, men, told, chess_move);
     list.push(exit);
 }
 
 /// Adds the values of where the moves between the two squares, which leave the game, lead, in the order of moves.
 fn add_exits_to(
-    aim: &Aim<'_>,
+    objective: &Objective<'_>,
     class: Class,
     library: &Library,
     position: &Position,
@@ -213,13 +213,13 @@ fn add_exits_to(
     to: Square,
     list: &mut ArrayVec<Exit, 64>,
 )
-    requires knows { Knows (table_at library.now) class aim.now }
+    requires knows { Knows (table_at library.now) class objective.now }
     requires of { (flipped : Bool) × IsOf class flipped position.now }
     requires children { HasChildren (table_at library.now) class }
     requires target { IsLegalTarget position.now from to }
-    requires leaves { (m : Move) (q : Setup) → m.from ≡ from → m.to ≡ to → Leads position.now m q → ¬ GoesOn (metric_of aim.now) class position.now m q }
+    requires leaves { (m : Move) (q : Setup) → m.from ≡ from → m.to ≡ to → Leads position.now m q → ¬ GoesOn (metric_of objective.now) class position.now m q }
     requires room { (man : Man) → Stands position.now.men from man → array_vec_len list.old + most_choices man.kind ≤ 64 }
-    ensures items { list.new.items ≡ list.old.items ++ exits_by (known (table_at library.now) class aim.now) (metric_of aim.now) class position.now (moves_between from to) }
+    ensures items { list.new.items ≡ list.old.items ++ exits_by (known (table_at library.now) class objective.now) (metric_of objective.now) class position.now (moves_between from to) }
     ensures few { (man : Man) → Stands position.now.men from man → array_vec_len list.new ≤ array_vec_len list.old + most_choices man.kind }
 {
     laws();
@@ -232,13 +232,13 @@ fn add_exits_to(
             to,
             promo: *promo,
         };
-        add_exit(aim, class, library, position, &men, told, &chess_move, list);
+        add_exit(objective, class, library, position, &men, told, &chess_move, list);
     }
 }
 
 /// Adds the values of where the man's moves that leave the game lead, in the order of moves: those to these squares.
 pub(crate) fn add_exits(
-    aim: &Aim<'_>,
+    objective: &Objective<'_>,
     class: Class,
     library: &Library,
     position: &Position,
@@ -246,20 +246,20 @@ pub(crate) fn add_exits(
     targets: SquareSet,
     list: &mut ArrayVec<Exit, 64>,
 )
-    requires knows { Knows (table_at library.now) class aim.now }
+    requires knows { Knows (table_at library.now) class objective.now }
     requires of { (flipped : Bool) × IsOf class flipped position.now }
     requires children { HasChildren (table_at library.now) class }
     requires targets { (t : ℕ) → Has targets t → IsLegalTarget position.now from t }
-    requires leaves { AllLeave (metric_of aim.now) class position.now from targets }
-    requires others { OthersGoOn (metric_of aim.now) class position.now from targets }
+    requires leaves { AllLeave (metric_of objective.now) class position.now from targets }
+    requires others { OthersGoOn (metric_of objective.now) class position.now from targets }
     requires room { (man : Man) → Stands position.now.men from man → array_vec_len list.old + most_choices man.kind * size_of targets ≤ 64 }
-    ensures items { list.new.items ≡ list.old.items ++ exits_by (known (table_at library.now) class aim.now) (metric_of aim.now) class position.now (moves_from from 64) }
+    ensures items { list.new.items ≡ list.old.items ++ exits_by (known (table_at library.now) class objective.now) (metric_of objective.now) class position.now (moves_from from 64) }
     ensures few { (man : Man) → Stands position.now.men from man → array_vec_len list.new ≤ array_vec_len list.old + most_choices man.kind * size_of targets }
 {
     laws();
     let _side = position.side();
     let mut rest = targets;
     while let Some(to) = rest.pop_first() {
-        add_exits_to(aim, class, library, position, from, to, list);
+        add_exits_to(objective, class, library, position, from, to, list);
     }
 }

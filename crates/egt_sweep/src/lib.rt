@@ -1,7 +1,7 @@
 //! The builder of tables by retrograde analysis, and the games over the classes of positions that it solves.
 #![tactic(auto)]
 
-mod aim;
+mod objective;
 mod ascending;
 mod build_fault;
 mod building;

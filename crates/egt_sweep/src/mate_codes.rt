@@ -4,13 +4,13 @@ ghost use Rattle.egt_graph.specs.Value.{AreRanks, SomeAbove};
 ghost use Rattle.egt_check.specs.Tables.{table_at, HasChildren};
 ghost use Rattle.egt_check.specs.declared.metric.Metric.TheVariants.{Mate};
 ghost use Rattle.egt_index.specs.Numbers.{places};
-ghost use Rattle.egt_sweep.specs.Aiming.{known, Knows, knows_prop, metric_of};
+ghost use Rattle.egt_sweep.specs.Objective.{known, Knows, knows_prop, metric_of};
 ghost use Rattle.egt_sweep.specs.ClassGame.{class_game};
 ghost use Rattle.egt_sweep.specs.CodeGame.{code_game_is_lawful};
 ghost use Rattle.egt_sweep.specs.CodeLists.{moves_told};
 ghost use Rattle.egt_sweep.specs.CodeMates.{TellMates, game_by};
 
-use crate::aim::Aim;
+use crate::objective::Objective;
 use crate::code_words::CodeWords;
 use crate::kept::kept_entries;
 use crate::laws::{codes_stand_for_indexes, laws};
@@ -28,18 +28,18 @@ pub(crate) struct MateCodes<'l> {
     pub(crate) library: &'l Library,
     pub(crate) words: &'l CodeWords,
     /// Mates, or the nearest mates.
-    pub(crate) aim: Aim<'l>,
+    pub(crate) objective: Objective<'l>,
     ghost children: { HasChildren (table_at library.now) words.now.class },
-    ghost stays: { metric_of aim ≡ Mate },
-    ghost knows: { Knows (table_at library.now) words.now.class aim } by { knows_prop (table_at library.now) words.now.class aim },
+    ghost stays: { metric_of objective ≡ Mate },
+    ghost knows: { Knows (table_at library.now) words.now.class objective } by { knows_prop (table_at library.now) words.now.class objective },
 }
 
 impl Shelved for MateCodes<'_> {
-    ghost graph = { λ g. game_by (known (table_at g.library.now) g.words.now.class g.aim) Mate g.words.now.class g.words.now.lists };
+    ghost graph = { λ g. game_by (known (table_at g.library.now) g.words.now.class g.objective) Mate g.words.now.class g.words.now.lists };
 
     ghost span = { λ g. places g.words.now.class };
 
-    ghost lawful = { λ g. code_game_is_lawful (known (table_at g.library.now) g.words.now.class g.aim) Mate g.words.now.class (moves_told g.words.now.class g.words.now.lists) };
+    ghost lawful = { λ g. code_game_is_lawful (known (table_at g.library.now) g.words.now.class g.objective) Mate g.words.now.class (moves_told g.words.now.class g.words.now.lists) };
 
     fn size(&self) -> u32 {
         size(self.words.class)
@@ -56,7 +56,7 @@ impl Shelved for MateCodes<'_> {
         let class = self.words.class;
         let _number = class.number();
         let index = self.words.index_of(i);
-        list_exits(&self.aim, class, self.library, index, exits);
+        list_exits(&self.objective, class, self.library, index, exits);
     }
 
     fn span(&self) -> u32 {
@@ -116,7 +116,7 @@ pub(crate) fn solve_mate_codes<'x>(
     let game = MateCodes {
         library,
         words,
-        aim: Aim::Mate,
+        objective: Objective::Mate,
     };
     let (entries, exits) = solve_by_words(alloc, &game, limit)?;
     let kept = kept_entries(alloc, words, entries.entries())?;

@@ -3,7 +3,7 @@ ghost use Rattle.egt_check.specs.Tables.{table_at, HasChildren};
 ghost use Rattle.egt_check.specs.declared.metric.Metric.TheVariants.{Mate};
 ghost use Rattle.egt_sweep.specs.ClassGame.{class_game, class_game_is_lawful};
 
-use crate::aim::Aim;
+use crate::objective::Objective;
 use crate::missing::Missing;
 use crate::nodes::{exits, is_mated, is_void, predecessors, successors};
 use arrayvec::ArrayVec;
@@ -73,6 +73,6 @@ impl Game for MateGame<'_> {
     }
 
     fn exits(&self, i: u32) -> ArrayVec<Exit, 64> {
-        exits(&Aim::Mate, self.class, self.library, i)
+        exits(&Objective::Mate, self.class, self.library, i)
     }
 }

@@ -4,11 +4,11 @@ ghost use Rattle.std.specs.Option.{is_some};
 ghost use Rattle.egt_index.specs.Size.{size_of};
 ghost use Rattle.egt_graph.specs.Passing.{passing_below};
 ghost use Rattle.egt_check.specs.Tables.{table_at, HasChildren};
-ghost use Rattle.egt_sweep.specs.Aiming.{metric_of, known, Knows};
+ghost use Rattle.egt_sweep.specs.Objective.{metric_of, known, Knows};
 ghost use Rattle.egt_sweep.specs.Edges.{IsAt};
 ghost use Rattle.egt_sweep.specs.Nodes.{position_at, is_mated, connects, exits_at};
 
-use crate::aim::Aim;
+use crate::objective::Objective;
 use crate::edges::edges;
 use crate::exits::add_exits_of_side;
 use crate::laws::laws;
@@ -77,36 +77,36 @@ pub(crate) fn predecessors(metric: Metric, class: Class, index: u32) -> ArrayVec
 /// Fills the list, in the place of what it had, with the values of where the moves lead that leave the game from a node, in the order of
 /// moves.
 pub(crate) fn list_exits(
-    aim: &Aim<'_>,
+    objective: &Objective<'_>,
     class: Class,
     library: &Library,
     index: u32,
     list: &mut ArrayVec<Exit, 64>,
 )
     requires node { IsFalse (not (is_some (position_at class index))) }
-    requires knows { Knows (table_at library.now) class aim.now }
+    requires knows { Knows (table_at library.now) class objective.now }
     requires children { HasChildren (table_at library.now) class }
-    ensures { list.new.items ≡ exits_at (known (table_at library.now) class aim.now) (metric_of aim.now) class index }
+    ensures { list.new.items ≡ exits_at (known (table_at library.now) class objective.now) (metric_of objective.now) class index }
 {
     laws();
     let position = node(class, index);
     list.clear();
-    add_exits_of_side(aim, class, library, &position, list);
+    add_exits_of_side(objective, class, library, &position, list);
 }
 
 /// The same in a list of its own.
 pub(crate) fn exits(
-    aim: &Aim<'_>,
+    objective: &Objective<'_>,
     class: Class,
     library: &Library,
     index: u32,
 ) -> ArrayVec<Exit, 64>
     requires node { IsFalse (not (is_some (position_at class index))) }
-    requires knows { Knows (table_at library.now) class aim.now }
+    requires knows { Knows (table_at library.now) class objective.now }
     requires children { HasChildren (table_at library.now) class }
-    ensures { result.items ≡ exits_at (known (table_at library.now) class aim.now) (metric_of aim.now) class index }
+    ensures { result.items ≡ exits_at (known (table_at library.now) class objective.now) (metric_of objective.now) class index }
 {
     let mut list = ArrayVec::new();
-    list_exits(aim, class, library, index, &mut list);
+    list_exits(objective, class, library, index, &mut list);
     list
 }

@@ -1,10 +1,10 @@
 //! The game of the nearest mates over a class.
 ghost use Rattle.std.specs.Prelude.{◌≡◌, map};
 ghost use Rattle.egt_check.specs.Tables.{table_at, HasChildren, HasReachChildren};
-ghost use Rattle.egt_sweep.specs.Aiming.{reach_children_prop};
+ghost use Rattle.egt_sweep.specs.Objective.{reach_children_prop};
 ghost use Rattle.egt_sweep.specs.ReachGame.{as_win, reach_game, reach_game_is_lawful};
 
-use crate::aim::Aim;
+use crate::objective::Objective;
 use crate::build_fault::BuildFault;
 use crate::nodes::{exits, is_mated, is_void, predecessors, successors};
 use arrayvec::ArrayVec;
@@ -99,6 +99,6 @@ impl Game for ReachGame<'_> {
     }
 
     fn exits(&self, i: u32) -> ArrayVec<Exit, 64> {
-        as_wins(&exits(&Aim::Reach, self.class, self.library, i))
+        as_wins(&exits(&Objective::Reach, self.class, self.library, i))
     }
 }

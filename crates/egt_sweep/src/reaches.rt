@@ -4,7 +4,7 @@ ghost use Rattle.egt_graph.specs.Near.{AreNears, SomeFar};
 ghost use Rattle.egt_check.specs.Tables.{table_at, HasChildren, HasReachChildren};
 ghost use Rattle.egt_sweep.specs.ReachGame.{reach_game};
 
-use crate::aim::Aim;
+use crate::objective::Objective;
 use crate::code_words::CodeWords;
 use crate::kept::kept_entries;
 use crate::laws::{codes_stand_for_indexes, laws};
@@ -32,7 +32,7 @@ fn nears_of_codes<'x>(
     let game = MateCodes {
         library,
         words,
-        aim: Aim::Reach,
+        objective: Objective::Reach,
     };
     let nears = nearest_by_words(alloc, &game)?;
     let kept = kept_entries(alloc, words, nears.entries())?;

@@ -13,7 +13,7 @@ ghost use Rattle.egt_sweep.specs.CodeMates.{TellMates, game_by};
 ghost use Rattle.egt_sweep.specs.MateColumn.{IsMateColumn, mate_table};
 ghost use Rattle.egt_sweep.specs.OddMarks.{AreOddMarks};
 
-use crate::aim::Aim;
+use crate::objective::Objective;
 use crate::code_words::CodeWords;
 use crate::kept::kept_entries;
 use crate::laws::{codes_stand_for_indexes, laws};
@@ -94,8 +94,8 @@ impl Shelved for ZeroCodes<'_> {
         let class = self.words.class;
         let _number = class.number();
         let index = self.words.index_of(i);
-        let aim = Aim::Zeroing(self.mates);
-        list_exits(&aim, class, self.library, index, exits);
+        let objective = Objective::Zeroing(self.mates);
+        list_exits(&objective, class, self.library, index, exits);
     }
 
     fn span(&self) -> u32 {

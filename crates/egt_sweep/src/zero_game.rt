@@ -6,7 +6,7 @@ ghost use Rattle.egt_check.specs.declared.metric.Metric.TheVariants.{Zeroing};
 ghost use Rattle.egt_sweep.specs.ClassGame.{class_game, class_game_is_lawful};
 ghost use Rattle.egt_sweep.specs.MateColumn.{mate_table, IsMateColumn};
 
-use crate::aim::Aim;
+use crate::objective::Objective;
 use crate::missing::Missing;
 use crate::nodes::{exits, is_mated, is_void, predecessors, successors};
 use arrayvec::ArrayVec;
@@ -90,6 +90,6 @@ impl Game for ZeroGame<'_> {
     }
 
     fn exits(&self, i: u32) -> ArrayVec<Exit, 64> {
-        exits(&Aim::Zeroing(self.mates), self.class, self.library, i)
+        exits(&Objective::Zeroing(self.mates), self.class, self.library, i)
     }
 }

@@ -4,7 +4,7 @@ use Rattle.std.proofs.lemmas.Nat.Bits.{bit_at-lt}
 use Rattle.egt_board.specs.SquareSet.{Has, size_of}
 use Rattle.egt_check.specs.declared.metric.Metric.{Metric}
 use Rattle.egt_check.specs.Tables.{table_at}
-use Rattle.egt_sweep.specs.Aiming.{metric_of, known}
+use Rattle.egt_sweep.specs.Objective.{metric_of, known}
 use Rattle.egt_sweep.specs.Edges.{GoesOn}
 use Rattle.egt_sweep.proofs.AttackingNobody.{none_from}
 use Rattle.egt_sweep.proofs.Onward.{man_goes_on, targeted}
@@ -15,7 +15,7 @@ pub returns-then-goes_on-clause-exits : goal.returns-then-goes_on-clause-exits
 returns-then-goes_on-clause-exits c =
     let p = c.args.position.now in
     sym (ap (λ es. c.args.exits.now.items ++ es)
-    (none_from c.laws.ensures (known (table_at c.args.library.now) c.args.class c.args.aim.now) (metric_of c.args.aim.now) c.args.class p c.args.from c.side-side.ensures.admissible
+    (none_from c.laws.ensures (known (table_at c.args.library.now) c.args.class c.args.objective.now) (metric_of c.args.objective.now) c.args.class p c.args.from c.side-side.ensures.admissible
     (λ m q here leads. subst (λ (metric : Metric). GoesOn metric c.args.class p m q) c.metric-metric.ensures (c.goes_on.ensures c.if-goes_on.true m q here leads)))
     ∙ append-nil c.args.exits.now.items)
 

@@ -9,7 +9,7 @@ use Rattle.egt_moves.specs.DecidedMoves.{decided_legal}
 use Rattle.egt_moves.specs.Moves.{played}
 use Rattle.egt_moves.specs.Room.{room_at_first, room_for_man, room_for_others, HasRoom}
 use Rattle.egt_check.specs.Tables.{table_at}
-use Rattle.egt_sweep.specs.Aiming.{metric_of, known}
+use Rattle.egt_sweep.specs.Objective.{metric_of, known}
 use Rattle.egt_sweep.specs.Nodes.{exit_by}
 use Rattle.egt_sweep.proofs.OutOfClass.{nothing_told}
 use Rattle.egt_sweep.proofs.Onward.{not_held}
@@ -23,8 +23,8 @@ loop-from-init c =
     let held : (t : ℕ) → Has c.of-rest.result t → IsHeld p.men t p.side = λ t has. subst (λ (side : Side). IsHeld p.men t side) c.side.ensures.side ((c.of-rest.ensures.held t).0 has) in
     let has : (s : ℕ) → IsHeld p.men s p.side → Has c.of-rest.result s = λ s here. (c.of-rest.ensures.held s).1 (subst (λ (side : Side). IsHeld p.men s side) (sym c.side.ensures.side) here) in
     let few = c.of-rest.ensures.few in
-    let tables = known (table_at c.args.library.now) c.args.class c.args.aim.now in
-    let metric = metric_of c.args.aim.now in
+    let tables = known (table_at c.args.library.now) c.args.class c.args.objective.now in
+    let metric = metric_of c.args.objective.now in
     let list = c.args.exits.now.items in (
       held,
       walked_none _ c.of-rest.result c.of-rest.result list list list refl (λ s off.
@@ -52,8 +52,8 @@ loop-from-preserved c =
 pub returns : goal.returns
 returns c =
     let p = c.args.position.now in
-    let tables = known (table_at c.args.library.now) c.args.class c.args.aim.now in
-    let metric = metric_of c.args.aim.now in
+    let tables = known (table_at c.args.library.now) c.args.class c.args.objective.now in
+    let metric = metric_of c.args.objective.now in
     let list = c.loop-from.exits.items in
     walked_whole _ c.loop-from.rest c.loop-from.rest c.args.exits.now.items list list c.requires.empty c.in_default.ensures.empty c.loop-from.invariant.1
     ∙ sym (all_told (λ m. option_to_list (exit_by tables metric c.args.class p m (played p m))) p (λ m illegal.

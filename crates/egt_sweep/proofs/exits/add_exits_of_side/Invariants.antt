@@ -5,7 +5,7 @@ use Rattle.egt_board.specs.SquareSet.{Has}
 use Rattle.egt_moves.specs.Moves.{moves_from}
 use Rattle.egt_moves.specs.Room.{HasRoom}
 use Rattle.egt_check.specs.Tables.{table_at}
-use Rattle.egt_sweep.specs.Aiming.{metric_of, known}
+use Rattle.egt_sweep.specs.Objective.{metric_of, known}
 use Rattle.egt_sweep.specs.Nodes.{exits_by}
 use Rattle.egt_sweep.proofs.Walked.{Walked}
 use Rattle.egt_sweep.proofs.exits.add_exits_of_side.Given as goal
@@ -14,7 +14,7 @@ use Rattle.egt_sweep.proofs.exits.add_exits_of_side.Given as goal
 abbrev pub invariant-loop-from : goal.invariant-loop-from
 invariant-loop-from l =
     ((t : ℕ) → Has l.rest t → IsHeld l.position.men t l.position.side)
-    × Walked (λ s. exits_by (known (table_at l.library) l.class l.aim) (metric_of l.aim) l.class l.position (moves_from s 64)) l.rest l.fn.exits.items l.exits.items
+    × Walked (λ s. exits_by (known (table_at l.library) l.class l.objective) (metric_of l.objective) l.class l.position (moves_from s 64)) l.rest l.fn.exits.items l.exits.items
     × HasRoom l.position (array_vec_len l.exits) l.rest
 
 abbrev pub decreases-loop-from : goal.decreases-loop-from

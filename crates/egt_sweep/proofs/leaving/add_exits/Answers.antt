@@ -3,7 +3,7 @@ use Rattle.std.specs.Option.{option_to_list}
 use Rattle.egt_board.specs.SquareSet.{Has}
 use Rattle.egt_moves.specs.Moves.{played}
 use Rattle.egt_check.specs.Tables.{table_at}
-use Rattle.egt_sweep.specs.Aiming.{metric_of, known}
+use Rattle.egt_sweep.specs.Objective.{metric_of, known}
 use Rattle.egt_sweep.specs.Nodes.{exit_by}
 use Rattle.egt_sweep.proofs.Walked.{walked_none, walked_more, walked_all, between_none, from_told, room_step}
 use Rattle.egt_sweep.proofs.OutOfClass.{nothing_told}
@@ -13,8 +13,8 @@ use Rattle.egt_sweep.proofs.leaving.add_exits.Goals as goal
 pub loop-to-init : goal.loop-to-init
 loop-to-init c =
     let p = c.args.position.now in
-    let tables = known (table_at c.args.library.now) c.args.class c.args.aim.now in
-    let metric = metric_of c.args.aim.now in (
+    let tables = known (table_at c.args.library.now) c.args.class c.args.objective.now in
+    let metric = metric_of c.args.objective.now in (
       walked_none _ c.args.targets c.args.targets c.args.list.now.items c.args.list.now.items c.args.list.now.items refl
           (λ t off. between_none (λ m. option_to_list (exit_by tables metric c.args.class p m (played p m))) c.args.from t
           (λ promo. nothing_told c.laws.ensures tables metric c.args.class p (record { from = c.args.from; to = t; promo = promo }) c.side-side.ensures.admissible (λ q leads. c.requires.others _ q refl off leads))),
@@ -49,8 +49,8 @@ loop-to-preserved c =
 pub returns-clause-items : goal.returns-clause-items
 returns-clause-items c =
     let p = c.args.position.now in
-    let tables = known (table_at c.args.library.now) c.args.class c.args.aim.now in
-    let metric = metric_of c.args.aim.now in
+    let tables = known (table_at c.args.library.now) c.args.class c.args.objective.now in
+    let metric = metric_of c.args.objective.now in
     let before = c.args.list.now.items in
     walked_all _ c.loop-to.rest c.loop-to.rest before c.loop-to.list.items c.loop-to.list.items c.in_default.ensures.empty c.loop-to.invariant.0
     ∙ ap (λ ys. before ++ ys) (sym (from_told (λ m. option_to_list (exit_by tables metric c.args.class p m (played p m))) c.args.from 64))

@@ -6,7 +6,7 @@ use Rattle.egt_board.specs.declared.man.Man.{Man}
 use Rattle.egt_moves.specs.Moves.{moves_between}
 use Rattle.egt_moves.specs.Room.{most_choices}
 use Rattle.egt_check.specs.Tables.{table_at}
-use Rattle.egt_sweep.specs.Aiming.{metric_of, known}
+use Rattle.egt_sweep.specs.Objective.{metric_of, known}
 use Rattle.egt_sweep.specs.Nodes.{exits_by}
 use Rattle.egt_sweep.proofs.Walked.{Walked}
 use Rattle.egt_sweep.proofs.leaving.add_exits.Given as goal
@@ -14,7 +14,7 @@ use Rattle.egt_sweep.proofs.leaving.add_exits.Given as goal
 -- the moves to the squares that are no longer left are told, and there is room for the others
 abbrev pub invariant-loop-to : goal.invariant-loop-to
 invariant-loop-to l =
-    Walked (λ t. exits_by (known (table_at l.library) l.class l.aim) (metric_of l.aim) l.class l.position (moves_between l.from t)) l.rest l.fn.list.items l.list.items
+    Walked (λ t. exits_by (known (table_at l.library) l.class l.objective) (metric_of l.objective) l.class l.position (moves_between l.from t)) l.rest l.fn.list.items l.list.items
     × ((t : ℕ) → Has l.rest t → Has l.fn.targets t)
     × ((man : Man) → Stands l.position.men l.from man → array_vec_len l.list + most_choices man.kind * size_of l.rest ≤ array_vec_len l.fn.list + most_choices man.kind * size_of l.fn.targets)
 

@@ -6,7 +6,7 @@ use Rattle.std.proofs.lemmas.List.{get_or_default, take_all}
 use Rattle.egt_moves.specs.Moves.{played}
 use Rattle.egt_moves.specs.Promotion.{promotes}
 use Rattle.egt_check.specs.Tables.{table_at}
-use Rattle.egt_sweep.specs.Aiming.{metric_of, known}
+use Rattle.egt_sweep.specs.Objective.{metric_of, known}
 use Rattle.egt_sweep.specs.Nodes.{exit_by}
 use Rattle.egt_sweep.proofs.Walked.{told_of, few_choices}
 use Rattle.egt_sweep.proofs.OutOfClass.{between_told}
@@ -33,8 +33,8 @@ add_exit-requires-clause-room c =
 pub returns-clause-items : goal.returns-clause-items
 returns-clause-items c =
     let p = c.args.position.now in
-    let tables = known (table_at c.args.library.now) c.args.class c.args.aim.now in
-    let metric = metric_of c.args.aim.now in
+    let tables = known (table_at c.args.library.now) c.args.class c.args.objective.now in
+    let metric = metric_of c.args.objective.now in
     let leads = c.requires.target.1.1 in
     let items = c.promotions-promo-items.result.now in
     let before = c.args.list.now.items in

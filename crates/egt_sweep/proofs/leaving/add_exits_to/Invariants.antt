@@ -4,7 +4,7 @@ use Rattle.std.specs.Option.{option_to_list}
 use Rattle.arrayvec.specs.ArrayVec.{array_vec_len}
 use Rattle.egt_moves.specs.Moves.{played}
 use Rattle.egt_check.specs.Tables.{table_at}
-use Rattle.egt_sweep.specs.Aiming.{metric_of, known}
+use Rattle.egt_sweep.specs.Objective.{metric_of, known}
 use Rattle.egt_sweep.specs.Nodes.{exit_by}
 use Rattle.egt_sweep.proofs.Walked.{told_of}
 use Rattle.egt_sweep.proofs.leaving.add_exits_to.Given as goal
@@ -12,5 +12,5 @@ use Rattle.egt_sweep.proofs.leaving.add_exits_to.Given as goal
 -- the promotions so far are told
 abbrev pub invariant-loop-promo : goal.invariant-loop-promo
 invariant-loop-promo l =
-    (l.list.items ≡ l.fn.list.items ++ flat_map (told_of (λ m. option_to_list (exit_by (known (table_at l.library) l.class l.aim) (metric_of l.aim) l.class l.position m (played l.position m))) l.from l.to) (take l.promo-index l.promo-items))
+    (l.list.items ≡ l.fn.list.items ++ flat_map (told_of (λ m. option_to_list (exit_by (known (table_at l.library) l.class l.objective) (metric_of l.objective) l.class l.position m (played l.position m))) l.from l.to) (take l.promo-index l.promo-items))
     × (array_vec_len l.list ≤ array_vec_len l.fn.list + l.promo-index)

@@ -3,9 +3,9 @@ use Rattle.std.proofs.lemmas.Bool.{false≢true}
 use Rattle.egt_check.specs.declared.metric.Metric.TheVariants.{Mate}
 use Rattle.egt_table.specs.Table.{TableValue}
 use Rattle.egt_check.specs.Tables.{table_at, entry_at}
-use Rattle.egt_sweep.specs.Aiming.{known, Knows}
+use Rattle.egt_sweep.specs.Objective.{known, Knows}
 use Rattle.egt_sweep.specs.MateColumn.{mate_table}
-use Rattle.egt_sweep.specs.declared.aim.Aim.{Aim}
+use Rattle.egt_sweep.specs.declared.objective.Objective.{Objective}
 use Rattle.egt_sweep.proofs.OutOfClass.{beside_other}
 use Rattle.egt_sweep.proofs.OwnColumn.{own_bound, own_shows}
 use Rattle.egt_sweep.proofs.Staying.{tests_equal}
@@ -18,11 +18,11 @@ bounds-entries-index c =
 
 pub returns-in-Mate-clause-is : goal.returns-in-Mate-clause-is
 returns-in-Mate-clause-is c =
-    subst (λ (aim : Aim). IfSome (known (table_at c.args.library.now) c.args.own aim c.args.class) (λ t. c.table_entry.result ≡ entry_at t Mate c.args.index)) (sym c.in-Mate.is) c.table_entry.ensures.is
+    subst (λ (objective : Objective). IfSome (known (table_at c.args.library.now) c.args.own objective c.args.class) (λ t. c.table_entry.result ≡ entry_at t Mate c.args.index)) (sym c.in-Mate.is) c.table_entry.ensures.is
 
 pub returns-in-Reach-clause-is : goal.returns-in-Reach-clause-is
 returns-in-Reach-clause-is c =
-    subst (λ (aim : Aim). IfSome (known (table_at c.args.library.now) c.args.own aim c.args.class) (λ t. c.near_entry.result ≡ entry_at t Mate c.args.index)) (sym c.in-Reach.is) c.near_entry.ensures.is
+    subst (λ (objective : Objective). IfSome (known (table_at c.args.library.now) c.args.own objective c.args.class) (λ t. c.near_entry.result ≡ entry_at t Mate c.args.index)) (sym c.in-Reach.is) c.near_entry.ensures.is
 
 pub returns-then-eq-clause-shows : goal.returns-then-eq-clause-shows
 returns-then-eq-clause-shows c =
@@ -35,4 +35,4 @@ returns-else-eq-clause-is c =
     let tables = table_at c.args.library.now in
     let other = beside_other tables (mate_table c.args.own c.in-Zeroing.ranks.now) c.args.class (λ e. false≢true (sym c.if-eq.false ∙ (tests_equal c.eq.result c.args.class c.args.own c.eq.ensures).1 e)) in
     let here = subst (λ (o : Option TableValue). IfSome o (λ t. c.table_entry-else-eq.result ≡ entry_at t Mate c.args.index)) (sym other) c.table_entry-else-eq.ensures.is in
-    subst (λ (aim : Aim). IfSome (known tables c.args.own aim c.args.class) (λ t. c.table_entry-else-eq.result ≡ entry_at t Mate c.args.index)) (sym c.in-Zeroing.is) here
+    subst (λ (objective : Objective). IfSome (known tables c.args.own objective c.args.class) (λ t. c.table_entry-else-eq.result ≡ entry_at t Mate c.args.index)) (sym c.in-Zeroing.is) here

@@ -6,7 +6,7 @@ use egt_graph::Ranks;
 
 /// The end to which a game's ranks count the plies.
 #[derive(Clone, Copy)]
-pub(crate) enum Aim<'l> {
+pub(crate) enum Objective<'l> {
     /// Checkmate. Moves that stay in the class go on, and the others leave the game.
     Mate,
     /// The next zeroing move or checkmate. Moves that do not zero go on, and the others leave the game; where one of them stays in the
@@ -17,17 +17,17 @@ pub(crate) enum Aim<'l> {
     Reach,
 }
 
-impl Aim<'_> {
-    ghost use Rattle.egt_sweep.specs.Aiming.{metric_of};
+impl Objective<'_> {
+    ghost use Rattle.egt_sweep.specs.Objective.{metric_of};
 
     /// Which moves go on in the game: those that stay in the class, or those that do not zero.
     pub(crate) fn metric(&self) -> Metric
         ensures { result ≡ metric_of self.now }
     {
         match self {
-            Aim::Mate => Metric::Mate,
-            Aim::Zeroing(_ranks) => Metric::Zeroing,
-            Aim::Reach => Metric::Mate,
+            Objective::Mate => Metric::Mate,
+            Objective::Zeroing(_ranks) => Metric::Zeroing,
+            Objective::Reach => Metric::Mate,
         }
     }
 }

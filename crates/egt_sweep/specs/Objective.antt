@@ -6,25 +6,25 @@ use Rattle.egt_check.specs.declared.metric.Metric.{Metric}
 use Rattle.egt_check.specs.declared.metric.Metric.TheVariants as metrics
 use Rattle.egt_check.specs.NearTables.{near_tables}
 use Rattle.egt_check.specs.Tables.{Tables, beside, HasReachChildren}
-use Rattle.egt_sweep.specs.declared.aim.Aim.{Aim}
-use Rattle.egt_sweep.specs.declared.aim.Aim.TheVariants.{Mate, Zeroing, Reach}
+use Rattle.egt_sweep.specs.declared.objective.Objective.{Objective}
+use Rattle.egt_sweep.specs.declared.objective.Objective.TheVariants.{Mate, Zeroing, Reach}
 use Rattle.egt_sweep.specs.MateColumn.{IsMateColumn, mate_table}
 
 -- which moves go on
-abbrev pub metric_of : Aim → Metric
+abbrev pub metric_of : Objective → Metric
 metric_of Mate = metrics.Mate
 metric_of (Zeroing ranks) = metrics.Zeroing
 metric_of Reach = metrics.Mate
 
 -- the tables by whose mate columns exits are valued: those at hand, with the mate column of this class where the game has moves that leave it and stay
 -- in the class; or the columns of the nearest mates, read as mate columns
-abbrev pub known : Tables → ℕ → Aim → Tables
+abbrev pub known : Tables → ℕ → Objective → Tables
 known tables c Mate = tables
 known tables c (Zeroing ranks) = beside tables (mate_table c ranks.now)
 known tables c Reach = near_tables tables
 
 -- that column shows the values of the class's positions; or the children's tables have the column of the nearest mates
-abbrev pub Knows : Tables → ℕ → Aim → Type 0
+abbrev pub Knows : Tables → ℕ → Objective → Type 0
 Knows tables c Mate = Unit {0}
 Knows tables c (Zeroing ranks) = IsMateColumn c ranks.now
 Knows tables c Reach = HasReachChildren tables c
@@ -33,7 +33,7 @@ Knows tables c Reach = HasReachChildren tables c
 pub reach_children_prop : (tables : Tables) (c : ℕ) → IsProp (HasReachChildren tables c)
 reach_children_prop tables c = hlevel (props, Bool-set)
 
-pub knows_prop : (tables : Tables) (c : ℕ) (aim : Aim) → IsProp (Knows tables c aim)
+pub knows_prop : (tables : Tables) (c : ℕ) (objective : Objective) → IsProp (Knows tables c objective)
 knows_prop tables c Mate = hlevel props
 knows_prop tables c (Zeroing ranks) = hlevel (props, Bool-set)
 knows_prop tables c Reach = reach_children_prop tables c
