@@ -23,7 +23,7 @@ use Rattle.egt_sweep.specs.CodeLists.{IsTold, moves_told}
 use Rattle.egt_sweep.specs.CodeMates.{AreOfIndexes, TellMates, game_by}
 use Rattle.egt_sweep.specs.Laws.{Laws}
 use Rattle.egt_sweep.specs.Nodes.{position_at}
-use Rattle.egt_sweep.specs.OddMarks.{IsOddAbove}
+use Rattle.egt_sweep.specs.ResultMarks.{IsOddAbove}
 use Rattle.egt_sweep.specs.declared.code_words.CodeLists.{CodeLists}
 use Rattle.egt_sweep.specs.declared.mate_codes.CodeEntries.{CodeEntries}
 use Rattle.egt_sweep.proofs.CodeIndexes.{indexed_number, numbered_at, stands_for_itself}

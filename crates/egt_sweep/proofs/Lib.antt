@@ -33,7 +33,7 @@ pub mod CodeSources
 pub mod SoFar
 pub mod ZeroCodes
 pub mod CodeMarks
-pub mod OddMarks
+pub mod ResultMarks
 pub mod CodeStarts
 pub mod Remaining
 pub mod KeptEntries

@@ -30,7 +30,7 @@ use Rattle.egt_sweep.specs.Edges.{PushesTo}
 use Rattle.egt_sweep.specs.Laws.{Laws}
 use Rattle.egt_sweep.specs.MateColumn.{IsMateColumn, mate_table}
 use Rattle.egt_sweep.specs.Nodes.{exits_at}
-use Rattle.egt_sweep.specs.OddMarks.{IsOddAbove}
+use Rattle.egt_sweep.specs.ResultMarks.{IsOddAbove}
 use Rattle.egt_sweep.specs.declared.code_words.CodeLists.{CodeLists}
 use Rattle.egt_sweep.proofs.CodeGame.{image_has, image_index, index_at, pawns, stays_plain, stood_for}
 use Rattle.egt_sweep.proofs.Numbered.{node_told, number_below, told_node}

@@ -34,7 +34,7 @@ use Rattle.egt_sweep.specs.Laws.{Laws}
 use Rattle.egt_sweep.specs.MateColumn.{mate_table, IsMateColumn}
 use Rattle.egt_sweep.specs.Nodes.{exit_of, exit_by, exits_at, exits_from, goes_on, shown_below}
 use Rattle.egt_sweep.specs.Edges.{PushesTo}
-use Rattle.egt_sweep.specs.OddMarks.{IsOddAbove}
+use Rattle.egt_sweep.specs.ResultMarks.{IsOddAbove}
 use Rattle.egt_sweep.proofs.ExitKinds.{zeroed, staying_exit, exit_apart}
 use Rattle.egt_sweep.proofs.Linked.{goes_is, position_is, spelled_there}
 use Rattle.egt_sweep.proofs.Members.{In, contains_in, any_in, in_any, in_append, append_in, in_map, map_in, in_flat, flat_in, in_option}

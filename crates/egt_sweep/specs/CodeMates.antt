@@ -12,7 +12,7 @@ use Rattle.egt_index.specs.Numbers.{number_of, places}
 use Rattle.egt_sweep.specs.CodeGame.{code_game, index_of}
 use Rattle.egt_sweep.specs.CodeLists.{moves_told}
 use Rattle.egt_sweep.specs.declared.code_words.CodeLists.{CodeLists}
-use Rattle.egt_sweep.specs.OddMarks.{IsOddAbove}
+use Rattle.egt_sweep.specs.ResultMarks.{IsOddAbove}
 use Rattle.egt_sweep.specs.declared.code_words.CodeWords.{CodeWords}
 use Rattle.egt_sweep.specs.declared.mate_codes.CodeEntries.{CodeEntries}
 use Rattle.egt_sweep.specs.declared.mates.Mates.{Mates}

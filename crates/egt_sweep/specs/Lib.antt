@@ -15,5 +15,5 @@ pub mod CodeGame
 pub mod CodeTests
 pub mod CodeLists
 pub mod CodeSources
-pub mod OddMarks
+pub mod ResultMarks
 pub mod CodeMates

@@ -23,7 +23,7 @@ mod migrate_fault;
 mod migrating;
 mod missing;
 mod nodes;
-mod odd_marks;
+mod result_marks;
 mod quiet;
 pub mod ranks;
 mod reach_game;

@@ -11,7 +11,7 @@ ghost use Rattle.egt_sweep.specs.CodeGame.{code_game_is_lawful};
 ghost use Rattle.egt_sweep.specs.CodeLists.{moves_told};
 ghost use Rattle.egt_sweep.specs.CodeMates.{TellMates, game_by};
 ghost use Rattle.egt_sweep.specs.MateColumn.{IsMateColumn, mate_table};
-ghost use Rattle.egt_sweep.specs.OddMarks.{AreOddMarks};
+ghost use Rattle.egt_sweep.specs.ResultMarks.{AreResultMarks};
 
 use crate::objective::Objective;
 use crate::code_words::CodeWords;
@@ -19,7 +19,7 @@ use crate::kept::kept_entries;
 use crate::laws::{codes_stand_for_indexes, laws};
 use crate::mate_codes::CodeEntries;
 use crate::nodes::{is_mated, list_exits};
-use crate::odd_marks::{OddMarks, odd_marks};
+use crate::result_marks::{ResultMarks, result_marks};
 use arrayvec::ArrayVec;
 use egt_check::Library;
 use egt_graph::laws::stand_ins_tell_ranks;
@@ -37,12 +37,12 @@ pub(crate) struct ZeroCodes<'l> {
     pub(crate) mates: &'l Ranks,
     pub(crate) codes: &'l CodeEntries,
     /// The numbers that are lost in it, and those that are not won.
-    pub(crate) odd: OddMarks,
+    pub(crate) odd: ResultMarks,
     ghost children: { HasChildren (table_at library.now) words.now.class },
     ghost shows: { IsMateColumn words.now.class mates.now },
     ghost tell: { TellMates (table_at library.now) words.now.class words.now.lists mates.now codes.now },
-    ghost lost_are: { AreOddMarks (places words.now.class) (words_of (places words.now.class) (size_of words.now.class)) 1 codes.now.entries odd.lost.items },
-    ghost unwon_are: { AreOddMarks (places words.now.class) (words_of (places words.now.class) (size_of words.now.class)) 0 codes.now.entries odd.unwon.items },
+    ghost lost_are: { AreResultMarks (places words.now.class) (words_of (places words.now.class) (size_of words.now.class)) 1 codes.now.entries odd.lost.items },
+    ghost unwon_are: { AreResultMarks (places words.now.class) (words_of (places words.now.class) (size_of words.now.class)) 0 codes.now.entries odd.unwon.items },
 }
 
 impl<'l> ZeroCodes<'l> {
@@ -61,7 +61,7 @@ impl<'l> ZeroCodes<'l> {
         ensures mates { IfOk result (λ game. game.mates.now ≡ mates.now) }
     {
         laws();
-        let odd = odd_marks(alloc, words, codes.entries.entries())?;
+        let odd = result_marks(alloc, words, codes.entries.entries())?;
         Ok(ZeroCodes {
             library,
             words,

@@ -4,14 +4,14 @@ use Rattle.egt_graph.specs.Graph.{IsNode}
 use Rattle.egt_index.specs.Numbers.{places}
 use Rattle.egt_index.specs.Size.{size_of}
 use Rattle.egt_sweep.specs.CodeMates.{game_by}
-use Rattle.egt_sweep.specs.OddMarks.{IsOddAbove}
+use Rattle.egt_sweep.specs.ResultMarks.{IsOddAbove}
 use Rattle.egt_sweep.proofs.CodeMarks.{marked_in}
 use Rattle.egt_sweep.proofs.ZeroCodes.{nodes_marked}
 use Rattle.egt_check.specs.declared.metric.Metric.TheVariants.{Mate}
 use Rattle.egt_sweep.proofs.zero_codes.ZeroCodes.of.Goals as goal
 
-pub odd_marks-requires-clause-nodes : goal.odd_marks-requires-clause-nodes
-odd_marks-requires-clause-nodes c j odd =
+pub result_marks-requires-clause-nodes : goal.result_marks-requires-clause-nodes
+result_marks-requires-clause-nodes c j odd =
     let words = c.args.words.now in
     let tables = table_at c.args.library.now in
     let node = c.requires.tell.nodes 0 j (subst (λ xs. IsOddAbove 0 (slice_index xs j)) c.entries.ensures odd) in

@@ -2,8 +2,8 @@ use Rattle.std.proofs.Common.{◌≡◌, ◌<◌, ℕ, length, slice_index}
 use Rattle.egt_graph.specs.Words.{words_of}
 use Rattle.egt_index.specs.Numbers.{places}
 use Rattle.egt_index.specs.Size.{size_of}
-use Rattle.egt_sweep.specs.OddMarks.{AreOddAbove}
-use Rattle.egt_sweep.proofs.odd_marks.odd_marks.Given as goal
+use Rattle.egt_sweep.specs.ResultMarks.{AreOddAbove}
+use Rattle.egt_sweep.proofs.result_marks.result_marks.Given as goal
 
 abbrev pub invariant-loop-word : goal.invariant-loop-word
 invariant-loop-word l = record {

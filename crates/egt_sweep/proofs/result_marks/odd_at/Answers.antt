@@ -1,8 +1,8 @@
 use Rattle.std.proofs.Common.{◌<◌, ℕ, length, sym, ◌∙◌, subst}
 use Rattle.egt_graph.specs.Words.{number_at}
-use Rattle.egt_sweep.specs.OddMarks.{AreOddAbove}
-use Rattle.egt_sweep.proofs.OddMarks.{none_odd}
-use Rattle.egt_sweep.proofs.odd_marks.odd_at.Goals as goal
+use Rattle.egt_sweep.specs.ResultMarks.{AreOddAbove}
+use Rattle.egt_sweep.proofs.ResultMarks.{none_odd}
+use Rattle.egt_sweep.proofs.result_marks.odd_at.Goals as goal
 
 pub returns-then-nodes-eq0-clause-lost : goal.returns-then-nodes-eq0-clause-lost
 returns-then-nodes-eq0-clause-lost c = none_odd _ 1 _ _ c.args.word c.requires.nodes (sym c.nodes.ensures ∙ c.if-nodes-eq0.true)

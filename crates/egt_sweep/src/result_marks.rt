@@ -3,7 +3,7 @@ ghost use Rattle.std.specs.Prelude.{◌≡◌, ◌<◌, ◌≤◌, ℕ, IfOk, le
 ghost use Rattle.egt_graph.specs.Words.{IsIn, number_at, words_of};
 ghost use Rattle.egt_index.specs.Numbers.{places};
 ghost use Rattle.egt_index.specs.Size.{size_of};
-ghost use Rattle.egt_sweep.specs.OddMarks.{AreOddAbove, AreOddMarks, IsOddAbove};
+ghost use Rattle.egt_sweep.specs.ResultMarks.{AreOddAbove, AreResultMarks, IsOddAbove};
 
 use crate::code_words::{CodeWords, word_count};
 use egt_graph::number_at;
@@ -12,7 +12,7 @@ use std::alloc::{AllocError, Global};
 
 /// The marks of a class's numbers, of all words.
 #[derive(Drop)]
-pub(crate) struct OddMarks {
+pub(crate) struct ResultMarks {
     /// Those that are lost.
     pub(crate) lost: Vec<u64>,
     /// Those that are not won.
@@ -60,15 +60,15 @@ fn odd_at(words: &CodeWords, entries: &[u16], word: u32) -> OddBits
 }
 
 /// The marks of all words of the class, where only nodes have odd entries.
-pub(crate) fn odd_marks(
+pub(crate) fn result_marks(
     alloc: Global,
     words: &CodeWords,
     entries: &[u16],
-) -> Result<OddMarks, AllocError>
+) -> Result<ResultMarks, AllocError>
     requires long { length entries.now ≡ size_of words.now.class }
     requires nodes { (j : ℕ) → IsOddAbove 0 (slice_index entries.now j) → IsIn (places words.now.class) words.now.lists.nodes.items j }
-    ensures lost { IfOk result (λ odd. AreOddMarks (places words.now.class) (words_of (places words.now.class) (size_of words.now.class)) 1 entries.now odd.lost.items) }
-    ensures unwon { IfOk result (λ odd. AreOddMarks (places words.now.class) (words_of (places words.now.class) (size_of words.now.class)) 0 entries.now odd.unwon.items) }
+    ensures lost { IfOk result (λ odd. AreResultMarks (places words.now.class) (words_of (places words.now.class) (size_of words.now.class)) 1 entries.now odd.lost.items) }
+    ensures unwon { IfOk result (λ odd. AreResultMarks (places words.now.class) (words_of (places words.now.class) (size_of words.now.class)) 0 entries.now odd.unwon.items) }
 {
     let _digits = last_digits(words.class);
     let count = word_count(words.class);
@@ -79,5 +79,5 @@ pub(crate) fn odd_marks(
         lost[word] = bits.lost;
         unwon[word] = bits.unwon;
     }
-    Ok(OddMarks { lost, unwon })
+    Ok(ResultMarks { lost, unwon })
 }

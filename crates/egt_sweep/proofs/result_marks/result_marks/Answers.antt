@@ -2,8 +2,8 @@ use Rattle.std.proofs.Common.{◌<◌, ◌∙◌, sym, subst, arith, length-set}
 use Rattle.egt_graph.specs.Words.{number_at}
 use Rattle.egt_index.specs.Numbers.{places}
 use Rattle.egt_index.specs.Size.{size_of}
-use Rattle.egt_sweep.proofs.OddMarks.{number_within, odd_more}
-use Rattle.egt_sweep.proofs.odd_marks.odd_marks.Goals as goal
+use Rattle.egt_sweep.proofs.ResultMarks.{number_within, odd_more}
+use Rattle.egt_sweep.proofs.result_marks.result_marks.Goals as goal
 
 pub odd_at-bits-requires-clause-within : goal.odd_at-bits-requires-clause-within
 odd_at-bits-requires-clause-within c k near =

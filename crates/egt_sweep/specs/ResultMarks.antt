@@ -12,6 +12,6 @@ abbrev pub AreOddAbove : (span n : ℕ) → List ℕ → (word bits : ℕ) → T
 AreOddAbove span n entries word bits = (k : ℕ) → bit_at bits k ≡ 1 ↔ ((k < span) × IsOddAbove n (slice_index entries (number_at span word k)))
 
 -- so are those of so many words
-pub record AreOddMarks (span words n : ℕ) (entries marks : List ℕ) : Type 0 where
+pub record AreResultMarks (span words n : ℕ) (entries marks : List ℕ) : Type 0 where
   pub long : length marks ≡ words
   pub each : (word : ℕ) → word < words → AreOddAbove span n entries word (slice_index marks word)

@@ -8,7 +8,7 @@ use Rattle.std.proofs.lemmas.Nat.Bits.{bit_at_lowest, bit_at-suc}
 use Rattle.std.specs.Int.{bit_at, from_bool}
 use Rattle.egt_graph.specs.Words.{IsIn, IsIn-number_at, number_at, words_of}
 use Rattle.egt_graph.proofs.WordBits.{none_set}
-use Rattle.egt_sweep.specs.OddMarks.{AreOddAbove, IsOddAbove}
+use Rattle.egt_sweep.specs.ResultMarks.{AreOddAbove, IsOddAbove}
 
 -- ---- an entry's bits
 
