@@ -66,7 +66,11 @@ fn greatest_win(successors: &[Value]) -> Option<u16> {
 /// What the best move of these brings; without a move, checkmate where the king is in check, and stalemate where not.
 pub fn best(successors: &[Value], in_check: bool) -> Value {
     if successors.is_empty() {
-        return if in_check { Value::Loss(0) } else { Value::Draw };
+        return if in_check {
+            Value::Loss(0)
+        } else {
+            Value::Draw
+        };
     }
     if let Some(plies) = least_loss(successors) {
         return Value::Win(plies.saturating_add(1));

@@ -44,7 +44,11 @@ fn zeroing_told(library: &Library, step: &Step) -> Option<Value> {
     let zeroing = said_by(entry_at(library, Column::Zeroing, step.class, step.index)?)?;
     match (mate, zeroing) {
         (Value::Win(_), Value::Win(plies)) => Some(Value::Win(if step.zeroes { 0 } else { plies })),
-        (Value::Loss(_), Value::Loss(plies)) => Some(Value::Loss(if step.zeroes { 0 } else { plies })),
+        (Value::Loss(_), Value::Loss(plies)) => Some(Value::Loss(if step.zeroes {
+            0
+        } else {
+            plies
+        })),
         (Value::Draw, Value::Draw) => Some(Value::Draw),
         _ => None,
     }

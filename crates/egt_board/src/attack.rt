@@ -9,8 +9,8 @@ ghost use Rattle.egt_board.specs.Placement.{IsFree};
 ghost use Rattle.egt_board.specs.Setup.{IsKingOn};
 ghost use Rattle.egt_board.specs.SquareSet.{Has, size_of, most_reached};
 
-use crate::board::{Board, Slot};
 use crate::attack_lines;
+use crate::board::{Board, Slot};
 use crate::man::{Man, Side};
 use crate::square::Square;
 use crate::square_set::SquareSet;

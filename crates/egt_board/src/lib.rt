@@ -4,12 +4,10 @@
 #![tactic(auto)]
 
 pub mod attack;
-pub mod non_kings;
+pub mod attack_lines;
 pub mod board;
-pub mod occupancy;
 pub mod counting;
 pub mod fault;
-pub mod attack_lines;
 pub mod king;
 pub mod laws;
 pub mod listed;
@@ -17,6 +15,8 @@ mod lookup;
 pub mod man;
 pub mod mirror;
 pub mod mirrored;
+pub mod non_kings;
+pub mod occupancy;
 pub mod pawn;
 pub mod position;
 pub mod safety;
@@ -29,10 +29,10 @@ mod tables;
 pub mod target;
 
 pub use board::Board;
-pub use occupancy::Occupancy;
 pub use fault::PosFault;
 pub use man::{Kind, Man, Side};
 pub use mirror::Mirror;
+pub use occupancy::Occupancy;
 pub use position::{Position, attacked};
 pub use square::Square;
 pub use square_set::SquareSet;

@@ -5,8 +5,8 @@ ghost use Rattle.egt_board.specs.Placement.{IsFree};
 ghost use Rattle.egt_board.specs.Square.{rank_of};
 ghost use Rattle.egt_board.specs.SquareSet.{Has, size_of};
 
-use crate::board::Board;
 use crate::attack_lines;
+use crate::board::Board;
 use crate::man::{Kind, Man, Side};
 use crate::square::Square;
 use crate::square_set::SquareSet;
@@ -100,7 +100,9 @@ impl Board {
         ensures few { size_of result ≤ 2 }
     {
         let occupied = self.occupied();
-        attack_lines::ride(from, side.forward(), farthest_advance(side, from), occupied).without(occupied)
+        attack_lines::ride(from, side.forward(), farthest_advance(side, from), occupied).without(
+            occupied,
+        )
     }
 
     /// Whether no pawn stands on the first rank or the last.

@@ -12,8 +12,8 @@ ghost use Rattle.egt_board.specs.SquareSet.{Has};
 ghost use Rattle.egt_board.specs.declared.man.Man.{Man};
 ghost use Rattle.egt_board.specs.declared.man.Side.{Side};
 
-use crate::board::{Board, Slot};
 use crate::attack_lines;
+use crate::board::{Board, Slot};
 use crate::man::{Man, Side};
 use crate::square::Square;
 use crate::square_set::SquareSet;

@@ -2,8 +2,8 @@
 //! codes follow one another.
 ghost use Rattle.egt_index.specs.Front.{IsFrontOf};
 
-use crate::least_code::{Leastness, told_in_order};
 use crate::facts::facts;
+use crate::least_code::{Leastness, told_in_order};
 use crate::spelling::{board_of, stand_before};
 use crate::stand::{Stand, are_apart, are_kings_near};
 use egt_board::Board;

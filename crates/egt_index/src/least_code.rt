@@ -64,7 +64,11 @@ fn told_by_code(is_less: bool) -> Leastness
     ensures least { result ≡ Least → is_less ≡ false }
     ensures sure { result ≡ Tied → ⊥ }
 {
-    if is_less { Leastness::Beaten } else { Leastness::Least }
+    if is_less {
+        Leastness::Beaten
+    } else {
+        Leastness::Least
+    }
 }
 
 /// What two images tell together.

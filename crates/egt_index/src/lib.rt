@@ -1,7 +1,6 @@
 //! Codes of positions: one number for all images of a position, so that a table has one entry for them.
 #![tactic(auto)]
 
-pub mod least_code;
 pub mod codes;
 pub mod digits;
 pub mod facts;
@@ -10,6 +9,7 @@ pub mod home;
 pub mod homing;
 pub mod indexing;
 pub mod laws;
+pub mod least_code;
 pub mod lone_codes;
 pub mod men;
 pub mod nearer;

@@ -10,9 +10,9 @@ ghost use Rattle.egt_index.specs.Index.{IsIndex, IsVoid};
 ghost use Rattle.egt_index.specs.Row.{row_len, IsInRow, IsRow, IsRowOf};
 ghost use Rattle.egt_index.specs.Stood.{HasStand};
 
-use crate::least_code::is_least;
 use crate::facts::facts;
 use crate::front::{Front, front_of};
+use crate::least_code::is_least;
 use crate::men::has_target;
 use crate::spelling::{admitted, ends, is_passed, is_settled, take_last, target_of, with_entry};
 use crate::stand::{Stand, is_behind, is_last_off, with_last};

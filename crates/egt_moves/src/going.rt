@@ -13,7 +13,7 @@ ghost use Rattle.egt_moves.specs.Room.{most_goals};
 
 use crate::chess_move::Move;
 use crate::promotion::arriving;
-use egt_board::{Board, Occupancy, Kind, Man, Position, Square, SquareSet};
+use egt_board::{Board, Kind, Man, Occupancy, Position, Square, SquareSet};
 
 /// The squares that a piece or king on `from` may go to where its king is left aside.
 fn piece_targets(position: &Position, occupancy: Occupancy, man: Man, from: Square) -> SquareSet
@@ -57,7 +57,12 @@ fn pawn_targets(position: &Position, occupancy: Occupancy, man: Man, from: Squar
 }
 
 /// The squares that the man on `from`, one of the side to move, may go to where its king is left aside.
-pub(crate) fn targets(position: &Position, occupancy: Occupancy, man: Man, from: Square) -> SquareSet
+pub(crate) fn targets(
+    position: &Position,
+    occupancy: Occupancy,
+    man: Man,
+    from: Square,
+) -> SquareSet
     requires occupancy { IsOccupancy position.now occupancy }
     requires mine { man.side ≡ position.now.side }
     ensures goes { (t : ℕ) → Has result t ↔ Goes position.now man from t }

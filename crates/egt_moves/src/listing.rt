@@ -15,7 +15,7 @@ use crate::chess_move::Move;
 use crate::promotion::{OFFICERS, promotes};
 use crate::targets::legal_goals;
 use arrayvec::ArrayVec;
-use egt_board::{Occupancy, Man, Position, Square};
+use egt_board::{Man, Occupancy, Position, Square};
 
 /// Adds the moves of the man from `from` to `to`, in order: one, or one for each man that a pawn may become.
 fn push_choices(man: Man, from: Square, to: Square, moves: &mut ArrayVec<Move, 64>)

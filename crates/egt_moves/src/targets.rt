@@ -17,7 +17,7 @@ ghost use Rattle.egt_moves.specs.Targets.{IsLegalTarget, IsSafeGoal};
 
 use crate::going::{is_safe, targets};
 use egt_board::safety::{attacks_pass_over_no_occupant, kings_attack_each_other};
-use egt_board::{Occupancy, Kind, Man, Position, Square, SquareSet};
+use egt_board::{Kind, Man, Occupancy, Position, Square, SquareSet};
 
 /// The squares that the enemy attacks once the man on `from`, one of the side to move, is lifted.
 fn danger(position: &Position, occupancy: Occupancy, from: Square) -> SquareSet
@@ -41,7 +41,13 @@ fn is_lone(camp: SquareSet, king: Square) -> bool
 
 /// The squares to which this man, lifted from `from`, may come so that the enemy does not attack `king`: all of them where the enemy has
 /// his king alone.
-fn shelter(position: &Position, occupancy: Occupancy, man: Man, from: Square, king: Square) -> SquareSet
+fn shelter(
+    position: &Position,
+    occupancy: Occupancy,
+    man: Man,
+    from: Square,
+    king: Square,
+) -> SquareSet
     requires occupancy { IsOccupancy position.now occupancy }
     requires stands { Stands position.now.men from man }
     requires mine { man.side ≡ position.now.side }
@@ -98,7 +104,13 @@ fn passing_goal(position: &Position, man: Man, goals: SquareSet) -> Option<Squar
 }
 
 /// The squares where the man that went there from `from` shields its king, or there is nothing to be shielded from.
-fn shields(position: &Position, occupancy: Occupancy, man: Man, from: Square, goals: SquareSet) -> SquareSet
+fn shields(
+    position: &Position,
+    occupancy: Occupancy,
+    man: Man,
+    from: Square,
+    goals: SquareSet,
+) -> SquareSet
     requires occupancy { IsOccupancy position.now occupancy }
     requires stands { Stands position.now.men from man }
     requires mine { man.side ≡ position.now.side }
@@ -115,7 +127,12 @@ fn shields(position: &Position, occupancy: Occupancy, man: Man, from: Square, go
 }
 
 /// The squares to which the man on `from`, one of the side to move, legally goes.
-pub(crate) fn legal_goals(position: &Position, occupancy: Occupancy, man: Man, from: Square) -> SquareSet
+pub(crate) fn legal_goals(
+    position: &Position,
+    occupancy: Occupancy,
+    man: Man,
+    from: Square,
+) -> SquareSet
     requires occupancy { IsOccupancy position.now occupancy }
     requires stands { Stands position.now.men from man }
     requires mine { man.side ≡ position.now.side }
@@ -132,7 +149,12 @@ pub(crate) fn legal_goals(position: &Position, occupancy: Occupancy, man: Man, f
 
 /// The squares to which a legal move of the man on `from` goes, one of the side to move: what `legal_targets` answers, where the caller
 /// knows the man and the squares of either side's men.
-pub fn legal_targets_of(position: &Position, occupancy: Occupancy, man: Man, from: Square) -> SquareSet
+pub fn legal_targets_of(
+    position: &Position,
+    occupancy: Occupancy,
+    man: Man,
+    from: Square,
+) -> SquareSet
     requires occupancy { IsOccupancy position.now occupancy }
     requires stands { Stands position.now.men from man }
     requires mine { man.side ≡ position.now.side }

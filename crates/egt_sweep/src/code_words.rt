@@ -14,7 +14,7 @@ use egt_board::Side;
 use egt_class::Class;
 use egt_graph::{Pushes, TurnedWay, Way, is_in, lead_by, words_of};
 use egt_index::{Rows, ShelfMen, last_digits, positions_of, shelf_men, size};
-use egt_words::{Roaming, MoveLists};
+use egt_words::{MoveLists, Roaming};
 use std::alloc::{AllocError, Global};
 
 /// Where a word's moves begin in the lists of all words; they end where those of the next begin.

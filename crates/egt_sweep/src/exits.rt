@@ -17,13 +17,13 @@ ghost use Rattle.egt_sweep.specs.Objective.{metric_of, known, Knows};
 ghost use Rattle.egt_sweep.specs.Edges.{GoesOn};
 ghost use Rattle.egt_sweep.specs.Nodes.{exits_by, exits_from};
 
-use crate::objective::Objective;
 use crate::laws::laws;
 use crate::leaving::add_exits;
+use crate::objective::Objective;
 use crate::quiet::pawn_stays;
 use crate::ways::onward;
 use arrayvec::ArrayVec;
-use egt_board::{Occupancy, Kind, Man, Position, Square};
+use egt_board::{Kind, Man, Occupancy, Position, Square};
 use egt_check::{Library, Metric};
 use egt_class::Class;
 use egt_graph::Exit;

@@ -26,8 +26,8 @@ ghost use Rattle.egt_sweep.specs.MateColumn.{IsIndexed};
 ghost use Rattle.egt_sweep.specs.Nodes.{plies_told, exit_of, shown_below, exit_by, exits_by};
 ghost use Rattle.egt_sweep.specs.Ways.{AllLeave, OthersGoOn};
 
-use crate::objective::Objective;
 use crate::laws::laws;
+use crate::objective::Objective;
 use arrayvec::ArrayVec;
 use egt_board::{Position, Square, SquareSet};
 use egt_check::{Library, Metric};
@@ -86,7 +86,13 @@ fn near_entry(library: &Library, class: Class, index: u32) -> u16
 }
 
 /// The mate entry at the index of a position in a class, whose own ranks are read where they are known.
-fn mate_entry(objective: &Objective<'_>, own: Class, library: &Library, class: Class, index: u32) -> u16
+fn mate_entry(
+    objective: &Objective<'_>,
+    own: Class,
+    library: &Library,
+    class: Class,
+    index: u32,
+) -> u16
     requires knows { Knows (table_at library.now) own objective.now }
     requires there { IsSome (known (table_at library.now) own objective.now class) }
     requires indexed { IsIndexed class index }
@@ -109,7 +115,13 @@ fn mate_entry(objective: &Objective<'_>, own: Class, library: &Library, class: C
 }
 
 /// The value of a position with the index in a class that has its table.
-fn exit_in(objective: &Objective<'_>, own: Class, library: &Library, class: Class, index: u32) -> Exit
+fn exit_in(
+    objective: &Objective<'_>,
+    own: Class,
+    library: &Library,
+    class: Class,
+    index: u32,
+) -> Exit
     requires knows { Knows (table_at library.now) own objective.now }
     requires there { IsSome (known (table_at library.now) own objective.now class) }
     requires indexed { IsIndexed class index }
@@ -232,7 +244,16 @@ fn add_exits_to(
             to,
             promo: *promo,
         };
-        add_exit(objective, class, library, position, &men, told, &chess_move, list);
+        add_exit(
+            objective,
+            class,
+            library,
+            position,
+            &men,
+            told,
+            &chess_move,
+            list,
+        );
     }
 }
 

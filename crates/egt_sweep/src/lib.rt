@@ -1,7 +1,6 @@
 //! The builder of tables by retrograde analysis, and the games over the classes of positions that it solves.
 #![tactic(auto)]
 
-mod objective;
 mod ascending;
 mod build_fault;
 mod building;
@@ -23,11 +22,12 @@ mod migrate_fault;
 mod migrating;
 mod missing;
 mod nodes;
-mod result_marks;
+mod objective;
 mod quiet;
 pub mod ranks;
 mod reach_game;
 mod reaches;
+mod result_marks;
 mod sources;
 mod ways;
 mod zero_codes;

@@ -10,11 +10,11 @@ ghost use Rattle.egt_sweep.specs.CodeGame.{code_game_is_lawful};
 ghost use Rattle.egt_sweep.specs.CodeLists.{moves_told};
 ghost use Rattle.egt_sweep.specs.CodeMates.{TellMates, game_by};
 
-use crate::objective::Objective;
 use crate::code_words::CodeWords;
 use crate::kept::kept_entries;
 use crate::laws::{codes_stand_for_indexes, laws};
 use crate::nodes::{is_mated, list_exits};
+use crate::objective::Objective;
 use arrayvec::ArrayVec;
 use egt_check::Library;
 use egt_graph::laws::stand_ins_tell_ranks;

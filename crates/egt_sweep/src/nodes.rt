@@ -8,10 +8,10 @@ ghost use Rattle.egt_sweep.specs.Objective.{metric_of, known, Knows};
 ghost use Rattle.egt_sweep.specs.Edges.{IsAt};
 ghost use Rattle.egt_sweep.specs.Nodes.{position_at, is_mated, connects, exits_at};
 
-use crate::objective::Objective;
 use crate::edges::edges;
 use crate::exits::add_exits_of_side;
 use crate::laws::laws;
+use crate::objective::Objective;
 use crate::sources::sources;
 use arrayvec::ArrayVec;
 use egt_board::Position;

@@ -4,9 +4,9 @@ ghost use Rattle.egt_check.specs.Tables.{table_at, HasChildren, HasReachChildren
 ghost use Rattle.egt_sweep.specs.Objective.{reach_children_prop};
 ghost use Rattle.egt_sweep.specs.ReachGame.{as_win, reach_game, reach_game_is_lawful};
 
-use crate::objective::Objective;
 use crate::build_fault::BuildFault;
 use crate::nodes::{exits, is_mated, is_void, predecessors, successors};
+use crate::objective::Objective;
 use arrayvec::ArrayVec;
 use egt_check::{Library, Metric, first_lacking, first_missing};
 use egt_class::Class;

@@ -4,11 +4,11 @@ ghost use Rattle.egt_graph.specs.Near.{AreNears, SomeFar};
 ghost use Rattle.egt_check.specs.Tables.{table_at, HasChildren, HasReachChildren};
 ghost use Rattle.egt_sweep.specs.ReachGame.{reach_game};
 
-use crate::objective::Objective;
 use crate::code_words::CodeWords;
 use crate::kept::kept_entries;
 use crate::laws::{codes_stand_for_indexes, laws};
 use crate::mate_codes::MateCodes;
+use crate::objective::Objective;
 use crate::reach_game::ReachGame;
 use egt_check::Library;
 use egt_graph::laws::stand_ins_tell_nears;

@@ -13,7 +13,7 @@ ghost use Rattle.egt_sweep.specs.Ways.{Stays, IsOnward};
 
 use crate::laws::laws;
 use crate::quiet::stays;
-use egt_board::{Occupancy, Kind, Man, Position, Square, SquareSet};
+use egt_board::{Kind, Man, Occupancy, Position, Square, SquareSet};
 use egt_check::Metric;
 use egt_class::Class;
 

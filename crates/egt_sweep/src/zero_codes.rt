@@ -13,12 +13,12 @@ ghost use Rattle.egt_sweep.specs.CodeMates.{TellMates, game_by};
 ghost use Rattle.egt_sweep.specs.MateColumn.{IsMateColumn, mate_table};
 ghost use Rattle.egt_sweep.specs.ResultMarks.{AreResultMarks};
 
-use crate::objective::Objective;
 use crate::code_words::CodeWords;
 use crate::kept::kept_entries;
 use crate::laws::{codes_stand_for_indexes, laws};
 use crate::mate_codes::CodeEntries;
 use crate::nodes::{is_mated, list_exits};
+use crate::objective::Objective;
 use crate::result_marks::{ResultMarks, result_marks};
 use arrayvec::ArrayVec;
 use egt_check::Library;

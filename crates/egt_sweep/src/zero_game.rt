@@ -6,9 +6,9 @@ ghost use Rattle.egt_check.specs.declared.metric.Metric.TheVariants.{Zeroing};
 ghost use Rattle.egt_sweep.specs.ClassGame.{class_game, class_game_is_lawful};
 ghost use Rattle.egt_sweep.specs.MateColumn.{mate_table, IsMateColumn};
 
-use crate::objective::Objective;
 use crate::missing::Missing;
 use crate::nodes::{exits, is_mated, is_void, predecessors, successors};
+use crate::objective::Objective;
 use arrayvec::ArrayVec;
 use egt_check::{Library, Metric, first_missing};
 use egt_class::Class;

@@ -2,14 +2,14 @@
 //! spells, whether the code is the least for that position or not.
 #![tactic(auto)]
 
+mod move_lists;
 mod pawn_steps;
 mod pushes;
 mod roaming;
 mod standing;
 mod staying;
 mod steps;
-mod move_lists;
 mod word;
 
-pub use roaming::Roaming;
 pub use move_lists::MoveLists;
+pub use roaming::Roaming;

@@ -10,9 +10,9 @@ ghost use Rattle.egt_index.specs.Scales.{kind_less};
 ghost use Rattle.egt_index.specs.ShelfCodes.{IsShelf};
 ghost use Rattle.egt_words.specs.Standing.{IsHeldOn};
 
+use crate::move_lists::MoveLists;
 use crate::standing::{held, places_on, rivals_at};
 use crate::steps::{leap_to, step_to};
-use crate::move_lists::MoveLists;
 use egt_board::{Man, Side, Square, SquareSet};
 use egt_check::facts::facts;
 use egt_class::Class;

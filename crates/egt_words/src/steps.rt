@@ -9,8 +9,8 @@ ghost use Rattle.egt_words.specs.Standing.{IsHeldOn, IsStanding, least_of};
 ghost use Rattle.egt_words.specs.Steps.{AreShut, IsLeapWord, IsStepWay};
 ghost use Rattle.egt_words.specs.MoveLists.{word_of};
 
-use crate::standing::{held, places_on};
 use crate::move_lists::MoveLists;
+use crate::standing::{held, places_on};
 use crate::word::word_with;
 use egt_board::attack_lines::{reach_past, stops};
 use egt_board::{Kind, Man, Side, Square, SquareSet};
