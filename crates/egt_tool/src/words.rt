@@ -1,31 +1,34 @@
-//! The words that the program understands.
+//! The words that the program understands, and its help.
 use clap::{Arg, Command, value_parser};
 use std::alloc::{AllocError, Global};
 
 /// The word that is a position.
 fn fen_word<'a>(alloc: Global) -> Arg<'a> {
     Arg::new(alloc, "FEN")
-        .help("A position in Forsyth-Edwards notation, as one word")
+        .help("A position in Forsyth-Edwards notation, as one word in quotation marks")
         .required(true)
 }
 
 /// The word that is a folder's name.
 fn folder_word<'a>(alloc: Global) -> Arg<'a> {
     Arg::new(alloc, "DIR")
-        .help("The folder of the tables' files")
+        .help("The folder of the tables' files: DIR/KQK.egt is that of KQK")
         .required(true)
 }
 
 /// The word that is a class's name.
 fn class_word<'a>(alloc: Global) -> Arg<'a> {
     Arg::new(alloc, "CLASS")
-        .help("A class by its name, as KQK")
+        .help("A class of positions by its men, as KQK or KRKP: egtb list prints all names")
         .required(true)
 }
 
 fn moves_command<'a>(alloc: Global) -> Result<Command<'a>, AllocError> {
     Command::new(alloc, "moves")
         .about("Prints the legal moves, one a line")
+        .after_help(
+            "Example: egtb moves \"8/8/8/8/8/8/8/r2K3k w - - 0 1\" prints d1c2, d1d2 and d1e2\nStatus: 0 done, 1 the FEN is refused",
+        )
         .arg(fen_word(alloc))
 }
 
@@ -36,12 +39,17 @@ fn search_command<'a>(alloc: Global) -> Result<Command<'a>, AllocError> {
         .value_parser(value_parser!(u8).range(1..7));
     Command::new(alloc, "search")
         .about("Searches for a mate within so many plies")
+        .after_help(
+            "Example: egtb search 2 \"k7/8/1K6/8/8/8/8/3Q4 b - - 0 1\" prints white mates in 2 plies\nStatus: 0 done, 1 the FEN is refused",
+        )
         .arg(plies)?
         .arg(fen_word(alloc))
 }
 
 fn list_command<'a>(alloc: Global) -> Command<'a> {
-    Command::new(alloc, "list").about("Prints the classes: number, name and size")
+    Command::new(alloc, "list")
+        .about("Prints the classes: number, name and size")
+        .after_help("Example: egtb list prints 36 lines, the first of them 0 KK 1280")
 }
 
 fn build_command<'a>(alloc: Global) -> Result<Command<'a>, AllocError> {
@@ -52,6 +60,9 @@ fn build_command<'a>(alloc: Global) -> Result<Command<'a>, AllocError> {
         .value_parser(value_parser!(u16).range(0..32001));
     Command::new(alloc, "build")
         .about("Builds the table of a class from those of its children")
+        .after_help(
+            "Example: egtb build tables KQK, after egtb build tables KK\nStatus: 0 the file is written, 1 a file that it needs is not there or is refused, or a mate is deeper than N",
+        )
         .arg(folder_word(alloc))?
         .arg(class_word(alloc))?
         .arg(limit)
@@ -60,6 +71,9 @@ fn build_command<'a>(alloc: Global) -> Result<Command<'a>, AllocError> {
 fn probe_command<'a>(alloc: Global) -> Result<Command<'a>, AllocError> {
     Command::new(alloc, "probe")
         .about("Reports of each FEN of the standard input, one a line")
+        .after_help(
+            "Example: echo \"k7/8/1K6/8/8/8/8/3Q4 b - - 0 1\" | egtb probe tables KQK\nStatus: 0 each line has its report, 1 a file that it needs is not there or is refused",
+        )
         .arg(folder_word(alloc))?
         .arg(class_word(alloc))
 }
@@ -67,6 +81,9 @@ fn probe_command<'a>(alloc: Global) -> Result<Command<'a>, AllocError> {
 fn check_command<'a>(alloc: Global) -> Result<Command<'a>, AllocError> {
     Command::new(alloc, "check")
         .about("Checks the table of a class and all that it rests on")
+        .after_help(
+            "Example: egtb check tables KQK prints ok KQK\nStatus: 0 every entry is right, 1 a file that it needs is not there or is refused",
+        )
         .arg(folder_word(alloc))?
         .arg(class_word(alloc))
 }
@@ -74,6 +91,9 @@ fn check_command<'a>(alloc: Global) -> Result<Command<'a>, AllocError> {
 fn migrate_command<'a>(alloc: Global) -> Result<Command<'a>, AllocError> {
     Command::new(alloc, "migrate")
         .about("Gives the table of a class the column of the nearest mates, if it lacks it")
+        .after_help(
+            "Example: egtb migrate tables KNK, after egtb migrate tables KK\nStatus: 0 the file has the column, 1 a file that it needs is not there, is refused or lacks the column",
+        )
         .arg(folder_word(alloc))?
         .arg(class_word(alloc))
 }
@@ -81,6 +101,9 @@ fn migrate_command<'a>(alloc: Global) -> Result<Command<'a>, AllocError> {
 fn stats_command<'a>(alloc: Global) -> Result<Command<'a>, AllocError> {
     Command::new(alloc, "stats")
         .about("Prints how many positions of a class are won, drawn, lost and dead")
+        .after_help(
+            "Example: egtb stats tables KQK\nStatus: 0 done, 1 a file that it needs is not there or is refused",
+        )
         .arg(folder_word(alloc))?
         .arg(class_word(alloc))
 }
@@ -89,6 +112,9 @@ fn stats_command<'a>(alloc: Global) -> Result<Command<'a>, AllocError> {
 pub(crate) fn command<'a>(alloc: Global) -> Result<Command<'a>, AllocError> {
     Command::new(alloc, "egtb")
         .about("Chess endgame tables of two to four men")
+        .after_help(
+            "egtb COMMAND --help tells more of a command\nA class rests on those that a capture or a promotion leads to: build these first, KK before all\nStatus: 0 done, 1 an input or a table is refused, 2 wrong words, 3 a file or a stream failed, 4 no memory",
+        )
         .subcommand_required(true)
         .subcommand(moves_command(alloc)?)?
         .subcommand(search_command(alloc)?)?

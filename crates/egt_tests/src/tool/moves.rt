@@ -179,16 +179,32 @@ fn refuses_other_words(rt: HostRuntime) {
     }
 }
 
-/// Whether the help is printed, and nothing else.
-fn helps(rt: &HostRuntime) -> Option<bool> {
-    let ran = run_on(rt, &["--help"], b"")?;
-    let head = b"Chess endgame tables of two to four men\n";
-    Some(ran.status == 0 && ran.out.bytes().starts_with(head) && ran.err.bytes().is_empty())
+/// Whether the help that these words ask for is printed, and nothing else.
+fn helps(rt: &HostRuntime, words: &[&str], head: &str) -> Option<bool> {
+    let ran = run_on(rt, words, b"")?;
+    Some(
+        ran.status == 0
+            && ran.out.bytes().starts_with(head.as_bytes())
+            && ran.err.bytes().is_empty(),
+    )
 }
 
 #[test]
 fn prints_its_help(rt: HostRuntime) {
-    assert!(rt; helps(&rt) == Some(true));
+    let asked: [(&[&str], &str); 3] = [
+        (&["--help"], "Chess endgame tables of two to four men\n"),
+        (
+            &["build", "--help"],
+            "Builds the table of a class from those of its children\n",
+        ),
+        (
+            &["probe", "--help"],
+            "Reports of each FEN of the standard input, one a line\n",
+        ),
+    ];
+    for (words, head) in asked {
+        assert!(rt; helps(&rt, words, head) == Some(true));
+    }
 }
 
 /// Whether a failing push to the standard output is told on the standard error, where that takes the line, and ends with status 3 in any case.
