@@ -1,7 +1,8 @@
 //! Holds what is fast against plain forms that walk the board. `egt_agree DIR CLASS` reads the tables of the class and of those below it
 //! from a folder and prints a line: that the entries of the class's codes are what those of the positions after each legal move give, and
 //! that legal moves, moves backwards and both games over the class are the plain ones; or the first code at which one of them differs, and then
-//! its status is 1. All codes of classes of two and three men are asked, and of the others every so many. The tests ask the same of fewer codes.
+//! its status is 1. All codes of classes of two and three men are asked, and of the others every so many.
+//! `egt_agree sampled` asks the same of fewer codes, with no folder, and prints that they agree.
 //! `egt_agree solved DIR CLASS` solves both games over the class by counters, which takes a while for four men, and holds their ranks against its table.
 #![tactic(auto)]
 
@@ -9,6 +10,7 @@ mod folder;
 mod games;
 mod moves;
 mod rule;
+mod sampled;
 mod samples;
 mod setup;
 mod solved;
@@ -20,6 +22,7 @@ use egt_check::Library;
 use egt_class::{Class, by_name, name};
 use folder::library_of;
 use games::{mate_game_agrees, zero_game_agrees};
+use sampled::samples_agree;
 use samples::{Held, agree};
 use solved::solved_agrees;
 use std::process::ExitCode;
@@ -110,6 +113,16 @@ fn run(rt: &HostRuntime, folder: &str, class: &str, solves: bool) -> io::Result<
     }
 }
 
+/// Compares the samples, and prints a line; whether they agree.
+fn print_sampled(rt: &HostRuntime) -> io::Result<bool> {
+    let agrees = samples_agree(rt.alloc()) == Some(true);
+    println!(rt;
+        "samples of all classes {}",
+        if agrees { "agree" } else { "differ" }
+    )?;
+    Ok(agrees)
+}
+
 fn main(rt: HostRuntime) -> io::Result<ExitCode> {
     let mut given = Vec::new(rt.alloc());
     for word in env::args(&rt)? {
@@ -120,12 +133,10 @@ fn main(rt: HostRuntime) -> io::Result<ExitCode> {
         words.push(word.as_str())?;
     }
     let agrees = match words.as_slice() {
+        [_, "sampled"] => print_sampled(&rt)?,
         [_, folder, class] => run(&rt, folder, class, false)?,
         [_, "solved", folder, class] => run(&rt, folder, class, true)?,
         _ => true,
     };
     Ok(ExitCode::from(if agrees { 0 } else { 1 }))
 }
-
-#[cfg(test)]
-mod tests;
