@@ -1,5 +1,5 @@
 -- Lists of where the moves of a class's numbers land, as they grow.
-use Rattle.std.proofs.Common.{◌≡◌, ◌≢◌, ℕ, zero, suc, ◌+◌, ◌-◌, ◌*◌, ◌/◌, ◌%◌, ◌^◌, ◌<◌, ◌≤◌, List, [], ◌∷◌, ◌++◌, length, slice_index, bit_and, count_ones, refl, sym, ap, ◌∙◌, subst, inl, inr, arith}
+use Rattle.std.proofs.Common.{◌≡◌, ℕ, zero, suc, ◌+◌, ◌-◌, ◌*◌, ◌/◌, ◌%◌, ◌^◌, ◌<◌, ◌≤◌, List, length, slice_index, bit_and, count_ones, sym, ap, ◌∙◌, subst, inl, inr, arith}
 use Rattle.std.specs.Int.{bit_at}
 use Rattle.std.proofs.Math.Nat.{le-mul_of_pos_right}
 use Rattle.std.proofs.lemmas.Bool.{cases_eq}
@@ -10,54 +10,12 @@ use Rattle.egt_check.specs.declared.metric.Metric.TheVariants.{Mate}
 use Rattle.egt_index.specs.Numbers.{places}
 use Rattle.egt_index.specs.Size.{size_of}
 use Rattle.egt_sweep.specs.CodeGame.{index_of}
-use Rattle.egt_sweep.specs.CodeLandings.{EndsAt, HoldsList, HoldsNumber, HoldsPlaces, HoldsUpTo, HoldsWords, IsCutAt, IsFilled, IsLonger, list_of, rank, start_of}
+use Rattle.egt_sweep.specs.CodeLandings.{EndsAt, HoldsList, HoldsNumber, HoldsPlaces, HoldsUpTo, HoldsWords, IsFilled, IsLonger, list_of, rank}
 use Rattle.egt_sweep.specs.CodeLists.{leaving_at}
 use Rattle.egt_sweep.specs.Landings.{landings_at}
 use Rattle.egt_sweep.specs.declared.code_landings.CodeLandings.{CodeLandings}
 use Rattle.egt_sweep.specs.declared.code_words.CodeLists.{CodeLists}
 use Rattle.egt_sweep.specs.declared.landing_lists.LandingLists.{LandingLists}
-use Rattle.egt_sweep.proofs.CodeLists.{at_added, at_kept, no_shorter, one_longer, range_added, range_kept}
-
--- ---- lists
-
--- one list more
-pub longer : (old new : LandingLists) (list : List ℕ) → new.landings.items ≡ old.landings.items ++ list → new.starts.items ≡ old.starts.items ++ length new.landings.items ∷ [] → IsLonger old new list
-longer old new list more starts = record {
-  ends = λ n ends. record {
-    count = one_longer new.starts.items old.starts.items _ (n + 1) starts ends.count;
-    end = at_added new.starts.items old.starts.items _ (n + 1) 0 starts ends.count;
-  };
-  kept = λ n k xs ends holds.
-      let from = same k n ends (let has = holds.cut.has in let count = ends.count in omega (arith, has, count)) in
-      let to = same (k + 1) n ends (let has = holds.cut.has in let count = ends.count in omega (arith, has, count)) in
-      let cut = holds.cut in
-      let long = no_shorter new.landings.items old.landings.items list more in
-      let count = one_longer new.starts.items old.starts.items _ (n + 1) starts ends.count in
-      record {
-        cut = record {
-          has = (let has = cut.has in let old_count = ends.count in omega (arith, has, old_count, count));
-          ascend = (let ascend = cut.ascend in omega (arith, from, to, ascend));
-          within = (let within = cut.within in omega (arith, to, within, long));
-        };
-        is = range_kept new.landings.items old.landings.items list _ _ _ _ more from to cut.ascend cut.within ∙ holds.is;
-      };
-  added = λ n ends.
-      let from = same n n ends (omega arith) ∙ ends.end in
-      let to = at_added new.starts.items old.starts.items _ (n + 1) 0 starts ends.count in
-      let count = one_longer new.starts.items old.starts.items _ (n + 1) starts ends.count in
-      let long = no_shorter new.landings.items old.landings.items list more in
-      record {
-        cut = record {
-          has = omega (arith, count);
-          ascend = omega (arith, from, to, long);
-          within = omega (arith, to);
-        };
-        is = range_added new.landings.items old.landings.items list _ _ more from to;
-      };
-}
-  where
-    same : (k n : ℕ) → EndsAt n old → k < n + 1 → start_of new k ≡ start_of old k
-    same k n ends lt = at_kept new.starts.items old.starts.items _ k (n + 1) 0 starts ends.count lt
 
 -- ---- bits
 
@@ -92,20 +50,6 @@ module _ (c : ℕ) (lists : CodeLists) (bases bases' : List ℕ) (held held' : L
   places_kept base kept k holds j lt one = number_kept base kept j (holds j lt one)
 
 module _ (c : ℕ) (lists : CodeLists) (word : ℕ) where
-  -- a word begins
-  pub word_begun : (n : ℕ) (old new : CodeLandings) → IsFilled c lists word old → ((m : ℕ) → EndsAt m old.lists → n ≡ m) → new.bases.items ≡ old.bases.items ++ n ∷ [] → new.lists ≡ old.lists → HoldsUpTo c lists word 0 new
-  word_begun n old new filled counted bases same =
-      let long = filled.words.bases_long in
-      let here : slice_index new.bases.items word ≡ n = at_added new.bases.items old.bases.items n word 0 bases long in
-      let count : filled.count ≡ list_of lists new.bases.items word 0 = sym (counted filled.count filled.ends) ∙ sym here ∙ (let none : slice_index new.bases.items word ≡ slice_index new.bases.items word + 0 = omega arith in none) in
-      record {
-        bases_long = one_longer new.bases.items old.bases.items n word bases long;
-        ends = subst (λ (l : LandingLists). EndsAt (list_of lists new.bases.items word 0) l) (sym same) (subst (λ m. EndsAt m old.lists) count filled.ends);
-        before = λ w lt. places_kept c lists old.bases.items new.bases.items old.lists new.lists w (at_kept new.bases.items old.bases.items _ w word 0 bases long lt)
-            (λ k xs holds. subst (λ (l : LandingLists). HoldsList l k xs) (sym same) holds) (places c) (filled.words.each w lt);
-        here = λ j lt one. absurd (omega (arith, lt));
-      }
-
   pub word_done : (k : ℕ) (landings : CodeLandings) → places c ≤ k → HoldsUpTo c lists word k landings → IsFilled c lists (word + 1) landings
   word_done k landings le upto = record {
     count = list_of lists landings.bases.items word k;

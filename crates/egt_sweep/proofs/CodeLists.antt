@@ -41,7 +41,7 @@ use Rattle.egt_sweep.proofs.Fitting.{fits_from, turns_from}
 -- ---- lists that grow
 
 -- a part of a list is the same in the longer list
-pub range_kept : {X : Type 0} (all xs ys : List X) (a b from to : ℕ) → all ≡ xs ++ ys → a ≡ from → b ≡ to → from ≤ to → to ≤ length xs → slice_range all a b ≡ slice_range xs from to
+range_kept : {X : Type 0} (all xs ys : List X) (a b from to : ℕ) → all ≡ xs ++ ys → a ≡ from → b ≡ to → from ≤ to → to ≤ length xs → slice_range all a b ≡ slice_range xs from to
 range_kept {X} all xs ys a b from to e starts ends le within =
     ap (λ (zs : List X). slice_range zs a b) e
     ∙ ap (λ n. slice_range (xs ++ ys) n b) starts
@@ -50,23 +50,23 @@ range_kept {X} all xs ys a b from to e starts ends le within =
     ∙ take-append-le (to - from) (drop from xs) ys (omega (arith, length-drop from xs, le, within))
 
 -- and what was added is the part from the old end to the new one
-pub range_added : {X : Type 0} (all xs ys : List X) (a b : ℕ) → all ≡ xs ++ ys → a ≡ length xs → b ≡ length all → slice_range all a b ≡ ys
+range_added : {X : Type 0} (all xs ys : List X) (a b : ℕ) → all ≡ xs ++ ys → a ≡ length xs → b ≡ length all → slice_range all a b ≡ ys
 range_added {X} all xs ys a b e starts ends =
     ap (λ (zs : List X). slice_range zs a b) e
     ∙ ap (λ n. slice_range (xs ++ ys) n b) starts
     ∙ ap (take (b - length xs)) (drop-append_seam xs ys)
     ∙ take_all (b - length xs) ys (let long = length-append xs ys in let same = ap length e in omega (arith, long, same, ends))
 
-pub at_kept : {X : Type 0} (all xs ys : List X) (i n : ℕ) (d : X) → all ≡ xs ++ ys → length xs ≡ n → i < n → get_or all i d ≡ get_or xs i d
+at_kept : {X : Type 0} (all xs ys : List X) (i n : ℕ) (d : X) → all ≡ xs ++ ys → length xs ≡ n → i < n → get_or all i d ≡ get_or xs i d
 at_kept {X} all xs ys i n d e long lt = ap (λ (zs : List X). get_or zs i d) e ∙ get_or_append_left xs ys d i (omega (arith, long, lt))
 
-pub at_added : {X : Type 0} (all xs : List X) (x : X) (i : ℕ) (d : X) → all ≡ xs ++ x ∷ [] → length xs ≡ i → get_or all i d ≡ x
+at_added : {X : Type 0} (all xs : List X) (x : X) (i : ℕ) (d : X) → all ≡ xs ++ x ∷ [] → length xs ≡ i → get_or all i d ≡ x
 at_added {X} all xs x i d e long = ap (λ (zs : List X). get_or zs i d) e ∙ ap (λ n. get_or (xs ++ x ∷ []) n d) (sym long) ∙ get_or-append_seam xs x [] d
 
-pub one_longer : {X : Type 0} (all xs : List X) (x : X) (n : ℕ) → all ≡ xs ++ x ∷ [] → length xs ≡ n → length all ≡ n + 1
+one_longer : {X : Type 0} (all xs : List X) (x : X) (n : ℕ) → all ≡ xs ++ x ∷ [] → length xs ≡ n → length all ≡ n + 1
 one_longer all xs x n e long = let same = ap length e in let more = length-append xs (x ∷ []) in omega (arith, same, more, long)
 
-pub no_shorter : {X : Type 0} (all xs ys : List X) → all ≡ xs ++ ys → length xs ≤ length all
+no_shorter : {X : Type 0} (all xs ys : List X) → all ≡ xs ++ ys → length xs ≤ length all
 no_shorter all xs ys e = let same = ap length e in let more = length-append xs ys in omega (arith, same, more)
 
 -- ---- what is told of a word

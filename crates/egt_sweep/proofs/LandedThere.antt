@@ -1,7 +1,7 @@
 -- Where moves land that leave a game, and what they are worth there.
-use Rattle.std.proofs.Common.{◌≡◌, ◌≢◌, ℕ, zero, suc, ◌+◌, ◌*◌, ◌/◌, ◌%◌, ◌^◌, ◌<◌, ◌≤◌, ◌++◌, Bool, true, List, [], ◌∷◌, map, length, Option, Some, None, IsSome, IfSome, refl, sym, ap, ◌∙◌, subst, inl, inr, arith}
+use Rattle.std.proofs.Common.{◌≡◌, ℕ, zero, suc, ◌/◌, ◌%◌, ◌^◌, ◌<◌, ◌≤◌, ◌++◌, Bool, true, List, [], ◌∷◌, map, Option, Some, None, IsSome, IfSome, refl, sym, ap, ◌∙◌, subst, inl, inr, arith}
 use Rattle.std.specs.Prelude.{nat_lt}
-use Rattle.std.specs.List.{All, flat_map}
+use Rattle.std.specs.List.{All}
 use Rattle.std.specs.Option.{option_to_list}
 use Rattle.std.proofs.lemmas.Bool.{cases_eq, cases_Bool, false≢true, ltb-true}
 use Rattle.std.proofs.lemmas.List.{map-append}
@@ -24,7 +24,7 @@ use Rattle.egt_check.specs.Tables.{HasChildren, Tables, entry_at}
 use Rattle.egt_sweep.specs.Edges.{GoesOn}
 use Rattle.egt_sweep.specs.Landings.{IsThere, exit_there, landing, landing_below, landing_of, landing_or, landings_at, landings_by, landings_from, value_there}
 use Rattle.egt_sweep.specs.Laws.{Laws}
-use Rattle.egt_sweep.specs.Nodes.{exit_by, exit_of, exit_to, exits_at, exits_by, exits_from, goes_on, index_in, position_at, shown_below, told_by}
+use Rattle.egt_sweep.specs.Nodes.{exit_by, exit_of, exit_to, exits_at, exits_by, exits_from, goes_on, index_in, position_at, told_by}
 use Rattle.egt_sweep.specs.Objective.{Knows, known, metric_of}
 use Rattle.egt_sweep.specs.declared.objective.Objective.{Objective}
 use Rattle.egt_sweep.proofs.Linked.{goes_is, index_is, position_is}

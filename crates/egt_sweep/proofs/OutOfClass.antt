@@ -15,7 +15,6 @@ use Rattle.egt_moves.specs.Legal.{Leads}
 use Rattle.egt_moves.specs.Moves.{played, moves_between}
 use Rattle.egt_moves.specs.Promotion.{FitsPromotion, promotes, choices_of}
 use Rattle.egt_moves.specs.declared.chess_move.Move.{Move}
-use Rattle.egt_graph.specs.declared.game.Exit.{Exit}
 use Rattle.egt_graph.specs.declared.game.Exit.TheVariants as exits
 use Rattle.egt_check.specs.declared.metric.Metric.{Metric}
 use Rattle.egt_check.specs.declared.metric.Metric.TheVariants.{Mate}

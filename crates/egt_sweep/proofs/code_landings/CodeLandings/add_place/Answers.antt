@@ -9,7 +9,7 @@ use Rattle.egt_index.specs.Numbers.{places}
 use Rattle.egt_index.specs.Size.{size_of}
 use Rattle.egt_sweep.specs.CodeGame.{index_of, numbered}
 use Rattle.egt_sweep.specs.CodeLandings.{HoldsUpTo, IsLonger}
-use Rattle.egt_sweep.specs.CodeLists.{leaving_at, nodes_at}
+use Rattle.egt_sweep.specs.CodeLists.{nodes_at}
 use Rattle.egt_sweep.specs.CodeMates.{game_by}
 use Rattle.egt_sweep.specs.Landings.{landings_at}
 use Rattle.egt_sweep.specs.Laws.{Laws}

@@ -1,5 +1,4 @@
-use Rattle.std.proofs.Common.{◌≡◌, ◌≢◌, ℕ, ◌+◌, ◌/◌, ◌^◌, ◌<◌, ◌≤◌, not, false, List, [], None, length, get_or, slice_index, bit_and, sym, ap, ◌∙◌, subst, inl, inr, arith}
-use Rattle.std.proofs.lemmas.Bool.{cases_eq}
+use Rattle.std.proofs.Common.{◌≡◌, ◌≢◌, ℕ, ◌+◌, ◌/◌, ◌^◌, ◌<◌, ◌≤◌, not, false, List, [], None, length, get_or, slice_index, bit_and, sym, ap, ◌∙◌, subst, arith}
 use Rattle.std.proofs.lemmas.List.{get_or_default}
 use Rattle.std.proofs.lemmas.Nat.Bits.{bit_at-lt, shr_and_one}
 use Rattle.std.specs.Int.{bit_at}
@@ -10,7 +9,7 @@ use Rattle.egt_graph.specs.Words.{number_at, number_at-places, place_in, place_i
 use Rattle.egt_index.specs.Numbers.{places}
 use Rattle.egt_index.specs.Size.{size_of}
 use Rattle.egt_sweep.specs.CodeGame.{index_of, numbered}
-use Rattle.egt_sweep.specs.CodeLandings.{AreLandings, HoldsList, IsCutAt, list_of, rank}
+use Rattle.egt_sweep.specs.CodeLandings.{AreLandings, HoldsList, list_of, rank}
 use Rattle.egt_sweep.specs.CodeLists.{leaving_at, nodes_at, staying_at}
 use Rattle.egt_sweep.specs.CodeMates.{game_by}
 use Rattle.egt_sweep.specs.Landings.{landings_at}
@@ -18,7 +17,7 @@ use Rattle.egt_sweep.specs.Laws.{Laws}
 use Rattle.egt_sweep.specs.declared.code_landings.CodeLandings.{CodeLandings}
 use Rattle.egt_sweep.specs.declared.code_words.CodeWords.{CodeWords}
 use Rattle.egt_sweep.proofs.CodeGames.{code_nodes, staying_landings}
-use Rattle.egt_sweep.proofs.CodeLandings.{number_held, word_small, word_there}
+use Rattle.egt_sweep.proofs.CodeLandings.{number_held, word_small}
 use Rattle.egt_sweep.proofs.Numbered.{node_told, number_below}
 use Rattle.egt_sweep.proofs.code_landings.CodeLandings.of_number.Goals as goal
 
