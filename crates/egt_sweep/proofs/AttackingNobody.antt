@@ -16,10 +16,10 @@ use Rattle.egt_moves.specs.Promotion.{promotes}
 use Rattle.egt_moves.specs.declared.chess_move.Move.{Move}
 use Rattle.egt_check.specs.declared.metric.Metric.{Metric}
 use Rattle.egt_check.specs.declared.metric.Metric.TheVariants.{Mate}
-use Rattle.egt_check.specs.Tables.{Tables}
 use Rattle.egt_sweep.specs.Edges.{GoesOn}
 use Rattle.egt_sweep.specs.Laws.{Laws}
-use Rattle.egt_sweep.specs.Nodes.{exits_by, exit_by}
+use Rattle.egt_sweep.specs.Landings.{landing_of, landings_by}
+use Rattle.egt_sweep.specs.Nodes.{told_by}
 use Rattle.egt_sweep.specs.Ways.{Stays}
 use Rattle.egt_sweep.proofs.Onward.{unpromoted, pawn_stays}
 use Rattle.egt_sweep.proofs.OutOfClass.{nothing_told}
@@ -82,9 +82,9 @@ pub none_told : (o : Option ℕ) → is_some o ≡ false → o ≡ None
 none_told None told = refl
 none_told (Some t) told = absurd (false≢true (sym told))
 
--- a man all of whose moves go on has no exits
-pub none_from : (laws : Laws) (tables : Tables) (metric : Metric) (c : ℕ) (p : Setup) (from : ℕ) → IsAdmissible p → ((m : Move) (q : Setup) → m.from ≡ from → Leads p m q → GoesOn metric c p m q)
-    → exits_by tables metric c p (moves_from from 64) ≡ []
-none_from laws tables metric c p from ok on =
-    from_none (λ m. option_to_list (exit_by tables metric c p m (played p m))) from (λ to promo.
-    nothing_told laws tables metric c p (record { from = from; to = to; promo = promo }) ok (λ q leads. on (record { from = from; to = to; promo = promo }) q refl leads))
+-- a man all of whose moves go on has none that lands elsewhere
+pub none_from : (laws : Laws) (metric : Metric) (c : ℕ) (p : Setup) (from : ℕ) → IsAdmissible p → ((m : Move) (q : Setup) → m.from ≡ from → Leads p m q → GoesOn metric c p m q)
+    → landings_by metric c p (moves_from from 64) ≡ []
+none_from laws metric c p from ok on =
+    from_none (λ m. option_to_list (told_by landing_of metric c p m (played p m))) from (λ to promo.
+    nothing_told laws landing_of metric c p (record { from = from; to = to; promo = promo }) ok (λ q leads. on (record { from = from; to = to; promo = promo }) q refl leads))

@@ -12,7 +12,9 @@ use Rattle.egt_board.specs.Decided.{tells_so}
 use Rattle.egt_board.specs.Setup.{Setup}
 use Rattle.egt_index.specs.Size.{size_of}
 use Rattle.egt_moves.specs.DecidedMoves.{decided_checkmate}
+use Rattle.egt_moves.specs.Legal.{Leads}
 use Rattle.egt_moves.specs.Standing.{IsCheckmate}
+use Rattle.egt_moves.specs.declared.chess_move.Move.{Move}
 use Rattle.egt_graph.specs.Graph.{IsNode}
 use Rattle.egt_graph.specs.Passing.{passing_has, passing_passes}
 use Rattle.egt_graph.specs.Words.{IsIn, IsWordStart, number_at, place_in, word_in, words_of, place_in-number_at, word_in-number_at}
@@ -28,6 +30,8 @@ use Rattle.egt_words.specs.declared.roaming.Roaming.{Roaming}
 use Rattle.egt_sweep.specs.CodeGame.{CodeMoves, TellsGame, code_game, goes_by, index_of, is_mate, leads_by, numbered}
 use Rattle.egt_sweep.specs.CodeLists.{GoesWith, IsTold, moves_told, nodes_at, pawn_ways_at, pushes_at, roams_at, staying_at, turned_at, ways_at}
 use Rattle.egt_sweep.specs.CodeTests.{pawn_test, quiet_test}
+use Rattle.egt_sweep.specs.Edges.{GoesOn, IsAt}
+use Rattle.egt_sweep.specs.Landings.{landings_at}
 use Rattle.egt_sweep.specs.Laws.{Laws}
 use Rattle.egt_sweep.specs.Nodes.{exits_at, is_mated, position_at}
 use Rattle.egt_sweep.specs.declared.code_words.CodeLists.{CodeLists}
@@ -36,7 +40,7 @@ use Rattle.egt_sweep.proofs.CodeLists.{told_game}
 use Rattle.egt_sweep.proofs.CodeTests.{pawn_is, quiet_is}
 use Rattle.egt_sweep.proofs.Linked.{position_is}
 use Rattle.egt_sweep.proofs.Numbered.{node_told, number_below, some_numbered, told_node}
-use Rattle.egt_sweep.proofs.CodeStarts.{no_exits, start_prop, tells_none}
+use Rattle.egt_sweep.proofs.CodeStarts.{no_exits, no_landings, start_prop, tells_none}
 
 -- in the game of mates a pawn's moves go on too
 abbrev pub pawns_go : Metric → Bool
@@ -203,25 +207,41 @@ module _ (laws : Laws) (c : ℕ) (lists : CodeLists) (told : IsTold c lists) whe
       prop : IsProp (bit_at (nodes_at lists word) k ≡ 1 ↔ ((k < places c) × IsNode (code_game tables metric c moves) (number_at (places c) word k)))
       prop = hlevel (props, ℕ_set, Bool-set)
 
-  -- where no move takes or promotes the node has no exits in the game of mates
-  module _ (tables : Tables) (word : ℕ) (tells : TellsLists c word (nodes_at lists word) (staying_at lists word) (ways_at lists word) (turned_at lists word) (pawn_ways_at lists word) (pushes_at lists word) (roams_at lists word)) where
-    stays_there : (k : ℕ) → bit_at (staying_at lists word) k ≡ 1 → exits_at tables Mate c (index_of c (number_at (places c) word k)) ≡ []
-    stays_there k one =
+  -- where no move takes or promotes all stay in the class
+  module _ (word : ℕ) (tells : TellsLists c word (nodes_at lists word) (staying_at lists word) (ways_at lists word) (turned_at lists word) (pawn_ways_at lists word) (pushes_at lists word) (roams_at lists word)) where
+    all_stay : (k : ℕ) → bit_at (staying_at lists word) k ≡ 1 → (p' : Setup) × IsAt c (index_of c (number_at (places c) word k)) p' × ((q' : Setup) (m' : Move) → Leads p' m' q' → GoesOn Mate c p' m' q')
+    all_stay k one =
         let (k_in, (p, spells)) = (tells.nodes_are k).0 (tells.staying_nodes k one) in
-        let (p', at, alike) = stood_for laws c c_in (number_at (places c) word k) p spells in
-        no_exits laws c c_in tables (index_of c (number_at (places c) word k)) p' at (λ q' m' leads'.
-        let (q, (m, leads), zeroes, images) = alike.back q' (m', leads') in
-        let (still, plain) = tells.stays k p q m one spells leads in
-        let is_of = laws.facts.spelled_class c (code_of c (number_at (places c) word k)) p spells.spells in
-        let q_of = laws.quiet_class p q m c is_of.0 spells.spells.admissible is_of.1 leads still plain in
-        let q'_ok = laws.facts.step_admissible p' q' m' at.spells.admissible leads' in
-        let turned = laws.facts.image_class q q' c is_of.0 (laws.facts.step_admissible p q m spells.spells.admissible leads) (laws.facts.images_back q' q q'_ok images) q_of in
-        laws.facts.some_index q' c turned.0 c_in q'_ok turned.1)
+        let (p', at, alike) = stood_for laws c c_in (number_at (places c) word k) p spells in (
+          p',
+          at,
+          λ q' m' leads'.
+              let (q, (m, leads), zeroes, images) = alike.back q' (m', leads') in
+              let (still, plain) = tells.stays k p q m one spells leads in
+              let is_of = laws.facts.spelled_class c (code_of c (number_at (places c) word k)) p spells.spells in
+              let q_of = laws.quiet_class p q m c is_of.0 spells.spells.admissible is_of.1 leads still plain in
+              let q'_ok = laws.facts.step_admissible p' q' m' at.spells.admissible leads' in
+              let turned = laws.facts.image_class q q' c is_of.0 (laws.facts.step_admissible p q m spells.spells.admissible leads) (laws.facts.images_back q' q q'_ok images) q_of in
+              laws.facts.some_index q' c turned.0 c_in q'_ok turned.1,
+        )
+
+    -- so the node has no exits in the game of mates
+    stays_there : (tables : Tables) (k : ℕ) → bit_at (staying_at lists word) k ≡ 1 → exits_at tables Mate c (index_of c (number_at (places c) word k)) ≡ []
+    stays_there tables k one = let (p', at, stay) = all_stay k one in no_exits laws c c_in tables (index_of c (number_at (places c) word k)) p' at stay
+
+    lands_nowhere : (k : ℕ) → bit_at (staying_at lists word) k ≡ 1 → landings_at Mate c (index_of c (number_at (places c) word k)) ≡ []
+    lands_nowhere k one = let (p', at, stay) = all_stay k one in no_landings laws c c_in (index_of c (number_at (places c) word k)) p' at stay
+
+  pub staying_landings : (word : ℕ) → word < words_of (places c) (size_of c) → (k : ℕ) → bit_at (staying_at lists word) k ≡ 1 → landings_at Mate c (index_of c (number_at (places c) word k)) ≡ []
+  staying_landings word lt k one = ∥∥₁_elim (word_lists word lt) prop (λ tells. lands_nowhere word tells k one)
+    where
+      prop : IsProp (landings_at Mate c (index_of c (number_at (places c) word k)) ≡ [])
+      prop = hlevel (props, ℕ_set)
 
   pub mate_codes_begin : (tables : Tables) (word : ℕ) → word < words_of (places c) (size_of c)
       → IsWordStart (code_game tables Mate c moves) (places c) word (record { nodes = nodes_at lists word; told = staying_at lists word; leaving = 0; lost = 0; held = 0 })
   mate_codes_begin tables word lt = ∥∥₁_elim (word_lists word lt) (start_prop (code_game tables Mate c moves) (places c) word (record { nodes = nodes_at lists word; told = staying_at lists word; leaving = 0; lost = 0; held = 0 })) (λ tells. record {
     nodes = code_nodes tables Mate word lt;
     told_nodes = tells.staying_nodes;
-    told = λ k one. tells_none (exits_at tables Mate c (index_of c (number_at (places c) word k))) (bit_at 0 k) (stays_there tables word tells k one) (bit_at-zero k);
+    told = λ k one. tells_none (exits_at tables Mate c (index_of c (number_at (places c) word k))) (bit_at 0 k) (stays_there word tells tables k one) (bit_at-zero k);
   })

@@ -16,7 +16,8 @@ use Rattle.egt_check.specs.declared.metric.Metric.TheVariants.{Mate}
 use Rattle.egt_check.specs.Tables.{Tables}
 use Rattle.egt_sweep.specs.Edges.{IsAt, GoesOn}
 use Rattle.egt_sweep.specs.Laws.{Laws}
-use Rattle.egt_sweep.specs.Nodes.{exit_by, exits_at, exits_from}
+use Rattle.egt_sweep.specs.Landings.{landing_of, landings_at, landings_from}
+use Rattle.egt_sweep.specs.Nodes.{exit_by, exit_to, exits_at, exits_from, told_by}
 use Rattle.egt_sweep.proofs.Linked.{position_is}
 use Rattle.egt_sweep.proofs.OutOfClass.{nothing_told}
 use Rattle.egt_sweep.proofs.Telling.{nothing_of}
@@ -39,4 +40,11 @@ module _ (laws : Laws) (c : ℕ) (c_in : c < 36) where
   unfolding exits_at
   no_exits tables i p at stays =
       ap (exits_from tables Mate c) ((position_is laws c i p).1 at)
-      ∙ nothing_of (λ m. option_to_list (exit_by tables Mate c p m (played p m))) (λ m. nothing_told laws tables Mate c p m at.spells.admissible (λ q leads. stays q m leads)) (moves_of p)
+      ∙ nothing_of (λ m. option_to_list (exit_by tables Mate c p m (played p m))) (λ m. nothing_told laws (exit_to tables Mate) Mate c p m at.spells.admissible (λ q leads. stays q m leads)) (moves_of p)
+
+  -- and no move that lands elsewhere
+  pub no_landings : (i : ℕ) (p : Setup) → IsAt c i p → ((q : Setup) (m : Move) → Leads p m q → GoesOn Mate c p m q) → landings_at Mate c i ≡ []
+  unfolding landings_at
+  no_landings i p at stays =
+      ap (landings_from Mate c) ((position_is laws c i p).1 at)
+      ∙ nothing_of (λ m. option_to_list (told_by landing_of Mate c p m (played p m))) (λ m. nothing_told laws landing_of Mate c p m at.spells.admissible (λ q leads. stays q m leads)) (moves_of p)

@@ -6,6 +6,7 @@ pub mod Collecting
 pub mod Standing
 pub mod Backward
 pub mod OutOfClass
+pub mod LandedThere
 pub mod Walked
 pub mod Members
 pub mod Agreeing
@@ -29,6 +30,7 @@ pub mod CodeTests
 pub mod Fitting
 pub mod CodeLists
 pub mod CodeGames
+pub mod CodeLandings
 pub mod CodeSources
 pub mod SoFar
 pub mod ZeroCodes

@@ -29,9 +29,9 @@ use Rattle.egt_sweep.specs.Drawn.{HasDrawnChildren}
 use Rattle.egt_sweep.specs.Edges.{IsAt, GoesOn}
 use Rattle.egt_sweep.specs.Laws.{Laws}
 use Rattle.egt_sweep.specs.MateColumn.{mate_table}
-use Rattle.egt_sweep.specs.Nodes.{position_at, connects, exit_of, exit_by, exits_at, exits_from, goes_on, shown_below}
+use Rattle.egt_sweep.specs.Nodes.{connects, exit_by, exit_of, exit_to, exits_at, exits_from, goes_on, position_at, shown_below}
 use Rattle.egt_sweep.proofs.Linked.{position_is, connects_is, goes_is}
-use Rattle.egt_sweep.proofs.OutOfClass.{shown_is, nothing_told, off_has_exit, beside_other}
+use Rattle.egt_sweep.proofs.OutOfClass.{shown_is, nothing_told, off_is_told, beside_other}
 use Rattle.egt_sweep.proofs.Staying.{quiet_goes_on}
 use Rattle.egt_sweep.proofs.Telling.{there, quiet, same_edges, passing_same}
 
@@ -117,8 +117,8 @@ module _ (laws : Laws) (tables : Tables) (c : ℕ) (c_in : c < 36) (mates : List
         of_test q leads true e =
             let on = (goes_is laws Mate c p q m (laws.facts.step_admissible p q m at.spells.admissible leads)).0 e in
             let one : (r : Setup) → Leads p m r → q ≡ r = λ r goes. one_some (sym ((laws.played p q m).0 leads) ∙ (laws.played p r m).0 goes) in
-            nothing_told laws other Zeroing c p m at.spells.admissible (λ r goes. zeroes_not m r goes (subst (GoesOn Mate c p m) (one r goes) on))
-            ∙ sym (nothing_told laws tables Mate c p m at.spells.admissible (λ r goes. subst (GoesOn Mate c p m) (one r goes) on))
+            nothing_told laws (exit_to other Zeroing) Zeroing c p m at.spells.admissible (λ r goes. zeroes_not m r goes (subst (GoesOn Mate c p m) (one r goes) on))
+            ∙ sym (nothing_told laws (exit_to tables Mate) Mate c p m at.spells.admissible (λ r goes. subst (GoesOn Mate c p m) (one r goes) on))
           where
             one_some : {r s : Setup} → Some r ≡ Some s → r ≡ s
             one_some e = ap (λ (o : Option Setup). or_own o) e
@@ -128,8 +128,8 @@ module _ (laws : Laws) (tables : Tables) (c : ℕ) (c_in : c < 36) (mates : List
                 or_own (Some x) = x
         of_test q leads false e =
             let off : ¬ GoesOn Mate c p m q = λ on. both (goes_on Mate c p m q) e ((goes_is laws Mate c p q m (laws.facts.step_admissible p q m at.spells.admissible leads)).1 on) in
-            sym (off_has_exit laws other Zeroing c p q m exits.Draw at.spells.admissible leads (λ still. off (stays m q leads still)) (sym (ap (exit_of Zeroing) (drawn_there m q leads off))) [])
-            ∙ off_has_exit laws tables Mate c p q m exits.Draw at.spells.admissible leads off (sym (ap (exit_of Mate) (drawn_here m q leads off))) []
+            sym (off_is_told laws (exit_to other Zeroing) Zeroing c p q m exits.Draw at.spells.admissible leads (λ still. off (stays m q leads still)) (sym (ap (exit_of Zeroing) (drawn_there m q leads off))) [])
+            ∙ off_is_told laws (exit_to tables Mate) Mate c p q m exits.Draw at.spells.admissible leads off (sym (ap (exit_of Mate) (drawn_here m q leads off))) []
           where
             both : (b : Bool) → b ≡ false → b ≡ true → ⊥
             both b f t = let no = sym f ∙ t in cc

@@ -2,7 +2,6 @@
 use Rattle.std.proofs.Common.{◌≡◌, ◌≢◌, ℕ, zero, suc, ◌-◌, ◌/◌, ◌%◌, ◌<◌, ◌≤◌, Bool, true, false, List, [], ◌∷◌, ◌++◌, if◌then◌else◌, Option, Some, None, IsSome, IfSome, eqb, refl, sym, ap, ◌∙◌, subst, inl, inr, arith}
 use Rattle.std.proofs.Math.Logic.{⊎_elim}
 use Rattle.std.proofs.lemmas.Bool.{cases_eq, eqb-true, eq-eqb}
-use Rattle.std.proofs.lemmas.List.{append-nil}
 use Rattle.std.specs.List.{flat_map, Contains}
 use Rattle.std.specs.Option.{is_some, option_to_list, option_map}
 use Rattle.egt_board.specs.declared.man.Man.{Man}
@@ -16,7 +15,6 @@ use Rattle.egt_moves.specs.Legal.{Leads}
 use Rattle.egt_moves.specs.Moves.{played, moves_between}
 use Rattle.egt_moves.specs.Promotion.{FitsPromotion, promotes, choices_of}
 use Rattle.egt_moves.specs.declared.chess_move.Move.{Move}
-use Rattle.egt_graph.specs.declared.game.Exit.{Exit}
 use Rattle.egt_graph.specs.declared.game.Exit.TheVariants as exits
 use Rattle.egt_check.specs.declared.metric.Metric.{Metric}
 use Rattle.egt_check.specs.declared.metric.Metric.TheVariants.{Mate}
@@ -31,7 +29,7 @@ use Rattle.egt_sweep.specs.MateColumn.{mate_table}
 use Rattle.egt_sweep.specs.declared.objective.Objective.{Objective}
 use Rattle.egt_sweep.specs.declared.objective.Objective.TheVariants as objectives
 use Rattle.egt_sweep.specs.Laws.{Laws}
-use Rattle.egt_sweep.specs.Nodes.{index_in, plies_told, exit_of, exit_by, exits_by, shown_in, shown_below, or_else, goes_on}
+use Rattle.egt_sweep.specs.Nodes.{index_in, plies_told, exit_of, shown_in, shown_below, or_else, goes_on, told_by}
 use Rattle.egt_sweep.proofs.Linked.{index_is, goes_is}
 use Rattle.egt_sweep.proofs.Walked.{told_of, choices_told}
 
@@ -60,13 +58,14 @@ exit_win metric x n v s e told = ap exits.Win told ∙ sym (ap (exit_of metric) 
 pub exit_loss : (metric : Metric) (x n : ℕ) (v : Value) → Shows x v → x ≢ 1 → x % 2 ≢ 0 → n ≡ plies_told metric ((x - 3) / 2) → exits.Loss n ≡ exit_of metric (read x)
 exit_loss metric x n v s ne odd told = ap exits.Loss told ∙ sym (ap (exit_of metric) (read_shown x v s ∙ loss_shown x v s ne odd))
 
-module _ (laws : Laws) (tables : Tables) where
-  none_in : (c n : ℕ) (q : Setup) (flipped : Bool) → c < 36 → n < 36 → IsAdmissible q → IsOf c flipped q → n ≢ c → (o : Option ℕ) → o ≡ index_in n q → o ≡ None
+module _ (laws : Laws) where
+  pub none_in : (c n : ℕ) (q : Setup) (flipped : Bool) → c < 36 → n < 36 → IsAdmissible q → IsOf c flipped q → n ≢ c → (o : Option ℕ) → o ≡ index_in n q → o ≡ None
   none_in c n q flipped c_in n_in ok of other None e = refl
   none_in c n q flipped c_in n_in ok of other (Some i) e =
       let own = laws.indexed_class q n i ok ((index_is laws n i q ok).0 (sym e)) in
       absurd (other (laws.facts.one_class q n c own.0 flipped n_in c_in own.1 of))
 
+module _ (laws : Laws) (tables : Tables) where
   skipped : (o : Option TableValue) (i : Option ℕ) (v : Value) → i ≡ None → or_else (shown_in o i) v ≡ v
   skipped o None v e = of_table o
     where
@@ -86,58 +85,63 @@ module _ (laws : Laws) (tables : Tables) where
         let index : index_in n q ≡ Some i = ap (λ k. index_in k q) e ∙ (index_is laws c i q ok).1 is in
         ap (λ o. or_else (shown_in o (index_in n q)) (shown_below tables n q)) table ∙ ap (λ k. or_else (shown_in (Some t) k) (shown_below tables n q)) index
     | inr other ↦
-        skipped (tables n) (index_in n q) (shown_below tables n q) (none_in c n q flipped c_in (omega (arith, le)) ok of other (index_in n q) refl)
+        skipped (tables n) (index_in n q) (shown_below tables n q) (none_in laws c n q flipped c_in (omega (arith, le)) ok of other (index_in n q) refl)
         ∙ shown_is c i t q flipped c_in ok of found is n (omega (arith, lt, other)) (omega (arith, le))
   ]
 
-  exit_by_test : Metric → Setup → Bool → Option Exit
-  exit_by_test metric q true = None
-  exit_by_test metric q false = Some (exit_of metric (shown_below tables 36 q))
+-- ---- what f tells of where moves lead that leave the game
 
-  test_exit : (metric : Metric) (c : ℕ) (p q : Setup) (m : Move) (b : Bool) → goes_on metric c p m q ≡ b → exit_by tables metric c p m (Some q) ≡ exit_by_test metric q b
-  unfolding exit_by_test
-  test_exit metric c p q m true e = ap (λ x. if x then None else Some (exit_of metric (shown_below tables 36 q))) e
-  test_exit metric c p q m false e = ap (λ x. if x then None else Some (exit_of metric (shown_below tables 36 q))) e
+module _ (laws : Laws) {X : Type 0} (f : Setup → X) where
+  told_test : Setup → Bool → Option X
+  told_test q true = None
+  told_test q false = Some (f q)
+
+  test_told : (metric : Metric) (c : ℕ) (p q : Setup) (m : Move) (b : Bool) → goes_on metric c p m q ≡ b → told_by f metric c p m (Some q) ≡ told_test q b
+  unfolding told_test
+  test_told metric c p q m true e = ap (λ (x : Bool). if x then None else Some (f q)) e
+  test_told metric c p q m false e = ap (λ (x : Bool). if x then None else Some (f q)) e
 
   played_is : (p q : Setup) (m : Move) → Leads p m q → played p m ≡ Some q
   played_is p q m leads = (laws.played p q m).0 leads
 
-  -- a move that goes on has no exit
-  goes_no_exit : (metric : Metric) (c : ℕ) (p q : Setup) (m : Move) → IsAdmissible p → Leads p m q → GoesOn metric c p m q → (es : List Exit) →
-      es ≡ es ++ option_to_list (exit_by tables metric c p m (played p m))
-  unfolding exit_by_test
-  goes_no_exit metric c p q m ok leads on es =
+  -- of a move that goes on nothing
+  pub on_not_told : (metric : Metric) (c : ℕ) (p q : Setup) (m : Move) → IsAdmissible p → Leads p m q → GoesOn metric c p m q → told_by f metric c p m (played p m) ≡ None
+  unfolding told_test
+  on_not_told metric c p q m ok leads on =
       let q_ok = laws.facts.step_admissible p q m ok leads in
-      let none = ap (exit_by tables metric c p m) (played_is p q m leads) ∙ test_exit metric c p q m true ((goes_is laws metric c p q m q_ok).1 on) in
-      sym (ap (λ (o : Option Exit). es ++ option_to_list o) none ∙ append-nil es)
-
-  -- so nothing is told of a move that is illegal or goes on
-  pub nothing_told : (metric : Metric) (c : ℕ) (p : Setup) (m : Move) → IsAdmissible p → ((q : Setup) → Leads p m q → GoesOn metric c p m q) → option_to_list (exit_by tables metric c p m (played p m)) ≡ []
-  nothing_told metric c p m ok on = of_played (played p m) refl
-    where
-      of_played : (o : Option Setup) → played p m ≡ o → option_to_list (exit_by tables metric c p m (played p m)) ≡ []
-      of_played None e = ap (λ (x : Option Setup). option_to_list (exit_by tables metric c p m x)) e
-      of_played (Some q) e = let leads = (laws.played p q m).1 e in sym (goes_no_exit metric c p q m ok leads (on q leads) [])
+      ap (told_by f metric c p m) (played_is p q m leads) ∙ test_told metric c p q m true ((goes_is laws metric c p q m q_ok).1 on)
 
   goes_false : (metric : Metric) (c : ℕ) (p q : Setup) (m : Move) → IsAdmissible q → ¬ GoesOn metric c p m q → (b : Bool) → goes_on metric c p m q ≡ b → b ≡ false
   goes_false metric c p q m ok off true e = absurd (off ((goes_is laws metric c p q m ok).0 e))
   goes_false metric c p q m ok off false e = refl
 
-  -- and any other has one
-  pub off_has_exit : (metric : Metric) (c : ℕ) (p q : Setup) (m : Move) (e : Exit) → IsAdmissible p → Leads p m q → ¬ GoesOn metric c p m q → e ≡ exit_of metric (shown_below tables 36 q) → (es : List Exit) →
-      es ++ e ∷ [] ≡ es ++ option_to_list (exit_by tables metric c p m (played p m))
-  unfolding exit_by_test
-  off_has_exit metric c p q m e ok leads off is es =
+  -- and of any other something
+  pub off_told : (metric : Metric) (c : ℕ) (p q : Setup) (m : Move) → IsAdmissible p → Leads p m q → ¬ GoesOn metric c p m q → told_by f metric c p m (played p m) ≡ Some (f q)
+  unfolding told_test
+  off_told metric c p q m ok leads off =
       let q_ok = laws.facts.step_admissible p q m ok leads in
-      let some = ap (exit_by tables metric c p m) (played_is p q m leads) ∙ test_exit metric c p q m false (goes_false metric c p q m q_ok off (goes_on metric c p m q) refl) in
-      ap (λ (x : Exit). es ++ x ∷ []) is ∙ sym (ap (λ (o : Option Exit). es ++ option_to_list o) some)
+      ap (told_by f metric c p m) (played_is p q m leads) ∙ test_told metric c p q m false (goes_false metric c p q m q_ok off (goes_on metric c p m q) refl)
+
+  -- so nothing is told of a move that is illegal or goes on
+  pub nothing_told : (metric : Metric) (c : ℕ) (p : Setup) (m : Move) → IsAdmissible p → ((q : Setup) → Leads p m q → GoesOn metric c p m q) → option_to_list (told_by f metric c p m (played p m)) ≡ []
+  nothing_told metric c p m ok on = of_played (played p m) refl
+    where
+      of_played : (o : Option Setup) → played p m ≡ o → option_to_list (told_by f metric c p m (played p m)) ≡ []
+      of_played None e = ap (λ (x : Option Setup). option_to_list (told_by f metric c p m x)) e
+      of_played (Some q) e = let leads = (laws.played p q m).1 e in ap (λ (o : Option X). option_to_list o) (on_not_told metric c p q m ok leads (on q leads))
+
+  -- and any other has one
+  pub off_is_told : (metric : Metric) (c : ℕ) (p q : Setup) (m : Move) (x : X) → IsAdmissible p → Leads p m q → ¬ GoesOn metric c p m q → x ≡ f q → (xs : List X) →
+      xs ++ x ∷ [] ≡ xs ++ option_to_list (told_by f metric c p m (played p m))
+  off_is_told metric c p q m x ok leads off is xs =
+      ap (λ (y : X). xs ++ y ∷ []) is ∙ sym (ap (λ (o : Option X). xs ++ option_to_list o) (off_told metric c p q m ok leads off))
 
 -- of the moves between two squares those that promote as they must are told
-pub between_told : (laws : Laws) (tables : Tables) (metric : Metric) (c : ℕ) (p : Setup) (man : Man) (from to : ℕ) (b : Bool) → IsAdmissible p → Stands p.men from man → promotes man to ≡ b →
-    flat_map (told_of (λ m. option_to_list (exit_by tables metric c p m (played p m))) from to) (choices_of b) ≡ exits_by tables metric c p (moves_between from to)
-between_told laws tables metric c p man from to b ok stands told =
-    choices_told (λ m. option_to_list (exit_by tables metric c p m (played p m))) from to b
-    (λ promo unfit. nothing_told laws tables metric c p (record { from = from; to = to; promo = promo }) ok
+pub between_told : (laws : Laws) {X : Type 0} (f : Setup → X) (metric : Metric) (c : ℕ) (p : Setup) (man : Man) (from to : ℕ) (b : Bool) → IsAdmissible p → Stands p.men from man → promotes man to ≡ b →
+    flat_map (told_of (λ m. option_to_list (told_by f metric c p m (played p m))) from to) (choices_of b) ≡ flat_map (λ m. option_to_list (told_by f metric c p m (played p m))) (moves_between from to)
+between_told laws f metric c p man from to b ok stands told =
+    choices_told (λ m. option_to_list (told_by f metric c p m (played p m))) from to b
+    (λ promo unfit. nothing_told laws f metric c p (record { from = from; to = to; promo = promo }) ok
     (λ q there. absurd (unfit (subst (λ (x : Bool). FitsPromotion x promo) (ap (λ (x : Man). promotes x to) (one_man p.men from there.man man there.stands stands) ∙ told) there.promotion))))
 
 pub mapped_some : {A B : Type 0} (f : A → B) (o : Option A) (x : Option B) → option_map f o ≡ x → IsSome x → IsSome o

@@ -32,13 +32,13 @@ use Rattle.egt_check.specs.Tables.{Tables, beside, HasChildren}
 use Rattle.egt_sweep.specs.Edges.{IsAt}
 use Rattle.egt_sweep.specs.Laws.{Laws}
 use Rattle.egt_sweep.specs.MateColumn.{mate_table, IsMateColumn}
-use Rattle.egt_sweep.specs.Nodes.{exit_of, exit_by, exits_at, exits_from, goes_on, shown_below}
+use Rattle.egt_sweep.specs.Nodes.{exit_of, exit_by, exit_to, exits_at, exits_from, goes_on, shown_below}
 use Rattle.egt_sweep.specs.Edges.{PushesTo}
 use Rattle.egt_sweep.specs.ResultMarks.{IsOddAbove}
 use Rattle.egt_sweep.proofs.ExitKinds.{zeroed, staying_exit, exit_apart}
 use Rattle.egt_sweep.proofs.Linked.{goes_is, position_is, spelled_there}
 use Rattle.egt_sweep.proofs.Members.{In, contains_in, any_in, in_any, in_append, append_in, in_map, map_in, in_flat, flat_in, in_option}
-use Rattle.egt_sweep.proofs.OutOfClass.{shown_is, beside_own, off_has_exit}
+use Rattle.egt_sweep.proofs.OutOfClass.{shown_is, beside_own, off_is_told}
 use Rattle.egt_sweep.proofs.CodeGame.{pawns}
 
 -- ---- tests and bits
@@ -205,7 +205,7 @@ module _ (laws : Laws) (c : ℕ) (c_in : c < 36) (tables : Tables) (mates : List
         let shown = shown_own push.to j (laws.facts.step_admissible p push.to push.move ok leads) push.index in
         subst (In (ExitTo (slice_index mates j))) (sym (listed others Zeroing))
         (flat_in (told_of others Zeroing) (moves_of p) push.move (ExitTo (slice_index mates j)) (contains_in push.move (moves_of p) ((laws.listed p push.move ok).1 (push.to, leads)))
-        (subst (In (ExitTo (slice_index mates j))) (off_has_exit laws others Zeroing c p push.to push.move (ExitTo (slice_index mates j)) ok leads (λ quiet. quiet (inr pawn)) (sym (ap (exit_of Zeroing) shown)) []) (inl refl)))
+        (subst (In (ExitTo (slice_index mates j))) (off_is_told laws (exit_to others Zeroing) Zeroing c p push.to push.move (ExitTo (slice_index mates j)) ok leads (λ quiet. quiet (inr pawn)) (sym (ap (exit_of Zeroing) shown)) []) (inl refl)))
 
     push_shows : (j : ℕ) → PushesTo c i j → (v : Value) × Shows (slice_index mates j) v
     push_shows j push = entry_shows push.to j (laws.facts.step_admissible push.from push.to push.move push.at.spells.admissible push.leads) push.index

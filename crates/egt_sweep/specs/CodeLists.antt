@@ -1,5 +1,5 @@
 -- Lists of what is told of a class's moves between numbers, word by word, and the moves that they tell.
-use Rattle.std.specs.Prelude.{◌≡◌, ℕ, ◌+◌, ◌<◌, ◌≤◌, ◌↔◌, ◌⊎◌, Bool, true, false, List, Contains, Option, None, IfSome, [], ◌∷◌, ◌++◌, length, slice_index, slice_index_or, slice_range}
+use Rattle.std.specs.Prelude.{◌≡◌, ℕ, ◌+◌, ◌-◌, ◌<◌, ◌≤◌, ◌↔◌, ◌⊎◌, Bool, true, false, List, Contains, Option, None, IfSome, [], ◌∷◌, ◌++◌, length, slice_index, slice_index_or, slice_range, bit_and}
 use Rattle.std.specs.Int.{bit_at}
 use Rattle.egt_graph.specs.WordMoves.{FitsPushes, FitsTurns, HasWords}
 use Rattle.egt_graph.specs.Words.{number_at, place_in, word_in, words_of}
@@ -30,6 +30,10 @@ indexes_at lists word = slice_index lists.indexes.items word
 
 abbrev pub staying_at : CodeLists → ℕ → ℕ
 staying_at lists word = slice_index lists.staying.items word
+
+-- the numbers of which it is not told that they stay
+abbrev pub leaving_at : CodeLists → ℕ → ℕ
+leaving_at lists word = bit_and (nodes_at lists word) (18446744073709551615 - staying_at lists word)
 
 abbrev pub ways_at : CodeLists → ℕ → List Way
 ways_at lists word = slice_range lists.ways.items (begin_of lists word).ways (begin_of lists (word + 1)).ways

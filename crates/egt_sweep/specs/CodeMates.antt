@@ -13,7 +13,7 @@ use Rattle.egt_sweep.specs.CodeGame.{code_game, index_of}
 use Rattle.egt_sweep.specs.CodeLists.{moves_told}
 use Rattle.egt_sweep.specs.declared.code_words.CodeLists.{CodeLists}
 use Rattle.egt_sweep.specs.ResultMarks.{IsOddAbove}
-use Rattle.egt_sweep.specs.declared.code_words.CodeWords.{CodeWords}
+use Rattle.egt_sweep.specs.declared.class_codes.ClassCodes.{ClassCodes}
 use Rattle.egt_sweep.specs.declared.mate_codes.CodeEntries.{CodeEntries}
 use Rattle.egt_sweep.specs.declared.mates.Mates.{Mates}
 
@@ -42,5 +42,5 @@ pub record TellMates (tables : Tables) (c : ℕ) (lists : CodeLists) (mates : Li
   pub exits : AreExitMarks (game_by tables Mate c lists) (places c) codes.exits
 
 -- where the class's moves are told by these words, they tell of the numbers' entries
-abbrev pub CodesTell : (tables : Tables) (c : ℕ) → Option CodeWords → Mates → Type 0
-CodesTell tables c words mates = (some : CodeWords) → words ≡ Some some → some.class ≡ c → IfSome mates.codes (TellMates tables c some.lists mates.ranks)
+abbrev pub CodesTell : (tables : Tables) (c : ℕ) → Option ClassCodes → Mates → Type 0
+CodesTell tables c codes mates = (some : ClassCodes) → codes ≡ Some some → some.words.class ≡ c → IfSome mates.codes (TellMates tables c some.words.lists mates.ranks)

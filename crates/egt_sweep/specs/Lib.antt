@@ -5,6 +5,7 @@ pub mod ClassGame
 pub mod ReachGame
 pub mod Plies
 pub mod MateColumn
+pub mod Landings
 pub mod Objective
 pub mod Built
 pub mod Fault
@@ -16,4 +17,5 @@ pub mod CodeTests
 pub mod CodeLists
 pub mod CodeSources
 pub mod ResultMarks
+pub mod CodeLandings
 pub mod CodeMates

@@ -13,7 +13,7 @@ ghost use Rattle.egt_sweep.specs.CodeMates.{CodesTell};
 ghost use Rattle.egt_sweep.specs.declared.build_fault.BuildFault.TheVariants.{NoMemory};
 
 use crate::build_fault::BuildFault;
-use crate::code_words::CodeWords;
+use crate::class_codes::ClassCodes;
 use crate::drawn_children::has_one_game;
 use crate::laws::laws;
 use crate::mate_game::MateGame;
@@ -51,13 +51,13 @@ pub(crate) fn mate_ranks(
     class: Class,
     library: &Library,
     limit: u16,
-    words: &Option<CodeWords>,
+    codes: &Option<ClassCodes>,
 ) -> Result<Mates, BuildFault>
     requires limit { limit ≤ 32000 }
     requires reach_children { HasReachChildren (table_at library.now) class }
     ensures children { IfOk result (λ _. HasChildren (table_at library.now) class) }
     ensures ranks { IfOk result (λ told. AreRanks (class_game (table_at library.now) Mate class) limit told.ranks) }
-    ensures codes { IfOk result (CodesTell (table_at library.now) class words.now) }
+    ensures codes { IfOk result (CodesTell (table_at library.now) class codes.now) }
     ensures refused { IfErr result (IsNotBuilt (table_at library.now) class limit) }
 {
     laws();
@@ -68,7 +68,7 @@ pub(crate) fn mate_ranks(
         Ok(game) => game,
         Err(missing) => return Err(BuildFault::from(missing)),
     };
-    match solve_mates(alloc, &game, words, limit) {
+    match solve_mates(alloc, &game, codes, limit) {
         Ok(told) => Ok(told),
         Err(SolveFault::NoMemory) => Err(BuildFault::NoMemory),
         Err(SolveFault::TooDeep) => Err(BuildFault::TooDeep(limit)),
@@ -94,13 +94,13 @@ pub(crate) fn zeroing_ranks<'x>(
     library: &'x Library,
     mates: &'x Mates,
     limit: u16,
-    words: &'x Option<CodeWords>,
+    codes: &'x Option<ClassCodes>,
 ) -> Result<Ranks, BuildFault>
     requires limit { limit ≤ 32000 }
     requires children { HasChildren (table_at library.now) class }
     requires reach_children { HasReachChildren (table_at library.now) class }
     requires mates { AreRanks (class_game (table_at library.now) Mate class) limit mates.now.ranks }
-    requires codes { CodesTell (table_at library.now) class words.now mates.now }
+    requires codes { CodesTell (table_at library.now) class codes.now mates.now }
     ensures ranks { IfOk result (AreRanks (class_game (beside (table_at library.now) (mate_table class mates.now.ranks)) Zeroing class) limit) }
     ensures refused { IfErr result (IsNotBuilt (table_at library.now) class limit) }
 {
@@ -118,20 +118,40 @@ pub(crate) fn zeroing_ranks<'x>(
         Ok(game) => game,
         Err(missing) => return Err(BuildFault::from(missing)),
     };
-    match solve_zeroing(alloc, &game, mates, words, limit) {
+    match solve_zeroing(alloc, &game, mates, codes, limit) {
         Ok(ranks) => Ok(ranks),
         Err(SolveFault::NoMemory) => Err(BuildFault::NoMemory),
         Err(SolveFault::TooDeep) => unreachable!(),
     }
 }
 
-/// The moves between the class's codes, if they are told by words. That a child lacks its table or its column of the nearest mates is said before that
-/// memory does.
-pub(crate) fn told_words(
+/// Both columns of values. What only the second reads of the first game is given back.
+fn value_columns(
     alloc: Global,
     class: Class,
     library: &Library,
-) -> Result<Option<CodeWords>, BuildFault>
+    limit: u16,
+    codes: &Option<ClassCodes>,
+) -> Result<(Ranks, Ranks), BuildFault>
+    requires limit { limit ≤ 32000 }
+    requires children { HasChildren (table_at library.now) class }
+    requires reach_children { HasReachChildren (table_at library.now) class }
+    ensures mates { IfOk result (λ columns. AreRanks (class_game (table_at library.now) Mate class) limit columns.0) }
+    ensures zeroing { IfOk result (λ columns. AreRanks (class_game (beside (table_at library.now) (mate_table class columns.0)) Zeroing class) limit columns.1) }
+    ensures refused { IfErr result (IsNotBuilt (table_at library.now) class limit) }
+{
+    let mates = mate_ranks(alloc, class, library, limit, codes)?;
+    let zeroing = zeroing_ranks(alloc, class, library, &mates, limit, codes)?;
+    Ok((mates.ranks, zeroing))
+}
+
+/// What is told of the class's codes, if it is told by words. That a child lacks its table or its column of the nearest mates is said before that
+/// memory does.
+fn told_codes(
+    alloc: Global,
+    class: Class,
+    library: &Library,
+) -> Result<Option<ClassCodes>, BuildFault>
     ensures children { IfOk result (λ _. HasChildren (table_at library.now) class) }
     ensures reach_children { IfOk result (λ _. HasReachChildren (table_at library.now) class) }
     ensures refused { (limit : ℕ) → IfErr result (IsNotBuilt (table_at library.now) class limit) }
@@ -142,8 +162,8 @@ pub(crate) fn told_words(
     if let Some(child) = first_lacking(class, library) {
         return Err(BuildFault::NoReach(child));
     }
-    match CodeWords::of(alloc, class) {
-        Ok(words) => Ok(words),
+    match ClassCodes::of(alloc, class) {
+        Ok(codes) => Ok(codes),
         Err(_refused) => Err(BuildFault::NoMemory),
     }
 }
@@ -162,7 +182,7 @@ pub(crate) fn reach_column(
     alloc: Global,
     class: Class,
     library: &Library,
-    words: &Option<CodeWords>,
+    codes: &Option<ClassCodes>,
 ) -> Result<Nears, SolveFault>
     requires children { HasChildren (table_at library.now) class }
     requires reach_children { HasReachChildren (table_at library.now) class }
@@ -174,7 +194,7 @@ pub(crate) fn reach_column(
     children_are_true(class, library);
     let _number = class.number();
     match ReachGame::new(class, library) {
-        Ok(game) => solve_reaches(alloc, &game, words),
+        Ok(game) => solve_reaches(alloc, &game, codes),
         Err(_lacking) => unreachable!(),
     }
 }
@@ -184,14 +204,14 @@ fn reach_part(
     alloc: Global,
     class: Class,
     library: &Library,
-    words: &Option<CodeWords>,
+    codes: &Option<ClassCodes>,
 ) -> Result<Nears, BuildFault>
     requires children { HasChildren (table_at library.now) class }
     requires reach_children { HasReachChildren (table_at library.now) class }
     ensures nears { IfOk result (AreNears (reach_game (table_at library.now) class)) }
     ensures refused { (limit : ℕ) → AllWithinLimit class limit → IfErr result (IsNotBuilt (table_at library.now) class limit) }
 {
-    match reach_column(alloc, class, library, words) {
+    match reach_column(alloc, class, library, codes) {
         Ok(nears) => Ok(nears),
         Err(SolveFault::NoMemory) => Err(BuildFault::NoMemory),
         Err(SolveFault::TooDeep) => Err(BuildFault::TooDeep(32_000)),
@@ -225,11 +245,10 @@ pub fn build(
     one_value();
     children_are_true(class, library);
     let _number = class.number();
-    let words = told_words(alloc, class, library)?;
-    let mates = mate_ranks(alloc, class, library, limit, &words)?;
-    let zeroing = zeroing_ranks(alloc, class, library, &mates, limit, &words)?;
-    let nears = reach_part(alloc, class, library, &words)?;
-    match joined(class, mates.ranks, zeroing, nears) {
+    let codes = told_codes(alloc, class, library)?;
+    let columns = value_columns(alloc, class, library, limit, &codes)?;
+    let nears = reach_part(alloc, class, library, &codes)?;
+    match joined(class, columns.0, columns.1, nears) {
         Some(table) => Ok(table),
         None => unreachable!(),
     }

@@ -246,12 +246,13 @@ pub(crate) fn word_count(class: Class) -> usize
 }
 
 impl CodeWords {
-    ghost use Rattle.std.specs.Prelude.{◌≡◌, ◌↔◌, ◌*◌, ◌<◌, ◌≤◌, ℕ, length, IfOk, IfSome, IsTrue};
+    ghost use Rattle.std.specs.Prelude.{◌≡◌, ◌≢◌, ◌↔◌, ◌*◌, ◌<◌, ◌≤◌, ℕ, length, IfOk, IfSome, IsTrue};
+    ghost use Rattle.std.specs.Int.{bit_at};
     ghost use Rattle.egt_graph.specs.Words.{IsTouched, words_of};
     ghost use Rattle.egt_index.specs.Index.{IsVoid};
     ghost use Rattle.egt_index.specs.Size.{size_of};
     ghost use Rattle.egt_sweep.specs.CodeSources.{IsSource};
-    ghost use Rattle.egt_sweep.specs.CodeLists.{indexes_at, nodes_at, pawn_ways_at, pushes_at, roams_at, staying_at, turned_at, ways_at};
+    ghost use Rattle.egt_sweep.specs.CodeLists.{indexes_at, leaving_at, nodes_at, pawn_ways_at, pushes_at, roams_at, staying_at, turned_at, ways_at};
     ghost use Rattle.egt_index.specs.Numbers.{code_of, places};
 
     /// The moves of the class between its numbers; `None` where they are not told by words: it has not two men beside the kings, or some word is not
@@ -300,6 +301,17 @@ impl CodeWords {
         ensures { result ≡ staying_at self.now.lists word }
     {
         self.lists.staying[word as usize]
+    }
+
+    /// From which places of the word some move may take or promote.
+    #[inline(always)]
+    pub(crate) fn leaving(&self, word: u32) -> u64
+        requires { word < words_of (places self.now.class) (size_of self.now.class) }
+        ensures nodes { (k : ℕ) → bit_at result k ≡ 1 → bit_at (nodes_at self.now.lists word) k ≡ 1 }
+        ensures others { (k : ℕ) → k < 64 → bit_at (nodes_at self.now.lists word) k ≡ 1 → bit_at result k ≢ 1 → bit_at (staying_at self.now.lists word) k ≡ 1 }
+        ensures is { result ≡ leaving_at self.now.lists word }
+    {
+        self.nodes(word) & !self.staying(word)
     }
 
     /// The numbers of all words that stand for positions.

@@ -1,128 +1,129 @@
-//! The values of where the moves of a side that leave the game lead: legal moves are found for those men alone that may leave it.
-ghost use Rattle.std.specs.Prelude.{◌≡◌, ◌+◌, ◌++◌, ◌≤◌, ℕ, Bool, Some, [], IsTrue};
-ghost use Rattle.arrayvec.specs.ArrayVec.{array_vec_len};
-ghost use Rattle.egt_board.specs.Occupancy.{IsOccupancy};
-ghost use Rattle.egt_board.specs.AttackLines.{Reaches};
-ghost use Rattle.egt_board.specs.Man.{other_side};
-ghost use Rattle.egt_board.specs.Placement.{Stands, IsFree, IsHeld};
-ghost use Rattle.egt_board.specs.Setup.{Setup};
-ghost use Rattle.egt_board.specs.declared.man.Man.{Man};
-ghost use Rattle.egt_class.specs.Membership.{IsOf};
-ghost use Rattle.egt_moves.specs.Legal.{Leads};
-ghost use Rattle.egt_moves.specs.Moves.{moves_from};
-ghost use Rattle.egt_moves.specs.Room.{most_moves};
-ghost use Rattle.egt_moves.specs.declared.chess_move.Move.{Move};
-ghost use Rattle.egt_check.specs.Tables.{table_at, HasChildren};
+//! What the landings of moves that leave a game are worth in it.
+ghost use Rattle.std.specs.Prelude.{◌≡◌, ◌≤◌, ℕ, IsSome, IfSome, All, length, map};
+ghost use Rattle.egt_moves.specs.Arena.{Value};
+ghost use Rattle.egt_check.specs.declared.metric.Metric.TheVariants.{Mate};
+ghost use Rattle.egt_check.specs.Entry.{Shows};
+ghost use Rattle.egt_check.specs.NearTables.{near_tables};
+ghost use Rattle.egt_check.specs.Reading.{read};
+ghost use Rattle.egt_check.specs.Tables.{table_at, entry_at};
+ghost use Rattle.egt_sweep.specs.Landings.{IsThere, exit_there};
 ghost use Rattle.egt_sweep.specs.Objective.{metric_of, known, Knows};
-ghost use Rattle.egt_sweep.specs.Edges.{GoesOn};
-ghost use Rattle.egt_sweep.specs.Nodes.{exits_by, exits_from};
+ghost use Rattle.egt_sweep.specs.MateColumn.{IsIndexed};
+ghost use Rattle.egt_sweep.specs.Nodes.{plies_told, exit_of};
 
+use crate::landing::{class_of, index_in};
 use crate::laws::laws;
-use crate::leaving::add_exits;
 use crate::objective::Objective;
-use crate::quiet::pawn_stays;
-use crate::ways::onward;
 use arrayvec::ArrayVec;
-use egt_board::{Kind, Man, Occupancy, Position, Square};
 use egt_check::{Library, Metric};
 use egt_class::Class;
 use egt_graph::Exit;
-use egt_moves::legal_targets_of;
+use egt_table::Column;
 
-/// Whether the man attacks none of the side that waits.
-fn attacks_nobody(position: &Position, occupancy: Occupancy, man: Man, from: Square) -> bool
-    requires { IsOccupancy position.now occupancy }
-    ensures { IsTrue result → (t : ℕ) → Reaches (IsFree position.now.men) man from t → ¬ IsHeld position.now.men t (other_side position.now.side) }
+/// The plies of an exit: in the game of zeroing moves none are left.
+fn plies_told(metric: Metric, plies: u16) -> u16
+    ensures { result ≡ plies_told metric plies }
 {
-    let reached = position.board().reach_past(man, from, occupancy.occupied());
-    reached.common(occupancy.enemy).is_empty()
+    match metric {
+        Metric::Mate => plies,
+        Metric::Zeroing => 0,
+    }
 }
 
-/// Whether all moves of the man go on, as his squares tell: he attacks nobody, and if he is a pawn no move of his is of another sort. His legal
-/// moves are not found, so it may be false though they do.
-#[inline(always)]
-fn goes_on(
-    metric: Metric,
-    class: Class,
-    position: &Position,
-    occupancy: Occupancy,
-    man: Man,
-    from: Square,
-) -> bool
-    requires occupancy { IsOccupancy position.now occupancy }
-    requires of { (flipped : Bool) × IsOf class flipped position.now }
-    requires stands { Stands position.now.men from man }
-    ensures { IsTrue result → (m : Move) (q : Setup) → m.from ≡ from → Leads position.now m q → GoesOn metric class position.now m q }
+/// The value that a mate entry shows, as an exit.
+fn exit_shown(metric: Metric, entry: u16) -> Exit
+    requires { (v : Value) × Shows entry v }
+    ensures { result ≡ exit_of metric (read entry) }
+{
+    if entry == 1 {
+        Exit::Draw
+    } else if entry % 2 == 0 {
+        Exit::Win(plies_told(metric, (entry - 2) / 2))
+    } else {
+        Exit::Loss(plies_told(metric, (entry - 3) / 2))
+    }
+}
+
+/// The mate entry at the index of a position in the table of its class.
+fn table_entry(library: &Library, class: Class, index: u32) -> u16
+    requires there { IsSome (table_at library.now class) }
+    requires indexed { IsIndexed class index }
+    ensures shows { (v : Value) × Shows result v }
+    ensures is { IfSome (table_at library.now class) (λ t. result ≡ entry_at t Mate index) }
 {
     laws();
-    let _number = class.number();
-    let _side = position.side();
-    match man.kind {
-        Kind::P => {
-            if !pawn_stays(metric, position, man, from) {
-                return false;
+    let table = library.get(class).unwrap();
+    table.entry(Column::Mate, index)
+}
+
+/// The entry of the column of the nearest mates there, read as a mate entry: as a loss in so many plies, or as a draw.
+fn near_entry(library: &Library, class: Class, index: u32) -> u16
+    requires there { IsSome (near_tables (table_at library.now) class) }
+    requires indexed { IsIndexed class index }
+    ensures shows { (v : Value) × Shows result v }
+    ensures is { IfSome (near_tables (table_at library.now) class) (λ t. result ≡ entry_at t Mate index) }
+{
+    laws();
+    let table = library.get(class).unwrap();
+    2 * table.entry(Column::Reach, index) - 1
+}
+
+/// The mate entry at the index of a position in a class, whose own ranks are read where they are known.
+fn mate_entry(
+    objective: &Objective<'_>,
+    own: Class,
+    library: &Library,
+    class: Class,
+    index: u32,
+) -> u16
+    requires knows { Knows (table_at library.now) own objective.now }
+    requires there { IsSome (known (table_at library.now) own objective.now class) }
+    requires indexed { IsIndexed class index }
+    ensures shows { (v : Value) × Shows result v }
+    ensures is { IfSome (known (table_at library.now) own objective.now class) (λ t. result ≡ entry_at t Mate index) }
+{
+    laws();
+    match objective {
+        Objective::Mate => table_entry(library, class, index),
+        Objective::Zeroing(ranks) => {
+            if class == own {
+                let _number = class.number();
+                ranks.entries()[index as usize]
+            } else {
+                table_entry(library, class, index)
             }
-            if position.target().is_some() {
-                return false;
-            }
-            attacks_nobody(position, occupancy, man, from)
         }
-        _ => attacks_nobody(position, occupancy, man, from),
+        Objective::Reach => near_entry(library, class, index),
     }
 }
 
-/// Adds the values of where the man's moves that leave the game lead, in the order of moves.
-#[inline(always)]
-fn add_exits_of(
-    objective: &Objective<'_>,
-    class: Class,
-    library: &Library,
-    position: &Position,
-    occupancy: Occupancy,
-    from: Square,
-    exits: &mut ArrayVec<Exit, 64>,
-)
-    requires knows { Knows (table_at library.now) class objective.now }
-    requires of { (flipped : Bool) × IsOf class flipped position.now }
-    requires children { HasChildren (table_at library.now) class }
-    requires occupancy { IsOccupancy position.now occupancy }
-    requires held { IsHeld position.now.men from position.now.side }
-    requires room { (man : Man) → Stands position.now.men from man → array_vec_len exits.old + most_moves man.kind ≤ 64 }
-    ensures exits { exits.new.items ≡ exits.old.items ++ exits_by (known (table_at library.now) class objective.now) (metric_of objective.now) class position.now (moves_from from 64) }
-    ensures room { (man : Man) → Stands position.now.men from man → array_vec_len exits.new ≤ array_vec_len exits.old + most_moves man.kind }
+/// The exit of a move that lands there.
+fn exit_there(objective: &Objective<'_>, own: Class, library: &Library, landing: u32) -> Exit
+    requires knows { Knows (table_at library.now) own objective.now }
+    requires there { IsThere (known (table_at library.now) own objective.now) landing }
+    ensures { result ≡ exit_there (known (table_at library.now) own objective.now) (metric_of objective.now) landing }
 {
-    laws();
-    let _number = class.number();
-    let _side = position.side();
-    let metric = objective.metric();
-    let man = position.at(from).unwrap();
-    if goes_on(metric, class, position, occupancy, man, from) {
-        return;
-    }
-    let targets = legal_targets_of(position, occupancy, man, from);
-    let onward = onward(metric, class, position, occupancy, man, from, targets);
-    let leaving = targets.without(onward);
-    add_exits(objective, class, library, position, from, leaving, exits);
+    let class = class_of(landing);
+    let index = index_in(landing);
+    let entry = mate_entry(objective, own, library, class, index);
+    exit_shown(objective.metric(), entry)
 }
 
-/// Fills the list with the values of where the moves that leave the game lead, in the order of moves.
-pub(crate) fn add_exits_of_side(
+/// Fills the list, in the place of what it had, with the exits of moves that land there.
+pub(crate) fn list_exits_there(
     objective: &Objective<'_>,
-    class: Class,
+    own: Class,
     library: &Library,
-    position: &Position,
-    exits: &mut ArrayVec<Exit, 64>,
+    landings: &[u32],
+    list: &mut ArrayVec<Exit, 64>,
 )
-    requires knows { Knows (table_at library.now) class objective.now }
-    requires of { (flipped : Bool) × IsOf class flipped position.now }
-    requires children { HasChildren (table_at library.now) class }
-    requires empty { exits.old.items ≡ [] }
-    ensures { exits.new.items ≡ exits_from (known (table_at library.now) class objective.now) (metric_of objective.now) class (Some position.now) }
+    requires knows { Knows (table_at library.now) own objective.now }
+    requires few { length landings.now ≤ 64 }
+    requires there { All (IsThere (known (table_at library.now) own objective.now)) landings.now }
+    ensures { list.new.items ≡ map (exit_there (known (table_at library.now) own objective.now) (metric_of objective.now)) landings.now }
 {
-    laws();
-    let occupancy = position.occupancy();
-    let mut rest = position.of(position.side());
-    while let Some(from) = rest.pop_first() {
-        add_exits_of(objective, class, library, position, occupancy, from, exits);
+    list.clear();
+    for landing in landings {
+        list.push(exit_there(objective, own, library, *landing));
     }
 }

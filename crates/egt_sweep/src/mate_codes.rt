@@ -7,13 +7,17 @@ ghost use Rattle.egt_index.specs.Numbers.{places};
 ghost use Rattle.egt_sweep.specs.Objective.{known, Knows, knows_prop, metric_of};
 ghost use Rattle.egt_sweep.specs.ClassGame.{class_game};
 ghost use Rattle.egt_sweep.specs.CodeGame.{code_game_is_lawful};
+ghost use Rattle.egt_sweep.specs.CodeLandings.{AreLandings};
 ghost use Rattle.egt_sweep.specs.CodeLists.{moves_told};
 ghost use Rattle.egt_sweep.specs.CodeMates.{TellMates, game_by};
 
+use crate::class_codes::ClassCodes;
+use crate::code_landings::CodeLandings;
 use crate::code_words::CodeWords;
+use crate::exits::list_exits_there;
 use crate::kept::kept_entries;
 use crate::laws::{codes_stand_for_indexes, laws};
-use crate::nodes::{is_mated, list_exits};
+use crate::nodes::is_mated;
 use crate::objective::Objective;
 use arrayvec::ArrayVec;
 use egt_check::Library;
@@ -27,10 +31,12 @@ use std::alloc::Global;
 pub(crate) struct MateCodes<'l> {
     pub(crate) library: &'l Library,
     pub(crate) words: &'l CodeWords,
+    pub(crate) landings: &'l CodeLandings,
     /// Mates, or the nearest mates.
     pub(crate) objective: Objective<'l>,
     ghost children: { HasChildren (table_at library.now) words.now.class },
     ghost stays: { metric_of objective ≡ Mate },
+    ghost landed: { AreLandings words.now.class words.now.lists landings.now },
     ghost knows: { Knows (table_at library.now) words.now.class objective } by { knows_prop (table_at library.now) words.now.class objective },
 }
 
@@ -55,8 +61,8 @@ impl Shelved for MateCodes<'_> {
         laws();
         let class = self.words.class;
         let _number = class.number();
-        let index = self.words.index_of(i);
-        list_exits(&self.objective, class, self.library, index, exits);
+        let landings = self.landings.of_number(self.words, i);
+        list_exits_there(&self.objective, class, self.library, landings, exits);
     }
 
     fn span(&self) -> u32 {
@@ -101,25 +107,26 @@ pub(crate) struct CodeEntries {
 pub(crate) fn solve_mate_codes<'x>(
     alloc: Global,
     library: &'x Library,
-    words: &'x CodeWords,
+    codes: &'x ClassCodes,
     limit: u16,
 ) -> Result<(Ranks, CodeEntries), SolveFault>
     requires limit { limit ≤ 32000 }
-    requires children { HasChildren (table_at library.now) words.now.class }
-    ensures ranks { IfOk result (λ told. AreRanks (class_game (table_at library.now) Mate words.now.class) limit told.0) }
-    ensures codes { IfOk result (λ told. TellMates (table_at library.now) words.now.class words.now.lists told.0 told.1) }
-    ensures too_deep { result ≡ Err SolveFault.TooDeep → SomeAbove (class_game (table_at library.now) Mate words.now.class) limit }
+    requires children { HasChildren (table_at library.now) codes.now.words.class }
+    ensures ranks { IfOk result (λ told. AreRanks (class_game (table_at library.now) Mate codes.now.words.class) limit told.0) }
+    ensures codes { IfOk result (λ told. TellMates (table_at library.now) codes.now.words.class codes.now.words.lists told.0 told.1) }
+    ensures too_deep { result ≡ Err SolveFault.TooDeep → SomeAbove (class_game (table_at library.now) Mate codes.now.words.class) limit }
 {
     laws();
     codes_stand_for_indexes();
     stand_ins_tell_ranks();
     let game = MateCodes {
         library,
-        words,
+        words: &codes.words,
+        landings: &codes.landings,
         objective: Objective::Mate,
     };
     let (entries, exits) = solve_by_words(alloc, &game, limit)?;
-    let kept = kept_entries(alloc, words, entries.entries())?;
+    let kept = kept_entries(alloc, &codes.words, entries.entries())?;
     let ranks = Ranks::from_entries(kept);
     Ok((ranks, CodeEntries { entries, exits }))
 }

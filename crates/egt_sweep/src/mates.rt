@@ -6,7 +6,7 @@ ghost use Rattle.egt_check.specs.declared.metric.Metric.TheVariants.{Mate};
 ghost use Rattle.egt_sweep.specs.ClassGame.{class_game};
 ghost use Rattle.egt_sweep.specs.CodeMates.{CodesTell};
 
-use crate::code_words::CodeWords;
+use crate::class_codes::ClassCodes;
 use crate::laws::laws;
 use crate::mate_codes::{CodeEntries, solve_mate_codes};
 use crate::mate_game::MateGame;
@@ -25,21 +25,21 @@ pub(crate) struct Mates {
 pub(crate) fn solve_mates(
     alloc: Global,
     game: &MateGame<'_>,
-    words: &Option<CodeWords>,
+    codes: &Option<ClassCodes>,
     limit: u16,
 ) -> Result<Mates, SolveFault>
     requires limit { limit ≤ 32000 }
     ensures ok { IfOk result (λ told. AreRanks (class_game (table_at game.now.library.now) Mate game.now.class) limit told.ranks) }
-    ensures codes { IfOk result (CodesTell (table_at game.now.library.now) game.now.class words.now) }
+    ensures codes { IfOk result (CodesTell (table_at game.now.library.now) game.now.class codes.now) }
     ensures too_deep { result ≡ Err SolveFault.TooDeep → SomeAbove (class_game (table_at game.now.library.now) Mate game.now.class) limit }
 {
     laws();
-    match words {
-        Some(words) if words.class == game.class => {
-            let (ranks, codes) = solve_mate_codes(alloc, game.library, words, limit)?;
+    match codes {
+        Some(codes) if codes.words.class == game.class => {
+            let (ranks, entries) = solve_mate_codes(alloc, game.library, codes, limit)?;
             Ok(Mates {
                 ranks,
-                codes: Some(codes),
+                codes: Some(entries),
             })
         }
         _ => Ok(Mates {

@@ -7,7 +7,7 @@ ghost use Rattle.egt_sweep.specs.Built.{IsMigrated, IsNotMigrated, SomeReachesFa
 ghost use Rattle.egt_sweep.specs.ReachGame.{reach_game};
 
 use crate::building::{children_are_true, reach_column};
-use crate::code_words::CodeWords;
+use crate::class_codes::ClassCodes;
 use crate::laws::laws;
 use crate::migrate_fault::MigrateFault;
 use crate::ranks::reach_numbers_are_the_nearest_mates;
@@ -18,15 +18,15 @@ use egt_graph::{Nears, SolveFault};
 use egt_table::Table;
 use std::alloc::Global;
 
-/// The column of the nearest mates of a class, and the moves between its codes before.
+/// The column of the nearest mates of a class, and what is told of its codes before.
 fn new_column(alloc: Global, class: Class, library: &Library) -> Result<Nears, SolveFault>
     requires children { HasChildren (table_at library.now) class }
     requires reach_children { HasReachChildren (table_at library.now) class }
     ensures nears { IfOk result (AreNears (reach_game (table_at library.now) class)) }
     ensures too_deep { result ≡ Err SolveFault.TooDeep → SomeReachesFar class }
 {
-    let words = CodeWords::of(alloc, class)?;
-    reach_column(alloc, class, library, &words)
+    let codes = ClassCodes::of(alloc, class)?;
+    reach_column(alloc, class, library, &codes)
 }
 
 /// The same table with the column of the nearest mates. The table is one that `check` accepts beside the library, and so is the new one; its other columns

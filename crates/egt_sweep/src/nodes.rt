@@ -6,10 +6,12 @@ ghost use Rattle.egt_graph.specs.Passing.{passing_below};
 ghost use Rattle.egt_check.specs.Tables.{table_at, HasChildren};
 ghost use Rattle.egt_sweep.specs.Objective.{metric_of, known, Knows};
 ghost use Rattle.egt_sweep.specs.Edges.{IsAt};
+ghost use Rattle.egt_sweep.specs.Landings.{landings_at};
 ghost use Rattle.egt_sweep.specs.Nodes.{position_at, is_mated, connects, exits_at};
 
 use crate::edges::edges;
-use crate::exits::add_exits_of_side;
+use crate::exits::list_exits_there;
+use crate::landings::add_landings_of_side;
 use crate::laws::laws;
 use crate::objective::Objective;
 use crate::sources::sources;
@@ -74,8 +76,18 @@ pub(crate) fn predecessors(metric: Metric, class: Class, index: u32) -> ArrayVec
     sources(metric, class, &position)
 }
 
-/// Fills the list, in the place of what it had, with the values of where the moves lead that leave the game from a node, in the order of
-/// moves.
+/// Fills the list, in the place of what it had, with where the moves land that leave the game from a node, in the order of moves.
+pub(crate) fn list_landings(metric: Metric, class: Class, index: u32, list: &mut ArrayVec<u32, 64>)
+    requires { IsFalse (not (is_some (position_at class index))) }
+    ensures { list.new.items ≡ landings_at metric class index }
+{
+    laws();
+    let position = node(class, index);
+    list.clear();
+    add_landings_of_side(metric, class, &position, list);
+}
+
+/// Fills the list, in the place of what it had, with the exits of the moves that leave the game from a node, in the order of moves.
 pub(crate) fn list_exits(
     objective: &Objective<'_>,
     class: Class,
@@ -89,9 +101,10 @@ pub(crate) fn list_exits(
     ensures { list.new.items ≡ exits_at (known (table_at library.now) class objective.now) (metric_of objective.now) class index }
 {
     laws();
-    let position = node(class, index);
-    list.clear();
-    add_exits_of_side(objective, class, library, &position, list);
+    let _number = class.number();
+    let mut landings = ArrayVec::new();
+    list_landings(objective.metric(), class, index, &mut landings);
+    list_exits_there(objective, class, library, landings.as_slice(), list);
 }
 
 /// The same in a list of its own.

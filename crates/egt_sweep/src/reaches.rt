@@ -4,7 +4,7 @@ ghost use Rattle.egt_graph.specs.Near.{AreNears, SomeFar};
 ghost use Rattle.egt_check.specs.Tables.{table_at, HasChildren, HasReachChildren};
 ghost use Rattle.egt_sweep.specs.ReachGame.{reach_game};
 
-use crate::code_words::CodeWords;
+use crate::class_codes::ClassCodes;
 use crate::kept::kept_entries;
 use crate::laws::{codes_stand_for_indexes, laws};
 use crate::mate_codes::MateCodes;
@@ -19,23 +19,24 @@ use std::alloc::Global;
 fn nears_of_codes<'x>(
     alloc: Global,
     library: &'x Library,
-    words: &'x CodeWords,
+    codes: &'x ClassCodes,
 ) -> Result<Nears, SolveFault>
-    requires children { HasChildren (table_at library.now) words.now.class }
-    requires reach_children { HasReachChildren (table_at library.now) words.now.class }
-    ensures ok { IfOk result (AreNears (reach_game (table_at library.now) words.now.class)) }
-    ensures too_deep { result ≡ Err SolveFault.TooDeep → SomeFar (reach_game (table_at library.now) words.now.class) }
+    requires children { HasChildren (table_at library.now) codes.now.words.class }
+    requires reach_children { HasReachChildren (table_at library.now) codes.now.words.class }
+    ensures ok { IfOk result (AreNears (reach_game (table_at library.now) codes.now.words.class)) }
+    ensures too_deep { result ≡ Err SolveFault.TooDeep → SomeFar (reach_game (table_at library.now) codes.now.words.class) }
 {
     laws();
     codes_stand_for_indexes();
     stand_ins_tell_nears();
     let game = MateCodes {
         library,
-        words,
+        words: &codes.words,
+        landings: &codes.landings,
         objective: Objective::Reach,
     };
     let nears = nearest_by_words(alloc, &game)?;
-    let kept = kept_entries(alloc, words, nears.entries())?;
+    let kept = kept_entries(alloc, &codes.words, nears.entries())?;
     Ok(Nears::from_entries(kept))
 }
 
@@ -43,13 +44,17 @@ fn nears_of_codes<'x>(
 pub(crate) fn solve_reaches(
     alloc: Global,
     game: &ReachGame<'_>,
-    words: &Option<CodeWords>,
+    codes: &Option<ClassCodes>,
 ) -> Result<Nears, SolveFault>
     ensures ok { IfOk result (AreNears (reach_game (table_at game.now.library.now) game.now.class)) }
     ensures too_deep { result ≡ Err SolveFault.TooDeep → SomeFar (reach_game (table_at game.now.library.now) game.now.class) }
 {
-    match words {
-        Some(words) if words.class == game.class => nears_of_codes(alloc, game.library, words),
+    match codes {
+        Some(codes) if codes.words.class == game.class => nears_of_codes(
+            alloc,
+            game.library,
+            codes,
+        ),
         _ => nearest(alloc, game),
     }
 }

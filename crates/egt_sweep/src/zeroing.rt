@@ -7,7 +7,7 @@ ghost use Rattle.egt_sweep.specs.ClassGame.{class_game};
 ghost use Rattle.egt_sweep.specs.CodeMates.{CodesTell};
 ghost use Rattle.egt_sweep.specs.MateColumn.{mate_table};
 
-use crate::code_words::CodeWords;
+use crate::class_codes::ClassCodes;
 use crate::laws::laws;
 use crate::mates::Mates;
 use crate::zero_codes::solve_zero_codes;
@@ -20,19 +20,26 @@ pub(crate) fn solve_zeroing(
     alloc: Global,
     game: &ZeroGame<'_>,
     mates: &Mates,
-    words: &Option<CodeWords>,
+    codes: &Option<ClassCodes>,
     limit: u16,
 ) -> Result<Ranks, SolveFault>
     requires limit { limit ≤ 32000 }
     requires mates { mates.now.ranks ≡ game.now.mates.now }
-    requires codes { CodesTell (table_at game.now.library.now) game.now.class words.now mates.now }
+    requires codes { CodesTell (table_at game.now.library.now) game.now.class codes.now mates.now }
     ensures ok { IfOk result (AreRanks (class_game (beside (table_at game.now.library.now) (mate_table game.now.class game.now.mates.now)) Zeroing game.now.class) limit) }
     ensures too_deep { result ≡ Err SolveFault.TooDeep → SomeAbove (class_game (beside (table_at game.now.library.now) (mate_table game.now.class game.now.mates.now)) Zeroing game.now.class) limit }
 {
     laws();
-    match (words, &mates.codes) {
-        (Some(words), Some(codes)) if words.class == game.class => {
-            solve_zero_codes(alloc, game.library, words, &mates.ranks, codes, limit)
+    match (codes, &mates.codes) {
+        (Some(codes), Some(entries)) if codes.words.class == game.class => {
+            solve_zero_codes(
+                alloc,
+                game.library,
+                &codes.words,
+                &mates.ranks,
+                entries,
+                limit,
+            )
         }
         _ => solve(alloc, game, limit),
     }

@@ -13,17 +13,17 @@ use Rattle.egt_sweep.proofs.JoinedTables.{NearsTell, joined_is_accepted, joined_
 use Rattle.egt_sweep.proofs.TrueChildren.{true_children}
 use Rattle.egt_sweep.proofs.building.build.Goals as goal
 
-pub returns-in_err-words-clause-refused : goal.returns-in_err-words-clause-refused
-returns-in_err-words-clause-refused c = let refused = c.in_err-words.ensures.refused c.args.limit in search rules
+pub returns-in_err-codes-clause-refused : goal.returns-in_err-codes-clause-refused
+returns-in_err-codes-clause-refused c = let refused = c.in_err-codes.ensures.refused c.args.limit in search rules
 
 pub returns-in_err-nears-clause-refused : goal.returns-in_err-nears-clause-refused
 returns-in_err-nears-clause-refused c =
     let tables : Tables = table_at c.args.library.now in
     let class = c.args.class in
     let below = subst (λ (n : ℕ). n < 36) c.number-number.ensures.value c.number-number.ensures.below in
-    let children = true_children tables class c.children_are_true.ensures c.in_ok-words.ensures.children in
+    let children = true_children tables class c.children_are_true.ensures c.in_ok-codes.ensures.children in
     let told : RanksTell (class_game tables Mate class) class (HasValue chess) = λ i p v ok is rank. c.mate_ranks_are_values.ensures.values tables class i p v below children ok is rank in
-    let all = values_within c.laws.ensures class below tables c.args.limit c.requires c.in_ok-mates.mates.ranks c.in_ok-mates.ensures.ranks told c.one_value.ensures.one in
+    let all = values_within c.laws.ensures class below tables c.args.limit c.requires c.in_ok-columns.columns.0 c.in_ok-columns.ensures.mates told c.one_value.ensures.one in
     let refused = c.in_err-nears.ensures.refused c.args.limit all in
     search rules
 
@@ -32,25 +32,25 @@ returns-clause-built c =
     let tables : Tables = table_at c.args.library.now in
     let class = c.args.class in
     let limit = c.args.limit in
-    let mate = c.in_ok-mates.mates.ranks in
-    let zeroing = c.in_ok-zeroing.zeroing in
+    let mate = c.in_ok-columns.columns.0 in
+    let zeroing = c.in_ok-columns.columns.1 in
     let nears = c.in_ok-nears.nears in
     let other : Tables = beside tables (mate_table class mate) in
     let plain : TableValue = record { class = class; mate = mate; zeroing = zeroing; reach = None } in
     let below = subst (λ (n : ℕ). n < 36) c.number-number.ensures.value c.number-number.ensures.below in
-    let reach_children = c.in_ok-words.ensures.reach_children in
-    let children = true_children tables class c.children_are_true.ensures c.in_ok-words.ensures.children in
+    let reach_children = c.in_ok-codes.ensures.reach_children in
+    let children = true_children tables class c.children_are_true.ensures c.in_ok-codes.ensures.children in
     let told : RanksTell (class_game tables Mate class) class (HasValue chess) = λ i p v ok is rank. c.mate_ranks_are_values.ensures.values tables class i p v below children ok is rank in
-    let shows = mates_show_values c.laws.ensures class below tables limit c.requires mate c.in_ok-mates.ensures.ranks told in
+    let shows = mates_show_values c.laws.ensures class below tables limit c.requires mate c.in_ok-columns.ensures.mates told in
     let told_zeroing : RanksTell (class_game other Zeroing class) class (HasZeroing chess) =
     λ i p v ok is rank. c.zeroing_ranks_are_distances.ensures.distances tables (mate_table class mate) i p v below children shows ok is rank in
     let near : NearsTell tables class = λ i p number ok is found. c.reach_numbers_are_the_nearest_mates.ensures.numbers tables class i p number below children reach_children ok is found in
-    let table = built_is_table c.laws.ensures class below tables limit c.requires mate c.in_ok-mates.ensures.ranks told other zeroing c.in_ok-zeroing.ensures.ranks told_zeroing in
-    let truth = built_is_true c.laws.ensures class below tables limit c.requires mate c.in_ok-mates.ensures.ranks told other zeroing c.in_ok-zeroing.ensures.ranks told_zeroing in
+    let table = built_is_table c.laws.ensures class below tables limit c.requires mate c.in_ok-columns.ensures.mates told other zeroing c.in_ok-columns.ensures.zeroing told_zeroing in
+    let truth = built_is_true c.laws.ensures class below tables limit c.requires mate c.in_ok-columns.ensures.mates told other zeroing c.in_ok-columns.ensures.zeroing told_zeroing in
     subst (IsBuilt tables class limit) (sym c.in-Some.ensures.table) (record {
       class = refl;
       reach = refl;
       true = joined_is_true c.laws.ensures tables plain below nears c.in_ok-nears.ensures.nears near truth;
-      accepted = joined_is_accepted c.laws.ensures tables plain below nears c.in_ok-nears.ensures.nears near table truth c.in_ok-words.ensures.children children reach_children c.rules_are_kept_by_true_tables_alone.ensures;
-      within = values_within c.laws.ensures class below tables limit c.requires mate c.in_ok-mates.ensures.ranks told c.one_value.ensures.one;
+      accepted = joined_is_accepted c.laws.ensures tables plain below nears c.in_ok-nears.ensures.nears near table truth c.in_ok-codes.ensures.children children reach_children c.rules_are_kept_by_true_tables_alone.ensures;
+      within = values_within c.laws.ensures class below tables limit c.requires mate c.in_ok-columns.ensures.mates told c.one_value.ensures.one;
     })

@@ -1,14 +1,25 @@
-use Rattle.std.proofs.Common.{ap, sym, ◌∙◌}
+use Rattle.std.proofs.Common.{ℕ, ◌<◌, List, All, map, sym, ap, ◌∙◌, subst}
+use Rattle.egt_check.specs.declared.metric.Metric.{Metric}
 use Rattle.egt_check.specs.Tables.{table_at}
+use Rattle.egt_sweep.specs.Landings.{IsThere, exit_there, landings_at}
 use Rattle.egt_sweep.specs.Objective.{metric_of, known}
-use Rattle.egt_sweep.specs.Nodes.{exits_at, exits_from}
-use Rattle.egt_sweep.proofs.Linked.{position_is}
+use Rattle.egt_sweep.proofs.LandedThere.{exits_land, landings_there}
 use Rattle.egt_sweep.proofs.nodes.list_exits.Goals as goal
 
-pub add_exits_of_side-requires-clause-of : goal.add_exits_of_side-requires-clause-of
-add_exits_of_side-requires-clause-of c = c.laws.ensures.indexed_class c.node-position.result c.args.class c.args.index c.node-position.ensures.spells.admissible c.node-position.ensures.index
+pub list_exits_there-requires-clause-there : goal.list_exits_there-requires-clause-there
+list_exits_there-requires-clause-there c =
+    let below = subst (λ (n : ℕ). n < 36) c.number-number.ensures.value c.number-number.ensures.below in
+    let tables = table_at c.args.library.now in
+    let objective = c.args.objective.now in
+    let there = landings_there c.laws.ensures tables objective c.args.class c.args.index below c.requires.children c.requires.knows in
+    subst (λ (xs : List ℕ). All (IsThere (known tables c.args.class objective)) xs) (sym (c.as_slice.ensures.value ∙ c.list_landings.ensures))
+    (subst (λ (metric : Metric). All (IsThere (known tables c.args.class objective)) (landings_at metric c.args.class c.args.index)) (sym c.metric.ensures) there)
 
 pub returns : goal.returns
-unfolding exits_at
-returns c = c.add_exits_of_side.ensures
-    ∙ ap (exits_from (known (table_at c.args.library.now) c.args.class c.args.objective.now) (metric_of c.args.objective.now) c.args.class) (sym ((position_is c.laws.ensures c.args.class c.args.index c.node-position.result).1 c.node-position.ensures))
+returns c =
+    let below = subst (λ (n : ℕ). n < 36) c.number-number.ensures.value c.number-number.ensures.below in
+    let tables = table_at c.args.library.now in
+    let objective = c.args.objective.now in
+    c.list_exits_there.ensures
+    ∙ ap (map (exit_there (known tables c.args.class objective) (metric_of objective))) (c.as_slice.ensures.value ∙ c.list_landings.ensures ∙ ap (λ (metric : Metric). landings_at metric c.args.class c.args.index) c.metric.ensures)
+    ∙ exits_land c.laws.ensures tables objective c.args.class c.args.index below c.requires.children c.requires.knows

@@ -7,5 +7,5 @@ use Rattle.egt_sweep.proofs.reaches.solve_reaches.Goals as goal
 
 pub returns-in-Some-clause-too_deep : goal.returns-in-Some-clause-too_deep
 returns-in-Some-clause-too_deep c =
-    let same = (tests_equal c.eq.result c.in-Some.words.class c.args.game.now.class c.eq.ensures).0 c.if-eq.true in
+    let same = (tests_equal c.eq.result c.in-Some.codes.words.class c.args.game.now.class c.eq.ensures).0 c.if-eq.true in
     λ deep. subst (λ (class : ℕ). SomeFar (reach_game (table_at c.args.game.now.library.now) class)) same (c.nears_of_codes.ensures.too_deep deep)
