@@ -1,6 +1,6 @@
 -- What the calls that C makes answer. Where there is a fault, what was there before stays.
-use Rattle.std.specs.Prelude.{◌≡◌, ◌↔◌, ℕ, ◌<◌, ◌≤◌, Bool, true, false, List, length, take, Option, Some, None}
-use Rattle.std.specs.List.{Contains, map}
+use Rattle.std.specs.Prelude.{◌≡◌, ◌↔◌, ℕ, ◌<◌, ◌≤◌, Bool, true, false, List, length, map, take, Option, Some, None}
+use Rattle.std.specs.List.{Contains}
 use Rattle.egt_board.specs.Setup.{Setup}
 use Rattle.egt_moves.specs.declared.chess_move.Move.{Move}
 use Rattle.egt_moves.specs.Legal.{IsLegal}
@@ -15,17 +15,20 @@ use Rattle.egt_check.specs.declared.reject.Reject.{Reject}
 use Rattle.egt_check.specs.Library.{IsAccepted, IsTurnedAway}
 use Rattle.egt_check.specs.Tables.{table_at, beside}
 use Rattle.egt_probe.specs.declared.outcome.Verdict.{Verdict}
-use Rattle.egt_probe.specs.Fault.{IsDecisive}
+use Rattle.egt_probe.specs.declared.fault.HoldFault.{HoldFault}
+use Rattle.egt_probe.specs.declared.fault.HoldFault.TheVariants as holds
+use Rattle.egt_probe.specs.declared.fault.LineFault.{LineFault}
+use Rattle.egt_probe.specs.Fault.{IsDecisive, IsLineFault}
 use Rattle.egt_probe.specs.Hold.{IsHold}
 use Rattle.egt_probe.specs.Line.{IsBestPlay}
-use Rattle.egt_probe.specs.Loaded.{IsMissing}
+use Rattle.egt_probe.specs.Loaded.{Loaded, IsMissing}
 use Rattle.egt_probe.specs.Shelves.{loaded_in}
 use Rattle.egt_probe.specs.Verdict.{IsVerdict}
 use Rattle.egt_c.specs.declared.fault.EgtbFault.{EgtbFault}
 use Rattle.egt_c.specs.declared.moves.EgtbMove.{EgtbMove}
 use Rattle.egt_c.specs.declared.moves.EgtbMoves.{EgtbMoves}
 use Rattle.egt_c.specs.declared.verdict.EgtbVerdict.{EgtbVerdict}
-use Rattle.egt_c.specs.Fault.{no_fault, of_fen, of_file, of_check, missing, no_memory, no_class}
+use Rattle.egt_c.specs.Fault.{no_fault, of_fen, of_file, of_check, of_line, missing, no_memory, no_class}
 use Rattle.egt_c.specs.Held.{Places}
 use Rattle.egt_c.specs.Move.{written, written_or_none, first_of}
 use Rattle.egt_c.specs.Verdict.{shown}
@@ -58,16 +61,25 @@ pub data TellsVerdict (places : Places) (fen : List ℕ) (fault : EgtbFault) (be
   Told : (read : Fen) (v : Verdict) → Spells fen read → IsVerdict (loaded_in places) read.position v → fault ≡ no_fault → after ≡ shown v →
       TellsVerdict places fen fault before after
 
--- the first move of best play, or the move that holds a draw, of the position that the text spells
+abbrev pub missing_class : HoldFault → Option ℕ
+missing_class (holds.Missing class) = Some class
+missing_class holds.Decisive = None
+
+-- the first move of best play, and none at checkmate
+abbrev pub IsFirstOfBest : Setup → Option Move → Type 0
+IsFirstOfBest p first = (ms : List Move) × IsBestPlay p ms × (first ≡ first_of ms)
+
+-- the first move of best play of a position, or the move that holds a draw
+pub data TellsBest (loaded : Loaded) (p : Setup) (fault : EgtbFault) (before after : EgtbMove) : Type 0 where
+  Unloaded : (c : ℕ) → IsMissing loaded p c → fault ≡ missing c → after ≡ before → TellsBest loaded p fault before after
+  NoLine : (f : LineFault) → IsDecisive p → IsLineFault loaded p f → fault ≡ of_line f → after ≡ before → TellsBest loaded p fault before after
+  Best : (m : Option Move) → IsFirstOfBest p m → fault ≡ no_fault → after ≡ written_or_none m → TellsBest loaded p fault before after
+  Holds : (m : Option Move) → IsHold p m → fault ≡ no_fault → after ≡ written_or_none m → TellsBest loaded p fault before after
+
+-- the same of the position that the text spells
 pub data TellsMove (places : Places) (fen : List ℕ) (fault : EgtbFault) (before after : EgtbMove) : Type 0 where
   Refused : (f : FenFault) → IsFirstFault fen f → fault ≡ of_fen f → after ≡ before → TellsMove places fen fault before after
-  Unloaded : (read : Fen) (c : ℕ) → Spells fen read → IsMissing (loaded_in places) read.position c → fault ≡ missing c → after ≡ before →
-      TellsMove places fen fault before after
-  NoMemory : (read : Fen) → Spells fen read → IsDecisive read.position → fault ≡ no_memory → after ≡ before → TellsMove places fen fault before after
-  Best : (read : Fen) (ms : List Move) → Spells fen read → IsBestPlay read.position ms → fault ≡ no_fault → after ≡ written_or_none (first_of ms) →
-      TellsMove places fen fault before after
-  Holds : (read : Fen) (m : Option Move) → Spells fen read → IsHold read.position m → fault ≡ no_fault → after ≡ written_or_none m →
-      TellsMove places fen fault before after
+  Answered : (read : Fen) → Spells fen read → TellsBest (loaded_in places) read.position fault before after → TellsMove places fen fault before after
 
 -- these are the legal moves, in order, each once
 pub record Lists (p : Setup) (listed : EgtbMoves) : Type 0 where

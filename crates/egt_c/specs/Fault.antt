@@ -6,6 +6,8 @@ use Rattle.egt_table.specs.declared.fault.FileFault.{FileFault}
 use Rattle.egt_table.specs.Fault as files
 use Rattle.egt_check.specs.declared.reject.Reject.{Reject}
 use Rattle.egt_check.specs.declared.reject.Reject.TheVariants.{Missing, NoReach, Rejected, AlreadyThere}
+use Rattle.egt_probe.specs.declared.fault.LineFault.{LineFault}
+use Rattle.egt_probe.specs.declared.fault.LineFault.TheVariants as lines
 use Rattle.egt_c.specs.declared.fault.EgtbFault.{EgtbFault}
 use Rattle.egt_c.specs.Places.{column_place, rule_place}
 
@@ -34,6 +36,12 @@ of_check AlreadyThere = fault 3 13
 -- the class of the position is not loaded
 abbrev pub missing : ℕ → EgtbFault
 missing class = about 4 11 class
+
+-- a mate is not told: of a position that is won or lost the class is missing, or there is no memory for its line
+abbrev pub of_line : LineFault → EgtbFault
+of_line (lines.Missing class) = missing class
+of_line lines.NoMemory = fault 4 10
+of_line lines.Drawn = fault 4 15
 
 abbrev pub no_memory : EgtbFault
 no_memory = fault 4 10

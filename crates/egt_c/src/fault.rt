@@ -5,6 +5,7 @@ ghost use Rattle.egt_c.specs.Places.{column_place, rule_place};
 use egt_check::{Reject, Rule};
 use egt_class::Class;
 use egt_fen::FenFault;
+use egt_probe::LineFault;
 use egt_table::{Column, FileFault};
 
 /// Why a call gave no answer, or nothing but zeros where it gave one. A fault of a class names it; one of an entry names its column, the
@@ -53,7 +54,7 @@ fn rule_place(rule: Rule) -> u8
 }
 
 impl EgtbFault {
-    ghost use Rattle.egt_c.specs.Fault.{fault, about, no_fault, of_fen, of_file, of_check, missing, no_memory, closed, no_class};
+    ghost use Rattle.egt_c.specs.Fault.{fault, about, no_fault, of_fen, of_file, of_check, of_line, missing, no_memory, closed, no_class};
 
     fn new(family: u8, number: u8) -> EgtbFault
         ensures { result ≡ fault family number }
@@ -126,6 +127,17 @@ impl EgtbFault {
         ensures { result ≡ missing class }
     {
         EgtbFault::about(4, 11, class)
+    }
+
+    /// Why there is no line of best play.
+    pub(crate) fn of_line(fault: LineFault) -> EgtbFault
+        ensures { result ≡ of_line fault }
+    {
+        match fault {
+            LineFault::Missing(class) => EgtbFault::missing(class),
+            LineFault::NoMemory => EgtbFault::no_memory(),
+            LineFault::Drawn => EgtbFault::new(4, 15),
+        }
     }
 
     pub(crate) fn no_memory() -> EgtbFault

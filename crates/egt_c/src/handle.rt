@@ -25,7 +25,7 @@ impl Model for EgtbLibrary {
 }
 
 impl EgtbLibrary {
-    ghost use Rattle.std.specs.Prelude.{◌≡◌, Some, None, option_map};
+    ghost use Rattle.std.specs.Prelude.{◌≡◌, Some, None, IfSome, IfNone, option_map};
     ghost use Rattle.egt_c.specs.Held.{held};
 
     /// A closed one.
@@ -76,7 +76,8 @@ impl EgtbLibrary {
 
     /// Takes the library out, and closes.
     pub(crate) fn take(&mut self, alloc: Global) -> Option<Box<Library, Global>>
-        ensures taken { option_map (λ b. b.value) result ≡ held self.old }
+        ensures taken { IfSome result (λ b. held self.old ≡ Some b.value) }
+        ensures was_closed { IfNone result (held self.old ≡ None) }
         ensures closed { held self.new ≡ None }
     {
         match replace(self, EgtbLibrary::closed()).into_loose(alloc) {

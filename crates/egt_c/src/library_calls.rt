@@ -103,7 +103,7 @@ pub extern "C" fn egtb_loaded(alloc: Global, library: &mut EgtbLibrary, class_nu
     let Some(boxed) = library.take(alloc) else {
         return 0;
     };
-    let level = level_in(&boxed, class_number);
+    let level = level_in(boxed.as_ref(), class_number);
     library.put(alloc, boxed);
     level
 }
