@@ -1,2 +1,4 @@
+pub mod Kept
+pub mod Named
 pub mod Opened
 pub mod Values

@@ -36,7 +36,7 @@ use Rattle.egt_c.specs.Verdict.{shown}
 -- a library without tables is made, or there is no memory for it
 pub data Opens (fault : EgtbFault) (before after : Option Places) : Type 0 where
   Opened : (places : Places) → fault ≡ no_fault → after ≡ Some places → ((c : ℕ) → table_at places c ≡ None) → Opens fault before after
-  NoMemory : fault ≡ no_memory → after ≡ before → Opens fault before after
+  NoRoom : fault ≡ no_memory → after ≡ before → Opens fault before after
 
 -- the bytes are read as a table of the class, and the library takes it
 pub data Adds (class : ℕ) (bytes : List ℕ) (fault : EgtbFault) (before after : Places) : Type 0 where
@@ -44,7 +44,7 @@ pub data Adds (class : ℕ) (bytes : List ℕ) (fault : EgtbFault) (before after
   NotRead : (f : FileFault) → IsAnswer class bytes f → fault ≡ of_file f → after ≡ before → Adds class bytes fault before after
   TurnedAway : (t : TableValue) (r : Reject) → t.class ≡ class → bytes ≡ bytes_of t → IsTurnedAway (table_at before) t r → fault ≡ of_check r → after ≡ before →
       Adds class bytes fault before after
-  Added : (t : TableValue) → t.class ≡ class → bytes ≡ bytes_of t → table_at before class ≡ None → IsAccepted (table_at before) t → fault ≡ no_fault →
+  Added : (t : TableValue) → t.class ≡ class → bytes ≡ bytes_of t → table_at before t.class ≡ None → IsAccepted (table_at before) t → fault ≡ no_fault →
       ((c : ℕ) → table_at after c ≡ beside (table_at before) t c) → Adds class bytes fault before after
 
 -- whether a class is loaded, and whether its table has the column of the nearest mates
@@ -71,14 +71,14 @@ IsFirstOfBest p first = (ms : List Move) × IsBestPlay p ms × (first ≡ first_
 
 -- the first move of best play of a position, or the move that holds a draw
 pub data TellsBest (loaded : Loaded) (p : Setup) (fault : EgtbFault) (before after : EgtbMove) : Type 0 where
-  Unloaded : (c : ℕ) → IsMissing loaded p c → fault ≡ missing c → after ≡ before → TellsBest loaded p fault before after
+  NotLoaded : (c : ℕ) → IsMissing loaded p c → fault ≡ missing c → after ≡ before → TellsBest loaded p fault before after
   NoLine : (f : LineFault) → IsDecisive p → IsLineFault loaded p f → fault ≡ of_line f → after ≡ before → TellsBest loaded p fault before after
   Best : (m : Option Move) → IsFirstOfBest p m → fault ≡ no_fault → after ≡ written_or_none m → TellsBest loaded p fault before after
   Holds : (m : Option Move) → IsHold p m → fault ≡ no_fault → after ≡ written_or_none m → TellsBest loaded p fault before after
 
 -- the same of the position that the text spells
 pub data TellsMove (places : Places) (fen : List ℕ) (fault : EgtbFault) (before after : EgtbMove) : Type 0 where
-  Refused : (f : FenFault) → IsFirstFault fen f → fault ≡ of_fen f → after ≡ before → TellsMove places fen fault before after
+  Unread : (f : FenFault) → IsFirstFault fen f → fault ≡ of_fen f → after ≡ before → TellsMove places fen fault before after
   Answered : (read : Fen) → Spells fen read → TellsBest (loaded_in places) read.position fault before after → TellsMove places fen fault before after
 
 -- these are the legal moves, in order, each once
@@ -91,5 +91,5 @@ pub record Lists (p : Setup) (listed : EgtbMoves) : Type 0 where
 
 -- the legal moves of the position that the text spells
 pub data TellsMoves (fen : List ℕ) (fault : EgtbFault) (before after : EgtbMoves) : Type 0 where
-  Refused : (f : FenFault) → IsFirstFault fen f → fault ≡ of_fen f → after ≡ before → TellsMoves fen fault before after
+  Unlisted : (f : FenFault) → IsFirstFault fen f → fault ≡ of_fen f → after ≡ before → TellsMoves fen fault before after
   Listed : (read : Fen) → Spells fen read → Lists read.position after → fault ≡ no_fault → TellsMoves fen fault before after

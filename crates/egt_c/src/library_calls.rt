@@ -1,6 +1,5 @@
 //! A library is made, filled, asked for its classes, and goes.
-ghost use Rattle.std.specs.Prelude.{◌≡◌, None, IfSome, IfNone};
-ghost use Rattle.egt_check.specs.Tables.{table_at};
+ghost use Rattle.std.specs.Prelude.{◌≡◌, ◌<◌, ◌≤◌, None, IfSome, IfNone};
 ghost use Rattle.egt_probe.specs.Shelves.{loaded_in};
 ghost use Rattle.egt_c.specs.Calls.{Opens, Adds, level};
 ghost use Rattle.egt_c.specs.Fault.{closed};
@@ -82,7 +81,8 @@ pub extern "C" fn egtb_add(
 
 /// Whether the class of a number is loaded, and whether its table has the column of the nearest mates.
 fn level_in(library: &Library, class_number: u8) -> u8
-    ensures { result ≡ level (loaded_in library.now class_number) }
+    ensures class { class_number < 36 → result ≡ level (loaded_in library.now class_number) }
+    ensures no_class { 36 ≤ class_number → result ≡ 0 }
 {
     let Some(class) = Class::new(class_number) else {
         return 0;
@@ -96,7 +96,8 @@ fn level_in(library: &Library, class_number: u8) -> u8
 /// 0 where the class is not loaded, 1 where it is, and 2 where its table has the column of the nearest mates. A closed library has none.
 #[unsafe(no_mangle)]
 pub extern "C" fn egtb_loaded(alloc: Global, library: &mut EgtbLibrary, class_number: u8) -> u8
-    ensures level { IfSome (held library.old) (λ places. result ≡ level (loaded_in places class_number)) }
+    ensures level { class_number < 36 → IfSome (held library.old) (λ places. result ≡ level (loaded_in places class_number)) }
+    ensures no_class { 36 ≤ class_number → result ≡ 0 }
     ensures closed { IfNone (held library.old) (result ≡ 0) }
     ensures kept { held library.new ≡ held library.old }
 {
