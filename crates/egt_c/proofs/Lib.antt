@@ -1,4 +1,5 @@
 pub mod Kept
+pub mod Listed
 pub mod Named
 pub mod Opened
 pub mod Values

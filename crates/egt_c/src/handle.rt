@@ -24,6 +24,9 @@ impl Model for EgtbLibrary {
     ghost also_owns = { λ h. owned h.at h.is_open h.library };
 }
 
+// Any thread may keep it: a library is plain data, and the C library's heap takes a block back from any thread.
+unsafe impl Send for EgtbLibrary {}
+
 impl EgtbLibrary {
     ghost use Rattle.std.specs.Prelude.{◌≡◌, Some, None, IfSome, IfNone, option_map};
     ghost use Rattle.egt_c.specs.Held.{held};

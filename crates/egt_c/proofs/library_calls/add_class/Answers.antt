@@ -1,4 +1,4 @@
-use Rattle.std.proofs.Common.{◌≡◌, List, ℕ, refl, sym, subst, ◌∙◌}
+use Rattle.std.proofs.Common.{List, ℕ, refl, sym, subst, ◌∙◌}
 use Rattle.egt_table.specs.File.{IsAnswer}
 use Rattle.egt_c.specs.Calls.{NotRead, TurnedAway, Added}
 use Rattle.egt_c.proofs.library_calls.add_class.Goals as goal
