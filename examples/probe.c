@@ -1,5 +1,6 @@
 /* Answers FENs from the tables of a folder: probe DIR CLASS [FEN..], or the lines of the standard input where no FEN is given. Each answer
- * is what `egtb probe` prints up to the first move. scripts/c-example compiles it. */
+ * is what `egtb probe` prints up to the first move. probe moves FEN prints the legal moves as `egtb moves` does. scripts/c-example compiles
+ * it. */
 #include <stdio.h>
 #include <stdlib.h>
 #include <string.h>
@@ -78,12 +79,25 @@ static void answer(struct egtb_library *library, const char *fen) {
            verdict.zeroing, move);
 }
 
+/* Prints the legal moves, one a line. */
+static int list(const char *fen) {
+  struct egtb_moves listed;
+  struct egtb_fault fault = egtb_legal_moves(fen, strlen(fen), &listed);
+  if (fault.family != EGTB_OK) {
+    refuse(fault);
+    return 1;
+  }
+  for (int i = 0; i < listed.count; i++) puts(listed.moves[i].text);
+  return 0;
+}
+
 int main(int count, char **words) {
   struct egtb_library library = {0};
   char line[1200];
   uint8_t class_number = count > 2 ? egtb_class(words[2], strlen(words[2])) : 255;
+  if (count == 3 && strcmp(words[1], "moves") == 0) return list(words[2]);
   if (class_number == 255) {
-    fprintf(stderr, "usage: probe DIR CLASS [FEN..]\n");
+    fprintf(stderr, "usage: probe DIR CLASS [FEN..] | probe moves FEN\n");
     return 2;
   }
   if (egtb_open(&library).family != EGTB_OK || !load(&library, words[1], class_number)) {
