@@ -1,5 +1,5 @@
 -- What the calls that C makes answer. Where there is a fault, what was there before stays.
-use Rattle.std.specs.Prelude.{◌≡◌, ◌↔◌, ℕ, ◌≤◌, Bool, true, false, List, length, map, take, Option, Some, None}
+use Rattle.std.specs.Prelude.{◌≡◌, ◌≢◌, ◌↔◌, ℕ, ◌≤◌, Bool, true, false, List, length, map, take, Option, Some, None}
 use Rattle.std.specs.List.{Contains}
 use Rattle.egt_board.specs.Setup.{Setup}
 use Rattle.egt_moves.specs.declared.chess_move.Move.{Move}
@@ -9,6 +9,7 @@ use Rattle.egt_fen.specs.declared.fault.FenFault.{FenFault}
 use Rattle.egt_fen.specs.declared.fen.Fen.{Fen}
 use Rattle.egt_fen.specs.Fen.{Spells, IsFirstFault}
 use Rattle.egt_table.specs.declared.fault.FileFault.{FileFault}
+use Rattle.egt_table.specs.declared.fault.FileFault.TheVariants.{Device}
 use Rattle.egt_table.specs.File.{IsAnswer, bytes_of}
 use Rattle.egt_table.specs.Table.{TableValue}
 use Rattle.egt_check.specs.declared.reject.Reject.{Reject}
@@ -41,7 +42,7 @@ pub data Opens (fault : EgtbFault) (before after : Option Places) : Type 0 where
 -- the bytes are read as a table of the class, and the library takes it
 pub data Adds (class : ℕ) (bytes : List ℕ) (fault : EgtbFault) (before after : Places) : Type 0 where
   NoClass : 36 ≤ class → fault ≡ no_class → after ≡ before → Adds class bytes fault before after
-  NotRead : (f : FileFault) → IsAnswer class bytes f → fault ≡ of_file f → after ≡ before → Adds class bytes fault before after
+  NotRead : (f : FileFault) → f ≢ Device → IsAnswer class bytes f → fault ≡ of_file f → after ≡ before → Adds class bytes fault before after
   TurnedAway : (t : TableValue) (r : Reject) → t.class ≡ class → bytes ≡ bytes_of t → IsTurnedAway (table_at before) t r → fault ≡ of_check r → after ≡ before →
       Adds class bytes fault before after
   Added : (t : TableValue) → t.class ≡ class → bytes ≡ bytes_of t → table_at before t.class ≡ None → IsAccepted (table_at before) t → fault ≡ no_fault →

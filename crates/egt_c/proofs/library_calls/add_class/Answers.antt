@@ -1,10 +1,11 @@
 use Rattle.std.proofs.Common.{List, ℕ, refl, sym, subst, ◌∙◌}
 use Rattle.egt_table.specs.File.{IsAnswer}
 use Rattle.egt_c.specs.Calls.{NotRead, TurnedAway, Added}
+use Rattle.egt_c.proofs.Reading.{memory_never_fails}
 use Rattle.egt_c.proofs.library_calls.add_class.Goals as goal
 
 pub returns-in-Err : goal.returns-in-Err
-returns-in-Err c = NotRead c.in-Err.fault (subst (λ (bytes : List ℕ). IsAnswer c.args.class bytes c.in-Err.fault) c.new.ensures c.in-Err.ensures.reads) c.of_file.ensures refl
+returns-in-Err c = NotRead c.in-Err.fault (memory_never_fails c.in-Err.fault c.in-Err.ensures.failures) (subst (λ (bytes : List ℕ). IsAnswer c.args.class bytes c.in-Err.fault) c.new.ensures c.in-Err.ensures.reads) c.of_file.ensures refl
 
 pub returns-in-Ok-admit : goal.returns-in-Ok-admit
 returns-in-Ok-admit c =
