@@ -1,0 +1,6 @@
+pub mod Kept
+pub mod Listed
+pub mod Named
+pub mod Opened
+pub mod Reading
+pub mod Values

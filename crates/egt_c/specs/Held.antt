@@ -1,0 +1,15 @@
+-- The library that C keeps.
+use Rattle.std.specs.Prelude.{Bool, true, false, List, Option, Some, None}
+use Rattle.egt_table.specs.Table.{TableValue}
+use Rattle.egt_c.specs.declared.handle.EgtbLibrary.{EgtbLibrary}
+
+-- of each class its table or none
+abbrev pub Places : Type 0
+Places = List (Option TableValue)
+
+abbrev pub if_open : {A : Type 0} → Bool → A → Option A
+if_open false a = None
+if_open true a = Some a
+
+abbrev pub held : EgtbLibrary → Option Places
+held h = if_open h.is_open h.library

@@ -1,0 +1,7 @@
+pub mod Places
+pub mod Owned
+pub mod Held
+pub mod Fault
+pub mod Verdict
+pub mod Move
+pub mod Calls

@@ -1,0 +1,91 @@
+//! What C keeps of a library. Raw pointers stand in this file and in `loose.rt` alone.
+ghost use Rattle.std.specs.Prelude.{List, Option};
+ghost use Rattle.egt_table.specs.Table.{TableValue};
+
+use crate::loose::Loose;
+use egt_check::Library;
+use std::alloc::Global;
+use std::marker::Model;
+use std::mem::replace;
+use std::ptr::null_mut;
+
+/// A library, or none where it is closed. All bytes 0 are a closed one, so C makes it so. It lies where C puts it, and C changes nothing
+/// in it.
+#[repr(C)]
+pub struct EgtbLibrary {
+    pub(crate) at: *mut u8,
+    pub(crate) is_open: bool,
+    pub(crate) ghost library: { List (Option TableValue) },
+}
+
+impl Model for EgtbLibrary {
+    ghost use Rattle.egt_c.specs.Owned.{owned};
+
+    ghost also_owns = { λ h. owned h.at h.is_open h.library };
+}
+
+// Any thread may keep it: a library is plain data, and the C library's heap takes a block back from any thread.
+unsafe impl Send for EgtbLibrary {}
+
+impl EgtbLibrary {
+    ghost use Rattle.std.specs.Prelude.{◌≡◌, Some, None, IfSome, IfNone, option_map};
+    ghost use Rattle.egt_c.specs.Held.{held};
+
+    /// A closed one.
+    fn closed() -> EgtbLibrary
+        ensures { held result ≡ None }
+    {
+        EgtbLibrary {
+            at: null_mut(),
+            is_open: false,
+        }
+    }
+
+    /// One that keeps the library.
+    fn of(loose: Loose<Library, Global>) -> EgtbLibrary
+        ensures { held result ≡ Some loose.value }
+    {
+        let Loose { at, alloc: _alloc } = loose;
+        EgtbLibrary {
+            at: at.cast::<u8>(),
+            is_open: true,
+        }
+    }
+
+    /// The library that it keeps.
+    fn into_loose(self, alloc: Global) -> Option<Loose<Library, Global>>
+        ensures { option_map (λ l. l.value) result ≡ held self }
+    {
+        let EgtbLibrary { at, is_open } = self;
+        if is_open {
+            Some(Loose {
+                at: at.cast::<Library>(),
+                alloc,
+            })
+        } else {
+            None
+        }
+    }
+
+    /// Keeps the library. One that was kept before goes.
+    pub(crate) fn put(&mut self, alloc: Global, library: Box<Library, Global>)
+        ensures { held self.new ≡ Some library.value }
+    {
+        let before = replace(self, EgtbLibrary::of(Loose::of(library)));
+        if let Some(loose) = before.into_loose(alloc) {
+            let _library = loose.into_box();
+        }
+    }
+
+    /// Takes the library out, and closes.
+    pub(crate) fn take(&mut self, alloc: Global) -> Option<Box<Library, Global>>
+        ensures taken { IfSome result (λ b. held self.old ≡ Some b.value) }
+        ensures was_closed { IfNone result (held self.old ≡ None) }
+        ensures closed { held self.new ≡ None }
+    {
+        match replace(self, EgtbLibrary::closed()).into_loose(alloc) {
+            Some(loose) => Some(loose.into_box()),
+            None => None,
+        }
+    }
+}

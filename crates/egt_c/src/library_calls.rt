@@ -1,0 +1,110 @@
+//! A library is made, filled, asked for its classes, and goes.
+ghost use Rattle.std.specs.Prelude.{◌≡◌, ◌<◌, ◌≤◌, None, IfSome, IfNone};
+ghost use Rattle.egt_probe.specs.Shelves.{loaded_in};
+ghost use Rattle.egt_c.specs.Calls.{Opens, Adds, level};
+ghost use Rattle.egt_c.specs.Fault.{closed};
+ghost use Rattle.egt_c.specs.Held.{held};
+
+use crate::fault::EgtbFault;
+use crate::handle::EgtbLibrary;
+use egt_check::Library;
+use egt_class::Class;
+use egt_table::{MemorySource, Table};
+use std::alloc::Global;
+
+/// Opens a library without tables in place of what was kept there. Refuses for want of memory alone.
+#[unsafe(no_mangle)]
+pub extern "C" fn egtb_open(alloc: Global, library: &mut EgtbLibrary) -> EgtbFault
+    ensures { Opens result (held library.old) (held library.new) }
+{
+    let Ok(made) = Library::new(alloc) else {
+        return EgtbFault::no_memory();
+    };
+    let Ok(boxed) = Box::new(alloc, made) else {
+        return EgtbFault::no_memory();
+    };
+    library.put(alloc, boxed);
+    EgtbFault::none()
+}
+
+/// Closes a library, whose tables go. One that is closed stays so.
+#[unsafe(no_mangle)]
+pub extern "C" fn egtb_close(alloc: Global, library: &mut EgtbLibrary)
+    ensures { held library.new ≡ None }
+{
+    let _library = library.take(alloc);
+}
+
+/// Reads the bytes as the file of a table of the class, and has the library take it.
+fn add_class(alloc: Global, library: &mut Library, class: Class, bytes: &[u8]) -> EgtbFault
+    ensures { Adds class bytes.now result library.old library.new }
+{
+    let table = match Table::read(alloc, class, &mut MemorySource::new(bytes)) {
+        Ok(table) => table,
+        Err(fault) => return EgtbFault::of_file(fault),
+    };
+    match library.admit(table) {
+        Ok(()) => EgtbFault::none(),
+        Err((_table, reject)) => EgtbFault::of_check(reject),
+    }
+}
+
+/// The same for the class of a number.
+fn add_numbered(alloc: Global, library: &mut Library, class_number: u8, bytes: &[u8]) -> EgtbFault
+    ensures { Adds class_number bytes.now result library.old library.new }
+{
+    match Class::new(class_number) {
+        Some(class) => add_class(alloc, library, class, bytes),
+        None => EgtbFault::no_class(),
+    }
+}
+
+/// Reads the bytes as the file of a table of the class, checks it beside the tables that are there, and takes it.
+#[unsafe(no_mangle)]
+pub extern "C" fn egtb_add(
+    alloc: Global,
+    library: &mut EgtbLibrary,
+    class_number: u8,
+    bytes: &[u8],
+) -> EgtbFault
+    ensures adds { IfSome (held library.old) (λ before. IfSome (held library.new) (λ after. Adds class_number bytes.now result before after)) }
+    ensures open { IfSome (held library.old) (λ before. IfNone (held library.new) ⊥) }
+    ensures closed { IfNone (held library.old) ((result ≡ closed) × (held library.new ≡ None)) }
+{
+    let Some(mut boxed) = library.take(alloc) else {
+        return EgtbFault::closed();
+    };
+    let fault = add_numbered(alloc, boxed.as_mut(), class_number, bytes);
+    library.put(alloc, boxed);
+    fault
+}
+
+/// Whether the class of a number is loaded, and whether its table has the column of the nearest mates.
+fn level_in(library: &Library, class_number: u8) -> u8
+    ensures class { class_number < 36 → result ≡ level (loaded_in library.now class_number) }
+    ensures no_class { 36 ≤ class_number → result ≡ 0 }
+{
+    let Some(class) = Class::new(class_number) else {
+        return 0;
+    };
+    match library.get(class) {
+        None => 0,
+        Some(table) => { if table.has_reach() { 2 } else { 1 } }
+    }
+}
+
+/// 0 where the class is not loaded, 1 where it is, and 2 where its table has the column of the nearest mates. A closed library has none.
+#[unsafe(no_mangle)]
+pub extern "C" fn egtb_loaded(alloc: Global, library: &mut EgtbLibrary, class_number: u8) -> u8
+    ensures level { class_number < 36 → IfSome (held library.old) (λ places. result ≡ level (loaded_in places class_number)) }
+    ensures no_class { 36 ≤ class_number → result ≡ 0 }
+    ensures closed { IfNone (held library.old) (result ≡ 0) }
+    ensures kept { held library.new ≡ held library.old }
+{
+    let Some(boxed) = library.take(alloc) else {
+        return 0;
+    };
+    let level = level_in(boxed.as_ref(), class_number);
+    library.put(alloc, boxed);
+    level
+}
