@@ -40,6 +40,7 @@ pub mod AllJudged
 pub mod ToldBytes
 pub mod RowJudged
 pub mod LaneRight
+pub mod BlankKept
 pub mod TwoBeside
 pub mod LeftTargets
 pub mod PawnAdvances

@@ -3,6 +3,7 @@
 #![tactic(auto)]
 
 pub mod advance_blocks;
+pub mod blank;
 pub mod block_judging;
 pub mod blocks;
 pub mod by_metric;

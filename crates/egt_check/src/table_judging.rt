@@ -25,6 +25,7 @@ ghost use Rattle.egt_check.specs.Tables.{Tables, beside, table_at};
 ghost use Rattle.egt_check.specs.Truth.{IsTrueTable};
 ghost use Rattle.egt_check.specs.Worth.{HasBytes};
 
+use crate::blank::side_is_blank;
 use crate::block_judging::block_is_right;
 use crate::blocks::are_equal;
 use crate::bytes::{tells_bytes, true_table_tells};
@@ -32,14 +33,14 @@ use crate::digits::digits_of;
 use crate::library::Library;
 use crate::move_scores::{FourMen, men_swapped};
 use crate::own_men::is_pawn;
-use crate::part::Part;
+use crate::part::{Part, column_of};
 use crate::pawn_scores::{Promotion, Promotions};
 use crate::reach_blocks::reach_block_is_right;
 use crate::taken_blocks::turned_man;
 use egt_board::{Kind, Man, Side, Square};
 use egt_class::Class;
 use egt_class::membership::of_men;
-use egt_index::laws::numbers_stand_for_codes;
+use egt_index::laws::{a_code_is_an_index_or_void, numbers_stand_for_codes};
 use egt_index::{ShelfMen, has_target, last_digits, lone_man, shelf_men, size};
 use egt_table::Table;
 
@@ -71,6 +72,10 @@ fn side_is_right(
     ensures { result ≡ true → (tables : Tables) → AreTablesOf (tables_in part tables) (four_in part four.now) men.now →
         AreJudged part tables four.now.own.now men.now first side × AreJudged part tables four.now.own.now men.now (first + half) side }
 {
+    a_code_is_an_index_or_void();
+    if side_is_blank(four.own, column_of(part), men, first, half, side) {
+        return true;
+    }
     match part {
         Part::Values => block_is_right(four, men, first, half, side),
         Part::Reach => reach_block_is_right(four, men, first, half, side),
