@@ -39,6 +39,7 @@ pub mod Takings
 pub mod AllJudged
 pub mod ToldBytes
 pub mod RowJudged
+pub mod ShelfRuns
 pub mod LaneRight
 pub mod BlankKept
 pub mod TwoBeside
