@@ -42,6 +42,7 @@ pub mod RowJudged
 pub mod ShelfRuns
 pub mod LaneRight
 pub mod BlankKept
+pub mod PairsJudged
 pub mod TwoBeside
 pub mod LeftTargets
 pub mod PawnAdvances

@@ -30,6 +30,7 @@ pub mod RightRow
 pub mod MoveScores
 pub mod RightBlock
 pub mod Blank
+pub mod PairOrder
 pub mod PawnMoves
 pub mod InPassing
 pub mod PawnScores
