@@ -11,8 +11,10 @@ use Rattle.egt_index.specs.Size.{size_of}
 use Rattle.egt_index.specs.StepCodes.{TellsMen}
 use Rattle.egt_index.specs.declared.shelf_codes.ShelfMen.{ShelfMen}
 use Rattle.egt_table.specs.Table.{TableValue}
+use Rattle.egt_table.specs.declared.column.Column.{Column}
 use Rattle.egt_table.specs.declared.column.Column.TheVariants as columns
 use Rattle.egt_check.specs.declared.metric.Metric.TheVariants.{Mate}
+use Rattle.egt_check.specs.Blank.{IsBlank}
 use Rattle.egt_check.specs.Blocks.{men_on, stand_on}
 use Rattle.egt_check.specs.RightBlock.{IsRightLane, IsRightReachLane}
 use Rattle.egt_check.specs.RightRow.{IsRightAt, IsRightReachAt}
@@ -50,3 +52,6 @@ module _ (passed : Bool) (t : TableValue) (men : ShelfMen) (on shelf : ℕ) (sid
 
   pub right_reach_lane : (reach : ℕ) → (column_score t columns.Reach (code_of t.class number) ≢ 0 → IsRightReachAt t (code_of t.class number) reach) → IsRightReachLane passed t men side on square (code_of t.class number) reach
   right_reach_lane reach right = record { below = coded number below; tells = told; right = right }
+
+  pub blank_lane : (column : Column) → column_score t column (code_of t.class number) ≡ 0 → IsBlank t column (code_of t.class number)
+  blank_lane column none = record { below = coded number below; none = none }

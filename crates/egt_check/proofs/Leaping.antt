@@ -1,12 +1,9 @@
 -- A pawn's advance where no position of the class has a target: the position after it settles to the one without its target, whose index it has.
-use Rattle.std.proofs.Common.{◌≡◌, ◌⊎◌, ℕ, ◌+◌, ◌-◌, ◌*◌, ◌/◌, ◌%◌, ◌<◌, ◌≤◌, ◌==◌, ◌&&◌, if◌then◌else◌, Bool, true, false, Option, Some, None, refl, sym, subst, inl, inr, arith}
-use Rattle.std.specs.Option.{IfSome}
+use Rattle.std.proofs.Common.{◌≡◌, ◌⊎◌, ℕ, ◌+◌, ◌-◌, ◌*◌, ◌/◌, ◌%◌, ◌<◌, ◌≤◌, ◌==◌, ◌&&◌, if◌then◌else◌, Bool, true, false, refl, sym, subst, inl, inr, arith}
 use Rattle.std.proofs.lemmas.Bool.{cases_eq}
 use Rattle.std.proofs.lemmas.Bool.Decides.{eqb_tells}
-use Rattle.egt_board.specs.Man.{other_side}
-use Rattle.egt_board.specs.Pawn.{ahead, home_rank, pawn_of, Advances, HasPawnBeside}
-use Rattle.egt_board.specs.Placement.{Stands}
-use Rattle.egt_board.specs.Settled.{IsSettled, SettlesTo, untargeted}
+use Rattle.egt_board.specs.Pawn.{ahead, home_rank, Advances}
+use Rattle.egt_board.specs.Settled.{IsSettled, SettlesTo}
 use Rattle.egt_board.specs.Setup.{Setup}
 use Rattle.egt_board.specs.Square.{rank_of}
 use Rattle.egt_board.specs.declared.man.Side.{Side}
@@ -148,14 +145,3 @@ settled_index c i q r settles settled index = record {
       | inl already ↦ already.1
       | inr unsettled ↦ absurd (unsettled.0 settled)
     ]
-
--- where no pawn stands ready to take, it settles to itself without its target
-pub settles_bare : (q : Setup) → ((s : ℕ) → ¬ Stands q.men s (pawn_of q.side)) → SettlesTo q (untargeted q)
-settles_bare q pawnless = by q.target refl
-  where
-    Ready : Option ℕ → Type 0
-    Ready o = IfSome o (λ t. HasPawnBeside q.men q.side (ahead (other_side q.side) t))
-
-    by : (o : Option ℕ) → q.target ≡ o → SettlesTo q (untargeted q)
-    by None e = inl (subst Ready (sym e) tt, λ i. record { men = q.men; side = q.side; target = sym e i })
-    by (Some t) e = inr (λ settled. let beside : Ready (Some t) = subst Ready e settled in pawnless beside.square beside.stands, refl)

@@ -39,7 +39,10 @@ pub mod Takings
 pub mod AllJudged
 pub mod ToldBytes
 pub mod RowJudged
+pub mod ShelfRuns
 pub mod LaneRight
+pub mod BlankKept
+pub mod PairsJudged
 pub mod TwoBeside
 pub mod LeftTargets
 pub mod PawnAdvances

@@ -24,7 +24,6 @@ use Rattle.egt_moves.specs.Promotion.{is_pawn}
 use Rattle.egt_table.specs.Table.{TableValue, entries_of}
 use Rattle.egt_table.specs.declared.column.Column.{Column}
 use Rattle.egt_check.specs.Blocks.{IsCodeAfter, IsHomeCode, IsRaisedHome}
-use Rattle.egt_check.specs.Tables.{entry_at}
 use Rattle.egt_check.specs.Worth.{IsRead, column_score, entry_score}
 use Rattle.egt_check.proofs.BlockRaising.{raised_alike}
 use Rattle.egt_check.proofs.RowRead.{pawn_digits, piece_at, piece_digits}

@@ -2,7 +2,7 @@
 use Rattle.std.proofs.Common.{◌≡◌, ◌≢◌, ℕ, ◌+◌, ◌*◌, ◌/◌, ◌%◌, ◌^◌, ◌<◌, ◌==◌, if◌then◌else◌, Bool, true, false, inl, inr, arith, ap, eqb, refl, sym, ◌∙◌, subst}
 use Rattle.std.specs.Int.{bit_at}
 use Rattle.std.proofs.lemmas.Bool.{cases_eq, eqb-true}
-use Rattle.std.proofs.lemmas.Nat.Bits.{bit_at-lt}
+use Rattle.std.proofs.lemmas.Nat.Bits.{bit_at-lt, bit_at-zero}
 use Rattle.std.proofs.lemmas.Nat.{div-add-mod', div_below, mod_below, shr-shr}
 use Rattle.egt_board.specs.declared.man.Side.{Side}
 use Rattle.egt_board.specs.declared.man.Side.TheVariants.{White, Black}
@@ -36,6 +36,10 @@ mark_none score = go (eqb score 0) refl
     go : (t : Bool) → eqb score 0 ≡ t → ◌≡◌ {A = ℕ} (if t then 0 else 1) 0 → score ≡ 0
     go true e is = eqb-true score 0 e
     go false e is = absurd (omega (arith, is))
+
+-- where no bit is set there are no scores
+pub none_marked : (marks k : ℕ) → marks ≡ 0 → (score : ℕ) → bit_at marks k ≡ mark score → score ≡ 0
+none_marked marks k none score is = mark_none score (sym is ∙ ap (λ m. bit_at m k) none ∙ bit_at-zero k)
 
 mark_some : (score : ℕ) → mark score ≡ 1 → score ≢ 0
 mark_some score one none = let is = ap mark none in absurd (omega (arith, is, one))

@@ -11,7 +11,6 @@ use Rattle.egt_moves.specs.Chess.{chess}
 use Rattle.egt_moves.specs.declared.chess_move.Move.{Move}
 use Rattle.egt_table.specs.Table.{TableValue, entries_or_none}
 use Rattle.egt_check.specs.declared.metric.Metric.TheVariants.{Mate}
-use Rattle.egt_check.specs.declared.rule.Rule.{Rule}
 use Rattle.egt_check.specs.declared.rule.Rule.TheVariants as rules
 use Rattle.egt_check.specs.Facts.{Facts}
 use Rattle.egt_check.specs.Given.{AreGiven, HasScores, IsKnown}

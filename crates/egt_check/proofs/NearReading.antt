@@ -1,5 +1,5 @@
 -- Tables whose column of the nearest mates is read as a mate column.
-use Rattle.std.proofs.Common.{◌≡◌, ◌≢◌, ℕ, ◌*◌, ◌-◌, ◌%◌, ◌<◌, ◌⊎◌, ◌∙◌, List, Option, Some, None, IsSome, arith, inl, inr, length, refl, sym, ap}
+use Rattle.std.proofs.Common.{◌≡◌, ℕ, ◌*◌, ◌-◌, ◌%◌, ◌<◌, ◌⊎◌, ◌∙◌, List, Option, Some, None, IsSome, arith, inl, inr, length, refl, sym, ap}
 use Rattle.std.proofs.Math.ListN.{get_or-map}
 use Rattle.std.proofs.lemmas.Bool.{cases_lt, false≢true}
 use Rattle.std.proofs.lemmas.List.{get_or_past, length-map}

@@ -1,5 +1,5 @@
 -- The least number that the column of the nearest mates shows after a step.
-use Rattle.std.proofs.Common.{◌≡◌, ℕ, zero, suc, ◌+◌, ◌-◌, ◌<◌, ◌≤◌, ◌⊎◌, inl, inr, min, List, get_or, length, Option, Some, None, IfSome, refl, sym, ap, subst, ◌∙◌, arith}
+use Rattle.std.proofs.Common.{◌≡◌, ℕ, zero, suc, ◌+◌, ◌≤◌, ◌⊎◌, inl, inr, min, Option, Some, None, IfSome, refl, sym, ap, subst, ◌∙◌, arith}
 use Rattle.std.specs.Option.{IfNone}
 use Rattle.std.proofs.lemmas.Bool.{cases_lt}
 use Rattle.egt_board.specs.Setup.{Setup, IsAdmissible}
@@ -15,7 +15,7 @@ use Rattle.egt_moves.specs.declared.outcome.Standing.TheVariants.{Checkmate, Sta
 use Rattle.egt_check.specs.Entry.{longest}
 use Rattle.egt_check.specs.Facts.{Facts}
 use Rattle.egt_check.specs.Nearest.{nearer, IsNearest}
-use Rattle.egt_check.specs.Reach.{FitsReachBeside, HasReachEntry, IsReachDue, ShowsReach, ShowsReachOf}
+use Rattle.egt_check.specs.Reach.{HasReachEntry, IsReachDue, ShowsReach, ShowsReachOf}
 use Rattle.egt_check.specs.Tables.{Tables, reach_at}
 
 -- an entry shows one number

@@ -1,14 +1,13 @@
 -- From what comparing finds to the first rule that an entry of the column of the nearest mates breaks.
-use Rattle.std.proofs.Common.{◌≡◌, ◌≢◌, ℕ, ◌-◌, ◌+◌, ◌<◌, ◌≤◌, Option, Some, None, sym, subst, ◌∙◌, arith}
+use Rattle.std.proofs.Common.{◌≡◌, ◌≢◌, ℕ, ◌-◌, ◌<◌, Option, Some, None, sym, subst, ◌∙◌, arith}
 use Rattle.egt_board.specs.Setup.{Setup}
 use Rattle.egt_index.specs.Code.{Spells}
 use Rattle.egt_index.specs.Index.{IsVoid}
 use Rattle.egt_table.specs.Table.{TableValue}
 use Rattle.egt_check.specs.declared.rule.Rule.{Rule}
 use Rattle.egt_check.specs.declared.rule.Rule.TheVariants as rules
-use Rattle.egt_check.specs.Reach.{FitsReachBeside, IsReachDue, ShowsReach, ShowsReachOf, reach_entry_of}
+use Rattle.egt_check.specs.Reach.{FitsReachBeside, IsReachDue, ShowsReach, ShowsReachOf}
 use Rattle.egt_check.specs.ReachJudged.{FindsReach}
-use Rattle.egt_check.specs.Judged.{FindsVoid}
 use Rattle.egt_check.specs.Rules.{FitsReach, IsJudgedBy, KeepsReach, rule_place}
 use Rattle.egt_check.specs.Tables.{Tables, reach_at}
 

@@ -70,6 +70,10 @@ side_few Black = omega arith
 abbrev pub bit_of : Bool → ℕ
 bit_of passed = if passed then 1 else 0
 
+pub bit_few : (passed : Bool) → bit_of passed < 2
+bit_few true = omega arith
+bit_few false = omega arith
+
 -- the code's last digit is that of the target
 pub target_digit : (c code : ℕ) (stand : Stand) (side : Side) (passed : Bool) → has_target (material_of c) ≡ true → TellsMen passed c code stand side → code % 2 ≡ bit_of passed
 target_digit c code stand side passed has tells = by passed (tells.ends.number_is ∙ ap (λ b. number_from tells.number (2 ∷ (if b then 2 ∷ [] else [])) (side_number side ∷ (if b then bit_of passed ∷ [] else []))) has)
@@ -78,7 +82,7 @@ target_digit c code stand side passed has tells = by passed (tells.ends.number_i
     by true is = omega (arith, is)
     by false is = omega (arith, is)
 
-half_is : (c : ℕ) → has_target (material_of c) ≡ true → (size_of c ≡ 18874368) × (half_of c ≡ 9437184)
+pub half_is : (c : ℕ) → has_target (material_of c) ≡ true → (size_of c ≡ 18874368) × (half_of c ≡ 9437184)
 unfolding size_of
 half_is c has = let size : size_of c ≡ 18874368 = ap (λ (m : Material). product (bases m)) (one_pawn_each c has) in let half = half_targets c has in (size, omega (arith, size, half))
 
@@ -250,7 +254,7 @@ module _ (t : TableValue) (column : Column) (men : ShelfMen) (shelf : ℕ) (side
     pub of_targets : ((s : ℕ) → 8 ≤ s → s < 56 → slice_index loaded s ≡ slice_index piece (4 * (s - 8) + 2 * side_number side + bit_of passed)) → ((s : ℕ) → s < 64 → (s < 8) ⊎ (56 ≤ s) → slice_index loaded s ≡ 0) → Row
     of_targets middle edge =
         let few = side_few side in
-        let bit : bit_of passed < 2 = small passed in
+        let bit : bit_of passed < 2 = bit_few passed in
         let len : kind_digits men.last.kind ≡ 48 = sym is.len ∙ places_is t.class has in
         let pawn = pawn_of_digits men.last.kind len in record {
           digits = λ digit below.
@@ -265,10 +269,6 @@ module _ (t : TableValue) (column : Column) (men : ShelfMen) (shelf : ℕ) (side
           edges = λ pawn s s_in past. none s s_in (edge s s_in past);
         }
       where
-        small : (b : Bool) → bit_of b < 2
-        small true = omega arith
-        small false = omega arith
-
         place : (digit : ℕ) → digit < 48 → first + (4 * digit + 2 * side_number side + bit_of passed) ≡ code_of t.class (number_in t.class shelf side digit)
         place digit below =
             let few = side_few side in

@@ -1,5 +1,5 @@
 -- Where the children's columns of the nearest mates are true, a table's keeps the rules exactly where it is true.
-use Rattle.std.proofs.Common.{◌≡◌, ◌≢◌, ℕ, zero, suc, ◌<◌, ◌≤◌, ◌⊎◌, ◌↔◌, Bool, IsTrue, IsSome, IfSome, Option, Some, None, refl, sym, ap, ◌∙◌, subst, inl, inr, arith}
+use Rattle.std.proofs.Common.{◌≡◌, ◌≢◌, ℕ, zero, suc, ◌<◌, ◌≤◌, ◌⊎◌, ◌↔◌, Bool, IsTrue, IsSome, IfSome, Option, Some, None, refl, sym, subst, inl, inr, arith}
 use Rattle.std.proofs.lemmas.Bool.{cases_eq, cases_lt}
 use Rattle.std.proofs.Math.Logic.{⊎_elim, ⊎_map}
 use Rattle.egt_board.specs.Setup.{Setup, IsAdmissible}
@@ -7,11 +7,9 @@ use Rattle.egt_class.specs.Membership.{IsOf}
 use Rattle.egt_index.specs.Code.{Spells}
 use Rattle.egt_index.specs.Index.{IsIndex, IsVoid}
 use Rattle.egt_index.specs.Size.{size_of}
-use Rattle.egt_moves.specs.Arena.{EachMove}
 use Rattle.egt_moves.specs.Chess.{chess}
 use Rattle.egt_moves.specs.Reach.{FitsReach as FitsNumbers, HasReach, ReachJudgedOver}
 use Rattle.egt_table.specs.Table.{TableValue, IsTable}
-use Rattle.egt_check.specs.declared.rule.Rule.{Rule}
 use Rattle.egt_check.specs.declared.rule.Rule.TheVariants as rules
 use Rattle.egt_check.specs.Alike.{StepAlike}
 use Rattle.egt_check.specs.Facts.{Facts}

@@ -1,5 +1,5 @@
 -- What a block holds: a number for each square of the first man beside the kings and of the last.
-use Rattle.std.specs.Prelude.{if◌then◌else◌, max, List, ◌≡◌, ℕ, ◌/◌, ◌%◌, ◌<◌, ◌==◌, Bool, true, not}
+use Rattle.std.specs.Prelude.{if◌then◌else◌, max, List, ◌≡◌, ℕ, ◌+◌, ◌/◌, ◌%◌, ◌<◌, ◌==◌, Bool, true, not}
 use Rattle.egt_board.specs.Turned.{turned_side, turned_square}
 use Rattle.std.specs.Int.{bit_at}
 use Rattle.egt_board.specs.Attack.{king_of}
@@ -8,7 +8,8 @@ use Rattle.egt_board.specs.declared.man.Side.{Side}
 use Rattle.egt_board.specs.declared.man.Side.TheVariants.{White, Black}
 use Rattle.egt_class.specs.Material.{has_equal_sides, material_of}
 use Rattle.egt_index.specs.Home.{IsTurnWith}
-use Rattle.egt_index.specs.ShelfCodes.{stand_with}
+use Rattle.egt_index.specs.Scales.{kind_digits, kind_less}
+use Rattle.egt_index.specs.ShelfCodes.{IsShelfOf, IsWithin, stand_with}
 use Rattle.egt_index.specs.Size.{has_pawns}
 use Rattle.egt_index.specs.StepCodes.{TellsMen}
 use Rattle.egt_index.specs.TurnedMen.{IsSomeTurnedCodeWith, turned_by}
@@ -88,3 +89,7 @@ AreTurnedCodes passed c In men flips side a b code = (k : ℕ) × In k × IsSome
 pub record AreGathered (passed : Bool) (t : TableValue) (column : Column) (In : ℕ → Type 0) (men : ℕ → ShelfMen) (flips : Bool) (side : Side) (own across : List (List ℕ)) : Type 0 where
   pub in_own : (a b : ℕ) → a < 64 → b < 64 → IsRaised 0 (AreHomeCodes passed t.class In men flips side a b) (column_score t column) (at own a b)
   pub in_across : has_equal_sides t.class ≡ true → (a b : ℕ) → a < 64 → b < 64 → IsRaised 0 (AreHomeCodes passed t.class In (λ k. men_across (men k)) (not flips) side b a) (column_score t column) (at across b a)
+
+-- the shelves from this one on are those of the men with the first one on the squares of his digits
+abbrev pub AreShelvesOf : (passed : Bool) (c : ℕ) → ShelfMen → (first : ℕ) → Type 0
+AreShelvesOf passed c men first = (d : ℕ) → d < kind_digits men.one.kind → IsShelfOf passed c (first + d) (men_on men (d + kind_less men.one.kind)) × IsWithin c (first + d)

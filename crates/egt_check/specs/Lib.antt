@@ -29,6 +29,8 @@ pub mod Takings
 pub mod RightRow
 pub mod MoveScores
 pub mod RightBlock
+pub mod Blank
+pub mod PairOrder
 pub mod PawnMoves
 pub mod InPassing
 pub mod PawnScores

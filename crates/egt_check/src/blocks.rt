@@ -1,21 +1,24 @@
 //! The scores that a table gives the positions of a class with two men beside the kings, whose kings stand on two squares: a row for each square of the
 //! first man, a lane for each of the last. Each code has some turn of these men; codes that are not least score nothing.
-ghost use Rattle.std.specs.Prelude.{◌≡◌, ◌≢◌, ◌/◌, ◌%◌, ◌<◌, ◌↔◌, ◌==◌, ℕ, false, true, not, IsTrue};
+ghost use Rattle.std.specs.Prelude.{◌≡◌, ◌≢◌, ◌/◌, ◌%◌, ◌<◌, ◌↔◌, ◌==◌, ◌+◌, ℕ, false, true, not, IfSome, IsTrue};
 ghost use Rattle.egt_board.specs.Turned.{turned_side, turned_square};
 ghost use Rattle.egt_class.specs.Material.{has_equal_sides};
 ghost use Rattle.egt_index.specs.ShelfCodes.{AreMenOf};
 ghost use Rattle.egt_lanes.specs.Blocks.{at};
 ghost use Rattle.egt_table.specs.Table.{HasColumn};
-ghost use Rattle.egt_check.specs.Blocks.{IsRaisedAfter, IsRaisedHome, men_across, settled_at, stand_on, turned_from};
+ghost use Rattle.egt_check.specs.Blocks.{AreShelvesOf, IsRaisedAfter, IsRaisedHome, men_across, settled_at, stand_on, turned_from};
 ghost use Rattle.egt_check.specs.Worth.{IsReadWith};
 
+use crate::block_judging::men_on;
+use crate::digits::{digits_of, first_square};
 use crate::rows::{may_stand, row_of};
 use egt_board::{Side, Square};
+use egt_class::Class;
 use egt_index::home::home;
 use egt_index::laws::codes_tell_turned_men;
 use egt_index::men::has_equal_sides;
 use egt_index::turning::turned_square;
-use egt_index::{ShelfMen, has_pawns, shelf_of};
+use egt_index::{ShelfMen, has_pawns, last_digits, shelf_of, size};
 use egt_lanes::block::raise_transposed;
 use egt_lanes::row::greater;
 use egt_lanes::turn::turned;
@@ -44,37 +47,51 @@ pub(crate) fn side_after(side: Side, turn: u8) -> Side
     if turn / 8 == 1 { side.other() } else { side }
 }
 
-/// Raises the row of the first man's square to the scores of the codes after the turn, and with a target where one was passed. False where the table does
-/// not tell.
+/// The first shelf of the men, with a target where one was passed: there is one for each digit of the first man, in their order. `None` where there are none.
+fn shelves_of(class: Class, men: &ShelfMen, passed: bool) -> Option<u32>
+    requires men { AreMenOf class men.now }
+    ensures shelves { IfSome result (AreShelvesOf passed class men.now) }
+    ensures room { IfSome result (λ first. first + 64 < 4294967296) }
+{
+    let on = Square::at(first_square(men.one));
+    let first = shelf_of(class, &men_on(men, on), passed)?;
+    let shelves = size(class) / (2 * last_digits(class));
+    let last = shelves.checked_sub(u32::from(digits_of(men.one)))?;
+    if last < first {
+        return None;
+    }
+    Some(first)
+}
+
+/// Raises the row of the first man's square to the scores of the codes after the turn, and with a target where one was passed.
 #[inline(always)]
 fn raise_row(
     table: &Table,
     column: Column,
     men: &ShelfMen,
+    first: u32,
     on: Square,
     side: Side,
     turn: u8,
     passed: bool,
     out: &mut Block,
-) -> bool
+)
     requires there { HasColumn column table.now }
-    requires men { AreMenOf table.now.class men.now }
     requires turn { turn < 16 }
+    requires shelves { AreShelvesOf passed table.now.class (turned_from men.now on turn) first }
+    requires room { first + 64 < 4294967296 }
     ensures others { (a b : ℕ) → a ≢ on → at out.new a b ≡ at out.old a b }
-    ensures raised { result ≡ true → (b : ℕ) → b < 64 → IsRaisedAfter passed table.now column turn (stand_on men.now on b) side (at out.old on b) (at out.new on b) }
+    ensures raised { (b : ℕ) → b < 64 → IsRaisedAfter passed table.now column turn (stand_on men.now on b) side (at out.old on b) (at out.new on b) }
 {
     codes_tell_turned_men();
     let there = turned_from(men, on, turn);
     if !may_stand(there.one, there.on) {
-        return true;
+        return;
     }
-    let Some(shelf) = shelf_of(table.class(), &there, passed) else {
-        return false;
-    };
+    let shelf = first + u32::from(there.on.number() - first_square(there.one));
     let row = row_of(table, column, &there, shelf, side_after(side, turn), passed);
     let a = usize::from(on.number());
     out[a] = greater(out[a], turned(row, turn));
-    true
 }
 
 /// Raises the block to the scores of the codes after the turn. False where it does not tell.
@@ -92,10 +109,22 @@ fn raise_turned(
     requires turn { turn < 16 }
     ensures { result ≡ true → (a b : ℕ) → a < 64 → b < 64 → IsRaisedAfter passed table.now column turn (stand_on men.now a b) side (at out.old a b) (at out.new a b) }
 {
+    let there = turned_from(men, men.on, turn);
+    let Some(first) = shelves_of(table.class(), &there, passed) else {
+        return false;
+    };
     for a in 0..64u8 {
-        if !raise_row(table, column, men, Square::at(a), side, turn, passed, out) {
-            return false;
-        }
+        raise_row(
+            table,
+            column,
+            men,
+            first,
+            Square::at(a),
+            side,
+            turn,
+            passed,
+            out,
+        );
     }
     true
 }

@@ -3,6 +3,7 @@
 #![tactic(auto)]
 
 pub mod advance_blocks;
+pub mod blank;
 pub mod block_judging;
 pub mod blocks;
 pub mod by_metric;
@@ -19,6 +20,7 @@ pub mod metric;
 pub mod move_scores;
 pub mod outcome;
 pub mod own_men;
+pub mod pair_order;
 pub mod part;
 pub mod passing_blocks;
 pub mod pawn_laws;

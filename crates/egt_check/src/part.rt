@@ -1,4 +1,8 @@
 //! The parts of a table that are judged one after the other.
+ghost use Rattle.std.specs.Prelude.{◌≡◌};
+ghost use Rattle.egt_check.specs.Parts.{column_of};
+
+use egt_table::Column;
 
 /// What of a table is judged at once.
 #[derive(Clone, Copy)]
@@ -7,4 +11,14 @@ pub(crate) enum Part {
     Values,
     /// The column of the nearest mates.
     Reach,
+}
+
+/// The column that scores come from, of moves that zero too.
+pub(crate) fn column_of(part: Part) -> Column
+    ensures { result ≡ column_of part }
+{
+    match part {
+        Part::Values => Column::Mate,
+        Part::Reach => Column::Reach,
+    }
 }

@@ -17,6 +17,7 @@ ghost use Rattle.egt_table.specs.Table.{HasColumn, TableValue};
 ghost use Rattle.egt_check.specs.declared.metric.Metric.{Metric};
 ghost use Rattle.egt_check.specs.MoveScores.{AreFourMen, AreTablesOf};
 ghost use Rattle.egt_check.specs.Parts.{column_of, four_in, promotion_in, promotions_in, table_in, tables_in};
+ghost use Rattle.egt_check.specs.PairOrder.{nth_pair};
 ghost use Rattle.egt_check.specs.PawnScores.{AreNamed, ArePromotionsOf, HasPromotion, HasPromotions, IsPromotionOf};
 ghost use Rattle.egt_check.specs.RightBlock.{AreJudged, KeepsPart};
 ghost use Rattle.egt_check.specs.Rules.{KeepsBelow};
@@ -25,6 +26,7 @@ ghost use Rattle.egt_check.specs.Tables.{Tables, beside, table_at};
 ghost use Rattle.egt_check.specs.Truth.{IsTrueTable};
 ghost use Rattle.egt_check.specs.Worth.{HasBytes};
 
+use crate::blank::side_is_blank;
 use crate::block_judging::block_is_right;
 use crate::blocks::are_equal;
 use crate::bytes::{tells_bytes, true_table_tells};
@@ -32,14 +34,15 @@ use crate::digits::digits_of;
 use crate::library::Library;
 use crate::move_scores::{FourMen, men_swapped};
 use crate::own_men::is_pawn;
-use crate::part::Part;
+use crate::pair_order::nth_pair;
+use crate::part::{Part, column_of};
 use crate::pawn_scores::{Promotion, Promotions};
 use crate::reach_blocks::reach_block_is_right;
 use crate::taken_blocks::turned_man;
 use egt_board::{Kind, Man, Side, Square};
 use egt_class::Class;
 use egt_class::membership::of_men;
-use egt_index::laws::numbers_stand_for_codes;
+use egt_index::laws::{a_code_is_an_index_or_void, numbers_stand_for_codes};
 use egt_index::{ShelfMen, has_target, last_digits, lone_man, shelf_men, size};
 use egt_table::Table;
 
@@ -71,6 +74,10 @@ fn side_is_right(
     ensures { result ≡ true → (tables : Tables) → AreTablesOf (tables_in part tables) (four_in part four.now) men.now →
         AreJudged part tables four.now.own.now men.now first side × AreJudged part tables four.now.own.now men.now (first + half) side }
 {
+    a_code_is_an_index_or_void();
+    if side_is_blank(four.own, column_of(part), men, first, half, side) {
+        return true;
+    }
     match part {
         Part::Values => block_is_right(four, men, first, half, side),
         Part::Reach => reach_block_is_right(four, men, first, half, side),
@@ -78,19 +85,50 @@ fn side_is_right(
 }
 
 /// Whether all entries of the part keep the rules, of the shelves from this one on, one for each digit of the first man,
-/// and of those `half` further on, which have the same men and a target; 0 in a class without targets.
-fn pair_is_right(four: &FourMen, men: &ShelfMen, part: Part, first: u32, half: u32) -> bool
+/// with that side to move, and of those `half` further on, which have the same men and a target; 0 in a class without
+/// targets.
+fn pair_is_right(
+    four: &FourMen,
+    men: &ShelfMen,
+    part: Part,
+    first: u32,
+    half: u32,
+    side: Side,
+) -> bool
     requires men { AreFourMen (column_of part) four.now men.now }
     requires room { first + half + 64 < 4294967296 }
-    ensures { result ≡ true → (tables : Tables) → AreTablesOf (tables_in part tables) (four_in part four.now) men.now → (side : Side) →
+    ensures { result ≡ true → (tables : Tables) → AreTablesOf (tables_in part tables) (four_in part four.now) men.now →
         AreJudged part tables four.now.own.now men.now first side × AreJudged part tables four.now.own.now men.now (first + half) side }
 {
     let Some(here) = shelf_men(four.own.class(), first) else {
         return false;
     };
     let there = with_kings(men, here.white, here.black);
-    side_is_right(four, &there, part, first, half, Side::White)
-        && side_is_right(four, &there, part, first, half, Side::Black)
+    side_is_right(four, &there, part, first, half, side)
+}
+
+/// Whether so are those of all pairs of kings' squares, of which the white king has so many.
+fn side_pairs_are_right(
+    four: &FourMen,
+    men: &ShelfMen,
+    part: Part,
+    kings: u32,
+    half: u32,
+    side: Side,
+) -> bool
+    requires men { AreFourMen (column_of part) four.now men.now }
+    requires room { 64 * kings * kind_digits men.now.one.kind + half + 64 < 4294967296 }
+    ensures { result ≡ true → (tables : Tables) → AreTablesOf (tables_in part tables) (four_in part four.now) men.now → (n : ℕ) → n < 64 * kings →
+        AreJudged part tables four.now.own.now men.now (nth_pair side kings n * kind_digits men.now.one.kind) side × AreJudged part tables four.now.own.now men.now (nth_pair side kings n * kind_digits men.now.one.kind + half) side }
+{
+    let step = u32::from(digits_of(men.one));
+    for n in 0..64 * kings {
+        let first = nth_pair(side, n, kings) * step;
+        if !pair_is_right(four, men, part, first, half, side) {
+            return false;
+        }
+    }
+    true
 }
 
 /// How many of the class's shelves have a target: the upper half, or none.
@@ -111,14 +149,12 @@ pub(crate) fn pairs_are_right(four: &FourMen, men: &ShelfMen, part: Part) -> boo
     let step = u32::from(digits_of(men.one));
     let shelves = size(class).div_ceil(2 * last_digits(class));
     let half = with_targets(class, shelves);
-    let mut first = 0;
-    while first < shelves - half {
-        if !pair_is_right(four, men, part, first, half) {
-            return false;
-        }
-        first += step;
+    let kings = (shelves - half) / (64 * step);
+    if 64 * kings * step != shelves - half {
+        return false;
     }
-    true
+    side_pairs_are_right(four, men, part, kings, half, Side::White)
+        && side_pairs_are_right(four, men, part, kings, half, Side::Black)
 }
 
 /// Whether this is the table of the class in which the man is left alone beside the kings, in colours exchanged where

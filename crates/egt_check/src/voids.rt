@@ -5,9 +5,9 @@ ghost use Rattle.egt_board.specs.declared.man.Side.{Side};
 ghost use Rattle.egt_index.specs.Numbers.{code_of};
 ghost use Rattle.egt_index.specs.Scales.{kind_digits};
 ghost use Rattle.egt_index.specs.ShelfCodes.{AreMenOf, IsShelfOf, IsWithin, number_in};
-ghost use Rattle.egt_check.specs.declared.metric.Metric.TheVariants.{Mate};
+ghost use Rattle.egt_table.specs.Table.{HasColumn};
 ghost use Rattle.egt_check.specs.Voids.{AreAllAlike, TellsVoids, TellsVoidsIn};
-ghost use Rattle.egt_check.specs.Worth.{score_at};
+ghost use Rattle.egt_check.specs.Worth.{column_score};
 
 use crate::digits::first_square;
 use crate::rows::row_of;
@@ -33,16 +33,23 @@ pub(crate) fn is_passed(class: Class, men: &ShelfMen, shelf: u32) -> Option<bool
     }
 }
 
-/// At which numbers of the shelf with that side to move the mate entry's score is not 0, by the last man's digits, as
-/// bits.
-fn marks_of(table: &Table, men: &ShelfMen, shelf: u32, side: Side, passed: bool) -> u64
+/// At which numbers of the shelf with that side to move the entry's score is not 0, by the last man's digits, as bits.
+pub(crate) fn marks_of(
+    table: &Table,
+    column: Column,
+    men: &ShelfMen,
+    shelf: u32,
+    side: Side,
+    passed: bool,
+) -> u64
+    requires there { HasColumn column table.now }
     requires shelf { IsShelfOf passed table.now.class shelf men.now }
     requires within { IsWithin table.now.class shelf }
     ensures { (k : ℕ) → k < kind_digits men.now.last.kind →
-        bit_at result k ≡ (if score_at table.now Mate (code_of table.now.class (number_in table.now.class shelf side k)) == 0 then 0 else 1) }
+        bit_at result k ≡ (if column_score table.now column (code_of table.now.class (number_in table.now.class shelf side k)) == 0 then 0 else 1) }
 {
     codes_tell_turned_men();
-    let row = row_of(table, Column::Mate, men, shelf, side, passed);
+    let row = row_of(table, column, men, shelf, side, passed);
     lanes_of(row).bits >> first_square(men.last)
 }
 
@@ -63,8 +70,8 @@ fn tells_shelf(table: &Table, rows: &mut Rows, shelf: u32) -> bool
         return false;
     };
     let indexes = rows.indexes(shelf);
-    let white = marks_of(table, &men, shelf, Side::White, passed);
-    let black = marks_of(table, &men, shelf, Side::Black, passed);
+    let white = marks_of(table, Column::Mate, &men, shelf, Side::White, passed);
+    let black = marks_of(table, Column::Mate, &men, shelf, Side::Black, passed);
     white == indexes.white && black == indexes.black
 }
 

@@ -1,9 +1,7 @@
 -- Rows raised along rays: the first man's moves.
-use Rattle.std.proofs.Common.{◌≡◌, ◌≢◌, ℕ, ◌+◌, ◌-◌, ◌<◌, ◌≤◌, ◌==◌, ◌⊎◌, if◌then◌else◌, Bool, true, false, eqb, cond, max, List, [], get_or, refl, sym, ap, ◌∙◌, subst, inl, inr, arith, eqb-true, length, get_or-set_other}
+use Rattle.std.proofs.Common.{◌≡◌, ◌≢◌, ℕ, ◌+◌, ◌-◌, ◌<◌, ◌≤◌, ◌==◌, ◌⊎◌, if◌then◌else◌, Bool, true, false, eqb, cond, max, List, get_or, refl, sym, ap, ◌∙◌, subst, inl, inr, arith, eqb-true, length}
 use Rattle.std.specs.Int.{bit_at}
 use Rattle.std.proofs.lemmas.Bool.{cases_lt, cases_eq, eqb-false}
-use Rattle.std.proofs.Math.ListN.{set, length-set}
-use Rattle.std.proofs.lemmas.Grind.{get_or-set_at}
 use Rattle.egt_board.specs.declared.man.Man.{Man}
 use Rattle.egt_board.specs.declared.step.Step.{Step}
 use Rattle.egt_board.specs.Step.{Away}
@@ -135,21 +133,3 @@ pub record RaisedBelow (kings : ℕ) (man : Man) (rows old out : List (List ℕ)
   pub long : length out ≡ 64
   pub done : (a b : ℕ) → a < n → b < 64 → IsRaised (at old a b) (λ t. Reaches (IsOpen kings b) man a t) (λ t. at rows t b) (at out a b)
   pub left : (a b : ℕ) → n ≤ a → at out a b ≡ at old a b
-
-pub raised_below_more : (kings : ℕ) (man : Man) (rows old out : List (List ℕ)) (n : ℕ) (row : List ℕ) → n < 64 → RaisedBelow kings man rows old out n
-    → ((b : ℕ) → b < 64 → IsRaised (at out n b) (λ t. Reaches (IsOpen kings b) man n t) (λ t. at rows t b) (get_or row b 0)) → RaisedBelow kings man rows old (set out n row) (n + 1)
-raised_below_more kings man rows old out n row n_in r here = record {
-  long = omega (arith, r.long, length-set {A = List ℕ});
-  done = λ a b a_in b_in. elim (cases_eq a n) [
-    | inl e ↦
-        let now : at (set out n row) a b ≡ get_or row b 0 = ap (λ x. get_or x b 0) (get_or-set_at out n a row [] e (omega (arith, r.long))) in
-        let was : at out n b ≡ at old a b = r.left n b (omega arith) ∙ ap (λ m. at old m b) (sym e) in
-        raised_is (at old a b) (get_or row b 0) (at (set out n row) a b) (λ t. Reaches (IsOpen kings b) man a t) (λ t. at rows t b) now
-        (subst (λ m. IsRaised (at old a b) (λ t. Reaches (IsOpen kings b) man m t) (λ t. at rows t b) (get_or row b 0)) (sym e)
-        (subst (λ v. IsRaised v (λ t. Reaches (IsOpen kings b) man n t) (λ t. at rows t b) (get_or row b 0)) was (here b b_in)))
-    | inr other ↦
-        let same : at (set out n row) a b ≡ at out a b = ap (λ x. get_or x b 0) (get_or-set_other out n a row [] other) in
-        raised_is (at old a b) (at out a b) (at (set out n row) a b) (λ t. Reaches (IsOpen kings b) man a t) (λ t. at rows t b) same (r.done a b (omega arith) b_in)
-  ];
-  left = λ a b a_in. let other : a ≢ n = omega arith in ap (λ x. get_or x b 0) (get_or-set_other out n a row [] other) ∙ r.left a b (omega arith);
-}

@@ -1,8 +1,8 @@
 //! Blocks: a row for each square of the first man.
-ghost use Rattle.std.specs.Prelude.{◌≡◌, ℕ, ◌<◌, ◌+◌, ◌*◌, ◌/◌, ◌%◌, ◌==◌, max, slice_index, if◌then◌else◌};
+ghost use Rattle.std.specs.Prelude.{◌≡◌, ℕ, ◌<◌, ◌+◌, ◌*◌, ◌/◌, ◌%◌, ◌==◌, max, slice_index, if◌then◌else◌, true};
 ghost use Rattle.egt_lanes.specs.Blocks.{at};
 
-use crate::row::{Row, greater};
+use crate::row::{Row, differ, greater};
 use std::simd::prelude::*;
 
 /// A row for each square: row `a` is that of square `a`.
@@ -28,10 +28,25 @@ fn interleaved(out: &mut Block, from: &Block)
     }
 }
 
+/// Whether all numbers of the block are 0.
+fn is_blank(block: &Block) -> bool
+    ensures { result ≡ true → (a b : ℕ) → a < 64 → b < 64 → at block.now a b ≡ 0 }
+{
+    for i in 0..64 {
+        if differ(block[i], Row::splat(0), block[i]) {
+            return false;
+        }
+    }
+    true
+}
+
 /// Each number of `out` the greater of it and of that with row and lane exchanged in `from`.
 pub fn raise_transposed(out: &mut Block, from: &Block)
     ensures { (a b : ℕ) → a < 64 → b < 64 → at out.new a b ≡ max (at out.old a b) (at from.now b a) }
 {
+    if is_blank(from) {
+        return;
+    }
     let mut there = [Row::splat(0); 64];
     let mut here = [Row::splat(0); 64];
     interleaved(&mut there, from);

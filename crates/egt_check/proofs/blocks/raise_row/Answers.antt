@@ -1,23 +1,60 @@
-use Rattle.std.proofs.Common.{ℕ, ◌/◌, ◌%◌, eqb, get_or, List, [], max, arith, sym, ap, ◌∙◌, subst}
+use Rattle.std.proofs.Common.{◌≡◌, ◌<◌, ◌+◌, inl, inr, refl, ℕ, ◌/◌, ◌%◌, eqb, get_or, List, [], max, arith, sym, ap, ◌∙◌, subst}
 use Rattle.std.specs.Prelude.{slice_index}
+use Rattle.std.proofs.lemmas.Bool.{false≢true}
 use Rattle.std.proofs.lemmas.Grind.{get_or-set_at}
+use Rattle.egt_board.specs.Pawn.{MayStand}
 use Rattle.egt_board.specs.Turned.{turned_side, turned_square}
 use Rattle.egt_board.specs.declared.man.Side.{Side}
-use Rattle.egt_index.specs.ShelfCodes.{IsShelfOf, stand_with}
+use Rattle.egt_index.specs.Scales.{kind_digits, kind_less}
+use Rattle.egt_index.specs.ShelfCodes.{IsShelfOf, IsWithin, stand_with}
 use Rattle.egt_index.specs.StepCodes.{TellsMen}
+use Rattle.egt_index.specs.TurnedMen.{turned_by}
 use Rattle.egt_index.specs.declared.shelf_codes.ShelfMen.{ShelfMen}
 use Rattle.egt_lanes.specs.Blocks.{at}
 use Rattle.egt_lanes.specs.Raised.{IsRaised}
-use Rattle.egt_check.specs.Blocks.{IsCodeAfter, stand_on}
+use Rattle.egt_check.specs.Blocks.{IsCodeAfter, men_on, stand_on, turned_from}
 use Rattle.egt_check.specs.Worth.{column_score}
-use Rattle.egt_check.proofs.BlockRaising.{raised_max, turned_in}
+use Rattle.egt_check.proofs.BlockRaising.{raised_by_none, raised_max, turned_in}
+use Rattle.egt_check.proofs.ShelfRuns.{digit_there}
 use Rattle.egt_check.proofs.blocks.raise_row.Goals as goal
 
+pub overflow_add-shelf : goal.overflow_add-shelf
+overflow_add-shelf c = omega (arith, c.from.ensures, c.number.ensures.on_board, c.requires.room)
+
+-- the shelf is that of the first man's square there
+shelf_there : (c : goal.After-side_after) → IsShelfOf c.args.passed c.args.table.now.class (c.args.first + c.from.result) c.turned_from-there.result × IsWithin c.args.table.now.class (c.args.first + c.from.result)
+shelf_there c =
+    let t = c.args.table.now in
+    let there : ShelfMen = c.turned_from-there.result in
+    let after = turned_from c.args.men.now c.args.on c.args.turn in
+    let is = c.turned_from-there.ensures in
+    let digit = digit_there there.one there.on (omega (arith, c.number.ensures.on_board, c.number.ensures.value)) (c.may_stand.ensures.0 c.if-not-may_stand.false) in
+    let low = digit.0 in
+    let high = digit.1 in
+    let below : c.from.result < kind_digits there.one.kind = omega (arith, c.from.ensures, c.number.ensures.value, c.first_square.ensures, low, high) in
+    let square : c.from.result + kind_less there.one.kind ≡ there.on = omega (arith, c.from.ensures, c.number.ensures.value, c.first_square.ensures, low, high) in
+    let shelf = c.requires.shelves c.from.result (subst (λ (men : ShelfMen). c.from.result < kind_digits men.one.kind) is below) in
+    let on : c.from.result + kind_less after.one.kind ≡ after.on = subst (λ (men : ShelfMen). c.from.result + kind_less men.one.kind ≡ men.on) is square in
+    (subst (λ (men : ShelfMen). IsShelfOf c.args.passed t.class (c.args.first + c.from.result) men) (ap (men_on after) on ∙ sym is) shelf.0, shelf.1)
+
 pub row_of-row-requires-clause-shelf : goal.row_of-row-requires-clause-shelf
-row_of-row-requires-clause-shelf c = subst (λ k. IsShelfOf c.args.passed k c.in-Some.shelf c.turned_from-there.result) c.class.ensures.class c.in-Some.ensures.shelf
+row_of-row-requires-clause-shelf c = (shelf_there c).0
+
+pub row_of-row-requires-clause-within : goal.row_of-row-requires-clause-within
+row_of-row-requires-clause-within c = (shelf_there c).1
+
+pub returns-then-not-may_stand-clause-raised : goal.returns-then-not-may_stand-clause-raised
+returns-then-not-may_stand-clause-raised c = λ b b_in.
+    let t = c.args.table.now in
+    let stand = stand_on c.args.men.now c.args.on b in
+    raised_by_none (at c.args.out.now c.args.on b) (λ code. IsCodeAfter c.args.passed t.class c.args.turn code stand c.args.side) (column_score t c.args.column)
+    (λ code tells.
+    let may = c.codes_tell_turned_men.ensures.pawns c.args.passed t.class code (turned_by c.args.turn stand) (turned_side (eqb (c.args.turn / 8) 1) c.args.side) c.args.men.now.one (turned_square (c.args.turn % 8) (eqb (c.args.turn / 8) 1) c.args.on) tells (inr (inr (inl (refl, refl)))) in
+    let there = subst (λ (men : ShelfMen). MayStand men.one men.on) (sym c.turned_from-there.ensures) may in
+    false≢true (sym c.if-not-may_stand.true ∙ c.may_stand.ensures.1 there))
 
 pub returns-clause-raised : goal.returns-clause-raised
-returns-clause-raised c = λ told b b_in.
+returns-clause-raised c = λ b b_in.
     let t = c.args.table.now in
     let s = turned_square (c.args.turn % 8) (eqb (c.args.turn / 8) 1) b in
     let s_in = turned_in (eqb (c.args.turn / 8) 1) (c.args.turn % 8) b (omega arith) b_in in
@@ -25,7 +62,7 @@ returns-clause-raised c = λ told b b_in.
     let codes =
     subst (λ (men : ShelfMen). IsRaised 0 (λ code. TellsMen c.args.passed t.class code (stand_with men s) (turned_side (eqb (c.args.turn / 8) 1) c.args.side)) (column_score t c.args.column) (slice_index c.row_of-row.result s)) c.turned_from-there.ensures
     (subst (λ (side : Side). IsRaised 0 (λ code. TellsMen c.args.passed t.class code (stand_with c.turned_from-there.result s) side) (column_score t c.args.column) (slice_index c.row_of-row.result s)) c.side_after.ensures row) in
-    let place = c.from-a.ensures ∙ c.number.ensures.value in
+    let place = c.from-a.ensures ∙ c.number-2.ensures.value in
     raised_max (at c.args.out.now c.args.on b) (λ code. IsCodeAfter c.args.passed t.class c.args.turn code (stand_on c.args.men.now c.args.on b) c.args.side) (column_score t c.args.column) (slice_index c.row_of-row.result s) _ codes
     (ap (λ (r : List ℕ). get_or r b 0) (get_or-set_at c.args.out.now c.from-a.result c.args.on c.greater.result [] (sym place) (omega arith)) ∙ c.greater.ensures b b_in
     ∙ ap (λ k. max (slice_index (get_or c.args.out.now k []) b) (slice_index c.turned.result b)) place ∙ ap (λ v. max (at c.args.out.now c.args.on b) v) (c.turned.ensures b b_in))

@@ -1,7 +1,8 @@
-use Rattle.std.proofs.Common.{◌≡◌, ◌≢◌, arith, refl, sym, ◌∙◌, inl, inr, subst}
+use Rattle.std.proofs.Common.{◌≡◌, ◌≢◌, arith, sym, ◌∙◌, inl, inr, subst}
 use Rattle.std.proofs.lemmas.Bool.{cases_lt}
 use Rattle.egt_lanes.specs.Blocks.{at}
-use Rattle.egt_check.specs.Blocks.{IsRaisedAfter, stand_on}
+use Rattle.egt_index.specs.declared.shelf_codes.ShelfMen.{ShelfMen}
+use Rattle.egt_check.specs.Blocks.{AreShelvesOf, IsRaisedAfter, stand_on, turned_from}
 use Rattle.egt_check.proofs.blocks.raise_turned.Goals as goal
 
 pub loop-a-preserved : goal.loop-a-preserved
@@ -10,7 +11,7 @@ loop-a-preserved c =
     let before = c.loop-a.invariant in
     let n = c.loop-a.a in
     let new = c.raise_row.new.out in
-    let raised = c.if-not-raise_row.ensures.raised in
+    let raised = c.raise_row.ensures.raised in
     let here = c.at.ensures in record {
       done = λ a b a_in b_in. elim (cases_lt a n) [
         | inl less ↦
@@ -19,9 +20,14 @@ loop-a-preserved c =
         | inr ge ↦
             let same : c.at.result ≡ a = here ∙ (omega arith) in
             subst (λ k. IsRaisedAfter c.args.passed t c.args.column c.args.turn (stand_on c.args.men.now k b) c.args.side (at c.args.out.now k b) (at new k b)) same
-            (subst (λ low. IsRaisedAfter c.args.passed t c.args.column c.args.turn (stand_on c.args.men.now c.at.result b) c.args.side low (at new c.at.result b)) (before.left c.at.result b (omega (arith, here))) (raised refl b b_in))
+            (subst (λ low. IsRaisedAfter c.args.passed t c.args.column c.args.turn (stand_on c.args.men.now c.at.result b) c.args.side low (at new c.at.result b)) (before.left c.at.result b (omega (arith, here))) (raised b b_in))
       ];
       left = λ a b a_in.
           let other : a ≢ c.at.result = λ e. let same = e ∙ here in omega (arith, same, a_in) in
           c.raise_row.ensures.others a b other ∙ before.left a b (omega (arith, a_in));
     }
+
+pub raise_row-requires-clause-shelves : goal.raise_row-requires-clause-shelves
+raise_row-requires-clause-shelves c =
+    subst (λ k. AreShelvesOf c.args.passed k (turned_from c.args.men.now c.at.result c.args.turn) c.in-Some.first) c.class.ensures.class
+    (subst (λ (men : ShelfMen). AreShelvesOf c.args.passed c.class.result men c.in-Some.first) c.turned_from-there.ensures c.in-Some.ensures.shelves)

@@ -4,9 +4,7 @@ use Rattle.std.specs.Int.{bit_at}
 use Rattle.egt_index.specs.Numbers.{code_of}
 use Rattle.egt_index.specs.Scales.{kind_less}
 use Rattle.egt_index.specs.ShelfCodes.{number_in}
-use Rattle.egt_table.specs.declared.column.Column.TheVariants as columns
-use Rattle.egt_check.specs.declared.metric.Metric.TheVariants.{Mate}
-use Rattle.egt_check.specs.Worth.{score_at}
+use Rattle.egt_check.specs.Worth.{column_score}
 use Rattle.egt_check.proofs.Marks.{bit_shifted, mark}
 use Rattle.egt_check.proofs.RowJudged.{lane_is}
 use Rattle.egt_check.proofs.RowRead.{square_in}
@@ -19,6 +17,6 @@ returns c = λ k below.
     let b = k + kind_less men.last.kind in
     let b_in = square_in men.last.kind k below in
     let lane = slice_index c.row_of-row.result b in
-    let score : lane ≡ score_at t Mate (code_of t.class (number_in t.class c.args.shelf c.args.side k)) =
-    lane_is c.args.passed t columns.Mate men c.args.shelf c.args.side c.requires.shelf c.codes_tell_turned_men.ensures.one k lane below (c.row_of-row.ensures b b_in) in
+    let score : lane ≡ column_score t c.args.column (code_of t.class (number_in t.class c.args.shelf c.args.side k)) =
+    lane_is c.args.passed t c.args.column men c.args.shelf c.args.side c.requires.shelf c.codes_tell_turned_men.ensures.one k lane below (c.row_of-row.ensures b b_in) in
     bit_shifted c.lanes_of.result.bits c.first_square.result k ∙ ap (λ less. bit_at c.lanes_of.result.bits (k + less)) c.first_square.ensures ∙ c.lanes_of.ensures b b_in ∙ ap mark score

@@ -1,0 +1,10 @@
+use Rattle.std.specs.Prelude.{ℕ, ◌+◌, ◌<◌}
+use Rattle.egt_index.specs.Numbers.{code_of}
+use Rattle.egt_index.specs.Scales.{kind_digits}
+use Rattle.egt_index.specs.ShelfCodes.{number_in}
+use Rattle.egt_check.specs.Blank.{IsBlank}
+use Rattle.egt_check.proofs.blank.shelves_are_blank.Given as goal
+
+-- the shelves below this digit are
+abbrev pub invariant-loop-digit : goal.invariant-loop-digit
+invariant-loop-digit l = (x y : ℕ) → x < l.digit → y < kind_digits l.men.last.kind → IsBlank l.table l.column (code_of l.table.class (number_in l.table.class (l.first + x) l.side y))
