@@ -92,7 +92,7 @@ static int list(const char *fen) {
 }
 
 int main(int count, char **words) {
-  struct egtb_library library = {0};
+  struct egtb_library loaded = {0}, library = {0};
   char line[1200];
   uint8_t class_number = count > 2 ? egtb_class(words[2], strlen(words[2])) : 255;
   if (count == 3 && strcmp(words[1], "moves") == 0) return list(words[2]);
@@ -100,10 +100,13 @@ int main(int count, char **words) {
     fprintf(stderr, "usage: probe DIR CLASS [FEN..] | probe moves FEN\n");
     return 2;
   }
-  if (egtb_open(&library).family != EGTB_OK || !load(&library, words[1], class_number)) {
-    egtb_close(&library);
+  if (egtb_open(&loaded).family != EGTB_OK || !load(&loaded, words[1], class_number)) {
+    egtb_close(&loaded);
     return 1;
   }
+  /* A thread that asks the same tables at the same time would have such a struct of its own. */
+  if (egtb_share(&loaded, &library).family != EGTB_OK) return 1;
+  egtb_close(&loaded);
   for (int i = 3; i < count; i++) answer(&library, words[i]);
   while (count == 3 && fgets(line, sizeof line, stdin)) {
     line[strcspn(line, "\n")] = '\0';

@@ -13,11 +13,12 @@
  * What holds for all calls:
  *
  * - A library is one that is all 0, or that the calls here left. The program writes nothing in it, makes no copy of it and goes on with
- *   both, and gives it to one call at a time: threads that share one hold a lock round each call, or open one each.
+ *   both, and gives it to one call at a time. So each thread has a struct of its own: egtb_share makes one more of the same tables, and
+ *   calls on the two may run at the same time. One goes to another thread by the start of that thread, or under a lock.
  * - A pointer is not null and points to what its type says; with a length it points to so many bytes, and is not null where that is 0.
  *   What one argument points to no other argument of the call points to.
  * - A text has a length and needs no 0 at its end.
- * - A call that answers a fault, or 0 for what is not there, leaves the library and what it was to write as they were.
+ * - A call that answers a fault, or 0 for what is not there, leaves the libraries and what it was to write as they were.
  * - No call aborts, waits, prints or keeps a pointer that it was given. Memory is taken by malloc and given back by free. Calls are not
  *   made from a signal handler, nor from the child of a fork where the process has threads.
  */
@@ -91,10 +92,11 @@ enum {
   EGTB_MISSING = 11 /* the class of the position is not loaded: class_number */
 };
 
-/* The faults of a call, and of egtb_open. */
+/* The faults of a call. */
 enum {
-  EGTB_CLOSED = 1,  /* the library is closed */
-  EGTB_NO_CLASS = 2 /* no class has the number */
+  EGTB_CLOSED = 1,   /* the library is closed */
+  EGTB_NO_CLASS = 2, /* no class has the number */
+  EGTB_SHARED = 3    /* the library was shared, and another struct of it is open */
 };
 
 /* Why a call gave no answer. What a fault does not name is 0. */
@@ -111,13 +113,18 @@ struct egtb_fault {
  * Faults: EGTB_PROBE 10 where there is no memory. */
 struct egtb_fault egtb_open(struct egtb_library *library);
 
-/* Closes the library and frees all of its memory. One that is closed stays so. */
+/* Closes the library. Its memory is freed with the last struct that has it open. One that is closed stays so. */
 void egtb_close(struct egtb_library *library);
+
+/* Opens in `other` the library that is open in `library`: both have the same tables, and may be asked at the same time. What was open in
+ * `other` before is closed. The tables are there once; no table is added while two have them.
+ * Faults: EGTB_CALL 1; EGTB_PROBE 10 where there is no memory. */
+struct egtb_fault egtb_share(struct egtb_library *library, struct egtb_library *other);
 
 /* Reads a file's bytes as the table of the class, of either version, checks every entry against the laws of chess beside the tables that
  * are there, and takes it. The bytes are not needed afterwards. Classes come in order of their numbers, or each after its children
  * (egtb_children). It takes up to a second, and six bytes of memory an entry.
- * Faults: EGTB_CALL 1 and 2; EGTB_FILE 2 to 10; EGTB_CHECK 11, 12, 13 and 17. */
+ * Faults: EGTB_CALL 1, 2 and 3; EGTB_FILE 2 to 10; EGTB_CHECK 11, 12, 13 and 17. */
 struct egtb_fault egtb_add(struct egtb_library *library, uint8_t class_number, const uint8_t *bytes, size_t length);
 
 /* 0 where the class is not loaded, 1 where it is, and 2 where its table also tells which draws are dead positions. */

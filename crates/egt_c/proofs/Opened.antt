@@ -24,13 +24,13 @@ use Rattle.std.proofs.cell.Inside.{Good}
 use Rattle.std.specs.contracts.alloc.Global as heap
 use Rattle.std.proofs.alloc.Global.TheLaws as heap_laws
 use Rattle.std.specs.contracts.impls.GlobalAllocator.TheImpl.{ghosts}
-use Rattle.egt_check.specs.contracts.library.Library as inside
+use Rattle.egt_c.specs.Shared.{shared_row}
 use Rattle.egt_c.specs.contracts.handle.EgtbLibrary as handle
 use Rattle.egt_c.specs.Owned.{owned}
 use Rattle.egt_c.proofs.Values.{both, Loose}
 
 abbrev pub R : RattleType
-R = inside.the_row
+R = shared_row
 
 abbrev pub Heap : RattleType
 Heap = heap.the_row

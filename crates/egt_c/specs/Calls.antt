@@ -29,7 +29,7 @@ use Rattle.egt_c.specs.declared.fault.EgtbFault.{EgtbFault}
 use Rattle.egt_c.specs.declared.moves.EgtbMove.{EgtbMove}
 use Rattle.egt_c.specs.declared.moves.EgtbMoves.{EgtbMoves}
 use Rattle.egt_c.specs.declared.verdict.EgtbVerdict.{EgtbVerdict}
-use Rattle.egt_c.specs.Fault.{no_fault, of_fen, of_file, of_check, of_line, missing, no_memory, no_class}
+use Rattle.egt_c.specs.Fault.{no_fault, of_fen, of_file, of_check, of_line, missing, no_memory, no_class, shared}
 use Rattle.egt_c.specs.Held.{Places}
 use Rattle.egt_c.specs.Move.{written, written_or_none, first_of}
 use Rattle.egt_c.specs.Verdict.{shown}
@@ -39,9 +39,15 @@ pub data Opens (fault : EgtbFault) (before after : Option Places) : Type 0 where
   Opened : (places : Places) → fault ≡ no_fault → after ≡ Some places → ((c : ℕ) → table_at places c ≡ None) → Opens fault before after
   NoRoom : fault ≡ no_memory → after ≡ before → Opens fault before after
 
+-- a library gets one more owner, or there is no memory for it
+pub data Shares (places : Places) (fault : EgtbFault) (before after : Option Places) : Type 0 where
+  Handed : fault ≡ no_fault → after ≡ Some places → Shares places fault before after
+  NotHanded : fault ≡ no_memory → after ≡ before → Shares places fault before after
+
 -- the bytes are read as a table of the class, and the library takes it
 pub data Adds (class : ℕ) (bytes : List ℕ) (fault : EgtbFault) (before after : Places) : Type 0 where
   NoClass : 36 ≤ class → fault ≡ no_class → after ≡ before → Adds class bytes fault before after
+  Elsewhere : fault ≡ shared → after ≡ before → Adds class bytes fault before after
   NotRead : (f : FileFault) → f ≢ Device → IsAnswer class bytes f → fault ≡ of_file f → after ≡ before → Adds class bytes fault before after
   TurnedAway : (t : TableValue) (r : Reject) → t.class ≡ class → bytes ≡ bytes_of t → IsTurnedAway (table_at before) t r → fault ≡ of_check r → after ≡ before →
       Adds class bytes fault before after

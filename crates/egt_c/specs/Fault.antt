@@ -53,3 +53,7 @@ closed = fault 5 1
 -- no class has that number
 abbrev pub no_class : EgtbFault
 no_class = fault 5 2
+
+-- the library has another owner
+abbrev pub shared : EgtbFault
+shared = fault 5 3

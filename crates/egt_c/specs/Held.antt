@@ -1,5 +1,6 @@
 -- The library that C keeps.
 use Rattle.std.specs.Prelude.{Bool, true, false, List, Option, Some, None}
+use Rattle.std.specs.Arc.{arc_value}
 use Rattle.egt_table.specs.Table.{TableValue}
 use Rattle.egt_c.specs.declared.handle.EgtbLibrary.{EgtbLibrary}
 
@@ -12,4 +13,4 @@ if_open false a = None
 if_open true a = Some a
 
 abbrev pub held : EgtbLibrary → Option Places
-held h = if_open h.is_open h.library
+held h = if_open h.is_open (arc_value h.library)

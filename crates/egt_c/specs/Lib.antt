@@ -1,4 +1,5 @@
 pub mod Places
+pub mod Shared
 pub mod Owned
 pub mod Held
 pub mod Fault

@@ -54,7 +54,7 @@ fn rule_place(rule: Rule) -> u8
 }
 
 impl EgtbFault {
-    ghost use Rattle.egt_c.specs.Fault.{fault, about, no_fault, of_fen, of_file, of_check, of_line, missing, no_memory, closed, no_class};
+    ghost use Rattle.egt_c.specs.Fault.{fault, about, no_fault, of_fen, of_file, of_check, of_line, missing, no_memory, closed, no_class, shared};
 
     fn new(family: u8, number: u8) -> EgtbFault
         ensures { result ≡ fault family number }
@@ -151,6 +151,13 @@ impl EgtbFault {
         ensures { result ≡ closed }
     {
         EgtbFault::new(5, 1)
+    }
+
+    /// The library has another owner.
+    pub(crate) fn shared() -> EgtbFault
+        ensures { result ≡ shared }
+    {
+        EgtbFault::new(5, 3)
     }
 
     /// No class has that number.

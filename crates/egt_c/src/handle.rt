@@ -1,6 +1,7 @@
 //! What C keeps of a library. Raw pointers stand in this file and in `loose.rt` alone.
-ghost use Rattle.std.specs.Prelude.{List, Option};
-ghost use Rattle.egt_table.specs.Table.{TableValue};
+ghost use Rattle.std.specs.Prelude.{◌≡◌};
+ghost use Rattle.std.specs.Arc.{arc_value};
+ghost use Rattle.egt_c.specs.Shared.{Shared, shared_coded};
 
 use crate::loose::Loose;
 use egt_check::Library;
@@ -8,6 +9,10 @@ use std::alloc::Global;
 use std::marker::Model;
 use std::mem::replace;
 use std::ptr::null_mut;
+use std::sync::Arc;
+
+/// One owner of a library, of which there may be several.
+pub(crate) type Owner = Arc<Library, Global>;
 
 /// A library, or none where it is closed. All bytes 0 are a closed one, so C makes it so. It lies where C puts it, and C changes nothing
 /// in it.
@@ -15,7 +20,7 @@ use std::ptr::null_mut;
 pub struct EgtbLibrary {
     pub(crate) at: *mut u8,
     pub(crate) is_open: bool,
-    pub(crate) ghost library: { List (Option TableValue) },
+    pub(crate) ghost library: { Shared } by { shared_coded },
 }
 
 impl Model for EgtbLibrary {
@@ -29,6 +34,7 @@ unsafe impl Send for EgtbLibrary {}
 
 impl EgtbLibrary {
     ghost use Rattle.std.specs.Prelude.{◌≡◌, Some, None, IfSome, IfNone, option_map};
+    ghost use Rattle.std.specs.Arc.{arc_value};
     ghost use Rattle.egt_c.specs.Held.{held};
 
     /// A closed one.
@@ -42,8 +48,8 @@ impl EgtbLibrary {
     }
 
     /// One that keeps the library.
-    fn of(loose: Loose<Library, Global>) -> EgtbLibrary
-        ensures { held result ≡ Some loose.value }
+    fn of(loose: Loose<Owner, Global>) -> EgtbLibrary
+        ensures { held result ≡ Some (arc_value loose.value) }
     {
         let Loose { at, alloc: _alloc } = loose;
         EgtbLibrary {
@@ -53,13 +59,13 @@ impl EgtbLibrary {
     }
 
     /// The library that it keeps.
-    fn into_loose(self, alloc: Global) -> Option<Loose<Library, Global>>
-        ensures { option_map (λ l. l.value) result ≡ held self }
+    fn into_loose(self, alloc: Global) -> Option<Loose<Owner, Global>>
+        ensures { option_map (λ l. arc_value l.value) result ≡ held self }
     {
         let EgtbLibrary { at, is_open } = self;
         if is_open {
             Some(Loose {
-                at: at.cast::<Library>(),
+                at: at.cast::<Owner>(),
                 alloc,
             })
         } else {
@@ -68,8 +74,8 @@ impl EgtbLibrary {
     }
 
     /// Keeps the library. One that was kept before goes.
-    pub(crate) fn put(&mut self, alloc: Global, library: Box<Library, Global>)
-        ensures { held self.new ≡ Some library.value }
+    pub(crate) fn put(&mut self, alloc: Global, library: Box<Owner, Global>)
+        ensures { held self.new ≡ Some (arc_value library.value) }
     {
         let before = replace(self, EgtbLibrary::of(Loose::of(library)));
         if let Some(loose) = before.into_loose(alloc) {
@@ -78,8 +84,8 @@ impl EgtbLibrary {
     }
 
     /// Takes the library out, and closes.
-    pub(crate) fn take(&mut self, alloc: Global) -> Option<Box<Library, Global>>
-        ensures taken { IfSome result (λ b. held self.old ≡ Some b.value) }
+    pub(crate) fn take(&mut self, alloc: Global) -> Option<Box<Owner, Global>>
+        ensures taken { IfSome result (λ b. held self.old ≡ Some (arc_value b.value)) }
         ensures was_closed { IfNone result (held self.old ≡ None) }
         ensures closed { held self.new ≡ None }
     {
@@ -88,4 +94,12 @@ impl EgtbLibrary {
             None => None,
         }
     }
+}
+
+/// The library that the box holds an owner of.
+pub(crate) fn library_of(boxed: &Box<Owner, Global>) -> &Library
+    ensures { result.now ≡ arc_value boxed.now.value }
+{
+    let owner: &Owner = boxed.as_ref();
+    owner
 }

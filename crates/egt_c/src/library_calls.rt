@@ -1,16 +1,18 @@
 //! A library is made, filled, asked for its classes, and goes.
 ghost use Rattle.std.specs.Prelude.{◌≡◌, ◌<◌, ◌≤◌, None, IfSome, IfNone};
+ghost use Rattle.std.specs.Arc.{arc_value};
 ghost use Rattle.egt_probe.specs.Shelves.{loaded_in};
-ghost use Rattle.egt_c.specs.Calls.{Opens, Adds, level};
+ghost use Rattle.egt_c.specs.Calls.{Opens, Shares, Adds, level};
 ghost use Rattle.egt_c.specs.Fault.{closed};
 ghost use Rattle.egt_c.specs.Held.{held};
 
 use crate::fault::EgtbFault;
-use crate::handle::EgtbLibrary;
+use crate::handle::{EgtbLibrary, Owner, library_of};
 use egt_check::Library;
 use egt_class::Class;
 use egt_table::{MemorySource, Table};
 use std::alloc::Global;
+use std::sync::Arc;
 
 /// Opens a library without tables in place of what was kept there. Refuses for want of memory alone.
 #[unsafe(no_mangle)]
@@ -20,11 +22,47 @@ pub extern "C" fn egtb_open(alloc: Global, library: &mut EgtbLibrary) -> EgtbFau
     let Ok(made) = Library::new(alloc) else {
         return EgtbFault::no_memory();
     };
-    let Ok(boxed) = Box::new(alloc, made) else {
+    let Ok(owner) = Arc::new(alloc, made) else {
+        return EgtbFault::no_memory();
+    };
+    let Ok(boxed) = Box::new(alloc, owner) else {
         return EgtbFault::no_memory();
     };
     library.put(alloc, boxed);
     EgtbFault::none()
+}
+
+/// Has the other keep the library too.
+fn share_with(alloc: Global, owner: &Owner, other: &mut EgtbLibrary) -> EgtbFault
+    ensures { Shares (arc_value owner.now) result (held other.old) (held other.new) }
+{
+    let Ok(again) = Arc::try_clone(owner) else {
+        return EgtbFault::no_memory();
+    };
+    let Ok(boxed) = Box::new(alloc, again) else {
+        return EgtbFault::no_memory();
+    };
+    other.put(alloc, boxed);
+    EgtbFault::none()
+}
+
+/// Opens the same library a second time, in place of what was kept there, so that two threads may ask it at once.
+#[unsafe(no_mangle)]
+pub extern "C" fn egtb_share(
+    alloc: Global,
+    library: &mut EgtbLibrary,
+    other: &mut EgtbLibrary,
+) -> EgtbFault
+    ensures shares { IfSome (held library.old) (λ places. Shares places result (held other.old) (held other.new)) }
+    ensures closed { IfNone (held library.old) ((result ≡ closed) × (held other.new ≡ held other.old)) }
+    ensures kept { held library.new ≡ held library.old }
+{
+    let Some(boxed) = library.take(alloc) else {
+        return EgtbFault::closed();
+    };
+    let fault = share_with(alloc, boxed.as_ref(), other);
+    library.put(alloc, boxed);
+    fault
 }
 
 /// Closes a library, whose tables go. One that is closed stays so.
@@ -59,6 +97,16 @@ fn add_numbered(alloc: Global, library: &mut Library, class_number: u8, bytes: &
     }
 }
 
+/// The same where the library has one owner.
+fn add_owned(alloc: Global, owner: &mut Owner, class_number: u8, bytes: &[u8]) -> EgtbFault
+    ensures { Adds class_number bytes.now result (arc_value owner.old) (arc_value owner.new) }
+{
+    match Arc::get_mut(owner) {
+        Some(library) => add_numbered(alloc, library, class_number, bytes),
+        None => EgtbFault::shared(),
+    }
+}
+
 /// Reads the bytes as the file of a table of the class, checks it beside the tables that are there, and takes it.
 #[unsafe(no_mangle)]
 pub extern "C" fn egtb_add(
@@ -74,7 +122,7 @@ pub extern "C" fn egtb_add(
     let Some(mut boxed) = library.take(alloc) else {
         return EgtbFault::closed();
     };
-    let fault = add_numbered(alloc, boxed.as_mut(), class_number, bytes);
+    let fault = add_owned(alloc, boxed.as_mut(), class_number, bytes);
     library.put(alloc, boxed);
     fault
 }
@@ -104,7 +152,7 @@ pub extern "C" fn egtb_loaded(alloc: Global, library: &mut EgtbLibrary, class_nu
     let Some(boxed) = library.take(alloc) else {
         return 0;
     };
-    let level = level_in(boxed.as_ref(), class_number);
+    let level = level_in(library_of(&boxed), class_number);
     library.put(alloc, boxed);
     level
 }

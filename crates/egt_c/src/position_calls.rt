@@ -7,7 +7,7 @@ ghost use Rattle.egt_c.specs.Fault.{closed};
 ghost use Rattle.egt_c.specs.Held.{held};
 
 use crate::fault::EgtbFault;
-use crate::handle::EgtbLibrary;
+use crate::handle::{EgtbLibrary, library_of};
 use crate::moves::{EgtbMove, EgtbMoves};
 use crate::verdict::EgtbVerdict;
 use egt_board::Position;
@@ -50,7 +50,7 @@ pub extern "C" fn egtb_verdict(
     let Some(boxed) = library.take(alloc) else {
         return EgtbFault::closed();
     };
-    let fault = tell_verdict(boxed.as_ref(), fen, verdict);
+    let fault = tell_verdict(library_of(&boxed), fen, verdict);
     library.put(alloc, boxed);
     fault
 }
@@ -147,7 +147,7 @@ pub extern "C" fn egtb_move(
     let Some(boxed) = library.take(alloc) else {
         return EgtbFault::closed();
     };
-    let fault = tell_move(alloc, boxed.as_ref(), fen, best);
+    let fault = tell_move(alloc, library_of(&boxed), fen, best);
     library.put(alloc, boxed);
     fault
 }

@@ -1,9 +1,10 @@
 use Rattle.egt_c.specs.Calls.{TellsMove}
+use Rattle.std.specs.Arc.{arc_value}
 use Rattle.egt_c.specs.Held.{Places}
 use Rattle.egt_c.proofs.Kept.{if_held}
 use Rattle.egt_c.proofs.position_calls.egtb_move.Goals as goal
 
 pub returns-clause-told : goal.returns-clause-told
 returns-clause-told c = let told = c.tell_move-fault in
-    if_held _ c.in-Some.boxed.value c.as_ref.result.now (λ (places : Places). TellsMove places c.args.fen.now told.result c.args.best.now told.new.best)
-    c.in-Some.ensures.taken c.as_ref.ensures told.ensures
+    if_held _ (arc_value c.in-Some.boxed.value) c.library_of.result.now (λ (places : Places). TellsMove places c.args.fen.now told.result c.args.best.now told.new.best)
+    c.in-Some.ensures.taken c.library_of.ensures told.ensures

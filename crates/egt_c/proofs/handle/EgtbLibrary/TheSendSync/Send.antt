@@ -1,5 +1,5 @@
 -- A handle may go to another thread, as the library that it owns may.
-use Rattle.std.specs.Prelude.{Bool, true, false, List, Option}
+use Rattle.std.specs.Prelude.{Bool, true, false}
 use mir.Raw.{raw}
 use base.Shift.{Keyless}
 use denote.Memory.{lone}
@@ -12,8 +12,8 @@ use denote.Struct.Owning.{shape, fields, to}
 use denote.Param.Send.{IsSend, AllSend, Quiet, part_keyless, owning_send, struct_send, sendable}
 use Rattle.std.proofs.Crossing as heap
 use Rattle.egt_check.specs.contracts.library.Library as inside
-use Rattle.egt_check.proofs.library.Library.TheSendSync.{the_send as library}
-use Rattle.egt_table.specs.Table.{TableValue}
+use Rattle.egt_c.specs.Shared.{Shared, shared_row}
+use Rattle.egt_check.proofs.library.Library.TheSendSync.{the_send as library, the_sync as library_shared}
 use Rattle.egt_c.specs.Owned as owned
 use Rattle.egt_c.specs.contracts.handle.EgtbLibrary.{the_row, the_type}
 
@@ -25,9 +25,9 @@ quiet : {D X : Type 0} (to : D → X) (e : Exit X) → Quiet e → Quiet (hidden
 quiet to unchanged q = λ x w. tt
 quiet to (leaves L l S s r₀) q = λ d. q (to d)
 
-owns_alike : (p : Ptr) (y : Bool) (l : List (Option TableValue)) → Keyless (owned.owned p y l)
+owns_alike : (p : Ptr) (y : Bool) (l : Shared) → Keyless (owned.owned p y l)
 owns_alike p false l = tt
-owns_alike p true l = (lies inside.the_row library p l, heap.frees.frees owned.heap (raw (lone (inside.the_row).mir)) p)
+owns_alike p true l = (lies shared_row (heap.Arc-send inside.the_row library library_shared) p l, heap.frees.frees owned.heap (raw (lone shared_row.mir)) p)
 
 pub send : IsSend the_row
 send =

@@ -22,6 +22,7 @@ use Rattle.std.proofs.raw_atomic.Walks.{proved_at, leaves}
 use Rattle.std.specs.Prelude.{Some}
 use Rattle.std.proofs.alloc.Global.TheLaws as heap_laws
 use Rattle.std.specs.contracts.impls.GlobalAllocator.TheImpl.{ghosts}
+use Rattle.std.specs.Arc.{arc_value}
 use Rattle.egt_c.specs.Owned.{owned}
 use Rattle.egt_c.proofs.Values.{both, loose_good, loose_out}
 use Rattle.egt_c.proofs.Opened.{R, Heap, Loosened, handle_good, handle_in}
@@ -44,6 +45,6 @@ of_spec 𝓤 𝓛 𝓜 𝓡 wired =
     sets ! (of_opd ! (get_in ! (fld ! refl (stop !)) (sub ! 0 refl (whole !)))) refl (tt, tt) $ sets ! (of_opd ! (get_in ! (fld ! refl (stop !)) (sub ! 1 refl (whole !)))) refl fits $
     sets ! (agg ! (and_then ! (get ! refl) (and_then ! (true_lit !) (no_more !)))) refl (handle_good (block_ptr b o) true) $
     handle_in ! (block_ptr b o) true v.value $
-    use0 𝓛 (raw (fact 𝓤 (Some v.value ≡ Some v.value))) (fact_i 𝓤 (Some v.value ≡ Some v.value) (emp 𝓤) refl) $ nothing ! $ nothing ! $ fjoin ! $
+    use0 𝓛 (raw (fact 𝓤 (Some (arc_value v.value) ≡ Some (arc_value v.value)))) (fact_i 𝓤 (Some (arc_value v.value) ≡ Some (arc_value v.value)) (emp 𝓤) refl) $ nothing ! $ nothing ! $ fjoin ! $
     returns ! (look_at ! 0 refl) $ free_all ! refl $ keep ! (5 ∷ 0 ∷ 2 ∷ 1 ∷ []) $
     by ! (leaves 𝓛 ended hs c z (both (vptr b o) (vbool true)) (record { at = block_ptr b o; is_open = true; library = v.value }) (tt, tt) (tt, tt)))))
