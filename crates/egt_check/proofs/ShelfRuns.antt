@@ -15,7 +15,7 @@ use Rattle.egt_index.specs.Code.{placed, square_by_digit, square_of}
 use Rattle.egt_index.specs.Digits.{AreDigits, number_from, number_of}
 use Rattle.egt_index.specs.Numbers.{code_of, half_of, places}
 use Rattle.egt_index.specs.Scales.{kind_digits, kind_less}
-use Rattle.egt_index.specs.ShelfCodes.{IsShelfOf, number_in, stand_with}
+use Rattle.egt_index.specs.ShelfCodes.{IsShelfOf, IsWithin, number_in, stand_with}
 use Rattle.egt_index.specs.Size.{base_by, base_of, has_pawns, has_target, men_bases}
 use Rattle.egt_index.specs.Spelled.{SpellsMen}
 use Rattle.egt_index.specs.StepCodes.{TellsMen}
@@ -23,7 +23,7 @@ use Rattle.egt_index.specs.Stood.{list_of}
 use Rattle.egt_index.specs.declared.shelf_codes.ShelfMen.{ShelfMen}
 use Rattle.egt_index.proofs.Halves.{code_high, code_low, code_plain, of_targets}
 use Rattle.egt_index.proofs.OnePosition.{a_pawn_each, one_pawn_each}
-use Rattle.egt_check.specs.Blocks.{men_on}
+use Rattle.egt_check.specs.Blocks.{AreShelvesOf, men_on}
 use Rattle.egt_check.proofs.RowRead.{bit_few, bit_of, half_is, places_is, side_few}
 
 -- ---- digits of men but the white king
@@ -233,3 +233,10 @@ digit_there man s s_in may = go man.kind may
     go B may = (omega arith, omega (arith, s_in))
     go N may = (omega arith, omega (arith, s_in))
     go K may = (omega arith, omega (arith, s_in))
+
+-- the shelf of a digit
+pub run_at : (passed : Bool) (c first : ℕ) (men : ShelfMen) → AreShelvesOf passed c men first → (d n on from : ℕ) → d < kind_digits men.one.kind → n ≡ d → on ≡ from + d → from ≡ kind_less men.one.kind → IsShelfOf passed c (first + n) (men_on men on) × IsWithin c (first + n)
+run_at passed c first men are d n on from d_in n_is on_is from_is =
+    let square : d + kind_less men.one.kind ≡ on = omega (arith, on_is, from_is) in
+    subst (λ k. IsShelfOf passed c (first + k) (men_on men on) × IsWithin c (first + k)) (sym n_is)
+    (subst (λ s. IsShelfOf passed c (first + d) (men_on men s) × IsWithin c (first + d)) square (are d d_in))

@@ -5,41 +5,18 @@ ghost use Rattle.egt_index.specs.Numbers.{code_of};
 ghost use Rattle.egt_index.specs.Scales.{kind_digits};
 ghost use Rattle.egt_index.specs.ShelfCodes.{AreMenOf, number_in};
 ghost use Rattle.egt_table.specs.Table.{HasColumn};
-ghost use Rattle.egt_check.specs.Blank.{AreBlank, IsBlank};
+ghost use Rattle.egt_check.specs.Blank.{AreBlank};
 
 use crate::block_judging::men_on;
+use crate::blocks::begin_with;
 use crate::digits::{digits_of, first_square};
 use crate::voids::marks_of;
 use egt_board::{Side, Square};
+use egt_index::ShelfMen;
 use egt_index::laws::numbers_stand_for_codes;
-use egt_index::{ShelfMen, shelf_of};
 use egt_table::{Column, Table};
 
-/// Whether the entries of this shelf, which is to have the first man on the square, have no scores.
-fn shelf_is_blank(
-    table: &Table,
-    column: Column,
-    men: &ShelfMen,
-    on: Square,
-    shelf: u32,
-    side: Side,
-    passed: bool,
-) -> bool
-    requires there { HasColumn column table.now }
-    requires men { AreMenOf table.now.class men.now }
-    ensures { result ≡ true → (y : ℕ) → y < kind_digits men.now.last.kind → IsBlank table.now column (code_of table.now.class (number_in table.now.class shelf side y)) }
-{
-    numbers_stand_for_codes();
-    let there = men_on(men, on);
-    match shelf_of(table.class(), &there, passed) {
-        Some(number) if number == shelf => {
-            marks_of(table, column, &there, number, side, passed) == 0
-        }
-        _ => false,
-    }
-}
-
-/// Whether so are those of the shelves from this one on, by the first man's digit.
+/// Whether the entries of the shelves from this one on, which are to be those of the men by the first one's digit, have no scores.
 fn shelves_are_blank(
     table: &Table,
     column: Column,
@@ -53,18 +30,15 @@ fn shelves_are_blank(
     requires room { first + 64 < 4294967296 }
     ensures { result ≡ true → AreBlank table.now column men.now first side }
 {
+    numbers_stand_for_codes();
+    if !begin_with(table.class(), men, passed, first) {
+        return false;
+    }
     let from = first_square(men.one);
     for digit in 0..digits_of(men.one) {
-        let on = Square::at(from + digit);
-        if !shelf_is_blank(
-            table,
-            column,
-            men,
-            on,
-            first + u32::from(digit),
-            side,
-            passed,
-        ) {
+        let there = men_on(men, Square::at(from + digit));
+        let shelf = first + u32::from(digit);
+        if marks_of(table, column, &there, shelf, side, passed) != 0 {
             return false;
         }
     }

@@ -11,15 +11,15 @@ ghost use Rattle.egt_check.specs.MoveScores.{AreFourMen, AreTablesOf};
 ghost use Rattle.egt_check.specs.RightBlock.{AreJudged, IsRightLane};
 ghost use Rattle.egt_check.specs.Tables.{Tables};
 
-use crate::blocks::nothing;
+use crate::blocks::{begin_with, nothing};
 use crate::digits::{digits_of, first_square};
 use crate::laws::entries_due_to_all_moves_are_right;
 use crate::move_scores::{FourMen, move_scores, raise_passed};
 use crate::row_judging::row_is_right;
 use egt_board::{Side, Square};
+use egt_index::ShelfMen;
 use egt_index::laws::numbers_stand_for_codes;
-use egt_index::{ShelfMen, shelf_of};
-use egt_lanes::{Block, Row};
+use egt_lanes::Block;
 use egt_table::Table;
 
 /// The men with the first one on the square.
@@ -35,32 +35,7 @@ pub(crate) fn men_on(men: &ShelfMen, on: Square) -> ShelfMen
     }
 }
 
-/// Whether the entries of this shelf, which is to have the first man on the square, are due to the greatest scores.
-fn shelf_is_right(
-    table: &Table,
-    men: &ShelfMen,
-    on: Square,
-    shelf: u32,
-    side: Side,
-    passed: bool,
-    mates: Row,
-    zeroing: Row,
-) -> bool
-    requires men { AreMenOf table.now.class men.now }
-    ensures { result ≡ true → (y : ℕ) → y < kind_digits men.now.last.kind →
-        IsRightLane passed table.now men.now side on (y + kind_less men.now.last.kind) (code_of table.now.class (number_in table.now.class shelf side y)) (slice_index mates (y + kind_less men.now.last.kind)) (slice_index zeroing (y + kind_less men.now.last.kind)) }
-{
-    numbers_stand_for_codes();
-    let there = men_on(men, on);
-    match shelf_of(table.class(), &there, passed) {
-        Some(number) if number == shelf => {
-            row_is_right(table, &there, number, side, passed, mates, zeroing)
-        }
-        _ => false,
-    }
-}
-
-/// Whether so are the entries of the shelves from this one on, by the first man's digit.
+/// Whether the entries of the shelves from this one on, which are to be those of the men by the first one's digit, are due to the greatest scores.
 fn shelves_are_right(
     table: &Table,
     men: &ShelfMen,
@@ -76,16 +51,18 @@ fn shelves_are_right(
         IsRightLane passed table.now men.now side (x + kind_less men.now.one.kind) (y + kind_less men.now.last.kind) (code_of table.now.class (number_in table.now.class (first + x) side y))
         (at mates.now (x + kind_less men.now.one.kind) (y + kind_less men.now.last.kind)) (at zeroing.now (x + kind_less men.now.one.kind) (y + kind_less men.now.last.kind)) }
 {
+    numbers_stand_for_codes();
+    if !begin_with(table.class(), men, passed, first) {
+        return false;
+    }
     let from = first_square(men.one);
     for digit in 0..digits_of(men.one) {
         let square = from + digit;
         let row = square as usize;
-        let shelf = first + u32::from(digit);
-        if !shelf_is_right(
+        if !row_is_right(
             table,
-            men,
-            Square::at(square),
-            shelf,
+            &men_on(men, Square::at(square)),
+            first + u32::from(digit),
             side,
             passed,
             mates[row],

@@ -63,6 +63,17 @@ fn shelves_of(class: Class, men: &ShelfMen, passed: bool) -> Option<u32>
     Some(first)
 }
 
+/// Whether the shelves of the men begin with this one.
+pub(crate) fn begin_with(class: Class, men: &ShelfMen, passed: bool, first: u32) -> bool
+    requires men { AreMenOf class men.now }
+    ensures { result ≡ true → AreShelvesOf passed class men.now first }
+{
+    match shelves_of(class, men, passed) {
+        Some(shelf) => shelf == first,
+        None => false,
+    }
+}
+
 /// Raises the row of the first man's square to the scores of the codes after the turn, and with a target where one was passed.
 #[inline(always)]
 fn raise_row(

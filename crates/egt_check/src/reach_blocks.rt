@@ -16,7 +16,7 @@ ghost use Rattle.egt_check.specs.Rules.{KeepsBelow, KeepsReachBelow};
 ghost use Rattle.egt_check.specs.Tables.{Tables, beside, table_at};
 
 use crate::block_judging::men_on;
-use crate::blocks::nothing;
+use crate::blocks::{begin_with, nothing};
 use crate::bytes::tells_reach_bytes;
 use crate::digits::{digits_of, first_square};
 use crate::library::Library;
@@ -28,36 +28,11 @@ use crate::reach_scores::{raise_passed_reach, reach_scores};
 use crate::table_judging::{four_men, pairs_are_right};
 use egt_board::{Side, Square};
 use egt_index::laws::numbers_stand_for_codes;
-use egt_index::{ShelfMen, shelf_men, shelf_of};
-use egt_lanes::{Block, Row};
+use egt_index::{ShelfMen, shelf_men};
+use egt_lanes::Block;
 use egt_table::Table;
 
-/// Whether the entries of this shelf, which is to have the first man on the square, are due to the greatest scores.
-fn reach_shelf_is_right(
-    table: &Table,
-    men: &ShelfMen,
-    on: Square,
-    shelf: u32,
-    side: Side,
-    passed: bool,
-    scores: Row,
-) -> bool
-    requires there { HasColumn columns.Reach table.now }
-    requires men { AreMenOf table.now.class men.now }
-    ensures { result ≡ true → (y : ℕ) → y < kind_digits men.now.last.kind →
-        IsRightReachLane passed table.now men.now side on (y + kind_less men.now.last.kind) (code_of table.now.class (number_in table.now.class shelf side y)) (slice_index scores (y + kind_less men.now.last.kind)) }
-{
-    numbers_stand_for_codes();
-    let there = men_on(men, on);
-    match shelf_of(table.class(), &there, passed) {
-        Some(number) if number == shelf => {
-            reach_row_is_right(table, &there, number, side, passed, scores)
-        }
-        _ => false,
-    }
-}
-
-/// Whether so are the entries of the shelves from this one on, by the first man's digit.
+/// Whether the entries of the shelves from this one on, which are to be those of the men by the first one's digit, are due to the greatest scores.
 fn reach_shelves_are_right(
     table: &Table,
     men: &ShelfMen,
@@ -73,15 +48,17 @@ fn reach_shelves_are_right(
         IsRightReachLane passed table.now men.now side (x + kind_less men.now.one.kind) (y + kind_less men.now.last.kind) (code_of table.now.class (number_in table.now.class (first + x) side y))
         (at scores.now (x + kind_less men.now.one.kind) (y + kind_less men.now.last.kind)) }
 {
+    numbers_stand_for_codes();
+    if !begin_with(table.class(), men, passed, first) {
+        return false;
+    }
     let from = first_square(men.one);
     for digit in 0..digits_of(men.one) {
         let square = from + digit;
-        let shelf = first + u32::from(digit);
-        if !reach_shelf_is_right(
+        if !reach_row_is_right(
             table,
-            men,
-            Square::at(square),
-            shelf,
+            &men_on(men, Square::at(square)),
+            first + u32::from(digit),
             side,
             passed,
             scores[square as usize],

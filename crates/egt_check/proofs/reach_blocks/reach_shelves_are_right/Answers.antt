@@ -1,11 +1,37 @@
-use Rattle.std.proofs.Common.{◌≡◌, ◌+◌, arith, inl, inr, subst}
+use Rattle.std.proofs.Common.{◌≡◌, ◌≢◌, ℕ, ◌+◌, ◌<◌, ap, arith, inl, inr, subst, sym}
 use Rattle.std.proofs.lemmas.Bool.{cases_lt}
 use Rattle.egt_index.specs.Numbers.{code_of}
-use Rattle.egt_index.specs.Scales.{kind_less}
-use Rattle.egt_index.specs.ShelfCodes.{number_in}
+use Rattle.egt_index.specs.Scales.{kind_digits, kind_less}
+use Rattle.egt_index.specs.ShelfCodes.{IsShelfOf, number_in}
+use Rattle.egt_index.specs.Size.{size_of}
+use Rattle.egt_index.specs.declared.shelf_codes.ShelfMen.{ShelfMen}
+use Rattle.egt_board.specs.declared.man.Man.{Man}
 use Rattle.egt_lanes.specs.Blocks.{at}
-use Rattle.egt_check.specs.RightBlock.{IsRightReachLane}
+use Rattle.egt_table.specs.declared.column.Column.TheVariants as columns
+use Rattle.egt_check.specs.Blocks.{AreShelvesOf}
+use Rattle.egt_check.specs.RightRow.{IsRightReachAt}
+use Rattle.egt_check.specs.Worth.{column_score}
+use Rattle.egt_check.proofs.LaneRight.{right_reach_lane}
+use Rattle.egt_check.proofs.ShelfRuns.{run_at}
 use Rattle.egt_check.proofs.reach_blocks.reach_shelves_are_right.Goals as goal
+
+pub reach_row_is_right-requires-clause-shelf : goal.reach_row_is_right-requires-clause-shelf
+reach_row_is_right-requires-clause-shelf c =
+    let men = c.args.men.now in
+    let class = c.args.table.now.class in
+    let are = subst (λ k. AreShelvesOf c.args.passed k men c.args.first) c.class.ensures.class (c.begin_with.ensures c.if-not-begin_with.false) in
+    let under = c.loop-digit-test.true in
+    let many = c.digits_of-digit-end.ensures in
+    let there = run_at c.args.passed class c.args.first men are c.loop-digit.digit c.from.result c.at.result c.first_square-from.result (omega (arith, under, many)) c.from.ensures c.at.ensures c.first_square-from.ensures in
+    subst (λ (m : ShelfMen). IsShelfOf c.args.passed class (c.args.first + c.from.result) m) (sym c.men_on.ensures) there.0
+
+pub reach_row_is_right-requires-clause-within : goal.reach_row_is_right-requires-clause-within
+reach_row_is_right-requires-clause-within c =
+    let men = c.args.men.now in
+    let are = subst (λ k. AreShelvesOf c.args.passed k men c.args.first) c.class.ensures.class (c.begin_with.ensures c.if-not-begin_with.false) in
+    let under = c.loop-digit-test.true in
+    let many = c.digits_of-digit-end.ensures in
+    (run_at c.args.passed c.args.table.now.class c.args.first men are c.loop-digit.digit c.from.result c.at.result c.first_square-from.result (omega (arith, under, many)) c.from.ensures c.at.ensures c.first_square-from.ensures).1
 
 pub loop-digit-preserved : goal.loop-digit-preserved
 loop-digit-preserved c = λ x y under y_in. elim (cases_lt x c.loop-digit.digit) [
@@ -16,15 +42,20 @@ loop-digit-preserved c = λ x y under y_in. elim (cases_lt x c.loop-digit.digit)
       let side = c.args.side in
       let less = kind_less men.one.kind in
       let b = y + kind_less men.last.kind in
-      let n = c.loop-digit.digit in
+      let digit = c.loop-digit.digit in
+      let last = ap (λ (m : ShelfMen). m.last) c.men_on.ensures in
       let from = c.first_square-from.ensures in
-      let on = c.at.ensures in
-      let digit = c.from.ensures in
-      let row : c.first_square-from.result + n ≡ x + less = omega (arith, from, under, here) in
-      let square : c.at.result ≡ x + less = omega (arith, on, row) in
-      let shelf : c.args.first + c.from.result ≡ c.args.first + x = omega (arith, digit, under, here) in
-      let right = c.reach_shelf_is_right.ensures c.if-not-reach_shelf_is_right.false y y_in in
-      let there = subst (λ s. IsRightReachLane c.args.passed t men side s b (code_of t.class (number_in t.class (c.args.first + c.from.result) side y)) (at c.args.scores.now (c.first_square-from.result + n) b)) square right in
-      let lane = subst (λ k. IsRightReachLane c.args.passed t men side (x + less) b (code_of t.class (number_in t.class k side y)) (at c.args.scores.now (c.first_square-from.result + n) b)) shelf there in
-      subst (λ r. IsRightReachLane c.args.passed t men side (x + less) b (code_of t.class (number_in t.class (c.args.first + x) side y)) (at c.args.scores.now r b)) row lane
+      let at_digit = c.from.ensures in
+      let test = c.loop-digit-test.true in
+      let many = c.digits_of-digit-end.ensures in
+      let row : c.first_square-from.result + digit ≡ x + less = omega (arith, from, under, here) in
+      let shelf : c.args.first + c.from.result ≡ c.args.first + x = omega (arith, at_digit, under, here) in
+      let are = subst (λ k. AreShelvesOf c.args.passed k men c.args.first) c.class.ensures.class (c.begin_with.ensures c.if-not-begin_with.false) in
+      let is = are x (omega (arith, under, test, many)) in
+      let coded : (m : ℕ) → m < size_of t.class → code_of t.class m < size_of t.class = λ m m_in. c.numbers_stand_for_codes.ensures.coded t.class m c.class.ensures.table.class_in m_in in
+      let right = subst (λ (m : Man). (k : ℕ) → k < kind_digits m.kind → column_score t columns.Reach (code_of t.class (number_in t.class (c.args.first + c.from.result) side k)) ≢ 0
+      → IsRightReachAt t (code_of t.class (number_in t.class (c.args.first + c.from.result) side k)) (at c.args.scores.now (c.first_square-from.result + digit) (k + kind_less m.kind))) last (c.reach_row_is_right.ensures c.if-not-reach_row_is_right.false) y y_in in
+      let there = subst (λ n. column_score t columns.Reach (code_of t.class (number_in t.class n side y)) ≢ 0 → IsRightReachAt t (code_of t.class (number_in t.class n side y)) (at c.args.scores.now (c.first_square-from.result + digit) b)) shelf right in
+      right_reach_lane c.args.passed t men (x + less) (c.args.first + x) side is.0 is.1 coded y y_in (at c.args.scores.now (x + less) b)
+      (subst (λ r. column_score t columns.Reach (code_of t.class (number_in t.class (c.args.first + x) side y)) ≢ 0 → IsRightReachAt t (code_of t.class (number_in t.class (c.args.first + x) side y)) (at c.args.scores.now r b)) row there)
 ]
