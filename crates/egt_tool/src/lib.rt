@@ -19,7 +19,6 @@ mod statistics;
 mod stats;
 mod status;
 mod tally;
-mod words;
 
 pub use fault::MovesFault;
 pub use listing::list_text;

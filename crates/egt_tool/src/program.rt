@@ -10,11 +10,11 @@ use crate::probe::probe_lines;
 use crate::run_fault::RunFault;
 use crate::stats::print_statistics;
 use crate::status::Status;
-use crate::words::command;
 use clap::ArgMatches;
 use clap::error::ErrorKind;
 use egt_class::{Class, by_name};
 use egt_table::{Sink, Source};
+use egt_usage::command;
 use std::io::Write;
 use std::rt::Files;
 

@@ -1,4 +1,6 @@
-//! The words that the program understands, and its help.
+//! The words that the program `egtb` understands, and its help.
+#![tactic(auto)]
+
 use clap::{Arg, Command, value_parser};
 use std::alloc::{AllocError, Global};
 
@@ -108,8 +110,9 @@ fn stats_command<'a>(alloc: Global) -> Result<Command<'a>, AllocError> {
         .arg(class_word(alloc))
 }
 
-/// All commands of the program.
-pub(crate) fn command<'a>(alloc: Global) -> Result<Command<'a>, AllocError> {
+/// All commands of the program, of which each run has one, as `clap` reads words by them. Want of memory is the only
+/// fault.
+pub fn command<'a>(alloc: Global) -> Result<Command<'a>, AllocError> {
     Command::new(alloc, "egtb")
         .about("Chess endgame tables of two to four men")
         .after_help(
