@@ -7,17 +7,20 @@ use Rattle.egt_board.specs.Attack.{king_of}
 use Rattle.egt_board.specs.Placement.{Stands}
 use Rattle.egt_board.specs.Setup.{Setup}
 use Rattle.egt_board.specs.Turned.{turned_square}
-use Rattle.egt_class.specs.Material.{material_of}
+use Rattle.egt_class.specs.Material.{has_equal_sides, material_of}
 use Rattle.egt_index.specs.Code.{Spells}
 use Rattle.egt_index.specs.Facts.{Facts}
 use Rattle.egt_index.specs.Home.{IsTurnWith, BringsHome, AreHome, LeastWith}
-use Rattle.egt_index.specs.Nearer.{KingsHome, AreNearest}
+use Rattle.egt_index.specs.Nearer.{KingsHome, AreBeaten, AreNearest}
 use Rattle.egt_index.specs.Size.{has_pawns}
 use Rattle.egt_index.specs.Stood.{HasStand}
+use Rattle.egt_index.specs.TurnedMen.{seen_across}
 use Rattle.egt_index.specs.Turns.{IsTurn, Best}
 use Rattle.egt_index.specs.declared.stand.Stand.{Stand}
-use Rattle.egt_index.proofs.Beating.{spelled_home, stands_after, kings_less}
+use Rattle.egt_index.proofs.Beating.{has_exchanged, kings_less, spelled_home, stands_after}
+use Rattle.egt_index.proofs.Exists.{index_settled}
 use Rattle.egt_index.proofs.LeastTurn.{keeps_play, none_away}
+use Rattle.egt_index.proofs.TurnedMen.{image_told, spelled_after}
 
 -- the kings after a turn, as a number
 abbrev pub kings_after : Stand → ℕ → ℕ
@@ -142,3 +145,21 @@ nearest_of_two facts c flips white black first second kings c_in home kings_is s
     subst (λ k. KingsHome c p flips (min k (64 * turned_square (second % 8) (eqb (second / 8) 1) white + turned_square (second % 8) (eqb (second / 8) 1) black))) (same_kings stand first white black white_is black_is ∙ sym kings_is)
     (subst (λ k. KingsHome c p flips (min (kings_after stand first) k)) (same_kings stand second white black white_is black_is)
     (kings_of_two facts c flips stand side passed p first second c_in has (subst (λ w. AreHome (has_pawns (material_of c)) flips w first (Some second)) (sym white_is) home)))
+
+-- where the kings come to lesser squares in the other colours, an image in those has a lesser code
+pub beaten_across : Facts → (c : ℕ) (flips : Bool) (white black own across : ℕ) → c < 36 → has_equal_sides c ≡ true → AreNearest c flips white black own → AreNearest c (not flips) black white across → across < own
+    → AreBeaten c flips white black
+beaten_across facts c flips white black own across c_in equal own_nearest across_nearest less passed code turn stand side board white_is black_is flips_is told p ok index =
+    let settled = index_settled facts p index.image c code ok index index.spells in
+    let before = image_told facts passed c (turn % 8) code (eqb (turn / 8) 1) stand side index.image c_in told.keeps board told.tells index.spells (λ _. settled) in
+    let after = spelled_after facts passed c turn code stand side before.0 before.1 told in
+    let has = subst (λ f. HasStand c f stand side passed before.0) flips_is before.1 in
+    let far = own_nearest stand side passed before.0 white_is black_is has in
+    let near = across_nearest (seen_across stand) side passed before.0 black_is white_is (has_exchanged facts c flips stand (seen_across stand) side passed before.0 c_in equal refl refl refl refl has) in
+    let kings = after.1.spells.admissible.kings in
+    let above = far.least turn after.0 code kings.white kings.black told.below flips_is after.1.turned after.1.spells kings.white_there.stands kings.black_there.stands in
+    let near_is = near.is in
+    let lesser = kings_less c near.code code near.image after.0 near.white near.black kings.white kings.black near.spells after.1.spells near.white_there near.black_there kings.white_there.stands kings.black_there.stands (omega arith) in
+    let images = facts.on index.settled index.image before.0 index.images (facts.back before.0 index.image has.admissible before.2) in
+    let turned = facts.images before.0 near.image (near.turn % 8) (eqb (near.turn / 8) 1) has.admissible (omega arith) near.turned.0 near.turned.1 in
+    let least = index.least near.image near.code (facts.on index.settled before.0 near.image images turned) near.spells in omega arith

@@ -1,14 +1,14 @@
 //! The colours in which the least code is, as the kings tell: their digits are the highest.
-ghost use Rattle.std.specs.Prelude.{◌≡◌, ℕ, ◌+◌, ◌*◌, ◌<◌, ◌/◌, ◌%◌, ◌==◌, Bool, IfSome};
+ghost use Rattle.std.specs.Prelude.{◌≡◌, ℕ, ◌+◌, ◌*◌, ◌<◌, ◌/◌, ◌%◌, ◌==◌, Bool, true, IfSome};
 ghost use Rattle.egt_board.specs.Turned.{turned_square};
 ghost use Rattle.egt_class.specs.Material.{material_of};
 ghost use Rattle.egt_index.specs.Home.{AreHome};
-ghost use Rattle.egt_index.specs.Nearer.{AreNearest};
+ghost use Rattle.egt_index.specs.Nearer.{AreBeaten, AreNearest};
 ghost use Rattle.egt_index.specs.Size.{has_pawns};
 
 use crate::facts::facts;
 use crate::home::{Turns, home};
-use crate::men::has_pawns;
+use crate::men::{has_equal_sides, has_pawns};
 use crate::stand::Stand;
 use crate::turning::turned_square;
 use egt_board::Square;
@@ -64,4 +64,20 @@ pub(crate) fn homeward(class: Class, white: Square, black: Square, flips: bool) 
         turns: Turns { first, second },
         kings: least_kings(white, black, kings, second),
     }
+}
+
+/// Whether the turns that exchange colours the other way bring the kings to lesser squares. Then no code of men with
+/// their kings here, after a turn that exchanges colours so, is a position's index, and its entry need not be read.
+/// `white` is the square of the king who is White's after such a turn.
+pub fn are_beaten(class: Class, white: Square, black: Square, flips: bool) -> bool
+    ensures { result ≡ true → AreBeaten class flips white black }
+{
+    facts();
+    let _number = class.number();
+    if !has_equal_sides(class) {
+        return false;
+    }
+    let own = homeward(class, white, black, flips);
+    let across = homeward(class, black, white, !flips);
+    across.kings < own.kings
 }
