@@ -36,7 +36,7 @@ abbrev pub AreNearest : ℕ → Bool → (white black kings : ℕ) → Type 0
 AreNearest c flips white black kings =
     (stand : Stand) (side : Side) (passed : Bool) (p : Setup) → stand.white ≡ white → stand.black ≡ black → HasStand c flips stand side passed p → KingsHome c p flips kings
 
--- no position has a code that tells men with their kings on these squares where a turn takes them that exchanges colours so
-abbrev pub AreBeaten : ℕ → Bool → (white black : ℕ) → Type 0
-AreBeaten c flips white black =
-    (passed : Bool) (code turn : ℕ) (stand : Stand) (side : Side) → AreOnBoard stand → stand.white ≡ white → stand.black ≡ black → (turn / 8 == 1) ≡ flips → IsTurnedCodeWith passed c turn code stand side → IsVoid c code
+-- of men with their kings on these squares no code after the turn is a position's index
+abbrev pub IsVoidAfter : ℕ → (white black turn : ℕ) → Type 0
+IsVoidAfter c white black turn =
+    (passed : Bool) (code : ℕ) (stand : Stand) (side : Side) → AreOnBoard stand → stand.white ≡ white → stand.black ≡ black → IsTurnedCodeWith passed c turn code stand side → IsVoid c code

@@ -3,13 +3,13 @@ ghost use Rattle.std.specs.Prelude.{◌≡◌, ℕ, ◌+◌, ◌*◌, ◌<◌, �
 ghost use Rattle.egt_board.specs.Turned.{turned_square};
 ghost use Rattle.egt_class.specs.Material.{material_of};
 ghost use Rattle.egt_index.specs.Home.{AreHome};
-ghost use Rattle.egt_index.specs.Nearer.{AreBeaten, AreNearest};
+ghost use Rattle.egt_index.specs.Nearer.{AreNearest, IsVoidAfter};
 ghost use Rattle.egt_index.specs.Size.{has_pawns};
 
 use crate::facts::facts;
 use crate::home::{Turns, home};
 use crate::men::{has_equal_sides, has_pawns};
-use crate::stand::Stand;
+use crate::stand::{Stand, are_near};
 use crate::turning::turned_square;
 use egt_board::Square;
 use egt_class::Class;
@@ -66,18 +66,22 @@ pub(crate) fn homeward(class: Class, white: Square, black: Square, flips: bool) 
     }
 }
 
-/// Whether the turns that exchange colours the other way bring the kings to lesser squares. Then no code of men with
-/// their kings here, after a turn that exchanges colours so, is a position's index, and its entry need not be read.
-/// `white` is the square of the king who is White's after such a turn.
-pub fn are_beaten(class: Class, white: Square, black: Square, flips: bool) -> bool
-    ensures { result ≡ true → AreBeaten class flips white black }
+/// Whether the kings tell that no code of men with them here is a position's index after the turn, so that its entry
+/// need not be read: they stand beside one another, or another turn brings them to lesser squares. `white` is the
+/// square of the king who is White's after the turn.
+pub fn is_void_after(class: Class, white: Square, black: Square, turn: u8) -> bool
+    requires { turn < 16 }
+    ensures { result ≡ true → IsVoidAfter class white black turn }
 {
     facts();
     let _number = class.number();
-    if !has_equal_sides(class) {
-        return false;
+    if are_near(white, black) {
+        return true;
     }
-    let own = homeward(class, white, black, flips);
-    let across = homeward(class, black, white, !flips);
-    across.kings < own.kings
+    let flips = turn / 8 == 1;
+    let own = kings_after(white, black, turn);
+    if homeward(class, white, black, flips).kings < own {
+        return true;
+    }
+    has_equal_sides(class) && homeward(class, black, white, !flips).kings < own
 }
