@@ -1,23 +1,29 @@
 -- The least code by the kings' squares, which are its highest digits.
 use Rattle.std.proofs.Common.{◌≡◌, ◌≢◌, ◌⊎◌, ℕ, ◌+◌, ◌*◌, ◌/◌, ◌%◌, ◌<◌, ◌≤◌, not, Bool, true, false, eqb, min, Option, Some, None, IfSome, arith, refl, sym, ap, ◌∙◌, subst, inl, inr}
-use Rattle.std.proofs.lemmas.Bool.{cases_eq}
+use Rattle.std.proofs.lemmas.Bool.{cases_eq, cases_lt}
 use Rattle.egt_board.specs.declared.man.Side.{Side}
 use Rattle.egt_board.specs.declared.man.Side.TheVariants.{White, Black}
 use Rattle.egt_board.specs.Attack.{king_of}
 use Rattle.egt_board.specs.Placement.{Stands}
-use Rattle.egt_board.specs.Setup.{Setup}
+use Rattle.egt_board.specs.Setup.{IsAdmissible, Setup}
 use Rattle.egt_board.specs.Turned.{turned_square}
-use Rattle.egt_class.specs.Material.{material_of}
+use Rattle.egt_class.specs.Material.{has_equal_sides, material_of}
 use Rattle.egt_index.specs.Code.{Spells}
 use Rattle.egt_index.specs.Facts.{Facts}
 use Rattle.egt_index.specs.Home.{IsTurnWith, BringsHome, AreHome, LeastWith}
-use Rattle.egt_index.specs.Nearer.{KingsHome, AreNearest}
+use Rattle.egt_index.specs.Index.{IsIndex}
+use Rattle.egt_index.specs.Nearer.{KingsHome, AreNearest, IsVoidAfter}
 use Rattle.egt_index.specs.Size.{has_pawns}
-use Rattle.egt_index.specs.Stood.{HasStand}
+use Rattle.egt_index.specs.Stood.{AreNear, HasStand}
+use Rattle.egt_index.specs.TurnedMen.{IsTurnedCodeWith, seen_across}
 use Rattle.egt_index.specs.Turns.{IsTurn, Best}
+use Rattle.egt_index.specs.Went.{AreOnBoard}
 use Rattle.egt_index.specs.declared.stand.Stand.{Stand}
-use Rattle.egt_index.proofs.Beating.{spelled_home, stands_after, kings_less}
+use Rattle.egt_index.proofs.Beating.{has_exchanged, kings_less, spelled_home, stands_after}
+use Rattle.egt_index.proofs.Exists.{index_settled}
 use Rattle.egt_index.proofs.LeastTurn.{keeps_play, none_away}
+use Rattle.egt_index.proofs.Touching.{apart_kings}
+use Rattle.egt_index.proofs.TurnedMen.{image_told, spelled_after}
 
 -- the kings after a turn, as a number
 abbrev pub kings_after : Stand → ℕ → ℕ
@@ -142,3 +148,67 @@ nearest_of_two facts c flips white black first second kings c_in home kings_is s
     subst (λ k. KingsHome c p flips (min k (64 * turned_square (second % 8) (eqb (second / 8) 1) white + turned_square (second % 8) (eqb (second / 8) 1) black))) (same_kings stand first white black white_is black_is ∙ sym kings_is)
     (subst (λ k. KingsHome c p flips (min (kings_after stand first) k)) (same_kings stand second white black white_is black_is)
     (kings_of_two facts c flips stand side passed p first second c_in has (subst (λ w. AreHome (has_pawns (material_of c)) flips w first (Some second)) (sym white_is) home)))
+
+-- a position before the turn, and what the turn makes of it: the code is the least of its images
+record IsMade (passed : Bool) (c turn code : ℕ) (stand : Stand) (side : Side) : Type 0 where
+  before : Setup
+  has : HasStand c (eqb (turn / 8) 1) stand side passed before
+  after : Setup
+  turned : IsTurn turn before after
+  spells : Spells c code after
+  least : (t : ℕ) (q : Setup) (other : ℕ) → t < 16 → IsTurn t before q → Spells c other q → code ≤ other
+
+-- there is one where the code is an index
+made : Facts → (passed : Bool) (c turn code : ℕ) (stand : Stand) (side : Side) (p : Setup) → c < 36 → AreOnBoard stand → IsTurnedCodeWith passed c turn code stand side → IsAdmissible p → IsIndex c p code → IsMade passed c turn code stand side
+made facts passed c turn code stand side p c_in board told ok index =
+    let settled = index_settled facts p index.image c code ok index index.spells in
+    let before = image_told facts passed c (turn % 8) code (eqb (turn / 8) 1) stand side index.image c_in told.keeps board told.tells index.spells (λ _. settled) in
+    let has : HasStand c (eqb (turn / 8) 1) stand side passed before.0 = before.1 in
+    let after = spelled_after facts passed c turn code stand side before.0 has told in
+    let images = facts.on index.settled index.image before.0 index.images (facts.back before.0 index.image has.admissible before.2) in
+    record {
+      before = before.0;
+      has = has;
+      after = after.0;
+      turned = after.1.turned;
+      spells = after.1.spells;
+      least = λ t q other t_in turned spells.
+          index.least q other (facts.on index.settled before.0 q images (facts.images before.0 q (t % 8) (eqb (t / 8) 1) has.admissible (omega arith) turned.0 turned.1)) spells;
+    }
+
+-- the kings' squares after the turn are the least
+module _ (facts : Facts) (passed : Bool) (c turn code : ℕ) (stand : Stand) (side : Side) (is : IsMade passed c turn code stand side) where
+  none_nearer : (flips : Bool) (kings : ℕ) → KingsHome c is.before flips kings → kings_after stand turn ≤ kings
+  none_nearer flips kings home = elim (cases_lt kings (kings_after stand turn)) [
+    | inr le ↦ le
+    | inl lt ↦
+        let kings_are = home.is in
+        let least = is.least home.turn home.image home.code home.below home.turned home.spells in
+        let less =
+        kings_less c home.code code home.image is.after _ _ _ _ home.spells is.spells home.white_there home.black_there
+        (stands_after facts is.before is.after turn stand.white (king_of White) is.has.admissible is.turned is.has.stood.all.1)
+        (stands_after facts is.before is.after turn stand.black (king_of Black) is.has.admissible is.turned is.has.stood.all.3.1) (omega arith) in absurd (omega (arith, least, less))
+  ]
+
+-- where other turns bring the kings to lesser squares
+pub void_within : Facts → (c white black turn kings : ℕ) → c < 36 → AreNearest c (eqb (turn / 8) 1) white black kings
+    → kings < 64 * turned_square (turn % 8) (eqb (turn / 8) 1) white + turned_square (turn % 8) (eqb (turn / 8) 1) black → IsVoidAfter c white black turn
+void_within facts c white black turn kings c_in nearest less passed code stand side board white_is black_is told p ok index =
+    let is = made facts passed c turn code stand side p c_in board told ok index in
+    let le = none_nearer facts passed c turn code stand side is (eqb (turn / 8) 1) kings (nearest stand side passed is.before white_is black_is is.has) in
+    let same = same_kings stand turn white black white_is black_is in omega arith
+
+-- or turns that exchange colours the other way
+pub void_across : Facts → (c white black turn kings : ℕ) → c < 36 → has_equal_sides c ≡ true → AreNearest c (not (eqb (turn / 8) 1)) black white kings
+    → kings < 64 * turned_square (turn % 8) (eqb (turn / 8) 1) white + turned_square (turn % 8) (eqb (turn / 8) 1) black → IsVoidAfter c white black turn
+void_across facts c white black turn kings c_in equal nearest less passed code stand side board white_is black_is told p ok index =
+    let is = made facts passed c turn code stand side p c_in board told ok index in
+    let across = has_exchanged facts c (eqb (turn / 8) 1) stand (seen_across stand) side passed is.before c_in equal refl refl refl refl is.has in
+    let le = none_nearer facts passed c turn code stand side is (not (eqb (turn / 8) 1)) kings (nearest (seen_across stand) side passed is.before black_is white_is across) in
+    let same = same_kings stand turn white black white_is black_is in omega arith
+
+-- or where the kings stand beside one another
+pub void_near : Facts → (c white black turn : ℕ) → c < 36 → AreNear white black → IsVoidAfter c white black turn
+void_near facts c white black turn c_in near passed code stand side board white_is black_is told p ok index =
+    let is = made facts passed c turn code stand side p c_in board told ok index in
+    apart_kings c (eqb (turn / 8) 1) stand side passed is.before is.has (subst (AreNear stand.white) (sym black_is) (subst (λ s. AreNear s black) (sym white_is) near))

@@ -1,50 +1,54 @@
 -- Which numbers of a shelf stand for settled positions, and which of their codes are indexes.
 use Rattle.std.proofs.Common.{◌≡◌, ◌≢◌, ◌↔◌, ℕ, ◌+◌, ◌*◌, ◌/◌, ◌%◌, ◌<◌, ◌≤◌, Bool, true, false, if◌then◌else◌, Some, None, arith, refl, sym, ap, ◌∙◌, subst, inl, inr}
 use Rattle.std.specs.Int.{bit_at}
-use Rattle.std.proofs.lemmas.Bool.{cases_eq}
+use Rattle.std.proofs.lemmas.Bool.{cases_eq, cases_lt}
 use Rattle.std.proofs.lemmas.Nat.Bits.{bit_at-zero}
 use Rattle.egt_board.specs.Attack.{king_of}
 use Rattle.egt_board.specs.Images.{side_number}
 use Rattle.egt_board.specs.Pawn.{pawn_of}
 use Rattle.egt_board.specs.Settled.{IsSettled}
-use Rattle.egt_board.specs.Setup.{Setup}
+use Rattle.egt_board.specs.Setup.{IsAdmissible, Setup}
 use Rattle.egt_board.specs.declared.man.Man.{Man}
 use Rattle.egt_board.specs.declared.man.Side.{Side}
 use Rattle.egt_board.specs.declared.man.Side.TheVariants.{White, Black}
 use Rattle.egt_class.specs.Material.{Material, material_of}
+use Rattle.egt_index.specs.Beaten.{AreBehind, SpellsAt}
 use Rattle.egt_index.specs.Code.{Spells}
 use Rattle.egt_index.specs.Facts.{Facts}
 use Rattle.egt_index.specs.Front.{TellsLast, IsFront, IsVoidFront}
 use Rattle.egt_index.specs.Index.{IsIndex, IsVoid}
 use Rattle.egt_index.specs.Numbers.{IsNumbered, code_of, places}
-use Rattle.egt_index.specs.Places.{AreBitsOf, AreMade, ArePlaces, IsMade, TellsIndex}
+use Rattle.egt_index.specs.Places.{AreBitsOf, AreInOrder, AreMade, ArePlaces, IsMade, TellsIndex}
 use Rattle.egt_index.specs.Row.{row_len}
-use Rattle.egt_index.specs.Scales.{AreEqual, kind_digits, kind_less}
+use Rattle.egt_index.specs.Scales.{kind_digits, kind_less}
 use Rattle.egt_index.specs.Shelf.{last_of, shelf_len}
 use Rattle.egt_index.specs.ShelfCodes.{AreIndexed, AreIndexes, AreNumbered, ArePositions, IsShelfBehind, PassesNothing, SpellsNothing, number_in}
 use Rattle.egt_index.specs.Size.{has_target, men_beside, size_of}
 use Rattle.egt_index.specs.Spelled.{Ends}
 use Rattle.egt_index.specs.StepCodes.{TellsMen}
-use Rattle.egt_index.specs.Stood.{Entry, IsInOrder, list_of, with_last}
+use Rattle.egt_index.specs.Stood.{Entry, HasStand, IsInOrder, list_of, with_last}
 use Rattle.egt_index.specs.declared.front.Front.{Front}
 use Rattle.egt_index.specs.declared.places.Places.{Places}
 use Rattle.egt_index.specs.declared.stand.Stand.{Stand}
+use Rattle.egt_index.proofs.Beating.{no_index}
 use Rattle.egt_index.proofs.Coding.{code_below}
 use Rattle.egt_index.proofs.Decoded.{list_spelled}
-use Rattle.egt_index.proofs.Exists.{index_settled}
+use Rattle.egt_index.proofs.Exists.{index_settled, index_spelled}
 use Rattle.egt_index.proofs.Halves.{code_plain, ends_behind, half_plain, len_plain, number_below, places_of_last, within_behind}
 use Rattle.egt_index.proofs.Passing.{last_pawn}
 use Rattle.egt_index.proofs.Placing.{not_both, tells, whole_first}
 use Rattle.egt_index.proofs.RowMen.{row_number}
 use Rattle.egt_index.proofs.Shelved.{next_within}
 use Rattle.egt_index.proofs.StepCodes.{stands_told, told_stands}
+use Rattle.egt_index.proofs.Swapping.{beaten_behind}
 
 no_bits : {P : ℕ → Type 0} (word : ℕ) → word ≡ 0 → ((k : ℕ) → P k → ⊥) → (k : ℕ) → (bit_at word k ≡ 1) ↔ P k
 no_bits word none not k = (λ one. not_both (bit_at 0 k) (bit_at-zero k) (sym (ap (λ w. bit_at w k) none) ∙ one), λ there. absurd (not k there))
 
-in_order : (x : Entry) (man : Man) (s : ℕ) → ¬ AreEqual x (Some (man, s)) → IsInOrder x (Some (man, s))
+-- equal men are in order but where the first stands on the greater square
+in_order : (x : Entry) (man : Man) (s : ℕ) → ¬ AreBehind x (Some (man, s)) → IsInOrder x (Some (man, s))
 in_order None man s not = tt
-in_order (Some x) man s not = λ e. absurd (not e)
+in_order (Some x) man s not = λ same. elim (cases_lt s x.1) [ inl lt ↦ absurd (not (same, lt)) | inr le ↦ le ]
 
 -- the first number of a shelf with that side to move
 both_first : (P : ℕ → ℕ → Type 0) (n white black : ℕ) → P (n + side_number White) white → P (n + side_number Black) black → P n white × P (n + 1) black
@@ -102,36 +106,53 @@ module _ (passed : Bool) (c shelf high : ℕ) (man : Man) (c_in : c < 36) (last 
         let both = both_first (AreNumbered c) (shelf * (2 * places c)) found.white found.black (numbered White found.white are.white) (numbered Black found.black are.black) in
         record { white = both.0; black = both.1 }
 
-    -- where each is the least of its images
-    module _ (facts : Facts) (alone : front.tied ≡ false) (unequal : (s : ℕ) → ¬ AreEqual front.stand.next (Some (man, s))) where
-      indexed : (mover : Side) (word : ℕ) → ((k : ℕ) → (bit_at word k ≡ 1) ↔ IsMade passed c front.stand man mover k) → AreIndexed c (first mover) word
+    -- where each is the least of its images, if equal men are in order
+    module _ (facts : Facts) (alone : front.tied ≡ false) where
+      indexed : (mover : Side) (all word : ℕ) → ((k : ℕ) → (bit_at all k ≡ 1) ↔ IsMade passed c front.stand man mover k) → ((k : ℕ) → (bit_at word k ≡ 1) ↔ ((bit_at all k ≡ 1) × IsInOrder front.stand.next (entry k))) → AreIndexed c (first mover) word
       unfolding told
-      indexed mover word bits k = (there, back)
+      indexed mover all word are_made bits k = (there, back)
         where
           code : ℕ
           code = code_of c (first mover + 2 * k)
 
-          there : bit_at word k ≡ 1 → (k < places c) × ¬ IsVoid c (code_of c (first mover + 2 * k))
+          spelled_there : (p : Setup) → k < kind_digits man.kind → Spells c code p → SpellsAt c code (stand k) p
+          spelled_there p below spells = record { spells = spells; list_is = list_spelled c code (number k) mover passed (list_of (stand k)) p (ends mover k below) (told mover k below).men spells }
+
+          there : bit_at word k ≡ 1 → (k < places c) × ¬ IsVoid c code
           there one = (subst (λ d. k < d) (sym len) here.below, λ void. void here.position here.has.admissible index)
             where
               here : IsMade passed c front.stand man mover k
-              here = (bits k).0 one
+              here = (are_made k).0 ((bits k).0 one).0
 
-              index : IsIndex c here.position (code_of c (first mover + 2 * k))
-              index =
-                  is.least alone (entry k) (in_order front.stand.next man (k + kind_less man.kind) (unequal (k + kind_less man.kind))) here.position mover passed (code_of c (first mover + 2 * k)) tt here.has
-                  (record { spells = spelled mover k here; list_is = list_spelled c (code_of c (first mover + 2 * k)) (number k) mover passed (list_of (stand k)) here.position (ends mover k here.below) (told mover k here.below).men (spelled mover k here) })
+              index : IsIndex c here.position code
+              index = is.least alone (entry k) ((bits k).0 one).1 here.position mover passed code tt here.has (spelled_there here.position here.below (spelled mover k here))
 
-          back : (k < places c) × ¬ IsVoid c (code_of c (first mover + 2 * k)) → bit_at word k ≡ 1
+          back : (k < places c) × ¬ IsVoid c code → bit_at word k ≡ 1
           back some = elim (cases_eq (bit_at word k) 1) [
             | inl one ↦ one
-            | inr not ↦ absurd (some.1 (λ p ok index.
-                not ((bits k).1 (made mover k index.image (subst (λ d. k < d) len some.0) (record { spells = index.spells; settled = index_settled facts p index.image c (code_of c (first mover + 2 * k)) ok index index.spells })))))
+            | inr not ↦ absurd (some.1 (λ p ok index. not (of_index p ok index)))
           ]
+            where
+              below : k < kind_digits man.kind
+              below = subst (λ d. k < d) len some.0
 
-      pub indexes_behind : (found : Places) → AreMade passed c front.stand man found → AreIndexes c shelf found
-      indexes_behind found are =
-          let both = both_first (AreIndexed c) (shelf * (2 * places c)) found.white found.black (indexed White found.white are.white) (indexed Black found.black are.black) in
+              of_index : (p : Setup) → IsAdmissible p → IsIndex c p code → bit_at word k ≡ 1
+              of_index p ok index = (bits k).1 ((are_made k).1 (made mover k index.image below (record { spells = index.spells; settled = settled })), in_order front.stand.next man (k + kind_less man.kind) not_behind)
+                where
+                  settled : IsSettled index.image
+                  settled = index_settled facts p index.image c code ok index index.spells
+
+                  has : HasStand c false (stand k) mover passed index.image
+                  has = told_stands passed c code index.image (stand k) mover index.spells settled (told mover k below)
+
+                  not_behind : ¬ AreBehind front.stand.next (entry k)
+                  not_behind behind =
+                      no_index facts c code index.image has.admissible settled (0, omega arith, beaten_behind c code (stand k) index.image has.admissible has.stood.all behind has.stood.are has.is_of (spelled_there index.image below index.spells))
+                      (index_spelled facts p index.image c code ok index index.spells)
+
+      pub indexes_behind : (all found : Places) → AreMade passed c front.stand man all → AreInOrder front.stand.next man all found → AreIndexes c shelf found
+      indexes_behind all found are in_order =
+          let both = both_first (AreIndexed c) (shelf * (2 * places c)) found.white found.black (indexed White all.white found.white are.white in_order.white) (indexed Black all.black found.black are.black in_order.black) in
           record { white = both.0; black = both.1 }
 
   -- where there is no front

@@ -5,7 +5,7 @@ use Rattle.std.specs.Int.{bit_at}
 use Rattle.std.specs.Option.{option_to_list}
 use Rattle.std.proofs.lemmas.Bool.{cases_eq, cases_lt}
 use Rattle.std.proofs.lemmas.Nat.{div-add-mod'}
-use Rattle.std.proofs.lemmas.Nat.Bits.{bit_at-lt, bit_at_above, bit_at_and, bit_at_cat_high, bit_at_ones, bit_at_ones_above}
+use Rattle.std.proofs.lemmas.Nat.Bits.{bit_at-lt, bit_at_above, bit_at_and, bit_at_cat_high, bit_at_mask_below, bit_at_mask_inside, bit_at_ones, bit_at_ones_above, ones_shl}
 use Rattle.egt_board.specs.Attack.{IsAttacked, IsInCheck, king_of}
 use Rattle.egt_board.specs.Images.{side_number}
 use Rattle.egt_board.specs.Listed.{men_of, setup_of}
@@ -23,11 +23,11 @@ use Rattle.egt_index.specs.Code.{square_by_digit}
 use Rattle.egt_index.specs.Digits.{number_from}
 use Rattle.egt_index.specs.Front.{TellsLast, IsFront}
 use Rattle.egt_index.specs.Places.{IsMade, IsPlaced, waiting}
-use Rattle.egt_index.specs.Scales.{kind_digits, kind_less}
+use Rattle.egt_index.specs.Scales.{AreEqual, kind_digits, kind_less}
 use Rattle.egt_index.specs.Shelf.{last_of}
 use Rattle.egt_index.specs.Size.{base_by, has_target, man_of, men_beside}
 use Rattle.egt_index.specs.Spelled.{Splits, SpellsMen, Tells}
-use Rattle.egt_index.specs.Stood.{AllApart, Entry, IsOff, list_of, with_last}
+use Rattle.egt_index.specs.Stood.{AllApart, Entry, IsInOrder, IsOff, list_of, with_last}
 use Rattle.egt_index.specs.declared.front.Front.{Front}
 use Rattle.egt_index.specs.declared.stand.Stand.{Stand}
 use Rattle.egt_index.proofs.FrameMen.{men_are}
@@ -87,6 +87,39 @@ man_bits R n k not small = all_bits n k small
 man_bits B n k not small = all_bits n k small
 man_bits N n k not small = all_bits n k small
 man_bits K n k not small = all_bits n k small
+
+-- the digits from some one on
+from_on : (d k : ℕ) → d ≤ 64 → k < 64 → (bit_at (2 ^ 64 - 2 ^ d) k ≡ 1) ↔ (d ≤ k)
+from_on d k d_in k_in = elim (cases_lt k d) [
+  | inl lt ↦ (λ one. not_both (bit_at (2 ^ 64 - 2 ^ d) k) (bit_at_mask_below d 64 k lt) one, λ le. absurd (omega arith))
+  | inr le ↦ (λ one. le, λ h. bit_at_mask_inside d 64 k le k_in)
+]
+
+-- by these two equal men are in order
+pub ordered_bits : (x : Entry) (e : Man × ℕ) (man : Man) (d k : ℕ) → x ≡ Some e → e.0 ≡ man → d ≡ e.1 - kind_less man.kind → d < 64 → k < 64
+    → (bit_at ((2 ^ 64 - 1) * 2 ^ d % 2 ^ 64) k ≡ 1) ↔ IsInOrder x (Some (man, k + kind_less man.kind))
+ordered_bits x e man d k is same digit d_in k_in =
+    subst (λ n. (bit_at n k ≡ 1) ↔ IsInOrder x (Some (man, k + kind_less man.kind))) (sym (ones_shl 64 d (omega arith)))
+    (subst (λ (x : Entry). (bit_at (2 ^ 64 - 2 ^ d) k ≡ 1) ↔ IsInOrder x (Some (man, k + kind_less man.kind))) (sym is) (
+      λ one. λ _. let le = (from_on d k (omega arith) k_in).0 one in omega arith,
+      λ order. let le = order same in (from_on d k (omega arith) k_in).1 (omega arith),
+    ))
+
+-- other men are so by all
+pub free_bits : (x : Entry) (man : Man) (k s : ℕ) → ¬ AreEqual x (Some (man, s)) → k < 64 → (bit_at (2 ^ 64 - 1) k ≡ 1) ↔ IsInOrder x (Some (man, s))
+free_bits None man k s apart k_in = (λ one. tt, λ order. bit_at_ones 64 k k_in)
+free_bits (Some e) man k s apart k_in = (λ one. λ same. absurd (apart same), λ order. bit_at_ones 64 k k_in)
+
+-- the bits of one word where something holds of them
+pub bits_among : (all order k : ℕ) (Tells : Type 0) → all < 2 ^ 64 → (k < 64 → (bit_at order k ≡ 1) ↔ Tells) → (bit_at (bit_and all order) k ≡ 1) ↔ ((bit_at all k ≡ 1) × Tells)
+bits_among all order k Tells small tells =
+    let both = bit_at_and all order k in
+    let few = bit_at-lt all k in
+    let few_more = bit_at-lt order k in
+    elim (cases_lt k 64) [
+      | inl lt ↦ (λ one. (omega arith, (tells lt).0 (omega arith)), λ h. let here = h.0 in let there = (tells lt).1 h.1 in omega arith)
+      | inr past ↦ let none = bit_at_above all 64 k small past in (λ one. absurd (omega arith), λ h. not_both (bit_at all k) none h.0)
+    ]
 
 -- where the last man may stand, by three sets
 pub placed_bits : (front : Front) (man : Man) (mover : Side) (king k word kept occupied without : ℕ) → king ≡ waiting mover front.stand

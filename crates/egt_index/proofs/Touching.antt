@@ -1,19 +1,19 @@
 -- Kings on neighbouring squares attack one another, so no code spells a position with them there.
-use Rattle.std.proofs.Common.{◌≡◌, ◌≢◌, ◌⊎◌, ℕ, ◌+◌, ◌<◌, ◌≤◌, ◌%◌, ◌/◌, arith, refl, sym, subst, inl, inr}
+use Rattle.std.proofs.Common.{◌≡◌, ◌≢◌, ◌⊎◌, ℕ, ◌+◌, ◌<◌, ◌≤◌, ◌%◌, ◌/◌, Bool, true, false, arith, refl, sym, subst, inl, inr}
 use Rattle.std.proofs.lemmas.Bool.{cases_eq}
 use Rattle.egt_board.specs.declared.man.Side.{Side}
 use Rattle.egt_board.specs.declared.man.Side.TheVariants.{White, Black}
 use Rattle.egt_board.specs.declared.step.Step.{Step}
 use Rattle.egt_board.specs.Attack.{king_of, IsInCheck}
 use Rattle.egt_board.specs.AttackLines.{Reaches, Rides}
-use Rattle.egt_board.specs.Placement.{Placement, IsFree}
-use Rattle.egt_board.specs.Setup.{Setup, IsKingOn}
+use Rattle.egt_board.specs.Placement.{Placement, IsFree, Stands}
+use Rattle.egt_board.specs.Setup.{HasKings, IsKingOn, Setup}
 use Rattle.egt_board.specs.Step.{Away}
 use Rattle.egt_class.specs.Material.{material_of}
 use Rattle.egt_index.specs.Code.{Spells}
 use Rattle.egt_index.specs.Row.{row_len}
 use Rattle.egt_index.specs.Spelled.{SpellsMen}
-use Rattle.egt_index.specs.Stood.{AreNear, list_of}
+use Rattle.egt_index.specs.Stood.{AllStand, AreNear, HasStand, list_of}
 use Rattle.egt_index.specs.declared.stand.Stand.{Stand}
 use Rattle.egt_index.proofs.RowMen.{apart_in_row, men_on_row}
 use Rattle.egt_index.proofs.Setups.{kings_spelled}
@@ -58,6 +58,23 @@ checked men white black white_on black_on white_in black_in apart near Black = r
   stands = black_on.stands;
   attacked = record { from = white; man = king_of White; stands = white_on.stands; theirs = refl; reaches = reached (IsFree men) White white black black_in (λ e. apart (sym e)) near };
 }
+
+-- so no position of a class has them there
+pub apart_kings : (c : ℕ) (flips : Bool) (stand : Stand) (side : Side) (passed : Bool) (p : Setup) → HasStand c flips stand side passed p → AreNear stand.white stand.black → ⊥
+apart_kings c flips stand side passed p has near = of_colours flips has.stood.all
+  where
+    kings : HasKings p.men
+    kings = has.admissible.kings
+
+    check : (white black : ℕ) → white < 64 → black < 64 → Stands p.men white (king_of White) → Stands p.men black (king_of Black) → black ≢ white → AreNear white black → ⊥
+    check white black white_in black_in white_stands black_stands apart near =
+        let white_on = subst (IsKingOn p.men White) (sym (kings.white_there.only white white_stands)) kings.white_there in
+        let black_on = subst (IsKingOn p.men Black) (sym (kings.black_there.only black black_stands)) kings.black_there in
+        has.admissible.quiet (checked p.men white black white_on black_on white_in black_in apart near _)
+
+    of_colours : (flips : Bool) → AllStand flips p.men (list_of stand) → ⊥
+    of_colours false all = check stand.white stand.black all.0 all.3.0 all.1 all.3.1 all.2.0 near
+    of_colours true all = check stand.black stand.white all.3.0 all.0 all.3.1 all.1 (λ e. all.2.0 (sym e)) (turned_near stand.white stand.black near)
 
 -- no code of the row spells a position
 pub none_near : (c n code : ℕ) (stand : Stand) (p : Setup) → c < 36 → code / row_len c ≡ n → SpellsMen (material_of c) n (list_of stand) → Spells c code p → AreNear stand.white stand.black → ⊥

@@ -30,6 +30,7 @@ use Rattle.egt_index.specs.Spelled.{Ends, IsListed, SpellsMen}
 use Rattle.egt_index.specs.StepCodes.{TellsMen}
 use Rattle.egt_index.specs.Stood.{AllApart, AllStand, Entry, HasStand, IsFilled, IsOff, Stood, entry_after, list_of, men_among, on_square_of}
 use Rattle.egt_index.specs.TurnedMen.{IsInEitherOrder, IsSeenBy, IsSomeTurnedCodeWith, IsTurnedCodeWith, seen_across, swapped, turned_by, turned_with}
+use Rattle.egt_index.specs.Turns.{IsTurn}
 use Rattle.egt_index.specs.Went.{AreOnBoard}
 use Rattle.egt_index.specs.declared.stand.Stand.{Stand}
 use Rattle.egt_index.proofs.After.{all_there, both_to_list, inverse, ordered, ordered_men, stood_by, turn_one, turned_men}
@@ -497,44 +498,56 @@ some_image facts passed c code flips stand side r c_in board some spells settled
     let told = image_told facts passed c (some.turn % 8) code turns some.after side r c_in some.is.keeps (on_board_so c flips turns stand some.after some.seen board) some.is.tells spells settled in
     (told.0, seen_so facts passed c turns flips some.after stand side c_in (seen_back c flips turns stand some.after some.seen) told.0 told.1, told.2)
 
--- a position with the men is an image of what such a code spells
-pub one_image : Facts → (passed : Bool) (c code : ℕ) (flips : Bool) (stand : Stand) (side : Side) (q r : Setup) → c < 36 → HasStand c flips stand side passed q → IsSomeTurnedCodeWith passed c code flips stand side → Spells c code r → AreImages q r
-one_image facts passed c code flips stand side q r c_in has some spells = subst (AreImages q) (spells_once c code made.0 r (stands_told passed c code made.0 lane (turned_side (eqb (some.turn / 8) 1) side) there some.is.tells) spells) images
-  where
-    seen : HasStand c (eqb (some.turn / 8) 1) some.after side passed q
-    seen = seen_so facts passed c flips (eqb (some.turn / 8) 1) stand some.after side c_in some.seen q has
+-- what a turn makes of a position is spelled by the code
+pub record IsSpelledAfter (c t code : ℕ) (q r : Setup) : Type 0 where
+  pub turned : IsTurn t q r
+  pub images : AreImages q r
+  pub spells : Spells c code r
 
-    few : some.turn % 8 < 8
+-- the code of the men where the turn takes them spells what it makes of a position with the men
+pub spelled_after : Facts → (passed : Bool) (c t code : ℕ) (stand : Stand) (side : Side) (q : Setup) → HasStand c (eqb (t / 8) 1) stand side passed q → IsTurnedCodeWith passed c t code stand side → (r : Setup) × IsSpelledAfter c t code q r
+spelled_after facts passed c t code stand side q has is = (
+  made.0,
+  record { turned = (keeps, made.1); images = images; spells = stands_told passed c code made.0 lane (turned_side (eqb (t / 8) 1) side) there is.tells },
+)
+  where
+    few : t % 8 < 8
     few = omega arith
 
-    made : (r : Setup) × IsTurnedBy (some.turn % 8) (eqb (some.turn / 8) 1) q r
-    made = facts.made (some.turn % 8) (eqb (some.turn / 8) 1) q has.admissible
+    made : (r : Setup) × IsTurnedBy (t % 8) (eqb (t / 8) 1) q r
+    made = facts.made (t % 8) (eqb (t / 8) 1) q has.admissible
 
-    keeps : KeepsPlay (some.turn % 8) q.men
-    keeps = keeps_play c flips q (some.turn % 8) has.admissible has.is_of some.is.keeps
+    keeps : KeepsPlay (t % 8) q.men
+    keeps = keeps_play c (eqb (t / 8) 1) q (t % 8) has.admissible has.is_of is.keeps
 
     images : AreImages q made.0
-    images = facts.images q made.0 (some.turn % 8) (eqb (some.turn / 8) 1) has.admissible few keeps made.1
+    images = facts.images q made.0 (t % 8) (eqb (t / 8) 1) has.admissible few keeps made.1
 
-    set : IsSetBy (some.turn % 8) (eqb (some.turn / 8) 1) q made.0
-    set = facts.set (some.turn % 8) (eqb (some.turn / 8) 1) q made.0 has.admissible made.1
+    set : IsSetBy (t % 8) (eqb (t / 8) 1) q made.0
+    set = facts.set (t % 8) (eqb (t / 8) 1) q made.0 has.admissible made.1
 
     lane : Stand
-    lane = turned_by some.turn some.after
+    lane = turned_by t stand
 
     same_colours : (f : Bool) → differ f f ≡ false
     same_colours true = refl
     same_colours false = refl
 
-    there : HasStand c false lane (turned_side (eqb (some.turn / 8) 1) side) passed made.0
+    there : HasStand c false lane (turned_side (eqb (t / 8) 1) side) passed made.0
     there = record {
       admissible = facts.admissible q made.0 has.admissible images;
       settled = (facts.settled q made.0 has.admissible images).0 has.settled;
-      is_of = subst (λ f. IsOf c f made.0) (same_colours (eqb (some.turn / 8) 1)) (turned_class facts c (eqb (some.turn / 8) 1) (eqb (some.turn / 8) 1) (some.turn % 8) q made.0 has.admissible few keeps made.1 seen.is_of);
-      stood = stood_by c (some.turn % 8) (eqb (some.turn / 8) 1) q made.0 some.after few set seen.stood;
-      side_is = set.side ∙ ap (turned_side (eqb (some.turn / 8) 1)) has.side_is;
-      target_is = ap is_some set.target ∙ some_mapped (turned_square (some.turn % 8) (eqb (some.turn / 8) 1)) q.target ∙ has.target_is;
+      is_of = subst (λ f. IsOf c f made.0) (same_colours (eqb (t / 8) 1)) (turned_class facts c (eqb (t / 8) 1) (eqb (t / 8) 1) (t % 8) q made.0 has.admissible few keeps made.1 has.is_of);
+      stood = stood_by c (t % 8) (eqb (t / 8) 1) q made.0 stand few set has.stood;
+      side_is = set.side ∙ ap (turned_side (eqb (t / 8) 1)) has.side_is;
+      target_is = ap is_some set.target ∙ some_mapped (turned_square (t % 8) (eqb (t / 8) 1)) q.target ∙ has.target_is;
     }
+
+-- a position with the men is an image of what such a code spells
+pub one_image : Facts → (passed : Bool) (c code : ℕ) (flips : Bool) (stand : Stand) (side : Side) (q r : Setup) → c < 36 → HasStand c flips stand side passed q → IsSomeTurnedCodeWith passed c code flips stand side → Spells c code r → AreImages q r
+one_image facts passed c code flips stand side q r c_in has some spells =
+    let made = spelled_after facts passed c some.turn code some.after side q (seen_so facts passed c flips (eqb (some.turn / 8) 1) stand some.after side c_in some.seen q has) some.is in
+    subst (AreImages q) (spells_once c code made.0 r made.1.spells spells) made.1.images
 
 -- ---- one code tells men on their squares
 

@@ -6,8 +6,11 @@ use Rattle.egt_board.specs.Attack.{king_of}
 use Rattle.egt_board.specs.Placement.{Stands}
 use Rattle.egt_board.specs.Setup.{Setup}
 use Rattle.egt_index.specs.Code.{Spells}
+use Rattle.egt_index.specs.Index.{IsVoid}
 use Rattle.egt_index.specs.Stood.{HasStand}
+use Rattle.egt_index.specs.TurnedMen.{IsTurnedCodeWith}
 use Rattle.egt_index.specs.Turns.{IsTurn}
+use Rattle.egt_index.specs.Went.{AreOnBoard}
 use Rattle.egt_index.specs.declared.stand.Stand.{Stand}
 
 -- some turn that exchanges colours so makes what a code spells, with its kings on these squares, and none makes any with its kings on
@@ -32,3 +35,8 @@ pub record KingsHome (c : ℕ) (p : Setup) (flips : Bool) (kings : ℕ) : Type 0
 abbrev pub AreNearest : ℕ → Bool → (white black kings : ℕ) → Type 0
 AreNearest c flips white black kings =
     (stand : Stand) (side : Side) (passed : Bool) (p : Setup) → stand.white ≡ white → stand.black ≡ black → HasStand c flips stand side passed p → KingsHome c p flips kings
+
+-- of men with their kings on these squares no code after the turn is a position's index
+abbrev pub IsVoidAfter : ℕ → (white black turn : ℕ) → Type 0
+IsVoidAfter c white black turn =
+    (passed : Bool) (code : ℕ) (stand : Stand) (side : Side) → AreOnBoard stand → stand.white ≡ white → stand.black ≡ black → IsTurnedCodeWith passed c turn code stand side → IsVoid c code

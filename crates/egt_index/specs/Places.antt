@@ -18,7 +18,7 @@ use Rattle.egt_index.specs.Index.{IsVoid}
 use Rattle.egt_index.specs.Scales.{kind_digits, kind_less}
 use Rattle.egt_index.specs.Shelf.{last_of, shelf_len}
 use Rattle.egt_index.specs.Size.{man_of, men_beside}
-use Rattle.egt_index.specs.Stood.{HasStand, with_last}
+use Rattle.egt_index.specs.Stood.{Entry, HasStand, IsInOrder, with_last}
 use Rattle.egt_index.specs.declared.front.Front.{Front}
 use Rattle.egt_index.specs.declared.places.Places.{Places}
 use Rattle.egt_index.specs.declared.stand.Stand.{Stand}
@@ -78,6 +78,11 @@ pub record IsMade (passed : Bool) (c : ℕ) (stand : Stand) (man : Man) (mover :
 pub record AreMade (passed : Bool) (c : ℕ) (stand : Stand) (man : Man) (found : Places) : Type 0 where
   pub white : (k : ℕ) → (bit_at found.white k ≡ 1) ↔ IsMade passed c stand man White k
   pub black : (k : ℕ) → (bit_at found.black k ≡ 1) ↔ IsMade passed c stand man Black k
+
+-- of all these digits of his those by which two equal men are in order
+pub record AreInOrder (next : Entry) (man : Man) (all found : Places) : Type 0 where
+  pub white : (k : ℕ) → (bit_at found.white k ≡ 1) ↔ ((bit_at all.white k ≡ 1) × IsInOrder next (Some (man, k + kind_less man.kind)))
+  pub black : (k : ℕ) → (bit_at found.black k ≡ 1) ↔ ((bit_at all.black k ≡ 1) × IsInOrder next (Some (man, k + kind_less man.kind)))
 
 -- the digit is this one, which is there, and he makes a position with a target by it
 pub record IsNewDigit (c : ℕ) (stand : Stand) (man : Man) (mover : Side) (there : Bool) (digit k : ℕ) : Type 0 where

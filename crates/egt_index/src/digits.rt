@@ -1,9 +1,10 @@
 //! The digits of men on their squares.
-ghost use Rattle.std.specs.Prelude.{◌≡◌, ◌≢◌, ℕ, ◌<◌, ◌≤◌, Bool, IfSome, IfNone};
+ghost use Rattle.std.specs.Prelude.{◌≡◌, ◌≢◌, ℕ, ◌-◌, ◌<◌, ◌≤◌, Bool, IfSome, IfNone};
 ghost use Rattle.egt_board.specs.Attack.{king_of};
 ghost use Rattle.egt_board.specs.Pawn.{MayStand};
 ghost use Rattle.egt_board.specs.declared.man.Side.TheVariants.{White};
 ghost use Rattle.egt_index.specs.Code.{king_square, square_of};
+ghost use Rattle.egt_index.specs.Scales.{kind_less};
 ghost use Rattle.egt_index.specs.Size.{king_base, base_of};
 ghost use Rattle.egt_index.specs.Triangle.{place_in_triangle};
 
@@ -117,6 +118,7 @@ pub(crate) fn digit(man: Man, square: Square) -> u8
     ensures below { man ≢ king_of White → MayStand man square → (pawns : Bool) → result < base_of pawns man }
     ensures few { result < 64 }
     ensures is { man ≢ king_of White → MayStand man square → (pawns : Bool) → square_of pawns man result ≡ square }
+    ensures value { result ≡ square - kind_less man.kind }
 {
     match man.kind {
         Kind::P => square.number().saturating_sub(8),

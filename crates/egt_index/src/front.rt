@@ -5,7 +5,7 @@ ghost use Rattle.egt_index.specs.Front.{IsFrontOf};
 use crate::facts::facts;
 use crate::least_code::{Leastness, told_in_order};
 use crate::spelling::{board_of, stand_before};
-use crate::stand::{Stand, are_apart, are_kings_near};
+use crate::stand::{Stand, are_apart, are_near};
 use egt_board::Board;
 use egt_class::Class;
 
@@ -27,7 +27,7 @@ pub(crate) fn front_of(class: Class, number: u32) -> Option<Front>
     facts();
     let _number = class.number();
     let stand = stand_before(class, number)?;
-    if are_kings_near(&stand) {
+    if are_near(stand.white, stand.black) {
         return None;
     }
     if !are_apart(&stand) {

@@ -1,15 +1,15 @@
 //! The colours in which the least code is, as the kings tell: their digits are the highest.
-ghost use Rattle.std.specs.Prelude.{◌≡◌, ℕ, ◌+◌, ◌*◌, ◌<◌, ◌/◌, ◌%◌, ◌==◌, Bool, IfSome};
+ghost use Rattle.std.specs.Prelude.{◌≡◌, ℕ, ◌+◌, ◌*◌, ◌<◌, ◌/◌, ◌%◌, ◌==◌, Bool, true, IfSome};
 ghost use Rattle.egt_board.specs.Turned.{turned_square};
 ghost use Rattle.egt_class.specs.Material.{material_of};
 ghost use Rattle.egt_index.specs.Home.{AreHome};
-ghost use Rattle.egt_index.specs.Nearer.{AreNearest};
+ghost use Rattle.egt_index.specs.Nearer.{AreNearest, IsVoidAfter};
 ghost use Rattle.egt_index.specs.Size.{has_pawns};
 
 use crate::facts::facts;
 use crate::home::{Turns, home};
-use crate::men::has_pawns;
-use crate::stand::Stand;
+use crate::men::{has_equal_sides, has_pawns};
+use crate::stand::{Stand, are_near};
 use crate::turning::turned_square;
 use egt_board::Square;
 use egt_class::Class;
@@ -64,4 +64,24 @@ pub(crate) fn homeward(class: Class, white: Square, black: Square, flips: bool) 
         turns: Turns { first, second },
         kings: least_kings(white, black, kings, second),
     }
+}
+
+/// Whether the kings tell that no code of men with them here is a position's index after the turn, so that its entry
+/// need not be read: they stand beside one another, or another turn brings them to lesser squares. `white` is the
+/// square of the king who is White's after the turn.
+pub fn is_void_after(class: Class, white: Square, black: Square, turn: u8) -> bool
+    requires { turn < 16 }
+    ensures { result ≡ true → IsVoidAfter class white black turn }
+{
+    facts();
+    let _number = class.number();
+    if are_near(white, black) {
+        return true;
+    }
+    let flips = turn / 8 == 1;
+    let own = kings_after(white, black, turn);
+    if homeward(class, white, black, flips).kings < own {
+        return true;
+    }
+    has_equal_sides(class) && homeward(class, black, white, !flips).kings < own
 }

@@ -8,13 +8,15 @@ ghost use Rattle.egt_board.specs.declared.man.Man.{Man};
 ghost use Rattle.egt_class.specs.Material.{material_of};
 ghost use Rattle.egt_index.specs.Front.{IsFront, IsFrontOf};
 ghost use Rattle.egt_index.specs.Numbers.{code_of};
-ghost use Rattle.egt_index.specs.Places.{AreMade, ArePlaces, IsFrontBefore, IsPlaced, TellsIndex, facing, waiting};
+ghost use Rattle.egt_index.specs.Places.{AreInOrder, AreMade, ArePlaces, IsFrontBefore, IsPlaced, TellsIndex, facing, waiting};
 ghost use Rattle.egt_index.specs.Row.{row_len, IsRowOf};
-ghost use Rattle.egt_index.specs.Scales.{AreEqual, kind_digits, kind_less};
+ghost use Rattle.egt_index.specs.Scales.{kind_digits, kind_less};
 ghost use Rattle.egt_index.specs.Shelf.{shelf_len};
 ghost use Rattle.egt_index.specs.ShelfCodes.{AreIndexes, IsShelfBehind, IsWithin};
 ghost use Rattle.egt_index.specs.Size.{has_target, size_of};
+ghost use Rattle.egt_index.specs.Stood.{IsInOrder};
 
+use crate::digits::digit;
 use crate::facts::facts;
 use crate::front::Front;
 use crate::men::beside;
@@ -93,13 +95,30 @@ pub(crate) fn places_of(front: &Front, man: Man, mover: Side) -> u64
     digits_on(man, kept.without(occupied))
 }
 
-/// Whether the entry is of this man.
-fn is_equal(entry: &Option<(Man, Square)>, man: Man) -> bool
-    ensures { result ≡ false → (s : ℕ) → ¬ AreEqual entry.now (Some (man, s)) }
+/// The last man's digits, as bits, by which two equal men are in order: the first stands on the lesser square.
+fn digits_in_order(next: &Option<(Man, Square)>, man: Man) -> u64
+    ensures { (k : ℕ) → k < 64 → (bit_at result k ≡ 1) ↔ IsInOrder next.now (Some (man, k + kind_less man.kind)) }
 {
-    match entry {
-        Some((other, _)) => *other == man,
-        None => false,
+    match next {
+        Some((other, square)) => {
+            if *other == man {
+                u64::MAX << digit(man, *square)
+            } else {
+                u64::MAX
+            }
+        }
+        None => u64::MAX,
+    }
+}
+
+/// Those of the last man's places by which two equal men are in order: in the other order none has an index.
+fn in_order(next: &Option<(Man, Square)>, man: Man, all: Places) -> Places
+    ensures { AreInOrder next.now man all result }
+{
+    let digits = digits_in_order(next, man);
+    Places {
+        white: all.white & digits,
+        black: all.black & digits,
     }
 }
 
@@ -136,10 +155,11 @@ fn places_behind(class: Class, front: &Front, man: Man, passed: bool) -> Option<
 {
     facts();
     let _number = class.number();
-    if front.tied || is_equal(&front.stand.next, man) {
+    if front.tied {
         return None;
     }
-    Some(settled_places(class, front, man, passed))
+    let all = settled_places(class, front, man, passed);
+    Some(in_order(&front.stand.next, man, all))
 }
 
 /// The indexes of the shelf behind the front with this number, where that and the class tell all of them; there is no front only where all are void.

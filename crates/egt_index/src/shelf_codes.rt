@@ -21,7 +21,7 @@ use crate::passed::may_pass;
 use crate::places::{Places, settled_places};
 use crate::shelf::digits_of;
 use crate::spelling::{board_of, stand_before};
-use crate::stand::{are_apart, are_kings_near};
+use crate::stand::{are_apart, are_near};
 use crate::turning::turned_square;
 use egt_board::{Kind, Man, Side, Square};
 use egt_class::Class;
@@ -144,7 +144,7 @@ fn spelled_front(class: Class, shelf: u32) -> Option<Front>
 {
     let _number = class.number();
     let stand = stand_before(class, shelf)?;
-    if are_kings_near(&stand) {
+    if are_near(stand.white, stand.black) {
         return None;
     }
     if !are_apart(&stand) {

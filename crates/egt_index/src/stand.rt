@@ -330,12 +330,12 @@ pub(crate) fn are_apart(stand: &Stand) -> bool
     others & off_white & off_black & (stand.white != stand.black)
 }
 
-/// Whether the kings stand on neighbouring squares, or on one.
+/// Whether the squares are neighbours, or one.
 #[inline(always)]
-pub(crate) fn are_kings_near(stand: &Stand) -> bool
-    ensures { result ≡ true → AreNear stand.now.white stand.now.black }
+pub(crate) fn are_near(one: Square, other: Square) -> bool
+    ensures { result ≡ true → AreNear one other }
 {
-    let files = stand.white.file().abs_diff(stand.black.file());
-    let ranks = stand.white.rank().abs_diff(stand.black.rank());
+    let files = one.file().abs_diff(other.file());
+    let ranks = one.rank().abs_diff(other.rank());
     files <= 1 && ranks <= 1
 }

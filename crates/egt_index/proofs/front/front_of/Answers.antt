@@ -16,11 +16,11 @@ pub returns-in_err-stand : goal.returns-in_err-stand
 returns-in_err-stand c =
     subst (IsFrontOf c.args.class c.args.number) (sym c.from_residual.ensures) (λ n last tells. void_row c.args.class n (c.in_err-stand.ensures.none n last tells))
 
-pub returns-then-are_kings_near : goal.returns-then-are_kings_near
-returns-then-are_kings_near c = λ n last tells code same p ok index.
+pub returns-then-are_near : goal.returns-then-are_near
+returns-then-are_near c = λ n last tells code same p ok index.
     let stand = with_last c.in_ok-stand.stand last in
     none_near c.args.class n code stand index.image (omega (arith, c.number-number.ensures.below, c.number-number.ensures.value)) same
-    (c.in_ok-stand.ensures.some.men n last tells) index.spells (c.are_kings_near.ensures c.if-are_kings_near.true)
+    (c.in_ok-stand.ensures.some.men n last tells) index.spells (c.are_near.ensures c.if-are_near.true)
 
 pub returns-then-not-are_apart : goal.returns-then-not-are_apart
 returns-then-not-are_apart c = λ n last tells code same p ok index.

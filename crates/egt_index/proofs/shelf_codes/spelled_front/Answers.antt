@@ -12,10 +12,10 @@ pub returns-in_err-stand-clause-none : goal.returns-in_err-stand-clause-none
 returns-in_err-stand-clause-none c =
     subst (λ o. IfNone o (SpellsNothing c.args.class c.args.shelf)) (sym c.from_residual.ensures) (λ n last code p tells same spells. nothing_in_row c.args.class n code p (c.in_err-stand.ensures.none n last tells) same spells)
 
-pub returns-then-are_kings_near-clause-none : goal.returns-then-are_kings_near-clause-none
-returns-then-are_kings_near-clause-none c = λ n last code p tells same spells.
+pub returns-then-are_near-clause-none : goal.returns-then-are_near-clause-none
+returns-then-are_near-clause-none c = λ n last code p tells same spells.
     none_near c.args.class n code (with_last c.in_ok-stand.stand last) p (omega (arith, c.number-number.ensures.below, c.number-number.ensures.value)) same (c.in_ok-stand.ensures.some.men n last tells) spells
-    (c.are_kings_near.ensures c.if-are_kings_near.true)
+    (c.are_near.ensures c.if-are_near.true)
 
 pub returns-then-not-are_apart-clause-none : goal.returns-then-not-are_apart-clause-none
 returns-then-not-are_apart-clause-none c = λ n last code p tells same spells.
