@@ -6,7 +6,7 @@ use Rattle.egt_board.specs.AttackLines.{Reaches, Reaches-free, Reaches-on_board}
 use Rattle.egt_board.specs.SquareSet.{Has}
 use Rattle.egt_board.specs.declared.man.Man.{Man}
 use Rattle.egt_board.specs.declared.square_set.SquareSet.{SquareSet}
-use Rattle.egt_check.specs.Roamer.{GoesFree}
+use Rattle.egt_steps.specs.Roamer.{GoesFree}
 
 -- his own square is taken, and those of the others
 module _ (held all : SquareSet) (from : ℕ) (has : Has all from) (others : (u : ℕ) → u ≢ from → bit_at all.bits u ≡ bit_at held.bits u) where

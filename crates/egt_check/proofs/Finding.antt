@@ -11,7 +11,7 @@ use Rattle.egt_index.specs.Size.{size_of}
 use Rattle.egt_moves.specs.declared.chess_move.Move.{Move}
 use Rattle.egt_moves.specs.Legal.{Leads}
 use Rattle.egt_table.specs.Table.{TableValue}
-use Rattle.egt_check.specs.Facts.{Facts}
+use Rattle.egt_steps.specs.Facts.{Facts}
 use Rattle.egt_check.specs.Place.{IsPlaceOf, HasReachAt}
 use Rattle.egt_check.specs.Steps.{IsInClass}
 use Rattle.egt_check.specs.Tables.{Tables, beside, HasChildren, HasReachChildren}

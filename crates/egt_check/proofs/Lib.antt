@@ -11,15 +11,10 @@ pub mod Stepping
 pub mod FirstRule
 pub mod Judged
 pub mod Shelving
-pub mod Still
 pub mod Raising
 mod Scoring
 mod Marks
-pub mod Fanned
-pub mod Spreading
 pub mod Attacking
-pub mod Leaping
-pub mod Pushing
 mod ShelfJudged
 pub mod Worth
 pub mod RowRead

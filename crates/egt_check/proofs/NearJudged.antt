@@ -12,7 +12,7 @@ use Rattle.egt_moves.specs.declared.chess_move.Move.{Move}
 use Rattle.egt_table.specs.Table.{TableValue, entries_or_none}
 use Rattle.egt_check.specs.declared.metric.Metric.TheVariants.{Mate}
 use Rattle.egt_check.specs.declared.rule.Rule.TheVariants as rules
-use Rattle.egt_check.specs.Facts.{Facts}
+use Rattle.egt_steps.specs.Facts.{Facts}
 use Rattle.egt_check.specs.Given.{AreGiven, HasScores, IsKnown}
 use Rattle.egt_check.specs.NearTables.{near_entry, near_if, near_of, near_table, near_tables}
 use Rattle.egt_check.specs.Reach.{FitsReachBeside, HasReachEntry, ShowsReachOf, reach_entry_of}

@@ -13,7 +13,7 @@ use Rattle.egt_moves.specs.Standing.{StandsAs}
 use Rattle.egt_moves.specs.declared.outcome.Standing.{Standing}
 use Rattle.egt_moves.specs.declared.outcome.Standing.TheVariants.{Checkmate, Stalemate, HasMove}
 use Rattle.egt_check.specs.Entry.{longest}
-use Rattle.egt_check.specs.Facts.{Facts}
+use Rattle.egt_steps.specs.Facts.{Facts}
 use Rattle.egt_check.specs.Nearest.{nearer, IsNearest}
 use Rattle.egt_check.specs.Reach.{HasReachEntry, IsReachDue, ShowsReach, ShowsReachOf}
 use Rattle.egt_check.specs.Tables.{Tables, reach_at}

@@ -25,12 +25,12 @@ use Rattle.egt_moves.specs.Legal as legal
 use Rattle.egt_moves.specs.Promotion.{FitsPromotion, IsOfficer, arriving, promotes}
 use Rattle.egt_moves.specs.declared.chess_move.Move.{Move}
 use Rattle.egt_moves.proofs.After.{arriving_side, not_free, side_twice, sides_differ, target_is}
-use Rattle.egt_check.specs.Facts.{Facts}
+use Rattle.egt_steps.specs.Facts.{Facts}
 use Rattle.egt_check.specs.InPassing.{LeavesTarget}
 use Rattle.egt_check.specs.PawnMoves.{IsAdvance, IsAdvanceFrom, IsClassAfter, stand_after, stand_in}
 use Rattle.egt_check.specs.QuietStands.{IsClear}
 use Rattle.egt_check.proofs.LeftTargets.{IsAfter, behind_target, settles_so, told}
-use Rattle.egt_check.proofs.Still.{not_passing}
+use Rattle.egt_steps.proofs.Still.{not_passing}
 use Rattle.egt_check.proofs.Takings.{arrives, empties, placed, stays}
 use Rattle.egt_check.proofs.TwoBeside.{AreTwo, Counting, are_after, are_in, one_two, stands_after}
 

@@ -20,14 +20,14 @@ use Rattle.egt_moves.specs.Legal.{Leads, after, is_two_ranks, men_after, men_lef
 use Rattle.egt_moves.specs.Promotion.{FitsPromotion, IsOfficer, arriving, is_pawn, promotes}
 use Rattle.egt_moves.specs.declared.chess_move.Move.{Move}
 use Rattle.egt_moves.proofs.After.{not_free, side_twice, sides_differ, target_is}
-use Rattle.egt_check.specs.Facts.{Facts}
+use Rattle.egt_steps.specs.Facts.{Facts}
 use Rattle.egt_check.specs.PawnMoves.{IsPromotingCapture, IsPromotingCaptureFrom, officer_of, stand_in}
 use Rattle.egt_check.specs.Takings.{IsClassOf, IsPastKings, Left, left_of, stand_left}
-use Rattle.egt_check.proofs.Fanned.{king_bare}
-use Rattle.egt_check.proofs.Leaping.{and_false}
+use Rattle.egt_steps.proofs.Fanned.{king_bare}
+use Rattle.egt_steps.proofs.Leaping.{and_false}
 use Rattle.egt_check.proofs.PawnAdvances.{none_of}
-use Rattle.egt_check.proofs.Pushing.{untold}
-use Rattle.egt_check.proofs.Still.{neither, not_passing}
+use Rattle.egt_steps.proofs.Pushing.{untold}
+use Rattle.egt_steps.proofs.Still.{neither, not_passing}
 use Rattle.egt_check.proofs.Takings.{AreLeft, Telling, are_left, arrives, empties, one_left, placed, stands_left, stays}
 use Rattle.egt_check.proofs.TwoBeside.{AreTwo, are_in, who}
 

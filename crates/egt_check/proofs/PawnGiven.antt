@@ -29,7 +29,7 @@ use Rattle.egt_moves.specs.Promotion.{arriving, is_pawn, promotes}
 use Rattle.egt_moves.specs.declared.chess_move.Move.{Move}
 use Rattle.egt_table.specs.Table.{TableValue}
 use Rattle.egt_check.specs.declared.metric.Metric.TheVariants.{Mate}
-use Rattle.egt_check.specs.Facts.{Facts}
+use Rattle.egt_steps.specs.Facts.{Facts}
 use Rattle.egt_check.specs.Given.{AreGiven}
 use Rattle.egt_moves.proofs.After.{sides_differ}
 use Rattle.egt_check.specs.InPassing.{AreLeapCodes, ArePassingCodes, AreStepCodes, IsPassingCapture, IsPassingFrom, LeavesTarget}

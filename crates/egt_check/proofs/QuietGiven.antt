@@ -17,12 +17,12 @@ use Rattle.egt_table.specs.Table.{IsTable, TableValue}
 use Rattle.egt_check.specs.declared.metric.Metric.{Metric}
 use Rattle.egt_check.specs.declared.metric.Metric.TheVariants.{Mate, Zeroing}
 use Rattle.egt_check.specs.Blocks.{stand_on, with_king}
-use Rattle.egt_check.specs.Facts.{Facts}
+use Rattle.egt_steps.specs.Facts.{Facts}
 use Rattle.egt_check.specs.Given.{AreAlike, AreGiven, HasScores}
 use Rattle.egt_check.specs.QuietStands.{AreQuietCodes, IsQuietStand}
 use Rattle.egt_check.specs.Tables.{HasEntry, Tables, entry_at}
 use Rattle.egt_check.specs.Worth.{HasBytes, IsBestOf, score_at}
-use Rattle.egt_check.proofs.Still.{KeepsClass}
+use Rattle.egt_steps.proofs.Still.{KeepsClass}
 use Rattle.egt_check.proofs.QuietStands.{Following, comes, goes}
 use Rattle.egt_check.proofs.Worth.{AreWhole, Turning, best_of}
 

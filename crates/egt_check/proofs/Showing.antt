@@ -7,7 +7,7 @@ use Rattle.egt_moves.specs.Chess.{chess}
 use Rattle.egt_check.specs.declared.metric.Metric.{Metric}
 use Rattle.egt_check.specs.declared.outcome.Outcome.{Outcome}
 use Rattle.egt_check.specs.Entry.{Shows}
-use Rattle.egt_check.specs.Facts.{Facts}
+use Rattle.egt_steps.specs.Facts.{Facts}
 use Rattle.egt_check.specs.Score.{IsShownBy}
 use Rattle.egt_check.specs.Tables.{Tables, entry_at, HasEntry, ShowsOf}
 use Rattle.egt_check.proofs.Due.{IsOne, IsShownOf}

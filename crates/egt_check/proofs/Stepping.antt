@@ -9,7 +9,7 @@ use Rattle.egt_check.specs.declared.metric.Metric.{Metric}
 use Rattle.egt_check.specs.declared.metric.Metric.TheVariants.{Mate, Zeroing}
 use Rattle.egt_check.specs.declared.by_metric.ByMetric.{ByMetric}
 use Rattle.egt_check.specs.declared.outcome.Outcome.{Outcome}
-use Rattle.egt_check.specs.Facts.{Facts}
+use Rattle.egt_steps.specs.Facts.{Facts}
 use Rattle.egt_check.specs.Score.{number_at, IsShownBy, IsSaid, score_of, Scores, zeroing_said}
 use Rattle.egt_check.specs.Tables.{Tables, HasEntry, ShowsOf}
 use Rattle.egt_check.proofs.Due.{mate_said, zeroing_is_said}

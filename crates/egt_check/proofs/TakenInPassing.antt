@@ -25,14 +25,14 @@ use Rattle.egt_moves.specs.Legal.{Leads, after, is_target, men_after, men_left}
 use Rattle.egt_moves.specs.Promotion.{FitsPromotion, IsOfficer, arriving, is_pawn, promotes}
 use Rattle.egt_moves.specs.declared.chess_move.Move.{Move}
 use Rattle.egt_moves.proofs.After.{may_become, not_free, side_twice, sides_differ, target_is}
-use Rattle.egt_check.specs.Facts.{Facts}
+use Rattle.egt_steps.specs.Facts.{Facts}
 use Rattle.egt_check.specs.InPassing.{IsOfFourKinds, IsPassingCapture, IsPassingFrom}
 use Rattle.egt_check.specs.PawnMoves.{stand_in}
 use Rattle.egt_check.specs.Takings.{IsClassOf, IsPastKings, Left, left_of, stand_left}
 use Rattle.egt_check.proofs.LeftTargets.{behind_target}
 use Rattle.egt_check.proofs.PawnAdvances.{none_of}
 use Rattle.egt_check.proofs.PawnCaptures.{takes_bare, takes_unpassed}
-use Rattle.egt_check.proofs.Still.{no_promotion}
+use Rattle.egt_steps.proofs.Still.{no_promotion}
 use Rattle.egt_check.proofs.Takings.{AreLeft, Telling, are_left, arrives, empties, not_promoting, one_left, placed, stands_left, stays}
 use Rattle.egt_check.proofs.TwoBeside.{AreTwo, are_in, who}
 

@@ -12,7 +12,7 @@ use Rattle.egt_moves.specs.Reach.{FitsReach as FitsNumbers, HasReach, ReachJudge
 use Rattle.egt_table.specs.Table.{TableValue, IsTable}
 use Rattle.egt_check.specs.declared.rule.Rule.TheVariants as rules
 use Rattle.egt_check.specs.Alike.{StepAlike}
-use Rattle.egt_check.specs.Facts.{Facts}
+use Rattle.egt_steps.specs.Facts.{Facts}
 use Rattle.egt_check.specs.Library.{ReachesDown}
 use Rattle.egt_check.specs.Reach.{FitsReachBeside, HasReachEntry, ShowsReach, ShowsReachOf}
 use Rattle.egt_check.specs.Rules.{FitsReach, KeepsReach, KeepsReachBelow}

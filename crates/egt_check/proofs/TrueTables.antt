@@ -21,7 +21,7 @@ use Rattle.egt_check.specs.declared.rule.Rule.{Rule}
 use Rattle.egt_check.specs.declared.rule.Rule.TheVariants as rules
 use Rattle.egt_check.specs.Alike.{StepAlike}
 use Rattle.egt_check.specs.Entry.{Shows}
-use Rattle.egt_check.specs.Facts.{Facts}
+use Rattle.egt_steps.specs.Facts.{Facts}
 use Rattle.egt_check.specs.Fits.{Shown, FitsBeside}
 use Rattle.egt_check.specs.Rules.{Fits, Keeps, KeepsBelow}
 use Rattle.egt_check.specs.Tables.{Tables, entry_at, HasEntry, ShowsOf}

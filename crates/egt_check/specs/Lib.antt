@@ -9,16 +9,12 @@ pub mod Library
 pub mod Names
 pub mod Alike
 pub mod Reading
-pub mod Facts
 pub mod Score
 pub mod FirstBad
 pub mod Steps
 pub mod Raised
 pub mod Judged
-pub mod Fan
-pub mod Roamer
 pub mod Voids
-pub mod Pusher
 pub mod Worth
 pub mod Blocks
 pub mod QuietSteps

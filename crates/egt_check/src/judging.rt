@@ -12,7 +12,6 @@ ghost use Rattle.egt_check.specs.Steps.{IsInClass, shown_by};
 ghost use Rattle.egt_check.specs.Tables.{table_at, beside, HasChildren};
 
 use crate::by_metric::ByMetric;
-use crate::facts::facts;
 use crate::library::Library;
 use crate::outcome::{Outcome, entry_before, shown};
 use crate::rule::Rule;
@@ -21,6 +20,7 @@ use egt_board::Position;
 use egt_index::laws::{codes_spell_one_position, spelled_positions_are_of_the_class};
 use egt_index::position;
 use egt_moves::{Standing, standing};
+use egt_steps::facts::facts;
 use egt_table::Table;
 
 /// The rule for entries that show this.

@@ -42,7 +42,6 @@ ghost use Rattle.egt_check.specs.Library.{ReachesDown};
 ghost use Rattle.egt_check.specs.Rules.{KeepsRules};
 ghost use Rattle.egt_check.specs.Truth.{IsTrueTable, HasTrueChildren};
 
-use crate::facts::facts;
 use crate::pawn_laws::{
     codes_after_advances_beside_pawns_give_them, codes_after_advances_give_the_advances,
     codes_after_captures_in_passing_give_them, codes_after_promoting_captures_give_them,
@@ -53,6 +52,8 @@ use egt_index::laws::{
     a_code_is_an_index_or_void, codes_follow_steps, codes_spell_one_position,
     codes_tell_turned_men, numbers_stand_for_codes, stands_follow_moves,
 };
+use egt_steps::facts::facts;
+use egt_steps::laws::a_quiet_move_moves_one_man;
 
 /// Where the children's tables are true, the entries of a table keep all rules exactly where the table is true: each entry is
 /// the value, the zeroing distance or the distance of the nearest mate of its position, void entries are 0, and no distance is above 32,000.
@@ -76,15 +77,6 @@ pub fn a_position_plays_as_its_index_spells()
 {
     facts();
     codes_spell_one_position();
-}
-
-/// A move that does not zero takes one man to a free square, and changes nothing else on the board: it keeps the class and sets no
-/// target.
-pub fn a_quiet_move_moves_one_man()
-    ensures { (c : ℕ) (p q : Setup) (m : Move) → IsAdmissible p → Leads p m q → ¬ Zeroes p m → IsMoved c p m.from m.to q }
-{
-    facts();
-    moves_lead_into_the_class_or_a_child();
 }
 
 /// Entries whose bytes are due to the greatest bytes of all moves keep the rules. Where no byte is given by a move, there is none, and the entries keep the

@@ -10,7 +10,6 @@ pub mod by_metric;
 pub mod bytes;
 pub mod checking;
 pub mod digits;
-pub mod facts;
 pub mod judging;
 pub mod king_blocks;
 pub mod laws;

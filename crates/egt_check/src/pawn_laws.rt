@@ -27,11 +27,11 @@ ghost use Rattle.egt_check.specs.Takings.{IsClassOf, left_of, stand_left};
 ghost use Rattle.egt_check.specs.Tables.{Tables};
 ghost use Rattle.egt_check.specs.Worth.{score_at};
 
-use crate::facts::facts;
 use egt_class::laws::men_beside_are_counted;
 use egt_index::laws::{
     a_code_is_an_index_or_void, codes_tell_turned_men, numbers_stand_for_codes, stands_follow_moves,
 };
+use egt_steps::facts::facts;
 
 /// The advances of the last man beside the kings, a pawn, lead to the men after them, and to all positions of them. One by two
 /// squares leaves a target where the first man is a pawn who stands ready to take in passing.

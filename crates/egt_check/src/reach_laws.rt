@@ -29,12 +29,12 @@ ghost use Rattle.egt_check.specs.Score.{IsAtEnd};
 ghost use Rattle.egt_check.specs.Tables.{Tables, reach_at};
 ghost use Rattle.egt_check.specs.Worth.{column_score};
 
-use crate::facts::facts;
 use crate::laws::{all_scores_give_all_moves, due_bytes_are_right};
 use egt_index::laws::{
     a_code_is_an_index_or_void, codes_follow_steps, codes_spell_one_position,
     numbers_stand_for_codes,
 };
+use egt_steps::facts::facts;
 
 /// Entries of a position that are due to the greatest scores of all moves keep the rules. Where there is no move, so do those that tell checkmate or
 /// stalemate.

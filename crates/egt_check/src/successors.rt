@@ -18,13 +18,13 @@ ghost use Rattle.egt_check.specs.Steps.{IsInClass, shown_by};
 ghost use Rattle.egt_check.specs.Tables.{table_at, beside, entry_at, HasEntry, HasChildren, HasReachChildren};
 
 use crate::by_metric::ByMetric;
-use crate::facts::facts;
 use crate::library::Library;
 use crate::outcome::{mate_score, zeroing_score};
 use egt_board::Position;
 use egt_class::{Class, of};
 use egt_index::{index, indexed_by_men};
 use egt_moves::{Men, Move, is_told_by_men, legal_moves, play_legal, zeroing};
+use egt_steps::facts::facts;
 use egt_table::{Column, Table};
 
 /// A table's entries at an index.

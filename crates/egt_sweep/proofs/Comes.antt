@@ -7,7 +7,7 @@ use Rattle.egt_board.specs.AttackLines.{Reaches-on_board}
 use Rattle.egt_board.specs.SquareSet.{Has}
 use Rattle.egt_board.specs.declared.man.Man.{Man}
 use Rattle.egt_board.specs.declared.square_set.SquareSet.{SquareSet}
-use Rattle.egt_check.specs.Roamer.{GoesFree}
+use Rattle.egt_steps.specs.Roamer.{GoesFree}
 use Rattle.egt_sweep.specs.Roaming.{ComesTo}
 
 -- he goes from the board to the board

@@ -4,7 +4,7 @@ use Rattle.std.specs.Int.{bit_at}
 use Rattle.std.specs.List.{list_any}
 use Rattle.egt_board.specs.Decided.{Decided, decided_both, decided_eq, decided_not, decided_some_below, tells}
 use Rattle.egt_board.specs.DecidedMen.{decided_reaches}
-use Rattle.egt_check.specs.Roamer.{GoesFree}
+use Rattle.egt_steps.specs.Roamer.{GoesFree}
 use Rattle.egt_graph.specs.WordMoves.{turned_place}
 use Rattle.egt_graph.specs.Words.{number_at}
 use Rattle.egt_graph.specs.declared.word_moves.Pushes.{Pushes}

@@ -19,7 +19,7 @@ use Rattle.egt_moves.specs.declared.chess_move.Move.{Move}
 use Rattle.egt_unmoves.specs.Unmoves.{IsUnmove}
 use Rattle.egt_unmoves.specs.declared.unmove.Unmove.{Unmove}
 use Rattle.egt_check.specs.Alike.{StepAlike}
-use Rattle.egt_check.specs.Facts.{Facts}
+use Rattle.egt_steps.specs.Facts.{Facts}
 
 pub record Laws : Type 0 where
   pub facts : Facts

@@ -3,7 +3,7 @@ use Rattle.std.specs.Prelude.{ℕ}
 use Rattle.egt_board.specs.SquareSet.{Has}
 use Rattle.egt_board.specs.declared.man.Man.{Man}
 use Rattle.egt_board.specs.declared.square_set.SquareSet.{SquareSet}
-use Rattle.egt_check.specs.Roamer.{GoesFree}
+use Rattle.egt_steps.specs.Roamer.{GoesFree}
 
 -- he goes from k to one of these squares
 abbrev pub ComesTo : SquareSet → Man → ℕ → SquareSet → Type 0

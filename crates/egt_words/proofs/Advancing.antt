@@ -31,11 +31,11 @@ use Rattle.egt_moves.specs.Legal.{Leads, after, is_target, is_two_ranks, plain}
 use Rattle.egt_moves.specs.Promotion.{FitsPromotion, is_pawn, promotes}
 use Rattle.egt_moves.specs.declared.chess_move.Move.{Move}
 use Rattle.egt_moves.proofs.After.{side_twice, sides_differ}
-use Rattle.egt_check.specs.Facts.{Facts}
-use Rattle.egt_check.specs.Pusher.{IsTwoAhead}
-use Rattle.egt_check.proofs.Leaping.{LeapsTo, advances_by, advances_two, and_false, two_ahead_stays}
-use Rattle.egt_check.proofs.Pushing.{unlast, untold}
-use Rattle.egt_check.proofs.Still.{KeepsClass, next_rank, one_or_other}
+use Rattle.egt_steps.specs.Facts.{Facts}
+use Rattle.egt_steps.specs.Pusher.{IsTwoAhead}
+use Rattle.egt_steps.proofs.Leaping.{LeapsTo, advances_by, advances_two, and_false, two_ahead_stays}
+use Rattle.egt_steps.proofs.Pushing.{unlast, untold}
+use Rattle.egt_steps.proofs.Still.{KeepsClass, next_rank, one_or_other}
 use Rattle.egt_words.specs.Steps.{IsAdvance, SettlesIn}
 use Rattle.egt_words.specs.MoveLists as told
 

@@ -26,11 +26,11 @@ use Rattle.egt_index.specs.Size.{size_of}
 use Rattle.egt_index.specs.StepCodes.{FollowsLeap, FollowsStep}
 use Rattle.egt_index.specs.declared.shelf_codes.ShelfMen.{ShelfMen}
 use Rattle.egt_moves.specs.declared.chess_move.Move.{Move}
-use Rattle.egt_check.specs.Facts.{Facts}
-use Rattle.egt_check.specs.Pusher.{IsTwoAhead}
-use Rattle.egt_check.proofs.Leaping.{LeapsTo, advances_by, advances_two, two_ahead_stays}
-use Rattle.egt_check.proofs.Pushing.{advances_ahead}
-use Rattle.egt_check.proofs.Still.{KeepsClass}
+use Rattle.egt_steps.specs.Facts.{Facts}
+use Rattle.egt_steps.specs.Pusher.{IsTwoAhead}
+use Rattle.egt_steps.proofs.Leaping.{LeapsTo, advances_by, advances_two, two_ahead_stays}
+use Rattle.egt_steps.proofs.Pushing.{advances_ahead}
+use Rattle.egt_steps.proofs.Still.{KeepsClass}
 use Rattle.egt_words.specs.Standing.{IsAt, IsHeldOn, IsRivalAt, least_of}
 use Rattle.egt_words.specs.Steps.{AreAhead, GoesAhead, IsAdvance, IsLeap, IsLeapWord, IsPassingLeap, IsPawnGoal, IsQuietLeap, IsStepWay, SettlesIn, TellsOpen}
 use Rattle.egt_words.specs.MoveLists.{word_of}

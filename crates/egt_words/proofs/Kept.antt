@@ -24,9 +24,9 @@ use Rattle.egt_moves.specs.Legal.{Leads}
 use Rattle.egt_moves.specs.Promotion.{FitsPromotion, is_pawn, promotes}
 use Rattle.egt_moves.specs.declared.chess_move.Move.{Move}
 use Rattle.egt_moves.proofs.After.{side_twice, sides_differ}
-use Rattle.egt_check.proofs.Leaping.{advances_by, two_ahead_stays}
-use Rattle.egt_check.proofs.Pushing.{unlast}
-use Rattle.egt_check.proofs.Still.{pawn_is}
+use Rattle.egt_steps.proofs.Leaping.{advances_by, two_ahead_stays}
+use Rattle.egt_steps.proofs.Pushing.{unlast}
+use Rattle.egt_steps.proofs.Still.{pawn_is}
 use Rattle.egt_words.specs.Standing.{IsAt, IsHeldOn, IsStanding, least_of, standing}
 use Rattle.egt_words.specs.Staying.{IsFoeOn, MayPromote, ReachesPast, StaysAt}
 use Rattle.egt_words.specs.MoveLists.{word_of}

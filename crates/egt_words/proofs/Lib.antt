@@ -16,3 +16,4 @@ pub mod Stays
 pub mod Kept
 pub mod Telling
 pub mod Nodes
+pub mod Spreading

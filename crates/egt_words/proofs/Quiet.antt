@@ -19,7 +19,7 @@ use Rattle.egt_moves.specs.Legal.{Leads, is_target, is_two_ranks, men_after, pas
 use Rattle.egt_moves.specs.Promotion.{FitsPromotion, is_pawn}
 use Rattle.egt_moves.specs.declared.chess_move.Move.{Move}
 use Rattle.egt_moves.proofs.After.{side_twice}
-use Rattle.egt_check.proofs.Still.{no_pawn}
+use Rattle.egt_steps.proofs.Still.{no_pawn}
 use Rattle.egt_words.specs.MoveLists.{Quietly}
 
 module _ (c : ℕ) (p : Setup) (man : Man) (from to : ℕ) (stands : Stands p.men from man) (mine : man.side ≡ p.side) (piece : man.kind ≢ P) where

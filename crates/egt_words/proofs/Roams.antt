@@ -20,7 +20,7 @@ use Rattle.egt_index.specs.declared.shelf_codes.ShelfMen.{ShelfMen}
 use Rattle.egt_moves.specs.Chess.{Zeroes}
 use Rattle.egt_moves.specs.Legal.{Leads}
 use Rattle.egt_moves.specs.declared.chess_move.Move.{Move}
-use Rattle.egt_check.specs.Roamer.{GoesFree}
+use Rattle.egt_steps.specs.Roamer.{GoesFree}
 use Rattle.egt_words.specs.Standing.{IsAt, IsHeldOn, IsWordWith, least_of}
 use Rattle.egt_words.specs.Steps.{ComesTo, IsRoaming}
 use Rattle.egt_words.specs.MoveLists.{GoesRoaming, Quietly, word_of}

@@ -14,7 +14,7 @@ use Rattle.egt_graph.specs.declared.word_moves.Way.{Way}
 use Rattle.egt_index.specs.Numbers.{IsNumbered, places}
 use Rattle.egt_index.specs.ShelfCodes.{IsShelf}
 use Rattle.egt_index.specs.declared.shelf_codes.ShelfMen.{ShelfMen}
-use Rattle.egt_check.specs.Fan.{IsGoal}
+use Rattle.egt_words.specs.Fan.{IsGoal}
 use Rattle.egt_words.specs.Standing.{IsHeldOn, IsStanding, least_of}
 use Rattle.egt_words.specs.Steps.{AddsOne, AddsShut, AreSteps, GoesStanding, IsStepWay, Keeps, TellsQuiet}
 use Rattle.egt_words.specs.MoveLists.{word_of}

@@ -26,8 +26,8 @@ use Rattle.egt_index.specs.declared.shelf_codes.ShelfMen.{ShelfMen}
 use Rattle.egt_moves.specs.Chess.{Zeroes}
 use Rattle.egt_moves.specs.Legal.{Leads}
 use Rattle.egt_moves.specs.declared.chess_move.Move.{Move}
-use Rattle.egt_check.specs.Fan.{IsGoal}
-use Rattle.egt_check.proofs.Fanned.{king_reaches}
+use Rattle.egt_words.specs.Fan.{IsGoal}
+use Rattle.egt_steps.proofs.Fanned.{king_reaches}
 use Rattle.egt_words.specs.Standing.{IsAt, IsHeldOn, IsStanding, least_of}
 use Rattle.egt_words.specs.Steps.{IsStepWay}
 use Rattle.egt_words.specs.MoveLists.{Quietly, word_of}

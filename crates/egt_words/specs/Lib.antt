@@ -3,3 +3,4 @@ pub mod Standing
 pub mod Steps
 pub mod Pushing
 pub mod Staying
+pub mod Fan

@@ -6,7 +6,7 @@ use Rattle.std.specs.List.{Contains}
 use Rattle.egt_board.specs.Images.{AreImages, side_number}
 use Rattle.egt_board.specs.Setup.{Setup}
 use Rattle.egt_board.specs.declared.man.Side.{Side}
-use Rattle.egt_check.specs.Roamer.{GoesFree}
+use Rattle.egt_steps.specs.Roamer.{GoesFree}
 use Rattle.egt_graph.specs.WordMoves.{FitsPushes, FitsTurns, GoesPushed, GoesStraight, GoesTurned, HasWords}
 use Rattle.egt_graph.specs.Words.{number_at, words_of}
 use Rattle.egt_graph.specs.declared.word_moves.Pushes.{Pushes}

@@ -6,7 +6,7 @@ use Rattle.egt_board.specs.SquareSet.{Has}
 use Rattle.egt_board.specs.declared.man.Side.{Side}
 use Rattle.egt_board.specs.declared.man.Side.TheVariants.{White, Black}
 use Rattle.egt_board.specs.declared.square_set.SquareSet.{SquareSet}
-use Rattle.egt_check.specs.Pusher.{IsTwoAhead}
+use Rattle.egt_steps.specs.Pusher.{IsTwoAhead}
 use Rattle.egt_index.specs.declared.shelf_codes.ShelfMen.{ShelfMen}
 use Rattle.egt_words.specs.Standing.{AreRivals}
 

@@ -10,7 +10,7 @@ use Rattle.egt_board.specs.Square.{rank_of}
 use Rattle.egt_board.specs.declared.man.Man.{Man}
 use Rattle.egt_board.specs.declared.man.Side.{Side}
 use Rattle.egt_board.specs.declared.square_set.SquareSet.{SquareSet}
-use Rattle.egt_check.specs.Pusher.{IsTwoAhead}
+use Rattle.egt_steps.specs.Pusher.{IsTwoAhead}
 use Rattle.egt_graph.specs.WordMoves.{FitsPushes, FitsTurns, GoesPushed, GoesStraight, GoesTurned, HasWords, turned_place}
 use Rattle.egt_graph.specs.Words.{number_at, words_of}
 use Rattle.egt_graph.specs.declared.word_moves.Pushes.{Pushes}

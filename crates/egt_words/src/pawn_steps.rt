@@ -5,7 +5,7 @@ ghost use Rattle.egt_board.specs.Pawn.{ahead, home_rank};
 ghost use Rattle.egt_board.specs.Square.{rank_of};
 ghost use Rattle.egt_board.specs.SquareSet.{Has};
 ghost use Rattle.egt_board.specs.declared.man.Kind.TheVariants.{P};
-ghost use Rattle.egt_check.specs.Pusher.{IsTwoAhead};
+ghost use Rattle.egt_steps.specs.Pusher.{IsTwoAhead};
 ghost use Rattle.egt_index.specs.Scales.{kind_less};
 ghost use Rattle.egt_index.specs.ShelfCodes.{IsShelf};
 ghost use Rattle.egt_words.specs.Standing.{IsHeldOn};
@@ -14,11 +14,11 @@ use crate::move_lists::MoveLists;
 use crate::standing::{held, places_on, rivals_at};
 use crate::steps::{leap_to, step_to};
 use egt_board::{Man, Side, Square, SquareSet};
-use egt_check::facts::facts;
 use egt_class::Class;
 use egt_class::laws::moves_lead_into_the_class_or_a_child;
 use egt_graph::Way;
 use egt_index::ShelfMen;
+use egt_steps::facts::facts;
 
 /// The square two ahead of a pawn's, if he stands on his side's second rank.
 fn two_ahead(side: Side, from: Square) -> Option<Square>

@@ -6,10 +6,10 @@ ghost use Rattle.egt_index.specs.ShelfCodes.{IsShelf};
 use crate::standing::held;
 use crate::word::word_with;
 use egt_board::{Man, Side, SquareSet};
-use egt_check::laws::a_quiet_move_moves_one_man;
 use egt_class::Class;
 use egt_index::ShelfMen;
 use egt_index::laws::codes_follow_steps;
+use egt_steps::laws::a_quiet_move_moves_one_man;
 
 /// A piece that goes from each place to the free squares that he attacks, each the place of another word.
 #[derive(Clone, Copy)]

@@ -4,7 +4,7 @@ ghost use Rattle.egt_board.specs.SquareSet.{Has};
 ghost use Rattle.egt_board.specs.declared.man.Kind.TheVariants.{K, P};
 ghost use Rattle.egt_index.specs.Scales.{kind_less};
 ghost use Rattle.egt_index.specs.ShelfCodes.{IsShelf};
-ghost use Rattle.egt_check.specs.Fan.{IsGoal};
+ghost use Rattle.egt_words.specs.Fan.{IsGoal};
 ghost use Rattle.egt_words.specs.Standing.{IsHeldOn, IsStanding, least_of};
 ghost use Rattle.egt_words.specs.Steps.{AreShut, IsLeapWord, IsStepWay};
 ghost use Rattle.egt_words.specs.MoveLists.{word_of};
@@ -14,11 +14,11 @@ use crate::standing::{held, places_on};
 use crate::word::word_with;
 use egt_board::attack_lines::{reach_past, stops};
 use egt_board::{Kind, Man, Side, Square, SquareSet};
-use egt_check::laws::a_quiet_move_moves_one_man;
 use egt_class::Class;
 use egt_graph::{TurnedWay, Way};
 use egt_index::laws::codes_follow_steps;
 use egt_index::{ShelfMen, home_turn};
+use egt_steps::laws::a_quiet_move_moves_one_man;
 
 /// The word to which the step of the man on `from` leads, and the turn of the places by which the white king is at home there. `None` where no shelf
 /// has the men then. The contract alone reads the shelf.

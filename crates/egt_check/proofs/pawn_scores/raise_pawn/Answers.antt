@@ -1,6 +1,6 @@
 use Rattle.std.proofs.Common.{inr, sym, ◌∙◌}
 use Rattle.egt_lanes.specs.Blocks.{at}
-use Rattle.egt_check.proofs.Still.{pawn_is}
+use Rattle.egt_steps.proofs.Still.{pawn_is}
 use Rattle.egt_check.proofs.pawn_scores.raise_pawn.Goals as goal
 
 pub returns : goal.returns

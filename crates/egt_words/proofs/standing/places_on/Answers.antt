@@ -1,7 +1,7 @@
 use Rattle.std.proofs.Common.{◌/◌, ◌^◌, ap, ◌∙◌, arith}
 use Rattle.std.specs.Int.{bit_at}
 use Rattle.egt_index.specs.Scales.{kind_less}
-use Rattle.egt_check.proofs.Spreading.{moved_bit}
+use Rattle.egt_words.proofs.Spreading.{moved_bit}
 use Rattle.egt_words.proofs.standing.places_on.Goals as goal
 
 pub returns : goal.returns

@@ -1,6 +1,6 @@
 use Rattle.std.proofs.Common.{◌∙◌, inl, inr, arith}
 use Rattle.std.proofs.lemmas.Bool.{cases_eq}
-use Rattle.egt_check.proofs.Spreading.{had_before}
+use Rattle.egt_words.proofs.Spreading.{had_before}
 use Rattle.egt_words.specs.MoveLists.{word_of}
 use Rattle.egt_words.proofs.Adding.{kept_on, same_on, told_kept}
 use Rattle.egt_words.proofs.move_lists.MoveLists.add_steps.Goals as goal

@@ -1,7 +1,7 @@
 use Rattle.std.proofs.Common.{bit_or, ap, ◌∙◌, inl, inr, arith}
 use Rattle.std.specs.Int.{bit_at}
 use Rattle.std.proofs.lemmas.Nat.Bits.{bit_at-zero}
-use Rattle.egt_check.proofs.Leaping.{two_ahead_stays}
+use Rattle.egt_steps.proofs.Leaping.{two_ahead_stays}
 use Rattle.egt_words.proofs.Ahead.{ahead_kept, either_shut, on_word, open_or_met, passing, unset}
 use Rattle.egt_words.proofs.move_lists.MoveLists.tell_beyond.Goals as goal
 

@@ -4,8 +4,8 @@ use Rattle.std.proofs.lemmas.Nat.Bits.{bit_at-lt}
 use Rattle.egt_board.specs.AttackLines.{Reaches-on_board}
 use Rattle.egt_board.specs.SquareSet.{Has}
 use Rattle.egt_board.proofs.Bits.{bit_at-within}
-use Rattle.egt_check.specs.Fan.{IsGoal}
-use Rattle.egt_check.proofs.Spreading.{left_over, over_left}
+use Rattle.egt_words.specs.Fan.{IsGoal}
+use Rattle.egt_words.proofs.Spreading.{left_over, over_left}
 use Rattle.egt_words.proofs.Stepping.{is_goal}
 use Rattle.egt_words.proofs.move_lists.MoveLists.tell_piece.Goals as goal
 

@@ -9,7 +9,7 @@ use Rattle.egt_board.specs.Square.{rank_of}
 use Rattle.egt_board.specs.declared.man.Side.{Side}
 use Rattle.egt_board.specs.declared.man.Side.TheVariants.{White, Black}
 use Rattle.egt_index.specs.Index.{IsIndex}
-use Rattle.egt_check.specs.Pusher.{IsTwoAhead}
+use Rattle.egt_steps.specs.Pusher.{IsTwoAhead}
 
 pub and_false : (a b : Bool) → b ≡ false → (a && b) ≡ false
 and_false true b e = e

@@ -1,5 +1,5 @@
-use Rattle.egt_check.proofs.Still.{quiet_moved}
-use Rattle.egt_check.proofs.laws.a_quiet_move_moves_one_man.Goals as goal
+use Rattle.egt_steps.proofs.Still.{quiet_moved}
+use Rattle.egt_steps.proofs.laws.a_quiet_move_moves_one_man.Goals as goal
 
 pub returns : goal.returns
 returns c = λ class p q m ok leads quiet.

@@ -14,8 +14,8 @@ use Rattle.egt_board.specs.Setup.{Setup}
 use Rattle.egt_board.specs.Square.{rank_of}
 use Rattle.egt_moves.specs.Legal.{plain, after, is_target, men_after}
 use Rattle.egt_moves.specs.Promotion.{is_pawn, FitsPromotion}
-use Rattle.egt_check.specs.Steps.{IsQuietTarget}
-use Rattle.egt_check.proofs.Still.{quiet_piece}
+use Rattle.egt_steps.specs.QuietTarget.{IsQuietTarget}
+use Rattle.egt_steps.proofs.Still.{quiet_piece}
 
 no_pawn : (kind : Kind) → kind ≢ P → is_pawn kind ≡ false
 no_pawn Q not = refl

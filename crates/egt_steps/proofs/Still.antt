@@ -20,7 +20,7 @@ use Rattle.egt_moves.specs.Legal.{Leads, men_left, is_target, is_two_ranks, IsLe
 use Rattle.egt_moves.specs.Promotion.{is_pawn, FitsPromotion}
 use Rattle.egt_moves.specs.declared.chess_move.Move.{Move}
 use Rattle.egt_moves.specs.Targets.{IsLegalTarget}
-use Rattle.egt_check.specs.Steps.{IsQuietTarget}
+use Rattle.egt_steps.specs.QuietTarget.{IsQuietTarget}
 use Rattle.std.proofs.lemmas.Bool.Decides.{eqb_tells}
 
 -- the law on moves that keep the class

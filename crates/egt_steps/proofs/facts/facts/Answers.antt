@@ -1,6 +1,6 @@
 use Rattle.std.proofs.Common.{refl, not, false, ⊎_elim}
 use Rattle.egt_board.specs.DecidedSetup.{settled_form}
-use Rattle.egt_check.proofs.facts.facts.Goals as goal
+use Rattle.egt_steps.proofs.facts.facts.Goals as goal
 
 pub returns : goal.returns
 returns c = record {

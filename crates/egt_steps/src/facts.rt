@@ -1,5 +1,5 @@
 //! The laws of the crates below that the rules rest on.
-ghost use Rattle.egt_check.specs.Facts.{Facts};
+ghost use Rattle.egt_steps.specs.Facts.{Facts};
 
 use egt_board::laws::{
     images_form_classes, images_keep_men, images_settle_alike, positions_settle_once,

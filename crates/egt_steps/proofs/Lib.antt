@@ -1,0 +1,4 @@
+pub mod Still
+pub mod Leaping
+pub mod Pushing
+pub mod Fanned

@@ -1,0 +1,4 @@
+pub mod QuietTarget
+pub mod Facts
+pub mod Pusher
+pub mod Roamer
