@@ -7,7 +7,7 @@ ghost use Rattle.egt_index.specs.ShelfCodes.{AreMenOf};
 ghost use Rattle.egt_lanes.specs.Blocks.{at};
 ghost use Rattle.egt_table.specs.Table.{HasColumn};
 ghost use Rattle.egt_check.specs.Blocks.{AreShelvesOf, IsRaisedAfter, IsRaisedHome, men_across, settled_at, stand_on, turned_from};
-ghost use Rattle.egt_check.specs.Worth.{IsReadWith};
+ghost use Rattle.egt_check.specs.Worth.{IsReadWith, ScoresNoVoids};
 
 use crate::block_judging::men_on;
 use crate::digits::{digits_of, first_square};
@@ -116,6 +116,7 @@ fn raise_turned(
     out: &mut Block,
 ) -> bool
     requires there { HasColumn column table.now }
+    requires voids { ScoresNoVoids table.now column }
     requires men { AreMenOf table.now.class men.now }
     requires turn { turn < 16 }
     ensures { result ≡ true → (a b : ℕ) → a < 64 → b < 64 → IsRaisedAfter passed table.now column turn (stand_on men.now a b) side (at out.old a b) (at out.new a b) }
@@ -151,6 +152,7 @@ fn raise_home(
     out: &mut Block,
 ) -> bool
     requires there { HasColumn column table.now }
+    requires voids { ScoresNoVoids table.now column }
     requires men { AreMenOf table.now.class men.now }
     ensures { result ≡ true → (a b : ℕ) → a < 64 → b < 64 → IsRaisedHome passed table.now column flips (stand_on men.now a b) side (at out.old a b) (at out.new a b) }
 {
@@ -190,6 +192,7 @@ pub(crate) fn gather(
     across: &mut Block,
 ) -> bool
     requires there { HasColumn column table.now }
+    requires voids { ScoresNoVoids table.now column }
     requires men { AreMenOf table.now.class men.now }
     ensures own { result ≡ true → (a b : ℕ) → a < 64 → b < 64 → IsRaisedHome passed table.now column flips (stand_on men.now a b) side (at own.old a b) (at own.new a b) }
     ensures across { result ≡ true → has_equal_sides table.now.class ≡ true → (a b : ℕ) → a < 64 → b < 64 →
@@ -253,6 +256,7 @@ pub(crate) fn read_block(
     out: &mut Block,
 ) -> bool
     requires there { HasColumn column table.now }
+    requires voids { ScoresNoVoids table.now column }
     requires men { AreMenOf table.now.class men.now }
     ensures { result ≡ true → (a b : ℕ) → a < 64 → b < 64 → IsReadWith passed table.now column flips (stand_on men.now a b) side (at out.new a b) }
 {
