@@ -21,8 +21,8 @@ use Rattle.egt_check.specs.Taken.{AreLeftCodes, IsTableOf, men_swapped}
 use Rattle.egt_check.specs.Worth.{HasBytes, ScoresNoVoids, column_score, score_at}
 use Rattle.egt_check.specs.declared.move_scores.FourMen.{FourMen}
 
--- the class has these men beside its kings, the others are those that their moves lead to, all have the column, and void
--- codes of the class score nothing: none in the columns that are judged with this one
+-- the class has these men beside its kings, the others are those that their moves lead to, and all have the column; its
+-- void codes score nothing there, nor in the zeroing column, which is judged with the mate column
 pub record AreFourMen (column : Column) (four : FourMen) (men : ShelfMen) : Type 0 where
   pub own_there : HasColumn column four.own.now
   pub own_voids : ScoresNoVoids four.own.now column

@@ -19,7 +19,8 @@ use Rattle.egt_check.specs.Worth.{ScoresNoVoids, column_score}
 use Rattle.egt_check.specs.declared.pawn_scores.Promotion.{Promotion}
 use Rattle.egt_check.specs.declared.pawn_scores.Promotions.{Promotions}
 
--- the classes that a promotion of the last man to this kind leads to, whose tables have the column
+-- the classes that a promotion of the last man to this kind leads to, whose tables have the column; void codes score
+-- nothing in that of the two men
 pub record IsPromotionOf (column : Column) (promotion : Promotion) (men : ShelfMen) : Type 0 where
   pub officer : IsOfficer promotion.kind
   pub both_there : HasColumn column promotion.both.now
