@@ -4,8 +4,10 @@ ghost use Rattle.egt_lanes.specs.Blocks.{at};
 ghost use Rattle.egt_lanes.specs.Scores.{zeroing_score};
 ghost use Rattle.egt_table.specs.declared.column.Column.TheVariants as columns;
 ghost use Rattle.egt_check.specs.MoveScores.{AreFourMen, AreMoveScores, ArePassedScores, ArePassingCaptures, AreZeroingMoves};
+ghost use Rattle.egt_check.specs.PawnScores.{AreRaisedByPawns};
 ghost use Rattle.egt_check.specs.Taken.{men_swapped};
 
+use crate::advance_blocks::is_pawn_of;
 use crate::blocks::nothing;
 use crate::passing_blocks::passing_block;
 use crate::pawn_scores::{Promotions, pawns_block};
@@ -58,6 +60,31 @@ fn raise_zeroed(out: &mut Block, mates: &Block)
     }
 }
 
+/// Raises the scores to those of pawns' moves but captures in passing, where that side has a pawn. False where a table
+/// does not tell.
+fn raise_pawns(four: &FourMen, column: Column, men: &ShelfMen, side: Side, out: &mut Block) -> bool
+    requires { AreFourMen column four.now men.now }
+    ensures { result ≡ true → (a b : ℕ) → a < 64 → b < 64 → (pawns : ℕ) × AreRaisedByPawns column four.now.own.now four.now.first_pawn four.now.last_pawn men.now side a b pawns × (at out.new a b ≡ max (at out.old a b) pawns) }
+{
+    if !is_pawn_of(men.one, side) && !is_pawn_of(men.last, side) {
+        return true;
+    }
+    let mut pawns = nothing();
+    if !pawns_block(
+        four.own,
+        column,
+        &four.first_pawn,
+        &four.last_pawn,
+        men,
+        side,
+        &mut pawns,
+    ) {
+        return false;
+    }
+    raise(out, &pawns);
+    true
+}
+
 /// The greatest scores in the column of all moves of that side that zero but captures in passing. False where a table
 /// does not tell.
 pub(crate) fn zeroing_moves(
@@ -86,20 +113,7 @@ pub(crate) fn zeroing_moves(
         return false;
     }
     raise_transposed(out, &across);
-    let mut pawns = nothing();
-    if !pawns_block(
-        four.own,
-        column,
-        &four.first_pawn,
-        &four.last_pawn,
-        men,
-        side,
-        &mut pawns,
-    ) {
-        return false;
-    }
-    raise(out, &pawns);
-    true
+    raise_pawns(four, column, men, side, out)
 }
 
 /// The same of the captures in passing.
