@@ -1,4 +1,4 @@
-use Rattle.std.proofs.Common.{◌≡◌, ◌↔◌, ◌∙◌, Bool, IsTrue, false, true, arith, inl, refl, sym}
+use Rattle.std.proofs.Common.{◌≡◌, ◌↔◌, ◌∙◌, Bool, IsTrue, false, arith, inl, refl, sym}
 use Rattle.std.proofs.lemmas.Bool.{false≢true}
 use Rattle.egt_board.specs.Pawn.{pawn_of}
 use Rattle.egt_board.specs.declared.man.Kind.TheVariants.{P}
