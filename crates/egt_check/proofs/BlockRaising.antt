@@ -26,8 +26,12 @@ use Rattle.egt_check.specs.Worth.{column_score}
 
 -- ---- the greatest of some numbers
 
+-- nothing rises by numbers that are 0
+pub raised_by_zeros : (low : ℕ) (In : ℕ → Type 0) (f : ℕ → ℕ) → ((t : ℕ) → In t → f t ≡ 0) → IsRaised low In f low
+raised_by_zeros low In f zeros = record { kept = omega arith; above = λ t here. let zero = zeros t here in omega (arith, zero); reached = inl refl }
+
 pub raised_by_none : (low : ℕ) (In : ℕ → Type 0) (f : ℕ → ℕ) → ((t : ℕ) → ¬ In t) → IsRaised low In f low
-raised_by_none low In f none = record { kept = omega arith; above = λ t here. absurd (none t here); reached = inl refl }
+raised_by_none low In f none = raised_by_zeros low In f (λ t here. absurd (none t here))
 
 -- what rose from nothing, beside another number
 pub raised_max : (low : ℕ) (In : ℕ → Type 0) (f : ℕ → ℕ) (v high : ℕ) → IsRaised 0 In f v → high ≡ max low v → IsRaised low In f high

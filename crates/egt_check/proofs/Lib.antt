@@ -54,6 +54,7 @@ pub mod Nearing
 pub mod ReachRule
 pub mod Ascending
 pub mod NearReading
+pub mod VoidScores
 pub mod NearBytes
 pub mod NearScores
 pub mod NearJudged

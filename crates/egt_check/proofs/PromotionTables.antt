@@ -55,6 +55,7 @@ module _ (men : ShelfMen) (white black : ℕ) where
   promotion_there column promotion is = record {
     officer = is.officer;
     both_there = is.both_there;
+    both_voids = is.both_voids;
     alone_there = is.alone_there;
     both = after_there promotion.both.now.class promotion.before promotion.both_flips (arriving men.last (Some promotion.kind)) is.both;
     alone = is.alone;
@@ -89,6 +90,8 @@ module _ (men : ShelfMen) (white black : ℕ) where
   pub four_there : (column : Column) (four : FourMen) → AreFourMen column four men → AreFourMen column four (men_there men white black)
   four_there column four are = record {
     own_there = are.own_there;
+    own_voids = are.own_voids;
+    zeroing_voids = are.zeroing_voids;
     first_there = are.first_there;
     last_there = are.last_there;
     men_of = record { are = are.men_of.are; one_beside = are.men_of.one_beside; last_beside = are.men_of.last_beside };

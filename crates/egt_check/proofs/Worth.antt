@@ -42,18 +42,19 @@ pub record AreWhole (stand : Stand) : Type 0 where
 pub zero_score : (e : ℕ) → e ≡ 0 → byte_score (e % 256) ≡ 0
 zero_score e is = ap (λ x. byte_score (x % 256)) is
 
-module _ (facts : Facts) (turning : Turning) (t : TableValue) (metric : Metric) (is_table : IsTable t) (bytes : HasBytes t) where
+module _ (t : TableValue) (metric : Metric) (is_table : IsTable t) (bytes : HasBytes t) where
   sized : (metric : Metric) → length (entries_in metric t) ≡ size_of t.class
   sized Mate = is_table.sizes columns.Mate tt
   sized Zeroing = is_table.sizes columns.Zeroing tt
 
   -- a void code has no score
-  void_score : (code : ℕ) → IsVoid t.class code → score_at t metric code ≡ 0
+  pub void_score : (code : ℕ) → IsVoid t.class code → score_at t metric code ≡ 0
   void_score code void = elim (cases_lt code (size_of t.class)) [
     | inl below ↦ zero_score (entry_at t metric code) (bytes.void metric code below void)
     | inr past ↦ zero_score (entry_at t metric code) (get_or_past (entries_in metric t) code 0 (let size = sized metric in omega arith))
   ]
 
+module _ (facts : Facts) (turning : Turning) (t : TableValue) (metric : Metric) (is_table : IsTable t) (bytes : HasBytes t) where
   -- images have one index
   same_index : (q r : Setup) (i j : ℕ) → IsAdmissible q → IsAdmissible r → AreImages q r → IsIndex t.class q i → IsIndex t.class r j → i ≡ j
   same_index q r i j q_ok r_ok images index other = (facts.like_index q r t.class i j q_ok r_ok index other).1 alike
@@ -74,7 +75,7 @@ module _ (facts : Facts) (turning : Turning) (t : TableValue) (metric : Metric) 
     -- a code with a score is an index, and of a position with these men
     reached_by : (code : ℕ) (stand : Stand) → In stand → IsSomeTurnedCodeWith passed t.class code flips stand side → w ≡ score_at t metric code → (w ≡ 0) ⊎ IsScoreWith passed t metric In flips side w
     reached_by code stand in_stands turned is = elim (turning.or_void t.class code is_table.class_in) [
-      | inr void ↦ inl (is ∙ void_score code void)
+      | inr void ↦ inl (is ∙ void_score t metric is_table bytes code void)
       | inl spelled ↦
           let there = turning.there passed t.class code flips stand side spelled.0 is_table.class_in (whole stand in_stands).on_board turned spelled.1 (λ some. settled some t.class code spelled.0 spelled.0 spelled.1.admissible spelled.2 spelled.1) in
           let index = facts.some_index there.0 t.class flips is_table.class_in there.1.admissible there.1.is_of in

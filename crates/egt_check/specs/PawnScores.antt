@@ -15,14 +15,16 @@ use Rattle.egt_check.specs.InPassing.{AreLeapCodes, AreStepCodes}
 use Rattle.egt_check.specs.PawnMoves.{AreAdvancedCodes, ArePromotedCodes, IsTableAfter, men_after, officer_of}
 use Rattle.egt_check.specs.Tables.{Tables}
 use Rattle.egt_check.specs.Taken.{IsTableOf, men_swapped}
-use Rattle.egt_check.specs.Worth.{column_score}
+use Rattle.egt_check.specs.Worth.{ScoresNoVoids, column_score}
 use Rattle.egt_check.specs.declared.pawn_scores.Promotion.{Promotion}
 use Rattle.egt_check.specs.declared.pawn_scores.Promotions.{Promotions}
 
--- the classes that a promotion of the last man to this kind leads to, whose tables have the column
+-- the classes that a promotion of the last man to this kind leads to, whose tables have the column; void codes score
+-- nothing in that of the two men
 pub record IsPromotionOf (column : Column) (promotion : Promotion) (men : ShelfMen) : Type 0 where
   pub officer : IsOfficer promotion.kind
   pub both_there : HasColumn column promotion.both.now
+  pub both_voids : ScoresNoVoids promotion.both.now column
   pub alone_there : HasColumn column promotion.alone.now
   pub both : AreMenOf promotion.both.now.class (men_after promotion.before promotion.both_flips men (arriving men.last (Some promotion.kind)))
   pub alone : IsLoneMan promotion.alone.now.class (turned_man promotion.alone_flips (officer_of men.last.side promotion.kind))

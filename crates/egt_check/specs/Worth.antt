@@ -31,6 +31,10 @@ entry_score columns.Reach e = reach_score e
 abbrev pub column_score : TableValue → Column → ℕ → ℕ
 column_score t column code = entry_score column (slice_index (entries_of column t) code % 256)
 
+-- the codes of no position score nothing
+abbrev pub ScoresNoVoids : TableValue → Column → Type 0
+ScoresNoVoids t column = (code : ℕ) → IsVoid t.class code → column_score t column code ≡ 0
+
 -- the greatest score of the codes that tell the men where turns take them, and a target where one was passed
 abbrev pub IsReadWith : Bool → TableValue → Column → Bool → Stand → Side → ℕ → Type 0
 IsReadWith passed t column flips stand side w = IsRaised 0 (λ code. IsSomeTurnedCodeWith passed t.class code flips stand side) (column_score t column) w

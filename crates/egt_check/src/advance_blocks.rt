@@ -17,7 +17,7 @@ ghost use Rattle.egt_check.specs.Leaps.{IsBesideWhere};
 ghost use Rattle.egt_check.specs.PawnMoves.{AreAdvancedCodes, ArePromotedCodes, men_after, men_two, officer_of, stand_after};
 ghost use Rattle.egt_check.specs.QuietStands.{IsClear};
 ghost use Rattle.egt_check.specs.Takings.{IsPastKings, left_of, stand_left};
-ghost use Rattle.egt_check.specs.Worth.{IsReadWith, column_score};
+ghost use Rattle.egt_check.specs.Worth.{IsReadWith, ScoresNoVoids, column_score};
 
 use crate::blocks::{nothing, read_block};
 use crate::move_scores::men_swapped;
@@ -110,6 +110,7 @@ fn read_after(
     out: &mut Block,
 ) -> bool
     requires there { HasColumn column child.now }
+    requires voids { ScoresNoVoids child.now column }
     requires men { AreMenOf child.now.class (men_after before flips men.now man) }
     ensures { result ≡ true → (a t : ℕ) → a < 64 → t < 64 → IsReadWith passed child.now column flips (stand_after before flips men.now a man t) (other_side side) (at out.new a t) }
 {
@@ -159,6 +160,7 @@ pub(crate) fn advance_block(
     out: &mut Block,
 ) -> bool
     requires there { HasColumn column child.now }
+    requires voids { ScoresNoVoids child.now column }
     requires men { AreMenOf child.now.class (men_after before flips men.now (arriving men.now.last promo)) }
     requires promo { IfSome promo IsOfficer }
     ensures { result ≡ true → (a b : ℕ) → a < 64 → b < 64 →
@@ -253,6 +255,7 @@ fn step_facing(
     out: &mut Block,
 ) -> bool
     requires there { HasColumn column own.now }
+    requires voids { ScoresNoVoids own.now column }
     requires men { AreMenOf own.now.class (men_after first false men.now men.now.last) }
     requires facing { men.now.one ≡ pawn_of (other_side side) }
     ensures { result ≡ true → (a b : ℕ) → a < 64 → b < 64 → IsRaised 0 (AreStepCodes own.now.class first men.now side a b) (column_score own.now column) (at out.new a b) }
@@ -290,6 +293,7 @@ pub(crate) fn step_block(
     out: &mut Block,
 ) -> bool
     requires there { HasColumn column own.now }
+    requires voids { ScoresNoVoids own.now column }
     requires men { AreMenOf own.now.class (men_after first false men.now men.now.last) }
     ensures { result ≡ true → (a b : ℕ) → a < 64 → b < 64 → IsRaised 0 (AreStepCodes own.now.class first men.now side a b) (column_score own.now column) (at out.new a b) }
 {
@@ -310,6 +314,7 @@ pub(crate) fn leap_block(
     out: &mut Block,
 ) -> bool
     requires there { HasColumn column own.now }
+    requires voids { ScoresNoVoids own.now column }
     requires men { AreMenOf own.now.class (men_after first false men.now men.now.last) }
     ensures { result ≡ true → (a b : ℕ) → a < 64 → b < 64 → IsRaised 0 (AreLeapCodes own.now.class first men.now side a b) (column_score own.now column) (at out.new a b) }
 {

@@ -1,13 +1,19 @@
 //! The scores that a table gives the positions of a class with two men beside the kings, whose kings stand on two squares: a row for each square of the
 //! first man, a lane for each of the last. Each code has some turn of these men; codes that are not least score nothing.
-ghost use Rattle.std.specs.Prelude.{◌≡◌, ◌≢◌, ◌/◌, ◌%◌, ◌<◌, ◌↔◌, ◌==◌, ◌+◌, ℕ, false, true, not, IfSome, IsTrue};
+//! So the codes after a turn are not read where the kings tell that all of them are void.
+ghost use Rattle.std.specs.Prelude.{◌≡◌, ◌≢◌, ◌/◌, ◌%◌, ◌<◌, ◌↔◌, ◌==◌, ◌+◌, ℕ, Bool, false, true, not, IfSome, IsTrue};
 ghost use Rattle.egt_board.specs.Turned.{turned_side, turned_square};
-ghost use Rattle.egt_class.specs.Material.{has_equal_sides};
+ghost use Rattle.egt_board.specs.declared.man.Side.{Side};
+ghost use Rattle.egt_class.specs.Material.{has_equal_sides, material_of};
+ghost use Rattle.egt_index.specs.Home.{symmetries};
+ghost use Rattle.egt_index.specs.Index.{IsVoid};
 ghost use Rattle.egt_index.specs.ShelfCodes.{AreMenOf};
+ghost use Rattle.egt_index.specs.Size.{has_pawns};
+ghost use Rattle.egt_index.specs.TurnedMen.{IsTurnedCodeWith};
 ghost use Rattle.egt_lanes.specs.Blocks.{at};
 ghost use Rattle.egt_table.specs.Table.{HasColumn};
 ghost use Rattle.egt_check.specs.Blocks.{AreShelvesOf, IsRaisedAfter, IsRaisedHome, men_across, settled_at, stand_on, turned_from};
-ghost use Rattle.egt_check.specs.Worth.{IsReadWith};
+ghost use Rattle.egt_check.specs.Worth.{IsReadWith, ScoresNoVoids};
 
 use crate::block_judging::men_on;
 use crate::digits::{digits_of, first_square};
@@ -17,6 +23,7 @@ use egt_class::Class;
 use egt_index::home::home;
 use egt_index::laws::codes_tell_turned_men;
 use egt_index::men::has_equal_sides;
+use egt_index::nearer::is_void_after;
 use egt_index::turning::turned_square;
 use egt_index::{ShelfMen, has_pawns, last_digits, shelf_of, size};
 use egt_lanes::block::raise_transposed;
@@ -105,6 +112,15 @@ fn raise_row(
     out[a] = greater(out[a], turned(row, turn));
 }
 
+/// Whether the kings tell that the codes after the turn are void, wherever the men beside them stand.
+fn are_void_after(class: Class, men: &ShelfMen, turn: u8) -> bool
+    requires { turn < 16 }
+    ensures { result ≡ true → (passed : Bool) (code a b : ℕ) (side : Side) → a < 64 → b < 64 → IsTurnedCodeWith passed class turn code (stand_on men.now a b) side → IsVoid class code }
+{
+    let _numbers = (men.white.number(), men.black.number());
+    is_void_after(class, men.white, men.black, turn)
+}
+
 /// Raises the block to the scores of the codes after the turn. False where it does not tell.
 fn raise_turned(
     table: &Table,
@@ -116,12 +132,19 @@ fn raise_turned(
     out: &mut Block,
 ) -> bool
     requires there { HasColumn column table.now }
+    requires voids { ScoresNoVoids table.now column }
     requires men { AreMenOf table.now.class men.now }
     requires turn { turn < 16 }
+    requires keeps { turn % 8 < symmetries (has_pawns (material_of table.now.class)) }
     ensures { result ≡ true → (a b : ℕ) → a < 64 → b < 64 → IsRaisedAfter passed table.now column turn (stand_on men.now a b) side (at out.old a b) (at out.new a b) }
 {
+    let class = table.class();
+    // Void codes score nothing: the block stays as it is.
+    if are_void_after(class, men, turn) {
+        return true;
+    }
     let there = turned_from(men, men.on, turn);
-    let Some(first) = shelves_of(table.class(), &there, passed) else {
+    let Some(first) = shelves_of(class, &there, passed) else {
         return false;
     };
     for a in 0..64u8 {
@@ -151,6 +174,7 @@ fn raise_home(
     out: &mut Block,
 ) -> bool
     requires there { HasColumn column table.now }
+    requires voids { ScoresNoVoids table.now column }
     requires men { AreMenOf table.now.class men.now }
     ensures { result ≡ true → (a b : ℕ) → a < 64 → b < 64 → IsRaisedHome passed table.now column flips (stand_on men.now a b) side (at out.old a b) (at out.new a b) }
 {
@@ -190,6 +214,7 @@ pub(crate) fn gather(
     across: &mut Block,
 ) -> bool
     requires there { HasColumn column table.now }
+    requires voids { ScoresNoVoids table.now column }
     requires men { AreMenOf table.now.class men.now }
     ensures own { result ≡ true → (a b : ℕ) → a < 64 → b < 64 → IsRaisedHome passed table.now column flips (stand_on men.now a b) side (at own.old a b) (at own.new a b) }
     ensures across { result ≡ true → has_equal_sides table.now.class ≡ true → (a b : ℕ) → a < 64 → b < 64 →
@@ -253,6 +278,7 @@ pub(crate) fn read_block(
     out: &mut Block,
 ) -> bool
     requires there { HasColumn column table.now }
+    requires voids { ScoresNoVoids table.now column }
     requires men { AreMenOf table.now.class men.now }
     ensures { result ≡ true → (a b : ℕ) → a < 64 → b < 64 → IsReadWith passed table.now column flips (stand_on men.now a b) side (at out.new a b) }
 {

@@ -7,7 +7,7 @@ ghost use Rattle.egt_lanes.specs.Blocks.{at};
 ghost use Rattle.egt_lanes.specs.Raised.{IsRaised};
 ghost use Rattle.egt_table.specs.Table.{HasColumn};
 ghost use Rattle.egt_check.specs.Blocks.{AreTurnedCodes, IsBesideKing, king_of_men, with_king};
-ghost use Rattle.egt_check.specs.Worth.{column_score};
+ghost use Rattle.egt_check.specs.Worth.{ScoresNoVoids, column_score};
 
 use crate::blocks::{are_equal, gather, nothing, settle};
 use egt_board::attack_lines::reach_past;
@@ -69,6 +69,7 @@ pub(crate) fn king_block(
     out: &mut Block,
 ) -> bool
     requires there { HasColumn column table.now }
+    requires voids { ScoresNoVoids table.now column }
     requires men { AreMenOf table.now.class men.now }
     ensures { result ≡ true → (a b : ℕ) → a < 64 → b < 64 →
         IsRaised 0 (AreTurnedCodes false table.now.class (IsBesideKing men.now side) (with_king men.now side) false (other_side side) a b) (column_score table.now column) (at out.new a b) }

@@ -1,12 +1,17 @@
 //! The greatest scores of the moves of a side with two men beside the kings, who stand on two squares.
 ghost use Rattle.std.specs.Prelude.{◌≡◌, ◌<◌, max, ℕ, true};
 ghost use Rattle.egt_lanes.specs.Blocks.{at};
+ghost use Rattle.egt_lanes.specs.Raised.{IsRaised};
 ghost use Rattle.egt_lanes.specs.Scores.{zeroing_score};
 ghost use Rattle.egt_table.specs.declared.column.Column.TheVariants as columns;
 ghost use Rattle.egt_check.specs.MoveScores.{AreFourMen, AreMoveScores, ArePassedScores, ArePassingCaptures, AreZeroingMoves};
-ghost use Rattle.egt_check.specs.Taken.{men_swapped};
+ghost use Rattle.egt_check.specs.PawnScores.{AreRaisedByPawns};
+ghost use Rattle.egt_check.specs.Taken.{AreLeftCodes, men_swapped};
+ghost use Rattle.egt_check.specs.Worth.{column_score};
 
+use crate::advance_blocks::is_pawn_of;
 use crate::blocks::nothing;
+use crate::own_men::is_of;
 use crate::passing_blocks::passing_block;
 use crate::pawn_scores::{Promotions, pawns_block};
 use crate::quiet_blocks::quiet_block;
@@ -58,6 +63,61 @@ fn raise_zeroed(out: &mut Block, mates: &Block)
     }
 }
 
+/// Raises the scores to those of captures of the first man that promote no pawn, where he is of the other side. False
+/// where a table does not tell.
+fn raise_first_taken(
+    four: &FourMen,
+    column: Column,
+    men: &ShelfMen,
+    side: Side,
+    out: &mut Block,
+) -> bool
+    requires { AreFourMen column four.now men.now }
+    ensures { result ≡ true → (a b : ℕ) → a < 64 → b < 64 → (taken : ℕ) × IsRaised 0 (AreLeftCodes four.now.last.now.class four.now.last_flips (men_swapped men.now) side b a) (column_score four.now.last.now column) taken × (at out.new a b ≡ max (at out.old a b) taken) }
+{
+    if !is_of(men.one, side.other()) {
+        return true;
+    }
+    let mut across = nothing();
+    if !taken_block(
+        four.last,
+        column,
+        four.last_flips,
+        &men_swapped(men),
+        side,
+        &mut across,
+    ) {
+        return false;
+    }
+    raise_transposed(out, &across);
+    true
+}
+
+/// Raises the scores to those of pawns' moves but captures in passing, where that side has a pawn. False where a table
+/// does not tell.
+fn raise_pawns(four: &FourMen, column: Column, men: &ShelfMen, side: Side, out: &mut Block) -> bool
+    requires { AreFourMen column four.now men.now }
+    ensures { result ≡ true → (a b : ℕ) → a < 64 → b < 64 → (pawns : ℕ) × AreRaisedByPawns column four.now.own.now four.now.first_pawn four.now.last_pawn men.now side a b pawns × (at out.new a b ≡ max (at out.old a b) pawns) }
+{
+    if !is_pawn_of(men.one, side) && !is_pawn_of(men.last, side) {
+        return true;
+    }
+    let mut pawns = nothing();
+    if !pawns_block(
+        four.own,
+        column,
+        &four.first_pawn,
+        &four.last_pawn,
+        men,
+        side,
+        &mut pawns,
+    ) {
+        return false;
+    }
+    raise(out, &pawns);
+    true
+}
+
 /// The greatest scores in the column of all moves of that side that zero but captures in passing. False where a table
 /// does not tell.
 pub(crate) fn zeroing_moves(
@@ -73,33 +133,7 @@ pub(crate) fn zeroing_moves(
     if !taken_block(four.first, column, four.first_flips, men, side, out) {
         return false;
     }
-    let mut across = nothing();
-    let swapped = men_swapped(men);
-    if !taken_block(
-        four.last,
-        column,
-        four.last_flips,
-        &swapped,
-        side,
-        &mut across,
-    ) {
-        return false;
-    }
-    raise_transposed(out, &across);
-    let mut pawns = nothing();
-    if !pawns_block(
-        four.own,
-        column,
-        &four.first_pawn,
-        &four.last_pawn,
-        men,
-        side,
-        &mut pawns,
-    ) {
-        return false;
-    }
-    raise(out, &pawns);
-    true
+    raise_first_taken(four, column, men, side, out) && raise_pawns(four, column, men, side, out)
 }
 
 /// The same of the captures in passing.

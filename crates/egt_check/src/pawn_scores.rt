@@ -7,6 +7,7 @@ ghost use Rattle.egt_table.specs.Table.{HasColumn};
 ghost use Rattle.egt_check.specs.PawnMoves.{men_after, officer_of};
 ghost use Rattle.egt_check.specs.PawnScores.{ArePawnScores, ArePromotionsOf, AreRaisedByPawns, IsPromotionOf, IsPromotionScore, IsRaisedByPawn};
 ghost use Rattle.egt_check.specs.Taken.{men_swapped};
+ghost use Rattle.egt_check.specs.Worth.{ScoresNoVoids};
 
 use crate::advance_blocks::{advance_block, leap_block, promoting_block, step_block};
 use crate::blocks::{are_equal, nothing};
@@ -98,6 +99,7 @@ pub(crate) fn pawn_block(
     out: &mut Block,
 ) -> bool
     requires there { HasColumn column own.now }
+    requires voids { ScoresNoVoids own.now column }
     requires men { AreMenOf own.now.class (men_after first false men.now men.now.last) }
     requires promotions { ArePromotionsOf column promotions.now men.now }
     requires mine { men.now.last.side ≡ side }
@@ -135,6 +137,7 @@ fn raise_pawn(
     out: &mut Block,
 ) -> bool
     requires there { HasColumn column own.now }
+    requires voids { ScoresNoVoids own.now column }
     requires men { AreMenOf own.now.class (men_after first false men.now men.now.last) }
     requires promotions { IfSome promotions.now (λ p. ArePromotionsOf column p men.now) }
     ensures { result ≡ true → (a b : ℕ) → a < 64 → b < 64 → IsRaisedByPawn column own.now first promotions.now men.now side a b (at out.old a b) (at out.new a b) }
@@ -165,6 +168,7 @@ pub(crate) fn pawns_block(
     out: &mut Block,
 ) -> bool
     requires there { HasColumn column own.now }
+    requires voids { ScoresNoVoids own.now column }
     requires men { AreMenOf own.now.class men.now }
     requires first { IfSome first.now (λ p. ArePromotionsOf column p (men_swapped men.now)) }
     requires last { IfSome last.now (λ p. ArePromotionsOf column p men.now) }

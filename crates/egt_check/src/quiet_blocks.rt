@@ -11,7 +11,7 @@ ghost use Rattle.egt_lanes.specs.Raised.{IsRaised};
 ghost use Rattle.egt_table.specs.Table.{HasColumn};
 ghost use Rattle.egt_check.specs.QuietStands.{AreQuietCodes, IsClear};
 ghost use Rattle.egt_check.specs.QuietSteps.{IsFirstStep, IsLastStep};
-ghost use Rattle.egt_check.specs.Worth.{column_score};
+ghost use Rattle.egt_check.specs.Worth.{ScoresNoVoids, column_score};
 
 use crate::blocks::{nothing, read_block};
 use crate::king_blocks::king_block;
@@ -80,6 +80,7 @@ pub(crate) fn quiet_block(
     out: &mut Block,
 ) -> bool
     requires there { HasColumn column table.now }
+    requires voids { ScoresNoVoids table.now column }
     requires men { AreMenOf table.now.class men.now }
     requires one { men.now.one.kind ≢ K }
     requires last { men.now.last.kind ≢ K }

@@ -110,8 +110,11 @@ pub(crate) fn reach_is_right_by_blocks(table: &Table, library: &Library) -> bool
     let Some(men) = shelf_men(table.class(), 0) else {
         return false;
     };
+    if !tells_reach_bytes(table) {
+        return false;
+    }
     let Some(four) = four_men(table, library, &men, Part::Reach) else {
         return false;
     };
-    tells_reach_bytes(table) && pairs_are_right(&four, &men, Part::Reach)
+    pairs_are_right(&four, &men, Part::Reach)
 }

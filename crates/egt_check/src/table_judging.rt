@@ -193,6 +193,7 @@ fn named_before(class: Class, one: Man, last: Man) -> Option<bool>
 
 /// The tables of the classes that a promotion of the last man to this kind leads to. `None` where one of them is
 /// missing or does not tell its entries of the part by bytes.
+#[tactic(auto, using(crate::proofs::VoidScores::part_voids))]
 fn promotion<'t>(
     library: &'t Library,
     class: Class,
@@ -296,8 +297,9 @@ fn is_own_class(class: Class, men: &ShelfMen) -> bool
     own.number() == class.number() && !flips
 }
 
-/// The table of a class with these men, and those of the classes that their moves lead to, which tell their entries of
-/// the part by bytes. `None` where one of them is missing or does not, and where the class has other men.
+/// The table of a class with these men, whose bytes tell its entries of the part, and those of the classes that their
+/// moves lead to, which do so too. `None` where one of them is missing or does not, and where the class has other men.
+#[tactic(auto, using(crate::proofs::VoidScores::part_voids, crate::proofs::VoidScores::part_zeroing_voids))]
 pub(crate) fn four_men<'t>(
     table: &'t Table,
     library: &'t Library,
@@ -305,10 +307,11 @@ pub(crate) fn four_men<'t>(
     part: Part,
 ) -> Option<FourMen<'t>>
     requires there { HasColumn (column_of part) table.now }
+    requires bytes { HasBytes (table_in part table.now) }
     requires men { AreMenOf table.now.class men.now }
     ensures own { IfSome result (λ four. four.own.now ≡ table.now) }
     ensures of { IfSome result (λ four. AreFourMen (column_of part) four men.now) }
-    ensures tables { IfSome result (λ four. HasBytes (table_in part table.now) → AreTablesOf (tables_in part (beside (table_at library.now) table.now)) (four_in part four) men.now) }
+    ensures tables { IfSome result (λ four. AreTablesOf (tables_in part (beside (table_at library.now) table.now)) (four_in part four) men.now) }
 {
     let class = table.class();
     if is_king(men.one) || is_king(men.last) || !is_own_class(class, men) {
@@ -343,8 +346,11 @@ pub(crate) fn is_right_by_blocks(table: &Table, library: &Library) -> bool
     let Some(men) = shelf_men(table.class(), 0) else {
         return false;
     };
+    if !tells_bytes(table) {
+        return false;
+    }
     let Some(four) = four_men(table, library, &men, Part::Values) else {
         return false;
     };
-    tells_bytes(table) && pairs_are_right(&four, &men, Part::Values)
+    pairs_are_right(&four, &men, Part::Values)
 }

@@ -1,8 +1,12 @@
-use Rattle.std.proofs.Common.{◌≡◌, ◌≢◌, arith, sym, ◌∙◌, inl, inr, subst}
+use Rattle.std.proofs.Common.{◌≡◌, ◌≢◌, ℕ, Bool, arith, sym, ◌∙◌, inl, inr, subst}
 use Rattle.std.proofs.lemmas.Bool.{cases_lt}
 use Rattle.egt_lanes.specs.Blocks.{at}
+use Rattle.egt_index.specs.Index.{IsVoid}
+use Rattle.egt_index.specs.TurnedMen.{IsTurnedCodeWith}
 use Rattle.egt_index.specs.declared.shelf_codes.ShelfMen.{ShelfMen}
-use Rattle.egt_check.specs.Blocks.{AreShelvesOf, IsRaisedAfter, stand_on, turned_from}
+use Rattle.egt_check.specs.Blocks.{AreShelvesOf, IsCodeAfter, IsRaisedAfter, stand_on, turned_from}
+use Rattle.egt_check.specs.Worth.{column_score}
+use Rattle.egt_check.proofs.BlockRaising.{raised_by_zeros}
 use Rattle.egt_check.proofs.blocks.raise_turned.Goals as goal
 
 pub loop-a-preserved : goal.loop-a-preserved
@@ -29,5 +33,17 @@ loop-a-preserved c =
 
 pub raise_row-requires-clause-shelves : goal.raise_row-requires-clause-shelves
 raise_row-requires-clause-shelves c =
-    subst (λ k. AreShelvesOf c.args.passed k (turned_from c.args.men.now c.at.result c.args.turn) c.in-Some.first) c.class.ensures.class
-    (subst (λ (men : ShelfMen). AreShelvesOf c.args.passed c.class.result men c.in-Some.first) c.turned_from-there.ensures c.in-Some.ensures.shelves)
+    subst (λ k. AreShelvesOf c.args.passed k (turned_from c.args.men.now c.at.result c.args.turn) c.in-Some.first) c.class-class.ensures.class
+    (subst (λ (men : ShelfMen). AreShelvesOf c.args.passed c.class-class.result men c.in-Some.first) c.turned_from-there.ensures c.in-Some.ensures.shelves)
+
+pub returns-then-are_void_after : goal.returns-then-are_void_after
+returns-then-are_void_after c = λ told a b a_in b_in.
+    let t = c.args.table.now in
+    let turn = c.args.turn in
+    let side = c.args.side in
+    let stand = stand_on c.args.men.now a b in
+    let void =
+    subst (λ k. (passed : Bool) (code : ℕ) → IsTurnedCodeWith passed k turn code stand side → IsVoid k code) c.class-class.ensures.class
+    (λ passed code. c.are_void_after.ensures c.if-are_void_after.true passed code a b side a_in b_in) in
+    raised_by_zeros (at c.args.out.now a b) (λ code. IsCodeAfter c.args.passed t.class turn code stand side) (column_score t c.args.column)
+    (λ code tells. c.requires.voids code (void c.args.passed code (record { below = c.requires.turn; keeps = c.requires.keeps; tells = tells })))

@@ -13,9 +13,9 @@ pub tells_reach_bytes-requires-clause-voids : goal.tells_reach_bytes-requires-cl
 tells_reach_bytes-requires-clause-voids c = λ i below.
     let kept = c.requires.values Mate i below rules.Void in record { void = kept.0; index = λ some void. some (kept.1 void) }
 
-pub returns-then-tells_reach_bytes : goal.returns-then-tells_reach_bytes
-returns-then-tells_reach_bytes c = λ right i below.
+pub returns : goal.returns
+returns c = λ right i below.
     let tables = beside (table_at c.args.library.now) c.args.table.now in
     let four = c.in-Some-four_men.ensures in
-    let kept = c.pairs_are_right.ensures right tables (four.tables (c.tells_reach_bytes.ensures c.if-tells_reach_bytes.true)) in
+    let kept = c.pairs_are_right.ensures right tables four.tables in
     subst (λ (t : TableValue). (i : ℕ) → i < size_of t.class → KeepsPart Reach tables t i) four.own kept i below

@@ -14,7 +14,7 @@ use Rattle.egt_check.proofs.TablePairs.{table_left}
 use Rattle.egt_check.proofs.table_judging.four_men.Goals as goal
 
 pub returns-clause-tables : goal.returns-clause-tables
-returns-clause-tables c = λ bytes.
+returns-clause-tables c =
     let part = c.args.part in
     let t = c.args.table.now in
     let tables = table_at c.args.library.now in
@@ -27,7 +27,7 @@ returns-clause-tables c = λ bytes.
     record {
       is_table = is_table_in part t c.requires.there c.class-class.ensures.table;
       found = found_in part (beside tables t) t c.requires.there (beside_own tables t t.class refl);
-      bytes = bytes;
+      bytes = c.requires.bytes;
       first = table_left part tables t first c.of_men-first_class.result.0 c.of_men-first_class.result.1 men.one c.in_ok-first.ensures.shelved (sym c.in_ok-first.ensures.is) first_apart
           (c.is_left.ensures.there c.if-not-is_left.false) (c.is_left.ensures.lone c.if-not-is_left.false) (c.is_left.ensures.bytes c.if-not-is_left.false) c.of_men-first_class.ensures.class;
       last = table_left part tables t last c.of_men-last_class.result.0 c.of_men-last_class.result.1 men.last c.in_ok-last.ensures.shelved (sym c.in_ok-last.ensures.is) last_apart
