@@ -2,6 +2,7 @@
 use Rattle.std.proofs.Common.{◌≡◌, ◌≢◌, ℕ, ◌/◌, ◌%◌, ◌<◌, ◌⊎◌, ◌↔◌, max, not, cond, ltb, eqb, IsTrue, Bool, true, false, List, [], ◌∷◌, Option, Some, None, IfSome, arith, refl, sym, ap, ◌∙◌, inl, inr, subst}
 use Rattle.std.proofs.lemmas.Bool.{cases_eq, cases_lt, false≢true, ltb-true}
 use Rattle.std.specs.Int.{bit_at}
+use Rattle.egt_board.specs.Man.{other_side}
 use Rattle.egt_board.specs.Turned.{turned_square}
 use Rattle.egt_class.specs.Below.{all_below, passes_below}
 use Rattle.egt_board.specs.declared.man.Man.{Man}
@@ -14,15 +15,17 @@ use Rattle.egt_index.specs.Digits.{AreDigits}
 use Rattle.egt_index.specs.Home.{AreHome, IsTurnWith}
 use Rattle.egt_index.specs.Size.{has_pawns, king_base, men_bases}
 use Rattle.egt_index.specs.Stood.{list_of}
-use Rattle.egt_index.specs.TurnedMen.{IsSomeTurnedCodeWith, swapped, turned_by}
+use Rattle.egt_index.specs.TurnedMen.{IsSomeTurnedCode, IsSomeTurnedCodeWith, swapped, turned_by}
 use Rattle.egt_index.specs.declared.shelf_codes.ShelfMen.{ShelfMen}
 use Rattle.egt_index.specs.declared.stand.Stand.{Stand}
 use Rattle.egt_lanes.specs.Blocks.{at}
 use Rattle.egt_lanes.specs.Raised.{IsRaised}
 use Rattle.egt_table.specs.Table.{TableValue}
 use Rattle.egt_table.specs.declared.column.Column.{Column}
-use Rattle.egt_check.specs.Blocks.{AreGathered, AreHomeCodes, AreTurnedCodes, IsBesideKing, IsCodeAfter, IsHomeCode, men_across, settled_at, stand_on, with_king}
-use Rattle.egt_check.specs.Worth.{column_score}
+use Rattle.egt_check.specs.Blocks.{AreKingCodes, IsBesideKing, IsCodeAfter, IsHomeCode, IsRaisedHome, men_across, settled_at, stand_on, with_king}
+use Rattle.egt_check.specs.Kept.{AreKept}
+use Rattle.egt_check.specs.Worth.{IsReadWith, column_score}
+use Rattle.egt_check.specs.declared.kept_blocks.BlockKey.{BlockKey}
 
 -- ---- the greatest of some numbers
 
@@ -172,63 +175,52 @@ module _ (passed : Bool) (c : ℕ) (flips : Bool) (side : Side) (code : ℕ) (me
 pub raised_greater : (u v w : ℕ) (A B In : ℕ → Type 0) (f : ℕ → ℕ) → IsRaised 0 A f u → IsRaised 0 B f v → w ≡ max u v → ((t : ℕ) → In t → A t ⊎ B t) → ((t : ℕ) → A t → In t) → ((t : ℕ) → B t → In t) → IsRaised 0 In f w
 raised_greater u v w A B In f first then is covers a_in b_in = raised_both 0 u w A B In f first (raised_max u B f v w then is) covers a_in b_in
 
-module _ (passed : Bool) (t : TableValue) (column : Column) (In : ℕ → Type 0) (men : ℕ → ShelfMen) (flips : Bool) (side : Side) (own across : List (List ℕ)) (gathered : AreGathered passed t column In men flips side own across)
-    (equal : Bool) (same : equal ≡ true → (k : ℕ) → (men k).one ≡ (men k).last) (differ : equal ≡ false → (k : ℕ) → (men k).one ≢ (men k).last) (a b : ℕ) (a_in : a < 64) (b_in : b < 64) where
+module _ (passed : Bool) (t : TableValue) (column : Column) (men : ShelfMen) (flips : Bool) (side : Side) (own across : List (List ℕ))
+    (in_own : (a b : ℕ) → a < 64 → b < 64 → IsRaisedHome passed t column flips (stand_on men a b) side 0 (at own a b))
+    (in_across : has_equal_sides t.class ≡ true → (a b : ℕ) → a < 64 → b < 64 → IsRaisedHome passed t column (not flips) (stand_on (men_across men) b a) side 0 (at across b a))
+    (equal : Bool) (told : IsTrue equal ↔ (men.one ≡ men.last)) (a b : ℕ) (a_in : a < 64) (b_in : b < 64) where
+  Home : Bool → Stand → ℕ → Type 0
+  Home exchanged stand code = IsHomeCode passed t.class code exchanged stand side
+
   -- codes of the class's colours, in either order of equal men
   OwnCodes : ℕ → Type 0
-  OwnCodes code = AreHomeCodes passed t.class In men flips side a b code ⊎ ((k : ℕ) × In k × ((men k).one ≡ (men k).last) × IsHomeCode passed t.class code flips (stand_on (men k) b a) side)
+  OwnCodes code = Home flips (stand_on men a b) code ⊎ ((men.one ≡ men.last) × Home flips (stand_on men b a) code)
 
   own_raised : (e : Bool) → equal ≡ e → IsRaised 0 OwnCodes (column_score t column) (cond e (max (at own a b) (at own b a)) (at own a b))
-  unfolding OwnCodes
-  own_raised true is = raised_greater (at own a b) (at own b a) (max (at own a b) (at own b a)) (AreHomeCodes passed t.class In men flips side a b) (AreHomeCodes passed t.class In men flips side b a) OwnCodes (column_score t column) (gathered.in_own a b a_in b_in) (gathered.in_own b a b_in a_in) refl
-      (λ code h. elim h [ inl here ↦ inl here | inr there ↦ inr (there.0, there.1, there.3) ])
+  unfolding OwnCodes Home
+  own_raised true is = raised_greater (at own a b) (at own b a) (max (at own a b) (at own b a)) (Home flips (stand_on men a b)) (Home flips (stand_on men b a)) OwnCodes (column_score t column) (in_own a b a_in b_in) (in_own b a b_in a_in) refl
+      (λ code h. elim h [ inl here ↦ inl here | inr there ↦ inr there.1 ])
       (λ code here. inl here)
-      (λ code there. inr (there.0, there.1, same is there.0, there.2))
-  own_raised false is = raised_alike 0 (at own a b) (AreHomeCodes passed t.class In men flips side a b) OwnCodes (column_score t column) (gathered.in_own a b a_in b_in)
-      (λ code h. elim h [ inl here ↦ here | inr there ↦ absurd (differ is there.0 there.2) ])
+      (λ code there. inr (told.0 is, there))
+  own_raised false is = raised_alike 0 (at own a b) (Home flips (stand_on men a b)) OwnCodes (column_score t column) (in_own a b a_in b_in)
+      (λ code h. elim h [ inl here ↦ here | inr there ↦ absurd (false≢true (sym is ∙ told.1 there.0)) ])
       (λ code here. inl here)
 
-  all_codes : (code : ℕ) → OwnCodes code → AreTurnedCodes passed t.class In men flips side a b code
-  unfolding OwnCodes
-  all_codes code (inl here) = (here.0, here.1, home_is_some passed t.class flips side code (men here.0) a b here.2)
-  all_codes code (inr there) = (there.0, there.1, other_is_some passed t.class flips side code (men there.0) a b there.2 there.3)
+  own_is_some : (code : ℕ) → OwnCodes code → IsSomeTurnedCodeWith passed t.class code flips (stand_on men a b) side
+  unfolding OwnCodes Home
+  own_is_some code (inl here) = home_is_some passed t.class flips side code men a b here
+  own_is_some code (inr there) = other_is_some passed t.class flips side code men a b there.0 there.1
 
-  pub settled_raised : (sides : Bool) → has_equal_sides t.class ≡ sides → IsRaised 0 (AreTurnedCodes passed t.class In men flips side a b) (column_score t column) (settled_at equal sides own across a b)
-  unfolding OwnCodes
+  pub settled_raised : (sides : Bool) → has_equal_sides t.class ≡ sides → IsReadWith passed t column flips (stand_on men a b) side (settled_at equal sides own across a b)
+  unfolding OwnCodes Home
   settled_raised true is =
-      raised_greater _ (at across b a) _ OwnCodes (AreHomeCodes passed t.class In (λ k. men_across (men k)) (not flips) side b a) (AreTurnedCodes passed t.class In men flips side a b) (column_score t column) (own_raised equal refl) (gathered.in_across is a b a_in b_in) refl
-      (λ code h. elim (some_parted passed t.class flips side code (men h.0) a b h.2) [
-        | inl here ↦ inl (inl (h.0, h.1, here))
-        | inr (inl other) ↦ inl (inr (h.0, h.1, other.0, other.1))
-        | inr (inr beyond) ↦ inr (h.0, h.1, beyond.1)
+      raised_greater _ (at across b a) _ OwnCodes (Home (not flips) (stand_on (men_across men) b a)) (λ code. IsSomeTurnedCodeWith passed t.class code flips (stand_on men a b) side) (column_score t column) (own_raised equal refl) (in_across is a b a_in b_in) refl
+      (λ code h. elim (some_parted passed t.class flips side code men a b h) [
+        | inl here ↦ inl (inl here)
+        | inr (inl other) ↦ inl (inr other)
+        | inr (inr beyond) ↦ inr beyond.1
       ])
-      all_codes
-      (λ code beyond. (beyond.0, beyond.1, across_is_some passed t.class flips side code (men beyond.0) a b is beyond.2))
+      own_is_some
+      (λ code beyond. across_is_some passed t.class flips side code men a b is beyond)
   settled_raised false is =
-      subst (IsRaised 0 (AreTurnedCodes passed t.class In men flips side a b) (column_score t column)) (omega arith)
-      (raised_alike 0 _ OwnCodes (AreTurnedCodes passed t.class In men flips side a b) (column_score t column) (own_raised equal refl)
-      (λ code h. elim (some_parted passed t.class flips side code (men h.0) a b h.2) [
-        | inl here ↦ inl (h.0, h.1, here)
-        | inr (inl other) ↦ inr (h.0, h.1, other.0, other.1)
+      subst (IsRaised 0 (λ code. IsSomeTurnedCodeWith passed t.class code flips (stand_on men a b) side) (column_score t column)) (omega arith)
+      (raised_alike 0 _ OwnCodes (λ code. IsSomeTurnedCodeWith passed t.class code flips (stand_on men a b) side) (column_score t column) (own_raised equal refl)
+      (λ code h. elim (some_parted passed t.class flips side code men a b h) [
+        | inl here ↦ inl here
+        | inr (inl other) ↦ inr other
         | inr (inr beyond) ↦ absurd (false≢true (sym is ∙ beyond.0))
       ])
-      all_codes)
-
-pub told_equal : (equal : Bool) (men : ShelfMen) → IsTrue equal ↔ (men.one ≡ men.last) → (equal ≡ true → men.one ≡ men.last) × (equal ≡ false → men.one ≢ men.last)
-told_equal equal men is = (is.0, λ no same. false≢true (sym no ∙ is.1 same))
-
--- one family of men, gathered into nothing
-module _ (passed : Bool) (t : TableValue) (column : Column) (men : ShelfMen) (flips : Bool) (side : Side) (own across own_before across_before : List (List ℕ)) where
-  pub gathered_alone : ((a b : ℕ) → a < 64 → b < 64 → at own_before a b ≡ 0) → ((a b : ℕ) → a < 64 → b < 64 → at across_before a b ≡ 0)
-      → ((a b : ℕ) → a < 64 → b < 64 → IsRaised (at own_before a b) (λ code. IsHomeCode passed t.class code flips (stand_on men a b) side) (column_score t column) (at own a b))
-      → (has_equal_sides t.class ≡ true → (a b : ℕ) → a < 64 → b < 64 → IsRaised (at across_before b a) (λ code. IsHomeCode passed t.class code (not flips) (stand_on (men_across men) b a) side) (column_score t column) (at across b a))
-      → AreGathered passed t column (λ k. k ≡ 0) (λ k. men) flips side own across
-  gathered_alone none none_across own_raised across_raised = record {
-    in_own = λ a b a_in b_in. raised_alike 0 (at own a b) (λ code. IsHomeCode passed t.class code flips (stand_on men a b) side) (AreHomeCodes passed t.class (λ k. k ≡ 0) (λ k. men) flips side a b) (column_score t column)
-        (subst (λ low. IsRaised low (λ code. IsHomeCode passed t.class code flips (stand_on men a b) side) (column_score t column) (at own a b)) (none a b a_in b_in) (own_raised a b a_in b_in)) (λ code h. h.2) (λ code h. (0, refl, h));
-    in_across = λ equal a b a_in b_in. raised_alike 0 (at across b a) (λ code. IsHomeCode passed t.class code (not flips) (stand_on (men_across men) b a) side) (AreHomeCodes passed t.class (λ k. k ≡ 0) (λ k. men_across men) (not flips) side b a) (column_score t column)
-        (subst (λ low. IsRaised low (λ code. IsHomeCode passed t.class code (not flips) (stand_on (men_across men) b a) side) (column_score t column) (at across b a)) (none_across b a b_in a_in) (across_raised equal a b a_in b_in)) (λ code h. h.2) (λ code h. (0, refl, h));
-  }
+      own_is_some)
 
 -- ---- a king's steps
 
@@ -236,44 +228,24 @@ module _ (passed : Bool) (t : TableValue) (column : Column) (men : ShelfMen) (fl
 abbrev pub GoneKing : ShelfMen → Side → SquareSet → ℕ → Type 0
 GoneKing men side rest k = IsBesideKing men side k × (bit_at rest.bits k ≡ 0)
 
-module _ (passed : Bool) (t : TableValue) (column : Column) (men : ℕ → ShelfMen) (flips : Bool) (side : Side) where
-  pub gathered_none : (In : ℕ → Type 0) (own across : List (List ℕ)) → ((k : ℕ) → ¬ In k) → ((a b : ℕ) → a < 64 → b < 64 → at own a b ≡ 0) → ((a b : ℕ) → a < 64 → b < 64 → at across a b ≡ 0) → AreGathered passed t column In men flips side own across
-  gathered_none In own across none own_none across_none = record {
-    in_own = λ a b a_in b_in. subst (IsRaised 0 (AreHomeCodes passed t.class In men flips side a b) (column_score t column)) (sym (own_none a b a_in b_in)) (raised_by_none 0 (AreHomeCodes passed t.class In men flips side a b) (column_score t column) (λ code h. none h.0 h.1));
-    in_across = λ equal a b a_in b_in. subst (IsRaised 0 (AreHomeCodes passed t.class In (λ k. men_across (men k)) (not flips) side b a) (column_score t column)) (sym (across_none b a b_in a_in))
-        (raised_by_none 0 (AreHomeCodes passed t.class In (λ k. men_across (men k)) (not flips) side b a) (column_score t column) (λ code h. none h.0 h.1));
-  }
-
-  -- one more of them
-  pub gathered_more : (A In : ℕ → Type 0) (n : ℕ) (own across own_new across_new : List (List ℕ)) → AreGathered passed t column A men flips side own across
-      → ((a b : ℕ) → a < 64 → b < 64 → IsRaised (at own a b) (λ code. IsHomeCode passed t.class code flips (stand_on (men n) a b) side) (column_score t column) (at own_new a b))
-      → (has_equal_sides t.class ≡ true → (a b : ℕ) → a < 64 → b < 64 → IsRaised (at across b a) (λ code. IsHomeCode passed t.class code (not flips) (stand_on (men_across (men n)) b a) side) (column_score t column) (at across_new b a))
-      → ((k : ℕ) → In k → A k ⊎ (k ≡ n)) → ((k : ℕ) → A k → In k) → In n → AreGathered passed t column In men flips side own_new across_new
-  gathered_more A In n own across own_new across_new before in_own in_across covers a_in n_in = record {
-    in_own = λ a b a_low b_low. raised_both 0 (at own a b) (at own_new a b) (AreHomeCodes passed t.class A men flips side a b) (λ code. IsHomeCode passed t.class code flips (stand_on (men n) a b) side) (AreHomeCodes passed t.class In men flips side a b) (column_score t column)
-        (before.in_own a b a_low b_low) (in_own a b a_low b_low)
-        (λ code h. elim (covers h.0 h.1) [
-          | inl old ↦ inl (h.0, old, h.2)
-          | inr new ↦ inr (subst (λ k. IsHomeCode passed t.class code flips (stand_on (men k) a b) side) new h.2)
-        ])
-        (λ code h. (h.0, a_in h.0 h.1, h.2)) (λ code h. (n, n_in, h));
-    in_across = λ equal a b a_low b_low. raised_both 0 (at across b a) (at across_new b a) (AreHomeCodes passed t.class A (λ k. men_across (men k)) (not flips) side b a) (λ code. IsHomeCode passed t.class code (not flips) (stand_on (men_across (men n)) b a) side)
-        (AreHomeCodes passed t.class In (λ k. men_across (men k)) (not flips) side b a) (column_score t column) (before.in_across equal a b a_low b_low) (in_across equal a b a_low b_low)
-        (λ code h. elim (covers h.0 h.1) [
-          | inl old ↦ inl (h.0, old, h.2)
-          | inr new ↦ inr (subst (λ k. IsHomeCode passed t.class code (not flips) (stand_on (men_across (men k)) b a) side) new h.2)
-        ])
-        (λ code h. (h.0, a_in h.0 h.1, h.2)) (λ code h. (n, n_in, h));
-  }
-
-  pub gathered_alike : (A In : ℕ → Type 0) (own across : List (List ℕ)) → AreGathered passed t column A men flips side own across → ((k : ℕ) → In k → A k) → ((k : ℕ) → A k → In k) → AreGathered passed t column In men flips side own across
-  gathered_alike A In own across before covers a_in = record {
-    in_own = λ a b a_low b_low. raised_alike 0 (at own a b) (AreHomeCodes passed t.class A men flips side a b) (AreHomeCodes passed t.class In men flips side a b) (column_score t column) (before.in_own a b a_low b_low) (λ code h. (h.0, covers h.0 h.1, h.2)) (λ code h. (h.0, a_in h.0 h.1, h.2));
-    in_across = λ equal a b a_low b_low. raised_alike 0 (at across b a) (AreHomeCodes passed t.class A (λ k. men_across (men k)) (not flips) side b a) (AreHomeCodes passed t.class In (λ k. men_across (men k)) (not flips) side b a) (column_score t column) (before.in_across equal a b a_low b_low)
-        (λ code h. (h.0, covers h.0 h.1, h.2)) (λ code h. (h.0, a_in h.0 h.1, h.2));
-  }
-
 -- the same men beside the kings
 pub same_beside : (men : ShelfMen) (side : Side) (k : ℕ) → ((with_king men side k).one ≡ men.one) × ((with_king men side k).last ≡ men.last)
 same_beside men White k = (refl, refl)
 same_beside men Black k = (refl, refl)
+
+-- one step more
+pub king_goes : (c : ℕ) (men : ShelfMen) (side : Side) (A In : ℕ → Type 0) (to a b low high : ℕ) (f : ℕ → ℕ) → IsRaised 0 (AreKingCodes c men side A a b) f low
+    → IsRaised low (λ code. IsSomeTurnedCode c code false (stand_on (with_king men side to) a b) (other_side side)) f high
+    → ((k : ℕ) → In k → A k ⊎ (k ≡ to)) → ((k : ℕ) → A k → In k) → In to → IsRaised 0 (AreKingCodes c men side In a b) f high
+king_goes c men side A In to a b low high f before step covers a_in to_in =
+    raised_both 0 low high (AreKingCodes c men side A a b) (λ code. IsSomeTurnedCode c code false (stand_on (with_king men side to) a b) (other_side side)) (AreKingCodes c men side In a b) f before step
+    (λ code h. elim (covers h.0 h.1) [
+      | inl old ↦ inl (h.0, old, h.2)
+      | inr new ↦ inr (subst (λ k. IsSomeTurnedCode c code false (stand_on (with_king men side k) a b) (other_side side)) new h.2)
+    ])
+    (λ code h. (h.0, a_in h.0 h.1, h.2)) (λ code h. (to, to_in, h))
+
+-- what is kept tells of all squares of the kings
+pub kept_beside : (t : TableValue) (men : ShelfMen) (side : Side) (k : ℕ) (s : Side) (keys : List (Option BlockKey)) (blocks : List (List (List ℕ))) → AreKept t men s keys blocks ↔ AreKept t (with_king men side k) s keys blocks
+kept_beside t men White k s keys blocks = ((λ kept. kept), (λ kept. kept))
+kept_beside t men Black k s keys blocks = ((λ kept. kept), (λ kept. kept))

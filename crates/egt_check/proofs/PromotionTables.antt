@@ -14,6 +14,7 @@ use Rattle.egt_index.specs.declared.shelf_codes.ShelfMen.{ShelfMen}
 use Rattle.egt_moves.specs.Promotion.{arriving}
 use Rattle.egt_table.specs.Table.{HasColumn, TableValue}
 use Rattle.egt_table.specs.declared.column.Column.{Column}
+use Rattle.egt_check.specs.Blocks.{with_kings}
 use Rattle.egt_check.specs.MoveScores.{AreFourMen, AreTablesOf}
 use Rattle.egt_check.specs.Library.{IsShelved}
 use Rattle.egt_check.specs.Parts.{column_of, promotions_in, some_promotions_in, table_in, tables_in}
@@ -39,13 +40,9 @@ beside_any Values tables c men (Some kinds) has t same = has t same
 beside_any Reach tables c men None has t same = tt
 beside_any Reach tables c men (Some kinds) has t same = has t same
 
--- the men with the kings on these squares
-abbrev pub men_there : ShelfMen → (white black : ℕ) → ShelfMen
-men_there men white black = record { white = white; black = black; one = men.one; on = men.on; last = men.last }
-
 module _ (men : ShelfMen) (white black : ℕ) where
   abbrev there : ShelfMen
-  there = men_there men white black
+  there = with_kings men white black
 
   after_there : (c : ℕ) (before flips : Bool) (man : Man) → AreMenOf c (men_after before flips men man) → AreMenOf c (men_after before flips there man)
   after_there c false flips man are = record { are = are.are; one_beside = are.one_beside; last_beside = are.last_beside }
@@ -87,7 +84,7 @@ module _ (men : ShelfMen) (white black : ℕ) where
   }
 
 module _ (men : ShelfMen) (white black : ℕ) where
-  pub four_there : (column : Column) (four : FourMen) → AreFourMen column four men → AreFourMen column four (men_there men white black)
+  pub four_there : (column : Column) (four : FourMen) → AreFourMen column four men → AreFourMen column four (with_kings men white black)
   four_there column four are = record {
     own_there = are.own_there;
     own_voids = are.own_voids;
@@ -104,7 +101,7 @@ module _ (men : ShelfMen) (white black : ℕ) where
     same = are.same;
   }
 
-  pub tables_of_there : (tables : Tables) (four : FourMen) → AreTablesOf tables four men → AreTablesOf tables four (men_there men white black)
+  pub tables_of_there : (tables : Tables) (four : FourMen) → AreTablesOf tables four men → AreTablesOf tables four (with_kings men white black)
   tables_of_there tables four are = record {
     is_table = are.is_table;
     found = are.found;

@@ -17,7 +17,7 @@ use Rattle.egt_lanes.specs.Blocks.{IsOpen, at}
 use Rattle.egt_lanes.specs.Raised.{IsRaised}
 use Rattle.egt_table.specs.Table.{TableValue}
 use Rattle.egt_table.specs.declared.column.Column.{Column}
-use Rattle.egt_check.specs.Blocks.{AreTurnedCodes, IsBesideKing, stand_on, with_king}
+use Rattle.egt_check.specs.Blocks.{AreKingCodes, IsBesideKing, stand_on, with_king}
 use Rattle.egt_check.specs.QuietStands.{AreQuietCodes, IsClear}
 use Rattle.egt_check.specs.QuietSteps.{IsFirstStep, IsLastStep}
 use Rattle.egt_check.specs.Worth.{IsRead, column_score}
@@ -95,10 +95,10 @@ open_is_clear men kings b is u u_in = (
 )
 
 module _ (t : TableValue) (column : Column) (men : ShelfMen) (side : Side) (a b : ℕ) (low : ℕ)
-    (king : IsRaised 0 (AreTurnedCodes false t.class (IsBesideKing men side) (with_king men side) false (other_side side) a b) (column_score t column) low) where
+    (king : IsRaised 0 (AreKingCodes t.class men side (IsBesideKing men side) a b) (column_score t column) low) where
   -- only the king has steps
   pub king_alone : (men.one.side ≡ side → men.one.kind ≡ P) → (men.last.side ≡ side → men.last.kind ≡ P) → IsRaised 0 (AreQuietCodes t.class men side a b) (column_score t column) low
-  king_alone other others = raised_alike 0 low (AreTurnedCodes false t.class (IsBesideKing men side) (with_king men side) false (other_side side) a b) (AreQuietCodes t.class men side a b) (column_score t column) king
+  king_alone other others = raised_alike 0 low (AreKingCodes t.class men side (IsBesideKing men side) a b) (AreQuietCodes t.class men side a b) (column_score t column) king
       (λ code h. elim h.1 [
         | inl k ↦ (k.0, k.1, subst (λ (s : Stand). IsSomeTurnedCode t.class code false s (other_side side)) k.2 h.2)
         | inr (inl one) ↦ absurd (one.1 (other one.0))
@@ -110,7 +110,7 @@ module _ (t : TableValue) (column : Column) (men : ShelfMen) (side : Side) (a b 
       (first : IsRaised low (IsFirstStep men side a b) (λ u. at scores u b) mid) (last : IsRaised mid (IsLastStep men side a b) (λ u. at scores a u) high) where
     -- codes after a step of the king or of the first man, of the first man, and of the last
     NoLast : ℕ → Type 0
-    NoLast code = AreTurnedCodes false t.class (IsBesideKing men side) (with_king men side) false (other_side side) a b code ⊎ ((u : ℕ) × IsFirstStep men side a b u × IsSomeTurnedCode t.class code false (stand_on men u b) (other_side side))
+    NoLast code = AreKingCodes t.class men side (IsBesideKing men side) a b code ⊎ ((u : ℕ) × IsFirstStep men side a b u × IsSomeTurnedCode t.class code false (stand_on men u b) (other_side side))
 
     by_first : IsRaised low (λ code. (u : ℕ) × IsFirstStep men side a b u × IsSomeTurnedCode t.class code false (stand_on men u b) (other_side side)) (column_score t column) mid
     by_first = raised_through low mid (IsFirstStep men side a b) (λ u code. IsSomeTurnedCode t.class code false (stand_on men u b) (other_side side)) (column_score t column) (λ u. at scores u b)
@@ -122,7 +122,7 @@ module _ (t : TableValue) (column : Column) (men : ShelfMen) (side : Side) (a b 
 
     by_both : IsRaised 0 NoLast (column_score t column) mid
     unfolding NoLast
-    by_both = raised_both 0 low mid (AreTurnedCodes false t.class (IsBesideKing men side) (with_king men side) false (other_side side) a b)
+    by_both = raised_both 0 low mid (AreKingCodes t.class men side (IsBesideKing men side) a b)
         (λ code. (u : ℕ) × IsFirstStep men side a b u × IsSomeTurnedCode t.class code false (stand_on men u b) (other_side side)) NoLast (column_score t column) king by_first
         (λ code h. h) (λ code h. inl h) (λ code h. inr h)
 

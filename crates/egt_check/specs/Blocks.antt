@@ -1,18 +1,19 @@
 -- What a block holds: a number for each square of the first man beside the kings and of the last.
-use Rattle.std.specs.Prelude.{if◌then◌else◌, max, List, ◌≡◌, ℕ, ◌+◌, ◌/◌, ◌%◌, ◌<◌, ◌==◌, Bool, true, not}
+use Rattle.std.specs.Prelude.{if◌then◌else◌, max, List, ◌≡◌, ℕ, ◌+◌, ◌/◌, ◌%◌, ◌<◌, ◌==◌, Bool, false}
 use Rattle.egt_board.specs.Turned.{turned_side, turned_square}
 use Rattle.std.specs.Int.{bit_at}
 use Rattle.egt_board.specs.Attack.{king_of}
 use Rattle.egt_board.specs.AttackLines.{Reaches}
+use Rattle.egt_board.specs.Man.{other_side}
 use Rattle.egt_board.specs.declared.man.Side.{Side}
 use Rattle.egt_board.specs.declared.man.Side.TheVariants.{White, Black}
-use Rattle.egt_class.specs.Material.{has_equal_sides, material_of}
+use Rattle.egt_class.specs.Material.{material_of}
 use Rattle.egt_index.specs.Home.{IsTurnWith}
 use Rattle.egt_index.specs.Scales.{kind_digits, kind_less}
 use Rattle.egt_index.specs.ShelfCodes.{IsShelfOf, IsWithin, stand_with}
 use Rattle.egt_index.specs.Size.{has_pawns}
 use Rattle.egt_index.specs.StepCodes.{TellsMen}
-use Rattle.egt_index.specs.TurnedMen.{IsSomeTurnedCodeWith, turned_by}
+use Rattle.egt_index.specs.TurnedMen.{IsSomeTurnedCode, turned_by}
 use Rattle.egt_index.specs.declared.shelf_codes.ShelfMen.{ShelfMen}
 use Rattle.egt_index.specs.declared.stand.Stand.{Stand}
 use Rattle.egt_lanes.specs.Blocks.{at}
@@ -28,6 +29,10 @@ men_on men a = record { white = men.white; black = men.black; one = men.one; on 
 -- the men with the first and the last one on these squares
 abbrev pub stand_on : ShelfMen → (a b : ℕ) → Stand
 stand_on men a b = stand_with (men_on men a) b
+
+-- the men with the kings on these squares
+abbrev pub with_kings : ShelfMen → (white black : ℕ) → ShelfMen
+with_kings men white black = record { white = white; black = black; one = men.one; on = men.on; last = men.last }
 
 -- the men where the turn takes them, the first one from this square
 abbrev pub turned_from : ShelfMen → (on turn : ℕ) → ShelfMen
@@ -77,18 +82,9 @@ king_of_men men Black = men.black
 abbrev pub IsBesideKing : ShelfMen → Side → ℕ → Type 0
 IsBesideKing men side k = (k < 64) × Reaches (λ u. bit_at 0 u ≡ 0) (king_of side) (king_of_men men side) k
 
--- codes of the men of one of these, where turns take them that exchange colours so
-abbrev pub AreHomeCodes : (passed : Bool) (c : ℕ) (In : ℕ → Type 0) (men : ℕ → ShelfMen) (flips : Bool) (side : Side) (a b code : ℕ) → Type 0
-AreHomeCodes passed c In men flips side a b code = (k : ℕ) × In k × IsHomeCode passed c code flips (stand_on (men k) a b) side
-
--- codes of the men of one of these, in any colours
-abbrev pub AreTurnedCodes : (passed : Bool) (c : ℕ) (In : ℕ → Type 0) (men : ℕ → ShelfMen) (flips : Bool) (side : Side) (a b code : ℕ) → Type 0
-AreTurnedCodes passed c In men flips side a b code = (k : ℕ) × In k × IsSomeTurnedCodeWith passed c code flips (stand_on (men k) a b) side
-
--- both blocks are raised from nothing to the codes of these
-pub record AreGathered (passed : Bool) (t : TableValue) (column : Column) (In : ℕ → Type 0) (men : ℕ → ShelfMen) (flips : Bool) (side : Side) (own across : List (List ℕ)) : Type 0 where
-  pub in_own : (a b : ℕ) → a < 64 → b < 64 → IsRaised 0 (AreHomeCodes passed t.class In men flips side a b) (column_score t column) (at own a b)
-  pub in_across : has_equal_sides t.class ≡ true → (a b : ℕ) → a < 64 → b < 64 → IsRaised 0 (AreHomeCodes passed t.class In (λ k. men_across (men k)) (not flips) side b a) (column_score t column) (at across b a)
+-- codes of the men with that side's king on one of these squares, wherever turns take them, the other side to move
+abbrev pub AreKingCodes : (c : ℕ) (men : ShelfMen) (side : Side) (In : ℕ → Type 0) (a b code : ℕ) → Type 0
+AreKingCodes c men side In a b code = (k : ℕ) × In k × IsSomeTurnedCode c code false (stand_on (with_king men side k) a b) (other_side side)
 
 -- the shelves from this one on are those of the men with the first one on the squares of his digits
 abbrev pub AreShelvesOf : (passed : Bool) (c : ℕ) → ShelfMen → (first : ℕ) → Type 0

@@ -14,6 +14,7 @@ pub mod FirstBad
 pub mod Steps
 pub mod Raised
 pub mod Judged
+pub mod Kept
 pub mod Voids
 pub mod Worth
 pub mod Blocks

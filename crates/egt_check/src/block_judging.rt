@@ -1,5 +1,6 @@
 //! The judgement of all entries with the kings on two squares, in classes with two men beside the kings.
 ghost use Rattle.std.specs.Prelude.{◌≡◌, ◌+◌, ◌<◌, ℕ, true, slice_index};
+ghost use Rattle.egt_board.specs.Man.{other_side};
 ghost use Rattle.egt_index.specs.Numbers.{code_of};
 ghost use Rattle.egt_index.specs.Scales.{kind_digits, kind_less};
 ghost use Rattle.egt_index.specs.ShelfCodes.{AreMenOf, number_in};
@@ -7,12 +8,14 @@ ghost use Rattle.egt_lanes.specs.Blocks.{at};
 ghost use Rattle.egt_table.specs.declared.column.Column.TheVariants as columns;
 ghost use Rattle.egt_check.specs.declared.part.Part.TheVariants as parts;
 ghost use Rattle.egt_check.specs.Blocks.{men_on};
+ghost use Rattle.egt_check.specs.Kept.{AreKept};
 ghost use Rattle.egt_check.specs.MoveScores.{AreFourMen, AreTablesOf};
 ghost use Rattle.egt_check.specs.RightBlock.{AreJudged, IsRightLane};
 ghost use Rattle.egt_check.specs.Tables.{Tables};
 
 use crate::blocks::{begin_with, nothing};
 use crate::digits::{digits_of, first_square};
+use crate::kept_blocks::{BlockKeys, KeptBlocks};
 use crate::laws::entries_due_to_all_moves_are_right;
 use crate::move_scores::{FourMen, move_scores, raise_passed};
 use crate::row_judging::row_is_right;
@@ -82,16 +85,28 @@ pub(crate) fn block_is_right(
     first: u32,
     half: u32,
     side: Side,
+    keys: &mut BlockKeys,
+    blocks: &mut KeptBlocks,
 ) -> bool
     requires men { AreFourMen columns.Mate four.now men.now }
     requires room { first + half + 64 < 4294967296 }
-    ensures { result ≡ true → (tables : Tables) → AreTablesOf tables four.now men.now →
+    requires kept { AreKept four.now.own.now men.now (other_side side) keys.old blocks.old }
+    ensures kept { result ≡ true → AreKept four.now.own.now men.now (other_side side) keys.new blocks.new }
+    ensures judged { result ≡ true → (tables : Tables) → AreTablesOf tables four.now men.now →
         AreJudged parts.Values tables four.now.own.now men.now first side × AreJudged parts.Values tables four.now.own.now men.now (first + half) side }
 {
     entries_due_to_all_moves_are_right();
     let mut mates = nothing();
     let mut zeroing = nothing();
-    if !move_scores(four, men, side, &mut mates, &mut zeroing) {
+    if !move_scores(
+        four,
+        men,
+        side,
+        keys,
+        blocks,
+        &mut mates,
+        &mut zeroing,
+    ) {
         return false;
     }
     if !shelves_are_right(four.own, men, first, side, false, &mates, &zeroing) {

@@ -1,19 +1,20 @@
 //! The scores of the positions after each step of a king.
-ghost use Rattle.std.specs.Prelude.{◌≡◌, ◌↔◌, ◌<◌, ℕ, false, true};
+ghost use Rattle.std.specs.Prelude.{◌≡◌, ◌↔◌, ◌<◌, ℕ, true};
 ghost use Rattle.egt_board.specs.Man.{other_side};
 ghost use Rattle.egt_board.specs.SquareSet.{Has};
 ghost use Rattle.egt_index.specs.ShelfCodes.{AreMenOf};
 ghost use Rattle.egt_lanes.specs.Blocks.{at};
 ghost use Rattle.egt_lanes.specs.Raised.{IsRaised};
 ghost use Rattle.egt_table.specs.Table.{HasColumn};
-ghost use Rattle.egt_check.specs.Blocks.{AreTurnedCodes, IsBesideKing, king_of_men, with_king};
+ghost use Rattle.egt_check.specs.Blocks.{AreKingCodes, IsBesideKing, king_of_men, with_king};
+ghost use Rattle.egt_check.specs.Kept.{AreKept};
 ghost use Rattle.egt_check.specs.Worth.{ScoresNoVoids, column_score};
 
-use crate::blocks::{are_equal, gather, nothing, settle};
+use crate::blocks::nothing;
+use crate::kept_blocks::{BlockKeys, KeptBlocks, raise_kept};
 use egt_board::attack_lines::reach_past;
 use egt_board::{Kind, Man, Side, Square, SquareSet};
 use egt_index::ShelfMen;
-use egt_index::men::has_equal_sides;
 use egt_lanes::Block;
 use egt_table::{Column, Table};
 
@@ -66,32 +67,33 @@ pub(crate) fn king_block(
     column: Column,
     men: &ShelfMen,
     side: Side,
+    keys: &mut BlockKeys,
+    blocks: &mut KeptBlocks,
     out: &mut Block,
 ) -> bool
     requires there { HasColumn column table.now }
     requires voids { ScoresNoVoids table.now column }
     requires men { AreMenOf table.now.class men.now }
-    ensures { result ≡ true → (a b : ℕ) → a < 64 → b < 64 →
-        IsRaised 0 (AreTurnedCodes false table.now.class (IsBesideKing men.now side) (with_king men.now side) false (other_side side) a b) (column_score table.now column) (at out.new a b) }
+    requires kept { AreKept table.now men.now (other_side side) keys.old blocks.old }
+    ensures kept { AreKept table.now men.now (other_side side) keys.new blocks.new }
+    ensures raised { result ≡ true → (a b : ℕ) → a < 64 → b < 64 →
+        IsRaised 0 (AreKingCodes table.now.class men.now side (IsBesideKing men.now side) a b) (column_score table.now column) (at out.new a b) }
 {
     *out = nothing();
-    let mut across = nothing();
     let mut rest = beside_king(men, side);
     while let Some(to) = rest.pop_first() {
         let stepped = with_king(men, side, to);
-        if !gather(
+        if !raise_kept(
             table,
             column,
             &stepped,
-            false,
-            false,
             side.other(),
+            keys,
+            blocks,
             out,
-            &mut across,
         ) {
             return false;
         }
     }
-    settle(are_equal(men), has_equal_sides(table.class()), out, &across);
     true
 }

@@ -11,6 +11,7 @@ pub mod bytes;
 pub mod checking;
 pub mod digits;
 pub mod judging;
+pub mod kept_blocks;
 pub mod king_blocks;
 pub mod laws;
 pub mod library;

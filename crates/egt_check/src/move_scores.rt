@@ -1,9 +1,11 @@
 //! The greatest scores of the moves of a side with two men beside the kings, who stand on two squares.
 ghost use Rattle.std.specs.Prelude.{◌≡◌, ◌<◌, max, ℕ, true};
+ghost use Rattle.egt_board.specs.Man.{other_side};
 ghost use Rattle.egt_lanes.specs.Blocks.{at};
 ghost use Rattle.egt_lanes.specs.Raised.{IsRaised};
 ghost use Rattle.egt_lanes.specs.Scores.{zeroing_score};
 ghost use Rattle.egt_table.specs.declared.column.Column.TheVariants as columns;
+ghost use Rattle.egt_check.specs.Kept.{AreKept};
 ghost use Rattle.egt_check.specs.MoveScores.{AreFourMen, AreMoveScores, ArePassedScores, ArePassingCaptures, AreZeroingMoves};
 ghost use Rattle.egt_check.specs.PawnScores.{AreRaisedByPawns};
 ghost use Rattle.egt_check.specs.Taken.{AreLeftCodes, men_swapped};
@@ -11,6 +13,7 @@ ghost use Rattle.egt_check.specs.Worth.{column_score};
 
 use crate::advance_blocks::is_pawn_of;
 use crate::blocks::nothing;
+use crate::kept_blocks::{BlockKeys, KeptBlocks};
 use crate::own_men::is_of;
 use crate::passing_blocks::passing_block;
 use crate::pawn_scores::{Promotions, pawns_block};
@@ -172,16 +175,28 @@ pub(crate) fn move_scores(
     four: &FourMen,
     men: &ShelfMen,
     side: Side,
+    keys: &mut BlockKeys,
+    blocks: &mut KeptBlocks,
     mates: &mut Block,
     zeroing: &mut Block,
 ) -> bool
-    requires { AreFourMen columns.Mate four.now men.now }
-    ensures { result ≡ true → (a b : ℕ) → a < 64 → b < 64 → AreMoveScores four.now men.now side a b (at mates.new a b) (at zeroing.new a b) }
+    requires men { AreFourMen columns.Mate four.now men.now }
+    requires kept { AreKept four.now.own.now men.now (other_side side) keys.old blocks.old }
+    ensures kept { result ≡ true → AreKept four.now.own.now men.now (other_side side) keys.new blocks.new }
+    ensures scores { result ≡ true → (a b : ℕ) → a < 64 → b < 64 → AreMoveScores four.now men.now side a b (at mates.new a b) (at zeroing.new a b) }
 {
-    if !quiet_block(four.own, Column::Mate, men, side, mates) {
+    if !quiet_block(four.own, Column::Mate, men, side, keys, blocks, mates) {
         return false;
     }
-    if !quiet_block(four.own, Column::Zeroing, men, side, zeroing) {
+    if !quiet_block(
+        four.own,
+        Column::Zeroing,
+        men,
+        side,
+        keys,
+        blocks,
+        zeroing,
+    ) {
         return false;
     }
     let mut zeroed = nothing();

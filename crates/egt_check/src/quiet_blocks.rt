@@ -2,6 +2,7 @@
 ghost use Rattle.std.specs.Prelude.{◌≡◌, ◌≢◌, ◌↔◌, ◌<◌, ℕ, false, true};
 ghost use Rattle.std.specs.Int.{bit_at};
 ghost use Rattle.egt_board.specs.AttackLines.{Reaches};
+ghost use Rattle.egt_board.specs.Man.{other_side};
 ghost use Rattle.egt_board.specs.SquareSet.{Has};
 ghost use Rattle.egt_board.specs.declared.man.Kind.TheVariants.{K};
 ghost use Rattle.egt_index.specs.ShelfCodes.{AreMenOf};
@@ -9,11 +10,13 @@ ghost use Rattle.egt_lanes.specs.Blocks.{at};
 ghost use Rattle.egt_lanes.specs.Pieces.{IsPiece};
 ghost use Rattle.egt_lanes.specs.Raised.{IsRaised};
 ghost use Rattle.egt_table.specs.Table.{HasColumn};
+ghost use Rattle.egt_check.specs.Kept.{AreKept};
 ghost use Rattle.egt_check.specs.QuietStands.{AreQuietCodes, IsClear};
 ghost use Rattle.egt_check.specs.QuietSteps.{IsFirstStep, IsLastStep};
 ghost use Rattle.egt_check.specs.Worth.{ScoresNoVoids, column_score};
 
-use crate::blocks::{nothing, read_block};
+use crate::blocks::nothing;
+use crate::kept_blocks::{BlockKeys, KeptBlocks, raise_kept};
 use crate::king_blocks::king_block;
 use crate::own_men::is_own_piece;
 use egt_board::{Side, Square, SquareSet};
@@ -77,6 +80,8 @@ pub(crate) fn quiet_block(
     column: Column,
     men: &ShelfMen,
     side: Side,
+    keys: &mut BlockKeys,
+    blocks: &mut KeptBlocks,
     out: &mut Block,
 ) -> bool
     requires there { HasColumn column table.now }
@@ -84,17 +89,27 @@ pub(crate) fn quiet_block(
     requires men { AreMenOf table.now.class men.now }
     requires one { men.now.one.kind ≢ K }
     requires last { men.now.last.kind ≢ K }
-    ensures { result ≡ true → (a b : ℕ) → a < 64 → b < 64 →
+    requires kept { AreKept table.now men.now (other_side side) keys.old blocks.old }
+    ensures kept { AreKept table.now men.now (other_side side) keys.new blocks.new }
+    ensures raised { result ≡ true → (a b : ℕ) → a < 64 → b < 64 →
         IsRaised 0 (AreQuietCodes table.now.class men.now side a b) (column_score table.now column) (at out.new a b) }
 {
-    if !king_block(table, column, men, side, out) {
+    if !king_block(table, column, men, side, keys, blocks, out) {
         return false;
     }
     if !is_own_piece(men.one, side) && !is_own_piece(men.last, side) {
         return true;
     }
     let mut scores = nothing();
-    if !read_block(table, column, false, false, men, side.other(), &mut scores) {
+    if !raise_kept(
+        table,
+        column,
+        men,
+        side.other(),
+        keys,
+        blocks,
+        &mut scores,
+    ) {
         return false;
     }
     raise_first(men, side, &scores, out);

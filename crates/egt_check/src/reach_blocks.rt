@@ -1,5 +1,6 @@
 //! The judgement of the column of the nearest mates, block by block.
 ghost use Rattle.std.specs.Prelude.{◌≡◌, ◌+◌, ◌<◌, ℕ, true, IsSome, slice_index};
+ghost use Rattle.egt_board.specs.Man.{other_side};
 ghost use Rattle.egt_index.specs.Numbers.{code_of};
 ghost use Rattle.egt_index.specs.Scales.{kind_digits, kind_less};
 ghost use Rattle.egt_index.specs.ShelfCodes.{AreMenOf, number_in};
@@ -9,6 +10,7 @@ ghost use Rattle.egt_table.specs.Table.{HasColumn};
 ghost use Rattle.egt_table.specs.declared.column.Column.TheVariants as columns;
 ghost use Rattle.egt_check.specs.declared.metric.Metric.{Metric};
 ghost use Rattle.egt_check.specs.declared.part.Part.TheVariants as parts;
+ghost use Rattle.egt_check.specs.Kept.{AreKept};
 ghost use Rattle.egt_check.specs.MoveScores.{AreFourMen, AreTablesOf};
 ghost use Rattle.egt_check.specs.Parts.{four_in, tables_in};
 ghost use Rattle.egt_check.specs.RightBlock.{AreJudged, IsRightReachLane};
@@ -19,6 +21,7 @@ use crate::block_judging::men_on;
 use crate::blocks::{begin_with, nothing};
 use crate::bytes::tells_reach_bytes;
 use crate::digits::{digits_of, first_square};
+use crate::kept_blocks::{BlockKeys, KeptBlocks};
 use crate::library::Library;
 use crate::move_scores::FourMen;
 use crate::part::Part;
@@ -77,15 +80,19 @@ pub(crate) fn reach_block_is_right(
     first: u32,
     half: u32,
     side: Side,
+    keys: &mut BlockKeys,
+    blocks: &mut KeptBlocks,
 ) -> bool
     requires men { AreFourMen columns.Reach four.now men.now }
     requires room { first + half + 64 < 4294967296 }
-    ensures { result ≡ true → (tables : Tables) → AreTablesOf (tables_in parts.Reach tables) (four_in parts.Reach four.now) men.now →
+    requires kept { AreKept four.now.own.now men.now (other_side side) keys.old blocks.old }
+    ensures kept { result ≡ true → AreKept four.now.own.now men.now (other_side side) keys.new blocks.new }
+    ensures judged { result ≡ true → (tables : Tables) → AreTablesOf (tables_in parts.Reach tables) (four_in parts.Reach four.now) men.now →
         AreJudged parts.Reach tables four.now.own.now men.now first side × AreJudged parts.Reach tables four.now.own.now men.now (first + half) side }
 {
     reach_entries_due_to_all_moves_are_right();
     let mut scores = nothing();
-    if !reach_scores(four, men, side, &mut scores) {
+    if !reach_scores(four, men, side, keys, blocks, &mut scores) {
         return false;
     }
     if !reach_shelves_are_right(four.own, men, first, side, false, &scores) {

@@ -2,12 +2,15 @@
 //! stand on two squares. That of a move is the less the more plies it is from there to a checkmate, and least where
 //! there is none.
 ghost use Rattle.std.specs.Prelude.{◌≡◌, ◌<◌, ℕ, true};
+ghost use Rattle.egt_board.specs.Man.{other_side};
 ghost use Rattle.egt_lanes.specs.Blocks.{at};
 ghost use Rattle.egt_table.specs.declared.column.Column.TheVariants as columns;
+ghost use Rattle.egt_check.specs.Kept.{AreKept};
 ghost use Rattle.egt_check.specs.MoveScores.{AreFourMen};
 ghost use Rattle.egt_check.specs.ReachScores.{ArePassedReachScores, AreReachScores};
 
 use crate::blocks::nothing;
+use crate::kept_blocks::{BlockKeys, KeptBlocks};
 use crate::move_scores::{FourMen, passing_captures, zeroing_moves};
 use crate::quiet_blocks::quiet_block;
 use egt_board::Side;
@@ -17,11 +20,20 @@ use egt_lanes::block::raise;
 use egt_table::Column;
 
 /// The greatest scores of all moves of that side but captures in passing. False where a table does not tell.
-pub(crate) fn reach_scores(four: &FourMen, men: &ShelfMen, side: Side, out: &mut Block) -> bool
-    requires { AreFourMen columns.Reach four.now men.now }
-    ensures { result ≡ true → (a b : ℕ) → a < 64 → b < 64 → AreReachScores four.now men.now side a b (at out.new a b) }
+pub(crate) fn reach_scores(
+    four: &FourMen,
+    men: &ShelfMen,
+    side: Side,
+    keys: &mut BlockKeys,
+    blocks: &mut KeptBlocks,
+    out: &mut Block,
+) -> bool
+    requires men { AreFourMen columns.Reach four.now men.now }
+    requires kept { AreKept four.now.own.now men.now (other_side side) keys.old blocks.old }
+    ensures kept { result ≡ true → AreKept four.now.own.now men.now (other_side side) keys.new blocks.new }
+    ensures scores { result ≡ true → (a b : ℕ) → a < 64 → b < 64 → AreReachScores four.now men.now side a b (at out.new a b) }
 {
-    if !quiet_block(four.own, Column::Reach, men, side, out) {
+    if !quiet_block(four.own, Column::Reach, men, side, keys, blocks, out) {
         return false;
     }
     let mut zeroed = nothing();

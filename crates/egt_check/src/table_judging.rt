@@ -1,5 +1,6 @@
 //! The judgement of a whole table of a class with two men beside the kings, block by block.
 ghost use Rattle.std.specs.Prelude.{◌≡◌, ◌≢◌, ◌+◌, ◌*◌, ◌<◌, ◌≤◌, ℕ, false, true, Some, None, IfSome};
+ghost use Rattle.egt_board.specs.Man.{other_side};
 ghost use Rattle.egt_board.specs.Turned.{turned_man};
 ghost use Rattle.egt_board.specs.Setup.{Setup};
 ghost use Rattle.egt_board.specs.declared.man.Kind.TheVariants.{K};
@@ -15,6 +16,8 @@ ghost use Rattle.egt_index.specs.declared.shelf_codes.ShelfMen.{ShelfMen};
 ghost use Rattle.egt_moves.specs.Promotion.{IsOfficer};
 ghost use Rattle.egt_table.specs.Table.{HasColumn, TableValue};
 ghost use Rattle.egt_check.specs.declared.metric.Metric.{Metric};
+ghost use Rattle.egt_check.specs.Blocks.{with_kings};
+ghost use Rattle.egt_check.specs.Kept.{AreKept};
 ghost use Rattle.egt_check.specs.MoveScores.{AreFourMen, AreTablesOf};
 ghost use Rattle.egt_check.specs.Parts.{column_of, four_in, promotion_in, promotions_in, table_in, tables_in};
 ghost use Rattle.egt_check.specs.PairOrder.{nth_pair};
@@ -28,9 +31,10 @@ ghost use Rattle.egt_check.specs.Worth.{HasBytes};
 
 use crate::blank::side_is_blank;
 use crate::block_judging::block_is_right;
-use crate::blocks::are_equal;
+use crate::blocks::{are_equal, nothing};
 use crate::bytes::{tells_bytes, true_table_tells};
 use crate::digits::digits_of;
+use crate::kept_blocks::{BlockKeys, KeptBlocks, no_keys};
 use crate::library::Library;
 use crate::move_scores::{FourMen, men_swapped};
 use crate::own_men::is_pawn;
@@ -48,7 +52,7 @@ use egt_table::Table;
 
 /// The men with the kings on these squares.
 fn with_kings(men: &ShelfMen, white: Square, black: Square) -> ShelfMen
-    ensures { result ≡ record { white = white; black = black; one = men.now.one; on = men.now.on; last = men.now.last } }
+    ensures { result ≡ with_kings men.now white black }
 {
     ShelfMen {
         white,
@@ -68,10 +72,14 @@ fn side_is_right(
     first: u32,
     half: u32,
     side: Side,
+    keys: &mut BlockKeys,
+    blocks: &mut KeptBlocks,
 ) -> bool
     requires men { AreFourMen (column_of part) four.now men.now }
     requires room { first + half + 64 < 4294967296 }
-    ensures { result ≡ true → (tables : Tables) → AreTablesOf (tables_in part tables) (four_in part four.now) men.now →
+    requires kept { AreKept four.now.own.now men.now (other_side side) keys.old blocks.old }
+    ensures kept { result ≡ true → AreKept four.now.own.now men.now (other_side side) keys.new blocks.new }
+    ensures judged { result ≡ true → (tables : Tables) → AreTablesOf (tables_in part tables) (four_in part four.now) men.now →
         AreJudged part tables four.now.own.now men.now first side × AreJudged part tables four.now.own.now men.now (first + half) side }
 {
     a_code_is_an_index_or_void();
@@ -79,8 +87,8 @@ fn side_is_right(
         return true;
     }
     match part {
-        Part::Values => block_is_right(four, men, first, half, side),
-        Part::Reach => reach_block_is_right(four, men, first, half, side),
+        Part::Values => block_is_right(four, men, first, half, side, keys, blocks),
+        Part::Reach => reach_block_is_right(four, men, first, half, side, keys, blocks),
     }
 }
 
@@ -94,17 +102,21 @@ fn pair_is_right(
     first: u32,
     half: u32,
     side: Side,
+    keys: &mut BlockKeys,
+    blocks: &mut KeptBlocks,
 ) -> bool
     requires men { AreFourMen (column_of part) four.now men.now }
     requires room { first + half + 64 < 4294967296 }
-    ensures { result ≡ true → (tables : Tables) → AreTablesOf (tables_in part tables) (four_in part four.now) men.now →
+    requires kept { AreKept four.now.own.now men.now (other_side side) keys.old blocks.old }
+    ensures kept { result ≡ true → AreKept four.now.own.now men.now (other_side side) keys.new blocks.new }
+    ensures judged { result ≡ true → (tables : Tables) → AreTablesOf (tables_in part tables) (four_in part four.now) men.now →
         AreJudged part tables four.now.own.now men.now first side × AreJudged part tables four.now.own.now men.now (first + half) side }
 {
     let Some(here) = shelf_men(four.own.class(), first) else {
         return false;
     };
     let there = with_kings(men, here.white, here.black);
-    side_is_right(four, &there, part, first, half, side)
+    side_is_right(four, &there, part, first, half, side, keys, blocks)
 }
 
 /// Whether so are those of all pairs of kings' squares, of which the white king has so many.
@@ -122,9 +134,20 @@ fn side_pairs_are_right(
         AreJudged part tables four.now.own.now men.now (nth_pair side kings n * kind_digits men.now.one.kind) side × AreJudged part tables four.now.own.now men.now (nth_pair side kings n * kind_digits men.now.one.kind + half) side }
 {
     let step = u32::from(digits_of(men.one));
+    let mut keys = no_keys();
+    let mut blocks = [nothing(); 12];
     for n in 0..64 * kings {
         let first = nth_pair(side, n, kings) * step;
-        if !pair_is_right(four, men, part, first, half, side) {
+        if !pair_is_right(
+            four,
+            men,
+            part,
+            first,
+            half,
+            side,
+            &mut keys,
+            &mut blocks,
+        ) {
             return false;
         }
     }

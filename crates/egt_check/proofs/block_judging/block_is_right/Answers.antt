@@ -8,27 +8,27 @@ use Rattle.egt_check.specs.declared.part.Part.TheVariants.{Values}
 use Rattle.egt_check.proofs.RowRead.{square_in}
 use Rattle.egt_check.proofs.block_judging.block_is_right.Goals as goal
 
-pub returns-then-half-eq0 : goal.returns-then-half-eq0
-returns-then-half-eq0 c = λ _ tables are.
+pub returns-then-half-eq0-clause-judged : goal.returns-then-half-eq0-clause-judged
+returns-then-half-eq0-clause-judged c = λ _ tables are.
     let four = c.args.four.now in
     let men = c.args.men.now in
     let side = c.args.side in
     let lower : AreJudged Values tables four.own.now men c.args.first side = λ x y x_in y_in.
     let a = x + kind_less men.one.kind in
     let b = y + kind_less men.last.kind in
-    let scores = c.move_scores.ensures c.if-not-move_scores.false a b (square_in men.one.kind x x_in) (square_in men.last.kind y y_in) in
+    let scores = c.move_scores.ensures.scores c.if-not-move_scores.false a b (square_in men.one.kind x x_in) (square_in men.last.kind y y_in) in
     let lane = c.shelves_are_right.ensures c.if-not-shelves_are_right.false x y x_in y_in in
     c.entries_due_to_all_moves_are_right.ensures tables four men side false a b (code_of four.own.now.class (number_in four.own.now.class (c.args.first + x) side y)) (at c.move_scores.new.mates a b) (at c.move_scores.new.zeroing a b)
     are c.requires.men.one c.requires.men.last lane.below lane.tells scores lane.right in
     let none = c.if-half-eq0.true in
     (lower, subst (λ n. AreJudged Values tables four.own.now men n side) (omega (arith, none)) lower)
 
-pub returns : goal.returns
-returns c = λ told tables are.
+pub returns-clause-judged : goal.returns-clause-judged
+returns-clause-judged c = λ told tables are.
     let four = c.args.four.now in
     let men = c.args.men.now in
     let side = c.args.side in
-    let scores = c.move_scores.ensures c.if-not-move_scores.false in (
+    let scores = c.move_scores.ensures.scores c.if-not-move_scores.false in (
       λ x y x_in y_in.
           let a = x + kind_less men.one.kind in
           let b = y + kind_less men.last.kind in

@@ -1,20 +1,22 @@
-use Rattle.std.proofs.Common.{◌≡◌, ◌∙◌, ap, refl, sym, subst}
+use Rattle.std.proofs.Common.{◌∙◌, ap, not, refl, sym, subst}
 use Rattle.egt_class.specs.Material.{has_equal_sides}
-use Rattle.egt_index.specs.TurnedMen.{IsSomeTurnedCodeWith}
-use Rattle.egt_lanes.specs.Raised.{IsRaised}
-use Rattle.egt_check.specs.Blocks.{AreTurnedCodes, stand_on}
-use Rattle.egt_check.specs.Worth.{column_score}
-use Rattle.egt_check.proofs.BlockRaising.{gathered_alone, raised_alike, settled_raised, told_equal}
+use Rattle.egt_lanes.specs.Blocks.{at}
+use Rattle.egt_check.specs.Blocks.{IsRaisedHome, men_across, stand_on}
+use Rattle.egt_check.specs.Worth.{IsReadWith}
+use Rattle.egt_check.proofs.BlockRaising.{settled_raised}
 use Rattle.egt_check.proofs.blocks.read_block.Goals as goal
 
 pub returns : goal.returns
 returns c = λ told a b a_in b_in.
+    let passed = c.args.passed in
     let t = c.args.table.now in
+    let column = c.args.column in
     let men = c.args.men.now in
-    let equal = told_equal c.are_equal.result men c.are_equal.ensures in
+    let flips = c.args.flips in
+    let side = c.args.side in
     let sides = c.has_equal_sides.ensures ∙ ap (λ k. has_equal_sides k) c.class.ensures.class in
-    let gathered =
-    gathered_alone c.args.passed t c.args.column men c.args.flips c.args.side c.gather.new.own c.gather.new.across c.nothing.result c.nothing-across.result c.nothing.ensures c.nothing-across.ensures (c.if-not-gather.ensures.own refl) (c.if-not-gather.ensures.across refl) in
-    let settled = settled_raised c.args.passed t c.args.column (λ k. k ≡ 0) (λ k. men) c.args.flips c.args.side c.gather.new.own c.gather.new.across gathered c.are_equal.result (λ is k. equal.0 is) (λ is k. equal.1 is) a b a_in b_in c.has_equal_sides.result (sym sides) in
-    subst (IsRaised 0 (λ code. IsSomeTurnedCodeWith c.args.passed t.class code c.args.flips (stand_on men a b) c.args.side) (column_score t c.args.column)) (sym (c.settle.ensures a b a_in b_in))
-    (raised_alike 0 _ (AreTurnedCodes c.args.passed t.class (λ k. k ≡ 0) (λ k. men) c.args.flips c.args.side a b) (λ code. IsSomeTurnedCodeWith c.args.passed t.class code c.args.flips (stand_on men a b) c.args.side) (column_score t c.args.column) settled (λ code h. (0, refl, h)) (λ code h. h.2))
+    subst (IsReadWith passed t column flips (stand_on men a b) side) (sym (c.settle.ensures a b a_in b_in))
+    (settled_raised passed t column men flips side c.gather.new.own c.gather.new.across
+    (λ i j i_in j_in. subst (λ low. IsRaisedHome passed t column flips (stand_on men i j) side low (at c.gather.new.own i j)) (c.nothing.ensures i j i_in j_in) (c.if-not-gather.ensures.own refl i j i_in j_in))
+    (λ equal i j i_in j_in. subst (λ low. IsRaisedHome passed t column (not flips) (stand_on (men_across men) j i) side low (at c.gather.new.across j i)) (c.nothing-across.ensures j i j_in i_in) (c.if-not-gather.ensures.across refl equal i j i_in j_in))
+    c.are_equal.result c.are_equal.ensures a b a_in b_in c.has_equal_sides.result (sym sides))

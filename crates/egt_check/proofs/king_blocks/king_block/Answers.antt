@@ -1,23 +1,45 @@
-use Rattle.std.proofs.Common.{◌∙◌, false, not, arith, refl, sym, ap, subst, inl, inr}
+use Rattle.std.proofs.Common.{◌≡◌, ◌∙◌, ℕ, List, Option, false, arith, sym, ap, subst, inl, inr}
 use Rattle.std.specs.Int.{bit_at}
 use Rattle.std.proofs.lemmas.Bool.{cases_eq}
 use Rattle.egt_board.specs.Man.{other_side}
 use Rattle.egt_board.specs.declared.man.Side.{Side}
-use Rattle.egt_class.specs.Material.{has_equal_sides}
 use Rattle.egt_index.specs.declared.shelf_codes.ShelfMen.{ShelfMen}
+use Rattle.egt_index.specs.TurnedMen.{IsSomeTurnedCode}
 use Rattle.egt_lanes.specs.Blocks.{at}
 use Rattle.egt_lanes.specs.Raised.{IsRaised}
-use Rattle.egt_check.specs.Blocks.{AreTurnedCodes, IsBesideKing, IsHomeCode, men_across, stand_on, with_king}
+use Rattle.egt_table.specs.Table.{TableValue}
+use Rattle.egt_check.specs.Blocks.{AreKingCodes, IsBesideKing, stand_on, with_king}
+use Rattle.egt_check.specs.Kept.{AreKept}
 use Rattle.egt_check.specs.Worth.{column_score}
-use Rattle.egt_check.proofs.BlockRaising.{GoneKing, gathered_alike, gathered_more, gathered_none, same_beside, settled_raised, told_equal}
+use Rattle.egt_check.specs.declared.kept_blocks.BlockKey.{BlockKey}
+use Rattle.egt_check.proofs.BlockRaising.{GoneKing, kept_beside, king_goes, raised_alike, raised_by_none}
 use Rattle.egt_check.proofs.king_blocks.king_block.Goals as goal
 
+-- what is kept after a step
+kept_after : (t : TableValue) (men : ShelfMen) (side : Side) (to : ℕ) (other : Side) (stepped : ShelfMen) (keys : List (Option BlockKey)) (blocks : List (List (List ℕ))) → other ≡ other_side side → stepped ≡ with_king men side to
+    → AreKept t stepped other keys blocks → AreKept t men (other_side side) keys blocks
+kept_after t men side to other stepped keys blocks is_other is_stepped kept =
+    (kept_beside t men side to (other_side side) keys blocks).1 (subst (λ (s : Side). AreKept t (with_king men side to) s keys blocks) is_other (subst (λ (m : ShelfMen). AreKept t m other keys blocks) is_stepped kept))
+
 pub loop-to-init : goal.loop-to-init
-loop-to-init c = (
-  gathered_none false c.args.table.now c.args.column (with_king c.args.men.now c.args.side) false (other_side c.args.side) (GoneKing c.args.men.now c.args.side c.beside_king-rest.result) c.nothing.result c.nothing-across.result
-      (λ k gone. let has = (c.beside_king-rest.ensures k gone.0.0).1 gone.0 in let none = gone.1 in omega (arith, has, none)) c.nothing.ensures c.nothing-across.ensures,
-  λ k k_in has. (c.beside_king-rest.ensures k k_in).0 has,
-)
+loop-to-init c =
+    let t = c.args.table.now in
+    let men = c.args.men.now in
+    let side = c.args.side in (
+      λ a b a_in b_in.
+          let codes = AreKingCodes t.class men side (GoneKing men side c.beside_king-rest.result) a b in
+          subst (IsRaised 0 codes (column_score t c.args.column)) (sym (c.nothing.ensures a b a_in b_in))
+          (raised_by_none 0 codes (column_score t c.args.column) (λ code h. let gone = h.1 in let has = (c.beside_king-rest.ensures h.0 gone.0.0).1 gone.0 in let none = gone.1 in omega (arith, has, none))),
+      λ k k_in has. (c.beside_king-rest.ensures k k_in).0 has,
+      c.requires.kept,
+    )
+
+pub raise_kept-requires-clause-kept : goal.raise_kept-requires-clause-kept
+raise_kept-requires-clause-kept c =
+    let t = c.args.table.now in
+    subst (λ (m : ShelfMen). AreKept t m c.other.result c.loop-to.keys c.loop-to.blocks) (sym c.with_king-stepped.ensures)
+    (subst (λ (s : Side). AreKept t (with_king c.args.men.now c.args.side c.in-Some.to) s c.loop-to.keys c.loop-to.blocks) (sym c.other.ensures)
+    ((kept_beside t c.args.men.now c.args.side c.in-Some.to (other_side c.args.side) c.loop-to.keys c.loop-to.blocks).0 c.loop-to.invariant.2))
 
 pub loop-to-preserved : goal.loop-to-preserved
 loop-to-preserved c =
@@ -25,15 +47,11 @@ loop-to-preserved c =
     let men = c.args.men.now in
     let side = c.args.side in
     let to = c.in-Some.to in
-    let here : IsBesideKing men side to = c.loop-to.invariant.1 to (omega arith) c.in-Some.ensures.had in
-    let gathered = c.if-not-gather.ensures in (
-      gathered_more false t c.args.column (with_king men side) false (other_side side) (GoneKing men side c.loop-to.rest) (GoneKing men side c.pop_first.new.self) to c.loop-to.out c.loop-to.across c.gather.new.own c.gather.new.across c.loop-to.invariant.0
-          (λ a b a_in b_in.
-          subst (λ (s : Side). IsRaised (at c.loop-to.out a b) (λ code. IsHomeCode false t.class code false (stand_on (with_king men side to) a b) s) (column_score t c.args.column) (at c.gather.new.own a b)) c.other.ensures
-          (subst (λ (m : ShelfMen). IsRaised (at c.loop-to.out a b) (λ code. IsHomeCode false t.class code false (stand_on m a b) c.other.result) (column_score t c.args.column) (at c.gather.new.own a b)) c.with_king-stepped.ensures (gathered.own refl a b a_in b_in)))
-          (λ equal a b a_in b_in.
-          subst (λ (s : Side). IsRaised (at c.loop-to.across b a) (λ code. IsHomeCode false t.class code (not false) (stand_on (men_across (with_king men side to)) b a) s) (column_score t c.args.column) (at c.gather.new.across b a)) c.other.ensures
-          (subst (λ (m : ShelfMen). IsRaised (at c.loop-to.across b a) (λ code. IsHomeCode false t.class code (not false) (stand_on (men_across m) b a) c.other.result) (column_score t c.args.column) (at c.gather.new.across b a)) c.with_king-stepped.ensures (gathered.across refl equal a b a_in b_in)))
+    let here : IsBesideKing men side to = c.loop-to.invariant.1 to (omega arith) c.in-Some.ensures.had in (
+      λ a b a_in b_in. king_goes t.class men side (GoneKing men side c.loop-to.rest) (GoneKing men side c.pop_first.new.self) to a b (at c.loop-to.out a b) (at c.raise_kept.new.out a b) (column_score t c.args.column) (c.loop-to.invariant.0 a b a_in b_in)
+          (subst (λ (s : Side). IsRaised (at c.loop-to.out a b) (λ code. IsSomeTurnedCode t.class code false (stand_on (with_king men side to) a b) s) (column_score t c.args.column) (at c.raise_kept.new.out a b)) c.other.ensures
+          (subst (λ (m : ShelfMen). IsRaised (at c.loop-to.out a b) (λ code. IsSomeTurnedCode t.class code false (stand_on m a b) c.other.result) (column_score t c.args.column) (at c.raise_kept.new.out a b)) c.with_king-stepped.ensures
+          (c.raise_kept.ensures.raised c.if-not-raise_kept.false a b a_in b_in)))
           (λ k gone. elim (cases_eq k to) [
             | inl same ↦ inr same
             | inr other ↦ inl (gone.0, sym (c.in-Some.ensures.others k other) ∙ gone.1)
@@ -47,20 +65,20 @@ loop-to-preserved c =
         | inl same ↦ absurd (let none = ap (bit_at c.pop_first.new.self.bits) same ∙ c.in-Some.ensures.gone in omega (arith, has, none))
         | inr other ↦ c.loop-to.invariant.1 k k_in (sym (c.in-Some.ensures.others k other) ∙ has)
       ],
+      kept_after t men side to c.other.result c.with_king-stepped.result c.raise_kept.new.keys c.raise_kept.new.blocks c.other.ensures c.with_king-stepped.ensures c.raise_kept.ensures.kept,
     )
 
-pub returns : goal.returns
-returns c = λ told a b a_in b_in.
+pub returns-clause-raised : goal.returns-clause-raised
+returns-clause-raised c = λ told a b a_in b_in.
     let t = c.args.table.now in
     let men = c.args.men.now in
     let side = c.args.side in
-    let equal = told_equal c.are_equal.result men c.are_equal.ensures in
-    let sides = c.has_equal_sides.ensures ∙ ap (λ k. has_equal_sides k) c.class.ensures.class in
-    let all =
-    gathered_alike false t c.args.column (with_king men side) false (other_side side) (GoneKing men side c.loop-to.rest) (IsBesideKing men side) c.loop-to.out c.loop-to.across c.loop-to.invariant.0
-    (λ k near. (near, c.in_default.ensures.empty k)) (λ k gone. gone.0) in
-    subst (IsRaised 0 (AreTurnedCodes false t.class (IsBesideKing men side) (with_king men side) false (other_side side) a b) (column_score t c.args.column)) (sym (c.settle.ensures a b a_in b_in))
-    (settled_raised false t c.args.column (IsBesideKing men side) (with_king men side) false (other_side side) c.loop-to.out c.loop-to.across all c.are_equal.result
-    (λ is k. (same_beside men side k).0 ∙ equal.0 is ∙ sym (same_beside men side k).1)
-    (λ is k same. equal.1 is (sym (same_beside men side k).0 ∙ same ∙ (same_beside men side k).1))
-    a b a_in b_in c.has_equal_sides.result (sym sides))
+    raised_alike 0 (at c.loop-to.out a b) (AreKingCodes t.class men side (GoneKing men side c.loop-to.rest) a b) (AreKingCodes t.class men side (IsBesideKing men side) a b) (column_score t c.args.column) (c.loop-to.invariant.0 a b a_in b_in)
+    (λ code h. (h.0, (h.1, c.in_default.ensures.empty h.0), h.2)) (λ code h. (h.0, h.1.0, h.2))
+
+pub returns-then-not-raise_kept-clause-kept : goal.returns-then-not-raise_kept-clause-kept
+returns-then-not-raise_kept-clause-kept c =
+    let t = c.args.table.now in
+    let men = c.args.men.now in
+    let side = c.args.side in
+    kept_after t men side c.in-Some.to c.other.result c.with_king-stepped.result c.raise_kept.new.keys c.raise_kept.new.blocks c.other.ensures c.with_king-stepped.ensures c.raise_kept.ensures.kept

@@ -1,15 +1,20 @@
-use Rattle.std.proofs.Common.{ℕ, ◌<◌, false}
+use Rattle.std.proofs.Common.{ℕ, ◌<◌}
 use Rattle.egt_board.specs.Man.{other_side}
 use Rattle.egt_board.specs.SquareSet.{Has}
-use Rattle.egt_check.specs.Blocks.{AreGathered, IsBesideKing, with_king}
+use Rattle.egt_lanes.specs.Blocks.{at}
+use Rattle.egt_lanes.specs.Raised.{IsRaised}
+use Rattle.egt_check.specs.Blocks.{AreKingCodes, IsBesideKing}
+use Rattle.egt_check.specs.Kept.{AreKept}
+use Rattle.egt_check.specs.Worth.{column_score}
 use Rattle.egt_check.proofs.BlockRaising.{GoneKing}
 use Rattle.egt_check.proofs.king_blocks.king_block.Given as goal
 
--- both blocks are raised to the codes of the steps so far, and what is left is beside the king
+-- the block is raised to the codes of the steps so far, what is left is beside the king, and what is kept holds
 abbrev pub invariant-loop-to : goal.invariant-loop-to
 invariant-loop-to l =
-    AreGathered false l.table l.column (GoneKing l.men l.side l.rest) (with_king l.men l.side) false (other_side l.side) l.out l.across
+    ((a b : ℕ) → a < 64 → b < 64 → IsRaised 0 (AreKingCodes l.table.class l.men l.side (GoneKing l.men l.side l.rest) a b) (column_score l.table l.column) (at l.out a b))
     × ((k : ℕ) → k < 64 → Has l.rest k → IsBesideKing l.men l.side k)
+    × AreKept l.table l.men (other_side l.side) l.keys l.blocks
 
 abbrev pub decreases-loop-to : goal.decreases-loop-to
 decreases-loop-to l = l.rest.bits

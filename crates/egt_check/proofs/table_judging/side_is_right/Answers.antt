@@ -7,8 +7,8 @@ use Rattle.egt_check.specs.Blank.{AreBlank}
 use Rattle.egt_check.proofs.BlankKept.{blank_kept}
 use Rattle.egt_check.proofs.table_judging.side_is_right.Goals as goal
 
-pub returns-then-side_is_blank : goal.returns-then-side_is_blank
-returns-then-side_is_blank c = λ _ tables are.
+pub returns-then-side_is_blank-clause-judged : goal.returns-then-side_is_blank-clause-judged
+returns-then-side_is_blank-clause-judged c = λ _ tables are.
     let part = c.args.part in
     let t = c.args.four.now.own.now in
     let men = c.args.men.now in
