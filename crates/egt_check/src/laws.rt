@@ -47,13 +47,13 @@ use crate::pawn_laws::{
     codes_after_captures_in_passing_give_them, codes_after_promoting_captures_give_them,
     pawns_moves_are_of_four_kinds,
 };
-use egt_class::laws::{men_beside_are_counted, moves_lead_into_the_class_or_a_child};
+use egt_class::laws::men_beside_are_counted;
 use egt_index::laws::{
     a_code_is_an_index_or_void, codes_follow_steps, codes_spell_one_position,
     codes_tell_turned_men, numbers_stand_for_codes, stands_follow_moves,
 };
 use egt_steps::facts::facts;
-use egt_steps::laws::a_quiet_move_moves_one_man;
+use egt_steps::laws::{a_quiet_move_moves_one_man, moves_lead_into_the_class_or_a_child};
 
 /// Where the children's tables are true, the entries of a table keep all rules exactly where the table is true: each entry is
 /// the value, the zeroing distance or the distance of the nearest mate of its position, void entries are 0, and no distance is above 32,000.

@@ -8,7 +8,6 @@ use Rattle.egt_board.specs.declared.man.Side.TheVariants.{White, Black}
 use Rattle.egt_board.specs.declared.man.Kind.{Kind}
 use Rattle.egt_board.specs.declared.man.Kind.TheVariants.{Q, R, B, N, P, K}
 use Rattle.egt_board.specs.declared.man.Man.{Man}
-use Rattle.egt_moves.specs.Promotion.{IsOfficer}
 use Rattle.egt_class.specs.Below.{all_below, passes_below}
 use Rattle.egt_class.specs.Material.{Material, materials, material_of, men_in, has_equal_sides, count_in, kinds_of}
 use Rattle.egt_class.specs.Name.{name_of}
@@ -206,17 +205,17 @@ taking_passes p all (Some N) ok = (each_passes p takings all).1.1.1.1.0
 taking_passes p all (Some P) ok = (each_passes p takings all).1.1.1.1.1.0
 taking_passes p all (Some K) ok = absurd (ok refl)
 
-promotion_passes : (p : Option Kind → Bool) → list_all p promotions ≡ true → (becomes : Option Kind) → IfSome becomes IsOfficer → p becomes ≡ true
+promotion_passes : (p : Option Kind → Bool) → list_all p promotions ≡ true → (becomes : Option Kind) → IfSome becomes (λ kind. (kind ≢ P) × (kind ≢ K)) → p becomes ≡ true
 promotion_passes p all None ok = (each_passes p promotions all).0
 promotion_passes p all (Some Q) ok = (each_passes p promotions all).1.0
 promotion_passes p all (Some R) ok = (each_passes p promotions all).1.1.0
 promotion_passes p all (Some B) ok = (each_passes p promotions all).1.1.1.0
 promotion_passes p all (Some N) ok = (each_passes p promotions all).1.1.1.1.0
-promotion_passes p all (Some P) ok = absurd ok
-promotion_passes p all (Some K) ok = absurd ok
+promotion_passes p all (Some P) ok = absurd (ok.0 refl)
+promotion_passes p all (Some K) ok = absurd (ok.1 refl)
 
 -- a possible change leads to a child
-pub covered : (c : ℕ) (change : Change) → c < 36 → IfSome change.taken (λ kind. kind ≢ K) → IfSome change.becomes IsOfficer → is_possible (material_of c) change ≡ true
+pub covered : (c : ℕ) (change : Change) → c < 36 → IfSome change.taken (λ kind. kind ≢ K) → IfSome change.becomes (λ kind. (kind ≢ P) × (kind ≢ K)) → is_possible (material_of c) change ≡ true
     → (d : ℕ) × Contains (children_of c) d × (follows (material_of c) change (material_of d) ≡ true)
 covered c change c_in taken_ok becomes_ok possible =
     let both = and_parts _ _ (passes_below (λ c. covers (material_of c) (row c)) 36 c all_covered c_in) in

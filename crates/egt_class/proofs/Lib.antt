@@ -7,4 +7,3 @@ pub mod Beside
 pub mod TwoBeside
 pub mod ClassTests
 pub mod OneClass
-pub mod ChildMoves

@@ -2,7 +2,7 @@
 use Rattle.std.proofs.Common.{◌≡◌, ℕ, zero, suc, ◌<◌, ◌≤◌, ◌+◌, ◌-◌, ◌&&◌, Bool, true, false, eqb, ltb, List, [], ◌∷◌, ◌++◌, length, take, drop, get_or, refl, sym, ap, ◌∙◌, arith}
 use Rattle.std.proofs.lemmas.Bool.{eqb-true, eq-eqb, and_parts, false≢true, ltb-true}
 use Rattle.std.specs.Prelude.{slice_index, slice_range}
-use Rattle.std.proofs.lemmas.List.{take_more, length-take, length-drop, get_or-drop}
+use Rattle.std.proofs.lemmas.List.{take_more, length-drop, get_or-drop}
 
 -- the lists are the same
 unfoldable pub same_list : List ℕ → List ℕ → Bool

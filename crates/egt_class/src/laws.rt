@@ -1,5 +1,5 @@
 //! What holds of classes and positions. These functions do nothing: a caller calls one to know what it ensures.
-ghost use Rattle.std.specs.Prelude.{◌≡◌, ◌<◌, ◌↔◌, ◌⊎◌, ℕ, Bool, not, Option, None, IsSome, IsTrue};
+ghost use Rattle.std.specs.Prelude.{◌≡◌, ◌<◌, ◌↔◌, ◌⊎◌, ℕ, Bool, not, Option, IsTrue};
 ghost use Rattle.std.specs.List.{Contains};
 ghost use Rattle.std.specs.Option.{option_map};
 ghost use Rattle.std.specs.List.Sorted.{IsStrictlyIncreasing};
@@ -11,9 +11,6 @@ ghost use Rattle.egt_board.specs.declared.man.Kind.{Kind};
 ghost use Rattle.egt_board.specs.Setup.{Setup, IsAdmissible};
 ghost use Rattle.egt_board.specs.Settled.{SettlesTo};
 ghost use Rattle.egt_board.specs.Images.{AreImages};
-ghost use Rattle.egt_moves.specs.declared.chess_move.Move.{Move};
-ghost use Rattle.egt_moves.specs.Legal.{Leads};
-ghost use Rattle.egt_moves.specs.Exchange.{Captures};
 ghost use Rattle.egt_class.specs.Material.{men_in, has_equal_sides};
 ghost use Rattle.egt_class.specs.Name.{name_of};
 ghost use Rattle.egt_class.specs.Membership.{IsOf};
@@ -22,7 +19,6 @@ ghost use Rattle.egt_class.specs.Children.{children_of};
 
 use egt_board::counting::{listed_men_are_counted, one_king_is_counted, one_square_changes};
 use egt_board::laws::images_keep_men;
-use egt_moves::exchanging::{moves_exchange_men, moves_keep_admissibility};
 
 /// No two classes have one name.
 pub fn names_tell_classes()
@@ -72,21 +68,6 @@ pub fn images_keep_the_class()
         (IsOf c flipped q × (q.side ≡ p.side)) ⊎ (IsOf c (not flipped) q × (q.side ≡ other_side p.side)) }
 {
     images_keep_men();
-}
-
-/// A move that neither captures nor promotes stays in the class; any other leads into a child of it.
-pub fn moves_lead_into_the_class_or_a_child()
-    ensures quiet { (p q : Setup) (m : Move) (c : ℕ) (flipped : Bool) → IsAdmissible p → IsOf c flipped p →
-        Leads p m q → ¬ Captures p m → m.promo ≡ None → IsOf c flipped q }
-    ensures other { (p q : Setup) (m : Move) (c : ℕ) (flipped : Bool) → c < 36 → IsAdmissible p → IsOf c flipped p →
-        Leads p m q → Captures p m ⊎ IsSome m.promo →
-        (d : ℕ) × (turned : Bool) × Contains (children_of c) d × IsOf d turned q }
-    ensures any { (p q : Setup) (m : Move) (c : ℕ) (flipped : Bool) → c < 36 → IsAdmissible p → IsOf c flipped p →
-        Leads p m q → IsOf c flipped q ⊎ ((d : ℕ) × (turned : Bool) × Contains (children_of c) d × IsOf d turned q) }
-{
-    moves_exchange_men();
-    moves_keep_admissibility();
-    one_king_is_counted();
 }
 
 /// The children of a class ascend, and have smaller numbers.

@@ -1,3 +1,4 @@
+pub mod ChildMoves
 pub mod Still
 pub mod Leaping
 pub mod Pushing

@@ -1,12 +1,13 @@
 //! The laws of the crates below that the rules rest on.
 ghost use Rattle.egt_steps.specs.Facts.{Facts};
 
+use crate::laws::moves_lead_into_the_class_or_a_child;
 use egt_board::laws::{
     images_form_classes, images_keep_men, images_settle_alike, positions_settle_once,
 };
 use egt_class::laws::{
     a_position_has_one_class, children_have_smaller_numbers, every_position_has_a_class,
-    images_keep_the_class, moves_lead_into_the_class_or_a_child, settling_keeps_the_class,
+    images_keep_the_class, settling_keeps_the_class,
 };
 use egt_index::laws::{
     an_index_spells_a_position_of_it, every_position_has_one_index, one_index_for_all_images,

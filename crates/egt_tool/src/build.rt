@@ -1,11 +1,12 @@
 //! The table of a class built, and put into its file.
 ghost use Rattle.std.specs.Prelude.{◌≤◌};
 
-use crate::loading::load_below;
-use crate::printer::print;
-use crate::run_fault::RunFault;
-use crate::saving::save;
+use crate::tool_fault::ToolFault;
 use egt_class::{Class, name};
+use egt_commands::RunFault;
+use egt_commands::loading::load_below;
+use egt_commands::printer::print;
+use egt_commands::saving::save;
 use egt_index::size;
 use egt_sweep::{BuildFault, build};
 use egt_table::Sink;
@@ -25,10 +26,10 @@ fn built_line(alloc: Global, class: Class) -> Result<Vec<u8>, AllocError> {
 }
 
 /// A file that is not there keeps a class from being built by its own name.
-fn of_build(fault: RunFault) -> RunFault {
+fn of_loading(fault: RunFault) -> ToolFault {
     match fault {
-        RunFault::NoFile(child) => RunFault::Build(BuildFault::Missing(child)),
-        other => other,
+        RunFault::NoFile(child) => ToolFault::Build(BuildFault::Missing(child)),
+        other => ToolFault::Run(other),
     }
 }
 
@@ -39,17 +40,16 @@ pub(crate) fn build_table<R: Files + AllocGlobal, O: Sink>(
     class: Class,
     limit: u16,
     out: &mut O,
-) -> Result<(), RunFault>
+) -> Result<(), ToolFault>
     requires { limit ≤ 32000 }
 {
     let library = match load_below(rt, folder, class) {
         Ok(library) => library,
-        Err(fault) => return Err(of_build(fault)),
+        Err(fault) => return Err(of_loading(fault)),
     };
     match build(rt.alloc(), class, &library, limit) {
         Ok(table) => save(rt, folder, &table)?,
-        Err(BuildFault::NoMemory) => return Err(RunFault::NoMemory),
-        Err(fault) => return Err(RunFault::Build(fault)),
+        Err(fault) => return Err(ToolFault::of_build(fault)),
     }
-    print(out, &built_line(rt.alloc(), class)?)
+    Ok(print(out, &built_line(rt.alloc(), class)?)?)
 }

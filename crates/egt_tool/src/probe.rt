@@ -1,7 +1,7 @@
 //! Reports of positions by the tables in files.
-use crate::loading::load_whole;
-use crate::run_fault::RunFault;
 use egt_class::Class;
+use egt_commands::RunFault;
+use egt_commands::loading::load_whole;
 use egt_probe::{AnswerFault, answer};
 use egt_table::{Sink, Source};
 use std::rt::Files;

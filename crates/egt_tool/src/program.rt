@@ -1,18 +1,18 @@
 //! A run of the program on its words.
 use crate::build::build_table;
-use crate::check::check_table;
-use crate::listing::print_classes;
-use crate::mate_text::print_mate;
 use crate::migrate::migrate_table;
-use crate::moves::print_moves;
-use crate::printer::Printer;
 use crate::probe::probe_lines;
-use crate::run_fault::RunFault;
-use crate::stats::print_statistics;
-use crate::status::Status;
+use crate::tool_fault::ToolFault;
 use clap::ArgMatches;
 use clap::error::ErrorKind;
 use egt_class::{Class, by_name};
+use egt_commands::check::check_table;
+use egt_commands::listing::print_classes;
+use egt_commands::mate_text::print_mate;
+use egt_commands::moves::print_moves;
+use egt_commands::printer::Printer;
+use egt_commands::stats::print_statistics;
+use egt_commands::{RunFault, Status};
 use egt_table::{Sink, Source};
 use egt_usage::command;
 use std::io::Write;
@@ -40,34 +40,45 @@ fn dispatch<R: Files + AllocGlobal, I: Source, O: Sink>(
     matches: &ArgMatches<'_>,
     input: &mut I,
     out: &mut O,
-) -> Result<(), RunFault> {
+) -> Result<(), ToolFault> {
     let (name, given) = matches.subcommand().ok_or(RunFault::Usage)?;
     match name {
-        "moves" => print_moves(rt.alloc(), word(given, "FEN"), out),
+        "moves" => Ok(print_moves(rt.alloc(), word(given, "FEN"), out)?),
         "search" => match given.get_one::<u8>("N") {
             Some(plies) if 1 <= plies && plies <= 6 => {
-                print_mate(rt.alloc(), plies, word(given, "FEN"), out)
+                Ok(print_mate(rt.alloc(), plies, word(given, "FEN"), out)?)
             }
-            _ => Err(RunFault::Usage),
+            _ => Err(ToolFault::Run(RunFault::Usage)),
         },
-        "list" => print_classes(rt.alloc(), out),
+        "list" => Ok(print_classes(rt.alloc(), out)?),
         "build" => match given.get_one::<u16>("limit") {
             None => build_table(rt, word(given, "DIR"), class_word(given)?, LONGEST, out),
             Some(limit) if limit <= LONGEST => {
                 build_table(rt, word(given, "DIR"), class_word(given)?, limit, out)
             }
-            Some(_) => Err(RunFault::Usage),
+            Some(_) => Err(ToolFault::Run(RunFault::Usage)),
         },
-        "probe" => probe_lines(rt, word(given, "DIR"), class_word(given)?, input, out),
-        "check" => check_table(rt, word(given, "DIR"), class_word(given)?, out),
+        "probe" => Ok(probe_lines(
+            rt,
+            word(given, "DIR"),
+            class_word(given)?,
+            input,
+            out,
+        )?),
+        "check" => Ok(check_table(rt, word(given, "DIR"), class_word(given)?, out)?),
         "migrate" => migrate_table(rt, word(given, "DIR"), class_word(given)?, out),
-        "stats" => print_statistics(rt, word(given, "DIR"), class_word(given)?, out),
-        _ => Err(RunFault::Usage),
+        "stats" => Ok(print_statistics(
+            rt,
+            word(given, "DIR"),
+            class_word(given)?,
+            out,
+        )?),
+        _ => Err(ToolFault::Run(RunFault::Usage)),
     }
 }
 
 /// Prints why the run ends. What becomes of that text changes no status.
-fn report<E: Sink>(fault: RunFault, err: &mut E) -> Status {
+fn report<E: Sink>(fault: ToolFault, err: &mut E) -> Status {
     let _ = writeln!(Printer::new(err), "{fault}");
     fault.status()
 }
@@ -75,7 +86,7 @@ fn report<E: Sink>(fault: RunFault, err: &mut E) -> Status {
 /// Prints what `clap` says of the words: help to the standard output, a mistake to the standard error.
 fn explain<O: Sink, E: Sink>(said: &clap::Error, out: &mut O, err: &mut E) -> Status {
     if matches!(said.kind(), ErrorKind::OutOfMemory) {
-        return report(RunFault::NoMemory, err);
+        return report(ToolFault::Run(RunFault::NoMemory), err);
     }
     if said.use_stderr() {
         let _ = write!(Printer::new(err), "{said}");
@@ -83,7 +94,7 @@ fn explain<O: Sink, E: Sink>(said: &clap::Error, out: &mut O, err: &mut E) -> St
     }
     match write!(Printer::new(out), "{said}") {
         Ok(()) => Status::Done,
-        Err(_) => report(RunFault::Device, err),
+        Err(_) => report(ToolFault::Run(RunFault::Device), err),
     }
 }
 
@@ -100,7 +111,7 @@ pub fn run<R: Files + AllocGlobal, I: Source, O: Sink, E: Sink>(
     err: &mut E,
 ) -> u8 {
     let status = match command(rt.alloc()) {
-        Err(_) => report(RunFault::NoMemory, err),
+        Err(_) => report(ToolFault::Run(RunFault::NoMemory), err),
         Ok(command) => match command.try_get_matches_from(words) {
             Err(said) => explain(&said, out, err),
             Ok(matches) => match dispatch(rt, &matches, input, out) {

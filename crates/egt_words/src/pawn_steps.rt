@@ -15,10 +15,10 @@ use crate::standing::{held, places_on, rivals_at};
 use crate::steps::{leap_to, step_to};
 use egt_board::{Man, Side, Square, SquareSet};
 use egt_class::Class;
-use egt_class::laws::moves_lead_into_the_class_or_a_child;
 use egt_graph::Way;
 use egt_index::ShelfMen;
 use egt_steps::facts::facts;
+use egt_steps::laws::moves_lead_into_the_class_or_a_child;
 
 /// The square two ahead of a pawn's, if he stands on his side's second rank.
 fn two_ahead(side: Side, from: Square) -> Option<Square>

@@ -15,11 +15,11 @@ use crate::standing::{held, rivals_beside};
 use crate::word::word_with;
 use egt_board::{Side, SquareSet};
 use egt_class::Class;
-use egt_class::laws::moves_lead_into_the_class_or_a_child;
 use egt_graph::Pushes;
 use egt_index::ShelfMen;
 use egt_index::laws::codes_follow_steps;
 use egt_steps::facts::facts;
+use egt_steps::laws::moves_lead_into_the_class_or_a_child;
 
 /// Whether pawns of that side go to greater squares.
 fn goes_up(side: Side) -> bool

@@ -1,6 +1,6 @@
 //! The list of classes.
 use super::{is_wrong, run_on};
-use egt_tool::list_text;
+use egt_commands::list_text;
 use std::test::Fail;
 
 /// The lines of the list.

@@ -3,7 +3,7 @@
 //! The lists of moves are those of Stockfish 15.1 (Debian's package), `go perft 1`, put in order of square, then
 //! promotion (queen, rook, bishop, knight).
 use super::has_lines;
-use egt_tool::{MovesFault, moves_text};
+use egt_commands::{MovesFault, moves_text};
 use std::alloc::Global;
 use std::test::Fail;
 

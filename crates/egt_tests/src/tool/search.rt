@@ -1,6 +1,6 @@
 //! Worked texts of the search for mate.
 use super::{is_wrong, prints};
-use egt_tool::search_text;
+use egt_commands::search_text;
 use std::test::Fail;
 
 /// Positions, how many plies are searched, and the line that tells what is found.

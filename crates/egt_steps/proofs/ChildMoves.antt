@@ -1,0 +1,299 @@
+-- Where moves lead: into the class or a child of it.
+use Rattle.std.proofs.Common.{◌≡◌, ◌≢◌, ℕ, ◌+◌, ◌*◌, ◌<◌, ◌&&◌, ◌⊎◌, Bool, true, false, not, cond, eqb, ltb, Option, Some, None, IfSome, IsSome, refl, sym, ap, ap₂, ◌∙◌, subst, inl, inr, arith, if◌then◌else◌}
+use Rattle.std.specs.List.{Contains}
+use Rattle.std.specs.Option.{option_map, is_some}
+use Rattle.std.proofs.lemmas.Bool.{false≢true, eq-eqb, lt-ltb}
+use Rattle.std.proofs.lemmas.Bool.Decides.{eqb_tells}
+use Rattle.egt_board.specs.declared.man.Side.{Side}
+use Rattle.egt_board.specs.declared.man.Side.TheVariants.{White, Black}
+use Rattle.egt_board.specs.declared.man.Kind.{Kind}
+use Rattle.egt_board.specs.declared.man.Kind.TheVariants.{Q, R, B, N, P, K}
+use Rattle.egt_board.specs.declared.man.Man.{Man}
+use Rattle.egt_board.specs.Man.{other_side}
+use Rattle.egt_board.specs.Pawn.{pawn_of}
+use Rattle.egt_board.specs.Setup.{Setup}
+use Rattle.egt_board.specs.Images.{kind_number, side_number, man_number, stands_here, count_of}
+use Rattle.egt_moves.specs.declared.chess_move.Move.{Move}
+use Rattle.egt_moves.specs.Exchange.{Captures, Exchanges}
+use Rattle.egt_moves.specs.Promotion.{IsOfficer, arriving}
+use Rattle.egt_class.specs.Material.{material_of, men_in}
+use Rattle.egt_class.specs.Membership.{IsOf}
+use Rattle.egt_class.specs.Children.{Change, man_of, man_taken, pawn_promoted, man_promoted, side_if, men_of, is_change, is_possible, has_man, follows_as, children_of}
+use Rattle.egt_class.proofs.Agreeing.{all_agree}
+use Rattle.egt_class.proofs.Beside.{OneKing}
+use Rattle.egt_class.proofs.ClassTests.{covered, smaller, either}
+use Rattle.egt_class.proofs.PairTable.{one_king_in}
+
+-- a man in the class's colours, and back
+turned : Bool → Man → Man
+turned f man = man_of (side_if f man.side) man.kind
+
+side_twice : (f : Bool) (side : Side) → side_if f (side_if f side) ≡ side
+side_twice true White = refl
+side_twice true Black = refl
+side_twice false side = refl
+
+turned_twice : (f : Bool) (man : Man) → turned f (turned f man) ≡ man
+unfolding turned
+turned_twice f man = ap (λ side. man_of side man.kind) (side_twice f man.side)
+
+kind_few : (kind : Kind) → kind_number kind < 6
+kind_few Q = omega arith
+kind_few R = omega arith
+kind_few B = omega arith
+kind_few N = omega arith
+kind_few P = omega arith
+kind_few K = omega arith
+
+-- an officer is neither pawn nor king
+officer_apart : (kind : Kind) → IsOfficer kind → (kind ≢ P) × (kind ≢ K)
+officer_apart Q officer = ((λ e. cc), (λ e. cc))
+officer_apart R officer = ((λ e. cc), (λ e. cc))
+officer_apart B officer = ((λ e. cc), (λ e. cc))
+officer_apart N officer = ((λ e. cc), (λ e. cc))
+officer_apart P officer = absurd officer
+officer_apart K officer = absurd officer
+
+one_where : ℕ → ℕ → ℕ
+one_where a b = cond (eqb a b) 1 0
+
+same_test : (a b c d : ℕ) → (a ≡ b → c ≡ d) → (c ≡ d → a ≡ b) → one_where a b ≡ one_where c d
+unfolding one_where
+same_test a b c d f g = ap (λ test. cond test 1 0) (elim (eqb_tells a b) [
+  | inl h ↦ h.0 ∙ sym (eq-eqb c d (f h.1))
+  | inr h ↦ elim (eqb_tells c d) [ inl k ↦ absurd (h.1 (g k.1)) | inr k ↦ h.0 ∙ sym k.0 ]
+])
+
+-- men of the other sides are the same where the men are
+numbers_exchanged : (s t : Side) (k l : Kind) → one_where (6 * side_number (other_side s) + kind_number k) (6 * side_number (other_side t) + kind_number l) ≡ one_where (6 * side_number s + kind_number k) (6 * side_number t + kind_number l)
+numbers_exchanged White White k l = same_test _ _ _ _ (λ e. omega arith) (λ e. omega arith)
+numbers_exchanged Black Black k l = same_test _ _ _ _ (λ e. omega arith) (λ e. omega arith)
+numbers_exchanged White Black k l = let a = kind_few k in let b = kind_few l in same_test _ _ _ _ (λ e. omega arith) (λ e. omega arith)
+numbers_exchanged Black White k l = let a = kind_few k in let b = kind_few l in same_test _ _ _ _ (λ e. omega arith) (λ e. omega arith)
+
+here_turned : (f : Bool) (man : Man) (o : Option Man) → stands_here (turned f man) (option_map (turned f) o) ≡ stands_here man o
+unfolding turned one_where
+here_turned f man None = refl
+here_turned true man (Some other) = numbers_exchanged man.side other.side man.kind other.kind
+here_turned false man (Some other) = refl
+
+here_back : (f : Bool) (man : Man) (o : Option Man) → stands_here (turned f man) o ≡ stands_here man (option_map (turned f) o)
+here_back f man o = sym (here_turned f (turned f man) o) ∙ ap (λ x. stands_here x (option_map (turned f) o)) (turned_twice f man)
+
+here_self : (man : Man) → stands_here man (Some man) ≡ 1
+here_self man = ap (λ b. cond b 1 0) (eq-eqb (man_number man) (man_number man) refl)
+
+-- a man of the other side is another
+here_other_side : (side : Side) (k l : Kind) → stands_here (man_of (other_side side) k) (Some (man_of side l)) ≡ 0
+here_other_side side k l = elim (eqb_tells (man_number (man_of (other_side side) k)) (man_number (man_of side l))) [
+  | inl h ↦ absurd (differ side h.1)
+  | inr h ↦ ap (λ b. cond b 1 0) h.0
+]
+  where
+    differ : (side : Side) → 6 * side_number (other_side side) + kind_number k ≡ 6 * side_number side + kind_number l → ⊥
+    differ White e = let a = kind_few l in omega arith
+    differ Black e = let a = kind_few k in omega arith
+
+-- an officer is no pawn
+here_officer : (side : Side) (kind : Kind) → IsOfficer kind → stands_here (pawn_of side) (Some (man_of side kind)) ≡ 0
+here_officer White Q officer = refl
+here_officer White R officer = refl
+here_officer White B officer = refl
+here_officer White N officer = refl
+here_officer White P officer = absurd officer
+here_officer White K officer = absurd officer
+here_officer Black Q officer = refl
+here_officer Black R officer = refl
+here_officer Black B officer = refl
+here_officer Black N officer = refl
+here_officer Black P officer = absurd officer
+here_officer Black K officer = absurd officer
+
+side_of_other : (f : Bool) (side : Side) → side_if f (other_side side) ≡ other_side (side_if f side)
+side_of_other true side = refl
+side_of_other false side = refl
+
+-- one flip and then another
+abbrev flip_by : Bool → Bool → Bool
+flip_by f g = if f then not g else g
+
+sides_both : (f g : Bool) (side : Side) → side_if g (side_if f side) ≡ side_if (flip_by f g) side
+sides_both true true White = refl
+sides_both true true Black = refl
+sides_both true false side = refl
+sides_both false g side = refl
+
+change_told : (taken : Option Kind) (becomes : Option Kind) → IsSome taken ⊎ IsSome becomes → (IsSome becomes → IfSome taken (λ kind. kind ≢ P)) → is_change taken becomes ≡ true
+change_told None None some no_pawn = absurd (elim some [ inl e ↦ false≢true e | inr e ↦ false≢true e ])
+change_told None (Some kind) some no_pawn = refl
+change_told (Some P) None some no_pawn = refl
+change_told (Some P) (Some kind) some no_pawn = absurd (no_pawn refl refl)
+change_told (Some Q) becomes some no_pawn = refl
+change_told (Some R) becomes some no_pawn = refl
+change_told (Some B) becomes some no_pawn = refl
+change_told (Some N) becomes some no_pawn = refl
+change_told (Some K) becomes some no_pawn = refl
+
+all_three : (a b c : Bool) → a ≡ true → b ≡ true → c ≡ true → (a && b && c) ≡ true
+all_three a b c p q r = ap₂ (λ x y. x && y) (ap₂ (λ x y. x && y) p q) r
+
+mapped_some : (o : Option Man) → IsSome o → IsSome (option_map (λ (man : Man). man.kind) o)
+mapped_some None some = some
+mapped_some (Some man) some = refl
+
+module _ (p q : Setup) (m : Move) (c : ℕ) (f : Bool) (is : IsOf c f p) (x : Exchanges p m q) where
+  -- a move that neither captures nor promotes
+  pub stays : ¬ Captures p m → m.promo ≡ None → IsOf c f q
+  stays quiet plain = record { men = λ man. same man ∙ is.men man }
+    where
+      nothing : (o : Option Man) → x.taken ≡ o → x.taken ≡ None
+      nothing None e = e
+      nothing (Some other) e = absurd (quiet (x.captures.1 (ap is_some e)))
+
+      same : (man : Man) → count_of q.men man ≡ count_of p.men man
+      same man =
+          let counts = x.counts man in
+          let none : stands_here man x.taken ≡ 0 = ap (stands_here man) (nothing x.taken refl) in
+          let stays : stands_here man (Some (arriving x.man m.promo)) ≡ stands_here man (Some x.man) = ap (λ o. stands_here man (Some (arriving x.man o))) plain in
+          omega arith
+
+  abbrev mover : Side
+  mover = side_if f p.side
+
+  abbrev change : Change
+  change = record { mover = side_if f p.side; taken = option_map (λ (man : Man). man.kind) x.taken; becomes = m.promo }
+
+  -- how many of a man of the class's colours there are after the move
+  left : Man → ℕ
+  left man = count_of q.men (turned f man)
+
+  taken_is : (o : Option Man) → IfSome o (λ other. (other.side ≡ other_side p.side) × (other.kind ≢ K)) → option_map (turned f) o ≡ option_map (man_of (other_side (side_if f p.side))) (option_map (λ (man : Man). man.kind) o)
+  unfolding turned
+  taken_is None ok = refl
+  taken_is (Some other) ok = ap (λ side. Some (man_of side other.kind)) (ap (side_if f) ok.0 ∙ side_of_other f p.side)
+
+  before : (man : Man) → count_of p.men (turned f man) ≡ men_of (material_of c) false man
+  unfolding turned men_in
+  before man = is.men (turned f man) ∙ ap (λ side. men_in c side man.kind) (side_twice f man.side)
+
+  -- the men in the class's colours
+  counts : (man : Man) → left man + stands_here man (man_taken change) + stands_here man (pawn_promoted change) ≡ men_of (material_of c) false man + stands_here man (man_promoted change)
+  unfolding turned left
+  counts man = by_promotion m.promo refl x.promoted
+    where
+      taken_here : stands_here (turned f man) x.taken ≡ stands_here man (man_taken change)
+      taken_here = here_back f man x.taken ∙ ap (stands_here man) (taken_is x.taken x.enemy)
+
+      by_promotion : (promo : Option Kind) → m.promo ≡ promo → IfSome promo (λ kind. (x.man.kind ≡ P) × IsOfficer kind × IfSome x.taken (λ other. other.kind ≢ P))
+          → left man + stands_here man (man_taken change) + stands_here man (option_map (λ _. pawn_of mover) promo) ≡ men_of (material_of c) false man + stands_here man (option_map (man_of mover) promo)
+      by_promotion None e ok =
+          let all = x.counts (turned f man) in
+          let here : stands_here (turned f man) (Some (arriving x.man m.promo)) ≡ stands_here (turned f man) (Some x.man) = ap (λ o. stands_here (turned f man) (Some (arriving x.man o))) e in
+          let taken = taken_here in
+          let were = before man in
+          omega arith
+      by_promotion (Some kind) e ok =
+          let all = x.counts (turned f man) in
+          let here : stands_here (turned f man) (Some (arriving x.man m.promo)) ≡ stands_here man (Some (man_of mover kind)) =
+          ap (λ o. stands_here (turned f man) (Some (arriving x.man o))) e
+          ∙ here_back f man (Some (man_of x.man.side kind))
+          ∙ ap (λ side. stands_here man (Some (man_of (side_if f side) kind))) x.mine in
+          let pawn : stands_here (turned f man) (Some x.man) ≡ stands_here man (Some (pawn_of mover)) =
+          here_back f man (Some x.man)
+          ∙ ap (λ side. stands_here man (Some (man_of (side_if f side) x.man.kind))) x.mine
+          ∙ ap (λ k. stands_here man (Some (man_of (side_if f p.side) k))) ok.0 in
+          let taken = taken_here in
+          let were = before man in
+          omega arith
+
+  there : (man : Man) → 0 < men_of (material_of c) false man → ltb 0 (men_of (material_of c) false man) ≡ true
+  there man some = lt-ltb _ _ some
+
+  officer_told : (promo : Option Kind) → IfSome promo (λ kind. (x.man.kind ≡ P) × IsOfficer kind × IfSome x.taken (λ other. other.kind ≢ P)) → IfSome promo IsOfficer
+  officer_told None ok = tt
+  officer_told (Some kind) ok = ok.1
+
+  kinds_told : (o : Option Man) → IfSome o (λ other. (other.side ≡ other_side p.side) × (other.kind ≢ K)) → IfSome (option_map (λ (man : Man). man.kind) o) (λ kind. kind ≢ K)
+  kinds_told None ok = tt
+  kinds_told (Some man) ok = ok.1
+
+  -- the man that is taken was there
+  has_taken : (o : Option Kind) → change.taken ≡ o → has_man (material_of c) (option_map (man_of (other_side mover)) o) ≡ true
+  has_taken None e = refl
+  has_taken (Some kind) e =
+      let man = man_of (other_side mover) kind in
+      let all = counts man in
+      let here : stands_here man (man_taken change) ≡ 1 = ap (λ o. stands_here man (option_map (man_of (other_side mover)) o)) e ∙ here_self man in
+      let none = not_promoted kind m.promo in
+      there man (omega arith)
+    where
+      not_promoted : (kind : Kind) (promo : Option Kind) → stands_here (man_of (other_side mover) kind) (option_map (man_of mover) promo) ≡ 0
+      not_promoted kind None = refl
+      not_promoted kind (Some other) = here_other_side mover kind other
+
+  -- so was the pawn that is promoted
+  has_pawn : (promo : Option Kind) → m.promo ≡ promo → IfSome promo IsOfficer → has_man (material_of c) (option_map (λ _. pawn_of mover) promo) ≡ true
+  has_pawn None e ok = refl
+  has_pawn (Some kind) e ok =
+      let all = counts (pawn_of mover) in
+      let here : stands_here (pawn_of mover) (pawn_promoted change) ≡ 1 = ap (λ o. stands_here (pawn_of mover) (option_map (λ _. pawn_of mover) o)) e ∙ here_self (pawn_of mover) in
+      let none : stands_here (pawn_of mover) (man_promoted change) ≡ 0 = ap (λ o. stands_here (pawn_of mover) (option_map (man_of mover) o)) e ∙ here_officer mover kind ok in
+      there (pawn_of mover) (omega arith)
+
+  no_pawn_taken : (promo : Option Kind) → IfSome promo (λ kind. (x.man.kind ≡ P) × IsOfficer kind × IfSome x.taken (λ other. other.kind ≢ P)) → IsSome promo → (o : Option Man) → x.taken ≡ o → IfSome (option_map (λ (man : Man). man.kind) o) (λ kind. kind ≢ P)
+  no_pawn_taken None ok some o e = absurd (false≢true some)
+  no_pawn_taken (Some kind) ok some None e = tt
+  no_pawn_taken (Some kind) ok some (Some man) e = subst (λ o. IfSome o (λ other. other.kind ≢ P)) e ok.2
+
+  possible : Captures p m ⊎ IsSome m.promo → is_possible (material_of c) change ≡ true
+  possible other =
+      all_three _ _ _
+      (change_told change.taken change.becomes (elim other [ inl captures ↦ inl (mapped_some x.taken (x.captures.0 captures)) | inr promotes ↦ inr promotes ]) (λ some. no_pawn_taken m.promo x.promoted some x.taken refl))
+      (has_taken change.taken refl) (has_pawn m.promo refl (officer_told m.promo x.promoted))
+
+  -- whatever follows the change is of that class
+  follows_is_of : (d : ℕ) (g : Bool) → d < 36 → OneKing q.men → follows_as g (material_of c) change (material_of d) ≡ true → IsOf d (flip_by f g) q
+  unfolding left turned men_in
+  follows_is_of d g d_in kings told = record { men = λ man. by_kind man.side man.kind }
+    where
+      after : (side : Side) (kind : Kind) → kind ≢ K → count_of q.men (man_of side kind) ≡ men_in d (side_if (flip_by f g) side) kind
+      after side kind not_king =
+          let turned_man = man_of (side_if f side) kind in
+          let all = counts turned_man in
+          let told_at = all_agree
+          (λ man. men_of (material_of d) g man + stands_here man (man_taken change) + stands_here man (pawn_promoted change))
+          (λ man. men_of (material_of c) false man + stands_here man (man_promoted change)) told (side_if f side) kind not_king in
+          let same : left turned_man ≡ men_of (material_of d) g turned_man = omega arith in
+          ap (λ s. count_of q.men (man_of s kind)) (sym (side_twice f side)) ∙ same ∙ ap (λ s. men_in d s kind) (sides_both f g side)
+
+      by_kind : (side : Side) (kind : Kind) → count_of q.men (man_of side kind) ≡ men_in d (side_if (flip_by f g) side) kind
+      by_kind side K = kings side ∙ sym (one_king_in d (side_if (flip_by f g) side) d_in)
+      by_kind side Q = after side Q (λ e. cc)
+      by_kind side R = after side R (λ e. cc)
+      by_kind side B = after side B (λ e. cc)
+      by_kind side N = after side N (λ e. cc)
+      by_kind side P = after side P (λ e. cc)
+
+  promoted_told : (promo : Option Kind) → IfSome promo IsOfficer → IfSome promo (λ kind. (kind ≢ P) × (kind ≢ K))
+  promoted_told None officer = tt
+  promoted_told (Some kind) officer = officer_apart kind officer
+
+  -- a capture or a promotion
+  pub leaves : c < 36 → OneKing q.men → Captures p m ⊎ IsSome m.promo → (d : ℕ) × (turned : Bool) × Contains (children_of c) d × IsOf d turned q
+  leaves c_in kings other =
+      let found = covered c change c_in (kinds_told x.taken x.enemy) (promoted_told m.promo (officer_told m.promo x.promoted)) (possible other) in
+      let less = smaller c found.0 c_in found.1 in
+      let d_in : found.0 < 36 = omega arith in
+      elim (either _ _ found.2) [
+        | inl same ↦ (found.0, flip_by f false, found.1, follows_is_of found.0 false d_in kings same)
+        | inr exchanged ↦ (found.0, flip_by f true, found.1, follows_is_of found.0 true d_in kings exchanged)
+      ]
+
+  -- either the class or a child
+  pub leads : c < 36 → OneKing q.men → IsOf c f q ⊎ ((d : ℕ) × (turned : Bool) × Contains (children_of c) d × IsOf d turned q)
+  leads c_in kings = by_parts x.taken m.promo refl refl
+    where
+      by_parts : (taken : Option Man) (promo : Option Kind) → x.taken ≡ taken → m.promo ≡ promo → IsOf c f q ⊎ ((d : ℕ) × (turned : Bool) × Contains (children_of c) d × IsOf d turned q)
+      by_parts None None e g = inl (stays (λ captures. false≢true (sym (ap is_some e) ∙ x.captures.0 captures)) g)
+      by_parts None (Some kind) e g = inr (leaves c_in kings (inr (ap is_some g)))
+      by_parts (Some man) promo e g = inr (leaves c_in kings (inl (x.captures.1 (ap is_some e))))

@@ -1,6 +1,0 @@
-use Rattle.std.proofs.Common.{◌≡◌}
-use Rattle.egt_tool.specs.Classes.{lines_below}
-use Rattle.egt_tool.proofs.listing.lines.Given as goal
-
-abbrev pub invariant-loop-number : goal.invariant-loop-number
-invariant-loop-number l = l.text.items ≡ lines_below l.number

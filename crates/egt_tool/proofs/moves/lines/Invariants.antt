@@ -1,6 +1,0 @@
-use Rattle.std.proofs.Common.{◌≡◌, take}
-use Rattle.egt_tool.specs.Moves.{lines_of}
-use Rattle.egt_tool.proofs.moves.lines.Given as goal
-
-abbrev pub invariant-loop-chess_move : goal.invariant-loop-chess_move
-invariant-loop-chess_move l = l.text.items ≡ lines_of (take l.chess_move-index l.moves)

@@ -1,9 +1,0 @@
--- What ends a run where no text could be made of a FEN.
-use Rattle.egt_tool.specs.declared.fault.MovesFault.{MovesFault}
-use Rattle.egt_tool.specs.declared.fault.MovesFault.TheVariants as texts
-use Rattle.egt_tool.specs.declared.run_fault.RunFault.{RunFault}
-use Rattle.egt_tool.specs.declared.run_fault.RunFault.TheVariants as runs
-
-abbrev pub ends_with : MovesFault → RunFault
-ends_with (texts.Fen fault) = runs.Fen fault
-ends_with texts.NoMemory = runs.NoMemory
