@@ -156,7 +156,7 @@ pub places_of_none : (c : ℕ) → last_of (men_beside (material_of c)) ≡ None
 unfolding places
 places_of_none c none = ap digits_at none
 
-digits_some : (o : Option Man) → 0 < digits_at o
+pub digits_some : (o : Option Man) → 0 < digits_at o
 digits_some None = omega arith
 digits_some (Some man) = of man.kind
   where
@@ -188,6 +188,9 @@ front_low c front fronts all lt = let le = mul-le-mul_right (2 * places c) (abov
   where
     above : (a b : ℕ) → a < b → a + 1 ≤ b
     above a b lt = omega arith
+
+pub front_past : (c front fronts : ℕ) → fronts * (2 * places c) ≡ half_of c → fronts ≤ front → (front + 1) * (2 * places c) ≤ half_of c → ⊥
+front_past c front fronts all ge within = let le = mul-le-mul_right (2 * places c) ge in let some = places_some c in omega arith
 
 pub shelf_past : (c shelf fronts : ℕ) → fronts * (2 * places c) ≡ half_of c → has_target (material_of c) ≡ false → fronts ≤ shelf → size_of c ≤ shelf * (2 * places c)
 shelf_past c shelf fronts all none ge = let le = mul-le-mul_right (2 * places c) ge in let plain = half_plain c none in omega arith

@@ -56,5 +56,6 @@ pub mod Placing
 pub mod Passing
 pub mod Numbered
 pub mod ShelfCodes
+pub mod ShelfFound
 pub mod LoneCodes
 pub mod TurnedMen

@@ -151,7 +151,7 @@ placed_bits front man mover king k word kept occupied without king_is digits is 
         let one = (safe (k + kind_less man.kind) (omega (arith, within man.kind))).1 (subst (λ s. IsKeptFrom front.board (k + kind_less man.kind) man s mover) (sym king_is) placed.kept) in
         digits.1 (placed.below, omega arith)
 
-digit_on : (pawns : Bool) (side : Side) (kind : Kind) (d : ℕ) → man_of side kind ≢ king_of White → (base_by pawns side kind ≡ kind_digits kind) × (square_by_digit pawns side kind d ≡ d + kind_less kind)
+pub digit_on : (pawns : Bool) (side : Side) (kind : Kind) (d : ℕ) → man_of side kind ≢ king_of White → (base_by pawns side kind ≡ kind_digits kind) × (square_by_digit pawns side kind d ≡ d + kind_less kind)
 digit_on pawns White K d not = absurd (not refl)
 digit_on pawns Black K d not = (refl, omega arith)
 digit_on pawns White P d not = (refl, refl)

@@ -31,7 +31,7 @@ use Rattle.egt_index.proofs.Scaled.{number_on, number_told}
 use Rattle.egt_index.proofs.Setups.{men_spelled}
 use Rattle.egt_index.proofs.Splitting.{spells_men}
 
-twice_within : (kind : Kind) → kind_digits kind + 2 * kind_less kind ≤ 64
+pub twice_within : (kind : Kind) → kind_digits kind + 2 * kind_less kind ≤ 64
 twice_within Q = omega arith
 twice_within R = omega arith
 twice_within B = omega arith
@@ -98,7 +98,7 @@ module _ (passed : Bool) (c shelf high : ℕ) (men : ShelfMen) (c_in : c < 36) (
     tails : {a b : Man} {x y : List Man} → a ∷ x ≡ b ∷ y → x ≡ y
     tails e = cc
 
-    spelled_on : (d : ℕ) → d < kind_digits men.last.kind → SpellsMen (material_of c) (high * kind_digits men.last.kind + d) (list_of (stand_with men (d + kind_less men.last.kind)))
+    pub spelled_on : (d : ℕ) → d < kind_digits men.last.kind → SpellsMen (material_of c) (high * kind_digits men.last.kind + d) (list_of (stand_with men (d + kind_less men.last.kind)))
     spelled_on d below =
         subst (λ n. SpellsMen (material_of c) n (list_of stand)) number
         (spells_men (material_of c) (number_on king stand) king men.white (rest_of stand) king_in (sym king_is)

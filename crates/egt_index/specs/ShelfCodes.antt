@@ -3,6 +3,7 @@ use Rattle.std.specs.Prelude.{◌≡◌, ◌≢◌, ◌↔◌, ℕ, ◌+◌, ◌
 use Rattle.std.specs.Int.{bit_at}
 use Rattle.egt_board.specs.Attack.{king_of}
 use Rattle.egt_board.specs.Images.{side_number}
+use Rattle.egt_board.specs.Pawn.{MayStand}
 use Rattle.egt_board.specs.Settled.{IsSettled}
 use Rattle.egt_board.specs.Setup.{Setup}
 use Rattle.egt_board.specs.Turned.{turned_square}
@@ -11,11 +12,12 @@ use Rattle.egt_board.specs.declared.man.Side.TheVariants.{White, Black}
 use Rattle.egt_class.specs.Material.{material_of}
 use Rattle.egt_index.specs.Code.{Spells}
 use Rattle.egt_index.specs.Front.{TellsLast}
+use Rattle.egt_index.specs.Home.{IsAtHome}
 use Rattle.egt_index.specs.Index.{IsVoid}
 use Rattle.egt_index.specs.Numbers.{IsNumbered, code_of, half_of, places}
 use Rattle.egt_index.specs.Row.{row_len}
 use Rattle.egt_index.specs.Scales.{kind_digits, kind_less}
-use Rattle.egt_index.specs.Size.{has_target, men_in_order, size_of}
+use Rattle.egt_index.specs.Size.{has_pawns, has_target, men_in_order, size_of}
 use Rattle.egt_index.specs.Spelled.{Ends}
 use Rattle.egt_index.specs.StepCodes.{TellsMen}
 use Rattle.egt_index.specs.Stood.{Entry}
@@ -38,6 +40,10 @@ pub record AreMenOf (c : ℕ) (men : ShelfMen) : Type 0 where
   pub one_beside : men.one ≢ king_of White
   pub last_beside : men.last ≢ king_of White
 
+-- the class has two men beside the kings
+abbrev pub HasTwoBeside : ℕ → Type 0
+HasTwoBeside c = (men : ShelfMen) × AreMenOf c men
+
 -- the numbers of the shelf stand for codes that tell them, and the last one by his digit; `passed` tells whether its positions have a target
 pub record IsShelf (c shelf : ℕ) (men : ShelfMen) : Type 0 where
   pub men_of : AreMenOf c men
@@ -56,6 +62,13 @@ IsWithin c shelf = (shelf + 1) * (2 * places c) ≤ size_of c
 pub record IsShelfBehind (passed : Bool) (c shelf high : ℕ) : Type 0 where
   pub first : shelf * (2 * places c) ≡ high * (2 * places c) + (if passed then half_of c else 0)
   pub within : (high + 1) * (2 * places c) ≤ half_of c
+  pub may : has_target (material_of c) ≡ false → passed ≡ false
+
+-- some shelf has these men, of positions with a target where one was passed: the white king is at home, the man who stands still may stand where he does,
+-- and the class has targets where one was passed
+pub record HasShelf (passed : Bool) (c : ℕ) (men : ShelfMen) : Type 0 where
+  pub home : IsAtHome (has_pawns (material_of c)) men.white
+  pub stands : MayStand men.one men.on
   pub may : has_target (material_of c) ≡ false → passed ≡ false
 
 -- the men where a symmetry takes them, and after the one on `from` went to `to`

@@ -32,6 +32,6 @@ pub use numbers::code_of;
 pub use places::Places;
 pub use row::{Rows, position};
 pub use shelf::{last_digits, shelf_len};
-pub use shelf_codes::{ShelfMen, home_turn, positions_of, shelf_men, shelf_of};
+pub use shelf_codes::{ShelfMen, positions_of, shelf_men, shelf_of};
 pub use sizes::size;
 pub use spelling::{position_of, spelled_position};

@@ -1,6 +1,10 @@
 //! The codes of a class with one man beside the kings, by the squares of the kings.
-ghost use Rattle.std.specs.Prelude.{◌<◌, IfSome};
+ghost use Rattle.std.specs.Prelude.{IfSome, IfNone};
+ghost use Rattle.egt_board.specs.declared.man.Man.{Man};
+ghost use Rattle.egt_class.specs.Material.{material_of};
+ghost use Rattle.egt_index.specs.Home.{IsAtHome};
 ghost use Rattle.egt_index.specs.LoneCodes.{IsLoneMan, IsLoneRow};
+ghost use Rattle.egt_index.specs.Size.{has_pawns};
 
 use crate::digits::king_digit;
 use crate::men::{beside, has_pawns};
@@ -10,7 +14,8 @@ use egt_class::Class;
 
 /// The man of a class with one man beside the kings. `None` of other classes.
 pub fn lone_man(class: Class) -> Option<Man>
-    ensures { IfSome result (IsLoneMan class) }
+    ensures lone { IfSome result (IsLoneMan class) }
+    ensures none { IfNone result ((man : Man) → ¬ IsLoneMan class man) }
 {
     match beside(class) {
         (Some(man), None) => Some(man),
@@ -21,7 +26,8 @@ pub fn lone_man(class: Class) -> Option<Man>
 /// The first of the codes with the kings on these squares, which follow one another by the man's digit. `None` where the white king is not at home.
 pub fn lone_row(class: Class, man: Man, white: Square, black: Square) -> Option<u32>
     requires { IsLoneMan class man }
-    ensures { IfSome result (λ first. IsLoneRow class first white black man) }
+    ensures row { IfSome result (λ first. IsLoneRow class first white black man) }
+    ensures none { IfNone result (¬ IsAtHome (has_pawns (material_of class)) white) }
 {
     let _number = class.number();
     let _black = black.number();

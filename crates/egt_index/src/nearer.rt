@@ -5,6 +5,7 @@ ghost use Rattle.egt_class.specs.Material.{material_of};
 ghost use Rattle.egt_index.specs.Home.{AreHome};
 ghost use Rattle.egt_index.specs.Nearer.{AreNearest, IsVoidAfter};
 ghost use Rattle.egt_index.specs.Size.{has_pawns};
+ghost use Rattle.egt_index.specs.Stood.{AreNear};
 
 use crate::facts::facts;
 use crate::home::{Turns, home};
@@ -71,7 +72,8 @@ pub(crate) fn homeward(class: Class, white: Square, black: Square, flips: bool) 
 /// square of the king who is White's after the turn.
 pub fn is_void_after(class: Class, white: Square, black: Square, turn: u8) -> bool
     requires { turn < 16 }
-    ensures { result ≡ true → IsVoidAfter class white black turn }
+    ensures void { result ≡ true → IsVoidAfter class white black turn }
+    ensures near { AreNear white black → result ≡ true }
 {
     facts();
     let _number = class.number();

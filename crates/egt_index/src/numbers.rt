@@ -1,6 +1,6 @@
 //! Numbers of positions, and the codes that they stand for: the codes without a target come first, then those with one. A shelf of numbers is behind a
 //! front, whose men stand before the last one.
-ghost use Rattle.std.specs.Prelude.{◌≡◌, ◌<◌, ◌+◌, ◌*◌, ◌≤◌, IfNone, IfSome};
+ghost use Rattle.std.specs.Prelude.{◌≡◌, ℕ, ◌<◌, ◌+◌, ◌*◌, ◌≤◌, IfNone, IfSome};
 ghost use Rattle.egt_index.specs.Numbers.{code_of, half_of, places};
 ghost use Rattle.egt_index.specs.ShelfCodes.{IsShelfBehind, IsWithin};
 ghost use Rattle.egt_index.specs.Size.{size_of};
@@ -81,6 +81,7 @@ pub(crate) fn front_number(class: Class, shelf: u32) -> Option<(u32, bool)>
 pub(crate) fn shelf_behind(class: Class, front: u32, passed: bool) -> Option<u32>
     ensures behind { IfSome result (λ shelf. IsShelfBehind passed class shelf front) }
     ensures within { IfSome result (IsWithin class) }
+    ensures none { IfNone result ((shelf : ℕ) → ¬ IsShelfBehind passed class shelf front) }
 {
     let _number = class.number();
     let fronts = fronts(class);

@@ -5,16 +5,14 @@ ghost use Rattle.egt_board.specs.Pawn.{MayStand};
 ghost use Rattle.egt_board.specs.declared.man.Man.{Man};
 ghost use Rattle.egt_class.specs.Material.{material_of};
 ghost use Rattle.egt_index.specs.Front.{IsFront};
-ghost use Rattle.egt_index.specs.Home.{symmetries};
-ghost use Rattle.egt_index.specs.Scales.{kind_less};
+ghost use Rattle.egt_index.specs.Scales.{kind_digits, kind_less};
 ghost use Rattle.egt_index.specs.Shelf.{last_of};
-ghost use Rattle.egt_index.specs.ShelfCodes.{AreMenOf, ArePositions, IsShelf, IsShelfOf, IsWithin, SpellsNothing, moved_men, turned_men};
-ghost use Rattle.egt_index.specs.Size.{has_pawns, men_beside};
+ghost use Rattle.egt_index.specs.ShelfCodes.{AreMenOf, ArePositions, HasShelf, HasTwoBeside, IsShelf, IsShelfOf, IsWithin, SpellsNothing, moved_men, turned_men};
+ghost use Rattle.egt_index.specs.Size.{men_beside};
 ghost use Rattle.egt_index.specs.Went.{moved_square};
 
 use crate::digits::king_digit;
 use crate::front::Front;
-use crate::home::home;
 use crate::men::{beside, has_pawns};
 use crate::numbers::{front_number, shelf_behind};
 use crate::passed::may_pass;
@@ -49,7 +47,8 @@ fn moved(from: Square, to: Square, square: Square) -> Square
 fn digit_on(man: Man, square: Square) -> Option<u32>
     ensures may { IfSome result (λ _. MayStand man square) }
     ensures is { IfSome result (λ digit. digit ≡ square - kind_less man.kind) }
-    ensures below { IfSome result (λ digit. digit < 64) }
+    ensures below { IfSome result (λ digit. digit < kind_digits man.kind) }
+    ensures none { IfNone result (¬ MayStand man square) }
 {
     let number = u32::from(square.number());
     match man.kind {
@@ -65,7 +64,8 @@ fn digit_on(man: Man, square: Square) -> Option<u32>
 
 /// The men of the shelf with this number, of a class with two men beside the kings. `None` of other classes, and past the last shelf.
 pub fn shelf_men(class: Class, shelf: u32) -> Option<ShelfMen>
-    ensures { IfSome result (IsShelf class shelf) }
+    ensures shelf { IfSome result (IsShelf class shelf) }
+    ensures none { IfNone result (HasTwoBeside class → ¬ IsWithin class shelf) }
 {
     let _number = class.number();
     let (_, last) = beside(class);
@@ -88,6 +88,7 @@ pub fn shelf_of(class: Class, men: &ShelfMen, passed: bool) -> Option<u32>
     requires men { AreMenOf class men.now }
     ensures shelf { IfSome result (λ shelf. IsShelfOf passed class shelf men.now) }
     ensures within { IfSome result (IsWithin class) }
+    ensures none { IfNone result (¬ HasShelf passed class men.now) }
 {
     let _number = class.number();
     let _black = men.black.number();
@@ -97,14 +98,6 @@ pub fn shelf_of(class: Class, men: &ShelfMen, passed: bool) -> Option<u32>
     let kings = u32::from(high) * 64 + u32::from(men.black.number());
     let front = kings * digits_of(men.one) + digit;
     shelf_behind(class, front, passed)
-}
-
-/// A symmetry that keeps the class's play and brings the white king home, by its number.
-pub fn home_turn(class: Class, white: Square) -> u8
-    ensures { result < symmetries (has_pawns (material_of class)) }
-{
-    let _number = class.number();
-    home(has_pawns(class), false, white).0
 }
 
 impl ShelfMen {

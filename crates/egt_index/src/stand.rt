@@ -333,7 +333,7 @@ pub(crate) fn are_apart(stand: &Stand) -> bool
 /// Whether the squares are neighbours, or one.
 #[inline(always)]
 pub(crate) fn are_near(one: Square, other: Square) -> bool
-    ensures { result ≡ true → AreNear one other }
+    ensures { IsTrue result ↔ AreNear one other }
 {
     let files = one.file().abs_diff(other.file());
     let ranks = one.rank().abs_diff(other.rank());

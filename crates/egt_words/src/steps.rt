@@ -16,8 +16,9 @@ use egt_board::attack_lines::{reach_past, stops};
 use egt_board::{Kind, Man, Side, Square, SquareSet};
 use egt_class::Class;
 use egt_graph::{TurnedWay, Way};
+use egt_index::home::home;
 use egt_index::laws::codes_follow_steps;
-use egt_index::{ShelfMen, home_turn};
+use egt_index::{ShelfMen, has_pawns};
 use egt_steps::laws::a_quiet_move_moves_one_man;
 
 /// The word to which the step of the man on `from` leads, and the turn of the places by which the white king is at home there. `None` where no shelf
@@ -38,7 +39,7 @@ pub(crate) fn step_to(
     let _from = from.number();
     let _to = to.number();
     let after = men.moved(from, to);
-    let turn = home_turn(class, after.white);
+    let (turn, _) = home(has_pawns(class), false, after.white);
     let word = word_with(class, &after.turned(turn), side.other(), false)?;
     Some(TurnedWay { word, turn })
 }

@@ -12,4 +12,4 @@ returns c = λ void passed code a b side a_in b_in turned.
       next = a_in;
       last = b_in;
     } in
-    c.is_void_after.ensures void passed code stand side on_board refl refl turned
+    c.is_void_after.ensures.void void passed code stand side on_board refl refl turned

@@ -17,7 +17,7 @@ returns-then-white-indexes-clause-told c = λ black.
     let t = c.args.table.now in
     let indexes = c.indexes-indexes.result in
     let are = subst (λ (k : ℕ). AreIndexes k c.args.shelf indexes) c.requires.rows c.indexes-indexes.ensures.indexes in
-    let len = subst (λ k. places k ≡ kind_digits c.in-Some.men.last.kind) c.class-class.ensures.class c.in-Some.ensures.len in
+    let len = subst (λ k. places k ≡ kind_digits c.in-Some.men.last.kind) c.class-class.ensures.class c.in-Some.ensures.shelf.len in
     shelf_told t c.requires.alike (λ n below. c.numbers_stand_for_codes.ensures.coded t.class n c.class-class.ensures.table.class_in below) c.args.shelf c.marks_of-white.result c.marks_of-black.result indexes
     (λ k below. c.marks_of-white.ensures k (subst (λ n. k < n) len below)) (λ k below. c.marks_of-black.ensures k (subst (λ n. k < n) len below)) are c.if-white-indexes.true
     (eqb-true c.marks_of-black.result indexes.black black) (numbers_within t c.args.shelf c.requires.within)

@@ -20,7 +20,7 @@ pub returns-then-are_near : goal.returns-then-are_near
 returns-then-are_near c = λ n last tells code same p ok index.
     let stand = with_last c.in_ok-stand.stand last in
     none_near c.args.class n code stand index.image (omega (arith, c.number-number.ensures.below, c.number-number.ensures.value)) same
-    (c.in_ok-stand.ensures.some.men n last tells) index.spells (c.are_near.ensures c.if-are_near.true)
+    (c.in_ok-stand.ensures.some.men n last tells) index.spells (c.are_near.ensures.0 c.if-are_near.true)
 
 pub returns-then-not-are_apart : goal.returns-then-not-are_apart
 returns-then-not-are_apart c = λ n last tells code same p ok index.

@@ -1,17 +1,33 @@
-use Rattle.std.proofs.Common.{◌≢◌, ◌∙◌, IfSome, Option, arith, refl, subst}
+use Rattle.std.proofs.Common.{◌≢◌, ◌∙◌, IfSome, IfNone, Option, arith, refl, sym, subst}
 use Rattle.egt_board.specs.Attack.{king_of}
 use Rattle.egt_board.specs.declared.man.Man.{Man}
 use Rattle.egt_board.specs.declared.man.Side.TheVariants.{White}
 use Rattle.egt_class.specs.Material.{material_of}
+use Rattle.egt_index.specs.ShelfCodes.{HasTwoBeside, IsWithin}
 use Rattle.egt_index.specs.Size.{men_beside}
 use Rattle.egt_index.proofs.Fronts.{last_beside}
 use Rattle.egt_index.proofs.ShelfCodes.{first_beside, shelf_before}
+use Rattle.egt_index.proofs.ShelfFound.{none_within, one_before, some_before}
 use Rattle.egt_index.proofs.shelf_codes.shelf_men.Goals as goal
 
-pub returns : goal.returns
-returns c =
+pub returns-clause-shelf : goal.returns-clause-shelf
+returns-clause-shelf c =
     shelf_before _ c.args.class c.args.shelf c.in_ok-front.front _ (omega (arith, c.number-number.ensures.below, c.number-number.ensures.value))
     (last_beside _ _ (men_beside (material_of c.args.class)) c.beside-last.ensures.men c.beside-last.ensures.from_first ∙ c.in_ok-last.was)
     (subst (λ (o : Option Man). IfSome o (λ man. man ≢ king_of White)) c.in_ok-last.was c.beside-last.ensures.second) c.in_ok-front.ensures.behind
     (first_beside _ _ _ _ (men_beside (material_of c.args.class)) c.beside-last.ensures.men c.beside-last.ensures.first c.beside-last.ensures.from_first)
     c.in_ok-stand.stand c.in_ok-stand.ensures.some refl refl c.in_ok-one.was
+
+pub returns-in_err-front-clause-none : goal.returns-in_err-front-clause-none
+returns-in_err-front-clause-none c =
+    subst (λ o. IfNone o (HasTwoBeside c.args.class → IsWithin c.args.class c.args.shelf → ⊥)) (sym c.from_residual-in_err-front.ensures) (λ two. none_within c.args.class c.args.shelf c.in_err-front.ensures.past)
+
+pub returns-in_err-stand-clause-none : goal.returns-in_err-stand-clause-none
+returns-in_err-stand-clause-none c =
+    subst (λ o. IfNone o (HasTwoBeside c.args.class → IsWithin c.args.class c.args.shelf → ⊥)) (sym c.from_residual-in_err-stand.ensures)
+    (λ two within. some_before c.args.class two.0 two.1 _ c.args.shelf c.in_ok-front.front (omega (arith, c.number-number.ensures.below, c.number-number.ensures.value)) c.in_ok-front.ensures.behind c.in_err-stand.ensures.none)
+
+pub returns-in_err-one-clause-none : goal.returns-in_err-one-clause-none
+returns-in_err-one-clause-none c =
+    subst (λ o. IfNone o (HasTwoBeside c.args.class → IsWithin c.args.class c.args.shelf → ⊥)) (sym c.from_residual-in_err-one.ensures)
+    (λ two within. one_before c.args.class two.0 two.1 _ c.args.shelf c.in_ok-front.front (omega (arith, c.number-number.ensures.below, c.number-number.ensures.value)) c.in_ok-front.ensures.behind c.in_ok-stand.stand c.in_ok-stand.ensures.some c.in_err-one.was)

@@ -1,10 +1,18 @@
-use Rattle.std.proofs.Common.{◌+◌, ◌*◌, ◌<◌, ◌≡◌, ◌∙◌, Option, None, Some, IfSome, ℕ, arith, ap, subst}
+use Rattle.std.proofs.Common.{◌+◌, ◌*◌, ◌<◌, ◌≡◌, ◌∙◌, Option, None, Some, IfSome, IfNone, ℕ, arith, ap, subst}
 use Rattle.egt_index.specs.Code.{king_square}
-use Rattle.egt_index.specs.ShelfCodes.{IsShelfBehind, IsShelfOf}
+use Rattle.egt_index.specs.Scales.{kind_digits}
+use Rattle.egt_index.specs.ShelfCodes.{HasShelf, IsShelfBehind, IsShelfOf}
 use Rattle.egt_index.specs.Size.{king_base}
 use Rattle.egt_index.proofs.ShelfCodes.{last_told, shelf_on}
+use Rattle.egt_index.proofs.ShelfFound.{a_shelf_behind}
 use Rattle.egt_index.proofs.shelf_codes.shelf_of.Goals.{After-shelf_behind}
 use Rattle.egt_index.proofs.shelf_codes.shelf_of.Goals as goal
+
+front_is : (c : After-shelf_behind) → (c.from.result * 64 + c.from-2.result) * c.digits_of.result + c.in_ok-digit.digit ≡ (c.in_ok-high.high * 64 + c.args.men.now.black) * kind_digits c.args.men.now.one.kind + c.in_ok-digit.digit
+front_is c =
+    ap (λ h. (h * 64 + c.from-2.result) * c.digits_of.result + c.in_ok-digit.digit) c.from.ensures
+    ∙ ap (λ b. (c.in_ok-high.high * 64 + b) * c.digits_of.result + c.in_ok-digit.digit) (c.from-2.ensures ∙ c.number.ensures.value)
+    ∙ ap (λ d. (c.in_ok-high.high * 64 + c.args.men.now.black) * d + c.in_ok-digit.digit) c.digits_of.ensures.is
 
 told : (c : After-shelf_behind) (shelf : ℕ) → IsShelfBehind c.args.passed c.args.class shelf ((c.from.result * 64 + c.from-2.result) * c.digits_of.result + c.in_ok-digit.digit) → IsShelfOf c.args.passed c.args.class shelf c.args.men.now
 told c shelf at =
@@ -12,9 +20,7 @@ told c shelf at =
     c.in_ok-high.high c.in_ok-digit.digit
     (subst (λ b. c.in_ok-high.high < king_base b) c.has_pawns.ensures c.in_ok-high.ensures.found) (subst (λ b. king_square b c.in_ok-high.high ≡ c.args.men.now.white) c.has_pawns.ensures c.in_ok-high.ensures.is)
     (omega (arith, c.number-black.ensures.on_board, c.number-black.ensures.value)) (omega (arith, c.number-on.ensures.on_board, c.number-on.ensures.value)) c.in_ok-digit.ensures.may c.in_ok-digit.ensures.is
-    (ap (λ h. (h * 64 + c.from-2.result) * c.digits_of.result + c.in_ok-digit.digit) c.from.ensures
-    ∙ ap (λ b. (c.in_ok-high.high * 64 + b) * c.digits_of.result + c.in_ok-digit.digit) (c.from-2.ensures ∙ c.number.ensures.value)
-    ∙ ap (λ d. (c.in_ok-high.high * 64 + c.args.men.now.black) * d + c.in_ok-digit.digit) c.digits_of.ensures.is)
+    (front_is c)
 
 pub returns-clause-shelf : goal.returns-clause-shelf
 returns-clause-shelf c = of c.shelf_behind.result c.shelf_behind.ensures.behind
@@ -22,3 +28,16 @@ returns-clause-shelf c = of c.shelf_behind.result c.shelf_behind.ensures.behind
     of : (o : Option ℕ) → IfSome o (λ shelf. IsShelfBehind c.args.passed c.args.class shelf ((c.from.result * 64 + c.from-2.result) * c.digits_of.result + c.in_ok-digit.digit)) → IfSome o (λ shelf. IsShelfOf c.args.passed c.args.class shelf c.args.men.now)
     of None at = tt
     of (Some shelf) at = told c shelf at
+
+pub returns-clause-none : goal.returns-clause-none
+returns-clause-none c = of c.shelf_behind.result c.shelf_behind.ensures.none
+  where
+    front : ℕ
+    front = (c.from.result * 64 + c.from-2.result) * c.digits_of.result + c.in_ok-digit.digit
+
+    of : (o : Option ℕ) → IfNone o ((shelf : ℕ) → IsShelfBehind c.args.passed c.args.class shelf front → ⊥) → IfNone o (HasShelf c.args.passed c.args.class c.args.men.now → ⊥)
+    of (Some shelf) none = tt
+    of None none = λ has.
+        let behind = a_shelf_behind c.args.class c.args.men.now c.requires.men c.args.passed c.in_ok-high.high c.args.men.now.black c.in_ok-digit.digit front
+        (subst (λ b. c.in_ok-high.high < king_base b) c.has_pawns.ensures c.in_ok-high.ensures.found) (omega (arith, c.number-black.ensures.on_board, c.number-black.ensures.value)) c.in_ok-digit.ensures.below (front_is c) has.may in
+        none behind.0 behind.1

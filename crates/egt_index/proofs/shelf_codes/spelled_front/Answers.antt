@@ -15,7 +15,7 @@ returns-in_err-stand-clause-none c =
 pub returns-then-are_near-clause-none : goal.returns-then-are_near-clause-none
 returns-then-are_near-clause-none c = λ n last code p tells same spells.
     none_near c.args.class n code (with_last c.in_ok-stand.stand last) p (omega (arith, c.number-number.ensures.below, c.number-number.ensures.value)) same (c.in_ok-stand.ensures.some.men n last tells) spells
-    (c.are_near.ensures c.if-are_near.true)
+    (c.are_near.ensures.0 c.if-are_near.true)
 
 pub returns-then-not-are_apart-clause-none : goal.returns-then-not-are_apart-clause-none
 returns-then-not-are_apart-clause-none c = λ n last code p tells same spells.

@@ -4,7 +4,7 @@ use Rattle.egt_sweep.proofs.CodeLists.{black_indexes, black_nodes, last_told, wh
 use Rattle.egt_sweep.proofs.code_words.CodeLists.tell_shelf.Goals as goal
 
 pub positions_of-nodes-requires : goal.positions_of-nodes-requires
-positions_of-nodes-requires c = record { last = last_told c.args.class c.args.shelf c.in-Some.men c.in-Some.ensures }
+positions_of-nodes-requires c = record { last = last_told c.args.class c.args.shelf c.in-Some.men c.in-Some.ensures.shelf }
 
 pub tell-requires-clause-nodes : goal.tell-requires-clause-nodes
 tell-requires-clause-nodes c = white_nodes c.args.class c.args.shelf c.positions_of-nodes.result c.positions_of-nodes.ensures

@@ -1,0 +1,130 @@
+-- Which shelves a class with two men beside the kings has: one behind each number of their digits before the last one.
+use Rattle.std.proofs.Common.{◌≡◌, ◌≢◌, ℕ, ◌+◌, ◌*◌, ◌/◌, ◌%◌, ◌<◌, ◌≤◌, Bool, true, false, cond, List, [], ◌∷◌, ◌++◌, map, Some, None, arith, refl, sym, ap, ◌∙◌}
+use Rattle.std.proofs.lemmas.Nat.{div-add-mod'}
+use Rattle.std.proofs.Math.Nat.{div-lt_iff_lt-mul, lt_of_mul-lt-mul_left, mod-lt, mul-le-mul_right}
+use Rattle.egt_board.specs.Attack.{king_of}
+use Rattle.egt_board.specs.declared.man.Man.{Man}
+use Rattle.egt_board.specs.declared.man.Side.TheVariants.{White, Black}
+use Rattle.egt_class.specs.Material.{material_of}
+use Rattle.egt_index.specs.Code.{king_square}
+use Rattle.egt_index.specs.Digits.{product}
+use Rattle.egt_index.specs.Front.{IsBefore, IsNoneBefore, TellsLast}
+use Rattle.egt_index.specs.Numbers.{half_of, places}
+use Rattle.egt_index.specs.Scales.{kind_digits, kind_less}
+use Rattle.egt_index.specs.Shelf.{last_of}
+use Rattle.egt_index.specs.ShelfCodes.{AreMenOf, IsShelfBehind, IsWithin, stand_with}
+use Rattle.egt_index.specs.Size.{base_of, has_pawns, has_target, king_base, men_beside, size_of}
+use Rattle.egt_index.specs.Spelled.{SpellsMen}
+use Rattle.egt_index.specs.Stood.{Entry, list_of}
+use Rattle.egt_index.specs.declared.shelf_codes.ShelfMen.{ShelfMen}
+use Rattle.egt_index.specs.declared.stand.Stand.{Stand}
+use Rattle.egt_index.proofs.Halves.{digits_some, half_plain, half_twice, of_targets, places_of_last, places_some}
+use Rattle.egt_index.proofs.Opposed.{may_stand}
+use Rattle.egt_index.proofs.Placing.{digit_on, tells, within}
+use Rattle.egt_index.proofs.ShelfCodes.{last_told, spelled_on, twice_within}
+
+-- past the last shelf there is none
+pub none_within : (c shelf : ℕ) → size_of c ≤ shelf * (2 * places c) → IsWithin c shelf → ⊥
+none_within c shelf past within = let some = places_some c in omega arith
+
+module _ (c : ℕ) (men : ShelfMen) (is_of : AreMenOf c men) where
+  abbrev pawns : Bool
+  pawns = has_pawns (material_of c)
+
+  abbrev one : ℕ
+  one = kind_digits men.one.kind
+
+  -- how many numbers the digits of the kings and the first man make
+  abbrev fronts : ℕ
+  fronts = king_base pawns * 64 * one
+
+  last : last_of (men_beside (material_of c)) ≡ Some men.last
+  last = last_told c men is_of
+
+  len : places c ≡ kind_digits men.last.kind
+  len = places_of_last c men.last last
+
+  size_is : size_of c ≡ product (map (base_of pawns) (king_of White ∷ king_of Black ∷ men.one ∷ men.last ∷ []) ++ 2 ∷ cond (has_target (material_of c)) (2 ∷ []) [])
+  unfolding size_of
+  size_is = ap (λ (list : List Man). product (map (base_of pawns) list ++ 2 ∷ cond (has_target (material_of c)) (2 ∷ []) [])) (sym is_of.are)
+
+  size_by : (b : Bool) → has_target (material_of c) ≡ b → size_of c ≡ king_base pawns * (64 * (one * (places c * (2 * product (cond b (2 ∷ []) [])))))
+  size_by b targets =
+      size_is ∙ ap (λ b. king_base pawns * (64 * (base_of pawns men.one * (base_of pawns men.last * (2 * product (cond b (2 ∷ []) [])))))) targets
+      ∙ ap (λ n. king_base pawns * (64 * (n * (base_of pawns men.last * (2 * product (cond b (2 ∷ []) [])))))) (digit_on pawns men.one.side men.one.kind 0 is_of.one_beside).0
+      ∙ ap (λ n. king_base pawns * (64 * (one * (n * (2 * product (cond b (2 ∷ []) [])))))) ((digit_on pawns men.last.side men.last.kind 0 is_of.last_beside).0 ∙ sym len)
+
+  half_is : half_of c ≡ fronts * (2 * places c)
+  half_is = of_targets c
+      (λ none. let size = size_by false none in let half = half_plain c none in omega arith)
+      (λ has. let size = size_by true has in let half = half_twice c has in omega arith)
+
+  -- there is a shelf behind each of these numbers
+  pub a_shelf_behind : (passed : Bool) (king black digit high : ℕ) → king < king_base pawns → black < 64 → digit < one → high ≡ (king * 64 + black) * one + digit → (has_target (material_of c) ≡ false → passed ≡ false)
+      → (shelf : ℕ) × IsShelfBehind passed c shelf high
+  a_shelf_behind passed king black digit high king_in black_in digit_in is may = (
+    high + cond passed fronts 0,
+    record { first = first passed; within = all; may = may },
+  )
+    where
+      few : high + 1 ≤ fronts
+      few = let le = mul-le-mul_right one (kings king black king_in black_in) in omega arith
+        where
+          kings : (king black : ℕ) → king < king_base pawns → black < 64 → king * 64 + black + 1 ≤ king_base pawns * 64
+          kings king black king_in black_in = omega arith
+
+      all : (high + 1) * (2 * places c) ≤ half_of c
+      all = let le = mul-le-mul_right (2 * places c) few in let half = half_is in omega arith
+
+      first : (passed : Bool) → (high + cond passed fronts 0) * (2 * places c) ≡ high * (2 * places c) + cond passed (half_of c) 0
+      first true = let half = half_is in omega arith
+      first false = omega arith
+
+  -- and the digits of each such number spell men
+  module _ (passed : Bool) (shelf high : ℕ) (c_in : c < 36) (at : IsShelfBehind passed c shelf high) where
+    few : high < fronts
+    few = below high fronts (2 * places c) (let some = places_some c in omega arith) (let within = at.within in let half = half_is in omega arith)
+      where
+        below : (a b n : ℕ) → 0 < n → (a + 1) * n ≤ b * n → a < b
+        below a b n some le = lt_of_mul-lt-mul_left n (omega arith)
+
+    king : ℕ
+    king = high / one / 64
+
+    black : ℕ
+    black = high / one % 64
+
+    digit : ℕ
+    digit = high % one
+
+    there : ShelfMen
+    there = record { white = king_square pawns king; black = black; one = men.one; on = digit + kind_less men.one.kind; last = men.last }
+
+    spelled : SpellsMen (material_of c) (high * kind_digits men.last.kind + 0) (list_of (stand_with there (0 + kind_less men.last.kind)))
+    unfolding there king black digit
+    spelled =
+        spelled_on passed c shelf high there c_in last is_of.last_beside at (record { are = is_of.are; one_beside = is_of.one_beside; last_beside = is_of.last_beside }) king digit (omega (arith, high_few)) refl (omega arith)
+        (let in_all = within men.one.kind in omega (arith, digit_in)) (may_stand men.one (digit + kind_less men.one.kind) (omega arith) (let twice = twice_within men.one.kind in omega (arith, digit_in))) (omega arith) high_is 0 (digits_some (Some men.last))
+      where
+        high_few : high / one < king_base pawns * 64
+        high_few = (div-lt_iff_lt-mul (digits_some (Some men.one))).1 few
+
+        digit_in : high % one < one
+        digit_in = mod-lt high (digits_some (Some men.one))
+
+        high_is : high ≡ (high / one / 64 * 64 + high / one % 64) * one + high % one
+        high_is = sym (ap (λ n. n * one + high % one) (div-add-mod' (high / one) 64) ∙ div-add-mod' high one)
+
+    entry : Entry
+    entry = Some (men.last, 0 + kind_less men.last.kind)
+
+    told : TellsLast c (high * kind_digits men.last.kind + 0) high entry
+    unfolding entry
+    told = tells c high men.last c_in last is_of.last_beside 0 (digits_some (Some men.last))
+
+    pub some_before : IsNoneBefore c high → ⊥
+    some_before none = let men_are = spelled in none (high * kind_digits men.last.kind + 0) entry told men_are.digits men_are.are men_are.number_is
+
+    pub one_before : (stand : Stand) → IsBefore c high stand → stand.next ≢ None
+    unfolding entry
+    one_before stand before none = let alone = before.filled (high * kind_digits men.last.kind + 0) entry told none in cc
