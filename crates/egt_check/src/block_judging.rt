@@ -98,15 +98,7 @@ pub(crate) fn block_is_right(
     entries_due_to_all_moves_are_right();
     let mut mates = nothing();
     let mut zeroing = nothing();
-    if !move_scores(
-        four,
-        men,
-        side,
-        keys,
-        blocks,
-        &mut mates,
-        &mut zeroing,
-    ) {
+    if !move_scores(four, men, side, keys, blocks, &mut mates, &mut zeroing) {
         return false;
     }
     if !shelves_are_right(four.own, men, first, side, false, &mates, &zeroing) {

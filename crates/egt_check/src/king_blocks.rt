@@ -83,15 +83,7 @@ pub(crate) fn king_block(
     let mut rest = beside_king(men, side);
     while let Some(to) = rest.pop_first() {
         let stepped = with_king(men, side, to);
-        if !raise_kept(
-            table,
-            column,
-            &stepped,
-            side.other(),
-            keys,
-            blocks,
-            out,
-        ) {
+        if !raise_kept(table, column, &stepped, side.other(), keys, blocks, out) {
             return false;
         }
     }

@@ -188,15 +188,7 @@ pub(crate) fn move_scores(
     if !quiet_block(four.own, Column::Mate, men, side, keys, blocks, mates) {
         return false;
     }
-    if !quiet_block(
-        four.own,
-        Column::Zeroing,
-        men,
-        side,
-        keys,
-        blocks,
-        zeroing,
-    ) {
+    if !quiet_block(four.own, Column::Zeroing, men, side, keys, blocks, zeroing) {
         return false;
     }
     let mut zeroed = nothing();

@@ -101,15 +101,7 @@ pub(crate) fn quiet_block(
         return true;
     }
     let mut scores = nothing();
-    if !raise_kept(
-        table,
-        column,
-        men,
-        side.other(),
-        keys,
-        blocks,
-        &mut scores,
-    ) {
+    if !raise_kept(table, column, men, side.other(), keys, blocks, &mut scores) {
         return false;
     }
     raise_first(men, side, &scores, out);

@@ -138,16 +138,7 @@ fn side_pairs_are_right(
     let mut blocks = [nothing(); 12];
     for n in 0..64 * kings {
         let first = nth_pair(side, n, kings) * step;
-        if !pair_is_right(
-            four,
-            men,
-            part,
-            first,
-            half,
-            side,
-            &mut keys,
-            &mut blocks,
-        ) {
+        if !pair_is_right(four, men, part, first, half, side, &mut keys, &mut blocks) {
             return false;
         }
     }

@@ -36,11 +36,7 @@ fn open<R: Files + AllocGlobal>(rt: &R, folder: &str, class: Class) -> Result<R:
 }
 
 /// Reads the class's table from its file, straight into the columns.
-pub fn read<R: Files + AllocGlobal>(
-    rt: &R,
-    folder: &str,
-    class: Class,
-) -> Result<Table, RunFault>
+pub fn read<R: Files + AllocGlobal>(rt: &R, folder: &str, class: Class) -> Result<Table, RunFault>
     ensures { IfOk result (λ t. t.class ≡ class) }
 {
     let mut source = FromStd::new(open(rt, folder, class)?);

@@ -79,12 +79,7 @@ pub fn search_text(alloc: Global, plies: u8, fen: &[u8]) -> Result<Vec<u8>, Move
 }
 
 /// `egtb search N FEN`.
-pub fn print_mate<O: Sink>(
-    alloc: Global,
-    plies: u8,
-    fen: &str,
-    out: &mut O,
-) -> Result<(), RunFault>
+pub fn print_mate<O: Sink>(alloc: Global, plies: u8, fen: &str, out: &mut O) -> Result<(), RunFault>
     requires some { 1 ≤ plies }
     requires few { plies ≤ 6 }
 {

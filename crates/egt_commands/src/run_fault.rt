@@ -42,10 +42,8 @@ impl RunFault {
     /// The status of a run that it ends.
     pub fn status(&self) -> Status {
         match self {
-            RunFault::Fen(_)
-            | RunFault::NoFile(_)
-            | RunFault::File(_, _)
-            | RunFault::Check(_, _) => Status::Refused,
+            RunFault::Fen(_) | RunFault::NoFile(_) | RunFault::File(_, _) | RunFault::Check(_, _) =>
+                Status::Refused,
             RunFault::NoSuchClass | RunFault::Usage => Status::Usage,
             RunFault::Device => Status::Device,
             RunFault::NoMemory => Status::Memory,

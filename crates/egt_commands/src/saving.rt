@@ -7,11 +7,7 @@ use std::io::ErrorKind;
 use std::rt::Files;
 
 /// Writes the table into the file of its class, in place of one that is there. Where the writing fails the file may not be whole.
-pub fn save<R: Files + AllocGlobal>(
-    rt: &R,
-    folder: &str,
-    table: &Table,
-) -> Result<(), RunFault> {
+pub fn save<R: Files + AllocGlobal>(rt: &R, folder: &str, table: &Table) -> Result<(), RunFault> {
     let path = path_of(rt.alloc(), folder, table.class())?;
     let file = match fs::create(rt, path.as_path()) {
         Ok(file) => file,

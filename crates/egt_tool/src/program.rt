@@ -58,21 +58,10 @@ fn dispatch<R: Files + AllocGlobal, I: Source, O: Sink>(
             }
             Some(_) => Err(ToolFault::Run(RunFault::Usage)),
         },
-        "probe" => Ok(probe_lines(
-            rt,
-            word(given, "DIR"),
-            class_word(given)?,
-            input,
-            out,
-        )?),
+        "probe" => Ok(probe_lines(rt, word(given, "DIR"), class_word(given)?, input, out)?),
         "check" => Ok(check_table(rt, word(given, "DIR"), class_word(given)?, out)?),
         "migrate" => migrate_table(rt, word(given, "DIR"), class_word(given)?, out),
-        "stats" => Ok(print_statistics(
-            rt,
-            word(given, "DIR"),
-            class_word(given)?,
-            out,
-        )?),
+        "stats" => Ok(print_statistics(rt, word(given, "DIR"), class_word(given)?, out)?),
         _ => Err(ToolFault::Run(RunFault::Usage)),
     }
 }

@@ -1,7 +1,7 @@
 //! Legal moves, as they are printed; what the program makes of wrong words, and of streams that fail.
 use super::{fails, has_lines, is_wrong, prints, run_failing, run_on};
-use egt_fen::FenFault;
 use egt_commands::{MovesFault, moves_text};
+use egt_fen::FenFault;
 use std::test::Fail;
 
 /// Positions without pawns, and their legal moves in order: pins, checks by each kind of man, double checks,
