@@ -19,9 +19,9 @@ use Rattle.egt_lanes.specs.Raised.{IsRaised}
 use Rattle.egt_moves.specs.Promotion.{FitsPromotion, IsOfficer, arriving, promotes}
 use Rattle.egt_table.specs.Table.{TableValue}
 use Rattle.egt_table.specs.declared.column.Column.{Column}
-use Rattle.egt_check.specs.PawnMoves.{AreAdvancedCodes, ArePromotedCodes, officer_of, stand_after}
-use Rattle.egt_check.specs.QuietStands.{IsClear}
-use Rattle.egt_check.specs.Takings.{IsPastKings, left_of, stand_left}
+use Rattle.egt_steps.specs.PawnMoves.{AreAdvancedCodes, ArePromotedCodes, officer_of, stand_after}
+use Rattle.egt_steps.specs.QuietStands.{IsClear}
+use Rattle.egt_steps.specs.Takings.{IsPastKings, left_of, stand_left}
 use Rattle.egt_check.specs.Worth.{IsRead, column_score}
 use Rattle.egt_check.proofs.BlockRaising.{raised_alike}
 use Rattle.egt_check.proofs.QuietRaising.{left_without, raised_through}

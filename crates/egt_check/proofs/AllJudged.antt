@@ -19,7 +19,7 @@ use Rattle.egt_moves.specs.Chess.{chess}
 use Rattle.egt_table.specs.Table.{TableValue}
 use Rattle.egt_check.specs.declared.metric.Metric.{Metric}
 use Rattle.egt_check.specs.declared.metric.Metric.TheVariants.{Mate, Zeroing}
-use Rattle.egt_check.specs.Blocks.{stand_on}
+use Rattle.egt_steps.specs.Stands.{stand_on}
 use Rattle.egt_check.specs.Given.{AreAlike, AreGiven}
 use Rattle.egt_check.specs.MoveScores.{AreAllScores, AreTablesOf}
 use Rattle.egt_check.specs.RightRow.{IsRightAt}

@@ -22,7 +22,8 @@ use Rattle.egt_lanes.specs.Blocks.{at}
 use Rattle.egt_lanes.specs.Raised.{IsRaised}
 use Rattle.egt_table.specs.Table.{TableValue}
 use Rattle.egt_table.specs.declared.column.Column.{Column}
-use Rattle.egt_check.specs.Blocks.{AreKingCodes, IsBesideKing, IsCodeAfter, IsHomeCode, IsRaisedHome, men_across, settled_at, stand_on, with_king}
+use Rattle.egt_steps.specs.Stands.{IsBesideKing, stand_on, with_king}
+use Rattle.egt_check.specs.Blocks.{AreKingCodes, IsCodeAfter, IsHomeCode, IsRaisedHome, men_across, settled_at}
 use Rattle.egt_check.specs.Kept.{AreKept}
 use Rattle.egt_check.specs.Worth.{IsReadWith, column_score}
 use Rattle.egt_check.specs.declared.kept_blocks.BlockKey.{BlockKey}

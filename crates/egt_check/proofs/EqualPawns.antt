@@ -12,8 +12,8 @@ use Rattle.egt_index.specs.declared.shelf_codes.ShelfMen.{ShelfMen}
 use Rattle.egt_index.specs.declared.stand.Stand.{Stand}
 use Rattle.egt_table.specs.Table.{TableValue}
 use Rattle.egt_table.specs.declared.column.Column.{Column}
-use Rattle.egt_check.specs.InPassing.{AreLeapCodes, AreStepCodes}
-use Rattle.egt_check.specs.PawnMoves.{stand_after}
+use Rattle.egt_steps.specs.InPassing.{AreLeapCodes, AreStepCodes}
+use Rattle.egt_steps.specs.PawnMoves.{stand_after}
 use Rattle.egt_check.specs.PawnScores.{ArePawnScores, IsRaisedByPawn}
 use Rattle.egt_check.specs.Taken.{men_swapped}
 use Rattle.egt_check.specs.Worth.{column_score}

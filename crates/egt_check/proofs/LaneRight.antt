@@ -15,7 +15,7 @@ use Rattle.egt_table.specs.declared.column.Column.{Column}
 use Rattle.egt_table.specs.declared.column.Column.TheVariants as columns
 use Rattle.egt_check.specs.declared.metric.Metric.TheVariants.{Mate}
 use Rattle.egt_check.specs.Blank.{IsBlank}
-use Rattle.egt_check.specs.Blocks.{men_on, stand_on}
+use Rattle.egt_steps.specs.Stands.{men_on, stand_on}
 use Rattle.egt_check.specs.RightBlock.{IsRightLane, IsRightReachLane}
 use Rattle.egt_check.specs.RightRow.{IsRightAt, IsRightReachAt}
 use Rattle.egt_check.specs.Worth.{column_score, score_at}

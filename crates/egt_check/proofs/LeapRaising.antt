@@ -20,14 +20,14 @@ use Rattle.egt_lanes.specs.Raised.{IsRaised}
 use Rattle.egt_moves.specs.Promotion.{FitsPromotion, promotes}
 use Rattle.egt_table.specs.Table.{TableValue}
 use Rattle.egt_table.specs.declared.column.Column.{Column}
-use Rattle.egt_check.specs.InPassing.{AreLeapCodes, AreStepCodes, AreTwoRanksApart, LeavesTarget}
+use Rattle.egt_steps.specs.InPassing.{AreLeapCodes, AreStepCodes, AreTwoRanksApart, LeavesTarget}
 use Rattle.egt_check.specs.Leaps.{IsBesideWhere}
-use Rattle.egt_check.specs.PawnMoves.{AreAdvancedCodes, IsAdvance, stand_after}
-use Rattle.egt_check.specs.QuietStands.{IsClear}
+use Rattle.egt_steps.specs.PawnMoves.{AreAdvancedCodes, IsAdvance, stand_after}
+use Rattle.egt_steps.specs.QuietStands.{IsClear}
 use Rattle.egt_check.specs.Worth.{IsReadWith, column_score}
 use Rattle.egt_check.proofs.AdvanceRaising.{advances_free}
 use Rattle.egt_check.proofs.BlockRaising.{raised_alike, raised_both}
-use Rattle.egt_check.proofs.LeftTargets.{unpromoted}
+use Rattle.egt_steps.proofs.LeftTargets.{unpromoted}
 use Rattle.egt_check.proofs.QuietRaising.{raised_through}
 
 -- the squares that a set lacks

@@ -14,7 +14,6 @@ pub mod Shelving
 pub mod Raising
 mod Scoring
 mod Marks
-pub mod Attacking
 mod ShelfJudged
 pub mod Worth
 pub mod RowRead
@@ -25,12 +24,9 @@ pub mod QuietRaising
 pub mod TablePairs
 pub mod Taking
 pub mod ByteJudged
-pub mod Passed
-pub mod QuietStands
 pub mod QuietGiven
 pub mod EitherGiven
 pub mod TakenGiven
-pub mod Takings
 pub mod AllJudged
 pub mod ToldBytes
 pub mod RowJudged
@@ -38,11 +34,6 @@ pub mod ShelfRuns
 pub mod LaneRight
 pub mod BlankKept
 pub mod PairsJudged
-pub mod TwoBeside
-pub mod LeftTargets
-pub mod PawnAdvances
-pub mod PawnCaptures
-pub mod TakenInPassing
 pub mod PartGiven
 pub mod PawnGiven
 pub mod AdvanceRaising

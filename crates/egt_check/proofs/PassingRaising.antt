@@ -29,9 +29,9 @@ use Rattle.egt_lanes.specs.Raised.{IsRaised}
 use Rattle.egt_moves.specs.Promotion.{is_pawn}
 use Rattle.egt_table.specs.Table.{TableValue}
 use Rattle.egt_table.specs.declared.column.Column.{Column}
-use Rattle.egt_check.specs.InPassing.{ArePassingCodes}
+use Rattle.egt_steps.specs.InPassing.{ArePassingCodes}
 use Rattle.egt_check.specs.PassedRows.{IsAtPassed, IsPastPawns}
-use Rattle.egt_check.specs.Takings.{IsPastKings, left_of, stand_left}
+use Rattle.egt_steps.specs.Takings.{IsPastKings, left_of, stand_left}
 use Rattle.egt_check.specs.Worth.{IsRead, column_score}
 use Rattle.egt_check.proofs.BlockRaising.{raised_alike, raised_by_none}
 use Rattle.egt_check.proofs.LoneRead.{some_home}

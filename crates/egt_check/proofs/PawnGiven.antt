@@ -32,19 +32,19 @@ use Rattle.egt_check.specs.declared.metric.Metric.TheVariants.{Mate}
 use Rattle.egt_steps.specs.Facts.{Facts}
 use Rattle.egt_check.specs.Given.{AreGiven}
 use Rattle.egt_moves.proofs.After.{sides_differ}
-use Rattle.egt_check.specs.InPassing.{AreLeapCodes, ArePassingCodes, AreStepCodes, IsPassingCapture, IsPassingFrom, LeavesTarget}
-use Rattle.egt_check.specs.PawnMoves.{AreAdvancedCodes, ArePromotedCodes, IsAdvance, IsAdvanceFrom, IsClassAfter, IsPromotingCapture, IsPromotingCaptureFrom, IsTableAfter, officer_of, stand_after, stand_in}
-use Rattle.egt_check.specs.QuietStands.{IsClear}
-use Rattle.egt_check.specs.Taken.{IsTableOf}
-use Rattle.egt_check.specs.Takings.{IsClassOf, IsPastKings, left_of, stand_left}
+use Rattle.egt_steps.specs.InPassing.{AreLeapCodes, ArePassingCodes, AreStepCodes, IsPassingCapture, IsPassingFrom, LeavesTarget}
+use Rattle.egt_steps.specs.PawnMoves.{AreAdvancedCodes, ArePromotedCodes, IsAdvance, IsAdvanceFrom, IsClassAfter, IsPromotingCapture, IsPromotingCaptureFrom, officer_of, stand_after, stand_in}
+use Rattle.egt_check.specs.Taken.{IsTableAfter, IsTableOf}
+use Rattle.egt_steps.specs.QuietStands.{IsClear}
+use Rattle.egt_steps.specs.Takings.{IsClassOf, IsPastKings, left_of, stand_left}
 use Rattle.egt_check.specs.Tables.{Tables}
 use Rattle.egt_check.specs.Worth.{score_at}
 use Rattle.egt_check.proofs.EitherGiven.{same_given, union_given}
-use Rattle.egt_check.proofs.LeftTargets.{unpromoted}
+use Rattle.egt_steps.proofs.LeftTargets.{unpromoted}
 use Rattle.egt_check.proofs.PartGiven.{Parts, PartsWith, part_given, part_given_with}
-use Rattle.egt_check.proofs.PawnCaptures.{promoted}
+use Rattle.egt_steps.proofs.PawnCaptures.{promoted}
 use Rattle.egt_check.proofs.TakenGiven.{zeroing_above}
-use Rattle.egt_check.proofs.TwoBeside.{AreTwo, are_in}
+use Rattle.egt_steps.proofs.TwoBeside.{AreTwo, are_in}
 use Rattle.egt_check.proofs.Worth.{AreWhole, SpellsSettled, Turning}
 
 -- either square is on the board

@@ -21,20 +21,20 @@ use Rattle.egt_moves.proofs.Admissible.{pawn_told}
 use Rattle.egt_table.specs.Table.{TableValue}
 use Rattle.egt_table.specs.declared.column.Column.TheVariants as columns
 use Rattle.egt_check.specs.declared.metric.Metric.TheVariants.{Mate}
-use Rattle.egt_check.specs.Blocks.{stand_on}
+use Rattle.egt_steps.specs.Stands.{stand_on}
 use Rattle.egt_check.specs.Given.{AreGiven}
-use Rattle.egt_check.specs.InPassing.{AreLeapCodes, ArePassingCodes, AreStepCodes, IsOfFourKinds, IsPassingFrom}
-use Rattle.egt_check.specs.PawnMoves.{AreAdvancedCodes, ArePromotedCodes, IsAdvanceFrom, IsPromotingCaptureFrom, IsTableAfter, officer_of}
+use Rattle.egt_steps.specs.InPassing.{AreLeapCodes, ArePassingCodes, AreStepCodes, IsOfFourKinds, IsPassingFrom}
+use Rattle.egt_steps.specs.PawnMoves.{AreAdvancedCodes, ArePromotedCodes, IsAdvanceFrom, IsPromotingCaptureFrom, officer_of}
+use Rattle.egt_check.specs.Taken.{IsTableAfter, IsTableOf, men_swapped}
 use Rattle.egt_check.specs.PawnScores.{ArePawnScores, AreRaisedByPawns, HasPromotion, HasPromotions, IsPromotionScore, IsRaisedByPawn}
 use Rattle.egt_check.specs.Tables.{Tables}
-use Rattle.egt_check.specs.Taken.{IsTableOf, men_swapped}
-use Rattle.egt_check.specs.Takings.{IsPlainCapture}
+use Rattle.egt_steps.specs.Takings.{IsPlainCapture}
 use Rattle.egt_check.specs.Worth.{score_at}
 use Rattle.egt_check.specs.declared.pawn_scores.Promotion.{Promotion}
 use Rattle.egt_check.specs.declared.pawn_scores.Promotions.{Promotions}
 use Rattle.egt_check.proofs.EitherGiven.{same_given, union_given}
 use Rattle.egt_check.proofs.PawnGiven.{zeroing_max}
-use Rattle.egt_check.proofs.TwoBeside.{AreTwo, are_in, who}
+use Rattle.egt_steps.proofs.TwoBeside.{AreTwo, are_in, who}
 
 -- ---- moves of two kinds that zero
 

@@ -18,10 +18,10 @@ use Rattle.egt_check.specs.Blocks.{with_kings}
 use Rattle.egt_check.specs.MoveScores.{AreFourMen, AreTablesOf}
 use Rattle.egt_check.specs.Library.{IsShelved}
 use Rattle.egt_check.specs.Parts.{column_of, promotions_in, some_promotions_in, table_in, tables_in}
-use Rattle.egt_check.specs.PawnMoves.{IsClassAfter, IsTableAfter, men_after}
+use Rattle.egt_steps.specs.PawnMoves.{IsClassAfter, men_after}
+use Rattle.egt_check.specs.Taken.{IsTableAfter, men_swapped}
 use Rattle.egt_check.specs.PawnScores.{AreNamed, ArePromotionsOf, HasPromotion, HasPromotions, IsPromotionOf}
 use Rattle.egt_check.specs.Tables.{Tables, beside}
-use Rattle.egt_check.specs.Taken.{men_swapped}
 use Rattle.egt_check.specs.Worth.{HasBytes}
 use Rattle.egt_check.specs.declared.move_scores.FourMen.{FourMen}
 use Rattle.egt_check.specs.declared.part.Part.{Part}

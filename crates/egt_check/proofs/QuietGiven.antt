@@ -16,20 +16,25 @@ use Rattle.egt_moves.specs.declared.chess_move.Move.{Move}
 use Rattle.egt_table.specs.Table.{IsTable, TableValue}
 use Rattle.egt_check.specs.declared.metric.Metric.{Metric}
 use Rattle.egt_check.specs.declared.metric.Metric.TheVariants.{Mate, Zeroing}
-use Rattle.egt_check.specs.Blocks.{stand_on, with_king}
+use Rattle.egt_steps.specs.Stands.{stand_on, with_king}
 use Rattle.egt_steps.specs.Facts.{Facts}
 use Rattle.egt_check.specs.Given.{AreAlike, AreGiven, HasScores}
-use Rattle.egt_check.specs.QuietStands.{AreQuietCodes, IsQuietStand}
+use Rattle.egt_steps.specs.QuietStands.{AreQuietCodes, IsQuietStand}
 use Rattle.egt_check.specs.Tables.{HasEntry, Tables, entry_at}
 use Rattle.egt_check.specs.Worth.{HasBytes, IsBestOf, score_at}
-use Rattle.egt_steps.proofs.Still.{KeepsClass}
-use Rattle.egt_check.proofs.QuietStands.{Following, comes, goes}
 use Rattle.egt_check.proofs.Worth.{AreWhole, Turning, best_of}
 
 pub low_score : (e : ℕ) → e < 254 → byte_score (e % 256) ≡ byte_score e
 low_score e low = let same : e % 256 ≡ e = omega arith in ap byte_score same
 
-module _ (facts : Facts) (keeps : KeepsClass) (follow : Following) (turning : Turning) (tables : Tables) (t : TableValue) (is_table : IsTable t) (found : tables t.class ≡ Some t) (bytes : HasBytes t)
+-- what is known of the moves that do not zero: they lead to the men after quiet steps, and to all positions of them
+pub record Quietly : Type 0 where
+  pub goes : (c : ℕ) (men : ShelfMen) (side : Side) (passed : Bool) (a b : ℕ) (p q : Setup) (m : Move) → c < 36 → HasStand c false (stand_on men a b) side passed p →
+    Leads p m q → ¬ Zeroes p m → (stand : Stand) × IsQuietStand men side a b stand × HasStand c false stand (other_side side) false q
+  pub comes : (c : ℕ) (men : ShelfMen) (side : Side) (passed : Bool) (a b : ℕ) (p q : Setup) (stand : Stand) → c < 36 → HasStand c false (stand_on men a b) side passed p →
+    IsQuietStand men side a b stand → HasStand c false stand (other_side side) false q → (m : Move) × Leads p m q × ¬ Zeroes p m
+
+module _ (facts : Facts) (quietly : Quietly) (turning : Turning) (tables : Tables) (t : TableValue) (is_table : IsTable t) (found : tables t.class ≡ Some t) (bytes : HasBytes t)
     (men : ShelfMen) (side : Side) (passed : Bool) (a b : ℕ) (p : Setup) (has : HasStand t.class false (stand_on men a b) side passed p) where
   -- ---- the men after a quiet step
 
@@ -92,7 +97,7 @@ module _ (facts : Facts) (keeps : KeepsClass) (follow : Following) (turning : Tu
   module _ (mate zeroing : ℕ) (by_mate : IsBestOf t Mate (IsQuietStand men side a b) false (other_side side) mate) (by_zeroing : IsBestOf t Zeroing (IsQuietStand men side a b) false (other_side side) zeroing) where
     above : (q : Setup) (m : Move) → Leads p m q → ¬ Zeroes p m → (x z : ℕ) × HasScores tables p q m x z × (x ≤ mate) × (z ≤ zeroing)
     above q m leads quiet =
-        let (stand, is, there) = goes facts keeps follow t.class is_table.class_in men side passed a b p has q m leads quiet in
+        let (stand, is, there) = quietly.goes t.class men side passed a b p q m is_table.class_in has leads quiet in
         let (i, index, mate_above) = by_mate.above stand q is there in
         let (j, other, zeroing_above) = by_zeroing.above stand q is there in (
           score_at t Mate i,
@@ -108,7 +113,7 @@ module _ (facts : Facts) (keeps : KeepsClass) (follow : Following) (turning : Tu
       mate_given = elim by_mate.reached [
         | inl none ↦ inl none
         | inr h ↦
-            let (m, leads, quiet) = comes facts keeps follow t.class is_table.class_in men side passed a b p has h.position h.stand h.in_stands h.has in
+            let (m, leads, quiet) = quietly.comes t.class men side passed a b p h.position h.stand is_table.class_in has h.in_stands h.has in
             inr (
               score_at t Zeroing h.index,
               record { move = m; next = h.position; leads = leads; among = quiet; scores = subst (λ x. HasScores tables p h.position m x (score_at t Zeroing h.index)) (sym h.is) (scores h.position h.stand h.has h.index h.is_index m quiet) },
@@ -117,7 +122,7 @@ module _ (facts : Facts) (keeps : KeepsClass) (follow : Following) (turning : Tu
       zeroing_given = elim by_zeroing.reached [
         | inl none ↦ inl none
         | inr h ↦
-            let (m, leads, quiet) = comes facts keeps follow t.class is_table.class_in men side passed a b p has h.position h.stand h.in_stands h.has in
+            let (m, leads, quiet) = quietly.comes t.class men side passed a b p h.position h.stand is_table.class_in has h.in_stands h.has in
             inr (
               score_at t Mate h.index,
               record { move = m; next = h.position; leads = leads; among = quiet; scores = subst (HasScores tables p h.position m (score_at t Mate h.index)) (sym h.is) (scores h.position h.stand h.has h.index h.is_index m quiet) },

@@ -17,8 +17,9 @@ use Rattle.egt_lanes.specs.Blocks.{IsOpen, at}
 use Rattle.egt_lanes.specs.Raised.{IsRaised}
 use Rattle.egt_table.specs.Table.{TableValue}
 use Rattle.egt_table.specs.declared.column.Column.{Column}
-use Rattle.egt_check.specs.Blocks.{AreKingCodes, IsBesideKing, stand_on, with_king}
-use Rattle.egt_check.specs.QuietStands.{AreQuietCodes, IsClear}
+use Rattle.egt_steps.specs.Stands.{IsBesideKing, stand_on, with_king}
+use Rattle.egt_check.specs.Blocks.{AreKingCodes}
+use Rattle.egt_steps.specs.QuietStands.{AreQuietCodes, IsClear}
 use Rattle.egt_check.specs.QuietSteps.{IsFirstStep, IsLastStep}
 use Rattle.egt_check.specs.Worth.{IsRead, column_score}
 use Rattle.egt_check.proofs.BlockRaising.{raised_alike, raised_both}

@@ -23,7 +23,8 @@ use Rattle.egt_index.specs.Stood.{list_of}
 use Rattle.egt_index.specs.declared.shelf_codes.ShelfMen.{ShelfMen}
 use Rattle.egt_index.proofs.Halves.{code_high, code_low, code_plain, of_targets}
 use Rattle.egt_index.proofs.OnePosition.{a_pawn_each, one_pawn_each}
-use Rattle.egt_check.specs.Blocks.{AreShelvesOf, men_on}
+use Rattle.egt_steps.specs.Stands.{men_on}
+use Rattle.egt_check.specs.Blocks.{AreShelvesOf}
 use Rattle.egt_check.proofs.RowRead.{bit_few, bit_of, half_is, places_is, side_few}
 
 -- ---- digits of men but the white king

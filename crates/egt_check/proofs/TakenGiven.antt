@@ -20,11 +20,11 @@ use Rattle.egt_moves.specs.declared.chess_move.Move.{Move}
 use Rattle.egt_table.specs.Table.{TableValue}
 use Rattle.egt_check.specs.declared.metric.Metric.{Metric}
 use Rattle.egt_check.specs.declared.metric.Metric.TheVariants.{Mate, Zeroing}
-use Rattle.egt_check.specs.Blocks.{IsBesideKing, stand_on, with_king}
+use Rattle.egt_steps.specs.Stands.{IsBesideKing, stand_on, with_king}
 use Rattle.egt_steps.specs.Facts.{Facts}
 use Rattle.egt_check.specs.Given.{AreAlike, AreGiven, HasScores, IsGiven}
 use Rattle.egt_check.specs.Taken.{AreLeftCodes, IsLastTaken, IsTableOf, men_swapped}
-use Rattle.egt_check.specs.Takings.{IsClassOf, IsPlainCapture, IsTaken, Left, left_of, stand_left}
+use Rattle.egt_steps.specs.Takings.{IsClassOf, IsPlainCapture, IsTaken, Left, left_of, stand_left}
 use Rattle.egt_check.specs.Tables.{HasEntry, Tables, entry_at}
 use Rattle.egt_check.specs.Worth.{IsBestOf, IsScoreOf, score_at}
 use Rattle.egt_check.proofs.ByteJudged.{zeroing_drawn, zeroing_lost, zeroing_low}

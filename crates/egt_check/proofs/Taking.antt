@@ -18,9 +18,9 @@ use Rattle.egt_lanes.specs.Blocks.{at}
 use Rattle.egt_lanes.specs.Raised.{IsRaised}
 use Rattle.egt_table.specs.Table.{TableValue}
 use Rattle.egt_table.specs.declared.column.Column.{Column}
-use Rattle.egt_check.specs.Blocks.{IsBesideKing, with_king}
+use Rattle.egt_steps.specs.Stands.{IsBesideKing, with_king}
 use Rattle.egt_check.specs.Taken.{AreLeftCodes}
-use Rattle.egt_check.specs.Takings.{IsPastKings, Left, left_of, stand_left}
+use Rattle.egt_steps.specs.Takings.{IsPastKings, Left, left_of, stand_left}
 use Rattle.egt_check.specs.Worth.{IsRead, column_score}
 use Rattle.egt_check.proofs.BlockRaising.{GoneKing, raised_alike, raised_both, raised_by_none, same_beside}
 use Rattle.egt_check.proofs.QuietRaising.{raised_through}

@@ -22,14 +22,6 @@ use Rattle.egt_table.specs.Table.{TableValue}
 use Rattle.egt_table.specs.declared.column.Column.{Column}
 use Rattle.egt_check.specs.Worth.{column_score}
 
--- the men with the first one on the square
-abbrev pub men_on : ShelfMen → ℕ → ShelfMen
-men_on men a = record { white = men.white; black = men.black; one = men.one; on = a; last = men.last }
-
--- the men with the first and the last one on these squares
-abbrev pub stand_on : ShelfMen → (a b : ℕ) → Stand
-stand_on men a b = stand_with (men_on men a) b
-
 -- the men with the kings on these squares
 abbrev pub with_kings : ShelfMen → (white black : ℕ) → ShelfMen
 with_kings men white black = record { white = white; black = black; one = men.one; on = men.on; last = men.last }
@@ -67,20 +59,6 @@ IsRaisedHome passed t column flips stand side low high = IsRaised low (λ code. 
 -- the greater of the block's number, of that in the other order where the men are equal, and of that across where both sides have the same men
 abbrev pub settled_at : (equal sides : Bool) (own across : List (List ℕ)) (a b : ℕ) → ℕ
 settled_at equal sides own across a b = max (if equal then max (at own a b) (at own b a) else at own a b) (if sides then at across b a else 0)
-
--- the men with that side's king on the square
-abbrev pub with_king : ShelfMen → Side → ℕ → ShelfMen
-with_king men White k = record { white = k; black = men.black; one = men.one; on = men.on; last = men.last }
-with_king men Black k = record { white = men.white; black = k; one = men.one; on = men.on; last = men.last }
-
--- the square of that side's king
-abbrev pub king_of_men : ShelfMen → Side → ℕ
-king_of_men men White = men.white
-king_of_men men Black = men.black
-
--- the squares beside that side's king
-abbrev pub IsBesideKing : ShelfMen → Side → ℕ → Type 0
-IsBesideKing men side k = (k < 64) × Reaches (λ u. bit_at 0 u ≡ 0) (king_of side) (king_of_men men side) k
 
 -- codes of the men with that side's king on one of these squares, wherever turns take them, the other side to move
 abbrev pub AreKingCodes : (c : ℕ) (men : ShelfMen) (side : Side) (In : ℕ → Type 0) (a b code : ℕ) → Type 0

@@ -6,7 +6,8 @@ use Rattle.egt_lanes.specs.Blocks.{at}
 use Rattle.egt_table.specs.Table.{TableValue}
 use Rattle.egt_table.specs.declared.column.Column.{Column}
 use Rattle.egt_table.specs.declared.column.Column.TheVariants as columns
-use Rattle.egt_check.specs.Blocks.{stand_on, with_kings}
+use Rattle.egt_steps.specs.Stands.{stand_on}
+use Rattle.egt_check.specs.Blocks.{with_kings}
 use Rattle.egt_check.specs.Worth.{IsRead}
 use Rattle.egt_check.specs.declared.kept_blocks.BlockKey.{BlockKey}
 

@@ -20,16 +20,12 @@ pub mod Worth
 pub mod Blocks
 pub mod QuietSteps
 pub mod Given
-pub mod QuietStands
 pub mod Taken
-pub mod Takings
 pub mod RightRow
 pub mod MoveScores
 pub mod RightBlock
 pub mod Blank
 pub mod PairOrder
-pub mod PawnMoves
-pub mod InPassing
 pub mod PawnScores
 pub mod ShelfRow
 pub mod Leaps

@@ -11,10 +11,10 @@ use Rattle.egt_lanes.specs.Raised.{IsRaised}
 use Rattle.egt_moves.specs.Promotion.{IsOfficer, arriving}
 use Rattle.egt_table.specs.Table.{HasColumn, TableValue}
 use Rattle.egt_table.specs.declared.column.Column.{Column}
-use Rattle.egt_check.specs.InPassing.{AreLeapCodes, AreStepCodes}
-use Rattle.egt_check.specs.PawnMoves.{AreAdvancedCodes, ArePromotedCodes, IsTableAfter, men_after, officer_of}
+use Rattle.egt_steps.specs.InPassing.{AreLeapCodes, AreStepCodes}
+use Rattle.egt_steps.specs.PawnMoves.{AreAdvancedCodes, ArePromotedCodes, men_after, officer_of}
+use Rattle.egt_check.specs.Taken.{IsTableAfter, IsTableOf, men_swapped}
 use Rattle.egt_check.specs.Tables.{Tables}
-use Rattle.egt_check.specs.Taken.{IsTableOf, men_swapped}
 use Rattle.egt_check.specs.Worth.{ScoresNoVoids, column_score}
 use Rattle.egt_check.specs.declared.pawn_scores.Promotion.{Promotion}
 use Rattle.egt_check.specs.declared.pawn_scores.Promotions.{Promotions}

@@ -4,7 +4,7 @@ use Rattle.egt_board.specs.AttackLines.{Reaches}
 use Rattle.egt_board.specs.declared.man.Kind.TheVariants.{P}
 use Rattle.egt_board.specs.declared.man.Side.{Side}
 use Rattle.egt_index.specs.declared.shelf_codes.ShelfMen.{ShelfMen}
-use Rattle.egt_check.specs.QuietStands.{IsClear}
+use Rattle.egt_steps.specs.QuietStands.{IsClear}
 
 -- the first man, a piece of that side, from a
 abbrev pub IsFirstStep : ShelfMen → Side → (a b t : ℕ) → Type 0

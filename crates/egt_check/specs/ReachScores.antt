@@ -5,7 +5,7 @@ use Rattle.egt_index.specs.declared.shelf_codes.ShelfMen.{ShelfMen}
 use Rattle.egt_lanes.specs.Raised.{IsRaised}
 use Rattle.egt_table.specs.declared.column.Column.TheVariants.{Reach}
 use Rattle.egt_check.specs.MoveScores.{ArePassingCaptures, AreZeroingMoves}
-use Rattle.egt_check.specs.QuietStands.{AreQuietCodes}
+use Rattle.egt_steps.specs.QuietStands.{AreQuietCodes}
 use Rattle.egt_check.specs.Worth.{column_score}
 use Rattle.egt_check.specs.declared.move_scores.FourMen.{FourMen}
 

@@ -13,7 +13,7 @@ use Rattle.egt_check.specs.declared.metric.Metric.{Metric}
 use Rattle.egt_check.specs.declared.metric.Metric.TheVariants.{Mate}
 use Rattle.egt_check.specs.declared.part.Part.{Part}
 use Rattle.egt_check.specs.declared.part.Part.TheVariants.{Values, Reach}
-use Rattle.egt_check.specs.Blocks.{stand_on}
+use Rattle.egt_steps.specs.Stands.{stand_on}
 use Rattle.egt_check.specs.RightRow.{IsRightAt, IsRightReachAt}
 use Rattle.egt_check.specs.Rules.{IsJudged, IsJudgedBy, KeepsReach}
 use Rattle.egt_check.specs.Tables.{Tables}

@@ -7,8 +7,9 @@ use Rattle.egt_board.specs.declared.man.Side.{Side}
 use Rattle.egt_index.specs.TurnedMen.{IsSomeTurnedCode}
 use Rattle.egt_index.specs.declared.shelf_codes.ShelfMen.{ShelfMen}
 use Rattle.egt_table.specs.Table.{IsTable, TableValue}
-use Rattle.egt_check.specs.Blocks.{IsBesideKing, with_king}
-use Rattle.egt_check.specs.Takings.{IsClassOf, IsPastKings, Left, left_of, stand_left}
+use Rattle.egt_steps.specs.Stands.{IsBesideKing, with_king}
+use Rattle.egt_steps.specs.PawnMoves.{IsClassAfter}
+use Rattle.egt_steps.specs.Takings.{IsClassOf, IsPastKings, Left, left_of, stand_left}
 use Rattle.egt_check.specs.Tables.{Tables}
 use Rattle.egt_check.specs.Worth.{HasBytes}
 
@@ -32,3 +33,10 @@ pub record IsTableOf (tables : Tables) (t : TableValue) (flips : Bool) (man : Ma
   pub found : tables t.class ≡ Some t
   pub bytes : HasBytes t
   pub class_of : IsClassOf t.class flips man
+
+-- the table of the class after an advance
+pub record IsTableAfter (tables : Tables) (t : TableValue) (before flips : Bool) (one man : Man) : Type 0 where
+  pub is_table : IsTable t
+  pub found : tables t.class ≡ Some t
+  pub bytes : HasBytes t
+  pub class_after : IsClassAfter before t.class flips one man

@@ -12,11 +12,11 @@ ghost use Rattle.egt_lanes.specs.Blocks.{at};
 ghost use Rattle.egt_lanes.specs.Raised.{IsRaised};
 ghost use Rattle.egt_moves.specs.Promotion.{FitsPromotion, IsOfficer, arriving};
 ghost use Rattle.egt_table.specs.Table.{HasColumn};
-ghost use Rattle.egt_check.specs.InPassing.{AreLeapCodes, AreStepCodes};
+ghost use Rattle.egt_steps.specs.InPassing.{AreLeapCodes, AreStepCodes};
 ghost use Rattle.egt_check.specs.Leaps.{IsBesideWhere};
-ghost use Rattle.egt_check.specs.PawnMoves.{AreAdvancedCodes, ArePromotedCodes, men_after, men_two, officer_of, stand_after};
-ghost use Rattle.egt_check.specs.QuietStands.{IsClear};
-ghost use Rattle.egt_check.specs.Takings.{IsPastKings, left_of, stand_left};
+ghost use Rattle.egt_steps.specs.PawnMoves.{AreAdvancedCodes, ArePromotedCodes, men_after, men_two, officer_of, stand_after};
+ghost use Rattle.egt_steps.specs.QuietStands.{IsClear};
+ghost use Rattle.egt_steps.specs.Takings.{IsPastKings, left_of, stand_left};
 ghost use Rattle.egt_check.specs.Worth.{IsReadWith, ScoresNoVoids, column_score};
 
 use crate::blocks::{nothing, read_block};

@@ -12,7 +12,8 @@ ghost use Rattle.egt_index.specs.Size.{has_pawns};
 ghost use Rattle.egt_index.specs.TurnedMen.{IsTurnedCodeWith};
 ghost use Rattle.egt_lanes.specs.Blocks.{at};
 ghost use Rattle.egt_table.specs.Table.{HasColumn};
-ghost use Rattle.egt_check.specs.Blocks.{AreShelvesOf, IsRaisedAfter, IsRaisedHome, men_across, settled_at, stand_on, turned_from};
+ghost use Rattle.egt_steps.specs.Stands.{stand_on};
+ghost use Rattle.egt_check.specs.Blocks.{AreShelvesOf, IsRaisedAfter, IsRaisedHome, men_across, settled_at, turned_from};
 ghost use Rattle.egt_check.specs.Worth.{IsReadWith, ScoresNoVoids};
 
 use crate::block_judging::men_on;

@@ -8,7 +8,7 @@ ghost use Rattle.egt_index.specs.declared.shelf_codes.ShelfMen.{ShelfMen};
 ghost use Rattle.egt_lanes.specs.Blocks.{at};
 ghost use Rattle.egt_lanes.specs.Raised.{IsRaised};
 ghost use Rattle.egt_table.specs.Table.{HasColumn, TableValue};
-ghost use Rattle.egt_check.specs.Blocks.{stand_on};
+ghost use Rattle.egt_steps.specs.Stands.{stand_on};
 ghost use Rattle.egt_check.specs.Kept.{AreKept, IsOfMen, place_of};
 ghost use Rattle.egt_check.specs.Worth.{IsRead, ScoresNoVoids, column_score};
 

@@ -6,7 +6,8 @@ ghost use Rattle.egt_index.specs.ShelfCodes.{AreMenOf};
 ghost use Rattle.egt_lanes.specs.Blocks.{at};
 ghost use Rattle.egt_lanes.specs.Raised.{IsRaised};
 ghost use Rattle.egt_table.specs.Table.{HasColumn};
-ghost use Rattle.egt_check.specs.Blocks.{AreKingCodes, IsBesideKing, king_of_men, with_king};
+ghost use Rattle.egt_steps.specs.Stands.{IsBesideKing, king_of_men, with_king};
+ghost use Rattle.egt_check.specs.Blocks.{AreKingCodes};
 ghost use Rattle.egt_check.specs.Kept.{AreKept};
 ghost use Rattle.egt_check.specs.Worth.{ScoresNoVoids, column_score};
 

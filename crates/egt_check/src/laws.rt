@@ -8,20 +8,16 @@ ghost use Rattle.egt_index.specs.Index.{IsIndex};
 ghost use Rattle.egt_board.specs.Setup.{Setup, IsAdmissible};
 ghost use Rattle.egt_table.specs.Table.{TableValue, IsTable};
 ghost use Rattle.egt_check.specs.Alike.{StepAlike};
-ghost use Rattle.egt_index.specs.Frame.{IsMoved};
 ghost use Rattle.egt_moves.specs.Chess.{Zeroes, chess};
-ghost use Rattle.egt_moves.specs.Legal.{Leads};
 ghost use Rattle.egt_moves.specs.declared.chess_move.Move.{Move};
 ghost use Rattle.egt_board.specs.declared.man.Side.{Side};
-ghost use Rattle.egt_index.specs.declared.stand.Stand.{Stand};
 ghost use Rattle.egt_check.specs.declared.metric.Metric.{Metric};
-ghost use Rattle.egt_board.specs.Man.{other_side};
 ghost use Rattle.egt_board.specs.declared.man.Kind.TheVariants.{K};
 ghost use Rattle.egt_index.specs.Stood.{HasStand};
 ghost use Rattle.egt_index.specs.declared.shelf_codes.ShelfMen.{ShelfMen};
-ghost use Rattle.egt_check.specs.Blocks.{stand_on};
-ghost use Rattle.egt_check.specs.QuietStands.{AreQuietCodes, IsQuietStand};
-ghost use Rattle.egt_check.specs.Takings.{IsClassOf, IsPlainCapture, IsTaken, Left, stand_left};
+ghost use Rattle.egt_steps.specs.Stands.{stand_on};
+ghost use Rattle.egt_steps.specs.QuietStands.{AreQuietCodes};
+ghost use Rattle.egt_steps.specs.Takings.{IsPlainCapture};
 ghost use Rattle.egt_check.specs.Given.{AreAlike, AreGiven};
 ghost use Rattle.egt_check.specs.Rules.{IsJudged};
 ghost use Rattle.egt_check.specs.Score.{IsAtEnd};
@@ -45,15 +41,14 @@ ghost use Rattle.egt_check.specs.Truth.{IsTrueTable, HasTrueChildren};
 use crate::pawn_laws::{
     codes_after_advances_beside_pawns_give_them, codes_after_advances_give_the_advances,
     codes_after_captures_in_passing_give_them, codes_after_promoting_captures_give_them,
-    pawns_moves_are_of_four_kinds,
 };
-use egt_class::laws::men_beside_are_counted;
 use egt_index::laws::{
     a_code_is_an_index_or_void, codes_follow_steps, codes_spell_one_position,
-    codes_tell_turned_men, numbers_stand_for_codes, stands_follow_moves,
+    codes_tell_turned_men, numbers_stand_for_codes,
 };
 use egt_steps::facts::facts;
-use egt_steps::laws::{a_quiet_move_moves_one_man, moves_lead_into_the_class_or_a_child};
+use egt_steps::laws::{captures_lead_to_three_men, quiet_moves_are_quiet_steps};
+use egt_steps::pawn_laws::pawns_moves_are_of_four_kinds;
 
 /// Where the children's tables are true, the entries of a table keep all rules exactly where the table is true: each entry is
 /// the value, the zeroing distance or the distance of the nearest mate of its position, void entries are 0, and no distance is above 32,000.
@@ -93,19 +88,6 @@ pub fn due_bytes_are_right()
     codes_spell_one_position();
 }
 
-/// The moves that do not zero lead to the men after quiet steps, and to all of them that are positions.
-pub fn quiet_moves_are_quiet_steps()
-    ensures goes { (c : ℕ) (men : ShelfMen) (side : Side) (passed : Bool) (a b : ℕ) (p q : Setup) (m : Move) → c < 36 → HasStand c false (stand_on men a b) side passed p →
-        Leads p m q → ¬ Zeroes p m → (stand : Stand) × IsQuietStand men side a b stand × HasStand c false stand (other_side side) false q }
-    ensures comes { (c : ℕ) (men : ShelfMen) (side : Side) (passed : Bool) (a b : ℕ) (p q : Setup) (stand : Stand) → c < 36 → HasStand c false (stand_on men a b) side passed p →
-        IsQuietStand men side a b stand → HasStand c false stand (other_side side) false q → (m : Move) × Leads p m q × ¬ Zeroes p m }
-{
-    facts();
-    moves_lead_into_the_class_or_a_child();
-    stands_follow_moves();
-    a_quiet_move_moves_one_man();
-}
-
 /// The greatest scores of the codes of quiet steps are those of the moves that do not zero.
 pub fn quiet_codes_give_the_quiet_moves()
     ensures { (tables : Tables) (t : TableValue) (men : ShelfMen) (side : Side) (passed : Bool) (a b : ℕ) (p : Setup) (mate zeroing : ℕ) → IsTable t → tables t.class ≡ Some t → HasBytes t →
@@ -115,29 +97,13 @@ pub fn quiet_codes_give_the_quiet_moves()
     facts();
     codes_tell_turned_men();
     a_code_is_an_index_or_void();
-    moves_lead_into_the_class_or_a_child();
-    stands_follow_moves();
-    a_quiet_move_moves_one_man();
+    quiet_moves_are_quiet_steps();
 }
 
 /// The greatest bytes of the moves that zero and of those that do not are those of all moves.
 pub fn moves_of_either_kind_give_all()
     ensures { (tables : Tables) (p : Setup) (x z y w : ℕ) → AreGiven tables p (λ m. ¬ Zeroes p m) x z → AreGiven tables p (Zeroes p) y w → AreGiven tables p (λ m. Unit {0}) (max x y) (max z w) }
 {}
-
-/// The captures that promote no pawn and are not in passing lead to the three men who are left, and to all positions of them.
-pub fn captures_lead_to_three_men()
-    ensures goes { (c : ℕ) (men : ShelfMen) (side : Side) (passed : Bool) (a b : ℕ) (p q : Setup) (m : Move) → c < 36 → men.one.kind ≢ K → men.last.kind ≢ K →
-        HasStand c false (stand_on men a b) side passed p → Leads p m q → IsPlainCapture p m →
-        (left : Left) × IsTaken men side a b left × ((d : ℕ) (flips : Bool) → IsClassOf d flips left.man → HasStand d flips (stand_left flips left) (other_side side) false q) }
-    ensures comes { (c : ℕ) (men : ShelfMen) (side : Side) (passed : Bool) (a b : ℕ) (p : Setup) → c < 36 → men.one.kind ≢ K → men.last.kind ≢ K →
-        HasStand c false (stand_on men a b) side passed p → (left : Left) → IsTaken men side a b left → (d : ℕ) (flips : Bool) → IsClassOf d flips left.man →
-        (q : Setup) → HasStand d flips (stand_left flips left) (other_side side) false q → (m : Move) × Leads p m q × IsPlainCapture p m }
-{
-    facts();
-    stands_follow_moves();
-    men_beside_are_counted();
-}
 
 /// The greatest scores of the codes after captures, in the classes of the man who is left, are those of the captures that promote no pawn and are not in
 /// passing.

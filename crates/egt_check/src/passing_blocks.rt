@@ -6,7 +6,7 @@ ghost use Rattle.egt_index.specs.LoneCodes.{IsLoneMan};
 ghost use Rattle.egt_lanes.specs.Blocks.{at};
 ghost use Rattle.egt_lanes.specs.Raised.{IsRaised};
 ghost use Rattle.egt_table.specs.Table.{HasColumn};
-ghost use Rattle.egt_check.specs.InPassing.{ArePassingCodes};
+ghost use Rattle.egt_steps.specs.InPassing.{ArePassingCodes};
 ghost use Rattle.egt_check.specs.PassedRows.{IsAtPassed, IsPastPawns};
 ghost use Rattle.egt_check.specs.Worth.{column_score};
 

@@ -11,7 +11,7 @@ ghost use Rattle.egt_lanes.specs.Pieces.{IsPiece};
 ghost use Rattle.egt_lanes.specs.Raised.{IsRaised};
 ghost use Rattle.egt_table.specs.Table.{HasColumn};
 ghost use Rattle.egt_check.specs.Kept.{AreKept};
-ghost use Rattle.egt_check.specs.QuietStands.{AreQuietCodes, IsClear};
+ghost use Rattle.egt_steps.specs.QuietStands.{AreQuietCodes, IsClear};
 ghost use Rattle.egt_check.specs.QuietSteps.{IsFirstStep, IsLastStep};
 ghost use Rattle.egt_check.specs.Worth.{ScoresNoVoids, column_score};
 

@@ -17,7 +17,7 @@ ghost use Rattle.egt_table.specs.Table.{TableValue};
 ghost use Rattle.egt_table.specs.declared.column.Column.TheVariants as columns;
 ghost use Rattle.egt_check.specs.declared.move_scores.FourMen.{FourMen};
 ghost use Rattle.egt_check.specs.declared.part.Part.TheVariants.{Reach};
-ghost use Rattle.egt_check.specs.Blocks.{stand_on};
+ghost use Rattle.egt_steps.specs.Stands.{stand_on};
 ghost use Rattle.egt_check.specs.Given.{AreGiven};
 ghost use Rattle.egt_check.specs.MoveScores.{AreTablesOf};
 ghost use Rattle.egt_check.specs.NearTables.{near_entry, near_tables};

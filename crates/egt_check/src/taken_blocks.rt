@@ -8,9 +8,9 @@ ghost use Rattle.egt_index.specs.TurnedMen.{IsSomeTurnedCode};
 ghost use Rattle.egt_lanes.specs.Blocks.{at};
 ghost use Rattle.egt_lanes.specs.Raised.{IsRaised};
 ghost use Rattle.egt_table.specs.Table.{HasColumn};
-ghost use Rattle.egt_check.specs.Blocks.{IsBesideKing, with_king};
+ghost use Rattle.egt_steps.specs.Stands.{IsBesideKing, with_king};
 ghost use Rattle.egt_check.specs.Taken.{AreLeftCodes};
-ghost use Rattle.egt_check.specs.Takings.{IsPastKings, left_of, stand_left};
+ghost use Rattle.egt_steps.specs.Takings.{IsPastKings, left_of, stand_left};
 ghost use Rattle.egt_check.specs.Worth.{IsRead, column_score};
 
 use crate::blocks::nothing;

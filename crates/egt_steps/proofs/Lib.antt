@@ -3,3 +3,11 @@ pub mod Still
 pub mod Leaping
 pub mod Pushing
 pub mod Fanned
+pub mod Takings
+pub mod TwoBeside
+pub mod TakenInPassing
+pub mod PawnCaptures
+pub mod PawnAdvances
+pub mod QuietStands
+pub mod LeftTargets
+pub mod Passed

@@ -2,3 +2,8 @@ pub mod QuietTarget
 pub mod Facts
 pub mod Pusher
 pub mod Roamer
+pub mod Takings
+pub mod QuietStands
+pub mod InPassing
+pub mod PawnMoves
+pub mod Stands

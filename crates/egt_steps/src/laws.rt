@@ -1,17 +1,28 @@
 //! What holds of single moves. These functions do nothing: a caller calls one to know what it ensures.
-ghost use Rattle.std.specs.Prelude.{◌≡◌, ◌<◌, ◌⊎◌, ℕ, Bool, None, IsSome};
+ghost use Rattle.std.specs.Prelude.{◌≡◌, ◌≢◌, ◌<◌, ◌⊎◌, ℕ, Bool, false, None, IsSome};
 ghost use Rattle.std.specs.List.{Contains};
+ghost use Rattle.egt_board.specs.Man.{other_side};
 ghost use Rattle.egt_board.specs.Setup.{Setup, IsAdmissible};
+ghost use Rattle.egt_board.specs.declared.man.Kind.TheVariants.{K};
+ghost use Rattle.egt_board.specs.declared.man.Side.{Side};
 ghost use Rattle.egt_class.specs.Children.{children_of};
 ghost use Rattle.egt_class.specs.Membership.{IsOf};
 ghost use Rattle.egt_index.specs.Frame.{IsMoved};
+ghost use Rattle.egt_index.specs.Stood.{HasStand};
+ghost use Rattle.egt_index.specs.declared.shelf_codes.ShelfMen.{ShelfMen};
+ghost use Rattle.egt_index.specs.declared.stand.Stand.{Stand};
 ghost use Rattle.egt_moves.specs.Chess.{Zeroes};
 ghost use Rattle.egt_moves.specs.Exchange.{Captures};
 ghost use Rattle.egt_moves.specs.Legal.{Leads};
 ghost use Rattle.egt_moves.specs.declared.chess_move.Move.{Move};
+ghost use Rattle.egt_steps.specs.QuietStands.{IsQuietStand};
+ghost use Rattle.egt_steps.specs.Stands.{stand_on};
+ghost use Rattle.egt_steps.specs.Takings.{IsClassOf, IsPlainCapture, IsTaken, Left, stand_left};
 
 use crate::facts::facts;
 use egt_board::counting::one_king_is_counted;
+use egt_class::laws::men_beside_are_counted;
+use egt_index::laws::stands_follow_moves;
 use egt_moves::exchanging::{moves_exchange_men, moves_keep_admissibility};
 
 /// A move that neither captures nor promotes stays in the class; any other leads into a child of it.
@@ -36,4 +47,31 @@ pub fn a_quiet_move_moves_one_man()
 {
     facts();
     moves_lead_into_the_class_or_a_child();
+}
+
+/// The moves that do not zero lead to the men after quiet steps, and to all of them that are positions.
+pub fn quiet_moves_are_quiet_steps()
+    ensures goes { (c : ℕ) (men : ShelfMen) (side : Side) (passed : Bool) (a b : ℕ) (p q : Setup) (m : Move) → c < 36 → HasStand c false (stand_on men a b) side passed p →
+        Leads p m q → ¬ Zeroes p m → (stand : Stand) × IsQuietStand men side a b stand × HasStand c false stand (other_side side) false q }
+    ensures comes { (c : ℕ) (men : ShelfMen) (side : Side) (passed : Bool) (a b : ℕ) (p q : Setup) (stand : Stand) → c < 36 → HasStand c false (stand_on men a b) side passed p →
+        IsQuietStand men side a b stand → HasStand c false stand (other_side side) false q → (m : Move) × Leads p m q × ¬ Zeroes p m }
+{
+    facts();
+    moves_lead_into_the_class_or_a_child();
+    stands_follow_moves();
+    a_quiet_move_moves_one_man();
+}
+
+/// The captures that promote no pawn and are not in passing lead to the three men who are left, and to all positions of them.
+pub fn captures_lead_to_three_men()
+    ensures goes { (c : ℕ) (men : ShelfMen) (side : Side) (passed : Bool) (a b : ℕ) (p q : Setup) (m : Move) → c < 36 → men.one.kind ≢ K → men.last.kind ≢ K →
+        HasStand c false (stand_on men a b) side passed p → Leads p m q → IsPlainCapture p m →
+        (left : Left) × IsTaken men side a b left × ((d : ℕ) (flips : Bool) → IsClassOf d flips left.man → HasStand d flips (stand_left flips left) (other_side side) false q) }
+    ensures comes { (c : ℕ) (men : ShelfMen) (side : Side) (passed : Bool) (a b : ℕ) (p : Setup) → c < 36 → men.one.kind ≢ K → men.last.kind ≢ K →
+        HasStand c false (stand_on men a b) side passed p → (left : Left) → IsTaken men side a b left → (d : ℕ) (flips : Bool) → IsClassOf d flips left.man →
+        (q : Setup) → HasStand d flips (stand_left flips left) (other_side side) false q → (m : Move) × Leads p m q × IsPlainCapture p m }
+{
+    facts();
+    stands_follow_moves();
+    men_beside_are_counted();
 }

@@ -1,4 +1,5 @@
 pub mod Linked
+pub mod Attacking
 pub mod AttackingNobody
 pub mod Putting
 pub mod Staying

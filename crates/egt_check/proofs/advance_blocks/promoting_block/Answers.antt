@@ -5,7 +5,7 @@ use Rattle.egt_board.specs.Square.{rank_of}
 use Rattle.egt_index.specs.declared.shelf_codes.ShelfMen.{ShelfMen}
 use Rattle.egt_lanes.specs.Blocks.{at}
 use Rattle.egt_lanes.specs.Raised.{IsRaised}
-use Rattle.egt_check.specs.Takings.{IsPastKings}
+use Rattle.egt_steps.specs.Takings.{IsPastKings}
 use Rattle.egt_check.proofs.AdvanceRaising.{all_captures}
 use Rattle.egt_check.proofs.advance_blocks.promoting_block.Goals as goal
 

@@ -2,7 +2,7 @@ use Rattle.std.proofs.Common.{◌≡◌, ◌<◌, ◌↔◌, ℕ, [], get_or, su
 use Rattle.std.specs.Int.{bit_at}
 use Rattle.egt_board.specs.Pawn.{Advances}
 use Rattle.egt_lanes.specs.Blocks.{at}
-use Rattle.egt_check.specs.QuietStands.{IsClear}
+use Rattle.egt_steps.specs.QuietStands.{IsClear}
 use Rattle.egt_check.proofs.AdvanceRaising.{arrived_raised, clear_without}
 use Rattle.egt_check.proofs.QuietRaising.{rows_more}
 use Rattle.egt_check.proofs.advance_blocks.raise_advances.Goals as goal

@@ -3,7 +3,7 @@ use Rattle.std.specs.Int.{bit_at}
 use Rattle.egt_lanes.specs.Advances.{AdvancesBy}
 use Rattle.egt_lanes.specs.Blocks.{at}
 use Rattle.egt_check.specs.Leaps.{IsBesideWhere}
-use Rattle.egt_check.specs.QuietStands.{IsClear}
+use Rattle.egt_steps.specs.QuietStands.{IsClear}
 use Rattle.egt_check.proofs.AdvanceRaising.{clear_without}
 use Rattle.egt_check.proofs.LeapRaising.{arrived_by}
 use Rattle.egt_check.proofs.QuietRaising.{rows_more}

@@ -1,7 +1,7 @@
 use Rattle.egt_lanes.specs.Advances.{AdvancesBy}
 use Rattle.egt_lanes.specs.Blocks.{at}
 use Rattle.egt_check.specs.Leaps.{IsBesideWhere}
-use Rattle.egt_check.specs.QuietStands.{IsClear}
+use Rattle.egt_steps.specs.QuietStands.{IsClear}
 use Rattle.egt_check.proofs.QuietRaising.{RowsRaised}
 use Rattle.egt_check.proofs.advance_blocks.raise_leaps.Given as goal
 

@@ -2,7 +2,7 @@ use Rattle.std.proofs.Common.{◌≡◌}
 use Rattle.std.specs.Int.{bit_at}
 use Rattle.egt_lanes.specs.Advances.{AdvancesBy}
 use Rattle.egt_lanes.specs.Blocks.{at}
-use Rattle.egt_check.specs.QuietStands.{IsClear}
+use Rattle.egt_steps.specs.QuietStands.{IsClear}
 use Rattle.egt_check.proofs.QuietRaising.{RowsRaised}
 use Rattle.egt_check.proofs.advance_blocks.raise_steps.Given as goal
 

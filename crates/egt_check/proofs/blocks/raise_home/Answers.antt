@@ -3,7 +3,7 @@ use Rattle.egt_class.specs.Material.{material_of}
 use Rattle.egt_index.specs.Home.{AreHome, IsTurnWith}
 use Rattle.egt_index.specs.Size.{has_pawns}
 use Rattle.egt_lanes.specs.Blocks.{at}
-use Rattle.egt_check.specs.Blocks.{stand_on}
+use Rattle.egt_steps.specs.Stands.{stand_on}
 use Rattle.egt_check.specs.Worth.{column_score}
 use Rattle.egt_check.proofs.BlockRaising.{home_by_one, home_by_two}
 use Rattle.egt_check.proofs.blocks.raise_home.Goals as goal

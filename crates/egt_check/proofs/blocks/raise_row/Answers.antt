@@ -12,7 +12,8 @@ use Rattle.egt_index.specs.TurnedMen.{turned_by}
 use Rattle.egt_index.specs.declared.shelf_codes.ShelfMen.{ShelfMen}
 use Rattle.egt_lanes.specs.Blocks.{at}
 use Rattle.egt_lanes.specs.Raised.{IsRaised}
-use Rattle.egt_check.specs.Blocks.{IsCodeAfter, men_on, stand_on, turned_from}
+use Rattle.egt_steps.specs.Stands.{men_on, stand_on}
+use Rattle.egt_check.specs.Blocks.{IsCodeAfter, turned_from}
 use Rattle.egt_check.specs.Worth.{column_score}
 use Rattle.egt_check.proofs.BlockRaising.{raised_by_none, raised_max, turned_in}
 use Rattle.egt_check.proofs.ShelfRuns.{digit_there}

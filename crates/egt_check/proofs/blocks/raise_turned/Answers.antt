@@ -4,7 +4,8 @@ use Rattle.egt_lanes.specs.Blocks.{at}
 use Rattle.egt_index.specs.Index.{IsVoid}
 use Rattle.egt_index.specs.TurnedMen.{IsTurnedCodeWith}
 use Rattle.egt_index.specs.declared.shelf_codes.ShelfMen.{ShelfMen}
-use Rattle.egt_check.specs.Blocks.{AreShelvesOf, IsCodeAfter, IsRaisedAfter, stand_on, turned_from}
+use Rattle.egt_steps.specs.Stands.{stand_on}
+use Rattle.egt_check.specs.Blocks.{AreShelvesOf, IsCodeAfter, IsRaisedAfter, turned_from}
 use Rattle.egt_check.specs.Worth.{column_score}
 use Rattle.egt_check.proofs.BlockRaising.{raised_by_zeros}
 use Rattle.egt_check.proofs.blocks.raise_turned.Goals as goal

@@ -4,7 +4,8 @@ use Rattle.egt_index.specs.declared.shelf_codes.ShelfMen.{ShelfMen}
 use Rattle.egt_lanes.specs.Blocks.{at}
 use Rattle.egt_table.specs.Table.{TableValue}
 use Rattle.egt_table.specs.declared.column.Column.{Column}
-use Rattle.egt_check.specs.Blocks.{IsRaisedAfter, stand_on}
+use Rattle.egt_steps.specs.Stands.{stand_on}
+use Rattle.egt_check.specs.Blocks.{IsRaisedAfter}
 use Rattle.egt_check.proofs.blocks.raise_turned.Given as goal
 
 -- rows below n are raised, and the others are as they were

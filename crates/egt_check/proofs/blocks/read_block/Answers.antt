@@ -1,7 +1,8 @@
 use Rattle.std.proofs.Common.{◌∙◌, ap, not, refl, sym, subst}
 use Rattle.egt_class.specs.Material.{has_equal_sides}
 use Rattle.egt_lanes.specs.Blocks.{at}
-use Rattle.egt_check.specs.Blocks.{IsRaisedHome, men_across, stand_on}
+use Rattle.egt_steps.specs.Stands.{stand_on}
+use Rattle.egt_check.specs.Blocks.{IsRaisedHome, men_across}
 use Rattle.egt_check.specs.Worth.{IsReadWith}
 use Rattle.egt_check.proofs.BlockRaising.{settled_raised}
 use Rattle.egt_check.proofs.blocks.read_block.Goals as goal

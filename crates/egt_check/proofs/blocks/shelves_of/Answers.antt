@@ -5,7 +5,7 @@ use Rattle.egt_index.specs.Scales.{kind_less}
 use Rattle.egt_index.specs.ShelfCodes.{IsShelfOf}
 use Rattle.egt_index.specs.Size.{size_of}
 use Rattle.egt_index.specs.declared.shelf_codes.ShelfMen.{ShelfMen}
-use Rattle.egt_check.specs.Blocks.{men_on}
+use Rattle.egt_steps.specs.Stands.{men_on}
 use Rattle.egt_check.proofs.ShelfRuns.{shelf_up}
 use Rattle.egt_check.proofs.blocks.shelves_of.Goals as goal
 

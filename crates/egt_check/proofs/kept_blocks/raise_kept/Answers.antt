@@ -1,7 +1,7 @@
 use Rattle.std.proofs.Common.{[], false, slice_index_or}
 use Rattle.egt_index.specs.TurnedMen.{IsSomeTurnedCode}
 use Rattle.egt_lanes.specs.Blocks.{at}
-use Rattle.egt_check.specs.Blocks.{stand_on}
+use Rattle.egt_steps.specs.Stands.{stand_on}
 use Rattle.egt_check.specs.Worth.{column_score}
 use Rattle.egt_check.proofs.BlockRaising.{raised_max}
 use Rattle.egt_check.proofs.kept_blocks.raise_kept.Goals as goal

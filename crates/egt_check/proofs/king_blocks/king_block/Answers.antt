@@ -8,7 +8,8 @@ use Rattle.egt_index.specs.TurnedMen.{IsSomeTurnedCode}
 use Rattle.egt_lanes.specs.Blocks.{at}
 use Rattle.egt_lanes.specs.Raised.{IsRaised}
 use Rattle.egt_table.specs.Table.{TableValue}
-use Rattle.egt_check.specs.Blocks.{AreKingCodes, IsBesideKing, stand_on, with_king}
+use Rattle.egt_steps.specs.Stands.{IsBesideKing, stand_on, with_king}
+use Rattle.egt_check.specs.Blocks.{AreKingCodes}
 use Rattle.egt_check.specs.Kept.{AreKept}
 use Rattle.egt_check.specs.Worth.{column_score}
 use Rattle.egt_check.specs.declared.kept_blocks.BlockKey.{BlockKey}

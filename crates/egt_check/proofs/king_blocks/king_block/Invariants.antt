@@ -3,7 +3,8 @@ use Rattle.egt_board.specs.Man.{other_side}
 use Rattle.egt_board.specs.SquareSet.{Has}
 use Rattle.egt_lanes.specs.Blocks.{at}
 use Rattle.egt_lanes.specs.Raised.{IsRaised}
-use Rattle.egt_check.specs.Blocks.{AreKingCodes, IsBesideKing}
+use Rattle.egt_steps.specs.Stands.{IsBesideKing}
+use Rattle.egt_check.specs.Blocks.{AreKingCodes}
 use Rattle.egt_check.specs.Kept.{AreKept}
 use Rattle.egt_check.specs.Worth.{column_score}
 use Rattle.egt_check.proofs.BlockRaising.{GoneKing}

@@ -5,10 +5,10 @@ use Rattle.egt_board.specs.Setup.{Setup}
 use Rattle.egt_index.specs.Stood.{HasStand}
 use Rattle.egt_index.specs.declared.shelf_codes.ShelfMen.{ShelfMen}
 use Rattle.egt_lanes.specs.Scores.{zeroing_score}
-use Rattle.egt_check.specs.Blocks.{stand_on}
+use Rattle.egt_steps.specs.Stands.{stand_on}
 use Rattle.egt_check.specs.Given.{AreGiven}
 use Rattle.egt_check.specs.MoveScores.{AreAllScores, AreMoveScores, AreTablesOf}
-use Rattle.egt_check.specs.PawnMoves.{stand_in}
+use Rattle.egt_steps.specs.PawnMoves.{stand_in}
 use Rattle.egt_check.specs.Tables.{Tables}
 use Rattle.egt_check.specs.Taken.{men_swapped}
 use Rattle.egt_check.specs.declared.move_scores.FourMen.{FourMen}

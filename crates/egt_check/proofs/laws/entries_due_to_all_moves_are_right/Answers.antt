@@ -1,6 +1,6 @@
 use Rattle.egt_check.proofs.AllJudged.{Says, all_judged}
 use Rattle.egt_check.proofs.laws.entries_due_to_all_moves_are_right.Goals as goal
-use Rattle.egt_check.specs.Blocks.{stand_on}
+use Rattle.egt_steps.specs.Stands.{stand_on}
 
 pub returns : goal.returns
 returns c = λ tables four men side passed a b i mate zeroing are one last below tells scores right metric.

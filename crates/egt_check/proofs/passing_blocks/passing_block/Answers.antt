@@ -7,7 +7,7 @@ use Rattle.egt_index.specs.declared.shelf_codes.ShelfMen.{ShelfMen}
 use Rattle.egt_lanes.specs.Blocks.{at}
 use Rattle.egt_lanes.specs.Raised.{IsRaised}
 use Rattle.std.specs.Prelude.{slice_index}
-use Rattle.egt_check.specs.Takings.{IsPastKings, left_of, stand_left}
+use Rattle.egt_steps.specs.Takings.{IsPastKings, left_of, stand_left}
 use Rattle.egt_check.specs.Worth.{IsRead}
 use Rattle.egt_check.proofs.PassingRaising.{all_passing}
 use Rattle.egt_check.proofs.passing_blocks.passing_block.Goals as goal

@@ -4,7 +4,7 @@ use Rattle.egt_board.specs.declared.man.Side.{Side}
 use Rattle.egt_index.specs.TurnedMen.{IsSomeTurnedCode}
 use Rattle.egt_lanes.specs.Blocks.{at}
 use Rattle.egt_lanes.specs.Raised.{IsRaised}
-use Rattle.egt_check.specs.Blocks.{stand_on}
+use Rattle.egt_steps.specs.Stands.{stand_on}
 use Rattle.egt_check.specs.Kept.{AreKept}
 use Rattle.egt_check.specs.Worth.{IsRead, column_score}
 use Rattle.egt_check.proofs.QuietRaising.{all_quiet, king_alone, no_piece}

@@ -1,7 +1,7 @@
 use Rattle.std.proofs.Common.{ℕ}
 use Rattle.egt_board.specs.AttackLines.{Reaches}
 use Rattle.egt_lanes.specs.Blocks.{IsOpen, at}
-use Rattle.egt_check.specs.QuietStands.{IsClear}
+use Rattle.egt_steps.specs.QuietStands.{IsClear}
 use Rattle.egt_check.specs.QuietSteps.{IsFirstStep}
 use Rattle.egt_check.proofs.AllJudged.{no_pawn}
 use Rattle.egt_check.proofs.BlockRaising.{raised_alike}

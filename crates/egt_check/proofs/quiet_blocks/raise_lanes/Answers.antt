@@ -2,7 +2,7 @@ use Rattle.std.proofs.Common.{◌≡◌, ◌↔◌, ◌<◌, ℕ, get_or, subst}
 use Rattle.std.specs.Int.{bit_at}
 use Rattle.egt_board.specs.AttackLines.{Reaches}
 use Rattle.egt_lanes.specs.Blocks.{at}
-use Rattle.egt_check.specs.QuietStands.{IsClear}
+use Rattle.egt_steps.specs.QuietStands.{IsClear}
 use Rattle.egt_check.proofs.QuietRaising.{rows_more, steps_raised}
 use Rattle.egt_check.proofs.quiet_blocks.raise_lanes.Goals as goal
 

@@ -1,6 +1,6 @@
 use Rattle.egt_board.specs.AttackLines.{Reaches}
 use Rattle.egt_lanes.specs.Blocks.{at}
-use Rattle.egt_check.specs.QuietStands.{IsClear}
+use Rattle.egt_steps.specs.QuietStands.{IsClear}
 use Rattle.egt_check.proofs.QuietRaising.{RowsRaised}
 use Rattle.egt_check.proofs.quiet_blocks.raise_lanes.Given as goal
 

@@ -13,7 +13,7 @@ use Rattle.egt_table.specs.declared.column.Column.TheVariants as columns
 use Rattle.egt_check.specs.declared.move_scores.FourMen.{FourMen}
 use Rattle.egt_check.specs.declared.metric.Metric.TheVariants.{Mate}
 use Rattle.egt_check.specs.declared.part.Part.TheVariants.{Reach}
-use Rattle.egt_check.specs.Blocks.{stand_on}
+use Rattle.egt_steps.specs.Stands.{stand_on}
 use Rattle.egt_check.specs.MoveScores.{AreTablesOf}
 use Rattle.egt_check.specs.NearTables.{near_tables}
 use Rattle.egt_check.specs.Parts.{four_in}

@@ -1,7 +1,7 @@
 use Rattle.std.proofs.Common.{◌≢◌, ◌∙◌, sym, subst}
 use Rattle.egt_board.specs.Turned.{turned_man}
 use Rattle.egt_board.specs.declared.man.Man.{Man}
-use Rattle.egt_check.specs.PawnMoves.{officer_of}
+use Rattle.egt_steps.specs.PawnMoves.{officer_of}
 use Rattle.egt_check.specs.PawnScores.{AreNamed}
 use Rattle.egt_check.specs.Tables.{table_at}
 use Rattle.egt_check.proofs.PromotionTables.{table_after}

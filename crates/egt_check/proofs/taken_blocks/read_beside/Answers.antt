@@ -3,7 +3,7 @@ use Rattle.std.specs.Prelude.{slice_index}
 use Rattle.std.proofs.Math.ListN.{set}
 use Rattle.egt_board.specs.Man.{other_side}
 use Rattle.egt_index.specs.declared.shelf_codes.ShelfMen.{ShelfMen}
-use Rattle.egt_check.specs.Takings.{left_of, stand_left}
+use Rattle.egt_steps.specs.Takings.{left_of, stand_left}
 use Rattle.egt_check.specs.Worth.{IsRead}
 use Rattle.egt_check.proofs.Taking.{RowsTaken, taken_all, taken_more, taken_none}
 use Rattle.egt_check.proofs.taken_blocks.read_beside.Goals as goal

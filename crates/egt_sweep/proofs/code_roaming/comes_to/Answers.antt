@@ -1,6 +1,6 @@
 use Rattle.std.proofs.Common.{arith}
 use Rattle.egt_board.proofs.Bits.{bit_at-within}
-use Rattle.egt_check.proofs.Attacking.{goes_free_if}
+use Rattle.egt_sweep.proofs.Attacking.{goes_free_if}
 use Rattle.egt_sweep.proofs.Comes.{comes_if}
 use Rattle.egt_sweep.proofs.code_roaming.comes_to.Goals as goal
 

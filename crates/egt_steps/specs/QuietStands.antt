@@ -7,7 +7,7 @@ use Rattle.egt_board.specs.declared.man.Side.{Side}
 use Rattle.egt_index.specs.TurnedMen.{IsSomeTurnedCode}
 use Rattle.egt_index.specs.declared.shelf_codes.ShelfMen.{ShelfMen}
 use Rattle.egt_index.specs.declared.stand.Stand.{Stand}
-use Rattle.egt_check.specs.Blocks.{IsBesideKing, stand_on, with_king}
+use Rattle.egt_steps.specs.Stands.{IsBesideKing, stand_on, with_king}
 
 -- none of the kings and of the other man stands there
 abbrev pub IsClear : ShelfMen → (other u : ℕ) → Type 0

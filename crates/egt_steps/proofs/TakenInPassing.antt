@@ -26,15 +26,15 @@ use Rattle.egt_moves.specs.Promotion.{FitsPromotion, IsOfficer, arriving, is_paw
 use Rattle.egt_moves.specs.declared.chess_move.Move.{Move}
 use Rattle.egt_moves.proofs.After.{may_become, not_free, side_twice, sides_differ, target_is}
 use Rattle.egt_steps.specs.Facts.{Facts}
-use Rattle.egt_check.specs.InPassing.{IsOfFourKinds, IsPassingCapture, IsPassingFrom}
-use Rattle.egt_check.specs.PawnMoves.{stand_in}
-use Rattle.egt_check.specs.Takings.{IsClassOf, IsPastKings, Left, left_of, stand_left}
-use Rattle.egt_check.proofs.LeftTargets.{behind_target}
-use Rattle.egt_check.proofs.PawnAdvances.{none_of}
-use Rattle.egt_check.proofs.PawnCaptures.{takes_bare, takes_unpassed}
+use Rattle.egt_steps.specs.InPassing.{IsOfFourKinds, IsPassingCapture, IsPassingFrom}
+use Rattle.egt_steps.specs.PawnMoves.{stand_in}
+use Rattle.egt_steps.specs.Takings.{IsClassOf, IsPastKings, Left, left_of, stand_left}
+use Rattle.egt_steps.proofs.LeftTargets.{behind_target}
+use Rattle.egt_steps.proofs.PawnAdvances.{none_of}
+use Rattle.egt_steps.proofs.PawnCaptures.{takes_bare, takes_unpassed}
 use Rattle.egt_steps.proofs.Still.{no_promotion}
-use Rattle.egt_check.proofs.Takings.{AreLeft, Telling, are_left, arrives, empties, not_promoting, one_left, placed, stands_left, stays}
-use Rattle.egt_check.proofs.TwoBeside.{AreTwo, are_in, who}
+use Rattle.egt_steps.proofs.Takings.{AreLeft, Telling, are_left, arrives, empties, not_promoting, one_left, placed, stands_left, stays}
+use Rattle.egt_steps.proofs.TwoBeside.{AreTwo, are_in, who}
 
 -- a target is on no last rank
 target_within : (side : Side) (t : ℕ) → rank_of t ≡ target_rank side → (0 < rank_of t) × (rank_of t < 7)

@@ -1,5 +1,5 @@
-use Rattle.egt_check.proofs.PawnAdvances.{comes, goes}
-use Rattle.egt_check.proofs.pawn_laws.advances_lead_to_the_men_after.Goals as goal
+use Rattle.egt_steps.proofs.PawnAdvances.{comes, goes}
+use Rattle.egt_steps.proofs.pawn_laws.advances_lead_to_the_men_after.Goals as goal
 
 pub returns : goal.returns
 returns c = record {

@@ -1,5 +1,5 @@
-use Rattle.egt_check.proofs.QuietStands.{Following, comes, goes}
-use Rattle.egt_check.proofs.laws.quiet_moves_are_quiet_steps.Goals as goal
+use Rattle.egt_steps.proofs.QuietStands.{Following, comes, goes}
+use Rattle.egt_steps.proofs.laws.quiet_moves_are_quiet_steps.Goals as goal
 
 pub returns : goal.returns
 returns c = record {

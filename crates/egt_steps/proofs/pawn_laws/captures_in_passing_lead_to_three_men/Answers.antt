@@ -1,6 +1,6 @@
-use Rattle.egt_check.proofs.TakenInPassing.{comes, goes}
-use Rattle.egt_check.proofs.Takings.{Telling}
-use Rattle.egt_check.proofs.pawn_laws.captures_in_passing_lead_to_three_men.Goals as goal
+use Rattle.egt_steps.proofs.TakenInPassing.{comes, goes}
+use Rattle.egt_steps.proofs.Takings.{Telling}
+use Rattle.egt_steps.proofs.pawn_laws.captures_in_passing_lead_to_three_men.Goals as goal
 
 pub returns : goal.returns
 returns c = record {

@@ -21,15 +21,15 @@ use Rattle.egt_moves.specs.Promotion.{FitsPromotion, IsOfficer, arriving, is_paw
 use Rattle.egt_moves.specs.declared.chess_move.Move.{Move}
 use Rattle.egt_moves.proofs.After.{not_free, side_twice, sides_differ, target_is}
 use Rattle.egt_steps.specs.Facts.{Facts}
-use Rattle.egt_check.specs.PawnMoves.{IsPromotingCapture, IsPromotingCaptureFrom, officer_of, stand_in}
-use Rattle.egt_check.specs.Takings.{IsClassOf, IsPastKings, Left, left_of, stand_left}
+use Rattle.egt_steps.specs.PawnMoves.{IsPromotingCapture, IsPromotingCaptureFrom, officer_of, stand_in}
+use Rattle.egt_steps.specs.Takings.{IsClassOf, IsPastKings, Left, left_of, stand_left}
 use Rattle.egt_steps.proofs.Fanned.{king_bare}
 use Rattle.egt_steps.proofs.Leaping.{and_false}
-use Rattle.egt_check.proofs.PawnAdvances.{none_of}
+use Rattle.egt_steps.proofs.PawnAdvances.{none_of}
 use Rattle.egt_steps.proofs.Pushing.{untold}
 use Rattle.egt_steps.proofs.Still.{neither, not_passing}
-use Rattle.egt_check.proofs.Takings.{AreLeft, Telling, are_left, arrives, empties, one_left, placed, stands_left, stays}
-use Rattle.egt_check.proofs.TwoBeside.{AreTwo, are_in, who}
+use Rattle.egt_steps.proofs.Takings.{AreLeft, Telling, are_left, arrives, empties, one_left, placed, stands_left, stays}
+use Rattle.egt_steps.proofs.TwoBeside.{AreTwo, are_in, who}
 
 -- a pawn attacks squares of the next rank alone, and passes none
 up_one : (s t : ℕ) → rank_of t ≡ rank_of s + 1 → is_two_ranks s t ≡ false

@@ -16,7 +16,7 @@ use Rattle.egt_index.specs.Size.{men_in_order}
 use Rattle.egt_index.specs.declared.shelf_codes.ShelfMen.{ShelfMen}
 use Rattle.egt_index.specs.declared.stand.Stand.{Stand}
 use Rattle.egt_moves.specs.declared.chess_move.Move.{Move}
-use Rattle.egt_check.specs.Blocks.{IsBesideKing, with_king}
+use Rattle.egt_steps.specs.Stands.{IsBesideKing, with_king}
 
 -- the move takes the man of the other side who stands where it arrives, and promotes nothing
 abbrev pub IsPlainCapture : Setup → Move → Type 0

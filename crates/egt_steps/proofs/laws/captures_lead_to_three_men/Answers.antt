@@ -1,5 +1,5 @@
-use Rattle.egt_check.proofs.Takings.{Telling, comes, goes}
-use Rattle.egt_check.proofs.laws.captures_lead_to_three_men.Goals as goal
+use Rattle.egt_steps.proofs.Takings.{Telling, comes, goes}
+use Rattle.egt_steps.proofs.laws.captures_lead_to_three_men.Goals as goal
 
 pub returns : goal.returns
 returns c = record {

@@ -13,8 +13,8 @@ use Rattle.egt_index.specs.TurnedMen.{IsSomeTurnedCode, IsSomeTurnedCodeWith}
 use Rattle.egt_index.specs.declared.shelf_codes.ShelfMen.{ShelfMen}
 use Rattle.egt_moves.specs.Promotion.{IsOfficer}
 use Rattle.egt_moves.specs.declared.chess_move.Move.{Move}
-use Rattle.egt_check.specs.PawnMoves.{IsAdvance, IsAdvanceFrom, IsPromotingCaptureFrom, stand_after}
-use Rattle.egt_check.specs.Takings.{IsPastKings, IsPlainCapture, left_of, stand_left}
+use Rattle.egt_steps.specs.PawnMoves.{IsAdvance, IsAdvanceFrom, IsPromotingCaptureFrom, stand_after}
+use Rattle.egt_steps.specs.Takings.{IsPastKings, IsPlainCapture, left_of, stand_left}
 
 abbrev pub AreTwoRanksApart : (s t : ℕ) → Type 0
 AreTwoRanksApart s t = (rank_of t ≡ rank_of s + 2) ⊎ (rank_of s ≡ rank_of t + 2)

@@ -23,12 +23,12 @@ use Rattle.egt_moves.specs.Going.{Goes}
 use Rattle.egt_moves.specs.Legal.{Leads, plain}
 use Rattle.egt_moves.specs.declared.chess_move.Move.{Move}
 use Rattle.egt_moves.proofs.After.{side_twice}
-use Rattle.egt_check.specs.Blocks.{king_of_men, stand_on, with_king}
+use Rattle.egt_steps.specs.Stands.{king_of_men, stand_on, with_king}
 use Rattle.egt_steps.specs.Facts.{Facts}
-use Rattle.egt_check.specs.QuietStands.{IsClear, IsQuietStand}
+use Rattle.egt_steps.specs.QuietStands.{IsClear, IsQuietStand}
 use Rattle.egt_steps.specs.QuietTarget.{IsQuietTarget}
 use Rattle.egt_steps.proofs.Fanned.{goes_quietly, king_reaches}
-use Rattle.egt_check.proofs.Passed.{departs}
+use Rattle.egt_steps.proofs.Passed.{departs}
 use Rattle.egt_steps.proofs.Still.{KeepsClass, is_moved}
 
 -- how stands follow moves, by the law of egt_index

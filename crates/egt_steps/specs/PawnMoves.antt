@@ -22,12 +22,9 @@ use Rattle.egt_index.specs.declared.stand.Stand.{Stand}
 use Rattle.egt_moves.specs.Exchange.{Captures}
 use Rattle.egt_moves.specs.Promotion.{FitsPromotion, IsOfficer, arriving, promotes}
 use Rattle.egt_moves.specs.declared.chess_move.Move.{Move}
-use Rattle.egt_table.specs.Table.{IsTable, TableValue}
-use Rattle.egt_check.specs.Blocks.{stand_on}
-use Rattle.egt_check.specs.QuietStands.{IsClear}
-use Rattle.egt_check.specs.Tables.{Tables}
-use Rattle.egt_check.specs.Takings.{IsPastKings, left_of, stand_left}
-use Rattle.egt_check.specs.Worth.{HasBytes}
+use Rattle.egt_steps.specs.Stands.{stand_on}
+use Rattle.egt_steps.specs.QuietStands.{IsClear}
+use Rattle.egt_steps.specs.Takings.{IsPastKings, left_of, stand_left}
 
 -- the men on their squares, as their class names them: the last one is its first where `first`
 abbrev pub stand_in : (first : Bool) → ShelfMen → (a b : ℕ) → Stand
@@ -113,10 +110,3 @@ officer_of side kind = record { side = side; kind = kind }
 abbrev pub ArePromotedCodes : (d : ℕ) (flips : Bool) → ShelfMen → Side → Kind → (a b code : ℕ) → Type 0
 ArePromotedCodes d flips men side kind a b code =
     IsPromotingCapture men side kind a b × IsSomeTurnedCode d code flips (stand_left flips (left_of men (officer_of side kind) a)) (other_side side)
-
--- the table of the class after an advance
-pub record IsTableAfter (tables : Tables) (t : TableValue) (before flips : Bool) (one man : Man) : Type 0 where
-  pub is_table : IsTable t
-  pub found : tables t.class ≡ Some t
-  pub bytes : HasBytes t
-  pub class_after : IsClassAfter before t.class flips one man

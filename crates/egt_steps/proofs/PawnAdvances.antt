@@ -26,13 +26,13 @@ use Rattle.egt_moves.specs.Promotion.{FitsPromotion, IsOfficer, arriving, promot
 use Rattle.egt_moves.specs.declared.chess_move.Move.{Move}
 use Rattle.egt_moves.proofs.After.{arriving_side, not_free, side_twice, sides_differ, target_is}
 use Rattle.egt_steps.specs.Facts.{Facts}
-use Rattle.egt_check.specs.InPassing.{LeavesTarget}
-use Rattle.egt_check.specs.PawnMoves.{IsAdvance, IsAdvanceFrom, IsClassAfter, stand_after, stand_in}
-use Rattle.egt_check.specs.QuietStands.{IsClear}
-use Rattle.egt_check.proofs.LeftTargets.{IsAfter, behind_target, settles_so, told}
+use Rattle.egt_steps.specs.InPassing.{LeavesTarget}
+use Rattle.egt_steps.specs.PawnMoves.{IsAdvance, IsAdvanceFrom, IsClassAfter, stand_after, stand_in}
+use Rattle.egt_steps.specs.QuietStands.{IsClear}
+use Rattle.egt_steps.proofs.LeftTargets.{IsAfter, behind_target, settles_so, told}
 use Rattle.egt_steps.proofs.Still.{not_passing}
-use Rattle.egt_check.proofs.Takings.{arrives, empties, placed, stays}
-use Rattle.egt_check.proofs.TwoBeside.{AreTwo, Counting, are_after, are_in, one_two, stands_after}
+use Rattle.egt_steps.proofs.Takings.{arrives, empties, placed, stays}
+use Rattle.egt_steps.proofs.TwoBeside.{AreTwo, Counting, are_after, are_in, one_two, stands_after}
 
 -- a pawn goes off the square from which it advances
 off_start : (side : Side) (s t n : ℕ) → 0 < n → Away (forward side) n s t → t ≢ s

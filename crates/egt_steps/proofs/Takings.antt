@@ -38,11 +38,11 @@ use Rattle.egt_moves.specs.declared.chess_move.Move.{Move}
 use Rattle.egt_moves.proofs.Admissible.{not_two, pawn_told, takes_forward_of, two_forward, two_ranks_told}
 use Rattle.egt_moves.proofs.After.{side_twice}
 use Rattle.egt_moves.proofs.SafeGoals.{not_passing}
-use Rattle.egt_check.specs.Blocks.{IsBesideKing, king_of_men, stand_on, with_king}
+use Rattle.egt_steps.specs.Stands.{IsBesideKing, king_of_men, stand_on, with_king}
 use Rattle.egt_steps.specs.Facts.{Facts}
-use Rattle.egt_check.specs.Takings.{IsClassOf, IsPastKings, IsPlainCapture, IsTaken, Left, left_of, stand_left}
+use Rattle.egt_steps.specs.Takings.{IsClassOf, IsPastKings, IsPlainCapture, IsTaken, Left, left_of, stand_left}
 use Rattle.egt_steps.proofs.Fanned.{king_reaches}
-use Rattle.egt_check.proofs.Passed.{departs}
+use Rattle.egt_steps.proofs.Passed.{departs}
 use Rattle.egt_steps.proofs.Still.{no_pawn_is}
 
 -- the men of a stand, and those beside the kings, by the laws of egt_index and egt_class

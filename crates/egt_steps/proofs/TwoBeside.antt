@@ -20,7 +20,7 @@ use Rattle.egt_index.specs.declared.shelf_codes.ShelfMen.{ShelfMen}
 use Rattle.egt_index.proofs.After.{all_there}
 use Rattle.egt_index.proofs.Setups.{free_of}
 use Rattle.egt_index.proofs.Standing.{counted_turned, turned_back}
-use Rattle.egt_check.specs.PawnMoves.{IsClassAfter, IsClassOfTwo, stand_after, stand_in, stand_two}
+use Rattle.egt_steps.specs.PawnMoves.{IsClassAfter, IsClassOfTwo, stand_after, stand_in, stand_two}
 
 -- the men beside the kings are counted, by the law of egt_class
 abbrev pub Counting : Type 0

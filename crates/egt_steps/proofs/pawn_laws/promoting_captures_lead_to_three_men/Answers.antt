@@ -1,6 +1,6 @@
-use Rattle.egt_check.proofs.PawnCaptures.{comes, goes}
-use Rattle.egt_check.proofs.Takings.{Telling}
-use Rattle.egt_check.proofs.pawn_laws.promoting_captures_lead_to_three_men.Goals as goal
+use Rattle.egt_steps.proofs.PawnCaptures.{comes, goes}
+use Rattle.egt_steps.proofs.Takings.{Telling}
+use Rattle.egt_steps.proofs.pawn_laws.promoting_captures_lead_to_three_men.Goals as goal
 
 pub returns : goal.returns
 returns c = record {

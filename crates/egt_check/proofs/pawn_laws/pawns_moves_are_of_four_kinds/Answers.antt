@@ -1,5 +1,0 @@
-use Rattle.egt_check.proofs.TakenInPassing.{four_kinds, none_passing}
-use Rattle.egt_check.proofs.pawn_laws.pawns_moves_are_of_four_kinds.Goals as goal
-
-pub returns : goal.returns
-returns c = record { kinds = four_kinds; without_a_target = none_passing }
