@@ -72,7 +72,7 @@ module _ (t : TableValue) (column : Column) (before flips : Bool) (men : ShelfMe
   Advanced = AreAdvancedCodes t.class before flips men side promo a b
 
   module _ (mine : men.last ≡ pawn_of side) (arrivals : ℕ) (are : (u : ℕ) → u < 64 → (bit_at arrivals u ≡ 1) ↔ FitsPromotion (eqb (rank_of u) (last_rank side)) promo) (man : Man) (man_is : man ≡ arriving men.last promo)
-      (scores : List (List ℕ)) (read : (i u : ℕ) → i < 64 → u < 64 → IsRead t column flips (stand_after before flips men i man u) (other_side side) (at scores i u)) (a_in : a < 64) where
+      (scores : List (List ℕ)) (read : (i u : ℕ) → i < 64 → u < 64 → bit_at arrivals u ≡ 1 → IsRead t column flips (stand_after before flips men i man u) (other_side side) (at scores i u)) (a_in : a < 64) where
     -- he advances there, and it is one of these squares
     abbrev Arrives : ℕ → Type 0
     Arrives u = Advances (IsClear men a) side b u × (bit_at arrivals u ≡ 1)
@@ -105,7 +105,7 @@ module _ (t : TableValue) (column : Column) (before flips : Bool) (men : ShelfMe
     pub all_advances : (low v : ℕ) → low ≡ 0 → IsRaised low Arrives (λ u. at scores a u) v → IsRaised 0 Advanced (column_score t column) v
     all_advances low v none raised =
         raised_alike 0 v (λ code. (u : ℕ) × Arrives u × Codes u code) Advanced (column_score t column)
-        (raised_through 0 v Arrives Codes (column_score t column) (λ u. at scores a u) (λ u h. read a u a_in h.0.rides.away.on_board) (subst (λ n. IsRaised n Arrives (λ u. at scores a u) v) none raised)) advance_there advance_back
+        (raised_through 0 v Arrives Codes (column_score t column) (λ u. at scores a u) (λ u h. read a u a_in h.0.rides.away.on_board h.1) (subst (λ n. IsRaised n Arrives (λ u. at scores a u) v) none raised)) advance_there advance_back
 
 -- ---- captures that promote
 

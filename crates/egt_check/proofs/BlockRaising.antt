@@ -1,8 +1,10 @@
 -- Blocks raised turn by turn.
 use Rattle.std.proofs.Common.{◌≡◌, ◌≢◌, ℕ, ◌/◌, ◌%◌, ◌<◌, ◌⊎◌, ◌↔◌, max, not, cond, ltb, eqb, IsTrue, Bool, true, false, List, [], ◌∷◌, Option, Some, None, IfSome, arith, refl, sym, ap, ◌∙◌, inl, inr, subst}
 use Rattle.std.proofs.lemmas.Bool.{cases_eq, cases_lt, false≢true, ltb-true}
+use Rattle.std.proofs.lemmas.Nat.Bits.{bit_at_ones}
 use Rattle.std.specs.Int.{bit_at}
 use Rattle.egt_board.specs.Man.{other_side}
+use Rattle.egt_board.specs.SquareSet.{Has}
 use Rattle.egt_board.specs.Turned.{turned_square}
 use Rattle.egt_class.specs.Below.{all_below, passes_below}
 use Rattle.egt_board.specs.declared.man.Man.{Man}
@@ -27,6 +29,10 @@ use Rattle.egt_check.specs.Blocks.{AreKingCodes, IsCodeAfter, IsHomeCode, IsRais
 use Rattle.egt_check.specs.Kept.{AreKept}
 use Rattle.egt_check.specs.Worth.{IsReadWith, column_score}
 use Rattle.egt_check.specs.declared.kept_blocks.BlockKey.{BlockKey}
+
+-- all squares are of the set of all
+pub all_squares : (s : ℕ) → s < 64 → bit_at 18446744073709551615 s ≡ 1
+all_squares s s_in = bit_at_ones 64 s s_in
 
 -- ---- the greatest of some numbers
 
@@ -176,10 +182,10 @@ module _ (passed : Bool) (c : ℕ) (flips : Bool) (side : Side) (code : ℕ) (me
 pub raised_greater : (u v w : ℕ) (A B In : ℕ → Type 0) (f : ℕ → ℕ) → IsRaised 0 A f u → IsRaised 0 B f v → w ≡ max u v → ((t : ℕ) → In t → A t ⊎ B t) → ((t : ℕ) → A t → In t) → ((t : ℕ) → B t → In t) → IsRaised 0 In f w
 raised_greater u v w A B In f first then is covers a_in b_in = raised_both 0 u w A B In f first (raised_max u B f v w then is) covers a_in b_in
 
-module _ (passed : Bool) (t : TableValue) (column : Column) (men : ShelfMen) (flips : Bool) (side : Side) (own across : List (List ℕ))
-    (in_own : (a b : ℕ) → a < 64 → b < 64 → IsRaisedHome passed t column flips (stand_on men a b) side 0 (at own a b))
+module _ (passed : Bool) (t : TableValue) (column : Column) (men : ShelfMen) (flips : Bool) (side : Side) (rows : SquareSet) (own across : List (List ℕ))
+    (in_own : (a b : ℕ) → a < 64 → b < 64 → Has rows a → IsRaisedHome passed t column flips (stand_on men a b) side 0 (at own a b))
     (in_across : has_equal_sides t.class ≡ true → (a b : ℕ) → a < 64 → b < 64 → IsRaisedHome passed t column (not flips) (stand_on (men_across men) b a) side 0 (at across b a))
-    (equal : Bool) (told : IsTrue equal ↔ (men.one ≡ men.last)) (a b : ℕ) (a_in : a < 64) (b_in : b < 64) where
+    (equal : Bool) (told : IsTrue equal ↔ (men.one ≡ men.last)) (all : equal ≡ true → (s : ℕ) → s < 64 → Has rows s) (a b : ℕ) (a_in : a < 64) (b_in : b < 64) (here : Has rows a) where
   Home : Bool → Stand → ℕ → Type 0
   Home exchanged stand code = IsHomeCode passed t.class code exchanged stand side
 
@@ -189,17 +195,17 @@ module _ (passed : Bool) (t : TableValue) (column : Column) (men : ShelfMen) (fl
 
   own_raised : (e : Bool) → equal ≡ e → IsRaised 0 OwnCodes (column_score t column) (cond e (max (at own a b) (at own b a)) (at own a b))
   unfolding OwnCodes Home
-  own_raised true is = raised_greater (at own a b) (at own b a) (max (at own a b) (at own b a)) (Home flips (stand_on men a b)) (Home flips (stand_on men b a)) OwnCodes (column_score t column) (in_own a b a_in b_in) (in_own b a b_in a_in) refl
-      (λ code h. elim h [ inl here ↦ inl here | inr there ↦ inr there.1 ])
-      (λ code here. inl here)
+  own_raised true is = raised_greater (at own a b) (at own b a) (max (at own a b) (at own b a)) (Home flips (stand_on men a b)) (Home flips (stand_on men b a)) OwnCodes (column_score t column) (in_own a b a_in b_in here) (in_own b a b_in a_in (all is b b_in)) refl
+      (λ code h. elim h [ inl first ↦ inl first | inr there ↦ inr there.1 ])
+      (λ code first. inl first)
       (λ code there. inr (told.0 is, there))
-  own_raised false is = raised_alike 0 (at own a b) (Home flips (stand_on men a b)) OwnCodes (column_score t column) (in_own a b a_in b_in)
-      (λ code h. elim h [ inl here ↦ here | inr there ↦ absurd (false≢true (sym is ∙ told.1 there.0)) ])
-      (λ code here. inl here)
+  own_raised false is = raised_alike 0 (at own a b) (Home flips (stand_on men a b)) OwnCodes (column_score t column) (in_own a b a_in b_in here)
+      (λ code h. elim h [ inl first ↦ first | inr there ↦ absurd (false≢true (sym is ∙ told.1 there.0)) ])
+      (λ code first. inl first)
 
   own_is_some : (code : ℕ) → OwnCodes code → IsSomeTurnedCodeWith passed t.class code flips (stand_on men a b) side
   unfolding OwnCodes Home
-  own_is_some code (inl here) = home_is_some passed t.class flips side code men a b here
+  own_is_some code (inl first) = home_is_some passed t.class flips side code men a b first
   own_is_some code (inr there) = other_is_some passed t.class flips side code men a b there.0 there.1
 
   pub settled_raised : (sides : Bool) → has_equal_sides t.class ≡ sides → IsReadWith passed t column flips (stand_on men a b) side (settled_at equal sides own across a b)
@@ -207,7 +213,7 @@ module _ (passed : Bool) (t : TableValue) (column : Column) (men : ShelfMen) (fl
   settled_raised true is =
       raised_greater _ (at across b a) _ OwnCodes (Home (not flips) (stand_on (men_across men) b a)) (λ code. IsSomeTurnedCodeWith passed t.class code flips (stand_on men a b) side) (column_score t column) (own_raised equal refl) (in_across is a b a_in b_in) refl
       (λ code h. elim (some_parted passed t.class flips side code men a b h) [
-        | inl here ↦ inl (inl here)
+        | inl first ↦ inl (inl first)
         | inr (inl other) ↦ inl (inr other)
         | inr (inr beyond) ↦ inr beyond.1
       ])
@@ -217,7 +223,7 @@ module _ (passed : Bool) (t : TableValue) (column : Column) (men : ShelfMen) (fl
       subst (IsRaised 0 (λ code. IsSomeTurnedCodeWith passed t.class code flips (stand_on men a b) side) (column_score t column)) (omega arith)
       (raised_alike 0 _ OwnCodes (λ code. IsSomeTurnedCodeWith passed t.class code flips (stand_on men a b) side) (column_score t column) (own_raised equal refl)
       (λ code h. elim (some_parted passed t.class flips side code men a b h) [
-        | inl here ↦ inl here
+        | inl first ↦ inl first
         | inr (inl other) ↦ inr other
         | inr (inr beyond) ↦ absurd (false≢true (sym is ∙ beyond.0))
       ])

@@ -1,8 +1,9 @@
 -- Blocks of scores after a pawn's advances, by whether they leave a target.
-use Rattle.std.proofs.Common.{◌≡◌, ◌≢◌, ℕ, ◌+◌, ◌-◌, ◌*◌, ◌/◌, ◌<◌, ◌↔◌, Bool, true, false, cond, eqb, min, List, None, arith, sym, ap, subst, inl, inr}
+use Rattle.std.proofs.Common.{◌≡◌, ◌≢◌, ℕ, ◌+◌, ◌-◌, ◌*◌, ◌/◌, ◌<◌, ◌↔◌, Bool, true, false, cond, eqb, min, List, None, arith, sym, ap, ◌∙◌, subst, inl, inr}
 use Rattle.std.specs.Int.{bit_at}
 use Rattle.std.specs.Prelude.{slice_index}
 use Rattle.std.proofs.lemmas.Bool.{cases_eq, ne_eqb}
+use Rattle.std.proofs.lemmas.Bool.Decides.{eqb_tells}
 use Rattle.std.proofs.lemmas.Nat.Bits.{bit_at-lt, bit_at_ones}
 use Rattle.egt_board.specs.Man.{other_side}
 use Rattle.egt_board.specs.Pawn.{Advances, IsBeside, last_rank, pawn_of}
@@ -21,12 +22,13 @@ use Rattle.egt_moves.specs.Promotion.{FitsPromotion, promotes}
 use Rattle.egt_table.specs.Table.{TableValue}
 use Rattle.egt_table.specs.declared.column.Column.{Column}
 use Rattle.egt_steps.specs.InPassing.{AreLeapCodes, AreStepCodes, AreTwoRanksApart, LeavesTarget}
-use Rattle.egt_check.specs.Leaps.{IsBesideWhere}
+use Rattle.egt_check.specs.Leaps.{IsBesideWhere, leap_rank}
 use Rattle.egt_steps.specs.PawnMoves.{AreAdvancedCodes, IsAdvance, stand_after}
 use Rattle.egt_steps.specs.QuietStands.{IsClear}
 use Rattle.egt_check.specs.Worth.{IsReadWith, column_score}
 use Rattle.egt_check.proofs.AdvanceRaising.{advances_free}
 use Rattle.egt_check.proofs.BlockRaising.{raised_alike, raised_both}
+use Rattle.egt_steps.proofs.Leaping.{one_off_home}
 use Rattle.egt_steps.proofs.LeftTargets.{unpromoted}
 use Rattle.egt_check.proofs.QuietRaising.{raised_through}
 
@@ -42,6 +44,13 @@ others_lack set rest t In t_in has is =
       ]),
     )
 
+-- those of a rank
+pub on_rank : (bit r k : ℕ) → bit ≡ cond (eqb r k) 1 0 → (bit ≡ 1) ↔ (r ≡ k)
+on_rank bit r k is = elim (eqb_tells r k) [
+  | inl same ↦ ((λ has. same.1), (λ here. is ∙ ap (λ b. cond b 1 0) same.0))
+  | inr apart ↦ ((λ has. absurd (let none = is ∙ ap (λ b. cond b 1 0) apart.0 in omega (arith, has, none))), (λ here. absurd (apart.1 here)))
+]
+
 -- ---- advances by one square and by two
 
 two_apart : (F : ℕ → Type 0) (side : Side) (s t : ℕ) → AdvancesBy 2 F side s t → AreTwoRanksApart s t
@@ -51,6 +60,23 @@ two_apart F Black s t r = let along : s / 8 ≡ t / 8 + 2 * 1 = r.away.along in 
 not_apart : (F : ℕ → Type 0) (side : Side) (s t : ℕ) → AdvancesBy 1 F side s t → ¬ AreTwoRanksApart s t
 not_apart F White s t r apart = let along : t / 8 ≡ s / 8 + 1 * 1 = r.away.along in elim apart [ inl up ↦ omega (arith, along, up) | inr down ↦ omega (arith, along, down) ]
 not_apart F Black s t r apart = let along : s / 8 ≡ t / 8 + 1 * 1 = r.away.along in elim apart [ inl up ↦ omega (arith, along, up) | inr down ↦ omega (arith, along, down) ]
+
+-- they end on one rank
+leaps_to : (F : ℕ → Type 0) (side : Side) (s t : ℕ) → AdvancesBy 2 F side s t → rank_of t ≡ leap_rank side
+leaps_to F White s t r =
+    let along : t / 8 ≡ s / 8 + 2 * 1 = r.away.along in
+    let ridden : t / 8 ≡ s / 8 + r.advances.rides.count * 1 = r.advances.rides.away.along in
+    elim (one_off_home (rank_of s) 1 r.advances.rides.count r.advances.rides.within) [
+      | inl few ↦ absurd (omega (arith, few, along, ridden))
+      | inr home ↦ let at_home = home.1 in omega (arith, at_home, along)
+    ]
+leaps_to F Black s t r =
+    let along : s / 8 ≡ t / 8 + 2 * 1 = r.away.along in
+    let ridden : s / 8 ≡ t / 8 + r.advances.rides.count * 1 = r.advances.rides.away.along in
+    elim (one_off_home (rank_of s) 6 r.advances.rides.count r.advances.rides.within) [
+      | inl few ↦ absurd (omega (arith, few, along, ridden))
+      | inr home ↦ let at_home = home.1 in omega (arith, at_home, along)
+    ]
 
 fits_unpromoted : (last : Bool) → last ≡ false → FitsPromotion last None
 fits_unpromoted false is = tt
@@ -138,12 +164,12 @@ module _ (t : TableValue) (column : Column) (first : Bool) (men : ShelfMen) (sid
         (λ code h. (h.0, advance_of h.0 h.1.0.advances ((are h.0 h.1.0.away.on_board).0 h.1.1), (λ left. not_apart (IsClear men a) side b h.0 h.1.0 left.two), h.2))
         (λ code h. (h.0, leap_of h.0 h.1.0, (λ left. h.1.1 left.beside), h.2))
 
-    pub all_leaps : ((i u : ℕ) → i < 64 → u < 64 → IsReadWith true t column false (stand_after first false men i men.last u) (other_side side) (at scores i u))
+    pub all_leaps : ((i u : ℕ) → i < 64 → u < 64 → rank_of i ≡ leap_rank side → rank_of u ≡ leap_rank side → IsReadWith true t column false (stand_after first false men i men.last u) (other_side side) (at scores i u))
         → (low v : ℕ) → low ≡ 0 → IsRaised low (λ u. AdvancesBy 2 (IsClear men a) side b u × IsBesideWhere true a u) (λ u. at scores a u) v → IsRaised 0 Leaps (column_score t column) v
     unfolding After
     all_leaps read low v none two =
         raised_alike 0 v (After (Far true) true) Leaps (column_score t column)
-        (raised_through 0 v (Far true) (Codes true) (column_score t column) (λ u. at scores a u) (λ u h. read a u a_in h.0.away.on_board) (subst (λ n. IsRaised n (Far true) (λ u. at scores a u) v) none two))
+        (raised_through 0 v (Far true) (Codes true) (column_score t column) (λ u. at scores a u) (λ u h. let there = leaps_to (IsClear men a) side b u h.0 in read a u a_in h.0.away.on_board (h.1.0 ∙ there) there) (subst (λ n. IsRaised n (Far true) (λ u. at scores a u) v) none two))
         (λ code h. elim (one_or_two_squares (IsClear men a) side b h.0 h.1.advances) [
           | inl near ↦ absurd (not_apart (IsClear men a) side b h.0 near h.2.two)
           | inr far ↦ (h.0, (far, h.2.beside), h.3)

@@ -30,9 +30,9 @@ low_score e low = let same : e % 256 ≡ e = omega arith in ap byte_score same
 -- what is known of the moves that do not zero: they lead to the men after quiet steps, and to all positions of them
 pub record Quietly : Type 0 where
   pub goes : (c : ℕ) (men : ShelfMen) (side : Side) (passed : Bool) (a b : ℕ) (p q : Setup) (m : Move) → c < 36 → HasStand c false (stand_on men a b) side passed p →
-    Leads p m q → ¬ Zeroes p m → (stand : Stand) × IsQuietStand men side a b stand × HasStand c false stand (other_side side) false q
+      Leads p m q → ¬ Zeroes p m → (stand : Stand) × IsQuietStand men side a b stand × HasStand c false stand (other_side side) false q
   pub comes : (c : ℕ) (men : ShelfMen) (side : Side) (passed : Bool) (a b : ℕ) (p q : Setup) (stand : Stand) → c < 36 → HasStand c false (stand_on men a b) side passed p →
-    IsQuietStand men side a b stand → HasStand c false stand (other_side side) false q → (m : Move) × Leads p m q × ¬ Zeroes p m
+      IsQuietStand men side a b stand → HasStand c false stand (other_side side) false q → (m : Move) × Leads p m q × ¬ Zeroes p m
 
 module _ (facts : Facts) (quietly : Quietly) (turning : Turning) (tables : Tables) (t : TableValue) (is_table : IsTable t) (found : tables t.class ≡ Some t) (bytes : HasBytes t)
     (men : ShelfMen) (side : Side) (passed : Bool) (a b : ℕ) (p : Setup) (has : HasStand t.class false (stand_on men a b) side passed p) where

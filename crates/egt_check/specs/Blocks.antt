@@ -1,16 +1,12 @@
 -- What a block holds: a number for each square of the first man beside the kings and of the last.
 use Rattle.std.specs.Prelude.{if◌then◌else◌, max, List, ◌≡◌, ℕ, ◌+◌, ◌/◌, ◌%◌, ◌<◌, ◌==◌, Bool, false}
 use Rattle.egt_board.specs.Turned.{turned_side, turned_square}
-use Rattle.std.specs.Int.{bit_at}
-use Rattle.egt_board.specs.Attack.{king_of}
-use Rattle.egt_board.specs.AttackLines.{Reaches}
 use Rattle.egt_board.specs.Man.{other_side}
 use Rattle.egt_board.specs.declared.man.Side.{Side}
-use Rattle.egt_board.specs.declared.man.Side.TheVariants.{White, Black}
 use Rattle.egt_class.specs.Material.{material_of}
 use Rattle.egt_index.specs.Home.{IsTurnWith}
 use Rattle.egt_index.specs.Scales.{kind_digits, kind_less}
-use Rattle.egt_index.specs.ShelfCodes.{IsShelfOf, IsWithin, stand_with}
+use Rattle.egt_index.specs.ShelfCodes.{IsShelfOf, IsWithin}
 use Rattle.egt_index.specs.Size.{has_pawns}
 use Rattle.egt_index.specs.StepCodes.{TellsMen}
 use Rattle.egt_index.specs.TurnedMen.{IsSomeTurnedCode, turned_by}
@@ -20,6 +16,7 @@ use Rattle.egt_lanes.specs.Blocks.{at}
 use Rattle.egt_lanes.specs.Raised.{IsRaised}
 use Rattle.egt_table.specs.Table.{TableValue}
 use Rattle.egt_table.specs.declared.column.Column.{Column}
+use Rattle.egt_steps.specs.Stands.{men_on, stand_on, with_king}
 use Rattle.egt_check.specs.Worth.{column_score}
 
 -- the men with the kings on these squares

@@ -13,7 +13,7 @@ ghost use Rattle.egt_lanes.specs.Raised.{IsRaised};
 ghost use Rattle.egt_moves.specs.Promotion.{FitsPromotion, IsOfficer, arriving};
 ghost use Rattle.egt_table.specs.Table.{HasColumn};
 ghost use Rattle.egt_steps.specs.InPassing.{AreLeapCodes, AreStepCodes};
-ghost use Rattle.egt_check.specs.Leaps.{IsBesideWhere};
+ghost use Rattle.egt_check.specs.Leaps.{AreStill, IsBesideWhere, leap_rank};
 ghost use Rattle.egt_steps.specs.PawnMoves.{AreAdvancedCodes, ArePromotedCodes, men_after, men_two, officer_of, stand_after};
 ghost use Rattle.egt_steps.specs.QuietStands.{IsClear};
 ghost use Rattle.egt_steps.specs.Takings.{IsPastKings, left_of, stand_left};
@@ -38,19 +38,6 @@ pub(crate) fn is_pawn_of(man: Man, side: Side) -> bool
     ensures { IsTrue result ↔ (man ≡ pawn_of side) }
 {
     man == side.pawn()
-}
-
-/// The man himself, or what he is promoted to.
-fn arriving(man: Man, promo: Option<Kind>) -> Man
-    ensures { result ≡ arriving man promo }
-{
-    match promo {
-        Some(kind) => Man {
-            side: man.side,
-            kind,
-        },
-        None => man,
-    }
 }
 
 /// These two beside the kings, in colours exchanged where `flips`.
@@ -96,8 +83,8 @@ fn past_kings(men: &ShelfMen) -> SquareSet
     SquareSet::ALL.without(kings_of(men))
 }
 
-/// The scores of the positions where the last man is now this one, the other side to move, and a target where one was passed: by the first one's square
-/// and his. False where the table does not tell.
+/// The scores of the positions where the last man is now this one, the other side to move, and a target where one was passed: by the first one's square,
+/// if it is of `ones`, and his, if it is of `lasts`. False where the table does not tell.
 fn read_after(
     child: &Table,
     column: Column,
@@ -106,17 +93,20 @@ fn read_after(
     passed: bool,
     men: &ShelfMen,
     man: Man,
+    ones: SquareSet,
+    lasts: SquareSet,
     side: Side,
     out: &mut Block,
 ) -> bool
     requires there { HasColumn column child.now }
     requires voids { ScoresNoVoids child.now column }
     requires men { AreMenOf child.now.class (men_after before flips men.now man) }
-    ensures { result ≡ true → (a t : ℕ) → a < 64 → t < 64 → IsReadWith passed child.now column flips (stand_after before flips men.now a man t) (other_side side) (at out.new a t) }
+    ensures { result ≡ true → (a t : ℕ) → a < 64 → t < 64 → Has ones a → Has lasts t → IsReadWith passed child.now column flips (stand_after before flips men.now a man t) (other_side side) (at out.new a t) }
 {
     let after = men_after(before, flips, men, man);
+    let other = side.other();
     if !before {
-        return read_block(child, column, flips, passed, &after, side.other(), out);
+        return read_block(child, column, flips, passed, &after, ones, other, out);
     }
     let mut scores = nothing();
     if !read_block(
@@ -125,7 +115,8 @@ fn read_after(
         flips,
         passed,
         &after,
-        side.other(),
+        lasts,
+        other,
         &mut scores,
     ) {
         return false;
@@ -148,29 +139,33 @@ fn raise_advances(men: &ShelfMen, arrivals: SquareSet, side: Side, scores: &Bloc
     }
 }
 
-/// The scores of the positions after the last man, a pawn of that side, advanced, and was promoted so on the last rank. False where the table does not tell.
-pub(crate) fn advance_block(
+/// The scores of the positions after the last man, a pawn of that side, advanced to the last rank and was promoted so. False where the table does not tell.
+pub(crate) fn promotion_block(
     child: &Table,
     column: Column,
     before: bool,
     flips: bool,
     men: &ShelfMen,
-    promo: Option<Kind>,
+    kind: Kind,
     side: Side,
     out: &mut Block,
 ) -> bool
     requires there { HasColumn column child.now }
     requires voids { ScoresNoVoids child.now column }
-    requires men { AreMenOf child.now.class (men_after before flips men.now (arriving men.now.last promo)) }
-    requires promo { IfSome promo IsOfficer }
+    requires men { AreMenOf child.now.class (men_after before flips men.now (arriving men.now.last (Some kind))) }
+    requires officer { IsOfficer kind }
     ensures { result ≡ true → (a b : ℕ) → a < 64 → b < 64 →
-        IsRaised 0 (AreAdvancedCodes child.now.class before flips men.now side promo a b) (column_score child.now column) (at out.new a b) }
+        IsRaised 0 (AreAdvancedCodes child.now.class before flips men.now side (Some kind) a b) (column_score child.now column) (at out.new a b) }
 {
     *out = nothing();
     if !is_pawn_of(men.last, side) {
         return true;
     }
-    let man = arriving(men.last, promo);
+    let man = Man {
+        side: men.last.side,
+        kind,
+    };
+    let arrivals = arrivals(Some(kind), side);
     let mut scores = nothing();
     if !read_after(
         child,
@@ -180,12 +175,14 @@ pub(crate) fn advance_block(
         false,
         men,
         man,
+        SquareSet::ALL,
+        arrivals,
         side,
         &mut scores,
     ) {
         return false;
     }
-    raise_advances(men, arrivals(promo, side), side, &scores, out);
+    raise_advances(men, arrivals, side, &scores, out);
     true
 }
 
@@ -244,63 +241,40 @@ fn raise_leaps(men: &ShelfMen, beside: bool, side: Side, scores: &Block, out: &m
     }
 }
 
-/// The scores of the positions after the last man, a pawn of that side, advanced and left no target, where the first is a pawn of the other. False where
-/// the table does not tell.
-fn step_facing(
-    own: &Table,
-    column: Column,
-    first: bool,
-    men: &ShelfMen,
-    side: Side,
-    out: &mut Block,
-) -> bool
-    requires there { HasColumn column own.now }
-    requires voids { ScoresNoVoids own.now column }
-    requires men { AreMenOf own.now.class (men_after first false men.now men.now.last) }
-    requires facing { men.now.one ≡ pawn_of (other_side side) }
-    ensures { result ≡ true → (a b : ℕ) → a < 64 → b < 64 → IsRaised 0 (AreStepCodes own.now.class first men.now side a b) (column_score own.now column) (at out.new a b) }
-{
-    *out = nothing();
-    if !is_pawn_of(men.last, side) {
-        return true;
-    }
-    let mut scores = nothing();
-    if !read_after(
-        own,
-        column,
-        first,
-        false,
-        false,
-        men,
-        men.last,
-        side,
-        &mut scores,
-    ) {
-        return false;
-    }
-    raise_steps(men, arrivals(None, side), side, &scores, out);
-    raise_leaps(men, false, side, &scores, out);
-    true
-}
-
-/// The scores of the positions after the last man, a pawn of that side, advanced and left no target. False where the table does not tell.
+/// The scores of the positions after the last man, a pawn of that side, advanced and left no target: `still` are those of the men on their squares, the
+/// other side to move. The contract alone reads the table.
 pub(crate) fn step_block(
     own: &Table,
     column: Column,
     first: bool,
     men: &ShelfMen,
     side: Side,
+    still: &Block,
     out: &mut Block,
-) -> bool
-    requires there { HasColumn column own.now }
-    requires voids { ScoresNoVoids own.now column }
-    requires men { AreMenOf own.now.class (men_after first false men.now men.now.last) }
-    ensures { result ≡ true → (a b : ℕ) → a < 64 → b < 64 → IsRaised 0 (AreStepCodes own.now.class first men.now side a b) (column_score own.now column) (at out.new a b) }
+)
+    requires { AreStill own.now column first men.now side still.now }
+    ensures { (a b : ℕ) → a < 64 → b < 64 → IsRaised 0 (AreStepCodes own.now.class first men.now side a b) (column_score own.now column) (at out.new a b) }
 {
+    *out = nothing();
+    if !is_pawn_of(men.last, side) {
+        return;
+    }
+    let arrivals = arrivals(None, side);
     if is_pawn_of(men.one, side.other()) {
-        step_facing(own, column, first, men, side, out)
+        raise_steps(men, arrivals, side, still, out);
+        raise_leaps(men, false, side, still, out);
     } else {
-        advance_block(own, column, first, false, men, None, side, out)
+        raise_advances(men, arrivals, side, still, out);
+    }
+}
+
+/// The squares to which that side's pawns advance by two squares.
+fn leap_squares(side: Side) -> SquareSet
+    ensures { (t : ℕ) → t < 64 → Has result t ↔ (rank_of t ≡ leap_rank side) }
+{
+    match side {
+        Side::White => rank_squares(3),
+        Side::Black => rank_squares(4),
     }
 }
 
@@ -322,6 +296,8 @@ pub(crate) fn leap_block(
     if !is_pawn_of(men.last, side) || !is_pawn_of(men.one, side.other()) {
         return true;
     }
+    // He who may take stands beside.
+    let squares = leap_squares(side);
     let mut scores = nothing();
     if !read_after(
         own,
@@ -331,6 +307,8 @@ pub(crate) fn leap_block(
         true,
         men,
         men.last,
+        squares,
+        squares,
         side,
         &mut scores,
     ) {

@@ -2,6 +2,7 @@
 //! first man, a lane for each of the last. Each code has some turn of these men; codes that are not least score nothing.
 //! So the codes after a turn are not read where the kings tell that all of them are void.
 ghost use Rattle.std.specs.Prelude.{◌≡◌, ◌≢◌, ◌/◌, ◌%◌, ◌<◌, ◌↔◌, ◌==◌, ◌+◌, ℕ, Bool, false, true, not, IfSome, IsTrue};
+ghost use Rattle.egt_board.specs.SquareSet.{Has};
 ghost use Rattle.egt_board.specs.Turned.{turned_side, turned_square};
 ghost use Rattle.egt_board.specs.declared.man.Side.{Side};
 ghost use Rattle.egt_class.specs.Material.{has_equal_sides, material_of};
@@ -19,7 +20,7 @@ ghost use Rattle.egt_check.specs.Worth.{IsReadWith, ScoresNoVoids};
 use crate::block_judging::men_on;
 use crate::digits::{digits_of, first_square};
 use crate::rows::{may_stand, row_of};
-use egt_board::{Side, Square};
+use egt_board::{Side, Square, SquareSet};
 use egt_class::Class;
 use egt_index::home::home;
 use egt_index::laws::codes_tell_turned_men;
@@ -82,12 +83,13 @@ pub(crate) fn begin_with(class: Class, men: &ShelfMen, passed: bool, first: u32)
     }
 }
 
-/// Raises the row of the first man's square to the scores of the codes after the turn, and with a target where one was passed.
+/// Raises the row of the first man's square, if it is one of these, to the scores of the codes after the turn, and with a target where one was passed.
 #[inline(always)]
 fn raise_row(
     table: &Table,
     column: Column,
     men: &ShelfMen,
+    rows: SquareSet,
     first: u32,
     on: Square,
     side: Side,
@@ -100,9 +102,12 @@ fn raise_row(
     requires shelves { AreShelvesOf passed table.now.class (turned_from men.now on turn) first }
     requires room { first + 64 < 4294967296 }
     ensures others { (a b : ℕ) → a ≢ on → at out.new a b ≡ at out.old a b }
-    ensures raised { (b : ℕ) → b < 64 → IsRaisedAfter passed table.now column turn (stand_on men.now on b) side (at out.old on b) (at out.new on b) }
+    ensures raised { (b : ℕ) → b < 64 → Has rows on → IsRaisedAfter passed table.now column turn (stand_on men.now on b) side (at out.old on b) (at out.new on b) }
 {
     codes_tell_turned_men();
+    if !rows.contains(on) {
+        return;
+    }
     let there = turned_from(men, on, turn);
     if !may_stand(there.one, there.on) {
         return;
@@ -122,11 +127,12 @@ fn are_void_after(class: Class, men: &ShelfMen, turn: u8) -> bool
     is_void_after(class, men.white, men.black, turn)
 }
 
-/// Raises the block to the scores of the codes after the turn. False where it does not tell.
+/// Raises these rows of the block to the scores of the codes after the turn. False where it does not tell.
 fn raise_turned(
     table: &Table,
     column: Column,
     men: &ShelfMen,
+    rows: SquareSet,
     side: Side,
     turn: u8,
     passed: bool,
@@ -137,7 +143,7 @@ fn raise_turned(
     requires men { AreMenOf table.now.class men.now }
     requires turn { turn < 16 }
     requires keeps { turn % 8 < symmetries (has_pawns (material_of table.now.class)) }
-    ensures { result ≡ true → (a b : ℕ) → a < 64 → b < 64 → IsRaisedAfter passed table.now column turn (stand_on men.now a b) side (at out.old a b) (at out.new a b) }
+    ensures { result ≡ true → (a b : ℕ) → a < 64 → b < 64 → Has rows a → IsRaisedAfter passed table.now column turn (stand_on men.now a b) side (at out.old a b) (at out.new a b) }
 {
     let class = table.class();
     // Void codes score nothing: the block stays as it is.
@@ -153,6 +159,7 @@ fn raise_turned(
             table,
             column,
             men,
+            rows,
             first,
             Square::at(a),
             side,
@@ -164,11 +171,13 @@ fn raise_turned(
     true
 }
 
-/// Raises the block to the scores of the codes after the turns that exchange colours so and bring the white king home. False where it does not tell.
+/// Raises these rows of the block to the scores of the codes after the turns that exchange colours so and bring the white king home. False where it does not
+/// tell.
 fn raise_home(
     table: &Table,
     column: Column,
     men: &ShelfMen,
+    rows: SquareSet,
     flips: bool,
     passed: bool,
     side: Side,
@@ -177,14 +186,14 @@ fn raise_home(
     requires there { HasColumn column table.now }
     requires voids { ScoresNoVoids table.now column }
     requires men { AreMenOf table.now.class men.now }
-    ensures { result ≡ true → (a b : ℕ) → a < 64 → b < 64 → IsRaisedHome passed table.now column flips (stand_on men.now a b) side (at out.old a b) (at out.new a b) }
+    ensures { result ≡ true → (a b : ℕ) → a < 64 → b < 64 → Has rows a → IsRaisedHome passed table.now column flips (stand_on men.now a b) side (at out.old a b) (at out.new a b) }
 {
     let (first, second) = home(has_pawns(table.class()), flips, men.white);
-    if !raise_turned(table, column, men, side, first, passed, out) {
+    if !raise_turned(table, column, men, rows, side, first, passed, out) {
         return false;
     }
     match second {
-        Some(second) => raise_turned(table, column, men, side, second, passed, out),
+        Some(second) => raise_turned(table, column, men, rows, side, second, passed, out),
         None => true,
     }
 }
@@ -202,12 +211,14 @@ fn men_across(men: &ShelfMen) -> ShelfMen
     }
 }
 
-/// Raises the one block to the scores of the codes in these colours, and where both sides have the same men the other to those with colours exchanged,
-/// there with rows for the last man's square and lanes for the first one's. False where it does not tell.
+/// Raises these rows of the one block to the scores of the codes in these colours, and where both sides have the same men the other block to those with
+/// colours exchanged, there with rows for the last man's square and lanes for the first one's. False where it does not tell.
+#[tactic(auto, using(crate::proofs::BlockRaising::all_squares))]
 pub(crate) fn gather(
     table: &Table,
     column: Column,
     men: &ShelfMen,
+    rows: SquareSet,
     flips: bool,
     passed: bool,
     side: Side,
@@ -217,12 +228,12 @@ pub(crate) fn gather(
     requires there { HasColumn column table.now }
     requires voids { ScoresNoVoids table.now column }
     requires men { AreMenOf table.now.class men.now }
-    ensures own { result ≡ true → (a b : ℕ) → a < 64 → b < 64 → IsRaisedHome passed table.now column flips (stand_on men.now a b) side (at own.old a b) (at own.new a b) }
+    ensures own { result ≡ true → (a b : ℕ) → a < 64 → b < 64 → Has rows a → IsRaisedHome passed table.now column flips (stand_on men.now a b) side (at own.old a b) (at own.new a b) }
     ensures across { result ≡ true → has_equal_sides table.now.class ≡ true → (a b : ℕ) → a < 64 → b < 64 →
         IsRaisedHome passed table.now column (not flips) (stand_on (men_across men.now) b a) side (at across.old b a) (at across.new b a) }
     ensures same { has_equal_sides table.now.class ≡ false → across.new ≡ across.old }
 {
-    if !raise_home(table, column, men, flips, passed, side, own) {
+    if !raise_home(table, column, men, rows, flips, passed, side, own) {
         return false;
     }
     if !has_equal_sides(table.class()) {
@@ -232,6 +243,7 @@ pub(crate) fn gather(
         table,
         column,
         &men_across(men),
+        SquareSet::ALL,
         !flips,
         passed,
         side,
@@ -267,27 +279,48 @@ pub(crate) fn settle(equal: bool, sides: bool, own: &mut Block, across: &Block)
     }
 }
 
+/// The rows that are read for these: all of them where the men are equal, since either of them is the first.
+#[tactic(auto, using(crate::proofs::BlockRaising::all_squares))]
+fn rows_read(equal: bool, rows: SquareSet) -> SquareSet
+    ensures rows { (s : ℕ) → Has rows s → s < 64 → Has result s }
+    ensures all { equal ≡ true → (s : ℕ) → s < 64 → Has result s }
+{
+    if equal { SquareSet::ALL } else { rows }
+}
+
 /// The scores of the positions with these men, in colours exchanged where `flips`, and a target where one was passed, whose squares beside the kings are
-/// those of the rows and lanes. False where the table does not tell.
+/// those of these rows and of all lanes; other rows may lack some. False where the table does not tell.
 pub(crate) fn read_block(
     table: &Table,
     column: Column,
     flips: bool,
     passed: bool,
     men: &ShelfMen,
+    rows: SquareSet,
     side: Side,
     out: &mut Block,
 ) -> bool
     requires there { HasColumn column table.now }
     requires voids { ScoresNoVoids table.now column }
     requires men { AreMenOf table.now.class men.now }
-    ensures { result ≡ true → (a b : ℕ) → a < 64 → b < 64 → IsReadWith passed table.now column flips (stand_on men.now a b) side (at out.new a b) }
+    ensures { result ≡ true → (a b : ℕ) → a < 64 → b < 64 → Has rows a → IsReadWith passed table.now column flips (stand_on men.now a b) side (at out.new a b) }
 {
     *out = nothing();
     let mut across = nothing();
-    if !gather(table, column, men, flips, passed, side, out, &mut across) {
+    let equal = are_equal(men);
+    if !gather(
+        table,
+        column,
+        men,
+        rows_read(equal, rows),
+        flips,
+        passed,
+        side,
+        out,
+        &mut across,
+    ) {
         return false;
     }
-    settle(are_equal(men), has_equal_sides(table.class()), out, &across);
+    settle(equal, has_equal_sides(table.class()), out, &across);
     true
 }

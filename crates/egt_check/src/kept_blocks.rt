@@ -14,7 +14,7 @@ ghost use Rattle.egt_check.specs.Worth.{IsRead, ScoresNoVoids, column_score};
 
 use crate::blocks::read_block;
 use crate::king_blocks::king_of_men;
-use egt_board::{Side, Square};
+use egt_board::{Side, Square, SquareSet};
 use egt_index::ShelfMen;
 use egt_lanes::Block;
 use egt_lanes::block::raise;
@@ -63,6 +63,17 @@ fn place_of(column: Column, king: Square) -> usize
     first + usize::from(king.number() % 2 * 3 + king.number() / 8 % 3)
 }
 
+/// The scores of the positions with these men where that side is to move. False where the table does not tell.
+#[tactic(auto, using(crate::proofs::BlockRaising::all_squares))]
+fn read_all(table: &Table, column: Column, men: &ShelfMen, side: Side, out: &mut Block) -> bool
+    requires there { HasColumn column table.now }
+    requires voids { ScoresNoVoids table.now column }
+    requires men { AreMenOf table.now.class men.now }
+    ensures { result ≡ true → (a b : ℕ) → a < 64 → b < 64 → IsRead table.now column false (stand_on men.now a b) side (at out.new a b) }
+{
+    read_block(table, column, false, false, men, SquareSet::ALL, side, out)
+}
+
 /// Reads the block of these men into the place, where it is not there. False where the table does not tell.
 fn keep(
     table: &Table,
@@ -85,7 +96,7 @@ fn keep(
         return true;
     }
     keys[place] = None;
-    if !read_block(table, column, false, false, men, side, &mut blocks[place]) {
+    if !read_all(table, column, men, side, &mut blocks[place]) {
         return false;
     }
     keys[place] = Some(BlockKey {

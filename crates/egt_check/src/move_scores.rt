@@ -1,11 +1,12 @@
 //! The greatest scores of the moves of a side with two men beside the kings, who stand on two squares.
-ghost use Rattle.std.specs.Prelude.{◌≡◌, ◌<◌, max, ℕ, true};
+ghost use Rattle.std.specs.Prelude.{◌≡◌, ◌<◌, max, ℕ, false, true};
 ghost use Rattle.egt_board.specs.Man.{other_side};
 ghost use Rattle.egt_lanes.specs.Blocks.{at};
 ghost use Rattle.egt_lanes.specs.Raised.{IsRaised};
 ghost use Rattle.egt_lanes.specs.Scores.{zeroing_score};
 ghost use Rattle.egt_table.specs.declared.column.Column.TheVariants as columns;
 ghost use Rattle.egt_check.specs.Kept.{AreKept};
+ghost use Rattle.egt_check.specs.Leaps.{AreStill};
 ghost use Rattle.egt_check.specs.MoveScores.{AreFourMen, AreMoveScores, ArePassedScores, ArePassingCaptures, AreZeroingMoves};
 ghost use Rattle.egt_check.specs.PawnScores.{AreRaisedByPawns};
 ghost use Rattle.egt_check.specs.Taken.{AreLeftCodes, men_swapped};
@@ -13,7 +14,7 @@ ghost use Rattle.egt_check.specs.Worth.{column_score};
 
 use crate::advance_blocks::is_pawn_of;
 use crate::blocks::nothing;
-use crate::kept_blocks::{BlockKeys, KeptBlocks};
+use crate::kept_blocks::{BlockKeys, KeptBlocks, raise_kept};
 use crate::own_men::is_of;
 use crate::passing_blocks::passing_block;
 use crate::pawn_scores::{Promotions, pawns_block};
@@ -96,10 +97,18 @@ fn raise_first_taken(
     true
 }
 
-/// Raises the scores to those of pawns' moves but captures in passing, where that side has a pawn. False where a table
-/// does not tell.
-fn raise_pawns(four: &FourMen, column: Column, men: &ShelfMen, side: Side, out: &mut Block) -> bool
-    requires { AreFourMen column four.now men.now }
+/// Raises the scores to those of pawns' moves but captures in passing, where that side has a pawn; `still` are those of the
+/// men where they stand, the other side to move. False where a table does not tell.
+fn raise_pawns(
+    four: &FourMen,
+    column: Column,
+    men: &ShelfMen,
+    side: Side,
+    still: &Block,
+    out: &mut Block,
+) -> bool
+    requires four { AreFourMen column four.now men.now }
+    requires still { AreStill four.now.own.now column false men.now side still.now }
     ensures { result ≡ true → (a b : ℕ) → a < 64 → b < 64 → (pawns : ℕ) × AreRaisedByPawns column four.now.own.now four.now.first_pawn four.now.last_pawn men.now side a b pawns × (at out.new a b ≡ max (at out.old a b) pawns) }
 {
     if !is_pawn_of(men.one, side) && !is_pawn_of(men.last, side) {
@@ -113,6 +122,7 @@ fn raise_pawns(four: &FourMen, column: Column, men: &ShelfMen, side: Side, out: 
         &four.last_pawn,
         men,
         side,
+        still,
         &mut pawns,
     ) {
         return false;
@@ -128,15 +138,32 @@ pub(crate) fn zeroing_moves(
     column: Column,
     men: &ShelfMen,
     side: Side,
+    keys: &mut BlockKeys,
+    blocks: &mut KeptBlocks,
     out: &mut Block,
 ) -> bool
-    requires { AreFourMen column four.now men.now }
-    ensures { result ≡ true → (a b : ℕ) → a < 64 → b < 64 → AreZeroingMoves column four.now men.now side a b (at out.new a b) }
+    requires men { AreFourMen column four.now men.now }
+    requires kept { AreKept four.now.own.now men.now (other_side side) keys.old blocks.old }
+    ensures kept { result ≡ true → AreKept four.now.own.now men.now (other_side side) keys.new blocks.new }
+    ensures scores { result ≡ true → (a b : ℕ) → a < 64 → b < 64 → AreZeroingMoves column four.now men.now side a b (at out.new a b) }
 {
+    let mut still = nothing();
+    if !raise_kept(
+        four.own,
+        column,
+        men,
+        side.other(),
+        keys,
+        blocks,
+        &mut still,
+    ) {
+        return false;
+    }
     if !taken_block(four.first, column, four.first_flips, men, side, out) {
         return false;
     }
-    raise_first_taken(four, column, men, side, out) && raise_pawns(four, column, men, side, out)
+    raise_first_taken(four, column, men, side, out)
+        && raise_pawns(four, column, men, side, &still, out)
 }
 
 /// The same of the captures in passing.
@@ -192,7 +219,7 @@ pub(crate) fn move_scores(
         return false;
     }
     let mut zeroed = nothing();
-    if !zeroing_moves(four, Column::Mate, men, side, &mut zeroed) {
+    if !zeroing_moves(four, Column::Mate, men, side, keys, blocks, &mut zeroed) {
         return false;
     }
     raise(mates, &zeroed);

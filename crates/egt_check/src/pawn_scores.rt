@@ -5,11 +5,12 @@ ghost use Rattle.egt_index.specs.ShelfCodes.{AreMenOf};
 ghost use Rattle.egt_lanes.specs.Blocks.{at};
 ghost use Rattle.egt_table.specs.Table.{HasColumn};
 ghost use Rattle.egt_steps.specs.PawnMoves.{men_after, officer_of};
+ghost use Rattle.egt_check.specs.Leaps.{AreStill};
 ghost use Rattle.egt_check.specs.PawnScores.{ArePawnScores, ArePromotionsOf, AreRaisedByPawns, IsPromotionOf, IsPromotionScore, IsRaisedByPawn};
 ghost use Rattle.egt_check.specs.Taken.{men_swapped};
 ghost use Rattle.egt_check.specs.Worth.{ScoresNoVoids};
 
-use crate::advance_blocks::{advance_block, leap_block, promoting_block, step_block};
+use crate::advance_blocks::{leap_block, promoting_block, promotion_block, step_block};
 use crate::blocks::{are_equal, nothing};
 use crate::move_scores::men_swapped;
 use crate::own_men::{is_of, is_pawn};
@@ -58,13 +59,13 @@ fn raise_promotion(
     ensures { result ≡ true → (a b : ℕ) → a < 64 → b < 64 → IsPromotionScore column promotion.now men.now side a b (at out.old a b) (at out.new a b) }
 {
     let mut advanced = nothing();
-    if !advance_block(
+    if !promotion_block(
         promotion.both,
         column,
         promotion.before,
         promotion.both_flips,
         men,
-        Some(promotion.kind),
+        promotion.kind,
         side,
         &mut advanced,
     ) {
@@ -96,6 +97,7 @@ pub(crate) fn pawn_block(
     promotions: &Promotions,
     men: &ShelfMen,
     side: Side,
+    still: &Block,
     out: &mut Block,
 ) -> bool
     requires there { HasColumn column own.now }
@@ -103,11 +105,10 @@ pub(crate) fn pawn_block(
     requires men { AreMenOf own.now.class (men_after first false men.now men.now.last) }
     requires promotions { ArePromotionsOf column promotions.now men.now }
     requires mine { men.now.last.side ≡ side }
+    requires still { AreStill own.now column first men.now side still.now }
     ensures { result ≡ true → (a b : ℕ) → a < 64 → b < 64 → ArePawnScores column own.now first promotions.now men.now side a b (at out.new a b) }
 {
-    if !step_block(own, column, first, men, side, out) {
-        return false;
-    }
+    step_block(own, column, first, men, side, still, out);
     let mut leaps = nothing();
     if !leap_block(own, column, first, men, side, &mut leaps) {
         return false;
@@ -134,12 +135,14 @@ fn raise_pawn(
     promotions: &Option<Promotions>,
     men: &ShelfMen,
     side: Side,
+    still: &Block,
     out: &mut Block,
 ) -> bool
     requires there { HasColumn column own.now }
     requires voids { ScoresNoVoids own.now column }
     requires men { AreMenOf own.now.class (men_after first false men.now men.now.last) }
     requires promotions { IfSome promotions.now (λ p. ArePromotionsOf column p men.now) }
+    requires still { AreStill own.now column first men.now side still.now }
     ensures { result ≡ true → (a b : ℕ) → a < 64 → b < 64 → IsRaisedByPawn column own.now first promotions.now men.now side a b (at out.old a b) (at out.new a b) }
 {
     if !is_pawn(men.last) || !is_of(men.last, side) {
@@ -149,7 +152,7 @@ fn raise_pawn(
         return false;
     };
     let mut block = nothing();
-    if !pawn_block(own, column, first, of_kinds, men, side, &mut block) {
+    if !pawn_block(own, column, first, of_kinds, men, side, still, &mut block) {
         return false;
     }
     raise(out, &block);
@@ -157,7 +160,7 @@ fn raise_pawn(
 }
 
 /// The greatest scores of the positions after all advances, promotions and promoting captures of both men, as far as
-/// they are pawns of that side. False where a table does not tell.
+/// they are pawns of that side; `still` are the scores of the men where they stand, the other side to move. False where a table does not tell.
 pub(crate) fn pawns_block(
     own: &Table,
     column: Column,
@@ -165,6 +168,7 @@ pub(crate) fn pawns_block(
     last: &Option<Promotions>,
     men: &ShelfMen,
     side: Side,
+    still: &Block,
     out: &mut Block,
 ) -> bool
     requires there { HasColumn column own.now }
@@ -173,10 +177,11 @@ pub(crate) fn pawns_block(
     requires first { IfSome first.now (λ p. ArePromotionsOf column p (men_swapped men.now)) }
     requires last { IfSome last.now (λ p. ArePromotionsOf column p men.now) }
     requires same { men.now.one ≡ men.now.last → first.now ≡ last.now }
+    requires still { AreStill own.now column false men.now side still.now }
     ensures { result ≡ true → (a b : ℕ) → a < 64 → b < 64 → AreRaisedByPawns column own.now first.now last.now men.now side a b (at out.new a b) }
 {
     *out = nothing();
-    if !raise_pawn(own, column, false, last, men, side, out) {
+    if !raise_pawn(own, column, false, last, men, side, still, out) {
         return false;
     }
     // What equal men are promoted to is told once: in either order of the two the codes are the same.
@@ -185,6 +190,8 @@ pub(crate) fn pawns_block(
         raise_transposed(out, &copy);
         return true;
     }
+    let mut still_across = nothing();
+    raise_transposed(&mut still_across, still);
     let mut across = nothing();
     if !raise_pawn(
         own,
@@ -193,6 +200,7 @@ pub(crate) fn pawns_block(
         first,
         &men_swapped(men),
         side,
+        &still_across,
         &mut across,
     ) {
         return false;

@@ -37,7 +37,7 @@ pub(crate) fn reach_scores(
         return false;
     }
     let mut zeroed = nothing();
-    if !zeroing_moves(four, Column::Reach, men, side, &mut zeroed) {
+    if !zeroing_moves(four, Column::Reach, men, side, keys, blocks, &mut zeroed) {
         return false;
     }
     raise(out, &zeroed);

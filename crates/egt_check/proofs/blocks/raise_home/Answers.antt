@@ -22,14 +22,14 @@ raise_turned-requires-in-Some-clause-keeps c =
     (subst (λ (o : Option ℕ). IfSome o (IsTurnWith (has_pawns (material_of t.class)) c.args.flips)) c.in-Some.is home.other).keeps
 
 pub returns-in-Some : goal.returns-in-Some
-returns-in-Some c = λ told a b a_in b_in.
+returns-in-Some c = λ told a b a_in b_in here.
     let t = c.args.table.now in
     let home = subst (λ (o : Option ℕ). AreHome (has_pawns (material_of t.class)) c.args.flips c.args.men.now.white c.home-first.result.0 o) c.in-Some.is (turns_home _ _ _ _ _ _ _ c.has_pawns.ensures c.class.ensures.class c.home-first.ensures) in
     home_by_two c.args.passed t.class c.args.flips (stand_on c.args.men.now a b) c.args.side c.home-first.result.0 c.in-Some.second home (at c.args.out.now a b) (at c.raise_turned.new.out a b) (at c.raise_turned-in-Some.new.out a b) (column_score t c.args.column)
-    (c.if-not-raise_turned.ensures refl a b a_in b_in) (c.raise_turned-in-Some.ensures told a b a_in b_in)
+    (c.if-not-raise_turned.ensures refl a b a_in b_in here) (c.raise_turned-in-Some.ensures told a b a_in b_in here)
 
 pub returns-in-None : goal.returns-in-None
-returns-in-None c = λ told a b a_in b_in.
+returns-in-None c = λ told a b a_in b_in here.
     let t = c.args.table.now in
     let home = subst (λ (o : Option ℕ). AreHome (has_pawns (material_of t.class)) c.args.flips c.args.men.now.white c.home-first.result.0 o) c.in-None.is (turns_home _ _ _ _ _ _ _ c.has_pawns.ensures c.class.ensures.class c.home-first.ensures) in
-    home_by_one c.args.passed t.class c.args.flips (stand_on c.args.men.now a b) c.args.side c.home-first.result.0 home (at c.args.out.now a b) (at c.raise_turned.new.out a b) (column_score t c.args.column) (c.if-not-raise_turned.ensures refl a b a_in b_in)
+    home_by_one c.args.passed t.class c.args.flips (stand_on c.args.men.now a b) c.args.side c.home-first.result.0 home (at c.args.out.now a b) (at c.raise_turned.new.out a b) (column_score t c.args.column) (c.if-not-raise_turned.ensures refl a b a_in b_in here)

@@ -44,8 +44,11 @@ row_of-row-requires-clause-shelf c = (shelf_there c).0
 pub row_of-row-requires-clause-within : goal.row_of-row-requires-clause-within
 row_of-row-requires-clause-within c = (shelf_there c).1
 
+pub returns-then-not-contains-clause-raised : goal.returns-then-not-contains-clause-raised
+returns-then-not-contains-clause-raised c = λ b b_in here. absurd (false≢true (sym c.if-not-contains.true ∙ c.contains.ensures.1 here))
+
 pub returns-then-not-may_stand-clause-raised : goal.returns-then-not-may_stand-clause-raised
-returns-then-not-may_stand-clause-raised c = λ b b_in.
+returns-then-not-may_stand-clause-raised c = λ b b_in _.
     let t = c.args.table.now in
     let stand = stand_on c.args.men.now c.args.on b in
     raised_by_none (at c.args.out.now c.args.on b) (λ code. IsCodeAfter c.args.passed t.class c.args.turn code stand c.args.side) (column_score t c.args.column)
@@ -55,7 +58,7 @@ returns-then-not-may_stand-clause-raised c = λ b b_in.
     false≢true (sym c.if-not-may_stand.true ∙ c.may_stand.ensures.1 there))
 
 pub returns-clause-raised : goal.returns-clause-raised
-returns-clause-raised c = λ b b_in.
+returns-clause-raised c = λ b b_in _.
     let t = c.args.table.now in
     let s = turned_square (c.args.turn % 8) (eqb (c.args.turn / 8) 1) b in
     let s_in = turned_in (eqb (c.args.turn / 8) 1) (c.args.turn % 8) b (omega arith) b_in in

@@ -1,5 +1,6 @@
 use Rattle.std.proofs.Common.{◌≡◌, ◌≢◌, ℕ, Bool, arith, sym, ◌∙◌, inl, inr, subst}
 use Rattle.std.proofs.lemmas.Bool.{cases_lt}
+use Rattle.std.specs.Int.{bit_at}
 use Rattle.egt_lanes.specs.Blocks.{at}
 use Rattle.egt_index.specs.Index.{IsVoid}
 use Rattle.egt_index.specs.TurnedMen.{IsTurnedCodeWith}
@@ -18,14 +19,14 @@ loop-a-preserved c =
     let new = c.raise_row.new.out in
     let raised = c.raise_row.ensures.raised in
     let here = c.at.ensures in record {
-      done = λ a b a_in b_in. elim (cases_lt a n) [
+      done = λ a b a_in b_in of_rows. elim (cases_lt a n) [
         | inl less ↦
             let other : a ≢ c.at.result = λ e. let same = e ∙ here in omega (arith, same, less) in
-            subst (IsRaisedAfter c.args.passed t c.args.column c.args.turn (stand_on c.args.men.now a b) c.args.side (at c.args.out.now a b)) (sym (c.raise_row.ensures.others a b other)) (before.done a b less b_in)
+            subst (IsRaisedAfter c.args.passed t c.args.column c.args.turn (stand_on c.args.men.now a b) c.args.side (at c.args.out.now a b)) (sym (c.raise_row.ensures.others a b other)) (before.done a b less b_in of_rows)
         | inr ge ↦
             let same : c.at.result ≡ a = here ∙ (omega arith) in
             subst (λ k. IsRaisedAfter c.args.passed t c.args.column c.args.turn (stand_on c.args.men.now k b) c.args.side (at c.args.out.now k b) (at new k b)) same
-            (subst (λ low. IsRaisedAfter c.args.passed t c.args.column c.args.turn (stand_on c.args.men.now c.at.result b) c.args.side low (at new c.at.result b)) (before.left c.at.result b (omega (arith, here))) (raised b b_in))
+            (subst (λ low. IsRaisedAfter c.args.passed t c.args.column c.args.turn (stand_on c.args.men.now c.at.result b) c.args.side low (at new c.at.result b)) (before.left c.at.result b (omega (arith, here))) (raised b b_in (subst (λ k. bit_at c.args.rows.bits k ≡ 1) (sym same) of_rows)))
       ];
       left = λ a b a_in.
           let other : a ≢ c.at.result = λ e. let same = e ∙ here in omega (arith, same, a_in) in
@@ -38,7 +39,7 @@ raise_row-requires-clause-shelves c =
     (subst (λ (men : ShelfMen). AreShelvesOf c.args.passed c.class-class.result men c.in-Some.first) c.turned_from-there.ensures c.in-Some.ensures.shelves)
 
 pub returns-then-are_void_after : goal.returns-then-are_void_after
-returns-then-are_void_after c = λ told a b a_in b_in.
+returns-then-are_void_after c = λ told a b a_in b_in _.
     let t = c.args.table.now in
     let turn = c.args.turn in
     let side = c.args.side in

@@ -1,9 +1,35 @@
-use Rattle.std.proofs.Common.{◌∙◌, ap, max}
+use Rattle.std.proofs.Common.{◌≡◌, ℕ, ◌<◌, List, false, ◌∙◌, ap, max, sym, subst}
+use Rattle.egt_board.specs.Man.{other_side}
+use Rattle.egt_board.specs.declared.man.Side.{Side}
+use Rattle.egt_index.specs.TurnedMen.{IsSomeTurnedCode}
+use Rattle.egt_index.specs.declared.shelf_codes.ShelfMen.{ShelfMen}
 use Rattle.egt_lanes.specs.Blocks.{at}
+use Rattle.egt_lanes.specs.Raised.{IsRaised}
+use Rattle.egt_table.specs.Table.{TableValue}
+use Rattle.egt_table.specs.declared.column.Column.{Column}
+use Rattle.egt_steps.specs.Stands.{stand_on}
+use Rattle.egt_check.specs.Kept.{AreKept}
+use Rattle.egt_check.specs.Leaps.{AreStill}
+use Rattle.egt_check.specs.Worth.{IsRead, column_score}
 use Rattle.egt_check.proofs.move_scores.zeroing_moves.Goals as goal
 
-pub returns-then-raise_first_taken : goal.returns-then-raise_first_taken
-returns-then-raise_first_taken c = λ told a b a_in b_in.
+-- ---- the men where they stand
+
+still_of : (t : TableValue) (column : Column) (men : ShelfMen) (side other : Side) → other ≡ other_side side → (low high : List (List ℕ)) → ((a b : ℕ) → a < 64 → b < 64 → at low a b ≡ 0)
+    → ((a b : ℕ) → a < 64 → b < 64 → IsRaised (at low a b) (λ code. IsSomeTurnedCode t.class code false (stand_on men a b) other) (column_score t column) (at high a b)) → AreStill t column false men side high
+still_of t column men side other is low high none raised = λ a b a_in b_in.
+    subst (λ (s : Side). IsRead t column false (stand_on men a b) s (at high a b)) is
+    (subst (λ n. IsRaised n (λ code. IsSomeTurnedCode t.class code false (stand_on men a b) other) (column_score t column) (at high a b)) (none a b a_in b_in) (raised a b a_in b_in))
+
+pub raise_kept-requires-clause-kept : goal.raise_kept-requires-clause-kept
+raise_kept-requires-clause-kept c = subst (λ (s : Side). AreKept c.args.four.now.own.now c.args.men.now s c.args.keys.now c.args.blocks.now) (sym c.other.ensures) c.requires.kept
+
+pub raise_pawns-requires-clause-still : goal.raise_pawns-requires-clause-still
+raise_pawns-requires-clause-still c =
+    still_of c.args.four.now.own.now c.args.column c.args.men.now c.args.side c.other.result c.other.ensures c.nothing-still.result c.raise_kept.new.out c.nothing-still.ensures (c.raise_kept.ensures.raised c.if-not-raise_kept.false)
+
+pub returns-then-raise_first_taken-clause-scores : goal.returns-then-raise_first_taken-clause-scores
+returns-then-raise_first_taken-clause-scores c = λ told a b a_in b_in.
     let taken = c.raise_first_taken.ensures c.if-raise_first_taken.true a b a_in b_in in
     let pawns = c.raise_pawns.ensures told a b a_in b_in in record {
       by_first = at c.taken_block.new.out a b;

@@ -11,7 +11,7 @@ returns c = λ told a b a_in b_in.
       queen = queen;
       rook = at c.raise_promotion-2.new.out a b;
       bishop = at c.raise_promotion-3.new.out a b;
-      stepped_raised = c.step_block.ensures c.if-not-step_block.false a b a_in b_in;
+      stepped_raised = c.step_block.ensures a b a_in b_in;
       leapt_raised = c.leap_block.ensures c.if-not-leap_block.false a b a_in b_in;
       queen_is =
           subst (λ n. IsPromotionScore c.args.column c.args.promotions.now.queen c.args.men.now c.args.side a b n queen) (c.raise.ensures a b a_in b_in)

@@ -37,5 +37,5 @@ returns c = λ told a b a_in b_in.
           subst (λ n. IsRaisedByPawn c.args.column own true c.args.first.now (men_swapped men) side b a n by_first) (c.nothing-across.ensures b a b_in a_in)
           (subst (λ (other : ShelfMen). IsRaisedByPawn c.args.column own true c.args.first.now other side b a (at c.nothing-across.result b a) by_first) c.men_swapped.ensures (c.raise_pawn-2.ensures c.if-not-raise_pawn-2.false b a b_in a_in));
       last_is = subst (λ n. IsRaisedByPawn c.args.column own false c.args.last.now men side a b n by_last) (c.nothing.ensures a b a_in b_in) (c.raise_pawn.ensures c.if-not-raise_pawn.false a b a_in b_in);
-      is = c.raise_transposed-2.ensures a b a_in b_in;
+      is = c.raise_transposed-3.ensures a b a_in b_in;
     }
