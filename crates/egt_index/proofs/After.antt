@@ -27,7 +27,7 @@ use Rattle.egt_index.specs.Picked.{AreCounted, Picks, Goes}
 use Rattle.egt_index.specs.Size.{king_base, base_of, men_beside, has_pawns, has_target}
 use Rattle.egt_index.specs.Spelled.{IsListed, Tells}
 use Rattle.egt_index.specs.StepCodes.{turned_stand}
-use Rattle.egt_index.specs.Stood.{Entry, men_among, rest_of, list_of, IsOff, AllStand, Stood, entry_after, IsInOrder, IsOrdered, IsStandAfter, HasDigit}
+use Rattle.egt_index.specs.Stood.{Entry, men_among, rest_of, list_of, IsOff, AllApart, AllStand, Stood, entry_after, IsInOrder, IsOrdered, IsStandAfter, HasDigit}
 use Rattle.egt_index.specs.TurnedMen.{turned_with}
 use Rattle.egt_index.specs.Turns.{IsTurn, TurnCode}
 use Rattle.egt_index.specs.declared.stand.Stand.{Stand}
@@ -198,6 +198,11 @@ sorted_two men (Some e) (Some d) all order = (all.0, (λ s h. of_one s h), (all.
     of_one : (s : ℕ) → IsListed (d ∷ []) e.0 s → e.1 ≤ s
     of_one s (inl h) = let le = order (sym h.0) in let is = h.1 in omega arith
     of_one s (inr h) = absurd h
+
+-- men who stand, each on a square of his own
+pub all_apart : (flips : Bool) (men : Placement) (list : List (Man × ℕ)) → AllStand flips men list → AllApart list
+all_apart flips men [] all = tt
+all_apart flips men (e ∷ list) all = (all.2, all_apart flips men list all.3)
 
 pub listed_there : (men : Placement) (list : List (Man × ℕ)) (man : Man) (s : ℕ) → AllStand false men list → IsListed list man s → Stands men s man
 listed_there men [] man s all h = absurd h

@@ -13,10 +13,8 @@ use Rattle.egt_board.specs.Placement.{Placement}
 use Rattle.egt_board.specs.Turned.{turned_man}
 use Rattle.egt_class.specs.Below.{all_below, passes_below}
 use Rattle.egt_class.specs.Material.{material_of, materials, has_equal_sides}
-use Rattle.egt_index.specs.Scales.{IsOn, StandOn}
 use Rattle.egt_index.specs.Size.{men_beside, men_in_order}
 use Rattle.egt_index.specs.Stood.{Entry, men_among, list_of, AllStand, IsFilled, Stood, on_square_of}
-use Rattle.egt_index.specs.declared.scales.Squares.{Squares}
 use Rattle.egt_index.specs.declared.stand.Stand.{Stand}
 use Rattle.egt_index.proofs.Counted.{man_told}
 use Rattle.egt_index.proofs.Standing.{turned_back}
@@ -88,13 +86,6 @@ pair_stood c flips men stand c_in equal stood = ap is_pair (tails stood.are) ∙
     tails : {a b : Man} {x y : List Man} → a ∷ b ∷ x ≡ a ∷ b ∷ y → x ≡ y
     tails e = cc
 
-on_exchanged : (x y : Entry) (n l : ℕ) → is_pair (men_among (option_to_list x ++ option_to_list y)) ≡ true → IsOn x n → IsOn y l → IsOn (on_square_of x y) l × IsOn (on_square_of y x) n
-unfolding is_pair
-on_exchanged None None n l pair on_n on_l = (tt, tt)
-on_exchanged None (Some d) n l pair on_n on_l = absurd (false≢true pair)
-on_exchanged (Some e) None n l pair on_n on_l = absurd (false≢true pair)
-on_exchanged (Some e) (Some d) n l pair on_n on_l = (on_l, on_n)
-
 pub stood_exchanged : (c : ℕ) (flips : Bool) (men : Placement) (stand other : Stand) → c < 36 → has_equal_sides c ≡ true → other.white ≡ stand.black → other.black ≡ stand.white
     → other.next ≡ on_square_of stand.next stand.last → other.last ≡ on_square_of stand.last stand.next → Stood c flips men (list_of stand) → Stood c (not flips) men (list_of other)
 stood_exchanged c flips men stand other c_in equal white black next last stood = record {
@@ -115,27 +106,6 @@ filled_both (Some e) (Some d) filled none = absurd cc
 
 pub filled_exchanged : (stand other : Stand) → other.next ≡ on_square_of stand.next stand.last → other.last ≡ on_square_of stand.last stand.next → IsFilled stand → IsFilled other
 filled_exchanged stand other next last filled = λ none. last ∙ filled_both stand.next stand.last filled (sym next ∙ none)
-
--- the stand with colours exchanged
-abbrev pub exchange : Stand → Stand
-exchange s = record { white = s.black; black = s.white; next = on_square_of s.next s.last; last = on_square_of s.last s.next }
-
--- men on squares that tell where they stand
-pub on_own : (stand : Stand) (squares : Squares) → IsFilled stand → squares.black ≡ stand.black → IsOn stand.next squares.next → IsOn stand.last squares.last → StandOn stand stand.white squares
-on_own stand squares filled black next last = record { filled = filled; white_is = refl; black_is = sym black; next = next; last = last }
-
--- with colours exchanged each stands on the square of the other
-pub stand_exchanged : (c : ℕ) (flips : Bool) (men : Placement) (stand : Stand) (white : ℕ) (squares other : Squares) → c < 36 → has_equal_sides c ≡ true → Stood c flips men (list_of stand) → StandOn stand white squares
-    → other.black ≡ white → other.next ≡ squares.last → other.last ≡ squares.next → StandOn (exchange stand) squares.black other
-stand_exchanged c flips men stand white squares other c_in equal stood on black next last =
-    let both = on_exchanged stand.next stand.last squares.next squares.last (pair_stood c flips men stand c_in equal stood) on.next on.last in
-    record {
-      filled = filled_exchanged stand (exchange stand) refl refl on.filled;
-      white_is = on.black_is;
-      black_is = on.white_is ∙ sym black;
-      next = subst (IsOn (exchange stand).next) (sym next) both.0;
-      last = subst (IsOn (exchange stand).last) (sym last) both.1;
-    }
 
 -- there no two men beside the kings are equal
 pair_apart : (x y : Entry) → is_pair (men_among (option_to_list x ++ option_to_list y)) ≡ true → men_among (option_to_list (on_square_of x y)) ≡ men_among (option_to_list (on_square_of y x)) → on_square_of y x ≡ on_square_of x y

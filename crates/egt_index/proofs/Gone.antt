@@ -1,27 +1,18 @@
 -- What the code after a step spells: the men who stood there, but for the one who went.
-use Rattle.std.proofs.Common.{◌≡◌, ◌≢◌, ℕ, ◌<◌, Bool, false, List, [], ◌∷◌, ◌++◌, map, None, Some, refl, sym, ap, ◌∙◌, inl, inr, subst}
+use Rattle.std.proofs.Common.{◌≡◌, ◌≢◌, ℕ, List, [], ◌∷◌, ◌++◌, map, None, Some, refl, sym, ap, ◌∙◌, inl, inr, subst}
 use Rattle.std.specs.FinMap as placement
 use Rattle.std.specs.Option.{option_to_list}
 use Rattle.std.proofs.lemmas.Bool.{cases_eq}
 use Rattle.egt_board.specs.Attack.{king_of}
 use Rattle.egt_board.specs.Listed.{men_of}
-use Rattle.egt_board.specs.Man.{other_side}
-use Rattle.egt_board.specs.Pawn.{MayStand}
-use Rattle.egt_board.specs.Placement.{Stands, get-insert_other, get-insert_same, get-remove_other, get-remove_same, same_men}
-use Rattle.egt_board.specs.Setup.{Setup}
+use Rattle.egt_board.specs.Placement.{get-insert_other, get-insert_same, get-remove_other, get-remove_same, same_men}
 use Rattle.egt_board.specs.declared.man.Man.{Man}
-use Rattle.egt_board.specs.declared.man.Side.{Side}
 use Rattle.egt_board.specs.declared.man.Side.TheVariants.{White, Black}
-use Rattle.egt_class.specs.Material.{material_of}
-use Rattle.egt_index.specs.Code.{Spells}
-use Rattle.egt_index.specs.Scales.{AreScales, man_at}
 use Rattle.egt_index.specs.Spelled.{IsListed}
-use Rattle.egt_index.specs.Stood.{AllApart, Entry, HasStand, IsOff, list_of}
+use Rattle.egt_index.specs.Stood.{AllApart, Entry, IsOff, list_of}
 use Rattle.egt_index.specs.Went.{moved_entry, moved_square}
-use Rattle.egt_index.specs.declared.scales.Scales.{Scales}
 use Rattle.egt_index.specs.declared.stand.Stand.{Stand}
 use Rattle.egt_index.proofs.Carried.{went, stayed}
-use Rattle.egt_index.proofs.Lined.{all_apart}
 use Rattle.egt_index.proofs.Listing.{AreApart, get_here, get_later, listed_stands}
 use Rattle.egt_index.proofs.Moved.{after_of}
 use Rattle.egt_index.proofs.Setups.{free_of}
@@ -97,9 +88,3 @@ module _ (from to : ℕ) (apart : to ≢ from) where
 
   pub list_moved : (s : Stand) → list_of (after_of from to s) ≡ moved_list (list_of s)
   list_moved s = ap (λ l. (king_of White, moved_square from to s.white) ∷ (king_of Black, moved_square from to s.black) ∷ l) (both_listed s.next s.last)
-
--- a code of the men of p, of whom the one on `from` stands on `to`, where he may, and of the other side's turn
-module _ (c code from to : ℕ) (p q : Setup) (stand : Stand) (old side : Side) (passed : Bool) (has : HasStand c false stand old passed p) (side_is : side ≡ other_side old) (scales : Scales)
-    (are : AreScales (material_of c) (man_at stand.next) (man_at stand.last) side scales) (to_in : to < 64) (other : to ≢ from) (may : (man : Man) → Stands p.men from man → MayStand man to) (spells : Spells c code q) where
-  apart : AllApart (list_of stand)
-  apart = all_apart false p.men (list_of stand) has.stood.all

@@ -11,7 +11,6 @@ pub mod Kings
 pub mod Turned
 pub mod Best
 pub mod MenTable
-pub mod ScaleTable
 pub mod TrianglePlaces
 pub mod Found
 pub mod Classes
@@ -35,8 +34,7 @@ pub mod Beating
 pub mod Nearing
 pub mod Swapping
 pub mod Boarding
-pub mod Scaled
-pub mod Lined
+pub mod MenNumber
 pub mod AtIndex
 pub mod FrameMen
 pub mod IndexTotal

@@ -21,7 +21,7 @@ use Rattle.egt_index.proofs.Decoded.{code_of_parts}
 use Rattle.egt_index.proofs.MixedDigits.{number_of-below}
 use Rattle.egt_index.proofs.Opposed.{may_stand}
 use Rattle.egt_index.proofs.Placing.{within}
-use Rattle.egt_index.proofs.Scaled.{number_on, number_told}
+use Rattle.egt_index.proofs.MenNumber.{number_on, number_told}
 use Rattle.egt_index.proofs.Splitting.{spells_men}
 
 -- ---- one man beside the kings

@@ -1,5 +1,5 @@
 -- The least code by the kings' squares, which are its highest digits.
-use Rattle.std.proofs.Common.{◌≡◌, ◌≢◌, ◌⊎◌, ℕ, ◌+◌, ◌*◌, ◌/◌, ◌%◌, ◌<◌, ◌≤◌, not, Bool, true, false, eqb, min, Option, Some, None, IfSome, arith, refl, sym, ap, ◌∙◌, subst, inl, inr}
+use Rattle.std.proofs.Common.{◌≡◌, ◌≢◌, ◌⊎◌, ℕ, ◌+◌, ◌*◌, ◌/◌, ◌%◌, ◌<◌, ◌≤◌, not, Bool, true, eqb, min, Option, Some, None, IfSome, arith, refl, sym, ap, ◌∙◌, subst, inl, inr}
 use Rattle.std.proofs.lemmas.Bool.{cases_eq, cases_lt}
 use Rattle.egt_board.specs.declared.man.Side.{Side}
 use Rattle.egt_board.specs.declared.man.Side.TheVariants.{White, Black}
@@ -10,13 +10,13 @@ use Rattle.egt_board.specs.Turned.{turned_square}
 use Rattle.egt_class.specs.Material.{has_equal_sides, material_of}
 use Rattle.egt_index.specs.Code.{Spells}
 use Rattle.egt_index.specs.Facts.{Facts}
-use Rattle.egt_index.specs.Home.{IsTurnWith, BringsHome, AreHome, LeastWith}
+use Rattle.egt_index.specs.Home.{IsTurnWith, BringsHome, AreHome}
 use Rattle.egt_index.specs.Index.{IsIndex}
 use Rattle.egt_index.specs.Nearer.{KingsHome, AreNearest, IsVoidAfter}
 use Rattle.egt_index.specs.Size.{has_pawns}
 use Rattle.egt_index.specs.Stood.{AreNear, HasStand}
 use Rattle.egt_index.specs.TurnedMen.{IsTurnedCodeWith, seen_across}
-use Rattle.egt_index.specs.Turns.{IsTurn, Best}
+use Rattle.egt_index.specs.Turns.{IsTurn}
 use Rattle.egt_index.specs.Went.{AreOnBoard}
 use Rattle.egt_index.specs.declared.stand.Stand.{Stand}
 use Rattle.egt_index.proofs.Beating.{has_exchanged, kings_less, spelled_home, stands_after}
@@ -95,38 +95,6 @@ kings_of_two facts c flips stand side passed p first second c_in has home = elim
 
     few : (a b : ℕ) → (min a b ≤ a) × (min a b ≤ b)
     few a b = (omega arith, omega arith)
-
--- in the colours whose kings come to lesser squares the least code is the least of all
-pub nearer : (c : ℕ) (p : Setup) (flips others : Bool) (k l : ℕ) (o : Option ℕ) → ((b : Bool) → (b ≡ flips) ⊎ (b ≡ others)) → KingsHome c p flips k → KingsHome c p others l → k < l → LeastWith c p flips o → Best c p 16 o
-nearer c p flips others k l None either own other less none = absurd (none own.turn own.image own.code own.flips_is own.below own.turned own.spells)
-nearer c p flips others k l (Some code) either own other less least = record {
-  turn = least.turn;
-  below = least.below;
-  image = least.image;
-  turned = least.turned;
-  spells = least.spells;
-  least = λ t q n t_in turn spells. elim (either (eqb (t / 8) 1)) [
-    | inl e ↦ least.least t q n e t_in turn spells
-    | inr e ↦
-        let kings = spells.admissible.kings in
-        let far = other.least t q n kings.white kings.black t_in e turn spells kings.white_there.stands kings.black_there.stands in
-        let own_is = own.is in
-        let lt = kings_less c own.code n own.image q own.white own.black kings.white kings.black own.spells spells own.white_there own.black_there kings.white_there.stands kings.black_there.stands (omega arith) in
-        let le = least.least own.turn own.image own.code own.flips_is own.below own.turned own.spells in omega arith
-  ];
-}
-
-pub told : (flips b : Bool) → (b ≡ flips) ⊎ (b ≡ not flips)
-told true true = inl refl
-told true false = inr refl
-told false true = inr refl
-told false false = inl refl
-
-pub told_other : (flips b : Bool) → (b ≡ not flips) ⊎ (b ≡ flips)
-told_other true true = inr refl
-told_other true false = inl refl
-told_other false true = inl refl
-told_other false false = inr refl
 
 -- kings on the same squares come to the same
 same_kings : (stand : Stand) (t white black : ℕ) → stand.white ≡ white → stand.black ≡ black → kings_after stand t ≡ 64 * turned_square (t % 8) (eqb (t / 8) 1) white + turned_square (t % 8) (eqb (t / 8) 1) black

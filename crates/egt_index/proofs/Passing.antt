@@ -34,7 +34,7 @@ use Rattle.egt_index.specs.declared.stand.Stand.{Stand}
 use Rattle.egt_index.proofs.Decoded.{has_pawns_list, spelled_setup}
 use Rattle.egt_index.proofs.FrameMen.{men_are}
 use Rattle.egt_index.proofs.Fronts.{all_apart, apart_all, board_with, free_before}
-use Rattle.egt_index.proofs.Lined.{all_apart as stood_apart}
+use Rattle.egt_index.proofs.After.{all_apart as stood_apart}
 use Rattle.egt_index.proofs.Listing.{listed}
 use Rattle.egt_index.proofs.OnePosition.{one_pawn_each}
 use Rattle.egt_index.proofs.Placing.{not_both, tells}

@@ -23,16 +23,16 @@ use Rattle.egt_index.specs.Code.{square_by_digit}
 use Rattle.egt_index.specs.Digits.{number_from}
 use Rattle.egt_index.specs.Front.{TellsLast, IsFront}
 use Rattle.egt_index.specs.Places.{IsMade, IsPlaced, waiting}
-use Rattle.egt_index.specs.Scales.{AreEqual, kind_digits, kind_less}
+use Rattle.egt_index.specs.Scales.{kind_digits, kind_less}
 use Rattle.egt_index.specs.Shelf.{last_of}
 use Rattle.egt_index.specs.Size.{base_by, has_target, man_of, men_beside}
 use Rattle.egt_index.specs.Spelled.{Splits, SpellsMen, Tells}
-use Rattle.egt_index.specs.Stood.{AllApart, Entry, IsInOrder, IsOff, list_of, with_last}
+use Rattle.egt_index.specs.Stood.{AllApart, AreEqual, Entry, IsInOrder, IsOff, list_of, with_last}
 use Rattle.egt_index.specs.declared.front.Front.{Front}
 use Rattle.egt_index.specs.declared.stand.Stand.{Stand}
 use Rattle.egt_index.proofs.FrameMen.{men_are}
 use Rattle.egt_index.proofs.Fronts.{all_apart, board_with, few_with, free_before, list_before}
-use Rattle.egt_index.proofs.Lined.{all_apart as stood_apart}
+use Rattle.egt_index.proofs.After.{all_apart as stood_apart}
 use Rattle.egt_index.proofs.Setups.{AreKings, kings_spelled, off_of, pawns_spelled, setup_spelled, stand_spelled}
 use Rattle.egt_index.proofs.Splitting.{tells_one}
 

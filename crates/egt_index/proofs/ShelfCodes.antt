@@ -27,7 +27,7 @@ use Rattle.egt_index.proofs.Halves.{code_high, code_low, places_of_last}
 use Rattle.egt_index.proofs.Numbered.{ends}
 use Rattle.egt_index.proofs.Opposed.{may_stand}
 use Rattle.egt_index.proofs.Placing.{tells, within}
-use Rattle.egt_index.proofs.Scaled.{number_on, number_told}
+use Rattle.egt_index.proofs.MenNumber.{number_on, number_told}
 use Rattle.egt_index.proofs.Setups.{men_spelled}
 use Rattle.egt_index.proofs.Splitting.{spells_men}
 

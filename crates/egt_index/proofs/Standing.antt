@@ -21,9 +21,8 @@ use Rattle.egt_board.specs.Turned.{turned_man}
 use Rattle.egt_class.specs.Material.{material_of, men_in}
 use Rattle.egt_class.specs.Membership.{IsOf}
 use Rattle.egt_index.specs.Picked.{tally, AreCounted}
-use Rattle.egt_index.specs.Scales.{IsOn}
 use Rattle.egt_index.specs.Size.{men_in_order, men_beside}
-use Rattle.egt_index.specs.Stood.{Entry, Stood, Holds, IsAmong, IsFirst, IsInNameOrder}
+use Rattle.egt_index.specs.Stood.{Entry, Stood, Holds, IsOn, IsAmong, IsFirst, IsInNameOrder}
 use Rattle.egt_index.proofs.Counted.{man_told, count_cons, counted_rest, first_is_there}
 use Rattle.egt_index.proofs.Tallied.{tests_alike, in_class}
 
@@ -312,8 +311,3 @@ pub stood_by : (c : ℕ) (flips : Bool) (p : Setup) (w b : ℕ) (first second : 
 stood_by c flips p w b first second one other in_order s t ok is_of are from_first kings beside test on on' =
     stood_on c flips p w b first second one other (cond in_order one other) (cond in_order other one) (cond in_order s t) (cond in_order t s) ok is_of are from_first kings beside (name_order first flips one other in_order test)
     (on_either in_order one other s t on on') (on_either in_order other one t s on' on)
-
--- and the last of them not alone
-pub filled_by : (first second : Option Man) (s t : ℕ) → (first ≡ None → second ≡ None) → placed first s ≡ None → placed second t ≡ None
-filled_by None second s t from_first none = ap (λ m. placed m t) (from_first refl)
-filled_by (Some first) second s t from_first none = absurd (cc)

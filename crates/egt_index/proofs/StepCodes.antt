@@ -29,7 +29,7 @@ use Rattle.egt_index.specs.Stood.{AllApart, Entry, HasStand, list_of}
 use Rattle.egt_index.specs.Turns.{IsTurn}
 use Rattle.egt_index.specs.Went.{AreOnBoard, IsMovedStand, moved_entry, moved_square}
 use Rattle.egt_index.specs.declared.stand.Stand.{Stand}
-use Rattle.egt_index.proofs.After.{inverse, stood_turned}
+use Rattle.egt_index.proofs.After.{all_apart, inverse, stood_turned}
 use Rattle.egt_index.proofs.Best.{turn_number}
 use Rattle.egt_index.proofs.Carried.{stayed, went}
 use Rattle.egt_index.proofs.Classes.{image_in_colours}
@@ -40,7 +40,6 @@ use Rattle.egt_index.proofs.Gone.{free_before, list_moved, men_moved, moved_list
 use Rattle.egt_index.proofs.Halves.{of_targets}
 use Rattle.egt_index.proofs.LeastTurn.{keeps_play}
 use Rattle.egt_index.proofs.Led.{back_again, eight, entry_back, undone}
-use Rattle.egt_index.proofs.Lined.{all_apart}
 use Rattle.egt_index.proofs.Listing.{listed, listed_stands}
 use Rattle.egt_index.proofs.Moved.{is_after, on_board_of, stand_moved, untargeted_settled}
 use Rattle.egt_index.proofs.Setups.{apart_all, fits_apart, setup_spelled, stand_spelled}

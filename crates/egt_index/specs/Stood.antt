@@ -67,6 +67,10 @@ pub record Stood (c : ℕ) (flips : Bool) (men : Placement) (list : List (Man ×
   pub are : men_among list ≡ men_in_order (material_of c)
   pub all : AllStand flips men list
 
+-- the man, if there is one, stands on the square
+abbrev pub IsOn : Entry → ℕ → Type 0
+IsOn entry s = IfSome entry (λ e. e.1 ≡ s)
+
 -- the entry is of this man
 abbrev pub Holds : Entry → Man → Type 0
 Holds None man = ⊥
@@ -105,6 +109,12 @@ on_square_of (Some e) (Some d) = Some (e.0, d.1)
 -- where a turn takes a man
 abbrev pub entry_after : ℕ → Bool → Entry → Entry
 entry_after n flips entry = option_map (λ e. (e.0, turned_square n flips e.1)) entry
+
+-- two equal men
+abbrev pub AreEqual : Entry → Entry → Type 0
+AreEqual None y = ⊥
+AreEqual (Some x) None = ⊥
+AreEqual (Some x) (Some y) = x.0 ≡ y.0
 
 -- of two equal men the first stands on the lesser square
 abbrev pub IsInOrder : Entry → Entry → Type 0

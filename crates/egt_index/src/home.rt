@@ -32,13 +32,6 @@ static LAST: [u8; 256] = [
     9, 9, 8, 8, 8, 8, 9, 9, 9, 9, 8, 8, 8, 8, 9, 9, 9, 9,
 ];
 
-/// The one or two turns that bring a king home.
-#[derive(Clone, Copy)]
-pub(crate) struct Turns {
-    pub(crate) first: u8,
-    pub(crate) second: Option<u8>,
-}
-
 /// The tables' entries.
 fn entries(at: usize) -> (u8, u8)
     requires { at < 256 }

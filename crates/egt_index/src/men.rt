@@ -5,10 +5,7 @@ ghost use Rattle.egt_board.specs.Attack.{king_of};
 ghost use Rattle.egt_board.specs.declared.man.Side.TheVariants.{White};
 ghost use Rattle.egt_class.specs.Material.{material_of, has_equal_sides};
 ghost use Rattle.egt_index.specs.First.{tells_colours};
-ghost use Rattle.egt_index.specs.Stood.{men_among, list_of, IsFilled};
-ghost use Rattle.egt_index.specs.Ways.{IsPaired};
-ghost use Rattle.egt_index.specs.declared.stand.Stand.{Stand};
-ghost use Rattle.egt_index.specs.Size.{men_beside, men_in_order, has_pawns, has_target};
+ghost use Rattle.egt_index.specs.Size.{men_beside, has_pawns, has_target};
 
 use egt_board::{Kind, Man, Side};
 use egt_class::Class;
@@ -117,13 +114,6 @@ static PAWNS: [bool; 36] = [
     true, true, true, true, true, true, true, true, true, true,
 ];
 
-/// Whether the men beside the kings are equal, in order of the classes' numbers.
-static PAIRS: [bool; 36] = [
-    false, false, false, false, false, false, true, false, false, false, true, false, false, true,
-    false, true, false, false, false, false, false, false, false, false, false, false, false,
-    false, false, false, false, false, false, false, true, false,
-];
-
 /// The men of the class beside the kings, in the order of its name.
 pub fn beside(class: Class) -> (Option<Man>, Option<Man>)
     ensures men { option_to_list result.0 ++ option_to_list result.1 ≡ men_beside (material_of class) }
@@ -140,13 +130,6 @@ pub fn has_pawns(class: Class) -> bool
     ensures { result ≡ has_pawns (material_of class) }
 {
     PAWNS[usize::from(class.number())]
-}
-
-/// Whether the men of the class beside the kings are equal.
-pub(crate) fn is_paired(class: Class) -> bool
-    ensures { (stand : Stand) → men_among (list_of stand) ≡ men_in_order (material_of class) → IsFilled stand → IsPaired stand result }
-{
-    PAIRS[usize::from(class.number())]
 }
 
 /// Whether positions of the class may have a target: only where both sides have a pawn.

@@ -7,9 +7,8 @@ ghost use Rattle.egt_board.specs.Turned.{turned_man};
 ghost use Rattle.egt_class.specs.Material.{material_of};
 ghost use Rattle.egt_class.specs.Membership.{IsOf};
 ghost use Rattle.egt_index.specs.Beaten.{AreBehind};
-ghost use Rattle.egt_index.specs.Scales.{IsOn};
 ghost use Rattle.egt_index.specs.Size.{men_beside};
-ghost use Rattle.egt_index.specs.Stood.{Stood, Holds, IsAmong, IsFirst, list_of, before_last, with_last, IsFilled, IsOff, AllApart, AreNear, entry_after, on_square_of, IsInOrder, IsOrdered, AreExchanged, IsTurned, IsStandAfter};
+ghost use Rattle.egt_index.specs.Stood.{Stood, Holds, IsOn, IsAmong, IsFirst, list_of, before_last, with_last, IsOff, AllApart, AreNear, entry_after, on_square_of, IsInOrder, IsOrdered, AreExchanged, IsTurned, IsStandAfter};
 
 use crate::facts::facts;
 use crate::men::beside;
@@ -131,8 +130,7 @@ pub(crate) fn stand_by(
 ) -> Stand
     requires men { option_to_list first ++ option_to_list second ≡ men_beside (material_of class) }
     requires from_first { first ≡ None → second ≡ None }
-    ensures stood { (p : Setup) → IsAdmissible p → IsOf class flipped p → HasAllMen p.men white black one.now other.now → Stood class flipped p.men (list_of result) }
-    ensures filled { IsFilled result }
+    ensures { (p : Setup) → IsAdmissible p → IsOf class flipped p → HasAllMen p.men white black one.now other.now → Stood class flipped p.men (list_of result) }
 {
     let in_order = is_first(&first, flipped, one);
     let (one, other) = (square_of(one), square_of(other));
@@ -151,7 +149,6 @@ pub(crate) fn standing_of(class: Class, position: &Position) -> Standing
     requires { (flipped : Bool) × IsOf class flipped position.now }
     ensures is_of { IsOf class result.flipped position.now }
     ensures stood { Stood class result.flipped position.now.men (list_of result.stand) }
-    ensures filled { IsFilled result.stand }
 {
     facts();
     let _number = class.number();
@@ -179,7 +176,6 @@ pub(crate) fn standing_by(
 ) -> Standing
     ensures flipped { result.flipped ≡ flipped }
     ensures stood { (p : Setup) → IsAdmissible p → IsOf class flipped p → HasAllMen p.men white black one.now other.now → Stood class flipped p.men (list_of result.stand) }
-    ensures filled { IsFilled result.stand }
 {
     let (first, second) = beside(class);
     Standing {

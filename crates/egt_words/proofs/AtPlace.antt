@@ -16,9 +16,8 @@ use Rattle.egt_index.specs.ShelfCodes.{IsShelf, number_in, stand_with}
 use Rattle.egt_index.specs.Spelled.{IsListed}
 use Rattle.egt_index.specs.Stood.{AllApart, HasStand, list_of}
 use Rattle.egt_index.specs.declared.shelf_codes.ShelfMen.{ShelfMen}
-use Rattle.egt_index.proofs.After.{listed_there}
+use Rattle.egt_index.proofs.After.{all_apart, listed_there}
 use Rattle.egt_index.proofs.FrameMen.{free_off, men_are}
-use Rattle.egt_index.proofs.Lined.{all_apart}
 use Rattle.egt_index.proofs.Listing.{listed}
 use Rattle.egt_index.proofs.StepCodes.{told_stands}
 use Rattle.egt_words.specs.Standing.{IsAt, IsHeldOn, least_of, standing}

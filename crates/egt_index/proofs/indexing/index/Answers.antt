@@ -1,19 +1,31 @@
 use Rattle.std.proofs.Common.{subst}
+use Rattle.egt_board.specs.Settled.{SettlesTo}
+use Rattle.egt_board.specs.Setup.{Setup}
+use Rattle.egt_index.specs.Stood.{HasStand}
 use Rattle.egt_index.specs.Turns.{Best}
 use Rattle.egt_index.proofs.Best.{best_at_last, index_found}
-use Rattle.egt_index.proofs.Turned.{settled_class}
+use Rattle.egt_index.proofs.Turned.{settled_stand}
+use Rattle.egt_index.proofs.indexing.index.Goals.{After-least_standing}
 use Rattle.egt_index.proofs.indexing.index.Goals as goal
+
+-- the men of what the position settles to stand where its own do
+has : (c : After-least_standing) (q : Setup) → SettlesTo c.args.position.now q
+    → HasStand c.args.class c.standing_of-standing.result.flipped c.standing_of-standing.result.stand c.side-side.result c.keeps_target-passed.result q
+has c q settles =
+    let standing = c.standing_of-standing.result in
+    settled_stand c.facts.ensures c.args.class standing.flipped c.args.position.now q standing.stand c.side-side.result c.keeps_target-passed.result c.side-side.ensures.admissible
+    c.standing_of-standing.ensures.is_of c.standing_of-standing.ensures.stood c.side-side.ensures.side (c.keeps_target-passed.ensures q settles) settles
 
 pub unwrap-requires : goal.unwrap-requires
 unwrap-requires c =
-    let p = c.args.position.now in
-    let settled = c.facts.ensures.settles p in
-    best_at_last c.facts.ensures c.args.class c.requires.0 settled.0 c.least_of.result (c.facts.ensures.settled_admissible p settled.0 c.side-side.ensures.admissible settled.1)
-    (c.facts.ensures.is_settled p settled.0 settled.1) (settled_class c.facts.ensures c.args.class c.requires.0 p settled.0 settled.1 c.requires.1) (c.least_of.ensures settled.0 settled.1)
+    let settled = c.facts.ensures.settles c.args.position.now in
+    let stands = has c settled.0 settled.1 in
+    best_at_last c.facts.ensures c.args.class c.standing_of-standing.result.flipped settled.0 c.least_standing.result stands.admissible stands.settled stands.is_of (c.least_standing.ensures settled.0 stands)
 
 pub returns : goal.returns
 returns c =
     let p = c.args.position.now in
     let settled = c.facts.ensures.settles p in
-    index_found c.facts.ensures c.args.class p settled.0 c.unwrap.result (c.facts.ensures.settled_admissible p settled.0 c.side-side.ensures.admissible settled.1) settled.1
-    (subst (Best c.args.class settled.0 16) c.unwrap.ensures (c.least_of.ensures settled.0 settled.1))
+    let stands = has c.before settled.0 settled.1 in
+    index_found c.facts.ensures c.args.class p settled.0 c.unwrap.result stands.admissible settled.1
+    (subst (Best c.args.class settled.0 16) c.unwrap.ensures (c.least_standing.ensures settled.0 stands))

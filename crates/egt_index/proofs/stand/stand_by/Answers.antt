@@ -1,12 +1,9 @@
-use Rattle.egt_index.proofs.Standing.{kings_by, stood_by, filled_by}
+use Rattle.egt_index.proofs.Standing.{kings_by, stood_by}
 use Rattle.egt_index.proofs.stand.stand_by.Goals as goal
 
-pub returns-clause-stood : goal.returns-clause-stood
-returns-clause-stood c p ok is_of all =
+pub returns : goal.returns
+returns c p ok is_of all =
     rw (c.placed.ensures, c.placed-2.ensures, c.either.ensures, c.either-2.ensures, c.either-3.ensures, c.either-4.ensures)
     (stood_by c.args.class c.args.flipped p _ _ c.args.first c.args.second c.args.one.now c.args.other.now c.is_first-in_order.result c.square_of-one.result c.square_of-other.result
     ok is_of c.requires.men c.requires.from_first (kings_by c.args.flipped p c.args.white c.args.black ok all.white_there all.black_there) all.beside
     c.is_first-in_order.ensures c.square_of-one.ensures c.square_of-other.ensures)
-
-pub returns-clause-filled : goal.returns-clause-filled
-returns-clause-filled c = rw (c.placed.ensures, c.placed-2.ensures) (filled_by c.args.first c.args.second c.either-3.result c.either-4.result c.requires.from_first)

@@ -15,7 +15,7 @@ returns-clause-is_of c =
 
 pub returns-clause-stood : goal.returns-clause-stood
 returns-clause-stood c =
-    c.stand_by.ensures.stood c.args.position.now c.side-side.ensures.admissible (returns-clause-is_of c) (record {
+    c.stand_by.ensures c.args.position.now c.side-side.ensures.admissible (returns-clause-is_of c) (record {
       white_there = record { stands = c.king-white.ensures.stands; only = c.king-white.ensures.only };
       black_there = record { stands = c.king-black.ensures.stands; only = c.king-black.ensures.only };
       beside = beside c;

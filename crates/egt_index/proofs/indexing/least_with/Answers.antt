@@ -1,10 +1,10 @@
-use Rattle.std.proofs.Common.{◌≡◌, ◌%◌, ℕ, Bool, true, Option, Some, None, IfSome, sym, subst}
+use Rattle.std.proofs.Common.{◌≡◌, ◌%◌, ℕ, Bool, Option, Some, None, IfSome, sym, subst}
 use Rattle.egt_class.specs.Material.{material_of}
 use Rattle.egt_index.specs.Home.{IsTurnWith, AreHome, LeastWith}
 use Rattle.egt_index.specs.Size.{has_pawns}
 use Rattle.egt_index.specs.Stood.{HasStand}
 use Rattle.egt_index.proofs.LeastTurn.{keeps_play, least_of_one, least_of_two, none_away}
-use Rattle.egt_index.proofs.indexing.least_with_target.Goals as goal
+use Rattle.egt_index.proofs.indexing.least_with.Goals as goal
 
 turn_of : (pawns flips : Bool) (o : Option ℕ) (t : ℕ) → o ≡ Some t → IfSome o (IsTurnWith pawns flips) → IsTurnWith pawns flips t
 turn_of pawns flips o t is h = subst (λ o. IfSome o (IsTurnWith pawns flips)) is h
@@ -16,8 +16,8 @@ returns-in-Some c = λ p has.
     (subst (λ pawns. AreHome pawns c.args.flips c.args.stand.now.white c.home-first.result.0 c.home-first.result.1) c.has_pawns.ensures c.home-first.ensures) in
     subst (LeastWith c.args.class p c.args.flips) (sym c.lesser.ensures)
     (least_of_two c.facts.ensures c.args.class p c.args.flips c.home-first.result.0 c.in-Some.second c.code_after-code.result c.code_after-other.result home.one.below home.other.below
-    (c.code_after-code.ensures p (subst (λ f. HasStand c.args.class f c.args.stand.now c.args.side true p) (sym home.one.flips_is) has) (keeps_play c.args.class c.args.flips p (c.home-first.result.0 % 8) has.admissible has.is_of home.one.keeps))
-    (c.code_after-other.ensures p (subst (λ f. HasStand c.args.class f c.args.stand.now c.args.side true p) (sym home.other.flips_is) has) (keeps_play c.args.class c.args.flips p (c.in-Some.second % 8) has.admissible has.is_of home.other.keeps))
+    (c.code_after-code.ensures p (subst (λ f. HasStand c.args.class f c.args.stand.now c.args.side c.args.passed p) (sym home.one.flips_is) has) (keeps_play c.args.class c.args.flips p (c.home-first.result.0 % 8) has.admissible has.is_of home.one.keeps))
+    (c.code_after-other.ensures p (subst (λ f. HasStand c.args.class f c.args.stand.now c.args.side c.args.passed p) (sym home.other.flips_is) has) (keeps_play c.args.class c.args.flips p (c.in-Some.second % 8) has.admissible has.is_of home.other.keeps))
     (λ t t_in flips_is apart other. none_away c.facts.ensures c.args.class p c.args.flips c.args.stand.now.white c.home-first.result.0 (Some c.in-Some.second) has.admissible has.is_of
     has.stood.all.1 home t t_in flips_is apart other))
 
@@ -27,6 +27,6 @@ returns-in-None c = λ p has.
     subst (AreHome (has_pawns (material_of c.args.class)) c.args.flips c.args.stand.now.white c.home-first.result.0) c.in-None.is
     (subst (λ pawns. AreHome pawns c.args.flips c.args.stand.now.white c.home-first.result.0 c.home-first.result.1) c.has_pawns.ensures c.home-first.ensures) in
     least_of_one c.facts.ensures c.args.class p c.args.flips c.home-first.result.0 c.code_after-code.result home.one.below
-    (c.code_after-code.ensures p (subst (λ f. HasStand c.args.class f c.args.stand.now c.args.side true p) (sym home.one.flips_is) has) (keeps_play c.args.class c.args.flips p (c.home-first.result.0 % 8) has.admissible has.is_of home.one.keeps))
+    (c.code_after-code.ensures p (subst (λ f. HasStand c.args.class f c.args.stand.now c.args.side c.args.passed p) (sym home.one.flips_is) has) (keeps_play c.args.class c.args.flips p (c.home-first.result.0 % 8) has.admissible has.is_of home.one.keeps))
     (λ t t_in flips_is apart. none_away c.facts.ensures c.args.class p c.args.flips c.args.stand.now.white c.home-first.result.0 None has.admissible has.is_of
     has.stood.all.1 home t t_in flips_is apart tt)
