@@ -19,7 +19,7 @@ use Rattle.egt_index.specs.Home.{symmetries}
 use Rattle.egt_index.specs.LoneCodes.{IsLoneMan, lone_stand}
 use Rattle.egt_index.specs.Size.{has_pawns, men_beside}
 use Rattle.egt_index.specs.Spelled.{IsListed}
-use Rattle.egt_index.specs.StepCodes.{TellsMen}
+use Rattle.egt_index.specs.TellsMen.{TellsMen}
 use Rattle.egt_index.specs.Stood.{list_of}
 use Rattle.egt_index.specs.TurnedMen.{IsSomeTurnedCode}
 use Rattle.egt_index.specs.declared.shelf_codes.ShelfMen.{ShelfMen}

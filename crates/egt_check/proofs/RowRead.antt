@@ -18,7 +18,7 @@ use Rattle.egt_index.specs.Shelf.{last_of}
 use Rattle.egt_index.specs.ShelfCodes.{IsShelf, IsShelfOf, IsWithin, number_in, stand_with}
 use Rattle.egt_index.specs.Size.{bases, has_target, men_beside, size_of}
 use Rattle.egt_index.specs.Spelled.{IsListed}
-use Rattle.egt_index.specs.StepCodes.{TellsMen}
+use Rattle.egt_index.specs.TellsMen.{TellsMen}
 use Rattle.egt_index.specs.Stood.{list_of}
 use Rattle.egt_index.specs.declared.shelf_codes.ShelfMen.{ShelfMen}
 use Rattle.egt_index.specs.declared.stand.Stand.{Stand}

@@ -18,7 +18,7 @@ use Rattle.egt_index.specs.Scales.{kind_digits, kind_less}
 use Rattle.egt_index.specs.ShelfCodes.{IsShelfOf, IsWithin, number_in, stand_with}
 use Rattle.egt_index.specs.Size.{base_by, base_of, has_pawns, has_target, men_bases}
 use Rattle.egt_index.specs.Spelled.{SpellsMen}
-use Rattle.egt_index.specs.StepCodes.{TellsMen}
+use Rattle.egt_index.specs.TellsMen.{TellsMen}
 use Rattle.egt_index.specs.Stood.{list_of}
 use Rattle.egt_index.specs.declared.shelf_codes.ShelfMen.{ShelfMen}
 use Rattle.egt_index.proofs.Halves.{code_high, code_low, code_plain, of_targets}

@@ -8,7 +8,7 @@ use Rattle.egt_index.specs.Home.{IsTurnWith}
 use Rattle.egt_index.specs.Scales.{kind_digits, kind_less}
 use Rattle.egt_index.specs.ShelfCodes.{IsShelfOf, IsWithin}
 use Rattle.egt_index.specs.Size.{has_pawns}
-use Rattle.egt_index.specs.StepCodes.{TellsMen}
+use Rattle.egt_index.specs.TellsMen.{TellsMen}
 use Rattle.egt_index.specs.TurnedMen.{IsSomeTurnedCode, turned_by}
 use Rattle.egt_index.specs.declared.shelf_codes.ShelfMen.{ShelfMen}
 use Rattle.egt_index.specs.declared.stand.Stand.{Stand}

@@ -28,7 +28,7 @@ ghost use Rattle.egt_check.specs.MoveScores.{AreAllScores, AreTablesOf};
 ghost use Rattle.egt_check.specs.RightRow.{IsRightAt};
 ghost use Rattle.egt_check.specs.declared.move_scores.FourMen.{FourMen};
 ghost use Rattle.egt_index.specs.Size.{size_of};
-ghost use Rattle.egt_index.specs.StepCodes.{TellsMen};
+ghost use Rattle.egt_index.specs.TellsMen.{TellsMen};
 ghost use Rattle.egt_check.specs.declared.metric.Metric.TheVariants.{Mate, Zeroing};
 ghost use Rattle.egt_check.specs.Worth.{HasBytes, score_at};
 ghost use Rattle.egt_lanes.specs.Raised.{IsRaised};
@@ -43,7 +43,7 @@ use crate::pawn_laws::{
     codes_after_captures_in_passing_give_them, codes_after_promoting_captures_give_them,
 };
 use egt_index::laws::{
-    a_code_is_an_index_or_void, codes_follow_steps, codes_spell_one_position,
+    a_code_is_an_index_or_void, codes_tell_their_men, codes_spell_one_position,
     codes_tell_turned_men, numbers_stand_for_codes,
 };
 use egt_steps::facts::facts;
@@ -141,7 +141,7 @@ pub fn entries_due_to_all_moves_are_right()
         (metric : Metric) → IsJudged tables four.own.now metric i None }
 {
     a_code_is_an_index_or_void();
-    codes_follow_steps();
+    codes_tell_their_men();
     numbers_stand_for_codes();
     all_scores_give_all_moves();
     due_bytes_are_right();

@@ -1,7 +1,7 @@
 //! The scores that a table gives the positions of a class with one man beside the kings, by his square.
 ghost use Rattle.std.specs.Prelude.{◌≡◌, ℕ, ◌<◌, false, true, slice_index};
 ghost use Rattle.egt_index.specs.LoneCodes.{IsLoneMan, IsLoneRow, lone_stand};
-ghost use Rattle.egt_index.specs.StepCodes.{TellsMen};
+ghost use Rattle.egt_index.specs.TellsMen.{TellsMen};
 ghost use Rattle.egt_lanes.specs.Raised.{IsRaised};
 ghost use Rattle.egt_table.specs.Table.{HasColumn};
 ghost use Rattle.egt_check.specs.Blocks.{IsRaisedAfter};

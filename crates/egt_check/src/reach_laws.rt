@@ -7,7 +7,7 @@ ghost use Rattle.egt_board.specs.declared.man.Side.{Side};
 ghost use Rattle.egt_index.specs.Code.{Spells};
 ghost use Rattle.egt_index.specs.Index.{IsVoid};
 ghost use Rattle.egt_index.specs.Size.{size_of};
-ghost use Rattle.egt_index.specs.StepCodes.{TellsMen};
+ghost use Rattle.egt_index.specs.TellsMen.{TellsMen};
 ghost use Rattle.egt_index.specs.Stood.{HasStand};
 ghost use Rattle.egt_index.specs.declared.shelf_codes.ShelfMen.{ShelfMen};
 ghost use Rattle.egt_lanes.specs.Scores.{reach_due_score, reach_score};
@@ -31,7 +31,7 @@ ghost use Rattle.egt_check.specs.Worth.{column_score};
 
 use crate::laws::{all_scores_give_all_moves, due_bytes_are_right};
 use egt_index::laws::{
-    a_code_is_an_index_or_void, codes_follow_steps, codes_spell_one_position,
+    a_code_is_an_index_or_void, codes_tell_their_men, codes_spell_one_position,
     numbers_stand_for_codes,
 };
 use egt_steps::facts::facts;
@@ -64,7 +64,7 @@ pub fn reach_entries_due_to_all_moves_are_right()
         IsJudgedBy (KeepsReach tables four.own.now i) None }
 {
     a_code_is_an_index_or_void();
-    codes_follow_steps();
+    codes_tell_their_men();
     numbers_stand_for_codes();
     all_reach_scores_give_all_moves();
     due_bytes_are_right();

@@ -5,7 +5,7 @@ ghost use Rattle.egt_class.specs.Material.{material_of};
 ghost use Rattle.egt_index.specs.Numbers.{code_of, places};
 ghost use Rattle.egt_index.specs.ShelfCodes.{IsShelf, IsShelfOf, IsWithin, stand_with};
 ghost use Rattle.egt_index.specs.Size.{has_target, size_of};
-ghost use Rattle.egt_index.specs.StepCodes.{TellsMen};
+ghost use Rattle.egt_index.specs.TellsMen.{TellsMen};
 ghost use Rattle.egt_lanes.specs.Raised.{IsRaised};
 ghost use Rattle.egt_table.specs.Table.{HasColumn};
 ghost use Rattle.egt_check.specs.ShelfRow.{IsShelfRow};

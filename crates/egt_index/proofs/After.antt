@@ -26,9 +26,8 @@ use Rattle.egt_index.specs.Facts.{Facts}
 use Rattle.egt_index.specs.Picked.{AreCounted, Picks, Goes}
 use Rattle.egt_index.specs.Size.{king_base, base_of, men_beside, has_pawns, has_target}
 use Rattle.egt_index.specs.Spelled.{IsListed, Tells}
-use Rattle.egt_index.specs.StepCodes.{turned_stand}
 use Rattle.egt_index.specs.Stood.{Entry, men_among, rest_of, list_of, IsOff, AllApart, AllStand, Stood, entry_after, IsInOrder, IsOrdered, IsStandAfter, HasDigit}
-use Rattle.egt_index.specs.TurnedMen.{turned_with}
+use Rattle.egt_index.specs.TurnedMen.{turned_with, turned_stand}
 use Rattle.egt_index.specs.Turns.{IsTurn, TurnCode}
 use Rattle.egt_index.specs.declared.stand.Stand.{Stand}
 use Rattle.egt_index.proofs.Classes.{image_in_colours}

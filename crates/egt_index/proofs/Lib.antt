@@ -28,8 +28,6 @@ pub mod Setups
 pub mod Tested
 pub mod Past
 pub mod Telling
-pub mod Carried
-pub mod Moved
 pub mod Beating
 pub mod Nearing
 pub mod Swapping
@@ -42,12 +40,11 @@ pub mod Fronts
 pub mod RowMen
 pub mod SameKings
 pub mod Touching
-pub mod Gone
 pub mod Shelved
 pub mod Opposed
 pub mod Led
 pub mod Halves
-pub mod StepCodes
+pub mod ToldMen
 pub mod ByMen
 pub mod Facing
 pub mod Placing

@@ -13,7 +13,7 @@ use Rattle.egt_index.specs.LoneCodes.{IsLoneMan, IsLoneRow, lone_stand}
 use Rattle.egt_index.specs.Scales.{kind_digits, kind_less}
 use Rattle.egt_index.specs.Size.{bases, has_pawn, has_pawns, has_target, king_base, man_of, men_bases, men_beside, size_of}
 use Rattle.egt_index.specs.Spelled.{SpellsMen, Tells}
-use Rattle.egt_index.specs.StepCodes.{TellsMen}
+use Rattle.egt_index.specs.TellsMen.{TellsMen}
 use Rattle.egt_index.specs.Stood.{list_of, rest_of}
 use Rattle.egt_index.specs.declared.stand.Stand.{Stand}
 use Rattle.egt_index.proofs.Coding.{AreDigits-append, last_digits}

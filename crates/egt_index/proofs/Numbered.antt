@@ -25,7 +25,7 @@ use Rattle.egt_index.specs.Shelf.{last_of, shelf_len}
 use Rattle.egt_index.specs.ShelfCodes.{AreIndexed, AreIndexes, AreNumbered, ArePositions, IsShelfBehind, PassesNothing, SpellsNothing, number_in}
 use Rattle.egt_index.specs.Size.{has_target, men_beside, size_of}
 use Rattle.egt_index.specs.Spelled.{Ends}
-use Rattle.egt_index.specs.StepCodes.{TellsMen}
+use Rattle.egt_index.specs.TellsMen.{TellsMen}
 use Rattle.egt_index.specs.Stood.{Entry, HasStand, IsInOrder, list_of, with_last}
 use Rattle.egt_index.specs.declared.front.Front.{Front}
 use Rattle.egt_index.specs.declared.places.Places.{Places}
@@ -39,7 +39,7 @@ use Rattle.egt_index.proofs.Passing.{last_pawn}
 use Rattle.egt_index.proofs.Placing.{not_both, tells, whole_first}
 use Rattle.egt_index.proofs.RowMen.{row_number}
 use Rattle.egt_index.proofs.Shelved.{next_within}
-use Rattle.egt_index.proofs.StepCodes.{stands_told, told_stands}
+use Rattle.egt_index.proofs.ToldMen.{stands_told, told_stands}
 use Rattle.egt_index.proofs.Swapping.{beaten_behind}
 
 no_bits : {P : ℕ → Type 0} (word : ℕ) → word ≡ 0 → ((k : ℕ) → P k → ⊥) → (k : ℕ) → (bit_at word k ≡ 1) ↔ P k

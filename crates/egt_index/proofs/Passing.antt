@@ -27,7 +27,7 @@ use Rattle.egt_index.specs.Shelf.{last_of}
 use Rattle.egt_index.specs.ShelfCodes.{PassesNothing}
 use Rattle.egt_index.specs.Size.{has_target, men_beside}
 use Rattle.egt_index.specs.Spelled.{HasPawns, IsListed, IsTold, SpellsMen}
-use Rattle.egt_index.specs.StepCodes.{TellsMen}
+use Rattle.egt_index.specs.TellsMen.{TellsMen}
 use Rattle.egt_index.specs.Stood.{AllApart, Entry, HasStand, IsFilled, IsOff, before_last, list_of, with_entry, with_last}
 use Rattle.egt_index.specs.declared.front.Front.{Front}
 use Rattle.egt_index.specs.declared.stand.Stand.{Stand}
@@ -39,7 +39,7 @@ use Rattle.egt_index.proofs.Listing.{listed}
 use Rattle.egt_index.proofs.OnePosition.{one_pawn_each}
 use Rattle.egt_index.proofs.Placing.{not_both, tells}
 use Rattle.egt_index.proofs.Setups.{AreKings, kings_spelled, pawns_spelled, setup_spelled, stand_spelled}
-use Rattle.egt_index.proofs.StepCodes.{stands_told, told_stands}
+use Rattle.egt_index.proofs.ToldMen.{stands_told, told_stands}
 
 -- the last man of a class with targets
 pub last_pawn : (c : ℕ) → has_target (material_of c) ≡ true → last_of (men_beside (material_of c)) ≡ Some (pawn_of Black)

@@ -19,7 +19,7 @@ use Rattle.egt_index.specs.Shelf.{last_of}
 use Rattle.egt_index.specs.ShelfCodes.{AreMenOf, IsShelf, IsShelfBehind, IsShelfOf, number_in, stand_with}
 use Rattle.egt_index.specs.Size.{has_pawns, has_target, king_base, men_beside, men_in_order}
 use Rattle.egt_index.specs.Spelled.{SpellsMen, Tells}
-use Rattle.egt_index.specs.StepCodes.{TellsMen}
+use Rattle.egt_index.specs.TellsMen.{TellsMen}
 use Rattle.egt_index.specs.Stood.{Entry, list_of, rest_of, with_last}
 use Rattle.egt_index.specs.declared.shelf_codes.ShelfMen.{ShelfMen}
 use Rattle.egt_index.specs.declared.stand.Stand.{Stand}

@@ -27,7 +27,7 @@ use Rattle.egt_index.specs.Index.{IsIndex}
 use Rattle.egt_index.specs.Picked.{AreCounted}
 use Rattle.egt_index.specs.Size.{base_of, has_pawns, has_target, men_bases, men_in_order}
 use Rattle.egt_index.specs.Spelled.{Ends, IsListed, SpellsMen}
-use Rattle.egt_index.specs.StepCodes.{TellsMen}
+use Rattle.egt_index.specs.TellsMen.{TellsMen}
 use Rattle.egt_index.specs.Stood.{AllApart, AllStand, Entry, HasStand, IsFilled, IsOff, Stood, entry_after, list_of, men_among, on_square_of}
 use Rattle.egt_index.specs.TurnedMen.{IsInEitherOrder, IsSeenBy, IsSomeTurnedCodeWith, IsTurnedCodeWith, seen_across, swapped, turned_by, turned_with}
 use Rattle.egt_index.specs.Turns.{IsTurn}
@@ -45,7 +45,7 @@ use Rattle.egt_index.proofs.Listing.{listed, listed_stands}
 use Rattle.egt_index.proofs.OnePosition.{spells_once}
 use Rattle.egt_index.proofs.Picking.{same_digit}
 use Rattle.egt_index.proofs.Setups.{all_apart, apart_all, are_no_kings, men_spelled, no_king_listed, no_kings_beside, placed_may}
-use Rattle.egt_index.proofs.StepCodes.{stands_told, told_stands, untargeted_stands}
+use Rattle.egt_index.proofs.ToldMen.{stands_told, told_stands, untargeted_stands}
 use Rattle.egt_index.proofs.Turned.{counted_of, differ, turned_class}
 
 -- ---- the turn that undoes another in the same colours

@@ -19,7 +19,7 @@ use Rattle.egt_index.specs.Row.{row_len}
 use Rattle.egt_index.specs.Scales.{kind_digits, kind_less}
 use Rattle.egt_index.specs.Size.{has_pawns, has_target, men_in_order, size_of}
 use Rattle.egt_index.specs.Spelled.{Ends}
-use Rattle.egt_index.specs.StepCodes.{TellsMen}
+use Rattle.egt_index.specs.TellsMen.{TellsMen}
 use Rattle.egt_index.specs.Stood.{Entry}
 use Rattle.egt_index.specs.Went.{moved_square}
 use Rattle.egt_index.specs.declared.places.Places.{Places}

@@ -6,13 +6,17 @@ use Rattle.egt_board.specs.declared.man.Side.{Side}
 use Rattle.egt_class.specs.Material.{has_equal_sides, material_of}
 use Rattle.egt_index.specs.Home.{symmetries}
 use Rattle.egt_index.specs.Size.{has_pawns}
-use Rattle.egt_index.specs.StepCodes.{TellsMen}
+use Rattle.egt_index.specs.TellsMen.{TellsMen}
 use Rattle.egt_index.specs.Stood.{entry_after, men_among, on_square_of}
 use Rattle.egt_index.specs.declared.stand.Stand.{Stand}
 
 -- the men where the symmetry of that number takes them, and colours exchanged where `flips`
 abbrev pub turned_with : ℕ → Bool → Stand → Stand
 turned_with n flips s = record { white = turned_square n flips s.white; black = turned_square n flips s.black; next = entry_after n flips s.next; last = entry_after n flips s.last }
+
+-- in the same colours
+abbrev pub turned_stand : ℕ → Stand → Stand
+turned_stand n s = turned_with n false s
 
 -- the same by the turn's number
 abbrev pub turned_by : ℕ → Stand → Stand

@@ -7,7 +7,7 @@ use egt_board::laws::{
 use egt_class::laws::{a_position_has_one_class, every_position_has_a_class};
 
 /// What holds of images and classes.
-pub(crate) fn facts()
+pub fn facts()
     ensures { Facts }
 {
     images_form_classes();

@@ -4,7 +4,7 @@ ghost use Rattle.egt_board.specs.declared.man.Man.{Man};
 ghost use Rattle.egt_board.specs.declared.man.Side.{Side};
 ghost use Rattle.egt_board.specs.Man.{other_side};
 ghost use Rattle.egt_board.specs.Pawn.{pawn_of, HasNoPawn, MayStand};
-ghost use Rattle.egt_board.specs.Placement.{IsFree, Stands};
+ghost use Rattle.egt_board.specs.Placement.{Stands};
 ghost use Rattle.egt_board.specs.Settled.{IsSettled};
 ghost use Rattle.egt_board.specs.Setup.{Setup, IsAdmissible};
 ghost use Rattle.egt_class.specs.Material.{material_of};
@@ -16,12 +16,11 @@ ghost use Rattle.egt_index.specs.Numbers.{code_of, half_of, number_of, places};
 ghost use Rattle.egt_index.specs.ShelfCodes.{IsShelf};
 ghost use Rattle.egt_index.specs.declared.shelf_codes.ShelfMen.{ShelfMen};
 ghost use Rattle.egt_index.specs.Size.{has_pawns, has_target, size_of};
-ghost use Rattle.egt_index.specs.StepCodes.{FollowsLeap, FollowsStep, IsLeapCode, IsStepCode, TellsMen};
-ghost use Rattle.egt_index.specs.Stood.{HasStand, IsFilled, IsOff, list_of};
+ghost use Rattle.egt_index.specs.TellsMen.{TellsMen};
+ghost use Rattle.egt_index.specs.Stood.{HasStand, IsFilled, list_of};
 ghost use Rattle.egt_index.specs.TurnedMen.{IsSomeTurnedCodeWith};
-ghost use Rattle.egt_index.specs.Frame.{IsMoved};
 ghost use Rattle.egt_index.specs.Spelled.{IsListed};
-ghost use Rattle.egt_index.specs.Went.{AreOnBoard, IsMovedStand};
+ghost use Rattle.egt_index.specs.Went.{AreOnBoard};
 ghost use Rattle.egt_index.specs.declared.stand.Stand.{Stand};
 
 use crate::facts::facts;
@@ -82,14 +81,9 @@ pub fn a_class_without_targets_has_pawns_of_one_side()
     facts();
 }
 
-/// The code that tells where a symmetry of the class takes the men, once one of them went to a free square, spells an image of the position then,
-/// and no other position; the code of the men and a target spells the position after a leap over it, and no other settled one; and a settled position that a
-/// code spells has the men that it tells.
-pub fn codes_follow_steps()
-    ensures follows { (c code n from to : ℕ) (p : Setup) → IsStepCode c code n from to p → FollowsStep c code from to p }
-    ensures leaps { (c code from to : ℕ) (p : Setup) → IsLeapCode c code from to p → FollowsLeap c code from to p }
-    ensures stands { (passed : Bool) (c code : ℕ) (p : Setup) (stand : Stand) (side : Side) → c < 36 → Spells c code p → IsSettled p → TellsMen passed c code stand side →
-        HasStand c false stand side passed p }
+/// A settled position that a code spells has the men that the code tells.
+pub fn codes_tell_their_men()
+    ensures { (passed : Bool) (c code : ℕ) (p : Setup) (stand : Stand) (side : Side) → c < 36 → Spells c code p → IsSettled p → TellsMen passed c code stand side → HasStand c false stand side passed p }
 {
     facts();
 }
@@ -120,20 +114,6 @@ pub fn codes_tell_turned_men()
         IsSomeTurnedCodeWith passed c code flips stand side → Spells c code r → AreImages q r }
     ensures there { (passed : Bool) (c code : ℕ) (flips : Bool) (stand : Stand) (side : Side) (r : Setup) → c < 36 → AreOnBoard stand → IsSomeTurnedCodeWith passed c code flips stand side →
         Spells c code r → (passed ≡ true → IsSettled r) → (q : Setup) × HasStand c flips stand side passed q × AreImages q r }
-{
-    facts();
-}
-
-/// The men of a position are those of its stand, and no others. A position after one man went to a free square, with the other side to move and no
-/// target, has the men after that; and one that has them is such a position.
-pub fn stands_follow_moves()
-    ensures listed { (c : ℕ) (stand : Stand) (side : Side) (passed : Bool) (p : Setup) (s : ℕ) (man : Man) → HasStand c false stand side passed p →
-        Stands p.men s man ↔ IsListed (list_of stand) man s }
-    ensures free { (c : ℕ) (stand : Stand) (side : Side) (passed : Bool) (p : Setup) (s : ℕ) → HasStand c false stand side passed p → IsFree p.men s ↔ IsOff (list_of stand) s }
-    ensures moved { (c from to : ℕ) (p q : Setup) (stand after : Stand) (side : Side) (passed : Bool) → HasStand c false stand side passed p → IsMovedStand from to stand after →
-        IsMoved c p from to q → HasStand c false after (other_side side) false q }
-    ensures back { (c from to : ℕ) (p q : Setup) (man : Man) (stand after : Stand) (side : Side) (passed : Bool) → c < 36 → to < 64 → to ≢ from → Stands p.men from man →
-        HasStand c false stand side passed p → IsMovedStand from to stand after → HasStand c false after (other_side side) false q → IsMoved c p from to q }
 {
     facts();
 }

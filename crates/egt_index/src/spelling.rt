@@ -19,7 +19,7 @@ ghost use Rattle.egt_index.specs.Scales.{ends_of};
 ghost use Rattle.egt_index.specs.Size.{king_base, has_pawns, has_target};
 ghost use Rattle.std.specs.Option.{option_to_list};
 ghost use Rattle.egt_index.specs.Spelled.{Splits, Tells, SpellsMen, SpellsNoMen, Ends, HasPawns, IsTold};
-ghost use Rattle.egt_index.specs.StepCodes.{TellsMen};
+ghost use Rattle.egt_index.specs.TellsMen.{TellsMen};
 ghost use Rattle.egt_index.specs.Stood.{AllApart, IsFilled, list_of, with_entry, HasStand};
 
 use crate::facts::facts;

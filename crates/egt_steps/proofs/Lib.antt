@@ -11,3 +11,7 @@ pub mod PawnAdvances
 pub mod QuietStands
 pub mod LeftTargets
 pub mod Passed
+pub mod Carried
+pub mod Moved
+pub mod Gone
+pub mod StepCodes

@@ -12,7 +12,7 @@ use Rattle.egt_board.specs.Setup.{Setup, IsAdmissible}
 use Rattle.egt_board.specs.Square.{rank_of}
 use Rattle.egt_board.specs.Pawn.{ahead, last_rank}
 use Rattle.egt_class.specs.Membership.{IsOf}
-use Rattle.egt_index.specs.Frame.{IsMoved}
+use Rattle.egt_steps.specs.Frame.{IsMoved}
 use Rattle.egt_moves.specs.Chess.{Zeroes, IsPawnOn}
 use Rattle.egt_moves.specs.Exchange.{Captures}
 use Rattle.egt_moves.specs.Going.{Goes}

@@ -7,3 +7,5 @@ pub mod QuietStands
 pub mod InPassing
 pub mod PawnMoves
 pub mod Stands
+pub mod Frame
+pub mod StepCodes

@@ -7,7 +7,7 @@ ghost use Rattle.egt_board.specs.declared.man.Kind.TheVariants.{K};
 ghost use Rattle.egt_board.specs.declared.man.Side.{Side};
 ghost use Rattle.egt_class.specs.Children.{children_of};
 ghost use Rattle.egt_class.specs.Membership.{IsOf};
-ghost use Rattle.egt_index.specs.Frame.{IsMoved};
+ghost use Rattle.egt_steps.specs.Frame.{IsMoved};
 ghost use Rattle.egt_index.specs.Stood.{HasStand};
 ghost use Rattle.egt_index.specs.declared.shelf_codes.ShelfMen.{ShelfMen};
 ghost use Rattle.egt_index.specs.declared.stand.Stand.{Stand};
@@ -19,10 +19,10 @@ ghost use Rattle.egt_steps.specs.QuietStands.{IsQuietStand};
 ghost use Rattle.egt_steps.specs.Stands.{stand_on};
 ghost use Rattle.egt_steps.specs.Takings.{IsClassOf, IsPlainCapture, IsTaken, Left, stand_left};
 
+use crate::code_laws::stands_follow_moves;
 use crate::facts::facts;
 use egt_board::counting::one_king_is_counted;
 use egt_class::laws::men_beside_are_counted;
-use egt_index::laws::stands_follow_moves;
 use egt_moves::exchanging::{moves_exchange_men, moves_keep_admissibility};
 
 /// A move that neither captures nor promotes stays in the class; any other leads into a child of it.

@@ -20,9 +20,9 @@ ghost use Rattle.egt_steps.specs.InPassing.{IsOfFourKinds, IsPassingCapture, IsP
 ghost use Rattle.egt_steps.specs.PawnMoves.{IsAdvance, IsAdvanceFrom, IsClassAfter, IsPromotingCapture, IsPromotingCaptureFrom, officer_of, stand_after, stand_in};
 ghost use Rattle.egt_steps.specs.Takings.{IsClassOf, left_of, stand_left};
 
+use crate::code_laws::stands_follow_moves;
 use crate::facts::facts;
 use egt_class::laws::men_beside_are_counted;
-use egt_index::laws::stands_follow_moves;
 
 /// The advances of the last man beside the kings, a pawn, lead to the men after them, and to all positions of them. One by two
 /// squares leaves a target where the first man is a pawn who stands ready to take in passing.

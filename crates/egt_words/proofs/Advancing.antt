@@ -20,11 +20,11 @@ use Rattle.egt_board.specs.declared.man.Man.{Man}
 use Rattle.egt_board.specs.declared.man.Side.{Side}
 use Rattle.egt_board.specs.declared.man.Side.TheVariants.{White, Black}
 use Rattle.egt_class.specs.Membership.{IsOf}
-use Rattle.egt_index.specs.Frame.{IsMoved}
+use Rattle.egt_steps.specs.Frame.{IsMoved}
 use Rattle.egt_index.specs.Index.{SettleAlike}
 use Rattle.egt_index.specs.Numbers.{IsNumbered, code_of}
-use Rattle.egt_index.specs.StepCodes.{FollowsLeap, FollowsStep, IsLeapt}
-use Rattle.egt_index.proofs.Moved.{settles_untargeted, untargeted_settled}
+use Rattle.egt_steps.specs.StepCodes.{FollowsLeap, FollowsStep, IsLeapt}
+use Rattle.egt_index.proofs.ToldMen.{settles_untargeted, untargeted_settled}
 use Rattle.egt_moves.specs.Exchange.{Captures}
 use Rattle.egt_moves.specs.Going.{Goes}
 use Rattle.egt_moves.specs.Legal.{Leads, after, is_target, is_two_ranks, plain}

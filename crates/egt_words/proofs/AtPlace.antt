@@ -19,7 +19,7 @@ use Rattle.egt_index.specs.declared.shelf_codes.ShelfMen.{ShelfMen}
 use Rattle.egt_index.proofs.After.{all_apart, listed_there}
 use Rattle.egt_index.proofs.FrameMen.{free_off, men_are}
 use Rattle.egt_index.proofs.Listing.{listed}
-use Rattle.egt_index.proofs.StepCodes.{told_stands}
+use Rattle.egt_index.proofs.ToldMen.{told_stands}
 use Rattle.egt_words.specs.Standing.{IsAt, IsHeldOn, least_of, standing}
 use Rattle.egt_words.specs.MoveLists.{word_of}
 use Rattle.egt_words.proofs.Advancing.{StandsWith}

@@ -8,18 +8,20 @@ use Rattle.egt_board.specs.declared.man.Side.{Side}
 use Rattle.egt_class.specs.Material.{material_of}
 use Rattle.egt_graph.specs.WordMoves.{turned_place}
 use Rattle.egt_graph.specs.Words.{number_at}
-use Rattle.egt_index.specs.Frame.{IsMoved}
+use Rattle.egt_steps.specs.Frame.{IsMoved}
 use Rattle.egt_index.specs.Home.{symmetries}
 use Rattle.egt_index.specs.Numbers.{IsNumbered, code_of, places}
 use Rattle.egt_index.specs.Scales.{kind_digits}
 use Rattle.egt_index.specs.ShelfCodes.{IsShelf, moved_men, stand_with, turned_men}
 use Rattle.egt_index.specs.Size.{has_pawns}
-use Rattle.egt_index.specs.StepCodes.{FollowsLeap, FollowsStep, IsLeapCode, IsStepCode, TellsMen, moved_stand, turned_stand}
+use Rattle.egt_index.specs.TellsMen.{TellsMen}
+use Rattle.egt_steps.specs.StepCodes.{FollowsLeap, FollowsStep, IsLeapCode, IsStepCode, moved_stand}
+use Rattle.egt_index.specs.TurnedMen.{turned_stand}
 use Rattle.egt_index.specs.Went.{moved_square}
 use Rattle.egt_index.specs.declared.shelf_codes.ShelfMen.{ShelfMen}
 use Rattle.egt_index.specs.declared.stand.Stand.{Stand}
-use Rattle.egt_index.proofs.Carried.{stayed}
-use Rattle.egt_index.proofs.Moved.{untargeted_settled}
+use Rattle.egt_steps.proofs.Carried.{stayed}
+use Rattle.egt_index.proofs.ToldMen.{untargeted_settled}
 use Rattle.egt_words.specs.Standing.{IsAt, IsWordWith, least_of}
 use Rattle.egt_words.specs.Steps.{IsLeapWord, IsStepWay}
 use Rattle.egt_words.specs.MoveLists.{word_of}

@@ -13,11 +13,13 @@ use Rattle.egt_index.specs.Scales.{kind_digits}
 use Rattle.egt_index.specs.ShelfCodes.{IsShelf, stand_with}
 use Rattle.egt_index.specs.Size.{has_pawns}
 use Rattle.egt_index.specs.Spelled.{IsListed}
-use Rattle.egt_index.specs.StepCodes.{FollowsLeap, FollowsStep, TellsMen, moved_stand, turned_stand}
+use Rattle.egt_index.specs.TellsMen.{TellsMen}
+use Rattle.egt_steps.specs.StepCodes.{FollowsLeap, FollowsStep, moved_stand}
+use Rattle.egt_index.specs.TurnedMen.{turned_stand}
 use Rattle.egt_index.specs.Went.{moved_square}
 use Rattle.egt_index.specs.declared.shelf_codes.ShelfMen.{ShelfMen}
 use Rattle.egt_index.specs.declared.stand.Stand.{Stand}
-use Rattle.egt_index.proofs.Carried.{stayed, went}
+use Rattle.egt_steps.proofs.Carried.{stayed, went}
 use Rattle.egt_words.specs.Standing.{IsAt, IsWordWith, least_of, standing}
 use Rattle.egt_words.specs.MoveLists.{word_of}
 use Rattle.egt_words.proofs.AtPlace.{has, off_his}

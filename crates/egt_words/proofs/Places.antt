@@ -11,7 +11,7 @@ use Rattle.egt_index.specs.Numbers.{code_of, places}
 use Rattle.egt_index.specs.Scales.{kind_digits}
 use Rattle.egt_index.specs.ShelfCodes.{IsShelf, IsWithin, number_in, stand_with}
 use Rattle.egt_index.specs.Size.{size_of}
-use Rattle.egt_index.specs.StepCodes.{TellsMen}
+use Rattle.egt_index.specs.TellsMen.{TellsMen}
 use Rattle.egt_index.specs.declared.shelf_codes.ShelfMen.{ShelfMen}
 use Rattle.egt_words.specs.Standing.{IsWordWith, least_of}
 use Rattle.egt_words.specs.MoveLists.{word_of}

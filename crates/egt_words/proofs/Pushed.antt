@@ -19,7 +19,7 @@ use Rattle.egt_index.specs.Numbers.{IsNumbered, code_of, places}
 use Rattle.egt_index.specs.Scales.{kind_digits, kind_less}
 use Rattle.egt_index.specs.ShelfCodes.{IsShelf}
 use Rattle.egt_index.specs.Size.{size_of}
-use Rattle.egt_index.specs.StepCodes.{FollowsLeap, FollowsStep}
+use Rattle.egt_steps.specs.StepCodes.{FollowsLeap, FollowsStep}
 use Rattle.egt_index.specs.declared.shelf_codes.ShelfMen.{ShelfMen}
 use Rattle.egt_moves.specs.declared.chess_move.Move.{Move}
 use Rattle.egt_steps.specs.Facts.{Facts}

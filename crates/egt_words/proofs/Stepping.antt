@@ -19,9 +19,9 @@ use Rattle.egt_graph.specs.WordMoves.{turned_place}
 use Rattle.egt_graph.specs.Words.{number_at}
 use Rattle.egt_graph.specs.declared.word_moves.TurnedWay.{TurnedWay}
 use Rattle.egt_index.specs.Numbers.{IsNumbered, code_of, places}
-use Rattle.egt_index.specs.Frame.{IsMoved}
+use Rattle.egt_steps.specs.Frame.{IsMoved}
 use Rattle.egt_index.specs.ShelfCodes.{IsShelf}
-use Rattle.egt_index.specs.StepCodes.{FollowsStep}
+use Rattle.egt_steps.specs.StepCodes.{FollowsStep}
 use Rattle.egt_index.specs.declared.shelf_codes.ShelfMen.{ShelfMen}
 use Rattle.egt_moves.specs.Chess.{Zeroes}
 use Rattle.egt_moves.specs.Legal.{Leads}

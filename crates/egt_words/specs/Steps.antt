@@ -19,7 +19,7 @@ use Rattle.egt_graph.specs.declared.word_moves.Way.{Way}
 use Rattle.egt_index.specs.Index.{SettleAlike}
 use Rattle.egt_index.specs.Numbers.{IsNumbered, code_of, places}
 use Rattle.egt_index.specs.Size.{size_of}
-use Rattle.egt_index.specs.StepCodes.{FollowsLeap, FollowsStep}
+use Rattle.egt_steps.specs.StepCodes.{FollowsLeap, FollowsStep}
 use Rattle.egt_index.specs.declared.shelf_codes.ShelfMen.{ShelfMen}
 use Rattle.egt_moves.specs.Chess.{IsPawnOn, Zeroes}
 use Rattle.egt_moves.specs.Exchange.{Captures}

@@ -17,7 +17,7 @@ use egt_board::{Side, SquareSet};
 use egt_class::Class;
 use egt_graph::Pushes;
 use egt_index::ShelfMen;
-use egt_index::laws::codes_follow_steps;
+use egt_steps::code_laws::codes_follow_steps;
 use egt_steps::facts::facts;
 use egt_steps::laws::moves_lead_into_the_class_or_a_child;
 

@@ -8,7 +8,7 @@ use crate::word::word_with;
 use egt_board::{Man, Side, SquareSet};
 use egt_class::Class;
 use egt_index::ShelfMen;
-use egt_index::laws::codes_follow_steps;
+use egt_steps::code_laws::codes_follow_steps;
 use egt_steps::laws::a_quiet_move_moves_one_man;
 
 /// A piece that goes from each place to the free squares that he attacks, each the place of another word.

@@ -17,7 +17,7 @@ use egt_board::{Kind, Man, Side, Square, SquareSet};
 use egt_class::Class;
 use egt_graph::{TurnedWay, Way};
 use egt_index::home::home;
-use egt_index::laws::codes_follow_steps;
+use egt_steps::code_laws::codes_follow_steps;
 use egt_index::{ShelfMen, has_pawns};
 use egt_steps::laws::a_quiet_move_moves_one_man;
 

@@ -3,7 +3,7 @@ use Rattle.std.specs.Prelude.{slice_index, false}
 use Rattle.egt_board.specs.Turned.{turned_side, turned_square}
 use Rattle.egt_board.specs.declared.man.Side.{Side}
 use Rattle.egt_index.specs.LoneCodes.{lone_stand}
-use Rattle.egt_index.specs.StepCodes.{TellsMen}
+use Rattle.egt_index.specs.TellsMen.{TellsMen}
 use Rattle.egt_lanes.specs.Raised.{IsRaised}
 use Rattle.egt_check.specs.Blocks.{IsCodeAfter}
 use Rattle.egt_check.specs.Worth.{column_score}

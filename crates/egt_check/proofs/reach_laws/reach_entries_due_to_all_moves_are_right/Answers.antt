@@ -6,7 +6,7 @@ use Rattle.egt_board.specs.declared.man.Side.{Side}
 use Rattle.egt_index.specs.Code.{Spells}
 use Rattle.egt_index.specs.Index.{IsIndex, IsVoid}
 use Rattle.egt_index.specs.Size.{size_of}
-use Rattle.egt_index.specs.StepCodes.{TellsMen}
+use Rattle.egt_index.specs.TellsMen.{TellsMen}
 use Rattle.egt_index.specs.declared.shelf_codes.ShelfMen.{ShelfMen}
 use Rattle.egt_lanes.specs.Scores.{byte_score, reach_score}
 use Rattle.egt_table.specs.declared.column.Column.TheVariants as columns
@@ -53,7 +53,7 @@ returns c = λ tables four men side passed a b i reach are one last below tells 
         let score : column_score own columns.Reach i ≡ reach_score e = low_column e low in
         let there : column_score own columns.Reach i ≢ 0 = λ none. some_score (entry_at (near own) Mate i) known.some known.other known.low (ap byte_score read ∙ sym score ∙ none) in
         let judged = right there in
-        let has = c.codes_follow_steps.ensures.stands passed own.class i p (stand_on men a b) side class_in spells (c.numbers_stand_for_codes.ensures.indexes_are_settled own.class i p p spells.admissible index spells) tells in
+        let has = c.codes_tell_their_men.ensures passed own.class i p (stand_on men a b) side class_in spells (c.numbers_stand_for_codes.ensures.indexes_are_settled own.class i p p spells.admissible index spells) tells in
         let given = c.all_reach_scores_give_all_moves.ensures tables four men side passed a b p reach are one last has scores in
         elim (cases_eq reach 0) [
           | inl none ↦

@@ -1,6 +1,6 @@
 use Rattle.egt_index.proofs.FrameMen.{free_off}
-use Rattle.egt_index.proofs.StepCodes.{men_listed, moved_stands, stands_moved}
-use Rattle.egt_index.proofs.laws.stands_follow_moves.Goals as goal
+use Rattle.egt_steps.proofs.StepCodes.{men_listed, moved_stands, stands_moved}
+use Rattle.egt_steps.proofs.code_laws.stands_follow_moves.Goals as goal
 
 pub returns : goal.returns
 returns c = record {

@@ -1,5 +1,4 @@
--- Codes by the squares of the men that their digits tell, each man by a digit of his own: of two equal men either may be written first, and no code need
--- be the least.
+-- The codes of the positions after a step or a leap.
 use Rattle.std.specs.Prelude.{◌≡◌, ◌≢◌, ℕ, ◌<◌, Bool, false, true, None}
 use Rattle.std.specs.FinMap as map
 use Rattle.std.specs.Option.{is_some}
@@ -8,34 +7,23 @@ use Rattle.egt_board.specs.Man.{other_side}
 use Rattle.egt_board.specs.Placement.{IsFree, Stands}
 use Rattle.egt_board.specs.Settled.{IsSettled}
 use Rattle.egt_board.specs.Setup.{IsAdmissible, Setup}
-use Rattle.egt_board.specs.Turned.{turned_square}
 use Rattle.egt_board.specs.declared.man.Man.{Man}
 use Rattle.egt_board.specs.declared.man.Side.{Side}
 use Rattle.egt_class.specs.Material.{material_of}
 use Rattle.egt_class.specs.Membership.{IsOf}
 use Rattle.egt_index.specs.Code.{Spells}
-use Rattle.egt_index.specs.Frame.{IsMoved}
+use Rattle.egt_steps.specs.Frame.{IsMoved}
 use Rattle.egt_index.specs.Home.{symmetries}
 use Rattle.egt_index.specs.Size.{has_pawns}
-use Rattle.egt_index.specs.Spelled.{Ends, SpellsMen}
-use Rattle.egt_index.specs.Stood.{HasStand, IsFilled, entry_after, list_of}
+use Rattle.egt_index.specs.Stood.{HasStand}
+use Rattle.egt_index.specs.TellsMen.{TellsMen}
+use Rattle.egt_index.specs.TurnedMen.{turned_stand}
 use Rattle.egt_index.specs.Went.{moved_entry, moved_square}
 use Rattle.egt_index.specs.declared.stand.Stand.{Stand}
-
--- the digits of the code are those of the men on these squares, of that side to move, and of a target where one was passed
-pub record TellsMen (passed : Bool) (c code : ℕ) (stand : Stand) (side : Side) : Type 0 where
-  pub number : ℕ
-  pub men : SpellsMen (material_of c) number (list_of stand)
-  pub filled : IsFilled stand
-  pub ends : Ends (material_of c) code number side passed
 
 -- the men after the one on `from` went to `to`
 abbrev pub moved_stand : (from to : ℕ) → Stand → Stand
 moved_stand from to s = record { white = moved_square from to s.white; black = moved_square from to s.black; next = moved_entry from to s.next; last = moved_entry from to s.last }
-
--- where a symmetry takes the men
-abbrev pub turned_stand : ℕ → Stand → Stand
-turned_stand n s = record { white = turned_square n false s.white; black = turned_square n false s.black; next = entry_after n false s.next; last = entry_after n false s.last }
 
 -- the code tells where a symmetry of the class takes the men of p, who stand so, once the one on `from` went to `to`
 pub record IsStepCode (c code n from to : ℕ) (p : Setup) : Type 0 where

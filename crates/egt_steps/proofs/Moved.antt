@@ -13,11 +13,12 @@ use Rattle.egt_board.specs.Pawn.{ahead, HasPawnBeside}
 use Rattle.egt_board.specs.Settled.{IsSettled, SettlesTo}
 use Rattle.egt_board.specs.Setup.{Setup}
 use Rattle.egt_board.specs.Turned.{turned_man}
-use Rattle.egt_index.specs.Frame.{IsMoved}
+use Rattle.egt_steps.specs.Frame.{IsMoved}
 use Rattle.egt_index.specs.Went.{moved_square, moved_entry, IsMovedStand, AreOnBoard}
 use Rattle.egt_index.specs.Stood.{Entry, men_among, IsOff, AllStand, Stood, HasStand, list_of}
 use Rattle.egt_index.specs.declared.stand.Stand.{Stand}
-use Rattle.egt_index.proofs.Carried.{went, stayed}
+use Rattle.egt_index.proofs.ToldMen.{settles_untargeted, untargeted_settled}
+use Rattle.egt_steps.proofs.Carried.{went, stayed}
 
 module _ (c : ℕ) (p : Setup) (from to : ℕ) (q : Setup) (moved : IsMoved c p from to q) where
   abbrev move_one : Man × ℕ → Man × ℕ
@@ -113,17 +114,6 @@ stand_moved c flips passed p q from to before after old side has moved settled s
   side_is = moved.side ∙ ap other_side has.side_is ∙ sym side_is;
   target_is = ap is_some moved.target;
 }
-
-pub untargeted_settled : (q : Setup) → q.target ≡ None → IsSettled q
-untargeted_settled q none = of_target q.target none
-  where
-    of_target : (t : Option ℕ) → t ≡ None → IfSome t (λ t. HasPawnBeside q.men q.side (ahead (other_side q.side) t))
-    of_target None e = tt
-    of_target (Some t) e = let same = e in cc
-
--- an admissible position without a target is its own settled form
-pub settles_untargeted : (q : Setup) → q.target ≡ None → SettlesTo q q
-settles_untargeted q none = inl (untargeted_settled q none, refl)
 
 -- the men of a position are on the board
 pub on_board_of : (c : ℕ) (flips passed : Bool) (p : Setup) (stand : Stand) (side : Side) → HasStand c flips stand side passed p → AreOnBoard stand

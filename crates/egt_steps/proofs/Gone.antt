@@ -12,9 +12,9 @@ use Rattle.egt_index.specs.Spelled.{IsListed}
 use Rattle.egt_index.specs.Stood.{AllApart, Entry, IsOff, list_of}
 use Rattle.egt_index.specs.Went.{moved_entry, moved_square}
 use Rattle.egt_index.specs.declared.stand.Stand.{Stand}
-use Rattle.egt_index.proofs.Carried.{went, stayed}
+use Rattle.egt_steps.proofs.Carried.{went, stayed}
 use Rattle.egt_index.proofs.Listing.{AreApart, get_here, get_later, listed_stands}
-use Rattle.egt_index.proofs.Moved.{after_of}
+use Rattle.egt_steps.proofs.Moved.{after_of}
 use Rattle.egt_index.proofs.Setups.{free_of}
 
 off_listed : (list : List (Man × ℕ)) (man : Man) (s : ℕ) → IsOff list s → IsListed list man s → ⊥

@@ -1,0 +1,99 @@
+-- What a code that tells some men spells has these men, and a position with these men is what it spells.
+use Rattle.std.proofs.Common.{◌≡◌, ◌≢◌, ℕ, ◌+◌, ◌-◌, Bool, true, false, List, Option, Some, None, IfSome, arith, refl, sym, ap, ◌∙◌, inl, subst}
+use Rattle.std.specs.Option.{is_some}
+use Rattle.std.proofs.lemmas.Bool.{false≢true}
+use Rattle.egt_board.specs.Listed.{FitsBoard, men_of, setup_of}
+use Rattle.egt_board.specs.Man.{other_side}
+use Rattle.egt_board.specs.Pawn.{HasPawnBeside, ahead, pawn_of}
+use Rattle.egt_board.specs.Placement.{Placement, Stands}
+use Rattle.egt_board.specs.Settled.{IsSettled, SettlesTo}
+use Rattle.egt_board.specs.Setup.{Setup}
+use Rattle.egt_board.specs.Target.{FitsTarget, IsTarget}
+use Rattle.egt_board.specs.declared.man.Man.{Man}
+use Rattle.egt_board.specs.declared.man.Side.{Side}
+use Rattle.egt_board.specs.declared.man.Side.TheVariants.{White, Black}
+use Rattle.egt_index.specs.Code.{Spells}
+use Rattle.egt_index.specs.Spelled.{HasPawns, IsTold}
+use Rattle.egt_index.specs.TellsMen.{TellsMen}
+use Rattle.egt_index.specs.Stood.{HasStand, list_of}
+use Rattle.egt_index.specs.declared.stand.Stand.{Stand}
+use Rattle.egt_index.proofs.After.{all_apart}
+use Rattle.egt_index.proofs.AtIndex.{target_exists}
+use Rattle.egt_index.proofs.Decoded.{has_pawns_list, spelled_setup}
+use Rattle.egt_index.proofs.FrameMen.{men_are}
+use Rattle.egt_index.proofs.Halves.{of_targets}
+use Rattle.egt_index.proofs.Listing.{listed}
+use Rattle.egt_index.proofs.Setups.{fits_apart, setup_spelled, stand_spelled}
+
+-- a position without a target is settled
+pub untargeted_settled : (q : Setup) → q.target ≡ None → IsSettled q
+untargeted_settled q none = of_target q.target none
+  where
+    of_target : (t : Option ℕ) → t ≡ None → IfSome t (λ t. HasPawnBeside q.men q.side (ahead (other_side q.side) t))
+    of_target None e = tt
+    of_target (Some t) e = let same = e in cc
+
+-- an admissible position without a target is its own settled form
+pub settles_untargeted : (q : Setup) → q.target ≡ None → SettlesTo q q
+settles_untargeted q none = inl (untargeted_settled q none, refl)
+
+-- where a target is told of there is a pawn each
+pub pawns_told : (passed : Bool) (c code : ℕ) (stand : Stand) (side : Side) → TellsMen passed c code stand side → passed ≡ true → HasPawns (list_of stand)
+pawns_told passed c code stand side tells e =
+    of_targets c (λ none. absurd (false≢true (sym (tells.ends.never none) ∙ e))) (λ has. has_pawns_list c tells.number (list_of stand) has tells.men)
+
+pub no_target : (o : Option ℕ) → is_some o ≡ false → o ≡ None
+no_target None is = refl
+no_target (Some t) is = absurd (false≢true (sym is))
+
+-- the setup of these men, that side to move and the target that the code tells of
+record IsSetup (passed : Bool) (stand : Stand) (side : Side) (p : Setup) : Type 0 where
+  target : Option ℕ
+  told : IsTold passed side (list_of stand) target
+  fits : FitsBoard (list_of stand)
+  is : p ≡ setup_of (list_of stand) side target
+
+-- what a code spells is the setup of the men that it tells
+told_setup : (passed : Bool) (c code : ℕ) (p : Setup) (stand : Stand) (side : Side) → Spells c code p → TellsMen passed c code stand side → IsSetup passed stand side p
+told_setup passed c code p stand side spells tells =
+    let target = target_exists passed side (list_of stand) (pawns_told passed c code stand side tells) in
+    let found = spelled_setup c code tells.number side passed (list_of stand) target.0 p tells.ends tells.men target.1 spells in
+    record { target = target.0; told = target.1; fits = found.0; is = found.1 }
+
+-- and has them
+pub told_stands : (passed : Bool) (c code : ℕ) (p : Setup) (stand : Stand) (side : Side) → Spells c code p → IsSettled p → TellsMen passed c code stand side → HasStand c false stand side passed p
+told_stands passed c code p stand side spells settled tells =
+    let found = told_setup passed c code p stand side spells tells in
+    subst (HasStand c false stand side passed) (sym found.is)
+    (stand_spelled c code tells.number stand side passed found.target tells.men (fits_apart (list_of stand) found.fits) found.told (subst (Spells c code) found.is spells) (subst IsSettled found.is settled))
+
+pub untargeted_stands : (c code : ℕ) (p : Setup) (stand : Stand) (side : Side) → Spells c code p → TellsMen false c code stand side → HasStand c false stand side false p
+untargeted_stands c code p stand side spells tells =
+    let found = told_setup false c code p stand side spells tells in
+    told_stands false c code p stand side spells (untargeted_settled p (ap (λ (q : Setup). q.target) found.is ∙ found.told)) tells
+
+-- the target of a position is what the digits tell of
+target_listed : (side : Side) (men : Placement) (list : List (Man × ℕ)) (t : ℕ) → men ≡ men_of list → IsTarget men side t → IsTold true side list (Some t)
+target_listed White men list t is target = let rank = target.rank in (t - 8, listed list (pawn_of Black) (t - 8) (subst (λ (m : Placement). Stands m (t - 8) (pawn_of Black)) is target.advanced), (omega arith))
+target_listed Black men list t is target = (t + 8, listed list (pawn_of White) (t + 8) (subst (λ (m : Placement). Stands m (t + 8) (pawn_of White)) is target.advanced), (omega arith))
+
+target_told : (passed : Bool) (side : Side) (men : Placement) (list : List (Man × ℕ)) (target : Option ℕ) → men ≡ men_of list → FitsTarget men side target → is_some target ≡ passed → IsTold passed side list target
+target_told false side men list target is fits none = no_target target none
+target_told true side men list None is fits some = absurd (false≢true some)
+target_told true side men list (Some t) is fits some = target_listed side men list t is fits
+
+-- and a position with these men is what it spells
+pub stands_told : (passed : Bool) (c code : ℕ) (p : Setup) (stand : Stand) (side : Side) → HasStand c false stand side passed p → TellsMen passed c code stand side → Spells c code p
+stands_told passed c code p stand side has tells =
+    setup_spelled c code tells.number side passed (list_of stand) p.target p tells.ends tells.men told (all_apart false p.men (list_of stand) has.stood.all) same has.admissible
+  where
+    men : p.men ≡ men_of (list_of stand)
+    men = men_are c stand side passed p has
+
+    told : IsTold passed side (list_of stand) p.target
+    told = target_told passed side p.men (list_of stand) p.target men (subst (λ (s : Side). FitsTarget p.men s p.target) has.side_is has.admissible.target) has.target_is
+
+    same : p ≡ setup_of (list_of stand) side p.target
+    same =
+        ap (λ (men : Placement). record { men = men; side = p.side; target = p.target }) men
+        ∙ ap (λ (s : Side). record { men = men_of (list_of stand); side = s; target = p.target }) has.side_is
