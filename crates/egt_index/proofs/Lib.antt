@@ -40,7 +40,6 @@ pub mod FrameMen
 pub mod IndexTotal
 pub mod Fronts
 pub mod RowMen
-pub mod SameKings
 pub mod Touching
 pub mod Gone
 pub mod Shelved
