@@ -14,7 +14,7 @@ use crate::rows::row_of;
 use egt_board::Side;
 use egt_class::Class;
 use egt_index::laws::{codes_tell_turned_men, numbers_stand_for_codes};
-use egt_index::{Rows, ShelfMen, last_digits, shelf_men, shelf_of, size};
+use egt_index::{ShelfMen, indexes_of, last_digits, shelf_men, shelf_of, size};
 use egt_lanes::sets::lanes_of;
 use egt_table::{Column, Table};
 
@@ -54,12 +54,10 @@ pub(crate) fn marks_of(
 }
 
 /// Whether the mate entries of the shelf are 0 exactly where its codes are void.
-fn tells_shelf(table: &Table, rows: &mut Rows, shelf: u32) -> bool
-    requires rows { rows.old ≡ table.now.class }
+fn tells_shelf(table: &Table, shelf: u32) -> bool
     requires within { IsWithin table.now.class shelf }
     requires alike { AreAllAlike table.now }
-    ensures rows { rows.new ≡ table.now.class }
-    ensures told { result ≡ true → TellsVoidsIn table.now shelf }
+    ensures { result ≡ true → TellsVoidsIn table.now shelf }
 {
     numbers_stand_for_codes();
     let class = table.class();
@@ -69,7 +67,7 @@ fn tells_shelf(table: &Table, rows: &mut Rows, shelf: u32) -> bool
     let Some(passed) = is_passed(class, &men, shelf) else {
         return false;
     };
-    let indexes = rows.indexes(shelf);
+    let indexes = indexes_of(class, shelf);
     let white = marks_of(table, Column::Mate, &men, shelf, Side::White, passed);
     let black = marks_of(table, Column::Mate, &men, shelf, Side::Black, passed);
     white == indexes.white && black == indexes.black
@@ -84,10 +82,8 @@ pub(crate) fn tells_voids(table: &Table) -> bool
     numbers_stand_for_codes();
     let class = table.class();
     let _number = class.number();
-    let mut rows = Rows::new(class);
     for shelf in 0..size(class) / (2 * last_digits(class)) {
-        let told = tells_shelf(table, &mut rows, shelf);
-        if !told {
+        if !tells_shelf(table, shelf) {
             return false;
         }
     }

@@ -2,7 +2,7 @@
 use Rattle.std.proofs.Common.{◌≡◌, ◌≢◌, ℕ, ◌+◌, ◌*◌, ◌/◌, ◌%◌, ◌<◌, ◌≤◌, not, Bool, true, false, cond, eqb, List, [], ◌∷◌, ◌++◌, map, Option, Some, None, IfSome, arith, refl, sym, ap, ◌∙◌, inl, inr, subst}
 use Rattle.std.specs.FinMap as placement
 use Rattle.std.specs.Option.{option_map}
-use Rattle.std.proofs.lemmas.Bool.{cases_eq, cases_lt, ltb-true, ltb-false, false≢true}
+use Rattle.std.proofs.lemmas.Bool.{cases_eq, cases_lt}
 use Rattle.egt_board.specs.declared.man.Side.{Side}
 use Rattle.egt_board.specs.declared.man.Side.TheVariants.{White, Black}
 use Rattle.egt_board.specs.declared.man.Man.{Man}
@@ -16,7 +16,7 @@ use Rattle.egt_board.specs.Symmetry.{KeepsPlay}
 use Rattle.egt_board.specs.Turned.{turned_square, turned_man}
 use Rattle.egt_class.specs.Material.{Material, material_of, has_equal_sides}
 use Rattle.egt_class.specs.Membership.{IsOf}
-use Rattle.egt_index.specs.Beaten.{Beats, Keeps, KeepsWith, IsBeaten, IsAsked, TurnBeats, TurnKeeps, is_less}
+use Rattle.egt_index.specs.Beaten.{Beats, HasKingsOn, Keeps, KeepsWith, IsBeaten, TurnBeats, TurnKeeps}
 use Rattle.egt_index.specs.Code.{Spells, king_square, men_at, target_digits}
 use Rattle.egt_index.specs.Digits.{number_from, number_of, AreDigits}
 use Rattle.egt_index.specs.Facts.{Facts}
@@ -24,8 +24,7 @@ use Rattle.egt_index.specs.Home.{BringsHome, AreHome, IsTurnWith}
 use Rattle.egt_index.specs.Index.{IsIndex}
 use Rattle.egt_index.specs.Size.{base_of, bases, king_base, men_bases, men_beside, has_pawns, has_target}
 use Rattle.egt_index.specs.Stood.{HasStand, list_of, AllStand, on_square_of}
-use Rattle.egt_index.specs.Turns.{IsTurn, CodeAfter}
-use Rattle.egt_index.specs.declared.least_code.Coded.{Coded}
+use Rattle.egt_index.specs.Turns.{IsTurn}
 use Rattle.egt_index.specs.declared.stand.Stand.{Stand}
 use Rattle.egt_index.proofs.Best.{code_found, turn_number, turn_of}
 use Rattle.egt_index.proofs.Classes.{image_in_colours}
@@ -167,17 +166,6 @@ beaten_by_kings facts c code t stand p own image c_in t_in ok settled is_of keep
           (subst (λ n. 64 * turned_square (t % 8) (eqb (t / 8) 1) stand.white + turned_square (t % 8) (eqb (t / 8) 1) stand.black < n) (own_is ∙ pair_of (eqb (t / 8) 1) stand.white stand.black) (subst (λ n. n < own) image_is lt));
     }
 
--- the code of the turn's image tells it
-pub beaten_by_code : (c code t : ℕ) (p : Setup) (o : Option ℕ) → CodeAfter c p t o → is_less o code ≡ true → Beats c p t code
-beaten_by_code c code t p None after less = absurd (false≢true less)
-beaten_by_code c code t p (Some other) after less = record { image = after.image; turned = after.turned; other = other; spells = after.coded.spells; less = ltb-true other code less }
-
-pub kept_by_code : Facts → (c code t : ℕ) (p : Setup) (o : Option ℕ) → CodeAfter c p t o → is_less o code ≡ false → Keeps c p t code
-kept_by_code facts c code t p None after less q other turn spells = absurd (after q other turn spells)
-kept_by_code facts c code t p (Some least) after less q other turn spells =
-    let le = after.coded.least other (subst (Spells c other) (facts.once (t % 8) (eqb (t / 8) 1) p q after.image turn.1 after.turned.1) spells) in
-    let ge = ltb-false least code less in omega arith
-
 -- all turns of some colours
 pub keeps_with : Facts → (c : ℕ) (p : Setup) (flips : Bool) (king first : ℕ) (second : Option ℕ) (code : ℕ) → IsAdmissible p → IsOf c flips p → Stands p.men king (turned_man flips (king_of White))
     → AreHome (has_pawns (material_of c)) flips king first second → Keeps c p first code → IfSome second (λ t. Keeps c p t code) → KeepsWith c p flips code
@@ -238,21 +226,25 @@ has_exchanged facts c flipped stand other side passed p c_in equal white black n
   target_is = has.target_is;
 }
 
+-- what hangs on the kings' squares alone
+pub same_by_kings : (F : ℕ → ℕ → ℕ) (n white black : ℕ) (stand : Stand) → HasKingsOn white black stand → n ≡ F white black → n ≡ F stand.white stand.black
+same_by_kings F n white black stand on is = is ∙ sym (ap (λ (w : ℕ). F w stand.black) on.0 ∙ ap (λ (b : ℕ). F white b) on.1)
+
 -- what a turn tells that exchanges colours so and brings the king home
-module _ (c : ℕ) (flips : Bool) (stand : Stand) (asked : Option Coded) (t : ℕ) (p : Setup) (side : Side) (passed : Bool) (code : ℕ) where
+module _ (c : ℕ) (flips : Bool) (stand : Stand) (t : ℕ) (p : Setup) (side : Side) (passed : Bool) (code : ℕ) where
   in_colours : IsTurnWith (has_pawns (material_of c)) flips t → HasStand c flips stand side passed p → HasStand c (eqb (t / 8) 1) stand side passed p
   in_colours turn has = subst (λ f. HasStand c f stand side passed p) (sym turn.flips_is) has
 
   plays : IsTurnWith (has_pawns (material_of c)) flips t → HasStand c flips stand side passed p → KeepsPlay (t % 8) p.men
   plays turn has = keeps_play c flips p (t % 8) has.admissible has.is_of turn.keeps
 
-  pub turn_beaten : IsTurnWith (has_pawns (material_of c)) flips t → BringsHome (has_pawns (material_of c)) flips stand.white t → TurnBeats c stand asked t → IsAsked asked side passed code
+  pub turn_beaten : IsTurnWith (has_pawns (material_of c)) flips t → BringsHome (has_pawns (material_of c)) flips stand.white t → TurnBeats c stand t
       → HasStand c flips stand side passed p → Spells c code p → IsBeaten c p code
-  turn_beaten turn brings beats asks has s = (
+  turn_beaten turn brings beats has s = (
     t,
     turn.below,
-    beats p side passed code asks (in_colours turn has) (plays turn has) (subst (λ f. BringsHome (has_pawns (material_of c)) f stand.white t) (sym turn.flips_is) brings) s,
+    beats p side passed code (in_colours turn has) (plays turn has) (subst (λ f. BringsHome (has_pawns (material_of c)) f stand.white t) (sym turn.flips_is) brings) s,
   )
 
-  pub turn_kept : IsTurnWith (has_pawns (material_of c)) flips t → TurnKeeps c stand asked t → IsAsked asked side passed code → HasStand c flips stand side passed p → Spells c code p → Keeps c p t code
-  turn_kept turn keeps asks has s = keeps p side passed code asks (in_colours turn has) (plays turn has) s
+  pub turn_kept : IsTurnWith (has_pawns (material_of c)) flips t → TurnKeeps c stand t → HasStand c flips stand side passed p → Spells c code p → Keeps c p t code
+  turn_kept turn keeps has s = keeps p side passed code (in_colours turn has) (plays turn has) s

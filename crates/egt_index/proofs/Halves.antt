@@ -14,7 +14,7 @@ use Rattle.egt_index.specs.Digits.{number_from, product}
 use Rattle.egt_index.specs.Numbers.{code_of, half_of, number_of, places}
 use Rattle.egt_index.specs.Scales.{digits_at, kind_digits}
 use Rattle.egt_index.specs.Shelf.{last_of, shelf_len}
-use Rattle.egt_index.specs.ShelfCodes.{IsShelfBehind, IsWithin, number_in}
+use Rattle.egt_index.specs.ShelfCodes.{IsShelfBehind, number_in}
 use Rattle.egt_index.specs.Size.{bases, has_target, men_beside, size_of}
 use Rattle.egt_index.specs.Spelled.{Ends}
 use Rattle.egt_index.proofs.OnePosition.{one_pawn_each}
@@ -197,21 +197,6 @@ shelf_past c shelf fronts all none ge = let le = mul-le-mul_right (2 * places c)
 
 pub shelf_past_both : (c shelf fronts : ℕ) → fronts * (2 * places c) ≡ half_of c → has_target (material_of c) ≡ true → 2 * fronts ≤ shelf → size_of c ≤ shelf * (2 * places c)
 shelf_past_both c shelf fronts all has ge = let le = mul-le-mul_right (2 * places c) ge in let twice = half_twice c has in omega arith
-
--- a shelf behind a front is one of the class's
-pub within_behind : (passed : Bool) (c shelf high : ℕ) → IsShelfBehind passed c shelf high → IsWithin c shelf
-within_behind passed c shelf high at = of_targets c none (some passed at)
-  where
-    none : has_target (material_of c) ≡ false → IsWithin c shelf
-    none is = plain passed (at.may is) at
-      where
-        plain : (passed : Bool) → passed ≡ false → IsShelfBehind passed c shelf high → IsWithin c shelf
-        plain true e at = absurd (false≢true (sym e))
-        plain false e at = let size = half_within c in let first = at.first in let within = at.within in omega arith
-
-    some : (passed : Bool) → IsShelfBehind passed c shelf high → has_target (material_of c) ≡ true → IsWithin c shelf
-    some false at has = let size = half_within c in let first = at.first in let within = at.within in omega arith
-    some true at has = let size = half_twice c has in let first = at.first in let within = at.within in omega arith
 
 -- the ends of a number's code
 module _ (passed : Bool) (c shelf high : ℕ) (at : IsShelfBehind passed c shelf high) (side : Side) (k : ℕ) (k_in : k < places c) where

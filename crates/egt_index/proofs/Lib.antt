@@ -38,7 +38,6 @@ pub mod FrameMen
 pub mod IndexTotal
 pub mod Fronts
 pub mod RowMen
-pub mod SameKings
 pub mod Touching
 pub mod Shelved
 pub mod Opposed

@@ -1,5 +1,5 @@
 -- Which numbers of a shelf stand for settled positions, and which of their codes are indexes.
-use Rattle.std.proofs.Common.{◌≡◌, ◌≢◌, ◌↔◌, ℕ, ◌+◌, ◌*◌, ◌/◌, ◌%◌, ◌<◌, ◌≤◌, Bool, true, false, if◌then◌else◌, Some, None, arith, refl, sym, ap, ◌∙◌, subst, inl, inr}
+use Rattle.std.proofs.Common.{◌≡◌, ◌≢◌, ◌↔◌, ℕ, ◌+◌, ◌*◌, ◌/◌, ◌<◌, ◌≤◌, Bool, true, false, if◌then◌else◌, Some, None, arith, refl, sym, ap, ◌∙◌, subst, inl, inr}
 use Rattle.std.specs.Int.{bit_at}
 use Rattle.std.proofs.lemmas.Bool.{cases_eq, cases_lt}
 use Rattle.std.proofs.lemmas.Nat.Bits.{bit_at-zero}
@@ -18,11 +18,11 @@ use Rattle.egt_index.specs.Facts.{Facts}
 use Rattle.egt_index.specs.Front.{TellsLast, IsFront, IsVoidFront}
 use Rattle.egt_index.specs.Index.{IsIndex, IsVoid}
 use Rattle.egt_index.specs.Numbers.{IsNumbered, code_of, places}
-use Rattle.egt_index.specs.Places.{AreBitsOf, AreInOrder, AreMade, ArePlaces, IsMade, TellsIndex}
-use Rattle.egt_index.specs.Row.{row_len}
+use Rattle.egt_index.specs.Places.{AreInOrder, AreMade, IsMade, TellsIndex}
+use Rattle.egt_index.specs.Shelf.{row_len}
 use Rattle.egt_index.specs.Scales.{kind_digits, kind_less}
-use Rattle.egt_index.specs.Shelf.{last_of, shelf_len}
-use Rattle.egt_index.specs.ShelfCodes.{AreIndexed, AreIndexes, AreNumbered, ArePositions, IsShelfBehind, PassesNothing, SpellsNothing, number_in}
+use Rattle.egt_index.specs.Shelf.{last_of}
+use Rattle.egt_index.specs.ShelfCodes.{AreIndexed, AreIndexes, AreNumbered, ArePositions, IsShelfBehind, IsWithin, PassesNothing, SpellsNothing}
 use Rattle.egt_index.specs.Size.{has_target, men_beside, size_of}
 use Rattle.egt_index.specs.Spelled.{Ends}
 use Rattle.egt_index.specs.TellsMen.{TellsMen}
@@ -34,11 +34,10 @@ use Rattle.egt_index.proofs.Beating.{no_index}
 use Rattle.egt_index.proofs.Coding.{code_below}
 use Rattle.egt_index.proofs.Decoded.{list_spelled}
 use Rattle.egt_index.proofs.Exists.{index_settled, index_spelled}
-use Rattle.egt_index.proofs.Halves.{code_plain, ends_behind, half_plain, len_plain, number_below, places_of_last, within_behind}
+use Rattle.egt_index.proofs.Halves.{ends_behind, number_below, places_of_last}
 use Rattle.egt_index.proofs.Passing.{last_pawn}
-use Rattle.egt_index.proofs.Placing.{not_both, tells, whole_first}
+use Rattle.egt_index.proofs.Placing.{not_both, tells}
 use Rattle.egt_index.proofs.RowMen.{row_number}
-use Rattle.egt_index.proofs.Shelved.{next_within}
 use Rattle.egt_index.proofs.ToldMen.{stands_told, told_stands}
 use Rattle.egt_index.proofs.Swapping.{beaten_behind}
 
@@ -125,7 +124,7 @@ module _ (passed : Bool) (c shelf high : ℕ) (man : Man) (c_in : c < 36) (last 
               here = (are_made k).0 ((bits k).0 one).0
 
               index : IsIndex c here.position code
-              index = is.least alone (entry k) ((bits k).0 one).1 here.position mover passed code tt here.has (spelled_there here.position here.below (spelled mover k here))
+              index = is.least alone (entry k) ((bits k).0 one).1 here.position mover passed code here.has (spelled_there here.position here.below (spelled mover k here))
 
           back : (k < places c) × ¬ IsVoid c code → bit_at word k ≡ 1
           back some = elim (cases_eq (bit_at word k) 1) [
@@ -241,49 +240,6 @@ indexed_all c shelf start digits found start_is digits_is whites blacks = record
   black = subst (λ n. IndexedTo c (n + 1) (places c) found.black) start_is (subst (λ d. IndexedTo c (start + 1) d found.black) digits_is blacks);
 }
 
--- the codes of one place are of one row
-pub row_same : (passed : Bool) (c shelf high start k : ℕ) → IsShelfBehind passed c shelf high → start ≡ shelf * (2 * places c) → k < places c → code_of c (start + 2 * k) / row_len c ≡ code_of c (start + 2 * k + 1) / row_len c
-row_same passed c shelf high start k at start_is below = ap (λ n. code_of c n / row_len c) white ∙ row White ∙ sym (row Black) ∙ ap (λ n. code_of c n / row_len c) (sym black)
-  where
-    row : (mover : Side) → code_of c (number_in c shelf mover k) / row_len c ≡ high * places c + k
-    row mover = row_number (material_of c) (code_of c (number_in c shelf mover k)) (high * places c + k) mover passed (ends_behind passed c shelf high at mover k below)
-
-    white : start + 2 * k ≡ number_in c shelf White k
-    white = omega arith
-
-    black : start + 2 * k + 1 ≡ number_in c shelf Black k
-    black = omega arith
-
-pub place_within : (passed : Bool) (c shelf high start k : ℕ) → IsShelfBehind passed c shelf high → start ≡ shelf * (2 * places c) → k < places c → start + 2 * k + 1 < size_of c
-place_within passed c shelf high start k at start_is below = let within = within_behind passed c shelf high at in omega arith
-
--- in a class without targets the numbers are the codes
-pub bits_told : (c n first word : ℕ) → has_target (material_of c) ≡ false → first ≤ n + 1 → n ≤ first → AreIndexed c first word → AreBitsOf c first (n + shelf_len c) word
-bits_told c n first word none near above are = record {
-  nodes = λ k one.
-      let here = (are k).0 one in let len = len_plain c none in let below = here.0 in
-      ((omega arith), subst (λ i. ¬ IsVoid c i) (code_plain c (first + 2 * k) none) here.1);
-  voids = λ k lt zero p ok index. let len = len_plain c none in
-      not_both (bit_at word k) zero ((are k).1 ((omega arith), λ void. subst (IsVoid c) (code_plain c (first + 2 * k) none) void p ok index));
-}
-
--- and so are its shelves
-module _ (c first : ℕ) (none : has_target (material_of c) ≡ false) (some : 0 < shelf_len c) (begins : first % shelf_len c ≡ 0) where
-  first_is : first / shelf_len c * (2 * places c) ≡ first
-  first_is = ap (λ n. first / shelf_len c * n) (sym (len_plain c none)) ∙ whole_first first (shelf_len c) begins
-
-  pub plain_behind : size_of c % shelf_len c ≡ 0 → first < size_of c → IsShelfBehind false c (first / shelf_len c) (first / shelf_len c)
-  plain_behind whole below = record {
-    first = omega arith;
-    within =
-        let next = next_within (shelf_len c) first (size_of c) some below whole in
-        let len = len_plain c none in let half = half_plain c none in let is = first_is in
-        omega arith;
-    may = λ e. refl;
-  }
-
-  pub places_told : (found : Places) → AreIndexes c (first / shelf_len c) found → ArePlaces c first found
-  places_told found are = record {
-    white = bits_told c first first found.white none (omega arith) (omega arith) (subst (λ n. AreIndexed c n found.white) first_is are.white);
-    black = bits_told c first (first + 1) found.black none (omega arith) (omega arith) (subst (λ n. AreIndexed c (n + 1) found.black) first_is are.black);
-  }
+-- they are of the class
+pub place_within : (c shelf digits k : ℕ) → IsWithin c shelf → digits ≡ places c → k < digits → shelf * (2 * digits) + 2 * k + 1 < size_of c
+place_within c shelf digits k within is = subst (λ d. k < d → shelf * (2 * d) + 2 * k + 1 < size_of c) (sym is) (λ below. omega arith)

@@ -4,7 +4,6 @@ use Rattle.std.specs.FinMap as map
 use Rattle.std.specs.Int.{bit_at}
 use Rattle.std.specs.Option.{option_to_list}
 use Rattle.std.proofs.lemmas.Bool.{cases_eq, cases_lt}
-use Rattle.std.proofs.lemmas.Nat.{div-add-mod'}
 use Rattle.std.proofs.lemmas.Nat.Bits.{bit_at-lt, bit_at_above, bit_at_and, bit_at_cat_high, bit_at_mask_below, bit_at_mask_inside, bit_at_ones, bit_at_ones_above, ones_shl}
 use Rattle.egt_board.specs.Attack.{IsAttacked, IsInCheck, king_of}
 use Rattle.egt_board.specs.Images.{side_number}
@@ -279,7 +278,3 @@ module _ (c high : ℕ) (man : Man) (c_in : c < 36) (last : last_of (men_beside 
   pub made_bits : (front : Front) → IsFront c high front → (mover : Side) (word : ℕ) → ((s : ℕ) (m : Man) → Stands front.board s m → s < 64) → ((k : ℕ) → (bit_at word k ≡ 1) ↔ IsPlaced front man mover k)
       → (k : ℕ) → (bit_at word k ≡ 1) ↔ IsMade false c front.stand man mover k
   made_bits front is mover word on_board placed k = (λ one. made front is k mover on_board ((placed k).0 one), λ there. (placed k).1 (placed_where front is k mover there))
-
--- where a shelf begins
-pub whole_first : (first len : ℕ) → first % len ≡ 0 → first / len * len ≡ first
-whole_first first len begins = let whole = div-add-mod' first len in omega arith

@@ -13,9 +13,10 @@ use Rattle.egt_class.specs.Material.{Material, material_of}
 use Rattle.egt_index.specs.Beaten.{SpellsAt}
 use Rattle.egt_index.specs.Code.{Spells, men_at}
 use Rattle.egt_index.specs.Digits.{number_from, AreDigits}
+use Rattle.egt_index.specs.Front.{IsVoidRow}
 use Rattle.egt_index.specs.Home.{IsAtHome}
-use Rattle.egt_index.specs.Row.{row_len, IsVoidRow}
 use Rattle.egt_index.specs.Scales.{ends_of}
+use Rattle.egt_index.specs.Shelf.{row_len}
 use Rattle.egt_index.specs.Size.{has_pawns, has_target, men_bases}
 use Rattle.egt_index.specs.Spelled.{Ends, SpellsMen, SpellsNoMen}
 use Rattle.egt_index.specs.Stood.{AllApart, HasStand, list_of}
@@ -40,9 +41,6 @@ number_with false code high Black passed ends = let is = ends.is in omega arith
 
 pub row_number : (m : Material) (code high : ℕ) (side : Side) (passed : Bool) → Ends m code high side passed → code / ends_of m ≡ high
 row_number m code high side passed ends = number_with (has_target m) code high side passed (record { is = ends.number_is; never = ends.never })
-
-pub ends_in_row : (m : Material) (code high : ℕ) (side : Side) (passed : Bool) → Ends m code high side passed → Ends m code (code / ends_of m) side passed
-ends_in_row m code high side passed ends = subst (λ h. Ends m code h side passed) (sym (row_number m code high side passed ends)) ends
 
 pub men_in_row : (m : Material) (code high : ℕ) (side : Side) (passed : Bool) (list : List (Man × ℕ)) → Ends m code high side passed → SpellsMen m high list → SpellsMen m (code / ends_of m) list
 men_in_row m code high side passed list ends men = subst (λ (n : ℕ). SpellsMen m n list) (sym (row_number m code high side passed ends)) men

@@ -1,9 +1,7 @@
 -- Codes that differ by no more than the last man's square: the same men stand there but for him.
-use Rattle.std.proofs.Common.{◌≡◌, ℕ, ◌+◌, ◌-◌, ◌*◌, ◌/◌, ◌%◌, ◌<◌, ◌≤◌, ◌==◌, nat_lt, Bool, true, false, cond, arith, refl}
+use Rattle.std.proofs.Common.{◌≡◌, ℕ, ◌*◌, ◌%◌, ◌<◌, ◌==◌, nat_lt, Bool, true, false, cond, arith, refl}
 use Rattle.std.specs.Prelude.{slice_index}
-use Rattle.std.proofs.Math.Nat.{div-lt_iff_lt-mul, mul-le-mul_right}
 use Rattle.std.proofs.lemmas.Bool.{eqb-true, ltb-true}
-use Rattle.std.proofs.lemmas.Nat.{div-add-mod'}
 use Rattle.egt_class.specs.Below.{all_below, passes_below}
 use Rattle.egt_class.specs.Material.{materials, material_of}
 use Rattle.egt_index.specs.Scales.{digits_at, ends_of}
@@ -44,18 +42,3 @@ whole_rows c = of_test (has_target (material_of c)) (digits_at (last_of (men_bes
     of_test : (b : Bool) (d : ℕ) → cond {A = ℕ} b 4 2 * d % cond {A = ℕ} b 4 2 ≡ 0
     of_test true d = omega arith
     of_test false d = omega arith
-
--- the next multiple is within a greater one
-pub next_within : (len i n : ℕ) → 0 < len → i < n → n % len ≡ 0 → i - i % len + len ≤ n
-next_within len i n some below whole =
-    let here = div-add-mod' i len in
-    let there = div-add-mod' n len in
-    let less : i / len < n / len = (div-lt_iff_lt-mul some).1 (omega arith) in
-    let most : (i / len + 1) * len ≤ n / len * len = mul-le-mul_right len (above (i / len) (n / len) less) in
-    omega (arith, add_one (i / len))
-  where
-    add_one : (k : ℕ) → (k + 1) * len ≡ k * len + len
-    add_one k = omega arith
-
-    above : (a b : ℕ) → a < b → a + 1 ≤ b
-    above a b lt = omega arith

@@ -11,7 +11,7 @@ use Rattle.egt_board.specs.Setup.{HasKings, IsKingOn, Setup}
 use Rattle.egt_board.specs.Step.{Away}
 use Rattle.egt_class.specs.Material.{material_of}
 use Rattle.egt_index.specs.Code.{Spells}
-use Rattle.egt_index.specs.Row.{row_len}
+use Rattle.egt_index.specs.Shelf.{row_len}
 use Rattle.egt_index.specs.Spelled.{SpellsMen}
 use Rattle.egt_index.specs.Stood.{AllStand, AreNear, HasStand, list_of}
 use Rattle.egt_index.specs.declared.stand.Stand.{Stand}

@@ -1,5 +1,5 @@
 -- Codes that some image of a position beats: the image has a code that is less.
-use Rattle.std.specs.Prelude.{◌≡◌, ℕ, ◌/◌, ◌%◌, ◌<◌, ◌≤◌, ◌==◌, nat_lt, Bool, false, Option, Some, None}
+use Rattle.std.specs.Prelude.{◌≡◌, ℕ, ◌/◌, ◌%◌, ◌<◌, ◌≤◌, ◌==◌, Bool, false, Some, None}
 use Rattle.egt_board.specs.declared.man.Side.{Side}
 use Rattle.egt_board.specs.Setup.{Setup}
 use Rattle.egt_board.specs.Symmetry.{KeepsPlay}
@@ -9,7 +9,6 @@ use Rattle.egt_index.specs.Home.{BringsHome}
 use Rattle.egt_index.specs.Size.{has_pawns}
 use Rattle.egt_index.specs.Stood.{Entry, HasStand, list_of}
 use Rattle.egt_index.specs.Turns.{IsTurn}
-use Rattle.egt_index.specs.declared.least_code.Coded.{Coded}
 use Rattle.egt_index.specs.declared.stand.Stand.{Stand}
 
 -- the code spells p by the digits of the men on these squares
@@ -37,37 +36,26 @@ KeepsWith c p flips code = (t : ℕ) → t < 16 → (t / 8 == 1) ≡ flips → K
 abbrev pub IsBeaten : ℕ → Setup → ℕ → Type 0
 IsBeaten c p code = (t : ℕ) × (t < 16) × Beats c p t code
 
--- there is a code, and it is less
-abbrev pub is_less : Option ℕ → ℕ → Bool
-is_less None code = false
-is_less (Some other) code = nat_lt other code
-
 -- equal men, the first on the greater square
 abbrev pub AreBehind : Entry → Entry → Type 0
 AreBehind None y = ⊥
 AreBehind (Some x) None = ⊥
 AreBehind (Some x) (Some y) = (x.0 ≡ y.0) × (y.1 < x.1)
 
--- the code with these digits behind it is the one that is asked about; without one all are
-abbrev pub IsAsked : Option Coded → Side → Bool → ℕ → Type 0
-IsAsked None side passed code = Unit {0}
-IsAsked (Some coded) side passed code = (coded.side ≡ side) × (coded.passed ≡ passed) × (coded.code ≡ code)
+-- what holds of each position with these men on their squares and of a code by which they spell it
+abbrev pub AllSpelled : ℕ → Stand → (Setup → ℕ → Type 0) → Type 0
+AllSpelled c stand Holds = (p : Setup) (side : Side) (passed : Bool) (code : ℕ) → HasStand c false stand side passed p → SpellsAt c code stand p → Holds p code
 
--- what holds of each position with these men on their squares and of a code by which they spell it, as far as it is asked about
-abbrev pub AllAsked : ℕ → Stand → Option Coded → (Setup → ℕ → Type 0) → Type 0
-AllAsked c stand asked Holds = (p : Setup) (side : Side) (passed : Bool) (code : ℕ) → IsAsked asked side passed code → HasStand c false stand side passed p → SpellsAt c code stand p → Holds p code
-
--- the men that answer for others: for all with their kings on the same squares, where nothing is asked about, and else for themselves alone
-abbrev pub AnswersFor : Option Coded → Stand → Stand → Type 0
-AnswersFor None stand other = (other.white ≡ stand.white) × (other.black ≡ stand.black)
-AnswersFor (Some coded) stand other = other ≡ stand
+-- the kings stand on these squares
+abbrev pub HasKingsOn : (white black : ℕ) → Stand → Type 0
+HasKingsOn white black stand = (stand.white ≡ white) × (stand.black ≡ black)
 
 -- what the turn makes of each position with these men, where it brings the king home, has a lesser code
-abbrev pub TurnBeats : ℕ → Stand → Option Coded → ℕ → Type 0
-TurnBeats c stand asked t = (p : Setup) (side : Side) (passed : Bool) (code : ℕ) → IsAsked asked side passed code → HasStand c (t / 8 == 1) stand side passed p → KeepsPlay (t % 8) p.men
+abbrev pub TurnBeats : ℕ → Stand → ℕ → Type 0
+TurnBeats c stand t = (p : Setup) (side : Side) (passed : Bool) (code : ℕ) → HasStand c (t / 8 == 1) stand side passed p → KeepsPlay (t % 8) p.men
     → BringsHome (has_pawns (material_of c)) (t / 8 == 1) stand.white t → Spells c code p → Beats c p t code
 
 -- or none that is less
-abbrev pub TurnKeeps : ℕ → Stand → Option Coded → ℕ → Type 0
-TurnKeeps c stand asked t = (p : Setup) (side : Side) (passed : Bool) (code : ℕ) → IsAsked asked side passed code → HasStand c (t / 8 == 1) stand side passed p → KeepsPlay (t % 8) p.men
+abbrev pub TurnKeeps : ℕ → Stand → ℕ → Type 0
+TurnKeeps c stand t = (p : Setup) (side : Side) (passed : Bool) (code : ℕ) → HasStand c (t / 8 == 1) stand side passed p → KeepsPlay (t % 8) p.men
     → Spells c code p → Keeps c p t code

@@ -1,13 +1,12 @@
 -- What the men before the last one tell of all codes that differ by no more than his square, the side to move and the target.
-use Rattle.std.specs.Prelude.{◌≡◌, ℕ, ◌<◌, Bool, false, Option, Some, None}
+use Rattle.std.specs.Prelude.{◌≡◌, ℕ, ◌/◌, ◌<◌, Bool, false, Option, Some, None}
 use Rattle.std.specs.FinMap as map
 use Rattle.std.specs.Option.{option_to_list}
 use Rattle.egt_board.specs.Listed.{men_of}
 use Rattle.egt_class.specs.Material.{material_of}
-use Rattle.egt_index.specs.Beaten.{AllAsked}
-use Rattle.egt_index.specs.Index.{IsIndex}
-use Rattle.egt_index.specs.Row.{IsVoidRow}
-use Rattle.egt_index.specs.Shelf.{last_of}
+use Rattle.egt_index.specs.Beaten.{AllSpelled}
+use Rattle.egt_index.specs.Index.{IsIndex, IsVoid}
+use Rattle.egt_index.specs.Shelf.{last_of, row_len}
 use Rattle.egt_index.specs.Size.{men_beside}
 use Rattle.egt_index.specs.Spelled.{Tells, SpellsMen, SpellsNoMen}
 use Rattle.egt_index.specs.Stood.{Entry, AllApart, IsFilled, IsInOrder, list_of, with_last}
@@ -35,7 +34,11 @@ pub record IsFront (c high : ℕ) (front : Front) : Type 0 where
   pub apart : AllApart (list_of front.stand)
   pub board : front.board ≡ men_of (list_of front.stand)
   pub room : map.len front.board < 4
-  pub least : front.tied ≡ false → (last : Entry) → IsInOrder front.stand.next last → AllAsked c (with_last front.stand last) None (IsIndex c)
+  pub least : front.tied ≡ false → (last : Entry) → IsInOrder front.stand.next last → AllSpelled c (with_last front.stand last) (IsIndex c)
+
+-- all codes of the row are void
+abbrev pub IsVoidRow : ℕ → ℕ → Type 0
+IsVoidRow c n = (code : ℕ) → code / row_len c ≡ n → IsVoid c code
 
 -- all rows behind it are void
 abbrev pub IsVoidFront : ℕ → ℕ → Type 0

@@ -1,5 +1,5 @@
 -- Which codes of a shelf are positions' indexes, and where the last man of a position may stand.
-use Rattle.std.specs.Prelude.{◌≡◌, ◌≢◌, ◌↔◌, ℕ, ◌+◌, ◌*◌, ◌<◌, Bool, true, false, Some}
+use Rattle.std.specs.Prelude.{◌≡◌, ◌≢◌, ◌↔◌, ℕ, ◌+◌, ◌<◌, Bool, true, false, Some}
 use Rattle.std.specs.Int.{bit_at}
 use Rattle.egt_board.specs.Attack.{king_of}
 use Rattle.egt_board.specs.Man.{other_side}
@@ -16,22 +16,12 @@ use Rattle.egt_class.specs.Material.{material_of}
 use Rattle.egt_index.specs.Front.{IsFront}
 use Rattle.egt_index.specs.Index.{IsVoid}
 use Rattle.egt_index.specs.Scales.{kind_digits, kind_less}
-use Rattle.egt_index.specs.Shelf.{last_of, shelf_len}
+use Rattle.egt_index.specs.Shelf.{last_of}
 use Rattle.egt_index.specs.Size.{man_of, men_beside}
 use Rattle.egt_index.specs.Stood.{Entry, HasStand, IsInOrder, with_last}
 use Rattle.egt_index.specs.declared.front.Front.{Front}
 use Rattle.egt_index.specs.declared.places.Places.{Places}
 use Rattle.egt_index.specs.declared.stand.Stand.{Stand}
-
--- the bits are of every other code from `first` on, up to `end`: 1 exactly where the code is a position's index
-pub record AreBitsOf (c first end bits : ℕ) : Type 0 where
-  pub nodes : (k : ℕ) → bit_at bits k ≡ 1 → (first + 2 * k < end) × ¬ IsVoid c (first + 2 * k)
-  pub voids : (k : ℕ) → first + 2 * k < end → bit_at bits k ≡ 0 → IsVoid c (first + 2 * k)
-
--- so are those of the shelf that begins with `first`, by the side to move
-pub record ArePlaces (c first : ℕ) (places : Places) : Type 0 where
-  pub white : AreBitsOf c first (first + shelf_len c) places.white
-  pub black : AreBitsOf c (first + 1) (first + shelf_len c) places.black
 
 -- the answer is right whether the code is a position's index
 pub record TellsIndex (there : Bool) (c code : ℕ) : Type 0 where

@@ -11,6 +11,10 @@ last_of [] = None
 last_of (one ∷ []) = None
 last_of (one ∷ last ∷ more) = Some last
 
+-- how many codes are in a row: they differ in no more than the side to move and the target
+abbrev pub row_len : ℕ → ℕ
+row_len c = ends_of (material_of c)
+
 -- how many codes of the class are alike but for the last man's digit and the digits behind his
 unfoldable pub shelf_len : ℕ → ℕ
 shelf_len c = ends_of (material_of c) * digits_at (last_of (men_beside (material_of c)))

@@ -15,7 +15,7 @@ use Rattle.egt_index.specs.Front.{TellsLast}
 use Rattle.egt_index.specs.Home.{IsAtHome}
 use Rattle.egt_index.specs.Index.{IsVoid}
 use Rattle.egt_index.specs.Numbers.{IsNumbered, code_of, half_of, places}
-use Rattle.egt_index.specs.Row.{row_len}
+use Rattle.egt_index.specs.Shelf.{row_len}
 use Rattle.egt_index.specs.Scales.{kind_digits, kind_less}
 use Rattle.egt_index.specs.Size.{has_pawns, has_target, men_in_order, size_of}
 use Rattle.egt_index.specs.Spelled.{Ends}

@@ -15,12 +15,11 @@ pub(crate) struct Front {
     /// Without the last man.
     pub(crate) stand: Stand,
     pub(crate) board: Board,
-    /// Whether each code is to be compared with those of images.
+    /// Whether each code is to be asked about alone.
     pub(crate) tied: bool,
 }
 
 /// The front whose men have these digits; `None` where they tell that no code with them is a position's index.
-#[inline(never)]
 pub(crate) fn front_of(class: Class, number: u32) -> Option<Front>
     ensures { IsFrontOf class number result }
 {
@@ -33,7 +32,7 @@ pub(crate) fn front_of(class: Class, number: u32) -> Option<Front>
     if !are_apart(&stand) {
         return None;
     }
-    let tied = match told_in_order(class, &stand, None) {
+    let tied = match told_in_order(class, stand.white, stand.black) {
         Leastness::Beaten => return None,
         Leastness::Least => false,
         Leastness::Tied => true,

@@ -31,13 +31,7 @@ fn side_after(side: Side, flips: bool) -> Side
 }
 
 /// The least code of what the turn makes of a settled position with these men of the class, if it has one.
-pub(crate) fn code_after(
-    class: Class,
-    stand: &Stand,
-    side: Side,
-    passed: bool,
-    turn: u8,
-) -> Option<u32>
+fn code_after(class: Class, stand: &Stand, side: Side, passed: bool, turn: u8) -> Option<u32>
     requires { turn < 16 }
     ensures { (p : Setup) → HasStand class (turn / 8 == 1) stand.now side passed p → KeepsPlay (turn % 8) p.men → CodeAfter class p turn result }
 {

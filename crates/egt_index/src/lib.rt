@@ -2,6 +2,7 @@
 #![tactic(auto)]
 
 pub mod codes;
+pub mod decoding;
 pub mod digits;
 pub mod facts;
 pub mod front;
@@ -15,7 +16,6 @@ pub mod nearer;
 pub mod numbers;
 pub mod passed;
 pub mod places;
-pub mod row;
 pub mod shelf;
 pub mod shelf_codes;
 pub mod sizes;
@@ -23,12 +23,12 @@ pub mod spelling;
 pub mod stand;
 pub mod turning;
 
+pub use decoding::position;
 pub use indexing::{index, indexed_by_men};
 pub use lone_codes::{lone_man, lone_row};
 pub use men::{has_pawns, has_target};
 pub use numbers::code_of;
-pub use places::Places;
-pub use row::{Rows, position};
+pub use places::{Places, indexes_of};
 pub use shelf::{last_digits, shelf_len};
 pub use shelf_codes::{ShelfMen, positions_of, shelf_men, shelf_of};
 pub use sizes::size;

@@ -1,5 +1,5 @@
 //! Which numbers of a shelf stand for positions' indexes, told of all of them at once by sets of squares.
-ghost use Rattle.std.specs.Prelude.{◌≡◌, ℕ, ◌+◌, ◌/◌, ◌%◌, ◌<◌, ◌↔◌, Bool, false, Some, IfSome};
+ghost use Rattle.std.specs.Prelude.{◌≡◌, ℕ, ◌+◌, ◌<◌, ◌↔◌, false, Some, IfSome};
 ghost use Rattle.std.specs.Int.{bit_at};
 ghost use Rattle.egt_board.specs.Placement.{Stands};
 ghost use Rattle.egt_board.specs.Safety.{IsKeptFrom};
@@ -8,22 +8,20 @@ ghost use Rattle.egt_board.specs.declared.man.Man.{Man};
 ghost use Rattle.egt_class.specs.Material.{material_of};
 ghost use Rattle.egt_index.specs.Front.{IsFront, IsFrontOf};
 ghost use Rattle.egt_index.specs.Numbers.{code_of};
-ghost use Rattle.egt_index.specs.Places.{AreInOrder, AreMade, ArePlaces, IsFrontBefore, IsPlaced, TellsIndex, facing, waiting};
-ghost use Rattle.egt_index.specs.Row.{row_len, IsRowOf};
+ghost use Rattle.egt_index.specs.Places.{AreInOrder, AreMade, IsFrontBefore, IsPlaced, TellsIndex, facing, waiting};
 ghost use Rattle.egt_index.specs.Scales.{kind_digits, kind_less};
-ghost use Rattle.egt_index.specs.Shelf.{shelf_len};
 ghost use Rattle.egt_index.specs.ShelfCodes.{AreIndexes, IsShelfBehind, IsWithin};
 ghost use Rattle.egt_index.specs.Size.{has_target, size_of};
 ghost use Rattle.egt_index.specs.Stood.{IsInOrder};
 
+use crate::decoding::position;
 use crate::digits::digit;
 use crate::facts::facts;
-use crate::front::Front;
+use crate::front::{Front, front_of};
 use crate::men::beside;
 use crate::numbers::{code_of, front_number};
 use crate::passed::{may_pass, passed_places};
-use crate::row::{Row, Rows};
-use crate::shelf::{last_digits, shelf_len};
+use crate::shelf::last_digits;
 use crate::stand::Stand;
 use egt_board::attack_lines::reach_past;
 use egt_board::safety::reach_passes_over_its_end;
@@ -147,7 +145,7 @@ pub(crate) fn settled_places(class: Class, front: &Front, man: Man, passed: bool
     }
 }
 
-/// The indexes of the shelf behind the front, whose last man this is; `None` where each code is to be compared with those of images.
+/// The indexes of the shelf behind the front, whose last man this is; `None` where each code is to be asked about alone.
 fn places_behind(class: Class, front: &Front, man: Man, passed: bool) -> Option<Places>
     requires before { IsFrontBefore class front.now man }
     requires targets { has_target (material_of class) ≡ false → passed ≡ false }
@@ -177,88 +175,52 @@ fn told(class: Class, number: u32, passed: bool, front: &Option<Front>) -> Optio
     }
 }
 
-/// Whether the code of the row, if there is one, is a position's index.
-fn is_index(row: &Option<Row>, code: u32) -> bool
-    requires { (c : ℕ) × IsRowOf c (code / row_len c) row.now }
-    ensures { (c : ℕ) → IsRowOf c (code / row_len c) row.now → TellsIndex result c code }
+/// Whether the number stands for a position's index.
+fn is_index(class: Class, number: u32) -> bool
+    requires { number < size_of class }
+    ensures { TellsIndex result class (code_of class number) }
 {
-    match row {
-        Some(row) => row.position_at(code).is_some(),
-        None => false,
+    position(class, code_of(class, number)).is_some()
+}
+
+/// The indexes of the shelf, each code asked about alone.
+fn asked(class: Class, shelf: u32) -> Places
+    requires { IsWithin class shelf }
+    ensures { AreIndexes class shelf result }
+{
+    let _number = class.number();
+    let digits = last_digits(class);
+    let first = shelf * (2 * digits);
+    let mut white = SquareSet::EMPTY;
+    let mut black = SquareSet::EMPTY;
+    for digit in 0..digits {
+        let number = first + 2 * digit;
+        let is_white = is_index(class, number);
+        let is_black = is_index(class, number + 1);
+        let bit = Square::at(digit as u8);
+        white = white.changed(bit, is_white);
+        black = black.changed(bit, is_black);
+    }
+    Places {
+        white: white.bits,
+        black: black.bits,
     }
 }
 
-impl Rows {
-    /// Whether the codes of the number and of the next one, which are of one row, are positions' indexes.
-    fn are_indexes(&mut self, number: u32) -> (bool, bool)
-        requires within { number + 1 < size_of self.old }
-        requires row { code_of self.old number / row_len self.old ≡ code_of self.old (number + 1) / row_len self.old }
-        ensures class { self.new ≡ self.old }
-        ensures white { TellsIndex result.0 self.old (code_of self.old number) }
-        ensures black { TellsIndex result.1 self.old (code_of self.old (number + 1)) }
-    {
-        let class = self.class();
-        let _number = class.number();
-        let white = code_of(class, number);
-        let black = code_of(class, number + 1);
-        let row = self.row_of(white);
-        (is_index(&row, white), is_index(&row, black))
+/// Which numbers of the shelf stand for positions' indexes: bit `k` is of the number with the last man's digit `k`.
+pub fn indexes_of(class: Class, shelf: u32) -> Places
+    requires { IsWithin class shelf }
+    ensures { AreIndexes class shelf result }
+{
+    facts();
+    let _number = class.number();
+    let (number, passed) = front_number(class, shelf).unwrap();
+    if passed && !may_pass(class, number) {
+        return Places::default();
     }
-
-    /// The indexes of the shelf, each code asked about alone.
-    fn asked(&mut self, shelf: u32) -> Places
-        requires { (passed : Bool) × (high : ℕ) × IsShelfBehind passed self.old shelf high }
-        ensures class { self.new ≡ self.old }
-        ensures indexes { AreIndexes self.old shelf result }
-    {
-        let class = self.class();
-        let _number = class.number();
-        let digits = last_digits(class);
-        let first = shelf * (2 * digits);
-        let mut white = SquareSet::EMPTY;
-        let mut black = SquareSet::EMPTY;
-        for digit in 0..digits {
-            let (is_white, is_black) = self.are_indexes(first + 2 * digit);
-            let bit = Square::at(digit as u8);
-            white = white.changed(bit, is_white);
-            black = black.changed(bit, is_black);
-        }
-        Places {
-            white: white.bits,
-            black: black.bits,
-        }
-    }
-
-    /// Which numbers of the shelf stand for positions' indexes: bit `k` is of the number with the last man's digit `k`.
-    pub fn indexes(&mut self, shelf: u32) -> Places
-        requires { IsWithin self.old shelf }
-        ensures class { self.new ≡ self.old }
-        ensures indexes { AreIndexes self.old shelf result }
-    {
-        facts();
-        let class = self.class();
-        let _number = class.number();
-        let (number, passed) = front_number(class, shelf).unwrap();
-        if passed && !may_pass(class, number) {
-            return Places::default();
-        }
-        let front = self.front_at(number);
-        match told(class, number, passed, &front) {
-            Some(places) => places,
-            None => self.asked(shelf),
-        }
-    }
-
-    /// Which codes of the shelf that begins with `first` are positions' indexes, in a class without targets.
-    pub fn places(&mut self, first: u32) -> Places
-        requires begins { first % shelf_len self.old ≡ 0 }
-        requires within { first < size_of self.old }
-        requires targets { has_target (material_of self.old) ≡ false }
-        ensures class { self.new ≡ self.old }
-        ensures places { ArePlaces self.old first result }
-    {
-        let class = self.class();
-        let _number = class.number();
-        self.indexes(first / shelf_len(class))
+    let front = front_of(class, number);
+    match told(class, number, passed, &front) {
+        Some(places) => places,
+        None => asked(class, shelf),
     }
 }

@@ -1,9 +1,8 @@
 //! Shelves: codes that differ by no more than the last man's digit and those behind it.
 ghost use Rattle.std.specs.Prelude.{◌≡◌, ◌*◌, ◌%◌, ◌<◌, ◌≤◌};
 ghost use Rattle.egt_index.specs.Numbers.{places};
-ghost use Rattle.egt_index.specs.Row.{row_len};
 ghost use Rattle.egt_index.specs.Scales.{kind_digits};
-ghost use Rattle.egt_index.specs.Shelf.{shelf_len};
+ghost use Rattle.egt_index.specs.Shelf.{row_len, shelf_len};
 ghost use Rattle.egt_index.specs.Size.{size_of};
 
 use crate::men::beside;

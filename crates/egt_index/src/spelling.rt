@@ -4,10 +4,9 @@ ghost use Rattle.std.specs.FinMap as map;
 ghost use Rattle.egt_board.specs.Attack.{king_of};
 ghost use Rattle.egt_board.specs.Listed.{men_of};
 ghost use Rattle.egt_board.specs.Pawn.{PawnsFit};
-ghost use Rattle.egt_board.specs.Placement.{Placement, IsFree};
+ghost use Rattle.egt_board.specs.Placement.{IsFree};
 ghost use Rattle.egt_board.specs.Settled.{IsSettled};
 ghost use Rattle.egt_board.specs.Setup.{Setup, IsAdmissible, IsKingOn};
-ghost use Rattle.egt_board.specs.Target.{FitsTarget};
 ghost use Rattle.egt_board.specs.declared.man.Side.TheVariants.{White, Black};
 ghost use Rattle.egt_class.specs.Material.{material_of};
 ghost use Rattle.egt_index.specs.AtIndex.{IsAtIndex};
@@ -88,8 +87,7 @@ fn take(number: u32, man: Option<Man>) -> (u32, Option<(Man, Square)>)
 }
 
 /// Takes the digit of the last man of the class off the number: none is last where fewer than two men stand beside the kings.
-#[inline(always)]
-pub(crate) fn take_last(class: Class, number: u32) -> (u32, Option<(Man, Square)>)
+fn take_last(class: Class, number: u32) -> (u32, Option<(Man, Square)>)
     ensures { TellsLast class number result.0 result.1 }
 {
     let (_, last) = beside(class);
@@ -143,7 +141,6 @@ pub(crate) fn ends(class: Class, code: u32) -> (u32, Side, bool)
 }
 
 /// The board with one man more, if there is one.
-#[inline(always)]
 pub(crate) fn with_entry(board: Board, entry: Option<(Man, Square)>) -> Board
     requires free { IfSome entry (λ e. IsFree board e.1) }
     requires room { map.len board < 4 }
@@ -191,20 +188,6 @@ pub(crate) fn target_of(side: Side, passed: bool, stand: &Stand) -> Option<Squar
     };
     let (_, square) = advanced?;
     Some(square.ahead(side))
-}
-
-/// Whether the target, if there is one, is on the rank over which the other side's pawns advance.
-pub(crate) fn is_passed(side: Side, target: &Option<Square>) -> bool
-    ensures { result ≡ false → (men : Placement) → ¬ FitsTarget men side target.now }
-{
-    let rank = match side {
-        Side::White => 5,
-        Side::Black => 2,
-    };
-    match target {
-        Some(square) => square.rank() == rank,
-        None => true,
-    }
 }
 
 /// The position with this board, on which these are the kings, that side to move and that target; `None` where the rules of
@@ -264,7 +247,7 @@ fn stand_at(class: Class, index: u32) -> (Stand, Side, bool)
     (stand, side, passed)
 }
 
-/// The settled position whose index this is, and where its men stand: what a row answers of its code.
+/// The settled position whose index this is, and where its men stand.
 #[inline(always)]
 fn at_index(class: Class, index: u32) -> (Position, Stand)
     requires { ¬ IsVoid class index }

@@ -6,7 +6,6 @@ ghost use Rattle.egt_board.specs.Setup.{Setup, IsAdmissible};
 ghost use Rattle.egt_board.specs.Turned.{turned_man};
 ghost use Rattle.egt_class.specs.Material.{material_of};
 ghost use Rattle.egt_class.specs.Membership.{IsOf};
-ghost use Rattle.egt_index.specs.Beaten.{AreBehind};
 ghost use Rattle.egt_index.specs.Size.{men_beside};
 ghost use Rattle.egt_index.specs.Stood.{Stood, Holds, IsOn, IsAmong, IsFirst, list_of, before_last, with_last, IsOff, AllApart, AreNear, entry_after, on_square_of, IsInOrder, IsOrdered, AreExchanged, IsTurned, IsStandAfter};
 
@@ -19,11 +18,11 @@ use egt_class::Class;
 /// The squares of a class's men: of the white king, the black king and the other men in the order of the name. Where
 /// colours are flipped, the white king's square is that on which the black king stands, and so on.
 #[derive(Clone, Copy)]
-pub(crate) struct Stand {
-    pub(crate) white: Square,
-    pub(crate) black: Square,
-    pub(crate) next: Option<(Man, Square)>,
-    pub(crate) last: Option<(Man, Square)>,
+pub struct Stand {
+    pub white: Square,
+    pub black: Square,
+    pub next: Option<(Man, Square)>,
+    pub last: Option<(Man, Square)>,
 }
 
 /// Whether the men are the same.
@@ -196,9 +195,8 @@ fn entry_after(entry: Option<(Man, Square)>, turn: u8) -> Option<(Man, Square)>
 }
 
 /// Whether the men beside the kings are equal and the last stands on the lesser square.
-pub(crate) fn is_behind(stand: &Stand) -> bool
+fn is_behind(stand: &Stand) -> bool
     ensures behind { result ≡ true → AreExchanged stand.now.next stand.now.last }
-    ensures strictly { result ≡ true → AreBehind stand.now.next stand.now.last }
     ensures in_order { result ≡ false → IsInOrder stand.now.next stand.now.last }
 {
     match (stand.next, stand.last) {

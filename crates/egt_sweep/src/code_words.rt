@@ -13,7 +13,7 @@ use crate::code_sources::CodeSources;
 use egt_board::Side;
 use egt_class::Class;
 use egt_graph::{Pushes, TurnedWay, Way, is_in, lead_by, words_of};
-use egt_index::{Rows, ShelfMen, last_digits, positions_of, shelf_men, size};
+use egt_index::{ShelfMen, indexes_of, last_digits, positions_of, shelf_men, size};
 use egt_words::{MoveLists, Roaming};
 use std::alloc::{AllocError, Global};
 
@@ -143,22 +143,19 @@ impl CodeLists {
     fn tell_shelf(
         &mut self,
         told: &mut MoveLists,
-        rows: &mut Rows,
         class: Class,
         shelf: u32,
     ) -> Result<bool, AllocError>
-        requires rows { rows.old ≡ class }
         requires within { IsWithin class shelf }
         requires holds { HoldsBelow class (2 * shelf) self.old }
-        ensures rows { rows.new ≡ class }
-        ensures told { IfOk result (λ done. done ≡ true → HoldsBelow class (2 * (shelf + 1)) self.new) }
+        ensures { IfOk result (λ done. done ≡ true → HoldsBelow class (2 * (shelf + 1)) self.new) }
     {
         let _size = size(class);
         let Some(men) = shelf_men(class, shelf) else {
             return Ok(false);
         };
         let nodes = positions_of(class, shelf);
-        let indexes = rows.indexes(shelf);
+        let indexes = indexes_of(class, shelf);
         if !self.tell(
             told,
             class,
@@ -187,10 +184,9 @@ impl CodeLists {
         requires holds { HoldsBelow class 0 self.old }
         ensures { IfOk result (λ done. done ≡ true → HoldsBelow class (2 * shelves) self.new) }
     {
-        let mut rows = Rows::new(class);
         let mut told = MoveLists::nothing();
         for shelf in 0..shelves {
-            if !self.tell_shelf(&mut told, &mut rows, class, shelf)? {
+            if !self.tell_shelf(&mut told, class, shelf)? {
                 return Ok(false);
             }
         }

@@ -12,11 +12,11 @@ marks_of-white-requires-clause-shelf c = subst (λ k. IsShelfOf c.in-Some-is_pas
 pub marks_of-black-requires-clause-shelf : goal.marks_of-black-requires-clause-shelf
 marks_of-black-requires-clause-shelf c = subst (λ k. IsShelfOf c.in-Some-is_passed.passed k c.args.shelf c.in-Some.men) c.class-class.ensures.class c.in-Some-is_passed.ensures
 
-pub returns-then-white-indexes-clause-told : goal.returns-then-white-indexes-clause-told
-returns-then-white-indexes-clause-told c = λ black.
+pub returns-then-white-indexes : goal.returns-then-white-indexes
+returns-then-white-indexes c = λ black.
     let t = c.args.table.now in
-    let indexes = c.indexes-indexes.result in
-    let are = subst (λ (k : ℕ). AreIndexes k c.args.shelf indexes) c.requires.rows c.indexes-indexes.ensures.indexes in
+    let indexes = c.indexes_of-indexes.result in
+    let are = subst (λ (k : ℕ). AreIndexes k c.args.shelf indexes) c.class-class.ensures.class c.indexes_of-indexes.ensures in
     let len = subst (λ k. places k ≡ kind_digits c.in-Some.men.last.kind) c.class-class.ensures.class c.in-Some.ensures.shelf.len in
     shelf_told t c.requires.alike (λ n below. c.numbers_stand_for_codes.ensures.coded t.class n c.class-class.ensures.table.class_in below) c.args.shelf c.marks_of-white.result c.marks_of-black.result indexes
     (λ k below. c.marks_of-white.ensures k (subst (λ n. k < n) len below)) (λ k below. c.marks_of-black.ensures k (subst (λ n. k < n) len below)) are c.if-white-indexes.true

@@ -9,13 +9,12 @@ use Rattle.egt_check.proofs.voids.tells_voids.Goals as goal
 
 pub loop-shelf-preserved : goal.loop-shelf-preserved
 loop-shelf-preserved c = record {
-  rows = c.tells_shelf-told.ensures.rows;
   told = λ shelf less side k below. elim (cases_lt shelf c.loop-shelf.shelf) [
     | inl early ↦ c.loop-shelf.invariant.told shelf early side k below
     | inr from ↦
         let here : c.loop-shelf.shelf ≡ shelf = omega (arith, less, from) in
         let t = c.args.table.now in
-        subst (λ s. TellsVoid t (code_of t.class (number_in t.class s side k))) here (c.tells_shelf-told.ensures.told c.if-not-told.false side k below)
+        subst (λ s. TellsVoid t (code_of t.class (number_in t.class s side k))) here (c.tells_shelf.ensures c.if-not-tells_shelf.false side k below)
   ];
 }
 

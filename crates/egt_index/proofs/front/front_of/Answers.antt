@@ -1,7 +1,7 @@
-use Rattle.std.proofs.Common.{◌≡◌, false, None, arith, sym, refl, ap, ◌∙◌, subst}
+use Rattle.std.proofs.Common.{◌≡◌, false, arith, sym, refl, ap, ◌∙◌, subst}
 use Rattle.std.proofs.lemmas.Bool.{false≢true}
 use Rattle.std.specs.FinMap as map
-use Rattle.egt_index.specs.Beaten.{AllAsked}
+use Rattle.egt_index.specs.Beaten.{AllSpelled}
 use Rattle.egt_index.specs.Front.{IsFrontOf}
 use Rattle.egt_index.specs.Index.{IsIndex}
 use Rattle.egt_index.specs.Stood.{Entry, IsInOrder, with_last}
@@ -33,11 +33,11 @@ returns-in-Beaten c = λ n last tells code same p ok index.
     let stand = with_last c.in_ok-stand.stand last in
     let men = c.in_ok-stand.ensures.some.men n last tells in
     let settled = index_settled c.facts.ensures p index.image c.args.class code ok index index.spells in
-    c.told_in_order.ensures.beaten c.in-Beaten.is stand (refl, refl) index.image _ _ code tt (stand_in_row c.args.class n code stand index.image same men index.spells settled)
+    c.told_in_order.ensures.beaten c.in-Beaten.is stand (refl, refl) index.image _ _ code (stand_in_row c.args.class n code stand index.image same men index.spells settled)
     (list_in_row c.args.class n code stand index.image same men index.spells) (index_spelled c.facts.ensures p index.image c.args.class code ok index index.spells)
 
 -- where no code is to be compared, each is an index
-all_least : (c : After-board_of-board) → c.match-told_in_order.tied ≡ false → (last : Entry) → IsInOrder c.in_ok-stand.stand.next last → AllAsked c.args.class (with_last c.in_ok-stand.stand last) None (IsIndex c.args.class)
+all_least : (c : After-board_of-board) → c.match-told_in_order.tied ≡ false → (last : Entry) → IsInOrder c.in_ok-stand.stand.next last → AllSpelled c.args.class (with_last c.in_ok-stand.stand last) (IsIndex c.args.class)
 all_least c not last in_order = elim c.match-told_in_order.branch [
   | in-Least w ↦ c.told_in_order.ensures.least w.in-Least.is (with_last c.in_ok-stand.stand last) (refl, refl) in_order
   | in-Tied w ↦ absurd (false≢true (sym not ∙ w.tied-is))

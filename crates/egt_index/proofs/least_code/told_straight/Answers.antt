@@ -2,14 +2,13 @@ use Rattle.std.proofs.Common.{◌≡◌, ◌<◌, Bool, false, Option, ℕ, Some
 use Rattle.egt_board.specs.Setup.{Setup}
 use Rattle.egt_board.specs.declared.man.Side.{Side}
 use Rattle.egt_class.specs.Material.{material_of}
-use Rattle.egt_index.specs.Beaten.{AnswersFor, Keeps, SpellsAt}
+use Rattle.egt_index.specs.Beaten.{HasKingsOn, Keeps, SpellsAt}
 use Rattle.egt_index.specs.Home.{AreHome}
 use Rattle.egt_index.specs.Code.{king_square}
 use Rattle.egt_index.specs.Size.{has_pawns, king_base}
 use Rattle.egt_index.specs.Stood.{HasStand, IsInOrder}
 use Rattle.egt_index.specs.declared.stand.Stand.{Stand}
 use Rattle.egt_index.proofs.Beating.{keeps_with, turn_beaten, turn_kept, white_home}
-use Rattle.egt_index.proofs.SameKings.{kings_answered}
 use Rattle.egt_index.proofs.Swapping.{keeps_in_order, least_in_order}
 use Rattle.egt_index.proofs.least_code.told_straight.Goals.{After-still_home}
 use Rattle.egt_index.proofs.least_code.told_straight.Goals as goal
@@ -18,31 +17,31 @@ pub told_by-requires : goal.told_by-requires
 told_by-requires c = subst (λ (o : Option ℕ). IfSome o (λ t. t < 16)) c.in-Some.is c.still_home.ensures.below
 
 -- the turns that leave the king at home
-home : (c : After-still_home) (other : Stand) (p : Setup) (side : Side) (passed : Bool) (code : ℕ) → AnswersFor c.args.asked c.args.stand.now other → HasStand c.args.class false other side passed p → SpellsAt c.args.class code other p
-    → AreHome (has_pawns (material_of c.args.class)) false other.white 0 c.still_home.result
-home c other p side passed code answers has s =
-    let there = white_home c.args.class code p other.white other.black s.spells has.stood.all.1 has.stood.all.3.1 in
+home : (c : After-still_home) (stand : Stand) (p : Setup) (side : Side) (passed : Bool) (code : ℕ) → HasKingsOn c.args.white c.args.black stand → HasStand c.args.class false stand side passed p → SpellsAt c.args.class code stand p
+    → AreHome (has_pawns (material_of c.args.class)) false stand.white 0 c.still_home.result
+home c stand p side passed code on has s =
+    let there = white_home c.args.class code p stand.white stand.black s.spells has.stood.all.1 has.stood.all.3.1 in
     let turns = subst (λ (white : ℕ). (d : ℕ) → d < king_base c.has_pawns.result → king_square c.has_pawns.result d ≡ white → AreHome c.has_pawns.result false white 0 c.still_home.result)
-    (sym (kings_answered c.args.asked c.args.stand.now other answers).0) c.still_home.ensures.home in
-    subst (λ pawns. (d : ℕ) → d < king_base pawns → king_square pawns d ≡ other.white → AreHome pawns false other.white 0 c.still_home.result) c.has_pawns.ensures turns there.0 there.1 there.2
+    (sym on.0) c.still_home.ensures.home in
+    subst (λ pawns. (d : ℕ) → d < king_base pawns → king_square pawns d ≡ stand.white → AreHome pawns false stand.white 0 c.still_home.result) c.has_pawns.ensures turns there.0 there.1 there.2
 
 -- the turn that changes nothing
-kept_still : (c : After-still_home) (other : Stand) (p : Setup) (side : Side) (passed : Bool) (code : ℕ) → IsInOrder other.next other.last → HasStand c.args.class false other side passed p → SpellsAt c.args.class code other p → Keeps c.args.class p 0 code
-kept_still c other p side passed code in_order has s =
-    keeps_in_order c.facts.ensures c.args.class code p has.admissible (least_in_order c.args.class code other p has.admissible has.stood.all in_order has.stood.are has.is_of s)
+kept_still : (c : After-still_home) (stand : Stand) (p : Setup) (side : Side) (passed : Bool) (code : ℕ) → IsInOrder stand.next stand.last → HasStand c.args.class false stand side passed p → SpellsAt c.args.class code stand p → Keeps c.args.class p 0 code
+kept_still c stand p side passed code in_order has s =
+    keeps_in_order c.facts.ensures c.args.class code p has.admissible (least_in_order c.args.class code stand p has.admissible has.stood.all in_order has.stood.are has.is_of s)
 
 pub returns-in-Some-clause-beats : goal.returns-in-Some-clause-beats
-returns-in-Some-clause-beats c = λ h other answers p side passed code asked has s.
-    let home : AreHome (has_pawns (material_of c.args.class)) false other.white 0 (Some c.in-Some.turn) = subst (AreHome (has_pawns (material_of c.args.class)) false other.white 0) c.in-Some.is (home c.before.before other p side passed code answers has s) in
-    turn_beaten c.args.class false other c.args.asked c.in-Some.turn p side passed code home.other home.other_brings (c.told_by.ensures.beats h other answers) asked has s.spells
+returns-in-Some-clause-beats c = λ h stand on p side passed code has s.
+    let home : AreHome (has_pawns (material_of c.args.class)) false stand.white 0 (Some c.in-Some.turn) = subst (AreHome (has_pawns (material_of c.args.class)) false stand.white 0) c.in-Some.is (home c.before.before stand p side passed code on has s) in
+    turn_beaten c.args.class false stand c.in-Some.turn p side passed code home.other home.other_brings (c.told_by.ensures.beats h stand on) has s.spells
 
 pub returns-in-Some-clause-keeps : goal.returns-in-Some-clause-keeps
-returns-in-Some-clause-keeps c = λ h other answers in_order p side passed code asked has s.
-    let home : AreHome (has_pawns (material_of c.args.class)) false other.white 0 (Some c.in-Some.turn) = subst (AreHome (has_pawns (material_of c.args.class)) false other.white 0) c.in-Some.is (home c.before.before other p side passed code answers has s) in
-    keeps_with c.facts.ensures c.args.class p false other.white 0 (Some c.in-Some.turn) code has.admissible has.is_of has.stood.all.1 home (kept_still c.before.before other p side passed code in_order has s)
-    (turn_kept c.args.class false other c.args.asked c.in-Some.turn p side passed code home.other (c.told_by.ensures.keeps h other answers) asked has s.spells)
+returns-in-Some-clause-keeps c = λ h stand on in_order p side passed code has s.
+    let home : AreHome (has_pawns (material_of c.args.class)) false stand.white 0 (Some c.in-Some.turn) = subst (AreHome (has_pawns (material_of c.args.class)) false stand.white 0) c.in-Some.is (home c.before.before stand p side passed code on has s) in
+    keeps_with c.facts.ensures c.args.class p false stand.white 0 (Some c.in-Some.turn) code has.admissible has.is_of has.stood.all.1 home (kept_still c.before.before stand p side passed code in_order has s)
+    (turn_kept c.args.class false stand c.in-Some.turn p side passed code home.other (c.told_by.ensures.keeps h stand on) has s.spells)
 
 pub returns-in-None-clause-keeps : goal.returns-in-None-clause-keeps
-returns-in-None-clause-keeps c = λ h other answers in_order p side passed code asked has s.
-    keeps_with c.facts.ensures c.args.class p false other.white 0 None code has.admissible has.is_of has.stood.all.1 (subst (AreHome (has_pawns (material_of c.args.class)) false other.white 0) c.in-None.is (home c.before other p side passed code answers has s))
-    (kept_still c.before other p side passed code in_order has s) tt
+returns-in-None-clause-keeps c = λ h stand on in_order p side passed code has s.
+    keeps_with c.facts.ensures c.args.class p false stand.white 0 None code has.admissible has.is_of has.stood.all.1 (subst (AreHome (has_pawns (material_of c.args.class)) false stand.white 0) c.in-None.is (home c.before stand p side passed code on has s))
+    (kept_still c.before stand p side passed code in_order has s) tt

@@ -1,5 +1,3 @@
-use Rattle.std.proofs.Common.{ℕ, subst}
-use Rattle.egt_index.specs.ShelfCodes.{AreIndexes}
 use Rattle.egt_sweep.proofs.CodeLists.{black_indexes, black_nodes, last_told, white_indexes, white_nodes}
 use Rattle.egt_sweep.proofs.code_words.CodeLists.tell_shelf.Goals as goal
 
@@ -14,8 +12,8 @@ tell-requires-2-clause-nodes c = black_nodes c.args.class c.args.shelf c.positio
 
 pub tell-requires-clause-indexes : goal.tell-requires-clause-indexes
 tell-requires-clause-indexes c =
-    white_indexes c.args.class c.args.shelf c.indexes-indexes.result (subst (λ (d : ℕ). AreIndexes d c.args.shelf c.indexes-indexes.result) c.requires.rows c.indexes-indexes.ensures.indexes)
+    white_indexes c.args.class c.args.shelf c.indexes_of-indexes.result c.indexes_of-indexes.ensures
 
 pub tell-requires-2-clause-indexes : goal.tell-requires-2-clause-indexes
 tell-requires-2-clause-indexes c =
-    black_indexes c.args.class c.args.shelf c.indexes-indexes.result (subst (λ (d : ℕ). AreIndexes d c.args.shelf c.indexes-indexes.result) c.requires.rows c.indexes-indexes.ensures.indexes)
+    black_indexes c.args.class c.args.shelf c.indexes_of-indexes.result c.indexes_of-indexes.ensures
