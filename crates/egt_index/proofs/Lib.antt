@@ -42,7 +42,6 @@ pub mod Fronts
 pub mod RowMen
 pub mod Touching
 pub mod Gone
-pub mod Shelved
 pub mod Opposed
 pub mod Led
 pub mod Halves
