@@ -11,7 +11,6 @@ pub mod Kings
 pub mod Turned
 pub mod Best
 pub mod MenTable
-pub mod TrianglePlaces
 pub mod Found
 pub mod Classes
 pub mod Exists

@@ -21,14 +21,12 @@ ghost use Rattle.egt_index.specs.Spelled.{Splits, Tells, SpellsMen, SpellsNoMen,
 ghost use Rattle.egt_index.specs.StepCodes.{TellsMen};
 ghost use Rattle.egt_index.specs.Stood.{AllApart, IsFilled, list_of, with_entry, HasStand};
 
+use crate::digits::TRIANGLE_SQUARES;
 use crate::facts::facts;
 use crate::men::{beside, has_pawns, has_target};
 use crate::stand::{Stand, with_last};
 use egt_board::{Board, Kind, Man, Position, Side, Square};
 use egt_class::Class;
-
-/// The squares of the triangle, by their places.
-static TRIANGLE_SQUARES: [u8; 10] = [0, 1, 2, 3, 9, 10, 11, 18, 19, 27];
 
 const WHITE_KING: Man = Man {
     side: Side::White,
