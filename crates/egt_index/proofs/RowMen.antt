@@ -12,7 +12,6 @@ use Rattle.egt_class.specs.Material.{Material, material_of}
 use Rattle.egt_index.specs.Beaten.{SpellsAt}
 use Rattle.egt_index.specs.Code.{Spells}
 use Rattle.egt_index.specs.Digits.{number_from}
-use Rattle.egt_index.specs.Front.{IsVoidRow}
 use Rattle.egt_index.specs.Scales.{ends_of}
 use Rattle.egt_index.specs.Shelf.{row_len}
 use Rattle.egt_index.specs.Size.{has_target}
@@ -71,10 +70,6 @@ pub nothing_in_row : (c n code : ℕ) (p : Setup) → SpellsNoMen (material_of c
 nothing_in_row c n code p none same spells =
     let ends = ends_there (material_of c) code in
     no_men (material_of c) code (code / row_len c) ends.0 ends.1 p ends.2 (subst (SpellsNoMen (material_of c)) (sym same) none) spells
-
--- and none is an index
-pub void_row : (c n : ℕ) → SpellsNoMen (material_of c) n → IsVoidRow c n
-void_row c n none = λ code same p ok index. nothing_in_row c n code index.image none same index.spells
 
 -- what a position has that a code of the row spells
 module _ (c n code : ℕ) (stand : Stand) (p : Setup) (row : code / row_len c ≡ n) (men : SpellsMen (material_of c) n (list_of stand)) (s : Spells c code p) where
