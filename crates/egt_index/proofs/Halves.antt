@@ -1,6 +1,6 @@
 -- Numbers of positions and the codes that they stand for.
-use Rattle.std.proofs.Common.{◌≡◌, ℕ, ◌+◌, ◌-◌, ◌*◌, ◌/◌, ◌%◌, ◌<◌, ◌≤◌, nat_lt, Bool, true, false, cond, [], ◌∷◌, Option, Some, None, arith, refl, sym, ap, ◌∙◌, inl, inr, subst}
-use Rattle.std.proofs.lemmas.Bool.{cases_lt, false≢true, lt-ltb}
+use Rattle.std.proofs.Common.{◌≡◌, ℕ, ◌+◌, ◌-◌, ◌*◌, ◌/◌, ◌%◌, ◌<◌, ◌≤◌, ◌==◌, nat_lt, Bool, true, false, cond, [], ◌∷◌, Option, Some, None, arith, refl, sym, ap, ◌∙◌, inl, inr, subst}
+use Rattle.std.proofs.lemmas.Bool.{cases_lt, eqb-true, false≢true, lt-ltb}
 use Rattle.std.proofs.lemmas.Bool.Decides.{nat_tests}
 use Rattle.std.proofs.Math.Nat.{mul-le-mul_right}
 use Rattle.egt_board.specs.Images.{side_number}
@@ -9,16 +9,16 @@ use Rattle.egt_board.specs.declared.man.Kind.TheVariants.{Q, R, B, N, P, K}
 use Rattle.egt_board.specs.declared.man.Man.{Man}
 use Rattle.egt_board.specs.declared.man.Side.{Side}
 use Rattle.egt_board.specs.declared.man.Side.TheVariants.{White, Black}
-use Rattle.egt_class.specs.Material.{Material, material_of}
+use Rattle.egt_class.specs.Below.{all_below, passes_below}
+use Rattle.egt_class.specs.Material.{Material, material_of, materials}
 use Rattle.egt_index.specs.Digits.{number_from, product}
 use Rattle.egt_index.specs.Numbers.{code_of, half_of, number_of, places}
 use Rattle.egt_index.specs.Scales.{digits_at, kind_digits}
-use Rattle.egt_index.specs.Shelf.{last_of, shelf_len}
+use Rattle.egt_index.specs.Shelf.{last_of}
 use Rattle.egt_index.specs.ShelfCodes.{IsShelfBehind, number_in}
 use Rattle.egt_index.specs.Size.{bases, has_target, men_beside, size_of}
 use Rattle.egt_index.specs.Spelled.{Ends}
 use Rattle.egt_index.proofs.OnePosition.{one_pawn_each}
-use Rattle.egt_index.proofs.Shelved.{whole_shelves}
 
 pub of_targets : {A : Type 0} (c : ℕ) → (has_target (material_of c) ≡ false → A) → (has_target (material_of c) ≡ true → A) → A
 of_targets {A = A} c none some = of (has_target (material_of c)) refl
@@ -172,15 +172,13 @@ pub places_some : (c : ℕ) → 0 < places c
 unfolding places
 places_some c = digits_some (last_of (men_beside (material_of c)))
 
--- in a class without targets they are those of codes
-pub len_plain : (c : ℕ) → has_target (material_of c) ≡ false → shelf_len c ≡ 2 * places c
-unfolding shelf_len places
-len_plain c none = ap (λ b. cond {A = ℕ} b 4 2 * digits_at (last_of (men_beside (material_of c)))) none
+-- a class ends with a shelf
+all_whole : all_below (λ c. size_of c % (2 * places c) == 0) 36 ≡ true
+unfolding all_below size_of places material_of materials
+all_whole = refl
 
 pub whole_numbers : (c : ℕ) → c < 36 → size_of c % (2 * places c) ≡ 0
-whole_numbers c c_in = of_targets c
-    (λ none. subst (λ n. size_of c % n ≡ 0) (len_plain c none) (whole_shelves c c_in))
-    (λ has. let size = size_targets c has in subst (λ p. size_of c % (2 * p) ≡ 0) (sym (places_targets c has)) (omega arith))
+whole_numbers c c_in = eqb-true (size_of c % (2 * places c)) 0 (passes_below (λ c. size_of c % (2 * places c) == 0) 36 c all_whole c_in)
 
 -- fronts and shelves, by how many fronts there are
 pub front_low : (c front fronts : ℕ) → fronts * (2 * places c) ≡ half_of c → front < fronts → (front + 1) * (2 * places c) ≤ half_of c

@@ -11,7 +11,6 @@ pub mod Kings
 pub mod Turned
 pub mod Best
 pub mod MenTable
-pub mod TrianglePlaces
 pub mod Found
 pub mod Classes
 pub mod Exists
@@ -39,7 +38,6 @@ pub mod IndexTotal
 pub mod Fronts
 pub mod RowMen
 pub mod Touching
-pub mod Shelved
 pub mod Opposed
 pub mod Led
 pub mod Halves

@@ -1,23 +1,20 @@
 -- The codes of a row spell the same men.
-use Rattle.std.proofs.Common.{◌≡◌, ℕ, ◌/◌, ◌%◌, ◌<◌, Bool, true, false, cond, List, [], ◌∷◌, arith, refl, sym, ap, ◌∙◌, inl, inr, subst}
+use Rattle.std.proofs.Common.{◌≡◌, ℕ, ◌/◌, ◌%◌, ◌<◌, Bool, true, false, cond, [], ◌∷◌, arith, refl, sym, ap, ◌∙◌, inl, inr, subst}
 use Rattle.std.specs.Option.{is_some}
 use Rattle.std.proofs.lemmas.Bool.{cases_eq, false≢true}
 use Rattle.egt_board.specs.declared.man.Side.{Side}
 use Rattle.egt_board.specs.declared.man.Side.TheVariants.{White, Black}
-use Rattle.egt_board.specs.declared.man.Man.{Man}
 use Rattle.egt_board.specs.Images.{side_number}
 use Rattle.egt_board.specs.Listed.{men_of, FitsBoard}
 use Rattle.egt_board.specs.Settled.{IsSettled}
 use Rattle.egt_board.specs.Setup.{Setup}
 use Rattle.egt_class.specs.Material.{Material, material_of}
 use Rattle.egt_index.specs.Beaten.{SpellsAt}
-use Rattle.egt_index.specs.Code.{Spells, men_at}
-use Rattle.egt_index.specs.Digits.{number_from, AreDigits}
-use Rattle.egt_index.specs.Front.{IsVoidRow}
-use Rattle.egt_index.specs.Home.{IsAtHome}
+use Rattle.egt_index.specs.Code.{Spells}
+use Rattle.egt_index.specs.Digits.{number_from}
 use Rattle.egt_index.specs.Scales.{ends_of}
 use Rattle.egt_index.specs.Shelf.{row_len}
-use Rattle.egt_index.specs.Size.{has_pawns, has_target, men_bases}
+use Rattle.egt_index.specs.Size.{has_target}
 use Rattle.egt_index.specs.Spelled.{Ends, SpellsMen, SpellsNoMen}
 use Rattle.egt_index.specs.Stood.{AllApart, HasStand, list_of}
 use Rattle.egt_index.specs.declared.stand.Stand.{Stand}
@@ -41,9 +38,6 @@ number_with false code high Black passed ends = let is = ends.is in omega arith
 
 pub row_number : (m : Material) (code high : ℕ) (side : Side) (passed : Bool) → Ends m code high side passed → code / ends_of m ≡ high
 row_number m code high side passed ends = number_with (has_target m) code high side passed (record { is = ends.number_is; never = ends.never })
-
-pub men_in_row : (m : Material) (code high : ℕ) (side : Side) (passed : Bool) (list : List (Man × ℕ)) → Ends m code high side passed → SpellsMen m high list → SpellsMen m (code / ends_of m) list
-men_in_row m code high side passed list ends men = subst (λ (n : ℕ). SpellsMen m n list) (sym (row_number m code high side passed ends)) men
 
 side_of : (k : ℕ) → k < 2 → (side : Side) × (side_number side ≡ k)
 side_of k lt = elim (cases_eq k 0) [
@@ -77,10 +71,6 @@ nothing_in_row c n code p none same spells =
     let ends = ends_there (material_of c) code in
     no_men (material_of c) code (code / row_len c) ends.0 ends.1 p ends.2 (subst (SpellsNoMen (material_of c)) (sym same) none) spells
 
--- and none is an index
-pub void_row : (c n : ℕ) → SpellsNoMen (material_of c) n → IsVoidRow c n
-void_row c n none = λ code same p ok index. nothing_in_row c n code index.image none same index.spells
-
 -- what a position has that a code of the row spells
 module _ (c n code : ℕ) (stand : Stand) (p : Setup) (row : code / row_len c ≡ n) (men : SpellsMen (material_of c) n (list_of stand)) (s : Spells c code p) where
   pub list_in_row : SpellsAt c code stand p
@@ -105,14 +95,3 @@ module _ (c n code : ℕ) (stand : Stand) (p : Setup) (row : code / row_len c �
     side_is = refl;
     target_is = refl;
   }
-
--- the white king whom digits spell is at home
-pub home_spelled : (m : Material) (n : ℕ) (stand : Stand) → SpellsMen m n (list_of stand) → IsAtHome (has_pawns m) stand.white
-home_spelled m n stand men = of_digits men.digits men.are men.list_is
-  where
-    heads : {a b : Man × ℕ} {x y : List (Man × ℕ)} → a ∷ x ≡ b ∷ y → a.1 ≡ b.1
-    heads e = cc
-
-    of_digits : (digits : List ℕ) → AreDigits (men_bases m) digits → list_of stand ≡ men_at m digits → IsAtHome (has_pawns m) stand.white
-    of_digits [] are is = absurd are
-    of_digits (d ∷ digits) are is = (d, are.0, sym (heads is))

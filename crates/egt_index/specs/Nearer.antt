@@ -1,4 +1,4 @@
--- The kings of what turns make of a position, which tell between the colours.
+-- The kings of what turns make of a position, which tell that codes after a turn are void.
 use Rattle.std.specs.Prelude.{◌≡◌, ℕ, ◌+◌, ◌*◌, ◌/◌, ◌<◌, ◌≤◌, ◌==◌, Bool}
 use Rattle.egt_board.specs.declared.man.Side.{Side}
 use Rattle.egt_board.specs.declared.man.Side.TheVariants.{White, Black}

@@ -1,89 +1,29 @@
 //! The digits of men on their squares.
-ghost use Rattle.std.specs.Prelude.{◌≡◌, ◌≢◌, ℕ, ◌-◌, ◌<◌, ◌≤◌, Bool, IfSome, IfNone};
+ghost use Rattle.std.specs.Prelude.{◌≡◌, ◌≢◌, ℕ, ◌-◌, ◌<◌, ◌≤◌, Bool, false, IfSome, IfNone};
 ghost use Rattle.egt_board.specs.Attack.{king_of};
 ghost use Rattle.egt_board.specs.Pawn.{MayStand};
 ghost use Rattle.egt_board.specs.declared.man.Side.TheVariants.{White};
 ghost use Rattle.egt_index.specs.Code.{king_square, square_of};
 ghost use Rattle.egt_index.specs.Scales.{kind_less};
 ghost use Rattle.egt_index.specs.Size.{king_base, base_of};
-ghost use Rattle.egt_index.specs.Triangle.{place_in_triangle};
 
 use egt_board::{Kind, Man, Square};
 
-/// The places in the triangle a1 b1 c1 d1 b2 c2 d2 c3 d3 d4, by square.
-static TRIANGLE: [Option<u8>; 64] = [
-    Some(0),
-    Some(1),
-    Some(2),
-    Some(3),
-    None,
-    None,
-    None,
-    None,
-    None,
-    Some(4),
-    Some(5),
-    Some(6),
-    None,
-    None,
-    None,
-    None,
-    None,
-    None,
-    Some(7),
-    Some(8),
-    None,
-    None,
-    None,
-    None,
-    None,
-    None,
-    None,
-    Some(9),
-    None,
-    None,
-    None,
-    None,
-    None,
-    None,
-    None,
-    None,
-    None,
-    None,
-    None,
-    None,
-    None,
-    None,
-    None,
-    None,
-    None,
-    None,
-    None,
-    None,
-    None,
-    None,
-    None,
-    None,
-    None,
-    None,
-    None,
-    None,
-    None,
-    None,
-    None,
-    None,
-    None,
-    None,
-    None,
-    None,
-];
+/// The squares of the triangle a1 b1 c1 d1 b2 c2 d2 c3 d3 d4, by their places.
+pub(crate) static TRIANGLE_SQUARES: [u8; 10] = [0, 1, 2, 3, 9, 10, 11, 18, 19, 27];
 
 /// The square's place in the triangle, if it is there.
 fn place(square: Square) -> Option<u8>
-    ensures value { result ≡ place_in_triangle square }
-    ensures on_board { square < 64 }
+    ensures found { IfSome result (λ place. place < 10) }
+    ensures is { IfSome result (λ place. king_square false place ≡ square) }
+    ensures none { IfNone result ((place : ℕ) → place < 10 → king_square false place ≢ square) }
 {
-    TRIANGLE[usize::from(square.number())]
+    for place in 0..10 {
+        if TRIANGLE_SQUARES[place as usize] == square.number() {
+            return Some(place);
+        }
+    }
+    None
 }
 
 /// The white king's digit; `None` where his square has none. In a class with pawns it is his square among those of the

@@ -1,6 +1,8 @@
 //! What the men before the last one tell of all codes that differ by no more than his square, the side to move and the target: such
 //! codes follow one another.
-ghost use Rattle.egt_index.specs.Front.{IsFrontOf};
+ghost use Rattle.std.specs.Prelude.{IfSome, IfNone};
+ghost use Rattle.egt_index.specs.Front.{IsFront, IsFrontOf};
+ghost use Rattle.egt_index.specs.ShelfCodes.{SpellsNothing};
 
 use crate::facts::facts;
 use crate::least_code::{Leastness, told_in_order};
@@ -19,11 +21,11 @@ pub(crate) struct Front {
     pub(crate) tied: bool,
 }
 
-/// The front whose men have these digits; `None` where they tell that no code with them is a position's index.
-pub(crate) fn front_of(class: Class, number: u32) -> Option<Front>
-    ensures { IsFrontOf class number result }
+/// The men before the last one who have these digits, whether codes are least or not. `None` where no code with them spells a position.
+pub(crate) fn spelled_front(class: Class, number: u32) -> Option<Front>
+    ensures some { IfSome result (IsFront class number) }
+    ensures none { IfNone result (SpellsNothing class number) }
 {
-    facts();
     let _number = class.number();
     let stand = stand_before(class, number)?;
     if are_near(stand.white, stand.black) {
@@ -32,11 +34,28 @@ pub(crate) fn front_of(class: Class, number: u32) -> Option<Front>
     if !are_apart(&stand) {
         return None;
     }
-    let tied = match told_in_order(class, stand.white, stand.black) {
-        Leastness::Beaten => return None,
-        Leastness::Least => false,
-        Leastness::Tied => true,
-    };
     let board = board_of(&stand);
-    Some(Front { stand, board, tied })
+    Some(Front {
+        stand,
+        board,
+        tied: true,
+    })
+}
+
+/// The same with what their kings tell; `None` where they tell that no code with these men is a position's index.
+pub(crate) fn front_of(class: Class, number: u32) -> Option<Front>
+    ensures { IsFrontOf class number result }
+{
+    facts();
+    let _number = class.number();
+    let front = spelled_front(class, number)?;
+    let stand = &front.stand;
+    match told_in_order(class, stand.white, stand.black) {
+        Leastness::Beaten => None,
+        Leastness::Least => Some(Front {
+            tied: false,
+            ..front
+        }),
+        Leastness::Tied => Some(front),
+    }
 }

@@ -1,19 +1,12 @@
-//! Shelves: codes that differ by no more than the last man's digit and those behind it.
+//! How many digits men have.
 ghost use Rattle.std.specs.Prelude.{◌≡◌, ◌*◌, ◌%◌, ◌<◌, ◌≤◌};
 ghost use Rattle.egt_index.specs.Numbers.{places};
 ghost use Rattle.egt_index.specs.Scales.{kind_digits};
-ghost use Rattle.egt_index.specs.Shelf.{row_len, shelf_len};
 ghost use Rattle.egt_index.specs.Size.{size_of};
 
 use crate::men::beside;
 use egt_board::{Kind, Man};
 use egt_class::Class;
-
-/// How many codes of each class differ by no more than the last man's digit and those behind it.
-static LENS: [u8; 36] = [
-    2, 2, 2, 2, 2, 2, 128, 128, 128, 128, 128, 128, 128, 128, 128, 128, 128, 128, 128, 128, 128,
-    128, 128, 128, 128, 128, 96, 96, 96, 96, 96, 96, 96, 96, 96, 192,
-];
 
 /// How many digits a man beside the white king has.
 pub(crate) fn digits_of(man: Man) -> u32
@@ -25,19 +18,6 @@ pub(crate) fn digits_of(man: Man) -> u32
         Kind::P => 48,
         _ => 64,
     }
-}
-
-/// How many codes of the class differ by no more than the last man's digit and those behind it: its codes are so many shelves, each of
-/// whole rows.
-pub fn shelf_len(class: Class) -> u32
-    ensures is { result ≡ shelf_len class }
-    ensures some { 0 < result }
-    ensures few { result < 256 }
-    ensures whole { size_of class % shelf_len class ≡ 0 }
-    ensures rows { shelf_len class % row_len class ≡ 0 }
-{
-    let _number = class.number();
-    u32::from(LENS[usize::from(class.number())])
 }
 
 /// How many digits the last man of the class has; 1 where fewer than two men stand beside the kings.

@@ -4,22 +4,20 @@ ghost use Rattle.std.specs.Prelude.{◌≡◌, ◌+◌, ◌-◌, ◌*◌, ◌<�
 ghost use Rattle.egt_board.specs.Pawn.{MayStand};
 ghost use Rattle.egt_board.specs.declared.man.Man.{Man};
 ghost use Rattle.egt_class.specs.Material.{material_of};
-ghost use Rattle.egt_index.specs.Front.{IsFront};
 ghost use Rattle.egt_index.specs.Scales.{kind_digits, kind_less};
 ghost use Rattle.egt_index.specs.Shelf.{last_of};
-ghost use Rattle.egt_index.specs.ShelfCodes.{AreMenOf, ArePositions, HasShelf, HasTwoBeside, IsShelf, IsShelfOf, IsWithin, SpellsNothing, moved_men, turned_men};
+ghost use Rattle.egt_index.specs.ShelfCodes.{AreMenOf, ArePositions, HasShelf, HasTwoBeside, IsShelf, IsShelfOf, IsWithin, moved_men, turned_men};
 ghost use Rattle.egt_index.specs.Size.{men_beside};
 ghost use Rattle.egt_index.specs.Went.{moved_square};
 
 use crate::digits::king_digit;
-use crate::front::Front;
+use crate::front::spelled_front;
 use crate::men::{beside, has_pawns};
 use crate::numbers::{front_number, shelf_behind};
 use crate::passed::may_pass;
 use crate::places::{Places, settled_places};
 use crate::shelf::digits_of;
-use crate::spelling::{board_of, stand_before};
-use crate::stand::{are_apart, are_near};
+use crate::spelling::stand_before;
 use crate::turning::turned_square;
 use egt_board::{Kind, Man, Side, Square};
 use egt_class::Class;
@@ -127,28 +125,6 @@ impl ShelfMen {
             last: self.last,
         }
     }
-}
-
-/// The men before the last one of the shelf, on a board of their own, whether codes are least or not. `None` where none of its codes spells a
-/// position.
-fn spelled_front(class: Class, shelf: u32) -> Option<Front>
-    ensures some { IfSome result (IsFront class shelf) }
-    ensures none { IfNone result (SpellsNothing class shelf) }
-{
-    let _number = class.number();
-    let stand = stand_before(class, shelf)?;
-    if are_near(stand.white, stand.black) {
-        return None;
-    }
-    if !are_apart(&stand) {
-        return None;
-    }
-    let board = board_of(&stand);
-    Some(Front {
-        stand,
-        board,
-        tied: true,
-    })
 }
 
 /// Which numbers of the shelf stand for settled positions: bit `k` is of the number with the last man's digit `k`. None past the last shelf.

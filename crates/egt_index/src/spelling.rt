@@ -1,5 +1,5 @@
 //! What the digits of a code spell, and the position of a code that is known to be an index.
-ghost use Rattle.std.specs.Prelude.{◌≡◌, ◌≢◌, ℕ, ◌*◌, ◌/◌, ◌∷◌, [], ◌<◌, ◌≤◌, ◌↔◌, Option, Bool, true, false, IsTrue, IsSome, IfSome, IfNone, None};
+ghost use Rattle.std.specs.Prelude.{◌≡◌, ◌≢◌, ◌*◌, ◌/◌, ◌∷◌, [], ◌<◌, ◌≤◌, ◌↔◌, Option, Bool, true, false, IsTrue, IsSome, IfSome, IfNone, None};
 ghost use Rattle.std.specs.FinMap as map;
 ghost use Rattle.egt_board.specs.Attack.{king_of};
 ghost use Rattle.egt_board.specs.Listed.{men_of};
@@ -9,26 +9,21 @@ ghost use Rattle.egt_board.specs.Settled.{IsSettled};
 ghost use Rattle.egt_board.specs.Setup.{Setup, IsAdmissible, IsKingOn};
 ghost use Rattle.egt_board.specs.declared.man.Side.TheVariants.{White, Black};
 ghost use Rattle.egt_class.specs.Material.{material_of};
-ghost use Rattle.egt_index.specs.AtIndex.{IsAtIndex};
 ghost use Rattle.egt_index.specs.Code.{Spells, king_square};
 ghost use Rattle.egt_index.specs.Front.{TellsLast, IsBefore, IsNoneBefore};
-ghost use Rattle.egt_index.specs.Home.{IsAtHome};
 ghost use Rattle.egt_index.specs.Index.{IsIndex, IsVoid};
-ghost use Rattle.egt_index.specs.Scales.{ends_of};
 ghost use Rattle.egt_index.specs.Size.{king_base, has_pawns, has_target};
 ghost use Rattle.std.specs.Option.{option_to_list};
 ghost use Rattle.egt_index.specs.Spelled.{Splits, Tells, SpellsMen, SpellsNoMen, Ends, HasPawns, IsTold};
 ghost use Rattle.egt_index.specs.TellsMen.{TellsMen};
-ghost use Rattle.egt_index.specs.Stood.{AllApart, IsFilled, list_of, with_entry, HasStand};
+ghost use Rattle.egt_index.specs.Stood.{AllApart, IsFilled, list_of, with_entry};
 
+use crate::digits::TRIANGLE_SQUARES;
 use crate::facts::facts;
 use crate::men::{beside, has_pawns, has_target};
 use crate::stand::{Stand, with_last};
 use egt_board::{Board, Kind, Man, Position, Side, Square};
 use egt_class::Class;
-
-/// The squares of the triangle, by their places.
-static TRIANGLE_SQUARES: [u8; 10] = [0, 1, 2, 3, 9, 10, 11, 18, 19, 27];
 
 const WHITE_KING: Man = Man {
     side: Side::White,
@@ -229,53 +224,6 @@ pub(crate) fn is_settled(position: &Position) -> bool
     position.target().is_none() || position.settle().target().is_some()
 }
 
-/// Where the men stand of the settled position whose index this is, the side to move, and whether there is a target, where the caller
-/// knows that there is such a position: its digits say so, and no test is needed.
-#[inline(always)]
-fn stand_at(class: Class, index: u32) -> (Stand, Side, bool)
-    requires { ¬ IsVoid class index }
-    ensures at { (target : Option ℕ) → IsTold result.2 result.1 (list_of result.0) target → IsAtIndex class index result.0 result.1 result.2 target }
-    ensures men { SpellsMen (material_of class) (index / ends_of (material_of class)) (list_of result.0) }
-    ensures pawns { result.2 ≡ true → HasPawns (list_of result.0) }
-    ensures filled { IsFilled result.0 }
-    ensures home { IsAtHome (has_pawns (material_of class)) result.0.white }
-{
-    facts();
-    let _number = class.number();
-    let (number, side, passed) = ends(class, index);
-    let stand = stand_on(class, number).unwrap();
-    (stand, side, passed)
-}
-
-/// The settled position whose index this is, and where its men stand.
-#[inline(always)]
-fn at_index(class: Class, index: u32) -> (Position, Stand)
-    requires { ¬ IsVoid class index }
-    ensures spells { Spells class index result.0 }
-    ensures settled { IsSettled result.0 }
-    ensures index { IsIndex class result.0 index }
-    ensures stand { (passed : Bool) × HasStand class false result.1 result.0.side passed result.0 }
-    ensures filled { IsFilled result.1 }
-    ensures home { IsAtHome (has_pawns (material_of class)) result.1.white }
-{
-    let (stand, side, passed) = stand_at(class, index);
-    let target = target_of(side, passed, &stand);
-    let board = board_of(&stand);
-    let position = Position::with_kings(board, side, target, stand.white, stand.black);
-    (position, stand)
-}
-
-/// The settled position whose index this is: what `position` answers, where the caller knows that there is one.
-#[inline(always)]
-pub fn position_of(class: Class, index: u32) -> Position
-    requires { ¬ IsVoid class index }
-    ensures spells { Spells class index result }
-    ensures settled { IsSettled result }
-    ensures index { IsIndex class result index }
-{
-    at_index(class, index).0
-}
-
 /// Where the men stand of the position that the code spells, the side to move, and whether there is a target.
 fn spelled_stand(class: Class, code: u32) -> (Stand, Side, bool)
     requires { (p : Setup) × Spells class code p }
@@ -298,4 +246,16 @@ pub fn spelled_position(class: Class, code: u32) -> Position
     let target = target_of(side, passed, &stand);
     let board = board_of(&stand);
     Position::with_kings(board, side, target, stand.white, stand.black)
+}
+
+/// The settled position whose index this is: what `position` answers, where the caller knows that there is one, so that no test is needed.
+pub fn position_of(class: Class, index: u32) -> Position
+    requires { ¬ IsVoid class index }
+    ensures spells { Spells class index result }
+    ensures settled { IsSettled result }
+    ensures index { IsIndex class result index }
+{
+    facts();
+    let _number = class.number();
+    spelled_position(class, index)
 }

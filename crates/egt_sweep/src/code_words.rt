@@ -2,7 +2,6 @@
 ghost use Rattle.std.specs.Prelude.{◌≡◌, ◌^◌, ◌<◌, ◌≤◌, ◌⊎◌, true, false};
 ghost use Rattle.egt_class.specs.Material.{material_of};
 ghost use Rattle.egt_graph.specs.Words.{words_of};
-ghost use Rattle.egt_index.specs.Shelf.{shelf_len};
 ghost use Rattle.egt_index.specs.Size.{has_target, size_of};
 ghost use Rattle.egt_sweep.specs.CodeLists.{IsTold};
 ghost use Rattle.egt_sweep.specs.CodeSources.{AreSources};
@@ -67,7 +66,6 @@ pub(crate) struct WordCodes<'w> {
 impl CodeLists {
     ghost use Rattle.std.specs.Prelude.{◌≡◌, ◌+◌, ◌*◌, ◌<◌, true, false, IfOk, IfSome};
     ghost use Rattle.egt_class.specs.Material.{material_of};
-    ghost use Rattle.egt_index.specs.Shelf.{shelf_len};
     ghost use Rattle.egt_index.specs.ShelfCodes.{IsShelf, IsWithin};
     ghost use Rattle.egt_index.specs.Size.{has_target, size_of};
     ghost use Rattle.egt_graph.specs.Words.{words_of};

@@ -6,11 +6,11 @@ use Rattle.egt_index.specs.Stood.{with_last}
 use Rattle.egt_index.proofs.Fronts.{apart_all, few_before}
 use Rattle.egt_index.proofs.RowMen.{apart_in_row, nothing_in_row}
 use Rattle.egt_index.proofs.Touching.{none_near}
-use Rattle.egt_index.proofs.shelf_codes.spelled_front.Goals as goal
+use Rattle.egt_index.proofs.front.spelled_front.Goals as goal
 
 pub returns-in_err-stand-clause-none : goal.returns-in_err-stand-clause-none
 returns-in_err-stand-clause-none c =
-    subst (λ o. IfNone o (SpellsNothing c.args.class c.args.shelf)) (sym c.from_residual.ensures) (λ n last code p tells same spells. nothing_in_row c.args.class n code p (c.in_err-stand.ensures.none n last tells) same spells)
+    subst (λ o. IfNone o (SpellsNothing c.args.class c.args.number)) (sym c.from_residual.ensures) (λ n last code p tells same spells. nothing_in_row c.args.class n code p (c.in_err-stand.ensures.none n last tells) same spells)
 
 pub returns-then-are_near-clause-none : goal.returns-then-are_near-clause-none
 returns-then-are_near-clause-none c = λ n last code p tells same spells.
