@@ -145,23 +145,6 @@ no_pawns c flipped p ok is_of none s man stands pawn =
         of_side White both = eqb-true _ _ (and_parts _ _ both).0
         of_side Black both = eqb-true _ _ (and_parts _ _ both).1
 
--- where the class has no target, not both sides have pawns
-pub pawns_of_one_side : (c : ℕ) (flipped : Bool) (p : Setup) → IsAdmissible p → IsOf c flipped p → has_target (material_of c) ≡ false
-    → (side : Side) (s t : ℕ) → Stands p.men s (pawn_of side) → Stands p.men t (pawn_of (other_side side)) → ⊥
-pawns_of_one_side c flipped p ok is_of none side s t here there = by_colours flipped side (one s side here) (one t (other_side side) there)
-  where
-    one : (s : ℕ) (side : Side) → Stands p.men s (pawn_of side) → 1 ≤ men_in c (side_in flipped side) P
-    one s side stands = let some = counted_some p.men (pawn_of side) s (ok.on_board s (pawn_of side) stands) stands in let are = is_of.men (pawn_of side) in omega arith
-
-    never : 1 ≤ men_in c White P → 1 ≤ men_in c Black P → ⊥
-    never white black = false≢true (sym none ∙ target_there c white black)
-
-    by_colours : (f : Bool) (side : Side) → 1 ≤ men_in c (side_in f side) P → 1 ≤ men_in c (side_in f (other_side side)) P → ⊥
-    by_colours false White mine theirs = never mine theirs
-    by_colours false Black mine theirs = never theirs mine
-    by_colours true White mine theirs = never theirs mine
-    by_colours true Black mine theirs = never mine theirs
-
 -- a settled form is of the position's class
 pub settled_class : Facts → (c : ℕ) (flipped : Bool) (p q : Setup) → SettlesTo p q → IsOf c flipped p → IsOf c flipped q
 settled_class facts c flipped p q settles is_of = record { men = λ man. ap (λ m. count_of m man) (facts.settled_men p q settles) ∙ is_of.men man }

@@ -1,10 +1,8 @@
 //! What holds of codes and indexes. These functions do nothing: a caller calls one to know what it ensures.
-ghost use Rattle.std.specs.Prelude.{◌≡◌, ◌↔◌, ◌⊎◌, ℕ, ◌*◌, ◌<◌, ◌≤◌, ◌≢◌, Bool, false, true};
+ghost use Rattle.std.specs.Prelude.{◌≡◌, ◌↔◌, ◌⊎◌, ℕ, ◌*◌, ◌<◌, ◌≤◌, Bool, false, true};
 ghost use Rattle.egt_board.specs.declared.man.Man.{Man};
 ghost use Rattle.egt_board.specs.declared.man.Side.{Side};
-ghost use Rattle.egt_board.specs.Man.{other_side};
-ghost use Rattle.egt_board.specs.Pawn.{pawn_of, HasNoPawn, MayStand};
-ghost use Rattle.egt_board.specs.Placement.{Stands};
+ghost use Rattle.egt_board.specs.Pawn.{HasNoPawn, MayStand};
 ghost use Rattle.egt_board.specs.Settled.{IsSettled};
 ghost use Rattle.egt_board.specs.Setup.{Setup, IsAdmissible};
 ghost use Rattle.egt_class.specs.Material.{material_of};
@@ -69,14 +67,6 @@ pub fn a_code_is_an_index_or_void()
 /// No pawn stands in a position of a class without pawns.
 pub fn a_class_without_pawns_has_none()
     ensures { (c : ℕ) (flipped : Bool) (p : Setup) → IsAdmissible p → IsOf c flipped p → has_pawns (material_of c) ≡ false → HasNoPawn p.men }
-{
-    facts();
-}
-
-/// Not both sides have pawns in a position of a class whose positions have no target.
-pub fn a_class_without_targets_has_pawns_of_one_side()
-    ensures { (c : ℕ) (flipped : Bool) (p : Setup) → IsAdmissible p → IsOf c flipped p → has_target (material_of c) ≡ false →
-        (side : Side) (s t : ℕ) → Stands p.men s (pawn_of side) → ¬ Stands p.men t (pawn_of (other_side side)) }
 {
     facts();
 }

@@ -1,6 +1,6 @@
 //! The men of a shelf of numbers: but for the last one they stand on the same squares in all of its positions. A code tells its men by their digits,
 //! whether it is the least for its position or not, so what is told here needs no comparison of codes.
-ghost use Rattle.std.specs.Prelude.{◌≡◌, ◌+◌, ◌-◌, ◌*◌, ◌<◌, Some, false, IfSome, IfNone};
+ghost use Rattle.std.specs.Prelude.{◌≡◌, ◌+◌, ◌-◌, ◌*◌, ◌<◌, Some, IfSome, IfNone};
 ghost use Rattle.egt_board.specs.Pawn.{MayStand};
 ghost use Rattle.egt_board.specs.declared.man.Man.{Man};
 ghost use Rattle.egt_class.specs.Material.{material_of};
