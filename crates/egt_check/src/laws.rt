@@ -1,7 +1,5 @@
 //! What holds of tables and their rules. These functions do nothing: a caller calls one to know what it ensures.
 ghost use Rattle.std.specs.Prelude.{◌≡◌, ◌≢◌, ◌↔◌, ◌<◌, max, ℕ, Bool, false, None, Some};
-ghost use Rattle.std.specs.List.{Contains};
-ghost use Rattle.egt_class.specs.Children.{children_of};
 ghost use Rattle.egt_class.specs.Membership.{IsOf};
 ghost use Rattle.egt_index.specs.Code.{Spells};
 ghost use Rattle.egt_index.specs.Index.{IsIndex};
@@ -9,7 +7,6 @@ ghost use Rattle.egt_board.specs.Setup.{Setup, IsAdmissible};
 ghost use Rattle.egt_table.specs.Table.{TableValue, IsTable};
 ghost use Rattle.egt_check.specs.Alike.{StepAlike};
 ghost use Rattle.egt_moves.specs.Chess.{Zeroes, chess};
-ghost use Rattle.egt_moves.specs.declared.chess_move.Move.{Move};
 ghost use Rattle.egt_board.specs.declared.man.Side.{Side};
 ghost use Rattle.egt_check.specs.declared.metric.Metric.{Metric};
 ghost use Rattle.egt_board.specs.declared.man.Kind.TheVariants.{K};
@@ -43,7 +40,7 @@ use crate::pawn_laws::{
     codes_after_captures_in_passing_give_them, codes_after_promoting_captures_give_them,
 };
 use egt_index::laws::{
-    a_code_is_an_index_or_void, codes_tell_their_men, codes_spell_one_position,
+    a_code_is_an_index_or_void, codes_spell_one_position, codes_tell_their_men,
     codes_tell_turned_men, numbers_stand_for_codes,
 };
 use egt_steps::facts::facts;

@@ -31,7 +31,7 @@ ghost use Rattle.egt_check.specs.Worth.{column_score};
 
 use crate::laws::{all_scores_give_all_moves, due_bytes_are_right};
 use egt_index::laws::{
-    a_code_is_an_index_or_void, codes_tell_their_men, codes_spell_one_position,
+    a_code_is_an_index_or_void, codes_spell_one_position, codes_tell_their_men,
     numbers_stand_for_codes,
 };
 use egt_steps::facts::facts;
