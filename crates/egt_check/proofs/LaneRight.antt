@@ -12,13 +12,13 @@ use Rattle.egt_index.specs.TellsMen.{TellsMen}
 use Rattle.egt_index.specs.declared.shelf_codes.ShelfMen.{ShelfMen}
 use Rattle.egt_table.specs.Table.{TableValue}
 use Rattle.egt_table.specs.declared.column.Column.{Column}
-use Rattle.egt_table.specs.declared.column.Column.TheVariants as columns
-use Rattle.egt_check.specs.declared.metric.Metric.TheVariants.{Mate}
+use Rattle.egt_check.specs.declared.part.Part.{Part}
 use Rattle.egt_check.specs.Blank.{IsBlank}
 use Rattle.egt_steps.specs.Stands.{men_on, stand_on}
-use Rattle.egt_check.specs.RightBlock.{IsRightLane, IsRightReachLane}
-use Rattle.egt_check.specs.RightRow.{IsRightAt, IsRightReachAt}
-use Rattle.egt_check.specs.Worth.{column_score, score_at}
+use Rattle.egt_check.specs.Parts.{column_of}
+use Rattle.egt_check.specs.RightBlock.{IsRightLane}
+use Rattle.egt_check.specs.RightRow.{IsRightAtOf}
+use Rattle.egt_check.specs.Worth.{column_score}
 use Rattle.egt_check.proofs.RowRead.{side_few}
 
 -- a code of a shelf within is below the size
@@ -47,11 +47,8 @@ module _ (passed : Bool) (t : TableValue) (men : ShelfMen) (on shelf : ℕ) (sid
   told : TellsMen passed t.class (code_of t.class number) (stand_on men on square) side
   told = subst (λ (b : Bool). TellsMen b t.class (code_of t.class number) (stand_on men on square) side) is.1 (is.0.tells side y y_in)
 
-  pub right_lane : (mate zeroing : ℕ) → (score_at t Mate (code_of t.class number) ≢ 0 → IsRightAt t (code_of t.class number) mate zeroing) → IsRightLane passed t men side on square (code_of t.class number) mate zeroing
-  right_lane mate zeroing right = record { below = coded number below; tells = told; right = right }
-
-  pub right_reach_lane : (reach : ℕ) → (column_score t columns.Reach (code_of t.class number) ≢ 0 → IsRightReachAt t (code_of t.class number) reach) → IsRightReachLane passed t men side on square (code_of t.class number) reach
-  right_reach_lane reach right = record { below = coded number below; tells = told; right = right }
+  pub right_lane : (part : Part) (score zeroing : ℕ) → (column_score t (column_of part) (code_of t.class number) ≢ 0 → IsRightAtOf part t (code_of t.class number) score zeroing) → IsRightLane part passed t men side on square (code_of t.class number) score zeroing
+  right_lane part score zeroing right = record { below = coded number below; tells = told; right = right }
 
   pub blank_lane : (column : Column) → column_score t column (code_of t.class number) ≡ 0 → IsBlank t column (code_of t.class number)
   blank_lane column none = record { below = coded number below; none = none }

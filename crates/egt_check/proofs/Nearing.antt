@@ -18,13 +18,6 @@ use Rattle.egt_check.specs.Nearest.{nearer, IsNearest}
 use Rattle.egt_check.specs.Reach.{HasReachEntry, IsReachDue, ShowsReach, ShowsReachOf}
 use Rattle.egt_check.specs.Tables.{Tables, reach_at}
 
--- an entry shows one number
-pub reach_shown_once : (x : ℕ) (v w : Option ℕ) → ShowsReach x v → ShowsReach x w → v ≡ w
-reach_shown_once x (Some i) (Some j) a b = let same : i ≡ j = omega (arith, a.1, b.1) in ap Some same
-reach_shown_once x (Some i) None a b = absurd (omega (arith, a.1, b.1))
-reach_shown_once x None (Some j) a b = absurd (omega (arith, a.1, b.1))
-reach_shown_once x None None a b = refl
-
 -- a position has one entry
 pub one_reach_entry : (facts : Facts) (tables : Tables) (p : Setup) → IsAdmissible p → (x y : ℕ) → HasReachEntry tables p x → HasReachEntry tables p y → x ≡ y
 one_reach_entry facts tables p ok x y a b =

@@ -4,10 +4,12 @@ use Rattle.egt_board.specs.declared.man.Side.{Side}
 use Rattle.egt_index.specs.declared.shelf_codes.ShelfMen.{ShelfMen}
 use Rattle.egt_lanes.specs.Raised.{IsRaised}
 use Rattle.egt_table.specs.declared.column.Column.TheVariants.{Reach}
-use Rattle.egt_check.specs.MoveScores.{ArePassingCaptures, AreZeroingMoves}
+use Rattle.egt_check.specs.MoveScores.{AreAllScores, ArePassingCaptures, AreZeroingMoves}
 use Rattle.egt_steps.specs.QuietStands.{AreQuietCodes}
 use Rattle.egt_check.specs.Worth.{column_score}
 use Rattle.egt_check.specs.declared.move_scores.FourMen.{FourMen}
+use Rattle.egt_check.specs.declared.part.Part.{Part}
+use Rattle.egt_check.specs.declared.part.Part.TheVariants as parts
 
 -- the greatest of quiet moves and of those that zero but captures in passing, where the first man stands on a and the last on b
 pub record AreReachScores (four : FourMen) (men : ShelfMen) (side : Side) (a b reach : ℕ) : Type 0 where
@@ -29,3 +31,8 @@ pub record ArePassedReachScores (four : FourMen) (men : ShelfMen) (side : Side) 
 abbrev pub AreAllReachScores : (passed : Bool) (four : FourMen) (men : ShelfMen) (side : Side) (a b reach : ℕ) → Type 0
 AreAllReachScores false = AreReachScores
 AreAllReachScores true = ArePassedReachScores
+
+-- those of all moves in the columns of a part
+abbrev pub AreAllScoresOf : Part → (passed : Bool) (four : FourMen) (men : ShelfMen) (side : Side) (a b score zeroing : ℕ) → Type 0
+AreAllScoresOf parts.Values passed four men side a b score zeroing = AreAllScores passed four men side a b score zeroing
+AreAllScoresOf parts.Reach passed four men side a b score zeroing = AreAllReachScores passed four men side a b score

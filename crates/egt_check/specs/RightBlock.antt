@@ -8,28 +8,21 @@ use Rattle.egt_index.specs.Size.{size_of}
 use Rattle.egt_index.specs.TellsMen.{TellsMen}
 use Rattle.egt_index.specs.declared.shelf_codes.ShelfMen.{ShelfMen}
 use Rattle.egt_table.specs.Table.{TableValue}
-use Rattle.egt_table.specs.declared.column.Column.TheVariants as columns
 use Rattle.egt_check.specs.declared.metric.Metric.{Metric}
-use Rattle.egt_check.specs.declared.metric.Metric.TheVariants.{Mate}
 use Rattle.egt_check.specs.declared.part.Part.{Part}
 use Rattle.egt_check.specs.declared.part.Part.TheVariants.{Values, Reach}
 use Rattle.egt_steps.specs.Stands.{stand_on}
-use Rattle.egt_check.specs.RightRow.{IsRightAt, IsRightReachAt}
+use Rattle.egt_check.specs.Parts.{column_of}
+use Rattle.egt_check.specs.RightRow.{IsRightAtOf}
 use Rattle.egt_check.specs.Rules.{IsJudged, IsJudgedBy, KeepsReach}
 use Rattle.egt_check.specs.Tables.{Tables}
-use Rattle.egt_check.specs.Worth.{column_score, score_at}
+use Rattle.egt_check.specs.Worth.{column_score}
 
--- the code tells the men with the first on a and the last on b, and a target where one was passed, and its entries are due to these greatest scores
-pub record IsRightLane (passed : Bool) (t : TableValue) (men : ShelfMen) (side : Side) (a b i mate zeroing : ℕ) : Type 0 where
+-- the code tells the men with the first on a and the last on b, and a target where one was passed, and the part's entries are due to these greatest scores
+pub record IsRightLane (part : Part) (passed : Bool) (t : TableValue) (men : ShelfMen) (side : Side) (a b i score zeroing : ℕ) : Type 0 where
   pub below : i < size_of t.class
   pub tells : TellsMen passed t.class i (stand_on men a b) side
-  pub right : score_at t Mate i ≢ 0 → IsRightAt t i mate zeroing
-
--- the same of the column of the nearest mates
-pub record IsRightReachLane (passed : Bool) (t : TableValue) (men : ShelfMen) (side : Side) (a b i reach : ℕ) : Type 0 where
-  pub below : i < size_of t.class
-  pub tells : TellsMen passed t.class i (stand_on men a b) side
-  pub right : column_score t columns.Reach i ≢ 0 → IsRightReachAt t i reach
+  pub right : column_score t (column_of part) i ≢ 0 → IsRightAtOf part t i score zeroing
 
 -- the part's entries at the code keep the rules
 abbrev pub KeepsPart : Part → Tables → TableValue → ℕ → Type 0

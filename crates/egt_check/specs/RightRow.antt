@@ -35,3 +35,13 @@ pub record IsRightAt (t : TableValue) (i mate zeroing : ℕ) : Type 0 where
 pub record IsRightReachAt (t : TableValue) (i reach : ℕ) : Type 0 where
   pub due : reach ≢ 0 → column_score t columns.Reach i ≡ reach_due_score reach
   pub end : reach ≡ 0 → IsRightReachEnd t i
+
+-- the same of a part; the second score is of the zeroing column alone
+abbrev pub IsRightAtOf : Part → TableValue → (i score zeroing : ℕ) → Type 0
+IsRightAtOf Values t i score zeroing = IsRightAt t i score zeroing
+IsRightAtOf Reach t i score zeroing = IsRightReachAt t i score
+
+-- what the score in the part's column has to be, by the greatest after a move
+abbrev pub due_in : Part → ℕ → ℕ
+due_in Values score = due_score score
+due_in Reach score = reach_due_score score

@@ -1,5 +1,5 @@
 //! The scores of the positions after the last man beside the kings, a pawn, advances or is promoted where he takes the first.
-ghost use Rattle.std.specs.Prelude.{◌≡◌, ◌↔◌, ◌<◌, ◌==◌, ℕ, true, false, IfSome, IsTrue, slice_index};
+ghost use Rattle.std.specs.Prelude.{◌≡◌, ◌↔◌, ◌<◌, ◌==◌, ℕ, true, false, IfSome, IsTrue};
 ghost use Rattle.egt_board.specs.Man.{other_side};
 ghost use Rattle.egt_board.specs.Pawn.{Advances, IsBeside, last_rank, pawn_of};
 ghost use Rattle.egt_board.specs.Square.{rank_of};
@@ -16,7 +16,7 @@ ghost use Rattle.egt_steps.specs.InPassing.{AreLeapCodes, AreStepCodes};
 ghost use Rattle.egt_check.specs.Leaps.{AreStill, IsBesideWhere, leap_rank};
 ghost use Rattle.egt_steps.specs.PawnMoves.{AreAdvancedCodes, ArePromotedCodes, men_after, men_two, officer_of, stand_after};
 ghost use Rattle.egt_steps.specs.QuietStands.{IsClear};
-ghost use Rattle.egt_steps.specs.Takings.{IsPastKings, left_of, stand_left};
+ghost use Rattle.egt_steps.specs.Takings.{IsPastKings};
 ghost use Rattle.egt_check.specs.Worth.{IsReadWith, ScoresNoVoids, column_score};
 
 use crate::blocks::{nothing, read_block};

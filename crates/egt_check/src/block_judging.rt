@@ -1,15 +1,16 @@
 //! The judgement of all entries with the kings on two squares, in classes with two men beside the kings.
-ghost use Rattle.std.specs.Prelude.{◌≡◌, ◌+◌, ◌<◌, ℕ, true, slice_index};
+ghost use Rattle.std.specs.Prelude.{◌≡◌, ◌+◌, ◌<◌, ℕ, true, false};
 ghost use Rattle.egt_board.specs.Man.{other_side};
 ghost use Rattle.egt_index.specs.Numbers.{code_of};
 ghost use Rattle.egt_index.specs.Scales.{kind_digits, kind_less};
 ghost use Rattle.egt_index.specs.ShelfCodes.{AreMenOf, number_in};
 ghost use Rattle.egt_lanes.specs.Blocks.{at};
-ghost use Rattle.egt_table.specs.declared.column.Column.TheVariants as columns;
-ghost use Rattle.egt_check.specs.declared.part.Part.TheVariants as parts;
+ghost use Rattle.egt_table.specs.Table.{HasColumn};
 ghost use Rattle.egt_steps.specs.Stands.{men_on};
 ghost use Rattle.egt_check.specs.Kept.{AreKept};
 ghost use Rattle.egt_check.specs.MoveScores.{AreFourMen, AreTablesOf};
+ghost use Rattle.egt_check.specs.Parts.{column_of, four_in, tables_in};
+ghost use Rattle.egt_check.specs.ReachScores.{AreAllScoresOf};
 ghost use Rattle.egt_check.specs.RightBlock.{AreJudged, IsRightLane};
 ghost use Rattle.egt_check.specs.Tables.{Tables};
 
@@ -18,6 +19,8 @@ use crate::digits::{digits_of, first_square};
 use crate::kept_blocks::{BlockKeys, KeptBlocks};
 use crate::laws::entries_due_to_all_moves_are_right;
 use crate::move_scores::{FourMen, move_scores, raise_passed};
+use crate::part::Part;
+use crate::reach_scores::{raise_passed_reach, reach_scores};
 use crate::row_judging::row_is_right;
 use egt_board::{Side, Square};
 use egt_index::ShelfMen;
@@ -38,21 +41,66 @@ pub(crate) fn men_on(men: &ShelfMen, on: Square) -> ShelfMen
     }
 }
 
-/// Whether the entries of the shelves from this one on, which are to be those of the men by the first one's digit, are due to the greatest scores.
+/// The greatest scores of all moves but captures in passing, in the part's column, and of `Values` in the zeroing
+/// column too. False where a table does not tell.
+fn part_scores(
+    four: &FourMen,
+    men: &ShelfMen,
+    part: Part,
+    side: Side,
+    keys: &mut BlockKeys,
+    blocks: &mut KeptBlocks,
+    scores: &mut Block,
+    zeroing: &mut Block,
+) -> bool
+    requires men { AreFourMen (column_of part) four.now men.now }
+    requires kept { AreKept four.now.own.now men.now (other_side side) keys.old blocks.old }
+    ensures kept { result ≡ true → AreKept four.now.own.now men.now (other_side side) keys.new blocks.new }
+    ensures scores { result ≡ true → (a b : ℕ) → a < 64 → b < 64 → AreAllScoresOf part false four.now men.now side a b (at scores.new a b) (at zeroing.new a b) }
+{
+    match part {
+        Part::Values => move_scores(four, men, side, keys, blocks, scores, zeroing),
+        Part::Reach => reach_scores(four, men, side, keys, blocks, scores),
+    }
+}
+
+/// Raises those to the scores of captures in passing: then they are of all moves where there is a target.
+fn raise_part_passed(
+    four: &FourMen,
+    men: &ShelfMen,
+    part: Part,
+    side: Side,
+    scores: &mut Block,
+    zeroing: &mut Block,
+) -> bool
+    requires { AreFourMen (column_of part) four.now men.now }
+    ensures { result ≡ true → (a b : ℕ) → a < 64 → b < 64 → AreAllScoresOf part false four.now men.now side a b (at scores.old a b) (at zeroing.old a b) →
+        AreAllScoresOf part true four.now men.now side a b (at scores.new a b) (at zeroing.new a b) }
+{
+    match part {
+        Part::Values => raise_passed(four, men, side, scores, zeroing),
+        Part::Reach => raise_passed_reach(four, men, side, scores),
+    }
+}
+
+/// Whether the part's entries of the shelves from this one on, which are to be those of the men by the first one's digit,
+/// are due to the greatest scores.
 fn shelves_are_right(
     table: &Table,
     men: &ShelfMen,
+    part: Part,
     first: u32,
     side: Side,
     passed: bool,
-    mates: &Block,
+    scores: &Block,
     zeroing: &Block,
 ) -> bool
+    requires there { HasColumn (column_of part) table.now }
     requires men { AreMenOf table.now.class men.now }
     requires room { first + 64 < 4294967296 }
     ensures { result ≡ true → (x y : ℕ) → x < kind_digits men.now.one.kind → y < kind_digits men.now.last.kind →
-        IsRightLane passed table.now men.now side (x + kind_less men.now.one.kind) (y + kind_less men.now.last.kind) (code_of table.now.class (number_in table.now.class (first + x) side y))
-        (at mates.now (x + kind_less men.now.one.kind) (y + kind_less men.now.last.kind)) (at zeroing.now (x + kind_less men.now.one.kind) (y + kind_less men.now.last.kind)) }
+        IsRightLane part passed table.now men.now side (x + kind_less men.now.one.kind) (y + kind_less men.now.last.kind) (code_of table.now.class (number_in table.now.class (first + x) side y))
+        (at scores.now (x + kind_less men.now.one.kind) (y + kind_less men.now.last.kind)) (at zeroing.now (x + kind_less men.now.one.kind) (y + kind_less men.now.last.kind)) }
 {
     numbers_stand_for_codes();
     if !begin_with(table.class(), men, passed, first) {
@@ -65,10 +113,11 @@ fn shelves_are_right(
         if !row_is_right(
             table,
             &men_on(men, Square::at(square)),
+            part,
             first + u32::from(digit),
             side,
             passed,
-            mates[row],
+            scores[row],
             zeroing[row],
         ) {
             return false;
@@ -77,38 +126,58 @@ fn shelves_are_right(
     true
 }
 
-/// Whether all entries of those shelves with that side to move keep the rules, and of those `half` further on, whose
-/// positions have a target; 0 in a class without targets. Both have the same scores but for captures in passing.
+/// Whether all entries of the part keep the rules, of those shelves with that side to move and of those `half` further
+/// on, whose positions have a target; 0 in a class without targets. Both have the same scores but for captures in
+/// passing.
 pub(crate) fn block_is_right(
     four: &FourMen,
     men: &ShelfMen,
+    part: Part,
     first: u32,
     half: u32,
     side: Side,
     keys: &mut BlockKeys,
     blocks: &mut KeptBlocks,
 ) -> bool
-    requires men { AreFourMen columns.Mate four.now men.now }
+    requires men { AreFourMen (column_of part) four.now men.now }
     requires room { first + half + 64 < 4294967296 }
     requires kept { AreKept four.now.own.now men.now (other_side side) keys.old blocks.old }
     ensures kept { result ≡ true → AreKept four.now.own.now men.now (other_side side) keys.new blocks.new }
-    ensures judged { result ≡ true → (tables : Tables) → AreTablesOf tables four.now men.now →
-        AreJudged parts.Values tables four.now.own.now men.now first side × AreJudged parts.Values tables four.now.own.now men.now (first + half) side }
+    ensures judged { result ≡ true → (tables : Tables) → AreTablesOf (tables_in part tables) (four_in part four.now) men.now →
+        AreJudged part tables four.now.own.now men.now first side × AreJudged part tables four.now.own.now men.now (first + half) side }
 {
     entries_due_to_all_moves_are_right();
-    let mut mates = nothing();
+    let mut scores = nothing();
     let mut zeroing = nothing();
-    if !move_scores(four, men, side, keys, blocks, &mut mates, &mut zeroing) {
+    if !part_scores(
+        four,
+        men,
+        part,
+        side,
+        keys,
+        blocks,
+        &mut scores,
+        &mut zeroing,
+    ) {
         return false;
     }
-    if !shelves_are_right(four.own, men, first, side, false, &mates, &zeroing) {
+    if !shelves_are_right(four.own, men, part, first, side, false, &scores, &zeroing) {
         return false;
     }
     if half == 0 {
         return true;
     }
-    if !raise_passed(four, men, side, &mut mates, &mut zeroing) {
+    if !raise_part_passed(four, men, part, side, &mut scores, &mut zeroing) {
         return false;
     }
-    shelves_are_right(four.own, men, first + half, side, true, &mates, &zeroing)
+    shelves_are_right(
+        four.own,
+        men,
+        part,
+        first + half,
+        side,
+        true,
+        &scores,
+        &zeroing,
+    )
 }

@@ -1,7 +1,5 @@
 //! What holds of tables and their rules. These functions do nothing: a caller calls one to know what it ensures.
 ghost use Rattle.std.specs.Prelude.{◌≡◌, ◌≢◌, ◌↔◌, ◌<◌, max, ℕ, Bool, false, None, Some};
-ghost use Rattle.std.specs.List.{Contains};
-ghost use Rattle.egt_class.specs.Children.{children_of};
 ghost use Rattle.egt_class.specs.Membership.{IsOf};
 ghost use Rattle.egt_index.specs.Code.{Spells};
 ghost use Rattle.egt_index.specs.Index.{IsIndex};
@@ -9,7 +7,6 @@ ghost use Rattle.egt_board.specs.Setup.{Setup, IsAdmissible};
 ghost use Rattle.egt_table.specs.Table.{TableValue, IsTable};
 ghost use Rattle.egt_check.specs.Alike.{StepAlike};
 ghost use Rattle.egt_moves.specs.Chess.{Zeroes, chess};
-ghost use Rattle.egt_moves.specs.declared.chess_move.Move.{Move};
 ghost use Rattle.egt_board.specs.declared.man.Side.{Side};
 ghost use Rattle.egt_check.specs.declared.metric.Metric.{Metric};
 ghost use Rattle.egt_board.specs.declared.man.Kind.TheVariants.{K};
@@ -25,10 +22,11 @@ ghost use Rattle.egt_index.specs.Index.{IsVoid};
 ghost use Rattle.egt_lanes.specs.Scores.{byte_score, due_score, zeroing_score};
 ghost use Rattle.egt_check.specs.Taken.{AreLeftCodes, IsTableOf, men_swapped};
 ghost use Rattle.egt_check.specs.MoveScores.{AreAllScores, AreTablesOf};
-ghost use Rattle.egt_check.specs.RightRow.{IsRightAt};
+ghost use Rattle.egt_check.specs.Parts.{four_in, tables_in};
+ghost use Rattle.egt_check.specs.ReachScores.{AreAllScoresOf};
+ghost use Rattle.egt_check.specs.RightBlock.{IsRightLane, KeepsPart};
 ghost use Rattle.egt_check.specs.declared.move_scores.FourMen.{FourMen};
-ghost use Rattle.egt_index.specs.Size.{size_of};
-ghost use Rattle.egt_index.specs.TellsMen.{TellsMen};
+ghost use Rattle.egt_check.specs.declared.part.Part.{Part};
 ghost use Rattle.egt_check.specs.declared.metric.Metric.TheVariants.{Mate, Zeroing};
 ghost use Rattle.egt_check.specs.Worth.{HasBytes, score_at};
 ghost use Rattle.egt_lanes.specs.Raised.{IsRaised};
@@ -42,8 +40,9 @@ use crate::pawn_laws::{
     codes_after_advances_beside_pawns_give_them, codes_after_advances_give_the_advances,
     codes_after_captures_in_passing_give_them, codes_after_promoting_captures_give_them,
 };
+use crate::reach_laws::{all_reach_scores_give_all_moves, due_reaches_are_right};
 use egt_index::laws::{
-    a_code_is_an_index_or_void, codes_tell_their_men, codes_spell_one_position,
+    a_code_is_an_index_or_void, codes_spell_one_position, codes_tell_their_men,
     codes_tell_turned_men, numbers_stand_for_codes,
 };
 use egt_steps::facts::facts;
@@ -134,15 +133,16 @@ pub fn all_scores_give_all_moves()
     moves_of_either_kind_give_all();
 }
 
-/// Entries that are due to the greatest scores of all moves keep the rules, whether or not their code is an index.
+/// Entries of a part that are due to the greatest scores of all moves keep the rules, whether or not their code is an index.
 pub fn entries_due_to_all_moves_are_right()
-    ensures { (tables : Tables) (four : FourMen) (men : ShelfMen) (side : Side) (passed : Bool) (a b i mate zeroing : ℕ) → AreTablesOf tables four men → men.one.kind ≢ K → men.last.kind ≢ K →
-        i < size_of four.own.now.class → TellsMen passed four.own.now.class i (stand_on men a b) side → AreAllScores passed four men side a b mate zeroing → (score_at four.own.now Mate i ≢ 0 → IsRightAt four.own.now i mate zeroing) →
-        (metric : Metric) → IsJudged tables four.own.now metric i None }
+    ensures { (part : Part) (tables : Tables) (four : FourMen) (men : ShelfMen) (side : Side) (passed : Bool) (a b i score zeroing : ℕ) → AreTablesOf (tables_in part tables) (four_in part four) men → men.one.kind ≢ K → men.last.kind ≢ K →
+        IsRightLane part passed four.own.now men side a b i score zeroing → AreAllScoresOf part passed four men side a b score zeroing → KeepsPart part tables four.own.now i }
 {
     a_code_is_an_index_or_void();
     codes_tell_their_men();
     numbers_stand_for_codes();
     all_scores_give_all_moves();
+    all_reach_scores_give_all_moves();
     due_bytes_are_right();
+    due_reaches_are_right();
 }

@@ -29,7 +29,6 @@ pub mod quiet_blocks;
 pub mod reach_blocks;
 pub mod reach_judging;
 pub mod reach_laws;
-pub mod reach_rows;
 pub mod reach_scores;
 pub mod reject;
 pub mod row_judging;

@@ -1,10 +1,9 @@
 //! The greatest scores of all moves of a pawn who is the last man beside the kings, whose kings stand on two squares.
 ghost use Rattle.std.specs.Prelude.{◌≡◌, ◌<◌, ℕ, false, true, IfSome};
-ghost use Rattle.egt_board.specs.Turned.{turned_man};
 ghost use Rattle.egt_index.specs.ShelfCodes.{AreMenOf};
 ghost use Rattle.egt_lanes.specs.Blocks.{at};
 ghost use Rattle.egt_table.specs.Table.{HasColumn};
-ghost use Rattle.egt_steps.specs.PawnMoves.{men_after, officer_of};
+ghost use Rattle.egt_steps.specs.PawnMoves.{men_after};
 ghost use Rattle.egt_check.specs.Leaps.{AreStill};
 ghost use Rattle.egt_check.specs.PawnScores.{ArePawnScores, ArePromotionsOf, AreRaisedByPawns, IsPromotionOf, IsPromotionScore, IsRaisedByPawn};
 ghost use Rattle.egt_check.specs.Taken.{men_swapped};

@@ -6,15 +6,12 @@ ghost use Rattle.egt_board.specs.declared.man.Kind.TheVariants.{K};
 ghost use Rattle.egt_board.specs.declared.man.Side.{Side};
 ghost use Rattle.egt_index.specs.Code.{Spells};
 ghost use Rattle.egt_index.specs.Index.{IsVoid};
-ghost use Rattle.egt_index.specs.Size.{size_of};
-ghost use Rattle.egt_index.specs.TellsMen.{TellsMen};
 ghost use Rattle.egt_index.specs.Stood.{HasStand};
 ghost use Rattle.egt_index.specs.declared.shelf_codes.ShelfMen.{ShelfMen};
 ghost use Rattle.egt_lanes.specs.Scores.{reach_due_score, reach_score};
 ghost use Rattle.egt_moves.specs.Arena.{NoMove};
 ghost use Rattle.egt_moves.specs.Chess.{chess};
 ghost use Rattle.egt_table.specs.Table.{TableValue};
-ghost use Rattle.egt_table.specs.declared.column.Column.TheVariants as columns;
 ghost use Rattle.egt_check.specs.declared.move_scores.FourMen.{FourMen};
 ghost use Rattle.egt_check.specs.declared.part.Part.TheVariants.{Reach};
 ghost use Rattle.egt_steps.specs.Stands.{stand_on};
@@ -23,15 +20,13 @@ ghost use Rattle.egt_check.specs.MoveScores.{AreTablesOf};
 ghost use Rattle.egt_check.specs.NearTables.{near_entry, near_tables};
 ghost use Rattle.egt_check.specs.Parts.{four_in};
 ghost use Rattle.egt_check.specs.ReachScores.{AreAllReachScores};
-ghost use Rattle.egt_check.specs.RightRow.{IsRightReachAt};
 ghost use Rattle.egt_check.specs.Rules.{IsJudgedBy, KeepsReach};
 ghost use Rattle.egt_check.specs.Score.{IsAtEnd};
 ghost use Rattle.egt_check.specs.Tables.{Tables, reach_at};
-ghost use Rattle.egt_check.specs.Worth.{column_score};
 
 use crate::laws::{all_scores_give_all_moves, due_bytes_are_right};
 use egt_index::laws::{
-    a_code_is_an_index_or_void, codes_tell_their_men, codes_spell_one_position,
+    a_code_is_an_index_or_void, codes_spell_one_position, codes_tell_their_men,
     numbers_stand_for_codes,
 };
 use egt_steps::facts::facts;
@@ -55,18 +50,4 @@ pub fn all_reach_scores_give_all_moves()
 {
     a_code_is_an_index_or_void();
     all_scores_give_all_moves();
-}
-
-/// Entries that are due to the greatest scores of all moves keep the rules, whether or not their code is an index.
-pub fn reach_entries_due_to_all_moves_are_right()
-    ensures { (tables : Tables) (four : FourMen) (men : ShelfMen) (side : Side) (passed : Bool) (a b i reach : ℕ) → AreTablesOf (near_tables tables) (four_in Reach four) men → men.one.kind ≢ K → men.last.kind ≢ K →
-        i < size_of four.own.now.class → TellsMen passed four.own.now.class i (stand_on men a b) side → AreAllReachScores passed four men side a b reach → (column_score four.own.now columns.Reach i ≢ 0 → IsRightReachAt four.own.now i reach) →
-        IsJudgedBy (KeepsReach tables four.own.now i) None }
-{
-    a_code_is_an_index_or_void();
-    codes_tell_their_men();
-    numbers_stand_for_codes();
-    all_reach_scores_give_all_moves();
-    due_bytes_are_right();
-    due_reaches_are_right();
 }

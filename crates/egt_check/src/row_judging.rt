@@ -1,19 +1,21 @@
-//! The judgement of a row of a table's entries by the greatest bytes of the moves.
+//! The judgement of a row of a table's entries by the greatest scores of the moves.
 ghost use Rattle.std.specs.Prelude.{◌≡◌, ◌≢◌, ◌+◌, ◌*◌, ℕ, ◌<◌, slice_index, true, IfSome};
 ghost use Rattle.egt_board.specs.SquareSet.{Has};
 ghost use Rattle.egt_index.specs.Numbers.{code_of};
 ghost use Rattle.egt_index.specs.Scales.{kind_digits, kind_less};
 ghost use Rattle.egt_index.specs.ShelfCodes.{IsShelfOf, IsWithin, number_in};
 ghost use Rattle.egt_index.specs.Size.{size_of};
+ghost use Rattle.egt_lanes.specs.Scores.{due_score};
 ghost use Rattle.egt_table.specs.Table.{HasColumn};
-ghost use Rattle.egt_check.specs.declared.metric.Metric.TheVariants.{Mate};
+ghost use Rattle.egt_check.specs.declared.metric.Metric.TheVariants.{Zeroing};
+ghost use Rattle.egt_check.specs.declared.part.Part.TheVariants as parts;
 ghost use Rattle.egt_check.specs.Parts.{column_of};
-ghost use Rattle.egt_check.specs.RightRow.{IsRightAt, IsRightEndOf};
+ghost use Rattle.egt_check.specs.RightRow.{IsRightAtOf, IsRightEndOf, due_in};
 ghost use Rattle.egt_check.specs.Score.{IsAtEnd};
-ghost use Rattle.egt_check.specs.Worth.{score_at};
+ghost use Rattle.egt_check.specs.Worth.{column_score, score_at};
 
 use crate::digits::digit_on;
-use crate::part::Part;
+use crate::part::{Part, column_of};
 use crate::rows::row_of;
 use crate::successors::entries_at;
 use egt_board::{Man, Position, Side, SquareSet};
@@ -21,7 +23,7 @@ use egt_index::laws::{codes_spell_one_position, codes_tell_turned_men};
 use egt_index::{ShelfMen, code_of, last_digits, position, size};
 use egt_lanes::Row;
 use egt_lanes::row::differ;
-use egt_lanes::score::due;
+use egt_lanes::score::{due, reach_due};
 use egt_lanes::sets::{kept, lanes_of};
 use egt_moves::{Standing, standing};
 use egt_table::{Column, Table};
@@ -61,13 +63,7 @@ fn end_is_right(table: &Table, part: Part, code: u32) -> bool
 }
 
 /// Whether so are the codes of the numbers of these squares of the man, every other one from his first digit's on.
-pub(crate) fn ends_are_right(
-    table: &Table,
-    part: Part,
-    man: Man,
-    first: u32,
-    ends: SquareSet,
-) -> bool
+fn ends_are_right(table: &Table, part: Part, man: Man, first: u32, ends: SquareSet) -> bool
     requires there { HasColumn (column_of part) table.now }
     requires codes { (digit : ℕ) → digit < kind_digits man.kind → first + 2 * digit < size_of table.now.class }
     ensures { result ≡ true → (digit : ℕ) → digit < kind_digits man.kind → Has ends (digit + kind_less man.kind) →
@@ -88,7 +84,7 @@ pub(crate) fn ends_are_right(
 }
 
 /// The shelf's first number with that side to move.
-pub(crate) fn first_of(table: &Table, shelf: u32, side: Side) -> u32
+fn first_of(table: &Table, shelf: u32, side: Side) -> u32
     requires within { IsWithin table.now.class shelf }
     ensures { result ≡ number_in table.now.class shelf side 0 }
 {
@@ -101,36 +97,72 @@ pub(crate) fn first_of(table: &Table, shelf: u32, side: Side) -> u32
     }
 }
 
-/// Whether the entries of a shelf's codes with that side to move are due to the greatest bytes of the moves, by the
-/// last man's square, or tell checkmate and stalemate; `passed` tells whether the positions have a target.
-pub(crate) fn row_is_right(
+/// What the scores in the part's column have to be, by the greatest of the scores after a move.
+#[inline(always)]
+fn due_in(part: Part, row: Row) -> Row
+    ensures { (s : ℕ) → s < 64 → slice_index result s ≡ due_in part (slice_index row s) }
+{
+    match part {
+        Part::Values => due(row),
+        Part::Reach => reach_due(row),
+    }
+}
+
+/// Whether the scores in the zeroing column, which is judged with the mate column, are due to the greatest of the moves
+/// on the squares where `within` is not 0.
+#[inline(always)]
+fn clock_is_due(
     table: &Table,
     men: &ShelfMen,
+    part: Part,
     shelf: u32,
     side: Side,
     passed: bool,
-    mates: Row,
     zeroing: Row,
+    within: Row,
 ) -> bool
     requires shelf { IsShelfOf passed table.now.class shelf men.now }
     requires within { IsWithin table.now.class shelf }
-    ensures { result ≡ true → (digit : ℕ) → digit < kind_digits men.now.last.kind → score_at table.now Mate (code_of table.now.class (number_in table.now.class shelf side digit)) ≢ 0 →
-        IsRightAt table.now (code_of table.now.class (number_in table.now.class shelf side digit)) (slice_index mates (digit + kind_less men.now.last.kind)) (slice_index zeroing (digit + kind_less men.now.last.kind)) }
+    ensures { result ≡ true → part ≡ parts.Values → (digit : ℕ) → digit < kind_digits men.now.last.kind → slice_index within (digit + kind_less men.now.last.kind) ≢ 0 →
+        score_at table.now Zeroing (code_of table.now.class (number_in table.now.class shelf side digit)) ≡ due_score (slice_index zeroing (digit + kind_less men.now.last.kind)) }
 {
     codes_tell_turned_men();
-    let own = row_of(table, Column::Mate, men, shelf, side, passed);
-    let clock = row_of(table, Column::Zeroing, men, shelf, side, passed);
-    let moving = lanes_of(mates);
+    match part {
+        Part::Values => {
+            let clock = row_of(table, Column::Zeroing, men, shelf, side, passed);
+            !differ(clock, due(zeroing), within)
+        }
+        Part::Reach => true,
+    }
+}
+
+/// Whether the part's entries of a shelf's codes with that side to move are due to the greatest scores of the moves, by
+/// the last man's square, or tell checkmate and stalemate; `passed` tells whether the positions have a target.
+pub(crate) fn row_is_right(
+    table: &Table,
+    men: &ShelfMen,
+    part: Part,
+    shelf: u32,
+    side: Side,
+    passed: bool,
+    scores: Row,
+    zeroing: Row,
+) -> bool
+    requires there { HasColumn (column_of part) table.now }
+    requires shelf { IsShelfOf passed table.now.class shelf men.now }
+    requires within { IsWithin table.now.class shelf }
+    ensures { result ≡ true → (digit : ℕ) → digit < kind_digits men.now.last.kind → column_score table.now (column_of part) (code_of table.now.class (number_in table.now.class shelf side digit)) ≢ 0 →
+        IsRightAtOf part table.now (code_of table.now.class (number_in table.now.class shelf side digit)) (slice_index scores (digit + kind_less men.now.last.kind)) (slice_index zeroing (digit + kind_less men.now.last.kind)) }
+{
+    codes_tell_turned_men();
+    let own = row_of(table, column_of(part), men, shelf, side, passed);
+    let moving = lanes_of(scores);
     let within = kept(own, moving);
-    if differ(own, due(mates), within) || differ(clock, due(zeroing), within) {
+    if differ(own, due_in(part, scores), within)
+        || !clock_is_due(table, men, part, shelf, side, passed, zeroing, within)
+    {
         return false;
     }
     let ends = lanes_of(own).without(moving);
-    ends_are_right(
-        table,
-        Part::Values,
-        men.last,
-        first_of(table, shelf, side),
-        ends,
-    )
+    ends_are_right(table, part, men.last, first_of(table, shelf, side), ends)
 }

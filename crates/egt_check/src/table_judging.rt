@@ -41,7 +41,6 @@ use crate::own_men::is_pawn;
 use crate::pair_order::nth_pair;
 use crate::part::{Part, column_of};
 use crate::pawn_scores::{Promotion, Promotions};
-use crate::reach_blocks::reach_block_is_right;
 use crate::taken_blocks::turned_man;
 use egt_board::{Kind, Man, Side, Square};
 use egt_class::Class;
@@ -86,10 +85,7 @@ fn side_is_right(
     if side_is_blank(four.own, column_of(part), men, first, half, side) {
         return true;
     }
-    match part {
-        Part::Values => block_is_right(four, men, first, half, side, keys, blocks),
-        Part::Reach => reach_block_is_right(four, men, first, half, side, keys, blocks),
-    }
+    block_is_right(four, men, part, first, half, side, keys, blocks)
 }
 
 /// Whether all entries of the part keep the rules, of the shelves from this one on, one for each digit of the first man,

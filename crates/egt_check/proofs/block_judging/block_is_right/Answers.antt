@@ -4,7 +4,6 @@ use Rattle.egt_index.specs.Scales.{kind_less}
 use Rattle.egt_index.specs.ShelfCodes.{number_in}
 use Rattle.egt_lanes.specs.Blocks.{at}
 use Rattle.egt_check.specs.RightBlock.{AreJudged}
-use Rattle.egt_check.specs.declared.part.Part.TheVariants.{Values}
 use Rattle.egt_check.proofs.RowRead.{square_in}
 use Rattle.egt_check.proofs.block_judging.block_is_right.Goals as goal
 
@@ -12,35 +11,37 @@ pub returns-then-half-eq0-clause-judged : goal.returns-then-half-eq0-clause-judg
 returns-then-half-eq0-clause-judged c = λ _ tables are.
     let four = c.args.four.now in
     let men = c.args.men.now in
+    let part = c.args.part in
     let side = c.args.side in
-    let lower : AreJudged Values tables four.own.now men c.args.first side = λ x y x_in y_in.
+    let lower : AreJudged part tables four.own.now men c.args.first side = λ x y x_in y_in.
     let a = x + kind_less men.one.kind in
     let b = y + kind_less men.last.kind in
-    let scores = c.move_scores.ensures.scores c.if-not-move_scores.false a b (square_in men.one.kind x x_in) (square_in men.last.kind y y_in) in
+    let scores = c.part_scores.ensures.scores c.if-not-part_scores.false a b (square_in men.one.kind x x_in) (square_in men.last.kind y y_in) in
     let lane = c.shelves_are_right.ensures c.if-not-shelves_are_right.false x y x_in y_in in
-    c.entries_due_to_all_moves_are_right.ensures tables four men side false a b (code_of four.own.now.class (number_in four.own.now.class (c.args.first + x) side y)) (at c.move_scores.new.mates a b) (at c.move_scores.new.zeroing a b)
-    are c.requires.men.one c.requires.men.last lane.below lane.tells scores lane.right in
+    c.entries_due_to_all_moves_are_right.ensures part tables four men side false a b (code_of four.own.now.class (number_in four.own.now.class (c.args.first + x) side y)) (at c.part_scores.new.scores a b) (at c.part_scores.new.zeroing a b)
+    are c.requires.men.one c.requires.men.last lane scores in
     let none = c.if-half-eq0.true in
-    (lower, subst (λ n. AreJudged Values tables four.own.now men n side) (omega (arith, none)) lower)
+    (lower, subst (λ n. AreJudged part tables four.own.now men n side) (omega (arith, none)) lower)
 
 pub returns-clause-judged : goal.returns-clause-judged
 returns-clause-judged c = λ told tables are.
     let four = c.args.four.now in
     let men = c.args.men.now in
+    let part = c.args.part in
     let side = c.args.side in
-    let scores = c.move_scores.ensures.scores c.if-not-move_scores.false in (
+    let scores = c.part_scores.ensures.scores c.if-not-part_scores.false in (
       λ x y x_in y_in.
           let a = x + kind_less men.one.kind in
           let b = y + kind_less men.last.kind in
           let lane = c.shelves_are_right.ensures c.if-not-shelves_are_right.false x y x_in y_in in
-          c.entries_due_to_all_moves_are_right.ensures tables four men side false a b (code_of four.own.now.class (number_in four.own.now.class (c.args.first + x) side y)) (at c.move_scores.new.mates a b) (at c.move_scores.new.zeroing a b)
-          are c.requires.men.one c.requires.men.last lane.below lane.tells (scores a b (square_in men.one.kind x x_in) (square_in men.last.kind y y_in)) lane.right,
+          c.entries_due_to_all_moves_are_right.ensures part tables four men side false a b (code_of four.own.now.class (number_in four.own.now.class (c.args.first + x) side y)) (at c.part_scores.new.scores a b) (at c.part_scores.new.zeroing a b)
+          are c.requires.men.one c.requires.men.last lane (scores a b (square_in men.one.kind x x_in) (square_in men.last.kind y y_in)),
       λ x y x_in y_in.
           let a = x + kind_less men.one.kind in
           let b = y + kind_less men.last.kind in
           let a_in = square_in men.one.kind x x_in in
           let b_in = square_in men.last.kind y y_in in
           let lane = c.shelves_are_right-2.ensures told x y x_in y_in in
-          c.entries_due_to_all_moves_are_right.ensures tables four men side true a b (code_of four.own.now.class (number_in four.own.now.class (c.args.first + c.args.half + x) side y)) (at c.raise_passed.new.mates a b) (at c.raise_passed.new.zeroing a b)
-          are c.requires.men.one c.requires.men.last lane.below lane.tells (c.raise_passed.ensures c.if-not-raise_passed.false a b a_in b_in (scores a b a_in b_in)) lane.right,
+          c.entries_due_to_all_moves_are_right.ensures part tables four men side true a b (code_of four.own.now.class (number_in four.own.now.class (c.args.first + c.args.half + x) side y)) (at c.raise_part_passed.new.scores a b) (at c.raise_part_passed.new.zeroing a b)
+          are c.requires.men.one c.requires.men.last lane (c.raise_part_passed.ensures c.if-not-raise_part_passed.false a b a_in b_in (scores a b a_in b_in)),
     )

@@ -8,9 +8,9 @@ use Rattle.egt_index.specs.declared.shelf_codes.ShelfMen.{ShelfMen}
 use Rattle.egt_board.specs.declared.man.Man.{Man}
 use Rattle.egt_lanes.specs.Blocks.{at}
 use Rattle.egt_check.specs.Blocks.{AreShelvesOf}
-use Rattle.egt_check.specs.RightRow.{IsRightAt}
-use Rattle.egt_check.specs.Worth.{score_at}
-use Rattle.egt_check.specs.declared.metric.Metric.TheVariants.{Mate}
+use Rattle.egt_check.specs.Parts.{column_of}
+use Rattle.egt_check.specs.RightRow.{IsRightAtOf}
+use Rattle.egt_check.specs.Worth.{column_score}
 use Rattle.egt_check.proofs.LaneRight.{right_lane}
 use Rattle.egt_check.proofs.ShelfRuns.{run_at}
 use Rattle.egt_check.proofs.block_judging.shelves_are_right.Goals as goal
@@ -39,6 +39,7 @@ loop-digit-preserved c = λ x y under y_in. elim (cases_lt x c.loop-digit.digit)
   | inr here ↦
       let t = c.args.table.now in
       let men = c.args.men.now in
+      let part = c.args.part in
       let side = c.args.side in
       let less = kind_less men.one.kind in
       let b = y + kind_less men.last.kind in
@@ -53,9 +54,9 @@ loop-digit-preserved c = λ x y under y_in. elim (cases_lt x c.loop-digit.digit)
       let are = subst (λ k. AreShelvesOf c.args.passed k men c.args.first) c.class.ensures.class (c.begin_with.ensures c.if-not-begin_with.false) in
       let is = are x (omega (arith, under, test, many)) in
       let coded : (m : ℕ) → m < size_of t.class → code_of t.class m < size_of t.class = λ m m_in. c.numbers_stand_for_codes.ensures.coded t.class m c.class.ensures.table.class_in m_in in
-      let right = subst (λ (m : Man). (k : ℕ) → k < kind_digits m.kind → score_at t Mate (code_of t.class (number_in t.class (c.args.first + c.from.result) side k)) ≢ 0
-      → IsRightAt t (code_of t.class (number_in t.class (c.args.first + c.from.result) side k)) (at c.args.mates.now (c.first_square-from.result + digit) (k + kind_less m.kind)) (at c.args.zeroing.now (c.first_square-from.result + digit) (k + kind_less m.kind))) last (c.row_is_right.ensures c.if-not-row_is_right.false) y y_in in
-      let there = subst (λ n. score_at t Mate (code_of t.class (number_in t.class n side y)) ≢ 0 → IsRightAt t (code_of t.class (number_in t.class n side y)) (at c.args.mates.now (c.first_square-from.result + digit) b) (at c.args.zeroing.now (c.first_square-from.result + digit) b)) shelf right in
-      right_lane c.args.passed t men (x + less) (c.args.first + x) side is.0 is.1 coded y y_in (at c.args.mates.now (x + less) b) (at c.args.zeroing.now (x + less) b)
-      (subst (λ r. score_at t Mate (code_of t.class (number_in t.class (c.args.first + x) side y)) ≢ 0 → IsRightAt t (code_of t.class (number_in t.class (c.args.first + x) side y)) (at c.args.mates.now r b) (at c.args.zeroing.now r b)) row there)
+      let Right : (shelf row k lane : ℕ) → Type 0 = λ shelf row k lane. column_score t (column_of part) (code_of t.class (number_in t.class shelf side k)) ≢ 0
+      → IsRightAtOf part t (code_of t.class (number_in t.class shelf side k)) (at c.args.scores.now row lane) (at c.args.zeroing.now row lane) in
+      let right = subst (λ (m : Man). (k : ℕ) → k < kind_digits m.kind → Right (c.args.first + c.from.result) (c.first_square-from.result + digit) k (k + kind_less m.kind)) last (c.row_is_right.ensures c.if-not-row_is_right.false) y y_in in
+      right_lane c.args.passed t men (x + less) (c.args.first + x) side is.0 is.1 coded y y_in part (at c.args.scores.now (x + less) b) (at c.args.zeroing.now (x + less) b)
+      (subst (λ r. Right (c.args.first + x) r y b) row (subst (λ n. Right n (c.first_square-from.result + digit) y b) shelf right))
 ]

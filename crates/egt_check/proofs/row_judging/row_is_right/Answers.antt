@@ -1,48 +1,53 @@
-use Rattle.std.proofs.Common.{◌≡◌, ◌≢◌, ◌∙◌, ℕ, ◌+◌, ◌*◌, arith, sym, subst}
+use Rattle.std.proofs.Common.{◌≡◌, ◌≢◌, ◌∙◌, ℕ, ◌+◌, ◌*◌, arith, refl, sym, subst}
 use Rattle.std.specs.Prelude.{slice_index}
 use Rattle.std.specs.Int.{bit_at}
 use Rattle.egt_index.specs.Numbers.{code_of}
 use Rattle.egt_index.specs.Scales.{kind_less}
 use Rattle.egt_index.specs.ShelfCodes.{number_in}
-use Rattle.egt_table.specs.declared.column.Column.TheVariants as columns
-use Rattle.egt_check.specs.declared.metric.Metric.TheVariants.{Mate, Zeroing}
-use Rattle.egt_check.specs.RightRow.{IsRightEnd}
-use Rattle.egt_check.specs.Worth.{score_at}
+use Rattle.egt_lanes.specs.Scores.{due_score}
+use Rattle.egt_table.specs.Table.{TableValue}
+use Rattle.egt_table.specs.declared.column.Column.{Column}
+use Rattle.egt_check.specs.declared.metric.Metric.TheVariants.{Zeroing}
+use Rattle.egt_check.specs.declared.part.Part.{Part}
+use Rattle.egt_check.specs.declared.part.Part.TheVariants.{Values, Reach}
+use Rattle.egt_check.specs.Parts.{column_of}
+use Rattle.egt_check.specs.RightRow.{IsRightAtOf, IsRightEndOf, due_in}
+use Rattle.egt_check.specs.Worth.{column_score, score_at}
 use Rattle.egt_check.proofs.ByteJudged.{if_not, if_same}
 use Rattle.egt_check.proofs.RowJudged.{lane_is, left_at}
 use Rattle.egt_check.proofs.RowRead.{square_in}
 use Rattle.egt_check.proofs.row_judging.row_is_right.Goals as goal
 
+-- entries that are due to the scores, or tell an end where there are none, are right
+right_at : (part : Part) (t : TableValue) (i score zeroing : ℕ) → (score ≢ 0 → column_score t (column_of part) i ≡ due_in part score) → (score ≢ 0 → part ≡ Values → score_at t Zeroing i ≡ due_score zeroing) → (score ≡ 0 → IsRightEndOf part t i)
+    → IsRightAtOf part t i score zeroing
+right_at Values t i score zeroing due clock end = record { due = λ can. (due can, clock can refl); end = end }
+right_at Reach t i score zeroing due clock end = record { due = due; end = end }
+
 pub returns : goal.returns
 returns c = λ right digit below some.
     let t = c.args.table.now in
     let men = c.args.men.now in
+    let part = c.args.part in
     let shelf = c.args.shelf in
     let side = c.args.side in
-    let laws = c.codes_tell_turned_men.ensures in
     let b = digit + kind_less men.last.kind in
     let b_in = square_in men.last.kind digit below in
     let own = slice_index c.row_of-own.result b in
-    let clock = slice_index c.row_of-clock.result b in
-    let moves = slice_index c.args.mates b in
+    let moves = slice_index c.args.scores b in
     let moving = c.lanes_of-moving.result in
     let code = code_of t.class (number_in t.class shelf side digit) in
-    let own_is : own ≡ score_at t Mate code = lane_is c.args.passed t columns.Mate men shelf side c.requires.shelf laws.one digit own below (c.row_of-own.ensures b b_in) in
-    let clock_is : clock ≡ score_at t Zeroing code = lane_is c.args.passed t columns.Zeroing men shelf side c.requires.shelf laws.one digit clock below (c.row_of-clock.ensures b b_in) in
+    let own_is : own ≡ column_score t (column_of part) code = subst (λ (column : Column). own ≡ column_score t column code) c.column_of.ensures (lane_is c.args.passed t c.column_of.result men shelf side c.requires.shelf c.codes_tell_turned_men.ensures.one digit own below (c.row_of-own.ensures b b_in)) in
     let there : own ≢ 0 = λ none. some (sym own_is ∙ none) in
-    record {
-      due = λ can.
-          let moves_there : bit_at moving.bits b ≡ 1 = c.lanes_of-moving.ensures b b_in ∙ if_not moves 0 0 1 can in
-          let kept : slice_index c.kept-within.result b ≡ own = c.kept-within.ensures b b_in ∙ if_same (bit_at moving.bits b) 1 own 0 moves_there in
-          let within : slice_index c.kept-within.result b ≢ 0 = λ none. there (sym kept ∙ none) in (
-            sym own_is ∙ c.differ.ensures.alike c.if-differ.false b b_in within ∙ c.due.ensures b b_in,
-            sym clock_is ∙ c.differ-else-differ.ensures.alike c.if-differ-2.false b b_in within ∙ c.due-else-differ.ensures b b_in,
-          );
-      end = λ stuck.
-          let stays : bit_at moving.bits b ≡ 0 = c.lanes_of-moving.ensures b b_in ∙ if_same moves 0 0 1 stuck in
-          let stands : bit_at c.lanes_of.result.bits b ≡ 1 = c.lanes_of.ensures b b_in ∙ if_not own 0 0 1 there in
-          let left = left_at c.lanes_of.result.bits moving.bits c.without-ends.result.bits b (c.without-ends.ensures.squares b) stands stays in
-          let first = c.first_of.ensures in
-          let at : c.first_of.result + 2 * digit ≡ number_in t.class shelf side digit = omega (arith, first) in
-          subst (λ (k : ℕ). IsRightEnd t (code_of t.class k)) at (c.ends_are_right.ensures right digit below left);
-    }
+    let within : moves ≢ 0 → slice_index c.kept-within.result b ≢ 0 = λ can none.
+    let moves_there : bit_at moving.bits b ≡ 1 = c.lanes_of-moving.ensures b b_in ∙ if_not moves 0 0 1 can in
+    there (sym (c.kept-within.ensures b b_in ∙ if_same (bit_at moving.bits b) 1 own 0 moves_there) ∙ none) in
+    right_at part t code moves (slice_index c.args.zeroing b) (λ can. sym own_is ∙ c.differ.ensures.alike c.if-differ.false b b_in (within can) ∙ c.due_in.ensures b b_in)
+    (λ can is. c.clock_is_due.ensures c.if-not-clock_is_due.false is digit below (within can))
+    (λ stuck.
+    let stays : bit_at moving.bits b ≡ 0 = c.lanes_of-moving.ensures b b_in ∙ if_same moves 0 0 1 stuck in
+    let stands : bit_at c.lanes_of.result.bits b ≡ 1 = c.lanes_of.ensures b b_in ∙ if_not own 0 0 1 there in
+    let left = left_at c.lanes_of.result.bits moving.bits c.without-ends.result.bits b (c.without-ends.ensures.squares b) stands stays in
+    let first = c.first_of.ensures in
+    let at : c.first_of.result + 2 * digit ≡ number_in t.class shelf side digit = omega (arith, first) in
+    subst (λ (k : ℕ). IsRightEndOf part t (code_of t.class k)) at (c.ends_are_right.ensures right digit below left))
