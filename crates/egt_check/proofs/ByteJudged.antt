@@ -1,5 +1,5 @@
 -- Entries whose bytes are due to the greatest bytes of the moves are right.
-use Rattle.std.proofs.Common.{◌≡◌, ◌≢◌, ◌⊎◌, ℕ, ◌+◌, ◌-◌, ◌*◌, ◌/◌, ◌%◌, ◌<◌, ◌≤◌, Bool, true, false, cond, eqb, Option, Some, None, IfSome, arith, refl, sym, ap, ◌∙◌, inl, inr, subst}
+use Rattle.std.proofs.Common.{◌≡◌, ◌≢◌, ◌⊎◌, ℕ, ◌+◌, ◌-◌, ◌*◌, ◌/◌, ◌%◌, ◌<◌, ◌≤◌, Bool, true, false, cond, eqb, max, Option, Some, None, IfSome, arith, refl, sym, ap, ◌∙◌, inl, inr, subst}
 use Rattle.std.proofs.lemmas.Bool.{cases_eq, cases_lt, cond_above, cond_below, eq-eqb}
 use Rattle.std.proofs.lemmas.Bool.Decides.{eqb_tells}
 use Rattle.egt_board.specs.Setup.{Setup, IsAdmissible}
@@ -110,14 +110,37 @@ mate_stands outcomes.Draw x g score h (inr (inr s)) = absurd (let a = h.1 in let
 
 -- ---- a move's scores
 
-pub zeroing_lost : (x : ℕ) → 128 < x → zeroing_score x ≡ 255
+zeroing_lost : (x : ℕ) → 128 < x → zeroing_score x ≡ 255
 zeroing_lost x high = sym (cond_below 128 x 255 _ high)
 
-pub zeroing_low : (x : ℕ) → x < 128 → zeroing_score x ≡ 0
+zeroing_low : (x : ℕ) → x < 128 → zeroing_score x ≡ 0
 zeroing_low x low = sym (cond_above 128 x 255 _ 0 (omega (arith, low)) (sym (if_not x 128 128 0 (λ e. omega (arith, e, low)))))
 
-pub zeroing_drawn : (x : ℕ) → x ≡ 128 → zeroing_score x ≡ 128
+zeroing_drawn : (x : ℕ) → x ≡ 128 → zeroing_score x ≡ 128
 zeroing_drawn x same = ap zeroing_score same
+
+-- where a move that zeroes leads to less, it is worth no more
+pub zeroing_above : (v w : ℕ) → v ≤ w → zeroing_score v ≤ zeroing_score w
+zeroing_above v w le = elim (cases_lt 128 w) [
+  | inl more ↦ let high = zeroing_lost w more in elim (cases_lt 128 v) [
+    | inl lost ↦ let other = zeroing_lost v lost in omega (arith, high, other)
+    | inr rest ↦ elim (cases_eq v 128) [
+      | inl draw ↦ let other = zeroing_drawn v draw in omega (arith, high, other)
+      | inr apart ↦ let other = zeroing_low v (omega (arith, rest, apart)) in omega (arith, high, other)
+    ]
+  ]
+  | inr less ↦ elim (cases_eq v 128) [
+    | inl draw ↦ let same : v ≡ w = omega (arith, less, draw, le) in let e = ap zeroing_score same in omega (arith, e)
+    | inr apart ↦ let other = zeroing_low v (omega (arith, less, apart, le)) in omega (arith, other)
+  ]
+]
+
+-- moves that zero are worth as much together as the best of them
+pub zeroing_max : (u v : ℕ) → max (zeroing_score u) (zeroing_score v) ≡ zeroing_score (max u v)
+zeroing_max u v = elim (cases_lt u v) [
+  | inl less ↦ let le = zeroing_above u v (omega (arith, less)) in let is : max u v ≡ v = omega (arith, less) in let same = ap zeroing_score is in omega (arith, le, same)
+  | inr more ↦ let le = zeroing_above v u (omega (arith, more)) in let is : max u v ≡ u = omega (arith, more) in let same = ap zeroing_score is in omega (arith, le, same)
+]
 
 -- what is said in the zeroing column by a move that zeroes
 zeroes_stands : (o : Outcome) (said : Option Outcome) (e x z score : ℕ) → Byte o e x → z ≡ zeroing_score x → StandsFor 32001 z score → score ≡ score_of (zeroing_said (Some o) said true)

@@ -10,7 +10,7 @@ use Rattle.egt_check.specs.Given.{AreGiven, IsGiven}
 use Rattle.egt_check.specs.Tables.{Tables}
 
 -- the greater of two is one of them
-pub one_of : (P : ℕ → Type 0) (m n : ℕ) → P m → P n → P (max m n)
+one_of : (P : ℕ → Type 0) (m n : ℕ) → P m → P n → P (max m n)
 one_of P m n left right = elim (cases_lt m n) [
   | inl below ↦ let is : n ≡ max m n = omega arith in subst P is right
   | inr above ↦ let is : m ≡ max m n = omega arith in subst P is left

@@ -23,8 +23,8 @@ use Rattle.egt_check.specs.Given.{AreAlike, AreGiven, HasScores, IsGiven}
 use Rattle.egt_check.specs.Tables.{HasEntry, Tables, entry_at}
 use Rattle.egt_check.specs.Worth.{HasBytes, IsBestWith, IsScoreWith, score_at}
 use Rattle.egt_steps.proofs.Leaping.{settled_index}
+use Rattle.egt_check.proofs.ByteJudged.{zeroing_above}
 use Rattle.egt_check.proofs.QuietGiven.{low_score}
-use Rattle.egt_check.proofs.TakenGiven.{zeroing_above}
 use Rattle.egt_check.proofs.Worth.{AreWhole, SpellsSettled, Turning, best_with}
 
 -- the moves among these zero, and lead to the positions with men of some stand, and a target where one is left, and to all

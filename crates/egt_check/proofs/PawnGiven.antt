@@ -1,7 +1,7 @@
 -- The greatest scores of the codes after advances of a pawn, after captures by which he is promoted, and after captures in
 -- passing are those of these moves.
-use Rattle.std.proofs.Common.{◌≡◌, ℕ, ◌<◌, ◌==◌, ◌⊎◌, ◌↔◌, if◌then◌else◌, max, Bool, true, false, IsTrue, Option, Some, None, IsSome, refl, sym, ap, ◌∙◌, subst, inl, inr, arith}
-use Rattle.std.proofs.lemmas.Bool.{and_parts, cases_lt, false≢true}
+use Rattle.std.proofs.Common.{◌≡◌, ℕ, ◌<◌, ◌==◌, ◌⊎◌, ◌↔◌, if◌then◌else◌, max, Bool, true, false, IsTrue, Option, Some, None, IsSome, refl, sym, ap, ◌∙◌, subst, inl, inr}
+use Rattle.std.proofs.lemmas.Bool.{and_parts, false≢true}
 use Rattle.std.proofs.lemmas.Bool.Decides.{eqb_tells}
 use Rattle.std.specs.FinMap as placement
 use Rattle.egt_board.specs.AttackLines.{Reaches-on_board}
@@ -39,11 +39,11 @@ use Rattle.egt_steps.specs.QuietStands.{IsClear}
 use Rattle.egt_steps.specs.Takings.{IsClassOf, IsPastKings, left_of, stand_left}
 use Rattle.egt_check.specs.Tables.{Tables}
 use Rattle.egt_check.specs.Worth.{score_at}
+use Rattle.egt_check.proofs.ByteJudged.{zeroing_max}
 use Rattle.egt_check.proofs.EitherGiven.{same_given, union_given}
 use Rattle.egt_steps.proofs.LeftTargets.{unpromoted}
 use Rattle.egt_check.proofs.PartGiven.{Parts, PartsWith, part_given, part_given_with}
 use Rattle.egt_steps.proofs.PawnCaptures.{promoted}
-use Rattle.egt_check.proofs.TakenGiven.{zeroing_above}
 use Rattle.egt_steps.proofs.TwoBeside.{AreTwo, are_in}
 use Rattle.egt_check.proofs.Worth.{AreWhole, SpellsSettled, Turning}
 
@@ -61,13 +61,6 @@ one_answer false true one other = one.1 (other.0 refl)
 
 unread : false ≡ true → SpellsSettled
 unread some = absurd (false≢true some)
-
--- moves that zero are worth as much together as the best of them
-pub zeroing_max : (u v : ℕ) → max (zeroing_score u) (zeroing_score v) ≡ zeroing_score (max u v)
-zeroing_max u v = elim (cases_lt u v) [
-  | inl less ↦ let le = zeroing_above u v (omega (arith, less)) in let is : max u v ≡ v = omega (arith, less) in let same = ap zeroing_score is in omega (arith, le, same)
-  | inr more ↦ let le = zeroing_above v u (omega (arith, more)) in let is : max u v ≡ u = omega (arith, more) in let same = ap zeroing_score is in omega (arith, le, same)
-]
 
 module _ (facts : Facts) (turning : Turning) (tables : Tables) (c : ℕ) (men : ShelfMen) (first : Bool) (side : Side) (passed : Bool) (a b : ℕ) (p : Setup) (pawn : men.last.kind ≡ P) (has : HasStand c false (stand_in first men a b) side passed p) where
   there : AreTwo p.men men.white men.black men.one a men.last b

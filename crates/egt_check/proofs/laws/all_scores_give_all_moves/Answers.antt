@@ -12,7 +12,7 @@ use Rattle.egt_steps.specs.PawnMoves.{stand_in}
 use Rattle.egt_check.specs.Tables.{Tables}
 use Rattle.egt_check.specs.Taken.{men_swapped}
 use Rattle.egt_check.specs.declared.move_scores.FourMen.{FourMen}
-use Rattle.egt_check.proofs.PawnGiven.{zeroing_max}
+use Rattle.egt_check.proofs.ByteJudged.{zeroing_max}
 use Rattle.egt_check.proofs.PawnsGiven.{IsEitherPassing, PawnLaws, loud_given, nothing_passing, passing_given}
 use Rattle.egt_check.proofs.laws.all_scores_give_all_moves.Goals as goal
 
