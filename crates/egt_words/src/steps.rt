@@ -17,8 +17,8 @@ use egt_board::{Kind, Man, Side, Square, SquareSet};
 use egt_class::Class;
 use egt_graph::{TurnedWay, Way};
 use egt_index::home::home;
-use egt_steps::code_laws::codes_follow_steps;
 use egt_index::{ShelfMen, has_pawns};
+use egt_steps::code_laws::codes_follow_steps;
 use egt_steps::laws::a_quiet_move_moves_one_man;
 
 /// The word to which the step of the man on `from` leads, and the turn of the places by which the white king is at home there. `None` where no shelf
