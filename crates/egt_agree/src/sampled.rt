@@ -33,14 +33,14 @@ fn step(class: Class, few: u32, many: u32) -> u32 {
 
 /// Whether the class's moves, moves backwards and, where it has at most three men, entries are the plain ones.
 fn walks_agree(library: &Library, class: Class) -> bool {
-    agree(Held::Moves, library, class, step(class, 1, 499)).is_ok()
-        && agree(Held::Unmoves, library, class, step(class, 7, 4_999)).is_ok()
+    agree(Held::Moves, library, class, step(class, 3, 997)).is_ok()
+        && agree(Held::Unmoves, library, class, step(class, 13, 9_973)).is_ok()
         && (class.number() >= FEW || agree(Held::Entries, library, class, 1).is_ok())
 }
 
 /// Whether so are its games, as far as their children's tables are there.
 fn games_agree(alloc: Global, library: &Library, class: Class) -> bool {
-    let walks = step(class, 11, 1_999);
+    let walks = step(class, 23, 3_989);
     (class.number() >= WITHOUT_PAWNS || mate_game_agrees(class, library, walks).is_ok())
         && (!ZEROED.contains(&class.number())
             || zero_game_agrees(alloc, class, library, walks).is_ok())
