@@ -2,7 +2,7 @@
 use Rattle.std.proofs.Common.{◌≡◌, ◌≢◌, ◌↔◌, ℕ, zero, Bool, true, false, inl, inr, suc, ◌<◌, ◌^◌, ◌*◌, ◌%◌, ◌-◌, ◌≤◌, bit_and, min, w64, arith, ap, sym, ◌∙◌, subst}
 use Rattle.std.specs.Int.{bit_at, trailing_zeros, bit_not}
 use Rattle.std.proofs.lemmas.Nat.{and_le_l}
-use Rattle.std.proofs.lemmas.Nat.Bits.{bit_at-trailing_zeros, bit_at_clear_same, bit_at-zero, bit_at-lt, bit_at_above, bit_at_clear_other, bit_at_and, bit_at_not}
+use Rattle.std.proofs.lemmas.Nat.Bits.{bit_at-trailing_zeros, bit_at_clear_same, bit_at-lt, bit_at_above, bit_at_clear_other, bit_at_and, bit_at_not}
 use Rattle.std.proofs.lemmas.Bool.{cases_eq, cases_lt, false≢true}
 
 pub not_both : {A : Type 0} (n : ℕ) → n ≡ 0 → n ≡ 1 → A

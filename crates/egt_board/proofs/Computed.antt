@@ -1,16 +1,17 @@
 -- The tables of attacks, each entry computed anew.
-use Rattle.std.proofs.Common.{◌≡◌, ◌↔◌, ℕ, zero, suc, ◌+◌, ◌-◌, ◌*◌, ◌^◌, ◌<◌, ◌/◌, ◌%◌, Bool, true, false, eqb, List, [], ◌∷◌, length, get_or, arith, refl, zero-add, sym, ap, ◌∙◌, subst}
+use Rattle.std.proofs.Common.{◌≡◌, ◌↔◌, ℕ, zero, suc, ◌+◌, ◌-◌, ◌*◌, ◌^◌, ◌<◌, ◌/◌, ◌%◌, Bool, true, false, eqb, List, [], ◌∷◌, length, get_or, arith, refl, zero-add, sym, ap, ◌∙◌, subst, inl, inr}
 use Rattle.std.specs.Int.{bit_at}
-use Rattle.std.proofs.lemmas.Bool.{eqb-true, false≢true}
+use Rattle.std.specs.Int.Bits.{bit_and, bit_xor}
+use Rattle.std.proofs.lemmas.Bool.{cases_eq, eqb-true, false≢true}
 use Rattle.std.proofs.lemmas.Nat.Bits.{bit_at-zero}
 use Rattle.egt_board.specs.declared.man.Side.{Side}
 use Rattle.egt_board.specs.declared.man.Side.TheVariants.{White, Black}
 use Rattle.egt_board.specs.declared.man.Kind.{Kind}
 use Rattle.egt_board.specs.declared.man.Kind.TheVariants.{Q, R, B, N, P, K}
 use Rattle.egt_board.specs.declared.man.Man.{Man}
-use Rattle.egt_board.specs.Lookup.{row_by}
+use Rattle.egt_board.specs.Lookup.{row_by, below, beyond, line_of}
 use Rattle.egt_board.specs.declared.step.Step.{Step}
-use Rattle.egt_board.specs.declared.tables.TheConstants.{LONE, BETWEEN, BEHIND}
+use Rattle.egt_board.specs.declared.tables.TheConstants.{LONE}
 use Rattle.egt_board.specs.Step.{Away}
 use Rattle.egt_board.specs.AttackLines.{Reaches, farthest, steps_of}
 use Rattle.egt_board.specs.Between.{IsBetween}
@@ -89,23 +90,48 @@ squares_between s t = elim (are_aligned s t) as (λ _. ℕ) [ true ↦ beam (dis
 unfoldable squares_behind : ℕ → ℕ → ℕ
 squares_behind s t = elim (are_aligned s t) as (λ _. ℕ) [ true ↦ beam 7 (toward s t) t 0 | false ↦ 0 ]
 
+-- both functions give the same at each number less than n
+unfoldable agree_below : (ℕ → ℕ) → (ℕ → ℕ) → ℕ → Bool
+agree_below f g zero = true
+agree_below f g (suc n) = elim (eqb (f n) (g n)) as (λ _. Bool) [ true ↦ agree_below f g n | false ↦ false ]
+
+agree_below-at : (f g : ℕ → ℕ) (n i : ℕ) → agree_below f g n ≡ true → i < n → f i ≡ g i
+unfolding agree_below
+agree_below-at f g zero i h i_in = absurd (omega arith)
+agree_below-at f g (suc n) i h i_in = go (eqb (f n) (g n)) refl h (agree_below-at f g n i)
+  where
+    go : (b : Bool) → eqb (f n) (g n) ≡ b → (elim b as (λ _. Bool) [ true ↦ agree_below f g n | false ↦ false ]) ≡ true → (agree_below f g n ≡ true → i < n → f i ≡ g i) → f i ≡ g i
+    go true here all rest = elim (cases_eq i n) [
+      | inl last ↦ ap f last ∙ eqb-true (f n) (g n) here ∙ ap g (sym last)
+      | inr other ↦ rest all (omega arith)
+    ]
+    go false here all rest = absurd (false≢true all)
+
 unfoldable by_pair : (ℕ → ℕ → ℕ) → ℕ → ℕ
 by_pair f n = f (n / 64) (n % 64)
 
-between_right : agree (by_pair squares_between) 0 BETWEEN ≡ true
-unfolding agree by_pair squares_between further_on joint next_square beam
-between_right = refl
-
-behind_right : agree (by_pair squares_behind) 0 BEHIND ≡ true
-unfolding agree by_pair squares_behind further_on joint next_square beam
-behind_right = refl
-
-pair_at : (f : ℕ → ℕ → ℕ) (table : List ℕ) → agree (by_pair f) 0 table ≡ true → length table ≡ 4096 → (s t : ℕ) → s < 64 → t < 64 → get_or table (64 * s + t) 0 ≡ f s t
+pair_at : (f g : ℕ → ℕ → ℕ) → agree_below (by_pair f) (by_pair g) 4096 ≡ true → (s t : ℕ) → s < 64 → t < 64 → f s t ≡ g s t
 unfolding by_pair
-pair_at f table right size s t s_in t_in =
+pair_at f g right s t s_in t_in =
     let row : (64 * s + t) / 64 ≡ s = omega arith in
     let column : (64 * s + t) % 64 ≡ t = omega arith in
-    agree-at (by_pair f) table 0 (64 * s + t) right (omega arith) ∙ ap (by_pair f) (zero-add (64 * s + t)) ∙ ap (λ x. f x ((64 * s + t) % 64)) row ∙ ap (f s) column
+    let at_pair : (h : ℕ → ℕ → ℕ) → h ((64 * s + t) / 64) ((64 * s + t) % 64) ≡ h s t = λ h. ap (λ x. h x ((64 * s + t) % 64)) row ∙ ap (h s) column in
+    sym (at_pair f) ∙ agree_below-at (by_pair f) (by_pair g) 4096 (64 * s + t) right (omega arith) ∙ at_pair g
+
+-- the squares of the line, between the two or on the second's side of them
+abbrev line_between : ℕ → ℕ → ℕ
+line_between s t = bit_and (line_of s t) (bit_xor (below s) (below t))
+
+abbrev line_beyond : ℕ → ℕ → ℕ
+line_beyond s t = bit_and (line_of s t) (beyond s t)
+
+between_right : agree_below (by_pair line_between) (by_pair squares_between) 4096 ≡ true
+unfolding agree_below by_pair squares_between further_on joint next_square beam
+between_right = refl
+
+behind_right : agree_below (by_pair line_beyond) (by_pair squares_behind) 4096 ≡ true
+unfolding agree_below by_pair squares_behind further_on joint next_square beam
+behind_right = refl
 
 between_is : (s t u : ℕ) → s < 64 → t < 64 → u < 64 → (bit_at (squares_between s t) u ≡ 1) ↔ IsBetween s t u
 unfolding squares_between
@@ -177,16 +203,16 @@ behind_is s t u s_in t_in u_in = go (are_aligned s t) refl
       λ b. absurd (false≢true (sym apart ∙ (joined b.step b.near s t b.royal b.some b.here).aligned)),
     )
 
-pub between_shows : (s t n : ℕ) → s < 64 → t < 64 → n < 2 ^ 64 → n ≡ get_or BETWEEN (64 * s + t) 0 → (u : ℕ) → (bit_at n u ≡ 1) ↔ IsBetween s t u
+pub between_shows : (s t n : ℕ) → s < 64 → t < 64 → n < 2 ^ 64 → n ≡ bit_and (line_of s t) (bit_xor (below s) (below t)) → (u : ℕ) → (bit_at n u ≡ 1) ↔ IsBetween s t u
 between_shows s t n s_in t_in n_in is u =
-    let same = is ∙ pair_at squares_between BETWEEN between_right refl s t s_in t_in in (
+    let same = is ∙ pair_at line_between squares_between between_right s t s_in t_in in (
       λ one. (between_is s t u s_in t_in (bit_at-within n u n_in one)).0 (ap (λ m. bit_at m u) (sym same) ∙ one),
       λ b. ap (λ m. bit_at m u) same ∙ (between_is s t u s_in t_in b.here.on_board).1 b,
     )
 
-pub behind_shows : (s t n : ℕ) → s < 64 → t < 64 → n < 2 ^ 64 → n ≡ get_or BEHIND (64 * s + t) 0 → (u : ℕ) → (bit_at n u ≡ 1) ↔ IsBetween s u t
+pub behind_shows : (s t n : ℕ) → s < 64 → t < 64 → n < 2 ^ 64 → n ≡ bit_and (line_of s t) (beyond s t) → (u : ℕ) → (bit_at n u ≡ 1) ↔ IsBetween s u t
 behind_shows s t n s_in t_in n_in is u =
-    let same = is ∙ pair_at squares_behind BEHIND behind_right refl s t s_in t_in in (
+    let same = is ∙ pair_at line_beyond squares_behind behind_right s t s_in t_in in (
       λ one. (behind_is s t u s_in t_in (bit_at-within n u n_in one)).0 (ap (λ m. bit_at m u) (sym same) ∙ one),
       λ b. ap (λ m. bit_at m u) same ∙ (behind_is s t u s_in t_in b.there.on_board).1 b,
     )

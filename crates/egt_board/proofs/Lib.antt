@@ -1,4 +1,6 @@
 pub mod Bits
+pub mod Sides
+pub mod Facing
 pub mod Geometry
 pub mod Rides
 pub mod Steps

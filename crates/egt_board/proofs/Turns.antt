@@ -72,9 +72,6 @@ turned_made n flipped p q ok = (
 square_of-within : (n s : ℕ) → s < 64 → square_of n s < 64
 square_of-within n s s_in = square_if-within (n / 4 == 1) Diagonal _ (square_if-within (n / 2 % 2 == 1) Ranks _ (square_if-within (n % 2 == 1) Files s s_in))
 
-pub turned_square-within : (n : ℕ) (flipped : Bool) (s : ℕ) → s < 64 → turned_square n flipped s < 64
-turned_square-within n flipped s s_in = square_if-within flipped Colours (square_of n s) (square_of-within n s s_in)
-
 same_man : (o : Option Man) → option_map (turned_man false) o ≡ o
 same_man None = refl
 same_man (Some man) = refl

@@ -2,10 +2,12 @@
 use Rattle.std.specs.Prelude.{◌≡◌, ◌≢◌, ℕ, ◌+◌, ◌-◌, ◌<◌, ◌⊎◌, ◌==◌, if◌then◌else◌}
 use Rattle.egt_board.specs.declared.man.Side.{Side}
 use Rattle.egt_board.specs.declared.man.Side.TheVariants.{White, Black}
-use Rattle.egt_board.specs.declared.man.Kind.TheVariants.{P}
+use Rattle.egt_board.specs.declared.man.Kind.{Kind}
+use Rattle.egt_board.specs.declared.man.Kind.TheVariants.{Q, R, B, N, P, K}
 use Rattle.egt_board.specs.declared.man.Man.{Man}
 use Rattle.egt_board.specs.declared.step.Step.{Step}
 use Rattle.egt_board.specs.declared.step.Way.TheVariants.{Up, Down, Still}
+use Rattle.egt_board.specs.Man.{other_side}
 use Rattle.egt_board.specs.Square.{file_of, rank_of}
 use Rattle.egt_board.specs.Placement.{Placement, Stands}
 use Rattle.egt_board.specs.AttackLines.{step, Rides}
@@ -13,6 +15,18 @@ use Rattle.egt_board.specs.AttackLines.{step, Rides}
 -- the pawn of that side
 abbrev pub pawn_of : Side → Man
 pawn_of side = record { side = side; kind = P }
+
+-- the man who attacks the squares from which this one attacks his: of a pawn the enemy's, of another man the same
+abbrev pub facing_by : Side → Kind → Man
+facing_by side P = pawn_of (other_side side)
+facing_by side Q = record { side = side; kind = Q }
+facing_by side R = record { side = side; kind = R }
+facing_by side B = record { side = side; kind = B }
+facing_by side N = record { side = side; kind = N }
+facing_by side K = record { side = side; kind = K }
+
+abbrev pub facing : Man → Man
+facing man = facing_by man.side man.kind
 
 -- one square forward: up the ranks for White, down for Black
 abbrev pub forward : Side → Step

@@ -1,15 +1,15 @@
-//! What men attack on the bare board, and the squares between squares: look-ups in tables.
+//! What men attack on the bare board, by a table, and the squares between squares.
 ghost use Rattle.std.specs.Prelude.{◌≡◌, ℕ, ◌+◌, ◌*◌, ◌<◌, ◌↔◌, slice_index};
 ghost use Rattle.std.specs.Int.{bit_at};
 ghost use Rattle.egt_board.specs.Between.{IsBetween};
 ghost use Rattle.egt_board.specs.AttackLines.{Reaches};
-ghost use Rattle.egt_board.specs.Lookup.{row_by};
+ghost use Rattle.egt_board.specs.Lookup.{row_by, below, beyond, line_of};
 ghost use Rattle.egt_board.specs.SquareSet.{Has};
 
 use crate::man::{Kind, Man, Side};
 use crate::square::Square;
 use crate::square_set::SquareSet;
-use crate::tables::{BEHIND, BETWEEN, LONE};
+use crate::tables::LONE;
 
 /// The row of the man in the table of what men attack.
 fn row(man: Man) -> u8
@@ -46,25 +46,53 @@ fn row_entry(table: &[u64; 448], row: u8, at: Square) -> SquareSet
     }
 }
 
-/// The entry of a table by pairs of squares.
-fn pair_entry(table: &[u64; 4096], first: Square, second: Square) -> SquareSet
-    ensures { result.bits ≡ slice_index table.now (64 * first + second) }
+/// The squares of lesser numbers.
+fn below(square: Square) -> u64
+    ensures { result ≡ below square }
 {
-    SquareSet {
-        bits: table[64 * first.number() as usize + second.number() as usize],
+    (1 << square.number()) - 1
+}
+
+/// The squares of greater numbers, or of lesser ones, as the second has beside the first. The second may be among them.
+fn beyond(first: Square, second: Square) -> u64
+    ensures { result ≡ beyond first second }
+{
+    if first.number() < second.number() {
+        u64::MAX - below(second)
+    } else {
+        below(second)
     }
+}
+
+/// The other squares of the file, rank or diagonal on which both stand; none where they stand on no such line.
+fn line(one: Square, other: Square) -> u64
+    ensures { result ≡ line_of one other }
+{
+    let straight = row_entry(&LONE, 1, one);
+    if straight.contains(other) {
+        return straight.bits & row_entry(&LONE, 1, other).bits;
+    }
+    let diagonal = row_entry(&LONE, 2, one);
+    if diagonal.contains(other) {
+        return diagonal.bits & row_entry(&LONE, 2, other).bits;
+    }
+    0
 }
 
 /// The squares strictly between the two, where they are on one file, rank or diagonal.
 pub fn between(one: Square, other: Square) -> SquareSet
     ensures { (t : ℕ) → Has result t ↔ IsBetween one other t }
 {
-    pair_entry(&BETWEEN, one, other)
+    SquareSet {
+        bits: line(one, other) & (below(one) ^ below(other)),
+    }
 }
 
 /// The squares that a man on `second` hides from `first`.
 pub(crate) fn behind(first: Square, second: Square) -> SquareSet
     ensures { (t : ℕ) → Has result t ↔ IsBetween first t second }
 {
-    pair_entry(&BEHIND, first, second)
+    SquareSet {
+        bits: line(first, second) & beyond(first, second),
+    }
 }

@@ -1,6 +1,6 @@
 //! How pawns stand and advance: FIDE Laws of Chess 2023, article 3.7.
 ghost use Rattle.std.specs.Prelude.{◌≡◌, ℕ, ◌<◌, ◌≤◌, ◌↔◌, IsTrue};
-ghost use Rattle.egt_board.specs.Pawn.{pawn_of, forward, ahead, home_rank, last_rank, farthest_advance, Advances, MayStand, PawnsFit, HasPawnBeside};
+ghost use Rattle.egt_board.specs.Pawn.{pawn_of, facing, forward, ahead, home_rank, last_rank, farthest_advance, Advances, MayStand, PawnsFit, HasPawnBeside};
 ghost use Rattle.egt_board.specs.Placement.{IsFree};
 ghost use Rattle.egt_board.specs.Square.{rank_of};
 ghost use Rattle.egt_board.specs.SquareSet.{Has, size_of};
@@ -11,6 +11,18 @@ use crate::man::{Kind, Man, Side};
 use crate::square::Square;
 use crate::square_set::SquareSet;
 use crate::step::{Step, Way};
+
+impl Man {
+    /// The man who attacks the squares from which this one attacks his: of a pawn the enemy's, of another man the same.
+    pub fn facing(self) -> Man
+        ensures { result ≡ facing self }
+    {
+        match self.kind {
+            Kind::P => self.side.other().pawn(),
+            _ => self,
+        }
+    }
+}
 
 impl Side {
     /// The pawn of this side.

@@ -15,6 +15,7 @@ use Rattle.egt_board.specs.declared.man.Kind.{Kind}
 use Rattle.egt_board.specs.declared.man.Kind.TheVariants.{P}
 use Rattle.egt_board.specs.declared.man.Man.{Man}
 use Rattle.egt_board.specs.declared.man.Side.{Side}
+use Rattle.egt_board.proofs.Sides.{sides_differ}
 use Rattle.egt_index.specs.Stood.{HasStand}
 use Rattle.egt_index.specs.TurnedMen.{IsSomeTurnedCode, IsSomeTurnedCodeWith}
 use Rattle.egt_index.specs.declared.shelf_codes.ShelfMen.{ShelfMen}
@@ -31,7 +32,6 @@ use Rattle.egt_table.specs.Table.{TableValue}
 use Rattle.egt_check.specs.declared.metric.Metric.TheVariants.{Mate}
 use Rattle.egt_steps.specs.Facts.{Facts}
 use Rattle.egt_check.specs.Given.{AreGiven}
-use Rattle.egt_moves.proofs.After.{sides_differ}
 use Rattle.egt_steps.specs.InPassing.{AreLeapCodes, ArePassingCodes, AreStepCodes, IsPassingCapture, IsPassingFrom, LeavesTarget}
 use Rattle.egt_steps.specs.PawnMoves.{AreAdvancedCodes, ArePromotedCodes, IsAdvance, IsAdvanceFrom, IsClassAfter, IsPromotingCapture, IsPromotingCaptureFrom, officer_of, stand_after, stand_in}
 use Rattle.egt_check.specs.Taken.{IsTableAfter, IsTableOf}

@@ -58,10 +58,6 @@ pub record IsScoreWith (passed : Bool) (t : TableValue) (metric : Metric) (In : 
   pub is_index : IsIndex t.class position index
   pub is : w ≡ score_at t metric index
 
--- and no target
-abbrev pub IsScoreOf : TableValue → Metric → (Stand → Type 0) → Bool → Side → ℕ → Type 0
-IsScoreOf = IsScoreWith false
-
 -- the greatest score of the entries of all such positions, or 0 where there is none
 pub record IsBestWith (passed : Bool) (t : TableValue) (metric : Metric) (In : Stand → Type 0) (flips : Bool) (side : Side) (w : ℕ) : Type 0 where
   pub above : (stand : Stand) (q : Setup) → In stand → HasStand t.class flips stand side passed q → (i : ℕ) × IsIndex t.class q i × (score_at t metric i ≤ w)

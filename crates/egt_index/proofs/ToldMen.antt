@@ -1,5 +1,5 @@
 -- What a code that tells some men spells has these men, and a position with these men is what it spells.
-use Rattle.std.proofs.Common.{◌≡◌, ◌≢◌, ℕ, ◌+◌, ◌-◌, Bool, true, false, List, Option, Some, None, IfSome, arith, refl, sym, ap, ◌∙◌, inl, subst}
+use Rattle.std.proofs.Common.{◌≡◌, ℕ, ◌+◌, ◌-◌, Bool, true, false, List, Option, Some, None, IfSome, arith, refl, sym, ap, ◌∙◌, inl, subst}
 use Rattle.std.specs.Option.{is_some}
 use Rattle.std.proofs.lemmas.Bool.{false≢true}
 use Rattle.egt_board.specs.Listed.{FitsBoard, men_of, setup_of}

@@ -2,13 +2,9 @@
 use Rattle.std.specs.Prelude.{◌≡◌, ◌≢◌, ◌↔◌, ℕ, ◌+◌, ◌<◌, Bool, true, false, Some}
 use Rattle.std.specs.Int.{bit_at}
 use Rattle.egt_board.specs.Attack.{king_of}
-use Rattle.egt_board.specs.Man.{other_side}
-use Rattle.egt_board.specs.Pawn.{pawn_of}
 use Rattle.egt_board.specs.Placement.{IsFree}
 use Rattle.egt_board.specs.Safety.{IsKeptFrom}
 use Rattle.egt_board.specs.Setup.{Setup}
-use Rattle.egt_board.specs.declared.man.Kind.{Kind}
-use Rattle.egt_board.specs.declared.man.Kind.TheVariants.{Q, R, B, N, P, K}
 use Rattle.egt_board.specs.declared.man.Man.{Man}
 use Rattle.egt_board.specs.declared.man.Side.{Side}
 use Rattle.egt_board.specs.declared.man.Side.TheVariants.{White, Black}
@@ -17,7 +13,7 @@ use Rattle.egt_index.specs.Front.{IsFront}
 use Rattle.egt_index.specs.Index.{IsVoid}
 use Rattle.egt_index.specs.Scales.{kind_digits, kind_less}
 use Rattle.egt_index.specs.Shelf.{last_of}
-use Rattle.egt_index.specs.Size.{man_of, men_beside}
+use Rattle.egt_index.specs.Size.{men_beside}
 use Rattle.egt_index.specs.Stood.{Entry, HasStand, IsInOrder, with_last}
 use Rattle.egt_index.specs.declared.front.Front.{Front}
 use Rattle.egt_index.specs.declared.places.Places.{Places}
@@ -27,18 +23,6 @@ use Rattle.egt_index.specs.declared.stand.Stand.{Stand}
 pub record TellsIndex (there : Bool) (c code : ℕ) : Type 0 where
   pub node : there ≡ true → ¬ IsVoid c code
   pub void : there ≡ false → IsVoid c code
-
--- the man who attacks the squares from which this one attacks his: of a pawn the enemy's, of another man the same
-abbrev pub facing_by : Side → Kind → Man
-facing_by side P = pawn_of (other_side side)
-facing_by side Q = man_of side Q
-facing_by side R = man_of side R
-facing_by side B = man_of side B
-facing_by side N = man_of side N
-facing_by side K = man_of side K
-
-abbrev pub facing : Man → Man
-facing man = facing_by man.side man.kind
 
 -- the square of the king of the side that waits
 abbrev pub waiting : Side → Stand → ℕ

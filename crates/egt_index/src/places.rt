@@ -8,7 +8,7 @@ ghost use Rattle.egt_board.specs.declared.man.Man.{Man};
 ghost use Rattle.egt_class.specs.Material.{material_of};
 ghost use Rattle.egt_index.specs.Front.{IsFront, IsFrontOf};
 ghost use Rattle.egt_index.specs.Numbers.{code_of};
-ghost use Rattle.egt_index.specs.Places.{AreInOrder, AreMade, IsFrontBefore, IsPlaced, TellsIndex, facing, waiting};
+ghost use Rattle.egt_index.specs.Places.{AreInOrder, AreMade, IsFrontBefore, IsPlaced, TellsIndex, waiting};
 ghost use Rattle.egt_index.specs.Scales.{kind_digits, kind_less};
 ghost use Rattle.egt_index.specs.ShelfCodes.{AreIndexes, IsShelfBehind, IsWithin};
 ghost use Rattle.egt_index.specs.Size.{has_target, size_of};
@@ -37,16 +37,6 @@ pub struct Places {
     pub black: u64,
 }
 
-/// The man who attacks the squares from which this one attacks his: of a pawn the enemy's, of another man the same.
-fn facing(man: Man) -> Man
-    ensures { result ≡ facing man }
-{
-    match man.kind {
-        Kind::P => man.side.other().pawn(),
-        _ => man,
-    }
-}
-
 /// The squares on which the man, come to the board, leaves `to` unattacked by men of that side, which may be his.
 fn kept_from(board: &Board, man: Man, to: Square, side: Side) -> SquareSet
     ensures { (t : ℕ) → t < 64 → Has result t ↔ IsKeptFrom board.now t man to side }
@@ -58,7 +48,7 @@ fn kept_from(board: &Board, man: Man, to: Square, side: Side) -> SquareSet
     reach_passes_over_its_end();
     let _number = to.number();
     let occupied = board.occupied();
-    let attacking = reach_past(facing(man), to, occupied);
+    let attacking = reach_past(man.facing(), to, occupied);
     sheltered.without(attacking)
 }
 

@@ -18,12 +18,13 @@ use Rattle.egt_board.specs.Target.{IsTarget, FitsTarget, target_rank}
 use Rattle.egt_board.specs.AttackLines.{Rides, OneOf, farthest, steps_of, pawn_steps}
 use Rattle.egt_board.specs.Attack.{IsInCheck}
 use Rattle.egt_board.specs.Setup.{Setup, IsAdmissible, IsKingOn, HasKings}
+use Rattle.egt_board.proofs.Sides.{side_twice, sides_differ}
 use Rattle.egt_moves.specs.declared.chess_move.Move.{Move}
 use Rattle.egt_moves.specs.Going.{Goes, PawnTakes}
 use Rattle.egt_moves.specs.Promotion.{is_pawn, promotes, IsOfficer, FitsPromotion, arriving}
 use Rattle.egt_moves.specs.Legal.{men_left, men_after, is_two_ranks, passed, after}
 use Rattle.egt_moves.specs.DecidedMoves.{goes_on_board}
-use Rattle.egt_moves.proofs.After.{left_cases, left_keeps, left_free, after_to, after_from, after_other, after_cases, king_moves, king_stays, other_king_stays, may_become, side_twice, sides_differ}
+use Rattle.egt_moves.proofs.After.{left_cases, left_keeps, left_free, after_to, after_from, after_other, after_cases, king_moves, king_stays, other_king_stays, may_become}
 
 -- no more men than before
 len_left : (p : Setup) (man : Man) (to : ℕ) → IsAdmissible p → map.len (men_left p man to) ≤ map.len p.men

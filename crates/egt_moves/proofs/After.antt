@@ -4,7 +4,6 @@ use Rattle.std.specs.FinMap as map
 use Rattle.std.proofs.lemmas.Bool.{cases_eq}
 use Rattle.std.proofs.lemmas.Bool.Decides.{eqb_tells}
 use Rattle.egt_board.specs.declared.man.Side.{Side}
-use Rattle.egt_board.specs.declared.man.Side.TheVariants.{White, Black}
 use Rattle.egt_board.specs.declared.man.Kind.{Kind}
 use Rattle.egt_board.specs.declared.man.Kind.TheVariants.{Q, R, B, N, P, K}
 use Rattle.egt_board.specs.declared.man.Man.{Man}
@@ -16,19 +15,12 @@ use Rattle.egt_board.specs.Target.{IsTarget}
 use Rattle.egt_board.specs.AttackLines.{Reaches, Reaches-free}
 use Rattle.egt_board.specs.Attack.{king_of, IsInCheck}
 use Rattle.egt_board.specs.Setup.{Setup, IsAdmissible, IsKingOn}
+use Rattle.egt_board.proofs.Sides.{sides_differ, side_twice}
 use Rattle.egt_moves.specs.declared.chess_move.Move.{Move}
 pub use Rattle.egt_moves.specs.DecidedMoves.{goes_on_board}
 use Rattle.egt_moves.specs.Going.{Goes}
 use Rattle.egt_moves.specs.Promotion.{is_pawn, IsOfficer, FitsPromotion, arriving}
 use Rattle.egt_moves.specs.Legal.{is_target, takes_in_passing, men_left, men_after}
-
-pub sides_differ : (side : Side) → side ≡ other_side side → ⊥
-sides_differ White e = cc
-sides_differ Black e = cc
-
-pub side_twice : (side : Side) → other_side (other_side side) ≡ side
-side_twice White = refl
-side_twice Black = refl
 
 pub not_free : {A : Type 0} (men : Placement) (s : ℕ) (man : Man) → IsFree men s → Stands men s man → A
 not_free men s man free stands = let bad : Some man ≡ None = sym stands ∙ free in absurd (cc)

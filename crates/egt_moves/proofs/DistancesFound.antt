@@ -1,12 +1,8 @@
 -- Where the values are known, zeroing within a number can be told, and each position has its zeroing distance.
-use Rattle.std.proofs.Common.{ℕ, zero, suc, ◌⊎◌, inl, inr, sym, subst}
-use Rattle.std.proofs.Math.Logic.{⊎_map, ⊎_swap}
-use Rattle.egt_moves.specs.Arena.{Arena, Value, Win, Loss, Draw, HasMove, NoMove, Ends, IsWon, IsLost, HasValue, Next, SameStep, Successors}
-use Rattle.egt_moves.specs.Zeroing.{ZeroesLosingWithin, ZeroesWinningWithin, HasZeroing}
-use Rattle.egt_moves.proofs.Bounds.{win_mates, loss_mated}
-use Rattle.egt_board.specs.Decided.{Decided, decided_both, decided_either}
-use Rattle.egt_moves.proofs.Halves.{some_or_no_move, each_or_some_step, each_won_within, EachLike}
-use Rattle.egt_moves.proofs.Distances.{mated_zeroes, mates_zeroes, won_not_draw, lost_not_draw, won_not_lost}
+use Rattle.std.proofs.Common.{ℕ, ◌⊎◌, sym, subst}
+use Rattle.std.proofs.Math.Logic.{⊎_map}
+use Rattle.egt_moves.specs.Arena.{Arena, IsWon, IsLost, Next, SameStep}
+use Rattle.egt_moves.specs.Zeroing.{ZeroesLosingWithin, ZeroesWinningWithin}
 
 module _ {S : Type 0} (a : Arena S) where
   -- a step on which a winner zeroes or goes on within n

@@ -1,5 +1,5 @@
 -- How likenesses of positions are made: of one another, of maps, and of changes that leave the steps as they are.
-use Rattle.std.proofs.Common.{◌≡◌, ℕ, zero, suc, ◌⊎◌, inl, inr, refl, sym, subst}
+use Rattle.std.proofs.Common.{◌≡◌, ℕ, zero, suc, ◌⊎◌, inl, refl, sym, subst}
 use Rattle.std.proofs.Math.Logic.{⊎_elim}
 use Rattle.egt_moves.specs.Arena.{Arena}
 use Rattle.egt_moves.specs.Likeness.{HasLike, Alike, Chain, IsMirror, KeepsSteps}

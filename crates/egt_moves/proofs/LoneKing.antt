@@ -12,7 +12,8 @@ use Rattle.egt_board.specs.Safety.{IsKeptFrom}
 use Rattle.egt_board.specs.Setup.{Setup, IsAdmissible, IsKingOn}
 use Rattle.egt_board.specs.SquareSet.{Has}
 use Rattle.egt_board.specs.declared.occupancy.Occupancy.{Occupancy}
-use Rattle.egt_moves.proofs.After.{sides_differ, side_twice, not_free}
+use Rattle.egt_board.proofs.Sides.{sides_differ, side_twice}
+use Rattle.egt_moves.proofs.After.{not_free}
 
 -- kings attack each other
 abbrev pub BothAttack : Type 0

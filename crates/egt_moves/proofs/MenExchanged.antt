@@ -16,11 +16,12 @@ use Rattle.egt_board.specs.Target.{IsTarget, target_rank}
 use Rattle.egt_board.specs.Attack.{king_of}
 use Rattle.egt_board.specs.Setup.{Setup, IsAdmissible}
 use Rattle.egt_board.specs.Images.{count_of, stands_here}
+use Rattle.egt_board.proofs.Sides.{sides_differ, side_twice}
 use Rattle.egt_moves.specs.declared.chess_move.Move.{Move}
 use Rattle.egt_moves.specs.Exchange.{Captures, Exchanges}
 use Rattle.egt_moves.specs.Promotion.{is_pawn, promotes, IsOfficer, FitsPromotion, arriving}
 use Rattle.egt_moves.specs.Legal.{is_target, takes_in_passing, men_left, Leads}
-use Rattle.egt_moves.proofs.After.{sides_differ, side_twice, one_man, not_free, target_is, goes_on_board, goes_not_own, goes_to_attacked}
+use Rattle.egt_moves.proofs.After.{one_man, not_free, target_is, goes_on_board, goes_not_own, goes_to_attacked}
 
 -- what a change of one square does to the counts
 pub record Changes : Type 0 where

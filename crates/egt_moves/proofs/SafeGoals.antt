@@ -14,12 +14,13 @@ use Rattle.egt_board.specs.Attack.{IsAttacked, IsInCheck}
 use Rattle.egt_board.specs.Safety.{IsKeptFrom}
 use Rattle.egt_board.specs.Setup.{Setup, IsAdmissible, IsKingOn}
 use Rattle.egt_board.specs.SquareSet.{size_of}
+use Rattle.egt_board.proofs.Sides.{sides_differ}
 use Rattle.egt_moves.specs.declared.chess_move.Move.{Move}
 use Rattle.egt_moves.specs.Going.{Goes}
 use Rattle.egt_moves.specs.Promotion.{is_pawn, promotes, FitsPromotion}
 use Rattle.egt_moves.specs.Legal.{men_after, plain, is_target, takes_in_passing}
 use Rattle.egt_moves.specs.Targets.{IsLegalTarget, IsSafeGoal}
-use Rattle.egt_moves.proofs.After.{goes_on_board, sides_differ, king_moves, king_stays}
+use Rattle.egt_moves.proofs.After.{goes_on_board, king_moves, king_stays}
 use Rattle.egt_moves.proofs.Growing.{legal_of, goes_of, fits_of, safe_of, same_safety}
 use Rattle.egt_moves.specs.Room.{king_square}
 

@@ -1,10 +1,8 @@
 -- How the answer of a search of n + 1 plies comes from those of n plies about the successors.
-use Rattle.std.proofs.Common.{◌≡◌, ◌≢◌, ℕ, zero, suc, ◌≤◌, ◌⊎◌, inl, inr, refl, ap, subst, arith, Option, Some, None}
-use Rattle.std.proofs.Math.Logic.{⊎_map}
-use Rattle.egt_moves.specs.Arena.{Arena, Value, Win, Loss, Draw, NoMove, SomeMove, EachMove, IsStalemate, Ends, IsMatedWithin, MatesWithin, AvoidsMateFor, AvoidsMateBefore, CannotMateWithin, HasValue, AnswersWithin}
-use Rattle.egt_moves.specs.Entries.{IsLeast, IsGreatest}
-use Rattle.egt_moves.proofs.Bounds.{win_mates, loss_mated, mated_more, mates_more, avoids_less, mated_not_avoids, mates_not_cannot}
-use Rattle.egt_moves.proofs.Exclusion.{won_avoids, lost_cannot, one_value}
+use Rattle.std.proofs.Common.{◌≡◌, ℕ, zero, suc, inl, refl, ap, Option, Some, None}
+use Rattle.egt_moves.specs.Arena.{Arena, Value, Win, Loss, Draw, IsStalemate, Ends, AvoidsMateFor, AnswersWithin}
+use Rattle.egt_moves.proofs.Bounds.{win_mates, loss_mated, mated_more, mates_more, mated_not_avoids, mates_not_cannot}
+use Rattle.egt_moves.proofs.Exclusion.{one_value}
 
 module _ {S : Type 0} (a : Arena S) where
   pub stalemate_avoids : (n : ℕ) (p : S) → IsStalemate a p → AvoidsMateFor a n p

@@ -22,7 +22,8 @@ use Rattle.egt_moves.specs.Legal.{Leads, men_left, passed, after}
 use Rattle.egt_moves.specs.Likeness.{Alike, KeepsSteps}
 use Rattle.egt_moves.specs.Standing.{IsCheckmate}
 use Rattle.egt_board.specs.Placement.{one_man}
-use Rattle.egt_moves.proofs.After.{Passing, target_is, left_cases, sides_differ}
+use Rattle.egt_board.proofs.Sides.{sides_differ}
+use Rattle.egt_moves.proofs.After.{Passing, target_is, left_cases}
 use Rattle.egt_moves.proofs.Admissible.{Forward, advances_forward, from_home, pawn_reaches}
 use Rattle.egt_moves.proofs.Likeness.{alike_by_steps}
 

@@ -1,5 +1,5 @@
 -- The list of moves over all men of the side to move.
-use Rattle.std.proofs.Common.{◌≡◌, ◌≢◌, ℕ, ◌+◌, ◌*◌, ◌<◌, ◌≤◌, ◌↔◌, ◌⊎◌, List, [], length, arith, sym, ap, ◌∙◌, inl, inr, subst}
+use Rattle.std.proofs.Common.{◌≡◌, ◌≢◌, ℕ, ◌+◌, ◌*◌, ◌<◌, ◌≤◌, ◌↔◌, ◌⊎◌, List, length, arith, sym, ap, ◌∙◌, inl, inr, subst}
 use Rattle.std.specs.Int.{bit_at}
 use Rattle.std.specs.List.{Contains}
 use Rattle.std.proofs.lemmas.Bool.{cases_eq, cases_lt}
@@ -10,7 +10,7 @@ use Rattle.egt_board.specs.SquareSet.{Has, size_of}
 use Rattle.egt_board.specs.Setup.{Setup, IsAdmissible}
 use Rattle.egt_moves.specs.declared.chess_move.Move.{Move}
 use Rattle.egt_moves.specs.Legal.{IsLegal}
-use Rattle.egt_moves.specs.Room.{most_moves, HasRoom, room_at_first, room_for_man, room_for_others}
+use Rattle.egt_moves.specs.Room.{most_moves, HasRoom, room_for_man, room_for_others}
 use Rattle.egt_moves.specs.Order.{place_of, IsInOrder}
 use Rattle.egt_moves.specs.DecidedMoves.{goes_on_board}
 use Rattle.egt_moves.proofs.Growing.{promotion_small}

@@ -1,10 +1,9 @@
 -- Positions that play alike are worth the same, and have the same fitting entries.
-use Rattle.std.proofs.Common.{◌≡◌, ◌≢◌, ℕ, zero, suc, ◌≤◌, ◌⊎◌, ◌↔◌, inl, inr, sym, subst, ◌∙◌}
+use Rattle.std.proofs.Common.{ℕ, zero, suc, ◌⊎◌, inl, inr}
 use Rattle.std.proofs.Math.Logic.{⊎_map}
-use Rattle.egt_moves.specs.Arena.{Arena, Value, Win, Loss, Draw, HasMove, NoMove, SomeMove, IsStalemate, IsMatedWithin, MatesWithin, AvoidsMateFor, CannotMateWithin, IsWon, IsLost, IsDraw, HasValue}
+use Rattle.egt_moves.specs.Arena.{Arena, Value, Win, Loss, Draw, HasMove, NoMove, SomeMove, IsMatedWithin, MatesWithin, AvoidsMateFor, CannotMateWithin, IsWon, IsLost, IsDraw, HasValue}
 use Rattle.egt_moves.specs.Zeroing.{ZeroesLosingWithin, ZeroesWinningWithin, HasZeroing}
 use Rattle.egt_moves.specs.Likeness.{Alike}
-use Rattle.egt_moves.specs.Entries.{IsLeast, IsGreatest, Fits, Gives, FitsZeroing}
 use Rattle.egt_moves.proofs.Likeness.{alike_backwards}
 
 module _ {S : Type 0} (a : Arena S) (R : S → S → Type 0) (like : Alike a R) where

@@ -11,9 +11,8 @@ use Rattle.egt_board.specs.Placement.{Stands, IsFree, IsHeld, one_man}
 use Rattle.egt_board.specs.Setup.{Setup}
 use Rattle.egt_board.specs.Decided.{Decided, decided_as, decided_not, decided_both, decided_either, decided_eq, decided_some_below}
 use Rattle.egt_board.specs.DecidedMen.{decided_side, decided_kind, decided_on, decided_anywhere, decided_free, decided_held, decided_reaches, decided_advances, decided_check}
-use Rattle.egt_board.specs.DecidedSetup.{decided_same_setup}
 use Rattle.egt_moves.specs.declared.chess_move.Move.{Move}
-use Rattle.egt_moves.specs.Chess.{chess, Zeroes, IsPawnOn}
+use Rattle.egt_moves.specs.Chess.{Zeroes, IsPawnOn}
 use Rattle.egt_moves.specs.Going.{Goes, PieceGoes, PawnAdvances, PawnTakes}
 use Rattle.egt_moves.specs.Promotion.{FitsPromotion, promotes}
 use Rattle.egt_moves.specs.Legal.{Leads, IsLegal, men_after, after}

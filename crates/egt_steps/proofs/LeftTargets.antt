@@ -17,11 +17,12 @@ use Rattle.egt_board.specs.declared.man.Man.{Man}
 use Rattle.egt_board.specs.declared.man.Side.{Side}
 use Rattle.egt_board.specs.declared.man.Side.TheVariants.{White, Black}
 use Rattle.egt_board.proofs.SettledForms.{settles_admissible, settles_men}
+use Rattle.egt_board.proofs.Sides.{side_twice, sides_differ}
 use Rattle.egt_index.specs.declared.shelf_codes.ShelfMen.{ShelfMen}
 use Rattle.egt_moves.specs.Legal.{is_two_ranks, passed}
 use Rattle.egt_moves.specs.Promotion.{is_pawn}
 use Rattle.egt_moves.proofs.Admissible.{two_ranks_told}
-use Rattle.egt_moves.proofs.After.{side_twice, sides_differ, target_is}
+use Rattle.egt_moves.proofs.After.{target_is}
 use Rattle.egt_steps.specs.Facts.{Facts}
 use Rattle.egt_steps.specs.InPassing.{AreTwoRanksApart, LeavesTarget}
 use Rattle.egt_steps.proofs.Leaping.{one_off_home}

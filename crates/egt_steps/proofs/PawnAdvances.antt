@@ -16,6 +16,7 @@ use Rattle.egt_board.specs.declared.man.Man.{Man}
 use Rattle.egt_board.specs.declared.man.Side.{Side}
 use Rattle.egt_board.specs.declared.man.Side.TheVariants.{White, Black}
 use Rattle.egt_board.proofs.SettledForms.{settles_men, settles_settled}
+use Rattle.egt_board.proofs.Sides.{side_twice, sides_differ}
 use Rattle.egt_index.specs.Stood.{HasStand}
 use Rattle.egt_index.specs.declared.shelf_codes.ShelfMen.{ShelfMen}
 use Rattle.egt_moves.specs.Exchange.{Captures}
@@ -24,7 +25,7 @@ use Rattle.egt_moves.specs.Legal.{Leads, after, men_after, men_left}
 use Rattle.egt_moves.specs.Legal as legal
 use Rattle.egt_moves.specs.Promotion.{FitsPromotion, IsOfficer, arriving, promotes}
 use Rattle.egt_moves.specs.declared.chess_move.Move.{Move}
-use Rattle.egt_moves.proofs.After.{arriving_side, not_free, side_twice, sides_differ, target_is}
+use Rattle.egt_moves.proofs.After.{arriving_side, not_free, target_is}
 use Rattle.egt_steps.specs.Facts.{Facts}
 use Rattle.egt_steps.specs.InPassing.{LeavesTarget}
 use Rattle.egt_steps.specs.PawnMoves.{IsAdvance, IsAdvanceFrom, IsClassAfter, stand_after, stand_in}

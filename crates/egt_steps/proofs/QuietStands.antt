@@ -12,6 +12,7 @@ use Rattle.egt_board.specs.declared.man.Kind.TheVariants.{P}
 use Rattle.egt_board.specs.declared.man.Man.{Man}
 use Rattle.egt_board.specs.declared.man.Side.{Side}
 use Rattle.egt_board.specs.declared.man.Side.TheVariants.{White, Black}
+use Rattle.egt_board.proofs.Sides.{side_twice}
 use Rattle.egt_steps.specs.Frame.{IsMoved}
 use Rattle.egt_index.specs.Spelled.{IsListed}
 use Rattle.egt_index.specs.Stood.{AllStand, HasStand, IsOff, list_of}
@@ -22,7 +23,6 @@ use Rattle.egt_moves.specs.Chess.{Zeroes}
 use Rattle.egt_moves.specs.Going.{Goes}
 use Rattle.egt_moves.specs.Legal.{Leads, plain}
 use Rattle.egt_moves.specs.declared.chess_move.Move.{Move}
-use Rattle.egt_moves.proofs.After.{side_twice}
 use Rattle.egt_steps.specs.Stands.{king_of_men, stand_on, with_king}
 use Rattle.egt_steps.specs.Facts.{Facts}
 use Rattle.egt_steps.specs.QuietStands.{IsClear, IsQuietStand}

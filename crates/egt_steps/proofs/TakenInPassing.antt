@@ -17,6 +17,7 @@ use Rattle.egt_board.specs.declared.man.Kind.TheVariants.{P, K}
 use Rattle.egt_board.specs.declared.man.Man.{Man}
 use Rattle.egt_board.specs.declared.man.Side.{Side}
 use Rattle.egt_board.specs.declared.man.Side.TheVariants.{White, Black}
+use Rattle.egt_board.proofs.Sides.{side_twice, sides_differ}
 use Rattle.egt_index.specs.Stood.{HasStand}
 use Rattle.egt_index.specs.declared.shelf_codes.ShelfMen.{ShelfMen}
 use Rattle.egt_index.specs.declared.stand.Stand.{Stand}
@@ -24,7 +25,7 @@ use Rattle.egt_moves.specs.Going.{Goes}
 use Rattle.egt_moves.specs.Legal.{Leads, after, is_target, men_after, men_left}
 use Rattle.egt_moves.specs.Promotion.{FitsPromotion, IsOfficer, arriving, is_pawn, promotes}
 use Rattle.egt_moves.specs.declared.chess_move.Move.{Move}
-use Rattle.egt_moves.proofs.After.{may_become, not_free, side_twice, sides_differ, target_is}
+use Rattle.egt_moves.proofs.After.{may_become, not_free, target_is}
 use Rattle.egt_steps.specs.Facts.{Facts}
 use Rattle.egt_steps.specs.InPassing.{IsOfFourKinds, IsPassingCapture, IsPassingFrom}
 use Rattle.egt_steps.specs.PawnMoves.{stand_in}

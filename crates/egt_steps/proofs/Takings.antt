@@ -21,6 +21,7 @@ use Rattle.egt_board.specs.declared.man.Man.{Man}
 use Rattle.egt_board.specs.declared.man.Side.{Side}
 use Rattle.egt_board.specs.declared.man.Side.TheVariants.{White, Black}
 use Rattle.egt_board.proofs.Hiding.{Reaches-target}
+use Rattle.egt_board.proofs.Sides.{side_twice}
 use Rattle.egt_class.specs.Pair.{IsBeside}
 use Rattle.egt_index.specs.Picked.{AreCounted}
 use Rattle.egt_index.specs.Spelled.{IsListed}
@@ -36,7 +37,6 @@ use Rattle.egt_moves.specs.Legal.{Leads, after, is_two_ranks, men_after, passed,
 use Rattle.egt_moves.specs.Promotion.{FitsPromotion, arriving, is_pawn, promotes}
 use Rattle.egt_moves.specs.declared.chess_move.Move.{Move}
 use Rattle.egt_moves.proofs.Admissible.{not_two, pawn_told, takes_forward_of, two_forward, two_ranks_told}
-use Rattle.egt_moves.proofs.After.{side_twice}
 use Rattle.egt_moves.proofs.SafeGoals.{not_passing}
 use Rattle.egt_steps.specs.Stands.{IsBesideKing, king_of_men, stand_on, with_king}
 use Rattle.egt_steps.specs.Facts.{Facts}

@@ -19,12 +19,6 @@ told_of_all bytes header rest p h =
     let number : little_number 2 (drop 4 header ++ rest) ≡ little_number 2 (drop 4 header) = little_from-append 2 (drop 4 header) rest (omega (arith, length-drop {A = ℕ})) in
     rw (p, behind, number) refl
 
-one_or_two : (n : ℕ) → IsVersion (if n == 2 then 2 else 1)
-one_or_two n = elim (n == 2) as (λ b. IsVersion (if b then 2 else 1)) [ true ↦ inr refl | false ↦ inl refl ]
-
-pub told_is_version : (bytes : List ℕ) → IsVersion (version_told bytes)
-told_is_version bytes = one_or_two (little_number 2 (drop 4 bytes))
-
 pub version_small : (reach : Option (List ℕ)) → version_of reach ≤ 2
 version_small None = omega arith
 version_small (Some entries) = omega arith

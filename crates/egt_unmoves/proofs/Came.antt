@@ -16,7 +16,8 @@ use Rattle.egt_moves.specs.Going.{Goes}
 use Rattle.egt_moves.specs.Legal.{plain, is_target, takes_in_passing, men_left}
 use Rattle.egt_moves.specs.Promotion.{is_pawn, arriving}
 use Rattle.egt_unmoves.specs.Unmoves.{ComesBy, MayComeFrom, GoesOver, men_before, setup_before}
-use Rattle.egt_unmoves.proofs.Sides.{side_twice, side_cases}
+use Rattle.egt_board.proofs.Sides.{side_twice, side_cases}
+pub use Rattle.egt_board.proofs.Facing.{unput_free}
 
 pub not_free : {A : Type 0} (men : Placement) (s : ℕ) (man : Man) → IsFree men s → Stands men s man → A
 not_free men s man free stands = let bad : Some man ≡ None = sym stands ∙ free in absurd (cc)
@@ -196,10 +197,3 @@ before_is b q man from to target may e c = λ i. record { men = men i; side = x.
 
     men : b.men ≡ men_before q.men man to from
     men = x.men ∙ ap (λ y. men_before q.men y to from) (came_man b (plain from to) q man x may.stands)
-
--- what is free with a man put on a square was free before
-pub unput_free : (men : Placement) (t : ℕ) (man : Man) (s : ℕ) → IsFree (map.insert men t man) s → IsFree men s
-unput_free men t man s free = elim (cases_eq s t) [
-  | inl e ↦ not_free (map.insert men t man) s man free (get-insert_same men t man s e)
-  | inr other ↦ sym (get-insert_other men t man s other) ∙ free
-]

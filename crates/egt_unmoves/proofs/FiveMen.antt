@@ -21,7 +21,7 @@ use Rattle.egt_moves.specs.declared.chess_move.Move.{Move}
 use Rattle.egt_unmoves.specs.Targets.{advanced_rank}
 use Rattle.egt_unmoves.specs.Unmoves.{ComesBy, MayComeFrom}
 use Rattle.egt_unmoves.proofs.Came.{Came, came, not_free}
-use Rattle.egt_unmoves.proofs.Sides.{side_twice, sides_differ}
+use Rattle.egt_board.proofs.Sides.{side_twice, sides_differ}
 use Rattle.egt_unmoves.proofs.Went.{elsewhere, stood}
 
 -- a man less

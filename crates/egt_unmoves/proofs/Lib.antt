@@ -1,4 +1,3 @@
-pub mod Sides
 pub mod Came
 pub mod Ways
 pub mod Quiet

@@ -11,7 +11,7 @@ use Rattle.egt_board.specs.Placement.{Placement, Stands, IsFree, one_man, get-in
 use Rattle.egt_board.specs.Safety.{IsKeptFrom}
 use Rattle.egt_board.specs.Setup.{Setup, IsKingOn}
 use Rattle.egt_unmoves.proofs.Came.{not_free}
-use Rattle.egt_unmoves.proofs.Sides.{sides_differ}
+use Rattle.egt_board.proofs.Sides.{sides_differ}
 
 -- which man stands on a square plays no part in which squares are free
 free_alike : (left : Placement) (one other : Man) (s u : ℕ) → IsFree (map.insert left s one) u → IsFree (map.insert left s other) u

@@ -24,7 +24,7 @@ use Rattle.egt_moves.specs.Promotion.{is_pawn, promotes, FitsPromotion}
 use Rattle.egt_unmoves.specs.Unmoves.{ComesBy, MayComeFrom, Went, GoesOver, led_to, men_before, setup_before}
 use Rattle.egt_unmoves.proofs.Came.{Came, came, came_man, moved_on, not_free, left_whole, settles_men, settles_side, settles_once}
 use Rattle.egt_unmoves.proofs.Room.{few_before}
-use Rattle.egt_unmoves.proofs.Sides.{side_twice, sides_differ}
+use Rattle.egt_board.proofs.Sides.{side_twice, sides_differ}
 use Rattle.egt_unmoves.proofs.Ways.{passed_over, ahead_passed}
 
 -- a move that led here went so

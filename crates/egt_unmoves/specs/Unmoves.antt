@@ -1,13 +1,13 @@
 -- Moves backwards: which positions a legal move, neither a capture nor a promotion, leads from (FIDE Laws of Chess 2023,
 -- articles 3.1 to 3.9).
-use Rattle.std.specs.Prelude.{◌≡◌, ◌≢◌, ℕ, ◌<◌, ◌↔◌, ◌⊎◌, if◌then◌else◌, Option, None, IsTrue}
+use Rattle.std.specs.Prelude.{◌≡◌, ◌≢◌, ℕ, ◌<◌, ◌↔◌, ◌⊎◌, Option, None, IsTrue}
 use Rattle.std.specs.FinMap as map
 use Rattle.egt_board.specs.declared.man.Kind.TheVariants.{P}
 use Rattle.egt_board.specs.declared.man.Man.{Man}
 use Rattle.egt_board.specs.Attack.{IsInCheck}
 use Rattle.egt_board.specs.AttackLines.{Reaches}
 use Rattle.egt_board.specs.Man.{other_side}
-use Rattle.egt_board.specs.Pawn.{pawn_of, MayStand, Advances}
+use Rattle.egt_board.specs.Pawn.{MayStand, Advances}
 use Rattle.egt_board.specs.Placement.{Placement, Stands, IsFree}
 use Rattle.egt_board.specs.Setup.{Setup, IsAdmissible}
 use Rattle.egt_board.specs.Settled.{IsSettled, SettlesTo}
@@ -15,7 +15,6 @@ use Rattle.egt_moves.specs.declared.chess_move.Move.{Move}
 use Rattle.egt_moves.specs.Chess.{IsPawnOn}
 use Rattle.egt_moves.specs.Exchange.{Captures}
 use Rattle.egt_moves.specs.Legal.{Leads, passed}
-use Rattle.egt_moves.specs.Promotion.{is_pawn}
 use Rattle.egt_unmoves.specs.declared.unmove.Unmove.{Unmove}
 
 -- the legal move m, neither a capture nor a promotion, leads from the settled position b to one that settles to q
@@ -74,7 +73,3 @@ pub record MayHaveLeft (q : Setup) (man : Man) (to from : ℕ) : Type 0 where
   pub free : IsFree q.men from
   pub quiet : ¬ IsInCheck (men_before q.men man to from) q.side
   pub reaches : man.kind ≢ P → Reaches (IsFree (men_before q.men man to from)) man from to
-
--- the man that attacks the squares from which this one attacks its own
-abbrev pub facing : Man → Man
-facing man = if is_pawn man.kind then pawn_of (other_side man.side) else man

@@ -10,21 +10,11 @@ ghost use Rattle.egt_board.specs.Setup.{IsKingOn};
 ghost use Rattle.egt_board.specs.Square.{rank_of};
 ghost use Rattle.egt_board.specs.SquareSet.{Has, size_of};
 ghost use Rattle.egt_moves.specs.Room.{most_goals};
-ghost use Rattle.egt_unmoves.specs.Unmoves.{MayHaveLeft, Went, facing};
+ghost use Rattle.egt_unmoves.specs.Unmoves.{MayHaveLeft, Went};
 
 use crate::taking_back::is_pawn;
 use egt_board::safety::reach_passes_over_its_end;
 use egt_board::{Board, Kind, Man, Position, Square, SquareSet};
-
-/// The man that attacks the squares from which this one attacks its own: of a pawn the enemy's, of another man the same.
-fn facing(man: Man) -> Man
-    ensures { result ≡ facing man }
-{
-    match man.kind {
-        Kind::P => man.side.other().pawn(),
-        _ => man,
-    }
-}
 
 /// The squares from which the man, put there, attacks the square.
 fn attackers(left: &Board, man: Man, square: Square) -> SquareSet
@@ -32,7 +22,7 @@ fn attackers(left: &Board, man: Man, square: Square) -> SquareSet
     ensures few { size_of result ≤ most_goals man.kind }
 {
     reach_passes_over_its_end();
-    left.reach(facing(man), square)
+    left.reach(man.facing(), square)
 }
 
 /// The squares from which a pawn may have advanced to `to`, and perhaps others.

@@ -19,6 +19,7 @@ use Rattle.egt_board.specs.declared.man.Kind.TheVariants.{P}
 use Rattle.egt_board.specs.declared.man.Man.{Man}
 use Rattle.egt_board.specs.declared.man.Side.{Side}
 use Rattle.egt_board.specs.declared.man.Side.TheVariants.{White, Black}
+use Rattle.egt_board.proofs.Sides.{side_twice, sides_differ}
 use Rattle.egt_class.specs.Membership.{IsOf}
 use Rattle.egt_steps.specs.Frame.{IsMoved}
 use Rattle.egt_index.specs.Index.{SettleAlike}
@@ -30,7 +31,6 @@ use Rattle.egt_moves.specs.Going.{Goes}
 use Rattle.egt_moves.specs.Legal.{Leads, after, is_target, is_two_ranks, plain}
 use Rattle.egt_moves.specs.Promotion.{FitsPromotion, is_pawn, promotes}
 use Rattle.egt_moves.specs.declared.chess_move.Move.{Move}
-use Rattle.egt_moves.proofs.After.{side_twice, sides_differ}
 use Rattle.egt_steps.specs.Facts.{Facts}
 use Rattle.egt_steps.specs.Pusher.{IsTwoAhead}
 use Rattle.egt_steps.proofs.Leaping.{LeapsTo, advances_by, advances_two, and_false, two_ahead_stays}

@@ -15,6 +15,7 @@ use Rattle.egt_board.specs.declared.man.Kind.TheVariants.{P}
 use Rattle.egt_board.specs.declared.man.Man.{Man}
 use Rattle.egt_board.specs.declared.man.Side.{Side}
 use Rattle.egt_board.specs.declared.man.Side.TheVariants.{White, Black}
+use Rattle.egt_board.proofs.Sides.{side_twice, sides_differ}
 use Rattle.egt_index.specs.ShelfCodes.{IsShelf}
 use Rattle.egt_index.specs.Spelled.{IsListed}
 use Rattle.egt_index.specs.declared.shelf_codes.ShelfMen.{ShelfMen}
@@ -23,7 +24,6 @@ use Rattle.egt_moves.specs.Going.{Goes}
 use Rattle.egt_moves.specs.Legal.{Leads}
 use Rattle.egt_moves.specs.Promotion.{FitsPromotion, is_pawn, promotes}
 use Rattle.egt_moves.specs.declared.chess_move.Move.{Move}
-use Rattle.egt_moves.proofs.After.{side_twice, sides_differ}
 use Rattle.egt_steps.proofs.Leaping.{advances_by, two_ahead_stays}
 use Rattle.egt_steps.proofs.Pushing.{unlast}
 use Rattle.egt_steps.proofs.Still.{pawn_is}

@@ -12,13 +12,13 @@ use Rattle.egt_board.specs.Square.{rank_of}
 use Rattle.egt_board.specs.declared.man.Kind.TheVariants.{P}
 use Rattle.egt_board.specs.declared.man.Man.{Man}
 use Rattle.egt_board.specs.declared.man.Side.{Side}
+use Rattle.egt_board.proofs.Sides.{side_twice}
 use Rattle.egt_steps.specs.Frame.{IsMoved}
 use Rattle.egt_moves.specs.Chess.{Zeroes}
 use Rattle.egt_moves.specs.Going.{Goes}
 use Rattle.egt_moves.specs.Legal.{Leads, is_target, is_two_ranks, men_after, passed, plain}
 use Rattle.egt_moves.specs.Promotion.{FitsPromotion, is_pawn}
 use Rattle.egt_moves.specs.declared.chess_move.Move.{Move}
-use Rattle.egt_moves.proofs.After.{side_twice}
 use Rattle.egt_steps.proofs.Still.{no_pawn}
 use Rattle.egt_words.specs.MoveLists.{Quietly}
 

@@ -1,6 +1,12 @@
-use Rattle.std.proofs.Common.{arith}
+use Rattle.std.proofs.Common.{ap, ◌∙◌, arith}
+use Rattle.std.specs.Int.Bits.{bit_and}
+use Rattle.std.proofs.lemmas.Nat.{and_le_l}
+use Rattle.egt_board.specs.Lookup.{line_of}
 use Rattle.egt_board.proofs.Computed.{behind_shows}
 use Rattle.egt_board.proofs.lookup.behind.Goals as goal
 
 pub returns : goal.returns
-returns c = behind_shows c.args.first c.args.second c.pair_entry.result.bits (omega arith) (omega arith) (omega arith) c.pair_entry.ensures
+returns c =
+    let few = and_le_l c.line.result c.beyond.result in
+    behind_shows c.args.first c.args.second (bit_and c.line.result c.beyond.result) (omega arith) (omega arith) (omega arith)
+    (ap (λ l. bit_and l c.beyond.result) c.line.ensures ∙ ap (λ a. bit_and (line_of c.args.first c.args.second) a) c.beyond.ensures)

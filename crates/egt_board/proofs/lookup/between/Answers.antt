@@ -1,6 +1,15 @@
-use Rattle.std.proofs.Common.{arith}
+use Rattle.std.proofs.Common.{ap, ◌∙◌, arith}
+use Rattle.std.specs.Int.Bits.{bit_and, bit_xor}
+use Rattle.std.proofs.lemmas.Nat.{and_le_l}
+use Rattle.egt_board.specs.Lookup.{below, line_of}
 use Rattle.egt_board.proofs.Computed.{between_shows}
 use Rattle.egt_board.proofs.lookup.between.Goals as goal
 
 pub returns : goal.returns
-returns c = between_shows c.args.one c.args.other c.pair_entry.result.bits (omega arith) (omega arith) (omega arith) c.pair_entry.ensures
+returns c =
+    let ends = bit_xor c.below.result c.below-2.result in
+    let few = and_le_l c.line.result ends in
+    between_shows c.args.one c.args.other (bit_and c.line.result ends) (omega arith) (omega arith) (omega arith)
+    (ap (λ l. bit_and l ends) c.line.ensures
+    ∙ ap (λ a. bit_and (line_of c.args.one c.args.other) (bit_xor a c.below-2.result)) c.below.ensures
+    ∙ ap (λ a. bit_and (line_of c.args.one c.args.other) (bit_xor (below c.args.one) a)) c.below-2.ensures)
