@@ -4,10 +4,13 @@
 //! its status is 1. All codes of classes of two and three men are asked, and of the others every so many.
 //! `egt_agree sampled` asks the same of fewer codes, with no folder, and prints that they agree.
 //! `egt_agree solved DIR CLASS` solves both games over the class by counters, which takes a while for four men, and holds their ranks against its table.
+//! `egt_agree damaged DIR CLASS` changes entries of the class's table at random, and holds what the checker names against the rules asked plainly.
 #![tactic(auto)]
 
+mod damaged;
 mod folder;
 mod games;
+mod judged;
 mod moves;
 mod rule;
 mod sampled;
@@ -18,6 +21,7 @@ mod steps;
 mod tables;
 mod unmoves;
 
+use damaged::damaged_agrees;
 use egt_check::Library;
 use egt_class::{Class, by_name, name};
 use folder::library_of;
@@ -97,19 +101,44 @@ fn print_solved(rt: &HostRuntime, class: Class, library: &Library) -> io::Result
     }
 }
 
-/// Reads the tables of the class of that name and of those below it, and compares all of the class, or solves it; whether all agrees.
-fn run(rt: &HostRuntime, folder: &str, class: &str, solves: bool) -> io::Result<bool> {
+/// Has the checker judge tables of the class with entries changed, and prints a line; whether it names what the plain rules do.
+fn print_damaged(rt: &HostRuntime, class: Class, library: &Library) -> io::Result<bool> {
+    let damaged = damaged_agrees(rt.alloc(), class, library);
+    let class = name(class);
+    match damaged {
+        Ok(tables) => {
+            println!(rt; "{class} damaged: {tables} tables")?;
+            Ok(true)
+        }
+        Err(code) => {
+            println!(rt; "{class} differs: table changed at code {code}")?;
+            Ok(false)
+        }
+    }
+}
+
+/// What is done with the class.
+#[derive(Clone, Copy)]
+enum Task {
+    Compare,
+    Solve,
+    Damage,
+}
+
+/// Reads the tables of the class of that name and of those below it, and does the task; whether all agrees.
+fn run(rt: &HostRuntime, folder: &str, class: &str, task: Task) -> io::Result<bool> {
     let Some(class) = by_name(class) else {
         println!(rt; "no class")?;
         return Ok(false);
     };
-    match library_of(rt, folder, class)? {
-        Some(library) if solves => print_solved(rt, class, &library),
-        Some(library) => print_class(rt, class, &library),
-        None => {
-            println!(rt; "a table was refused")?;
-            Ok(false)
-        }
+    let Some(library) = library_of(rt, folder, class)? else {
+        println!(rt; "a table was refused")?;
+        return Ok(false);
+    };
+    match task {
+        Task::Compare => print_class(rt, class, &library),
+        Task::Solve => print_solved(rt, class, &library),
+        Task::Damage => print_damaged(rt, class, &library),
     }
 }
 
@@ -134,8 +163,9 @@ fn main(rt: HostRuntime) -> io::Result<ExitCode> {
     }
     let agrees = match words.as_slice() {
         [_, "sampled"] => print_sampled(&rt)?,
-        [_, folder, class] => run(&rt, folder, class, false)?,
-        [_, "solved", folder, class] => run(&rt, folder, class, true)?,
+        [_, folder, class] => run(&rt, folder, class, Task::Compare)?,
+        [_, "solved", folder, class] => run(&rt, folder, class, Task::Solve)?,
+        [_, "damaged", folder, class] => run(&rt, folder, class, Task::Damage)?,
         _ => true,
     };
     Ok(ExitCode::from(if agrees { 0 } else { 1 }))
