@@ -13,6 +13,7 @@ use std::alloc::{AllocError, Global};
 const TABLES: u32 = 70;
 
 /// A sequence of numbers that look random (Marsaglia's xorshift).
+#[derive(Drop)]
 struct Numbers {
     last: u32,
 }
@@ -67,7 +68,7 @@ impl Numbers {
             11 => 64_003,
             12 => 64_004,
             13 => 65_535,
-            _ => self.below(65_536) as u16,
+            _ => (self.next() % 65_536) as u16,
         }
     }
 }
