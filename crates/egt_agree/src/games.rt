@@ -1,6 +1,6 @@
 //! The games over a class: what they tell of a node against the position's legal moves, played one by one.
 ghost use Rattle.std.specs.Prelude.{IfOk};
-ghost use Rattle.egt_check.specs.Tables.{table_at};
+ghost use Rattle.egt_entries.specs.Tables.{table_at};
 ghost use Rattle.egt_sweep.specs.MateColumn.{AreMateRanks};
 
 use crate::rule::{Value, said_by};

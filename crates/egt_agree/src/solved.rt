@@ -1,5 +1,5 @@
 //! Both games over a class solved by counters, against the columns of its table.
-ghost use Rattle.egt_check.specs.Tables.{table_at};
+ghost use Rattle.egt_entries.specs.Tables.{table_at};
 ghost use Rattle.egt_sweep.specs.MateColumn.{AreMateRanks};
 
 use crate::games::mate_ranks;

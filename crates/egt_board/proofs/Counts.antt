@@ -17,6 +17,7 @@ use Rattle.egt_board.specs.Setup.{IsKingOn}
 use Rattle.egt_board.specs.SquareSet.{total, size_of}
 use Rattle.egt_board.proofs.Placed.{find-later}
 use Rattle.egt_board.proofs.Gather.{IsKey}
+use Rattle.egt_board.proofs.Sides.{sides_differ}
 use Rattle.egt_board.proofs.Sizes.{total-le, total-less}
 
 -- f, but with another number at k
@@ -65,10 +66,6 @@ covered (e ∷ es) f n small keys =
     key t one (inl h) = let is = changed_here f e.0 0 t h in absurd (omega arith)
     key t one (inr h) = sym (ap is_some (find-later t e.0 e.1 es h)) ∙ keys t (sym (changed_other f e.0 0 t h) ∙ one)
 
-sides_differ : (side : Side) → other_side side ≡ side → ⊥
-sides_differ White e = cc
-sides_differ Black e = cc
-
 -- the other side's king leaves three
 pub own_few : (men : Placement) (side : Side) (set : SquareSet) (k : ℕ) → placement.len men ≤ 4 → k < 64 → IsKingOn men (other_side side) k → ((t : ℕ) → (bit_at set.bits t ≡ 1) ↔ IsHeld men t side) → size_of set ≤ 3
 unfolding size_of
@@ -85,7 +82,7 @@ own_few men side set k few k_in king held =
           let own = (held k).0 one in
           let both : Some own.man ≡ Some (king_of (other_side side)) = sym own.stands ∙ king.stands in
           let same : own.man ≡ king_of (other_side side) = (cc) in
-          absurd (sides_differ side (sym (ap (λ (m : Man). m.side) same) ∙ own.theirs))
+          absurd (sides_differ side (sym own.theirs ∙ ap (λ (m : Man). m.side) same))
       | inr other ↦ let small = bit_at-lt set.bits k in omega arith
     ]
 

@@ -11,6 +11,11 @@ use crate::square::Square;
 use crate::square_set::SquareSet;
 use crate::tables::LONE;
 
+/// The row of rooks in the table of what men attack.
+const ROOKS: u8 = 1;
+/// The row of bishops there.
+const BISHOPS: u8 = 2;
+
 /// The row of the man in the table of what men attack.
 fn row(man: Man) -> u8
     ensures value { result ≡ row_by man.side man.kind }
@@ -18,8 +23,8 @@ fn row(man: Man) -> u8
 {
     match man.kind {
         Kind::Q => 0,
-        Kind::R => 1,
-        Kind::B => 2,
+        Kind::R => ROOKS,
+        Kind::B => BISHOPS,
         Kind::N => 3,
         Kind::P => match man.side {
             Side::White => 4,
@@ -68,13 +73,13 @@ fn beyond(first: Square, second: Square) -> u64
 fn line(one: Square, other: Square) -> u64
     ensures { result ≡ line_of one other }
 {
-    let straight = row_entry(&LONE, 1, one);
+    let straight = row_entry(&LONE, ROOKS, one);
     if straight.contains(other) {
-        return straight.bits & row_entry(&LONE, 1, other).bits;
+        return straight.bits & row_entry(&LONE, ROOKS, other).bits;
     }
-    let diagonal = row_entry(&LONE, 2, one);
+    let diagonal = row_entry(&LONE, BISHOPS, one);
     if diagonal.contains(other) {
-        return diagonal.bits & row_entry(&LONE, 2, other).bits;
+        return diagonal.bits & row_entry(&LONE, BISHOPS, other).bits;
     }
     0
 }

@@ -9,7 +9,7 @@ mod orders;
 mod refused;
 
 ghost use Rattle.std.specs.Prelude.{IfOk};
-ghost use Rattle.egt_check.specs.Tables.{table_at};
+ghost use Rattle.egt_entries.specs.Tables.{table_at};
 ghost use Rattle.egt_sweep.specs.MateColumn.{AreMateRanks};
 
 use egt_check::Library;

@@ -12,9 +12,9 @@ use Rattle.egt_table.specs.declared.fault.FileFault.{FileFault}
 use Rattle.egt_table.specs.declared.fault.FileFault.TheVariants.{Device}
 use Rattle.egt_table.specs.File.{IsAnswer, bytes_of}
 use Rattle.egt_table.specs.Table.{TableValue}
-use Rattle.egt_check.specs.declared.reject.Reject.{Reject}
-use Rattle.egt_check.specs.Library.{IsAccepted, IsTurnedAway}
-use Rattle.egt_check.specs.Tables.{table_at, beside}
+use Rattle.egt_entries.specs.declared.reject.Reject.{Reject}
+use Rattle.egt_entries.specs.Library.{IsAccepted, IsTurnedAway}
+use Rattle.egt_entries.specs.Tables.{table_at, beside}
 use Rattle.egt_probe.specs.declared.outcome.Verdict.{Verdict}
 use Rattle.egt_probe.specs.declared.fault.HoldFault.{HoldFault}
 use Rattle.egt_probe.specs.declared.fault.HoldFault.TheVariants as holds

@@ -4,8 +4,8 @@ use Rattle.egt_fen.specs.declared.fault.FenFault.{FenFault}
 use Rattle.egt_fen.specs.Fault as fens
 use Rattle.egt_table.specs.declared.fault.FileFault.{FileFault}
 use Rattle.egt_table.specs.Fault as files
-use Rattle.egt_check.specs.declared.reject.Reject.{Reject}
-use Rattle.egt_check.specs.declared.reject.Reject.TheVariants.{Missing, NoReach, Rejected, AlreadyThere}
+use Rattle.egt_entries.specs.declared.reject.Reject.{Reject}
+use Rattle.egt_entries.specs.declared.reject.Reject.TheVariants.{Missing, NoReach, Rejected, AlreadyThere}
 use Rattle.egt_probe.specs.declared.fault.LineFault.{LineFault}
 use Rattle.egt_probe.specs.declared.fault.LineFault.TheVariants as lines
 use Rattle.egt_c.specs.declared.fault.EgtbFault.{EgtbFault}

@@ -2,8 +2,8 @@
 use Rattle.std.specs.Prelude.{ℕ}
 use Rattle.egt_board.specs.declared.man.Side.{Side}
 use Rattle.egt_board.specs.declared.man.Side.TheVariants.{White, Black}
-use Rattle.egt_check.specs.declared.rule.Rule.{Rule}
-use Rattle.egt_check.specs.declared.rule.Rule.TheVariants as rules
+use Rattle.egt_entries.specs.declared.rule.Rule.{Rule}
+use Rattle.egt_entries.specs.declared.rule.Rule.TheVariants as rules
 use Rattle.egt_table.specs.declared.column.Column.{Column}
 use Rattle.egt_table.specs.declared.column.Column.TheVariants as columns
 

@@ -7,10 +7,10 @@ use Rattle.egt_class.specs.Membership.{IsOf}
 use Rattle.egt_index.specs.Code.{Spells}
 use Rattle.egt_index.specs.Index.{IsIndex}
 use Rattle.egt_moves.specs.Arena.{Value}
-use Rattle.egt_check.specs.declared.metric.Metric.{Metric}
+use Rattle.egt_entries.specs.declared.metric.Metric.{Metric}
 use Rattle.egt_check.specs.Alike.{StepAlike}
 use Rattle.egt_steps.specs.Facts.{Facts}
-use Rattle.egt_check.specs.Tables.{Tables, ShowsOf}
+use Rattle.egt_entries.specs.Tables.{Tables, ShowsOf}
 
 module _ (facts : Facts) where
   -- an image of its settled form plays like a position

@@ -17,15 +17,15 @@ use Rattle.egt_lanes.specs.Scores.{byte_score, due_score}
 use Rattle.egt_moves.specs.Arena.{NoMove}
 use Rattle.egt_moves.specs.Chess.{chess}
 use Rattle.egt_table.specs.Table.{TableValue}
-use Rattle.egt_check.specs.declared.metric.Metric.{Metric}
-use Rattle.egt_check.specs.declared.metric.Metric.TheVariants.{Mate, Zeroing}
+use Rattle.egt_entries.specs.declared.metric.Metric.{Metric}
+use Rattle.egt_entries.specs.declared.metric.Metric.TheVariants.{Mate, Zeroing}
 use Rattle.egt_steps.specs.Stands.{stand_on}
 use Rattle.egt_check.specs.Given.{AreAlike, AreGiven}
 use Rattle.egt_check.specs.MoveScores.{AreAllScores, AreTablesOf}
 use Rattle.egt_check.specs.RightRow.{IsRightAt}
-use Rattle.egt_check.specs.Rules.{IsJudged}
-use Rattle.egt_check.specs.Score.{IsAtEnd}
-use Rattle.egt_check.specs.Tables.{Tables, entry_at}
+use Rattle.egt_entries.specs.Rules.{IsJudged}
+use Rattle.egt_entries.specs.Score.{IsAtEnd}
+use Rattle.egt_entries.specs.Tables.{Tables, entry_at}
 use Rattle.egt_check.specs.Worth.{score_at}
 use Rattle.egt_check.specs.declared.move_scores.FourMen.{FourMen}
 use Rattle.egt_check.proofs.FirstRule.{void_judged}

@@ -4,13 +4,13 @@ use Rattle.egt_board.specs.Setup.{Setup}
 use Rattle.egt_index.specs.Code.{Spells}
 use Rattle.egt_index.specs.Index.{IsIndex, IsVoid}
 use Rattle.egt_table.specs.Table.{IsTable, TableValue}
-use Rattle.egt_check.specs.declared.metric.Metric.TheVariants.{Mate}
+use Rattle.egt_entries.specs.declared.metric.Metric.TheVariants.{Mate}
 use Rattle.egt_check.specs.declared.part.Part.{Part}
 use Rattle.egt_check.specs.declared.part.Part.TheVariants.{Values, Reach}
 use Rattle.egt_check.specs.Blank.{IsBlank}
 use Rattle.egt_check.specs.Parts.{column_of, table_in}
 use Rattle.egt_check.specs.RightBlock.{KeepsPart}
-use Rattle.egt_check.specs.Tables.{Tables, entry_at}
+use Rattle.egt_entries.specs.Tables.{Tables, entry_at}
 use Rattle.egt_check.specs.Worth.{HasBytes, column_score, score_at}
 use Rattle.egt_check.proofs.AllJudged.{some_score}
 use Rattle.egt_check.proofs.FirstRule.{void_judged}

@@ -8,24 +8,24 @@ use Rattle.egt_moves.specs.Arena.{Value, NoMove}
 use Rattle.egt_moves.specs.Chess.{chess}
 use Rattle.egt_moves.specs.Legal.{Leads}
 use Rattle.egt_moves.specs.declared.chess_move.Move.{Move}
-use Rattle.egt_check.specs.declared.metric.Metric.{Metric}
-use Rattle.egt_check.specs.declared.metric.Metric.TheVariants.{Mate, Zeroing}
-use Rattle.egt_check.specs.declared.by_metric.ByMetric.{ByMetric}
-use Rattle.egt_check.specs.declared.outcome.Outcome.{Outcome}
-use Rattle.egt_check.specs.declared.outcome.Outcome.TheVariants as outcomes
-use Rattle.egt_check.specs.Entry.{Shows}
+use Rattle.egt_entries.specs.declared.metric.Metric.{Metric}
+use Rattle.egt_entries.specs.declared.metric.Metric.TheVariants.{Mate, Zeroing}
+use Rattle.egt_entries.specs.declared.by_metric.ByMetric.{ByMetric}
+use Rattle.egt_entries.specs.declared.outcome.Outcome.{Outcome}
+use Rattle.egt_entries.specs.declared.outcome.Outcome.TheVariants as outcomes
+use Rattle.egt_entries.specs.Entry.{Shows}
 use Rattle.egt_steps.specs.Facts.{Facts}
 use Rattle.egt_check.specs.Given.{AreAlike, AreGiven, HasScores, IsGiven, IsKnown, IsZeroingScore}
-use Rattle.egt_check.specs.Judged.{IsCompared}
-use Rattle.egt_check.specs.Rules.{IsJudged}
-use Rattle.egt_check.specs.Score.{IsAtEnd, IsBest, IsDue, IsCounted, IsShownBy, Scores, entry_before, number_at, score_of, value_of, zeroing_said}
-use Rattle.egt_check.specs.Tables.{Tables, HasEntry, ShowsOf, entry_at}
+use Rattle.egt_entries.specs.Judged.{IsCompared}
+use Rattle.egt_entries.specs.Rules.{IsJudged}
+use Rattle.egt_entries.specs.Score.{IsAtEnd, IsBest, IsDue, IsCounted, IsShownBy, Scores, entry_before, number_at, score_of, value_of, zeroing_said}
+use Rattle.egt_entries.specs.Tables.{Tables, HasEntry, ShowsOf, entry_at}
 use Rattle.egt_index.specs.Code.{Spells}
 use Rattle.egt_index.specs.Index.{IsVoid}
 use Rattle.egt_moves.specs.Entries.{SameKind}
 use Rattle.egt_table.specs.Table.{TableValue}
-use Rattle.egt_check.proofs.Due.{ComesOf, at_end_due, both_due}
-use Rattle.egt_check.proofs.Scoring.{told}
+use Rattle.egt_entries.proofs.Due.{ComesOf, at_end_due, both_due}
+use Rattle.egt_entries.proofs.Scoring.{told}
 use Rattle.egt_check.proofs.ShelfJudged.{right_judged}
 use Rattle.egt_check.proofs.Showing.{one_after, shows_once}
 use Rattle.egt_check.proofs.Stepping.{Seen, scores_by}

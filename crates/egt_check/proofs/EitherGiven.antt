@@ -7,7 +7,7 @@ use Rattle.egt_moves.specs.DecidedMoves.{decided_zeroes}
 use Rattle.egt_moves.specs.Legal.{Leads}
 use Rattle.egt_moves.specs.declared.chess_move.Move.{Move}
 use Rattle.egt_check.specs.Given.{AreGiven, IsGiven}
-use Rattle.egt_check.specs.Tables.{Tables}
+use Rattle.egt_entries.specs.Tables.{Tables}
 
 -- the greater of two is one of them
 one_of : (P : ℕ → Type 0) (m n : ℕ) → P m → P n → P (max m n)

@@ -13,8 +13,8 @@ use Rattle.egt_moves.specs.Legal.{Leads}
 use Rattle.egt_table.specs.Table.{TableValue}
 use Rattle.egt_steps.specs.Facts.{Facts}
 use Rattle.egt_check.specs.Place.{IsPlaceOf, HasReachAt}
-use Rattle.egt_check.specs.Steps.{IsInClass}
-use Rattle.egt_check.specs.Tables.{Tables, beside, HasChildren, HasReachChildren}
+use Rattle.egt_entries.specs.Steps.{IsInClass}
+use Rattle.egt_entries.specs.Tables.{Tables, beside, HasChildren, HasReachChildren}
 use Rattle.egt_check.specs.declared.successors.Place.{Place}
 
 pub beside_own : (tables : Tables) (t : TableValue) (c : ℕ) → c ≡ t.class → beside tables t c ≡ Some t

@@ -5,19 +5,19 @@ use Rattle.egt_board.specs.Setup.{Setup}
 use Rattle.egt_index.specs.Code.{Spells}
 use Rattle.egt_index.specs.Index.{IsVoid}
 use Rattle.egt_moves.specs.Arena.{Value, Win, Loss, Draw}
-use Rattle.egt_check.specs.declared.metric.Metric.{Metric}
-use Rattle.egt_check.specs.declared.metric.Metric.TheVariants.{Mate, Zeroing}
+use Rattle.egt_entries.specs.declared.metric.Metric.{Metric}
+use Rattle.egt_entries.specs.declared.metric.Metric.TheVariants.{Mate, Zeroing}
 use Rattle.egt_table.specs.Table.{TableValue}
-use Rattle.egt_check.specs.declared.outcome.Outcome.{Outcome}
-use Rattle.egt_check.specs.declared.outcome.Outcome.TheVariants as outcomes
-use Rattle.egt_check.specs.declared.rule.Rule.{Rule}
-use Rattle.egt_check.specs.declared.rule.Rule.TheVariants as rules
-use Rattle.egt_check.specs.Entry.{entry_of, Shows}
-use Rattle.egt_check.specs.Fits.{FitsBeside}
-use Rattle.egt_check.specs.Judged.{Agree, IsCompared, Finds, FindsVoid}
-use Rattle.egt_check.specs.Rules.{Fits, AgreesInKind, Keeps, rule_place, IsJudged}
-use Rattle.egt_check.specs.Score.{value_of, IsDueDraw, IsDue}
-use Rattle.egt_check.specs.Tables.{Tables, entry_at, ShowsOf}
+use Rattle.egt_entries.specs.declared.outcome.Outcome.{Outcome}
+use Rattle.egt_entries.specs.declared.outcome.Outcome.TheVariants as outcomes
+use Rattle.egt_entries.specs.declared.rule.Rule.{Rule}
+use Rattle.egt_entries.specs.declared.rule.Rule.TheVariants as rules
+use Rattle.egt_entries.specs.Entry.{entry_of, Shows}
+use Rattle.egt_entries.specs.Fits.{FitsBeside}
+use Rattle.egt_entries.specs.Judged.{Agree, IsCompared, Finds, FindsVoid}
+use Rattle.egt_entries.specs.Rules.{Fits, AgreesInKind, Keeps, rule_place, IsJudged}
+use Rattle.egt_entries.specs.Score.{value_of, IsDueDraw, IsDue}
+use Rattle.egt_entries.specs.Tables.{Tables, entry_at, ShowsOf}
 use Rattle.egt_check.proofs.Showing.{shows_once}
 
 -- what shows something is in range, and not 0

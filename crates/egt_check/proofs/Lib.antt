@@ -1,18 +1,13 @@
-pub mod Carry
 pub mod Alike
 pub mod Told
 pub mod TrueTables
 pub mod ReachTold
 pub mod TrueReach
-pub mod Due
 pub mod Showing
 pub mod Finding
 pub mod Stepping
 pub mod FirstRule
-pub mod Judged
 pub mod Shelving
-pub mod Raising
-mod Scoring
 mod Marks
 mod ShelfJudged
 pub mod Worth
@@ -42,8 +37,6 @@ pub mod PromotionTables
 pub mod LeapRaising
 pub mod PassingRaising
 pub mod Nearing
-pub mod ReachRule
-pub mod Ascending
 pub mod NearReading
 pub mod VoidScores
 pub mod NearBytes

@@ -12,8 +12,8 @@ use Rattle.egt_index.specs.ShelfCodes.{AreIndexed, AreIndexes, IsWithin, number_
 use Rattle.egt_index.specs.Size.{size_of}
 use Rattle.egt_index.specs.declared.places.Places.{Places}
 use Rattle.egt_table.specs.Table.{TableValue}
-use Rattle.egt_check.specs.declared.metric.Metric.TheVariants.{Mate, Zeroing}
-use Rattle.egt_check.specs.Tables.{entry_at}
+use Rattle.egt_entries.specs.declared.metric.Metric.TheVariants.{Mate, Zeroing}
+use Rattle.egt_entries.specs.Tables.{entry_at}
 use Rattle.egt_check.specs.Voids.{AreAllAlike, TellsVoid, TellsVoids, TellsVoidsIn}
 use Rattle.egt_check.specs.Worth.{score_at}
 use Rattle.egt_check.proofs.AllJudged.{some_score}

@@ -5,10 +5,10 @@ use Rattle.egt_index.specs.Index.{IsVoid}
 use Rattle.egt_index.specs.Size.{size_of}
 use Rattle.egt_lanes.specs.Near.{IsVoidOrNear}
 use Rattle.egt_table.specs.Table.{TableValue}
-use Rattle.egt_check.specs.declared.metric.Metric.{Metric}
-use Rattle.egt_check.specs.declared.metric.Metric.TheVariants.{Mate, Zeroing}
+use Rattle.egt_entries.specs.declared.metric.Metric.{Metric}
+use Rattle.egt_entries.specs.declared.metric.Metric.TheVariants.{Mate, Zeroing}
 use Rattle.egt_check.specs.Given.{AreAlike, IsKnown}
-use Rattle.egt_check.specs.Tables.{entry_at, reach_at}
+use Rattle.egt_entries.specs.Tables.{entry_at, reach_at}
 use Rattle.egt_check.specs.Voids.{TellsVoids}
 use Rattle.egt_check.specs.Worth.{HasBytes}
 use Rattle.egt_check.proofs.NearReading.{near, near_at}

@@ -10,15 +10,15 @@ use Rattle.egt_moves.specs.Arena.{NoMove}
 use Rattle.egt_moves.specs.Chess.{chess}
 use Rattle.egt_moves.specs.declared.chess_move.Move.{Move}
 use Rattle.egt_table.specs.Table.{TableValue, entries_or_none}
-use Rattle.egt_check.specs.declared.metric.Metric.TheVariants.{Mate}
-use Rattle.egt_check.specs.declared.rule.Rule.TheVariants as rules
+use Rattle.egt_entries.specs.declared.metric.Metric.TheVariants.{Mate}
+use Rattle.egt_entries.specs.declared.rule.Rule.TheVariants as rules
 use Rattle.egt_steps.specs.Facts.{Facts}
 use Rattle.egt_check.specs.Given.{AreGiven, HasScores, IsKnown}
-use Rattle.egt_check.specs.NearTables.{near_entry, near_if, near_of, near_table, near_tables}
-use Rattle.egt_check.specs.Reach.{FitsReachBeside, HasReachEntry, ShowsReachOf, reach_entry_of}
-use Rattle.egt_check.specs.Rules.{IsJudgedBy, KeepsReach}
-use Rattle.egt_check.specs.Score.{IsAtEnd}
-use Rattle.egt_check.specs.Tables.{HasEntry, Tables, entry_at, reach_at}
+use Rattle.egt_entries.specs.NearTables.{near_entry, near_if, near_of, near_table, near_tables}
+use Rattle.egt_entries.specs.Reach.{FitsReachBeside, HasReachEntry, ShowsReachOf, reach_entry_of}
+use Rattle.egt_entries.specs.Rules.{IsJudgedBy, KeepsReach}
+use Rattle.egt_entries.specs.Score.{IsAtEnd}
+use Rattle.egt_entries.specs.Tables.{HasEntry, Tables, entry_at, reach_at}
 use Rattle.egt_check.proofs.ByteJudged.{byte_loss}
 
 -- ---- entries as they are read

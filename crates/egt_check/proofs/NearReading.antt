@@ -11,12 +11,12 @@ use Rattle.egt_lanes.specs.Scores.{byte_score}
 use Rattle.egt_table.specs.Table.{HasColumn, IsTable, TableValue, entries_of, entries_or_none}
 use Rattle.egt_table.specs.declared.column.Column.{Column}
 use Rattle.egt_table.specs.declared.column.Column.TheVariants as columns
-use Rattle.egt_check.specs.declared.metric.Metric.TheVariants.{Mate}
+use Rattle.egt_entries.specs.declared.metric.Metric.TheVariants.{Mate}
 use Rattle.egt_check.specs.declared.part.Part.{Part}
 use Rattle.egt_check.specs.declared.part.Part.TheVariants.{Values, Reach}
-use Rattle.egt_check.specs.NearTables.{near_entry, near_if, near_of, near_table}
+use Rattle.egt_entries.specs.NearTables.{near_entry, near_if, near_of, near_table}
 use Rattle.egt_check.specs.Parts.{column_of, table_in, tables_in}
-use Rattle.egt_check.specs.Tables.{Tables, entry_at, reach_at}
+use Rattle.egt_entries.specs.Tables.{Tables, entry_at, reach_at}
 use Rattle.egt_check.specs.Worth.{HasBytes, column_score, score_at}
 
 -- ---- entries

@@ -9,7 +9,7 @@ use Rattle.egt_lanes.specs.Raised.{IsRaised}
 use Rattle.egt_lanes.specs.Scores.{zeroing_score}
 use Rattle.egt_table.specs.Table.{IsTable, TableValue}
 use Rattle.egt_table.specs.declared.column.Column.TheVariants as columns
-use Rattle.egt_check.specs.declared.metric.Metric.TheVariants.{Mate}
+use Rattle.egt_entries.specs.declared.metric.Metric.TheVariants.{Mate}
 use Rattle.egt_check.specs.declared.part.Part.TheVariants.{Reach}
 use Rattle.egt_check.specs.declared.move_scores.FourMen.{FourMen}
 use Rattle.egt_check.specs.declared.pawn_scores.Promotion.{Promotion}
@@ -18,7 +18,7 @@ use Rattle.egt_check.specs.MoveScores.{AreAllScores, AreMoveScores, ArePassingCa
 use Rattle.egt_check.specs.Parts.{four_in, promotion_in, promotions_in, some_promotions_in}
 use Rattle.egt_check.specs.PawnScores.{ArePawnScores, HasPromotion, HasPromotions, IsPromotionScore, IsRaisedByPawn}
 use Rattle.egt_check.specs.ReachScores.{AreAllReachScores, AreReachScores}
-use Rattle.egt_check.specs.Tables.{Tables}
+use Rattle.egt_entries.specs.Tables.{Tables}
 use Rattle.egt_check.specs.Taken.{men_swapped}
 use Rattle.egt_check.specs.Worth.{HasBytes, column_score, score_at}
 use Rattle.egt_check.proofs.NearReading.{near, near_scores}

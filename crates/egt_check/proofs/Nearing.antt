@@ -12,11 +12,11 @@ use Rattle.egt_moves.specs.declared.chess_move.Move.{Move}
 use Rattle.egt_moves.specs.Standing.{StandsAs}
 use Rattle.egt_moves.specs.declared.outcome.Standing.{Standing}
 use Rattle.egt_moves.specs.declared.outcome.Standing.TheVariants.{Checkmate, Stalemate, HasMove}
-use Rattle.egt_check.specs.Entry.{longest}
+use Rattle.egt_entries.specs.Entry.{longest}
 use Rattle.egt_steps.specs.Facts.{Facts}
-use Rattle.egt_check.specs.Nearest.{nearer, IsNearest}
-use Rattle.egt_check.specs.Reach.{HasReachEntry, IsReachDue, ShowsReach, ShowsReachOf}
-use Rattle.egt_check.specs.Tables.{Tables, reach_at}
+use Rattle.egt_entries.specs.Nearest.{nearer, IsNearest}
+use Rattle.egt_entries.specs.Reach.{HasReachEntry, IsReachDue, ShowsReach, ShowsReachOf}
+use Rattle.egt_entries.specs.Tables.{Tables, reach_at}
 
 -- a position has one entry
 pub one_reach_entry : (facts : Facts) (tables : Tables) (p : Setup) → IsAdmissible p → (x y : ℕ) → HasReachEntry tables p x → HasReachEntry tables p y → x ≡ y

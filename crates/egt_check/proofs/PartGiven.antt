@@ -16,11 +16,11 @@ use Rattle.egt_moves.specs.Chess.{Zeroes}
 use Rattle.egt_moves.specs.Legal.{Leads}
 use Rattle.egt_moves.specs.declared.chess_move.Move.{Move}
 use Rattle.egt_table.specs.Table.{IsTable, TableValue}
-use Rattle.egt_check.specs.declared.metric.Metric.{Metric}
-use Rattle.egt_check.specs.declared.metric.Metric.TheVariants.{Mate, Zeroing}
+use Rattle.egt_entries.specs.declared.metric.Metric.{Metric}
+use Rattle.egt_entries.specs.declared.metric.Metric.TheVariants.{Mate, Zeroing}
 use Rattle.egt_steps.specs.Facts.{Facts}
 use Rattle.egt_check.specs.Given.{AreAlike, AreGiven, HasScores, IsGiven}
-use Rattle.egt_check.specs.Tables.{HasEntry, Tables, entry_at}
+use Rattle.egt_entries.specs.Tables.{HasEntry, Tables, entry_at}
 use Rattle.egt_check.specs.Worth.{HasBytes, IsBestWith, IsScoreWith, score_at}
 use Rattle.egt_steps.proofs.Leaping.{settled_index}
 use Rattle.egt_check.proofs.ByteJudged.{zeroing_above}

@@ -29,7 +29,7 @@ use Rattle.egt_moves.specs.Legal.{Leads}
 use Rattle.egt_moves.specs.Promotion.{arriving, is_pawn, promotes}
 use Rattle.egt_moves.specs.declared.chess_move.Move.{Move}
 use Rattle.egt_table.specs.Table.{TableValue}
-use Rattle.egt_check.specs.declared.metric.Metric.TheVariants.{Mate}
+use Rattle.egt_entries.specs.declared.metric.Metric.TheVariants.{Mate}
 use Rattle.egt_steps.specs.Facts.{Facts}
 use Rattle.egt_check.specs.Given.{AreGiven}
 use Rattle.egt_steps.specs.InPassing.{AreLeapCodes, ArePassingCodes, AreStepCodes, IsPassingCapture, IsPassingFrom, LeavesTarget}
@@ -37,7 +37,7 @@ use Rattle.egt_steps.specs.PawnMoves.{AreAdvancedCodes, ArePromotedCodes, IsAdva
 use Rattle.egt_check.specs.Taken.{IsTableAfter, IsTableOf}
 use Rattle.egt_steps.specs.QuietStands.{IsClear}
 use Rattle.egt_steps.specs.Takings.{IsClassOf, IsPastKings, left_of, stand_left}
-use Rattle.egt_check.specs.Tables.{Tables}
+use Rattle.egt_entries.specs.Tables.{Tables}
 use Rattle.egt_check.specs.Worth.{score_at}
 use Rattle.egt_check.proofs.ByteJudged.{zeroing_max}
 use Rattle.egt_check.proofs.EitherGiven.{same_given, union_given}

@@ -20,14 +20,14 @@ use Rattle.egt_moves.specs.declared.chess_move.Move.{Move}
 use Rattle.egt_moves.proofs.Admissible.{pawn_told}
 use Rattle.egt_table.specs.Table.{TableValue}
 use Rattle.egt_table.specs.declared.column.Column.TheVariants as columns
-use Rattle.egt_check.specs.declared.metric.Metric.TheVariants.{Mate}
+use Rattle.egt_entries.specs.declared.metric.Metric.TheVariants.{Mate}
 use Rattle.egt_steps.specs.Stands.{stand_on}
 use Rattle.egt_check.specs.Given.{AreGiven}
 use Rattle.egt_steps.specs.InPassing.{AreLeapCodes, ArePassingCodes, AreStepCodes, IsOfFourKinds, IsPassingFrom}
 use Rattle.egt_steps.specs.PawnMoves.{AreAdvancedCodes, ArePromotedCodes, IsAdvanceFrom, IsPromotingCaptureFrom, officer_of}
 use Rattle.egt_check.specs.Taken.{IsTableAfter, IsTableOf, men_swapped}
 use Rattle.egt_check.specs.PawnScores.{ArePawnScores, AreRaisedByPawns, HasPromotion, HasPromotions, IsPromotionScore, IsRaisedByPawn}
-use Rattle.egt_check.specs.Tables.{Tables}
+use Rattle.egt_entries.specs.Tables.{Tables}
 use Rattle.egt_steps.specs.Takings.{IsPlainCapture}
 use Rattle.egt_check.specs.Worth.{score_at}
 use Rattle.egt_check.specs.declared.pawn_scores.Promotion.{Promotion}

@@ -7,10 +7,10 @@ use Rattle.egt_board.specs.Images.{AreImages}
 use Rattle.egt_board.specs.Setup.{Setup, IsAdmissible}
 use Rattle.egt_index.specs.Index.{IsIndex}
 use Rattle.egt_table.specs.Table.{TableValue}
-use Rattle.egt_check.specs.Entry.{longest}
+use Rattle.egt_entries.specs.Entry.{longest}
 use Rattle.egt_steps.specs.Facts.{Facts}
-use Rattle.egt_check.specs.Reach.{HasReachEntry, ShowsReach, ShowsReachOf}
-use Rattle.egt_check.specs.Tables.{Tables, reach_at}
+use Rattle.egt_entries.specs.Reach.{HasReachEntry, ShowsReach, ShowsReachOf}
+use Rattle.egt_entries.specs.Tables.{Tables, reach_at}
 use Rattle.egt_check.proofs.Alike.{image_index}
 
 -- the number that an entry shows, if it shows one

@@ -7,11 +7,11 @@ use Rattle.std.proofs.lemmas.List.{get_or-set_other, get_or-set_same, length-set
 use Rattle.std.proofs.lemmas.Bool.Decides.{eqb_tells}
 use Rattle.egt_class.specs.Children.{children_of}
 use Rattle.egt_table.specs.Table.{TableValue, IsTable}
-use Rattle.egt_check.specs.declared.reject.Reject.{Reject}
-use Rattle.egt_check.specs.declared.reject.Reject.TheVariants.{Missing, NoReach, Rejected, AlreadyThere}
-use Rattle.egt_check.specs.Library.{IsLibrary, IsRefused, IsShelved, IsTurnedAway, ReachesDown}
-use Rattle.egt_check.specs.Tables.{Tables, table_at, beside, HasChildren}
-use Rattle.egt_check.specs.Truth.{IsTrueTable, HasTrueChildren}
+use Rattle.egt_entries.specs.declared.reject.Reject.{Reject}
+use Rattle.egt_entries.specs.declared.reject.Reject.TheVariants.{Missing, NoReach, Rejected, AlreadyThere}
+use Rattle.egt_entries.specs.Library.{IsLibrary, IsRefused, IsShelved, IsTurnedAway, ReachesDown}
+use Rattle.egt_entries.specs.Tables.{Tables, table_at, beside, HasChildren}
+use Rattle.egt_entries.specs.Truth.{IsTrueTable, HasTrueChildren}
 use Rattle.egt_check.proofs.Finding.{lower, beside_own, beside_other, beside_some}
 
 abbrev pub Places : Type 0

@@ -4,13 +4,13 @@ use Rattle.egt_board.specs.Setup.{Setup, IsAdmissible}
 use Rattle.egt_index.specs.Index.{IsIndex}
 use Rattle.egt_moves.specs.Arena.{Value, Win, Loss, Draw}
 use Rattle.egt_moves.specs.Chess.{chess}
-use Rattle.egt_check.specs.declared.metric.Metric.{Metric}
-use Rattle.egt_check.specs.declared.outcome.Outcome.{Outcome}
-use Rattle.egt_check.specs.Entry.{Shows}
+use Rattle.egt_entries.specs.declared.metric.Metric.{Metric}
+use Rattle.egt_entries.specs.declared.outcome.Outcome.{Outcome}
+use Rattle.egt_entries.specs.Entry.{Shows}
 use Rattle.egt_steps.specs.Facts.{Facts}
-use Rattle.egt_check.specs.Score.{IsShownBy}
-use Rattle.egt_check.specs.Tables.{Tables, entry_at, HasEntry, ShowsOf}
-use Rattle.egt_check.proofs.Due.{IsOne, IsShownOf}
+use Rattle.egt_entries.specs.Score.{IsShownBy}
+use Rattle.egt_entries.specs.Tables.{Tables, entry_at, HasEntry, ShowsOf}
+use Rattle.egt_entries.proofs.Due.{IsOne, IsShownOf}
 
 -- an entry shows one value
 pub shows_once : (x : ℕ) (v w : Value) → Shows x v → Shows x w → v ≡ w

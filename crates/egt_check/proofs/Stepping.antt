@@ -5,14 +5,14 @@ use Rattle.egt_moves.specs.declared.chess_move.Move.{Move}
 use Rattle.egt_moves.specs.Chess.{Zeroes}
 use Rattle.egt_moves.specs.DecidedMoves.{leads_to_one}
 use Rattle.egt_moves.specs.Legal.{Leads}
-use Rattle.egt_check.specs.declared.metric.Metric.{Metric}
-use Rattle.egt_check.specs.declared.metric.Metric.TheVariants.{Mate, Zeroing}
-use Rattle.egt_check.specs.declared.by_metric.ByMetric.{ByMetric}
-use Rattle.egt_check.specs.declared.outcome.Outcome.{Outcome}
+use Rattle.egt_entries.specs.declared.metric.Metric.{Metric}
+use Rattle.egt_entries.specs.declared.metric.Metric.TheVariants.{Mate, Zeroing}
+use Rattle.egt_entries.specs.declared.by_metric.ByMetric.{ByMetric}
+use Rattle.egt_entries.specs.declared.outcome.Outcome.{Outcome}
 use Rattle.egt_steps.specs.Facts.{Facts}
-use Rattle.egt_check.specs.Score.{number_at, IsShownBy, IsSaid, score_of, Scores, zeroing_said}
-use Rattle.egt_check.specs.Tables.{Tables, HasEntry, ShowsOf}
-use Rattle.egt_check.proofs.Due.{mate_said, zeroing_is_said}
+use Rattle.egt_entries.specs.Score.{number_at, IsShownBy, IsSaid, score_of, Scores, zeroing_said}
+use Rattle.egt_entries.specs.Tables.{Tables, HasEntry, ShowsOf}
+use Rattle.egt_entries.proofs.Due.{mate_said, zeroing_is_said}
 use Rattle.egt_check.proofs.Showing.{one_shown, shown_of}
 
 -- the entries of the position that the move leads to, what they show, and whether the move zeroes

@@ -21,8 +21,8 @@ use Rattle.egt_index.specs.Size.{size_of}
 use Rattle.egt_table.specs.Table.{HasColumn, TableValue}
 use Rattle.egt_check.specs.declared.part.Part.{Part}
 use Rattle.egt_check.specs.Parts.{column_of, table_in, tables_in}
-use Rattle.egt_check.specs.Library.{IsShelved}
-use Rattle.egt_check.specs.Tables.{Tables, beside}
+use Rattle.egt_entries.specs.Library.{IsShelved}
+use Rattle.egt_entries.specs.Tables.{Tables, beside}
 use Rattle.egt_check.specs.Taken.{IsTableOf}
 use Rattle.egt_check.specs.Worth.{HasBytes}
 use Rattle.egt_check.proofs.Finding.{beside_other}

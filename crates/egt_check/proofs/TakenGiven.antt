@@ -17,13 +17,13 @@ use Rattle.egt_moves.specs.DecidedMoves.{leads_to_one}
 use Rattle.egt_moves.specs.Legal.{Leads}
 use Rattle.egt_moves.specs.declared.chess_move.Move.{Move}
 use Rattle.egt_table.specs.Table.{TableValue}
-use Rattle.egt_check.specs.declared.metric.Metric.TheVariants.{Mate}
+use Rattle.egt_entries.specs.declared.metric.Metric.TheVariants.{Mate}
 use Rattle.egt_steps.specs.Stands.{IsBesideKing, stand_on, with_king}
 use Rattle.egt_steps.specs.Facts.{Facts}
 use Rattle.egt_check.specs.Given.{AreGiven}
 use Rattle.egt_check.specs.Taken.{AreLeftCodes, IsLastTaken, IsTableOf, men_swapped}
 use Rattle.egt_steps.specs.Takings.{IsClassOf, IsPlainCapture, IsTaken, Left, left_of, stand_left}
-use Rattle.egt_check.specs.Tables.{Tables}
+use Rattle.egt_entries.specs.Tables.{Tables}
 use Rattle.egt_check.specs.Worth.{score_at}
 use Rattle.egt_check.proofs.ByteJudged.{zeroing_max}
 use Rattle.egt_check.proofs.EitherGiven.{union_given}

@@ -5,10 +5,10 @@ use Rattle.egt_board.specs.DecidedSetup.{decided_admissible}
 use Rattle.egt_board.specs.Setup.{Setup, IsAdmissible}
 use Rattle.egt_index.specs.Index.{IsIndex}
 use Rattle.egt_moves.specs.Arena.{Value, Draw}
-use Rattle.egt_check.specs.declared.metric.Metric.{Metric}
+use Rattle.egt_entries.specs.declared.metric.Metric.{Metric}
 use Rattle.egt_table.specs.Table.{TableValue}
 use Rattle.egt_steps.specs.Facts.{Facts}
-use Rattle.egt_check.specs.Tables.{Tables, entry_at, HasEntry, ShowsOf}
+use Rattle.egt_entries.specs.Tables.{Tables, entry_at, HasEntry, ShowsOf}
 use Rattle.egt_check.specs.Reading.{read, read_shown}
 
 module _ (facts : Facts) (tables : Tables) where

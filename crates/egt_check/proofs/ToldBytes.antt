@@ -5,12 +5,12 @@ use Rattle.egt_index.specs.Index.{IsVoid}
 use Rattle.egt_index.specs.Size.{size_of}
 use Rattle.egt_lanes.specs.Alike.{AreDecided, AreVoidOrAlike}
 use Rattle.egt_table.specs.Table.{TableValue}
-use Rattle.egt_check.specs.declared.metric.Metric.{Metric}
-use Rattle.egt_check.specs.declared.metric.Metric.TheVariants.{Mate, Zeroing}
+use Rattle.egt_entries.specs.declared.metric.Metric.{Metric}
+use Rattle.egt_entries.specs.declared.metric.Metric.TheVariants.{Mate, Zeroing}
 use Rattle.egt_check.specs.Given.{AreAlike, IsKnown}
 use Rattle.egt_check.specs.Reading.{shown_range}
-use Rattle.egt_check.specs.Tables.{entry_at}
-use Rattle.egt_check.specs.Truth.{IsTrueTable}
+use Rattle.egt_entries.specs.Tables.{entry_at}
+use Rattle.egt_entries.specs.Truth.{IsTrueTable}
 use Rattle.egt_check.specs.Voids.{AreAllAlike, TellsVoids}
 use Rattle.egt_check.specs.Worth.{HasBytes}
 

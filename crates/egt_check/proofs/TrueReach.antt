@@ -10,14 +10,14 @@ use Rattle.egt_index.specs.Size.{size_of}
 use Rattle.egt_moves.specs.Chess.{chess}
 use Rattle.egt_moves.specs.Reach.{FitsReach as FitsNumbers, HasReach, ReachJudgedOver}
 use Rattle.egt_table.specs.Table.{TableValue, IsTable}
-use Rattle.egt_check.specs.declared.rule.Rule.TheVariants as rules
+use Rattle.egt_entries.specs.declared.rule.Rule.TheVariants as rules
 use Rattle.egt_check.specs.Alike.{StepAlike}
 use Rattle.egt_steps.specs.Facts.{Facts}
-use Rattle.egt_check.specs.Library.{ReachesDown}
-use Rattle.egt_check.specs.Reach.{FitsReachBeside, HasReachEntry, ShowsReach, ShowsReachOf}
-use Rattle.egt_check.specs.Rules.{FitsReach, KeepsReach, KeepsReachBelow}
-use Rattle.egt_check.specs.Tables.{Tables, reach_at}
-use Rattle.egt_check.specs.Truth.{IsTrueReach, HasTrueChildren}
+use Rattle.egt_entries.specs.Library.{ReachesDown}
+use Rattle.egt_entries.specs.Reach.{FitsReachBeside, HasReachEntry, ShowsReach, ShowsReachOf}
+use Rattle.egt_entries.specs.Rules.{FitsReach, KeepsReach, KeepsReachBelow}
+use Rattle.egt_entries.specs.Tables.{Tables, reach_at}
+use Rattle.egt_entries.specs.Truth.{IsTrueReach, HasTrueChildren}
 use Rattle.egt_check.proofs.Alike.{settled_image_alike, indexed_class}
 use Rattle.egt_check.proofs.ReachTold.{images_show_reach, number_at, reach_in_range, reach_range, reach_shown_told, reach_told_shown}
 use Rattle.egt_check.proofs.TrueTables.{Child, Own, is_own, own, owned, step}

@@ -14,20 +14,20 @@ use Rattle.egt_index.specs.Size.{size_of}
 use Rattle.egt_moves.specs.Arena.{Value, Win, Loss, Draw}
 use Rattle.egt_moves.specs.Chess.{chess}
 use Rattle.egt_moves.specs.Entries as entries
-use Rattle.egt_check.specs.declared.metric.Metric.{Metric}
-use Rattle.egt_check.specs.declared.metric.Metric.TheVariants.{Mate, Zeroing}
+use Rattle.egt_entries.specs.declared.metric.Metric.{Metric}
+use Rattle.egt_entries.specs.declared.metric.Metric.TheVariants.{Mate, Zeroing}
 use Rattle.egt_table.specs.Table.{TableValue, IsTable}
-use Rattle.egt_check.specs.declared.rule.Rule.{Rule}
-use Rattle.egt_check.specs.declared.rule.Rule.TheVariants as rules
+use Rattle.egt_entries.specs.declared.rule.Rule.{Rule}
+use Rattle.egt_entries.specs.declared.rule.Rule.TheVariants as rules
 use Rattle.egt_check.specs.Alike.{StepAlike}
-use Rattle.egt_check.specs.Entry.{Shows}
+use Rattle.egt_entries.specs.Entry.{Shows}
 use Rattle.egt_steps.specs.Facts.{Facts}
-use Rattle.egt_check.specs.Fits.{Shown, FitsBeside}
-use Rattle.egt_check.specs.Rules.{Fits, Keeps, KeepsBelow}
-use Rattle.egt_check.specs.Tables.{Tables, entry_at, HasEntry, ShowsOf}
-use Rattle.egt_check.specs.Truth.{Tells, IsTrueTable, HasTrueChildren}
+use Rattle.egt_entries.specs.Fits.{Shown, FitsBeside}
+use Rattle.egt_entries.specs.Rules.{Fits, Keeps, KeepsBelow}
+use Rattle.egt_entries.specs.Tables.{Tables, entry_at, HasEntry, ShowsOf}
+use Rattle.egt_entries.specs.Truth.{Tells, IsTrueTable, HasTrueChildren}
 use Rattle.egt_check.proofs.Alike.{settled_image_alike, indexed_class, images_show_alike}
-use Rattle.egt_check.proofs.Carry.{ShownAlike, PlaysLike, carry}
+use Rattle.egt_entries.proofs.Carry.{ShownAlike, PlaysLike, carry}
 use Rattle.egt_check.specs.Reading.{in_range, shown_range}
 use Rattle.egt_check.proofs.Told.{value_at, shown_told, told_shown}
 

@@ -7,11 +7,11 @@ use Rattle.egt_index.specs.Size.{size_of}
 use Rattle.egt_lanes.specs.Scores.{reach_score}
 use Rattle.egt_table.specs.Table.{HasColumn, IsTable, TableValue, entries_or_none}
 use Rattle.egt_table.specs.declared.column.Column.TheVariants as columns
-use Rattle.egt_check.specs.declared.metric.Metric.TheVariants.{Mate, Zeroing}
+use Rattle.egt_entries.specs.declared.metric.Metric.TheVariants.{Mate, Zeroing}
 use Rattle.egt_check.specs.declared.part.Part.{Part}
 use Rattle.egt_check.specs.declared.part.Part.TheVariants.{Values, Reach}
 use Rattle.egt_check.specs.Parts.{column_of, table_in}
-use Rattle.egt_check.specs.Tables.{reach_at}
+use Rattle.egt_entries.specs.Tables.{reach_at}
 use Rattle.egt_check.specs.Worth.{HasBytes, ScoresNoVoids}
 use Rattle.egt_check.proofs.NearReading.{near, near_at}
 use Rattle.egt_check.proofs.Worth.{void_score}

@@ -17,10 +17,10 @@ use Rattle.egt_lanes.specs.Raised.{IsRaised}
 use Rattle.egt_lanes.specs.Scores.{byte_score}
 use Rattle.egt_table.specs.Table.{IsTable, TableValue}
 use Rattle.egt_table.specs.declared.column.Column.TheVariants as columns
-use Rattle.egt_check.specs.declared.metric.Metric.{Metric}
-use Rattle.egt_check.specs.declared.metric.Metric.TheVariants.{Mate, Zeroing}
+use Rattle.egt_entries.specs.declared.metric.Metric.{Metric}
+use Rattle.egt_entries.specs.declared.metric.Metric.TheVariants.{Mate, Zeroing}
 use Rattle.egt_steps.specs.Facts.{Facts}
-use Rattle.egt_check.specs.Tables.{entries_in, entry_at}
+use Rattle.egt_entries.specs.Tables.{entries_in, entry_at}
 use Rattle.egt_check.specs.Worth.{HasBytes, IsBestOf, IsBestWith, IsScoreWith, score_at}
 
 -- what codes tell of turned men, by the law of egt_index

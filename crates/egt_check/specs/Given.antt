@@ -5,8 +5,8 @@ use Rattle.egt_lanes.specs.Scores.{byte_score, zeroing_score}
 use Rattle.egt_moves.specs.Chess.{Zeroes}
 use Rattle.egt_moves.specs.Legal.{Leads}
 use Rattle.egt_moves.specs.declared.chess_move.Move.{Move}
-use Rattle.egt_check.specs.declared.metric.Metric.TheVariants.{Mate, Zeroing}
-use Rattle.egt_check.specs.Tables.{Tables, HasEntry}
+use Rattle.egt_entries.specs.declared.metric.Metric.TheVariants.{Mate, Zeroing}
+use Rattle.egt_entries.specs.Tables.{Tables, HasEntry}
 
 -- the entry has a byte of its own
 pub record IsKnown (entry : ℕ) : Type 0 where

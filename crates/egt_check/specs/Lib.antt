@@ -1,19 +1,5 @@
-pub mod Entry
-pub mod Tables
-pub mod Fits
-pub mod Reach
-pub mod NearTables
-pub mod Rules
-pub mod Truth
-pub mod Library
-pub mod Names
 pub mod Alike
 pub mod Reading
-pub mod Score
-pub mod FirstBad
-pub mod Steps
-pub mod Raised
-pub mod Judged
 pub mod Kept
 pub mod Voids
 pub mod Worth
@@ -31,7 +17,5 @@ pub mod ShelfRow
 pub mod Leaps
 pub mod PassedRows
 pub mod Place
-pub mod Nearest
-pub mod ReachJudged
 pub mod Parts
 pub mod ReachScores

@@ -11,12 +11,12 @@ use Rattle.egt_lanes.specs.Scores.{zeroing_score}
 use Rattle.egt_table.specs.Table.{HasColumn, IsTable}
 use Rattle.egt_table.specs.declared.column.Column.{Column}
 use Rattle.egt_table.specs.declared.column.Column.TheVariants as columns
-use Rattle.egt_check.specs.declared.metric.Metric.TheVariants.{Mate, Zeroing}
+use Rattle.egt_entries.specs.declared.metric.Metric.TheVariants.{Mate, Zeroing}
 use Rattle.egt_steps.specs.InPassing.{ArePassingCodes}
 use Rattle.egt_steps.specs.PawnMoves.{IsClassOfTwo}
 use Rattle.egt_check.specs.PawnScores.{ArePromotionsOf, AreRaisedByPawns, HasPromotions}
 use Rattle.egt_steps.specs.QuietStands.{AreQuietCodes}
-use Rattle.egt_check.specs.Tables.{Tables}
+use Rattle.egt_entries.specs.Tables.{Tables}
 use Rattle.egt_check.specs.Taken.{AreLeftCodes, IsTableOf, men_swapped}
 use Rattle.egt_check.specs.Worth.{HasBytes, ScoresNoVoids, column_score, score_at}
 use Rattle.egt_check.specs.declared.move_scores.FourMen.{FourMen}

@@ -14,7 +14,7 @@ use Rattle.egt_table.specs.declared.column.Column.{Column}
 use Rattle.egt_steps.specs.InPassing.{AreLeapCodes, AreStepCodes}
 use Rattle.egt_steps.specs.PawnMoves.{AreAdvancedCodes, ArePromotedCodes, men_after, officer_of}
 use Rattle.egt_check.specs.Taken.{IsTableAfter, IsTableOf, men_swapped}
-use Rattle.egt_check.specs.Tables.{Tables}
+use Rattle.egt_entries.specs.Tables.{Tables}
 use Rattle.egt_check.specs.Worth.{ScoresNoVoids, column_score}
 use Rattle.egt_check.specs.declared.pawn_scores.Promotion.{Promotion}
 use Rattle.egt_check.specs.declared.pawn_scores.Promotions.{Promotions}

@@ -4,7 +4,7 @@ use Rattle.egt_board.specs.Setup.{Setup}
 use Rattle.egt_class.specs.Membership.{IsOf}
 use Rattle.egt_index.specs.Index.{IsIndex}
 use Rattle.egt_table.specs.Table.{TableValue}
-use Rattle.egt_check.specs.Tables.{Tables}
+use Rattle.egt_entries.specs.Tables.{Tables}
 use Rattle.egt_check.specs.declared.successors.Place.{Place}
 
 -- the class and the index of the position

@@ -5,12 +5,12 @@ use Rattle.egt_index.specs.Code.{Spells}
 use Rattle.egt_lanes.specs.Scores.{due_score, reach_due_score}
 use Rattle.egt_table.specs.Table.{TableValue}
 use Rattle.egt_table.specs.declared.column.Column.TheVariants as columns
-use Rattle.egt_check.specs.declared.metric.Metric.TheVariants.{Mate, Zeroing}
+use Rattle.egt_entries.specs.declared.metric.Metric.TheVariants.{Mate, Zeroing}
 use Rattle.egt_check.specs.declared.part.Part.{Part}
 use Rattle.egt_check.specs.declared.part.Part.TheVariants.{Values, Reach}
-use Rattle.egt_check.specs.NearTables.{near_entry}
-use Rattle.egt_check.specs.Score.{IsAtEnd}
-use Rattle.egt_check.specs.Tables.{entry_at, reach_at}
+use Rattle.egt_entries.specs.NearTables.{near_entry}
+use Rattle.egt_entries.specs.Score.{IsAtEnd}
+use Rattle.egt_entries.specs.Tables.{entry_at, reach_at}
 use Rattle.egt_check.specs.Worth.{column_score, score_at}
 
 -- the entries at a code without a move, told by checkmate or stalemate

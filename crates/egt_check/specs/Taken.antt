@@ -10,7 +10,7 @@ use Rattle.egt_table.specs.Table.{IsTable, TableValue}
 use Rattle.egt_steps.specs.Stands.{IsBesideKing, with_king}
 use Rattle.egt_steps.specs.PawnMoves.{IsClassAfter}
 use Rattle.egt_steps.specs.Takings.{IsClassOf, IsPastKings, Left, left_of, stand_left}
-use Rattle.egt_check.specs.Tables.{Tables}
+use Rattle.egt_entries.specs.Tables.{Tables}
 use Rattle.egt_check.specs.Worth.{HasBytes}
 
 -- that side takes the last man, on b, by its king or by the first man, on a

@@ -7,8 +7,8 @@ use Rattle.egt_index.specs.ShelfCodes.{number_in}
 use Rattle.egt_index.specs.Size.{size_of}
 use Rattle.egt_lanes.specs.Alike.{AreVoidOrAlike}
 use Rattle.egt_table.specs.Table.{TableValue}
-use Rattle.egt_check.specs.declared.metric.Metric.TheVariants.{Mate, Zeroing}
-use Rattle.egt_check.specs.Tables.{entry_at}
+use Rattle.egt_entries.specs.declared.metric.Metric.TheVariants.{Mate, Zeroing}
+use Rattle.egt_entries.specs.Tables.{entry_at}
 
 -- at each code both entries are 0, or have bytes of their own, alike in both columns
 abbrev pub AreAllAlike : TableValue → Type 0

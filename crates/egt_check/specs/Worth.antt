@@ -12,10 +12,10 @@ use Rattle.egt_lanes.specs.Scores.{byte_score, reach_score}
 use Rattle.egt_table.specs.Table.{TableValue, entries_of}
 use Rattle.egt_table.specs.declared.column.Column.{Column}
 use Rattle.egt_table.specs.declared.column.Column.TheVariants as columns
-use Rattle.egt_check.specs.declared.metric.Metric.{Metric}
-use Rattle.egt_check.specs.declared.metric.Metric.TheVariants.{Mate, Zeroing}
+use Rattle.egt_entries.specs.declared.metric.Metric.{Metric}
+use Rattle.egt_entries.specs.declared.metric.Metric.TheVariants.{Mate, Zeroing}
 use Rattle.egt_check.specs.Given.{AreAlike}
-use Rattle.egt_check.specs.Tables.{entry_at}
+use Rattle.egt_entries.specs.Tables.{entry_at}
 
 -- the score of the entry at the code
 abbrev pub score_at : TableValue → Metric → ℕ → ℕ

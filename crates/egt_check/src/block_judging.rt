@@ -12,7 +12,7 @@ ghost use Rattle.egt_check.specs.MoveScores.{AreFourMen, AreTablesOf};
 ghost use Rattle.egt_check.specs.Parts.{column_of, four_in, tables_in};
 ghost use Rattle.egt_check.specs.ReachScores.{AreAllScoresOf};
 ghost use Rattle.egt_check.specs.RightBlock.{AreJudged, IsRightLane};
-ghost use Rattle.egt_check.specs.Tables.{Tables};
+ghost use Rattle.egt_entries.specs.Tables.{Tables};
 
 use crate::blocks::{begin_with, nothing};
 use crate::digits::{digits_of, first_square};

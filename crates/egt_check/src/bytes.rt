@@ -3,7 +3,7 @@ ghost use Rattle.std.specs.Prelude.{◌≡◌, true, IsSome};
 ghost use Rattle.egt_table.specs.Table.{HasColumn};
 ghost use Rattle.egt_check.specs.declared.part.Part.TheVariants as parts;
 ghost use Rattle.egt_check.specs.Parts.{column_of, table_in};
-ghost use Rattle.egt_check.specs.Truth.{IsTrueTable};
+ghost use Rattle.egt_entries.specs.Truth.{IsTrueTable};
 ghost use Rattle.egt_check.specs.Voids.{AreAllAlike, TellsVoids};
 ghost use Rattle.egt_check.specs.Worth.{HasBytes};
 

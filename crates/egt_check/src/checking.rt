@@ -2,22 +2,22 @@
 ghost use Rattle.std.specs.Prelude.{◌≡◌, ◌↔◌, ◌≤◌, IsOk, IfOk, IfErr, IfSome, IfNone, IsSome, IsTrue};
 ghost use Rattle.egt_index.specs.Size.{size_of};
 ghost use Rattle.egt_table.specs.declared.column.Column.TheVariants as columns;
-ghost use Rattle.egt_check.specs.declared.metric.Metric.{Metric};
-ghost use Rattle.egt_check.specs.declared.metric.Metric.TheVariants.{Mate};
-ghost use Rattle.egt_check.specs.Tables.{table_at, beside, HasChildren, HasReachChildren};
-ghost use Rattle.egt_check.specs.Library.{IsAccepted, IsRefused, IsFirstBreak, IsFirstLacking, IsFirstMissing, LacksReach, ReachesDown};
-ghost use Rattle.egt_check.specs.Rules.{KeepsBelow, KeepsReachBelow};
-ghost use Rattle.egt_check.specs.FirstBad.{earlier, IsFirstBad, IsFirstBadReach};
+ghost use Rattle.egt_entries.specs.declared.metric.Metric.{Metric};
+ghost use Rattle.egt_entries.specs.declared.metric.Metric.TheVariants.{Mate};
+ghost use Rattle.egt_entries.specs.Tables.{table_at, beside, HasChildren, HasReachChildren};
+ghost use Rattle.egt_entries.specs.Library.{IsAccepted, IsRefused, IsFirstBreak, IsFirstLacking, IsFirstMissing, LacksReach, ReachesDown};
+ghost use Rattle.egt_entries.specs.Rules.{KeepsBelow, KeepsReachBelow};
+ghost use Rattle.egt_entries.specs.FirstBad.{earlier, IsFirstBad, IsFirstBadReach};
 
 use crate::judging::judge;
 use crate::library::Library;
 use crate::reach_blocks::reach_is_right_by_blocks;
 use crate::reach_judging::judge_reach;
-use crate::reject::Reject;
-use crate::rule::Rule;
 use crate::table_judging::is_right_by_blocks;
 use egt_class::laws::children_have_smaller_numbers;
 use egt_class::{Class, children};
+use egt_entries::reject::Reject;
+use egt_entries::rule::Rule;
 use egt_index::size;
 use egt_table::{Column, Table};
 

@@ -3,9 +3,9 @@ ghost use Rattle.std.specs.Prelude.{◌≡◌, ◌↔◌, ℕ, None, IsOk, IfOk,
 
 use crate::checking::check;
 use crate::laws::rules_are_kept_by_true_tables_alone;
-use crate::reject::Reject;
 use egt_class::Class;
 use egt_class::laws::children_have_smaller_numbers;
+use egt_entries::reject::Reject;
 use egt_table::{NoMemory, Table};
 use std::alloc::Global;
 use std::marker::Model;
@@ -20,7 +20,7 @@ pub struct Library {
 impl Model for Library {
     ghost use Rattle.std.specs.Prelude.{List, Option};
     ghost use Rattle.egt_table.specs.Table.{TableValue};
-    ghost use Rattle.egt_check.specs.Library.{IsLibrary};
+    ghost use Rattle.egt_entries.specs.Library.{IsLibrary};
 
     ghost Value = { List (Option TableValue) };
 
@@ -30,8 +30,8 @@ impl Model for Library {
 }
 
 impl Library {
-    ghost use Rattle.egt_check.specs.Tables.{table_at, beside};
-    ghost use Rattle.egt_check.specs.Library.{IsAccepted, IsTurnedAway, IsShelved};
+    ghost use Rattle.egt_entries.specs.Tables.{table_at, beside};
+    ghost use Rattle.egt_entries.specs.Library.{IsAccepted, IsTurnedAway, IsShelved};
 
     /// A library without tables; places for all 36 are made here, and `admit` makes none.
     ///

@@ -2,7 +2,7 @@
 ghost use Rattle.std.specs.Prelude.{◌≡◌, ◌↔◌, ◌⊎◌, IsTrue, false, true};
 ghost use Rattle.egt_board.specs.declared.man.Kind.TheVariants.{K, P};
 ghost use Rattle.egt_lanes.specs.Pieces.{IsPiece};
-ghost use Rattle.egt_check.specs.Steps.{is_pawn_of};
+ghost use Rattle.egt_entries.specs.Steps.{is_pawn_of};
 
 use egt_board::{Kind, Man, Side};
 

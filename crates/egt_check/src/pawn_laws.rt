@@ -10,12 +10,12 @@ ghost use Rattle.egt_lanes.specs.Raised.{IsRaised};
 ghost use Rattle.egt_lanes.specs.Scores.{zeroing_score};
 ghost use Rattle.egt_moves.specs.Promotion.{arriving};
 ghost use Rattle.egt_table.specs.Table.{TableValue};
-ghost use Rattle.egt_check.specs.declared.metric.Metric.TheVariants.{Mate};
+ghost use Rattle.egt_entries.specs.declared.metric.Metric.TheVariants.{Mate};
 ghost use Rattle.egt_check.specs.Given.{AreGiven};
 ghost use Rattle.egt_steps.specs.InPassing.{AreLeapCodes, ArePassingCodes, AreStepCodes, IsPassingFrom};
 ghost use Rattle.egt_steps.specs.PawnMoves.{AreAdvancedCodes, ArePromotedCodes, IsAdvanceFrom, IsPromotingCaptureFrom, officer_of, stand_in};
 ghost use Rattle.egt_check.specs.Taken.{IsTableAfter, IsTableOf};
-ghost use Rattle.egt_check.specs.Tables.{Tables};
+ghost use Rattle.egt_entries.specs.Tables.{Tables};
 ghost use Rattle.egt_check.specs.Worth.{score_at};
 
 use egt_index::laws::{a_code_is_an_index_or_void, codes_tell_turned_men, numbers_stand_for_codes};

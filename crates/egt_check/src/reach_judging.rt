@@ -1,16 +1,16 @@
 //! The judgement of one index's entry of the column of the nearest mates.
 ghost use Rattle.std.specs.Prelude.{◌<◌, IsSome};
 ghost use Rattle.egt_index.specs.Size.{size_of};
-ghost use Rattle.egt_check.specs.Rules.{IsJudgedBy, KeepsReach};
-ghost use Rattle.egt_check.specs.Reach.{IsReachDue, ShowsReachOf};
-ghost use Rattle.egt_check.specs.ReachJudged.{FindsReach};
-ghost use Rattle.egt_check.specs.Steps.{IsInClass};
-ghost use Rattle.egt_check.specs.Tables.{table_at, beside, HasChildren, HasReachChildren};
+ghost use Rattle.egt_entries.specs.Rules.{IsJudgedBy, KeepsReach};
+ghost use Rattle.egt_entries.specs.Reach.{IsReachDue, ShowsReachOf};
+ghost use Rattle.egt_entries.specs.ReachJudged.{FindsReach};
+ghost use Rattle.egt_entries.specs.Steps.{IsInClass};
+ghost use Rattle.egt_entries.specs.Tables.{table_at, beside, HasChildren, HasReachChildren};
 
 use crate::library::Library;
-use crate::rule::Rule;
 use crate::successors::least_reach;
 use egt_board::Position;
+use egt_entries::rule::Rule;
 use egt_index::laws::{codes_spell_one_position, spelled_positions_are_of_the_class};
 use egt_index::position;
 use egt_moves::{Standing, standing};

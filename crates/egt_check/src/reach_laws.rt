@@ -17,12 +17,12 @@ ghost use Rattle.egt_check.specs.declared.part.Part.TheVariants.{Reach};
 ghost use Rattle.egt_steps.specs.Stands.{stand_on};
 ghost use Rattle.egt_check.specs.Given.{AreGiven};
 ghost use Rattle.egt_check.specs.MoveScores.{AreTablesOf};
-ghost use Rattle.egt_check.specs.NearTables.{near_entry, near_tables};
+ghost use Rattle.egt_entries.specs.NearTables.{near_entry, near_tables};
 ghost use Rattle.egt_check.specs.Parts.{four_in};
 ghost use Rattle.egt_check.specs.ReachScores.{AreAllReachScores};
-ghost use Rattle.egt_check.specs.Rules.{IsJudgedBy, KeepsReach};
-ghost use Rattle.egt_check.specs.Score.{IsAtEnd};
-ghost use Rattle.egt_check.specs.Tables.{Tables, reach_at};
+ghost use Rattle.egt_entries.specs.Rules.{IsJudgedBy, KeepsReach};
+ghost use Rattle.egt_entries.specs.Score.{IsAtEnd};
+ghost use Rattle.egt_entries.specs.Tables.{Tables, reach_at};
 
 use crate::laws::{all_scores_give_all_moves, due_bytes_are_right};
 use egt_index::laws::{

@@ -7,11 +7,11 @@ ghost use Rattle.egt_index.specs.ShelfCodes.{IsShelfOf, IsWithin, number_in};
 ghost use Rattle.egt_index.specs.Size.{size_of};
 ghost use Rattle.egt_lanes.specs.Scores.{due_score};
 ghost use Rattle.egt_table.specs.Table.{HasColumn};
-ghost use Rattle.egt_check.specs.declared.metric.Metric.TheVariants.{Zeroing};
+ghost use Rattle.egt_entries.specs.declared.metric.Metric.TheVariants.{Zeroing};
 ghost use Rattle.egt_check.specs.declared.part.Part.TheVariants as parts;
 ghost use Rattle.egt_check.specs.Parts.{column_of};
 ghost use Rattle.egt_check.specs.RightRow.{IsRightAtOf, IsRightEndOf, due_in};
-ghost use Rattle.egt_check.specs.Score.{IsAtEnd};
+ghost use Rattle.egt_entries.specs.Score.{IsAtEnd};
 ghost use Rattle.egt_check.specs.Worth.{column_score, score_at};
 
 use crate::digits::digit_on;

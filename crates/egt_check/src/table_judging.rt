@@ -15,7 +15,7 @@ ghost use Rattle.egt_index.specs.Size.{size_of};
 ghost use Rattle.egt_index.specs.declared.shelf_codes.ShelfMen.{ShelfMen};
 ghost use Rattle.egt_moves.specs.Promotion.{IsOfficer};
 ghost use Rattle.egt_table.specs.Table.{HasColumn, TableValue};
-ghost use Rattle.egt_check.specs.declared.metric.Metric.{Metric};
+ghost use Rattle.egt_entries.specs.declared.metric.Metric.{Metric};
 ghost use Rattle.egt_check.specs.Blocks.{with_kings};
 ghost use Rattle.egt_check.specs.Kept.{AreKept};
 ghost use Rattle.egt_check.specs.MoveScores.{AreFourMen, AreTablesOf};
@@ -23,10 +23,10 @@ ghost use Rattle.egt_check.specs.Parts.{column_of, four_in, promotion_in, promot
 ghost use Rattle.egt_check.specs.PairOrder.{nth_pair};
 ghost use Rattle.egt_check.specs.PawnScores.{AreNamed, ArePromotionsOf, HasPromotion, HasPromotions, IsPromotionOf};
 ghost use Rattle.egt_check.specs.RightBlock.{AreJudged, KeepsPart};
-ghost use Rattle.egt_check.specs.Rules.{KeepsBelow};
+ghost use Rattle.egt_entries.specs.Rules.{KeepsBelow};
 ghost use Rattle.egt_check.specs.Taken.{men_swapped};
-ghost use Rattle.egt_check.specs.Tables.{Tables, beside, table_at};
-ghost use Rattle.egt_check.specs.Truth.{IsTrueTable};
+ghost use Rattle.egt_entries.specs.Tables.{Tables, beside, table_at};
+ghost use Rattle.egt_entries.specs.Truth.{IsTrueTable};
 ghost use Rattle.egt_check.specs.Worth.{HasBytes};
 
 use crate::blank::side_is_blank;

@@ -2,7 +2,7 @@
 use Rattle.std.specs.Prelude.{◌≡◌, ◌↔◌, ℕ, zero, suc, Bool, IsTrue, List, IsSome, slice_index_or, false}
 use Rattle.std.specs.List.{Contains}
 use Rattle.egt_class.specs.Children.{children_of}
-use Rattle.egt_check.specs.Tables.{Tables}
+use Rattle.egt_entries.specs.Tables.{Tables}
 
 -- d comes from c by so many steps to a child
 abbrev pub DescendsBy : ℕ → ℕ → ℕ → Type 0

@@ -1,7 +1,7 @@
 //! The check of a table's file.
 ghost use Rattle.std.specs.Prelude.{OnOk};
-ghost use Rattle.egt_check.specs.Library.{IsAccepted};
-ghost use Rattle.egt_check.specs.Tables.{table_at};
+ghost use Rattle.egt_entries.specs.Library.{IsAccepted};
+ghost use Rattle.egt_entries.specs.Tables.{table_at};
 
 use crate::loading::load_whole;
 use crate::printer::print;

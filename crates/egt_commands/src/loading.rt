@@ -1,6 +1,6 @@
 //! Tables read from the files of a folder into a library.
 ghost use Rattle.std.specs.Prelude.{◌≡◌, ◌⊎◌, IfOk, OnOk, IsSome};
-ghost use Rattle.egt_check.specs.Tables.{table_at};
+ghost use Rattle.egt_entries.specs.Tables.{table_at};
 ghost use Rattle.egt_commands.specs.Descent.{Descends, HasExactly};
 
 use crate::descent::descendants;

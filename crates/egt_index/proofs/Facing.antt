@@ -4,8 +4,6 @@ use Rattle.std.specs.FinMap as map
 use Rattle.std.specs.Int.{bit_at}
 use Rattle.std.proofs.lemmas.Bool.{cases_eq}
 use Rattle.std.proofs.lemmas.Nat.Bits.{bit_at-lt}
-use Rattle.egt_board.specs.declared.man.Side.{Side}
-use Rattle.egt_board.specs.declared.man.Side.TheVariants.{White, Black}
 use Rattle.egt_board.specs.declared.man.Man.{Man}
 use Rattle.egt_board.specs.Attack.{IsAttacked}
 use Rattle.egt_board.specs.AttackLines.{Reaches, Reaches-free}
@@ -14,6 +12,7 @@ use Rattle.egt_board.specs.Pawn.{facing}
 use Rattle.egt_board.specs.Placement.{Placement, Stands, IsFree, get-insert_same, get-insert_other, one_man}
 use Rattle.egt_board.specs.Safety.{IsKeptFrom}
 use Rattle.egt_board.proofs.Facing.{PassesOver, attacks_back}
+use Rattle.egt_board.proofs.Sides.{sides_differ}
 use Rattle.egt_index.specs.Size.{man_of}
 
 -- which squares are free does not hang on which man comes
@@ -22,10 +21,6 @@ free_alike men t u a b free = elim (cases_eq u t) [
   | inl e ↦ absurd (let there = sym (get-insert_same men t a u e) ∙ free in cc)
   | inr other ↦ get-insert_other men t b u other ∙ sym (get-insert_other men t a u other) ∙ free
 ]
-
-sides_differ : (side : Side) → other_side side ≢ side
-sides_differ White e = cc
-sides_differ Black e = cc
 
 -- a man comes to t: his side attacks a square where it would without him, with a man of the other side on t, or where he does
 module _ (men : Placement) (man : Man) (t to : ℕ) where
@@ -53,7 +48,7 @@ module _ (men : Placement) (man : Man) (t to : ℕ) where
   by_theirs attacked = elim (cases_eq attacked.from t) [
     | inl e ↦
         let same : attacked.man ≡ enemy = one_man (map.insert men t enemy) t attacked.man enemy (subst (λ s. Stands (map.insert men t enemy) s attacked.man) e attacked.stands) (get-insert_same men t enemy t refl) in
-        absurd (sides_differ man.side (sym (ap (λ (m : Man). m.side) same) ∙ attacked.theirs))
+        absurd (sides_differ man.side (sym attacked.theirs ∙ ap (λ (m : Man). m.side) same))
     | inr other ↦ record {
       from = attacked.from;
       man = attacked.man;
@@ -70,7 +65,7 @@ module _ (men : Placement) (man : Man) (t to : ℕ) where
   kept_own law t_in to_in kept attacking occupied without theirs his free is = (there, back)
     where
       differ : enemy.side ≢ man.side
-      differ = sides_differ man.side
+      differ e = sides_differ man.side (sym e)
 
       attacks : (bit_at attacking t ≡ 1) ↔ Reaches (IsFree (map.insert men t man)) man t to
       attacks =

@@ -9,7 +9,7 @@ use Rattle.egt_moves.specs.Chess.{chess}
 use Rattle.egt_moves.specs.Found.{mate_by}
 use Rattle.egt_moves.specs.Legal.{Leads}
 use Rattle.egt_moves.specs.declared.chess_move.Move.{Move}
-use Rattle.egt_check.specs.Entry.{IsShort, Shows, entry_of}
+use Rattle.egt_entries.specs.Entry.{IsShort, Shows, entry_of}
 use Rattle.egt_check.specs.Reading.{shown_once}
 use Rattle.egt_probe.specs.Facts.{Facts}
 use Rattle.egt_probe.specs.Line.{IsFirstTo, next_value, IsLine}

@@ -8,9 +8,9 @@ use Rattle.egt_moves.specs.Standing.{IsStalemate, StandsAs}
 use Rattle.egt_moves.specs.declared.outcome.Standing.{Standing}
 use Rattle.egt_moves.specs.declared.outcome.Standing.TheVariants.{Checkmate, Stalemate, HasMove}
 use Rattle.egt_table.specs.Table.{TableValue}
-use Rattle.egt_check.specs.Reach.{ShowsReach}
-use Rattle.egt_check.specs.Tables.{reach_at}
-use Rattle.egt_check.specs.Truth.{IsTrueReach}
+use Rattle.egt_entries.specs.Reach.{ShowsReach}
+use Rattle.egt_entries.specs.Tables.{reach_at}
+use Rattle.egt_entries.specs.Truth.{IsTrueReach}
 
 dead_if_one : (p : Setup) (x : ℕ) (number : Option ℕ) → HasReach chess p number → ShowsReach x number → x ≡ 1 → IsDead chess p
 dead_if_one p x (Some n) has shows e = absurd (omega (arith, shows.1, e))

@@ -5,7 +5,7 @@ use Rattle.egt_moves.specs.Arena.{Value, Win, Loss, Draw, HasValue, MatesWithin}
 use Rattle.egt_moves.specs.Chess.{chess}
 use Rattle.egt_moves.specs.Standing.{IsStuck, IsStalemate, CanMove}
 use Rattle.egt_moves.specs.declared.chess_move.Move.{Move}
-use Rattle.egt_check.specs.Entry.{Shows}
+use Rattle.egt_entries.specs.Entry.{Shows}
 use Rattle.egt_probe.specs.Facts.{Facts}
 use Rattle.egt_probe.specs.Hold.{IsHold}
 use Rattle.egt_probe.specs.Search.{Misses}

@@ -13,13 +13,13 @@ use Rattle.egt_moves.specs.Legal.{Leads, IsLegal}
 use Rattle.egt_moves.specs.Zeroing.{HasZeroing}
 use Rattle.egt_moves.specs.declared.chess_move.Move.{Move}
 use Rattle.egt_table.specs.Table.{TableValue}
-use Rattle.egt_check.specs.declared.metric.Metric.{Metric}
-use Rattle.egt_check.specs.declared.metric.Metric.TheVariants.{Mate, Zeroing}
-use Rattle.egt_check.specs.Entry.{Shows}
-use Rattle.egt_check.specs.Library.{IsShelved}
+use Rattle.egt_entries.specs.declared.metric.Metric.{Metric}
+use Rattle.egt_entries.specs.declared.metric.Metric.TheVariants.{Mate, Zeroing}
+use Rattle.egt_entries.specs.Entry.{Shows}
+use Rattle.egt_entries.specs.Library.{IsShelved}
 use Rattle.egt_check.specs.Reading.{shown_once}
-use Rattle.egt_check.specs.Tables.{Tables, entry_at}
-use Rattle.egt_check.specs.Truth.{Tells, IsTrueTable}
+use Rattle.egt_entries.specs.Tables.{Tables, entry_at}
+use Rattle.egt_entries.specs.Truth.{Tells, IsTrueTable}
 use Rattle.egt_probe.specs.declared.outcome.Outcome.{Outcome}
 use Rattle.egt_probe.specs.Facts.{Facts}
 use Rattle.egt_probe.specs.Loaded.{Loaded, IsLoaded}

@@ -6,7 +6,7 @@ use Rattle.egt_moves.specs.Chess.{chess}
 use Rattle.egt_moves.specs.Legal.{Leads}
 use Rattle.egt_moves.specs.Order.{place_of}
 use Rattle.egt_moves.specs.declared.chess_move.Move.{Move}
-use Rattle.egt_check.specs.Entry.{Shows}
+use Rattle.egt_entries.specs.Entry.{Shows}
 
 -- the entry shows the position's value
 pub record ShowsValue (p : Setup) (x : ℕ) : Type 0 where

@@ -2,7 +2,7 @@
 -- here names a table.
 use Rattle.std.specs.Prelude.{List, Option, is_some, option_map}
 use Rattle.egt_table.specs.Table.{TableValue}
-use Rattle.egt_check.specs.Tables.{table_at}
+use Rattle.egt_entries.specs.Tables.{table_at}
 use Rattle.egt_probe.specs.Loaded.{Loaded}
 
 abbrev pub loaded_in : List (Option TableValue) → Loaded

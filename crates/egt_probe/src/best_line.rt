@@ -4,7 +4,7 @@ ghost use Rattle.egt_board.specs.Man.{other_side};
 ghost use Rattle.egt_moves.specs.Arena.{HasValue};
 ghost use Rattle.egt_moves.specs.Chess.{chess};
 ghost use Rattle.egt_moves.specs.Found.{mate_by};
-ghost use Rattle.egt_check.specs.Entry.{entry_of};
+ghost use Rattle.egt_entries.specs.Entry.{entry_of};
 ghost use Rattle.egt_probe.specs.Fault.{IsLineFault};
 ghost use Rattle.egt_probe.specs.Line.{IsLine, IsFirstTo, IsBestPlay};
 ghost use Rattle.egt_probe.specs.Loaded.{IsLoaded};

@@ -14,8 +14,8 @@ use Rattle.egt_moves.specs.Legal.{Leads}
 use Rattle.egt_moves.specs.Moves.{moves_from, played}
 use Rattle.egt_moves.specs.Promotion.{promotes}
 use Rattle.egt_moves.specs.declared.chess_move.Move.{Move}
-use Rattle.egt_check.specs.declared.metric.Metric.{Metric}
-use Rattle.egt_check.specs.declared.metric.Metric.TheVariants.{Mate}
+use Rattle.egt_entries.specs.declared.metric.Metric.{Metric}
+use Rattle.egt_entries.specs.declared.metric.Metric.TheVariants.{Mate}
 use Rattle.egt_sweep.specs.Edges.{GoesOn}
 use Rattle.egt_sweep.specs.Laws.{Laws}
 use Rattle.egt_sweep.specs.Landings.{landing_of, landings_by}

@@ -11,14 +11,14 @@ use Rattle.egt_graph.specs.Graph.{Graph, IsNode}
 use Rattle.egt_graph.specs.Value.{decided_within, entry_of, HasRank, IsWithin, AreRanks, SomeAbove}
 use Rattle.egt_graph.specs.declared.game.Exit.{Exit}
 use Rattle.egt_graph.specs.declared.game.Exit.TheVariants as exits
-use Rattle.egt_check.specs.declared.metric.Metric.{Metric}
-use Rattle.egt_check.specs.declared.metric.Metric.TheVariants.{Mate, Zeroing}
+use Rattle.egt_entries.specs.declared.metric.Metric.{Metric}
+use Rattle.egt_entries.specs.declared.metric.Metric.TheVariants.{Mate, Zeroing}
 use Rattle.egt_table.specs.declared.column.Column.{Column}
 use Rattle.egt_table.specs.declared.column.Column.TheVariants as columns
 use Rattle.egt_table.specs.Table.{TableValue, HasColumn, IsTable, entries_of}
-use Rattle.egt_check.specs.Entry.{Shows}
-use Rattle.egt_check.specs.Tables.{Tables, beside, entry_at}
-use Rattle.egt_check.specs.Truth.{Tells, IsTrueTable}
+use Rattle.egt_entries.specs.Entry.{Shows}
+use Rattle.egt_entries.specs.Tables.{Tables, beside, entry_at}
+use Rattle.egt_entries.specs.Truth.{Tells, IsTrueTable}
 use Rattle.egt_sweep.specs.Built.{IsWithinLimit, AllWithinLimit}
 use Rattle.egt_sweep.specs.ClassGame.{class_game}
 use Rattle.egt_sweep.specs.Laws.{Laws}

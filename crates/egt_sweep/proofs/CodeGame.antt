@@ -23,10 +23,10 @@ use Rattle.egt_graph.specs.Graph.{Graph, IsNode}
 use Rattle.egt_graph.specs.Passing.{passing_has, passing_is_below, passing_passes}
 use Rattle.egt_graph.specs.StandIns.{StandsFor}
 use Rattle.egt_graph.proofs.WordRounds.{any_contains, contains_any}
-use Rattle.egt_check.specs.declared.metric.Metric.{Metric}
-use Rattle.egt_check.specs.declared.metric.Metric.TheVariants.{Mate, Zeroing}
+use Rattle.egt_entries.specs.declared.metric.Metric.{Metric}
+use Rattle.egt_entries.specs.declared.metric.Metric.TheVariants.{Mate, Zeroing}
 use Rattle.egt_check.specs.Alike.{StepAlike}
-use Rattle.egt_check.specs.Tables.{Tables}
+use Rattle.egt_entries.specs.Tables.{Tables}
 use Rattle.egt_words.specs.MoveLists.{Advances, Quietly}
 use Rattle.egt_sweep.specs.ClassGame.{class_game, stuck_edge}
 use Rattle.egt_sweep.specs.CodeGame.{CodeMoves, TellsGame, code_game, goes_by, index_from, index_of, is_mate, leads_by, number_or, numbered}

@@ -21,9 +21,9 @@ use Rattle.egt_graph.specs.Words.{IsIn, IsWordStart, number_at, place_in, word_i
 use Rattle.egt_graph.specs.declared.word_moves.Pushes.{Pushes}
 use Rattle.egt_graph.specs.declared.word_moves.TurnedWay.{TurnedWay}
 use Rattle.egt_graph.specs.declared.word_moves.Way.{Way}
-use Rattle.egt_check.specs.declared.metric.Metric.{Metric}
-use Rattle.egt_check.specs.declared.metric.Metric.TheVariants.{Mate, Zeroing}
-use Rattle.egt_check.specs.Tables.{Tables}
+use Rattle.egt_entries.specs.declared.metric.Metric.{Metric}
+use Rattle.egt_entries.specs.declared.metric.Metric.TheVariants.{Mate, Zeroing}
+use Rattle.egt_entries.specs.Tables.{Tables}
 use Rattle.egt_index.specs.Numbers.{IsNumbered, code_of, places}
 use Rattle.egt_words.specs.MoveLists.{GoesByPawnBy, GoesQuietlyBy, TellsLists}
 use Rattle.egt_words.specs.declared.roaming.Roaming.{Roaming}

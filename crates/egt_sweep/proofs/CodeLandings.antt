@@ -6,7 +6,7 @@ use Rattle.std.proofs.lemmas.Bool.{cases_eq}
 use Rattle.std.proofs.lemmas.Nat.{and_mask, div-add-mod', mod-pow-add, mod_below, ones_cat, ones_le_self, pow_pos, zero_from_ones}
 use Rattle.std.proofs.lemmas.Nat.Bits.{bit_at-lt}
 use Rattle.egt_graph.specs.Words.{number_at, number_at-places, place_in, place_in-small, word_in, word_in-within, words_of}
-use Rattle.egt_check.specs.declared.metric.Metric.TheVariants.{Mate}
+use Rattle.egt_entries.specs.declared.metric.Metric.TheVariants.{Mate}
 use Rattle.egt_index.specs.Numbers.{places}
 use Rattle.egt_index.specs.Size.{size_of}
 use Rattle.egt_sweep.specs.CodeGame.{index_of}

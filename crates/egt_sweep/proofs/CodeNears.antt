@@ -8,9 +8,9 @@ use Rattle.egt_graph.specs.StandIns.{StandInsAreAsFar, StandInsTellNears}
 use Rattle.egt_graph.specs.declared.game.Exit.{Exit}
 use Rattle.egt_graph.specs.declared.game.Exit.TheVariants.{Win, Loss, Draw}
 use Rattle.egt_graph.proofs.Lists.{any_same}
-use Rattle.egt_check.specs.NearTables.{near_tables}
-use Rattle.egt_check.specs.Tables.{Tables}
-use Rattle.egt_check.specs.declared.metric.Metric.TheVariants.{Mate}
+use Rattle.egt_entries.specs.NearTables.{near_tables}
+use Rattle.egt_entries.specs.Tables.{Tables}
+use Rattle.egt_entries.specs.declared.metric.Metric.TheVariants.{Mate}
 use Rattle.egt_index.specs.Numbers.{number_of}
 use Rattle.egt_sweep.specs.ClassGame.{class_game}
 use Rattle.egt_sweep.specs.CodeGame.{code_game_is_lawful, index_of}

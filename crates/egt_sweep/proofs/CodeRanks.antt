@@ -13,9 +13,9 @@ use Rattle.egt_graph.specs.StandIns.{AreKept, StandInsAreAsDeep, StandInsShareEn
 use Rattle.egt_graph.specs.Value.{AreRanks, SomeAbove}
 use Rattle.egt_graph.specs.declared.solver.SolveFault.{SolveFault}
 use Rattle.egt_graph.specs.declared.solver.SolveFault.TheVariants.{TooDeep}
-use Rattle.egt_check.specs.declared.metric.Metric.{Metric}
-use Rattle.egt_check.specs.declared.metric.Metric.TheVariants.{Mate}
-use Rattle.egt_check.specs.Tables.{Tables}
+use Rattle.egt_entries.specs.declared.metric.Metric.{Metric}
+use Rattle.egt_entries.specs.declared.metric.Metric.TheVariants.{Mate}
+use Rattle.egt_entries.specs.Tables.{Tables}
 use Rattle.egt_index.specs.Numbers.{number_of, places}
 use Rattle.egt_sweep.specs.ClassGame.{class_game, class_game_is_lawful}
 use Rattle.egt_sweep.specs.CodeGame.{CodeMoves, TellsGame, code_game, code_game_is_lawful, index_of}

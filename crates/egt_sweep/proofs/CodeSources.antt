@@ -14,8 +14,8 @@ use Rattle.egt_graph.specs.declared.word_moves.Pushes.{Pushes}
 use Rattle.egt_graph.specs.declared.word_moves.TurnedWay.{TurnedWay}
 use Rattle.egt_graph.specs.declared.word_moves.Way.{Way}
 use Rattle.egt_index.specs.Size.{size_of}
-use Rattle.egt_check.specs.declared.metric.Metric.{Metric}
-use Rattle.egt_check.specs.Tables.{Tables}
+use Rattle.egt_entries.specs.declared.metric.Metric.{Metric}
+use Rattle.egt_entries.specs.Tables.{Tables}
 use Rattle.egt_index.specs.Numbers.{places}
 use Rattle.egt_words.specs.MoveLists.{GoesRoamingIf}
 use Rattle.egt_words.specs.declared.roaming.Roaming.{Roaming}

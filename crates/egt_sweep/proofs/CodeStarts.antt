@@ -12,8 +12,8 @@ use Rattle.egt_graph.specs.Words.{TellsExits, IsWordStart}
 use Rattle.egt_graph.specs.declared.game.Exit.{Exit}
 use Rattle.egt_graph.specs.Graph.{Graph}
 use Rattle.egt_graph.specs.declared.words.WordStart.{WordStart}
-use Rattle.egt_check.specs.declared.metric.Metric.TheVariants.{Mate}
-use Rattle.egt_check.specs.Tables.{Tables}
+use Rattle.egt_entries.specs.declared.metric.Metric.TheVariants.{Mate}
+use Rattle.egt_entries.specs.Tables.{Tables}
 use Rattle.egt_sweep.specs.Edges.{IsAt, GoesOn}
 use Rattle.egt_sweep.specs.Laws.{Laws}
 use Rattle.egt_sweep.specs.Landings.{landing_of, landings_at, landings_from}

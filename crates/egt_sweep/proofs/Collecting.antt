@@ -9,7 +9,7 @@ use Rattle.egt_board.specs.Setup.{Setup, IsAdmissible}
 use Rattle.egt_index.specs.Index.{IsIndex}
 use Rattle.egt_moves.specs.Legal.{Leads, IsLegal}
 use Rattle.egt_moves.specs.declared.chess_move.Move.{Move}
-use Rattle.egt_check.specs.declared.metric.Metric.{Metric}
+use Rattle.egt_entries.specs.declared.metric.Metric.{Metric}
 use Rattle.egt_unmoves.specs.declared.unmove.Unmove.{Unmove}
 use Rattle.egt_sweep.specs.Edges.{IsAt, GoesOn, LeadsOn, Connects, GoesBack, ComesFrom}
 use Rattle.egt_sweep.specs.Laws.{Laws}

@@ -9,14 +9,14 @@ use Rattle.egt_moves.specs.Chess.{chess}
 use Rattle.egt_moves.specs.Reach.{HasReach}
 use Rattle.egt_graph.specs.Graph.{IsNode}
 use Rattle.egt_graph.specs.Near.{AreNears, HasNear, IsShort, near_entry_of}
-use Rattle.egt_check.specs.declared.metric.Metric.{Metric}
-use Rattle.egt_check.specs.declared.metric.Metric.TheVariants.{Mate, Zeroing}
-use Rattle.egt_check.specs.Entry.{Shows}
-use Rattle.egt_check.specs.Library.{IsAccepted, ReachesDown}
-use Rattle.egt_check.specs.Reach.{ShowsReach}
-use Rattle.egt_check.specs.Rules.{KeepsRules}
-use Rattle.egt_check.specs.Tables.{Tables, HasChildren, HasReachChildren, beside, entry_at}
-use Rattle.egt_check.specs.Truth.{Tells, IsTrueReach, IsTrueTable, HasTrueChildren}
+use Rattle.egt_entries.specs.declared.metric.Metric.{Metric}
+use Rattle.egt_entries.specs.declared.metric.Metric.TheVariants.{Mate, Zeroing}
+use Rattle.egt_entries.specs.Entry.{Shows}
+use Rattle.egt_entries.specs.Library.{IsAccepted, ReachesDown}
+use Rattle.egt_entries.specs.Reach.{ShowsReach}
+use Rattle.egt_entries.specs.Rules.{KeepsRules}
+use Rattle.egt_entries.specs.Tables.{Tables, HasChildren, HasReachChildren, beside, entry_at}
+use Rattle.egt_entries.specs.Truth.{Tells, IsTrueReach, IsTrueTable, HasTrueChildren}
 use Rattle.egt_table.specs.declared.column.Column.{Column}
 use Rattle.egt_table.specs.declared.column.Column.TheVariants as columns
 use Rattle.egt_table.specs.Table.{TableValue, HasColumn, IsTable, entries_of}

@@ -16,11 +16,11 @@ use Rattle.egt_moves.specs.Legal.{Leads}
 use Rattle.egt_moves.specs.Moves.{moves_of, played}
 use Rattle.egt_moves.specs.declared.chess_move.Move.{Move}
 use Rattle.egt_graph.specs.declared.game.Exit.{Exit}
-use Rattle.egt_check.specs.declared.metric.Metric.{Metric}
-use Rattle.egt_check.specs.declared.metric.Metric.TheVariants.{Mate}
+use Rattle.egt_entries.specs.declared.metric.Metric.{Metric}
+use Rattle.egt_entries.specs.declared.metric.Metric.TheVariants.{Mate}
 use Rattle.egt_table.specs.Table.{TableValue}
 use Rattle.egt_check.specs.Reading.{read}
-use Rattle.egt_check.specs.Tables.{HasChildren, Tables, entry_at}
+use Rattle.egt_entries.specs.Tables.{HasChildren, Tables, entry_at}
 use Rattle.egt_sweep.specs.Edges.{GoesOn}
 use Rattle.egt_sweep.specs.Landings.{IsThere, exit_there, landing, landing_below, landing_of, landing_or, landings_at, landings_by, landings_from, value_there}
 use Rattle.egt_sweep.specs.Laws.{Laws}

@@ -23,8 +23,8 @@ use Rattle.egt_moves.specs.DecidedMoves.{decided_zeroes}
 use Rattle.egt_moves.specs.Legal.{Leads}
 use Rattle.egt_moves.specs.Moves.{moves_of, played}
 use Rattle.egt_moves.specs.declared.chess_move.Move.{Move}
-use Rattle.egt_check.specs.declared.metric.Metric.{Metric}
-use Rattle.egt_check.specs.declared.metric.Metric.TheVariants.{Mate, Zeroing}
+use Rattle.egt_entries.specs.declared.metric.Metric.{Metric}
+use Rattle.egt_entries.specs.declared.metric.Metric.TheVariants.{Mate, Zeroing}
 use Rattle.egt_sweep.specs.Edges.{IsAt, GoesOn, Connects}
 use Rattle.egt_sweep.specs.Nodes.{spelled_by, spelled, is_turned, first_of, index_in, is_number, has_index, kept_if, position_at, goes_on, leads_on, connects_from, connects}
 

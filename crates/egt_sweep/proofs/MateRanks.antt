@@ -8,9 +8,9 @@ use Rattle.egt_moves.specs.Arena.{Value, Win, Loss, Draw, HasValue, IsMatedWithi
 use Rattle.egt_moves.specs.Chess.{chess}
 use Rattle.egt_graph.specs.Value.{is_lost_before, is_won_before, mated_within, mates_within, HasRank, SomeAbove}
 use Rattle.egt_graph.specs.declared.game.Exit.{Exit}
-use Rattle.egt_check.specs.declared.metric.Metric.TheVariants.{Mate}
-use Rattle.egt_check.specs.Tables.{Tables}
-use Rattle.egt_check.specs.Truth.{HasTrueChildren}
+use Rattle.egt_entries.specs.declared.metric.Metric.TheVariants.{Mate}
+use Rattle.egt_entries.specs.Tables.{Tables}
+use Rattle.egt_entries.specs.Truth.{HasTrueChildren}
 use Rattle.egt_sweep.specs.Built.{IsAboveLimit, SomeAboveLimit}
 use Rattle.egt_sweep.specs.ClassGame.{class_game}
 use Rattle.egt_sweep.specs.Edges.{IsAt}

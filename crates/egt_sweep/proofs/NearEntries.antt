@@ -2,10 +2,10 @@
 use Rattle.std.proofs.Common.{◌≡◌, ℕ, zero, suc, ◌≤◌, List, [], ◌∷◌, map, Option, Some, None, IsSome, slice_index, refl, ap, ◌∙◌, arith}
 use Rattle.std.proofs.lemmas.Bool.{false≢true}
 use Rattle.egt_moves.specs.Arena.{Value, Loss, Draw}
-use Rattle.egt_check.specs.Entry.{Shows}
-use Rattle.egt_check.specs.NearTables.{near_entry, near_if, near_of, near_table, near_tables}
-use Rattle.egt_check.specs.Reach.{ShowsReach}
-use Rattle.egt_check.specs.Tables.{Tables}
+use Rattle.egt_entries.specs.Entry.{Shows}
+use Rattle.egt_entries.specs.NearTables.{near_entry, near_if, near_of, near_table, near_tables}
+use Rattle.egt_entries.specs.Reach.{ShowsReach}
+use Rattle.egt_entries.specs.Tables.{Tables}
 use Rattle.egt_table.specs.Table.{TableValue, entries_or_none}
 
 -- how far the nearest mate is, told as a loss in as many plies, and as a draw where there is none

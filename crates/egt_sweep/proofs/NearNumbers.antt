@@ -15,12 +15,12 @@ use Rattle.egt_moves.specs.Standing.{IsCheckmate}
 use Rattle.egt_graph.specs.Graph.{Graph}
 use Rattle.egt_graph.specs.Near.{HasNear, SomeFar, is_near_exit, near_within}
 use Rattle.egt_graph.specs.declared.game.Exit.{Exit}
-use Rattle.egt_check.specs.declared.metric.Metric.TheVariants.{Mate}
-use Rattle.egt_check.specs.Entry.{longest}
-use Rattle.egt_check.specs.NearTables.{near_entry, near_table, near_tables}
+use Rattle.egt_entries.specs.declared.metric.Metric.TheVariants.{Mate}
+use Rattle.egt_entries.specs.Entry.{longest}
+use Rattle.egt_entries.specs.NearTables.{near_entry, near_table, near_tables}
 use Rattle.egt_check.specs.Reading.{read, read_shown}
-use Rattle.egt_check.specs.Tables.{Tables, HasReachChildren, reach_at}
-use Rattle.egt_check.specs.Truth.{HasTrueChildren}
+use Rattle.egt_entries.specs.Tables.{Tables, HasReachChildren, reach_at}
+use Rattle.egt_entries.specs.Truth.{HasTrueChildren}
 use Rattle.egt_table.specs.Table.{TableValue, entries_or_none}
 use Rattle.egt_sweep.specs.Built.{SomeReachesFar}
 use Rattle.egt_sweep.specs.Edges.{GoesOn}

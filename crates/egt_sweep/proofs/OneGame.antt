@@ -18,12 +18,12 @@ use Rattle.egt_moves.specs.Moves.{moves_of, played}
 use Rattle.egt_moves.specs.declared.chess_move.Move.{Move}
 use Rattle.egt_graph.specs.Graph.{IsAlike}
 use Rattle.egt_graph.specs.declared.game.Exit.TheVariants as exits
-use Rattle.egt_check.specs.declared.metric.Metric.TheVariants.{Mate, Zeroing}
+use Rattle.egt_entries.specs.declared.metric.Metric.TheVariants.{Mate, Zeroing}
 use Rattle.egt_table.specs.Table.{TableValue}
-use Rattle.egt_check.specs.Entry.{Shows}
+use Rattle.egt_entries.specs.Entry.{Shows}
 use Rattle.egt_check.specs.Reading.{read, read_shown}
-use Rattle.egt_check.specs.Tables.{Tables, beside, entry_at}
-use Rattle.egt_check.specs.Truth.{IsTrueTable, HasTrueChildren}
+use Rattle.egt_entries.specs.Tables.{Tables, beside, entry_at}
+use Rattle.egt_entries.specs.Truth.{IsTrueTable, HasTrueChildren}
 use Rattle.egt_sweep.specs.ClassGame.{class_game}
 use Rattle.egt_sweep.specs.Drawn.{HasDrawnChildren}
 use Rattle.egt_sweep.specs.Edges.{IsAt, GoesOn}

@@ -20,8 +20,8 @@ use Rattle.egt_moves.specs.Legal.{Leads, IsLegal, plain, men_left}
 use Rattle.egt_moves.specs.Promotion.{FitsPromotion, promotes, is_pawn, arriving}
 use Rattle.egt_moves.specs.Targets.{IsLegalTarget}
 use Rattle.egt_moves.specs.declared.chess_move.Move.{Move}
-use Rattle.egt_check.specs.declared.metric.Metric.{Metric}
-use Rattle.egt_check.specs.declared.metric.Metric.TheVariants.{Mate, Zeroing}
+use Rattle.egt_entries.specs.declared.metric.Metric.{Metric}
+use Rattle.egt_entries.specs.declared.metric.Metric.TheVariants.{Mate, Zeroing}
 use Rattle.egt_sweep.specs.Edges.{GoesOn}
 use Rattle.egt_sweep.specs.Laws.{Laws}
 use Rattle.egt_sweep.specs.Ways.{Stays, IsOnward}

@@ -16,13 +16,13 @@ use Rattle.egt_moves.specs.Moves.{played, moves_between}
 use Rattle.egt_moves.specs.Promotion.{FitsPromotion, promotes, choices_of}
 use Rattle.egt_moves.specs.declared.chess_move.Move.{Move}
 use Rattle.egt_graph.specs.declared.game.Exit.TheVariants as exits
-use Rattle.egt_check.specs.declared.metric.Metric.{Metric}
-use Rattle.egt_check.specs.declared.metric.Metric.TheVariants.{Mate}
+use Rattle.egt_entries.specs.declared.metric.Metric.{Metric}
+use Rattle.egt_entries.specs.declared.metric.Metric.TheVariants.{Mate}
 use Rattle.egt_table.specs.Table.{TableValue}
-use Rattle.egt_check.specs.Entry.{Shows}
+use Rattle.egt_entries.specs.Entry.{Shows}
 use Rattle.egt_check.specs.Reading.{read, read_shown}
-use Rattle.egt_check.specs.Tables.{Tables, entry_at, beside, HasChildren}
-use Rattle.egt_check.specs.NearTables.{near_if, near_of, near_tables}
+use Rattle.egt_entries.specs.Tables.{Tables, entry_at, beside, HasChildren}
+use Rattle.egt_entries.specs.NearTables.{near_if, near_of, near_tables}
 use Rattle.egt_sweep.specs.Objective.{metric_of, known, Knows}
 use Rattle.egt_sweep.specs.Edges.{GoesOn}
 use Rattle.egt_sweep.specs.MateColumn.{mate_table}

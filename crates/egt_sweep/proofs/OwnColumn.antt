@@ -6,11 +6,11 @@ use Rattle.egt_class.specs.Membership.{IsOf}
 use Rattle.egt_index.specs.Index.{IsIndex}
 use Rattle.egt_index.specs.Size.{size_of}
 use Rattle.egt_moves.specs.Arena.{Value}
-use Rattle.egt_check.specs.declared.metric.Metric.TheVariants.{Mate}
+use Rattle.egt_entries.specs.declared.metric.Metric.TheVariants.{Mate}
 use Rattle.egt_table.specs.Table.{TableValue}
-use Rattle.egt_check.specs.Entry.{Shows}
+use Rattle.egt_entries.specs.Entry.{Shows}
 use Rattle.egt_check.specs.Reading.{in_range, read}
-use Rattle.egt_check.specs.Tables.{Tables, entry_at}
+use Rattle.egt_entries.specs.Tables.{Tables, entry_at}
 use Rattle.egt_sweep.specs.Laws.{Laws}
 use Rattle.egt_sweep.specs.MateColumn.{IsIndexed, IsMateColumn}
 use Rattle.egt_sweep.specs.Nodes.{shown_below}

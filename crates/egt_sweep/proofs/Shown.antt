@@ -10,11 +10,11 @@ use Rattle.egt_moves.specs.Arena.{Value, HasValue}
 use Rattle.egt_moves.specs.Chess.{chess}
 use Rattle.egt_moves.specs.Legal.{Leads}
 use Rattle.egt_moves.specs.declared.chess_move.Move.{Move}
-use Rattle.egt_check.specs.declared.metric.Metric.TheVariants.{Mate, Zeroing}
+use Rattle.egt_entries.specs.declared.metric.Metric.TheVariants.{Mate, Zeroing}
 use Rattle.egt_table.specs.Table.{TableValue}
 use Rattle.egt_check.specs.Reading.{read_shown}
-use Rattle.egt_check.specs.Tables.{Tables, beside, entry_at}
-use Rattle.egt_check.specs.Truth.{HasTrueChildren}
+use Rattle.egt_entries.specs.Tables.{Tables, beside, entry_at}
+use Rattle.egt_entries.specs.Truth.{HasTrueChildren}
 use Rattle.egt_sweep.specs.Laws.{Laws}
 use Rattle.egt_sweep.specs.MateColumn.{ShowsValues}
 use Rattle.egt_sweep.specs.Nodes.{shown_below}

@@ -13,7 +13,7 @@ use Rattle.egt_moves.specs.Standing.{IsCheckmate, StandsAs}
 use Rattle.egt_moves.specs.declared.outcome.Standing.{Standing}
 use Rattle.egt_moves.specs.declared.outcome.Standing.TheVariants.{Stalemate, HasMove}
 use Rattle.egt_graph.specs.Passing.{passing_below, passing_is}
-use Rattle.egt_check.specs.declared.metric.Metric.{Metric}
+use Rattle.egt_entries.specs.declared.metric.Metric.{Metric}
 use Rattle.egt_sweep.specs.Edges.{IsAt, Connects}
 use Rattle.egt_sweep.specs.Laws.{Laws}
 use Rattle.egt_sweep.specs.Nodes.{position_at, is_mated, connects}

@@ -19,9 +19,9 @@ use Rattle.egt_moves.specs.declared.chess_move.Move.{Move}
 use Rattle.egt_graph.specs.Graph.{Graph}
 use Rattle.egt_graph.specs.Passing.{passing_has, passing_passes}
 use Rattle.egt_graph.specs.declared.game.Exit.{Exit}
-use Rattle.egt_check.specs.declared.metric.Metric.{Metric}
-use Rattle.egt_check.specs.declared.metric.Metric.TheVariants.{Mate, Zeroing}
-use Rattle.egt_check.specs.Tables.{Tables}
+use Rattle.egt_entries.specs.declared.metric.Metric.{Metric}
+use Rattle.egt_entries.specs.declared.metric.Metric.TheVariants.{Mate, Zeroing}
+use Rattle.egt_entries.specs.Tables.{Tables}
 use Rattle.egt_sweep.specs.ClassGame.{class_game}
 use Rattle.egt_sweep.specs.Edges.{IsAt, GoesOn, Connects}
 use Rattle.egt_sweep.specs.Laws.{Laws}

@@ -15,8 +15,8 @@ use Rattle.egt_moves.specs.Chess.{Zeroes}
 use Rattle.egt_moves.specs.Legal.{Leads}
 use Rattle.egt_moves.specs.declared.chess_move.Move.{Move}
 use Rattle.egt_graph.specs.Passing.{passing_below, passing_is, passing_has, passing_passes, passing_is_below, passing_ascends}
-use Rattle.egt_check.specs.declared.metric.Metric.TheVariants.{Mate, Zeroing}
-use Rattle.egt_check.specs.Tables.{Tables}
+use Rattle.egt_entries.specs.declared.metric.Metric.TheVariants.{Mate, Zeroing}
+use Rattle.egt_entries.specs.Tables.{Tables}
 use Rattle.egt_sweep.specs.Edges.{IsAt, GoesOn, Connects}
 use Rattle.egt_sweep.specs.Laws.{Laws}
 

@@ -2,8 +2,8 @@
 use Rattle.std.proofs.Common.{◌≡◌, ℕ, Option, Some, None, IsSome, IfSome, refl, sym}
 use Rattle.std.proofs.lemmas.Bool.{false≢true}
 use Rattle.egt_table.specs.Table.{TableValue}
-use Rattle.egt_check.specs.Tables.{Tables, HasChildren}
-use Rattle.egt_check.specs.Truth.{IsTrueTable, HasTrueChildren}
+use Rattle.egt_entries.specs.Tables.{Tables, HasChildren}
+use Rattle.egt_entries.specs.Truth.{IsTrueTable, HasTrueChildren}
 use Rattle.egt_sweep.specs.Built.{HasNoFalseChild}
 
 of_table : (d : ℕ) (o x : Option TableValue) → o ≡ x → IsSome o → IfSome o (λ t. (t.class ≡ d) × IsTrueTable t) → (t : TableValue) × (x ≡ Some t) × (t.class ≡ d) × IsTrueTable t

@@ -20,8 +20,8 @@ use Rattle.egt_graph.specs.Words.{IsIn, IsWordOf, IsWordStart, TellsExits, numbe
 use Rattle.egt_graph.specs.declared.word_moves.Pushes.{Pushes}
 use Rattle.egt_graph.specs.declared.word_moves.Way.{Way}
 use Rattle.egt_graph.specs.declared.words.WordStart.{WordStart}
-use Rattle.egt_check.specs.declared.metric.Metric.TheVariants.{Mate, Zeroing}
-use Rattle.egt_check.specs.Tables.{HasChildren, Tables, beside}
+use Rattle.egt_entries.specs.declared.metric.Metric.TheVariants.{Mate, Zeroing}
+use Rattle.egt_entries.specs.Tables.{HasChildren, Tables, beside}
 use Rattle.egt_index.specs.Numbers.{IsNumbered, code_of, places}
 use Rattle.egt_words.specs.MoveLists.{GoesByPawnBy}
 use Rattle.egt_sweep.specs.CodeGame.{CodeMoves, TellsGame, code_game, index_of}

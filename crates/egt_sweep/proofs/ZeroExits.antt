@@ -24,11 +24,11 @@ use Rattle.egt_graph.specs.declared.game.Exit.{Exit}
 use Rattle.egt_graph.specs.declared.game.Exit.TheVariants as exits
 use Rattle.egt_graph.proofs.Nodes.{leaves_at, test_from_node}
 use Rattle.egt_graph.proofs.WordBits.{either_set, set_first, set_second}
-use Rattle.egt_check.specs.declared.metric.Metric.{Metric}
-use Rattle.egt_check.specs.declared.metric.Metric.TheVariants.{Mate, Zeroing}
-use Rattle.egt_check.specs.Entry.{Shows}
+use Rattle.egt_entries.specs.declared.metric.Metric.{Metric}
+use Rattle.egt_entries.specs.declared.metric.Metric.TheVariants.{Mate, Zeroing}
+use Rattle.egt_entries.specs.Entry.{Shows}
 use Rattle.egt_check.specs.Reading.{in_range, read, read_shown}
-use Rattle.egt_check.specs.Tables.{Tables, beside, HasChildren}
+use Rattle.egt_entries.specs.Tables.{Tables, beside, HasChildren}
 use Rattle.egt_sweep.specs.Edges.{IsAt}
 use Rattle.egt_sweep.specs.Laws.{Laws}
 use Rattle.egt_sweep.specs.MateColumn.{mate_table, IsMateColumn}

@@ -13,10 +13,10 @@ use Rattle.egt_moves.specs.Entries.{Fits, JudgedOver}
 use Rattle.egt_moves.specs.Zeroing.{HasZeroing, ZeroesLosingWithin, ZeroesWinningWithin}
 use Rattle.egt_graph.specs.Value.{is_lost_before, is_won_before, mated_within, mates_within, decided_within, HasRank}
 use Rattle.egt_graph.specs.declared.game.Exit.{Exit}
-use Rattle.egt_check.specs.declared.metric.Metric.TheVariants.{Mate, Zeroing}
+use Rattle.egt_entries.specs.declared.metric.Metric.TheVariants.{Mate, Zeroing}
 use Rattle.egt_table.specs.Table.{TableValue}
-use Rattle.egt_check.specs.Tables.{Tables}
-use Rattle.egt_check.specs.Truth.{HasTrueChildren}
+use Rattle.egt_entries.specs.Tables.{Tables}
+use Rattle.egt_entries.specs.Truth.{HasTrueChildren}
 use Rattle.egt_sweep.specs.Built.{IsWithinLimit}
 use Rattle.egt_sweep.specs.ClassGame.{class_game}
 use Rattle.egt_sweep.specs.Edges.{GoesOn}

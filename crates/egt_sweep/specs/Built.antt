@@ -8,10 +8,10 @@ use Rattle.egt_moves.specs.Arena.{Value, Win, Loss, Draw, HasValue}
 use Rattle.egt_moves.specs.Chess.{chess}
 use Rattle.egt_moves.specs.Reach.{HasReach}
 use Rattle.egt_table.specs.Table.{TableValue}
-use Rattle.egt_check.specs.Entry.{longest}
-use Rattle.egt_check.specs.Library.{IsFirstLacking, IsFirstMissing, IsAccepted}
-use Rattle.egt_check.specs.Tables.{Tables, HasChildren, HasReachChildren}
-use Rattle.egt_check.specs.Truth.{IsTrueReach, IsTrueTable}
+use Rattle.egt_entries.specs.Entry.{longest}
+use Rattle.egt_entries.specs.Library.{IsFirstLacking, IsFirstMissing, IsAccepted}
+use Rattle.egt_entries.specs.Tables.{Tables, HasChildren, HasReachChildren}
+use Rattle.egt_entries.specs.Truth.{IsTrueReach, IsTrueTable}
 use Rattle.egt_sweep.specs.declared.build_fault.BuildFault.{BuildFault}
 use Rattle.egt_sweep.specs.declared.build_fault.BuildFault.TheVariants as faults
 use Rattle.egt_sweep.specs.declared.migrate_fault.MigrateFault.{MigrateFault}

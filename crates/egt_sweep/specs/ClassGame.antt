@@ -15,12 +15,12 @@ use Rattle.egt_moves.specs.declared.chess_move.Move.{Move}
 use Rattle.egt_graph.specs.Graph.{Graph, IsNode, IsGame, HasShortDistance}
 use Rattle.egt_graph.specs.Passing.{passing_below, passing_has, passing_passes, passing_all, passing_ascends, passing_none}
 use Rattle.egt_index.specs.Size.{size_of}
-use Rattle.egt_check.specs.declared.metric.Metric.{Metric}
-use Rattle.egt_check.specs.declared.metric.Metric.TheVariants.{Mate, Zeroing}
+use Rattle.egt_entries.specs.declared.metric.Metric.{Metric}
+use Rattle.egt_entries.specs.declared.metric.Metric.TheVariants.{Mate, Zeroing}
 use Rattle.egt_table.specs.Table.{TableValue}
-use Rattle.egt_check.specs.Entry.{IsShort}
+use Rattle.egt_entries.specs.Entry.{IsShort}
 use Rattle.egt_check.specs.Reading.{read, read_short}
-use Rattle.egt_check.specs.Tables.{Tables, entry_at}
+use Rattle.egt_entries.specs.Tables.{Tables, entry_at}
 use Rattle.egt_sweep.specs.Nodes.{position_at, connects, connects_from, is_mated, exits_at, exits_from, exit_by, exit_of, shown_in, shown_below, or_else, goes_on, index_in}
 
 -- nodes are the indexes, and edges the moves that go on

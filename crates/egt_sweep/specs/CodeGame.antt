@@ -17,9 +17,9 @@ use Rattle.egt_moves.specs.Legal.{Leads}
 use Rattle.egt_moves.specs.declared.chess_move.Move.{Move}
 use Rattle.egt_graph.specs.Graph.{Graph, IsGame, IsNode}
 use Rattle.egt_graph.specs.Passing.{passing_below, passing_has, passing_passes, passing_all, passing_ascends, passing_none}
-use Rattle.egt_check.specs.declared.metric.Metric.{Metric}
-use Rattle.egt_check.specs.declared.metric.Metric.TheVariants.{Mate, Zeroing}
-use Rattle.egt_check.specs.Tables.{Tables}
+use Rattle.egt_entries.specs.declared.metric.Metric.{Metric}
+use Rattle.egt_entries.specs.declared.metric.Metric.TheVariants.{Mate, Zeroing}
+use Rattle.egt_entries.specs.Tables.{Tables}
 use Rattle.egt_words.specs.MoveLists.{Advances, Quietly}
 use Rattle.egt_sweep.specs.ClassGame.{exits_none, exits_short}
 use Rattle.egt_sweep.specs.Nodes.{exits_at, index_in, is_mated, kept_if, position_at, spelled}

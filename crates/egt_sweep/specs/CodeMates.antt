@@ -5,9 +5,9 @@ use Rattle.egt_index.specs.Size.{size_of}
 use Rattle.egt_graph.specs.ExitMarks.{AreExitMarks}
 use Rattle.egt_graph.specs.Graph.{Graph, IsNode}
 use Rattle.egt_graph.specs.Words.{word_in}
-use Rattle.egt_check.specs.declared.metric.Metric.{Metric}
-use Rattle.egt_check.specs.declared.metric.Metric.TheVariants.{Mate}
-use Rattle.egt_check.specs.Tables.{Tables}
+use Rattle.egt_entries.specs.declared.metric.Metric.{Metric}
+use Rattle.egt_entries.specs.declared.metric.Metric.TheVariants.{Mate}
+use Rattle.egt_entries.specs.Tables.{Tables}
 use Rattle.egt_index.specs.Numbers.{number_of, places}
 use Rattle.egt_sweep.specs.CodeGame.{code_game, index_of}
 use Rattle.egt_sweep.specs.CodeLists.{moves_told}

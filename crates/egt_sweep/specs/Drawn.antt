@@ -3,9 +3,9 @@ use Rattle.std.specs.Prelude.{◌≡◌, ℕ, ◌<◌, ◌≤◌, Some}
 use Rattle.std.specs.List.{Contains}
 use Rattle.egt_class.specs.Children.{children_of}
 use Rattle.egt_index.specs.Size.{size_of}
-use Rattle.egt_check.specs.declared.metric.Metric.TheVariants.{Mate}
+use Rattle.egt_entries.specs.declared.metric.Metric.TheVariants.{Mate}
 use Rattle.egt_table.specs.Table.{TableValue}
-use Rattle.egt_check.specs.Tables.{Tables, entry_at}
+use Rattle.egt_entries.specs.Tables.{Tables, entry_at}
 
 -- no table of a child shows a win or a loss
 abbrev pub HasDrawnChildren : Tables → ℕ → Type 0

@@ -7,8 +7,8 @@ use Rattle.egt_moves.specs.Chess.{Zeroes, IsPawnOn}
 use Rattle.egt_moves.specs.Legal.{Leads}
 use Rattle.egt_moves.specs.declared.chess_move.Move.{Move}
 use Rattle.egt_unmoves.specs.declared.unmove.Unmove.{Unmove}
-use Rattle.egt_check.specs.declared.metric.Metric.{Metric}
-use Rattle.egt_check.specs.declared.metric.Metric.TheVariants.{Mate, Zeroing}
+use Rattle.egt_entries.specs.declared.metric.Metric.{Metric}
+use Rattle.egt_entries.specs.declared.metric.Metric.TheVariants.{Mate, Zeroing}
 
 -- the position that the index spells
 pub record IsAt (c i : ℕ) (p : Setup) : Type 0 where

@@ -20,11 +20,11 @@ use Rattle.egt_moves.specs.declared.chess_move.Move.{Move}
 use Rattle.egt_graph.specs.declared.game.Exit.{Exit}
 use Rattle.egt_graph.specs.declared.game.Exit.TheVariants as exits
 use Rattle.egt_graph.specs.Passing.{passing_below}
-use Rattle.egt_check.specs.declared.metric.Metric.{Metric}
-use Rattle.egt_check.specs.declared.metric.Metric.TheVariants.{Mate, Zeroing}
+use Rattle.egt_entries.specs.declared.metric.Metric.{Metric}
+use Rattle.egt_entries.specs.declared.metric.Metric.TheVariants.{Mate, Zeroing}
 use Rattle.egt_table.specs.Table.{TableValue}
 use Rattle.egt_check.specs.Reading.{read}
-use Rattle.egt_check.specs.Tables.{Tables, entry_at}
+use Rattle.egt_entries.specs.Tables.{Tables, entry_at}
 
 -- the first number of a list
 abbrev pub first_of : List ℕ → Option ℕ

@@ -32,7 +32,7 @@ fn rank(bits: u64, place: u32) -> usize
 impl CodeLandings {
     ghost use Rattle.std.specs.Prelude.{◌≡◌, ℕ, ◌+◌, ◌<◌, ◌≤◌, not, true, length, IfOk, IfSome, IsFalse, OnOk};
     ghost use Rattle.std.specs.Option.{is_some};
-    ghost use Rattle.egt_check.specs.declared.metric.Metric.TheVariants.{Mate};
+    ghost use Rattle.egt_entries.specs.declared.metric.Metric.TheVariants.{Mate};
     ghost use Rattle.egt_graph.specs.Words.{words_of};
     ghost use Rattle.egt_index.specs.Numbers.{places};
     ghost use Rattle.egt_index.specs.Size.{size_of};

@@ -2,8 +2,8 @@
 ghost use Rattle.std.specs.Prelude.{◌≡◌, ◌≤◌, ◌<◌, ℕ, false, IsTrue};
 ghost use Rattle.egt_class.specs.Material.{material_of};
 ghost use Rattle.egt_index.specs.Size.{has_pawns, size_of};
-ghost use Rattle.egt_check.specs.declared.metric.Metric.TheVariants.{Mate};
-ghost use Rattle.egt_check.specs.Tables.{table_at, entry_at};
+ghost use Rattle.egt_entries.specs.declared.metric.Metric.TheVariants.{Mate};
+ghost use Rattle.egt_entries.specs.Tables.{table_at, entry_at};
 ghost use Rattle.egt_sweep.specs.Drawn.{HasDrawnChildren};
 
 use egt_check::Library;

@@ -1,11 +1,11 @@
 //! What the landings of moves that leave a game are worth in it.
 ghost use Rattle.std.specs.Prelude.{◌≡◌, ◌≤◌, ℕ, IsSome, IfSome, All, length, map};
 ghost use Rattle.egt_moves.specs.Arena.{Value};
-ghost use Rattle.egt_check.specs.declared.metric.Metric.TheVariants.{Mate};
-ghost use Rattle.egt_check.specs.Entry.{Shows};
-ghost use Rattle.egt_check.specs.NearTables.{near_tables};
+ghost use Rattle.egt_entries.specs.declared.metric.Metric.TheVariants.{Mate};
+ghost use Rattle.egt_entries.specs.Entry.{Shows};
+ghost use Rattle.egt_entries.specs.NearTables.{near_tables};
 ghost use Rattle.egt_check.specs.Reading.{read};
-ghost use Rattle.egt_check.specs.Tables.{table_at, entry_at};
+ghost use Rattle.egt_entries.specs.Tables.{table_at, entry_at};
 ghost use Rattle.egt_sweep.specs.Landings.{IsThere, exit_there};
 ghost use Rattle.egt_sweep.specs.Objective.{metric_of, known, Knows};
 ghost use Rattle.egt_sweep.specs.MateColumn.{IsIndexed};

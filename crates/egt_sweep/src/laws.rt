@@ -1,8 +1,8 @@
 //! The laws of the crates below that the games rest on.
 ghost use Rattle.std.specs.Prelude.{◌<◌, ℕ};
-ghost use Rattle.egt_check.specs.Tables.{Tables};
+ghost use Rattle.egt_entries.specs.Tables.{Tables};
 ghost use Rattle.egt_graph.specs.StandIns.{StandsFor};
-ghost use Rattle.egt_check.specs.declared.metric.Metric.{Metric};
+ghost use Rattle.egt_entries.specs.declared.metric.Metric.{Metric};
 ghost use Rattle.egt_sweep.specs.ClassGame.{class_game};
 ghost use Rattle.egt_sweep.specs.CodeGame.{CodeMoves, TellsGame, code_game, index_of};
 ghost use Rattle.egt_sweep.specs.Laws.{Laws};

@@ -1,8 +1,8 @@
 //! The games over the numbers of a class in which the moves that stay in it go on, by words: that of mates and that of the nearest mates.
 ghost use Rattle.std.specs.Prelude.{◌≡◌, ◌≤◌, IfOk};
 ghost use Rattle.egt_graph.specs.Value.{AreRanks, SomeAbove};
-ghost use Rattle.egt_check.specs.Tables.{table_at, HasChildren};
-ghost use Rattle.egt_check.specs.declared.metric.Metric.TheVariants.{Mate};
+ghost use Rattle.egt_entries.specs.Tables.{table_at, HasChildren};
+ghost use Rattle.egt_entries.specs.declared.metric.Metric.TheVariants.{Mate};
 ghost use Rattle.egt_index.specs.Numbers.{places};
 ghost use Rattle.egt_sweep.specs.Objective.{known, Knows, knows_prop, metric_of};
 ghost use Rattle.egt_sweep.specs.ClassGame.{class_game};

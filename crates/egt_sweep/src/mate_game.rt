@@ -1,6 +1,6 @@
 //! The game of mates over a class.
-ghost use Rattle.egt_check.specs.Tables.{table_at, HasChildren};
-ghost use Rattle.egt_check.specs.declared.metric.Metric.TheVariants.{Mate};
+ghost use Rattle.egt_entries.specs.Tables.{table_at, HasChildren};
+ghost use Rattle.egt_entries.specs.declared.metric.Metric.TheVariants.{Mate};
 ghost use Rattle.egt_sweep.specs.ClassGame.{class_game, class_game_is_lawful};
 
 use crate::missing::Missing;
@@ -23,7 +23,7 @@ pub struct MateGame<'l> {
 
 impl<'l> MateGame<'l> {
     ghost use Rattle.std.specs.Prelude.{◌≡◌, ◌↔◌, IsOk, IfOk, IfErr};
-    ghost use Rattle.egt_check.specs.Library.{IsFirstMissing};
+    ghost use Rattle.egt_entries.specs.Library.{IsFirstMissing};
 
     /// The game over a class whose children have their tables in the library.
     ///

@@ -1,8 +1,8 @@
 //! Tables without the column of the nearest mates get it.
 ghost use Rattle.std.specs.Prelude.{◌≡◌, None, IfOk, IfErr};
 ghost use Rattle.egt_graph.specs.Near.{AreNears};
-ghost use Rattle.egt_check.specs.Library.{IsAccepted};
-ghost use Rattle.egt_check.specs.Tables.{table_at, HasChildren, HasReachChildren};
+ghost use Rattle.egt_entries.specs.Library.{IsAccepted};
+ghost use Rattle.egt_entries.specs.Tables.{table_at, HasChildren, HasReachChildren};
 ghost use Rattle.egt_sweep.specs.Built.{IsMigrated, IsNotMigrated, SomeReachesFar};
 ghost use Rattle.egt_sweep.specs.ReachGame.{reach_game};
 

@@ -3,7 +3,7 @@ ghost use Rattle.std.specs.Prelude.{◌≡◌, not, IsFalse};
 ghost use Rattle.std.specs.Option.{is_some};
 ghost use Rattle.egt_index.specs.Size.{size_of};
 ghost use Rattle.egt_graph.specs.Passing.{passing_below};
-ghost use Rattle.egt_check.specs.Tables.{table_at, HasChildren};
+ghost use Rattle.egt_entries.specs.Tables.{table_at, HasChildren};
 ghost use Rattle.egt_sweep.specs.Objective.{metric_of, known, Knows};
 ghost use Rattle.egt_sweep.specs.Edges.{IsAt};
 ghost use Rattle.egt_sweep.specs.Landings.{landings_at};

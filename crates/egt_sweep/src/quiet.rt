@@ -3,7 +3,7 @@ ghost use Rattle.std.specs.Prelude.{◌≡◌, ◌↔◌, ℕ, IsTrue};
 ghost use Rattle.egt_board.specs.Pawn.{Advances};
 ghost use Rattle.egt_board.specs.Placement.{IsFree};
 ghost use Rattle.egt_sweep.specs.Ways.{Stays};
-ghost use Rattle.egt_check.specs.declared.metric.Metric.TheVariants.{Mate};
+ghost use Rattle.egt_entries.specs.declared.metric.Metric.TheVariants.{Mate};
 
 use egt_board::{Man, Position, Square};
 use egt_check::Metric;

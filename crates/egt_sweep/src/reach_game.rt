@@ -1,6 +1,6 @@
 //! The game of the nearest mates over a class.
 ghost use Rattle.std.specs.Prelude.{◌≡◌, map};
-ghost use Rattle.egt_check.specs.Tables.{table_at, HasChildren, HasReachChildren};
+ghost use Rattle.egt_entries.specs.Tables.{table_at, HasChildren, HasReachChildren};
 ghost use Rattle.egt_sweep.specs.Objective.{reach_children_prop};
 ghost use Rattle.egt_sweep.specs.ReachGame.{as_win, reach_game, reach_game_is_lawful};
 

@@ -1,7 +1,7 @@
 //! A class's game of the nearest mates, solved: over its numbers by words where these are told, else by moves backward.
 ghost use Rattle.std.specs.Prelude.{◌≡◌, IfOk};
 ghost use Rattle.egt_graph.specs.Near.{AreNears, SomeFar};
-ghost use Rattle.egt_check.specs.Tables.{table_at, HasChildren, HasReachChildren};
+ghost use Rattle.egt_entries.specs.Tables.{table_at, HasChildren, HasReachChildren};
 ghost use Rattle.egt_sweep.specs.ReachGame.{reach_game};
 
 use crate::class_codes::ClassCodes;

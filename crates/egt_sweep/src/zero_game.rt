@@ -1,8 +1,8 @@
 //! The game of zeroing moves over a class.
 ghost use Rattle.std.specs.Prelude.{◌≡◌, ◌≢◌, ◌<◌, ◌≤◌, ℕ, true, length, slice_index};
 ghost use Rattle.std.specs.Option.{is_some};
-ghost use Rattle.egt_check.specs.Tables.{table_at, beside, HasChildren};
-ghost use Rattle.egt_check.specs.declared.metric.Metric.TheVariants.{Zeroing};
+ghost use Rattle.egt_entries.specs.Tables.{table_at, beside, HasChildren};
+ghost use Rattle.egt_entries.specs.declared.metric.Metric.TheVariants.{Zeroing};
 ghost use Rattle.egt_sweep.specs.ClassGame.{class_game, class_game_is_lawful};
 ghost use Rattle.egt_sweep.specs.MateColumn.{mate_table, IsMateColumn};
 
@@ -28,7 +28,7 @@ pub struct ZeroGame<'l> {
 
 impl<'l> ZeroGame<'l> {
     ghost use Rattle.std.specs.Prelude.{◌≡◌, ◌↔◌, IsOk, IfOk, IfErr};
-    ghost use Rattle.egt_check.specs.Library.{IsFirstMissing};
+    ghost use Rattle.egt_entries.specs.Library.{IsFirstMissing};
     ghost use Rattle.egt_sweep.specs.MateColumn.{AreMateRanks};
 
     /// The game over a class whose children have their tables in the library. `mates` are the ranks of its game of mates, by which

@@ -1,8 +1,8 @@
 //! A class's game of zeroing moves, solved: over its numbers by words where the game of mates was, else by moves backward.
 ghost use Rattle.std.specs.Prelude.{◌≡◌, ◌≤◌, IfOk};
 ghost use Rattle.egt_graph.specs.Value.{AreRanks, SomeAbove};
-ghost use Rattle.egt_check.specs.Tables.{table_at, beside};
-ghost use Rattle.egt_check.specs.declared.metric.Metric.TheVariants.{Zeroing};
+ghost use Rattle.egt_entries.specs.Tables.{table_at, beside};
+ghost use Rattle.egt_entries.specs.declared.metric.Metric.TheVariants.{Zeroing};
 ghost use Rattle.egt_sweep.specs.ClassGame.{class_game};
 ghost use Rattle.egt_sweep.specs.CodeMates.{CodesTell};
 ghost use Rattle.egt_sweep.specs.MateColumn.{mate_table};

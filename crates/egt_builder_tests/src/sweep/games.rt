@@ -1,6 +1,6 @@
 //! Both games of classes of few men, solved.
 ghost use Rattle.std.specs.Prelude.{◌≤◌};
-ghost use Rattle.egt_check.specs.Tables.{table_at};
+ghost use Rattle.egt_entries.specs.Tables.{table_at};
 ghost use Rattle.egt_sweep.specs.MateColumn.{AreMateRanks};
 
 use super::{built, mates};

@@ -1,7 +1,7 @@
 //! Tables without the column of the nearest mates get it, or say why not.
 ghost use Rattle.std.specs.Prelude.{OnOk};
-ghost use Rattle.egt_check.specs.Library.{IsAccepted};
-ghost use Rattle.egt_check.specs.Tables.{table_at};
+ghost use Rattle.egt_entries.specs.Library.{IsAccepted};
+ghost use Rattle.egt_entries.specs.Tables.{table_at};
 
 use super::built;
 use egt_check::{Library, check};

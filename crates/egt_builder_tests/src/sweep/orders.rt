@@ -1,5 +1,5 @@
 //! Runs by rounds over the game of mates with a queen, in other orders than that of `solve`.
-ghost use Rattle.egt_check.specs.Tables.{table_at};
+ghost use Rattle.egt_entries.specs.Tables.{table_at};
 ghost use Rattle.egt_sweep.specs.MateColumn.{AreMateRanks};
 
 use super::{built, mates};

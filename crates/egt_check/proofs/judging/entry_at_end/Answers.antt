@@ -1,5 +1,5 @@
 use Rattle.std.proofs.Common.{refl, inl, inr}
-use Rattle.egt_check.proofs.Due.{stale_unless_mated}
+use Rattle.egt_entries.proofs.Due.{stale_unless_mated}
 use Rattle.egt_check.proofs.judging.entry_at_end.Goals as goal
 
 pub returns-in-Checkmate : goal.returns-in-Checkmate

@@ -2,9 +2,9 @@ use Rattle.std.proofs.Common.{ℕ, false, sym, subst}
 use Rattle.egt_board.specs.Setup.{Setup}
 use Rattle.egt_index.specs.Code.{Spells}
 use Rattle.egt_index.specs.Index.{IsVoid}
-use Rattle.egt_check.specs.declared.metric.Metric.TheVariants.{Mate, Zeroing}
-use Rattle.egt_check.specs.Judged.{Finds, FindsVoid}
-use Rattle.egt_check.specs.Tables.{table_at, beside, entry_at}
+use Rattle.egt_entries.specs.declared.metric.Metric.TheVariants.{Mate, Zeroing}
+use Rattle.egt_entries.specs.Judged.{Finds, FindsVoid}
+use Rattle.egt_entries.specs.Tables.{table_at, beside, entry_at}
 use Rattle.egt_check.proofs.FirstRule.{judged, void_judged}
 use Rattle.egt_check.proofs.judging.judge.Goals as goal
 

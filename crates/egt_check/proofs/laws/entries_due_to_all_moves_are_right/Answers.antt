@@ -9,16 +9,16 @@ use Rattle.egt_index.specs.declared.shelf_codes.ShelfMen.{ShelfMen}
 use Rattle.egt_lanes.specs.Scores.{byte_score, reach_score}
 use Rattle.egt_table.specs.declared.column.Column.TheVariants as columns
 use Rattle.egt_check.specs.declared.move_scores.FourMen.{FourMen}
-use Rattle.egt_check.specs.declared.metric.Metric.TheVariants.{Mate}
+use Rattle.egt_entries.specs.declared.metric.Metric.TheVariants.{Mate}
 use Rattle.egt_check.specs.declared.part.Part.{Part}
 use Rattle.egt_check.specs.declared.part.Part.TheVariants.{Values, Reach}
 use Rattle.egt_steps.specs.Stands.{stand_on}
 use Rattle.egt_check.specs.MoveScores.{AreTablesOf}
-use Rattle.egt_check.specs.NearTables.{near_tables}
+use Rattle.egt_entries.specs.NearTables.{near_tables}
 use Rattle.egt_check.specs.Parts.{four_in, tables_in}
 use Rattle.egt_check.specs.ReachScores.{AreAllReachScores, AreAllScoresOf}
 use Rattle.egt_check.specs.RightBlock.{IsRightLane, KeepsPart}
-use Rattle.egt_check.specs.Tables.{Tables, entry_at, reach_at}
+use Rattle.egt_entries.specs.Tables.{Tables, entry_at, reach_at}
 use Rattle.egt_check.specs.Worth.{column_score}
 use Rattle.egt_check.proofs.AllJudged.{Says, all_judged, some_score}
 use Rattle.egt_check.proofs.NearJudged.{void_kept}

@@ -1,4 +1,4 @@
-use Rattle.egt_check.specs.NearTables.{near_tables}
+use Rattle.egt_entries.specs.NearTables.{near_tables}
 use Rattle.egt_check.specs.Parts.{four_in}
 use Rattle.egt_check.specs.declared.part.Part.TheVariants.{Reach}
 use Rattle.egt_check.proofs.NearScores.{reach_read}

@@ -2,12 +2,12 @@ use Rattle.std.proofs.Common.{◌≡◌, ℕ, ◌+◌, ◌/◌, ◌∙◌, arith
 use Rattle.std.proofs.lemmas.Bool.{eqb-true}
 use Rattle.egt_board.specs.Setup.{Setup}
 use Rattle.egt_index.specs.Code.{Spells}
-use Rattle.egt_check.specs.declared.metric.Metric.TheVariants.{Mate, Zeroing}
+use Rattle.egt_entries.specs.declared.metric.Metric.TheVariants.{Mate, Zeroing}
 use Rattle.egt_check.specs.declared.part.Part.{Part}
-use Rattle.egt_check.specs.NearTables.{near_entry}
+use Rattle.egt_entries.specs.NearTables.{near_entry}
 use Rattle.egt_check.specs.RightRow.{IsRightEnd, IsRightEndOf, IsRightReachEnd}
-use Rattle.egt_check.specs.Score.{IsAtEnd}
-use Rattle.egt_check.specs.Tables.{reach_at}
+use Rattle.egt_entries.specs.Score.{IsAtEnd}
+use Rattle.egt_entries.specs.Tables.{reach_at}
 use Rattle.egt_check.proofs.row_judging.end_is_right.Goals as goal
 
 -- checkmate and stalemate as they are read

@@ -7,7 +7,7 @@ use Rattle.egt_index.specs.ShelfCodes.{number_in}
 use Rattle.egt_lanes.specs.Scores.{due_score}
 use Rattle.egt_table.specs.Table.{TableValue}
 use Rattle.egt_table.specs.declared.column.Column.{Column}
-use Rattle.egt_check.specs.declared.metric.Metric.TheVariants.{Zeroing}
+use Rattle.egt_entries.specs.declared.metric.Metric.TheVariants.{Zeroing}
 use Rattle.egt_check.specs.declared.part.Part.{Part}
 use Rattle.egt_check.specs.declared.part.Part.TheVariants.{Values, Reach}
 use Rattle.egt_check.specs.Parts.{column_of}

@@ -1,5 +1,5 @@
-use Rattle.egt_check.specs.Steps.{shown_by}
-use Rattle.egt_check.proofs.Raising.{raised_is}
+use Rattle.egt_entries.specs.Steps.{shown_by}
+use Rattle.egt_entries.proofs.Raising.{raised_is}
 use Rattle.egt_check.proofs.successors.best_after.Goals as goal
 
 pub returns : goal.returns

@@ -3,7 +3,7 @@ use Rattle.egt_index.specs.declared.shelf_codes.ShelfMen.{ShelfMen}
 use Rattle.egt_table.specs.Table.{TableValue}
 use Rattle.egt_check.specs.Parts.{column_of, promotions_in, tables_in}
 use Rattle.egt_check.specs.PawnScores.{ArePromotionsOf, HasPromotions}
-use Rattle.egt_check.specs.Tables.{beside, table_at}
+use Rattle.egt_entries.specs.Tables.{beside, table_at}
 use Rattle.egt_check.proofs.EqualPawns.{same_order}
 use Rattle.egt_check.proofs.table_judging.first_promotions.Goals as goal
 

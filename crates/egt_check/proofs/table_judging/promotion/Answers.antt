@@ -3,7 +3,7 @@ use Rattle.egt_board.specs.Turned.{turned_man}
 use Rattle.egt_board.specs.declared.man.Man.{Man}
 use Rattle.egt_steps.specs.PawnMoves.{officer_of}
 use Rattle.egt_check.specs.PawnScores.{AreNamed}
-use Rattle.egt_check.specs.Tables.{table_at}
+use Rattle.egt_entries.specs.Tables.{table_at}
 use Rattle.egt_check.proofs.PromotionTables.{table_after}
 use Rattle.egt_check.proofs.TablePairs.{table_left}
 use Rattle.egt_check.proofs.table_judging.promotion.Goals as goal

@@ -6,7 +6,7 @@ use Rattle.egt_check.specs.MoveScores.{AreTablesOf}
 use Rattle.egt_check.specs.PairOrder.{nth_pair}
 use Rattle.egt_check.specs.Parts.{four_in, tables_in}
 use Rattle.egt_check.specs.RightBlock.{AreJudged}
-use Rattle.egt_check.specs.Tables.{Tables}
+use Rattle.egt_entries.specs.Tables.{Tables}
 use Rattle.egt_check.proofs.table_judging.side_pairs_are_right.Given as goal
 
 -- the pairs that came before are right, and what is kept holds

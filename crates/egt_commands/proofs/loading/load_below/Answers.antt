@@ -1,7 +1,7 @@
 use Rattle.std.proofs.Common.{◌≡◌, ℕ, ◌<◌, ◌+◌, ◌⊎◌, sym, subst, ◌∙◌, arith}
 use Rattle.std.specs.Prelude.{IsSome}
 use Rattle.std.proofs.lemmas.Bool.{false≢true}
-use Rattle.egt_check.specs.Tables.{table_at}
+use Rattle.egt_entries.specs.Tables.{table_at}
 use Rattle.egt_commands.specs.Descent.{Descends, HasExactly, IsMarked}
 use Rattle.egt_commands.proofs.Marking.{descendants_below}
 use Rattle.egt_commands.proofs.Loaded.{one_more, none_more, all_there}

@@ -1,5 +1,5 @@
 use Rattle.std.proofs.Common.{◌<◌}
-use Rattle.egt_check.specs.Tables.{table_at}
+use Rattle.egt_entries.specs.Tables.{table_at}
 use Rattle.egt_commands.specs.Descent.{Descends, HasExactly}
 use Rattle.egt_commands.proofs.loading.load_below.Given as goal
 

@@ -6,7 +6,7 @@ use Rattle.egt_moves.specs.Arena.{SomeMove, HasValue}
 use Rattle.egt_moves.specs.Chess.{chess}
 use Rattle.egt_moves.specs.Found.{mate_by}
 use Rattle.egt_moves.specs.declared.chess_move.Move.{Move}
-use Rattle.egt_check.specs.Entry.{entry_of}
+use Rattle.egt_entries.specs.Entry.{entry_of}
 use Rattle.egt_probe.specs.Facts.{Facts}
 use Rattle.egt_probe.specs.Search.{IsFirstWith}
 use Rattle.egt_probe.proofs.Best.{short, goes_on, some_found, first_to}

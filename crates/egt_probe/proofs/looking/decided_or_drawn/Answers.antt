@@ -1,4 +1,4 @@
-use Rattle.egt_check.specs.declared.metric.Metric.TheVariants.{Mate, Zeroing}
+use Rattle.egt_entries.specs.declared.metric.Metric.TheVariants.{Mate, Zeroing}
 use Rattle.egt_probe.proofs.SameKinds.{same_kind}
 use Rattle.egt_probe.proofs.Shelved.{told, true_outcome}
 use Rattle.egt_probe.proofs.looking.decided_or_drawn.Goals as goal

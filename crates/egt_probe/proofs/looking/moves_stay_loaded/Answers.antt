@@ -1,6 +1,6 @@
 use Rattle.std.proofs.Common.{ℕ, ◌<◌, Option, Some, None, is_some, option_map, refl, IfSome, IsSome, subst}
-use Rattle.egt_check.specs.Library.{IsShelved}
-use Rattle.egt_check.specs.Tables.{table_at}
+use Rattle.egt_entries.specs.Library.{IsShelved}
+use Rattle.egt_entries.specs.Tables.{table_at}
 use Rattle.egt_table.specs.Table.{TableValue}
 use Rattle.egt_probe.specs.Shelves.{loaded_in}
 use Rattle.egt_probe.proofs.Shelved.{step_loaded}

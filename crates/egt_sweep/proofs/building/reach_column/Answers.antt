@@ -1,7 +1,7 @@
 use Rattle.std.proofs.Common.{ℕ, ◌<◌, List, Option, subst}
 use Rattle.egt_graph.specs.Near.{SomeFar}
 use Rattle.egt_table.specs.Table.{TableValue}
-use Rattle.egt_check.specs.Tables.{table_at}
+use Rattle.egt_entries.specs.Tables.{table_at}
 use Rattle.egt_sweep.specs.ReachGame.{reach_game}
 use Rattle.egt_sweep.proofs.TrueChildren.{true_children}
 use Rattle.egt_sweep.proofs.building.reach_column.Goals as goal

@@ -3,8 +3,8 @@ use Rattle.egt_moves.specs.Arena.{HasValue}
 use Rattle.egt_moves.specs.Chess.{chess}
 use Rattle.egt_graph.specs.Value.{SomeAbove, AreRanks}
 use Rattle.egt_table.specs.Table.{TableValue}
-use Rattle.egt_check.specs.declared.metric.Metric.TheVariants.{Mate, Zeroing}
-use Rattle.egt_check.specs.Tables.{table_at, beside}
+use Rattle.egt_entries.specs.declared.metric.Metric.TheVariants.{Mate, Zeroing}
+use Rattle.egt_entries.specs.Tables.{table_at, beside}
 use Rattle.egt_sweep.specs.ClassGame.{class_game, class_game_is_lawful}
 use Rattle.egt_sweep.specs.MateColumn.{mate_table}
 use Rattle.egt_sweep.proofs.BuiltTables.{RanksTell, mates_show_values, none_above}

@@ -1,7 +1,7 @@
 use Rattle.std.proofs.Common.{◌≡◌, ℕ, ◌/◌, ◌^◌, IsSome, IfSome, sym, ap, ◌∙◌, subst}
-use Rattle.egt_check.specs.declared.metric.Metric.TheVariants.{Mate}
+use Rattle.egt_entries.specs.declared.metric.Metric.TheVariants.{Mate}
 use Rattle.egt_check.specs.Reading.{read}
-use Rattle.egt_check.specs.Tables.{table_at, entry_at}
+use Rattle.egt_entries.specs.Tables.{table_at, entry_at}
 use Rattle.egt_sweep.specs.Landings.{value_there}
 use Rattle.egt_sweep.specs.MateColumn.{IsIndexed}
 use Rattle.egt_sweep.specs.Objective.{metric_of, known}

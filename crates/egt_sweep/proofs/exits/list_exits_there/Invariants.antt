@@ -1,5 +1,5 @@
 use Rattle.std.proofs.Common.{◌≡◌, map, take}
-use Rattle.egt_check.specs.Tables.{table_at}
+use Rattle.egt_entries.specs.Tables.{table_at}
 use Rattle.egt_sweep.specs.Landings.{exit_there}
 use Rattle.egt_sweep.specs.Objective.{metric_of, known}
 use Rattle.egt_sweep.proofs.exits.list_exits_there.Given as goal

@@ -1,8 +1,8 @@
 use Rattle.std.proofs.Common.{◌≡◌, ℕ, ◌<◌, Option, IfSome, sym, subst, ◌∙◌}
 use Rattle.std.proofs.lemmas.Bool.{false≢true}
-use Rattle.egt_check.specs.declared.metric.Metric.TheVariants.{Mate}
+use Rattle.egt_entries.specs.declared.metric.Metric.TheVariants.{Mate}
 use Rattle.egt_table.specs.Table.{TableValue}
-use Rattle.egt_check.specs.Tables.{table_at, entry_at}
+use Rattle.egt_entries.specs.Tables.{table_at, entry_at}
 use Rattle.egt_sweep.specs.Objective.{known, Knows}
 use Rattle.egt_sweep.specs.MateColumn.{mate_table}
 use Rattle.egt_sweep.specs.declared.objective.Objective.{Objective}

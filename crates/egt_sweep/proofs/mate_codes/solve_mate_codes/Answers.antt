@@ -1,7 +1,7 @@
 use Rattle.std.proofs.Common.{Err, sym, ap, subst}
 use Rattle.std.proofs.lemmas.Result.{err_from_is_err_and}
-use Rattle.egt_check.specs.Tables.{table_at}
-use Rattle.egt_check.specs.declared.metric.Metric.TheVariants.{Mate}
+use Rattle.egt_entries.specs.Tables.{table_at}
+use Rattle.egt_entries.specs.declared.metric.Metric.TheVariants.{Mate}
 use Rattle.egt_sweep.specs.CodeMates.{AreOfIndexes}
 use Rattle.egt_sweep.proofs.CodeRanks.{same_fault, mates_told, ranks_kept, too_deep_too}
 use Rattle.egt_sweep.proofs.mate_codes.solve_mate_codes.Goals as goal

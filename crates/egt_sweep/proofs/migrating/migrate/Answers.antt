@@ -2,8 +2,8 @@ use Rattle.std.proofs.Common.{ℕ, Err, IsSome, refl, sym, ap, subst}
 use Rattle.std.proofs.lemmas.Bool.{false≢true}
 use Rattle.egt_graph.specs.Near.{AreNears}
 use Rattle.egt_table.specs.Table.{IsTable}
-use Rattle.egt_check.specs.Tables.{Tables, table_at, beside, HasReachChildren}
-use Rattle.egt_check.specs.Truth.{HasTrueChildren, IsTrueTable}
+use Rattle.egt_entries.specs.Tables.{Tables, table_at, beside, HasReachChildren}
+use Rattle.egt_entries.specs.Truth.{HasTrueChildren, IsTrueTable}
 use Rattle.egt_sweep.specs.Built.{HasNoFalseChild, IsMigrated, SomeReachesFar}
 use Rattle.egt_sweep.specs.ReachGame.{reach_game}
 use Rattle.egt_sweep.proofs.JoinedTables.{NearsTell, joined_is_accepted, joined_reach, not_there}

@@ -1,6 +1,6 @@
 use Rattle.std.proofs.Common.{ℕ, ◌<◌, List, All, map, sym, ap, ◌∙◌, subst}
-use Rattle.egt_check.specs.declared.metric.Metric.{Metric}
-use Rattle.egt_check.specs.Tables.{table_at}
+use Rattle.egt_entries.specs.declared.metric.Metric.{Metric}
+use Rattle.egt_entries.specs.Tables.{table_at}
 use Rattle.egt_sweep.specs.Landings.{IsThere, exit_there, landings_at}
 use Rattle.egt_sweep.specs.Objective.{metric_of, known}
 use Rattle.egt_sweep.proofs.LandedThere.{exits_land, landings_there}

@@ -1,7 +1,7 @@
 use Rattle.std.proofs.Common.{Err, sym, ap, ◌∙◌, subst}
 use Rattle.std.proofs.lemmas.Result.{err_from_is_err_and}
 use Rattle.egt_graph.specs.Near.{AreNears}
-use Rattle.egt_check.specs.Tables.{table_at}
+use Rattle.egt_entries.specs.Tables.{table_at}
 use Rattle.egt_sweep.specs.CodeMates.{AreOfIndexes}
 use Rattle.egt_sweep.specs.ReachGame.{reach_game}
 use Rattle.egt_sweep.proofs.CodeNears.{nears_kept, too_far_too}

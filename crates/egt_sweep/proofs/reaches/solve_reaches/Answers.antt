@@ -1,6 +1,6 @@
 use Rattle.std.proofs.Common.{ℕ, subst}
 use Rattle.egt_graph.specs.Near.{SomeFar}
-use Rattle.egt_check.specs.Tables.{table_at}
+use Rattle.egt_entries.specs.Tables.{table_at}
 use Rattle.egt_sweep.specs.ReachGame.{reach_game}
 use Rattle.egt_sweep.proofs.Staying.{tests_equal}
 use Rattle.egt_sweep.proofs.reaches.solve_reaches.Goals as goal

@@ -5,7 +5,7 @@ use Rattle.std.specs.Int.{bit_at}
 use Rattle.egt_board.specs.Placement.{Stands}
 use Rattle.egt_board.specs.SquareSet.{Has}
 use Rattle.egt_moves.specs.Exchange.{Captures}
-use Rattle.egt_check.specs.declared.metric.Metric.{Metric}
+use Rattle.egt_entries.specs.declared.metric.Metric.{Metric}
 use Rattle.egt_sweep.specs.Edges.{GoesOn}
 use Rattle.egt_sweep.specs.Ways.{IsOnward}
 use Rattle.egt_sweep.proofs.Onward.{piece_onward, pawn_onward, on_quiet, on_stays, no_pawn_on, targeted}

@@ -1,10 +1,10 @@
 use Rattle.std.proofs.Common.{◌≡◌, ℕ, Err, List, sym, ap, subst}
 use Rattle.std.proofs.lemmas.Result.{err_from_is_err_and}
-use Rattle.egt_check.specs.Tables.{beside, table_at}
+use Rattle.egt_entries.specs.Tables.{beside, table_at}
 use Rattle.egt_check.specs.declared.library.Library.{Library}
 use Rattle.egt_graph.specs.Graph.{Graph}
 use Rattle.egt_graph.specs.Value.{AreRanks, SomeAbove}
-use Rattle.egt_check.specs.declared.metric.Metric.TheVariants.{Zeroing}
+use Rattle.egt_entries.specs.declared.metric.Metric.TheVariants.{Zeroing}
 use Rattle.egt_sweep.specs.ClassGame.{class_game}
 use Rattle.egt_sweep.specs.CodeMates.{AreOfIndexes, game_by}
 use Rattle.egt_sweep.specs.MateColumn.{mate_table}

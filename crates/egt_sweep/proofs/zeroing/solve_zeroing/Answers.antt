@@ -1,8 +1,8 @@
 use Rattle.std.proofs.Common.{ℕ, List, Option, IfSome, sym, subst}
 use Rattle.std.proofs.lemmas.Bool.{eqb-true}
-use Rattle.egt_check.specs.Tables.{beside, table_at}
+use Rattle.egt_entries.specs.Tables.{beside, table_at}
 use Rattle.egt_graph.specs.Value.{SomeAbove}
-use Rattle.egt_check.specs.declared.metric.Metric.TheVariants.{Zeroing}
+use Rattle.egt_entries.specs.declared.metric.Metric.TheVariants.{Zeroing}
 use Rattle.egt_sweep.specs.ClassGame.{class_game}
 use Rattle.egt_sweep.specs.CodeMates.{TellMates}
 use Rattle.egt_sweep.specs.MateColumn.{mate_table}

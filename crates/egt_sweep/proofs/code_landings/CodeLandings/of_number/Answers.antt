@@ -3,7 +3,7 @@ use Rattle.std.proofs.lemmas.List.{get_or_default}
 use Rattle.std.proofs.lemmas.Nat.Bits.{bit_at-lt, shr_and_one}
 use Rattle.std.specs.Int.{bit_at}
 use Rattle.std.specs.Option.{is_some}
-use Rattle.egt_check.specs.declared.metric.Metric.TheVariants.{Mate}
+use Rattle.egt_entries.specs.declared.metric.Metric.TheVariants.{Mate}
 use Rattle.egt_graph.specs.Graph.{IsNode}
 use Rattle.egt_graph.specs.Words.{number_at, number_at-places, place_in, place_in-small, word_in, word_in-within, words_of}
 use Rattle.egt_index.specs.Numbers.{places}

@@ -1,5 +1,5 @@
-use Rattle.egt_check.specs.Tables.{table_at}
-use Rattle.egt_check.specs.declared.metric.Metric.TheVariants.{Mate}
+use Rattle.egt_entries.specs.Tables.{table_at}
+use Rattle.egt_entries.specs.declared.metric.Metric.TheVariants.{Mate}
 use Rattle.egt_sweep.proofs.CodeGames.{codes_lead_by}
 use Rattle.egt_sweep.proofs.CodeLists.{codes_fit}
 use Rattle.egt_sweep.specs.Objective.{known}

@@ -1,7 +1,7 @@
 use Rattle.std.proofs.Common.{ℕ, List, All, map, sym, ap, ◌∙◌, subst}
 use Rattle.std.specs.List.{count_by}
-use Rattle.egt_check.specs.Tables.{table_at}
-use Rattle.egt_check.specs.declared.metric.Metric.{Metric}
+use Rattle.egt_entries.specs.Tables.{table_at}
+use Rattle.egt_entries.specs.declared.metric.Metric.{Metric}
 use Rattle.egt_sweep.specs.CodeGame.{index_of}
 use Rattle.egt_sweep.specs.Landings.{IsThere, exit_there, landings_at}
 use Rattle.egt_sweep.specs.Nodes.{exits_at}

@@ -1,9 +1,9 @@
 use Rattle.std.proofs.Common.{ℕ, sym, subst}
-use Rattle.egt_check.specs.Tables.{table_at}
+use Rattle.egt_entries.specs.Tables.{table_at}
 use Rattle.egt_graph.specs.Words.{IsWordStart}
 use Rattle.egt_sweep.specs.CodeMates.{game_by}
 use Rattle.egt_sweep.specs.CodeLists.{nodes_at}
-use Rattle.egt_check.specs.declared.metric.Metric.TheVariants.{Mate}
+use Rattle.egt_entries.specs.declared.metric.Metric.TheVariants.{Mate}
 use Rattle.egt_index.specs.Numbers.{places}
 use Rattle.egt_sweep.proofs.CodeGames.{mate_codes_begin}
 use Rattle.egt_sweep.specs.Objective.{known}

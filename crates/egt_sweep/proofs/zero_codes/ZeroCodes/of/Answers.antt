@@ -1,5 +1,5 @@
 use Rattle.std.proofs.Common.{slice_index, subst}
-use Rattle.egt_check.specs.Tables.{table_at}
+use Rattle.egt_entries.specs.Tables.{table_at}
 use Rattle.egt_graph.specs.Graph.{IsNode}
 use Rattle.egt_index.specs.Numbers.{places}
 use Rattle.egt_index.specs.Size.{size_of}
@@ -7,7 +7,7 @@ use Rattle.egt_sweep.specs.CodeMates.{game_by}
 use Rattle.egt_sweep.specs.ResultMarks.{IsOddAbove}
 use Rattle.egt_sweep.proofs.CodeMarks.{marked_in}
 use Rattle.egt_sweep.proofs.ZeroCodes.{nodes_marked}
-use Rattle.egt_check.specs.declared.metric.Metric.TheVariants.{Mate}
+use Rattle.egt_entries.specs.declared.metric.Metric.TheVariants.{Mate}
 use Rattle.egt_sweep.proofs.zero_codes.ZeroCodes.of.Goals as goal
 
 pub result_marks-requires-clause-nodes : goal.result_marks-requires-clause-nodes

@@ -1,5 +1,5 @@
-use Rattle.egt_check.specs.Tables.{beside, table_at}
-use Rattle.egt_check.specs.declared.metric.Metric.TheVariants.{Zeroing}
+use Rattle.egt_entries.specs.Tables.{beside, table_at}
+use Rattle.egt_entries.specs.declared.metric.Metric.TheVariants.{Zeroing}
 use Rattle.egt_sweep.specs.MateColumn.{mate_table}
 use Rattle.egt_sweep.proofs.CodeGames.{codes_lead_by}
 use Rattle.egt_sweep.proofs.CodeLists.{codes_fit}

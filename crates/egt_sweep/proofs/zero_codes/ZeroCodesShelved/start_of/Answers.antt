@@ -1,10 +1,10 @@
 use Rattle.std.proofs.Common.{length, ap, ◌∙◌, sym, subst, arith}
 use Rattle.std.proofs.lemmas.List.{get_or_default}
-use Rattle.egt_check.specs.Tables.{table_at}
+use Rattle.egt_entries.specs.Tables.{table_at}
 use Rattle.egt_graph.specs.WordRound.{has_held_exit, has_lost_exit, is_leaving}
 use Rattle.egt_graph.specs.Words.{IsWordOf}
 use Rattle.egt_sweep.specs.CodeMates.{game_by}
-use Rattle.egt_check.specs.declared.metric.Metric.TheVariants.{Mate}
+use Rattle.egt_entries.specs.declared.metric.Metric.TheVariants.{Mate}
 use Rattle.egt_index.specs.Numbers.{places}
 use Rattle.egt_sweep.proofs.CodeLists.{codes_fit}
 use Rattle.egt_sweep.proofs.ZeroCodes.{nodes_marked, nodes_within, pawns_led, zero_codes_begin}

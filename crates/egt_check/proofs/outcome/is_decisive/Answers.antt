@@ -1,6 +1,0 @@
-use Rattle.std.proofs.Common.{arith}
-use Rattle.egt_check.proofs.Scoring.{told_decisive}
-use Rattle.egt_check.proofs.outcome.is_decisive.Goals as goal
-
-pub returns-then-entry-gt2-clause-said : goal.returns-then-entry-gt2-clause-said
-returns-then-entry-gt2-clause-said c = told_decisive c.args.entry (omega (arith, c.if-entry-gt2.true))

@@ -1,0 +1,16 @@
+pub mod Entry
+pub mod Tables
+pub mod Fits
+pub mod Reach
+pub mod NearTables
+pub mod Rules
+pub mod Truth
+pub mod Library
+pub mod Names
+pub mod Score
+pub mod FirstBad
+pub mod Steps
+pub mod Raised
+pub mod Judged
+pub mod Nearest
+pub mod ReachJudged

@@ -1,0 +1,38 @@
+-- True tables: each entry is the value or the zeroing distance of its position.
+use Rattle.std.specs.Prelude.{◌≡◌, ℕ, ◌<◌, Option, Some, IsSome}
+use Rattle.std.specs.List.{Contains}
+use Rattle.egt_board.specs.Setup.{Setup, IsAdmissible}
+use Rattle.egt_class.specs.Children.{children_of}
+use Rattle.egt_index.specs.Index.{IsIndex, IsVoid}
+use Rattle.egt_index.specs.Size.{size_of}
+use Rattle.egt_moves.specs.Arena.{Value, HasValue}
+use Rattle.egt_moves.specs.Chess.{chess}
+use Rattle.egt_moves.specs.Reach.{HasReach}
+use Rattle.egt_moves.specs.Zeroing.{HasZeroing}
+use Rattle.egt_entries.specs.declared.metric.Metric.{Metric}
+use Rattle.egt_entries.specs.declared.metric.Metric.TheVariants.{Mate, Zeroing}
+use Rattle.egt_table.specs.Table.{TableValue}
+use Rattle.egt_entries.specs.Entry.{Shows}
+use Rattle.egt_entries.specs.Reach.{ShowsReach}
+use Rattle.egt_entries.specs.Tables.{Tables, entry_at, reach_at}
+
+-- what an entry tells of a position in each metric
+abbrev pub Tells : Metric → Setup → Value → Type 0
+Tells Mate p v = HasValue chess p v
+Tells Zeroing p v = HasZeroing chess p v
+
+-- the column of the nearest mates: a void entry is 0, any other shows how far the nearest checkmate is from each position with that index
+pub record IsTrueReach (t : TableValue) : Type 0 where
+  pub void : (i : ℕ) → i < size_of t.class → IsVoid t.class i → reach_at t i ≡ 0
+  pub true : (p : Setup) (i : ℕ) → IsAdmissible p → IsIndex t.class p i → (number : Option ℕ) × HasReach chess p number × ShowsReach (reach_at t i) number
+
+-- a void entry is 0, any other shows what is told of each position with that index; so no distance is above 32,000. The column of the nearest
+-- mates is as true where it is there.
+pub record IsTrueTable (t : TableValue) : Type 0 where
+  pub void : (metric : Metric) (i : ℕ) → i < size_of t.class → IsVoid t.class i → entry_at t metric i ≡ 0
+  pub true : (metric : Metric) (p : Setup) (i : ℕ) → IsAdmissible p → IsIndex t.class p i → (v : Value) × Tells metric p v × Shows (entry_at t metric i) v
+  pub reach : IsSome t.reach → IsTrueReach t
+
+-- each child of the class has a true table
+abbrev pub HasTrueChildren : Tables → ℕ → Type 0
+HasTrueChildren tables c = (d : ℕ) → Contains (children_of c) d → (t : TableValue) × (tables d ≡ Some t) × (t.class ≡ d) × IsTrueTable t
