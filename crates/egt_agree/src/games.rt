@@ -6,7 +6,7 @@ ghost use Rattle.egt_sweep.specs.MateColumn.{AreMateRanks};
 use crate::rule::{Value, said_by};
 use crate::setup::Setup;
 use crate::steps::{Step, steps};
-use crate::tables::mate_told;
+use crate::tables::mate_value;
 use arrayvec::ArrayVec;
 use egt_check::{Library, Metric};
 use egt_class::Class;
@@ -49,7 +49,7 @@ impl Plain<'_> {
         if step.class == self.class {
             said_by(*self.mates.get(step.index as usize)?)
         } else {
-            mate_told(self.library, step)
+            mate_value(self.library, step)
         }
     }
 
@@ -160,7 +160,7 @@ fn sources_agree<G: Game>(game: &G, plain: &Plain<'_>, code: u32, nodes: &[u32])
 }
 
 /// Whether what the game tells of a node alone is right.
-fn told_agrees<G: Game>(game: &G, code: u32, node: &Node) -> bool {
+fn node_agrees<G: Game>(game: &G, code: u32, node: &Node) -> bool {
     if code >= game.size() || game.void(code) {
         return false;
     }
@@ -177,7 +177,7 @@ fn code_agrees<G: Game>(game: &G, plain: &Plain<'_>, code: u32) -> bool {
     }
     match plain.node(code) {
         Some(node) => {
-            told_agrees(game, code, &node)
+            node_agrees(game, code, &node)
                 && sources_agree(game, plain, code, node.nodes.as_slice())
         }
         None => game.void(code),

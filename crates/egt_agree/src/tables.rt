@@ -33,14 +33,14 @@ pub fn entry_at(library: &Library, column: Column, class: Class, index: u32) -> 
 }
 
 /// What the mate entry says of where a move leads.
-pub fn mate_told(library: &Library, step: &Step) -> Option<Value> {
+pub fn mate_value(library: &Library, step: &Step) -> Option<Value> {
     said_by(entry_at(library, Column::Mate, step.class, step.index)?)
 }
 
 /// The same of the zeroing entry, with no plies left where the move has zeroed; none where both entries do not say the same but for
 /// plies.
-fn zeroing_told(library: &Library, step: &Step) -> Option<Value> {
-    let mate = mate_told(library, step)?;
+fn zeroing_value(library: &Library, step: &Step) -> Option<Value> {
+    let mate = mate_value(library, step)?;
     let zeroing = said_by(entry_at(library, Column::Zeroing, step.class, step.index)?)?;
     match (mate, zeroing) {
         (Value::Win(_), Value::Win(plies)) => Some(Value::Win(if step.zeroes { 0 } else { plies })),
@@ -55,12 +55,12 @@ fn zeroing_told(library: &Library, step: &Step) -> Option<Value> {
 }
 
 /// What the entry of the position is to be in the column that the metric stands for, by those of its successors.
-fn wanted_told(library: &Library, metric: Metric, steps: &[Step], in_check: bool) -> Option<u16> {
+fn wanted_entry(library: &Library, metric: Metric, steps: &[Step], in_check: bool) -> Option<u16> {
     let mut successors = ArrayVec::<Value, 64>::new();
     for step in steps {
         let told = match metric {
-            Metric::Mate => mate_told(library, step)?,
-            Metric::Zeroing => zeroing_told(library, step)?,
+            Metric::Mate => mate_value(library, step)?,
+            Metric::Zeroing => zeroing_value(library, step)?,
         };
         successors.try_push(told).ok()?;
     }
@@ -84,8 +84,8 @@ fn wanted(library: &Library, column: Column, position: &Position) -> Option<u16>
     let setup = Setup::of(position);
     let in_check = setup.is_in_check(setup.side);
     match column {
-        Column::Mate => wanted_told(library, Metric::Mate, steps, in_check),
-        Column::Zeroing => wanted_told(library, Metric::Zeroing, steps, in_check),
+        Column::Mate => wanted_entry(library, Metric::Mate, steps, in_check),
+        Column::Zeroing => wanted_entry(library, Metric::Zeroing, steps, in_check),
         Column::Reach => wanted_reach(library, steps, in_check),
     }
 }

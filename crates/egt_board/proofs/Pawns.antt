@@ -6,7 +6,7 @@ use Rattle.std.specs.FinMap as map
 use Rattle.std.proofs.lemmas.Bool.{cases_eq}
 use Rattle.egt_board.specs.declared.man.Man.{Man}
 use Rattle.egt_board.specs.Placement.{Placement, Stands, IsFree}
-use Rattle.egt_board.specs.Pawn.{MayStand}
+use Rattle.egt_board.specs.Pawn.{IsBeside, MayStand}
 use Rattle.egt_board.proofs.Bits.{not_both}
 
 -- the pawns that are not left stand neither on the first rank nor on the last, and each square left holds a man
@@ -42,3 +42,8 @@ FitSoFar-less men rest rest' s so_far gone others fits = record {
     | inr other ↦ so_far.held u (sym (others u other) ∙ left)
   ];
 }
+
+-- a square beside another has it beside itself
+pub beside_back : (s t : ℕ) → IsBeside s t → IsBeside t s
+beside_back s t (rank, inl one) = (sym rank, inr one)
+beside_back s t (rank, inr one) = (sym rank, inl one)

@@ -1,6 +1,6 @@
 //! How pawns stand and advance: FIDE Laws of Chess 2023, article 3.7.
 ghost use Rattle.std.specs.Prelude.{◌≡◌, ℕ, ◌<◌, ◌≤◌, ◌↔◌, IsTrue};
-ghost use Rattle.egt_board.specs.Pawn.{pawn_of, facing, forward, ahead, home_rank, last_rank, farthest_advance, Advances, MayStand, PawnsFit, HasPawnBeside};
+ghost use Rattle.egt_board.specs.Pawn.{pawn_of, facing, forward, ahead, home_rank, last_rank, farthest_advance, Advances, IsBeside, MayStand, PawnsFit, HasPawnBeside};
 ghost use Rattle.egt_board.specs.Placement.{IsFree};
 ghost use Rattle.egt_board.specs.Square.{rank_of};
 ghost use Rattle.egt_board.specs.SquareSet.{Has, size_of};
@@ -103,6 +103,21 @@ fn may_stand(man: Man, square: Square) -> bool
     ensures { IsTrue result ↔ MayStand man square }
 {
     man.kind != Kind::P || (0 < square.rank() && square.rank() < 7)
+}
+
+/// The squares beside the square: on its rank, on the next file.
+pub fn squares_beside(square: Square) -> SquareSet
+    ensures { (t : ℕ) → Has result t ↔ IsBeside square t }
+{
+    let number = square.number();
+    let mut squares = SquareSet::EMPTY;
+    if square.file() > 0 {
+        squares = squares.with(Square::at(number - 1));
+    }
+    if square.file() < 7 {
+        squares = squares.with(Square::at(number + 1));
+    }
+    squares
 }
 
 impl Board {

@@ -45,9 +45,9 @@ entry_back tables q x has =
 Near : (r g : ℕ) → Type 0
 Near r g = ((r ≡ 1) × (g ≡ 128)) ⊎ ((2 ≤ r) × (r ≤ 127) × (g + r ≡ 257))
 
-near_told : (r : ℕ) → r ≢ 0 → r < 128 → Near r (byte_score (near_entry r))
+near_of_entry : (r : ℕ) → r ≢ 0 → r < 128 → Near r (byte_score (near_entry r))
 unfolding Near
-near_told r some low = elim (cases_eq r 1) [
+near_of_entry r some low = elim (cases_eq r 1) [
   | inl dead ↦ inl (dead, ap (λ n. byte_score (near_entry n)) dead)
   | inr far ↦
       let score = byte_loss (near_entry r) (λ one. omega (arith, one, some, far)) (omega (arith, some, far)) in
@@ -55,7 +55,7 @@ near_told r some low = elim (cases_eq r 1) [
 ]
 
 known_near : (r : ℕ) → IsKnown (near_entry r) → Near r (byte_score (near_entry r))
-known_near r known = let some = known.some in let low = known.low in near_told r (λ none. some (ap near_entry none)) (omega (arith, low))
+known_near r known = let some = known.some in let low = known.low in near_of_entry r (λ none. some (ap near_entry none)) (omega (arith, low))
 
 due_far : (g : ℕ) → 128 < g → reach_due_score g ≡ g - 1
 due_far g far = sym (cond_below 128 g (g - 1) 128 far)
@@ -175,7 +175,7 @@ module _ (tables : Tables) (t : TableValue) (i : ℕ) where
       moves mate = mate.stuck soonest.step.0 (soonest.next, soonest.step.1)
 
       fits : reach_at t i ≢ 0 → reach_at t i < 128 → reach_score (reach_at t i) ≡ reach_due_score g → (number : Option ℕ) → reach_at t i ≡ reach_entry_of number → FitsReachBeside (ShowsReachOf tables) p number
-      fits some low due number is = of number (due_to (reach_at t i) (reach_score (reach_at t i)) g soonest.entry (near_told (reach_at t i) some low) soonest.near due) is
+      fits some low due number is = of number (due_to (reach_at t i) (reach_score (reach_at t i)) g soonest.entry (near_of_entry (reach_at t i) some low) soonest.near due) is
         where
           of : (number : Option ℕ) → IsOneMore (reach_at t i) g soonest.entry → reach_at t i ≡ reach_entry_of number → FitsReachBeside (ShowsReachOf tables) p number
           of (Some zero) (inl (own, dead, g_is)) is = absurd (omega (arith, own, is))

@@ -44,7 +44,7 @@ use Rattle.egt_check.proofs.EitherGiven.{same_given, union_given}
 use Rattle.egt_steps.proofs.LeftTargets.{unpromoted}
 use Rattle.egt_check.proofs.PartGiven.{Parts, PartsWith, part_given, part_given_with}
 use Rattle.egt_steps.proofs.PawnCaptures.{promoted}
-use Rattle.egt_steps.proofs.TwoBeside.{AreTwo, are_in}
+use Rattle.egt_steps.proofs.TwoNonKings.{AreTwo, are_in}
 use Rattle.egt_check.proofs.Worth.{AreWhole, SpellsSettled, Turning}
 
 -- either square is on the board

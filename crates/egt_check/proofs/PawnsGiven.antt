@@ -34,7 +34,7 @@ use Rattle.egt_check.specs.declared.pawn_scores.Promotion.{Promotion}
 use Rattle.egt_check.specs.declared.pawn_scores.Promotions.{Promotions}
 use Rattle.egt_check.proofs.EitherGiven.{same_given, union_given}
 use Rattle.egt_check.proofs.ByteJudged.{zeroing_max}
-use Rattle.egt_steps.proofs.TwoBeside.{AreTwo, are_in, who}
+use Rattle.egt_steps.proofs.TwoNonKings.{AreTwo, are_in, who}
 
 -- ---- moves of two kinds that zero
 

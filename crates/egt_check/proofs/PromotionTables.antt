@@ -6,7 +6,7 @@ use Rattle.egt_board.specs.Turned.{turned_man}
 use Rattle.egt_board.specs.declared.man.Side.TheVariants.{White, Black}
 use Rattle.egt_class.specs.Material.{material_of}
 use Rattle.egt_class.specs.Membership.{IsOf}
-use Rattle.egt_class.specs.Pair.{IsBeside}
+use Rattle.egt_class.specs.Pair.{AreNonKings}
 use Rattle.egt_index.specs.Size.{men_in_order}
 use Rattle.egt_board.specs.declared.man.Man.{Man}
 use Rattle.egt_index.specs.ShelfCodes.{AreMenOf}
@@ -116,13 +116,13 @@ module _ (men : ShelfMen) (white black : ℕ) where
 -- ---- the table of a class that a promotion leads to
 
 -- men beside the kings in the other order
-beside_swapped : (p : Setup) (one other : Option Man) → IsBeside p one other → IsBeside p other one
+beside_swapped : (p : Setup) (one other : Option Man) → AreNonKings p one other → AreNonKings p other one
 beside_swapped p one other is = record { kings = is.kings; others = λ man beside. let count = is.others man beside in omega (arith, count); first_other = is.second_other; second_other = is.first_other }
 
 in_order : (c : ℕ) (men : ShelfMen) (next last : Man) → AreMenOf c men → men.one ≡ next → men.last ≡ last → men_in_order (material_of c) ≡ king_of White ∷ king_of Black ∷ next ∷ last ∷ []
 in_order c men next last are one_is last_is = sym are.are ∙ ap (λ (m : Man). king_of White ∷ king_of Black ∷ m ∷ men.last ∷ []) one_is ∙ ap (λ (m : Man). king_of White ∷ king_of Black ∷ next ∷ m ∷ []) last_is
 
-class_after : (before : Bool) (c : ℕ) (flips : Bool) (one man : Man) (men : ShelfMen) → c < 36 → ((p : Setup) → IsBeside p (Some one) (Some man) → IsOf c flips p) → AreMenOf c men
+class_after : (before : Bool) (c : ℕ) (flips : Bool) (one man : Man) (men : ShelfMen) → c < 36 → ((p : Setup) → AreNonKings p (Some one) (Some man) → IsOf c flips p) → AreMenOf c men
     → AreNamed before men (turned_man flips one) (turned_man flips man) → IsClassAfter before c flips one man
 class_after false c flips one man men below of are named = record { below = below; of = of; order = in_order c men (turned_man flips one) (turned_man flips man) are named.one_is named.last_is }
 class_after true c flips one man men below of are named = record {
@@ -133,7 +133,7 @@ class_after true c flips one man men below of are named = record {
 
 -- the table of the class of these two, found beside that of another class
 pub table_after : (part : Part) (tables : Tables) (t u : TableValue) (c : ℕ) (before flips : Bool) (one man : Man) (men : ShelfMen) → IsShelved tables c u → tables c ≡ Some u → u.class ≢ t.class → HasColumn (column_of part) u
-    → HasBytes (table_in part u) → ((p : Setup) → IsBeside p (Some one) (Some man) → IsOf c flips p) → AreMenOf c men → AreNamed before men (turned_man flips one) (turned_man flips man)
+    → HasBytes (table_in part u) → ((p : Setup) → AreNonKings p (Some one) (Some man) → IsOf c flips p) → AreMenOf c men → AreNamed before men (turned_man flips one) (turned_man flips man)
     → IsTableAfter (tables_in part (beside tables t)) (table_in part u) before flips one man
 table_after part tables t u c before flips one man men shelved found apart there bytes of are named = record {
   is_table = is_table_in part u there shelved.table;

@@ -12,7 +12,7 @@ use Rattle.egt_board.specs.declared.man.Man.{Man}
 use Rattle.egt_board.specs.declared.man.Side.{Side}
 use Rattle.egt_board.specs.declared.man.Side.TheVariants.{White, Black}
 use Rattle.egt_class.specs.Membership.{IsOf}
-use Rattle.egt_class.specs.Pair.{IsBeside}
+use Rattle.egt_class.specs.Pair.{AreNonKings}
 use Rattle.egt_index.specs.LoneCodes.{IsLoneMan}
 use Rattle.egt_index.specs.Numbers.{code_of, number_of, places}
 use Rattle.egt_index.specs.Scales.{kind_digits}
@@ -106,7 +106,7 @@ found_beside part tables t u apart found there = found_in part (beside tables t)
 
 -- the same where a capture leaves one man
 pub table_left : (part : Part) (tables : Tables) (t u : TableValue) (c : ℕ) (flips : Bool) (man : Man) → IsShelved tables c u → tables c ≡ Some u → u.class ≢ t.class → HasColumn (column_of part) u
-    → IsLoneMan u.class (turned_man flips man) → HasBytes (table_in part u) → ((p : Setup) → IsBeside p (Some man) None → IsOf c flips p) → IsTableOf (tables_in part (beside tables t)) (table_in part u) flips man
+    → IsLoneMan u.class (turned_man flips man) → HasBytes (table_in part u) → ((p : Setup) → AreNonKings p (Some man) None → IsOf c flips p) → IsTableOf (tables_in part (beside tables t)) (table_in part u) flips man
 table_left part tables t u c flips man shelved found apart there lone bytes of = record {
   is_table = is_table_in part u there shelved.table;
   found = found_beside part tables t u apart (ap tables shelved.class ∙ found) there;

@@ -1,7 +1,7 @@
 //! The scores of the positions after the last man beside the kings, a pawn, advances or is promoted where he takes the first.
 ghost use Rattle.std.specs.Prelude.{◌≡◌, ◌↔◌, ◌<◌, ◌==◌, ℕ, true, false, IfSome, IsTrue};
 ghost use Rattle.egt_board.specs.Man.{other_side};
-ghost use Rattle.egt_board.specs.Pawn.{Advances, IsBeside, last_rank, pawn_of};
+ghost use Rattle.egt_board.specs.Pawn.{Advances, last_rank, pawn_of};
 ghost use Rattle.egt_board.specs.Square.{rank_of};
 ghost use Rattle.egt_board.specs.SquareSet.{Has};
 ghost use Rattle.egt_board.specs.Turned.{turned_man};
@@ -24,6 +24,7 @@ use crate::move_scores::men_swapped;
 use crate::own_men::is_of;
 use crate::quiet_blocks::kings_of;
 use crate::taken_blocks::{raise_takes, read_left, turned_man};
+use egt_board::pawn::squares_beside;
 use egt_board::{Kind, Man, Side, Square, SquareSet};
 use egt_index::ShelfMen;
 use egt_lanes::block::raise_transposed;
@@ -184,21 +185,6 @@ pub(crate) fn promotion_block(
     }
     raise_advances(men, arrivals, side, &scores, out);
     true
-}
-
-/// The squares beside this one.
-fn squares_beside(square: Square) -> SquareSet
-    ensures { (t : ℕ) → t < 64 → Has result t ↔ IsBeside square t }
-{
-    let number = square.number();
-    let mut beside = SquareSet::EMPTY;
-    if square.file() > 0 {
-        beside = beside.with(Square::at(number - 1));
-    }
-    if square.file() < 7 {
-        beside = beside.with(Square::at(number + 1));
-    }
-    beside
 }
 
 /// The squares beside this one, or the others.

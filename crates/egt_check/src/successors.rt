@@ -23,7 +23,7 @@ use egt_class::{Class, of};
 use egt_entries::by_metric::ByMetric;
 use egt_entries::outcome::{mate_score, zeroing_score};
 use egt_index::{index, indexed_by_men};
-use egt_moves::{Men, Move, is_told_by_men, legal_moves, play_legal, zeroing};
+use egt_moves::{Men, Move, is_without_en_passant, legal_moves, play_legal, zeroing};
 use egt_steps::facts::facts;
 use egt_table::{Column, Table};
 
@@ -106,7 +106,7 @@ fn place_after(position: &Position, men: &Men, chess_move: &Move) -> Place
 {
     facts();
     let _side = position.side();
-    if is_told_by_men(position, chess_move.from, chess_move.to) {
+    if is_without_en_passant(position, chess_move.from, chess_move.to) {
         let next = men.after(chess_move);
         return place_by_men(&next);
     }

@@ -6,7 +6,7 @@ ghost use Rattle.egt_board.specs.Setup.{Setup};
 ghost use Rattle.egt_board.specs.declared.man.Kind.TheVariants.{K};
 ghost use Rattle.egt_board.specs.declared.man.Side.{Side};
 ghost use Rattle.egt_class.specs.Membership.{IsOf};
-ghost use Rattle.egt_class.specs.Pair.{IsBeside};
+ghost use Rattle.egt_class.specs.Pair.{AreNonKings};
 ghost use Rattle.egt_index.specs.LoneCodes.{IsLoneMan};
 ghost use Rattle.egt_index.specs.Numbers.{places};
 ghost use Rattle.egt_index.specs.Scales.{kind_digits};
@@ -301,7 +301,7 @@ fn is_king(man: Man) -> bool
 
 /// Whether all positions of these men are of the class, in its own colours.
 fn is_own_class(class: Class, men: &ShelfMen) -> bool
-    ensures { result ≡ true → (p : Setup) → IsBeside p (Some men.now.one) (Some men.now.last) → IsOf class false p }
+    ensures { result ≡ true → (p : Setup) → AreNonKings p (Some men.now.one) (Some men.now.last) → IsOf class false p }
 {
     let (own, flips) = of_men(Some(men.one), Some(men.last));
     own.number() == class.number() && !flips

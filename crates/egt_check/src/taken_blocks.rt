@@ -56,7 +56,7 @@ pub(crate) fn read_left(
 
 /// The scores where that side's king takes the last man: a row for each square on which it does, a lane for each of the first man's. False where the table
 /// does not tell.
-fn read_beside(
+fn read_king_takes(
     child: &Table,
     column: Column,
     flips: bool,
@@ -113,7 +113,7 @@ pub(crate) fn taken_block(
         return true;
     }
     let mut beside = nothing();
-    if !read_beside(child, column, flips, men, side, &mut beside) {
+    if !read_king_takes(child, column, flips, men, side, &mut beside) {
         return false;
     }
     raise_transposed(out, &beside);

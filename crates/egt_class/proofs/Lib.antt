@@ -3,7 +3,7 @@ pub mod NameTable
 pub mod ChildTable
 pub mod Agreeing
 pub mod PairTable
-pub mod Beside
-pub mod TwoBeside
+pub mod NonKings
+pub mod TwoNonKings
 pub mod ClassTests
 pub mod OneClass

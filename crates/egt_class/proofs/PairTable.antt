@@ -14,7 +14,7 @@ use Rattle.egt_class.specs.Below.{all_below, passes_below}
 use Rattle.egt_class.specs.Material.{materials, material_of, men_in, has_equal_sides}
 use Rattle.egt_class.specs.Membership.{IsOf}
 use Rattle.egt_class.specs.Children.{men_beside, agree_at, man_of}
-use Rattle.egt_class.specs.Pair.{slot_of, kind_slot, first_slot, class_at, flip_at, IsBeside}
+use Rattle.egt_class.specs.Pair.{slot_of, kind_slot, first_slot, class_at, flip_at, AreNonKings}
 use Rattle.egt_class.proofs.Agreeing.{all_agree}
 
 -- how many of this man the class has, in the one colours or the other
@@ -137,7 +137,7 @@ slot_below (Some man) other =
     first_low Black = omega arith
 
 -- whose men beside the kings are a pair's is of the pair's class
-pub pair_is_of : (p : Setup) (first second : Option Man) → IsBeside p first second → IsOf (class_at (11 * slot_of first + slot_of second)) (flip_at (11 * slot_of first + slot_of second)) p
+pub pair_is_of : (p : Setup) (first second : Option Man) → AreNonKings p first second → IsOf (class_at (11 * slot_of first + slot_of second)) (flip_at (11 * slot_of first + slot_of second)) p
 pair_is_of p first second beside = record { men = λ man. by_kind man.side man.kind }
   where
     a_in : slot_of first < 11

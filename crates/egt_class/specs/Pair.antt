@@ -35,7 +35,7 @@ unfoldable pub flip_at : ℕ → Bool
 flip_at k = slice_index_or FLIPS k false
 
 -- beside one king a side p has these men
-pub record IsBeside (p : Setup) (first second : Option Man) : Type 0 where
+pub record AreNonKings (p : Setup) (first second : Option Man) : Type 0 where
   pub kings : (side : Side) → count_of p.men (king_of side) ≡ 1
   pub others : (man : Man) → man.kind ≢ K → count_of p.men man ≡ stands_here man first + stands_here man second
   pub first_other : IfSome first (λ man. man.kind ≢ K)

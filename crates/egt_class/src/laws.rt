@@ -14,7 +14,7 @@ ghost use Rattle.egt_board.specs.Images.{AreImages};
 ghost use Rattle.egt_class.specs.Material.{men_in, has_equal_sides};
 ghost use Rattle.egt_class.specs.Name.{name_of};
 ghost use Rattle.egt_class.specs.Membership.{IsOf};
-ghost use Rattle.egt_class.specs.Pair.{IsBeside};
+ghost use Rattle.egt_class.specs.Pair.{AreNonKings};
 ghost use Rattle.egt_class.specs.Children.{children_of};
 
 use egt_board::counting::{listed_men_are_counted, one_king_is_counted, one_square_changes};
@@ -41,7 +41,7 @@ pub fn every_position_has_a_class()
 /// The men beside the kings, in whatever order, are as many of each kind as stand on the board.
 pub fn men_beside_are_counted()
     ensures { (p : Setup) (one other : Option (Man × ℕ)) → IsAdmissible p → HasBeside p.men one other →
-        IsBeside p (option_map (λ e. e.0) one) (option_map (λ e. e.0) other) }
+        AreNonKings p (option_map (λ e. e.0) one) (option_map (λ e. e.0) other) }
 {
     one_square_changes();
     one_king_is_counted();

@@ -4,7 +4,7 @@ ghost use Rattle.std.specs.Option.{option_map};
 ghost use Rattle.egt_board.specs.Setup.{Setup};
 ghost use Rattle.egt_class.specs.Material.{has_equal_sides};
 ghost use Rattle.egt_class.specs.Membership.{IsOf};
-ghost use Rattle.egt_class.specs.Pair.{slot_of, class_at, flip_at, IsBeside};
+ghost use Rattle.egt_class.specs.Pair.{slot_of, class_at, flip_at, AreNonKings};
 
 use crate::class::Class;
 use egt_board::counting::{one_king_is_counted, one_square_changes};
@@ -64,8 +64,8 @@ fn man_of(entry: Option<(Man, Square)>) -> Option<Man>
 }
 
 /// The men beside the kings, in order of square.
-fn beside(position: &Position) -> (Option<Man>, Option<Man>)
-    ensures { IsBeside position.now result.0 result.1 }
+fn non_kings(position: &Position) -> (Option<Man>, Option<Man>)
+    ensures { AreNonKings position.now result.0 result.1 }
 {
     one_square_changes();
     one_king_is_counted();
@@ -90,7 +90,7 @@ fn class_of_pair(first: usize, second: usize) -> (Class, bool)
 /// The class of every position with these men beside the kings, in whatever order, and whether colours are to be flipped there.
 #[inline(always)]
 pub fn of_men(one: Option<Man>, other: Option<Man>) -> (Class, bool)
-    ensures class { (p : Setup) → IsBeside p one other → IsOf result.0 result.1 p }
+    ensures class { (p : Setup) → AreNonKings p one other → IsOf result.0 result.1 p }
     ensures unflipped { IsTrue (has_equal_sides result.0) → result.1 ≡ false }
 {
     class_of_pair(slot(one), slot(other))
@@ -102,6 +102,6 @@ pub fn of(position: &Position) -> (Class, bool)
     ensures class { IsOf result.0 result.1 position.now }
     ensures unflipped { IsTrue (has_equal_sides result.0) → result.1 ≡ false }
 {
-    let (first, second) = beside(position);
+    let (first, second) = non_kings(position);
     of_men(first, second)
 }

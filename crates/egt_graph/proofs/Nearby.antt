@@ -8,7 +8,7 @@ use Rattle.egt_graph.specs.Graph.{Graph, IsNode, IsGame, HasShortDistance}
 use Rattle.egt_graph.specs.Frontier.{is_node}
 use Rattle.egt_graph.specs.Columns.{leaves, count_of, decided, Marks, is_loss_of, is_win_of}
 use Rattle.egt_graph.specs.Begin.{Adds, IsFilled}
-use Rattle.egt_graph.specs.Near.{is_near_exit, near_within, near_before, HasNear, near_entry_of, IsShort, AreNears, SomeFar, near_at, IsNearing, IsNearingTo, led_from, found_by, Finds, AreFound, NoneLater, near_told, AreTold, IsOver}
+use Rattle.egt_graph.specs.Near.{is_near_exit, near_within, near_before, HasNear, near_entry_of, IsShort, AreNears, SomeFar, near_at, IsNearing, IsNearingTo, led_from, found_by, Finds, AreFound, NoneLater, near_of_entry, AreTold, IsOver}
 use Rattle.egt_graph.specs.declared.game.Exit.{Exit}
 use Rattle.egt_graph.specs.declared.game.Exit.TheVariants.{Win, Loss, Draw}
 use Rattle.egt_graph.specs.declared.nearing.Nearing.{Nearing}
@@ -306,7 +306,7 @@ module _ (g : Graph) (law : IsGame g) (r : ℕ) (run : Nearing) (known : IsNeari
       (or_cases (list_any (near_within g n) (g.out i)) _ u)))
       (or_cases (g.mated i) _ t)
 
-  told_win : (n : ℕ) → near_told (2 + 2 * n) ≡ 2 + n
+  told_win : (n : ℕ) → near_of_entry (2 + 2 * n) ≡ 2 + n
   told_win n = ap (λ b. cond b (2 + 2 * n) (1 + (2 + 2 * n) / 2)) (le-ltb (2 + 2 * n) 2 (omega arith)) ∙ half n
     where
       half : (n : ℕ) → 1 + (2 + 2 * n) / 2 ≡ 2 + n
@@ -317,16 +317,16 @@ module _ (g : Graph) (law : IsGame g) (r : ℕ) (run : Nearing) (known : IsNeari
     all = tells.long ∙ known.long;
     voids = λ i lt v.
         let f : is_node g i ≡ false = elim (cases_Bool (is_node g i)) [ inr f ↦ f | inl t ↦ absurd (let n = node_from_test g i t in both_ways (g.void i) n.not_void v) ] in
-        tells.each i (omega (arith, known.long)) ∙ ap near_told (known.entry i ∙ near_none g (suc r) i f);
+        tells.each i (omega (arith, known.long)) ∙ ap near_of_entry (known.entry i ∙ near_none g (suc r) i f);
     nears = λ i node. go i node (near_known g (suc r) i (test_from_node g i node));
   }
     where
       go : (i : ℕ) → IsNode g i → Known g (suc r) i → (x : Option ℕ) × HasNear g i x × IsShort x × (slice_index told i ≡ near_entry_of x)
-      go i node (inl k) = (None, (λ n. never n), tt, tells.each i (omega (arith, node.in_range, known.long)) ∙ ap near_told (known.entry i ∙ k.0))
+      go i node (inl k) = (None, (λ n. never n), tt, tells.each i (omega (arith, node.in_range, known.long)) ∙ ap near_of_entry (known.entry i ∙ k.0))
         where
           never : (n : ℕ) → near_within g n i ≡ false
           never n = elim (cases_Bool (near_within g n i)) [ inr f ↦ f | inl t ↦ absurd (both_ways (near_within g (suc r) i) k.1 (near_more g r i (all_known n i node t))) ]
-      go i node (inr k) = (Some k.0, (k.3, k.4), le, tells.each i (omega (arith, node.in_range, known.long)) ∙ ap near_told (known.entry i ∙ k.2) ∙ told_win k.0)
+      go i node (inr k) = (Some k.0, (k.3, k.4), le, tells.each i (omega (arith, node.in_range, known.long)) ∙ ap near_of_entry (known.entry i ∙ k.2) ∙ told_win k.0)
         where
           le : k.0 ≤ 32000
           le = elim (cases_lt k.0 (suc r)) [

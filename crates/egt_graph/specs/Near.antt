@@ -90,12 +90,12 @@ abbrev pub NoneLater : ℕ → List (List ℕ) → Type 0
 NoneLater r due = (n i : ℕ) → r < n → count_of i (slice_index_or due n []) ≡ 0
 
 -- the entry in the form in which it is answered
-abbrev pub near_told : ℕ → ℕ
-near_told entry = if nat_lt entry 2 then entry else 1 + entry / 2
+abbrev pub near_of_entry : ℕ → ℕ
+near_of_entry entry = if nat_lt entry 2 then entry else 1 + entry / 2
 
 pub record AreTold (entries told : List ℕ) : Type 0 where
   pub long : length told ≡ length entries
-  pub each : (i : ℕ) → i < length entries → slice_index told i ≡ near_told (slice_index entries i)
+  pub each : (i : ℕ) → i < length entries → slice_index told i ≡ near_of_entry (slice_index entries i)
 
 -- nothing was found one ply past r, and nothing comes later from outside
 pub record IsOver (run : Nearing) (r : ℕ) : Type 0 where

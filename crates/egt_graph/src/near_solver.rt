@@ -25,7 +25,7 @@ fn is_over(run: &Nearing, round: u16) -> bool
 }
 
 /// The entries of a run as they are answered.
-fn told(run: Nearing) -> Nears
+fn nears_of(run: Nearing) -> Nears
     ensures { AreTold run.entries.items result }
 {
     let Nearing {
@@ -51,14 +51,14 @@ pub fn nearest<G: Game>(alloc: Global, game: &G) -> Result<Nears, SolveFault>
     for round in 0..FARTHEST {
         step_back(alloc, game, &mut run, round)?;
         if is_over(&run, round) {
-            return Ok(told(run));
+            return Ok(nears_of(run));
         }
     }
     step_back(alloc, game, &mut run, FARTHEST)?;
     if any_found(&run.entries, FARTHEST + 1) {
         return Err(SolveFault::TooDeep);
     }
-    Ok(told(run))
+    Ok(nears_of(run))
 }
 
 /// The same as `nearest`, of a game that tells of its nodes by words. The game is asked for no moves but by `lead_to` and `touch`.
@@ -74,12 +74,12 @@ pub fn nearest_by_words<G: Shelved>(alloc: Global, game: &G) -> Result<Nears, So
     for round in 0..FARTHEST {
         step_by_words(alloc, game, &mut run, round)?;
         if is_over(&run.known, round) {
-            return Ok(told(run.known));
+            return Ok(nears_of(run.known));
         }
     }
     step_by_words(alloc, game, &mut run, FARTHEST)?;
     if any_found(&run.known.entries, FARTHEST + 1) {
         return Err(SolveFault::TooDeep);
     }
-    Ok(told(run.known))
+    Ok(nears_of(run.known))
 }

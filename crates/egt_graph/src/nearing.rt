@@ -2,7 +2,7 @@
 ghost use Rattle.std.specs.Prelude.{◌≡◌, ◌≢◌, ℕ, ◌+◌, ◌*◌, ◌^◌, ◌<◌, ◌≤◌, length, slice_index, All, IfOk, OnOk, MatchBool};
 ghost use Rattle.egt_graph.specs.Columns.{leaves};
 ghost use Rattle.egt_graph.specs.Graph.{IsNode};
-ghost use Rattle.egt_graph.specs.Near.{AreFound, AreTold, Finds, IsNearing, IsNearingTo, found_by, led_from, near_at, near_told};
+ghost use Rattle.egt_graph.specs.Near.{AreFound, AreTold, Finds, IsNearing, IsNearingTo, found_by, led_from, near_at, near_of_entry};
 
 use crate::begin::schedule_exits;
 use crate::columns::{DRAW, mark_wins};
@@ -167,8 +167,8 @@ pub(crate) fn any_found(entries: &[u16], round: u16) -> bool
 }
 
 /// An entry as it is answered.
-fn near_told(entry: u16) -> u16
-    ensures { result ≡ near_told entry }
+fn near_of_entry(entry: u16) -> u16
+    ensures { result ≡ near_of_entry entry }
 {
     if entry < 2 { entry } else { 1 + entry / 2 }
 }
@@ -178,6 +178,6 @@ pub(crate) fn tell(entries: &mut [u16])
     ensures { AreTold entries.old entries.new }
 {
     for i in 0..entries.len() {
-        entries[i] = near_told(entries[i]);
+        entries[i] = near_of_entry(entries[i]);
     }
 }

@@ -8,7 +8,7 @@ use Rattle.egt_board.specs.Man.{other_side}
 use Rattle.egt_board.specs.Settled.{IsSettled, SettlesTo}
 use Rattle.egt_board.specs.Setup.{Setup, IsAdmissible}
 use Rattle.egt_class.specs.Membership.{IsOf}
-use Rattle.egt_class.specs.Pair.{IsBeside}
+use Rattle.egt_class.specs.Pair.{AreNonKings}
 use Rattle.egt_index.specs.Facts.{Facts}
 use Rattle.egt_index.specs.Stood.{Entry, HasStand, Stood, list_of}
 use Rattle.egt_index.specs.declared.stand.Stand.{Stand}
@@ -23,9 +23,9 @@ settles_to_itself p none = inl (no_target p none, refl)
 
 -- the men found are those beside the kings
 pub found_beside : (p : Setup) (one other : Entry) (first second : Option Man) → first ≡ option_map (λ e. e.0) one → second ≡ option_map (λ e. e.0) other
-    → IsBeside p (option_map (λ e. e.0) one) (option_map (λ e. e.0) other) → IsBeside p first second
+    → AreNonKings p (option_map (λ e. e.0) one) (option_map (λ e. e.0) other) → AreNonKings p first second
 found_beside p one other first second first_is second_is is =
-    subst (λ (o : Option Man). IsBeside p o second) (sym first_is) (subst (λ (o : Option Man). IsBeside p (option_map (λ e. e.0) one) o) (sym second_is) is)
+    subst (λ (o : Option Man). AreNonKings p o second) (sym first_is) (subst (λ (o : Option Man). AreNonKings p (option_map (λ e. e.0) one) o) (sym second_is) is)
 
 -- they stand as in the class
 pub stand_of_men : Facts → (c : ℕ) (flipped told : Bool) (p : Setup) (stand : Stand) (side : Side) → told ≡ flipped → IsAdmissible p → IsOf c flipped p → Stood c flipped p.men (list_of stand) → p.side ≡ side → p.target ≡ None

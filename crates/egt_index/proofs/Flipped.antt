@@ -18,17 +18,17 @@ use Rattle.egt_index.specs.Facts.{Facts}
 use Rattle.egt_index.specs.First.{tells_colours}
 use Rattle.egt_index.specs.Size.{men_beside}
 use Rattle.egt_index.specs.Stood.{Entry, Holds, IsAmong}
-use Rattle.egt_index.specs.declared.men.TheConstants.{BESIDE}
+use Rattle.egt_index.specs.declared.men.TheConstants.{NON_KINGS}
 use Rattle.egt_index.proofs.Counted.{counted_some}
 use Rattle.egt_index.proofs.Standing.{kings_on, among_own}
 use Rattle.egt_index.proofs.Tested.{one_of}
 
-all_tell : all_below (λ c. tells_colours c (slice_index_or BESIDE c (None, None)).0) 36 ≡ true
+all_tell : all_below (λ c. tells_colours c (slice_index_or NON_KINGS c (None, None)).0) 36 ≡ true
 unfolding all_below tells_colours has_equal_sides men_in material_of materials
 all_tell = refl
 
-pub first_tells : (c : ℕ) (d : Option Man × Option Man) → c < 36 → tells_colours c (slice_index_or BESIDE c d).0 ≡ true
-first_tells c d c_in = subst (λ row. tells_colours c row.0 ≡ true) (get_or_default BESIDE c (None, None) d c_in) (passes_below (λ c. tells_colours c (slice_index_or BESIDE c (None, None)).0) 36 c all_tell c_in)
+pub first_tells : (c : ℕ) (d : Option Man × Option Man) → c < 36 → tells_colours c (slice_index_or NON_KINGS c d).0 ≡ true
+first_tells c d c_in = subst (λ row. tells_colours c row.0 ≡ true) (get_or_default NON_KINGS c (None, None) d c_in) (passes_below (λ c. tells_colours c (slice_index_or NON_KINGS c (None, None)).0) 36 c all_tell c_in)
 
 unflipped : Facts → (c : ℕ) (flipped : Bool) (p : Setup) → c < 36 → IsOf c flipped p → tells_colours c None ≡ true → IsOf c false p
 unfolding tells_colours

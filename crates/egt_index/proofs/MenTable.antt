@@ -14,20 +14,20 @@ use Rattle.egt_board.specs.declared.man.Side.TheVariants.{White}
 use Rattle.egt_class.specs.Below.{all_below, passes_below}
 use Rattle.egt_class.specs.Material.{material_of, materials, has_equal_sides}
 use Rattle.egt_index.specs.Size.{men_beside, has_pawns, has_target}
-use Rattle.egt_index.specs.declared.men.TheConstants.{BESIDE, PAWNS, EQUAL_SIDES}
+use Rattle.egt_index.specs.declared.men.TheConstants.{NON_KINGS, PAWNS, EQUAL_SIDES}
 use Rattle.egt_index.proofs.Tested.{not_both}
 
 men_of_row : Option Man × Option Man → List Man
 men_of_row row = option_to_list row.0 ++ option_to_list row.1
 
-rows : map men_of_row BESIDE ≡ map (λ c. men_beside (material_of c)) (range_with_len 0 36)
+rows : map men_of_row NON_KINGS ≡ map (λ c. men_beside (material_of c)) (range_with_len 0 36)
 unfolding men_of_row material_of materials
 rows = refl
 
-pub row_is : (c : ℕ) (d : Option Man × Option Man) → c < 36 → option_to_list (slice_index_or BESIDE c d).0 ++ option_to_list (slice_index_or BESIDE c d).1 ≡ men_beside (material_of c)
+pub row_is : (c : ℕ) (d : Option Man × Option Man) → c < 36 → option_to_list (slice_index_or NON_KINGS c d).0 ++ option_to_list (slice_index_or NON_KINGS c d).1 ≡ men_beside (material_of c)
 unfolding men_of_row
 row_is c d c_in =
-    sym (get_or-map men_of_row BESIDE c d) ∙ ap (λ xs. slice_index_or xs c (men_of_row d)) rows ∙ get_or-map-range_with_len (λ k. men_beside (material_of k)) 0 36 c c (men_of_row d) c_in (add_none c)
+    sym (get_or-map men_of_row NON_KINGS c d) ∙ ap (λ xs. slice_index_or xs c (men_of_row d)) rows ∙ get_or-map-range_with_len (λ k. men_beside (material_of k)) 0 36 c c (men_of_row d) c_in (add_none c)
   where
     add_none : (c : ℕ) → 0 + c ≡ c
     add_none c = omega arith
@@ -61,7 +61,7 @@ is_no_king : Option Man → Bool
 is_no_king None = true
 is_no_king (Some man) = not (eqb (man_number man) (man_number (king_of White)))
 
-are_no_kings : all_below (λ c. is_no_king (slice_index_or BESIDE c (None, None)).0 && is_no_king (slice_index_or BESIDE c (None, None)).1) 36 ≡ true
+are_no_kings : all_below (λ c. is_no_king (slice_index_or NON_KINGS c (None, None)).0 && is_no_king (slice_index_or NON_KINGS c (None, None)).1) 36 ≡ true
 unfolding all_below is_no_king
 are_no_kings = refl
 
@@ -70,10 +70,10 @@ unfolding is_no_king
 no_king_told None h = tt
 no_king_told (Some man) h = λ same. not_both _ (eq-eqb _ _ (ap man_number same)) h
 
-pub no_king : (c : ℕ) (d : Option Man × Option Man) → c < 36 → IfSome (slice_index_or BESIDE c d).0 (λ man. man ≢ king_of White) × IfSome (slice_index_or BESIDE c d).1 (λ man. man ≢ king_of White)
+pub no_king : (c : ℕ) (d : Option Man × Option Man) → c < 36 → IfSome (slice_index_or NON_KINGS c d).0 (λ man. man ≢ king_of White) × IfSome (slice_index_or NON_KINGS c d).1 (λ man. man ≢ king_of White)
 no_king c d c_in =
-    let both = and_parts _ _ (passes_below (λ k. is_no_king (slice_index_or BESIDE k (None, None)).0 && is_no_king (slice_index_or BESIDE k (None, None)).1) 36 c are_no_kings c_in) in
-    let same : slice_index_or BESIDE c (None, None) ≡ slice_index_or BESIDE c d = get_or_default BESIDE c (None, None) d c_in in
+    let both = and_parts _ _ (passes_below (λ k. is_no_king (slice_index_or NON_KINGS k (None, None)).0 && is_no_king (slice_index_or NON_KINGS k (None, None)).1) 36 c are_no_kings c_in) in
+    let same : slice_index_or NON_KINGS c (None, None) ≡ slice_index_or NON_KINGS c d = get_or_default NON_KINGS c (None, None) d c_in in
     subst (λ row. IfSome row.0 (λ man. man ≢ king_of White) × IfSome row.1 (λ man. man ≢ king_of White)) same (no_king_told _ both.0, no_king_told _ both.1)
 
 -- no row has the second man alone
@@ -82,7 +82,7 @@ is_filled (None, None) = true
 is_filled (None, Some man) = false
 is_filled (Some man, second) = true
 
-all_filled : all_below (λ c. is_filled (slice_index_or BESIDE c (None, None))) 36 ≡ true
+all_filled : all_below (λ c. is_filled (slice_index_or NON_KINGS c (None, None))) 36 ≡ true
 unfolding all_below is_filled
 all_filled = refl
 
@@ -92,9 +92,9 @@ filled_told (None, None) h none = refl
 filled_told (None, Some man) h none = absurd (false≢true h)
 filled_told (Some man, second) h none = absurd (cc)
 
-pub from_first : (c : ℕ) (d : Option Man × Option Man) → c < 36 → (slice_index_or BESIDE c d).0 ≡ None → (slice_index_or BESIDE c d).1 ≡ None
+pub from_first : (c : ℕ) (d : Option Man × Option Man) → c < 36 → (slice_index_or NON_KINGS c d).0 ≡ None → (slice_index_or NON_KINGS c d).1 ≡ None
 from_first c d c_in =
-    filled_told (slice_index_or BESIDE c d) (subst (λ row. is_filled row ≡ true) (get_or_default BESIDE c (None, None) d c_in) (passes_below (λ k. is_filled (slice_index_or BESIDE k (None, None))) 36 c all_filled c_in))
+    filled_told (slice_index_or NON_KINGS c d) (subst (λ row. is_filled row ≡ true) (get_or_default NON_KINGS c (None, None) d c_in) (passes_below (λ k. is_filled (slice_index_or NON_KINGS k (None, None))) 36 c all_filled c_in))
 
 sides_agree : all_below (λ c. agree (slice_index_or EQUAL_SIDES c false) (has_equal_sides c)) 36 ≡ true
 unfolding all_below agree has_equal_sides material_of materials

@@ -5,7 +5,7 @@ ghost use Rattle.egt_index.specs.Front.{IsFront, IsFrontOf};
 ghost use Rattle.egt_index.specs.ShelfCodes.{SpellsNothing};
 
 use crate::facts::facts;
-use crate::least_code::{Leastness, told_in_order};
+use crate::least_code::{Leastness, leastness_in_order};
 use crate::spelling::{board_of, stand_before};
 use crate::stand::{Stand, are_apart, are_near};
 use egt_board::Board;
@@ -50,7 +50,7 @@ pub(crate) fn front_of(class: Class, number: u32) -> Option<Front>
     let _number = class.number();
     let front = spelled_front(class, number)?;
     let stand = &front.stand;
-    match told_in_order(class, stand.white, stand.black) {
+    match leastness_in_order(class, stand.white, stand.black) {
         Leastness::Beaten => None,
         Leastness::Least => Some(Front {
             tied: false,

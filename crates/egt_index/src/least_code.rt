@@ -53,7 +53,7 @@ fn both(one: Leastness, other: Leastness) -> Leastness
 }
 
 /// What the image tells that the turn, which brings a king home, makes of a settled position: other squares of the kings decide.
-fn told_by(class: Class, white: Square, black: Square, turn: u8) -> Leastness
+fn leastness_after(class: Class, white: Square, black: Square, turn: u8) -> Leastness
     requires { turn < 16 }
     ensures beats { result ≡ Beaten → (stand : Stand) → HasKingsOn white black stand → TurnBeats class stand turn }
     ensures keeps { result ≡ Least → (stand : Stand) → HasKingsOn white black stand → TurnKeeps class stand turn }
@@ -72,20 +72,20 @@ fn told_by(class: Class, white: Square, black: Square, turn: u8) -> Leastness
 }
 
 /// What the images in the same colours tell, where equal men stand in order.
-fn told_straight(class: Class, white: Square, black: Square) -> Leastness
+fn leastness_straight(class: Class, white: Square, black: Square) -> Leastness
     ensures beats { result ≡ Beaten → (stand : Stand) → HasKingsOn white black stand → AllSpelled class stand (IsBeaten class) }
     ensures keeps { result ≡ Least → (stand : Stand) → HasKingsOn white black stand → IsInOrder stand.next stand.last → AllSpelled class stand (λ p code. KeepsWith class p false code) }
 {
     facts();
     let _number = class.number();
     match still_home(has_pawns(class), white) {
-        Some(turn) => told_by(class, white, black, turn),
+        Some(turn) => leastness_after(class, white, black, turn),
         None => Leastness::Least,
     }
 }
 
 /// What the images in exchanged colours tell, of a class whose sides have the same men.
-fn told_exchanged(class: Class, white: Square, black: Square) -> Leastness
+fn leastness_exchanged(class: Class, white: Square, black: Square) -> Leastness
     requires { has_equal_sides class ≡ true }
     ensures beats { result ≡ Beaten → (stand : Stand) → HasKingsOn white black stand → AllSpelled class stand (IsBeaten class) }
     ensures keeps { result ≡ Least → (stand : Stand) → HasKingsOn white black stand → AllSpelled class stand (λ p code. KeepsWith class p true code) }
@@ -93,23 +93,23 @@ fn told_exchanged(class: Class, white: Square, black: Square) -> Leastness
     facts();
     let _number = class.number();
     let (first, second) = home(has_pawns(class), true, black);
-    let one = told_by(class, black, white, first);
+    let one = leastness_after(class, black, white, first);
     match second {
-        Some(second) => both(one, told_by(class, black, white, second)),
+        Some(second) => both(one, leastness_after(class, black, white, second)),
         None => one,
     }
 }
 
 /// What the images tell of the codes that spell settled positions with the kings on these squares, where equal men stand in order.
-pub(crate) fn told_in_order(class: Class, white: Square, black: Square) -> Leastness
+pub(crate) fn leastness_in_order(class: Class, white: Square, black: Square) -> Leastness
     ensures beaten { result ≡ Beaten → (stand : Stand) → HasKingsOn white black stand → AllSpelled class stand (λ p code. ¬ IsIndex class p code) }
     ensures least { result ≡ Least → (stand : Stand) → HasKingsOn white black stand → IsInOrder stand.next stand.last → AllSpelled class stand (IsIndex class) }
 {
     facts();
     let _number = class.number();
-    let straight = told_straight(class, white, black);
+    let straight = leastness_straight(class, white, black);
     if has_equal_sides(class) {
-        both(straight, told_exchanged(class, white, black))
+        both(straight, leastness_exchanged(class, white, black))
     } else {
         straight
     }

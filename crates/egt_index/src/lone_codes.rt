@@ -7,7 +7,7 @@ ghost use Rattle.egt_index.specs.LoneCodes.{IsLoneMan, IsLoneRow};
 ghost use Rattle.egt_index.specs.Size.{has_pawns};
 
 use crate::digits::king_digit;
-use crate::men::{beside, has_pawns};
+use crate::men::{has_pawns, non_kings};
 use crate::shelf::digits_of;
 use egt_board::{Man, Square};
 use egt_class::Class;
@@ -17,7 +17,7 @@ pub fn lone_man(class: Class) -> Option<Man>
     ensures lone { IfSome result (IsLoneMan class) }
     ensures none { IfNone result ((man : Man) → ¬ IsLoneMan class man) }
 {
-    match beside(class) {
+    match non_kings(class) {
         (Some(man), None) => Some(man),
         _ => None,
     }

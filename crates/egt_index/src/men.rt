@@ -61,7 +61,7 @@ const BLACK_PAWN: Man = Man {
 };
 
 /// The men beside the kings, in order of the classes' numbers.
-static BESIDE: [(Option<Man>, Option<Man>); 36] = [
+static NON_KINGS: [(Option<Man>, Option<Man>); 36] = [
     (None, None),
     (Some(WHITE_QUEEN), None),
     (Some(WHITE_ROOK), None),
@@ -115,14 +115,14 @@ static PAWNS: [bool; 36] = [
 ];
 
 /// The men of the class beside the kings, in the order of its name.
-pub fn beside(class: Class) -> (Option<Man>, Option<Man>)
+pub fn non_kings(class: Class) -> (Option<Man>, Option<Man>)
     ensures men { option_to_list result.0 ++ option_to_list result.1 ≡ men_beside (material_of class) }
     ensures first { IfSome result.0 (λ man. man ≢ king_of White) }
     ensures second { IfSome result.1 (λ man. man ≢ king_of White) }
     ensures colours { tells_colours class result.0 ≡ true }
     ensures from_first { result.0 ≡ None → result.1 ≡ None }
 {
-    BESIDE[usize::from(class.number())]
+    NON_KINGS[usize::from(class.number())]
 }
 
 /// Whether the class has pawns.

@@ -18,7 +18,7 @@ use crate::decoding::position;
 use crate::digits::digit;
 use crate::facts::facts;
 use crate::front::{Front, front_of};
-use crate::men::beside;
+use crate::men::non_kings;
 use crate::numbers::{code_of, front_number};
 use crate::passed::{may_pass, passed_places};
 use crate::shelf::last_digits;
@@ -151,13 +151,13 @@ fn places_behind(class: Class, front: &Front, man: Man, passed: bool) -> Option<
 }
 
 /// The indexes of the shelf behind the front with this number, where that and the class tell all of them; there is no front only where all are void.
-fn told(class: Class, number: u32, passed: bool, front: &Option<Front>) -> Option<Places>
+fn places_by_front(class: Class, number: u32, passed: bool, front: &Option<Front>) -> Option<Places>
     requires front { IsFrontOf class number front.now }
     requires targets { has_target (material_of class) ≡ false → passed ≡ false }
     ensures { IfSome result (λ found. (shelf : ℕ) → IsShelfBehind passed class shelf number → AreIndexes class shelf found) }
 {
     let _number = class.number();
-    let (_, last) = beside(class);
+    let (_, last) = non_kings(class);
     let man = last?;
     match front {
         Some(front) => places_behind(class, front, man, passed),
@@ -209,7 +209,7 @@ pub fn indexes_of(class: Class, shelf: u32) -> Places
         return Places::default();
     }
     let front = front_of(class, number);
-    match told(class, number, passed, &front) {
+    match places_by_front(class, number, passed, &front) {
         Some(places) => places,
         None => asked(class, shelf),
     }

@@ -4,7 +4,7 @@ ghost use Rattle.egt_index.specs.Numbers.{places};
 ghost use Rattle.egt_index.specs.Scales.{kind_digits};
 ghost use Rattle.egt_index.specs.Size.{size_of};
 
-use crate::men::beside;
+use crate::men::non_kings;
 use egt_board::{Kind, Man};
 use egt_class::Class;
 
@@ -28,7 +28,7 @@ pub fn last_digits(class: Class) -> u32
     ensures whole { size_of class % (2 * places class) ≡ 0 }
 {
     let _number = class.number();
-    match beside(class).1 {
+    match non_kings(class).1 {
         Some(man) => digits_of(man),
         None => 1,
     }

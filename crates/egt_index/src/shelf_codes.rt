@@ -12,7 +12,7 @@ ghost use Rattle.egt_index.specs.Went.{moved_square};
 
 use crate::digits::king_digit;
 use crate::front::spelled_front;
-use crate::men::{beside, has_pawns};
+use crate::men::{has_pawns, non_kings};
 use crate::numbers::{front_number, shelf_behind};
 use crate::passed::may_pass;
 use crate::places::{Places, settled_places};
@@ -66,7 +66,7 @@ pub fn shelf_men(class: Class, shelf: u32) -> Option<ShelfMen>
     ensures none { IfNone result (HasTwoBeside class → ¬ IsWithin class shelf) }
 {
     let _number = class.number();
-    let (_, last) = beside(class);
+    let (_, last) = non_kings(class);
     let last = last?;
     let (front, _) = front_number(class, shelf)?;
     let stand = stand_before(class, front)?;
@@ -133,7 +133,7 @@ pub fn positions_of(class: Class, shelf: u32) -> Places
     ensures { ArePositions class shelf result }
 {
     let _number = class.number();
-    let (_, last) = beside(class);
+    let (_, last) = non_kings(class);
     let man = last.unwrap();
     let Some((number, passed)) = front_number(class, shelf) else {
         return Places::default();

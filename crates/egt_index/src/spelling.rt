@@ -20,7 +20,7 @@ ghost use Rattle.egt_index.specs.Stood.{AllApart, IsFilled, list_of, with_entry}
 
 use crate::digits::TRIANGLE_SQUARES;
 use crate::facts::facts;
-use crate::men::{beside, has_pawns, has_target};
+use crate::men::{has_pawns, has_target, non_kings};
 use crate::stand::{Stand, with_last};
 use egt_board::{Board, Kind, Man, Position, Side, Square};
 use egt_class::Class;
@@ -85,7 +85,7 @@ fn take(number: u32, man: Option<Man>) -> (u32, Option<(Man, Square)>)
 fn take_last(class: Class, number: u32) -> (u32, Option<(Man, Square)>)
     ensures { TellsLast class number result.0 result.1 }
 {
-    let (_, last) = beside(class);
+    let (_, last) = non_kings(class);
     take(number, last)
 }
 
@@ -95,7 +95,7 @@ pub(crate) fn stand_before(class: Class, number: u32) -> Option<Stand>
     ensures some { IfSome result (IsBefore class number) }
     ensures none { IfNone result (IsNoneBefore class number) }
 {
-    let (first, _) = beside(class);
+    let (first, _) = non_kings(class);
     let (before_next, next) = take(number, first);
     let (high, black) = split(before_next, BLACK_KING);
     let white = king_on(has_pawns(class), high)?;

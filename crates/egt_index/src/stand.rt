@@ -10,7 +10,7 @@ ghost use Rattle.egt_index.specs.Size.{men_beside};
 ghost use Rattle.egt_index.specs.Stood.{Stood, Holds, IsOn, IsAmong, IsFirst, list_of, before_last, with_last, IsOff, AllApart, AreNear, entry_after, on_square_of, IsInOrder, IsOrdered, AreExchanged, IsTurned, IsStandAfter};
 
 use crate::facts::facts;
-use crate::men::beside;
+use crate::men::non_kings;
 use crate::turning::turned_square;
 use egt_board::{Man, Position, Side, Square};
 use egt_class::Class;
@@ -152,7 +152,7 @@ pub(crate) fn standing_of(class: Class, position: &Position) -> Standing
     facts();
     let _number = class.number();
     let _side = position.side();
-    let (first, second) = beside(class);
+    let (first, second) = non_kings(class);
     let (one, other) = position.board().non_kings();
     let white = position.king(Side::White);
     let black = position.king(Side::Black);
@@ -176,7 +176,7 @@ pub(crate) fn standing_by(
     ensures flipped { result.flipped ≡ flipped }
     ensures stood { (p : Setup) → IsAdmissible p → IsOf class flipped p → HasAllMen p.men white black one.now other.now → Stood class flipped p.men (list_of result.stand) }
 {
-    let (first, second) = beside(class);
+    let (first, second) = non_kings(class);
     Standing {
         flipped,
         stand: stand_by(class, flipped, white, black, first, second, one, other),

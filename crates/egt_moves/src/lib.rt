@@ -25,7 +25,7 @@ pub use chess_move::Move;
 pub use found::Search;
 pub use listing::legal_moves;
 pub use mate_search::search;
-pub use men_after::{Men, is_told_by_men};
+pub use men_after::{Men, is_without_en_passant};
 pub use outcome::Standing;
 pub use playing::{play, play_legal};
 pub use standings::standing;

@@ -87,7 +87,7 @@ fn is_two_ranks(from: Square, to: Square) -> bool
 
 /// Whether a legal move between the squares neither takes a pawn in passing nor lets a pawn be taken so: then the men tell the
 /// position that it leads to.
-pub fn is_told_by_men(position: &Position, from: Square, to: Square) -> bool
+pub fn is_without_en_passant(position: &Position, from: Square, to: Square) -> bool
     ensures { result ≡ true → (m : Move) (q : Setup) → m.from ≡ from → m.to ≡ to → Leads position.now m q →
         (position.now.target ≢ Some to) × (q.target ≡ None) }
 {

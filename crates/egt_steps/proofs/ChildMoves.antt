@@ -20,7 +20,7 @@ use Rattle.egt_class.specs.Material.{material_of, men_in}
 use Rattle.egt_class.specs.Membership.{IsOf}
 use Rattle.egt_class.specs.Children.{Change, man_of, man_taken, pawn_promoted, man_promoted, side_if, men_of, is_change, is_possible, has_man, follows_as, children_of}
 use Rattle.egt_class.proofs.Agreeing.{all_agree}
-use Rattle.egt_class.proofs.Beside.{OneKing}
+use Rattle.egt_class.proofs.NonKings.{OneKing}
 use Rattle.egt_class.proofs.ClassTests.{covered, smaller, either}
 use Rattle.egt_class.proofs.PairTable.{one_king_in}
 

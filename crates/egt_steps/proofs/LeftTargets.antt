@@ -26,7 +26,7 @@ use Rattle.egt_moves.proofs.After.{target_is}
 use Rattle.egt_steps.specs.Facts.{Facts}
 use Rattle.egt_steps.specs.InPassing.{AreTwoRanksApart, LeavesTarget}
 use Rattle.egt_steps.proofs.Leaping.{one_off_home}
-use Rattle.egt_steps.proofs.TwoBeside.{AreTwo, one_two, who}
+use Rattle.egt_steps.proofs.TwoNonKings.{AreTwo, one_two, who}
 
 -- a pawn that advances to a target comes from the square of the pawn that set it
 pub behind_target : (F : ℕ → Type 0) (side : Side) (s t : ℕ) → Advances F side s t → rank_of t ≡ target_rank side → s ≡ ahead (other_side side) t

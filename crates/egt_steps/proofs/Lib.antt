@@ -4,7 +4,7 @@ pub mod Leaping
 pub mod Pushing
 pub mod Fanned
 pub mod Takings
-pub mod TwoBeside
+pub mod TwoNonKings
 pub mod TakenInPassing
 pub mod PawnCaptures
 pub mod PawnAdvances

@@ -33,7 +33,7 @@ use Rattle.egt_steps.specs.QuietStands.{IsClear}
 use Rattle.egt_steps.proofs.LeftTargets.{IsAfter, behind_target, settles_so, told}
 use Rattle.egt_steps.proofs.Still.{not_passing}
 use Rattle.egt_steps.proofs.Takings.{arrives, empties, placed, stays}
-use Rattle.egt_steps.proofs.TwoBeside.{AreTwo, Counting, are_after, are_in, one_two, stands_after}
+use Rattle.egt_steps.proofs.TwoNonKings.{AreTwo, Counting, are_after, are_in, one_two, stands_after}
 
 -- a pawn goes off the square from which it advances
 off_start : (side : Side) (s t n : ℕ) → 0 < n → Away (forward side) n s t → t ≢ s

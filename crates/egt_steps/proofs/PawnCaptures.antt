@@ -30,7 +30,7 @@ use Rattle.egt_steps.proofs.PawnAdvances.{none_of}
 use Rattle.egt_steps.proofs.Pushing.{untold}
 use Rattle.egt_steps.proofs.Still.{neither, not_passing}
 use Rattle.egt_steps.proofs.Takings.{AreLeft, Telling, are_left, arrives, empties, one_left, placed, stands_left, stays}
-use Rattle.egt_steps.proofs.TwoBeside.{AreTwo, are_in, who}
+use Rattle.egt_steps.proofs.TwoNonKings.{AreTwo, are_in, who}
 
 -- a pawn attacks squares of the next rank alone, and passes none
 up_one : (s t : ℕ) → rank_of t ≡ rank_of s + 1 → is_two_ranks s t ≡ false

@@ -35,7 +35,7 @@ use Rattle.egt_steps.proofs.PawnAdvances.{none_of}
 use Rattle.egt_steps.proofs.PawnCaptures.{takes_bare, takes_unpassed}
 use Rattle.egt_steps.proofs.Still.{no_promotion}
 use Rattle.egt_steps.proofs.Takings.{AreLeft, Telling, are_left, arrives, empties, not_promoting, one_left, placed, stands_left, stays}
-use Rattle.egt_steps.proofs.TwoBeside.{AreTwo, are_in, who}
+use Rattle.egt_steps.proofs.TwoNonKings.{AreTwo, are_in, who}
 
 -- a target is on no last rank
 target_within : (side : Side) (t : ℕ) → rank_of t ≡ target_rank side → (0 < rank_of t) × (rank_of t < 7)

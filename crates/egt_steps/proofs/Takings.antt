@@ -22,7 +22,7 @@ use Rattle.egt_board.specs.declared.man.Side.{Side}
 use Rattle.egt_board.specs.declared.man.Side.TheVariants.{White, Black}
 use Rattle.egt_board.proofs.Hiding.{Reaches-target}
 use Rattle.egt_board.proofs.Sides.{side_twice}
-use Rattle.egt_class.specs.Pair.{IsBeside}
+use Rattle.egt_class.specs.Pair.{AreNonKings}
 use Rattle.egt_index.specs.Picked.{AreCounted}
 use Rattle.egt_index.specs.Spelled.{IsListed}
 use Rattle.egt_index.specs.Stood.{AllStand, HasStand, IsOff, list_of, men_among}
@@ -49,7 +49,7 @@ use Rattle.egt_steps.proofs.Still.{no_pawn_is}
 pub record Telling : Type 0 where
   pub listed : (c : ℕ) (stand : Stand) (side : Side) (passed : Bool) (p : Setup) (s : ℕ) (man : Man) → HasStand c false stand side passed p → Stands p.men s man ↔ IsListed (list_of stand) man s
   pub free : (c : ℕ) (stand : Stand) (side : Side) (passed : Bool) (p : Setup) (s : ℕ) → HasStand c false stand side passed p → IsFree p.men s ↔ IsOff (list_of stand) s
-  pub counted : (p : Setup) (one other : Option (Man × ℕ)) → IsAdmissible p → HasBeside p.men one other → IsBeside p (option_map (λ e. e.0) one) (option_map (λ e. e.0) other)
+  pub counted : (p : Setup) (one other : Option (Man × ℕ)) → IsAdmissible p → HasBeside p.men one other → AreNonKings p (option_map (λ e. e.0) one) (option_map (λ e. e.0) other)
 
 -- ---- three men
 

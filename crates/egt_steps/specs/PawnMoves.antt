@@ -14,7 +14,7 @@ use Rattle.egt_board.specs.declared.man.Side.{Side}
 use Rattle.egt_board.specs.declared.man.Side.TheVariants.{White, Black}
 use Rattle.egt_class.specs.Material.{material_of}
 use Rattle.egt_class.specs.Membership.{IsOf}
-use Rattle.egt_class.specs.Pair.{IsBeside}
+use Rattle.egt_class.specs.Pair.{AreNonKings}
 use Rattle.egt_index.specs.Size.{men_in_order}
 use Rattle.egt_index.specs.TurnedMen.{IsSomeTurnedCode, swapped}
 use Rattle.egt_index.specs.declared.shelf_codes.ShelfMen.{ShelfMen}
@@ -42,7 +42,7 @@ stand_two flips men next last = record {
 -- the class of four men with these two, who are its own in colours exchanged where `flips`
 pub record IsClassOfTwo (d : ℕ) (flips : Bool) (next last : Man) : Type 0 where
   pub below : d < 36
-  pub of : (p : Setup) → IsBeside p (Some next) (Some last) → IsOf d flips p
+  pub of : (p : Setup) → AreNonKings p (Some next) (Some last) → IsOf d flips p
   pub order : men_in_order (material_of d) ≡ king_of White ∷ king_of Black ∷ turned_man flips next ∷ turned_man flips last ∷ []
 
 -- the last man is now this one, whom the class names before the first where `before`

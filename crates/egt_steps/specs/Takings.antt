@@ -11,7 +11,7 @@ use Rattle.egt_board.specs.declared.man.Side.{Side}
 use Rattle.egt_board.specs.declared.man.Side.TheVariants.{White, Black}
 use Rattle.egt_class.specs.Material.{material_of}
 use Rattle.egt_class.specs.Membership.{IsOf}
-use Rattle.egt_class.specs.Pair.{IsBeside}
+use Rattle.egt_class.specs.Pair.{AreNonKings}
 use Rattle.egt_index.specs.Size.{men_in_order}
 use Rattle.egt_index.specs.declared.shelf_codes.ShelfMen.{ShelfMen}
 use Rattle.egt_index.specs.declared.stand.Stand.{Stand}
@@ -58,5 +58,5 @@ IsTaken men side a b left =
 -- the class of three men with this one, who is its own in colours exchanged where `flips`
 pub record IsClassOf (d : ℕ) (flips : Bool) (man : Man) : Type 0 where
   pub below : d < 36
-  pub of : (p : Setup) → IsBeside p (Some man) None → IsOf d flips p
+  pub of : (p : Setup) → AreNonKings p (Some man) None → IsOf d flips p
   pub order : men_in_order (material_of d) ≡ king_of White ∷ king_of Black ∷ turned_man flips man ∷ []

@@ -9,11 +9,11 @@ use Rattle.egt_entries.specs.Tables.{Tables}
 use Rattle.egt_table.specs.Table.{TableValue, entries_or_none}
 
 -- how far the nearest mate is, told as a loss in as many plies, and as a draw where there is none
-abbrev pub near_told : Option ℕ → Value
-near_told (Some n) = Loss n
-near_told None = Draw
+abbrev pub near_of_entry : Option ℕ → Value
+near_of_entry (Some n) = Loss n
+near_of_entry None = Draw
 
-pub near_shown : (x : ℕ) (number : Option ℕ) → ShowsReach x number → Shows (near_entry x) (near_told number)
+pub near_shown : (x : ℕ) (number : Option ℕ) → ShowsReach x number → Shows (near_entry x) (near_of_entry number)
 near_shown x (Some n) s = (s.0, omega (arith, s.1))
 near_shown x None s = (tt, omega (arith, s.1))
 

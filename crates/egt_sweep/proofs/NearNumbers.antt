@@ -29,7 +29,7 @@ use Rattle.egt_sweep.specs.Nodes.{exit_of, exits_at, shown_below}
 use Rattle.egt_sweep.specs.ReachGame.{as_win, reach_game}
 use Rattle.egt_sweep.proofs.Linked.{node_at}
 use Rattle.egt_sweep.proofs.Members.{In, any_in, in_any, either, or_left, or_right}
-use Rattle.egt_sweep.proofs.NearEntries.{near_found, near_shown, near_told, slice_near}
+use Rattle.egt_sweep.proofs.NearEntries.{near_found, near_shown, near_of_entry, slice_near}
 use Rattle.egt_sweep.proofs.OutOfClass.{shown_is}
 use Rattle.egt_sweep.proofs.Stepping.{ShowsLeft, Telling, edge_step, exit_step, mated_is, on_index, on_or_off, step_edge, step_exit}
 
@@ -46,7 +46,7 @@ TellsNear q (Win n) = ⊥
 TellsNear q (Loss n) = HasReach chess q (Some n)
 TellsNear q Draw = HasReach chess q None
 
-tells_near : (q : Setup) (number : Option ℕ) → HasReach chess q number → TellsNear q (near_told number)
+tells_near : (q : Setup) (number : Option ℕ) → HasReach chess q number → TellsNear q (near_of_entry number)
 tells_near q (Some n) h = h
 tells_near q None h = h
 
@@ -96,9 +96,9 @@ module _ (laws : Laws) (reaching : Reaching) (tables : Tables) (c : ℕ) (below 
       let index = laws.facts.some_index q d turned (omega (arith, lt, below)) ok of in
       let told = truth.true q index.0 ok (subst (λ k. IsIndex k q index.0) (sym u.2) index.1) in
       let shown = shown_is laws (near_tables tables) d index.0 (near_table u.0.class (entries_or_none u.0.reach)) q turned (omega (arith, lt, below)) ok of (near_found tables d u.0 u.1 there) index.1 36 (omega (arith, lt, below)) (omega arith) in (
-        near_told told.0,
+        near_of_entry told.0,
         tells_near q told.0 told.1,
-        shown ∙ ap read (slice_near (entries_or_none u.0.reach) index.0) ∙ read_shown (near_entry (reach_at u.0 index.0)) (near_told told.0) (near_shown (reach_at u.0 index.0) told.0 told.2),
+        shown ∙ ap read (slice_near (entries_or_none u.0.reach) index.0) ∙ read_shown (near_entry (reach_at u.0 index.0)) (near_of_entry told.0) (near_shown (reach_at u.0 index.0) told.0 told.2),
       )
 
   left : ShowsLeft TellsNear (near_tables tables) Mate c

@@ -29,7 +29,7 @@ use Rattle.egt_sweep.specs.MateColumn.{mate_table}
 use Rattle.egt_sweep.specs.declared.objective.Objective.{Objective}
 use Rattle.egt_sweep.specs.declared.objective.Objective.TheVariants as objectives
 use Rattle.egt_sweep.specs.Laws.{Laws}
-use Rattle.egt_sweep.specs.Nodes.{index_in, plies_told, exit_of, shown_in, shown_below, or_else, goes_on, told_by}
+use Rattle.egt_sweep.specs.Nodes.{index_in, plies_left, exit_of, shown_in, shown_below, or_else, goes_on, told_by}
 use Rattle.egt_sweep.proofs.Linked.{index_is, goes_is}
 use Rattle.egt_sweep.proofs.Walked.{told_of, choices_told}
 
@@ -52,10 +52,10 @@ loss_shown x Draw s ne odd = absurd (ne s.1)
 pub exit_draw : (metric : Metric) (x : ℕ) (v : Value) → Shows x v → x ≡ 1 → exits.Draw ≡ exit_of metric (read x)
 exit_draw metric x v s e = sym (ap (exit_of metric) (read_shown x v s ∙ draw_shown x v s e))
 
-pub exit_win : (metric : Metric) (x n : ℕ) (v : Value) → Shows x v → x % 2 ≡ 0 → n ≡ plies_told metric ((x - 2) / 2) → exits.Win n ≡ exit_of metric (read x)
+pub exit_win : (metric : Metric) (x n : ℕ) (v : Value) → Shows x v → x % 2 ≡ 0 → n ≡ plies_left metric ((x - 2) / 2) → exits.Win n ≡ exit_of metric (read x)
 exit_win metric x n v s e told = ap exits.Win told ∙ sym (ap (exit_of metric) (read_shown x v s ∙ win_shown x v s e))
 
-pub exit_loss : (metric : Metric) (x n : ℕ) (v : Value) → Shows x v → x ≢ 1 → x % 2 ≢ 0 → n ≡ plies_told metric ((x - 3) / 2) → exits.Loss n ≡ exit_of metric (read x)
+pub exit_loss : (metric : Metric) (x n : ℕ) (v : Value) → Shows x v → x ≢ 1 → x % 2 ≢ 0 → n ≡ plies_left metric ((x - 3) / 2) → exits.Loss n ≡ exit_of metric (read x)
 exit_loss metric x n v s ne odd told = ap exits.Loss told ∙ sym (ap (exit_of metric) (read_shown x v s ∙ loss_shown x v s ne odd))
 
 module _ (laws : Laws) where

@@ -89,14 +89,14 @@ unfoldable pub connects : Metric → ℕ → ℕ → ℕ → Bool
 connects metric c i j = is_some (position_at c j) && connects_from metric c j (position_at c i)
 
 -- the plies that are told of a value outside the game: in the game of zeroing moves the move itself has zeroed
-abbrev pub plies_told : Metric → ℕ → ℕ
-plies_told Mate n = n
-plies_told Zeroing n = 0
+abbrev pub plies_left : Metric → ℕ → ℕ
+plies_left Mate n = n
+plies_left Zeroing n = 0
 
 -- the value as it is told outside the game
 abbrev pub exit_of : Metric → Value → Exit
-exit_of metric (Win n) = exits.Win (plies_told metric n)
-exit_of metric (Loss n) = exits.Loss (plies_told metric n)
+exit_of metric (Win n) = exits.Win (plies_left metric n)
+exit_of metric (Loss n) = exits.Loss (plies_left metric n)
 exit_of metric Draw = exits.Draw
 
 -- what the tables of the classes below n show of the position

@@ -147,7 +147,7 @@ fn value_columns(
 
 /// What is told of the class's codes, if it is told by words. That a child lacks its table or its column of the nearest mates is said before that
 /// memory does.
-fn told_codes(
+fn class_codes(
     alloc: Global,
     class: Class,
     library: &Library,
@@ -245,7 +245,7 @@ pub fn build(
     one_value();
     children_are_true(class, library);
     let _number = class.number();
-    let codes = told_codes(alloc, class, library)?;
+    let codes = class_codes(alloc, class, library)?;
     let columns = value_columns(alloc, class, library, limit, &codes)?;
     let nears = reach_part(alloc, class, library, &codes)?;
     match joined(class, columns.0, columns.1, nears) {

@@ -9,7 +9,7 @@ ghost use Rattle.egt_entries.specs.Tables.{table_at, entry_at};
 ghost use Rattle.egt_sweep.specs.Landings.{IsThere, exit_there};
 ghost use Rattle.egt_sweep.specs.Objective.{metric_of, known, Knows};
 ghost use Rattle.egt_sweep.specs.MateColumn.{IsIndexed};
-ghost use Rattle.egt_sweep.specs.Nodes.{plies_told, exit_of};
+ghost use Rattle.egt_sweep.specs.Nodes.{plies_left, exit_of};
 
 use crate::landing::{class_of, index_in};
 use crate::laws::laws;
@@ -21,8 +21,8 @@ use egt_graph::Exit;
 use egt_table::Column;
 
 /// The plies of an exit: in the game of zeroing moves none are left.
-fn plies_told(metric: Metric, plies: u16) -> u16
-    ensures { result ≡ plies_told metric plies }
+fn plies_left(metric: Metric, plies: u16) -> u16
+    ensures { result ≡ plies_left metric plies }
 {
     match metric {
         Metric::Mate => plies,
@@ -38,9 +38,9 @@ fn exit_shown(metric: Metric, entry: u16) -> Exit
     if entry == 1 {
         Exit::Draw
     } else if entry % 2 == 0 {
-        Exit::Win(plies_told(metric, (entry - 2) / 2))
+        Exit::Win(plies_left(metric, (entry - 2) / 2))
     } else {
-        Exit::Loss(plies_told(metric, (entry - 3) / 2))
+        Exit::Loss(plies_left(metric, (entry - 3) / 2))
     }
 }
 

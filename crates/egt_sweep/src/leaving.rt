@@ -25,7 +25,7 @@ use egt_board::{Position, Square, SquareSet};
 use egt_check::Metric;
 use egt_class::{Class, of};
 use egt_index::{index, indexed_by_men};
-use egt_moves::{Men, Move, is_told_by_men, play_legal, promotions};
+use egt_moves::{Men, Move, is_without_en_passant, play_legal, promotions};
 
 /// The landing of a position.
 fn landing_at(next: &Position) -> u32
@@ -107,7 +107,7 @@ fn add_landings_to(
     laws();
     let _side = position.side();
     let men = Men::of(position);
-    let told = is_told_by_men(position, from, to);
+    let told = is_without_en_passant(position, from, to);
     for promo in promotions(position, from, to) {
         let chess_move = Move {
             from,

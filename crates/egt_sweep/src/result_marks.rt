@@ -21,13 +21,13 @@ pub(crate) struct ResultMarks {
 
 /// Those of one word.
 #[derive(Clone, Copy)]
-struct OddBits {
+struct MarksOfWord {
     lost: u64,
     unwon: u64,
 }
 
 /// The marks of the word's numbers. From the last place on, each moves the marks of the places above it up, so that no jump is on an entry.
-fn odd_in(span: u32, entries: &[u16], word: u32) -> OddBits
+fn marks_in(span: u32, entries: &[u16], word: u32) -> MarksOfWord
     requires few { span ≤ 64 }
     requires within { (k : ℕ) → k < span → number_at span word k < length entries.now }
     ensures lost { AreOddAbove span 1 entries.now word result.lost }
@@ -42,11 +42,11 @@ fn odd_in(span: u32, entries: &[u16], word: u32) -> OddBits
         lost = 2 * lost + u64::from((entry % 2 == 1) & (entry > 1));
         unwon = 2 * unwon + u64::from(entry % 2);
     }
-    OddBits { lost, unwon }
+    MarksOfWord { lost, unwon }
 }
 
 /// The marks of the word, where only nodes have odd entries: so a word without nodes has none, and its entries are not read.
-fn odd_at(words: &CodeWords, entries: &[u16], word: u32) -> OddBits
+fn marks_of_word(words: &CodeWords, entries: &[u16], word: u32) -> MarksOfWord
     requires word { word < words_of (places words.now.class) (size_of words.now.class) }
     requires within { (k : ℕ) → k < places words.now.class → number_at (places words.now.class) word k < length entries.now }
     requires nodes { (j : ℕ) → IsOddAbove 0 (slice_index entries.now j) → IsIn (places words.now.class) words.now.lists.nodes.items j }
@@ -54,9 +54,9 @@ fn odd_at(words: &CodeWords, entries: &[u16], word: u32) -> OddBits
     ensures unwon { AreOddAbove (places words.now.class) 0 entries.now word result.unwon }
 {
     if words.nodes(word) == 0 {
-        return OddBits { lost: 0, unwon: 0 };
+        return MarksOfWord { lost: 0, unwon: 0 };
     }
-    odd_in(words.places(), entries, word)
+    marks_in(words.places(), entries, word)
 }
 
 /// The marks of all words of the class, where only nodes have odd entries.
@@ -75,7 +75,7 @@ pub(crate) fn result_marks(
     let mut lost = vec![in alloc; 0; count]?;
     let mut unwon = vec![in alloc; 0; count]?;
     for word in 0..count {
-        let bits = odd_at(words, entries, word as u32);
+        let bits = marks_of_word(words, entries, word as u32);
         lost[word] = bits.lost;
         unwon[word] = bits.unwon;
     }

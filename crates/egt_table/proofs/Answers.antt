@@ -5,7 +5,7 @@ use Rattle.byteorder.specs.Endian.{little_number}
 use Rattle.egt_index.specs.Size.{size_of}
 use Rattle.egt_table.specs.declared.fault.FileFault.{FileFault}
 use Rattle.egt_table.specs.declared.fault.FileFault.TheVariants as faults
-use Rattle.egt_table.specs.File.{AreBytes, Field, bytes_of, column_bytes, entries_bytes, HasHeader, IsAnswer, first_fault, header_fields, header_fault, header_of, file_fault, file_length, version_of, version_told}
+use Rattle.egt_table.specs.File.{AreBytes, Field, bytes_of, column_bytes, entries_bytes, HasHeader, IsAnswer, first_fault, header_fields, header_fault, header_of, file_fault, file_length, version_of, stated_version}
 use Rattle.egt_table.specs.Reading.{CountsFault, IsAll, IsCut, IsMisfit, IsVersion, length_in, reach_in}
 use Rattle.egt_table.proofs.Fields.{AllFit, fault_in_front, fields_right, no_fault, widths}
 use Rattle.egt_table.proofs.Versions.{body_is, body_length, reach_kept, told_of_all, told_of_table, version_small}
@@ -58,25 +58,25 @@ not_counted faults.Device old new k e = absurd k
 not_counted fault old new k e = e
 
 -- the fault of a header is that of all bytes
-fault_of_all : (version class : ℕ) (bytes header rest : List ℕ) → bytes ≡ header ++ rest → length header ≡ 16 → version ≡ version_told header
+fault_of_all : (version class : ℕ) (bytes header rest : List ℕ) → bytes ≡ header ++ rest → length header ≡ 16 → version ≡ stated_version header
     → header_fault class bytes ≡ first_fault (header_fields version class) header
 fault_of_all version class bytes header rest p l v =
-    let told : version_told bytes ≡ version = told_of_all bytes header rest p (omega arith) ∙ sym v in
+    let told : stated_version bytes ≡ version = told_of_all bytes header rest p (omega arith) ∙ sym v in
     let front = fault_in_front (header_fields version class) header rest (omega (arith, header_widths version class)) in
     ap (λ (n : ℕ). first_fault (header_fields n class) bytes) told ∙ ap (λ (w : List ℕ). first_fault (header_fields version class) w) p ∙ front
 
 -- what a header tells of all bytes
-pub header_answer : (version class : ℕ) (left new : Option (List ℕ)) (header : List ℕ) (fault : FileFault) → Consumes left new header → length header ≡ 16 → version ≡ version_told header
+pub header_answer : (version class : ℕ) (left new : Option (List ℕ)) (header : List ℕ) (fault : FileFault) → Consumes left new header → length header ≡ 16 → version ≡ stated_version header
     → first_fault (header_fields version class) header ≡ Some fault → IfSome left (λ bytes. IsAnswer class bytes fault)
 header_answer version class None new header fault p l v e = tt
 header_answer version class (Some bytes) None header fault p l v e = absurd p
 header_answer version class (Some bytes) (Some rest) header fault p l v e =
     let here : header_fault class bytes ≡ Some fault = fault_of_all version class bytes header rest p l v ∙ e in
-    answer_of class bytes fault (of_field (version_told bytes) class bytes fault here)
+    answer_of class bytes fault (of_field (stated_version bytes) class bytes fault here)
     (file_fault_of class bytes fault (omega (arith, ap length p, length-append {A = ℕ})) here)
 
-pub header_is_right : (version class : ℕ) (left new : Option (List ℕ)) (header : List ℕ) → Consumes left new header → length header ≡ 16 → version ≡ version_told header
-    → first_fault (header_fields version class) header ≡ None → IfSome left (λ bytes. HasHeader class bytes × (version_told bytes ≡ version))
+pub header_is_right : (version class : ℕ) (left new : Option (List ℕ)) (header : List ℕ) → Consumes left new header → length header ≡ 16 → version ≡ stated_version header
+    → first_fault (header_fields version class) header ≡ None → IfSome left (λ bytes. HasHeader class bytes × (stated_version bytes ≡ version))
 header_is_right version class None new header p l v e = tt
 header_is_right version class (Some bytes) None header p l v e = absurd p
 header_is_right version class (Some bytes) (Some rest) header p l v e =
@@ -110,22 +110,22 @@ misfit_more (Some xs) None done n faults.Trailing p q h = absurd p
 misfit_more (Some xs) (Some ys) done n faults.Trailing p q h = omega (arith, ap length p, length-append {A = ℕ})
 misfit_more left mid done n fault p q h = absurd q
 
-too_short : (class : ℕ) (bytes : List ℕ) → HasHeader class bytes → length bytes < file_length (version_told bytes) class → file_fault class bytes ≡ Some faults.Short
+too_short : (class : ℕ) (bytes : List ℕ) → HasHeader class bytes → length bytes < file_length (stated_version bytes) class → file_fault class bytes ≡ Some faults.Short
 too_short class bytes h l =
     let long : nat_lt (length bytes) 16 ≡ false = le-ltb (length bytes) 16 h.0 in
-    let short : nat_lt (length bytes) (file_length (version_told bytes) class) ≡ true = lt-ltb (length bytes) (file_length (version_told bytes) class) l in
+    let short : nat_lt (length bytes) (file_length (stated_version bytes) class) ≡ true = lt-ltb (length bytes) (file_length (stated_version bytes) class) l in
     rw (long, h.1, short) refl
 
-too_long : (class : ℕ) (bytes : List ℕ) → HasHeader class bytes → file_length (version_told bytes) class < length bytes → file_fault class bytes ≡ Some faults.Trailing
+too_long : (class : ℕ) (bytes : List ℕ) → HasHeader class bytes → file_length (stated_version bytes) class < length bytes → file_fault class bytes ≡ Some faults.Trailing
 too_long class bytes h l =
     let long : nat_lt (length bytes) 16 ≡ false = le-ltb (length bytes) 16 h.0 in
-    let not_short : nat_lt (length bytes) (file_length (version_told bytes) class) ≡ false = le-ltb (length bytes) (file_length (version_told bytes) class) (omega arith) in
-    let more : nat_lt (file_length (version_told bytes) class) (length bytes) ≡ true = lt-ltb (file_length (version_told bytes) class) (length bytes) l in
+    let not_short : nat_lt (length bytes) (file_length (stated_version bytes) class) ≡ false = le-ltb (length bytes) (file_length (stated_version bytes) class) (omega arith) in
+    let more : nat_lt (file_length (stated_version bytes) class) (length bytes) ≡ true = lt-ltb (file_length (stated_version bytes) class) (length bytes) l in
     rw (long, h.1, not_short, more) refl
 
 -- what the columns tell of all bytes
 pub columns_answer : (version class : ℕ) (left mid : Option (List ℕ)) (header : List ℕ) (n : ℕ) (fault : FileFault)
-    → Consumes left mid header → length header ≡ 16 → 16 + n ≡ file_length version class → IfSome left (λ bytes. HasHeader class bytes × (version_told bytes ≡ version)) → IsMisfit n mid fault
+    → Consumes left mid header → length header ≡ 16 → 16 + n ≡ file_length version class → IfSome left (λ bytes. HasHeader class bytes × (stated_version bytes ≡ version)) → IsMisfit n mid fault
     → IfSome left (λ bytes. IsAnswer class bytes fault)
 columns_answer version class None mid header n fault p l s h q = tt
 columns_answer version class (Some bytes) None header n fault p l s h q = absurd p
@@ -167,7 +167,7 @@ header_right t h s =
     ap (λ (n : ℕ). first_fault (header_fields n t.class) (bytes_of t)) (told_of_table t)
     ∙ no_fault (header_fields (version_of t.reach) t.class) (flat_map (column_bytes t) (columns_of t)) (fields_fit (version_of t.reach) t.class (version_small t.reach) h.class_in s)
 
-written_length : (t : TableValue) → IsTable t → length (bytes_of t) ≡ file_length (version_told (bytes_of t)) t.class
+written_length : (t : TableValue) → IsTable t → length (bytes_of t) ≡ file_length (stated_version (bytes_of t)) t.class
 written_length t h =
     let is : length (bytes_of t) ≡ file_length (version_of t.reach) t.class =
     omega (arith, header_of_length (version_of t.reach) t.class, length-append (header_of (version_of t.reach) t.class) (flat_map (column_bytes t) (columns_of t)), body_length t h) in
@@ -179,6 +179,6 @@ written_right t h s =
     let header = header_right t h s in
     let is = written_length t h in
     let long : nat_lt (length (bytes_of t)) 16 ≡ false = le-ltb (length (bytes_of t)) 16 (omega arith) in
-    let not_short : nat_lt (length (bytes_of t)) (file_length (version_told (bytes_of t)) t.class) ≡ false = le-ltb (length (bytes_of t)) (file_length (version_told (bytes_of t)) t.class) (omega arith) in
-    let not_long : nat_lt (file_length (version_told (bytes_of t)) t.class) (length (bytes_of t)) ≡ false = le-ltb (file_length (version_told (bytes_of t)) t.class) (length (bytes_of t)) (omega arith) in
+    let not_short : nat_lt (length (bytes_of t)) (file_length (stated_version (bytes_of t)) t.class) ≡ false = le-ltb (length (bytes_of t)) (file_length (stated_version (bytes_of t)) t.class) (omega arith) in
+    let not_long : nat_lt (file_length (stated_version (bytes_of t)) t.class) (length (bytes_of t)) ≡ false = le-ltb (file_length (stated_version (bytes_of t)) t.class) (length (bytes_of t)) (omega arith) in
     rw (long, header, not_short, not_long) refl

@@ -8,7 +8,7 @@ use Rattle.byteorder.specs.Numbers.{little_number-reads_back}
 use Rattle.egt_index.specs.Size.{size_of}
 use Rattle.egt_table.specs.declared.column.Column.{Column}
 use Rattle.egt_table.specs.declared.column.Column.TheVariants.{Mate, Zeroing, Reach}
-use Rattle.egt_table.specs.File.{bytes_of, column_bytes, columns_in, entries_bytes, field_bytes, header_fields, header_of, version_of, version_told}
+use Rattle.egt_table.specs.File.{bytes_of, column_bytes, columns_in, entries_bytes, field_bytes, header_fields, header_of, version_of, stated_version}
 use Rattle.egt_table.specs.Offsets.{EntriesFit, EntriesStand, HeaderStands, number_at}
 use Rattle.egt_table.specs.Table.{HasColumn, IsTable, TableValue, columns_of, entries_of, entries_or_none, reach_columns}
 use Rattle.egt_table.proofs.Answers.{header_of_length}
@@ -141,6 +141,6 @@ same_parts t u c m z r =
 pub one_table : (t u : TableValue) → IsTable t → IsTable u → EntriesFit t → EntriesFit u → bytes_of t ≡ bytes_of u → t ≡ u
 one_table t u ht hu ft fu same =
     let class = same_class t u ht hu same in
-    let version : version_of t.reach ≡ version_of u.reach = sym (told_of_table t) ∙ ap (λ (w : List ℕ). version_told w) same ∙ told_of_table u in
+    let version : version_of t.reach ≡ version_of u.reach = sym (told_of_table t) ∙ ap (λ (w : List ℕ). stated_version w) same ∙ told_of_table u in
     let columns = same_entries t u ht hu ft fu same class in
     same_parts t u class (columns 0 Mate refl refl) (columns 1 Zeroing refl refl) (same_reach t.reach u.reach version (columns 2 Reach))

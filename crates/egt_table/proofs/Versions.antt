@@ -7,13 +7,13 @@ use Rattle.byteorder.specs.Numbers.{little_from-append}
 use Rattle.egt_index.specs.Size.{size_of}
 use Rattle.egt_table.specs.declared.column.Column.{Column}
 use Rattle.egt_table.specs.declared.column.Column.TheVariants.{Mate, Zeroing, Reach}
-use Rattle.egt_table.specs.File.{bytes_of, column_bytes, columns_in, entries_bytes, file_length, header_fields, header_of, version_of, version_told}
+use Rattle.egt_table.specs.File.{bytes_of, column_bytes, columns_in, entries_bytes, file_length, header_fields, header_of, version_of, stated_version}
 use Rattle.egt_table.specs.Reading.{IsVersion, length_in, reach_in}
 use Rattle.egt_table.specs.Table.{HasColumn, IsTable, TableValue, columns_of, entries_or_none, reach_columns}
 use Rattle.egt_table.proofs.Entries.{entries_length}
 
 -- the version stands in the first six bytes
-pub told_of_all : (bytes header rest : List ℕ) → bytes ≡ header ++ rest → 6 ≤ length header → version_told bytes ≡ version_told header
+pub told_of_all : (bytes header rest : List ℕ) → bytes ≡ header ++ rest → 6 ≤ length header → stated_version bytes ≡ stated_version header
 told_of_all bytes header rest p h =
     let behind : drop 4 (header ++ rest) ≡ drop 4 header ++ rest = drop-append-le 4 header rest (omega arith) in
     let number : little_number 2 (drop 4 header ++ rest) ≡ little_number 2 (drop 4 header) = little_from-append 2 (drop 4 header) rest (omega (arith, length-drop {A = ℕ})) in
@@ -23,12 +23,12 @@ pub version_small : (reach : Option (List ℕ)) → version_of reach ≤ 2
 version_small None = omega arith
 version_small (Some entries) = omega arith
 
-told_of_header : (reach : Option (List ℕ)) (class : ℕ) → version_told (header_of (version_of reach) class) ≡ version_of reach
+told_of_header : (reach : Option (List ℕ)) (class : ℕ) → stated_version (header_of (version_of reach) class) ≡ version_of reach
 unfolding header_fields
 told_of_header None class = refl
 told_of_header (Some entries) class = refl
 
-pub told_of_table : (t : TableValue) → version_told (bytes_of t) ≡ version_of t.reach
+pub told_of_table : (t : TableValue) → stated_version (bytes_of t) ≡ version_of t.reach
 unfolding header_fields
 told_of_table t =
     let header = header_of (version_of t.reach) t.class in

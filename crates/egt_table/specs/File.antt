@@ -73,17 +73,17 @@ first_fault (field ∷ fields) bytes =
     if little_number field.width bytes == field.value then first_fault fields (drop field.width bytes) else Some field.fault
 
 -- the version that the bytes tell; any other than 2 is to be 1
-abbrev pub version_told : List ℕ → ℕ
-version_told bytes = if little_number 2 (drop 4 bytes) == 2 then 2 else 1
+abbrev pub stated_version : List ℕ → ℕ
+stated_version bytes = if little_number 2 (drop 4 bytes) == 2 then 2 else 1
 
 abbrev pub header_fault : ℕ → List ℕ → Option FileFault
-header_fault class bytes = first_fault (header_fields (version_told bytes) class) bytes
+header_fault class bytes = first_fault (header_fields (stated_version bytes) class) bytes
 
 -- too few bytes, or too many
 abbrev pub length_fault : ℕ → List ℕ → Option FileFault
 length_fault class bytes =
-    if nat_lt (length bytes) (file_length (version_told bytes) class) then Some faults.Short
-    else (if nat_lt (file_length (version_told bytes) class) (length bytes) then Some faults.Trailing else None)
+    if nat_lt (length bytes) (file_length (stated_version bytes) class) then Some faults.Short
+    else (if nat_lt (file_length (stated_version bytes) class) (length bytes) then Some faults.Trailing else None)
 
 abbrev pub or_else : Option FileFault → Option FileFault → Option FileFault
 or_else None later = later

@@ -1,7 +1,7 @@
 //! The header of a table's file.
 ghost use Rattle.std.specs.Prelude.{◌≡◌, ◌≤◌, length, drop, None, Some, OnOk, IfErr};
 ghost use Rattle.byteorder.specs.Endian.{little_number};
-ghost use Rattle.egt_table.specs.File.{columns_in as number_of_columns, first_fault, header_fields, header_of, version_told as told_by};
+ghost use Rattle.egt_table.specs.File.{columns_in as number_of_columns, first_fault, header_fields, header_of, stated_version};
 
 use crate::fault::FileFault;
 use byteorder::{ByteOrder, LittleEndian};
@@ -64,8 +64,8 @@ fn front_u32(bytes: &[u8]) -> (u32, &[u8])
 }
 
 /// The version that a header tells. Any other than 2 is to be 1.
-pub(crate) fn version_told(header: &[u8; LENGTH]) -> u16
-    ensures { result ≡ told_by header.now }
+pub(crate) fn version_in(header: &[u8; LENGTH]) -> u16
+    ensures { result ≡ stated_version header.now }
 {
     if LittleEndian::read_u16(&header[4..6]) == WITH_REACH {
         WITH_REACH

@@ -2,11 +2,11 @@
 ghost use Rattle.std.specs.Prelude.{◌≡◌, ◌+◌, ◌*◌, ◌≤◌, [], ◌++◌, length, IfOk, IfErr, IfSome, OnOk};
 ghost use Rattle.std.specs.Io.KnownBytes.{Consumes, IsAtEnd};
 ghost use Rattle.egt_index.specs.Size.{size_of};
-ghost use Rattle.egt_table.specs.File.{HasHeader, IsAnswer, Reads, entries_bytes, header_of, version_told as told_by};
+ghost use Rattle.egt_table.specs.File.{HasHeader, IsAnswer, Reads, entries_bytes, header_of, stated_version};
 ghost use Rattle.egt_table.specs.Reading.{CountsDevice, IsAll, IsCut, IsMisfit, IsVersion, length_in, reach_in};
 
 use crate::fault::FileFault;
-use crate::header::{LENGTH, WITH_REACH, check_header, version_told};
+use crate::header::{LENGTH, WITH_REACH, check_header, version_in};
 use crate::stream::Source;
 use crate::table::Table;
 use crate::transfer::{PIECE, PIECE_BYTES, fill};
@@ -19,7 +19,7 @@ use std::alloc::{AllocError, Global};
 /// Takes the header off the source, and gives the version that it tells.
 fn read_header<S: Source>(class: Class, source: &mut S) -> Result<u16, FileFault>
     ensures header { IfOk result (λ version. Consumes (S.left source.old) (S.left source.new) (header_of version class)) }
-    ensures right { IfOk result (λ version. IfSome (S.left source.old) (λ bytes. HasHeader class bytes × (told_by bytes ≡ version))) }
+    ensures right { IfOk result (λ version. IfSome (S.left source.old) (λ bytes. HasHeader class bytes × (stated_version bytes ≡ version))) }
     ensures version { IfOk result IsVersion }
     ensures fault { IfErr result (λ fault. IfSome (S.left source.old) (λ bytes. IsAnswer class bytes fault)) }
     ensures failures { CountsDevice result (S.failures source.old) (S.failures source.new) }
@@ -29,7 +29,7 @@ fn read_header<S: Source>(class: Class, source: &mut S) -> Result<u16, FileFault
     if n < LENGTH {
         return Err(FileFault::Short);
     }
-    let version = version_told(&header);
+    let version = version_in(&header);
     check_header(version, class, &header)?;
     Ok(version)
 }

@@ -84,11 +84,6 @@ off_target : (side : Side) (from to : ℕ) → rank_of from ≡ home_rank side �
 off_target White from to home two rank = omega (arith, home, two, rank)
 off_target Black from to home two rank = omega (arith, home, two, rank)
 
--- who stands beside a square has it beside him
-pub beside_back : (s t : ℕ) → IsBeside s t → IsBeside t s
-beside_back s t (rank, inl one) = (sym rank, inr one)
-beside_back s t (rank, inr one) = (sym rank, inl one)
-
 pub leap_apart : (side : Side) (from to : ℕ) → IsTwoAhead side from to → to ≢ from
 leap_apart White from to two e = omega (arith, two, e)
 leap_apart Black from to two e = omega (arith, two, e)

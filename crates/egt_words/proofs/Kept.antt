@@ -15,6 +15,7 @@ use Rattle.egt_board.specs.declared.man.Kind.TheVariants.{P}
 use Rattle.egt_board.specs.declared.man.Man.{Man}
 use Rattle.egt_board.specs.declared.man.Side.{Side}
 use Rattle.egt_board.specs.declared.man.Side.TheVariants.{White, Black}
+use Rattle.egt_board.proofs.Pawns.{beside_back}
 use Rattle.egt_board.proofs.Sides.{side_twice, sides_differ}
 use Rattle.egt_index.specs.ShelfCodes.{IsShelf}
 use Rattle.egt_index.specs.Spelled.{IsListed}
@@ -30,7 +31,6 @@ use Rattle.egt_steps.proofs.Still.{pawn_is}
 use Rattle.egt_words.specs.Standing.{IsAt, IsHeldOn, IsStanding, least_of, standing}
 use Rattle.egt_words.specs.Staying.{IsFoeOn, MayPromote, ReachesPast, StaysAt}
 use Rattle.egt_words.specs.MoveLists.{word_of}
-use Rattle.egt_words.proofs.Advancing.{beside_back}
 use Rattle.egt_words.proofs.AtPlace.{has, last_stands, mover, ok, pawns, taken, who}
 
 not_other : (side : Side) → other_side side ≢ side

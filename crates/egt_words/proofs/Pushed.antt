@@ -12,6 +12,7 @@ use Rattle.egt_board.specs.declared.man.Kind.TheVariants.{P}
 use Rattle.egt_board.specs.declared.man.Side.{Side}
 use Rattle.egt_board.specs.declared.man.Side.TheVariants.{White, Black}
 use Rattle.egt_board.specs.declared.square_set.SquareSet.{SquareSet}
+use Rattle.egt_board.proofs.Pawns.{beside_back}
 use Rattle.egt_graph.specs.WordMoves.{FitsPushes, GoesPushed, HasWords, IsAhead, PushesTo}
 use Rattle.egt_graph.specs.Words.{number_at, words_of}
 use Rattle.egt_graph.specs.declared.word_moves.Pushes.{Pushes}
@@ -32,7 +33,7 @@ use Rattle.egt_words.specs.Standing.{IsAt, IsHeldOn, IsWordWith, least_of}
 use Rattle.egt_words.specs.Steps.{ArePushes, IsAdvance, SettlesIn}
 use Rattle.egt_words.specs.MoveLists.{word_of}
 use Rattle.egt_words.specs.MoveLists as told
-use Rattle.egt_words.proofs.Advancing.{IsReady, StandsWith, becomes, beside_back, leap_apart, leaps_back, led_gone, settles_bare, settles_itself, stays, steps_back, steps_of}
+use Rattle.egt_words.proofs.Advancing.{IsReady, StandsWith, becomes, leap_apart, leaps_back, led_gone, settles_bare, settles_itself, stays, steps_back, steps_of}
 use Rattle.egt_words.proofs.Ahead.{next_apart, not_both, one_beyond}
 use Rattle.egt_words.proofs.AtPlace.{below, free_beside, last_with, ok, taken}
 use Rattle.egt_words.proofs.Following.{CodesFollow, LeapsFollow}

@@ -8,6 +8,7 @@ ghost use Rattle.egt_board.specs.declared.man.Kind.TheVariants.{P};
 ghost use Rattle.egt_index.specs.Scales.{kind_less};
 ghost use Rattle.egt_words.specs.Standing.{AreRivals, IsHeldOn, IsRivalAt, king_square_of};
 
+use egt_board::pawn::squares_beside;
 use egt_board::{Kind, Man, Side, Square, SquareSet};
 use egt_index::ShelfMen;
 
@@ -80,27 +81,12 @@ fn are_rivals(men: &ShelfMen) -> bool
     is_pawn(men.one) && is_pawn(men.last) && !is_of(men.last, men.one.side)
 }
 
-/// The squares beside the square: on its rank, on the next file.
-fn beside(square: Square) -> SquareSet
-    ensures { (t : ℕ) → Has result t ↔ IsBeside t square }
-{
-    let number = square.number();
-    let mut squares = SquareSet::EMPTY;
-    if square.file() > 0 {
-        squares = squares.with(Square::at(number - 1));
-    }
-    if square.file() < 7 {
-        squares = squares.with(Square::at(number + 1));
-    }
-    squares
-}
-
 /// The squares beside the square, if the two men beside the kings are pawns, one of each side; else none.
 pub(crate) fn rivals_beside(men: &ShelfMen, square: Square) -> SquareSet
     ensures { (t : ℕ) → Has result t ↔ (AreRivals men.now × IsBeside t square) }
 {
     if are_rivals(men) {
-        beside(square)
+        squares_beside(square)
     } else {
         SquareSet::EMPTY
     }

@@ -8,4 +8,4 @@ use Rattle.egt_check.proofs.advance_blocks.squares_where.Goals as goal
 pub returns-else-beside : goal.returns-else-beside
 returns-else-beside c = λ t t_in.
     let bit = bit_at c.without.result.bits t in
-    subst (λ (b : Bool). (bit ≡ 1) ↔ IsBesideWhere b c.args.square t) (sym c.if-beside.false) (others_lack c.squares_beside-here.result.bits bit t (IsBeside c.args.square t) t_in (c.squares_beside-here.ensures t t_in) (c.without.ensures.squares t))
+    subst (λ (b : Bool). (bit ≡ 1) ↔ IsBesideWhere b c.args.square t) (sym c.if-beside.false) (others_lack c.squares_beside-here.result.bits bit t (IsBeside c.args.square t) t_in (c.squares_beside-here.ensures t) (c.without.ensures.squares t))

@@ -10,15 +10,15 @@ place_by_men-requires c =
     let m = c.args.chess_move.now in
     let ok = c.side-side.ensures.admissible in
     let (q, leads) = c.requires.legal in
-    let (off, none) = c.is_told_by_men.ensures c.if-is_told_by_men.true m q refl refl leads in
+    let (off, none) = c.is_without_en_passant.ensures c.if-is_without_en_passant.true m q refl refl leads in
     (q, c.facts.ensures.step_admissible p q m ok leads, c.after-next.ensures p q ok c.requires.men leads off, none)
 
-pub returns-then-is_told_by_men : goal.returns-then-is_told_by_men
-returns-then-is_told_by_men c = λ q leads.
+pub returns-then-is_without_en_passant : goal.returns-then-is_without_en_passant
+returns-then-is_without_en_passant c = λ q leads.
     let p = c.args.position.now in
     let m = c.args.chess_move.now in
     let ok = c.side-side.ensures.admissible in
-    let (off, none) = c.is_told_by_men.ensures c.if-is_told_by_men.true m q refl refl leads in
+    let (off, none) = c.is_without_en_passant.ensures c.if-is_without_en_passant.true m q refl refl leads in
     c.place_by_men.ensures q (c.facts.ensures.step_admissible p q m ok leads) (c.after-next.ensures p q ok c.requires.men leads off) none
 
 pub returns : goal.returns

@@ -1,7 +1,7 @@
 use Rattle.std.proofs.Common.{◌≡◌, ◌≢◌, ℕ, false, Some, IfSome, refl, sym, subst}
 use Rattle.egt_board.specs.Setup.{Setup}
 use Rattle.egt_class.specs.Membership.{IsOf}
-use Rattle.egt_class.specs.Pair.{IsBeside}
+use Rattle.egt_class.specs.Pair.{AreNonKings}
 use Rattle.egt_table.specs.Table.{TableValue}
 use Rattle.egt_check.specs.Parts.{promotions_in, tables_in}
 use Rattle.egt_check.specs.PawnScores.{HasPromotions}
@@ -34,7 +34,7 @@ returns-clause-tables c =
           (c.is_left-else-not-is_left.ensures.there c.if-not-is_left-2.false) (c.is_left-else-not-is_left.ensures.lone c.if-not-is_left-2.false) (c.is_left-else-not-is_left.ensures.bytes c.if-not-is_left-2.false) c.of_men-last_class.ensures.class;
       own_after = record {
         below = c.class-class.ensures.table.class_in;
-        of = subst (λ (k : ℕ). (p : Setup) → IsBeside p (Some men.one) (Some men.last) → IsOf k false p) class (c.is_own_class.ensures c.if-not-is_own_class.false);
+        of = subst (λ (k : ℕ). (p : Setup) → AreNonKings p (Some men.one) (Some men.last) → IsOf k false p) class (c.is_own_class.ensures c.if-not-is_own_class.false);
         order = sym c.requires.men.are;
       };
       first_pawn = beside_any part tables t.class (men_swapped men) c.first_promotions.result

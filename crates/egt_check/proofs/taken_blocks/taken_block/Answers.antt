@@ -11,7 +11,7 @@ returns-then-not-is_of-2 c = λ told a b a_in b_in.
     let low = at c.raise_transposed.new.out a b in
     let foe = c.is_of.ensures.0 c.if-not-is_of.false ∙ c.other.ensures in
     king_takes t c.args.column c.args.flips men c.args.side a b low foe (λ own. false≢true (sym c.if-not-is_of-2.true ∙ c.is_of-2.ensures.1 own))
-    (king_raised t c.args.column c.args.flips men c.args.side a b (at c.nothing.result a b) (at c.read_beside.new.out b a) low (c.nothing.ensures a b a_in b_in) (c.raise_transposed.ensures a b a_in b_in) (c.if-not-read_beside.ensures refl b a b_in a_in))
+    (king_raised t c.args.column c.args.flips men c.args.side a b (at c.nothing.result a b) (at c.read_king_takes.new.out b a) low (c.nothing.ensures a b a_in b_in) (c.raise_transposed.ensures a b a_in b_in) (c.if-not-read_king_takes.ensures refl b a b_in a_in))
 
 pub returns : goal.returns
 returns c = λ told a b a_in b_in.
@@ -20,5 +20,5 @@ returns c = λ told a b a_in b_in.
     let low = at c.raise_transposed.new.out a b in
     let foe = c.is_of.ensures.0 c.if-not-is_of.false ∙ c.other.ensures in
     both_take t c.args.column c.args.flips men c.args.side a b low (at c.raise_takes.new.out a b) c.read_left.new.out b_in foe (c.is_of-2.ensures.0 c.if-not-is_of-2.false)
-    (king_raised t c.args.column c.args.flips men c.args.side a b (at c.nothing.result a b) (at c.read_beside.new.out b a) low (c.nothing.ensures a b a_in b_in) (c.raise_transposed.ensures a b a_in b_in) (c.if-not-read_beside.ensures refl b a b_in a_in))
+    (king_raised t c.args.column c.args.flips men c.args.side a b (at c.nothing.result a b) (at c.read_king_takes.new.out b a) low (c.nothing.ensures a b a_in b_in) (c.raise_transposed.ensures a b a_in b_in) (c.if-not-read_king_takes.ensures refl b a b_in a_in))
     (c.if-not-read_left.ensures refl) (c.raise_takes.ensures a b a_in b_in)

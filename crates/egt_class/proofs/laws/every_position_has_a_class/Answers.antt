@@ -2,7 +2,7 @@ use Rattle.std.proofs.Common.{◌+◌, ◌*◌, None, map}
 use Rattle.std.specs.FinMap as placement
 use Rattle.egt_board.specs.Listed.{man_entry}
 use Rattle.egt_class.specs.Pair.{slot_of, class_at, flip_at}
-use Rattle.egt_class.proofs.Beside.{last_two, last_two-beside, one_king_each}
+use Rattle.egt_class.proofs.NonKings.{last_two, last_two-beside, one_king_each}
 use Rattle.egt_class.proofs.PairTable.{pair_is_of, pair_below, slot_below}
 use Rattle.egt_class.proofs.laws.every_position_has_a_class.Goals as goal
 

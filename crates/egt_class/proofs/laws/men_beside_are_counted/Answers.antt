@@ -1,5 +1,5 @@
-use Rattle.egt_class.proofs.Beside.{one_king_each}
-use Rattle.egt_class.proofs.TwoBeside.{are_beside}
+use Rattle.egt_class.proofs.NonKings.{one_king_each}
+use Rattle.egt_class.proofs.TwoNonKings.{are_beside}
 use Rattle.egt_class.proofs.laws.men_beside_are_counted.Goals as goal
 
 pub returns : goal.returns

@@ -6,7 +6,7 @@ use Rattle.egt_graph.proofs.near_solver.nearest_by_words.Goals as goal
 pub returns-then-is_over-clause-ok : goal.returns-then-is_over-clause-ok
 returns-then-is_over-clause-ok g c =
     nears_told (g.G.Shelved.graph c.args.game.now) (g.met.G.Shelved.lawful c.args.game.now) c.loop-round.round _ c.in_ok-step_by_words.ensures.known
-    (c.is_over.ensures c.if-is_over.true) (omega (arith, c.loop-round-test.true)) c.told.result c.told.ensures
+    (c.is_over.ensures c.if-is_over.true) (omega (arith, c.loop-round-test.true)) c.nears_of.result c.nears_of.ensures
 
 pub step_by_words-requires-2-clause-known : goal.step_by_words-requires-2-clause-known
 step_by_words-requires-2-clause-known g c =
@@ -20,4 +20,4 @@ returns-then-any_found-clause-too_deep g c =
 pub returns-clause-ok : goal.returns-clause-ok
 returns-clause-ok g c =
     nears_at_last (g.G.Shelved.graph c.args.game.now) (g.met.G.Shelved.lawful c.args.game.now) c.step_by_words-2.new.run.known c.in_ok-step_by_words-2.ensures.known (rw c.deref.ensures.value at c.if-any_found.ensures)
-    c.told-2.result c.told-2.ensures
+    c.nears_of-2.result c.nears_of-2.ensures

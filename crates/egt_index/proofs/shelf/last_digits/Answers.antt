@@ -8,10 +8,10 @@ use Rattle.egt_index.proofs.shelf.last_digits.Goals as goal
 pub returns-in-Some-clause-is : goal.returns-in-Some-clause-is
 returns-in-Some-clause-is c =
     c.digits_of.ensures.is
-    ∙ sym (places_of_last c.args.class c.in-Some.man (last_beside _ _ (men_beside (material_of c.args.class)) c.beside.ensures.men c.beside.ensures.from_first ∙ c.in-Some.is))
+    ∙ sym (places_of_last c.args.class c.in-Some.man (last_beside _ _ (men_beside (material_of c.args.class)) c.non_kings.ensures.men c.non_kings.ensures.from_first ∙ c.in-Some.is))
 
 pub returns-in-None-clause-is : goal.returns-in-None-clause-is
-returns-in-None-clause-is c = sym (places_of_none c.args.class (last_beside _ _ (men_beside (material_of c.args.class)) c.beside.ensures.men c.beside.ensures.from_first ∙ c.in-None.is))
+returns-in-None-clause-is c = sym (places_of_none c.args.class (last_beside _ _ (men_beside (material_of c.args.class)) c.non_kings.ensures.men c.non_kings.ensures.from_first ∙ c.in-None.is))
 
 pub returns-in-Some-clause-whole : goal.returns-in-Some-clause-whole
 returns-in-Some-clause-whole c = whole_numbers c.args.class (omega (arith, c.number-number.ensures.below, c.number-number.ensures.value))

@@ -18,7 +18,7 @@ some_last : (x y : Option Man) (man : Man) (men : List Man) → option_to_list x
 some_last x y man men are none is = subst (λ (o : Option Man). IsSome o) (sym is ∙ last_beside x y men are none) refl
 
 pub unwrap-man-requires : goal.unwrap-man-requires
-unwrap-man-requires c = some_last _ _ c.requires.last.0 (men_beside (material_of c.args.class)) c.beside-last.ensures.men c.beside-last.ensures.from_first c.requires.last.1
+unwrap-man-requires c = some_last _ _ c.requires.last.0 (men_beside (material_of c.args.class)) c.non_kings-last.ensures.men c.non_kings-last.ensures.from_first c.requires.last.1
 
 last_is : (x y : Option Man) (man : Man) (men : List Man) → option_to_list x ++ option_to_list y ≡ men → (x ≡ None → y ≡ None) → y ≡ Some man → last_of men ≡ Some man
 last_is x y man men are none is = last_beside x y men are none ∙ is
@@ -31,8 +31,8 @@ may_pass-requires c = of_targets c.args.class (λ none. absurd (false≢true (sy
 
 pub settled_places-requires-clause-before : goal.settled_places-requires-clause-before
 settled_places-requires-clause-before c = record {
-  last = last_is _ _ _ (men_beside (material_of c.args.class)) c.beside-last.ensures.men c.beside-last.ensures.from_first c.unwrap-man.ensures;
-  other = other _ _ c.beside-last.ensures.second c.unwrap-man.ensures;
+  last = last_is _ _ _ (men_beside (material_of c.args.class)) c.non_kings-last.ensures.men c.non_kings-last.ensures.from_first c.unwrap-man.ensures;
+  other = other _ _ c.non_kings-last.ensures.second c.unwrap-man.ensures;
   high = c.in-Some.number;
   is = c.in-Some-spelled_front.ensures.some;
 }
@@ -49,10 +49,10 @@ returns-then-not-may_pass c =
 
 pub returns-in_default-spelled_front : goal.returns-in_default-spelled_front
 returns-in_default-spelled_front c =
-    none_spelled c.in-Some.passed c.args.class c.args.shelf c.in-Some.number c.unwrap-man.result (omega (arith, c.number-number.ensures.below, c.number-number.ensures.value)) (last_is _ _ _ (men_beside (material_of c.args.class)) c.beside-last.ensures.men c.beside-last.ensures.from_first c.unwrap-man.ensures) (other _ _ c.beside-last.ensures.second c.unwrap-man.ensures) c.in-Some.ensures.behind
+    none_spelled c.in-Some.passed c.args.class c.args.shelf c.in-Some.number c.unwrap-man.result (omega (arith, c.number-number.ensures.below, c.number-number.ensures.value)) (last_is _ _ _ (men_beside (material_of c.args.class)) c.non_kings-last.ensures.men c.non_kings-last.ensures.from_first c.unwrap-man.ensures) (other _ _ c.non_kings-last.ensures.second c.unwrap-man.ensures) c.in-Some.ensures.behind
     c.in_default-spelled_front.ensures.none c.default-in_default-spelled_front.result c.default-in_default-spelled_front.ensures.0 c.default-in_default-spelled_front.ensures.1
 
 pub returns : goal.returns
 returns c =
-    positions_behind c.in-Some.passed c.args.class c.args.shelf c.in-Some.number c.unwrap-man.result (omega (arith, c.number-number.ensures.below, c.number-number.ensures.value)) (last_is _ _ _ (men_beside (material_of c.args.class)) c.beside-last.ensures.men c.beside-last.ensures.from_first c.unwrap-man.ensures) (other _ _ c.beside-last.ensures.second c.unwrap-man.ensures) c.in-Some.ensures.behind
+    positions_behind c.in-Some.passed c.args.class c.args.shelf c.in-Some.number c.unwrap-man.result (omega (arith, c.number-number.ensures.below, c.number-number.ensures.value)) (last_is _ _ _ (men_beside (material_of c.args.class)) c.non_kings-last.ensures.men c.non_kings-last.ensures.from_first c.unwrap-man.ensures) (other _ _ c.non_kings-last.ensures.second c.unwrap-man.ensures) c.in-Some.ensures.behind
     c.in-Some-spelled_front.front c.in-Some-spelled_front.ensures.some c.settled_places.result c.settled_places.ensures

@@ -13,9 +13,9 @@ use Rattle.egt_index.proofs.shelf_codes.shelf_men.Goals as goal
 pub returns-clause-shelf : goal.returns-clause-shelf
 returns-clause-shelf c =
     shelf_before _ c.args.class c.args.shelf c.in_ok-front.front _ (omega (arith, c.number-number.ensures.below, c.number-number.ensures.value))
-    (last_beside _ _ (men_beside (material_of c.args.class)) c.beside-last.ensures.men c.beside-last.ensures.from_first ∙ c.in_ok-last.was)
-    (subst (λ (o : Option Man). IfSome o (λ man. man ≢ king_of White)) c.in_ok-last.was c.beside-last.ensures.second) c.in_ok-front.ensures.behind
-    (first_beside _ _ _ _ (men_beside (material_of c.args.class)) c.beside-last.ensures.men c.beside-last.ensures.first c.beside-last.ensures.from_first)
+    (last_beside _ _ (men_beside (material_of c.args.class)) c.non_kings-last.ensures.men c.non_kings-last.ensures.from_first ∙ c.in_ok-last.was)
+    (subst (λ (o : Option Man). IfSome o (λ man. man ≢ king_of White)) c.in_ok-last.was c.non_kings-last.ensures.second) c.in_ok-front.ensures.behind
+    (first_beside _ _ _ _ (men_beside (material_of c.args.class)) c.non_kings-last.ensures.men c.non_kings-last.ensures.first c.non_kings-last.ensures.from_first)
     c.in_ok-stand.stand c.in_ok-stand.ensures.some refl refl c.in_ok-one.was
 
 pub returns-in_err-front-clause-none : goal.returns-in_err-front-clause-none

@@ -10,8 +10,8 @@ beside c = subst (λ (men : Placement). HasBeside men c.non_kings-one.result.0 c
 
 pub returns-clause-is_of : goal.returns-clause-is_of
 returns-clause-is_of c =
-    colours_told c.facts.ensures c.args.class c.requires.0 c.args.position.now c.beside-first.result.0 (option_to_list c.beside-first.result.1) c.non_kings-one.result.0 c.non_kings-one.result.1 c.is_among-flipped.result
-    (omega (arith, c.number-number.ensures.below, c.number-number.ensures.value)) c.side-side.ensures.admissible c.requires.1 c.beside-first.ensures.colours c.beside-first.ensures.men (beside c) c.is_among-flipped.ensures
+    colours_told c.facts.ensures c.args.class c.requires.0 c.args.position.now c.non_kings-first.result.0 (option_to_list c.non_kings-first.result.1) c.non_kings-one.result.0 c.non_kings-one.result.1 c.is_among-flipped.result
+    (omega (arith, c.number-number.ensures.below, c.number-number.ensures.value)) c.side-side.ensures.admissible c.requires.1 c.non_kings-first.ensures.colours c.non_kings-first.ensures.men (beside c) c.is_among-flipped.ensures
 
 pub returns-clause-stood : goal.returns-clause-stood
 returns-clause-stood c =

@@ -1,4 +1,4 @@
-use Rattle.egt_class.proofs.Beside.{one_king_each}
+use Rattle.egt_class.proofs.NonKings.{one_king_each}
 use Rattle.egt_steps.proofs.ChildMoves.{stays, leaves, leads}
 use Rattle.egt_steps.proofs.laws.moves_lead_into_the_class_or_a_child.Goals as goal
 

@@ -7,7 +7,7 @@ use Rattle.egt_entries.specs.Library.{IsShelved}
 use Rattle.egt_entries.specs.NearTables.{near_entry}
 use Rattle.egt_entries.specs.Reach.{ShowsReach}
 use Rattle.egt_entries.specs.Tables.{table_at, entry_at}
-use Rattle.egt_sweep.proofs.NearEntries.{near_found, near_has, near_shown, near_told, shown_range, slice_near}
+use Rattle.egt_sweep.proofs.NearEntries.{near_found, near_has, near_shown, near_of_entry, shown_range, slice_near}
 use Rattle.egt_sweep.proofs.OutOfClass.{mapped_some, mapped_found}
 use Rattle.egt_sweep.proofs.exits.near_entry.Goals as goal
 
@@ -47,7 +47,7 @@ pub overflow_sub-result : goal.overflow_sub-result
 overflow_sub-result c = let range = (let told = shown c in shown_range c.entry.result told.0 told.1) in omega (arith, range.0)
 
 pub returns-clause-shows : goal.returns-clause-shows
-returns-clause-shows c = let told = shown c in (near_told told.0, near_shown c.entry.result told.0 told.1)
+returns-clause-shows c = let told = shown c in (near_of_entry told.0, near_shown c.entry.result told.0 told.1)
 
 pub returns-clause-is : goal.returns-clause-is
 returns-clause-is c =

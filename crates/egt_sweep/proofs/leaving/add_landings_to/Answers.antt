@@ -19,7 +19,7 @@ add_landing-requires-clause-legal c =
     (c.promotions-promo-items.ensures.legal promo).0 (n, c.loop-promo-test.true, sym (get_or_default items n None promo c.loop-promo-test.true))
 
 pub add_landing-requires-clause-told : goal.add_landing-requires-clause-told
-add_landing-requires-clause-told c told q leads = c.is_told_by_men-told.ensures told _ q refl refl leads
+add_landing-requires-clause-told c told q leads = c.is_without_en_passant-told.ensures told _ q refl refl leads
 
 pub add_landing-requires-clause-room : goal.add_landing-requires-clause-room
 add_landing-requires-clause-room c =

@@ -5,8 +5,8 @@ use Rattle.egt_index.specs.Size.{size_of}
 use Rattle.egt_sweep.proofs.ResultMarks.{number_within, odd_more}
 use Rattle.egt_sweep.proofs.result_marks.result_marks.Goals as goal
 
-pub odd_at-bits-requires-clause-within : goal.odd_at-bits-requires-clause-within
-odd_at-bits-requires-clause-within c k near =
+pub marks_of_word-bits-requires-clause-within : goal.marks_of_word-bits-requires-clause-within
+marks_of_word-bits-requires-clause-within c k near =
     let class = c.args.words.now.class in
     let word = c.loop-word-test.true in
     let count = c.word_count-count.ensures.is in
@@ -23,6 +23,6 @@ loop-word-preserved c =
     record {
       lost_long = length-set _ _ _ ∙ lost_long;
       unwon_long = length-set _ _ _ ∙ unwon_long;
-      lost = odd_more (places c.args.words.now.class) 1 c.loop-word.word c.args.entries.now c.loop-word.lost.items _ (omega (arith, word, count, lost_long)) c.odd_at-bits.ensures.lost inv.lost;
-      unwon = odd_more (places c.args.words.now.class) 0 c.loop-word.word c.args.entries.now c.loop-word.unwon.items _ (omega (arith, word, count, unwon_long)) c.odd_at-bits.ensures.unwon inv.unwon;
+      lost = odd_more (places c.args.words.now.class) 1 c.loop-word.word c.args.entries.now c.loop-word.lost.items _ (omega (arith, word, count, lost_long)) c.marks_of_word-bits.ensures.lost inv.lost;
+      unwon = odd_more (places c.args.words.now.class) 0 c.loop-word.word c.args.entries.now c.loop-word.unwon.items _ (omega (arith, word, count, unwon_long)) c.marks_of_word-bits.ensures.unwon inv.unwon;
     }

@@ -13,21 +13,21 @@ returns-in_err-check_header-clause-fault g c =
     let consumed = whole _ _ c.in_ok-n.n c.fill.new.buffer c.in_ok-n.ensures.bytes (omega arith) in
     let p = err_from_is_err_and c.from_residual-in_err-check_header.result c.from_residual-in_err-check_header.ensures.1 in
     rw (p.1, p.2)
-    (header_answer c.version_told-version.result c.args.class _ _ c.fill.new.buffer c.in_err-check_header.field-0.0 consumed (omega arith) c.version_told-version.ensures c.in_err-check_header.ensures.fault)
+    (header_answer c.version_in-version.result c.args.class _ _ c.fill.new.buffer c.in_err-check_header.field-0.0 consumed (omega arith) c.version_in-version.ensures c.in_err-check_header.ensures.fault)
 
 pub returns-in_err-check_header-clause-failures : goal.returns-in_err-check_header-clause-failures
 returns-in_err-check_header-clause-failures g c =
     let p = err_from_is_err_and c.from_residual-in_err-check_header.result c.from_residual-in_err-check_header.ensures.1 in
     rw (p.1, p.2)
-    (not_counted c.in_err-check_header.field-0.0 _ _ (of_field c.version_told-version.result c.args.class c.fill.new.buffer c.in_err-check_header.field-0.0 c.in_err-check_header.ensures.fault) c.in_ok-n.ensures.failures)
+    (not_counted c.in_err-check_header.field-0.0 _ _ (of_field c.version_in-version.result c.args.class c.fill.new.buffer c.in_err-check_header.field-0.0 c.in_err-check_header.ensures.fault) c.in_ok-n.ensures.failures)
 
 pub returns-clause-header : goal.returns-clause-header
 returns-clause-header g c =
     let consumed = whole _ _ c.in_ok-n.n c.fill.new.buffer c.in_ok-n.ensures.bytes (omega arith) in
     subst (λ (w : List ℕ). Consumes (g.S.Source.left c.args.source.now) (g.S.Source.left c.fill.new.source) w)
-    (header_is c.version_told-version.result c.args.class c.fill.new.buffer c.fill.ensures.range (omega arith) c.in_ok-check_header.ensures.right) consumed
+    (header_is c.version_in-version.result c.args.class c.fill.new.buffer c.fill.ensures.range (omega arith) c.in_ok-check_header.ensures.right) consumed
 
 pub returns-clause-right : goal.returns-clause-right
 returns-clause-right g c =
     let consumed = whole _ _ c.in_ok-n.n c.fill.new.buffer c.in_ok-n.ensures.bytes (omega arith) in
-    header_is_right c.version_told-version.result c.args.class _ _ c.fill.new.buffer consumed (omega arith) c.version_told-version.ensures c.in_ok-check_header.ensures.right
+    header_is_right c.version_in-version.result c.args.class _ _ c.fill.new.buffer consumed (omega arith) c.version_in-version.ensures c.in_ok-check_header.ensures.right

@@ -18,7 +18,7 @@ use Rattle.egt_board.specs.Listed.{man_entry}
 use Rattle.egt_board.specs.Setup.{Setup, IsAdmissible, IsKingOn}
 use Rattle.egt_board.specs.Images.{kind_number, side_number, man_number, stands_here, count_of}
 use Rattle.egt_board.specs.Counting.{is_man}
-use Rattle.egt_class.specs.Pair.{IsBeside}
+use Rattle.egt_class.specs.Pair.{AreNonKings}
 
 abbrev pub is_king : Kind → Bool
 is_king Q = false
@@ -184,7 +184,7 @@ OneKing men = (side : Side) → count_of men (king_of side) ≡ 1
 
 -- the men beside the kings of an admissible position
 pub last_two-beside : (p : Setup) → placement.len p.men ≤ 4 → Counted p.men → OneKing p.men
-    → let r = last_two None None (map man_entry (placement.entries p.men)) in IsBeside p r.0 r.1
+    → let r = last_two None None (map man_entry (placement.entries p.men)) in AreNonKings p r.0 r.1
 unfolding number_of others listed
 last_two-beside p few counted one_king = record {
   kings = one_king;

@@ -10,12 +10,12 @@ use Rattle.egt_index.specs.declared.front.Front.{Front}
 use Rattle.egt_index.specs.declared.places.Places.{Places}
 use Rattle.egt_index.proofs.Fronts.{last_beside}
 use Rattle.egt_index.proofs.Numbered.{none_indexed}
-use Rattle.egt_index.proofs.places.told.Goals as goal
+use Rattle.egt_index.proofs.places.places_by_front.Goals as goal
 
 pub places_behind-requires-clause-before : goal.places_behind-requires-clause-before
 places_behind-requires-clause-before c = record {
-  last = last_beside _ _ (men_beside (material_of c.args.class)) c.beside-last.ensures.men c.beside-last.ensures.from_first ∙ c.in_ok-man.was;
-  other = subst (λ (o : Option Man). IfSome o (λ man. man ≢ king_of White)) c.in_ok-man.was c.beside-last.ensures.second;
+  last = last_beside _ _ (men_beside (material_of c.args.class)) c.non_kings-last.ensures.men c.non_kings-last.ensures.from_first ∙ c.in_ok-man.was;
+  other = subst (λ (o : Option Man). IfSome o (λ man. man ≢ king_of White)) c.in_ok-man.was c.non_kings-last.ensures.second;
   high = c.args.number;
   is = subst (λ (o : Option Front). IsFrontOf c.args.class c.args.number o) c.in-Some.is c.requires.front;
 }
@@ -35,6 +35,6 @@ returns-in-Some c = of c.places_behind.result c.places_behind.ensures
 pub returns-in-None : goal.returns-in-None
 returns-in-None c = λ shelf at.
     none_indexed c.args.passed c.args.class shelf c.args.number c.in_ok-man.man (omega (arith, c.number-number.ensures.below, c.number-number.ensures.value))
-    (last_beside _ _ (men_beside (material_of c.args.class)) c.beside-last.ensures.men c.beside-last.ensures.from_first ∙ c.in_ok-man.was)
-    (subst (λ (o : Option Man). IfSome o (λ man. man ≢ king_of White)) c.in_ok-man.was c.beside-last.ensures.second) at
+    (last_beside _ _ (men_beside (material_of c.args.class)) c.non_kings-last.ensures.men c.non_kings-last.ensures.from_first ∙ c.in_ok-man.was)
+    (subst (λ (o : Option Man). IfSome o (λ man. man ≢ king_of White)) c.in_ok-man.was c.non_kings-last.ensures.second) at
     (subst (λ (o : Option Front). IsFrontOf c.args.class c.args.number o) c.in-None.is c.requires.front) c.default.result c.default.ensures.0 c.default.ensures.1

@@ -2,7 +2,7 @@ use Rattle.std.proofs.Common.{slice_index}
 use Rattle.egt_graph.specs.Words.{number_at}
 use Rattle.egt_sweep.specs.ResultMarks.{IsOddAbove}
 use Rattle.egt_sweep.proofs.ResultMarks.{AreFrom}
-use Rattle.egt_sweep.proofs.result_marks.odd_in.Given as goal
+use Rattle.egt_sweep.proofs.result_marks.marks_in.Given as goal
 
 -- the marks of the places from `place` on, that of `place` the lowest
 abbrev pub invariant-loop-place : goal.invariant-loop-place

@@ -13,7 +13,7 @@ use Rattle.egt_board.specs.declared.man.Kind.TheVariants.{K}
 use Rattle.egt_board.specs.declared.man.Man.{Man}
 use Rattle.egt_board.specs.declared.man.Side.{Side}
 use Rattle.egt_board.specs.declared.man.Side.TheVariants.{White, Black}
-use Rattle.egt_class.specs.Pair.{IsBeside}
+use Rattle.egt_class.specs.Pair.{AreNonKings}
 use Rattle.egt_index.specs.Picked.{AreCounted}
 use Rattle.egt_index.specs.Stood.{AllStand, HasStand, IsOff, list_of, men_among}
 use Rattle.egt_index.specs.declared.shelf_codes.ShelfMen.{ShelfMen}
@@ -24,7 +24,7 @@ use Rattle.egt_steps.specs.PawnMoves.{IsClassAfter, IsClassOfTwo, stand_after, s
 
 -- the men beside the kings are counted, by the law of egt_class
 abbrev pub Counting : Type 0
-Counting = (p : Setup) (one other : Option (Man × ℕ)) → IsAdmissible p → HasBeside p.men one other → IsBeside p (option_map (λ e. e.0) one) (option_map (λ e. e.0) other)
+Counting = (p : Setup) (one other : Option (Man × ℕ)) → IsAdmissible p → HasBeside p.men one other → AreNonKings p (option_map (λ e. e.0) one) (option_map (λ e. e.0) other)
 
 -- they stand there, and no others
 pub record AreTwo (men : Placement) (white black : ℕ) (one : Man) (a : ℕ) (other : Man) (b : ℕ) : Type 0 where

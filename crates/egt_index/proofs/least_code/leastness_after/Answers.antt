@@ -1,7 +1,7 @@
 use Rattle.std.proofs.Common.{◌/◌, ◌%◌, ◌+◌, ◌*◌, ℕ, cond, eqb, arith}
 use Rattle.egt_board.specs.Turned.{turned_square}
 use Rattle.egt_index.proofs.Beating.{beaten_by_kings, kept_by_kings, same_by_kings}
-use Rattle.egt_index.proofs.least_code.told_by.Goals as goal
+use Rattle.egt_index.proofs.least_code.leastness_after.Goals as goal
 
 -- the kings' squares as a number, before the turn and after it
 own : ℕ → ℕ → ℕ → ℕ

@@ -2,9 +2,9 @@ use Rattle.std.proofs.Common.{subst}
 use Rattle.egt_board.specs.AllMen.{in_any_order}
 use Rattle.egt_board.specs.NonKings.{AreBeside}
 use Rattle.egt_board.specs.Placement.{Placement}
-use Rattle.egt_class.proofs.Beside.{one_king_each}
-use Rattle.egt_class.proofs.TwoBeside.{are_beside}
-use Rattle.egt_class.proofs.membership.beside.Goals as goal
+use Rattle.egt_class.proofs.NonKings.{one_king_each}
+use Rattle.egt_class.proofs.TwoNonKings.{are_beside}
+use Rattle.egt_class.proofs.membership.non_kings.Goals as goal
 
 pub returns : goal.returns
 returns c =

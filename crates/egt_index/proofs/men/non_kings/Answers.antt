@@ -3,10 +3,10 @@ use Rattle.std.specs.Prelude.{slice_index_or}
 use Rattle.egt_class.specs.Material.{material_of}
 use Rattle.egt_index.specs.Size.{men_beside}
 use Rattle.egt_index.specs.First.{tells_colours}
-use Rattle.egt_index.specs.declared.men.TheConstants.{BESIDE}
+use Rattle.egt_index.specs.declared.men.TheConstants.{NON_KINGS}
 use Rattle.egt_index.proofs.Flipped.{first_tells}
 use Rattle.egt_index.proofs.MenTable.{row_is, no_king, from_first}
-use Rattle.egt_index.proofs.men.beside.Goals as goal
+use Rattle.egt_index.proofs.men.non_kings.Goals as goal
 
 pub returns-clause-men : goal.returns-clause-men
 returns-clause-men c = row_is c.from.result _ (omega (arith, c.number.ensures.below, c.from.ensures)) ∙ ap (λ n. men_beside (material_of n)) (c.from.ensures ∙ c.number.ensures.value)
@@ -19,7 +19,7 @@ returns-clause-second c = (no_king c.from.result _ (omega (arith, c.number.ensur
 
 pub returns-clause-colours : goal.returns-clause-colours
 returns-clause-colours c =
-    subst (λ n. tells_colours n (slice_index_or BESIDE c.from.result _).0 ≡ true) (c.from.ensures ∙ c.number.ensures.value)
+    subst (λ n. tells_colours n (slice_index_or NON_KINGS c.from.result _).0 ≡ true) (c.from.ensures ∙ c.number.ensures.value)
     (first_tells c.from.result _ (omega (arith, c.number.ensures.below, c.from.ensures)))
 
 pub returns-clause-from_first : goal.returns-clause-from_first

@@ -9,19 +9,19 @@ use Rattle.egt_index.specs.Stood.{HasStand}
 use Rattle.egt_index.specs.TurnedMen.{seen_across}
 use Rattle.egt_index.specs.declared.stand.Stand.{Stand}
 use Rattle.egt_index.proofs.Beating.{keeps_with, has_exchanged, turn_beaten, turn_kept}
-use Rattle.egt_index.proofs.least_code.told_exchanged.Goals.{After-told_by-one}
-use Rattle.egt_index.proofs.least_code.told_exchanged.Goals as goal
+use Rattle.egt_index.proofs.least_code.leastness_exchanged.Goals.{After-leastness_after-one}
+use Rattle.egt_index.proofs.least_code.leastness_exchanged.Goals as goal
 
 -- the kings seen with colours exchanged
-across : (c : After-told_by-one) (stand : Stand) → HasKingsOn c.args.white c.args.black stand → HasKingsOn c.args.black c.args.white (seen_across stand)
+across : (c : After-leastness_after-one) (stand : Stand) → HasKingsOn c.args.white c.args.black stand → HasKingsOn c.args.black c.args.white (seen_across stand)
 across c stand on = (on.1, on.0)
 
-home : (c : After-told_by-one) (stand : Stand) → HasKingsOn c.args.white c.args.black stand → AreHome (has_pawns (material_of c.args.class)) true (seen_across stand).white c.home-first.result.0 c.home-first.result.1
+home : (c : After-leastness_after-one) (stand : Stand) → HasKingsOn c.args.white c.args.black stand → AreHome (has_pawns (material_of c.args.class)) true (seen_across stand).white c.home-first.result.0 c.home-first.result.1
 home c stand on =
     subst (λ (white : ℕ). AreHome (has_pawns (material_of c.args.class)) true white c.home-first.result.0 c.home-first.result.1) (sym on.1)
     (subst (λ pawns. AreHome pawns true c.args.black c.home-first.result.0 c.home-first.result.1) c.has_pawns.ensures c.home-first.ensures)
 
-there : (c : After-told_by-one) (stand : Stand) (p : Setup) (side : Side) (passed : Bool) → HasStand c.args.class false stand side passed p → HasStand c.args.class true (seen_across stand) side passed p
+there : (c : After-leastness_after-one) (stand : Stand) (p : Setup) (side : Side) (passed : Bool) → HasStand c.args.class false stand side passed p → HasStand c.args.class true (seen_across stand) side passed p
 there c stand p side passed has =
     has_exchanged c.facts.ensures c.args.class false stand (seen_across stand) side passed p (omega (arith, c.number-number.ensures.below, c.number-number.ensures.value)) c.requires refl refl refl refl has
 
@@ -34,8 +34,8 @@ returns-in-Some-clause-beats c = λ h stand on p side passed code has s.
     let there = there before stand p side passed has in
     let across = across before stand on in
     elim (c.both.ensures.beaten h) [
-      | inl one ↦ turn_beaten c.args.class true seen c.home-first.result.0 p side passed code are.one are.brings (c.told_by-one.ensures.beats one seen across) there s.spells
-      | inr two ↦ turn_beaten c.args.class true seen c.in-Some.second p side passed code are.other are.other_brings (c.told_by.ensures.beats two seen across) there s.spells
+      | inl one ↦ turn_beaten c.args.class true seen c.home-first.result.0 p side passed code are.one are.brings (c.leastness_after-one.ensures.beats one seen across) there s.spells
+      | inr two ↦ turn_beaten c.args.class true seen c.in-Some.second p side passed code are.other are.other_brings (c.leastness_after.ensures.beats two seen across) there s.spells
     ]
 
 pub returns-in-Some-clause-keeps : goal.returns-in-Some-clause-keeps
@@ -48,14 +48,14 @@ returns-in-Some-clause-keeps c = λ h stand on p side passed code has s.
     let across = across before stand on in
     let least = c.both.ensures.least h in
     keeps_with c.facts.ensures c.args.class p true seen.white c.home-first.result.0 (Some c.in-Some.second) code has.admissible there.is_of there.stood.all.1 are
-    (turn_kept c.args.class true seen c.home-first.result.0 p side passed code are.one (c.told_by-one.ensures.keeps least.0 seen across) there s.spells)
-    (turn_kept c.args.class true seen c.in-Some.second p side passed code are.other (c.told_by.ensures.keeps least.1 seen across) there s.spells)
+    (turn_kept c.args.class true seen c.home-first.result.0 p side passed code are.one (c.leastness_after-one.ensures.keeps least.0 seen across) there s.spells)
+    (turn_kept c.args.class true seen c.in-Some.second p side passed code are.other (c.leastness_after.ensures.keeps least.1 seen across) there s.spells)
 
 pub returns-in-None-clause-beats : goal.returns-in-None-clause-beats
 returns-in-None-clause-beats c = λ h stand on p side passed code has s.
     let seen = seen_across stand in
     let are = home c.before stand on in
-    turn_beaten c.args.class true seen c.home-first.result.0 p side passed code are.one are.brings (c.told_by-one.ensures.beats h seen (across c.before stand on)) (there c.before stand p side passed has) s.spells
+    turn_beaten c.args.class true seen c.home-first.result.0 p side passed code are.one are.brings (c.leastness_after-one.ensures.beats h seen (across c.before stand on)) (there c.before stand p side passed has) s.spells
 
 pub returns-in-None-clause-keeps : goal.returns-in-None-clause-keeps
 returns-in-None-clause-keeps c = λ h stand on p side passed code has s.
@@ -64,4 +64,4 @@ returns-in-None-clause-keeps c = λ h stand on p side passed code has s.
     subst (AreHome (has_pawns (material_of c.args.class)) true seen.white c.home-first.result.0) c.in-None.is (home c.before stand on) in
     let there = there c.before stand p side passed has in
     keeps_with c.facts.ensures c.args.class p true seen.white c.home-first.result.0 None code has.admissible there.is_of there.stood.all.1 are
-    (turn_kept c.args.class true seen c.home-first.result.0 p side passed code are.one (c.told_by-one.ensures.keeps h seen (across c.before stand on)) there s.spells) tt
+    (turn_kept c.args.class true seen c.home-first.result.0 p side passed code are.one (c.leastness_after-one.ensures.keeps h seen (across c.before stand on)) there s.spells) tt

@@ -6,7 +6,7 @@ use Rattle.egt_index.specs.declared.shelf_codes.ShelfMen.{ShelfMen}
 use Rattle.egt_steps.specs.Takings.{left_of, stand_left}
 use Rattle.egt_check.specs.Worth.{IsRead}
 use Rattle.egt_check.proofs.Taking.{RowsTaken, taken_all, taken_more, taken_none}
-use Rattle.egt_check.proofs.taken_blocks.read_beside.Goals as goal
+use Rattle.egt_check.proofs.taken_blocks.read_king_takes.Goals as goal
 
 pub loop-to-init : goal.loop-to-init
 loop-to-init c =

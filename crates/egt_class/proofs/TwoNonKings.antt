@@ -9,8 +9,8 @@ use Rattle.egt_board.specs.Images.{stands_here, count_of}
 use Rattle.egt_board.specs.Placement.{Placement, Stands, get-remove_same, get-remove_other}
 use Rattle.egt_board.specs.SquareSet.{total}
 use Rattle.egt_board.specs.Setup.{Setup}
-use Rattle.egt_class.specs.Pair.{IsBeside}
-use Rattle.egt_class.proofs.Beside.{OneKing, is_king, king_told, other_told, king_stands}
+use Rattle.egt_class.specs.Pair.{AreNonKings}
+use Rattle.egt_class.proofs.NonKings.{OneKing, is_king, king_told, other_told, king_stands}
 
 total_none : (f : ℕ → ℕ) (n : ℕ) → ((t : ℕ) → f t ≡ 0) → total f n ≡ 0
 total_none f zero none = refl
@@ -93,7 +93,7 @@ no_king men None there = tt
 no_king men (Some e) there = there.1
 
 -- the men beside the kings of an admissible position
-pub are_beside : Clears → (p : Setup) (first second : Option (Man × ℕ)) → OnBoard p.men → OneKing p.men → HasBeside p.men first second → IsBeside p (option_map (λ e. e.0) first) (option_map (λ e. e.0) second)
+pub are_beside : Clears → (p : Setup) (first second : Option (Man × ℕ)) → OnBoard p.men → OneKing p.men → HasBeside p.men first second → AreNonKings p (option_map (λ e. e.0) first) (option_map (λ e. e.0) second)
 unfolding man_in
 are_beside clears p first second on_board kings are = record {
   kings = kings;

@@ -2,7 +2,7 @@ use Rattle.std.proofs.Common.{◌≡◌, ◌+◌, ◌-◌, ◌↔◌, ℕ, slice
 use Rattle.egt_graph.specs.Words.{number_at}
 use Rattle.egt_sweep.specs.ResultMarks.{IsOddAbove}
 use Rattle.egt_sweep.proofs.ResultMarks.{lost_bit, odd_bit, one_lower}
-use Rattle.egt_sweep.proofs.result_marks.odd_in.Goals as goal
+use Rattle.egt_sweep.proofs.result_marks.marks_in.Goals as goal
 
 pub loop-place-preserved : goal.loop-place-preserved
 loop-place-preserved c =
