@@ -29,7 +29,8 @@ use Rattle.egt_check.specs.Alike.{StepAlike}
 use Rattle.egt_entries.specs.Tables.{Tables}
 use Rattle.egt_words.specs.MoveLists.{Advances, Quietly}
 use Rattle.egt_sweep.specs.ClassGame.{class_game, stuck_edge}
-use Rattle.egt_sweep.specs.CodeGame.{CodeMoves, TellsGame, code_game, goes_by, index_from, index_of, is_mate, leads_by, number_or, numbered}
+use Rattle.egt_sweep.specs.CodeGame.{TellsGame, code_game, goes_by, index_from, index_of, is_mate, leads_by, number_or, numbered}
+use Rattle.egt_words.specs.CodeLists.{CodeMoves}
 use Rattle.egt_sweep.specs.Edges.{Connects, GoesOn, IsAt}
 use Rattle.egt_sweep.specs.Laws.{Laws}
 use Rattle.egt_sweep.specs.Nodes.{connects, position_at}

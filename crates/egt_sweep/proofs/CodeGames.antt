@@ -27,17 +27,18 @@ use Rattle.egt_entries.specs.Tables.{Tables}
 use Rattle.egt_index.specs.Numbers.{IsNumbered, code_of, places}
 use Rattle.egt_words.specs.MoveLists.{GoesByPawnBy, GoesQuietlyBy, TellsLists}
 use Rattle.egt_words.specs.declared.roaming.Roaming.{Roaming}
-use Rattle.egt_sweep.specs.CodeGame.{CodeMoves, TellsGame, code_game, goes_by, index_of, is_mate, leads_by, numbered}
-use Rattle.egt_sweep.specs.CodeLists.{GoesWith, IsTold, moves_told, nodes_at, pawn_ways_at, pushes_at, roams_at, staying_at, turned_at, ways_at}
-use Rattle.egt_sweep.specs.CodeTests.{pawn_test, quiet_test}
+use Rattle.egt_sweep.specs.CodeGame.{TellsGame, code_game, goes_by, index_of, is_mate, leads_by, numbered}
+use Rattle.egt_words.specs.CodeLists.{CodeMoves}
+use Rattle.egt_words.specs.CodeLists.{GoesWith, IsTold, moves_told, nodes_at, pawn_ways_at, pushes_at, roams_at, staying_at, turned_at, ways_at}
+use Rattle.egt_words.specs.CodeTests.{pawn_test, quiet_test}
 use Rattle.egt_sweep.specs.Edges.{GoesOn, IsAt}
 use Rattle.egt_sweep.specs.Landings.{landings_at}
 use Rattle.egt_sweep.specs.Laws.{Laws}
 use Rattle.egt_sweep.specs.Nodes.{exits_at, is_mated, position_at}
-use Rattle.egt_sweep.specs.declared.code_words.CodeLists.{CodeLists}
+use Rattle.egt_words.specs.declared.code_words.CodeLists.{CodeLists}
 use Rattle.egt_sweep.proofs.CodeGame.{all_of, either_or, or_either, stood_for}
-use Rattle.egt_sweep.proofs.CodeLists.{told_game}
-use Rattle.egt_sweep.proofs.CodeTests.{pawn_is, quiet_is}
+use Rattle.egt_sweep.proofs.ToldGame.{told_game}
+use Rattle.egt_words.proofs.CodeTests.{pawn_is, quiet_is}
 use Rattle.egt_sweep.proofs.Linked.{position_is}
 use Rattle.egt_sweep.proofs.Numbered.{node_told, number_below, some_numbered, told_node}
 use Rattle.egt_sweep.proofs.CodeStarts.{no_exits, no_landings, start_prop, tells_none}

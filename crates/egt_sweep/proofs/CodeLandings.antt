@@ -11,10 +11,10 @@ use Rattle.egt_index.specs.Numbers.{places}
 use Rattle.egt_index.specs.Size.{size_of}
 use Rattle.egt_sweep.specs.CodeGame.{index_of}
 use Rattle.egt_sweep.specs.CodeLandings.{EndsAt, HoldsList, HoldsNumber, HoldsPlaces, HoldsUpTo, HoldsWords, IsFilled, IsLonger, list_of, rank}
-use Rattle.egt_sweep.specs.CodeLists.{leaving_at}
+use Rattle.egt_words.specs.CodeLists.{leaving_at}
 use Rattle.egt_sweep.specs.Landings.{landings_at}
 use Rattle.egt_sweep.specs.declared.code_landings.CodeLandings.{CodeLandings}
-use Rattle.egt_sweep.specs.declared.code_words.CodeLists.{CodeLists}
+use Rattle.egt_words.specs.declared.code_words.CodeLists.{CodeLists}
 use Rattle.egt_sweep.specs.declared.landing_lists.LandingLists.{LandingLists}
 
 -- ---- bits

@@ -14,12 +14,12 @@ use Rattle.egt_entries.specs.declared.metric.Metric.TheVariants.{Mate}
 use Rattle.egt_index.specs.Numbers.{number_of}
 use Rattle.egt_sweep.specs.ClassGame.{class_game}
 use Rattle.egt_sweep.specs.CodeGame.{code_game_is_lawful, index_of}
-use Rattle.egt_sweep.specs.CodeLists.{IsTold, moves_told}
+use Rattle.egt_words.specs.CodeLists.{IsTold, moves_told}
 use Rattle.egt_sweep.specs.CodeMates.{AreOfIndexes, game_by}
 use Rattle.egt_sweep.specs.Laws.{Laws}
 use Rattle.egt_sweep.specs.Nodes.{exits_at}
 use Rattle.egt_sweep.specs.ReachGame.{as_win, reach_game}
-use Rattle.egt_sweep.specs.declared.code_words.CodeLists.{CodeLists}
+use Rattle.egt_words.specs.declared.code_words.CodeLists.{CodeLists}
 use Rattle.egt_sweep.proofs.CodeRanks.{CodesStand, kept_nodes, stands}
 
 exit_same : (n : ℕ) (e : Exit) → is_near_exit n e ≡ is_near_exit n (as_win e)

@@ -18,16 +18,17 @@ use Rattle.egt_entries.specs.declared.metric.Metric.TheVariants.{Mate}
 use Rattle.egt_entries.specs.Tables.{Tables}
 use Rattle.egt_index.specs.Numbers.{number_of, places}
 use Rattle.egt_sweep.specs.ClassGame.{class_game, class_game_is_lawful}
-use Rattle.egt_sweep.specs.CodeGame.{CodeMoves, TellsGame, code_game, code_game_is_lawful, index_of}
-use Rattle.egt_sweep.specs.CodeLists.{IsTold, moves_told}
+use Rattle.egt_sweep.specs.CodeGame.{TellsGame, code_game, code_game_is_lawful, index_of}
+use Rattle.egt_words.specs.CodeLists.{CodeMoves}
+use Rattle.egt_words.specs.CodeLists.{IsTold, moves_told}
 use Rattle.egt_sweep.specs.CodeMates.{AreOfIndexes, TellMates, game_by}
 use Rattle.egt_sweep.specs.Laws.{Laws}
 use Rattle.egt_sweep.specs.Nodes.{position_at}
 use Rattle.egt_sweep.specs.ResultMarks.{IsOddAbove}
-use Rattle.egt_sweep.specs.declared.code_words.CodeLists.{CodeLists}
+use Rattle.egt_words.specs.declared.code_words.CodeLists.{CodeLists}
 use Rattle.egt_sweep.specs.declared.mate_codes.CodeEntries.{CodeEntries}
 use Rattle.egt_sweep.proofs.CodeIndexes.{indexed_number, numbered_at, stands_for_itself}
-use Rattle.egt_sweep.proofs.CodeLists.{told_game}
+use Rattle.egt_sweep.proofs.ToldGame.{told_game}
 use Rattle.egt_sweep.proofs.Linked.{node_at, there_is}
 use Rattle.egt_sweep.proofs.Numbered.{number_below, told_node}
 

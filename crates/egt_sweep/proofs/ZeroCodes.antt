@@ -24,19 +24,20 @@ use Rattle.egt_entries.specs.declared.metric.Metric.TheVariants.{Mate, Zeroing}
 use Rattle.egt_entries.specs.Tables.{HasChildren, Tables, beside}
 use Rattle.egt_index.specs.Numbers.{IsNumbered, code_of, places}
 use Rattle.egt_words.specs.MoveLists.{GoesByPawnBy}
-use Rattle.egt_sweep.specs.CodeGame.{CodeMoves, TellsGame, code_game, index_of}
-use Rattle.egt_sweep.specs.CodeLists.{IsTold, moves_told, nodes_at, pawn_ways_at, pushes_at}
+use Rattle.egt_sweep.specs.CodeGame.{TellsGame, code_game, index_of}
+use Rattle.egt_words.specs.CodeLists.{CodeMoves}
+use Rattle.egt_words.specs.CodeLists.{IsTold, moves_told, nodes_at, pawn_ways_at, pushes_at}
 use Rattle.egt_sweep.specs.Edges.{PushesTo}
 use Rattle.egt_sweep.specs.Laws.{Laws}
 use Rattle.egt_sweep.specs.MateColumn.{IsMateColumn, mate_table}
 use Rattle.egt_sweep.specs.Nodes.{exits_at}
 use Rattle.egt_sweep.specs.ResultMarks.{IsOddAbove}
-use Rattle.egt_sweep.specs.declared.code_words.CodeLists.{CodeLists}
+use Rattle.egt_words.specs.declared.code_words.CodeLists.{CodeLists}
 use Rattle.egt_sweep.proofs.CodeGame.{image_has, image_index, index_at, pawns, stays_plain, stood_for}
 use Rattle.egt_sweep.proofs.Numbered.{node_told, number_below, told_node}
 use Rattle.egt_sweep.proofs.CodeGames.{code_nodes, pawn_here}
-use Rattle.egt_sweep.proofs.CodeLists.{told_game}
-use Rattle.egt_sweep.proofs.CodeTests.{pawn_is}
+use Rattle.egt_sweep.proofs.ToldGame.{told_game}
+use Rattle.egt_words.proofs.CodeTests.{pawn_is}
 use Rattle.egt_sweep.proofs.CodeMarks.{AreMarksOf, in_marked, marked_in}
 use Rattle.egt_sweep.proofs.ZeroExits.{either_told, marked_exits, some_exit, tells_exits}
 

@@ -20,14 +20,10 @@ use Rattle.egt_graph.specs.Passing.{passing_below, passing_has, passing_passes, 
 use Rattle.egt_entries.specs.declared.metric.Metric.{Metric}
 use Rattle.egt_entries.specs.declared.metric.Metric.TheVariants.{Mate, Zeroing}
 use Rattle.egt_entries.specs.Tables.{Tables}
+use Rattle.egt_words.specs.CodeLists.{CodeMoves}
 use Rattle.egt_words.specs.MoveLists.{Advances, Quietly}
 use Rattle.egt_sweep.specs.ClassGame.{exits_none, exits_short}
 use Rattle.egt_sweep.specs.Nodes.{exits_at, index_in, is_mated, kept_if, position_at, spelled}
-
--- between which numbers moves are told: those that do not zero, and a pawn's
-pub record CodeMoves : Type 0 where
-  pub quiet : ℕ → ℕ → Bool
-  pub pawn : ℕ → ℕ → Bool
 
 -- those that go on in the game of the column
 abbrev pub goes_by : Metric → CodeMoves → ℕ → ℕ → Bool

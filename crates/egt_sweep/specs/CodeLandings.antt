@@ -6,10 +6,10 @@ use Rattle.egt_graph.specs.Words.{number_at, words_of}
 use Rattle.egt_index.specs.Numbers.{places}
 use Rattle.egt_index.specs.Size.{size_of}
 use Rattle.egt_sweep.specs.CodeGame.{index_of}
-use Rattle.egt_sweep.specs.CodeLists.{leaving_at}
+use Rattle.egt_words.specs.CodeLists.{leaving_at}
 use Rattle.egt_sweep.specs.Landings.{landings_at}
 use Rattle.egt_sweep.specs.declared.code_landings.CodeLandings.{CodeLandings}
-use Rattle.egt_sweep.specs.declared.code_words.CodeLists.{CodeLists}
+use Rattle.egt_words.specs.declared.code_words.CodeLists.{CodeLists}
 use Rattle.egt_sweep.specs.declared.landing_lists.LandingLists.{LandingLists}
 
 -- the n-th list

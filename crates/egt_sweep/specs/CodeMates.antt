@@ -10,8 +10,8 @@ use Rattle.egt_entries.specs.declared.metric.Metric.TheVariants.{Mate}
 use Rattle.egt_entries.specs.Tables.{Tables}
 use Rattle.egt_index.specs.Numbers.{number_of, places}
 use Rattle.egt_sweep.specs.CodeGame.{code_game, index_of}
-use Rattle.egt_sweep.specs.CodeLists.{moves_told}
-use Rattle.egt_sweep.specs.declared.code_words.CodeLists.{CodeLists}
+use Rattle.egt_words.specs.CodeLists.{moves_told}
+use Rattle.egt_words.specs.declared.code_words.CodeLists.{CodeLists}
 use Rattle.egt_sweep.specs.ResultMarks.{IsOddAbove}
 use Rattle.egt_sweep.specs.declared.class_codes.ClassCodes.{ClassCodes}
 use Rattle.egt_sweep.specs.declared.mate_codes.CodeEntries.{CodeEntries}

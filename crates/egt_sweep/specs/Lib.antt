@@ -11,11 +11,7 @@ pub mod Built
 pub mod Fault
 pub mod Ways
 pub mod Drawn
-pub mod Roaming
 pub mod CodeGame
-pub mod CodeTests
-pub mod CodeLists
-pub mod CodeSources
 pub mod ResultMarks
 pub mod CodeLandings
 pub mod CodeMates

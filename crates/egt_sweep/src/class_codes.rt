@@ -2,8 +2,8 @@
 ghost use Rattle.egt_sweep.specs.CodeLandings.{AreLandings};
 
 use crate::code_landings::CodeLandings;
-use crate::code_words::CodeWords;
 use egt_class::Class;
+use egt_words::CodeWords;
 use std::alloc::{AllocError, Global};
 
 /// The moves between the numbers of a class, and where those land that leave it.

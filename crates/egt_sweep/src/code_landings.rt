@@ -2,7 +2,7 @@
 ghost use Rattle.std.specs.Prelude.{◌≡◌, ◌<◌};
 ghost use Rattle.egt_sweep.specs.CodeLandings.{rank};
 
-use crate::code_words::{CodeWords, word_count};
+use crate::code_index::index_of_number;
 use crate::landing_lists::LandingLists;
 use crate::laws::laws;
 use crate::nodes::list_landings;
@@ -10,6 +10,7 @@ use arrayvec::ArrayVec;
 use egt_check::Metric;
 use egt_graph::{number_at, place_in, word_in};
 use egt_index::size;
+use egt_words::{CodeWords, word_count};
 use std::alloc::{AllocError, Global};
 
 /// For each number of whose moves it is not told that all stay in the class, where those land that do not.
@@ -52,7 +53,7 @@ impl CodeLandings {
         ensures longer { IfOk result (λ done. done ≡ true → IsLonger self.old.lists self.new.lists (landings_at Mate words.now.class (index_of words.now.class number))) }
         ensures few { IfOk result (λ _. length (landings_at Mate words.now.class (index_of words.now.class number)) ≤ 64) }
     {
-        let index = words.index_of(number);
+        let index = index_of_number(words, number);
         list_landings(Metric::Mate, words.class, index, found);
         self.lists.add(found.as_slice())
     }

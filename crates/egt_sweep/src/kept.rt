@@ -5,11 +5,11 @@ ghost use Rattle.egt_index.specs.Numbers.{places};
 ghost use Rattle.egt_index.specs.Size.{size_of};
 ghost use Rattle.egt_sweep.specs.CodeMates.{AreKeptBelow, AreOfIndexes};
 
-use crate::code_words::{CodeWords, word_count};
 use crate::laws::laws;
 use egt_board::SquareSet;
 use egt_graph::number_at;
 use egt_index::{code_of, size};
+use egt_words::{CodeWords, word_count};
 use std::alloc::{AllocError, Global};
 
 /// Puts the entries of the word's numbers whose codes are indexes in the places of these.

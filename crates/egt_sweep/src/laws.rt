@@ -4,7 +4,8 @@ ghost use Rattle.egt_entries.specs.Tables.{Tables};
 ghost use Rattle.egt_graph.specs.StandIns.{StandsFor};
 ghost use Rattle.egt_entries.specs.declared.metric.Metric.{Metric};
 ghost use Rattle.egt_sweep.specs.ClassGame.{class_game};
-ghost use Rattle.egt_sweep.specs.CodeGame.{CodeMoves, TellsGame, code_game, index_of};
+ghost use Rattle.egt_sweep.specs.CodeGame.{TellsGame, code_game, index_of};
+ghost use Rattle.egt_words.specs.CodeLists.{CodeMoves};
 ghost use Rattle.egt_sweep.specs.Laws.{Laws};
 
 use egt_board::laws::{

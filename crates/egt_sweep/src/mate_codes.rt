@@ -8,12 +8,12 @@ ghost use Rattle.egt_sweep.specs.Objective.{known, Knows, knows_prop, metric_of}
 ghost use Rattle.egt_sweep.specs.ClassGame.{class_game};
 ghost use Rattle.egt_sweep.specs.CodeGame.{code_game_is_lawful};
 ghost use Rattle.egt_sweep.specs.CodeLandings.{AreLandings};
-ghost use Rattle.egt_sweep.specs.CodeLists.{moves_told};
+ghost use Rattle.egt_words.specs.CodeLists.{moves_told};
 ghost use Rattle.egt_sweep.specs.CodeMates.{TellMates, game_by};
 
 use crate::class_codes::ClassCodes;
+use crate::code_index::index_of_number;
 use crate::code_landings::CodeLandings;
-use crate::code_words::CodeWords;
 use crate::exits::list_exits_there;
 use crate::kept::kept_entries;
 use crate::laws::{codes_stand_for_indexes, laws};
@@ -24,6 +24,7 @@ use egt_check::Library;
 use egt_graph::laws::stand_ins_tell_ranks;
 use egt_graph::{Exit, ExitMarks, Ranks, Shelved, SolveFault, WordStart, solve_by_words};
 use egt_index::size;
+use egt_words::CodeWords;
 use std::alloc::Global;
 
 /// The game over the numbers of a class whose children have their tables in the library, in which moves that stay in the class go on.
@@ -53,7 +54,7 @@ impl Shelved for MateCodes<'_> {
 
     fn mated(&self, i: u32) -> bool {
         laws();
-        is_mated(self.words.class, self.words.index_of(i))
+        is_mated(self.words.class, index_of_number(self.words, i))
     }
 
     /// Those of the index.

@@ -5,9 +5,9 @@ ghost use Rattle.egt_index.specs.Numbers.{places};
 ghost use Rattle.egt_index.specs.Size.{size_of};
 ghost use Rattle.egt_sweep.specs.ResultMarks.{AreOddAbove, AreResultMarks, IsOddAbove};
 
-use crate::code_words::{CodeWords, word_count};
 use egt_graph::number_at;
 use egt_index::last_digits;
+use egt_words::{CodeWords, word_count};
 use std::alloc::{AllocError, Global};
 
 /// The marks of a class's numbers, of all words.

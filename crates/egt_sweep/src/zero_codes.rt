@@ -8,12 +8,12 @@ ghost use Rattle.egt_entries.specs.declared.metric.Metric.TheVariants.{Mate, Zer
 ghost use Rattle.egt_index.specs.Numbers.{places};
 ghost use Rattle.egt_sweep.specs.ClassGame.{class_game};
 ghost use Rattle.egt_sweep.specs.CodeGame.{code_game_is_lawful};
-ghost use Rattle.egt_sweep.specs.CodeLists.{moves_told};
+ghost use Rattle.egt_words.specs.CodeLists.{moves_told};
 ghost use Rattle.egt_sweep.specs.CodeMates.{TellMates, game_by};
 ghost use Rattle.egt_sweep.specs.MateColumn.{IsMateColumn, mate_table};
 ghost use Rattle.egt_sweep.specs.ResultMarks.{AreResultMarks};
 
-use crate::code_words::CodeWords;
+use crate::code_index::index_of_number;
 use crate::kept::kept_entries;
 use crate::laws::{codes_stand_for_indexes, laws};
 use crate::mate_codes::CodeEntries;
@@ -25,6 +25,7 @@ use egt_check::Library;
 use egt_graph::laws::stand_ins_tell_ranks;
 use egt_graph::{Exit, Ranks, Shelved, SolveFault, WordStart, solve_by_words};
 use egt_index::size;
+use egt_words::CodeWords;
 use std::alloc::{AllocError, Global};
 
 /// The game of zeroing moves over the numbers of a class whose game of mates is solved. All exits are told by the marks of that game's exits and by its
@@ -85,7 +86,7 @@ impl Shelved for ZeroCodes<'_> {
 
     fn mated(&self, i: u32) -> bool {
         laws();
-        is_mated(self.words.class, self.words.index_of(i))
+        is_mated(self.words.class, index_of_number(self.words, i))
     }
 
     /// Those of the index. A run does not ask, since all exits are told by words.
@@ -93,7 +94,7 @@ impl Shelved for ZeroCodes<'_> {
         laws();
         let class = self.words.class;
         let _number = class.number();
-        let index = self.words.index_of(i);
+        let index = index_of_number(self.words, i);
         let objective = Objective::Zeroing(self.mates);
         list_exits(&objective, class, self.library, index, exits);
     }

@@ -17,3 +17,11 @@ pub mod Kept
 pub mod Telling
 pub mod Nodes
 pub mod Spreading
+pub mod Attacking
+pub mod Comes
+pub mod CodeTests
+pub mod Fitting
+pub mod CodeLists
+pub mod CodeSources
+pub mod SoFar
+pub mod Remaining

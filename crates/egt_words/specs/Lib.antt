@@ -4,3 +4,7 @@ pub mod Steps
 pub mod Pushing
 pub mod Staying
 pub mod Fan
+pub mod Roaming
+pub mod CodeTests
+pub mod CodeLists
+pub mod CodeSources

@@ -5,12 +5,12 @@ use Rattle.egt_graph.specs.Words.{number_at, words_of}
 use Rattle.egt_index.specs.Index.{IsVoid}
 use Rattle.egt_index.specs.Numbers.{code_of, places}
 use Rattle.egt_index.specs.Size.{size_of}
-use Rattle.egt_sweep.proofs.CodeLists.{indexes_told}
+use Rattle.egt_words.proofs.CodeLists.{indexes_told}
 use Rattle.egt_sweep.proofs.KeptEntries.{all_in, index_back, nothing_in, number_in, one_more}
-use Rattle.egt_sweep.proofs.Remaining.{had_before}
-use Rattle.egt_sweep.specs.CodeLists.{indexes_at}
+use Rattle.egt_words.proofs.Remaining.{had_before}
+use Rattle.egt_words.specs.CodeLists.{indexes_at}
 use Rattle.egt_sweep.specs.Laws.{Laws}
-use Rattle.egt_sweep.specs.declared.code_words.CodeWords.{CodeWords}
+use Rattle.egt_words.specs.declared.code_words.CodeWords.{CodeWords}
 use Rattle.egt_sweep.proofs.kept.keep_word.Goals as goal
 
 pub loop-place-init : goal.loop-place-init

@@ -1,6 +1,6 @@
 use Rattle.std.proofs.Common.{◌≡◌, ℕ}
 use Rattle.std.specs.Int.{bit_at}
-use Rattle.egt_sweep.specs.CodeLists.{indexes_at}
+use Rattle.egt_words.specs.CodeLists.{indexes_at}
 use Rattle.egt_sweep.proofs.KeptEntries.{AreKeptIn}
 use Rattle.egt_sweep.proofs.kept.keep_word.Given as goal
 

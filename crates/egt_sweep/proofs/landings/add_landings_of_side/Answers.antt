@@ -12,7 +12,7 @@ use Rattle.egt_sweep.specs.Landings.{landing_of}
 use Rattle.egt_sweep.specs.Nodes.{told_by}
 use Rattle.egt_sweep.proofs.OutOfClass.{nothing_told}
 use Rattle.egt_sweep.proofs.Onward.{not_held}
-use Rattle.egt_sweep.proofs.Remaining.{had_before}
+use Rattle.egt_words.proofs.Remaining.{had_before}
 use Rattle.egt_sweep.proofs.Walked.{walked_none, walked_more, walked_whole, from_none, all_told}
 use Rattle.egt_sweep.proofs.landings.add_landings_of_side.Goals as goal
 

@@ -6,7 +6,7 @@ use Rattle.egt_sweep.specs.Landings.{landing_of}
 use Rattle.egt_sweep.specs.Nodes.{told_by}
 use Rattle.egt_sweep.proofs.Walked.{walked_none, walked_more, walked_all, between_none, from_told, room_step}
 use Rattle.egt_sweep.proofs.OutOfClass.{nothing_told}
-use Rattle.egt_sweep.proofs.Remaining.{had_before}
+use Rattle.egt_words.proofs.Remaining.{had_before}
 use Rattle.egt_sweep.proofs.leaving.add_landings.Goals as goal
 
 pub loop-to-init : goal.loop-to-init

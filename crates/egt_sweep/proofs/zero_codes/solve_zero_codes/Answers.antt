@@ -8,7 +8,7 @@ use Rattle.egt_entries.specs.declared.metric.Metric.TheVariants.{Zeroing}
 use Rattle.egt_sweep.specs.ClassGame.{class_game}
 use Rattle.egt_sweep.specs.CodeMates.{AreOfIndexes, game_by}
 use Rattle.egt_sweep.specs.MateColumn.{mate_table}
-use Rattle.egt_sweep.specs.declared.code_words.CodeWords.{CodeWords}
+use Rattle.egt_words.specs.declared.code_words.CodeWords.{CodeWords}
 use Rattle.egt_sweep.proofs.CodeRanks.{ranks_kept, same_fault, too_deep_too}
 use Rattle.egt_sweep.proofs.zero_codes.solve_zero_codes.Goals as goal
 

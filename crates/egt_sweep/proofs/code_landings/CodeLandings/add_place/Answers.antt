@@ -9,11 +9,11 @@ use Rattle.egt_index.specs.Numbers.{places}
 use Rattle.egt_index.specs.Size.{size_of}
 use Rattle.egt_sweep.specs.CodeGame.{index_of, numbered}
 use Rattle.egt_sweep.specs.CodeLandings.{HoldsUpTo, IsLonger}
-use Rattle.egt_sweep.specs.CodeLists.{nodes_at}
+use Rattle.egt_words.specs.CodeLists.{nodes_at}
 use Rattle.egt_sweep.specs.CodeMates.{game_by}
 use Rattle.egt_sweep.specs.Landings.{landings_at}
 use Rattle.egt_sweep.specs.Laws.{Laws}
-use Rattle.egt_sweep.specs.declared.code_words.CodeWords.{CodeWords}
+use Rattle.egt_words.specs.declared.code_words.CodeWords.{CodeWords}
 use Rattle.egt_sweep.proofs.CodeGames.{code_nodes}
 use Rattle.egt_sweep.proofs.CodeLandings.{place_passed, place_told}
 use Rattle.egt_sweep.proofs.code_landings.CodeLandings.add_place.Goals as goal

@@ -10,12 +10,12 @@ use Rattle.egt_index.specs.Numbers.{places}
 use Rattle.egt_index.specs.Size.{size_of}
 use Rattle.egt_sweep.specs.CodeGame.{index_of, numbered}
 use Rattle.egt_sweep.specs.CodeLandings.{AreLandings, HoldsList, list_of, rank}
-use Rattle.egt_sweep.specs.CodeLists.{leaving_at, nodes_at, staying_at}
+use Rattle.egt_words.specs.CodeLists.{leaving_at, nodes_at, staying_at}
 use Rattle.egt_sweep.specs.CodeMates.{game_by}
 use Rattle.egt_sweep.specs.Landings.{landings_at}
 use Rattle.egt_sweep.specs.Laws.{Laws}
 use Rattle.egt_sweep.specs.declared.code_landings.CodeLandings.{CodeLandings}
-use Rattle.egt_sweep.specs.declared.code_words.CodeWords.{CodeWords}
+use Rattle.egt_words.specs.declared.code_words.CodeWords.{CodeWords}
 use Rattle.egt_sweep.proofs.CodeGames.{code_nodes, staying_landings}
 use Rattle.egt_sweep.proofs.CodeLandings.{number_held, word_small}
 use Rattle.egt_sweep.proofs.Numbered.{node_told, number_below}

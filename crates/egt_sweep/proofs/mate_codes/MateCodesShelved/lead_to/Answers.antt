@@ -1,7 +1,7 @@
 use Rattle.egt_entries.specs.Tables.{table_at}
 use Rattle.egt_entries.specs.declared.metric.Metric.TheVariants.{Mate}
 use Rattle.egt_sweep.proofs.CodeGames.{codes_lead_by}
-use Rattle.egt_sweep.proofs.CodeLists.{codes_fit}
+use Rattle.egt_words.proofs.CodeLists.{codes_fit}
 use Rattle.egt_sweep.specs.Objective.{known}
 use Rattle.egt_sweep.proofs.mate_codes.MateCodesShelved.lead_to.Goals as goal
 

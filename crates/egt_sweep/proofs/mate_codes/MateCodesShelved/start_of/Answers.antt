@@ -2,7 +2,7 @@ use Rattle.std.proofs.Common.{ℕ, sym, subst}
 use Rattle.egt_entries.specs.Tables.{table_at}
 use Rattle.egt_graph.specs.Words.{IsWordStart}
 use Rattle.egt_sweep.specs.CodeMates.{game_by}
-use Rattle.egt_sweep.specs.CodeLists.{nodes_at}
+use Rattle.egt_words.specs.CodeLists.{nodes_at}
 use Rattle.egt_entries.specs.declared.metric.Metric.TheVariants.{Mate}
 use Rattle.egt_index.specs.Numbers.{places}
 use Rattle.egt_sweep.proofs.CodeGames.{mate_codes_begin}

@@ -1,7 +1,7 @@
 use Rattle.std.proofs.Common.{length}
 use Rattle.egt_entries.specs.Tables.{table_at}
 use Rattle.egt_entries.specs.declared.metric.Metric.TheVariants.{Mate}
-use Rattle.egt_sweep.proofs.CodeSources.{codes_touch}
+use Rattle.egt_sweep.proofs.TouchedEdges.{codes_touch}
 use Rattle.egt_sweep.specs.Objective.{known}
 use Rattle.egt_sweep.proofs.mate_codes.MateCodesShelved.touch.Goals as goal
 

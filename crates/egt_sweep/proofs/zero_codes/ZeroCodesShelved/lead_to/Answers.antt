@@ -2,7 +2,7 @@ use Rattle.egt_entries.specs.Tables.{beside, table_at}
 use Rattle.egt_entries.specs.declared.metric.Metric.TheVariants.{Zeroing}
 use Rattle.egt_sweep.specs.MateColumn.{mate_table}
 use Rattle.egt_sweep.proofs.CodeGames.{codes_lead_by}
-use Rattle.egt_sweep.proofs.CodeLists.{codes_fit}
+use Rattle.egt_words.proofs.CodeLists.{codes_fit}
 use Rattle.egt_sweep.proofs.zero_codes.ZeroCodesShelved.lead_to.Goals as goal
 
 pub lead-requires-clause-fits : goal.lead-requires-clause-fits

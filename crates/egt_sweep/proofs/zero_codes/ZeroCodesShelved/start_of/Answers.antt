@@ -6,7 +6,7 @@ use Rattle.egt_graph.specs.Words.{IsWordOf}
 use Rattle.egt_sweep.specs.CodeMates.{game_by}
 use Rattle.egt_entries.specs.declared.metric.Metric.TheVariants.{Mate}
 use Rattle.egt_index.specs.Numbers.{places}
-use Rattle.egt_sweep.proofs.CodeLists.{codes_fit}
+use Rattle.egt_words.proofs.CodeLists.{codes_fit}
 use Rattle.egt_sweep.proofs.ZeroCodes.{nodes_marked, nodes_within, pawns_led, zero_codes_begin}
 use Rattle.egt_sweep.proofs.zero_codes.ZeroCodesShelved.start_of.Goals as goal
 

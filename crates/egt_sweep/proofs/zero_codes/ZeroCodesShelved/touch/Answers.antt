@@ -2,7 +2,7 @@ use Rattle.std.proofs.Common.{length}
 use Rattle.egt_entries.specs.Tables.{beside, table_at}
 use Rattle.egt_entries.specs.declared.metric.Metric.TheVariants.{Zeroing}
 use Rattle.egt_sweep.specs.MateColumn.{mate_table}
-use Rattle.egt_sweep.proofs.CodeSources.{codes_touch}
+use Rattle.egt_sweep.proofs.TouchedEdges.{codes_touch}
 use Rattle.egt_sweep.proofs.zero_codes.ZeroCodesShelved.touch.Goals as goal
 
 pub returns-clause-touched : goal.returns-clause-touched
