@@ -3,8 +3,6 @@ use Rattle.std.proofs.Common.{◌≡◌, ◌≢◌, ℕ, ◌%◌, ◌<◌, ◌�
 use Rattle.std.proofs.lemmas.Bool.{cases_eq}
 use Rattle.egt_board.specs.Settled.{IsSettled}
 use Rattle.egt_board.specs.Setup.{Setup, IsAdmissible}
-use Rattle.egt_board.specs.declared.man.Kind.{Kind}
-use Rattle.egt_board.specs.declared.man.Kind.TheVariants.{Q, R, B, N, P, K}
 use Rattle.egt_board.specs.declared.man.Side.{Side}
 use Rattle.egt_index.specs.Code.{Spells}
 use Rattle.egt_index.specs.Index.{IsIndex, IsVoid}
@@ -12,7 +10,6 @@ use Rattle.egt_index.specs.Size.{size_of}
 use Rattle.egt_index.specs.TellsMen.{TellsMen}
 use Rattle.egt_index.specs.Stood.{HasStand}
 use Rattle.egt_index.specs.declared.shelf_codes.ShelfMen.{ShelfMen}
-use Rattle.egt_lanes.specs.Pieces.{IsPiece}
 use Rattle.egt_lanes.specs.Scores.{byte_score, due_score}
 use Rattle.egt_moves.specs.Arena.{NoMove}
 use Rattle.egt_moves.specs.Chess.{chess}
@@ -30,14 +27,6 @@ use Rattle.egt_check.specs.Worth.{score_at}
 use Rattle.egt_check.specs.declared.move_scores.FourMen.{FourMen}
 use Rattle.egt_check.proofs.FirstRule.{void_judged}
 use Rattle.egt_check.proofs.QuietGiven.{low_score}
-
-pub no_pawn : (kind : Kind) → IsPiece kind → kind ≢ P
-no_pawn P piece e = piece
-no_pawn Q piece e = cc
-no_pawn R piece e = cc
-no_pawn B piece e = cc
-no_pawn N piece e = cc
-no_pawn K piece e = piece
 
 -- what other laws say of this position
 pub record Says (tables : Tables) (four : FourMen) (men : ShelfMen) (side : Side) (passed : Bool) (a b : ℕ) : Type 0 where

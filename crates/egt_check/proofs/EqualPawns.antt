@@ -15,10 +15,10 @@ use Rattle.egt_table.specs.declared.column.Column.{Column}
 use Rattle.egt_steps.specs.InPassing.{AreLeapCodes, AreStepCodes}
 use Rattle.egt_steps.specs.PawnMoves.{stand_after}
 use Rattle.egt_check.specs.PawnScores.{ArePawnScores, IsRaisedByPawn}
-use Rattle.egt_check.specs.Taken.{men_swapped}
+use Rattle.egt_blocks.specs.Taken.{men_swapped}
 use Rattle.egt_check.specs.Worth.{column_score}
 use Rattle.egt_check.specs.declared.pawn_scores.Promotions.{Promotions}
-use Rattle.egt_check.proofs.BlockRaising.{raised_alike}
+use Rattle.egt_blocks.proofs.BlockRaising.{raised_alike}
 
 -- equal men are told in either order
 other_order : (passed : Bool) (c code : ℕ) (flips : Bool) (stand : Stand) (side : Side) → has_equal_sides c ≡ false → men_among (option_to_list stand.next) ≡ men_among (option_to_list stand.last)

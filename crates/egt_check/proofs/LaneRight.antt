@@ -19,7 +19,7 @@ use Rattle.egt_check.specs.Parts.{column_of}
 use Rattle.egt_check.specs.RightBlock.{IsRightLane}
 use Rattle.egt_check.specs.RightRow.{IsRightAtOf}
 use Rattle.egt_check.specs.Worth.{column_score}
-use Rattle.egt_check.proofs.RowRead.{side_few}
+use Rattle.egt_blocks.proofs.ShelfRead.{side_few}
 
 -- a code of a shelf within is below the size
 row_below : (kind : Kind) (shelf first digit size : ℕ) → first < 2 → digit < kind_digits kind → (shelf + 1) * (2 * kind_digits kind) ≤ size → shelf * (2 * kind_digits kind) + first + 2 * digit < size

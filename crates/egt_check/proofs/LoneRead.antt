@@ -1,32 +1,26 @@
 -- The entries of a class with one man beside the kings, read by his square.
-use Rattle.std.proofs.Common.{◌≡◌, ℕ, ◌+◌, ◌-◌, ◌*◌, ◌%◌, ◌<◌, ◌≤◌, ◌⊎◌, ◌&&◌, Bool, true, false, not, eqb, length, List, ◌∷◌, take, drop, arith, refl, sym, ap, ◌∙◌, inl, inr, subst}
+use Rattle.std.proofs.Common.{◌≡◌, ℕ, ◌+◌, ◌-◌, ◌*◌, ◌%◌, ◌<◌, ◌≤◌, ◌⊎◌, Bool, true, false, List, take, drop, arith, refl, ap, ◌∙◌, inl, inr, subst}
 use Rattle.std.specs.Prelude.{slice_index}
-use Rattle.std.proofs.lemmas.Bool.{cases_lt, false≢true}
+use Rattle.std.proofs.lemmas.Bool.{cases_lt}
 use Rattle.egt_board.specs.Images.{side_number}
 use Rattle.egt_board.specs.Pawn.{MayStand}
 use Rattle.egt_board.specs.declared.man.Kind.TheVariants.{P}
 use Rattle.egt_board.specs.declared.man.Man.{Man}
 use Rattle.egt_board.specs.declared.man.Side.{Side}
 use Rattle.egt_board.specs.declared.man.Side.TheVariants.{White, Black}
-use Rattle.egt_class.specs.Below.{all_below, passes_below}
-use Rattle.egt_class.specs.Material.{has_equal_sides, material_of, materials}
-use Rattle.egt_index.specs.LoneCodes.{IsLoneMan, IsLoneRow, lone_stand}
+use Rattle.egt_index.specs.LoneCodes.{IsLoneRow, lone_stand}
 use Rattle.egt_index.specs.Scales.{kind_digits, kind_less}
-use Rattle.egt_index.specs.Size.{men_beside}
 use Rattle.egt_index.specs.Spelled.{IsListed}
 use Rattle.egt_index.specs.TellsMen.{TellsMen}
 use Rattle.egt_index.specs.Stood.{list_of}
-use Rattle.egt_index.specs.TurnedMen.{IsSomeTurnedCode}
 use Rattle.egt_index.specs.declared.stand.Stand.{Stand}
 use Rattle.egt_lanes.specs.Raised.{IsRaised}
 use Rattle.egt_check.proofs.RowRead.{no_score}
 use Rattle.egt_moves.specs.Promotion.{is_pawn}
 use Rattle.egt_table.specs.Table.{TableValue, entries_of}
 use Rattle.egt_table.specs.declared.column.Column.{Column}
-use Rattle.egt_check.specs.Blocks.{IsCodeAfter, IsHomeCode, IsRaisedHome}
-use Rattle.egt_check.specs.Worth.{IsRead, column_score, entry_score}
-use Rattle.egt_check.proofs.BlockRaising.{raised_alike}
-use Rattle.egt_check.proofs.RowRead.{pawn_digits, piece_at, piece_digits}
+use Rattle.egt_check.specs.Worth.{column_score, entry_score}
+use Rattle.egt_blocks.proofs.ShelfRead.{pawn_digits, piece_at, piece_digits}
 
 side_few : (side : Side) → side_number side < 2
 side_few White = omega arith
@@ -91,40 +85,3 @@ module _ (t : TableValue) (column : Column) (man : Man) (white black first : ℕ
       where
         digits : (man.kind ≡ P) × (kind_digits man.kind ≡ 48) × (kind_less man.kind ≡ 8)
         digits = pawn_digits man.kind kind
-
--- ---- all codes of the men
-
--- one man beside the kings is of one side
-differs : ℕ → Bool
-differs c = not (eqb (length (men_beside (material_of c))) 1 && has_equal_sides c)
-
-all_differ : all_below differs 36 ≡ true
-unfolding all_below differs has_equal_sides material_of materials
-all_differ = refl
-
-tails : {a b : Man} {x y : List Man} → a ∷ x ≡ b ∷ y → x ≡ y
-tails e = cc
-
-pub not_equal_sides : (c : ℕ) (man : Man) → c < 36 → IsLoneMan c man → has_equal_sides c ≡ true → ⊥
-unfolding differs
-not_equal_sides c man c_in is equal =
-    let few : length (men_beside (material_of c)) ≡ 1 = ap length (sym (tails (tails is.are))) in
-    false≢true (sym (ap (λ n. not (eqb n 1 && has_equal_sides c)) few ∙ ap not equal) ∙ passes_below differs 36 c all_differ c_in)
-
-module _ (t : TableValue) (column : Column) (man : Man) (white black : ℕ) (flips : Bool) (side : Side) (c_in : t.class < 36) (is : IsLoneMan t.class man) (s : ℕ) where
-  -- only by turns that exchange colours so
-  pub some_home : (code : ℕ) → IsSomeTurnedCode t.class code flips (lone_stand white black man s) side → IsHomeCode false t.class code flips (lone_stand white black man s) side
-  some_home code some = elim some.seen [
-    | inl own ↦ elim own.1 [
-      | inl same ↦ (some.turn, record { below = some.is.below; flips_is = own.0; keeps = some.is.keeps }, subst (λ (s : Stand). IsCodeAfter false t.class some.turn code s side) same some.is.tells)
-      | inr other ↦ absurd (let none = other.1 in cc)
-    ]
-    | inr across ↦ absurd (not_equal_sides t.class man c_in is across.0)
-  ]
-
-  home_some : (code : ℕ) → IsHomeCode false t.class code flips (lone_stand white black man s) side → IsSomeTurnedCode t.class code flips (lone_stand white black man s) side
-  home_some code h = record { turn = h.0; after = lone_stand white black man s; seen = inl (h.1.flips_is, inl refl); is = record { below = h.1.below; keeps = h.1.keeps; tells = h.2 } }
-
-  pub lone_read : (v w : ℕ) → w ≡ 0 → IsRaisedHome false t column flips (lone_stand white black man s) side w v → IsRead t column flips (lone_stand white black man s) side v
-  lone_read v w none raised = raised_alike 0 v (λ code. IsHomeCode false t.class code flips (lone_stand white black man s) side) (λ code. IsSomeTurnedCode t.class code flips (lone_stand white black man s) side) (column_score t column)
-      (subst (λ low. IsRaisedHome false t column flips (lone_stand white black man s) side low v) none raised) some_home home_some

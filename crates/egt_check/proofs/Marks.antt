@@ -18,7 +18,7 @@ use Rattle.egt_check.specs.Voids.{AreAllAlike, TellsVoid, TellsVoids, TellsVoids
 use Rattle.egt_check.specs.Worth.{score_at}
 use Rattle.egt_check.proofs.AllJudged.{some_score}
 use Rattle.egt_check.proofs.QuietGiven.{low_score}
-use Rattle.egt_check.proofs.RowRead.{side_few}
+use Rattle.egt_blocks.proofs.ShelfRead.{side_few}
 use Rattle.egt_check.proofs.ToldBytes.{alike_there}
 use Rattle.egt_check.proofs.Worth.{zero_score}
 

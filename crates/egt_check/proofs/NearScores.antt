@@ -19,7 +19,7 @@ use Rattle.egt_check.specs.Parts.{four_in, promotion_in, promotions_in, some_pro
 use Rattle.egt_check.specs.PawnScores.{ArePawnScores, HasPromotion, HasPromotions, IsPromotionScore, IsRaisedByPawn}
 use Rattle.egt_check.specs.ReachScores.{AreAllReachScores, AreReachScores}
 use Rattle.egt_entries.specs.Tables.{Tables}
-use Rattle.egt_check.specs.Taken.{men_swapped}
+use Rattle.egt_blocks.specs.Taken.{men_swapped}
 use Rattle.egt_check.specs.Worth.{HasBytes, column_score, score_at}
 use Rattle.egt_check.proofs.NearReading.{near, near_scores}
 

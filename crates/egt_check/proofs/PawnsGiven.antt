@@ -25,7 +25,8 @@ use Rattle.egt_steps.specs.Stands.{stand_on}
 use Rattle.egt_check.specs.Given.{AreGiven}
 use Rattle.egt_steps.specs.InPassing.{AreLeapCodes, ArePassingCodes, AreStepCodes, IsOfFourKinds, IsPassingFrom}
 use Rattle.egt_steps.specs.PawnMoves.{AreAdvancedCodes, ArePromotedCodes, IsAdvanceFrom, IsPromotingCaptureFrom, officer_of}
-use Rattle.egt_check.specs.Taken.{IsTableAfter, IsTableOf, men_swapped}
+use Rattle.egt_check.specs.Taken.{IsTableAfter, IsTableOf}
+use Rattle.egt_blocks.specs.Taken.{men_swapped}
 use Rattle.egt_check.specs.PawnScores.{ArePawnScores, AreRaisedByPawns, HasPromotion, HasPromotions, IsPromotionScore, IsRaisedByPawn}
 use Rattle.egt_entries.specs.Tables.{Tables}
 use Rattle.egt_steps.specs.Takings.{IsPlainCapture}

@@ -14,12 +14,13 @@ use Rattle.egt_index.specs.declared.shelf_codes.ShelfMen.{ShelfMen}
 use Rattle.egt_moves.specs.Promotion.{arriving}
 use Rattle.egt_table.specs.Table.{HasColumn, TableValue}
 use Rattle.egt_table.specs.declared.column.Column.{Column}
-use Rattle.egt_check.specs.Blocks.{with_kings}
+use Rattle.egt_blocks.specs.Blocks.{with_kings}
 use Rattle.egt_check.specs.MoveScores.{AreFourMen, AreTablesOf}
 use Rattle.egt_entries.specs.Library.{IsShelved}
 use Rattle.egt_check.specs.Parts.{column_of, promotions_in, some_promotions_in, table_in, tables_in}
 use Rattle.egt_steps.specs.PawnMoves.{IsClassAfter, men_after}
-use Rattle.egt_check.specs.Taken.{IsTableAfter, men_swapped}
+use Rattle.egt_check.specs.Taken.{IsTableAfter}
+use Rattle.egt_blocks.specs.Taken.{men_swapped}
 use Rattle.egt_check.specs.PawnScores.{AreNamed, ArePromotionsOf, HasPromotion, HasPromotions, IsPromotionOf}
 use Rattle.egt_entries.specs.Tables.{Tables, beside}
 use Rattle.egt_check.specs.Worth.{HasBytes}

@@ -12,7 +12,7 @@ use Rattle.egt_entries.specs.declared.reject.Reject.TheVariants.{Missing, NoReac
 use Rattle.egt_entries.specs.Library.{IsLibrary, IsRefused, IsShelved, IsTurnedAway, ReachesDown}
 use Rattle.egt_entries.specs.Tables.{Tables, table_at, beside, HasChildren}
 use Rattle.egt_entries.specs.Truth.{IsTrueTable, HasTrueChildren}
-use Rattle.egt_check.proofs.Finding.{lower, beside_own, beside_other, beside_some}
+use Rattle.egt_check.proofs.Finding.{lower, beside_own, beside_other}
 
 abbrev pub Places : Type 0
 Places = List (Option TableValue)
@@ -34,11 +34,17 @@ set_beside places t inside c = elim (eqb_tells c t.class) [
   | inr other ↦ get_or-set_other places t.class c (Some t) None other.1 ∙ sym (beside_other (table_at places) t c other.0)
 ]
 
--- a shelf stays one where no table goes
-shelved_there : (tables more : Tables) (c : ℕ) (t : TableValue) → ((d : ℕ) → IsSome (tables d) → IsSome (more d)) → IsShelved tables c t → IsShelved more c t
-shelved_there tables more c t stays h = record { class = h.class; table = h.table; true = h.true; children = λ d child. stays d (h.children d child) }
+-- a shelf stays one where no table changes
+shelved_there : (tables more : Tables) (c : ℕ) (t : TableValue) → ((d : ℕ) → IsSome (tables d) → more d ≡ tables d) → IsShelved tables c t → IsShelved more c t
+shelved_there tables more c t stays h = record {
+  class = h.class;
+  table = h.table;
+  true = h.true;
+  children = λ d child. let there = h.children d child in subst IsSome (sym (stays d there)) there;
+  down = λ has d child. subst (λ o. IfSome o (λ u. IsSome u.reach)) (sym (stays d (h.children d (subst (λ k. Contains (children_of k) d) h.class child)))) (h.down has d child);
+}
 
-if_shelved_there : (tables more : Tables) (c : ℕ) (o : Option TableValue) → ((d : ℕ) → IsSome (tables d) → IsSome (more d)) → IfSome o (IsShelved tables c) → IfSome o (IsShelved more c)
+if_shelved_there : (tables more : Tables) (c : ℕ) (o : Option TableValue) → ((d : ℕ) → IsSome (tables d) → more d ≡ tables d) → IfSome o (IsShelved tables c) → IfSome o (IsShelved more c)
 if_shelved_there tables more c (Some t) stays h = shelved_there tables more c t stays h
 if_shelved_there tables more c None stays h = tt
 
@@ -68,21 +74,25 @@ module _ (lower_child : (c d : ℕ) → c < 36 → Contains (children_of c) d �
   more = table_at (set places t.class (Some t))
 
   -- with an accepted table more it is a library again
-  pub one_more : IsTrueTable t → HasChildren (table_at places) t.class → IsLibrary (set places t.class (Some t))
-  one_more holds children = record { one_a_class = length-set places t.class (Some t) ∙ library.one_a_class; shelved = shelved }
+  pub one_more : table_at places t.class ≡ None → IsTrueTable t → HasChildren (table_at places) t.class → ReachesDown (table_at places) t → IsLibrary (set places t.class (Some t))
+  one_more free holds children down = record { one_a_class = length-set places t.class (Some t) ∙ library.one_a_class; shelved = shelved }
     where
       inside : t.class < length places
       inside = subst (λ n. t.class < n) (sym library.one_a_class) table.class_in
 
-      stays : (d : ℕ) → IsSome (table_at places d) → IsSome (more d)
-      stays d there = subst IsSome (sym (set_beside places t inside d)) (beside_some (table_at places) t d there)
+      stays : (d : ℕ) → IsSome (table_at places d) → more d ≡ table_at places d
+      stays d there = elim (eqb_tells d t.class) [
+        | inl own ↦ absurd (false≢true (subst IsSome (ap (table_at places) own.1 ∙ free) there))
+        | inr other ↦ set_beside places t inside d ∙ beside_other (table_at places) t d other.0
+      ]
 
       own : (c : ℕ) → c ≡ t.class → IsShelved more c t
       own c e = record {
         class = sym e;
         table = table;
         true = holds;
-        children = subst (HasChildren more) (sym e) (λ d child. stays d (children d child));
+        children = subst (HasChildren more) (sym e) (λ d child. let there = children d child in subst IsSome (sym (stays d there)) there);
+        down = λ has d child. subst (λ o. IfSome o (λ u. IsSome u.reach)) (sym (stays d (children d child))) (down has d child);
       }
 
       shelved : (c : ℕ) → c < 36 → IfSome (more c) (IsShelved more c)

@@ -21,7 +21,8 @@ use Rattle.egt_entries.specs.declared.metric.Metric.TheVariants.{Mate}
 use Rattle.egt_steps.specs.Stands.{IsBesideKing, stand_on, with_king}
 use Rattle.egt_steps.specs.Facts.{Facts}
 use Rattle.egt_check.specs.Given.{AreGiven}
-use Rattle.egt_check.specs.Taken.{AreLeftCodes, IsLastTaken, IsTableOf, men_swapped}
+use Rattle.egt_check.specs.Taken.{IsTableOf}
+use Rattle.egt_blocks.specs.Taken.{AreLeftCodes, IsLastTaken, men_swapped}
 use Rattle.egt_steps.specs.Takings.{IsClassOf, IsPlainCapture, IsTaken, Left, left_of, stand_left}
 use Rattle.egt_entries.specs.Tables.{Tables}
 use Rattle.egt_check.specs.Worth.{score_at}

@@ -12,7 +12,8 @@ use Rattle.egt_check.specs.declared.part.Part.{Part}
 use Rattle.egt_check.specs.declared.part.Part.TheVariants.{Values, Reach}
 use Rattle.egt_check.specs.Parts.{column_of, table_in}
 use Rattle.egt_entries.specs.Tables.{reach_at}
-use Rattle.egt_check.specs.Worth.{HasBytes, ScoresNoVoids}
+use Rattle.egt_check.specs.Worth.{HasBytes, column_score}
+use Rattle.egt_blocks.specs.Scored.{ScoresNoVoids}
 use Rattle.egt_check.proofs.NearReading.{near, near_at}
 use Rattle.egt_check.proofs.Worth.{void_score}
 
@@ -24,11 +25,11 @@ void_reach t is there bytes code void = elim (cases_lt code (size_of t.class)) [
 ]
 
 -- in the column of moves that zero too
-pub part_voids : (part : Part) (t : TableValue) → IsTable t → HasColumn (column_of part) t → HasBytes (table_in part t) → ScoresNoVoids t (column_of part)
+pub part_voids : (part : Part) (t : TableValue) → IsTable t → HasColumn (column_of part) t → HasBytes (table_in part t) → ScoresNoVoids t.class (column_score t (column_of part))
 part_voids Values t is there bytes code void = void_score t Mate is bytes code void
 part_voids Reach t is there bytes code void = ap (λ e. reach_score (e % 256)) (void_reach t is there bytes code void)
 
 -- in the zeroing column beside the mate column
-pub part_zeroing_voids : (part : Part) (t : TableValue) → IsTable t → HasBytes (table_in part t) → column_of part ≡ columns.Mate → ScoresNoVoids t columns.Zeroing
+pub part_zeroing_voids : (part : Part) (t : TableValue) → IsTable t → HasBytes (table_in part t) → column_of part ≡ columns.Mate → ScoresNoVoids t.class (column_score t columns.Zeroing)
 part_zeroing_voids Values t is bytes same code void = void_score t Zeroing is bytes code void
 part_zeroing_voids Reach t is bytes same code void = absurd cc

@@ -1,10 +1,7 @@
 pub mod Alike
 pub mod Reading
-pub mod Kept
 pub mod Voids
 pub mod Worth
-pub mod Blocks
-pub mod QuietSteps
 pub mod Given
 pub mod Taken
 pub mod RightRow
@@ -13,9 +10,6 @@ pub mod RightBlock
 pub mod Blank
 pub mod PairOrder
 pub mod PawnScores
-pub mod ShelfRow
-pub mod Leaps
-pub mod PassedRows
 pub mod Place
 pub mod Parts
 pub mod ReachScores

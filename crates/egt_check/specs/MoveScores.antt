@@ -17,16 +17,18 @@ use Rattle.egt_steps.specs.PawnMoves.{IsClassOfTwo}
 use Rattle.egt_check.specs.PawnScores.{ArePromotionsOf, AreRaisedByPawns, HasPromotions}
 use Rattle.egt_steps.specs.QuietStands.{AreQuietCodes}
 use Rattle.egt_entries.specs.Tables.{Tables}
-use Rattle.egt_check.specs.Taken.{AreLeftCodes, IsTableOf, men_swapped}
-use Rattle.egt_check.specs.Worth.{HasBytes, ScoresNoVoids, column_score, score_at}
+use Rattle.egt_check.specs.Taken.{IsTableOf}
+use Rattle.egt_blocks.specs.Taken.{AreLeftCodes, men_swapped}
+use Rattle.egt_check.specs.Worth.{HasBytes, column_score, score_at}
+use Rattle.egt_blocks.specs.Scored.{ScoresNoVoids}
 use Rattle.egt_check.specs.declared.move_scores.FourMen.{FourMen}
 
 -- the class has these men beside its kings, the others are those that their moves lead to, and all have the column; its
 -- void codes score nothing there, nor in the zeroing column, which is judged with the mate column
 pub record AreFourMen (column : Column) (four : FourMen) (men : ShelfMen) : Type 0 where
   pub own_there : HasColumn column four.own.now
-  pub own_voids : ScoresNoVoids four.own.now column
-  pub zeroing_voids : column ≡ columns.Mate → ScoresNoVoids four.own.now columns.Zeroing
+  pub own_voids : ScoresNoVoids four.own.now.class (column_score four.own.now column)
+  pub zeroing_voids : column ≡ columns.Mate → ScoresNoVoids four.own.now.class (column_score four.own.now columns.Zeroing)
   pub first_there : HasColumn column four.first.now
   pub last_there : HasColumn column four.last.now
   pub men_of : AreMenOf four.own.now.class men

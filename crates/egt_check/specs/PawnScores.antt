@@ -13,9 +13,11 @@ use Rattle.egt_table.specs.Table.{HasColumn, TableValue}
 use Rattle.egt_table.specs.declared.column.Column.{Column}
 use Rattle.egt_steps.specs.InPassing.{AreLeapCodes, AreStepCodes}
 use Rattle.egt_steps.specs.PawnMoves.{AreAdvancedCodes, ArePromotedCodes, men_after, officer_of}
-use Rattle.egt_check.specs.Taken.{IsTableAfter, IsTableOf, men_swapped}
+use Rattle.egt_check.specs.Taken.{IsTableAfter, IsTableOf}
+use Rattle.egt_blocks.specs.Taken.{men_swapped}
 use Rattle.egt_entries.specs.Tables.{Tables}
-use Rattle.egt_check.specs.Worth.{ScoresNoVoids, column_score}
+use Rattle.egt_check.specs.Worth.{column_score}
+use Rattle.egt_blocks.specs.Scored.{ScoresNoVoids}
 use Rattle.egt_check.specs.declared.pawn_scores.Promotion.{Promotion}
 use Rattle.egt_check.specs.declared.pawn_scores.Promotions.{Promotions}
 
@@ -24,7 +26,7 @@ use Rattle.egt_check.specs.declared.pawn_scores.Promotions.{Promotions}
 pub record IsPromotionOf (column : Column) (promotion : Promotion) (men : ShelfMen) : Type 0 where
   pub officer : IsOfficer promotion.kind
   pub both_there : HasColumn column promotion.both.now
-  pub both_voids : ScoresNoVoids promotion.both.now column
+  pub both_voids : ScoresNoVoids promotion.both.now.class (column_score promotion.both.now column)
   pub alone_there : HasColumn column promotion.alone.now
   pub both : AreMenOf promotion.both.now.class (men_after promotion.before promotion.both_flips men (arriving men.last (Some promotion.kind)))
   pub alone : IsLoneMan promotion.alone.now.class (turned_man promotion.alone_flips (officer_of men.last.side promotion.kind))

@@ -5,9 +5,7 @@ use Rattle.egt_board.specs.declared.man.Side.{Side}
 use Rattle.egt_index.specs.Index.{IsIndex, IsVoid}
 use Rattle.egt_index.specs.Size.{size_of}
 use Rattle.egt_index.specs.Stood.{HasStand}
-use Rattle.egt_index.specs.TurnedMen.{IsSomeTurnedCodeWith}
 use Rattle.egt_index.specs.declared.stand.Stand.{Stand}
-use Rattle.egt_lanes.specs.Raised.{IsRaised}
 use Rattle.egt_lanes.specs.Scores.{byte_score, reach_score}
 use Rattle.egt_table.specs.Table.{TableValue, entries_of}
 use Rattle.egt_table.specs.declared.column.Column.{Column}
@@ -30,18 +28,6 @@ entry_score columns.Reach e = reach_score e
 -- the same at the code, by columns
 abbrev pub column_score : TableValue → Column → ℕ → ℕ
 column_score t column code = entry_score column (slice_index (entries_of column t) code % 256)
-
--- the codes of no position score nothing
-abbrev pub ScoresNoVoids : TableValue → Column → Type 0
-ScoresNoVoids t column = (code : ℕ) → IsVoid t.class code → column_score t column code ≡ 0
-
--- the greatest score of the codes that tell the men where turns take them, and a target where one was passed
-abbrev pub IsReadWith : Bool → TableValue → Column → Bool → Stand → Side → ℕ → Type 0
-IsReadWith passed t column flips stand side w = IsRaised 0 (λ code. IsSomeTurnedCodeWith passed t.class code flips stand side) (column_score t column) w
-
--- and no target
-abbrev pub IsRead : TableValue → Column → Bool → Stand → Side → ℕ → Type 0
-IsRead = IsReadWith false
 
 -- each void entry is 0, and each other one has a byte of its own, alike in both columns
 pub record HasBytes (t : TableValue) : Type 0 where

@@ -5,10 +5,10 @@ ghost use Rattle.egt_index.specs.ShelfCodes.{AreMenOf};
 ghost use Rattle.egt_table.specs.Table.{HasColumn};
 ghost use Rattle.egt_check.specs.Blank.{AreBlank};
 
-use crate::block_judging::men_on;
-use crate::blocks::begin_with;
-use crate::digits::{digits_of, first_square};
 use crate::voids::marks_of;
+use egt_blocks::blocks::begin_with;
+use egt_blocks::digits::{digits_of, first_square};
+use egt_blocks::men::men_on;
 use egt_board::{Side, Square};
 use egt_index::ShelfMen;
 use egt_index::laws::numbers_stand_for_codes;

@@ -7,39 +7,28 @@ ghost use Rattle.egt_index.specs.ShelfCodes.{AreMenOf, number_in};
 ghost use Rattle.egt_lanes.specs.Blocks.{at};
 ghost use Rattle.egt_table.specs.Table.{HasColumn};
 ghost use Rattle.egt_steps.specs.Stands.{men_on};
-ghost use Rattle.egt_check.specs.Kept.{AreKept};
+ghost use Rattle.egt_blocks.specs.Kept.{AreKept};
 ghost use Rattle.egt_check.specs.MoveScores.{AreFourMen, AreTablesOf};
 ghost use Rattle.egt_check.specs.Parts.{column_of, four_in, tables_in};
 ghost use Rattle.egt_check.specs.ReachScores.{AreAllScoresOf};
 ghost use Rattle.egt_check.specs.RightBlock.{AreJudged, IsRightLane};
 ghost use Rattle.egt_entries.specs.Tables.{Tables};
+ghost use Rattle.egt_check.specs.Worth.{column_score};
 
-use crate::blocks::{begin_with, nothing};
-use crate::digits::{digits_of, first_square};
-use crate::kept_blocks::{BlockKeys, KeptBlocks};
-use crate::laws::entries_due_to_all_moves_are_right;
 use crate::move_scores::{FourMen, move_scores, raise_passed};
 use crate::part::Part;
+use crate::part_laws::entries_due_to_all_moves_are_right;
 use crate::reach_scores::{raise_passed_reach, reach_scores};
 use crate::row_judging::row_is_right;
+use egt_blocks::blocks::{begin_with, nothing};
+use egt_blocks::digits::{digits_of, first_square};
+use egt_blocks::kept_blocks::{BlockKeys, KeptBlocks};
+use egt_blocks::men::men_on;
 use egt_board::{Side, Square};
 use egt_index::ShelfMen;
 use egt_index::laws::numbers_stand_for_codes;
 use egt_lanes::Block;
 use egt_table::Table;
-
-/// The men with the first one on the square.
-pub(crate) fn men_on(men: &ShelfMen, on: Square) -> ShelfMen
-    ensures { result ≡ men_on men.now on }
-{
-    ShelfMen {
-        white: men.white,
-        black: men.black,
-        one: men.one,
-        on,
-        last: men.last,
-    }
-}
 
 /// The greatest scores of all moves but captures in passing, in the part's column, and of `Values` in the zeroing
 /// column too. False where a table does not tell.
@@ -54,8 +43,8 @@ fn part_scores(
     zeroing: &mut Block,
 ) -> bool
     requires men { AreFourMen (column_of part) four.now men.now }
-    requires kept { AreKept four.now.own.now men.now (other_side side) keys.old blocks.old }
-    ensures kept { result ≡ true → AreKept four.now.own.now men.now (other_side side) keys.new blocks.new }
+    requires kept { AreKept four.now.own.now.class (column_score four.now.own.now) men.now (other_side side) keys.old blocks.old }
+    ensures kept { result ≡ true → AreKept four.now.own.now.class (column_score four.now.own.now) men.now (other_side side) keys.new blocks.new }
     ensures scores { result ≡ true → (a b : ℕ) → a < 64 → b < 64 → AreAllScoresOf part false four.now men.now side a b (at scores.new a b) (at zeroing.new a b) }
 {
     match part {
@@ -141,8 +130,8 @@ pub(crate) fn block_is_right(
 ) -> bool
     requires men { AreFourMen (column_of part) four.now men.now }
     requires room { first + half + 64 < 4294967296 }
-    requires kept { AreKept four.now.own.now men.now (other_side side) keys.old blocks.old }
-    ensures kept { result ≡ true → AreKept four.now.own.now men.now (other_side side) keys.new blocks.new }
+    requires kept { AreKept four.now.own.now.class (column_score four.now.own.now) men.now (other_side side) keys.old blocks.old }
+    ensures kept { result ≡ true → AreKept four.now.own.now.class (column_score four.now.own.now) men.now (other_side side) keys.new blocks.new }
     ensures judged { result ≡ true → (tables : Tables) → AreTablesOf (tables_in part tables) (four_in part four.now) men.now →
         AreJudged part tables four.now.own.now men.now first side × AreJudged part tables four.now.own.now men.now (first + half) side }
 {

@@ -20,7 +20,8 @@ ghost use Rattle.egt_entries.specs.Rules.{IsJudged};
 ghost use Rattle.egt_entries.specs.Score.{IsAtEnd};
 ghost use Rattle.egt_index.specs.Index.{IsVoid};
 ghost use Rattle.egt_lanes.specs.Scores.{byte_score, due_score, zeroing_score};
-ghost use Rattle.egt_check.specs.Taken.{AreLeftCodes, IsTableOf, men_swapped};
+ghost use Rattle.egt_check.specs.Taken.{IsTableOf};
+ghost use Rattle.egt_blocks.specs.Taken.{AreLeftCodes, men_swapped};
 ghost use Rattle.egt_check.specs.MoveScores.{AreAllScores, AreTablesOf};
 ghost use Rattle.egt_check.specs.Parts.{four_in, tables_in};
 ghost use Rattle.egt_check.specs.ReachScores.{AreAllScoresOf};
@@ -40,7 +41,6 @@ use crate::pawn_laws::{
     codes_after_advances_beside_pawns_give_them, codes_after_advances_give_the_advances,
     codes_after_captures_in_passing_give_them, codes_after_promoting_captures_give_them,
 };
-use crate::reach_laws::{all_reach_scores_give_all_moves, due_reaches_are_right};
 use egt_index::laws::{
     a_code_is_an_index_or_void, codes_spell_one_position, codes_tell_their_men,
     codes_tell_turned_men, numbers_stand_for_codes,
@@ -131,18 +131,4 @@ pub fn all_scores_give_all_moves()
     codes_after_captures_in_passing_give_them();
     pawns_moves_are_of_four_kinds();
     moves_of_either_kind_give_all();
-}
-
-/// Entries of a part that are due to the greatest scores of all moves keep the rules, whether or not their code is an index.
-pub fn entries_due_to_all_moves_are_right()
-    ensures { (part : Part) (tables : Tables) (four : FourMen) (men : ShelfMen) (side : Side) (passed : Bool) (a b i score zeroing : ℕ) → AreTablesOf (tables_in part tables) (four_in part four) men → men.one.kind ≢ K → men.last.kind ≢ K →
-        IsRightLane part passed four.own.now men side a b i score zeroing → AreAllScoresOf part passed four men side a b score zeroing → KeepsPart part tables four.own.now i }
-{
-    a_code_is_an_index_or_void();
-    codes_tell_their_men();
-    numbers_stand_for_codes();
-    all_scores_give_all_moves();
-    all_reach_scores_give_all_moves();
-    due_bytes_are_right();
-    due_reaches_are_right();
 }

@@ -5,21 +5,22 @@ ghost use Rattle.egt_lanes.specs.Blocks.{at};
 ghost use Rattle.egt_lanes.specs.Raised.{IsRaised};
 ghost use Rattle.egt_lanes.specs.Scores.{zeroing_score};
 ghost use Rattle.egt_table.specs.declared.column.Column.TheVariants as columns;
-ghost use Rattle.egt_check.specs.Kept.{AreKept};
-ghost use Rattle.egt_check.specs.Leaps.{AreStill};
+ghost use Rattle.egt_blocks.specs.Kept.{AreKept};
+ghost use Rattle.egt_blocks.specs.Leaps.{AreStill};
 ghost use Rattle.egt_check.specs.MoveScores.{AreFourMen, AreMoveScores, ArePassedScores, ArePassingCaptures, AreZeroingMoves};
 ghost use Rattle.egt_check.specs.PawnScores.{AreRaisedByPawns};
-ghost use Rattle.egt_check.specs.Taken.{AreLeftCodes, men_swapped};
+ghost use Rattle.egt_blocks.specs.Taken.{AreLeftCodes, men_swapped};
 ghost use Rattle.egt_check.specs.Worth.{column_score};
 
-use crate::advance_blocks::is_pawn_of;
-use crate::blocks::nothing;
-use crate::kept_blocks::{BlockKeys, KeptBlocks, raise_kept};
-use crate::own_men::is_of;
-use crate::passing_blocks::passing_block;
 use crate::pawn_scores::{Promotions, pawns_block};
-use crate::quiet_blocks::quiet_block;
-use crate::taken_blocks::taken_block;
+use crate::table_scores::TableScores;
+use egt_blocks::blocks::nothing;
+use egt_blocks::kept_blocks::{BlockKeys, KeptBlocks, raise_kept};
+use egt_blocks::men::men_swapped;
+use egt_blocks::own_men::{is_of, is_pawn_of};
+use egt_blocks::passing_blocks::passing_block;
+use egt_blocks::quiet_blocks::quiet_block;
+use egt_blocks::taken_blocks::taken_block;
 use egt_board::Side;
 use egt_index::ShelfMen;
 use egt_lanes::Block;
@@ -43,19 +44,6 @@ pub(crate) struct FourMen<'t> {
     pub(crate) first_pawn: Option<Promotions<'t>>,
     /// Where the last man, a pawn, is promoted.
     pub(crate) last_pawn: Option<Promotions<'t>>,
-}
-
-/// The men beside the kings in the other order.
-pub(crate) fn men_swapped(men: &ShelfMen) -> ShelfMen
-    ensures { result ≡ men_swapped men.now }
-{
-    ShelfMen {
-        white: men.white,
-        black: men.black,
-        one: men.last,
-        on: men.on,
-        last: men.one,
-    }
 }
 
 /// Raises each score to what the move zeroes that leads to this one.
@@ -84,7 +72,7 @@ fn raise_first_taken(
     }
     let mut across = nothing();
     if !taken_block(
-        four.last,
+        &TableScores { table: four.last },
         column,
         four.last_flips,
         &men_swapped(men),
@@ -108,7 +96,7 @@ fn raise_pawns(
     out: &mut Block,
 ) -> bool
     requires four { AreFourMen column four.now men.now }
-    requires still { AreStill four.now.own.now column false men.now side still.now }
+    requires still { AreStill four.now.own.now.class (column_score four.now.own.now column) false men.now side still.now }
     ensures { result ≡ true → (a b : ℕ) → a < 64 → b < 64 → (pawns : ℕ) × AreRaisedByPawns column four.now.own.now four.now.first_pawn four.now.last_pawn men.now side a b pawns × (at out.new a b ≡ max (at out.old a b) pawns) }
 {
     if !is_pawn_of(men.one, side) && !is_pawn_of(men.last, side) {
@@ -143,13 +131,13 @@ pub(crate) fn zeroing_moves(
     out: &mut Block,
 ) -> bool
     requires men { AreFourMen column four.now men.now }
-    requires kept { AreKept four.now.own.now men.now (other_side side) keys.old blocks.old }
-    ensures kept { result ≡ true → AreKept four.now.own.now men.now (other_side side) keys.new blocks.new }
+    requires kept { AreKept four.now.own.now.class (column_score four.now.own.now) men.now (other_side side) keys.old blocks.old }
+    ensures kept { result ≡ true → AreKept four.now.own.now.class (column_score four.now.own.now) men.now (other_side side) keys.new blocks.new }
     ensures scores { result ≡ true → (a b : ℕ) → a < 64 → b < 64 → AreZeroingMoves column four.now men.now side a b (at out.new a b) }
 {
     let mut still = nothing();
     if !raise_kept(
-        four.own,
+        &TableScores { table: four.own },
         column,
         men,
         side.other(),
@@ -159,7 +147,14 @@ pub(crate) fn zeroing_moves(
     ) {
         return false;
     }
-    if !taken_block(four.first, column, four.first_flips, men, side, out) {
+    if !taken_block(
+        &TableScores { table: four.first },
+        column,
+        four.first_flips,
+        men,
+        side,
+        out,
+    ) {
         return false;
     }
     raise_first_taken(four, column, men, side, out)
@@ -177,13 +172,20 @@ pub(crate) fn passing_captures(
     requires { AreFourMen column four.now men.now }
     ensures { result ≡ true → (a b : ℕ) → a < 64 → b < 64 → ArePassingCaptures column four.now men.now side a b (at out.new a b) }
 {
-    if !passing_block(four.last, column, four.last_flips, men, side, out) {
+    if !passing_block(
+        &TableScores { table: four.last },
+        column,
+        four.last_flips,
+        men,
+        side,
+        out,
+    ) {
         return false;
     }
     let mut across = nothing();
     let swapped = men_swapped(men);
     if !passing_block(
-        four.first,
+        &TableScores { table: four.first },
         column,
         four.first_flips,
         &swapped,
@@ -208,14 +210,30 @@ pub(crate) fn move_scores(
     zeroing: &mut Block,
 ) -> bool
     requires men { AreFourMen columns.Mate four.now men.now }
-    requires kept { AreKept four.now.own.now men.now (other_side side) keys.old blocks.old }
-    ensures kept { result ≡ true → AreKept four.now.own.now men.now (other_side side) keys.new blocks.new }
+    requires kept { AreKept four.now.own.now.class (column_score four.now.own.now) men.now (other_side side) keys.old blocks.old }
+    ensures kept { result ≡ true → AreKept four.now.own.now.class (column_score four.now.own.now) men.now (other_side side) keys.new blocks.new }
     ensures scores { result ≡ true → (a b : ℕ) → a < 64 → b < 64 → AreMoveScores four.now men.now side a b (at mates.new a b) (at zeroing.new a b) }
 {
-    if !quiet_block(four.own, Column::Mate, men, side, keys, blocks, mates) {
+    if !quiet_block(
+        &TableScores { table: four.own },
+        Column::Mate,
+        men,
+        side,
+        keys,
+        blocks,
+        mates,
+    ) {
         return false;
     }
-    if !quiet_block(four.own, Column::Zeroing, men, side, keys, blocks, zeroing) {
+    if !quiet_block(
+        &TableScores { table: four.own },
+        Column::Zeroing,
+        men,
+        side,
+        keys,
+        blocks,
+        zeroing,
+    ) {
         return false;
     }
     let mut zeroed = nothing();

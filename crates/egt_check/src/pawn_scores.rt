@@ -4,15 +4,17 @@ ghost use Rattle.egt_index.specs.ShelfCodes.{AreMenOf};
 ghost use Rattle.egt_lanes.specs.Blocks.{at};
 ghost use Rattle.egt_table.specs.Table.{HasColumn};
 ghost use Rattle.egt_steps.specs.PawnMoves.{men_after};
-ghost use Rattle.egt_check.specs.Leaps.{AreStill};
+ghost use Rattle.egt_blocks.specs.Leaps.{AreStill};
 ghost use Rattle.egt_check.specs.PawnScores.{ArePawnScores, ArePromotionsOf, AreRaisedByPawns, IsPromotionOf, IsPromotionScore, IsRaisedByPawn};
-ghost use Rattle.egt_check.specs.Taken.{men_swapped};
-ghost use Rattle.egt_check.specs.Worth.{ScoresNoVoids};
+ghost use Rattle.egt_blocks.specs.Taken.{men_swapped};
+ghost use Rattle.egt_blocks.specs.Scored.{ScoresNoVoids};
+ghost use Rattle.egt_check.specs.Worth.{column_score};
 
-use crate::advance_blocks::{leap_block, promoting_block, promotion_block, step_block};
-use crate::blocks::{are_equal, nothing};
-use crate::move_scores::men_swapped;
-use crate::own_men::{is_of, is_pawn};
+use crate::table_scores::TableScores;
+use egt_blocks::advance_blocks::{leap_block, promoting_block, promotion_block, step_block};
+use egt_blocks::blocks::nothing;
+use egt_blocks::men::{are_equal, men_swapped};
+use egt_blocks::own_men::{is_of, is_pawn};
 use egt_board::{Kind, Side};
 use egt_index::ShelfMen;
 use egt_index::men::has_equal_sides;
@@ -59,7 +61,9 @@ fn raise_promotion(
 {
     let mut advanced = nothing();
     if !promotion_block(
-        promotion.both,
+        &TableScores {
+            table: promotion.both,
+        },
         column,
         promotion.before,
         promotion.both_flips,
@@ -72,7 +76,9 @@ fn raise_promotion(
     }
     let mut taken = nothing();
     if !promoting_block(
-        promotion.alone,
+        &TableScores {
+            table: promotion.alone,
+        },
         column,
         promotion.alone_flips,
         men,
@@ -100,16 +106,31 @@ pub(crate) fn pawn_block(
     out: &mut Block,
 ) -> bool
     requires there { HasColumn column own.now }
-    requires voids { ScoresNoVoids own.now column }
+    requires voids { ScoresNoVoids own.now.class (column_score own.now column) }
     requires men { AreMenOf own.now.class (men_after first false men.now men.now.last) }
     requires promotions { ArePromotionsOf column promotions.now men.now }
     requires mine { men.now.last.side ≡ side }
-    requires still { AreStill own.now column first men.now side still.now }
+    requires still { AreStill own.now.class (column_score own.now column) first men.now side still.now }
     ensures { result ≡ true → (a b : ℕ) → a < 64 → b < 64 → ArePawnScores column own.now first promotions.now men.now side a b (at out.new a b) }
 {
-    step_block(own, column, first, men, side, still, out);
+    step_block(
+        &TableScores { table: own },
+        column,
+        first,
+        men,
+        side,
+        still,
+        out,
+    );
     let mut leaps = nothing();
-    if !leap_block(own, column, first, men, side, &mut leaps) {
+    if !leap_block(
+        &TableScores { table: own },
+        column,
+        first,
+        men,
+        side,
+        &mut leaps,
+    ) {
         return false;
     }
     raise(out, &leaps);
@@ -138,10 +159,10 @@ fn raise_pawn(
     out: &mut Block,
 ) -> bool
     requires there { HasColumn column own.now }
-    requires voids { ScoresNoVoids own.now column }
+    requires voids { ScoresNoVoids own.now.class (column_score own.now column) }
     requires men { AreMenOf own.now.class (men_after first false men.now men.now.last) }
     requires promotions { IfSome promotions.now (λ p. ArePromotionsOf column p men.now) }
-    requires still { AreStill own.now column first men.now side still.now }
+    requires still { AreStill own.now.class (column_score own.now column) first men.now side still.now }
     ensures { result ≡ true → (a b : ℕ) → a < 64 → b < 64 → IsRaisedByPawn column own.now first promotions.now men.now side a b (at out.old a b) (at out.new a b) }
 {
     if !is_pawn(men.last) || !is_of(men.last, side) {
@@ -171,12 +192,12 @@ pub(crate) fn pawns_block(
     out: &mut Block,
 ) -> bool
     requires there { HasColumn column own.now }
-    requires voids { ScoresNoVoids own.now column }
+    requires voids { ScoresNoVoids own.now.class (column_score own.now column) }
     requires men { AreMenOf own.now.class men.now }
     requires first { IfSome first.now (λ p. ArePromotionsOf column p (men_swapped men.now)) }
     requires last { IfSome last.now (λ p. ArePromotionsOf column p men.now) }
     requires same { men.now.one ≡ men.now.last → first.now ≡ last.now }
-    requires still { AreStill own.now column false men.now side still.now }
+    requires still { AreStill own.now.class (column_score own.now column) false men.now side still.now }
     ensures { result ≡ true → (a b : ℕ) → a < 64 → b < 64 → AreRaisedByPawns column own.now first.now last.now men.now side a b (at out.new a b) }
 {
     *out = nothing();

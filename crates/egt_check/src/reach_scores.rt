@@ -5,14 +5,16 @@ ghost use Rattle.std.specs.Prelude.{◌≡◌, ◌<◌, ℕ, true};
 ghost use Rattle.egt_board.specs.Man.{other_side};
 ghost use Rattle.egt_lanes.specs.Blocks.{at};
 ghost use Rattle.egt_table.specs.declared.column.Column.TheVariants as columns;
-ghost use Rattle.egt_check.specs.Kept.{AreKept};
+ghost use Rattle.egt_blocks.specs.Kept.{AreKept};
 ghost use Rattle.egt_check.specs.MoveScores.{AreFourMen};
 ghost use Rattle.egt_check.specs.ReachScores.{ArePassedReachScores, AreReachScores};
+ghost use Rattle.egt_check.specs.Worth.{column_score};
 
-use crate::blocks::nothing;
-use crate::kept_blocks::{BlockKeys, KeptBlocks};
 use crate::move_scores::{FourMen, passing_captures, zeroing_moves};
-use crate::quiet_blocks::quiet_block;
+use crate::table_scores::TableScores;
+use egt_blocks::blocks::nothing;
+use egt_blocks::kept_blocks::{BlockKeys, KeptBlocks};
+use egt_blocks::quiet_blocks::quiet_block;
 use egt_board::Side;
 use egt_index::ShelfMen;
 use egt_lanes::Block;
@@ -29,11 +31,19 @@ pub(crate) fn reach_scores(
     out: &mut Block,
 ) -> bool
     requires men { AreFourMen columns.Reach four.now men.now }
-    requires kept { AreKept four.now.own.now men.now (other_side side) keys.old blocks.old }
-    ensures kept { result ≡ true → AreKept four.now.own.now men.now (other_side side) keys.new blocks.new }
+    requires kept { AreKept four.now.own.now.class (column_score four.now.own.now) men.now (other_side side) keys.old blocks.old }
+    ensures kept { result ≡ true → AreKept four.now.own.now.class (column_score four.now.own.now) men.now (other_side side) keys.new blocks.new }
     ensures scores { result ≡ true → (a b : ℕ) → a < 64 → b < 64 → AreReachScores four.now men.now side a b (at out.new a b) }
 {
-    if !quiet_block(four.own, Column::Reach, men, side, keys, blocks, out) {
+    if !quiet_block(
+        &TableScores { table: four.own },
+        Column::Reach,
+        men,
+        side,
+        keys,
+        blocks,
+        out,
+    ) {
         return false;
     }
     let mut zeroed = nothing();

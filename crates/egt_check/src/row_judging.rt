@@ -14,10 +14,10 @@ ghost use Rattle.egt_check.specs.RightRow.{IsRightAtOf, IsRightEndOf, due_in};
 ghost use Rattle.egt_entries.specs.Score.{IsAtEnd};
 ghost use Rattle.egt_check.specs.Worth.{column_score, score_at};
 
-use crate::digits::digit_on;
 use crate::part::{Part, column_of};
 use crate::rows::row_of;
 use crate::successors::entries_at;
+use egt_blocks::digits::digit_on;
 use egt_board::{Man, Position, Side, SquareSet};
 use egt_index::laws::{codes_spell_one_position, codes_tell_turned_men};
 use egt_index::{ShelfMen, code_of, last_digits, position, size};

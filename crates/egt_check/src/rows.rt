@@ -8,10 +8,10 @@ ghost use Rattle.egt_index.specs.Size.{has_target, size_of};
 ghost use Rattle.egt_index.specs.TellsMen.{TellsMen};
 ghost use Rattle.egt_lanes.specs.Raised.{IsRaised};
 ghost use Rattle.egt_table.specs.Table.{HasColumn};
-ghost use Rattle.egt_check.specs.ShelfRow.{IsShelfRow};
+ghost use Rattle.egt_blocks.specs.ShelfRow.{IsShelfRow};
 ghost use Rattle.egt_check.specs.Worth.{column_score, entry_score};
 
-use crate::own_men::is_pawn;
+use egt_blocks::own_men::is_pawn;
 use egt_board::{Kind, Man, Side, Square};
 use egt_class::Class;
 use egt_index::laws::codes_tell_turned_men;
@@ -20,13 +20,6 @@ use egt_lanes::Row;
 use egt_lanes::load::{load, load_pawn, load_target};
 use egt_lanes::score::{Entries, reach_scores, scores};
 use egt_table::{Column, Table};
-
-/// Whether the man may stand on the square: a pawn on neither the first rank nor the last.
-pub(crate) fn may_stand(man: Man, square: Square) -> bool
-    ensures { IsTrue result ↔ MayStand man square }
-{
-    man.kind != Kind::P || (0 < square.rank() && square.rank() < 7)
-}
 
 /// The scores of entries of the column, of which the low byte counts.
 #[inline(always)]
@@ -46,7 +39,7 @@ fn plain_row(table: &Table, column: Column, men: &ShelfMen, shelf: u32, side: Si
     requires shelf { IsShelf table.now.class shelf men.now }
     requires within { IsWithin table.now.class shelf }
     requires targets { has_target (material_of table.now.class) ≡ false }
-    ensures { IsShelfRow table.now column men.now shelf side result }
+    ensures { IsShelfRow table.now.class (column_score table.now column) men.now shelf side result }
 {
     let len = 2 * last_digits(table.class()) as usize;
     let first = shelf as usize * len;
@@ -84,7 +77,7 @@ fn target_row(
     requires shelf { IsShelfOf passed table.now.class shelf men.now }
     requires within { IsWithin table.now.class shelf }
     requires targets { has_target (material_of table.now.class) ≡ true }
-    ensures { IsShelfRow table.now column men.now shelf side result }
+    ensures { IsShelfRow table.now.class (column_score table.now column) men.now shelf side result }
 {
     let first = first_of_targets(table.class(), shelf) as usize;
     let entries = &table.entries(column)[first..first + 192];

@@ -16,32 +16,32 @@ ghost use Rattle.egt_index.specs.declared.shelf_codes.ShelfMen.{ShelfMen};
 ghost use Rattle.egt_moves.specs.Promotion.{IsOfficer};
 ghost use Rattle.egt_table.specs.Table.{HasColumn, TableValue};
 ghost use Rattle.egt_entries.specs.declared.metric.Metric.{Metric};
-ghost use Rattle.egt_check.specs.Blocks.{with_kings};
-ghost use Rattle.egt_check.specs.Kept.{AreKept};
+ghost use Rattle.egt_blocks.specs.Blocks.{with_kings};
+ghost use Rattle.egt_blocks.specs.Kept.{AreKept};
 ghost use Rattle.egt_check.specs.MoveScores.{AreFourMen, AreTablesOf};
 ghost use Rattle.egt_check.specs.Parts.{column_of, four_in, promotion_in, promotions_in, table_in, tables_in};
 ghost use Rattle.egt_check.specs.PairOrder.{nth_pair};
 ghost use Rattle.egt_check.specs.PawnScores.{AreNamed, ArePromotionsOf, HasPromotion, HasPromotions, IsPromotionOf};
 ghost use Rattle.egt_check.specs.RightBlock.{AreJudged, KeepsPart};
 ghost use Rattle.egt_entries.specs.Rules.{KeepsBelow};
-ghost use Rattle.egt_check.specs.Taken.{men_swapped};
+ghost use Rattle.egt_blocks.specs.Taken.{men_swapped};
 ghost use Rattle.egt_entries.specs.Tables.{Tables, beside, table_at};
 ghost use Rattle.egt_entries.specs.Truth.{IsTrueTable};
-ghost use Rattle.egt_check.specs.Worth.{HasBytes};
+ghost use Rattle.egt_check.specs.Worth.{HasBytes, column_score};
 
 use crate::blank::side_is_blank;
 use crate::block_judging::block_is_right;
-use crate::blocks::{are_equal, nothing};
 use crate::bytes::{tells_bytes, true_table_tells};
-use crate::digits::digits_of;
-use crate::kept_blocks::{BlockKeys, KeptBlocks, no_keys};
 use crate::library::Library;
-use crate::move_scores::{FourMen, men_swapped};
-use crate::own_men::is_pawn;
+use crate::move_scores::FourMen;
 use crate::pair_order::nth_pair;
 use crate::part::{Part, column_of};
 use crate::pawn_scores::{Promotion, Promotions};
-use crate::taken_blocks::turned_man;
+use egt_blocks::blocks::nothing;
+use egt_blocks::digits::digits_of;
+use egt_blocks::kept_blocks::{BlockKeys, KeptBlocks, no_keys};
+use egt_blocks::men::{are_equal, men_swapped};
+use egt_blocks::own_men::{is_pawn, turned_man};
 use egt_board::{Kind, Man, Side, Square};
 use egt_class::Class;
 use egt_class::membership::of_men;
@@ -76,8 +76,8 @@ fn side_is_right(
 ) -> bool
     requires men { AreFourMen (column_of part) four.now men.now }
     requires room { first + half + 64 < 4294967296 }
-    requires kept { AreKept four.now.own.now men.now (other_side side) keys.old blocks.old }
-    ensures kept { result ≡ true → AreKept four.now.own.now men.now (other_side side) keys.new blocks.new }
+    requires kept { AreKept four.now.own.now.class (column_score four.now.own.now) men.now (other_side side) keys.old blocks.old }
+    ensures kept { result ≡ true → AreKept four.now.own.now.class (column_score four.now.own.now) men.now (other_side side) keys.new blocks.new }
     ensures judged { result ≡ true → (tables : Tables) → AreTablesOf (tables_in part tables) (four_in part four.now) men.now →
         AreJudged part tables four.now.own.now men.now first side × AreJudged part tables four.now.own.now men.now (first + half) side }
 {
@@ -103,8 +103,8 @@ fn pair_is_right(
 ) -> bool
     requires men { AreFourMen (column_of part) four.now men.now }
     requires room { first + half + 64 < 4294967296 }
-    requires kept { AreKept four.now.own.now men.now (other_side side) keys.old blocks.old }
-    ensures kept { result ≡ true → AreKept four.now.own.now men.now (other_side side) keys.new blocks.new }
+    requires kept { AreKept four.now.own.now.class (column_score four.now.own.now) men.now (other_side side) keys.old blocks.old }
+    ensures kept { result ≡ true → AreKept four.now.own.now.class (column_score four.now.own.now) men.now (other_side side) keys.new blocks.new }
     ensures judged { result ≡ true → (tables : Tables) → AreTablesOf (tables_in part tables) (four_in part four.now) men.now →
         AreJudged part tables four.now.own.now men.now first side × AreJudged part tables four.now.own.now men.now (first + half) side }
 {

@@ -9,8 +9,8 @@ ghost use Rattle.egt_table.specs.Table.{HasColumn};
 ghost use Rattle.egt_check.specs.Voids.{AreAllAlike, TellsVoids, TellsVoidsIn};
 ghost use Rattle.egt_check.specs.Worth.{column_score};
 
-use crate::digits::first_square;
 use crate::rows::row_of;
+use egt_blocks::digits::first_square;
 use egt_board::Side;
 use egt_class::Class;
 use egt_index::laws::{codes_tell_turned_men, numbers_stand_for_codes};

@@ -15,12 +15,17 @@ use Rattle.egt_entries.specs.Rules.{IsFirstBroken, KeepsBelow, KeepsIn, KeepsInB
 use Rattle.egt_entries.specs.Truth.{IsTrueTable}
 use Rattle.egt_index.specs.Size.{size_of}
 
--- the table of a class is of that class and true, and its children have theirs
+-- where the table has the column of the nearest mates, the tables of its children that are there have it
+abbrev pub ReachesDown : Tables → TableValue → Type 0
+ReachesDown tables t = IsSome t.reach → HasReachChildren tables t.class
+
+-- the table of a class is of that class and true, and its children have theirs, with the column of the nearest mates where it has that column
 pub record IsShelved (tables : Tables) (c : ℕ) (t : TableValue) : Type 0 where
   pub class : t.class ≡ c
   pub table : IsTable t
   pub true : IsTrueTable t
   pub children : HasChildren tables c
+  pub down : ReachesDown tables t
 
 -- each table at hand is such a one
 abbrev pub AreShelved : Tables → Type 0
@@ -60,10 +65,6 @@ pub record IsFirstBreak (tables : Tables) (t : TableValue) (column : Column) (i 
   pub columns : KeepsBefore tables t column
   pub entries : KeepsInBelow tables t column i
   pub breaks : IsFirstBroken (KeepsIn tables t column i) rule
-
--- where the table has the column of the nearest mates, the tables of its children that are there have it
-abbrev pub ReachesDown : Tables → TableValue → Type 0
-ReachesDown tables t = IsSome t.reach → HasReachChildren tables t.class
 
 -- why the table is refused beside these
 abbrev pub IsRefused : Tables → TableValue → Reject → Type 0

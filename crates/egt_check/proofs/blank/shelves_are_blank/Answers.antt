@@ -7,11 +7,11 @@ use Rattle.egt_index.specs.Scales.{kind_digits, kind_less}
 use Rattle.egt_index.specs.ShelfCodes.{IsShelfOf, number_in}
 use Rattle.egt_index.specs.Size.{size_of}
 use Rattle.egt_index.specs.declared.shelf_codes.ShelfMen.{ShelfMen}
-use Rattle.egt_check.specs.Blocks.{AreShelvesOf}
+use Rattle.egt_blocks.specs.Blocks.{AreShelvesOf}
 use Rattle.egt_check.specs.Worth.{column_score}
 use Rattle.egt_check.proofs.LaneRight.{blank_lane}
 use Rattle.egt_check.proofs.Marks.{mark, none_marked}
-use Rattle.egt_check.proofs.ShelfRuns.{run_at}
+use Rattle.egt_blocks.proofs.ShelfRuns.{run_at}
 use Rattle.egt_check.proofs.blank.shelves_are_blank.Goals as goal
 
 pub marks_of-requires-clause-shelf : goal.marks_of-requires-clause-shelf

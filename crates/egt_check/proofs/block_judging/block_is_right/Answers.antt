@@ -4,7 +4,7 @@ use Rattle.egt_index.specs.Scales.{kind_less}
 use Rattle.egt_index.specs.ShelfCodes.{number_in}
 use Rattle.egt_lanes.specs.Blocks.{at}
 use Rattle.egt_check.specs.RightBlock.{AreJudged}
-use Rattle.egt_check.proofs.RowRead.{square_in}
+use Rattle.egt_blocks.proofs.ShelfRead.{square_in}
 use Rattle.egt_check.proofs.block_judging.block_is_right.Goals as goal
 
 pub returns-then-half-eq0-clause-judged : goal.returns-then-half-eq0-clause-judged

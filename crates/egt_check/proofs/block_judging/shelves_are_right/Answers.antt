@@ -7,12 +7,12 @@ use Rattle.egt_index.specs.Size.{size_of}
 use Rattle.egt_index.specs.declared.shelf_codes.ShelfMen.{ShelfMen}
 use Rattle.egt_board.specs.declared.man.Man.{Man}
 use Rattle.egt_lanes.specs.Blocks.{at}
-use Rattle.egt_check.specs.Blocks.{AreShelvesOf}
+use Rattle.egt_blocks.specs.Blocks.{AreShelvesOf}
 use Rattle.egt_check.specs.Parts.{column_of}
 use Rattle.egt_check.specs.RightRow.{IsRightAtOf}
 use Rattle.egt_check.specs.Worth.{column_score}
 use Rattle.egt_check.proofs.LaneRight.{right_lane}
-use Rattle.egt_check.proofs.ShelfRuns.{run_at}
+use Rattle.egt_blocks.proofs.ShelfRuns.{run_at}
 use Rattle.egt_check.proofs.block_judging.shelves_are_right.Goals as goal
 
 pub row_is_right-requires-clause-shelf : goal.row_is_right-requires-clause-shelf

@@ -10,7 +10,7 @@ use Rattle.egt_check.specs.Given.{AreGiven}
 use Rattle.egt_check.specs.MoveScores.{AreAllScores, AreMoveScores, AreTablesOf}
 use Rattle.egt_steps.specs.PawnMoves.{stand_in}
 use Rattle.egt_entries.specs.Tables.{Tables}
-use Rattle.egt_check.specs.Taken.{men_swapped}
+use Rattle.egt_blocks.specs.Taken.{men_swapped}
 use Rattle.egt_check.specs.declared.move_scores.FourMen.{FourMen}
 use Rattle.egt_check.proofs.ByteJudged.{zeroing_max}
 use Rattle.egt_check.proofs.PawnsGiven.{IsEitherPassing, PawnLaws, loud_given, nothing_passing, passing_given}

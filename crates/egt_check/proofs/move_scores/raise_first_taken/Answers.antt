@@ -4,9 +4,9 @@ use Rattle.egt_board.specs.Man.{other_side}
 use Rattle.egt_index.specs.declared.shelf_codes.ShelfMen.{ShelfMen}
 use Rattle.egt_lanes.specs.Blocks.{at}
 use Rattle.egt_lanes.specs.Raised.{IsRaised}
-use Rattle.egt_check.specs.Taken.{AreLeftCodes, men_swapped}
+use Rattle.egt_blocks.specs.Taken.{AreLeftCodes, men_swapped}
 use Rattle.egt_check.specs.Worth.{column_score}
-use Rattle.egt_check.proofs.BlockRaising.{raised_by_none}
+use Rattle.egt_blocks.proofs.BlockRaising.{raised_by_none}
 use Rattle.egt_check.proofs.move_scores.raise_first_taken.Goals as goal
 
 pub returns-then-not-is_of : goal.returns-then-not-is_of

@@ -8,21 +8,22 @@ use Rattle.egt_lanes.specs.Raised.{IsRaised}
 use Rattle.egt_table.specs.Table.{TableValue}
 use Rattle.egt_table.specs.declared.column.Column.{Column}
 use Rattle.egt_steps.specs.Stands.{stand_on}
-use Rattle.egt_check.specs.Kept.{AreKept}
-use Rattle.egt_check.specs.Leaps.{AreStill}
-use Rattle.egt_check.specs.Worth.{IsRead, column_score}
+use Rattle.egt_blocks.specs.Kept.{AreKept}
+use Rattle.egt_blocks.specs.Leaps.{AreStill}
+use Rattle.egt_check.specs.Worth.{column_score}
+use Rattle.egt_blocks.specs.Scored.{IsRead}
 use Rattle.egt_check.proofs.move_scores.zeroing_moves.Goals as goal
 
 -- ---- the men where they stand
 
 still_of : (t : TableValue) (column : Column) (men : ShelfMen) (side other : Side) → other ≡ other_side side → (low high : List (List ℕ)) → ((a b : ℕ) → a < 64 → b < 64 → at low a b ≡ 0)
-    → ((a b : ℕ) → a < 64 → b < 64 → IsRaised (at low a b) (λ code. IsSomeTurnedCode t.class code false (stand_on men a b) other) (column_score t column) (at high a b)) → AreStill t column false men side high
+    → ((a b : ℕ) → a < 64 → b < 64 → IsRaised (at low a b) (λ code. IsSomeTurnedCode t.class code false (stand_on men a b) other) (column_score t column) (at high a b)) → AreStill t.class (column_score t column) false men side high
 still_of t column men side other is low high none raised = λ a b a_in b_in.
-    subst (λ (s : Side). IsRead t column false (stand_on men a b) s (at high a b)) is
+    subst (λ (s : Side). IsRead t.class (column_score t column) false (stand_on men a b) s (at high a b)) is
     (subst (λ n. IsRaised n (λ code. IsSomeTurnedCode t.class code false (stand_on men a b) other) (column_score t column) (at high a b)) (none a b a_in b_in) (raised a b a_in b_in))
 
 pub raise_kept-requires-clause-kept : goal.raise_kept-requires-clause-kept
-raise_kept-requires-clause-kept c = subst (λ (s : Side). AreKept c.args.four.now.own.now c.args.men.now s c.args.keys.now c.args.blocks.now) (sym c.other.ensures) c.requires.kept
+raise_kept-requires-clause-kept c = subst (λ (s : Side). AreKept c.args.four.now.own.now.class (column_score c.args.four.now.own.now) c.args.men.now s c.args.keys.now c.args.blocks.now) (sym c.other.ensures) c.requires.kept
 
 pub raise_pawns-requires-clause-still : goal.raise_pawns-requires-clause-still
 raise_pawns-requires-clause-still c =

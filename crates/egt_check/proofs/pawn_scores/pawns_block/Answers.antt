@@ -3,7 +3,7 @@ use Rattle.egt_class.specs.Material.{has_equal_sides}
 use Rattle.egt_index.specs.declared.shelf_codes.ShelfMen.{ShelfMen}
 use Rattle.egt_lanes.specs.Blocks.{at}
 use Rattle.egt_check.specs.PawnScores.{IsRaisedByPawn}
-use Rattle.egt_check.specs.Taken.{men_swapped}
+use Rattle.egt_blocks.specs.Taken.{men_swapped}
 use Rattle.egt_check.proofs.EqualPawns.{raised_as_last}
 use Rattle.egt_check.proofs.pawn_scores.pawns_block.Goals as goal
 

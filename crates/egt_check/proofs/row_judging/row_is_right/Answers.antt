@@ -15,7 +15,7 @@ use Rattle.egt_check.specs.RightRow.{IsRightAtOf, IsRightEndOf, due_in}
 use Rattle.egt_check.specs.Worth.{column_score, score_at}
 use Rattle.egt_check.proofs.ByteJudged.{if_not, if_same}
 use Rattle.egt_check.proofs.RowJudged.{lane_is, left_at}
-use Rattle.egt_check.proofs.RowRead.{square_in}
+use Rattle.egt_blocks.proofs.ShelfRead.{square_in}
 use Rattle.egt_check.proofs.row_judging.row_is_right.Goals as goal
 
 -- entries that are due to the scores, or tell an end where there are none, are right

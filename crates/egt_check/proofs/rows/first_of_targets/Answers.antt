@@ -1,7 +1,7 @@
 use Rattle.std.proofs.Common.{◌*◌, ◌+◌, ◌/◌, ◌≤◌, ◌∙◌, ap, subst, sym}
 use Rattle.egt_index.specs.Numbers.{code_of}
 use Rattle.egt_index.specs.Size.{size_of}
-use Rattle.egt_check.proofs.RowRead.{first_within}
+use Rattle.egt_blocks.proofs.ShelfRead.{first_within}
 use Rattle.egt_check.proofs.rows.first_of_targets.Goals as goal
 
 pub returns-clause-within : goal.returns-clause-within

@@ -6,7 +6,7 @@ use Rattle.egt_table.specs.Table.{TableValue}
 use Rattle.egt_check.specs.Parts.{promotions_in, tables_in}
 use Rattle.egt_check.specs.PawnScores.{HasPromotions}
 use Rattle.egt_entries.specs.Tables.{beside, table_at}
-use Rattle.egt_check.specs.Taken.{men_swapped}
+use Rattle.egt_blocks.specs.Taken.{men_swapped}
 use Rattle.egt_check.proofs.Finding.{beside_own}
 use Rattle.egt_check.proofs.NearReading.{found_in, is_table_in}
 use Rattle.egt_check.proofs.PromotionTables.{beside_any}

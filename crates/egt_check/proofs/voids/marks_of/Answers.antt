@@ -7,7 +7,7 @@ use Rattle.egt_index.specs.ShelfCodes.{number_in}
 use Rattle.egt_check.specs.Worth.{column_score}
 use Rattle.egt_check.proofs.Marks.{bit_shifted, mark}
 use Rattle.egt_check.proofs.RowJudged.{lane_is}
-use Rattle.egt_check.proofs.RowRead.{square_in}
+use Rattle.egt_blocks.proofs.ShelfRead.{square_in}
 use Rattle.egt_check.proofs.voids.marks_of.Goals as goal
 
 pub returns : goal.returns

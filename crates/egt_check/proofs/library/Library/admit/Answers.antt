@@ -12,10 +12,11 @@ invariant_of-self c =
     let table = c.class.ensures.table in
     let child = c.children_have_smaller_numbers.ensures.smaller in
     let accepted = subst (λ v. IsAccepted (table_at v) t) (sym c.self.view_is) (c.in_default.ensures.exact.0 refl) in
+    let free : table_at places t.class ≡ None = search rules in
     let children = true_children child places c.self.invariant t table accepted.children in
     let holds = (c.rules_are_kept_by_true_tables_alone.ensures (beside (table_at places) t) t table (beside_own (table_at places) t t.class refl) children (down_beside child places c.self.invariant t table accepted.reach_children)).0 accepted.rules in
     subst (λ (i : ℕ). IsLibrary (set places i (Some t))) (sym (c.from-place.ensures ∙ c.number.ensures.value ∙ c.class.ensures.class))
-    (one_more child places c.self.invariant t table holds accepted.children)
+    (one_more child places c.self.invariant t table free holds accepted.children accepted.reach_children)
 
 pub returns-in-Err-clause-reason : goal.returns-in-Err-clause-reason
 returns-in-Err-clause-reason c =

@@ -1,0 +1,257 @@
+-- Blocks raised turn by turn.
+use Rattle.std.proofs.Common.{◌≡◌, ◌≢◌, ℕ, ◌/◌, ◌%◌, ◌<◌, ◌⊎◌, ◌↔◌, max, not, cond, ltb, eqb, IsTrue, Bool, true, false, List, [], ◌∷◌, Option, Some, None, IfSome, arith, refl, sym, ap, ◌∙◌, inl, inr, subst}
+use Rattle.std.proofs.lemmas.Bool.{cases_eq, cases_lt, false≢true, ltb-true}
+use Rattle.std.proofs.lemmas.Nat.Bits.{bit_at_ones}
+use Rattle.std.specs.Int.{bit_at}
+use Rattle.egt_board.specs.Man.{other_side}
+use Rattle.egt_board.specs.SquareSet.{Has}
+use Rattle.egt_board.specs.Turned.{turned_square}
+use Rattle.egt_class.specs.Below.{all_below, passes_below}
+use Rattle.egt_board.specs.declared.man.Man.{Man}
+use Rattle.egt_board.specs.declared.man.Side.{Side}
+use Rattle.egt_board.specs.declared.man.Side.TheVariants.{White, Black}
+use Rattle.egt_board.specs.declared.square_set.SquareSet.{SquareSet}
+use Rattle.egt_class.specs.Material.{has_equal_sides, material_of}
+use Rattle.egt_index.specs.Code.{king_square, men_at}
+use Rattle.egt_index.specs.Digits.{AreDigits}
+use Rattle.egt_index.specs.Home.{AreHome, IsTurnWith}
+use Rattle.egt_index.specs.Size.{has_pawns, king_base, men_bases}
+use Rattle.egt_index.specs.Stood.{list_of}
+use Rattle.egt_index.specs.TurnedMen.{IsSomeTurnedCode, IsSomeTurnedCodeWith, swapped, turned_by}
+use Rattle.egt_index.specs.declared.shelf_codes.ShelfMen.{ShelfMen}
+use Rattle.egt_index.specs.declared.stand.Stand.{Stand}
+use Rattle.egt_lanes.specs.Blocks.{at}
+use Rattle.egt_lanes.specs.Raised.{IsRaised}
+use Rattle.egt_table.specs.declared.column.Column.{Column}
+use Rattle.egt_steps.specs.Stands.{IsBesideKing, stand_on, with_king}
+use Rattle.egt_blocks.specs.Blocks.{AreKingCodes, IsCodeAfter, IsHomeCode, IsRaisedHome, men_across, settled_at}
+use Rattle.egt_blocks.specs.Kept.{AreKept}
+use Rattle.egt_blocks.specs.Scored.{IsReadWith}
+use Rattle.egt_blocks.specs.declared.kept_blocks.BlockKey.{BlockKey}
+
+-- all squares are of the set of all
+pub all_squares : (s : ℕ) → s < 64 → bit_at 18446744073709551615 s ≡ 1
+all_squares s s_in = bit_at_ones 64 s s_in
+
+-- ---- the greatest of some numbers
+
+-- nothing rises by numbers that are 0
+pub raised_by_zeros : (low : ℕ) (In : ℕ → Type 0) (f : ℕ → ℕ) → ((t : ℕ) → In t → f t ≡ 0) → IsRaised low In f low
+raised_by_zeros low In f zeros = record { kept = omega arith; above = λ t here. let zero = zeros t here in omega (arith, zero); reached = inl refl }
+
+pub raised_by_none : (low : ℕ) (In : ℕ → Type 0) (f : ℕ → ℕ) → ((t : ℕ) → ¬ In t) → IsRaised low In f low
+raised_by_none low In f none = raised_by_zeros low In f (λ t here. absurd (none t here))
+
+-- what rose from nothing, beside another number
+pub raised_max : (low : ℕ) (In : ℕ → Type 0) (f : ℕ → ℕ) (v high : ℕ) → IsRaised 0 In f v → high ≡ max low v → IsRaised low In f high
+raised_max low In f v high raised is = record {
+  kept = omega (arith, is);
+  above = λ t here. let le = raised.above t here in omega (arith, is, le);
+  reached = elim (cases_lt low v) [
+    | inr le ↦ inl (omega (arith, is, le))
+    | inl less ↦ elim raised.reached [
+      | inl zero ↦ absurd (omega (arith, zero, less))
+      | inr h ↦ inr (h.0, h.1, (let from = h.2 in omega (arith, is, less, from)))
+    ]
+  ];
+}
+
+-- by some and then by others
+pub raised_both : (low mid high : ℕ) (A B In : ℕ → Type 0) (f : ℕ → ℕ) → IsRaised low A f mid → IsRaised mid B f high → ((t : ℕ) → In t → A t ⊎ B t) → ((t : ℕ) → A t → In t) → ((t : ℕ) → B t → In t) → IsRaised low In f high
+raised_both low mid high A B In f first then covers a_in b_in = record {
+  kept = omega (arith, first.kept, then.kept);
+  above = λ t here. elim (covers t here) [
+    | inl a ↦ let le = first.above t a in omega (arith, le, then.kept)
+    | inr b ↦ then.above t b
+  ];
+  reached = elim then.reached [
+    | inr h ↦ inr (h.0, b_in h.0 h.1, h.2)
+    | inl same ↦ elim first.reached [
+      | inl unchanged ↦ inl (same ∙ unchanged)
+      | inr h ↦ inr (h.0, a_in h.0 h.1, same ∙ h.2)
+    ]
+  ];
+}
+
+pub raised_alike : (low high : ℕ) (A In : ℕ → Type 0) (f : ℕ → ℕ) → IsRaised low A f high → ((t : ℕ) → In t → A t) → ((t : ℕ) → A t → In t) → IsRaised low In f high
+raised_alike low high A In f raised covers a_in = record {
+  kept = raised.kept;
+  above = λ t here. raised.above t (covers t here);
+  reached = elim raised.reached [ inl same ↦ inl same | inr h ↦ inr (h.0, a_in h.0 h.1, h.2) ];
+}
+
+-- ---- a turn keeps squares on the board
+
+stays : Bool → ℕ → ℕ → Bool
+stays flips n s = ltb (turned_square n flips s) 64
+
+all_stay : (flips : Bool) → all_below (λ n. all_below (stays flips n) 64) 8 ≡ true
+unfolding all_below stays
+all_stay true = refl
+all_stay false = refl
+
+pub turned_in : (flips : Bool) (n s : ℕ) → n < 8 → s < 64 → turned_square n flips s < 64
+unfolding stays
+turned_in flips n s n_in s_in = ltb-true _ _ (passes_below (stays flips n) 64 s (passes_below (λ n. all_below (stays flips n) 64) 8 n (all_stay flips) n_in) s_in)
+
+-- ---- the turns that bring the white king home
+
+heads : {A : Type 0} {a b : A} {x y : List A} → a ∷ x ≡ b ∷ y → a ≡ b
+heads e = cc
+
+-- the white king of a code's men is at home
+king_at_home : (passed : Bool) (c t code : ℕ) (stand : Stand) (side : Side) → IsCodeAfter passed c t code stand side → (d : ℕ) × (d < king_base (has_pawns (material_of c))) × (king_square (has_pawns (material_of c)) d ≡ turned_square (t % 8) (eqb (t / 8) 1) stand.white)
+king_at_home passed c t code stand side tells = of tells.men.digits tells.men.are tells.men.list_is
+  where
+    of : (digits : List ℕ) → AreDigits (men_bases (material_of c)) digits → list_of (turned_by t stand) ≡ men_at (material_of c) digits → (d : ℕ) × (d < king_base (has_pawns (material_of c))) × (king_square (has_pawns (material_of c)) d ≡ turned_square (t % 8) (eqb (t / 8) 1) stand.white)
+    of [] are is = absurd are
+    of (d ∷ ds) are is = (d, are.0, sym (ap (λ (e : Man × ℕ). e.1) (heads is)))
+
+module _ (passed : Bool) (c : ℕ) (flips : Bool) (stand : Stand) (side : Side) (first : ℕ) (second : Option ℕ) (home : AreHome (has_pawns (material_of c)) flips stand.white first second) where
+  -- such a turn is one of the one or two
+  one_of_them : (t code : ℕ) → IsTurnWith (has_pawns (material_of c)) flips t → IsCodeAfter passed c t code stand side → t ≢ first → IfSome second (λ u. t ≢ u) → ⊥
+  one_of_them t code turn tells other others =
+      let king = king_at_home passed c t code stand side tells in
+      home.none t turn other others king.0 king.1 (subst (λ f. king_square (has_pawns (material_of c)) king.0 ≡ turned_square (t % 8) f stand.white) turn.flips_is king.2)
+
+  after : (t code : ℕ) (u : ℕ) → t ≡ u → IsCodeAfter passed c t code stand side → IsCodeAfter passed c u code stand side
+  after t code u same tells = subst (λ k. IsCodeAfter passed c k code stand side) same tells
+
+pub home_by_one : (passed : Bool) (c : ℕ) (flips : Bool) (stand : Stand) (side : Side) (first : ℕ) → AreHome (has_pawns (material_of c)) flips stand.white first None → (low high : ℕ) (f : ℕ → ℕ)
+    → IsRaised low (λ code. IsCodeAfter passed c first code stand side) f high → IsRaised low (λ code. IsHomeCode passed c code flips stand side) f high
+home_by_one passed c flips stand side first home low high f raised = raised_alike low high (λ code. IsCodeAfter passed c first code stand side) (λ code. IsHomeCode passed c code flips stand side) f raised
+    (λ code h. elim (cases_eq h.0 first) [
+      | inl same ↦ after passed c flips stand side first None home h.0 code first same h.2
+      | inr other ↦ absurd (one_of_them passed c flips stand side first None home h.0 code h.1 h.2 other tt)
+    ])
+    (λ code tells. (first, home.one, tells))
+
+pub home_by_two : (passed : Bool) (c : ℕ) (flips : Bool) (stand : Stand) (side : Side) (first second : ℕ) → AreHome (has_pawns (material_of c)) flips stand.white first (Some second) → (low mid high : ℕ) (f : ℕ → ℕ)
+    → IsRaised low (λ code. IsCodeAfter passed c first code stand side) f mid → IsRaised mid (λ code. IsCodeAfter passed c second code stand side) f high → IsRaised low (λ code. IsHomeCode passed c code flips stand side) f high
+home_by_two passed c flips stand side first second home low mid high f one two =
+    raised_both low mid high (λ code. IsCodeAfter passed c first code stand side) (λ code. IsCodeAfter passed c second code stand side) (λ code. IsHomeCode passed c code flips stand side) f one two
+    (λ code h. elim (cases_eq h.0 first) [
+      | inl same ↦ inl (after passed c flips stand side first (Some second) home h.0 code first same h.2)
+      | inr other ↦ elim (cases_eq h.0 second) [
+        | inl same ↦ inr (after passed c flips stand side first (Some second) home h.0 code second same h.2)
+        | inr not ↦ absurd (one_of_them passed c flips stand side first (Some second) home h.0 code h.1 h.2 other not)
+      ]
+    ])
+    (λ code tells. (first, home.one, tells))
+    (λ code tells. (second, home.other, tells))
+
+-- ---- all codes of the men
+
+men_equal : {a b : Man} → a ∷ [] ≡ b ∷ [] → a ≡ b
+men_equal e = cc
+
+module _ (passed : Bool) (c : ℕ) (flips : Bool) (side : Side) (code : ℕ) (men : ShelfMen) (a b : ℕ) where
+  -- by some turn of the class's colours, of the men in the other order, or across
+  pub some_parted : IsSomeTurnedCodeWith passed c code flips (stand_on men a b) side
+      → IsHomeCode passed c code flips (stand_on men a b) side ⊎ (((men.one ≡ men.last) × IsHomeCode passed c code flips (stand_on men b a) side) ⊎ (IsTrue (has_equal_sides c) × IsHomeCode passed c code (not flips) (stand_on (men_across men) b a) side))
+  some_parted some = elim some.seen [
+    | inl own ↦ elim own.1 [
+      | inl same ↦ inl (some.turn, turn own.0, subst (λ (s : Stand). IsCodeAfter passed c some.turn code s side) same some.is.tells)
+      | inr other ↦
+          let equal = men_equal other.1 in
+          inr (inl (equal, (some.turn, turn own.0, subst (λ (s : Stand). IsCodeAfter passed c some.turn code s side) (other.0 ∙ order equal) some.is.tells)))
+    ]
+    | inr across ↦ inr (inr (across.0, (some.turn, turn across.1, subst (λ (s : Stand). IsCodeAfter passed c some.turn code s side) across.2 some.is.tells)))
+  ]
+    where
+      turn : {f : Bool} → eqb (some.turn / 8) 1 ≡ f → IsTurnWith (has_pawns (material_of c)) f some.turn
+      turn is = record { below = some.is.below; flips_is = is; keeps = some.is.keeps }
+
+      order : men.one ≡ men.last → swapped (stand_on men a b) ≡ stand_on men b a
+      order equal = λ i. record { white = men.white; black = men.black; next = Some (sym equal i, b); last = Some (equal i, a) }
+
+  home_is_some : IsHomeCode passed c code flips (stand_on men a b) side → IsSomeTurnedCodeWith passed c code flips (stand_on men a b) side
+  home_is_some h = record { turn = h.0; after = stand_on men a b; seen = inl (h.1.flips_is, inl refl); is = record { below = h.1.below; keeps = h.1.keeps; tells = h.2 } }
+
+  other_is_some : men.one ≡ men.last → IsHomeCode passed c code flips (stand_on men b a) side → IsSomeTurnedCodeWith passed c code flips (stand_on men a b) side
+  other_is_some equal h = record { turn = h.0; after = stand_on men b a; seen = inl (h.1.flips_is, inr (order, ap (λ (m : Man). m ∷ []) equal)); is = record { below = h.1.below; keeps = h.1.keeps; tells = h.2 } }
+    where
+      order : stand_on men b a ≡ swapped (stand_on men a b)
+      order = λ i. record { white = men.white; black = men.black; next = Some (equal i, b); last = Some (sym equal i, a) }
+
+  across_is_some : IsTrue (has_equal_sides c) → IsHomeCode passed c code (not flips) (stand_on (men_across men) b a) side → IsSomeTurnedCodeWith passed c code flips (stand_on men a b) side
+  across_is_some equal h = record { turn = h.0; after = stand_on (men_across men) b a; seen = inr (equal, h.1.flips_is, refl); is = record { below = h.1.below; keeps = h.1.keeps; tells = h.2 } }
+
+-- the greater of two greatest
+pub raised_greater : (u v w : ℕ) (A B In : ℕ → Type 0) (f : ℕ → ℕ) → IsRaised 0 A f u → IsRaised 0 B f v → w ≡ max u v → ((t : ℕ) → In t → A t ⊎ B t) → ((t : ℕ) → A t → In t) → ((t : ℕ) → B t → In t) → IsRaised 0 In f w
+raised_greater u v w A B In f first then is covers a_in b_in = raised_both 0 u w A B In f first (raised_max u B f v w then is) covers a_in b_in
+
+module _ (passed : Bool) (c : ℕ) (worth : ℕ → ℕ) (men : ShelfMen) (flips : Bool) (side : Side) (rows : SquareSet) (own across : List (List ℕ))
+    (in_own : (a b : ℕ) → a < 64 → b < 64 → Has rows a → IsRaisedHome passed c worth flips (stand_on men a b) side 0 (at own a b))
+    (in_across : has_equal_sides c ≡ true → (a b : ℕ) → a < 64 → b < 64 → IsRaisedHome passed c worth (not flips) (stand_on (men_across men) b a) side 0 (at across b a))
+    (equal : Bool) (told : IsTrue equal ↔ (men.one ≡ men.last)) (all : equal ≡ true → (s : ℕ) → s < 64 → Has rows s) (a b : ℕ) (a_in : a < 64) (b_in : b < 64) (here : Has rows a) where
+  Home : Bool → Stand → ℕ → Type 0
+  Home exchanged stand code = IsHomeCode passed c code exchanged stand side
+
+  -- codes of the class's colours, in either order of equal men
+  OwnCodes : ℕ → Type 0
+  OwnCodes code = Home flips (stand_on men a b) code ⊎ ((men.one ≡ men.last) × Home flips (stand_on men b a) code)
+
+  own_raised : (e : Bool) → equal ≡ e → IsRaised 0 OwnCodes worth (cond e (max (at own a b) (at own b a)) (at own a b))
+  unfolding OwnCodes Home
+  own_raised true is = raised_greater (at own a b) (at own b a) (max (at own a b) (at own b a)) (Home flips (stand_on men a b)) (Home flips (stand_on men b a)) OwnCodes worth (in_own a b a_in b_in here) (in_own b a b_in a_in (all is b b_in)) refl
+      (λ code h. elim h [ inl first ↦ inl first | inr there ↦ inr there.1 ])
+      (λ code first. inl first)
+      (λ code there. inr (told.0 is, there))
+  own_raised false is = raised_alike 0 (at own a b) (Home flips (stand_on men a b)) OwnCodes worth (in_own a b a_in b_in here)
+      (λ code h. elim h [ inl first ↦ first | inr there ↦ absurd (false≢true (sym is ∙ told.1 there.0)) ])
+      (λ code first. inl first)
+
+  own_is_some : (code : ℕ) → OwnCodes code → IsSomeTurnedCodeWith passed c code flips (stand_on men a b) side
+  unfolding OwnCodes Home
+  own_is_some code (inl first) = home_is_some passed c flips side code men a b first
+  own_is_some code (inr there) = other_is_some passed c flips side code men a b there.0 there.1
+
+  pub settled_raised : (sides : Bool) → has_equal_sides c ≡ sides → IsReadWith passed c worth flips (stand_on men a b) side (settled_at equal sides own across a b)
+  unfolding OwnCodes Home
+  settled_raised true is =
+      raised_greater _ (at across b a) _ OwnCodes (Home (not flips) (stand_on (men_across men) b a)) (λ code. IsSomeTurnedCodeWith passed c code flips (stand_on men a b) side) worth (own_raised equal refl) (in_across is a b a_in b_in) refl
+      (λ code h. elim (some_parted passed c flips side code men a b h) [
+        | inl first ↦ inl (inl first)
+        | inr (inl other) ↦ inl (inr other)
+        | inr (inr beyond) ↦ inr beyond.1
+      ])
+      own_is_some
+      (λ code beyond. across_is_some passed c flips side code men a b is beyond)
+  settled_raised false is =
+      subst (IsRaised 0 (λ code. IsSomeTurnedCodeWith passed c code flips (stand_on men a b) side) worth) (omega arith)
+      (raised_alike 0 _ OwnCodes (λ code. IsSomeTurnedCodeWith passed c code flips (stand_on men a b) side) worth (own_raised equal refl)
+      (λ code h. elim (some_parted passed c flips side code men a b h) [
+        | inl first ↦ inl first
+        | inr (inl other) ↦ inr other
+        | inr (inr beyond) ↦ absurd (false≢true (sym is ∙ beyond.0))
+      ])
+      own_is_some)
+
+-- ---- a king's steps
+
+-- a square beside the king that is no longer left
+abbrev pub GoneKing : ShelfMen → Side → SquareSet → ℕ → Type 0
+GoneKing men side rest k = IsBesideKing men side k × (bit_at rest.bits k ≡ 0)
+
+-- the same men beside the kings
+pub same_beside : (men : ShelfMen) (side : Side) (k : ℕ) → ((with_king men side k).one ≡ men.one) × ((with_king men side k).last ≡ men.last)
+same_beside men White k = (refl, refl)
+same_beside men Black k = (refl, refl)
+
+-- one step more
+pub king_goes : (c : ℕ) (men : ShelfMen) (side : Side) (A In : ℕ → Type 0) (to a b low high : ℕ) (f : ℕ → ℕ) → IsRaised 0 (AreKingCodes c men side A a b) f low
+    → IsRaised low (λ code. IsSomeTurnedCode c code false (stand_on (with_king men side to) a b) (other_side side)) f high
+    → ((k : ℕ) → In k → A k ⊎ (k ≡ to)) → ((k : ℕ) → A k → In k) → In to → IsRaised 0 (AreKingCodes c men side In a b) f high
+king_goes c men side A In to a b low high f before step covers a_in to_in =
+    raised_both 0 low high (AreKingCodes c men side A a b) (λ code. IsSomeTurnedCode c code false (stand_on (with_king men side to) a b) (other_side side)) (AreKingCodes c men side In a b) f before step
+    (λ code h. elim (covers h.0 h.1) [
+      | inl old ↦ inl (h.0, old, h.2)
+      | inr new ↦ inr (subst (λ k. IsSomeTurnedCode c code false (stand_on (with_king men side k) a b) (other_side side)) new h.2)
+    ])
+    (λ code h. (h.0, a_in h.0 h.1, h.2)) (λ code h. (to, to_in, h))
+
+-- what is kept tells of all squares of the kings
+pub kept_beside : (c : ℕ) (worth : Column → ℕ → ℕ) (men : ShelfMen) (side : Side) (k : ℕ) (s : Side) (keys : List (Option BlockKey)) (blocks : List (List (List ℕ))) → AreKept c worth men s keys blocks ↔ AreKept c worth (with_king men side k) s keys blocks
+kept_beside c worth men White k s keys blocks = ((λ kept. kept), (λ kept. kept))
+kept_beside c worth men Black k s keys blocks = ((λ kept. kept), (λ kept. kept))

@@ -1,0 +1,9 @@
+pub mod ShelfRead
+pub mod ShelfRuns
+pub mod BlockRaising
+pub mod LoneRead
+pub mod QuietRaising
+pub mod Taking
+pub mod AdvanceRaising
+pub mod LeapRaising
+pub mod PassingRaising

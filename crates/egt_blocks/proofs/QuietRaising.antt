@@ -1,0 +1,149 @@
+-- Blocks raised to the scores after quiet steps.
+use Rattle.std.proofs.Common.{◌≡◌, ◌≢◌, ℕ, ◌+◌, ◌<◌, ◌≤◌, ◌⊎◌, ◌↔◌, List, [], length, get_or, get_or-set_other, arith, refl, sym, ap, ◌∙◌, inl, inr, subst, false}
+use Rattle.std.specs.Int.{bit_at}
+use Rattle.std.proofs.lemmas.Bool.{cases_eq}
+use Rattle.std.proofs.lemmas.Grind.{get_or-set_at}
+use Rattle.std.proofs.Math.ListN.{set, length-set}
+use Rattle.egt_board.specs.AttackLines.{Reaches, Reaches-free, Reaches-on_board}
+use Rattle.egt_board.specs.Man.{other_side}
+use Rattle.egt_board.specs.declared.man.Kind.{Kind}
+use Rattle.egt_board.specs.declared.man.Kind.TheVariants.{Q, R, B, N, P, K}
+use Rattle.egt_board.specs.declared.man.Man.{Man}
+use Rattle.egt_board.specs.declared.man.Side.{Side}
+use Rattle.egt_index.specs.TurnedMen.{IsSomeTurnedCode}
+use Rattle.egt_index.specs.declared.shelf_codes.ShelfMen.{ShelfMen}
+use Rattle.egt_index.specs.declared.stand.Stand.{Stand}
+use Rattle.egt_lanes.specs.Pieces.{IsPiece}
+use Rattle.egt_lanes.specs.Blocks.{IsOpen, at}
+use Rattle.egt_lanes.specs.Raised.{IsRaised}
+use Rattle.egt_steps.specs.Stands.{IsBesideKing, stand_on, with_king}
+use Rattle.egt_blocks.specs.Blocks.{AreKingCodes}
+use Rattle.egt_steps.specs.QuietStands.{AreQuietCodes, IsClear}
+use Rattle.egt_blocks.specs.QuietSteps.{IsFirstStep, IsLastStep}
+use Rattle.egt_blocks.specs.Scored.{IsRead}
+use Rattle.egt_blocks.proofs.BlockRaising.{raised_alike, raised_both}
+
+pub no_pawn : (kind : Kind) → IsPiece kind → kind ≢ P
+no_pawn P piece e = piece
+no_pawn Q piece e = cc
+no_pawn R piece e = cc
+no_pawn B piece e = cc
+no_pawn N piece e = cc
+no_pawn K piece e = piece
+
+-- ---- sets of squares
+
+-- of the squares left without one
+pub left_without : (n m s u : ℕ) → bit_at m s ≡ 0 → ((t : ℕ) → t ≢ s → bit_at m t ≡ bit_at n t) → bit_at m u ≡ 1 → (bit_at n u ≡ 1) × (u ≢ s)
+left_without n m s u gone others has = elim (cases_eq u s) [
+  | inl same ↦ let none : bit_at m u ≡ 0 = ap (bit_at m) same ∙ gone in absurd (omega (arith, has, none))
+  | inr other ↦ (sym (others u other) ∙ has, other)
+]
+
+-- ---- raised to numbers that rose themselves
+
+pub raised_through : (low high : ℕ) (In : ℕ → Type 0) (Codes : (t code : ℕ) → Type 0) (f g : ℕ → ℕ) → ((t : ℕ) → In t → IsRaised 0 (Codes t) f (g t)) → IsRaised low In g high
+    → IsRaised low (λ code. (t : ℕ) × In t × Codes t code) f high
+raised_through low high In Codes f g each raised = record {
+  kept = raised.kept;
+  above = λ code h. let under = (each h.0 h.1).above code h.2 in let le = raised.above h.0 h.1 in omega (arith, under, le);
+  reached = elim raised.reached [
+    | inl same ↦ inl same
+    | inr r ↦ elim (each r.0 r.1).reached [
+      | inl zero ↦ inl (let is = r.2 in let kept = raised.kept in omega (arith, is, zero, kept))
+      | inr c ↦ inr (c.0, (r.0, r.1, c.1), r.2 ∙ c.2)
+    ]
+  ];
+}
+
+-- ---- rows raised one by one
+
+-- the first n rows are raised, and the others are as they were
+pub record RowsRaised (In : (a b t : ℕ) → Type 0) (f : (a b t : ℕ) → ℕ) (old out : List (List ℕ)) (n : ℕ) : Type 0 where
+  pub long : length out ≡ 64
+  pub done : (a b : ℕ) → a < n → b < 64 → IsRaised (at old a b) (In a b) (f a b) (at out a b)
+  pub left : (a b : ℕ) → n ≤ a → at out a b ≡ at old a b
+
+pub rows_more : (In : (a b t : ℕ) → Type 0) (f : (a b t : ℕ) → ℕ) (old out : List (List ℕ)) (n : ℕ) (row : List ℕ) → n < 64 → RowsRaised In f old out n
+    → ((b : ℕ) → b < 64 → IsRaised (at out n b) (In n b) (f n b) (get_or row b 0)) → RowsRaised In f old (set out n row) (n + 1)
+rows_more In f old out n row n_in r here = record {
+  long = omega (arith, r.long, length-set {A = List ℕ});
+  done = λ a b a_in b_in. elim (cases_eq a n) [
+    | inl e ↦
+        let now : at (set out n row) a b ≡ get_or row b 0 = ap (λ x. get_or x b 0) (get_or-set_at out n a row [] e (omega (arith, r.long))) in
+        let was : at out n b ≡ at old a b = r.left n b (omega arith) ∙ ap (λ m. at old m b) (sym e) in
+        subst (IsRaised (at old a b) (In a b) (f a b)) (sym now)
+        (subst (λ m. IsRaised (at old a b) (In m b) (f m b) (get_or row b 0)) (sym e)
+        (subst (λ v. IsRaised v (In n b) (f n b) (get_or row b 0)) was (here b b_in)))
+    | inr other ↦
+        let same : at (set out n row) a b ≡ at out a b = ap (λ x. get_or x b 0) (get_or-set_other out n a row [] other) in
+        subst (IsRaised (at old a b) (In a b) (f a b)) (sym same) (r.done a b (omega arith) b_in)
+  ];
+  left = λ a b a_in. let other : a ≢ n = omega arith in ap (λ x. get_or x b 0) (get_or-set_other out n a row [] other) ∙ r.left a b (omega arith);
+}
+
+-- ---- quiet steps
+
+-- a man beside the kings who is no piece is a pawn
+pub no_piece : (kind : Kind) → (kind ≡ P) ⊎ (kind ≡ K) → kind ≢ K → kind ≡ P
+no_piece kind (inl pawn) other = pawn
+no_piece kind (inr king) other = absurd (other king)
+
+-- only which squares are clear counts
+pub steps_raised : (F G : ℕ → Type 0) (man : Man) (s : ℕ) (f : ℕ → ℕ) (low high : ℕ) → ((u : ℕ) → u < 64 → F u ↔ G u) → IsRaised low (λ t. Reaches F man s t) f high → IsRaised low (λ t. Reaches G man s t) f high
+steps_raised F G man s f low high same raised = raised_alike low high (λ t. Reaches F man s t) (λ t. Reaches G man s t) f raised
+    (λ t r. Reaches-free G F man s t (λ u u_in. (same u u_in).1) r)
+    (λ t r. Reaches-free F G man s t (λ u u_in. (same u u_in).0) r)
+
+-- neither on a king's square nor on the last man's
+pub open_is_clear : (men : ShelfMen) (kings b : ℕ) → ((u : ℕ) → (bit_at kings u ≡ 0) ↔ ((u ≢ men.white) × (u ≢ men.black))) → (u : ℕ) → u < 64 → IsOpen kings b u ↔ IsClear men b u
+open_is_clear men kings b is u u_in = (
+  (λ h. let far = (is u).0 h.0 in (far.0, far.1, h.1)),
+  (λ h. ((is u).1 (h.0, h.1), h.2)),
+)
+
+module _ (c : ℕ) (worth : ℕ → ℕ) (men : ShelfMen) (side : Side) (a b : ℕ) (low : ℕ)
+    (king : IsRaised 0 (AreKingCodes c men side (IsBesideKing men side) a b) worth low) where
+  -- only the king has steps
+  pub king_alone : (men.one.side ≡ side → men.one.kind ≡ P) → (men.last.side ≡ side → men.last.kind ≡ P) → IsRaised 0 (AreQuietCodes c men side a b) worth low
+  king_alone other others = raised_alike 0 low (AreKingCodes c men side (IsBesideKing men side) a b) (AreQuietCodes c men side a b) worth king
+      (λ code h. elim h.1 [
+        | inl k ↦ (k.0, k.1, subst (λ (s : Stand). IsSomeTurnedCode c code false s (other_side side)) k.2 h.2)
+        | inr (inl one) ↦ absurd (one.1 (other one.0))
+        | inr (inr last) ↦ absurd (last.1 (others last.0))
+      ])
+      (λ code h. (stand_on (with_king men side h.0) a b, inl (h.0, h.1, refl), h.2))
+
+  module _ (scores : List (List ℕ)) (read : (i j : ℕ) → i < 64 → j < 64 → IsRead c worth false (stand_on men i j) (other_side side) (at scores i j)) (a_in : a < 64) (b_in : b < 64) (mid high : ℕ)
+      (first : IsRaised low (IsFirstStep men side a b) (λ u. at scores u b) mid) (last : IsRaised mid (IsLastStep men side a b) (λ u. at scores a u) high) where
+    -- codes after a step of the king or of the first man, of the first man, and of the last
+    NoLast : ℕ → Type 0
+    NoLast code = AreKingCodes c men side (IsBesideKing men side) a b code ⊎ ((u : ℕ) × IsFirstStep men side a b u × IsSomeTurnedCode c code false (stand_on men u b) (other_side side))
+
+    by_first : IsRaised low (λ code. (u : ℕ) × IsFirstStep men side a b u × IsSomeTurnedCode c code false (stand_on men u b) (other_side side)) worth mid
+    by_first = raised_through low mid (IsFirstStep men side a b) (λ u code. IsSomeTurnedCode c code false (stand_on men u b) (other_side side)) worth (λ u. at scores u b)
+        (λ u step. read u b (Reaches-on_board (IsClear men b) men.one a u step.2) b_in) first
+
+    by_last : IsRaised mid (λ code. (u : ℕ) × IsLastStep men side a b u × IsSomeTurnedCode c code false (stand_on men a u) (other_side side)) worth high
+    by_last = raised_through mid high (IsLastStep men side a b) (λ u code. IsSomeTurnedCode c code false (stand_on men a u) (other_side side)) worth (λ u. at scores a u)
+        (λ u step. read a u a_in (Reaches-on_board (IsClear men a) men.last b u step.2)) last
+
+    by_both : IsRaised 0 NoLast worth mid
+    unfolding NoLast
+    by_both = raised_both 0 low mid (AreKingCodes c men side (IsBesideKing men side) a b)
+        (λ code. (u : ℕ) × IsFirstStep men side a b u × IsSomeTurnedCode c code false (stand_on men u b) (other_side side)) NoLast worth king by_first
+        (λ code h. h) (λ code h. inl h) (λ code h. inr h)
+
+    pub all_quiet : IsRaised 0 (AreQuietCodes c men side a b) worth high
+    unfolding NoLast
+    all_quiet = raised_both 0 mid high NoLast (λ code. (u : ℕ) × IsLastStep men side a b u × IsSomeTurnedCode c code false (stand_on men a u) (other_side side)) (AreQuietCodes c men side a b) worth by_both by_last
+        (λ code h. elim h.1 [
+          | inl k ↦ inl (inl (k.0, k.1, subst (λ (s : Stand). IsSomeTurnedCode c code false s (other_side side)) k.2 h.2))
+          | inr (inl one) ↦ inl (inr (one.2, (one.0, one.1, one.4), subst (λ (s : Stand). IsSomeTurnedCode c code false s (other_side side)) one.5 h.2))
+          | inr (inr last) ↦ inr (last.2, (last.0, last.1, last.4), subst (λ (s : Stand). IsSomeTurnedCode c code false s (other_side side)) last.5 h.2)
+        ])
+        (λ code h. elim h [
+          | inl k ↦ (stand_on (with_king men side k.0) a b, inl (k.0, k.1, refl), k.2)
+          | inr one ↦ (stand_on men one.0 b, inr (inl (one.1.0, one.1.1, one.0, Reaches-on_board (IsClear men b) men.one a one.0 one.1.2, one.1.2, refl)), one.2)
+        ])
+        (λ code last. (stand_on men a last.0, inr (inr (last.1.0, last.1.1, last.0, Reaches-on_board (IsClear men a) men.last b last.0 last.1.2, last.1.2, refl)), last.2))

@@ -1,0 +1,193 @@
+-- What a row of a shelf tells, by the last man's square.
+use Rattle.std.proofs.Common.{◌≡◌, ℕ, ◌+◌, ◌-◌, ◌*◌, ◌/◌, ◌%◌, ◌<◌, ◌≤◌, ◌⊎◌, if◌then◌else◌, Bool, true, false, List, [], ◌∷◌, take, drop, arith, refl, sym, ap, ◌∙◌, inl, inr, subst}
+use Rattle.std.specs.Prelude.{slice_index}
+use Rattle.std.proofs.lemmas.Bool.{cases_lt, false≢true}
+use Rattle.std.proofs.lemmas.List.{get_or-drop, get_or-take}
+use Rattle.egt_board.specs.Images.{side_number}
+use Rattle.egt_board.specs.Pawn.{MayStand}
+use Rattle.egt_board.specs.declared.man.Kind.{Kind}
+use Rattle.egt_board.specs.declared.man.Kind.TheVariants.{Q, R, B, N, P, K}
+use Rattle.egt_board.specs.declared.man.Man.{Man}
+use Rattle.egt_board.specs.declared.man.Side.{Side}
+use Rattle.egt_board.specs.declared.man.Side.TheVariants.{White, Black}
+use Rattle.egt_class.specs.Material.{Material, material_of}
+use Rattle.egt_index.specs.Digits.{number_from, product}
+use Rattle.egt_index.specs.Numbers.{code_of, half_of, places}
+use Rattle.egt_index.specs.Scales.{digits_at, kind_digits, kind_less}
+use Rattle.egt_index.specs.Shelf.{last_of}
+use Rattle.egt_index.specs.ShelfCodes.{IsShelfOf, IsWithin, number_in, stand_with}
+use Rattle.egt_index.specs.Size.{bases, has_target, men_beside, size_of}
+use Rattle.egt_index.specs.Spelled.{IsListed}
+use Rattle.egt_index.specs.TellsMen.{TellsMen}
+use Rattle.egt_index.specs.Stood.{list_of}
+use Rattle.egt_index.specs.declared.shelf_codes.ShelfMen.{ShelfMen}
+use Rattle.egt_index.specs.declared.stand.Stand.{Stand}
+use Rattle.egt_index.proofs.Halves.{code_high, code_low, half_targets}
+use Rattle.egt_index.proofs.OnePosition.{one_pawn_each}
+use Rattle.egt_lanes.specs.Raised.{IsRaised}
+use Rattle.egt_moves.specs.Promotion.{is_pawn}
+use Rattle.egt_blocks.specs.ShelfRow.{IsShelfRow}
+
+-- an entry of a piece of a list
+pub piece_at : (xs : List ℕ) (first len k : ℕ) → k < len → slice_index (take (first + len - first) (drop first xs)) k ≡ slice_index xs (first + k)
+piece_at xs first len k k_in = get_or-take (first + len - first) (drop first xs) k 0 (omega arith) ∙ get_or-drop first xs k 0
+
+pub pawn_digits : (kind : Kind) → is_pawn kind ≡ true → (kind ≡ P) × (kind_digits kind ≡ 48) × (kind_less kind ≡ 8)
+pawn_digits P is = (refl, refl, refl)
+pawn_digits Q is = absurd (false≢true is)
+pawn_digits R is = absurd (false≢true is)
+pawn_digits B is = absurd (false≢true is)
+pawn_digits N is = absurd (false≢true is)
+pawn_digits K is = absurd (false≢true is)
+
+pub piece_digits : (kind : Kind) → is_pawn kind ≡ false → (kind_digits kind ≡ 64) × (kind_less kind ≡ 0)
+piece_digits P is = absurd (false≢true (sym is))
+piece_digits Q is = (refl, refl)
+piece_digits R is = (refl, refl)
+piece_digits B is = (refl, refl)
+piece_digits N is = (refl, refl)
+piece_digits K is = (refl, refl)
+
+-- a digit is that of a square
+pub square_in : (kind : Kind) (digit : ℕ) → digit < kind_digits kind → digit + kind_less kind < 64
+square_in P digit below = omega (arith, below)
+square_in Q digit below = omega (arith, below)
+square_in R digit below = omega (arith, below)
+square_in B digit below = omega (arith, below)
+square_in N digit below = omega (arith, below)
+square_in K digit below = omega (arith, below)
+
+pub side_few : (side : Side) → side_number side < 2
+side_few White = omega arith
+side_few Black = omega arith
+
+-- ---- the class with targets
+
+abbrev pub bit_of : Bool → ℕ
+bit_of passed = if passed then 1 else 0
+
+pub bit_few : (passed : Bool) → bit_of passed < 2
+bit_few true = omega arith
+bit_few false = omega arith
+
+-- the code's last digit is that of the target
+pub target_digit : (c code : ℕ) (stand : Stand) (side : Side) (passed : Bool) → has_target (material_of c) ≡ true → TellsMen passed c code stand side → code % 2 ≡ bit_of passed
+target_digit c code stand side passed has tells = by passed (tells.ends.number_is ∙ ap (λ b. number_from tells.number (2 ∷ (if b then 2 ∷ [] else [])) (side_number side ∷ (if b then bit_of passed ∷ [] else []))) has)
+  where
+    by : (passed : Bool) → code ≡ number_from tells.number (2 ∷ 2 ∷ []) (side_number side ∷ bit_of passed ∷ []) → code % 2 ≡ bit_of passed
+    by true is = omega (arith, is)
+    by false is = omega (arith, is)
+
+pub half_is : (c : ℕ) → has_target (material_of c) ≡ true → (size_of c ≡ 18874368) × (half_of c ≡ 9437184)
+unfolding size_of
+half_is c has = let size : size_of c ≡ 18874368 = ap (λ (m : Material). product (bases m)) (one_pawn_each c has) in let half = half_targets c has in (size, omega (arith, size, half))
+
+pub places_is : (c : ℕ) → has_target (material_of c) ≡ true → places c ≡ 48
+unfolding places
+places_is c has = ap (λ (m : Material). digits_at (last_of (men_beside m))) (one_pawn_each c has)
+
+-- whose last man is a pawn
+pub pawn_of_digits : (kind : Kind) → kind_digits kind ≡ 48 → (kind ≡ P) × (kind_less kind ≡ 8)
+pawn_of_digits P is = (refl, refl)
+pawn_of_digits Q is = absurd (omega (arith, is))
+pawn_of_digits R is = absurd (omega (arith, is))
+pawn_of_digits B is = absurd (omega (arith, is))
+pawn_of_digits N is = absurd (omega (arith, is))
+pawn_of_digits K is = absurd (omega (arith, is))
+
+module _ (c shelf : ℕ) (has : has_target (material_of c) ≡ true) (within : IsWithin c shelf) where
+  abbrev first : ℕ
+  first = shelf * (2 * places c)
+
+  first_is : first ≡ shelf * 96
+  first_is = ap (λ p. shelf * (2 * p)) (places_is c has)
+
+  ends : (shelf + 1) * 96 ≤ 18874368
+  ends =
+      let size = (half_is c has).0 in
+      let len = ap (λ p. (shelf + 1) * (2 * p)) (places_is c has) in
+      omega (arith, within, size, len)
+
+  -- the shelf lies in one half of the numbers
+  pub code_in_shelf : (k : ℕ) → k < 96 → code_of c (first + k) ≡ code_of c first + 2 * k
+  code_in_shelf k k_in =
+      let half = (half_is c has).1 in elim (cases_lt first (half_of c)) [
+        | inl low ↦
+            let below : first + k < half_of c = omega (arith, low, half, first_is, k_in) in
+            let here = code_low c first has low in
+            let there = code_low c (first + k) has below in
+            omega (arith, here, there)
+        | inr high ↦
+            let above : half_of c ≤ first + k = omega (arith, high) in
+            let here = code_high c first has high in
+            let there = code_high c (first + k) has above in
+            omega (arith, here, there, high)
+      ]
+
+  pub first_within : code_of c first / 2 * 2 + 192 ≤ size_of c
+  first_within =
+      let size = half_is c has in elim (cases_lt first (half_of c)) [
+        | inl low ↦ let here = code_low c first has low in omega (arith, here, low, first_is, size.0, size.1)
+        | inr high ↦ let here = code_high c first has high in omega (arith, here, high, first_is, size.0, size.1, ends)
+      ]
+
+  -- so is a target's digit alone left out
+  pub first_of_shelf : (men : ShelfMen) (passed : Bool) → IsShelfOf passed c shelf men → code_of c first / 2 * 2 + bit_of passed ≡ code_of c first
+  first_of_shelf men passed is =
+      let some : 0 < kind_digits men.last.kind = omega (arith, is.0.len, places_is c has) in
+      let number : number_in c shelf White 0 ≡ first = omega arith in
+      let digit = target_digit c (code_of c (number_in c shelf White 0)) (stand_with men (0 + kind_less men.last.kind)) White is.0.passed has (is.0.tells White 0 some) in
+      let bit = ap bit_of is.1 in
+      let code = ap (code_of c) number in
+      omega (arith, digit, bit, code)
+
+-- ---- what a row of a shelf's scores tells
+
+module _ (passed : Bool) (c : ℕ) (worth : ℕ → ℕ) (men : ShelfMen) (shelf : ℕ) (side : Side) (is : IsShelfOf passed c shelf men)
+    (one : (passed : Bool) (c x y : ℕ) (stand : Stand) (side : Side) → TellsMen passed c x stand side → TellsMen passed c y stand side → x ≡ y)
+    (pawns : (passed : Bool) (c code : ℕ) (stand : Stand) (side : Side) (man : Man) (s : ℕ) → TellsMen passed c code stand side → IsListed (list_of stand) man s → MayStand man s) where
+  abbrev pub Told : ℕ → ℕ → Type 0
+  Told s code = TellsMen passed c code (stand_with men s) side
+
+  abbrev code_at : ℕ → ℕ
+  code_at digit = code_of c (number_in c shelf side digit)
+
+  -- the code with this digit tells the men with the last one on its square
+  told : (s digit : ℕ) → digit < kind_digits men.last.kind → digit + kind_less men.last.kind ≡ s → Told s (code_at digit)
+  told s digit below at = subst (λ b. TellsMen b c (code_at digit) (stand_with men s) side) is.1 (subst (λ k. TellsMen is.0.passed c (code_at digit) (stand_with men k) side) at (is.0.tells side digit below))
+
+  pub read_digit : (s digit v : ℕ) → digit < kind_digits men.last.kind → digit + kind_less men.last.kind ≡ s → v ≡ worth (code_at digit) → IsRaised 0 (Told s) worth v
+  read_digit s digit v below at value =
+      let here = told s digit below at in
+      record {
+        kept = omega arith;
+        above = λ code there. let same = ap worth (one passed c code (code_at digit) (stand_with men s) side there here) in omega (arith, same, value);
+        reached = inr (code_at digit, here, value);
+      }
+
+  -- no code has a pawn on the first rank or the last
+  read_edge : (s v : ℕ) → men.last.kind ≡ P → (s < 8) ⊎ (56 ≤ s) → v ≡ 0 → IsRaised 0 (Told s) worth v
+  read_edge s v pawn edge none = record {
+    kept = omega arith;
+    above = λ code there. absurd (let may = pawns passed c code (stand_with men s) side men.last s there (inr (inr (inr (inl (refl, refl))))) pawn in elim edge [
+      | inl low ↦ omega (arith, may.0)
+      | inr high ↦ omega (arith, may.1)
+    ]);
+    reached = inl none;
+  }
+
+  pub row_read : (row : List ℕ) → IsShelfRow c worth men shelf side row → (s : ℕ) → s < 64 → IsRaised 0 (Told s) worth (slice_index row s)
+  row_read row rows s s_in = by (is_pawn men.last.kind) refl
+    where
+      at_digit : (digit : ℕ) → digit < kind_digits men.last.kind → digit + kind_less men.last.kind ≡ s → IsRaised 0 (Told s) worth (slice_index row s)
+      at_digit digit below at = read_digit s digit (slice_index row s) below at (ap (slice_index row) (sym at) ∙ rows.digits digit below)
+
+      by : (pawn : Bool) → is_pawn men.last.kind ≡ pawn → IsRaised 0 (Told s) worth (slice_index row s)
+      by false kind = let digits = piece_digits men.last.kind kind in at_digit s (omega (arith, digits.0, s_in)) (omega (arith, digits.1))
+      by true kind = let digits = pawn_digits men.last.kind kind in elim (cases_lt s 8) [
+        | inl low ↦ read_edge s (slice_index row s) digits.0 (inl low) (rows.edges digits.0 s s_in (inl low))
+        | inr from ↦ elim (cases_lt s 56) [
+          | inl to ↦ at_digit (s - 8) (omega (arith, digits.1, from, to)) (omega (arith, digits.2, from))
+          | inr high ↦ read_edge s (slice_index row s) digits.0 (inr high) (rows.edges digits.0 s s_in (inr high))
+        ]
+      ]

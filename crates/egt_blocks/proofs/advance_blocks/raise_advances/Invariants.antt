@@ -1,0 +1,10 @@
+use Rattle.std.proofs.Common.{◌≡◌}
+use Rattle.std.specs.Int.{bit_at}
+use Rattle.egt_board.specs.Pawn.{Advances}
+use Rattle.egt_lanes.specs.Blocks.{at}
+use Rattle.egt_steps.specs.QuietStands.{IsClear}
+use Rattle.egt_blocks.proofs.QuietRaising.{RowsRaised}
+use Rattle.egt_blocks.proofs.advance_blocks.raise_advances.Given as goal
+
+abbrev pub invariant-loop-a : goal.invariant-loop-a
+invariant-loop-a l = RowsRaised (λ a b t. Advances (IsClear l.men a) l.side b t × (bit_at l.arrivals.bits t ≡ 1)) (λ a b t. at l.scores a t) l.initial.out l.out l.a

@@ -1,0 +1,18 @@
+use Rattle.std.proofs.Common.{ℕ}
+use Rattle.egt_board.specs.AttackLines.{Reaches}
+use Rattle.egt_lanes.specs.Blocks.{IsOpen, at}
+use Rattle.egt_steps.specs.QuietStands.{IsClear}
+use Rattle.egt_blocks.specs.QuietSteps.{IsFirstStep}
+use Rattle.egt_blocks.proofs.QuietRaising.{no_pawn}
+use Rattle.egt_blocks.proofs.BlockRaising.{raised_alike}
+use Rattle.egt_blocks.proofs.QuietRaising.{open_is_clear, steps_raised}
+use Rattle.egt_blocks.proofs.quiet_blocks.raise_first.Goals as goal
+
+pub returns-then-is_own_piece : goal.returns-then-is_own_piece
+returns-then-is_own_piece c = λ a b a_in b_in.
+    let men = c.args.men.now in
+    let own = c.is_own_piece.ensures.yes c.if-is_own_piece.true in
+    let f : ℕ → ℕ = λ t. at c.args.scores.now t b in
+    let raised =
+    steps_raised (IsOpen c.kings_of.result.bits b) (IsClear men b) men.one a f (at c.args.out.now a b) (at c.raise_rows.new.out a b) (open_is_clear men c.kings_of.result.bits b c.kings_of.ensures) (c.raise_rows.ensures a b a_in b_in) in
+    raised_alike (at c.args.out.now a b) (at c.raise_rows.new.out a b) (λ t. Reaches (IsClear men b) men.one a t) (IsFirstStep men c.args.side a b) f raised (λ t h. h.2) (λ t h. (own.0, no_pawn men.one.kind own.1, h))

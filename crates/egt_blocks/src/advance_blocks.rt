@@ -1,0 +1,336 @@
+//! The scores of the positions after the last man beside the kings, a pawn, advances or is promoted where he takes the first.
+ghost use Rattle.std.specs.Prelude.{◌≡◌, ◌↔◌, ◌<◌, ◌==◌, ℕ, true, false, IfSome, IsTrue};
+ghost use Rattle.egt_board.specs.Man.{other_side};
+ghost use Rattle.egt_board.specs.Pawn.{Advances, last_rank, pawn_of};
+ghost use Rattle.egt_board.specs.Square.{rank_of};
+ghost use Rattle.egt_board.specs.SquareSet.{Has};
+ghost use Rattle.egt_board.specs.Turned.{turned_man};
+ghost use Rattle.egt_index.specs.LoneCodes.{IsLoneMan};
+ghost use Rattle.egt_index.specs.ShelfCodes.{AreMenOf};
+ghost use Rattle.egt_lanes.specs.Advances.{AdvancesBy};
+ghost use Rattle.egt_lanes.specs.Blocks.{at};
+ghost use Rattle.egt_lanes.specs.Raised.{IsRaised};
+ghost use Rattle.egt_moves.specs.Promotion.{FitsPromotion, IsOfficer, arriving};
+ghost use Rattle.egt_steps.specs.InPassing.{AreLeapCodes, AreStepCodes};
+ghost use Rattle.egt_blocks.specs.Leaps.{AreStill, IsBesideWhere, leap_rank};
+ghost use Rattle.egt_steps.specs.PawnMoves.{AreAdvancedCodes, ArePromotedCodes, men_after, men_two, officer_of, stand_after};
+ghost use Rattle.egt_steps.specs.QuietStands.{IsClear};
+ghost use Rattle.egt_steps.specs.Takings.{IsPastKings};
+ghost use Rattle.egt_blocks.specs.Scored.{IsReadWith, ScoresNoVoids};
+
+use crate::blocks::{nothing, read_block};
+use crate::men::{kings_of, men_swapped};
+use crate::own_men::{is_of, is_pawn_of, turned_man};
+use crate::scored::{LoneScores, ShelfScores};
+use crate::taken_blocks::{raise_takes, read_left};
+use egt_board::pawn::squares_beside;
+use egt_board::{Kind, Man, Side, Square, SquareSet};
+use egt_index::ShelfMen;
+use egt_lanes::block::raise_transposed;
+use egt_lanes::sets::{kept, rank_squares};
+use egt_lanes::shift::{advanced, advanced_by_one, advanced_by_two};
+use egt_lanes::{Block, Row};
+use egt_table::Column;
+use std::simd::prelude::*;
+
+/// These two beside the kings, in colours exchanged where `flips`.
+fn men_two(flips: bool, men: &ShelfMen, one: Man, last: Man) -> ShelfMen
+    ensures { result ≡ men_two flips men.now one last }
+{
+    ShelfMen {
+        white: if flips { men.black } else { men.white },
+        black: if flips { men.white } else { men.black },
+        one: turned_man(one, flips),
+        on: men.on,
+        last: turned_man(last, flips),
+    }
+}
+
+/// The men where the last one is now this man, whom the class names before the first where `before`.
+fn men_after(before: bool, flips: bool, men: &ShelfMen, man: Man) -> ShelfMen
+    ensures { result ≡ men_after before flips men.now man }
+{
+    if before {
+        men_two(flips, men, man, men.one)
+    } else {
+        men_two(flips, men, men.one, man)
+    }
+}
+
+/// The squares on which that side's pawn arrives: on its last rank where he is promoted, else on the others.
+fn arrivals(promo: Option<Kind>, side: Side) -> SquareSet
+    requires { IfSome promo IsOfficer }
+    ensures { (t : ℕ) → t < 64 → Has result t ↔ FitsPromotion (rank_of t == last_rank side) promo }
+{
+    let last = rank_squares(side.last_rank());
+    match promo {
+        Some(_kind) => last,
+        None => SquareSet::ALL.without(last),
+    }
+}
+
+/// The squares on which no king stands.
+fn past_kings(men: &ShelfMen) -> SquareSet
+    ensures { (u : ℕ) → u < 64 → Has result u ↔ IsPastKings men.now u }
+{
+    SquareSet::ALL.without(kings_of(men))
+}
+
+/// The scores of the positions where the last man is now this one, the other side to move, and a target where one was passed: by the first one's square,
+/// if it is of `ones`, and his, if it is of `lasts`. False where the source does not tell.
+fn read_after<S: ShelfScores>(
+    source: &S,
+    column: Column,
+    before: bool,
+    flips: bool,
+    passed: bool,
+    men: &ShelfMen,
+    man: Man,
+    ones: SquareSet,
+    lasts: SquareSet,
+    side: Side,
+    out: &mut Block,
+) -> bool
+    requires there { S.has source.now column }
+    requires voids { ScoresNoVoids (S.number source.now) (S.worth source.now column) }
+    requires men { AreMenOf (S.number source.now) (men_after before flips men.now man) }
+    ensures { result ≡ true → (a t : ℕ) → a < 64 → t < 64 → Has ones a → Has lasts t → IsReadWith passed (S.number source.now) (S.worth source.now column) flips (stand_after before flips men.now a man t) (other_side side) (at out.new a t) }
+{
+    let after = men_after(before, flips, men, man);
+    let other = side.other();
+    if !before {
+        return read_block(source, column, flips, passed, &after, ones, other, out);
+    }
+    let mut scores = nothing();
+    if !read_block(
+        source,
+        column,
+        flips,
+        passed,
+        &after,
+        lasts,
+        other,
+        &mut scores,
+    ) {
+        return false;
+    }
+    *out = nothing();
+    raise_transposed(out, &scores);
+    true
+}
+
+/// Raises each row to the scores where the last man, a pawn of that side, advances to one of these squares.
+fn raise_advances(men: &ShelfMen, arrivals: SquareSet, side: Side, scores: &Block, out: &mut Block)
+    ensures { (a b : ℕ) → a < 64 → b < 64 →
+        IsRaised (at out.old a b) (λ t. Advances (IsClear men.now a) side b t × Has arrivals t) (λ t. at scores.now a t) (at out.new a b) }
+{
+    let open = past_kings(men);
+    for a in 0..64u8 {
+        let row = a as usize;
+        let free = open.less(Square::at(a));
+        out[row] = advanced(out[row], kept(scores[row], arrivals), free, side);
+    }
+}
+
+/// The scores of the positions after the last man, a pawn of that side, advanced to the last rank and was promoted so. False where the source does not tell.
+pub fn promotion_block<S: ShelfScores>(
+    source: &S,
+    column: Column,
+    before: bool,
+    flips: bool,
+    men: &ShelfMen,
+    kind: Kind,
+    side: Side,
+    out: &mut Block,
+) -> bool
+    requires there { S.has source.now column }
+    requires voids { ScoresNoVoids (S.number source.now) (S.worth source.now column) }
+    requires men { AreMenOf (S.number source.now) (men_after before flips men.now (arriving men.now.last (Some kind))) }
+    requires officer { IsOfficer kind }
+    ensures { result ≡ true → (a b : ℕ) → a < 64 → b < 64 →
+        IsRaised 0 (AreAdvancedCodes (S.number source.now) before flips men.now side (Some kind) a b) (S.worth source.now column) (at out.new a b) }
+{
+    *out = nothing();
+    if !is_pawn_of(men.last, side) {
+        return true;
+    }
+    let man = Man {
+        side: men.last.side,
+        kind,
+    };
+    let arrivals = arrivals(Some(kind), side);
+    let mut scores = nothing();
+    if !read_after(
+        source,
+        column,
+        before,
+        flips,
+        false,
+        men,
+        man,
+        SquareSet::ALL,
+        arrivals,
+        side,
+        &mut scores,
+    ) {
+        return false;
+    }
+    raise_advances(men, arrivals, side, &scores, out);
+    true
+}
+
+/// The squares beside this one, or the others.
+fn squares_where(beside: bool, square: Square) -> SquareSet
+    ensures { (t : ℕ) → t < 64 → Has result t ↔ IsBesideWhere beside square t }
+{
+    let here = squares_beside(square);
+    if beside {
+        here
+    } else {
+        SquareSet::ALL.without(here)
+    }
+}
+
+/// Raises each row to the scores where the last man, a pawn of that side, advances by one square to one of these.
+fn raise_steps(men: &ShelfMen, arrivals: SquareSet, side: Side, scores: &Block, out: &mut Block)
+    ensures { (a b : ℕ) → a < 64 → b < 64 →
+        IsRaised (at out.old a b) (λ t. AdvancesBy 1 (IsClear men.now a) side b t × Has arrivals t) (λ t. at scores.now a t) (at out.new a b) }
+{
+    let open = past_kings(men);
+    for a in 0..64u8 {
+        let row = a as usize;
+        let free = open.less(Square::at(a));
+        out[row] = advanced_by_one(out[row], kept(scores[row], arrivals), free, side);
+    }
+}
+
+/// Raises each row to the scores where the last man, a pawn of that side, advances by two squares to beside the first man, or to elsewhere.
+fn raise_leaps(men: &ShelfMen, beside: bool, side: Side, scores: &Block, out: &mut Block)
+    ensures { (a b : ℕ) → a < 64 → b < 64 →
+        IsRaised (at out.old a b) (λ t. AdvancesBy 2 (IsClear men.now a) side b t × IsBesideWhere beside a t) (λ t. at scores.now a t) (at out.new a b) }
+{
+    let open = past_kings(men);
+    for a in 0..64u8 {
+        let row = a as usize;
+        let square = Square::at(a);
+        let free = open.less(square);
+        let arrivals = squares_where(beside, square);
+        out[row] = advanced_by_two(out[row], kept(scores[row], arrivals), free, side);
+    }
+}
+
+/// The scores of the positions after the last man, a pawn of that side, advanced and left no target: `still` are those of the men on their squares, the
+/// other side to move. The contract alone reads the source.
+pub fn step_block<S: ShelfScores>(
+    source: &S,
+    column: Column,
+    first: bool,
+    men: &ShelfMen,
+    side: Side,
+    still: &Block,
+    out: &mut Block,
+)
+    requires { AreStill (S.number source.now) (S.worth source.now column) first men.now side still.now }
+    ensures { (a b : ℕ) → a < 64 → b < 64 → IsRaised 0 (AreStepCodes (S.number source.now) first men.now side a b) (S.worth source.now column) (at out.new a b) }
+{
+    *out = nothing();
+    if !is_pawn_of(men.last, side) {
+        return;
+    }
+    let arrivals = arrivals(None, side);
+    if is_pawn_of(men.one, side.other()) {
+        raise_steps(men, arrivals, side, still, out);
+        raise_leaps(men, false, side, still, out);
+    } else {
+        raise_advances(men, arrivals, side, still, out);
+    }
+}
+
+/// The squares to which that side's pawns advance by two squares.
+fn leap_squares(side: Side) -> SquareSet
+    ensures { (t : ℕ) → t < 64 → Has result t ↔ (rank_of t ≡ leap_rank side) }
+{
+    match side {
+        Side::White => rank_squares(3),
+        Side::Black => rank_squares(4),
+    }
+}
+
+/// The scores of the positions after the last man, a pawn of that side, advanced and left a target. False where the source does not tell.
+pub fn leap_block<S: ShelfScores>(
+    source: &S,
+    column: Column,
+    first: bool,
+    men: &ShelfMen,
+    side: Side,
+    out: &mut Block,
+) -> bool
+    requires there { S.has source.now column }
+    requires voids { ScoresNoVoids (S.number source.now) (S.worth source.now column) }
+    requires men { AreMenOf (S.number source.now) (men_after first false men.now men.now.last) }
+    ensures { result ≡ true → (a b : ℕ) → a < 64 → b < 64 → IsRaised 0 (AreLeapCodes (S.number source.now) first men.now side a b) (S.worth source.now column) (at out.new a b) }
+{
+    *out = nothing();
+    if !is_pawn_of(men.last, side) || !is_pawn_of(men.one, side.other()) {
+        return true;
+    }
+    // He who may take stands beside.
+    let squares = leap_squares(side);
+    let mut scores = nothing();
+    if !read_after(
+        source,
+        column,
+        first,
+        false,
+        true,
+        men,
+        men.last,
+        squares,
+        squares,
+        side,
+        &mut scores,
+    ) {
+        return false;
+    }
+    raise_leaps(men, true, side, &scores, out);
+    true
+}
+
+/// The scores of the positions after the last man, a pawn of that side, took the first on the last rank and was promoted so. False where the source does
+/// not tell.
+pub fn promoting_block<S: LoneScores>(
+    source: &S,
+    column: Column,
+    flips: bool,
+    men: &ShelfMen,
+    kind: Kind,
+    side: Side,
+    out: &mut Block,
+) -> bool
+    requires there { S.has source.now column }
+    requires lone { IsLoneMan (S.number source.now) (turned_man flips (officer_of side kind)) }
+    requires officer { IsOfficer kind }
+    ensures { result ≡ true → (a b : ℕ) → a < 64 → b < 64 →
+        IsRaised 0 (ArePromotedCodes (S.number source.now) flips men.now side kind a b) (S.worth source.now column) (at out.new a b) }
+{
+    *out = nothing();
+    if !is_pawn_of(men.last, side) || !is_of(men.one, side.other()) {
+        return true;
+    }
+    let promoted = ShelfMen {
+        white: men.white,
+        black: men.black,
+        one: Man { side, kind },
+        on: men.on,
+        last: men.last,
+    };
+    let mut scores = Row::splat(0);
+    if !read_left(source, column, flips, &promoted, side, &mut scores) {
+        return false;
+    }
+    let arrived = kept(scores, rank_squares(side.last_rank()));
+    let mut takes = nothing();
+    raise_takes(&men_swapped(men), &arrived, &mut takes);
+    raise_transposed(out, &takes);
+    true
+}

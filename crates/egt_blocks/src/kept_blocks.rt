@@ -1,0 +1,141 @@
+//! Blocks that were read shortly before. Kings who stand near each other step to the same squares, so pairs of kings that
+//! are judged one after the other read most blocks once.
+ghost use Rattle.std.specs.Prelude.{◌≡◌, ◌<◌, ℕ, List, [], false, true, slice_index_or};
+ghost use Rattle.egt_board.specs.declared.man.Side.{Side};
+ghost use Rattle.egt_index.specs.ShelfCodes.{AreMenOf};
+ghost use Rattle.egt_index.specs.TurnedMen.{IsSomeTurnedCode};
+ghost use Rattle.egt_index.specs.declared.shelf_codes.ShelfMen.{ShelfMen};
+ghost use Rattle.egt_lanes.specs.Blocks.{at};
+ghost use Rattle.egt_lanes.specs.Raised.{IsRaised};
+ghost use Rattle.egt_table.specs.declared.column.Column.{Column};
+ghost use Rattle.egt_steps.specs.Stands.{stand_on};
+ghost use Rattle.egt_blocks.specs.Kept.{AreKept, IsOfMen, place_of};
+ghost use Rattle.egt_blocks.specs.Scored.{IsRead, ScoresNoVoids};
+
+use crate::blocks::read_block;
+use crate::men::king_of_men;
+use crate::scored::ShelfScores;
+use egt_board::{Side, Square, SquareSet};
+use egt_index::ShelfMen;
+use egt_lanes::Block;
+use egt_lanes::block::raise;
+use egt_table::Column;
+
+/// Of which column a block is, and where the kings of its positions stand.
+#[derive(Clone, Copy)]
+pub struct BlockKey {
+    pub column: Column,
+    pub white: Square,
+    pub black: Square,
+}
+
+/// Which blocks are kept, each in its place; `None` before one is read.
+pub type BlockKeys = [Option<BlockKey>; 12];
+
+/// Those blocks.
+pub type KeptBlocks = [Block; 12];
+
+/// No block's key.
+pub fn no_keys() -> BlockKeys
+    ensures { (c : ℕ) (worth : Column → ℕ → ℕ) (men : ShelfMen) (side : Side) (blocks : List (List (List ℕ))) → AreKept c worth men side result blocks }
+{
+    [None; 12]
+}
+
+/// Whether the key is that of the column's block of these men.
+fn is_of(key: Option<BlockKey>, column: Column, men: &ShelfMen) -> bool
+    ensures { result ≡ true → IsOfMen key column men.now }
+{
+    match key {
+        Some(key) => key.column == column && key.white == men.white && key.black == men.black,
+        None => false,
+    }
+}
+
+/// The place of a block by its column and by the square of the king who moves: squares of two files and three ranks side by
+/// side have different places, and so have the columns that are judged at the same time.
+fn place_of(column: Column, king: Square) -> usize
+    ensures { result ≡ place_of column king }
+{
+    let first = match column {
+        Column::Zeroing => 6,
+        Column::Mate | Column::Reach => 0,
+    };
+    first + usize::from(king.number() % 2 * 3 + king.number() / 8 % 3)
+}
+
+/// The scores of the positions with these men where that side is to move. False where the source does not tell.
+#[tactic(auto, using(crate::proofs::BlockRaising::all_squares))]
+fn read_all<S: ShelfScores>(
+    source: &S,
+    column: Column,
+    men: &ShelfMen,
+    side: Side,
+    out: &mut Block,
+) -> bool
+    requires there { S.has source.now column }
+    requires voids { ScoresNoVoids (S.number source.now) (S.worth source.now column) }
+    requires men { AreMenOf (S.number source.now) men.now }
+    ensures { result ≡ true → (a b : ℕ) → a < 64 → b < 64 → IsRead (S.number source.now) (S.worth source.now column) false (stand_on men.now a b) side (at out.new a b) }
+{
+    read_block(source, column, false, false, men, SquareSet::ALL, side, out)
+}
+
+/// Reads the block of these men into the place, where it is not there. False where the source does not tell.
+fn keep<S: ShelfScores>(
+    source: &S,
+    column: Column,
+    men: &ShelfMen,
+    side: Side,
+    place: usize,
+    keys: &mut BlockKeys,
+    blocks: &mut KeptBlocks,
+) -> bool
+    requires there { S.has source.now column }
+    requires voids { ScoresNoVoids (S.number source.now) (S.worth source.now column) }
+    requires men { AreMenOf (S.number source.now) men.now }
+    requires place { place < 12 }
+    requires kept { AreKept (S.number source.now) (S.worth source.now) men.now side keys.old blocks.old }
+    ensures kept { AreKept (S.number source.now) (S.worth source.now) men.now side keys.new blocks.new }
+    ensures read { result ≡ true → (a b : ℕ) → a < 64 → b < 64 → IsRead (S.number source.now) (S.worth source.now column) false (stand_on men.now a b) side (at (slice_index_or blocks.new place []) a b) }
+{
+    if is_of(keys[place], column, men) {
+        return true;
+    }
+    keys[place] = None;
+    if !read_all(source, column, men, side, &mut blocks[place]) {
+        return false;
+    }
+    keys[place] = Some(BlockKey {
+        column,
+        white: men.white,
+        black: men.black,
+    });
+    true
+}
+
+/// Raises the block to the scores of the positions with these men where that side is to move. False where the source does
+/// not tell.
+pub fn raise_kept<S: ShelfScores>(
+    source: &S,
+    column: Column,
+    men: &ShelfMen,
+    side: Side,
+    keys: &mut BlockKeys,
+    blocks: &mut KeptBlocks,
+    out: &mut Block,
+) -> bool
+    requires there { S.has source.now column }
+    requires voids { ScoresNoVoids (S.number source.now) (S.worth source.now column) }
+    requires men { AreMenOf (S.number source.now) men.now }
+    requires kept { AreKept (S.number source.now) (S.worth source.now) men.now side keys.old blocks.old }
+    ensures kept { AreKept (S.number source.now) (S.worth source.now) men.now side keys.new blocks.new }
+    ensures raised { result ≡ true → (a b : ℕ) → a < 64 → b < 64 → IsRaised (at out.old a b) (λ code. IsSomeTurnedCode (S.number source.now) code false (stand_on men.now a b) side) (S.worth source.now column) (at out.new a b) }
+{
+    let place = place_of(column, king_of_men(men, side.other()));
+    if !keep(source, column, men, side, place, keys, blocks) {
+        return false;
+    }
+    raise(out, &blocks[place]);
+    true
+}

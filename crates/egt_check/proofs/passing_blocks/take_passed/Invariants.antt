@@ -1,6 +1,0 @@
-use Rattle.egt_check.specs.PassedRows.{IsAtPassed}
-use Rattle.egt_check.proofs.PassingRaising.{RowsAre}
-use Rattle.egt_check.proofs.passing_blocks.take_passed.Given as goal
-
-abbrev pub invariant-loop-a : goal.invariant-loop-a
-invariant-loop-a l = RowsAre (IsAtPassed l.side l.arrived) l.out l.a

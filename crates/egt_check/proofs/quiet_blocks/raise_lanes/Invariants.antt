@@ -1,8 +1,0 @@
-use Rattle.egt_board.specs.AttackLines.{Reaches}
-use Rattle.egt_lanes.specs.Blocks.{at}
-use Rattle.egt_steps.specs.QuietStands.{IsClear}
-use Rattle.egt_check.proofs.QuietRaising.{RowsRaised}
-use Rattle.egt_check.proofs.quiet_blocks.raise_lanes.Given as goal
-
-abbrev pub invariant-loop-a : goal.invariant-loop-a
-invariant-loop-a l = RowsRaised (λ a b t. Reaches (IsClear l.men a) l.men.last b t) (λ a b t. at l.scores a t) l.initial.out l.out l.a

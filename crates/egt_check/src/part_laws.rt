@@ -1,0 +1,30 @@
+//! What holds of the entries of either part beside the greatest scores of all moves. This function does nothing: a caller calls it to know what it ensures.
+ghost use Rattle.std.specs.Prelude.{◌≡◌, ◌≢◌, ℕ, Bool};
+ghost use Rattle.egt_board.specs.declared.man.Kind.TheVariants.{K};
+ghost use Rattle.egt_board.specs.declared.man.Side.{Side};
+ghost use Rattle.egt_index.specs.declared.shelf_codes.ShelfMen.{ShelfMen};
+ghost use Rattle.egt_entries.specs.Tables.{Tables};
+ghost use Rattle.egt_check.specs.MoveScores.{AreTablesOf};
+ghost use Rattle.egt_check.specs.Parts.{four_in, tables_in};
+ghost use Rattle.egt_check.specs.ReachScores.{AreAllScoresOf};
+ghost use Rattle.egt_check.specs.RightBlock.{IsRightLane, KeepsPart};
+ghost use Rattle.egt_check.specs.declared.move_scores.FourMen.{FourMen};
+ghost use Rattle.egt_check.specs.declared.part.Part.{Part};
+
+use crate::laws::{all_scores_give_all_moves, due_bytes_are_right};
+use crate::reach_laws::{all_reach_scores_give_all_moves, due_reaches_are_right};
+use egt_index::laws::{a_code_is_an_index_or_void, codes_tell_their_men, numbers_stand_for_codes};
+
+/// Entries of a part that are due to the greatest scores of all moves keep the rules, whether or not their code is an index.
+pub fn entries_due_to_all_moves_are_right()
+    ensures { (part : Part) (tables : Tables) (four : FourMen) (men : ShelfMen) (side : Side) (passed : Bool) (a b i score zeroing : ℕ) → AreTablesOf (tables_in part tables) (four_in part four) men → men.one.kind ≢ K → men.last.kind ≢ K →
+        IsRightLane part passed four.own.now men side a b i score zeroing → AreAllScoresOf part passed four men side a b score zeroing → KeepsPart part tables four.own.now i }
+{
+    a_code_is_an_index_or_void();
+    codes_tell_their_men();
+    numbers_stand_for_codes();
+    all_scores_give_all_moves();
+    all_reach_scores_give_all_moves();
+    due_bytes_are_right();
+    due_reaches_are_right();
+}
