@@ -9,7 +9,8 @@ pub mod Raising
 pub mod Rays
 pub mod Riding
 pub mod Entries
-pub mod Walking
+pub mod Sweeping
+pub mod Rowwise
 pub mod Advancing
 pub mod Likeness
 pub mod Nearness

@@ -1,6 +1,7 @@
 pub mod Scores
 pub mod Moved
 pub mod Raised
+pub mod Sweeps
 pub mod Blocks
 pub mod Pieces
 pub mod Alike

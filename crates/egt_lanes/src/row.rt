@@ -24,12 +24,3 @@ pub fn differ(a: Row, b: Row, within: Row) -> bool
     let wrong = a.simd_ne(b).select(within, nothing);
     wrong.simd_ne(nothing).any()
 }
-
-/// The row where the mask is 255, and 0 where it is 0.
-#[inline(always)]
-pub(crate) fn masked(row: Row, mask: Row) -> Row
-    ensures kept { (s : ℕ) → s < 64 → slice_index mask s ≡ 255 → slice_index result s ≡ slice_index row s }
-    ensures cleared { (s : ℕ) → s < 64 → slice_index mask s ≡ 0 → slice_index result s ≡ 0 }
-{
-    row.simd_min(mask)
-}

@@ -136,7 +136,7 @@ pub fn ridden(row: Row, free: SquareSet, step: Step) -> Row
 
 /// So many files and so many ranks further.
 #[inline(always)]
-fn step(files: Way, wide: u8, ranks: Way, high: u8) -> Step
+pub(crate) fn step(files: Way, wide: u8, ranks: Way, high: u8) -> Step
     ensures { result ≡ the_step files wide ranks high }
 {
     Step {

@@ -3,7 +3,7 @@ use Rattle.std.specs.Int.{bit_at}
 use Rattle.egt_board.specs.Pawn.{Advances}
 use Rattle.egt_lanes.specs.Blocks.{at}
 use Rattle.egt_steps.specs.QuietStands.{IsClear}
-use Rattle.egt_blocks.proofs.QuietRaising.{RowsRaised}
+use Rattle.egt_lanes.proofs.Rowwise.{RowsRaised}
 use Rattle.egt_blocks.proofs.advance_blocks.raise_advances.Given as goal
 
 abbrev pub invariant-loop-a : goal.invariant-loop-a

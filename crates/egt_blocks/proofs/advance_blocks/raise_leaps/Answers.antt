@@ -6,7 +6,7 @@ use Rattle.egt_blocks.specs.Leaps.{IsBesideWhere}
 use Rattle.egt_steps.specs.QuietStands.{IsClear}
 use Rattle.egt_blocks.proofs.AdvanceRaising.{clear_without}
 use Rattle.egt_blocks.proofs.LeapRaising.{arrived_by}
-use Rattle.egt_blocks.proofs.QuietRaising.{rows_more}
+use Rattle.egt_lanes.proofs.Rowwise.{rows_more}
 use Rattle.egt_blocks.proofs.advance_blocks.raise_leaps.Goals as goal
 
 pub loop-a-preserved : goal.loop-a-preserved

@@ -3,7 +3,8 @@ use Rattle.std.specs.Int.{bit_at}
 use Rattle.egt_board.specs.AttackLines.{Reaches}
 use Rattle.egt_lanes.specs.Blocks.{at}
 use Rattle.egt_steps.specs.QuietStands.{IsClear}
-use Rattle.egt_blocks.proofs.QuietRaising.{rows_more, steps_raised}
+use Rattle.egt_blocks.proofs.QuietRaising.{steps_raised}
+use Rattle.egt_lanes.proofs.Rowwise.{rows_more}
 use Rattle.egt_blocks.proofs.quiet_blocks.raise_lanes.Goals as goal
 
 pub loop-a-preserved : goal.loop-a-preserved

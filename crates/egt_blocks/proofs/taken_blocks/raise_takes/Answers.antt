@@ -3,7 +3,7 @@ use Rattle.std.specs.Int.{bit_at}
 use Rattle.std.specs.Prelude.{slice_index}
 use Rattle.egt_board.specs.AttackLines.{Reaches}
 use Rattle.egt_lanes.specs.Blocks.{at}
-use Rattle.egt_blocks.proofs.QuietRaising.{rows_more}
+use Rattle.egt_lanes.proofs.Rowwise.{rows_more}
 use Rattle.egt_blocks.proofs.Taking.{IsTake, take_raised}
 use Rattle.egt_blocks.proofs.taken_blocks.raise_takes.Goals as goal
 

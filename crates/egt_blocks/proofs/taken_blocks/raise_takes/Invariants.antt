@@ -1,5 +1,5 @@
 use Rattle.std.specs.Prelude.{slice_index}
-use Rattle.egt_blocks.proofs.QuietRaising.{RowsRaised}
+use Rattle.egt_lanes.proofs.Rowwise.{RowsRaised}
 use Rattle.egt_blocks.proofs.Taking.{IsTake}
 use Rattle.egt_blocks.proofs.taken_blocks.raise_takes.Given as goal
 
