@@ -1,10 +1,10 @@
 -- From which places of a word moves lead into a set.
 use Rattle.std.proofs.Common.{◌≡◌, ◌≢◌, ◌↔◌, ℕ, ◌+◌, ◌-◌, ◌*◌, ◌/◌, ◌%◌, ◌<◌, ◌≤◌, ◌^◌, ◌⊎◌, Bool, true, false, Option, List, [], ◌∷◌, length, slice_index, get_or, take, drop, refl, sym, ap, subst, ◌∙◌, inl, inr, arith, bit_and, bit_or, w64}
 use Rattle.std.specs.Int.{bit_at, bit_not}
-use Rattle.std.specs.List.{All, Contains}
+use Rattle.std.specs.List.{Contains}
 use Rattle.std.proofs.lemmas.Bool.{cases_eq, cases_lt}
 use Rattle.std.proofs.lemmas.List.{take_more, take_all, take-append-drop}
-use Rattle.std.proofs.lemmas.List.Elements.{All-contains, Contains-push, Contains-push_cases, Contains-append_left}
+use Rattle.std.proofs.lemmas.List.Elements.{Contains-push, Contains-push_cases, Contains-append_left}
 use Rattle.std.proofs.lemmas.Nat.Bits.{bit_at-lt, bit_at-zero, bit_at_and, bit_at_or, bit_at_not, bit_at_above}
 use Rattle.std.proofs.lemmas.Nat.{div-mul-add, div-add-mod'}
 use Rattle.egt_graph.specs.WordMoves.{FitsPushes, FitsTurns, GoesByWord, GoesLeaping, GoesPushed, GoesPushedIf, GoesStraight, GoesTurned, GoesWithin, IsAhead, LeadsByOne, LeadsStraight, LeadsTurned, LeapsTo, PushesInto, PushesTo, turned_place}

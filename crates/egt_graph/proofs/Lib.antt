@@ -32,3 +32,4 @@ pub mod StandIns
 pub mod Nearby
 pub mod NearFinding
 pub mod NearListing
+pub mod Due

@@ -4,8 +4,8 @@ use Rattle.std.specs.List.{list_any, list_all}
 use Rattle.std.specs.List.Sorted.{IsStrictlyIncreasing}
 use Rattle.egt_graph.specs.Columns.{count_of}
 use Rattle.std.proofs.lemmas.Bool.{or_cases, or_left, or_right, and_parts, and_from, false≢true, cases_Bool, lt-ltb, eqb-true, eq-eqb, ne_eqb}
-use Rattle.std.proofs.lemmas.List.Sums.{sum_by-cons}
-use Rattle.std.proofs.lemmas.List.Elements.{All-contains_itself, All-head, All-tail, All-weaker}
+use Rattle.std.proofs.lemmas.List.Sums.{AllPass-from_list_all, list_all-from_AllPass, sum_by-cons}
+use Rattle.std.proofs.lemmas.List.Elements.{All-contains, All-contains_itself, All-head, All-tail, All-weaker}
 
 -- ---- tests of each and of some element
 
@@ -16,6 +16,25 @@ any_weaker p q w (x ∷ xs) h = ⊎_elim (λ a. or_left _ _ (w x a)) (λ b. or_r
 pub all_weaker : {X : Type 0} (p q : X → Bool) → ((x : X) → p x ≡ true → q x ≡ true) → (xs : List X) → list_all p xs ≡ true → list_all q xs ≡ true
 all_weaker p q w [] h = h
 all_weaker p q w (x ∷ xs) h = let t = and_parts (p x) (list_all p xs) h in and_from _ _ (w x t.0) (all_weaker p q w xs t.1)
+
+-- a list has an element that passes, or each that it contains does
+pub any_contains : {X : Type 0} (p : X → Bool) (xs : List X) → list_any p xs ≡ true → (x : X) × Contains xs x × (p x ≡ true)
+any_contains p [] h = absurd (false≢true h)
+any_contains p (x ∷ xs) h = elim (cases_Bool (p x)) [
+  | inl t ↦ (x, (0, omega arith, refl), t)
+  | inr f ↦ let rest = any_contains p xs (sym (ap (λ b. b || list_any p xs) f) ∙ h) in (rest.0, (suc rest.1.0, omega (arith, rest.1.1), rest.1.2), rest.2)
+]
+
+pub contains_any : {X : Type 0} (p : X → Bool) (xs : List X) (x : X) → Contains xs x → p x ≡ true → list_any p xs ≡ true
+contains_any p [] x (k, lt, is) t = absurd (omega (arith, lt))
+contains_any p (y ∷ ys) x (zero, lt, is) t = or_left (p y) (list_any p ys) (ap p is ∙ t)
+contains_any p (y ∷ ys) x (suc k, lt, is) t = or_right (p y) (list_any p ys) (contains_any p ys x (k, omega (arith, lt), is) t)
+
+pub all_contains : {X : Type 0} (p : X → Bool) (xs : List X) (x : X) → list_all p xs ≡ true → Contains xs x → p x ≡ true
+all_contains p xs x all has = All-contains (λ y. p y ≡ true) xs x (AllPass-from_list_all p xs all) has
+
+pub contains_all : {X : Type 0} (p : X → Bool) (xs : List X) → ((x : X) → Contains xs x → p x ≡ true) → list_all p xs ≡ true
+contains_all p xs each = list_all-from_AllPass p xs (All-weaker (Contains xs) (λ x. p x ≡ true) each xs (All-contains_itself xs))
 
 pub any_same : {X : Type 0} (p q : X → Bool) → ((x : X) → p x ≡ q x) → (xs : List X) → list_any p xs ≡ list_any q xs
 any_same p q e [] = refl

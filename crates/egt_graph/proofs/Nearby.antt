@@ -16,7 +16,7 @@ use Rattle.egt_graph.proofs.Beginning.{Filled_more, pushed, outside}
 use Rattle.egt_graph.proofs.Holding.{decided_open, decided_shut, decided_mark, win_is_no_draw}
 use Rattle.egt_graph.proofs.Lists.{any_weaker, any_or, some_counts, counted_contains, contains_counted}
 use Rattle.egt_graph.proofs.Nodes.{node_from_test, test_from_node, leaves_at, leaves_none}
-use Rattle.egt_graph.proofs.WordRounds.{any_contains, contains_any}
+use Rattle.egt_graph.proofs.Lists.{any_contains, contains_any}
 
 pub same_both : (a b : Bool) → (a ≡ true → b ≡ true) → (b ≡ true → a ≡ true) → a ≡ b
 same_both true b there back = sym (there refl)

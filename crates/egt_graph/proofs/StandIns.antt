@@ -9,7 +9,7 @@ use Rattle.egt_graph.specs.declared.game.Exit.{Exit}
 use Rattle.egt_graph.specs.declared.game.Exit.TheVariants.{Win, Loss, Draw}
 use Rattle.egt_graph.proofs.Nearby.{one_near, same_both}
 use Rattle.egt_graph.proofs.Ranking.{one_value}
-use Rattle.egt_graph.proofs.WordRounds.{any_contains, contains_any}
+use Rattle.egt_graph.proofs.Lists.{any_contains, contains_any}
 
 all_by_any : {X : Type 0} (p : X → Bool) (xs : List X) → list_all p xs ≡ not (list_any (λ x. not (p x)) xs)
 all_by_any p [] = refl

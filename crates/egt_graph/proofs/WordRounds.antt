@@ -1,5 +1,5 @@
 -- One round by words: what is found where, and what it makes of the entries and the words.
-use Rattle.std.proofs.Common.{◌≡◌, ◌≢◌, ◌⊎◌, ℕ, zero, suc, ◌+◌, ◌*◌, Bool, true, false, cond, not, ◌&&◌, ◌||◌, eqb, List, [], ◌∷◌, refl, sym, ap, ap₂, ◌∙◌, inl, inr, ⊎_elim, arith, Contains}
+use Rattle.std.proofs.Common.{◌≡◌, ◌≢◌, ◌⊎◌, ℕ, zero, suc, ◌+◌, ◌*◌, Bool, true, false, cond, not, ◌&&◌, eqb, List, [], ◌∷◌, refl, sym, ap, ap₂, ◌∙◌, inl, inr, ⊎_elim, arith, Contains}
 use Rattle.std.specs.List.{list_any, list_all}
 use Rattle.std.proofs.lemmas.Bool.{cases_Bool, false≢true, both_ways, or_cases, or_left, or_right, and_parts, and_from, and_left, and_right, not-true, not_from_false, not_from_true, eqb-true, eq-eqb, false_from_ne_true}
 use Rattle.std.proofs.lemmas.List.Elements.{All-contains}
@@ -10,6 +10,7 @@ use Rattle.egt_graph.specs.Columns.{leaves, has_moves, entry_at}
 use Rattle.egt_graph.specs.WordRound.{is_undecided, is_unwon, is_lost_at, is_ready, is_due, is_found_won, is_found_lost, LeadsTo}
 use Rattle.egt_graph.specs.declared.game.Exit.{Exit}
 use Rattle.egt_graph.specs.declared.game.Exit.TheVariants.{Win, Loss, Draw}
+use Rattle.egt_graph.proofs.Lists.{all_contains, any_contains, contains_any}
 use Rattle.egt_graph.proofs.Values.{mates_more, mated_more, mated_le, mates_le, never_both}
 use Rattle.egt_graph.proofs.Nodes.{node_from_test, test_from_node, outs_at, leaves_at}
 use Rattle.egt_graph.proofs.Holding.{decided_open, decided_shut, win_is_no_draw, loss_is_no_draw}
@@ -17,18 +18,6 @@ use Rattle.egt_graph.proofs.Closing.{entry_none, entry_mated}
 use Rattle.egt_graph.proofs.Ranking.{spelled, Spells}
 
 -- ---- elements of lists
-
-pub any_contains : (p : ℕ → Bool) (xs : List ℕ) → list_any p xs ≡ true → (j : ℕ) × Contains xs j × (p j ≡ true)
-any_contains p [] h = absurd (false≢true h)
-any_contains p (x ∷ xs) h = elim (cases_Bool (p x)) [
-  | inl t ↦ (x, (0, omega arith, refl), t)
-  | inr f ↦ let rest = any_contains p xs (sym (ap (λ b. b || list_any p xs) f) ∙ h) in (rest.0, (suc rest.1.0, omega (arith, rest.1.1), rest.1.2), rest.2)
-]
-
-pub contains_any : (p : ℕ → Bool) (xs : List ℕ) (j : ℕ) → Contains xs j → p j ≡ true → list_any p xs ≡ true
-contains_any p [] j (k, lt, is) t = absurd (omega (arith, lt))
-contains_any p (x ∷ xs) j (zero, lt, is) t = or_left (p x) (list_any p xs) (ap p is ∙ t)
-contains_any p (x ∷ xs) j (suc k, lt, is) t = or_right (p x) (list_any p xs) (contains_any p xs j (k, omega (arith, lt), is) t)
 
 -- each passes, or some fails
 all_or_some : (p : ℕ → Bool) (xs : List ℕ) → (list_all p xs ≡ true) ⊎ ((j : ℕ) × Contains xs j × (p j ≡ false))
@@ -40,11 +29,6 @@ all_or_some p (x ∷ xs) = elim (cases_Bool (p x)) [
     | inr some ↦ inr (some.0, (suc some.1.0, omega (arith, some.1.1), some.1.2), some.2)
   ]
 ]
-
-all_contains : (p : ℕ → Bool) (xs : List ℕ) (j : ℕ) → list_all p xs ≡ true → Contains xs j → p j ≡ true
-all_contains p [] j h (k, lt, is) = absurd (omega (arith, lt))
-all_contains p (x ∷ xs) j h (zero, lt, is) = sym (ap p is) ∙ (and_parts (p x) (list_all p xs) h).0
-all_contains p (x ∷ xs) j h (suc k, lt, is) = all_contains p xs j (and_parts (p x) (list_all p xs) h).1 (k, omega (arith, lt), is)
 
 -- ---- a node that is not decided
 

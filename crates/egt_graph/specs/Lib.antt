@@ -17,3 +17,4 @@ pub mod WordMoves
 pub mod StandIns
 pub mod Near
 pub mod NearWords
+pub mod Due

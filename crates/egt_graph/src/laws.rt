@@ -1,4 +1,5 @@
 //! Laws over the definitions alone. Each is the contract of a function that does nothing.
+ghost use Rattle.egt_graph.specs.Due.{DueEntriesAreAsDeep, DueEntriesAreAsFar, DueEntriesAreNears, DueEntriesAreNumbers, DueEntriesAreRanks, DueEntriesAreValues, DueNumbersStay, DueValuesStay};
 ghost use Rattle.egt_graph.specs.Events.{EventsLeave, EachRoundIsOfItsRank, FinishedRunsAgree};
 ghost use Rattle.egt_graph.specs.Laws.{MorePliesDoNoHarm, EachNodeHasOneValue, AlikeGamesHaveTheSameRanks};
 ghost use Rattle.egt_graph.specs.StandIns.{StandInsAreAsDeep, StandInsAreAsFar, StandInsAreAsNear, StandInsShareEntries, StandInsShareNears, StandInsTellNears, StandInsTellRanks};
@@ -48,4 +49,25 @@ pub fn stand_ins_tell_nears()
     ensures nears { StandInsTellNears }
     ensures far { StandInsAreAsFar }
     ensures entries { StandInsShareNears }
+{}
+
+/// Entries that are due at every node, each by the best of its node's successors, are the ranks, by whatever way they were found;
+/// an entry past a limit tells of a rank above it.
+pub fn entries_that_are_due_are_the_ranks()
+    ensures values { DueEntriesAreValues }
+    ensures ranks { DueEntriesAreRanks }
+    ensures deep { DueEntriesAreAsDeep }
+{}
+
+/// And of the numbers of the nearest mates.
+pub fn numbers_that_are_due_are_the_nearest()
+    ensures numbers { DueEntriesAreNumbers }
+    ensures nears { DueEntriesAreNears }
+    ensures far { DueEntriesAreAsFar }
+{}
+
+/// What is due at a node stays due while the entries of the nodes that a move leads to stay.
+pub fn entries_stay_due()
+    ensures values { DueValuesStay }
+    ensures numbers { DueNumbersStay }
 {}

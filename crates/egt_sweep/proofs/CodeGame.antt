@@ -22,7 +22,7 @@ use Rattle.egt_moves.specs.declared.chess_move.Move.{Move}
 use Rattle.egt_graph.specs.Graph.{Graph, IsNode}
 use Rattle.egt_graph.specs.Passing.{passing_has, passing_is_below, passing_passes}
 use Rattle.egt_graph.specs.StandIns.{StandsFor}
-use Rattle.egt_graph.proofs.WordRounds.{any_contains, contains_any}
+use Rattle.egt_graph.proofs.Lists.{any_contains, contains_any}
 use Rattle.egt_entries.specs.declared.metric.Metric.{Metric}
 use Rattle.egt_entries.specs.declared.metric.Metric.TheVariants.{Mate, Zeroing}
 use Rattle.egt_check.specs.Alike.{StepAlike}
