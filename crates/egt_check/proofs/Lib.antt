@@ -35,3 +35,4 @@ pub mod VoidScores
 pub mod NearBytes
 pub mod NearScores
 pub mod NearJudged
+pub mod EqualTables

@@ -1,5 +1,6 @@
 //! What holds of tables and their rules. These functions do nothing: a caller calls one to know what it ensures.
 ghost use Rattle.std.specs.Prelude.{◌≡◌, ◌≢◌, ◌↔◌, ◌<◌, max, ℕ, Bool, false, None, Some};
+ghost use Rattle.std.specs.Option.{is_some};
 ghost use Rattle.egt_class.specs.Membership.{IsOf};
 ghost use Rattle.egt_index.specs.Code.{Spells};
 ghost use Rattle.egt_index.specs.Index.{IsIndex};
@@ -45,6 +46,8 @@ use egt_index::laws::{
     a_code_is_an_index_or_void, codes_spell_one_position, codes_tell_their_men,
     codes_tell_turned_men, numbers_stand_for_codes,
 };
+use egt_moves::laws::{one_value, one_zeroing_distance};
+use egt_moves::reaching::one_reach;
 use egt_steps::facts::facts;
 use egt_steps::laws::{captures_lead_to_three_men, quiet_moves_are_quiet_steps};
 use egt_steps::pawn_laws::pawns_moves_are_of_four_kinds;
@@ -56,6 +59,16 @@ pub fn rules_are_kept_by_true_tables_alone()
         ReachesDown tables t → KeepsRules tables t ↔ IsTrueTable t }
 {
     facts();
+}
+
+/// Two true tables of one class are equal where both have the column of the nearest mates or neither has it: so whoever made them made the same.
+pub fn true_tables_of_a_class_are_equal()
+    ensures { (t u : TableValue) → IsTable t → IsTable u → t.class ≡ u.class → is_some t.reach ≡ is_some u.reach → IsTrueTable t → IsTrueTable u → t ≡ u }
+{
+    a_code_is_an_index_or_void();
+    one_value();
+    one_zeroing_distance();
+    one_reach();
 }
 
 /// A position with an index in a class is of the class.
