@@ -157,7 +157,7 @@ fn words_that_name_no_class(rt: HostRuntime) {
         assert!(rt; both == Some(true), "{class}");
     }
     let wrong: [&[&str]; 3] = [
-        &["check", "nowhere"],
+        &["check"],
         &["stats"],
         &["check", ".", "KK", "KK"],
     ];
