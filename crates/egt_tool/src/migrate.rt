@@ -1,30 +1,14 @@
 //! The table of a class with the column of the nearest mates, in the place of one without.
-ghost use Rattle.std.specs.Prelude.{◌≡◌, ◌≢◌};
-ghost use Rattle.egt_sweep.specs.declared.migrate_fault.MigrateFault.TheVariants as faults;
-
 use crate::tool_fault::ToolFault;
 use egt_class::Class;
-use egt_commands::RunFault;
 use egt_commands::check::see_true;
 use egt_commands::line::{entries_line, name_line};
 use egt_commands::loading::{load_below, read};
 use egt_commands::printer::print;
 use egt_commands::saving::save;
-use egt_sweep::{BuildFault, MigrateFault, migrate};
+use egt_sweep::migrate;
 use egt_table::Sink;
 use std::rt::Files;
-
-/// What a fault of the builder's call ends a run with, for a table without the column. It is printed as one of a build.
-fn of_migrate(fault: MigrateFault) -> ToolFault
-    requires { fault ≢ faults.HasReach }
-{
-    match fault {
-        MigrateFault::NoMemory => ToolFault::Run(RunFault::NoMemory),
-        MigrateFault::NoReach(child) => ToolFault::Build(BuildFault::NoReach(child)),
-        MigrateFault::TooDeep => ToolFault::Build(BuildFault::TooDeep(32_000)),
-        MigrateFault::HasReach => unreachable!(),
-    }
-}
 
 /// `egtb migrate DIR CLASS`. No file is made before the column is.
 pub(crate) fn migrate_table<R: Files + AllocGlobal, O: Sink>(
@@ -41,7 +25,7 @@ pub(crate) fn migrate_table<R: Files + AllocGlobal, O: Sink>(
     }
     match migrate(rt.alloc(), table, &library) {
         Ok(table) => save(rt, folder, &table)?,
-        Err((_table, fault)) => return Err(of_migrate(fault)),
+        Err((_table, fault)) => return Err(ToolFault::of_migrate(fault)),
     }
     Ok(print(out, entries_line(rt.alloc(), "migrated", class)?.as_bytes())?)
 }

@@ -37,7 +37,10 @@ fn class_word(given: &ArgMatches<'_>) -> Result<Class, RunFault> {
 /// The class that the word names, where there is one.
 fn class_or_all(given: &ArgMatches<'_>) -> Result<Option<Class>, RunFault> {
     match given.get_str("CLASS") {
-        Some(_) => Ok(Some(class_word(given)?)),
+        Some(name) => match by_name(name) {
+            Some(class) => Ok(Some(class)),
+            None => Err(RunFault::NoSuchClass),
+        },
         None => Ok(None),
     }
 }

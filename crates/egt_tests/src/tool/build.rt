@@ -198,7 +198,10 @@ fn from_an_empty_folder_to_a_report(rt: HostRuntime) -> Result<(), Fail> {
     for step in REPORTS {
         assert!(rt; goes(&rt, &folder, step) == Some(true), "{}", step.1);
     }
-    for words in [["build", folder.as_str(), "KK"], ["probe", folder.as_str(), "KK"]] {
+    for words in [
+        ["build", folder.as_str(), "KK"],
+        ["probe", folder.as_str(), "KK"],
+    ] {
         let device = fails(&rt, &words, (1, 0), 3, "error device\n");
         assert!(rt; device == Some(true), "{}", words[0]);
     }

@@ -5,6 +5,8 @@ use super::{
 use egt_fixtures::kings::{WHOLE_LENGTH, kings_file, whole_kings_file};
 use egt_fixtures::shelf::file_of;
 use egt_plain::{PlainTables, table_of, whole_table_of};
+use egt_sweep::MigrateFault;
+use egt_tool::ToolFault;
 use std::alloc::Global;
 use std::fs;
 use std::test::Fail;
@@ -193,6 +195,15 @@ fn a_third_column_above_none(rt: HostRuntime) -> Result<(), Fail> {
     put(&rt, &folder, "KNK.egt", &knight_files(rt.alloc())?.second)?;
     all_go(&rt, &folder, &ABOVE)?;
     fs::remove_dir_all(&rt, folder.as_str())?;
+    Ok(())
+}
+
+// No position of chess to four men is so far from a checkmate.
+#[test]
+fn a_mate_that_is_too_far(rt: HostRuntime) -> Result<(), Fail> {
+    let ending = ToolFault::of_migrate(MigrateFault::TooDeep);
+    let line = format!(in rt.alloc(); "{ending}")?;
+    assert_eq!(rt; line.as_str(), "error build 2 TooDeep 32000");
     Ok(())
 }
 

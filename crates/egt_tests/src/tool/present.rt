@@ -2,12 +2,13 @@
 use super::{KINGS, Step, all_go, changed, fails, folder, put};
 use egt_fixtures::kings::{kings_file, whole_kings_file};
 use egt_fixtures::shelf::file_of;
-use egt_plain::{PlainTables, table_of, whole_table_of};
+use egt_plain::{PlainTables, whole_table_of};
 use std::fs;
 use std::test::Fail;
 
-/// A knight and a queen beside the kings, and a line that is no FEN.
-const MIXED: &str = "8/8/8/3k4/8/3N4/3K4/8 w - - 0 1\nx\n8/8/8/4k3/8/4K3/8/8 w - - 0 1\nk7/8/1K6/8/8/8/8/3Q4 w - - 0 1\n";
+/// A knight beside the kings, a line that is no FEN, two kings alone, and a queen beside them.
+const MIXED: &str =
+    "8/8/8/3k4/8/3N4/3K4/8 w - - 0 1\nx\n8/8/8/4k3/8/4K3/8/8 w - - 0 1\nk7/8/1K6/8/8/8/8/3Q4 w - - 0 1\n";
 
 /// What is told of a folder without the file of two kings.
 const NONE: [Step; 2] = [
@@ -19,9 +20,7 @@ const NONE: [Step; 2] = [
 fn a_folder_without_two_kings(rt: HostRuntime) -> Result<(), Fail> {
     let folder = folder(&rt, "no-kings")?;
     all_go(&rt, &folder, &NONE)?;
-    let tables = PlainTables::solve(rt.alloc(), 5)?;
-    let knight = file_of(rt.alloc(), &table_of(rt.alloc(), &tables, 4)?)?;
-    put(&rt, &folder, "KNK.egt", &knight)?;
+    put(&rt, &folder, "KNK.egt", b"")?;
     all_go(&rt, &folder, &NONE)?;
     fs::remove_dir_all(&rt, folder.as_str())?;
     all_go(&rt, &folder, &NONE)?;
@@ -43,7 +42,13 @@ const KNIGHT: [Step; 3] = [
 
 /// What is told beside a pawn's file: its child with the least number that is not there.
 const PAWN: [Step; 3] = [
-    ("check DIR", "", 1, "ok KK\nok KNK\n", "error check 11 Missing KQK\n"),
+    (
+        "check DIR",
+        "",
+        1,
+        "ok KK\nok KNK\n",
+        "error check 11 Missing KQK\n",
+    ),
     ("check DIR KPK", "", 1, "", "error check 11 Missing KQK\n"),
     ("probe DIR", KINGS, 1, "", "error check 11 Missing KQK\n"),
 ];
@@ -95,7 +100,12 @@ fn the_first_file_that_is_refused(rt: HostRuntime) -> Result<(), Fail> {
     put(&rt, &folder, "KNK.egt", b"")?;
     put(&rt, &folder, "KPK.egt", b"")?;
     all_go(&rt, &folder, &[SHORT])?;
-    put(&rt, &folder, "KNK.egt", &changed(rt.alloc(), &knight, 16, 1)?)?;
+    put(
+        &rt,
+        &folder,
+        "KNK.egt",
+        &changed(rt.alloc(), &knight, 16, 1)?,
+    )?;
     all_go(&rt, &folder, &[REJECTED])?;
     put(&rt, &folder, "KNK.egt", &knight)?;
     put(&rt, &folder, "KK.egt", &kings_file(rt.alloc())?)?;

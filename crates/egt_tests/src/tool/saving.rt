@@ -36,7 +36,11 @@ fn a_backup_by_a_hard_link(rt: HostRuntime) -> Result<(), Fail> {
         fs::hard_link(&rt, own.as_str(), backup.as_str())?;
         assert!(rt; goes(&rt, &folder, step) == Some(true), "{}", step.0);
         assert!(rt; holds(&rt, &folder, "backup", &old)?, "{}", step.0);
-        assert!(rt; holds(&rt, &folder, "KK.egt", &whole_kings_file(rt.alloc())?)?, "{}", step.0);
+        assert!(rt;
+            holds(&rt, &folder, "KK.egt", &whole_kings_file(rt.alloc())?)?,
+            "{}",
+            step.0
+        );
         assert_eq!(rt; count(&rt, &folder)?, 2);
         fs::remove_dir_all(&rt, folder.as_str())?;
     }
@@ -206,7 +210,13 @@ fn ends(
     let mut err = MemorySink::new(rt.alloc(), 100)?;
     let words = ["egtb", command, folder, "KK"];
     let system = (Refusing { rt, refused }, rt.alloc());
-    let found = run(&system, &words, &mut MemorySource::new(b""), &mut out, &mut err);
+    let found = run(
+        &system,
+        &words,
+        &mut MemorySource::new(b""),
+        &mut out,
+        &mut err,
+    );
     Ok(found == status && out.bytes().is_empty() && err.bytes() == line.as_bytes())
 }
 
@@ -226,13 +236,22 @@ fn a_file_that_is_not_replaced(rt: HostRuntime) -> Result<(), Fail> {
     put(&rt, &folder, "KK.egt", &old)?;
     for (refused, status, line) in ENDINGS {
         for command in ["build", "migrate"] {
-            assert!(rt; ends(&rt, &folder, command, refused, status, line)?, "{command} {refused:?}");
-            assert!(rt; holds(&rt, &folder, "KK.egt", &old)?, "{command} {refused:?}");
+            assert!(rt;
+                ends(&rt, &folder, command, refused, status, line)?,
+                "{command} {refused:?}"
+            );
+            assert!(rt;
+                holds(&rt, &folder, "KK.egt", &old)?,
+                "{command} {refused:?}"
+            );
             assert_eq!(rt; count(&rt, &folder)?, 1, "{command} {refused:?}");
         }
     }
     for command in ["check", "stats", "probe"] {
-        assert!(rt; ends(&rt, &folder, command, Refused::Memory, 4, "error memory\n")?, "{command}");
+        assert!(rt;
+            ends(&rt, &folder, command, Refused::Memory, 4, "error memory\n")?,
+            "{command}"
+        );
     }
     fs::remove_dir_all(&rt, folder.as_str())?;
     Ok(())
