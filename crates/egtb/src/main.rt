@@ -50,7 +50,8 @@ fn run(rt: &HostRuntime) -> io::Result<u8> {
     for word in env::args(&(Behind { rt }, rt.alloc()))? {
         words.push(word)?;
     }
-    let mut texts = vec![in rt.alloc(); "egtb"]?;
+    let mut texts = Vec::new(rt.alloc());
+    texts.push("egtb")?;
     for word in &words {
         texts.push(word.as_str())?;
     }
