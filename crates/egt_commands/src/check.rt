@@ -3,23 +3,15 @@ ghost use Rattle.std.specs.Prelude.{OnOk};
 ghost use Rattle.egt_entries.specs.Library.{IsAccepted};
 ghost use Rattle.egt_entries.specs.Tables.{table_at};
 
+use crate::line::name_line;
 use crate::loading::load_whole;
+use crate::present::load_present;
 use crate::printer::print;
 use crate::run_fault::RunFault;
 use egt_check::{Library, check};
-use egt_class::{Class, name};
+use egt_class::Class;
 use egt_table::{Sink, Table};
-use std::alloc::{AllocError, Global};
 use std::rt::Files;
-
-/// The line of a class whose table is true: `ok KQK`.
-fn ok_line(alloc: Global, class: Class) -> Result<Vec<u8>, AllocError> {
-    let mut text = Vec::new(alloc);
-    text.extend_from_slice(b"ok ")?;
-    text.extend_from_slice(name(class).as_bytes())?;
-    text.push(b'\n')?;
-    Ok(text)
-}
 
 /// Sees that the table is true beside the library.
 pub fn see_true(class: Class, table: &Table, library: &Library) -> Result<(), RunFault>
@@ -39,5 +31,23 @@ pub fn check_table<R: Files + AllocGlobal, O: Sink>(
     out: &mut O,
 ) -> Result<(), RunFault> {
     let _library = load_whole(rt, folder, class)?;
-    print(out, &ok_line(rt.alloc(), class)?)
+    print(out, name_line(rt.alloc(), "ok", class)?.as_bytes())
+}
+
+/// `egtb check DIR`: the line of each class whose file is there, in ascending number, up to the first fault.
+pub fn check_all<R: Files + AllocGlobal, O: Sink>(
+    rt: &R,
+    folder: &str,
+    out: &mut O,
+) -> Result<(), RunFault> {
+    let mut library = Library::new(rt.alloc())?;
+    for number in 0..36 {
+        if load_present(rt, folder, Class::at(number), &mut library)? {
+            print(
+                out,
+                name_line(rt.alloc(), "ok", Class::at(number))?.as_bytes(),
+            )?;
+        }
+    }
+    Ok(())
 }

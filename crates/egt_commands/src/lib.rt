@@ -4,10 +4,12 @@
 pub mod check;
 pub mod descent;
 pub mod fault;
+pub mod line;
 pub mod listing;
 pub mod loading;
 pub mod mate_text;
 pub mod moves;
+pub mod present;
 pub mod printer;
 pub mod run_fault;
 pub mod saving;

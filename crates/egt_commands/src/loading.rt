@@ -23,7 +23,11 @@ pub(crate) fn path_of(alloc: Global, folder: &str, class: Class) -> Result<PathB
 }
 
 /// Opens the class's file.
-fn open<R: Files + AllocGlobal>(rt: &R, folder: &str, class: Class) -> Result<R::File, RunFault> {
+pub(crate) fn open<R: Files + AllocGlobal>(
+    rt: &R,
+    folder: &str,
+    class: Class,
+) -> Result<R::File, RunFault> {
     let path = path_of(rt.alloc(), folder, class)?;
     match fs::open(rt, path.as_path()) {
         Ok(file) => Ok(file),
@@ -47,7 +51,7 @@ pub fn read<R: Files + AllocGlobal>(rt: &R, folder: &str, class: Class) -> Resul
 }
 
 /// Reads the class's table and has it admitted.
-fn load<R: Files + AllocGlobal>(
+pub(crate) fn load<R: Files + AllocGlobal>(
     rt: &R,
     folder: &str,
     class: Class,
@@ -83,7 +87,7 @@ pub fn load_below<R: Files + AllocGlobal>(
     Ok(library)
 }
 
-/// The same, and then the class's own table.
+/// Reads the tables of all classes that captures and promotions lead to from this one, and then its own.
 pub fn load_whole<R: Files + AllocGlobal>(
     rt: &R,
     folder: &str,

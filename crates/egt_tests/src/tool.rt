@@ -5,7 +5,10 @@ mod list;
 mod migrate;
 mod moves;
 mod pawns;
+mod present;
+mod saving;
 mod search;
+mod words;
 
 use egt_table::{FailingSink, MemorySink, MemorySource};
 use egt_tool::run;
@@ -15,6 +18,9 @@ use std::{env, fs, process};
 
 /// How many bytes a run may print.
 const ROOM: usize = 100_000;
+
+/// Two kings alone.
+const KINGS: &str = "8/8/8/4k3/8/4K3/8/8 w - - 0 1\n";
 
 /// The status of a run, and what it printed.
 #[derive(Drop)]
@@ -68,14 +74,15 @@ fn goes(rt: &HostRuntime, folder: &str, step: Step) -> Option<bool> {
     Some(run_on(rt, &words, input.as_bytes())?.is(status, out, err))
 }
 
-/// Runs the program where the k-th push to the standard output and the j-th to the standard error fail, each counted from
-/// 1, none for 0; gives the status and what came to the standard error.
+/// Runs the program on two kings where the k-th push to the standard output and the j-th to the standard error fail, each counted
+/// from 1, none for 0; gives the status and what came to the standard error.
 fn run_failing(rt: &HostRuntime, words: &[&str], k: u64, j: u64) -> Option<(u8, MemorySink)> {
     let mut all = vec![in rt.alloc(); "egtb"].ok()?;
     all.extend_from_slice(words).ok()?;
     let mut out = FailingSink::new(MemorySink::new(rt.alloc(), ROOM).ok()?, k);
     let mut err = FailingSink::new(MemorySink::new(rt.alloc(), ROOM).ok()?, j);
-    let status = run(rt, &all, &mut MemorySource::new(b""), &mut out, &mut err);
+    let mut input = MemorySource::new(KINGS.as_bytes());
+    let status = run(rt, &all, &mut input, &mut out, &mut err);
     Some((status, err.into_inner()))
 }
 
@@ -117,6 +124,23 @@ fn folder(rt: &HostRuntime, name: &str) -> Result<String, Fail> {
 fn has_file(rt: &HostRuntime, folder: &str, file: &str) -> Option<bool> {
     let path = format!(in rt.alloc(); "{folder}/{file}").ok()?;
     Some(fs::read(rt, path.as_str()).is_ok())
+}
+
+/// Whether the folder's file has these bytes.
+fn holds(rt: &HostRuntime, folder: &str, file: &str, bytes: &[u8]) -> Result<bool, Fail> {
+    let path = format!(in rt.alloc(); "{folder}/{file}")?;
+    let found = fs::read(rt, path.as_str())?;
+    Ok(found.as_slice() == bytes)
+}
+
+/// Sees that each run is as it says; the first that is not is the failure.
+fn all_go(rt: &HostRuntime, folder: &str, steps: &[Step]) -> Result<(), Fail> {
+    for step in steps {
+        if goes(rt, folder, *step) != Some(true) {
+            return Err(Fail::from(step.0));
+        }
+    }
+    Ok(())
 }
 
 /// Writes a file of the folder.

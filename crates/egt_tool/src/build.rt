@@ -2,28 +2,15 @@
 ghost use Rattle.std.specs.Prelude.{◌≤◌};
 
 use crate::tool_fault::ToolFault;
-use egt_class::{Class, name};
+use egt_class::Class;
 use egt_commands::RunFault;
+use egt_commands::line::entries_line;
 use egt_commands::loading::load_below;
 use egt_commands::printer::print;
 use egt_commands::saving::save;
-use egt_index::size;
 use egt_sweep::{BuildFault, build};
 use egt_table::Sink;
-use itoa::Buffer;
-use std::alloc::{AllocError, Global};
 use std::rt::Files;
-
-/// The line of a class whose table is built: `built KQK entries 81920`.
-fn built_line(alloc: Global, class: Class) -> Result<Vec<u8>, AllocError> {
-    let mut text = Vec::new(alloc);
-    text.extend_from_slice(b"built ")?;
-    text.extend_from_slice(name(class).as_bytes())?;
-    text.extend_from_slice(b" entries ")?;
-    text.extend_from_slice(Buffer::new().format(size(class)).as_bytes())?;
-    text.push(b'\n')?;
-    Ok(text)
-}
 
 /// A file that is not there keeps a class from being built by its own name.
 fn of_loading(fault: RunFault) -> ToolFault {
@@ -33,7 +20,7 @@ fn of_loading(fault: RunFault) -> ToolFault {
     }
 }
 
-/// `egtb build DIR CLASS [--limit N]`, with a limit of at most 32,000. No file is opened for writing before the table is built.
+/// `egtb build DIR CLASS [--limit N]`, with a limit of at most 32,000. No file is made before the table is built.
 pub(crate) fn build_table<R: Files + AllocGlobal, O: Sink>(
     rt: &R,
     folder: &str,
@@ -51,5 +38,5 @@ pub(crate) fn build_table<R: Files + AllocGlobal, O: Sink>(
         Ok(table) => save(rt, folder, &table)?,
         Err(fault) => return Err(ToolFault::of_build(fault)),
     }
-    Ok(print(out, &built_line(rt.alloc(), class)?)?)
+    Ok(print(out, entries_line(rt.alloc(), "built", class)?.as_bytes())?)
 }

@@ -6,7 +6,7 @@ use crate::tool_fault::ToolFault;
 use clap::ArgMatches;
 use clap::error::ErrorKind;
 use egt_class::{Class, by_name};
-use egt_commands::check::check_table;
+use egt_commands::check::{check_all, check_table};
 use egt_commands::listing::print_classes;
 use egt_commands::mate_text::print_mate;
 use egt_commands::moves::print_moves;
@@ -34,6 +34,17 @@ fn class_word(given: &ArgMatches<'_>) -> Result<Class, RunFault> {
     }
 }
 
+/// The class that the word names, where there is one.
+fn class_or_all(given: &ArgMatches<'_>) -> Result<Option<Class>, RunFault> {
+    match given.get_str("CLASS") {
+        Some(name) => match by_name(name) {
+            Some(class) => Ok(Some(class)),
+            None => Err(RunFault::NoSuchClass),
+        },
+        None => Ok(None),
+    }
+}
+
 /// Runs the command that the words ask for.
 fn dispatch<R: Files + AllocGlobal, I: Source, O: Sink>(
     rt: &R,
@@ -58,8 +69,11 @@ fn dispatch<R: Files + AllocGlobal, I: Source, O: Sink>(
             }
             Some(_) => Err(ToolFault::Run(RunFault::Usage)),
         },
-        "probe" => Ok(probe_lines(rt, word(given, "DIR"), class_word(given)?, input, out)?),
-        "check" => Ok(check_table(rt, word(given, "DIR"), class_word(given)?, out)?),
+        "probe" => Ok(probe_lines(rt, word(given, "DIR"), class_or_all(given)?, input, out)?),
+        "check" => match class_or_all(given)? {
+            Some(class) => Ok(check_table(rt, word(given, "DIR"), class, out)?),
+            None => Ok(check_all(rt, word(given, "DIR"), out)?),
+        },
         "migrate" => migrate_table(rt, word(given, "DIR"), class_word(given)?, out),
         "stats" => Ok(print_statistics(rt, word(given, "DIR"), class_word(given)?, out)?),
         _ => Err(ToolFault::Run(RunFault::Usage)),

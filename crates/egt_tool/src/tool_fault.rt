@@ -1,24 +1,46 @@
 //! Why a run ended before all was done.
 use egt_class::name;
 use egt_commands::{RunFault, Status};
-use egt_sweep::BuildFault;
+use egt_sweep::{BuildFault, MigrateFault};
 use std::alloc::AllocError;
 use std::fmt;
 
 /// What ends a run. Its `Display` is the line that is printed, without the line feed.
 #[derive(Clone, Copy, Debug, PartialEq, Eq)]
-pub(crate) enum ToolFault {
+pub enum ToolFault {
+    /// What ends a run of any command.
     Run(RunFault),
     /// The class's table was not built.
     Build(BuildFault),
 }
 
 impl ToolFault {
+    ghost use Rattle.std.specs.Prelude.{◌≡◌, ◌≢◌, ℕ};
+    ghost use Rattle.egt_commands.specs.declared.run_fault.RunFault.TheVariants as run_faults;
+    ghost use Rattle.egt_sweep.specs.declared.build_fault.BuildFault.TheVariants as build_faults;
+    ghost use Rattle.egt_sweep.specs.declared.migrate_fault.MigrateFault.TheVariants as migrate_faults;
+    ghost use Rattle.egt_tool.specs.declared.tool_fault.ToolFault.TheVariants as faults;
+
     /// What a fault of the builder ends a run with.
     pub(crate) fn of_build(fault: BuildFault) -> ToolFault {
         match fault {
             BuildFault::NoMemory => ToolFault::Run(RunFault::NoMemory),
             _ => ToolFault::Build(fault),
+        }
+    }
+
+    /// What a fault of `migrate` ends a run with, of a table without the column of the nearest mates: it is printed as one of a build.
+    pub fn of_migrate(fault: MigrateFault) -> ToolFault
+        requires { fault ≢ migrate_faults.HasReach }
+        ensures memory { fault ≡ migrate_faults.NoMemory → result ≡ faults.Run run_faults.NoMemory }
+        ensures deep { fault ≡ migrate_faults.TooDeep → result ≡ faults.Build (build_faults.TooDeep 32000) }
+        ensures lacking { (child : ℕ) → fault ≡ migrate_faults.NoReach child → result ≡ faults.Build (build_faults.NoReach child) }
+    {
+        match fault {
+            MigrateFault::NoMemory => ToolFault::Run(RunFault::NoMemory),
+            MigrateFault::NoReach(child) => ToolFault::Build(BuildFault::NoReach(child)),
+            MigrateFault::TooDeep => ToolFault::Build(BuildFault::TooDeep(32_000)),
+            MigrateFault::HasReach => unreachable!(),
         }
     }
 

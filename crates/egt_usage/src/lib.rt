@@ -1,8 +1,12 @@
 //! The words that the program `egtb` understands, and its help.
 #![tactic(auto)]
 
+use clap::builder::ValueParser;
 use clap::{Arg, Command, value_parser};
 use std::alloc::{AllocError, Global};
+
+/// The number that `egtb --version` prints. The library for C has it too, as `EGTB_VERSION`.
+pub const VERSION: &str = "1.0";
 
 /// The word that is a position.
 fn fen_word<'a>(alloc: Global) -> Arg<'a> {
@@ -16,13 +20,14 @@ fn folder_word<'a>(alloc: Global) -> Arg<'a> {
     Arg::new(alloc, "DIR")
         .help("The folder of the tables' files: DIR/KQK.egt is that of KQK")
         .required(true)
+        .value_parser(ValueParser::NonEmptyString)
 }
 
-/// The word that is a class's name.
-fn class_word<'a>(alloc: Global) -> Arg<'a> {
+/// The word that is a class's name, which a command may do without.
+fn class_word<'a>(alloc: Global, required: bool) -> Arg<'a> {
     Arg::new(alloc, "CLASS")
         .help("A class of positions by its men, as KQK or KRKP: egtb list prints all names")
-        .required(true)
+        .required(required)
 }
 
 fn moves_command<'a>(alloc: Global) -> Result<Command<'a>, AllocError> {
@@ -63,10 +68,10 @@ fn build_command<'a>(alloc: Global) -> Result<Command<'a>, AllocError> {
     Command::new(alloc, "build")
         .about("Builds the table of a class from those of its children")
         .after_help(
-            "Example: egtb build tables KQK, after egtb build tables KK\nStatus: 0 the file is written, 1 a file that it needs is not there or is refused, or a mate is deeper than N",
+            "Example: egtb build tables KQK, after egtb build tables KK\nStatus: 0 the file is written, 1 a file that it needs is not there, is refused or lacks the column of the nearest mates, or a mate is deeper than N",
         )
         .arg(folder_word(alloc))?
-        .arg(class_word(alloc))?
+        .arg(class_word(alloc, true))?
         .arg(limit)
 }
 
@@ -74,20 +79,20 @@ fn probe_command<'a>(alloc: Global) -> Result<Command<'a>, AllocError> {
     Command::new(alloc, "probe")
         .about("Reports of each FEN of the standard input, one a line")
         .after_help(
-            "Example: echo \"k7/8/1K6/8/8/8/8/3Q4 b - - 0 1\" | egtb probe tables KQK\nStatus: 0 each line has its report, 1 a file that it needs is not there or is refused",
+            "Example: echo \"k7/8/1K6/8/8/8/8/3Q4 b - - 0 1\" | egtb probe tables KQK\nWithout CLASS the tables of all files in DIR answer\nStatus: 0 each line has its report, 1 a file that it needs is not there or is refused",
         )
         .arg(folder_word(alloc))?
-        .arg(class_word(alloc))
+        .arg(class_word(alloc, false))
 }
 
 fn check_command<'a>(alloc: Global) -> Result<Command<'a>, AllocError> {
     Command::new(alloc, "check")
         .about("Checks the table of a class and all that it rests on")
         .after_help(
-            "Example: egtb check tables KQK prints ok KQK\nStatus: 0 every entry is right, 1 a file that it needs is not there or is refused",
+            "Example: egtb check tables KQK prints ok KQK\nWithout CLASS it checks all files in DIR\nStatus: 0 every entry is right, 1 a file that it needs is not there or is refused",
         )
         .arg(folder_word(alloc))?
-        .arg(class_word(alloc))
+        .arg(class_word(alloc, false))
 }
 
 fn migrate_command<'a>(alloc: Global) -> Result<Command<'a>, AllocError> {
@@ -97,7 +102,7 @@ fn migrate_command<'a>(alloc: Global) -> Result<Command<'a>, AllocError> {
             "Example: egtb migrate tables KNK, after egtb migrate tables KK\nStatus: 0 the file has the column, 1 a file that it needs is not there, is refused or lacks the column",
         )
         .arg(folder_word(alloc))?
-        .arg(class_word(alloc))
+        .arg(class_word(alloc, true))
 }
 
 fn stats_command<'a>(alloc: Global) -> Result<Command<'a>, AllocError> {
@@ -107,13 +112,14 @@ fn stats_command<'a>(alloc: Global) -> Result<Command<'a>, AllocError> {
             "Example: egtb stats tables KQK\nStatus: 0 done, 1 a file that it needs is not there or is refused",
         )
         .arg(folder_word(alloc))?
-        .arg(class_word(alloc))
+        .arg(class_word(alloc, true))
 }
 
 /// All commands of the program, of which each run has one, as `clap` reads words by them. Want of memory is the only
 /// fault.
 pub fn command<'a>(alloc: Global) -> Result<Command<'a>, AllocError> {
     Command::new(alloc, "egtb")
+        .version(VERSION)
         .about("Chess endgame tables of two to four men")
         .after_help(
             "egtb COMMAND --help tells more of a command\nA class rests on those that a capture or a promotion leads to: build these first, KK before all\nStatus: 0 done, 1 an input or a table is refused, 2 wrong words, 3 a file or a stream failed, 4 no memory",

@@ -1,5 +1,5 @@
 //! Tables built into files, and positions looked up in them.
-use super::{Step, folder, goes, has_file, is_wrong, run_on};
+use super::{Step, fails, folder, goes, has_file, is_wrong, run_on};
 use std::test::Fail;
 use std::{fs, str};
 
@@ -197,6 +197,13 @@ fn from_an_empty_folder_to_a_report(rt: HostRuntime) -> Result<(), Fail> {
     }
     for step in REPORTS {
         assert!(rt; goes(&rt, &folder, step) == Some(true), "{}", step.1);
+    }
+    for words in [
+        ["build", folder.as_str(), "KK"],
+        ["probe", folder.as_str(), "KK"],
+    ] {
+        let device = fails(&rt, &words, (1, 0), 3, "error device\n");
+        assert!(rt; device == Some(true), "{}", words[0]);
     }
     assert!(rt; are_alike(&rt, &folder) == Some(true));
     assert!(rt; tells_long_lines(&rt, &folder, LONG_REPORTS) == Some(true));

@@ -156,11 +156,7 @@ fn words_that_name_no_class(rt: HostRuntime) {
         let both = both_print(&rt, "nowhere", class, 2, "error class\n");
         assert!(rt; both == Some(true), "{class}");
     }
-    let wrong: [&[&str]; 3] = [
-        &["check", "nowhere"],
-        &["stats"],
-        &["check", ".", "KK", "KK"],
-    ];
+    let wrong: [&[&str]; 3] = [&["check"], &["stats"], &["check", ".", "KK", "KK"]];
     for words in wrong {
         assert!(rt; is_wrong(&rt, words) == Some(true));
     }

@@ -1,28 +1,15 @@
 //! Files with the column of the nearest mates, and files that get it.
-use super::{Step, changed, fails, folder, goes, has_file, is_damaged, is_wrong, put};
+use super::{
+    KINGS, Step, all_go, changed, fails, folder, goes, has_file, holds, is_damaged, is_wrong, put,
+};
 use egt_fixtures::kings::{WHOLE_LENGTH, kings_file, whole_kings_file};
 use egt_fixtures::shelf::file_of;
 use egt_plain::{PlainTables, table_of, whole_table_of};
+use egt_sweep::MigrateFault;
+use egt_tool::ToolFault;
 use std::alloc::Global;
 use std::fs;
 use std::test::Fail;
-
-/// Sees that each run is as it says; the first that is not is the failure.
-fn all_go(rt: &HostRuntime, folder: &str, steps: &[Step]) -> Result<(), Fail> {
-    for step in steps {
-        if goes(rt, folder, *step) != Some(true) {
-            return Err(Fail::from(step.0));
-        }
-    }
-    Ok(())
-}
-
-/// Whether the folder's file has these bytes.
-fn holds(rt: &HostRuntime, folder: &str, file: &str, bytes: &[u8]) -> Result<bool, Fail> {
-    let path = format!(in rt.alloc(); "{folder}/{file}")?;
-    let found = fs::read(rt, path.as_str())?;
-    Ok(found.as_slice() == bytes)
-}
 
 /// The first bytes of the file of two kings, of version 2.
 const HEADER: [u8; 26] = [
@@ -129,9 +116,6 @@ fn knight_files(alloc: Global) -> Result<Knights, Fail> {
     Ok(Knights { first, second })
 }
 
-/// Two kings alone.
-const KINGS: &str = "8/8/8/4k3/8/4K3/8/8 w - - 0 1\n";
-
 /// What is told of two kings without their third column, and what then gives them it, once.
 const KINGS_MIGRATED: [Step; 6] = [
     ("probe DIR KK", KINGS, 0, "KK draw hold e3d2\n", ""),
@@ -211,6 +195,15 @@ fn a_third_column_above_none(rt: HostRuntime) -> Result<(), Fail> {
     put(&rt, &folder, "KNK.egt", &knight_files(rt.alloc())?.second)?;
     all_go(&rt, &folder, &ABOVE)?;
     fs::remove_dir_all(&rt, folder.as_str())?;
+    Ok(())
+}
+
+// No position of chess to four men is so far from a checkmate.
+#[test]
+fn a_mate_that_is_too_far(rt: HostRuntime) -> Result<(), Fail> {
+    let ending = ToolFault::of_migrate(MigrateFault::TooDeep);
+    let line = format!(in rt.alloc(); "{ending}")?;
+    assert_eq!(rt; line.as_str(), "error build 2 TooDeep 32000");
     Ok(())
 }
 

@@ -1,0 +1,115 @@
+//! Checks and reports of all files that a folder has.
+use super::{KINGS, Step, all_go, changed, fails, folder, put};
+use egt_fixtures::kings::{kings_file, whole_kings_file};
+use egt_fixtures::shelf::file_of;
+use egt_plain::{PlainTables, whole_table_of};
+use std::fs;
+use std::test::Fail;
+
+/// A knight beside the kings, a line that is no FEN, two kings alone, and a queen beside them.
+const MIXED: &str =
+    "8/8/8/3k4/8/3N4/3K4/8 w - - 0 1\nx\n8/8/8/4k3/8/4K3/8/8 w - - 0 1\nk7/8/1K6/8/8/8/8/3Q4 w - - 0 1\n";
+
+/// What is told of a folder without the file of two kings.
+const NONE: [Step; 2] = [
+    ("check DIR", "", 1, "", "error check 11 Missing KK\n"),
+    ("probe DIR", KINGS, 1, "", "error check 11 Missing KK\n"),
+];
+
+#[test]
+fn a_folder_without_two_kings(rt: HostRuntime) -> Result<(), Fail> {
+    let folder = folder(&rt, "no-kings")?;
+    all_go(&rt, &folder, &NONE)?;
+    put(&rt, &folder, "KNK.egt", b"")?;
+    all_go(&rt, &folder, &NONE)?;
+    fs::remove_dir_all(&rt, folder.as_str())?;
+    all_go(&rt, &folder, &NONE)?;
+    Ok(())
+}
+
+/// What is told of the files of two kings and of a knight, both of version 2.
+const KNIGHT: [Step; 3] = [
+    ("check DIR", "", 0, "ok KK\nok KNK\n", ""),
+    (
+        "probe DIR",
+        MIXED,
+        0,
+        "KNK dead hold d2c1\nerror fen 1 FieldCount\nKK dead hold e3d2\nerror probe 11 Missing KQK\n",
+        "",
+    ),
+    ("probe DIR", "", 0, "", ""),
+];
+
+/// What is told beside a pawn's file: its child with the least number that is not there.
+const PAWN: [Step; 3] = [
+    (
+        "check DIR",
+        "",
+        1,
+        "ok KK\nok KNK\n",
+        "error check 11 Missing KQK\n",
+    ),
+    ("check DIR KPK", "", 1, "", "error check 11 Missing KQK\n"),
+    ("probe DIR", KINGS, 1, "", "error check 11 Missing KQK\n"),
+];
+
+#[test]
+fn the_files_that_are_there(rt: HostRuntime) -> Result<(), Fail> {
+    let folder = folder(&rt, "present")?;
+    let tables = PlainTables::solve(rt.alloc(), 5)?;
+    let knight = file_of(rt.alloc(), &whole_table_of(rt.alloc(), &tables, 4)?)?;
+    put(&rt, &folder, "KK.egt", &whole_kings_file(rt.alloc())?)?;
+    put(&rt, &folder, "KNK.egt", &knight)?;
+    put(&rt, &folder, "KRK.egt.7-0.new", b"EGTB")?;
+    all_go(&rt, &folder, &KNIGHT)?;
+    for words in [["check", folder.as_str()], ["probe", folder.as_str()]] {
+        let device = fails(&rt, &words, (1, 0), 3, "error device\n");
+        assert!(rt; device == Some(true), "{}", words[0]);
+    }
+    put(&rt, &folder, "KPK.egt", b"")?;
+    all_go(&rt, &folder, &PAWN)?;
+    fs::remove_dir_all(&rt, folder.as_str())?;
+    Ok(())
+}
+
+/// What is told of a knight's file that is refused: by reading, by an entry, and for its column.
+const SHORT: Step = ("check DIR", "", 1, "ok KK\n", "error KNK file 2 Short\n");
+
+const REJECTED: Step = (
+    "check DIR",
+    "",
+    1,
+    "ok KK\n",
+    "error KNK check 12 Rejected mate 0 void\n",
+);
+
+const NO_REACH: Step = (
+    "check DIR",
+    "",
+    1,
+    "ok KK\n",
+    "error KNK check 17 NoReach KK\n",
+);
+
+#[test]
+fn the_first_file_that_is_refused(rt: HostRuntime) -> Result<(), Fail> {
+    let folder = folder(&rt, "refused")?;
+    let tables = PlainTables::solve(rt.alloc(), 5)?;
+    let knight = file_of(rt.alloc(), &whole_table_of(rt.alloc(), &tables, 4)?)?;
+    put(&rt, &folder, "KK.egt", &whole_kings_file(rt.alloc())?)?;
+    put(&rt, &folder, "KNK.egt", b"")?;
+    put(&rt, &folder, "KPK.egt", b"")?;
+    all_go(&rt, &folder, &[SHORT])?;
+    put(
+        &rt,
+        &folder,
+        "KNK.egt",
+        &changed(rt.alloc(), &knight, 16, 1)?,
+    )?;
+    all_go(&rt, &folder, &[REJECTED])?;
+    put(&rt, &folder, "KNK.egt", &knight)?;
+    put(&rt, &folder, "KK.egt", &kings_file(rt.alloc())?)?;
+    all_go(&rt, &folder, &[NO_REACH])?;
+    fs::remove_dir_all(&rt, folder.as_str())?;
+    Ok(())
+}
