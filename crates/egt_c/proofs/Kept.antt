@@ -1,4 +1,4 @@
--- What is said of a library that a box holds is said of what the handle held.
+-- What is said of a library that is lent is said of what the handle holds.
 use Rattle.std.proofs.Common.{◌≡◌, Option, Some, IfSome, sym, subst}
 use Rattle.egt_c.specs.Held.{Places}
 

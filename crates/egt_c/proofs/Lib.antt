@@ -1,4 +1,5 @@
 pub mod Kept
+pub mod Lending
 pub mod Listed
 pub mod Named
 pub mod Opened

@@ -16,22 +16,22 @@ use Rattle.egt_entries.specs.declared.reject.Reject.{Reject}
 use Rattle.egt_entries.specs.Library.{IsAccepted, IsTurnedAway}
 use Rattle.egt_entries.specs.Tables.{table_at, beside}
 use Rattle.egt_probe.specs.declared.outcome.Verdict.{Verdict}
-use Rattle.egt_probe.specs.declared.fault.HoldFault.{HoldFault}
-use Rattle.egt_probe.specs.declared.fault.HoldFault.TheVariants as holds
-use Rattle.egt_probe.specs.declared.fault.LineFault.{LineFault}
-use Rattle.egt_probe.specs.Fault.{IsDecisive, IsLineFault}
-use Rattle.egt_probe.specs.Hold.{IsHold}
-use Rattle.egt_probe.specs.Line.{IsBestPlay}
+use Rattle.egt_probe.specs.declared.ranking.RootMove.{RootMove}
+use Rattle.egt_probe.specs.Best.{IsBest}
 use Rattle.egt_probe.specs.Loaded.{Loaded, IsMissing}
-use Rattle.egt_probe.specs.Shelves.{loaded_in}
+use Rattle.egt_probe.specs.Root.{IsRoot}
 use Rattle.egt_probe.specs.Verdict.{IsVerdict}
 use Rattle.egt_c.specs.declared.fault.EgtbFault.{EgtbFault}
 use Rattle.egt_c.specs.declared.moves.EgtbMove.{EgtbMove}
 use Rattle.egt_c.specs.declared.moves.EgtbMoves.{EgtbMoves}
-use Rattle.egt_c.specs.declared.verdict.EgtbVerdict.{EgtbVerdict}
-use Rattle.egt_c.specs.Fault.{no_fault, of_fen, of_file, of_check, of_line, missing, no_memory, no_class, shared}
+use Rattle.egt_c.specs.declared.men.EgtbPosition.{EgtbPosition}
+use Rattle.egt_c.specs.declared.root_moves.EgtbRootMoves.{EgtbRootMoves}
+use Rattle.egt_c.specs.declared.verdict.EgtbAnswer.{EgtbAnswer}
+use Rattle.egt_c.specs.Fault.{no_fault, of_fen, of_file, of_check, missing, no_memory, no_class, shared}
 use Rattle.egt_c.specs.Held.{Places}
-use Rattle.egt_c.specs.Move.{written, written_or_none, first_of}
+use Rattle.egt_c.specs.Men.{IsOfMen, IsMenFault}
+use Rattle.egt_c.specs.Move.{written, written_or_none}
+use Rattle.egt_c.specs.RootMoves.{shown_root}
 use Rattle.egt_c.specs.Verdict.{shown}
 
 -- a library without tables is made, or there is no memory for it
@@ -60,33 +60,45 @@ level None = 0
 level (Some false) = 1
 level (Some true) = 2
 
--- the verdict of the position that the text spells
-pub data TellsVerdict (places : Places) (fen : List ℕ) (fault : EgtbFault) (before after : EgtbVerdict) : Type 0 where
-  Refused : (f : FenFault) → IsFirstFault fen f → fault ≡ of_fen f → after ≡ before → TellsVerdict places fen fault before after
-  Unloaded : (read : Fen) (c : ℕ) → Spells fen read → IsMissing (loaded_in places) read.position c → fault ≡ missing c → after ≡ before →
-      TellsVerdict places fen fault before after
-  Told : (read : Fen) (v : Verdict) → Spells fen read → IsVerdict (loaded_in places) read.position v → fault ≡ no_fault → after ≡ shown v →
-      TellsVerdict places fen fault before after
+-- the position that the text spells, and the text's first fault where it spells none
+abbrev pub IsOfText : List ℕ → Setup → Type 0
+IsOfText fen p = (read : Fen) × Spells fen read × (p ≡ read.position)
 
-abbrev pub missing_class : HoldFault → Option ℕ
-missing_class (holds.Missing class) = Some class
-missing_class holds.Decisive = None
+abbrev pub IsTextFault : List ℕ → EgtbFault → Type 0
+IsTextFault fen fault = (f : FenFault) × IsFirstFault fen f × (fault ≡ of_fen f)
 
--- the first move of best play, and none at checkmate
-abbrev pub IsFirstOfBest : Setup → Option Move → Type 0
-IsFirstOfBest p first = (ms : List Move) × IsBestPlay p ms × (first ≡ first_of ms)
+-- what is told of a position that is given in some way, or the fault of what was given
+pub data Tells {X : Type 0} (Is : Setup → Type 0) (Refuses : EgtbFault → Type 0) (P : Setup → EgtbFault → X → X → Type 0) (fault : EgtbFault) (before after : X) : Type 0 where
+  Refused : Refuses fault → after ≡ before → Tells Is Refuses P fault before after
+  Answered : (p : Setup) → Is p → P p fault before after → Tells Is Refuses P fault before after
 
--- the first move of best play of a position, or the move that holds a draw
-pub data TellsBest (loaded : Loaded) (p : Setup) (fault : EgtbFault) (before after : EgtbMove) : Type 0 where
-  NotLoaded : (c : ℕ) → IsMissing loaded p c → fault ≡ missing c → after ≡ before → TellsBest loaded p fault before after
-  NoLine : (f : LineFault) → IsDecisive p → IsLineFault loaded p f → fault ≡ of_line f → after ≡ before → TellsBest loaded p fault before after
-  Best : (m : Option Move) → IsFirstOfBest p m → fault ≡ no_fault → after ≡ written_or_none m → TellsBest loaded p fault before after
-  Holds : (m : Option Move) → IsHold p m → fault ≡ no_fault → after ≡ written_or_none m → TellsBest loaded p fault before after
+-- given by a text
+abbrev pub OfText : {X : Type 0} → (Setup → EgtbFault → X → X → Type 0) → List ℕ → EgtbFault → X → X → Type 0
+OfText P fen = Tells (IsOfText fen) (IsTextFault fen) P
 
--- the same of the position that the text spells
-pub data TellsMove (places : Places) (fen : List ℕ) (fault : EgtbFault) (before after : EgtbMove) : Type 0 where
-  Unread : (f : FenFault) → IsFirstFault fen f → fault ≡ of_fen f → after ≡ before → TellsMove places fen fault before after
-  Answered : (read : Fen) → Spells fen read → TellsBest (loaded_in places) read.position fault before after → TellsMove places fen fault before after
+-- given by its men
+abbrev pub OfMen : {X : Type 0} → (Setup → EgtbFault → X → X → Type 0) → EgtbPosition → EgtbFault → X → X → Type 0
+OfMen P given = Tells (IsOfMen given) (IsMenFault given) P
+
+-- the verdict of a position
+pub data TellsVerdict (loaded : Loaded) (p : Setup) (fault : EgtbFault) (before after : EgtbAnswer) : Type 0 where
+  Unloaded : (c : ℕ) → IsMissing loaded p c → fault ≡ missing c → after ≡ before → TellsVerdict loaded p fault before after
+  Told : (v : Verdict) → IsVerdict loaded p v → fault ≡ no_fault → after ≡ shown v → TellsVerdict loaded p fault before after
+
+-- the first move of best play, or the move that holds a draw, and none at checkmate and stalemate
+pub data TellsMove (loaded : Loaded) (p : Setup) (fault : EgtbFault) (before after : EgtbMove) : Type 0 where
+  NotLoaded : (c : ℕ) → IsMissing loaded p c → fault ≡ missing c → after ≡ before → TellsMove loaded p fault before after
+  Best : (m : Option Move) → IsBest p m → fault ≡ no_fault → after ≡ written_or_none m → TellsMove loaded p fault before after
+
+-- these are the moves with what they lead to
+pub record ShowsRoot (rs : List RootMove) (listed : EgtbRootMoves) : Type 0 where
+  pub count : listed.count ≡ length rs
+  pub moves : take (length rs) listed.moves ≡ map shown_root rs
+
+-- the legal moves of a position with what they lead to, best first
+pub data TellsRoot (loaded : Loaded) (p : Setup) (fault : EgtbFault) (before after : EgtbRootMoves) : Type 0 where
+  NoTable : (c : ℕ) → IsMissing loaded p c → fault ≡ missing c → after ≡ before → TellsRoot loaded p fault before after
+  Ranked : (rs : List RootMove) → IsRoot loaded p rs → ShowsRoot rs after → fault ≡ no_fault → TellsRoot loaded p fault before after
 
 -- these are the legal moves, in order, each once
 pub record Lists (p : Setup) (listed : EgtbMoves) : Type 0 where
@@ -96,7 +108,6 @@ pub record Lists (p : Setup) (listed : EgtbMoves) : Type 0 where
   pub count : listed.count ≡ length moves
   pub texts : take (length moves) listed.moves ≡ map written moves
 
--- the legal moves of the position that the text spells
-pub data TellsMoves (fen : List ℕ) (fault : EgtbFault) (before after : EgtbMoves) : Type 0 where
-  Unlisted : (f : FenFault) → IsFirstFault fen f → fault ≡ of_fen f → after ≡ before → TellsMoves fen fault before after
-  Listed : (read : Fen) → Spells fen read → Lists read.position after → fault ≡ no_fault → TellsMoves fen fault before after
+-- the legal moves of a position
+pub data TellsMoves (p : Setup) (fault : EgtbFault) (before after : EgtbMoves) : Type 0 where
+  Listed : Lists p after → fault ≡ no_fault → TellsMoves p fault before after

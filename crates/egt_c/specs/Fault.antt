@@ -1,13 +1,13 @@
 -- Faults by family and number.
 use Rattle.std.specs.Prelude.{ℕ}
+use Rattle.egt_board.specs.declared.fault.PosFault.{PosFault}
+use Rattle.egt_board.specs.Fault as setups
 use Rattle.egt_fen.specs.declared.fault.FenFault.{FenFault}
 use Rattle.egt_fen.specs.Fault as fens
 use Rattle.egt_table.specs.declared.fault.FileFault.{FileFault}
 use Rattle.egt_table.specs.Fault as files
 use Rattle.egt_entries.specs.declared.reject.Reject.{Reject}
 use Rattle.egt_entries.specs.declared.reject.Reject.TheVariants.{Missing, NoReach, Rejected, AlreadyThere}
-use Rattle.egt_probe.specs.declared.fault.LineFault.{LineFault}
-use Rattle.egt_probe.specs.declared.fault.LineFault.TheVariants as lines
 use Rattle.egt_c.specs.declared.fault.EgtbFault.{EgtbFault}
 use Rattle.egt_c.specs.Places.{column_place, rule_place}
 
@@ -24,6 +24,10 @@ no_fault = fault 0 0
 abbrev pub of_fen : FenFault → EgtbFault
 of_fen f = fault 1 (fens.number_of f)
 
+-- of a position given by its men
+abbrev pub of_setup : PosFault → EgtbFault
+of_setup f = fault 1 (setups.number_of f)
+
 abbrev pub of_file : FileFault → EgtbFault
 of_file f = fault 2 (files.number_of f)
 
@@ -36,12 +40,6 @@ of_check AlreadyThere = fault 3 13
 -- the class of the position is not loaded
 abbrev pub missing : ℕ → EgtbFault
 missing class = about 4 11 class
-
--- a mate is not told: of a position that is won or lost the class is missing, or there is no memory for its line
-abbrev pub of_line : LineFault → EgtbFault
-of_line (lines.Missing class) = missing class
-of_line lines.NoMemory = fault 4 10
-of_line lines.Drawn = fault 4 15
 
 abbrev pub no_memory : EgtbFault
 no_memory = fault 4 10
@@ -57,3 +55,7 @@ no_class = fault 5 2
 -- the library has another owner
 abbrev pub shared : EgtbFault
 shared = fault 5 3
+
+-- a number names no square, side or kind of man
+abbrev pub no_man : EgtbFault
+no_man = fault 5 4

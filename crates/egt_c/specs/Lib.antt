@@ -2,7 +2,11 @@ pub mod Places
 pub mod Shared
 pub mod Owned
 pub mod Held
+pub mod Lent
 pub mod Fault
 pub mod Verdict
 pub mod Move
+pub mod RootMoves
+pub mod Men
+pub mod Names
 pub mod Calls

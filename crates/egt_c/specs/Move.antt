@@ -21,7 +21,3 @@ written m = record { text = padded (text_of m) }
 abbrev pub written_or_none : Option Move → EgtbMove
 written_or_none None = record { text = zeros }
 written_or_none (Some m) = written m
-
-abbrev pub first_of : List Move → Option Move
-first_of [] = None
-first_of (m ∷ ms) = Some m

@@ -2,10 +2,10 @@
 ghost use Rattle.std.specs.Prelude.{◌≡◌};
 ghost use Rattle.egt_c.specs.Places.{column_place, rule_place};
 
+use egt_board::PosFault;
 use egt_check::{Reject, Rule};
 use egt_class::Class;
 use egt_fen::FenFault;
-use egt_probe::LineFault;
 use egt_table::{Column, FileFault};
 
 /// Why a call gave no answer, or nothing but zeros where it gave one. A fault of a class names it; one of an entry names its column, the
@@ -54,7 +54,7 @@ fn rule_place(rule: Rule) -> u8
 }
 
 impl EgtbFault {
-    ghost use Rattle.egt_c.specs.Fault.{fault, about, no_fault, of_fen, of_file, of_check, of_line, missing, no_memory, closed, no_class, shared};
+    ghost use Rattle.egt_c.specs.Fault.{fault, about, no_fault, of_fen, of_file, of_check, of_setup, missing, no_memory, closed, no_class, shared, no_man};
 
     fn new(family: u8, number: u8) -> EgtbFault
         ensures { result ≡ fault family number }
@@ -94,6 +94,13 @@ impl EgtbFault {
         EgtbFault::new(1, fault.number())
     }
 
+    /// Of a position given by its men.
+    pub(crate) fn of_setup(fault: PosFault) -> EgtbFault
+        ensures { result ≡ of_setup fault }
+    {
+        EgtbFault::new(1, fault.number())
+    }
+
     pub(crate) fn of_file(fault: FileFault) -> EgtbFault
         ensures { result ≡ of_file fault }
     {
@@ -129,17 +136,6 @@ impl EgtbFault {
         EgtbFault::about(4, 11, class)
     }
 
-    /// Why there is no line of best play.
-    pub(crate) fn of_line(fault: LineFault) -> EgtbFault
-        ensures { result ≡ of_line fault }
-    {
-        match fault {
-            LineFault::Missing(class) => EgtbFault::missing(class),
-            LineFault::NoMemory => EgtbFault::no_memory(),
-            LineFault::Drawn => EgtbFault::new(4, 15),
-        }
-    }
-
     pub(crate) fn no_memory() -> EgtbFault
         ensures { result ≡ no_memory }
     {
@@ -165,5 +161,12 @@ impl EgtbFault {
         ensures { result ≡ no_class }
     {
         EgtbFault::new(5, 2)
+    }
+
+    /// A number names no square, side or kind of man.
+    pub(crate) fn no_man() -> EgtbFault
+        ensures { result ≡ no_man }
+    {
+        EgtbFault::new(5, 4)
     }
 }

@@ -15,7 +15,7 @@ use std::sync::Arc;
 pub(crate) type Owner = Arc<Library, Global>;
 
 /// A library, or none where it is closed. All bytes 0 are a closed one, so C makes it so. It lies where C puts it, and C changes nothing
-/// in it.
+/// in it. Calls that ask take it as `&mut` and write nothing in it: a struct that lends what it owns by `&` is none that C may pass.
 #[repr(C)]
 pub struct EgtbLibrary {
     pub(crate) at: *mut u8,
@@ -35,7 +35,9 @@ unsafe impl Send for EgtbLibrary {}
 impl EgtbLibrary {
     ghost use Rattle.std.specs.Prelude.{◌≡◌, Some, None, IfSome, IfNone, option_map};
     ghost use Rattle.std.specs.Arc.{arc_value};
+    ghost use Rattle.std.specs.Borrow.{sem};
     ghost use Rattle.egt_c.specs.Held.{held};
+    ghost use Rattle.egt_c.specs.Lent.{LendsOwner};
 
     /// A closed one.
     fn closed() -> EgtbLibrary
@@ -94,12 +96,15 @@ impl EgtbLibrary {
             None => None,
         }
     }
-}
 
-/// The library that the box holds an owner of.
-pub(crate) fn library_of(boxed: &Box<Owner, Global>) -> &Library
-    ensures { result.now ≡ arc_value boxed.now.value }
-{
-    let owner: &Owner = boxed.as_ref();
-    owner
+    /// The owner that it keeps, which is lent for as long as the handle is. It writes nothing.
+    pub(crate) fn owner(&mut self) -> Option<&mut Owner>
+        ensures* writes_back { sem 𝓛 (LendsOwner self.entry result) }
+        ensures owner { option_map (λ o. arc_value o.now) result ≡ held self.old }
+    {
+        if !self.is_open {
+            return None;
+        }
+        Some(unsafe { &mut *self.at.cast::<Owner>() })
+    }
 }

@@ -7,7 +7,7 @@ ghost use Rattle.egt_c.specs.Fault.{closed};
 ghost use Rattle.egt_c.specs.Held.{held};
 
 use crate::fault::EgtbFault;
-use crate::handle::{EgtbLibrary, Owner, library_of};
+use crate::handle::{EgtbLibrary, Owner};
 use egt_check::Library;
 use egt_class::Class;
 use egt_table::{MemorySource, Table};
@@ -57,12 +57,10 @@ pub extern "C" fn egtb_share(
     ensures closed { IfNone (held library.old) ((result ≡ closed) × (held other.new ≡ held other.old)) }
     ensures kept { held library.new ≡ held library.old }
 {
-    let Some(boxed) = library.take(alloc) else {
-        return EgtbFault::closed();
-    };
-    let fault = share_with(alloc, boxed.as_ref(), other);
-    library.put(alloc, boxed);
-    fault
+    match library.owner() {
+        Some(owner) => share_with(alloc, owner, other),
+        None => EgtbFault::closed(),
+    }
 }
 
 /// Closes a library, whose tables go. One that is closed stays so.
@@ -143,16 +141,14 @@ fn level_in(library: &Library, class_number: u8) -> u8
 
 /// 0 where the class is not loaded, 1 where it is, and 2 where its table has the column of the nearest mates. A closed library has none.
 #[unsafe(no_mangle)]
-pub extern "C" fn egtb_loaded(alloc: Global, library: &mut EgtbLibrary, class_number: u8) -> u8
+pub extern "C" fn egtb_loaded(library: &mut EgtbLibrary, class_number: u8) -> u8
     ensures level { class_number < 36 → IfSome (held library.old) (λ places. result ≡ level (loaded_in places class_number)) }
     ensures no_class { 36 ≤ class_number → result ≡ 0 }
     ensures closed { IfNone (held library.old) (result ≡ 0) }
     ensures kept { held library.new ≡ held library.old }
 {
-    let Some(boxed) = library.take(alloc) else {
-        return 0;
-    };
-    let level = level_in(library_of(&boxed), class_number);
-    library.put(alloc, boxed);
-    level
+    match library.owner() {
+        Some(owner) => level_in(owner, class_number),
+        None => 0,
+    }
 }

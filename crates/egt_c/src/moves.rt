@@ -20,13 +20,13 @@ pub struct EgtbMoves {
 }
 
 impl EgtbMove {
-    fn none() -> EgtbMove
+    pub(crate) fn none() -> EgtbMove
         ensures { result.text ≡ zeros }
     {
         EgtbMove { text: [0; 6] }
     }
 
-    fn of(chess_move: &Move) -> EgtbMove
+    pub(crate) fn of(chess_move: &Move) -> EgtbMove
         ensures { result ≡ written chess_move.now }
     {
         let text = chess_move.text();

@@ -1,166 +1,240 @@
-//! What is asked of positions, each by its FEN.
+//! What is asked of positions, each given by its FEN or by its men.
 ghost use Rattle.std.specs.Prelude.{◌≡◌, IfSome, IfNone, IfOk, IfErr};
-ghost use Rattle.egt_probe.specs.Fault.{IsDecisive, IsLineFault};
 ghost use Rattle.egt_probe.specs.Shelves.{loaded_in};
-ghost use Rattle.egt_c.specs.Calls.{missing_class, IsFirstOfBest, TellsBest, TellsVerdict, TellsMove, TellsMoves};
+ghost use Rattle.egt_c.specs.Calls.{IsOfText, IsTextFault, OfText, OfMen, TellsVerdict, TellsMove, TellsRoot, TellsMoves};
 ghost use Rattle.egt_c.specs.Fault.{closed};
 ghost use Rattle.egt_c.specs.Held.{held};
 
 use crate::fault::EgtbFault;
-use crate::handle::{EgtbLibrary, library_of};
+use crate::handle::EgtbLibrary;
+use crate::men::{EgtbPosition, position_of};
 use crate::moves::{EgtbMove, EgtbMoves};
-use crate::verdict::EgtbVerdict;
+use crate::root_moves::EgtbRootMoves;
+use crate::verdict::EgtbAnswer;
 use egt_board::Position;
 use egt_check::Library;
-use egt_class::Class;
 use egt_fen::read;
-use egt_moves::{Move, legal_moves};
-use egt_probe::{HoldFault, LineFault, hold, line, verdict as verdict_of};
-use std::alloc::Global;
+use egt_moves::legal_moves;
+use egt_probe::{best_move, root, verdict};
 
-/// Tells the verdict of the position that the FEN spells.
-fn tell_verdict(library: &Library, fen: &[u8], verdict: &mut EgtbVerdict) -> EgtbFault
-    ensures { TellsVerdict library.now fen.now result verdict.old verdict.new }
+/// The position that the FEN spells.
+fn position_in(fen: &[u8]) -> Result<Position, EgtbFault>
+    ensures position { IfOk result (λ p. IsOfText fen.now p) }
+    ensures fault { IfErr result (λ fault. IsTextFault fen.now fault) }
 {
-    let read = match read(fen) {
-        Ok(read) => read,
-        Err(fault) => return EgtbFault::of_fen(fault),
-    };
-    match verdict_of(library, &read.position) {
+    match read(fen) {
+        Ok(read) => Ok(read.position),
+        Err(fault) => Err(EgtbFault::of_fen(fault)),
+    }
+}
+
+/// Tells the verdict of a position.
+fn tell_verdict(library: &Library, position: &Position, answer: &mut EgtbAnswer) -> EgtbFault
+    ensures { TellsVerdict (loaded_in library.now) position.now result answer.old answer.new }
+{
+    match verdict(library, position) {
         Ok(told) => {
-            *verdict = EgtbVerdict::of(&told);
+            *answer = EgtbAnswer::of(&told);
             EgtbFault::none()
         }
         Err(missing) => EgtbFault::missing(missing.class),
     }
 }
 
+/// Tells the move that a side does best to make in the position.
+fn tell_move(library: &Library, position: &Position, best: &mut EgtbMove) -> EgtbFault
+    ensures { TellsMove (loaded_in library.now) position.now result best.old best.new }
+{
+    match best_move(library, position) {
+        Ok(told) => {
+            *best = EgtbMove::of_option(told);
+            EgtbFault::none()
+        }
+        Err(missing) => EgtbFault::missing(missing.class),
+    }
+}
+
+/// Tells each move of the position.
+fn tell_root(library: &Library, position: &Position, moves: &mut EgtbRootMoves) -> EgtbFault
+    ensures { TellsRoot (loaded_in library.now) position.now result moves.old moves.new }
+{
+    match root(library, position) {
+        Ok(told) => {
+            *moves = EgtbRootMoves::of(told.as_slice());
+            EgtbFault::none()
+        }
+        Err(missing) => EgtbFault::missing(missing.class),
+    }
+}
+
+/// Of the position that the FEN spells.
+fn verdict_by_text(library: &Library, fen: &[u8], answer: &mut EgtbAnswer) -> EgtbFault
+    ensures { OfText (TellsVerdict (loaded_in library.now)) fen.now result answer.old answer.new }
+{
+    match position_in(fen) {
+        Ok(position) => tell_verdict(library, &position, answer),
+        Err(fault) => fault,
+    }
+}
+
 /// The class and the outcome of the position that the FEN spells.
 #[unsafe(no_mangle)]
 pub extern "C" fn egtb_verdict(
-    alloc: Global,
     library: &mut EgtbLibrary,
     fen: &[u8],
-    verdict: &mut EgtbVerdict,
+    answer: &mut EgtbAnswer,
 ) -> EgtbFault
-    ensures told { IfSome (held library.old) (λ places. TellsVerdict places fen.now result verdict.old verdict.new) }
-    ensures closed { IfNone (held library.old) ((result ≡ closed) × (verdict.new ≡ verdict.old)) }
+    ensures told { IfSome (held library.old) (λ places. OfText (TellsVerdict (loaded_in places)) fen.now result answer.old answer.new) }
+    ensures closed { IfNone (held library.old) ((result ≡ closed) × (answer.new ≡ answer.old)) }
     ensures kept { held library.new ≡ held library.old }
 {
-    let Some(boxed) = library.take(alloc) else {
-        return EgtbFault::closed();
-    };
-    let fault = tell_verdict(library_of(&boxed), fen, verdict);
-    library.put(alloc, boxed);
-    fault
-}
-
-/// The first move of best play, and none at checkmate.
-fn first_of_line(
-    alloc: Global,
-    library: &Library,
-    position: &Position,
-) -> Result<Option<Move>, LineFault>
-    ensures first { IfOk result (λ first. IsFirstOfBest position.now first) }
-    ensures fault { IfErr result (λ fault. IsLineFault (loaded_in library.now) position.now fault) }
-{
-    let moves = line(alloc, library, position)?;
-    match moves.as_slice() {
-        [first, ..] => Ok(Some(*first)),
-        [] => Ok(None),
+    match library.owner() {
+        Some(owner) => verdict_by_text(owner, fen, answer),
+        None => EgtbFault::closed(),
     }
 }
 
-/// The class that the fault names.
-fn missing_class(fault: HoldFault) -> Option<Class>
-    ensures { result ≡ missing_class fault }
+/// Of the position that the men make.
+fn verdict_by_men(library: &Library, position: &EgtbPosition, answer: &mut EgtbAnswer) -> EgtbFault
+    ensures { OfMen (TellsVerdict (loaded_in library.now)) position.now result answer.old answer.new }
 {
-    match fault {
-        HoldFault::Missing(class) => Some(class),
-        HoldFault::Decisive => None,
-    }
-}
-
-/// Tells the first move of best play of a position that is won or lost.
-fn tell_first(
-    alloc: Global,
-    library: &Library,
-    position: &Position,
-    best: &mut EgtbMove,
-) -> EgtbFault
-    requires { IsDecisive position.now }
-    ensures { TellsBest (loaded_in library.now) position.now result best.old best.new }
-{
-    match first_of_line(alloc, library, position) {
-        Ok(first) => {
-            *best = EgtbMove::of_option(first);
-            EgtbFault::none()
-        }
-        Err(fault) => EgtbFault::of_line(fault),
-    }
-}
-
-/// Tells the move that a side does best to make in the position.
-fn tell_best(
-    alloc: Global,
-    library: &Library,
-    position: &Position,
-    best: &mut EgtbMove,
-) -> EgtbFault
-    ensures { TellsBest (loaded_in library.now) position.now result best.old best.new }
-{
-    let fault = match hold(library, position) {
-        Ok(held) => {
-            *best = EgtbMove::of_option(held);
-            return EgtbFault::none();
-        }
+    match position_of(position) {
+        Ok(position) => tell_verdict(library, &position, answer),
         Err(fault) => fault,
-    };
-    match missing_class(fault) {
-        Some(class) => EgtbFault::missing(class),
-        None => tell_first(alloc, library, position, best),
     }
 }
 
-/// The same of the position that the FEN spells.
-fn tell_move(alloc: Global, library: &Library, fen: &[u8], best: &mut EgtbMove) -> EgtbFault
-    ensures { TellsMove library.now fen.now result best.old best.new }
+/// The class and the outcome of the position that the men make.
+#[unsafe(no_mangle)]
+pub extern "C" fn egtb_verdict_of(
+    library: &mut EgtbLibrary,
+    position: &EgtbPosition,
+    answer: &mut EgtbAnswer,
+) -> EgtbFault
+    ensures told { IfSome (held library.old) (λ places. OfMen (TellsVerdict (loaded_in places)) position.now result answer.old answer.new) }
+    ensures closed { IfNone (held library.old) ((result ≡ closed) × (answer.new ≡ answer.old)) }
+    ensures kept { held library.new ≡ held library.old }
 {
-    match read(fen) {
-        Ok(read) => tell_best(alloc, library, &read.position, best),
-        Err(fault) => EgtbFault::of_fen(fault),
+    match library.owner() {
+        Some(owner) => verdict_by_men(owner, position, answer),
+        None => EgtbFault::closed(),
+    }
+}
+
+/// Of the position that the FEN spells.
+fn move_by_text(library: &Library, fen: &[u8], best: &mut EgtbMove) -> EgtbFault
+    ensures { OfText (TellsMove (loaded_in library.now)) fen.now result best.old best.new }
+{
+    match position_in(fen) {
+        Ok(position) => tell_move(library, &position, best),
+        Err(fault) => fault,
     }
 }
 
 /// The first move of best play of the position that the FEN spells, or the move that holds the draw; no move at checkmate and stalemate.
 #[unsafe(no_mangle)]
-pub extern "C" fn egtb_move(
-    alloc: Global,
-    library: &mut EgtbLibrary,
-    fen: &[u8],
-    best: &mut EgtbMove,
-) -> EgtbFault
-    ensures told { IfSome (held library.old) (λ places. TellsMove places fen.now result best.old best.new) }
+pub extern "C" fn egtb_move(library: &mut EgtbLibrary, fen: &[u8], best: &mut EgtbMove) -> EgtbFault
+    ensures told { IfSome (held library.old) (λ places. OfText (TellsMove (loaded_in places)) fen.now result best.old best.new) }
     ensures closed { IfNone (held library.old) ((result ≡ closed) × (best.new ≡ best.old)) }
     ensures kept { held library.new ≡ held library.old }
 {
-    let Some(boxed) = library.take(alloc) else {
-        return EgtbFault::closed();
-    };
-    let fault = tell_move(alloc, library_of(&boxed), fen, best);
-    library.put(alloc, boxed);
-    fault
+    match library.owner() {
+        Some(owner) => move_by_text(owner, fen, best),
+        None => EgtbFault::closed(),
+    }
+}
+
+/// Of the position that the men make.
+fn move_by_men(library: &Library, position: &EgtbPosition, best: &mut EgtbMove) -> EgtbFault
+    ensures { OfMen (TellsMove (loaded_in library.now)) position.now result best.old best.new }
+{
+    match position_of(position) {
+        Ok(position) => tell_move(library, &position, best),
+        Err(fault) => fault,
+    }
+}
+
+/// The first move of best play of the position that the men make, or the move that holds the draw; no move at checkmate and stalemate.
+#[unsafe(no_mangle)]
+pub extern "C" fn egtb_move_of(
+    library: &mut EgtbLibrary,
+    position: &EgtbPosition,
+    best: &mut EgtbMove,
+) -> EgtbFault
+    ensures told { IfSome (held library.old) (λ places. OfMen (TellsMove (loaded_in places)) position.now result best.old best.new) }
+    ensures closed { IfNone (held library.old) ((result ≡ closed) × (best.new ≡ best.old)) }
+    ensures kept { held library.new ≡ held library.old }
+{
+    match library.owner() {
+        Some(owner) => move_by_men(owner, position, best),
+        None => EgtbFault::closed(),
+    }
+}
+
+/// Of the position that the FEN spells.
+fn root_by_text(library: &Library, fen: &[u8], moves: &mut EgtbRootMoves) -> EgtbFault
+    ensures { OfText (TellsRoot (loaded_in library.now)) fen.now result moves.old moves.new }
+{
+    match position_in(fen) {
+        Ok(position) => tell_root(library, &position, moves),
+        Err(fault) => fault,
+    }
+}
+
+/// The legal moves of the position that the FEN spells, each with the verdict of the position that it leads to, best first.
+#[unsafe(no_mangle)]
+pub extern "C" fn egtb_root(
+    library: &mut EgtbLibrary,
+    fen: &[u8],
+    moves: &mut EgtbRootMoves,
+) -> EgtbFault
+    ensures told { IfSome (held library.old) (λ places. OfText (TellsRoot (loaded_in places)) fen.now result moves.old moves.new) }
+    ensures closed { IfNone (held library.old) ((result ≡ closed) × (moves.new ≡ moves.old)) }
+    ensures kept { held library.new ≡ held library.old }
+{
+    match library.owner() {
+        Some(owner) => root_by_text(owner, fen, moves),
+        None => EgtbFault::closed(),
+    }
+}
+
+/// Of the position that the men make.
+fn root_by_men(library: &Library, position: &EgtbPosition, moves: &mut EgtbRootMoves) -> EgtbFault
+    ensures { OfMen (TellsRoot (loaded_in library.now)) position.now result moves.old moves.new }
+{
+    match position_of(position) {
+        Ok(position) => tell_root(library, &position, moves),
+        Err(fault) => fault,
+    }
+}
+
+/// The legal moves of the position that the men make, each with the verdict of the position that it leads to, best first.
+#[unsafe(no_mangle)]
+pub extern "C" fn egtb_root_of(
+    library: &mut EgtbLibrary,
+    position: &EgtbPosition,
+    moves: &mut EgtbRootMoves,
+) -> EgtbFault
+    ensures told { IfSome (held library.old) (λ places. OfMen (TellsRoot (loaded_in places)) position.now result moves.old moves.new) }
+    ensures closed { IfNone (held library.old) ((result ≡ closed) × (moves.new ≡ moves.old)) }
+    ensures kept { held library.new ≡ held library.old }
+{
+    match library.owner() {
+        Some(owner) => root_by_men(owner, position, moves),
+        None => EgtbFault::closed(),
+    }
 }
 
 /// The legal moves of the position that the FEN spells, in order. It asks no library.
 #[unsafe(no_mangle)]
 pub extern "C" fn egtb_legal_moves(fen: &[u8], moves: &mut EgtbMoves) -> EgtbFault
-    ensures { TellsMoves fen.now result moves.old moves.new }
+    ensures { OfText TellsMoves fen.now result moves.old moves.new }
 {
-    let read = match read(fen) {
-        Ok(read) => read,
-        Err(fault) => return EgtbFault::of_fen(fault),
-    };
-    *moves = EgtbMoves::of(legal_moves(&read.position).as_slice());
-    EgtbFault::none()
+    match position_in(fen) {
+        Ok(position) => {
+            *moves = EgtbMoves::of(legal_moves(&position).as_slice());
+            EgtbFault::none()
+        }
+        Err(fault) => fault,
+    }
 }

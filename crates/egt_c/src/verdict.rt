@@ -8,7 +8,7 @@ use egt_probe::{Outcome, Verdict};
 /// The class of a position and how play from it ends.
 #[repr(C)]
 #[derive(Clone, Copy, Debug, PartialEq, Eq)]
-pub struct EgtbVerdict {
+pub struct EgtbAnswer {
     pub class_number: u8,
     /// 0 draw, 1 dead, 2 white mates, 3 black mates.
     pub outcome: u8,
@@ -28,10 +28,19 @@ fn winner_number(winner: Side) -> u8
     }
 }
 
-impl EgtbVerdict {
+impl EgtbAnswer {
     ghost use Rattle.egt_c.specs.Verdict.{shown};
 
-    pub(crate) fn of(verdict: &Verdict) -> EgtbVerdict
+    pub(crate) fn none() -> EgtbAnswer {
+        EgtbAnswer {
+            class_number: 0,
+            outcome: 0,
+            plies: 0,
+            zeroing: 0,
+        }
+    }
+
+    pub(crate) fn of(verdict: &Verdict) -> EgtbAnswer
         ensures { result ≡ shown verdict.now }
     {
         let (outcome, plies, zeroing) = match verdict.value {
@@ -43,7 +52,7 @@ impl EgtbVerdict {
                 zeroing,
             } => (winner_number(winner), plies, zeroing),
         };
-        EgtbVerdict {
+        EgtbAnswer {
             class_number: verdict.class.number(),
             outcome,
             plies,

@@ -7,4 +7,7 @@ pub mod Drawn
 pub mod Splitting
 pub mod Answered
 pub mod OneReport
+pub mod Ranked
+pub mod Rooted
+pub mod BestMoves
 pub mod Meaning

@@ -1,5 +1,5 @@
 -- What a table of a library tells of the positions of its class.
-use Rattle.std.proofs.Common.{◌≡◌, ℕ, ◌<◌, Bool, Option, Some, None, IsSome, IfNone, refl, sym, subst, arith}
+use Rattle.std.proofs.Common.{◌≡◌, ℕ, ◌<◌, Bool, IsSome, sym, subst, arith}
 use Rattle.std.proofs.Math.Logic.{⊎_elim}
 use Rattle.std.specs.List.{Contains}
 use Rattle.egt_board.specs.declared.man.Side.{Side}
@@ -9,7 +9,7 @@ use Rattle.egt_class.specs.Membership.{IsOf}
 use Rattle.egt_index.specs.Index.{IsIndex}
 use Rattle.egt_moves.specs.Arena.{Value, HasValue}
 use Rattle.egt_moves.specs.Chess.{chess}
-use Rattle.egt_moves.specs.Legal.{Leads, IsLegal}
+use Rattle.egt_moves.specs.Legal.{Leads}
 use Rattle.egt_moves.specs.Zeroing.{HasZeroing}
 use Rattle.egt_moves.specs.declared.chess_move.Move.{Move}
 use Rattle.egt_table.specs.Table.{TableValue}
@@ -25,11 +25,6 @@ use Rattle.egt_probe.specs.Facts.{Facts}
 use Rattle.egt_probe.specs.Loaded.{Loaded, IsLoaded}
 use Rattle.egt_probe.specs.Search.{ShowsValue}
 use Rattle.egt_probe.specs.Verdict.{mate_value, zeroing_value}
-
--- a legal move leads somewhere
-pub somewhere : (p : Setup) (m : Move) (o : Option Setup) → IfNone o ((q : Setup) → ¬ Leads p m q) → IsLegal p m → IsSome o
-somewhere p m None none legal = absurd (none legal.0 legal.1)
-somewhere p m (Some q) none legal = refl
 
 module _ (t : TableValue) (truth : IsTrueTable t) where
   -- the entry shows what the column of the metric tells of the position

@@ -3,6 +3,8 @@ pub mod Shelves
 pub mod Verdict
 pub mod Line
 pub mod Hold
+pub mod Best
+pub mod Root
 pub mod Fault
 pub mod Facts
 pub mod Search

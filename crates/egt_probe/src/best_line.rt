@@ -33,7 +33,12 @@ fn decided_entry(mover: Side, winner: Side, plies: u16) -> u16
 }
 
 /// The next move of best play where the winner mates in `plies + 1` plies, and where it leads.
-fn best_move(library: &Library, position: &Position, winner: Side, plies: u16) -> (Move, Position)
+pub(crate) fn next_move(
+    library: &Library,
+    position: &Position,
+    winner: Side,
+    plies: u16,
+) -> (Move, Position)
     requires loaded { IsLoaded (loaded_in library.now) position.now }
     requires short { plies < 32000 }
     requires value { HasValue chess position.now (mate_by position.now.side winner (plies + 1)) }
@@ -64,7 +69,7 @@ pub(crate) fn best_line(
     let mut left = plies;
     while left > 0 {
         left -= 1;
-        let (chess_move, next) = best_move(library, &here, winner, left);
+        let (chess_move, next) = next_move(library, &here, winner, left);
         moves.push(chess_move)?;
         here = next;
     }

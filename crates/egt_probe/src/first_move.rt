@@ -10,14 +10,14 @@ use crate::facts::facts;
 use crate::looking::{mate_entry, moves_stay_loaded};
 use egt_board::Position;
 use egt_check::Library;
-use egt_moves::{Move, legal_moves, play};
+use egt_moves::{Move, legal_moves, play_legal};
 
 /// The position after a legal move.
 fn after(position: &Position, chess_move: &Move) -> Position
     requires { IsLegal position.now chess_move.now }
     ensures { Leads position.now chess_move.now result }
 {
-    play(position, *chess_move).unwrap()
+    play_legal(position, *chess_move)
 }
 
 /// The first legal move that leads to a position with that mate entry, and the position.

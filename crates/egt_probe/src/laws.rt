@@ -1,12 +1,15 @@
 //! What holds of lines of best play and of reports. These functions do nothing: a caller calls one to know what it ensures.
-ghost use Rattle.std.specs.Prelude.{◌≡◌, ℕ, List, length};
+ghost use Rattle.std.specs.Prelude.{◌≡◌, ℕ, List, ◌∷◌, length, Some};
 ghost use Rattle.egt_board.specs.Man.{other_side};
 ghost use Rattle.egt_board.specs.Setup.{Setup};
 ghost use Rattle.egt_moves.specs.Arena.{Value, MatesWithin, IsMatedWithin, CannotMateBefore, AvoidsMateBefore, IsDraw};
 ghost use Rattle.egt_moves.specs.Chess.{chess};
+ghost use Rattle.egt_moves.specs.Order.{place_of};
 ghost use Rattle.egt_moves.specs.Reach.{IsDead};
 ghost use Rattle.egt_moves.specs.declared.chess_move.Move.{Move};
 ghost use Rattle.egt_probe.specs.Answer.{Reports};
+ghost use Rattle.egt_probe.specs.Best.{IsBest};
+ghost use Rattle.egt_probe.specs.Hold.{IsHold};
 ghost use Rattle.egt_probe.specs.Line.{IsLine, plies_of};
 ghost use Rattle.egt_probe.specs.Loaded.{Loaded};
 ghost use Rattle.egt_probe.specs.Report.{Report, verdict_of};
@@ -33,6 +36,16 @@ pub fn what_a_verdict_means()
 pub fn a_line_has_a_move_a_ply()
     ensures { (p : Setup) (v : Value) (ms : List Move) → IsLine p v ms → length ms ≡ plies_of v }
 {}
+
+/// The best move stands where the first move of the line of best play does in the order of moves, and where the move does that holds
+/// a draw.
+pub fn the_best_move_begins_the_line()
+    ensures line { (p : Setup) (v : Value) (ms : List Move) (m : Move) → IsLine p v ms → IsBest p (Some m) →
+        (n : Move) × (rest : List Move) × (ms ≡ n ∷ rest) × (place_of n ≡ place_of m) }
+    ensures hold { (p : Setup) (n m : Move) → IsHold p (Some n) → IsBest p (Some m) → place_of n ≡ place_of m }
+{
+    facts();
+}
 
 /// A line has one report, by the rules of play, the classes that are loaded and which of their tables have the column of the nearest
 /// mates, alone.

@@ -1,19 +1,16 @@
-use Rattle.std.proofs.Common.{◌≡◌, List, length, map, take, ap, ◌∙◌, refl, subst}
+use Rattle.std.proofs.Common.{◌≡◌, List, length, map, take, ap, ◌∙◌, subst}
 use Rattle.egt_moves.specs.declared.chess_move.Move.{Move}
-use Rattle.egt_c.specs.Calls.{Unlisted, Listed}
+use Rattle.egt_c.specs.Calls.{Answered, Listed}
 use Rattle.egt_c.specs.Move.{written}
 use Rattle.egt_c.proofs.position_calls.egtb_legal_moves.Goals as goal
 
-pub returns-in-Err : goal.returns-in-Err
-returns-in-Err c = Unlisted c.in-Err.fault c.in-Err.ensures.fault c.of_fen.ensures refl
-
-pub returns : goal.returns
-returns c =
+pub returns-in-Ok : goal.returns-in-Ok
+returns-in-Ok c =
     let same = c.as_slice.ensures.value in
-    Listed c.in-Ok.read c.in-Ok.ensures.spells (record {
+    Answered c.in-Ok.position c.in-Ok.ensures.position (Listed (record {
       moves = c.legal_moves.result.items;
       legal = c.legal_moves.ensures.legal;
       ordered = c.legal_moves.ensures.ordered;
       count = c.of.ensures.count ∙ ap length same;
       texts = subst (λ (ms : List Move). take (length ms) c.of.result.moves ≡ map written ms) same c.of.ensures.moves;
-    }) c.none.ensures
+    }) c.none.ensures)

@@ -1,10 +1,12 @@
-use Rattle.egt_c.specs.Calls.{TellsVerdict}
+use Rattle.std.proofs.Common.{sym}
 use Rattle.std.specs.Arc.{arc_value}
-use Rattle.egt_c.specs.Held.{Places}
+use Rattle.egt_probe.specs.Shelves.{loaded_in}
+use Rattle.egt_c.specs.Calls.{OfText, TellsVerdict}
+use Rattle.egt_c.specs.Held.{Places, held}
 use Rattle.egt_c.proofs.Kept.{if_held}
 use Rattle.egt_c.proofs.position_calls.egtb_verdict.Goals as goal
 
-pub returns-clause-told : goal.returns-clause-told
-returns-clause-told c = let told = c.tell_verdict-fault in
-    if_held _ (arc_value c.in-Some.boxed.value) c.library_of.result.now (λ (places : Places). TellsVerdict places c.args.fen.now told.result c.args.verdict.now told.new.verdict)
-    c.in-Some.ensures.taken c.library_of.ensures told.ensures
+pub returns-in-Some-clause-told : goal.returns-in-Some-clause-told
+returns-in-Some-clause-told c = let told = c.verdict_by_text in
+    if_held (held c.args.library.now) (arc_value c.in-Some.owner.now) c.deref.result.now (λ (places : Places). OfText (TellsVerdict (loaded_in places)) c.args.fen.now told.result c.args.answer.now told.new.answer)
+    (sym c.in-Some.ensures.owner) c.deref.ensures told.ensures

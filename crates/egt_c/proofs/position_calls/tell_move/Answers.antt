@@ -1,9 +1,9 @@
 use Rattle.std.proofs.Common.{refl}
-use Rattle.egt_c.specs.Calls.{Answered, Unread}
+use Rattle.egt_c.specs.Calls.{NotLoaded, Best}
 use Rattle.egt_c.proofs.position_calls.tell_move.Goals as goal
 
 pub returns-in-Ok : goal.returns-in-Ok
-returns-in-Ok c = Answered c.in-Ok.read c.in-Ok.ensures.spells c.tell_best.ensures
+returns-in-Ok c = Best c.in-Ok.told c.in-Ok.ensures.best c.none.ensures c.of_option.ensures
 
 pub returns-in-Err : goal.returns-in-Err
-returns-in-Err c = Unread c.in-Err.fault c.in-Err.ensures.fault c.of_fen.ensures refl
+returns-in-Err c = NotLoaded c.in-Err.missing.class c.in-Err.ensures.missing c.missing.ensures refl

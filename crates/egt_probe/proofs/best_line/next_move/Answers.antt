@@ -10,7 +10,7 @@ use Rattle.egt_entries.specs.Entry.{entry_of}
 use Rattle.egt_probe.specs.Facts.{Facts}
 use Rattle.egt_probe.specs.Search.{IsFirstWith}
 use Rattle.egt_probe.proofs.Best.{short, goes_on, some_found, first_to}
-use Rattle.egt_probe.proofs.best_line.best_move.Goals as goal
+use Rattle.egt_probe.proofs.best_line.next_move.Goals as goal
 
 -- one ply more, as it is written
 ahead : Facts → (p : Setup) (winner : Side) (n k : ℕ) → k ≡ suc n → HasValue chess p (mate_by p.side winner k) → SomeMove chess p (λ q. HasValue chess q (mate_by (other_side p.side) winner n))

@@ -1,0 +1,12 @@
+use Rattle.std.proofs.Common.{sym}
+use Rattle.std.specs.Arc.{arc_value}
+use Rattle.egt_probe.specs.Shelves.{loaded_in}
+use Rattle.egt_c.specs.Calls.{OfMen, TellsRoot}
+use Rattle.egt_c.specs.Held.{Places, held}
+use Rattle.egt_c.proofs.Kept.{if_held}
+use Rattle.egt_c.proofs.position_calls.egtb_root_of.Goals as goal
+
+pub returns-in-Some-clause-told : goal.returns-in-Some-clause-told
+returns-in-Some-clause-told c = let told = c.root_by_men in
+    if_held (held c.args.library.now) (arc_value c.in-Some.owner.now) c.deref.result.now (λ (places : Places). OfMen (TellsRoot (loaded_in places)) c.args.position.now told.result c.args.moves.now told.new.moves)
+    (sym c.in-Some.ensures.owner) c.deref.ensures told.ensures
