@@ -66,8 +66,8 @@ pub(crate) fn load<R: Files + AllocGlobal>(
     Ok(())
 }
 
-/// Reads the tables of all classes that captures and promotions lead to from this one, in ascending number, and has each
-/// admitted, up to the first fault.
+/// Reads the tables of all classes that captures and promotions lead to from this one, in ascending number, and has
+/// each admitted, up to the first fault.
 pub fn load_below<R: Files + AllocGlobal>(
     rt: &R,
     folder: &str,

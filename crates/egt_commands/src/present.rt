@@ -21,8 +21,8 @@ fn first_absent(class: Class, library: &Library) -> Option<Class> {
     None
 }
 
-/// Reads the class's table and has it admitted where its file is there, and answers whether it is. Each class rests on two kings, so their
-/// file has to be there.
+/// Reads the class's table and has it admitted where its file is there, and answers whether it is. Each class rests on
+/// two kings, so their file has to be there.
 pub(crate) fn load_present<R: Files + AllocGlobal>(
     rt: &R,
     folder: &str,
@@ -42,7 +42,8 @@ pub(crate) fn load_present<R: Files + AllocGlobal>(
     Ok(true)
 }
 
-/// Reads the tables of all classes whose files are there, in ascending number, and has each admitted, up to the first fault.
+/// Reads the tables of all classes whose files are there, in ascending number, and has each admitted, up to the first
+/// fault.
 pub fn load_all<R: Files + AllocGlobal>(rt: &R, folder: &str) -> Result<Library, RunFault> {
     let mut library = Library::new(rt.alloc())?;
     for number in 0..36 {

@@ -20,7 +20,8 @@ fn process_text<R: Files + AllocGlobal>(rt: &R) -> Result<String, AllocError> {
     }
 }
 
-/// The path of a new file beside the class's own, by process and number: `KQK.egt.4711-0.new`. No reader looks for such a name.
+/// The path of a new file beside the class's own, by process and number: `KQK.egt.4711-0.new`. No reader looks for such
+/// a name.
 fn new_path(
     alloc: Global,
     folder: &str,
@@ -85,12 +86,14 @@ fn replace<R: Files>(
     }
 }
 
-/// Puts the table into the file of its class, in place of one that is there. It is written to a new file beside that one, which is renamed
-/// once it is whole and on the disk. Where anything fails before, a file that was there is as it was, and the new one is removed.
+/// Puts the table into the file of its class, in place of one that is there. It is written to a new file beside that
+/// one, which is renamed once it is whole and on the disk. Where anything fails before, a file that was there is as it
+/// was, and the new one is removed.
 ///
 /// # Errors
 ///
-/// `Device` where the new file could not be made, written, brought to the disk or renamed; `NoMemory` where a growth was refused.
+/// `Device` where the new file could not be made, written, brought to the disk or renamed; `NoMemory` where a growth
+/// was refused.
 pub fn save<R: Files + AllocGlobal>(rt: &R, folder: &str, table: &Table) -> Result<(), RunFault> {
     let own = path_of(rt.alloc(), folder, table.class())?;
     let (new, file) = create(rt, folder, table.class())?;

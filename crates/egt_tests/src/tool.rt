@@ -60,8 +60,8 @@ fn is_wrong(rt: &HostRuntime, words: &[&str]) -> Option<bool> {
     Some(ran.status == 2 && ran.out.bytes().is_empty() && !ran.err.bytes().is_empty())
 }
 
-/// A run over a folder: the words behind the program's name, where `DIR` stands for the folder, the line on the standard input, the status, and what is
-/// printed to the standard output and to the standard error.
+/// A run over a folder: the words behind the program's name, where `DIR` stands for the folder, the line on the
+/// standard input, the status, and what is printed to the standard output and to the standard error.
 type Step = (&'static str, &'static str, u8, &'static str, &'static str);
 
 /// Whether the run is as it says.
@@ -74,8 +74,8 @@ fn goes(rt: &HostRuntime, folder: &str, step: Step) -> Option<bool> {
     Some(run_on(rt, &words, input.as_bytes())?.is(status, out, err))
 }
 
-/// Runs the program on two kings where the k-th push to the standard output and the j-th to the standard error fail, each counted
-/// from 1, none for 0; gives the status and what came to the standard error.
+/// Runs the program on two kings where the k-th push to the standard output and the j-th to the standard error fail,
+/// each counted from 1, none for 0; gives the status and what came to the standard error.
 fn run_failing(rt: &HostRuntime, words: &[&str], k: u64, j: u64) -> Option<(u8, MemorySink)> {
     let mut all = vec![in rt.alloc(); "egtb"].ok()?;
     all.extend_from_slice(words).ok()?;

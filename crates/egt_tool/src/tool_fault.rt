@@ -29,7 +29,8 @@ impl ToolFault {
         }
     }
 
-    /// What a fault of `migrate` ends a run with, of a table without the column of the nearest mates: it is printed as one of a build.
+    /// What a fault of `migrate` ends a run with, of a table without the column of the nearest mates: it is printed as
+    /// one of a build.
     pub fn of_migrate(fault: MigrateFault) -> ToolFault
         requires { fault ≢ migrate_faults.HasReach }
         ensures memory { fault ≡ migrate_faults.NoMemory → result ≡ faults.Run run_faults.NoMemory }

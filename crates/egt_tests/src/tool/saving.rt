@@ -197,7 +197,8 @@ impl Files for Refusing<'_> {
     }
 }
 
-/// Whether the command on two kings ends with this status and prints this line alone, to the standard error, where the system refuses that.
+/// Whether the command on two kings ends with this status and prints this line alone, to the standard error, where the
+/// system refuses that.
 fn ends(
     rt: &HostRuntime,
     folder: &str,
