@@ -8,8 +8,8 @@ use egt_class::Class;
 use egt_fen::FenFault;
 use egt_table::{Column, FileFault};
 
-/// Why a call gave no answer, or nothing but zeros where it gave one. A fault of a class names it; one of an entry names its column, the
-/// rule that it breaks and its index. What a fault does not name is 0.
+/// Why a call gave no answer, or nothing but zeros where it gave one. A fault of a class names it; one of an entry
+/// names its column, the rule that it breaks and its index. What a fault does not name is 0.
 #[repr(C)]
 #[derive(Clone, Copy, Debug, PartialEq, Eq)]
 pub struct EgtbFault {
@@ -54,7 +54,8 @@ fn rule_place(rule: Rule) -> u8
 }
 
 impl EgtbFault {
-    ghost use Rattle.egt_c.specs.Fault.{fault, about, no_fault, of_fen, of_file, of_check, of_setup, missing, no_memory, closed, no_class, shared, no_man};
+    ghost use Rattle.egt_c.specs.Fault.{fault, about, no_fault, of_fen, of_file, of_check};
+    ghost use Rattle.egt_c.specs.Fault.{of_setup, missing, no_memory, closed, no_class, shared, no_man};
 
     fn new(family: u8, number: u8) -> EgtbFault
         ensures { result ≡ fault family number }

@@ -14,8 +14,9 @@ use std::sync::Arc;
 /// One owner of a library, of which there may be several.
 pub(crate) type Owner = Arc<Library, Global>;
 
-/// A library, or none where it is closed. All bytes 0 are a closed one, so C makes it so. It lies where C puts it, and C changes nothing
-/// in it. Calls that ask take it as `&mut` and write nothing in it: a struct that lends what it owns by `&` is none that C may pass.
+/// A library, or none where it is closed. All bytes 0 are a closed one, so C makes it so. It lies where C puts it, and
+/// C changes nothing in it. Calls that ask take it as `&mut` and write nothing in it: a struct that lends what it owns
+/// by `&` is none that C may pass.
 #[repr(C)]
 pub struct EgtbLibrary {
     pub(crate) at: *mut u8,

@@ -9,7 +9,8 @@ ghost use Rattle.egt_fen.specs.declared.fault.FenFault.{FenFault};
 ghost use Rattle.egt_table.specs.Fault as files;
 ghost use Rattle.egt_table.specs.declared.fault.FileFault.{FileFault};
 ghost use Rattle.egt_table.specs.declared.fault.FileFault.TheVariants.{Device};
-ghost use Rattle.egt_c.specs.Names.{fen_name, file_name, check_name, probe_name, call_name, fault_name, padded_fault, version_text};
+ghost use Rattle.egt_c.specs.Names.{fen_name, file_name, check_name, probe_name};
+ghost use Rattle.egt_c.specs.Names.{call_name, fault_name, padded_fault, version_text};
 
 use crate::fault::EgtbFault;
 
@@ -108,7 +109,8 @@ fn fault_name(family: u8, number: u8) -> &'static str
     }
 }
 
-/// Writes the name of a fault, as it is printed, with zeros behind it; zeros alone where no fault has that family and number.
+/// Writes the name of a fault, as it is printed, with zeros behind it; zeros alone where no fault has that family and
+/// number.
 #[unsafe(no_mangle)]
 pub extern "C" fn egtb_fault_name(fault: &EgtbFault, name: &mut [u8; 16])
     ensures { name.new ≡ padded_fault (fault_name fault.now.family fault.now.number) }

@@ -1,7 +1,8 @@
 //! What is asked of positions, each given by its FEN or by its men.
 ghost use Rattle.std.specs.Prelude.{◌≡◌, IfSome, IfNone, IfOk, IfErr};
 ghost use Rattle.egt_probe.specs.Shelves.{loaded_in};
-ghost use Rattle.egt_c.specs.Calls.{IsOfText, IsTextFault, OfText, OfMen, TellsVerdict, TellsMove, TellsRoot, TellsMoves};
+ghost use Rattle.egt_c.specs.Calls.{IsOfText, IsTextFault, OfText, OfMen};
+ghost use Rattle.egt_c.specs.Calls.{TellsVerdict, TellsMove, TellsRoot, TellsMoves};
 ghost use Rattle.egt_c.specs.Fault.{closed};
 ghost use Rattle.egt_c.specs.Held.{held};
 
@@ -84,7 +85,8 @@ pub extern "C" fn egtb_verdict(
     fen: &[u8],
     answer: &mut EgtbAnswer,
 ) -> EgtbFault
-    ensures told { IfSome (held library.old) (λ places. OfText (TellsVerdict (loaded_in places)) fen.now result answer.old answer.new) }
+    ensures told { IfSome (held library.old) (λ places.
+        OfText (TellsVerdict (loaded_in places)) fen.now result answer.old answer.new) }
     ensures closed { IfNone (held library.old) ((result ≡ closed) × (answer.new ≡ answer.old)) }
     ensures kept { held library.new ≡ held library.old }
 {
@@ -111,7 +113,8 @@ pub extern "C" fn egtb_verdict_of(
     position: &EgtbPosition,
     answer: &mut EgtbAnswer,
 ) -> EgtbFault
-    ensures told { IfSome (held library.old) (λ places. OfMen (TellsVerdict (loaded_in places)) position.now result answer.old answer.new) }
+    ensures told { IfSome (held library.old) (λ places.
+        OfMen (TellsVerdict (loaded_in places)) position.now result answer.old answer.new) }
     ensures closed { IfNone (held library.old) ((result ≡ closed) × (answer.new ≡ answer.old)) }
     ensures kept { held library.new ≡ held library.old }
 {
@@ -131,10 +134,12 @@ fn move_by_text(library: &Library, fen: &[u8], best: &mut EgtbMove) -> EgtbFault
     }
 }
 
-/// The first move of best play of the position that the FEN spells, or the move that holds the draw; no move at checkmate and stalemate.
+/// The first move of best play of the position that the FEN spells, or the move that holds the draw; no move at
+/// checkmate and stalemate.
 #[unsafe(no_mangle)]
 pub extern "C" fn egtb_move(library: &mut EgtbLibrary, fen: &[u8], best: &mut EgtbMove) -> EgtbFault
-    ensures told { IfSome (held library.old) (λ places. OfText (TellsMove (loaded_in places)) fen.now result best.old best.new) }
+    ensures told { IfSome (held library.old) (λ places.
+        OfText (TellsMove (loaded_in places)) fen.now result best.old best.new) }
     ensures closed { IfNone (held library.old) ((result ≡ closed) × (best.new ≡ best.old)) }
     ensures kept { held library.new ≡ held library.old }
 {
@@ -154,14 +159,16 @@ fn move_by_men(library: &Library, position: &EgtbPosition, best: &mut EgtbMove) 
     }
 }
 
-/// The first move of best play of the position that the men make, or the move that holds the draw; no move at checkmate and stalemate.
+/// The first move of best play of the position that the men make, or the move that holds the draw; no move at checkmate
+/// and stalemate.
 #[unsafe(no_mangle)]
 pub extern "C" fn egtb_move_of(
     library: &mut EgtbLibrary,
     position: &EgtbPosition,
     best: &mut EgtbMove,
 ) -> EgtbFault
-    ensures told { IfSome (held library.old) (λ places. OfMen (TellsMove (loaded_in places)) position.now result best.old best.new) }
+    ensures told { IfSome (held library.old) (λ places.
+        OfMen (TellsMove (loaded_in places)) position.now result best.old best.new) }
     ensures closed { IfNone (held library.old) ((result ≡ closed) × (best.new ≡ best.old)) }
     ensures kept { held library.new ≡ held library.old }
 {
@@ -181,14 +188,16 @@ fn root_by_text(library: &Library, fen: &[u8], moves: &mut EgtbRootMoves) -> Egt
     }
 }
 
-/// The legal moves of the position that the FEN spells, each with the verdict of the position that it leads to, best first.
+/// The legal moves of the position that the FEN spells, each with the verdict of the position that it leads to, best
+/// first.
 #[unsafe(no_mangle)]
 pub extern "C" fn egtb_root(
     library: &mut EgtbLibrary,
     fen: &[u8],
     moves: &mut EgtbRootMoves,
 ) -> EgtbFault
-    ensures told { IfSome (held library.old) (λ places. OfText (TellsRoot (loaded_in places)) fen.now result moves.old moves.new) }
+    ensures told { IfSome (held library.old) (λ places.
+        OfText (TellsRoot (loaded_in places)) fen.now result moves.old moves.new) }
     ensures closed { IfNone (held library.old) ((result ≡ closed) × (moves.new ≡ moves.old)) }
     ensures kept { held library.new ≡ held library.old }
 {
@@ -208,14 +217,16 @@ fn root_by_men(library: &Library, position: &EgtbPosition, moves: &mut EgtbRootM
     }
 }
 
-/// The legal moves of the position that the men make, each with the verdict of the position that it leads to, best first.
+/// The legal moves of the position that the men make, each with the verdict of the position that it leads to, best
+/// first.
 #[unsafe(no_mangle)]
 pub extern "C" fn egtb_root_of(
     library: &mut EgtbLibrary,
     position: &EgtbPosition,
     moves: &mut EgtbRootMoves,
 ) -> EgtbFault
-    ensures told { IfSome (held library.old) (λ places. OfMen (TellsRoot (loaded_in places)) position.now result moves.old moves.new) }
+    ensures told { IfSome (held library.old) (λ places.
+        OfMen (TellsRoot (loaded_in places)) position.now result moves.old moves.new) }
     ensures closed { IfNone (held library.old) ((result ≡ closed) × (moves.new ≡ moves.old)) }
     ensures kept { held library.new ≡ held library.old }
 {

@@ -13,8 +13,9 @@ use egt_board::Position;
 use egt_check::Library;
 use egt_moves::Move;
 
-/// The first move in the order of moves that is best play: it mates as soon as can be, is mated as late as can be, or keeps the draw,
-/// dead or not. `None` at checkmate and at stalemate. It takes no memory, and where a side mates it is the first move of `line`.
+/// The first move in the order of moves that is best play: it mates as soon as can be, is mated as late as can be, or
+/// keeps the draw, dead or not. `None` at checkmate and at stalemate. It takes no memory, and where a side mates it is
+/// the first move of `line`.
 ///
 /// # Errors
 ///

@@ -1,4 +1,5 @@
-//! What holds of lines of best play and of reports. These functions do nothing: a caller calls one to know what it ensures.
+//! What holds of lines of best play and of reports. These functions do nothing: a caller calls one to know what it
+//! ensures.
 ghost use Rattle.std.specs.Prelude.{◌≡◌, ℕ, List, ◌∷◌, length, Some};
 ghost use Rattle.egt_board.specs.Man.{other_side};
 ghost use Rattle.egt_board.specs.Setup.{Setup};
@@ -18,9 +19,9 @@ ghost use Rattle.egt_probe.specs.declared.outcome.Outcome.TheVariants as outcome
 
 use crate::facts::facts;
 
-/// "Mates in n plies" means that the winner forces checkmate within n plies against every defence and that the defender keeps from
-/// it for less than n, "draw" that neither side can ever force it, and "dead" that no legal moves of both sides lead to it, which is a
-/// draw too.
+/// "Mates in n plies" means that the winner forces checkmate within n plies against every defence and that the defender
+/// keeps from it for less than n, "draw" that neither side can ever force it, and "dead" that no legal moves of both
+/// sides lead to it, which is a draw too.
 pub fn what_a_verdict_means()
     ensures mover_mates { (loaded : Loaded) (p : Setup) (c n z : ℕ) → IsVerdict loaded p (verdict_of c (outcomes.Decided p.side n z)) →
         MatesWithin chess n p × CannotMateBefore chess n p }
@@ -37,8 +38,8 @@ pub fn a_line_has_a_move_a_ply()
     ensures { (p : Setup) (v : Value) (ms : List Move) → IsLine p v ms → length ms ≡ plies_of v }
 {}
 
-/// The best move stands where the first move of the line of best play does in the order of moves, and where the move does that holds
-/// a draw.
+/// The best move stands where the first move of the line of best play does in the order of moves, and where the move
+/// does that holds a draw.
 pub fn the_best_move_begins_the_line()
     ensures line { (p : Setup) (v : Value) (ms : List Move) (m : Move) → IsLine p v ms → IsBest p (Some m) →
         (n : Move) × (rest : List Move) × (ms ≡ n ∷ rest) × (place_of n ≡ place_of m) }
@@ -47,16 +48,16 @@ pub fn the_best_move_begins_the_line()
     facts();
 }
 
-/// A line has one report, by the rules of play, the classes that are loaded and which of their tables have the column of the nearest
-/// mates, alone.
+/// A line has one report, by the rules of play, the classes that are loaded and which of their tables have the column
+/// of the nearest mates, alone.
 pub fn a_line_has_one_report()
     ensures { (loaded : Loaded) (line one other : List ℕ) → Report loaded line one → Report loaded line other → one ≡ other }
 {
     facts();
 }
 
-/// Where the same classes are loaded, and the same of their tables have the column of the nearest mates, the same lines have the
-/// same reports.
+/// Where the same classes are loaded, and the same of their tables have the column of the nearest mates, the same lines
+/// have the same reports.
 pub fn the_same_classes_give_the_same_reports()
     ensures { (loaded others : Loaded) (lines : List (List ℕ)) (one other : List ℕ) → ((c : ℕ) → loaded c ≡ others c) →
         Reports loaded lines one → Reports others lines other → one ≡ other }

@@ -1,5 +1,5 @@
-//! The prober: what checked tables tell of a position, of each of its moves, its line of best play or its move that holds a draw, and reports of
-//! many positions.
+//! The prober: what checked tables tell of a position and of each of its moves, its line of best play or its move that
+//! holds a draw, and reports of many positions.
 #![tactic(auto)]
 
 pub mod answering;
