@@ -155,9 +155,13 @@ class Library:
         if not os.path.exists(path):
             return False
         with open(path, "rb") as file:
-            data = file.read()
-        self._judge(self._calls.egtb_add(self._shelf, number, data, len(data)), CLASSES[number])
+            self.add(CLASSES[number], file.read())
         return True
+
+    def add(self, class_name: str, data: bytes) -> None:
+        """Takes the bytes of a file as the table of the class, after those that it rests on; no other call runs meanwhile. Raises EgtbError
+        where they are refused: the library is then as it was."""
+        self._judge(self._calls.egtb_add(self._shelf, CLASSES.index(class_name), data, len(data)), class_name)
 
     def _judge(self, fault: _Fault, class_name: str = "") -> None:
         if fault.family:
