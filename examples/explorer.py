@@ -87,9 +87,8 @@ class Position(NamedTuple):
         if man in "Pp":
             return (move[0] + "x" if move[0] != move[2] else "") + move[2:4] + becomes
         rivals = [other for other in legal if other[2:4] == move[2:4] and other[:2] != move[:2] and self.men[square(other[:2])] == man]
-        if rivals:
-            in_file, in_rank = (any(other[part] == move[part] for other in rivals) for part in (0, 1))
-            origin = move[:2] if in_file and in_rank else move[1] if in_file else move[0]
+        if rivals:  # one, of at most four men
+            origin = move[1] if rivals[0][0] == move[0] else move[0]
         return man.upper() + origin + ("x" if square(move[2:4]) in self.men else "") + move[2:4]
 
 
