@@ -1,5 +1,5 @@
 -- A true table with the column of the nearest mates, as its game is solved, is true too.
-use Rattle.std.proofs.Common.{◌≡◌, ◌≢◌, ℕ, ◌<◌, ◌↔◌, Bool, true, false, Option, Some, None, IsSome, IfSome, not, List, length, refl, sym, ap, ◌∙◌, subst, arith}
+use Rattle.std.proofs.Common.{◌≡◌, ℕ, ◌<◌, ◌↔◌, Bool, true, false, Option, Some, None, IsSome, not, List, length, refl, sym, ap, ◌∙◌}
 use Rattle.std.proofs.lemmas.Bool.{false≢true}
 use Rattle.egt_board.specs.Setup.{Setup, IsAdmissible}
 use Rattle.egt_index.specs.Index.{IsIndex}
@@ -12,9 +12,8 @@ use Rattle.egt_graph.specs.Near.{AreNears, HasNear, IsShort, near_entry_of}
 use Rattle.egt_entries.specs.declared.metric.Metric.{Metric}
 use Rattle.egt_entries.specs.declared.metric.Metric.TheVariants.{Mate, Zeroing}
 use Rattle.egt_entries.specs.Entry.{Shows}
-use Rattle.egt_entries.specs.Library.{IsAccepted, ReachesDown}
+use Rattle.egt_entries.specs.Library.{IsAccepted}
 use Rattle.egt_entries.specs.Reach.{ShowsReach}
-use Rattle.egt_entries.specs.Rules.{KeepsRules}
 use Rattle.egt_entries.specs.Tables.{Tables, HasChildren, HasReachChildren, beside, entry_at}
 use Rattle.egt_entries.specs.Truth.{Tells, IsTrueReach, IsTrueTable, HasTrueChildren}
 use Rattle.egt_table.specs.declared.column.Column.{Column}
@@ -23,8 +22,9 @@ use Rattle.egt_table.specs.Table.{TableValue, HasColumn, IsTable, entries_of}
 use Rattle.egt_sweep.specs.Laws.{Laws}
 use Rattle.egt_sweep.specs.ReachGame.{reach_game}
 use Rattle.egt_sweep.proofs.Linked.{spelled_there, void_is}
-use Rattle.egt_sweep.proofs.OutOfClass.{beside_own, beside_other}
-use Rattle.egt_sweep.proofs.Shown.{beside_children}
+use Rattle.egt_sweep.proofs.OutOfClass.{beside_own}
+use Rattle.egt_sweep.proofs.Shown.{beside_children, beside_reach}
+use Rattle.egt_sweep.proofs.FilledTables.{RulesTell}
 
 abbrev pub with_nears : TableValue → List ℕ → TableValue
 with_nears t nears = record { class = t.class; mate = t.mate; zeroing = t.zeroing; reach = Some nears }
@@ -72,20 +72,12 @@ module _ (laws : Laws) (tables : Tables) (t : TableValue) (below : t.class < 36)
   joined_is_table : IsTable t → IsTable (with_nears t nears)
   joined_is_table table = record { class_in = table.class_in; sizes = sizes table }
 
-  beside_reach : HasReachChildren tables t.class → HasReachChildren (beside tables (with_nears t nears)) t.class
-  beside_reach reach d child =
-      let lt = laws.facts.child_below t.class d below child in
-      let other : d ≢ t.class = (λ e. omega (arith, lt, e)) in
-      subst (λ (o : Option TableValue). IfSome o (λ u. IsSome u.reach)) (sym (beside_other tables (with_nears t nears) d other)) (reach d child)
-
   -- and a check beside the tables at hand accepts it
-  pub joined_is_accepted : IsTable t → IsTrueTable t → HasChildren tables t.class → HasTrueChildren tables t.class → HasReachChildren tables t.class →
-      ((at_hand : Tables) (u : TableValue) → IsTable u → at_hand u.class ≡ Some u → HasTrueChildren at_hand u.class → ReachesDown at_hand u → KeepsRules at_hand u ↔ IsTrueTable u) →
-      IsAccepted tables (with_nears t nears)
+  pub joined_is_accepted : IsTable t → IsTrueTable t → HasChildren tables t.class → HasTrueChildren tables t.class → HasReachChildren tables t.class → RulesTell → IsAccepted tables (with_nears t nears)
   joined_is_accepted table truth children true_children reach_children rules = record {
     children = children;
     reach_children = λ there. reach_children;
-    rules = (rules (beside tables (with_nears t nears)) (with_nears t nears) (joined_is_table table) (beside_own tables (with_nears t nears)) (beside_children laws tables (with_nears t nears) below true_children) (λ there. beside_reach reach_children)).1 (joined_is_true truth);
+    rules = (rules (beside tables (with_nears t nears)) (with_nears t nears) (joined_is_table table) (beside_own tables (with_nears t nears)) (beside_children laws tables (with_nears t nears) below true_children) (λ there. beside_reach laws tables (with_nears t nears) below reach_children)).1 (joined_is_true truth);
   }
 
 -- a column that a test does not find is not there

@@ -2,18 +2,15 @@
 use Rattle.std.proofs.Common.{◌≡◌, ◌≢◌, ℕ, zero, suc, ◌-◌, ◌/◌, ◌%◌, ◌<◌, ◌≤◌, Bool, true, false, List, [], ◌∷◌, ◌++◌, if◌then◌else◌, Option, Some, None, IsSome, IfSome, eqb, refl, sym, ap, ◌∙◌, subst, inl, inr, arith}
 use Rattle.std.proofs.Math.Logic.{⊎_elim}
 use Rattle.std.proofs.lemmas.Bool.{cases_eq, eqb-true, eq-eqb}
-use Rattle.std.specs.List.{flat_map, Contains}
+use Rattle.std.specs.List.{Contains}
 use Rattle.std.specs.Option.{is_some, option_to_list, option_map}
-use Rattle.egt_board.specs.declared.man.Man.{Man}
-use Rattle.egt_board.specs.Placement.{Stands, one_man}
 use Rattle.egt_board.specs.Setup.{Setup, IsAdmissible}
 use Rattle.egt_class.specs.Children.{children_of}
 use Rattle.egt_class.specs.Membership.{IsOf}
 use Rattle.egt_index.specs.Index.{IsIndex}
 use Rattle.egt_moves.specs.Arena.{Value, Win, Loss, Draw}
 use Rattle.egt_moves.specs.Legal.{Leads}
-use Rattle.egt_moves.specs.Moves.{played, moves_between}
-use Rattle.egt_moves.specs.Promotion.{FitsPromotion, promotes, choices_of}
+use Rattle.egt_moves.specs.Moves.{played}
 use Rattle.egt_moves.specs.declared.chess_move.Move.{Move}
 use Rattle.egt_graph.specs.declared.game.Exit.TheVariants as exits
 use Rattle.egt_entries.specs.declared.metric.Metric.{Metric}
@@ -31,7 +28,6 @@ use Rattle.egt_sweep.specs.declared.objective.Objective.TheVariants as objective
 use Rattle.egt_sweep.specs.Laws.{Laws}
 use Rattle.egt_sweep.specs.Nodes.{index_in, plies_left, exit_of, shown_in, shown_below, or_else, goes_on, told_by}
 use Rattle.egt_sweep.proofs.Linked.{index_is, goes_is}
-use Rattle.egt_sweep.proofs.Walked.{told_of, choices_told}
 
 -- the exit of the value that an entry shows
 draw_shown : (x : ℕ) (v : Value) → Shows x v → x ≡ 1 → v ≡ Draw
@@ -122,27 +118,11 @@ module _ (laws : Laws) {X : Type 0} (f : Setup → X) where
       let q_ok = laws.facts.step_admissible p q m ok leads in
       ap (told_by f metric c p m) (played_is p q m leads) ∙ test_told metric c p q m false (goes_false metric c p q m q_ok off (goes_on metric c p m q) refl)
 
-  -- so nothing is told of a move that is illegal or goes on
-  pub nothing_told : (metric : Metric) (c : ℕ) (p : Setup) (m : Move) → IsAdmissible p → ((q : Setup) → Leads p m q → GoesOn metric c p m q) → option_to_list (told_by f metric c p m (played p m)) ≡ []
-  nothing_told metric c p m ok on = of_played (played p m) refl
-    where
-      of_played : (o : Option Setup) → played p m ≡ o → option_to_list (told_by f metric c p m (played p m)) ≡ []
-      of_played None e = ap (λ (x : Option Setup). option_to_list (told_by f metric c p m x)) e
-      of_played (Some q) e = let leads = (laws.played p q m).1 e in ap (λ (o : Option X). option_to_list o) (on_not_told metric c p q m ok leads (on q leads))
-
-  -- and any other has one
+  -- so one exit is added
   pub off_is_told : (metric : Metric) (c : ℕ) (p q : Setup) (m : Move) (x : X) → IsAdmissible p → Leads p m q → ¬ GoesOn metric c p m q → x ≡ f q → (xs : List X) →
       xs ++ x ∷ [] ≡ xs ++ option_to_list (told_by f metric c p m (played p m))
   off_is_told metric c p q m x ok leads off is xs =
       ap (λ (y : X). xs ++ y ∷ []) is ∙ sym (ap (λ (o : Option X). xs ++ option_to_list o) (off_told metric c p q m ok leads off))
-
--- of the moves between two squares those that promote as they must are told
-pub between_told : (laws : Laws) {X : Type 0} (f : Setup → X) (metric : Metric) (c : ℕ) (p : Setup) (man : Man) (from to : ℕ) (b : Bool) → IsAdmissible p → Stands p.men from man → promotes man to ≡ b →
-    flat_map (told_of (λ m. option_to_list (told_by f metric c p m (played p m))) from to) (choices_of b) ≡ flat_map (λ m. option_to_list (told_by f metric c p m (played p m))) (moves_between from to)
-between_told laws f metric c p man from to b ok stands told =
-    choices_told (λ m. option_to_list (told_by f metric c p m (played p m))) from to b
-    (λ promo unfit. nothing_told laws f metric c p (record { from = from; to = to; promo = promo }) ok
-    (λ q there. absurd (unfit (subst (λ (x : Bool). FitsPromotion x promo) (ap (λ (x : Man). promotes x to) (one_man p.men from there.man man there.stands stands) ∙ told) there.promotion))))
 
 pub mapped_some : {A B : Type 0} (f : A → B) (o : Option A) (x : Option B) → option_map f o ≡ x → IsSome x → IsSome o
 mapped_some f None x e some = subst IsSome (sym e) some

@@ -1,5 +1,5 @@
 -- What true tables show of positions is their value.
-use Rattle.std.proofs.Common.{◌≡◌, ◌≢◌, ℕ, ◌<◌, Bool, Some, sym, ◌∙◌, subst, arith}
+use Rattle.std.proofs.Common.{◌≡◌, ◌≢◌, ℕ, ◌<◌, Bool, Option, Some, IfSome, IsSome, sym, ◌∙◌, subst, arith}
 use Rattle.std.proofs.Math.Logic.{⊎_elim}
 use Rattle.std.specs.List.{Contains}
 use Rattle.egt_board.specs.Setup.{Setup, IsAdmissible}
@@ -13,7 +13,7 @@ use Rattle.egt_moves.specs.declared.chess_move.Move.{Move}
 use Rattle.egt_entries.specs.declared.metric.Metric.TheVariants.{Mate, Zeroing}
 use Rattle.egt_table.specs.Table.{TableValue}
 use Rattle.egt_check.specs.Reading.{read_shown}
-use Rattle.egt_entries.specs.Tables.{Tables, beside, entry_at}
+use Rattle.egt_entries.specs.Tables.{Tables, beside, entry_at, HasReachChildren}
 use Rattle.egt_entries.specs.Truth.{HasTrueChildren}
 use Rattle.egt_sweep.specs.Laws.{Laws}
 use Rattle.egt_sweep.specs.MateColumn.{ShowsValues}
@@ -72,3 +72,10 @@ beside_children laws tables t below children d has =
     let lt = laws.facts.child_below t.class d below has in
     let other : d ≢ t.class = (λ e. omega (arith, lt, e)) in
     (child.0, beside_other tables t d other ∙ child.1, child.2, child.3)
+
+-- those of which each has the column of the nearest mates
+pub beside_reach : (laws : Laws) (tables : Tables) (t : TableValue) → t.class < 36 → HasReachChildren tables t.class → HasReachChildren (beside tables t) t.class
+beside_reach laws tables t below reach d child =
+    let lt = laws.facts.child_below t.class d below child in
+    let other : d ≢ t.class = (λ e. omega (arith, lt, e)) in
+    subst (λ (o : Option TableValue). IfSome o (λ u. IsSome u.reach)) (sym (beside_other tables t d other)) (reach d child)

@@ -13,9 +13,6 @@ use Rattle.egt_moves.specs.Exchange.{Captures}
 use Rattle.egt_moves.specs.Legal.{Leads}
 use Rattle.egt_moves.specs.Promotion.{FitsPromotion, promotes, is_pawn}
 use Rattle.egt_moves.specs.declared.chess_move.Move.{Move}
-use Rattle.egt_entries.specs.declared.metric.Metric.{Metric}
-use Rattle.egt_entries.specs.declared.metric.Metric.TheVariants.{Mate, Zeroing}
-use Rattle.egt_sweep.specs.Edges.{GoesOn}
 use Rattle.egt_sweep.specs.Laws.{Laws}
 
 -- a test of what does not hold
@@ -62,10 +59,3 @@ module _ (laws : Laws) (c : ℕ) where
       no_capture : ¬ Captures p m
       no_capture (inl held) = quiet (inl held)
       no_capture (inr passing) = quiet (inr passing.0)
-
--- so it goes on in either game
-pub quiet_goes_on : (laws : Laws) (c : ℕ) (metric : Metric) (p q : Setup) (m : Move) → c < 36 → IsAdmissible p → (flipped : Bool) × IsOf c flipped p → Leads p m q → ¬ Zeroes p m → GoesOn metric c p m q
-quiet_goes_on laws c Mate p q m c_in ok of leads quiet =
-    let own = quiet_stays laws c p q m ok of leads quiet in
-    laws.facts.some_index q c own.0 c_in (laws.facts.step_admissible p q m ok leads) own.1
-quiet_goes_on laws c Zeroing p q m c_in ok of leads quiet = quiet

@@ -3,7 +3,7 @@ use Rattle.std.specs.Prelude.{ℕ, IsTrue}
 use Rattle.egt_board.specs.Setup.{Setup}
 use Rattle.egt_index.specs.Code.{Spells}
 use Rattle.egt_index.specs.Index.{IsIndex}
-use Rattle.egt_moves.specs.Chess.{Zeroes, IsPawnOn}
+use Rattle.egt_moves.specs.Chess.{Zeroes}
 use Rattle.egt_moves.specs.Legal.{Leads}
 use Rattle.egt_moves.specs.declared.chess_move.Move.{Move}
 use Rattle.egt_unmoves.specs.declared.unmove.Unmove.{Unmove}
@@ -42,13 +42,3 @@ GoesBack Zeroing u = ¬ IsTrue u.pawn
 -- the position before has the index k, and its move goes on
 abbrev pub ComesFrom : Metric → ℕ → Unmove → ℕ → Type 0
 ComesFrom metric c u k = GoesBack metric u × IsIndex c u.before k
-
--- a pawn's move leads from the position at i to one of the class, whose index is j
-pub record PushesTo (c i j : ℕ) : Type 0 where
-  pub from : Setup
-  pub at : IsAt c i from
-  pub move : Move
-  pub to : Setup
-  pub leads : Leads from move to
-  pub pawn : IsPawnOn from.men move.from
-  pub index : IsIndex c to j

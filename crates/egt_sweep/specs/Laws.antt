@@ -10,8 +10,6 @@ use Rattle.egt_class.specs.Children.{children_of}
 use Rattle.egt_class.specs.Membership.{IsOf}
 use Rattle.egt_index.specs.Code.{Spells}
 use Rattle.egt_index.specs.Index.{IsIndex, IsVoid}
-use Rattle.egt_index.specs.Numbers.{code_of, number_of}
-use Rattle.egt_index.specs.Size.{size_of}
 use Rattle.egt_moves.specs.Exchange.{Captures}
 use Rattle.egt_moves.specs.Legal.{Leads, IsLegal}
 use Rattle.egt_moves.specs.Moves.{moves_of, played}
@@ -40,8 +38,3 @@ pub record Laws : Type 0 where
   pub like_unmoves : (q q' : Setup) (u : Unmove) → IsAdmissible q → AreImages q q' → IsUnmove q u →
       (w : Unmove) × IsUnmove q' w × AreImages u.before w.before × (w.pawn ≡ u.pawn)
   pub same_image : (p : Setup) → AreImages p p
-  pub index_settled : (c i : ℕ) (p q : Setup) → IsAdmissible p → IsIndex c p i → Spells c i q → IsSettled q
-  pub numbers_below : (c n : ℕ) → c < 36 → code_of c n < size_of c → n < size_of c
-  pub number_coded : (c code : ℕ) → c < 36 → code < size_of c → code_of c (number_of c code) ≡ code
-  pub code_numbered : (c n : ℕ) → c < 36 → n < size_of c → number_of c (code_of c n) ≡ n
-  pub number_within : (c code : ℕ) → c < 36 → code < size_of c → number_of c code < size_of c

@@ -5,13 +5,7 @@ pub mod ClassGame
 pub mod ReachGame
 pub mod Plies
 pub mod MateColumn
-pub mod Landings
 pub mod Objective
 pub mod Built
 pub mod Fault
-pub mod Ways
-pub mod Drawn
-pub mod CodeGame
-pub mod ResultMarks
-pub mod CodeLandings
-pub mod CodeMates
+pub mod Filling

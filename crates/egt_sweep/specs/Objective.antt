@@ -32,8 +32,3 @@ Knows tables c Reach = HasReachChildren tables c
 -- such knowledge is a fact
 pub reach_children_prop : (tables : Tables) (c : ℕ) → IsProp (HasReachChildren tables c)
 reach_children_prop tables c = hlevel (props, Bool-set)
-
-pub knows_prop : (tables : Tables) (c : ℕ) (objective : Objective) → IsProp (Knows tables c objective)
-knows_prop tables c Mate = hlevel props
-knows_prop tables c (Zeroing ranks) = hlevel (props, Bool-set)
-knows_prop tables c Reach = reach_children_prop tables c

@@ -4,33 +4,27 @@ ghost use Rattle.egt_graph.specs.Near.{AreNears};
 ghost use Rattle.egt_graph.specs.Value.{AreRanks};
 ghost use Rattle.egt_index.specs.Size.{size_of};
 ghost use Rattle.egt_entries.specs.declared.metric.Metric.TheVariants.{Mate, Zeroing};
+ghost use Rattle.egt_entries.specs.Rules.{KeepsRules};
 ghost use Rattle.egt_entries.specs.Tables.{table_at, beside, HasChildren, HasReachChildren};
 ghost use Rattle.egt_sweep.specs.Built.{AllWithinLimit, IsBuilt, IsNotBuilt, HasNoFalseChild, SomeReachesFar};
 ghost use Rattle.egt_sweep.specs.ClassGame.{class_game};
 ghost use Rattle.egt_sweep.specs.MateColumn.{mate_table};
 ghost use Rattle.egt_sweep.specs.ReachGame.{reach_game};
-ghost use Rattle.egt_sweep.specs.CodeMates.{CodesTell};
-ghost use Rattle.egt_sweep.specs.declared.build_fault.BuildFault.TheVariants.{NoMemory};
 
 use crate::build_fault::BuildFault;
-use crate::class_codes::ClassCodes;
-use crate::drawn_children::has_one_game;
+use crate::filling::filled;
 use crate::laws::laws;
+use crate::limit::within_limit;
 use crate::mate_game::MateGame;
-use crate::mates::{Mates, solve_mates};
 use crate::ranks::{
     mate_ranks_are_values, reach_numbers_are_the_nearest_mates, zeroing_ranks_are_distances,
 };
 use crate::reach_game::ReachGame;
-use crate::reaches::solve_reaches;
 use crate::zero_game::ZeroGame;
-use crate::zeroing::solve_zeroing;
 use egt_check::laws::rules_are_kept_by_true_tables_alone;
 use egt_check::{Library, first_lacking, first_missing};
 use egt_class::{Class, children};
-use egt_graph::laws::alike_games_have_the_same_ranks;
-use egt_graph::{Nears, Ranks, SolveFault};
-use egt_index::laws::a_class_without_pawns_has_none;
+use egt_graph::{Nears, Ranks, SolveFault, nearest, solve};
 use egt_moves::laws::one_value;
 use egt_table::Table;
 use std::alloc::Global;
@@ -45,19 +39,16 @@ pub(crate) fn children_are_true(class: Class, library: &Library)
     }
 }
 
-/// The class's game of mates, solved.
-pub(crate) fn mate_ranks(
+/// The ranks of the class's game of mates.
+fn mate_ranks(
     alloc: Global,
     class: Class,
     library: &Library,
     limit: u16,
-    codes: &Option<ClassCodes>,
-) -> Result<Mates, BuildFault>
+) -> Result<Ranks, BuildFault>
     requires limit { limit ≤ 32000 }
     requires reach_children { HasReachChildren (table_at library.now) class }
-    ensures children { IfOk result (λ _. HasChildren (table_at library.now) class) }
-    ensures ranks { IfOk result (λ told. AreRanks (class_game (table_at library.now) Mate class) limit told.ranks) }
-    ensures codes { IfOk result (CodesTell (table_at library.now) class codes.now) }
+    ensures ranks { IfOk result (AreRanks (class_game (table_at library.now) Mate class) limit) }
     ensures refused { IfErr result (IsNotBuilt (table_at library.now) class limit) }
 {
     laws();
@@ -68,70 +59,50 @@ pub(crate) fn mate_ranks(
         Ok(game) => game,
         Err(missing) => return Err(BuildFault::from(missing)),
     };
-    match solve_mates(alloc, &game, codes, limit) {
-        Ok(told) => Ok(told),
+    match solve(alloc, &game, limit) {
+        Ok(ranks) => Ok(ranks),
         Err(SolveFault::NoMemory) => Err(BuildFault::NoMemory),
         Err(SolveFault::TooDeep) => Err(BuildFault::TooDeep(limit)),
     }
 }
 
-/// The ranks once more.
-fn copied(alloc: Global, ranks: &Ranks) -> Result<Ranks, BuildFault>
-    ensures same { IfOk result (λ copy. copy ≡ ranks.now) }
-    ensures refused { IfErr result (λ fault. fault ≡ NoMemory) }
-{
-    match ranks.copied(alloc) {
-        Ok(copy) => Ok(copy),
-        Err(_refused) => Err(BuildFault::NoMemory),
-    }
-}
-
-/// The ranks of its game of zeroing moves. None is above the limit, since none is above the mate rank. Where nothing zeroes but captures into
-/// draws, both games are one, and so are their ranks.
-pub(crate) fn zeroing_ranks<'x>(
+/// The ranks of its game of zeroing moves. None is above the limit, since none is above the mate rank.
+fn zeroing_ranks<'x>(
     alloc: Global,
     class: Class,
     library: &'x Library,
-    mates: &'x Mates,
+    mates: &'x Ranks,
     limit: u16,
-    codes: &'x Option<ClassCodes>,
 ) -> Result<Ranks, BuildFault>
     requires limit { limit ≤ 32000 }
     requires children { HasChildren (table_at library.now) class }
     requires reach_children { HasReachChildren (table_at library.now) class }
-    requires mates { AreRanks (class_game (table_at library.now) Mate class) limit mates.now.ranks }
-    requires codes { CodesTell (table_at library.now) class codes.now mates.now }
-    ensures ranks { IfOk result (AreRanks (class_game (beside (table_at library.now) (mate_table class mates.now.ranks)) Zeroing class) limit) }
+    requires mates { AreRanks (class_game (table_at library.now) Mate class) limit mates.now }
+    ensures ranks { IfOk result (AreRanks (class_game (beside (table_at library.now) (mate_table class mates.now)) Zeroing class) limit) }
     ensures refused { IfErr result (IsNotBuilt (table_at library.now) class limit) }
 {
     laws();
     mate_ranks_are_values();
     zeroing_ranks_are_distances();
-    alike_games_have_the_same_ranks();
-    a_class_without_pawns_has_none();
     children_are_true(class, library);
     let _number = class.number();
-    if has_one_game(class, library) {
-        return copied(alloc, &mates.ranks);
-    }
-    let game = match ZeroGame::new(class, library, &mates.ranks) {
+    let game = match ZeroGame::new(class, library, mates) {
         Ok(game) => game,
         Err(missing) => return Err(BuildFault::from(missing)),
     };
-    match solve_zeroing(alloc, &game, mates, codes, limit) {
+    match solve(alloc, &game, limit) {
         Ok(ranks) => Ok(ranks),
         Err(SolveFault::NoMemory) => Err(BuildFault::NoMemory),
         Err(SolveFault::TooDeep) => unreachable!(),
     }
 }
 
-/// Both columns of values. What only the second reads of the first game is given back.
+/// Both columns of values.
 fn value_columns(
     alloc: Global,
     class: Class,
     library: &Library,
     limit: u16,
-    codes: &Option<ClassCodes>,
 ) -> Result<(Ranks, Ranks), BuildFault>
     requires limit { limit ≤ 32000 }
     requires children { HasChildren (table_at library.now) class }
@@ -140,32 +111,9 @@ fn value_columns(
     ensures zeroing { IfOk result (λ columns. AreRanks (class_game (beside (table_at library.now) (mate_table class columns.0)) Zeroing class) limit columns.1) }
     ensures refused { IfErr result (IsNotBuilt (table_at library.now) class limit) }
 {
-    let mates = mate_ranks(alloc, class, library, limit, codes)?;
-    let zeroing = zeroing_ranks(alloc, class, library, &mates, limit, codes)?;
-    Ok((mates.ranks, zeroing))
-}
-
-/// What is told of the class's codes, if it is told by words. That a child lacks its table or its column of the nearest mates is said before that
-/// memory does.
-fn class_codes(
-    alloc: Global,
-    class: Class,
-    library: &Library,
-) -> Result<Option<ClassCodes>, BuildFault>
-    ensures children { IfOk result (λ _. HasChildren (table_at library.now) class) }
-    ensures reach_children { IfOk result (λ _. HasReachChildren (table_at library.now) class) }
-    ensures refused { (limit : ℕ) → IfErr result (IsNotBuilt (table_at library.now) class limit) }
-{
-    if let Some(child) = first_missing(class, library) {
-        return Err(BuildFault::Missing(child));
-    }
-    if let Some(child) = first_lacking(class, library) {
-        return Err(BuildFault::NoReach(child));
-    }
-    match ClassCodes::of(alloc, class) {
-        Ok(codes) => Ok(codes),
-        Err(_refused) => Err(BuildFault::NoMemory),
-    }
+    let mates = mate_ranks(alloc, class, library, limit)?;
+    let zeroing = zeroing_ranks(alloc, class, library, &mates, limit)?;
+    Ok((mates, zeroing))
 }
 
 /// The table of these columns, where each is as long as the class asks.
@@ -182,7 +130,6 @@ pub(crate) fn reach_column(
     alloc: Global,
     class: Class,
     library: &Library,
-    codes: &Option<ClassCodes>,
 ) -> Result<Nears, SolveFault>
     requires children { HasChildren (table_at library.now) class }
     requires reach_children { HasReachChildren (table_at library.now) class }
@@ -194,28 +141,65 @@ pub(crate) fn reach_column(
     children_are_true(class, library);
     let _number = class.number();
     match ReachGame::new(class, library) {
-        Ok(game) => solve_reaches(alloc, &game, codes),
+        Ok(game) => nearest(alloc, &game),
         Err(_lacking) => unreachable!(),
     }
 }
 
 /// The same as a part of a build whose other columns are made.
-fn reach_part(
-    alloc: Global,
-    class: Class,
-    library: &Library,
-    codes: &Option<ClassCodes>,
-) -> Result<Nears, BuildFault>
+fn reach_part(alloc: Global, class: Class, library: &Library) -> Result<Nears, BuildFault>
     requires children { HasChildren (table_at library.now) class }
     requires reach_children { HasReachChildren (table_at library.now) class }
     ensures nears { IfOk result (AreNears (reach_game (table_at library.now) class)) }
     ensures refused { (limit : ℕ) → AllWithinLimit class limit → IfErr result (IsNotBuilt (table_at library.now) class limit) }
 {
-    match reach_column(alloc, class, library, codes) {
+    match reach_column(alloc, class, library) {
         Ok(nears) => Ok(nears),
         Err(SolveFault::NoMemory) => Err(BuildFault::NoMemory),
         Err(SolveFault::TooDeep) => Err(BuildFault::TooDeep(32_000)),
     }
+}
+
+/// The table by the class's games, each solved by moves backward.
+fn solved(alloc: Global, class: Class, library: &Library, limit: u16) -> Result<Table, BuildFault>
+    requires limit { limit ≤ 32000 }
+    requires children { HasChildren (table_at library.now) class }
+    requires reach_children { HasReachChildren (table_at library.now) class }
+    ensures built { IfOk result (IsBuilt (table_at library.now) class limit) }
+    ensures refused { IfErr result (IsNotBuilt (table_at library.now) class limit) }
+{
+    laws();
+    mate_ranks_are_values();
+    zeroing_ranks_are_distances();
+    reach_numbers_are_the_nearest_mates();
+    rules_are_kept_by_true_tables_alone();
+    one_value();
+    children_are_true(class, library);
+    let _number = class.number();
+    let columns = value_columns(alloc, class, library, limit)?;
+    let nears = reach_part(alloc, class, library)?;
+    match joined(class, columns.0, columns.1, nears) {
+        Some(table) => Ok(table),
+        None => unreachable!(),
+    }
+}
+
+/// The table that was filled by blocks, whose entries keep the rules, unless one of its mates takes more plies than the limit.
+fn kept(table: Table, class: Class, library: &Library, limit: u16) -> Result<Table, BuildFault>
+    requires limit { limit ≤ 32000 }
+    requires children { HasChildren (table_at library.now) class }
+    requires reach_children { HasReachChildren (table_at library.now) class }
+    requires class { table.class ≡ class }
+    requires reach { IsSome table.reach }
+    requires rules { KeepsRules (beside (table_at library.now) table) table }
+    ensures built { IfOk result (IsBuilt (table_at library.now) class limit) }
+    ensures refused { IfErr result (IsNotBuilt (table_at library.now) class limit) }
+{
+    laws();
+    rules_are_kept_by_true_tables_alone();
+    children_are_true(class, library);
+    let _class = table.class();
+    within_limit(table, limit)
 }
 
 /// The table of a class whose children have their tables in the library, each with the column of the nearest mates, with no mate distance above `limit`,
@@ -237,19 +221,15 @@ pub fn build(
     ensures built { IfOk result (IsBuilt (table_at library.now) class limit) }
     ensures refused { IfErr result (IsNotBuilt (table_at library.now) class limit) }
 {
-    laws();
-    mate_ranks_are_values();
-    zeroing_ranks_are_distances();
-    reach_numbers_are_the_nearest_mates();
-    rules_are_kept_by_true_tables_alone();
-    one_value();
-    children_are_true(class, library);
-    let _number = class.number();
-    let codes = class_codes(alloc, class, library)?;
-    let columns = value_columns(alloc, class, library, limit, &codes)?;
-    let nears = reach_part(alloc, class, library, &codes)?;
-    match joined(class, columns.0, columns.1, nears) {
-        Some(table) => Ok(table),
-        None => unreachable!(),
+    if let Some(child) = first_missing(class, library) {
+        return Err(BuildFault::Missing(child));
+    }
+    if let Some(child) = first_lacking(class, library) {
+        return Err(BuildFault::NoReach(child));
+    }
+    match filled(alloc, class, library) {
+        Ok(Some(table)) => kept(table, class, library, limit),
+        Ok(None) => solved(alloc, class, library, limit),
+        Err(_refused) => Err(BuildFault::NoMemory),
     }
 }

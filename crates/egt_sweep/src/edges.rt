@@ -18,7 +18,7 @@ use egt_moves::{Move, legal_moves, play_legal, zeroing};
 
 /// Whether the move from a position of the class to the next goes on in the game: it stays in the class, or does not zero. One that does not
 /// zero stays in the class.
-fn goes_on(
+pub(crate) fn goes_on(
     metric: Metric,
     class: Class,
     position: &Position,

@@ -1,23 +1,30 @@
-//! What the landings of moves that leave a game are worth in it.
-ghost use Rattle.std.specs.Prelude.{◌≡◌, ◌≤◌, ℕ, IsSome, IfSome, All, length, map};
+//! What the moves that leave a game are worth in it.
+ghost use Rattle.std.specs.Prelude.{◌≡◌, ◌+◌, ◌++◌, ◌≤◌, ◌<◌, ℕ, Bool, Some, IsSome, IfSome};
+ghost use Rattle.std.specs.Option.{option_to_list};
+ghost use Rattle.arrayvec.specs.ArrayVec.{array_vec_len};
+ghost use Rattle.egt_class.specs.Membership.{IsOf};
 ghost use Rattle.egt_moves.specs.Arena.{Value};
+ghost use Rattle.egt_moves.specs.Legal.{IsLegal};
+ghost use Rattle.egt_moves.specs.Moves.{played};
 ghost use Rattle.egt_entries.specs.declared.metric.Metric.TheVariants.{Mate};
 ghost use Rattle.egt_entries.specs.Entry.{Shows};
 ghost use Rattle.egt_entries.specs.NearTables.{near_tables};
 ghost use Rattle.egt_check.specs.Reading.{read};
-ghost use Rattle.egt_entries.specs.Tables.{table_at, entry_at};
-ghost use Rattle.egt_sweep.specs.Landings.{IsThere, exit_there};
+ghost use Rattle.egt_entries.specs.Tables.{table_at, entry_at, HasChildren};
 ghost use Rattle.egt_sweep.specs.Objective.{metric_of, known, Knows};
 ghost use Rattle.egt_sweep.specs.MateColumn.{IsIndexed};
-ghost use Rattle.egt_sweep.specs.Nodes.{plies_left, exit_of};
+ghost use Rattle.egt_sweep.specs.Nodes.{plies_left, exit_of, shown_below, exit_by, exits_from};
 
-use crate::landing::{class_of, index_in};
+use crate::edges::goes_on;
 use crate::laws::laws;
 use crate::objective::Objective;
 use arrayvec::ArrayVec;
+use egt_board::Position;
 use egt_check::{Library, Metric};
-use egt_class::Class;
+use egt_class::{Class, of};
 use egt_graph::Exit;
+use egt_index::index;
+use egt_moves::{Move, legal_moves, play_legal};
 use egt_table::Column;
 
 /// The plies of an exit: in the game of zeroing moves none are left.
@@ -97,33 +104,65 @@ fn mate_entry(
     }
 }
 
-/// The exit of a move that lands there.
-fn exit_there(objective: &Objective<'_>, own: Class, library: &Library, landing: u32) -> Exit
+/// The exit of a move that leads to the position, whose class has its table.
+fn exit_at(objective: &Objective<'_>, own: Class, library: &Library, next: &Position) -> Exit
     requires knows { Knows (table_at library.now) own objective.now }
-    requires there { IsThere (known (table_at library.now) own objective.now) landing }
-    ensures { result ≡ exit_there (known (table_at library.now) own objective.now) (metric_of objective.now) landing }
+    requires there { (c : ℕ) (flipped : Bool) → c < 36 → IsOf c flipped next.now → IsSome (known (table_at library.now) own objective.now c) }
+    ensures { result ≡ exit_of (metric_of objective.now) (shown_below (known (table_at library.now) own objective.now) 36 next.now) }
 {
-    let class = class_of(landing);
-    let index = index_in(landing);
-    let entry = mate_entry(objective, own, library, class, index);
+    laws();
+    let (class, _flipped) = of(next);
+    let _side = next.side();
+    let _number = class.number();
+    let entry = mate_entry(objective, own, library, class, index(class, next));
     exit_shown(objective.metric(), entry)
 }
 
-/// Fills the list, in the place of what it had, with the exits of moves that land there.
-pub(crate) fn list_exits_there(
+/// Adds the exit of the move, if it leaves the game.
+fn add_exit(
     objective: &Objective<'_>,
-    own: Class,
+    class: Class,
     library: &Library,
-    landings: &[u32],
+    position: &Position,
+    chess_move: &Move,
     list: &mut ArrayVec<Exit, 64>,
 )
-    requires knows { Knows (table_at library.now) own objective.now }
-    requires few { length landings.now ≤ 64 }
-    requires there { All (IsThere (known (table_at library.now) own objective.now)) landings.now }
-    ensures { list.new.items ≡ map (exit_there (known (table_at library.now) own objective.now) (metric_of objective.now)) landings.now }
+    requires knows { Knows (table_at library.now) class objective.now }
+    requires children { HasChildren (table_at library.now) class }
+    requires of { (flipped : Bool) × IsOf class flipped position.now }
+    requires legal { IsLegal position.now chess_move.now }
+    requires room { array_vec_len list.old < 64 }
+    ensures items { list.new.items ≡ list.old.items ++ option_to_list (exit_by (known (table_at library.now) class objective.now) (metric_of objective.now) class position.now chess_move.now (played position.now chess_move.now)) }
+    ensures few { array_vec_len list.new ≤ array_vec_len list.old + 1 }
 {
-    list.clear();
-    for landing in landings {
-        list.push(exit_there(objective, own, library, *landing));
+    laws();
+    let _side = position.side();
+    let _number = class.number();
+    let next = play_legal(position, *chess_move);
+    let metric = objective.metric();
+    if goes_on(metric, class, position, chess_move, &next) {
+        return;
     }
+    let exit = exit_at(objective, class, library, &next);
+    list.push(exit);
+}
+
+/// The exits of the moves that leave the game from the position, in the order of moves.
+pub(crate) fn exits_of(
+    objective: &Objective<'_>,
+    class: Class,
+    library: &Library,
+    position: &Position,
+) -> ArrayVec<Exit, 64>
+    requires knows { Knows (table_at library.now) class objective.now }
+    requires children { HasChildren (table_at library.now) class }
+    requires of { (flipped : Bool) × IsOf class flipped position.now }
+    ensures { result.items ≡ exits_from (known (table_at library.now) class objective.now) (metric_of objective.now) class (Some position.now) }
+{
+    let moves = legal_moves(position);
+    let mut list = ArrayVec::new();
+    for chess_move in moves.as_slice() {
+        add_exit(objective, class, library, position, chess_move, &mut list);
+    }
+    list
 }

@@ -1,20 +1,11 @@
 //! The laws of the crates below that the games rest on.
-ghost use Rattle.std.specs.Prelude.{◌<◌, ℕ};
-ghost use Rattle.egt_entries.specs.Tables.{Tables};
-ghost use Rattle.egt_graph.specs.StandIns.{StandsFor};
-ghost use Rattle.egt_entries.specs.declared.metric.Metric.{Metric};
-ghost use Rattle.egt_sweep.specs.ClassGame.{class_game};
-ghost use Rattle.egt_sweep.specs.CodeGame.{TellsGame, code_game, index_of};
-ghost use Rattle.egt_words.specs.CodeLists.{CodeMoves};
 ghost use Rattle.egt_sweep.specs.Laws.{Laws};
 
 use egt_board::laws::{
     images_are_turns, images_form_classes, images_keep_men, positions_settle_once,
 };
 use egt_check::laws::{a_position_plays_as_its_index_spells, an_indexed_position_is_of_the_class};
-use egt_index::laws::{
-    a_code_is_an_index_or_void, codes_spell_one_position, numbers_stand_for_codes,
-};
+use egt_index::laws::{a_code_is_an_index_or_void, codes_spell_one_position};
 use egt_moves::laws::{moves_are_listed, moves_lead_to_one};
 use egt_steps::facts::facts;
 use egt_steps::laws::moves_lead_into_the_class_or_a_child;
@@ -37,12 +28,4 @@ pub(crate) fn laws()
     a_position_plays_as_its_index_spells();
     moves_lead_into_the_class_or_a_child();
     images_have_like_unmoves();
-    numbers_stand_for_codes();
-}
-
-/// The numbers of a class, by told moves, stand for its indexes: each for that of the position for which it stands.
-pub(crate) fn codes_stand_for_indexes()
-    ensures { (tables : Tables) (metric : Metric) (c : ℕ) (moves : CodeMoves) → c < 36 → ∥ TellsGame c moves ∥₁ → StandsFor (code_game tables metric c moves) (class_game tables metric c) (index_of c) }
-{
-    laws();
 }

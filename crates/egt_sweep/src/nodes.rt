@@ -6,12 +6,10 @@ ghost use Rattle.egt_graph.specs.Passing.{passing_below};
 ghost use Rattle.egt_entries.specs.Tables.{table_at, HasChildren};
 ghost use Rattle.egt_sweep.specs.Objective.{metric_of, known, Knows};
 ghost use Rattle.egt_sweep.specs.Edges.{IsAt};
-ghost use Rattle.egt_sweep.specs.Landings.{landings_at};
 ghost use Rattle.egt_sweep.specs.Nodes.{position_at, is_mated, connects, exits_at};
 
 use crate::edges::edges;
-use crate::exits::list_exits_there;
-use crate::landings::add_landings_of_side;
+use crate::exits::exits_of;
 use crate::laws::laws;
 use crate::objective::Objective;
 use crate::sources::sources;
@@ -76,38 +74,7 @@ pub(crate) fn predecessors(metric: Metric, class: Class, index: u32) -> ArrayVec
     sources(metric, class, &position)
 }
 
-/// Fills the list, in the place of what it had, with where the moves land that leave the game from a node, in the order of moves.
-pub(crate) fn list_landings(metric: Metric, class: Class, index: u32, list: &mut ArrayVec<u32, 64>)
-    requires { IsFalse (not (is_some (position_at class index))) }
-    ensures { list.new.items ≡ landings_at metric class index }
-{
-    laws();
-    let position = node(class, index);
-    list.clear();
-    add_landings_of_side(metric, class, &position, list);
-}
-
-/// Fills the list, in the place of what it had, with the exits of the moves that leave the game from a node, in the order of moves.
-pub(crate) fn list_exits(
-    objective: &Objective<'_>,
-    class: Class,
-    library: &Library,
-    index: u32,
-    list: &mut ArrayVec<Exit, 64>,
-)
-    requires node { IsFalse (not (is_some (position_at class index))) }
-    requires knows { Knows (table_at library.now) class objective.now }
-    requires children { HasChildren (table_at library.now) class }
-    ensures { list.new.items ≡ exits_at (known (table_at library.now) class objective.now) (metric_of objective.now) class index }
-{
-    laws();
-    let _number = class.number();
-    let mut landings = ArrayVec::new();
-    list_landings(objective.metric(), class, index, &mut landings);
-    list_exits_there(objective, class, library, landings.as_slice(), list);
-}
-
-/// The same in a list of its own.
+/// What the moves that leave the game from a node are worth, in the order of moves.
 pub(crate) fn exits(
     objective: &Objective<'_>,
     class: Class,
@@ -119,7 +86,7 @@ pub(crate) fn exits(
     requires children { HasChildren (table_at library.now) class }
     ensures { result.items ≡ exits_at (known (table_at library.now) class objective.now) (metric_of objective.now) class index }
 {
-    let mut list = ArrayVec::new();
-    list_exits(objective, class, library, index, &mut list);
-    list
+    laws();
+    let position = node(class, index);
+    exits_of(objective, class, library, &position)
 }

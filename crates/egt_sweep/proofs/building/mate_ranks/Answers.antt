@@ -14,7 +14,7 @@ returns-in-Err-TooDeep-clause-refused c =
     let made = c.in-Ok.ensures in
     let below = subst (λ (n : ℕ). n < 36) c.number-number.ensures.value c.number-number.ensures.below in
     let children = made.exact.0 refl in
-    let above = c.solve_mates.ensures.too_deep (c.in-Err-TooDeep.is ∙ ap Err c.in-Err-TooDeep.field-0-is) in
+    let above = c.solve.ensures.too_deep (c.in-Err-TooDeep.is ∙ ap Err c.in-Err-TooDeep.field-0-is) in
     let here = subst (λ (xs : List (Option TableValue)). SomeAbove (class_game (table_at xs) Mate c.args.class) c.args.limit) made.library
     (subst (λ (k : ℕ). SomeAbove (class_game (table_at game.library.now) Mate k) c.args.limit) made.class above) in
     (children, c.requires.reach_children, inl (refl, c.mate_ranks_are_values.ensures.above (table_at places) c.args.class c.args.limit below (true_children (table_at places) c.args.class c.children_are_true.ensures children) here))

@@ -15,4 +15,4 @@ returns-clause-too_deep c =
     let children = true_children tables class c.children_are_true.ensures c.requires.children in
     λ deep. c.reach_numbers_are_the_nearest_mates.ensures.far tables class below children c.requires.reach_children
     (subst (λ (xs : List (Option TableValue)). SomeFar (reach_game (table_at xs) class)) made.library
-    (subst (λ (k : ℕ). SomeFar (reach_game (table_at c.in-Ok.game.library.now) k)) made.class (c.solve_reaches.ensures.too_deep deep)))
+    (subst (λ (k : ℕ). SomeFar (reach_game (table_at c.in-Ok.game.library.now) k)) made.class (c.nearest.ensures.too_deep deep)))

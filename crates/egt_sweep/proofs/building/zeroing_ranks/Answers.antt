@@ -1,14 +1,13 @@
 use Rattle.std.proofs.Common.{ℕ, ◌<◌, List, Option, Err, ap, ◌∙◌, subst}
 use Rattle.egt_moves.specs.Arena.{HasValue}
 use Rattle.egt_moves.specs.Chess.{chess}
-use Rattle.egt_graph.specs.Value.{SomeAbove, AreRanks}
+use Rattle.egt_graph.specs.Value.{SomeAbove}
 use Rattle.egt_table.specs.Table.{TableValue}
 use Rattle.egt_entries.specs.declared.metric.Metric.TheVariants.{Mate, Zeroing}
 use Rattle.egt_entries.specs.Tables.{table_at, beside}
-use Rattle.egt_sweep.specs.ClassGame.{class_game, class_game_is_lawful}
+use Rattle.egt_sweep.specs.ClassGame.{class_game}
 use Rattle.egt_sweep.specs.MateColumn.{mate_table}
 use Rattle.egt_sweep.proofs.BuiltTables.{RanksTell, mates_show_values, none_above}
-use Rattle.egt_sweep.proofs.OneGame.{one_game, of_copy}
 use Rattle.egt_sweep.proofs.TrueChildren.{true_children}
 use Rattle.egt_sweep.proofs.building.zeroing_ranks.Goals as goal
 
@@ -17,30 +16,16 @@ unreachable-requires c =
     let tables = table_at c.args.library.now in
     let class = c.args.class in
     let limit = c.args.limit in
-    let mates = c.args.mates.now.ranks in
+    let mates = c.args.mates.now in
     let game = c.in-Ok.game in
     let made = c.in-Ok.ensures in
     let below = subst (λ (n : ℕ). n < 36) c.number-number.ensures.value c.number-number.ensures.below in
     let children = true_children tables class c.children_are_true.ensures c.requires.children in
     let told : RanksTell (class_game tables Mate class) class (HasValue chess) = λ i p v ok is rank. c.mate_ranks_are_values.ensures.values tables class i p v below children ok is rank in
     let shows = mates_show_values c.laws.ensures class below tables limit c.requires.limit mates c.requires.mates told in
-    let above = c.solve_zeroing.ensures.too_deep (c.in-Err-TooDeep.is ∙ ap Err c.in-Err-TooDeep.field-0-is) in
+    let above = c.solve.ensures.too_deep (c.in-Err-TooDeep.is ∙ ap Err c.in-Err-TooDeep.field-0-is) in
     let here = subst (λ (xs : List ℕ). SomeAbove (class_game (beside tables (mate_table class xs)) Zeroing class) limit) made.mates
     (subst (λ (xs : List (Option TableValue)). SomeAbove (class_game (beside (table_at xs) (mate_table class game.mates.now)) Zeroing class) limit) made.library
     (subst (λ (k : ℕ). SomeAbove (class_game (beside (table_at game.library.now) (mate_table k game.mates.now)) Zeroing k) limit) made.class above)) in
     none_above c.laws.ensures class below tables limit c.requires.limit mates c.requires.mates told
     (λ n i p v ok is has within t. c.zeroing_ranks_are_distances.ensures.in_time tables (mate_table class mates) n limit i p v below children shows ok is has within t) here
-
-pub returns-then-has_one_game-clause-ranks : goal.returns-then-has_one_game-clause-ranks
-returns-then-has_one_game-clause-ranks c =
-    let tables = table_at c.args.library.now in
-    let class = c.args.class in
-    let mates = c.args.mates.now.ranks in
-    let other = beside tables (mate_table class mates) in
-    let below = subst (λ (n : ℕ). n < 36) c.number-number.ensures.value c.number-number.ensures.below in
-    let children = true_children tables class c.children_are_true.ensures c.requires.children in
-    let one = c.has_one_game.ensures in
-    let yes = c.if-has_one_game.true in
-    let alike = one_game c.laws.ensures tables class below mates children (one.drawn yes) (λ flipped p ok of. c.a_class_without_pawns_has_none.ensures class flipped p ok of (one.pawns yes)) in
-    of_copy (AreRanks (class_game other Zeroing class) c.args.limit) mates c.copied.result c.copied.ensures.same
-    (c.alike_games_have_the_same_ranks.ensures (class_game other Zeroing class) (class_game tables Mate class) (class_game_is_lawful other Zeroing class) alike c.args.limit mates c.requires.mates)

@@ -19,10 +19,5 @@ returns c = record {
   settled = c.positions_settle_once.ensures.settled;
   like_unmoves = c.images_have_like_unmoves.ensures.images;
   same_image = c.images_form_classes.ensures.same;
-  index_settled = c.numbers_stand_for_codes.ensures.indexes_are_settled;
-  numbers_below = c.numbers_stand_for_codes.ensures.below;
-  number_coded = c.numbers_stand_for_codes.ensures.code;
-  code_numbered = c.numbers_stand_for_codes.ensures.number;
-  number_within = c.numbers_stand_for_codes.ensures.within;
   other_class = c.moves_lead_into_the_class_or_a_child.ensures.other;
 }

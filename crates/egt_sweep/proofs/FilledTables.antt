@@ -1,0 +1,21 @@
+-- A table whose entries keep the rules beside the tables at hand is true, and a check accepts it.
+use Rattle.std.proofs.Common.{◌≡◌, ◌↔◌, Some}
+use Rattle.egt_table.specs.Table.{TableValue, IsTable}
+use Rattle.egt_entries.specs.Library.{IsAccepted, ReachesDown}
+use Rattle.egt_entries.specs.Rules.{KeepsRules}
+use Rattle.egt_entries.specs.Tables.{Tables, HasChildren, beside}
+use Rattle.egt_entries.specs.Truth.{IsTrueTable, HasTrueChildren}
+use Rattle.egt_sweep.specs.Laws.{Laws}
+use Rattle.egt_sweep.proofs.OutOfClass.{beside_own}
+use Rattle.egt_sweep.proofs.Shown.{beside_children, beside_reach}
+
+-- beside true children true tables alone keep the rules
+abbrev pub RulesTell : Type 0
+RulesTell = (tables : Tables) (t : TableValue) → IsTable t → tables t.class ≡ Some t → HasTrueChildren tables t.class → ReachesDown tables t → KeepsRules tables t ↔ IsTrueTable t
+
+module _ (laws : Laws) (tables : Tables) (t : TableValue) (table : IsTable t) (true_children : HasTrueChildren tables t.class) (down : ReachesDown tables t) where
+  pub kept_is_true : RulesTell → KeepsRules (beside tables t) t → IsTrueTable t
+  kept_is_true rules = (rules (beside tables t) t table (beside_own tables t) (beside_children laws tables t table.class_in true_children) (λ there. beside_reach laws tables t table.class_in (down there))).0
+
+  pub kept_is_accepted : HasChildren tables t.class → KeepsRules (beside tables t) t → IsAccepted tables t
+  kept_is_accepted children kept = record { children = children; reach_children = down; rules = kept }
