@@ -6,5 +6,3 @@
 mod probe;
 #[cfg(test)]
 mod sweep;
-#[cfg(test)]
-mod words;

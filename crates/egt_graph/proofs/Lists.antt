@@ -90,15 +90,6 @@ none_fails p (x ∷ xs) = elim (cases_Bool (p x)) [
   | inr f ↦ rw (count_yes (λ y. not (p y)) x xs (ap not f), f) (ne_eqb _ _ (λ e. absurd (omega arith)))
 ]
 
--- some element fails where not each passes
-pub some_fails : {X : Type 0} (p : X → Bool) (xs : List X) → list_any (λ x. not (p x)) xs ≡ not (list_all p xs)
-some_fails p [] = refl
-some_fails p (x ∷ xs) = ap (λ b. not (p x) || b) (some_fails p xs) ∙ not_both (p x) (list_all p xs)
-  where
-    not_both : (a b : Bool) → (not a || not b) ≡ not (a && b)
-    not_both true b = refl
-    not_both false b = refl
-
 -- where each passes
 pub all_count : {X : Type 0} (p : X → Bool) → ((x : X) → p x ≡ true) → (xs : List X) → count_by p xs ≡ length xs
 all_count p e [] = refl
@@ -131,10 +122,6 @@ contains_counted x (y ∷ ys) (suc k) h e =
     let a = contains_counted x ys k (omega arith) e in
     let b = count_by-cons (λ z. eqb z x) y ys in
     omega arith
-
--- numbers that come up are so few
-pub each_counted : (P : ℕ → Type 0) (xs : List ℕ) → ((i : ℕ) → 0 < count_of i xs → P i) → All P xs
-each_counted P xs each = All-weaker (Contains xs) P (λ i has. each i (contains_counted i xs has.0 has.1 has.2)) xs (All-contains_itself xs)
 
 ascends_tail : (x : ℕ) (xs : List ℕ) → IsStrictlyIncreasing (x ∷ xs) → IsStrictlyIncreasing xs
 ascends_tail x xs h k l = let e : suc k + 1 ≡ suc (k + 1) = omega arith in rw e at (h (suc k) (omega arith))

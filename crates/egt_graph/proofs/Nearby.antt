@@ -47,20 +47,6 @@ near_le g i n (suc m) le h = elim (cases_order n (suc m)) [
   | inr o ↦ elim o [ inl lt ↦ near_more g m i (near_le g i n m (omega arith) h) | inr gt ↦ absurd (omega arith) ]
 ]
 
--- a node has one number, or none
-pub one_near : (g : Graph) (i : ℕ) (x y : Option ℕ) → HasNear g i x → HasNear g i y → x ≡ y
-one_near g i (Some n) (Some m) r s = elim (cases_order n m) [
-  | inl e ↦ ap Some e
-  | inr o ↦ elim o [ inl lt ↦ absurd (sooner n m lt r.0 s.1) | inr gt ↦ absurd (sooner m n gt s.0 r.1) ]
-]
-  where
-    sooner : (a b : ℕ) → a < b → near_within g a i ≡ true → near_before g b i ≡ false → ⊥
-    sooner a zero lt t f = omega (arith, lt)
-    sooner a (suc b) lt t f = both_ways (near_within g b i) f (near_le g i a b (omega (arith, lt)) t)
-one_near g i (Some n) None r s = absurd (both_ways (near_within g n i) (s n) r.0)
-one_near g i None (Some n) r s = absurd (both_ways (near_within g n i) (r n) s.0)
-one_near g i None None r s = refl
-
 -- the parts of it
 pub near_by_move : (g : Graph) (n i j : ℕ) → Contains (g.out i) j → near_within g n j ≡ true → near_within g (suc n) i ≡ true
 near_by_move g n i j has t = or_right (g.mated i) _ (or_left _ _ (contains_any (near_within g n) (g.out i) j has t))

@@ -3,7 +3,7 @@ use Rattle.std.proofs.Common.{◌≡◌, ℕ, zero, suc, ◌+◌, ◌<◌, ◌�
 use Rattle.std.specs.List.{list_any, list_all}
 use Rattle.std.proofs.lemmas.Bool.{or_cases, or_left, or_right, and_parts, and_from, false≢true, lt-ltb, ltb-true, cases_order}
 use Rattle.egt_graph.specs.Graph.{Graph, IsNode, IsGame}
-use Rattle.egt_graph.specs.Value.{is_lost_before, is_won_before, has_move, mated_within, mates_within, mated_before, mates_before, decided_within}
+use Rattle.egt_graph.specs.Value.{is_lost_before, is_won_before, has_move, mated_within, mates_within, mated_before, mates_before}
 use Rattle.egt_graph.specs.declared.game.Exit.{Exit}
 use Rattle.egt_graph.specs.declared.game.Exit.TheVariants.{Win, Loss, Draw}
 use Rattle.egt_graph.proofs.Lists.{any_weaker, all_weaker, any_all_clash}
@@ -91,10 +91,6 @@ mated_le g i n (suc m) le h = elim (cases_order n (suc m)) [
   | inl e ↦ rw e at h
   | inr o ↦ elim o [ inl lt ↦ mated_more g m i (mated_le g i n m (omega arith) h) | inr gt ↦ absurd (omega arith) ]
 ]
-
-pub decided_le : (g : Graph) (i n m : ℕ) → n ≤ m → decided_within g n i ≡ true → decided_within g m i ≡ true
-decided_le g i n m le h =
-    ⊎_elim (λ a. or_left _ _ (mates_le g i n m le a)) (λ b. or_right (mates_within g m i) _ (mated_le g i n m le b)) (or_cases (mates_within g n i) _ h)
 
 pub never_both_ever : (g : Graph) → IsGame g → (n m i : ℕ) → IsNode g i → mates_within g n i ≡ true → mated_within g m i ≡ true → ⊥
 never_both_ever g law n m i node a b =

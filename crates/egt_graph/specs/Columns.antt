@@ -64,11 +64,6 @@ is_loss (Win k) = false
 is_loss (Loss k) = true
 is_loss Draw = false
 
-abbrev pub is_win : Exit → Bool
-is_win (Win k) = true
-is_win (Loss k) = false
-is_win Draw = false
-
 -- exits of exactly that number of plies
 abbrev pub is_win_of : ℕ → Exit → Bool
 is_win_of n (Win k) = k == n

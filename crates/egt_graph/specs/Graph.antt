@@ -1,5 +1,5 @@
 -- A finite game as its players see it: who may go where. Positions are numbers, its nodes.
-use Rattle.std.specs.Prelude.{◌≡◌, ℕ, ◌<◌, ◌≤◌, Bool, List, [], count_by, All, Contains, IsTrue, IsFalse}
+use Rattle.std.specs.Prelude.{◌≡◌, ℕ, ◌<◌, ◌≤◌, Bool, List, [], All, Contains, IsTrue, IsFalse}
 use Rattle.std.specs.List.Sorted.{IsStrictlyIncreasing}
 use Rattle.egt_graph.specs.declared.game.Exit.{Exit}
 use Rattle.egt_graph.specs.declared.game.Exit.TheVariants.{Win, Loss, Draw}
@@ -19,10 +19,6 @@ pub record Graph : Type 0 where
 pub record IsNode (g : Graph) (i : ℕ) : Type 0 where
   pub in_range : i < g.size
   pub not_void : IsFalse (g.void i)
-
--- as many of the one list pass any test as of the other: they are the same values, in whatever order
-abbrev pub AreLike : List Exit → List Exit → Type 0
-AreLike xs ys = (test : Exit → Bool) → count_by test xs ≡ count_by test ys
 
 -- a value from outside is of a distance that an entry can hold
 abbrev pub HasShortDistance : Exit → Type 0

@@ -1,7 +1,7 @@
 -- Laws of values.
-use Rattle.std.specs.Prelude.{◌≡◌, ℕ, ◌≤◌, List, IsTrue}
-use Rattle.egt_graph.specs.Graph.{Graph, IsNode, IsGame, IsAlike}
-use Rattle.egt_graph.specs.Value.{mated_within, mates_within, HasRank, AreRanks}
+use Rattle.std.specs.Prelude.{◌≡◌, ℕ, ◌≤◌, IsTrue}
+use Rattle.egt_graph.specs.Graph.{Graph, IsNode, IsGame}
+use Rattle.egt_graph.specs.Value.{mated_within, mates_within, HasRank}
 use Rattle.egt_graph.specs.declared.game.Exit.{Exit}
 
 abbrev pub MorePliesDoNoHarm : Type 0
@@ -13,6 +13,3 @@ abbrev pub EachNodeHasOneValue : Type 0
 EachNodeHasOneValue =
     (g : Graph) → IsGame g → (i : ℕ) → IsNode g i
     → ((n m : ℕ) → IsTrue (mates_within g n i) → IsTrue (mated_within g m i) → ⊥) × ((v w : Exit) → HasRank g i v → HasRank g i w → v ≡ w)
-
-abbrev pub AlikeGamesHaveTheSameRanks : Type 0
-AlikeGamesHaveTheSameRanks = (g h : Graph) → IsGame g → IsAlike g h → (limit : ℕ) (entries : List ℕ) → AreRanks h limit entries → AreRanks g limit entries

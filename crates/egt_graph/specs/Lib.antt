@@ -10,11 +10,5 @@ pub mod Begin
 pub mod Fault
 pub mod Laws
 pub mod Passing
-pub mod Words
-pub mod WordRound
-pub mod ExitMarks
-pub mod WordMoves
-pub mod StandIns
 pub mod Near
-pub mod NearWords
 pub mod Due

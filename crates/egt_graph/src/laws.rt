@@ -1,8 +1,7 @@
 //! Laws over the definitions alone. Each is the contract of a function that does nothing.
 ghost use Rattle.egt_graph.specs.Due.{DueEntriesAreAsDeep, DueEntriesAreAsFar, DueEntriesAreNears, DueEntriesAreNumbers, DueEntriesAreRanks, DueEntriesAreValues, DueNumbersStay, DueValuesStay};
 ghost use Rattle.egt_graph.specs.Events.{EventsLeave, EachRoundIsOfItsRank, FinishedRunsAgree};
-ghost use Rattle.egt_graph.specs.Laws.{MorePliesDoNoHarm, EachNodeHasOneValue, AlikeGamesHaveTheSameRanks};
-ghost use Rattle.egt_graph.specs.StandIns.{StandInsAreAsDeep, StandInsAreAsFar, StandInsAreAsNear, StandInsShareEntries, StandInsShareNears, StandInsTellNears, StandInsTellRanks};
+ghost use Rattle.egt_graph.specs.Laws.{MorePliesDoNoHarm, EachNodeHasOneValue};
 
 /// A mate within n plies is a mate within more.
 pub fn more_plies_do_no_harm()
@@ -29,26 +28,6 @@ pub fn each_round_is_of_its_rank()
 /// gives are equal.
 pub fn finished_runs_agree()
     ensures { FinishedRunsAgree }
-{}
-
-/// Games whose calls all answer alike have the same ranks.
-pub fn alike_games_have_the_same_ranks()
-    ensures { AlikeGamesHaveTheSameRanks }
-{}
-
-/// Of a game whose nodes stand for those of another, at least one for each, the entries of one for each are the ranks of the other.
-pub fn stand_ins_tell_ranks()
-    ensures ranks { StandInsTellRanks }
-    ensures deep { StandInsAreAsDeep }
-    ensures entries { StandInsShareEntries }
-{}
-
-/// And the nearest mate is as far from each node as from the one for which it stands: the entries of one for each are the numbers of the other game.
-pub fn stand_ins_tell_nears()
-    ensures numbers { StandInsAreAsNear }
-    ensures nears { StandInsTellNears }
-    ensures far { StandInsAreAsFar }
-    ensures entries { StandInsShareNears }
 {}
 
 /// Entries that are due at every node, each by the best of its node's successors, are the ranks, by whatever way they were found;

@@ -3,12 +3,9 @@ ghost use Rattle.std.specs.Prelude.{◌≡◌, ◌≤◌, IfOk, IsTrue};
 ghost use Rattle.egt_graph.specs.Near.{AreNears, AreTold, IsOver, SomeFar};
 
 use crate::game::Game;
-use crate::near_word_round::step_by_words;
-use crate::near_words::begin_near_words;
 use crate::nearing::{Nearing, any_found, begin_nearing, step_back, tell};
 use crate::nears::Nears;
 use crate::solver::SolveFault;
-use crate::words::Shelved;
 use std::alloc::Global;
 
 /// The most plies that an entry can hold.
@@ -59,27 +56,4 @@ pub fn nearest<G: Game>(alloc: Global, game: &G) -> Result<Nears, SolveFault>
         return Err(SolveFault::TooDeep);
     }
     Ok(nears_of(run))
-}
-
-/// The same as `nearest`, of a game that tells of its nodes by words. The game is asked for no moves but by `lead_to` and `touch`.
-///
-/// # Errors
-///
-/// `NoMemory` where a growth was refused, `TooDeep` only where the least number of some node is above 32,000.
-pub fn nearest_by_words<G: Shelved>(alloc: Global, game: &G) -> Result<Nears, SolveFault>
-    ensures ok { IfOk result (AreNears (G.graph game.now)) }
-    ensures too_deep { result ≡ Err SolveFault.TooDeep → SomeFar (G.graph game.now) }
-{
-    let mut run = begin_near_words(alloc, game)?;
-    for round in 0..FARTHEST {
-        step_by_words(alloc, game, &mut run, round)?;
-        if is_over(&run.known, round) {
-            return Ok(nears_of(run.known));
-        }
-    }
-    step_by_words(alloc, game, &mut run, FARTHEST)?;
-    if any_found(&run.known.entries, FARTHEST + 1) {
-        return Err(SolveFault::TooDeep);
-    }
-    Ok(nears_of(run.known))
 }

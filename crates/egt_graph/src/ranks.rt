@@ -1,5 +1,4 @@
 //! One entry a node.
-use std::alloc::{AllocError, Global};
 use std::marker::Model;
 
 /// The values of a game's nodes, one entry a node: 0 void, 1 draw, `2 + 2n` win in n plies, `3 + 2n` loss in n plies.
@@ -17,22 +16,13 @@ impl Model for Ranks {
 }
 
 impl Ranks {
-    ghost use Rattle.std.specs.Prelude.{◌≡◌, IfOk};
+    ghost use Rattle.std.specs.Prelude.{◌≡◌};
 
     /// Judges nothing.
     pub fn from_entries(entries: Vec<u16>) -> Self
         ensures { result ≡ entries.items }
     {
         Ranks { entries }
-    }
-
-    /// The same once more. `AllocError` only where a growth was refused.
-    pub fn copied(&self, alloc: Global) -> Result<Ranks, AllocError>
-        ensures { IfOk result (λ ranks. ranks ≡ self.now) }
-    {
-        let mut entries = vec![in alloc; 0; self.entries.len()]?;
-        entries.copy_from_slice(&self.entries);
-        Ok(Ranks { entries })
     }
 
     pub fn entries(&self) -> &[u16]

@@ -1,5 +1,4 @@
 //! Small games whose values were worked out by hand, runs by rounds in whatever order, and what a game is asked.
-mod by_words;
 mod games;
 mod hand_made;
 mod nearest;

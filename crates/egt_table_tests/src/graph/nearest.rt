@@ -1,34 +1,8 @@
-//! How far the nearest mate is in small games, worked out by hand and by plain walks forward: by nodes and by words.
-ghost use Rattle.std.specs.Prelude.{◌<◌, ◌≤◌};
-
-use super::by_words::ByWords;
+//! How far the nearest mate is in small games, worked out by hand and by plain walks forward.
 use super::games::{STAIRS, Stairs};
 use super::walks::walked;
-use egt_graph::{Exit, Game, Nears, SolveFault, nearest, nearest_by_words};
-use std::alloc::Global;
+use egt_graph::{Exit, Nears, SolveFault, nearest};
 use std::test::*;
-
-/// The same by words of so many nodes.
-fn by_words<G: Game>(alloc: Global, game: &G, span: u32) -> Result<Nears, SolveFault>
-    requires some { 0 < span }
-    requires few { span ≤ 64 }
-{
-    nearest_by_words(alloc, &ByWords { game, span })
-}
-
-/// Whether these are the entries that each body answers.
-fn are_answered<G: Game>(alloc: Global, game: &G, entries: &[u16]) -> Result<bool, SolveFault> {
-    let same = nearest(alloc, game)?.entries() == entries
-        && by_words(alloc, game, 64)?.entries() == entries
-        && by_words(alloc, game, 3)?.entries() == entries;
-    Ok(same && by_words(alloc, game, 1)?.entries() == entries)
-}
-
-/// Whether each body answers that a number is above 32,000.
-fn is_too_deep<G: Game>(alloc: Global, game: &G) -> bool {
-    matches!(nearest(alloc, game), Err(SolveFault::TooDeep))
-        && matches!(by_words(alloc, game, 5), Err(SolveFault::TooDeep))
-}
 
 // A node of step r is r plies from the checkmates below it.
 #[test]
@@ -37,7 +11,7 @@ fn a_ply_a_step(rt: HostRuntime) -> Result<(), Fail> {
     for node in 0..10_000u16 {
         entries.push(2 + node / 2_000)?;
     }
-    assert!(rt; are_answered(rt.alloc(), &STAIRS, &entries)?);
+    assert!(rt; nearest(rt.alloc(), &STAIRS)?.entries() == entries.as_slice());
     Ok(())
 }
 
@@ -52,8 +26,13 @@ fn exits_of_either_kind(rt: HostRuntime) -> Result<(), Fail> {
         mates: false,
         exits: &[(2, Exit::Loss(5)), (3, Exit::Win(2)), (5, Exit::Draw)],
     };
-    assert!(rt; are_answered(rt.alloc(), &game, &[1, 1, 8, 5, 6, 7, 0])?);
+    assert!(rt; nearest(rt.alloc(), &game)?.entries() == [1, 1, 8, 5, 6, 7, 0].as_slice());
     Ok(())
+}
+
+/// Whether a number is above 32,000.
+fn is_too_deep(answer: Result<Nears, SolveFault>) -> bool {
+    matches!(answer, Err(SolveFault::TooDeep))
 }
 
 // The greatest number that an entry holds, and one more: by an exit, and by a move to a node with the greatest.
@@ -66,9 +45,9 @@ fn the_greatest_number(rt: HostRuntime) -> Result<(), Fail> {
         mates: false,
         exits: &[(0, Exit::Win(31_999))],
     };
-    assert!(rt; are_answered(rt.alloc(), &game, &[32_002])?);
+    assert!(rt; nearest(rt.alloc(), &game)?.entries() == [32_002].as_slice());
     game.exits = &[(0, Exit::Loss(32_000))];
-    assert!(rt; is_too_deep(rt.alloc(), &game));
+    assert!(rt; is_too_deep(nearest(rt.alloc(), &game)));
     let longer = Stairs {
         nodes: 2,
         voids: 0,
@@ -76,7 +55,7 @@ fn the_greatest_number(rt: HostRuntime) -> Result<(), Fail> {
         mates: false,
         exits: &[(0, Exit::Loss(31_999))],
     };
-    assert!(rt; is_too_deep(rt.alloc(), &longer));
+    assert!(rt; is_too_deep(nearest(rt.alloc(), &longer)));
     Ok(())
 }
 
@@ -113,7 +92,8 @@ fn stairs_drawn_at_random(rt: HostRuntime) -> Result<(), Fail> {
             mates: (seed >> 30) % 2 == 0,
             exits: &exits,
         };
-        assert!(rt; are_answered(rt.alloc(), &game, &walked(rt.alloc(), &game)?)?);
+        let nears = nearest(rt.alloc(), &game)?;
+        assert!(rt; nears.entries() == walked(rt.alloc(), &game)?.as_slice());
     }
     Ok(())
 }

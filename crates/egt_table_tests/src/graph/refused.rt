@@ -1,10 +1,7 @@
 //! A growth that is refused is answered so, and the next call answers as ever. The growths are refused one by one by
 //! `rt try --test --fail-alloc N`, from 1 until a run meets none.
-use super::by_words::ByWords;
 use super::games::{STAIRS, Stairs, are_stair_ranks};
-use egt_graph::{
-    Close, Nears, NoMemory, Post, Ranks, Rounds, SolveFault, nearest, nearest_by_words, solve,
-};
+use egt_graph::{Close, Nears, NoMemory, Post, Ranks, Rounds, SolveFault, nearest, solve};
 use std::alloc::Global;
 use std::test::*;
 
@@ -32,20 +29,6 @@ fn are_stair_nears(nears: &Nears) -> bool {
 fn nearest_again(rt: HostRuntime) -> Result<(), Fail> {
     let nears = match nearest(rt.alloc(), &STAIRS) {
         Err(SolveFault::NoMemory) => nearest(rt.alloc(), &STAIRS)?,
-        other => other?,
-    };
-    assert!(rt; are_stair_nears(&nears));
-    Ok(())
-}
-
-#[test]
-fn nearest_by_words_again(rt: HostRuntime) -> Result<(), Fail> {
-    let game = ByWords {
-        game: &STAIRS,
-        span: 64,
-    };
-    let nears = match nearest_by_words(rt.alloc(), &game) {
-        Err(SolveFault::NoMemory) => nearest_by_words(rt.alloc(), &game)?,
         other => other?,
     };
     assert!(rt; are_stair_nears(&nears));
