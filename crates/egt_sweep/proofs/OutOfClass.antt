@@ -1,9 +1,9 @@
 -- What is told of where the moves that leave a class lead.
-use Rattle.std.proofs.Common.{◌≡◌, ◌≢◌, ℕ, zero, suc, ◌-◌, ◌/◌, ◌%◌, ◌<◌, ◌≤◌, Bool, true, false, List, [], ◌∷◌, ◌++◌, if◌then◌else◌, Option, Some, None, IsSome, IfSome, eqb, refl, sym, ap, ◌∙◌, subst, inl, inr, arith}
+use Rattle.std.proofs.Common.{◌≡◌, ◌≢◌, ℕ, zero, suc, ◌-◌, ◌/◌, ◌%◌, ◌<◌, ◌≤◌, Bool, true, false, List, if◌then◌else◌, Option, Some, None, IsSome, IfSome, eqb, refl, sym, ap, ◌∙◌, subst, inl, inr, arith}
 use Rattle.std.proofs.Math.Logic.{⊎_elim}
 use Rattle.std.proofs.lemmas.Bool.{cases_eq, eqb-true, eq-eqb}
 use Rattle.std.specs.List.{Contains}
-use Rattle.std.specs.Option.{is_some, option_to_list, option_map}
+use Rattle.std.specs.Option.{is_some, option_map}
 use Rattle.egt_board.specs.Setup.{Setup, IsAdmissible}
 use Rattle.egt_class.specs.Children.{children_of}
 use Rattle.egt_class.specs.Membership.{IsOf}
@@ -26,7 +26,7 @@ use Rattle.egt_sweep.specs.MateColumn.{mate_table}
 use Rattle.egt_sweep.specs.declared.objective.Objective.{Objective}
 use Rattle.egt_sweep.specs.declared.objective.Objective.TheVariants as objectives
 use Rattle.egt_sweep.specs.Laws.{Laws}
-use Rattle.egt_sweep.specs.Nodes.{index_in, plies_left, exit_of, shown_in, shown_below, or_else, goes_on, told_by}
+use Rattle.egt_sweep.specs.Nodes.{index_in, plies_left, exit_of, shown_in, shown_below, or_else, goes_on, exit_by}
 use Rattle.egt_sweep.proofs.Linked.{index_is, goes_is}
 
 -- the exit of the value that an entry shows
@@ -85,44 +85,26 @@ module _ (laws : Laws) (tables : Tables) where
         ∙ shown_is c i t q flipped c_in ok of found is n (omega (arith, lt, other)) (omega (arith, le))
   ]
 
--- ---- what f tells of where moves lead that leave the game
+-- ---- the exit of a move
 
-module _ (laws : Laws) {X : Type 0} (f : Setup → X) where
-  told_test : Setup → Bool → Option X
-  told_test q true = None
-  told_test q false = Some (f q)
+module _ (laws : Laws) (tables : Tables) (metric : Metric) (c : ℕ) (p q : Setup) (m : Move) (ok : IsAdmissible p) (leads : Leads p m q) where
+  q_ok : IsAdmissible q
+  q_ok = laws.facts.step_admissible p q m ok leads
 
-  test_told : (metric : Metric) (c : ℕ) (p q : Setup) (m : Move) (b : Bool) → goes_on metric c p m q ≡ b → told_by f metric c p m (Some q) ≡ told_test q b
-  unfolding told_test
-  test_told metric c p q m true e = ap (λ (x : Bool). if x then None else Some (f q)) e
-  test_told metric c p q m false e = ap (λ (x : Bool). if x then None else Some (f q)) e
+  exit_is : (b : Bool) → goes_on metric c p m q ≡ b → exit_by tables metric c p m (played p m) ≡ (if b then None else Some (exit_of metric (shown_below tables 36 q)))
+  exit_is b e = ap (exit_by tables metric c p m) ((laws.played p q m).0 leads) ∙ ap (λ (x : Bool). if x then None else Some (exit_of metric (shown_below tables 36 q))) e
 
-  played_is : (p q : Setup) (m : Move) → Leads p m q → played p m ≡ Some q
-  played_is p q m leads = (laws.played p q m).0 leads
+  -- one that goes on has none
+  pub on_no_exit : GoesOn metric c p m q → exit_by tables metric c p m (played p m) ≡ None
+  on_no_exit on = exit_is true ((goes_is laws metric c p q m q_ok).1 on)
 
-  -- of a move that goes on nothing
-  pub on_not_told : (metric : Metric) (c : ℕ) (p q : Setup) (m : Move) → IsAdmissible p → Leads p m q → GoesOn metric c p m q → told_by f metric c p m (played p m) ≡ None
-  unfolding told_test
-  on_not_told metric c p q m ok leads on =
-      let q_ok = laws.facts.step_admissible p q m ok leads in
-      ap (told_by f metric c p m) (played_is p q m leads) ∙ test_told metric c p q m true ((goes_is laws metric c p q m q_ok).1 on)
+  goes_false : ¬ GoesOn metric c p m q → (b : Bool) → goes_on metric c p m q ≡ b → b ≡ false
+  goes_false off true e = absurd (off ((goes_is laws metric c p q m q_ok).0 e))
+  goes_false off false e = refl
 
-  goes_false : (metric : Metric) (c : ℕ) (p q : Setup) (m : Move) → IsAdmissible q → ¬ GoesOn metric c p m q → (b : Bool) → goes_on metric c p m q ≡ b → b ≡ false
-  goes_false metric c p q m ok off true e = absurd (off ((goes_is laws metric c p q m ok).0 e))
-  goes_false metric c p q m ok off false e = refl
-
-  -- and of any other something
-  pub off_told : (metric : Metric) (c : ℕ) (p q : Setup) (m : Move) → IsAdmissible p → Leads p m q → ¬ GoesOn metric c p m q → told_by f metric c p m (played p m) ≡ Some (f q)
-  unfolding told_test
-  off_told metric c p q m ok leads off =
-      let q_ok = laws.facts.step_admissible p q m ok leads in
-      ap (told_by f metric c p m) (played_is p q m leads) ∙ test_told metric c p q m false (goes_false metric c p q m q_ok off (goes_on metric c p m q) refl)
-
-  -- so one exit is added
-  pub off_is_told : (metric : Metric) (c : ℕ) (p q : Setup) (m : Move) (x : X) → IsAdmissible p → Leads p m q → ¬ GoesOn metric c p m q → x ≡ f q → (xs : List X) →
-      xs ++ x ∷ [] ≡ xs ++ option_to_list (told_by f metric c p m (played p m))
-  off_is_told metric c p q m x ok leads off is xs =
-      ap (λ (y : X). xs ++ y ∷ []) is ∙ sym (ap (λ (o : Option X). xs ++ option_to_list o) (off_told metric c p q m ok leads off))
+  -- any other what the tables show of where it leads
+  pub off_exit : ¬ GoesOn metric c p m q → exit_by tables metric c p m (played p m) ≡ Some (exit_of metric (shown_below tables 36 q))
+  off_exit off = exit_is false (goes_false off (goes_on metric c p m q) refl)
 
 pub mapped_some : {A B : Type 0} (f : A → B) (o : Option A) (x : Option B) → option_map f o ≡ x → IsSome x → IsSome o
 mapped_some f None x e some = subst IsSome (sym e) some

@@ -112,16 +112,10 @@ unfoldable pub shown_below : Tables → ℕ → Setup → Value
 shown_below tables zero q = Draw
 shown_below tables (suc n) q = or_else (shown_in (tables n) (index_in n q)) (shown_below tables n q)
 
--- what f tells of where the move leads, if it leaves the game
-abbrev pub told_by : {X : Type 0} → (Setup → X) → Metric → ℕ → Setup → Move → Option Setup → Option X
-told_by f metric c p m None = None
-told_by f metric c p m (Some q) = if goes_on metric c p m q then None else Some (f q)
-
-abbrev pub exit_to : Tables → Metric → Setup → Exit
-exit_to tables metric q = exit_of metric (shown_below tables 36 q)
-
+-- what is told of where the move leads, if it leaves the game
 abbrev pub exit_by : Tables → Metric → ℕ → Setup → Move → Option Setup → Option Exit
-exit_by tables metric c p m o = told_by (exit_to tables metric) metric c p m o
+exit_by tables metric c p m None = None
+exit_by tables metric c p m (Some q) = if goes_on metric c p m q then None else Some (exit_of metric (shown_below tables 36 q))
 
 -- what is told of where those of these moves lead that leave the game
 abbrev pub exits_by : Tables → Metric → ℕ → Setup → List Move → List Exit

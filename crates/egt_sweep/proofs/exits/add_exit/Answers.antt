@@ -1,13 +1,12 @@
-use Rattle.std.proofs.Common.{ℕ, ◌<◌, ◌++◌, sym, ap, ◌∙◌, subst}
+use Rattle.std.proofs.Common.{ℕ, ◌<◌, [], ◌∷◌, ◌++◌, sym, ap, ◌∙◌, subst}
 use Rattle.std.proofs.lemmas.List.{append-nil}
 use Rattle.std.specs.Option.{option_to_list}
 use Rattle.egt_entries.specs.Tables.{table_at}
 use Rattle.egt_entries.specs.declared.metric.Metric.{Metric}
 use Rattle.egt_sweep.specs.Edges.{GoesOn}
-use Rattle.egt_sweep.specs.Nodes.{exit_to}
 use Rattle.egt_sweep.specs.Objective.{metric_of, known}
 use Rattle.egt_sweep.proofs.Collecting.{untrue}
-use Rattle.egt_sweep.proofs.OutOfClass.{known_there, off_is_told, on_not_told}
+use Rattle.egt_sweep.proofs.OutOfClass.{known_there, off_exit, on_no_exit}
 use Rattle.egt_sweep.proofs.exits.add_exit.Goals as goal
 
 pub returns-then-goes_on-clause-items : goal.returns-then-goes_on-clause-items
@@ -17,8 +16,8 @@ returns-then-goes_on-clause-items c =
     let q = c.play_legal-next.result in
     let objective = c.args.objective.now in
     let on = subst (λ (metric : Metric). GoesOn metric c.args.class p m q) c.metric-metric.ensures (c.goes_on.ensures.on.0 c.if-goes_on.true) in
-    let told = on_not_told c.laws.ensures (exit_to (known (table_at c.args.library.now) c.args.class objective) (metric_of objective)) (metric_of objective) c.args.class p q m c.side-side.ensures.admissible c.play_legal-next.ensures on in
-    sym (append-nil c.args.list.now.items) ∙ sym (ap (λ o. c.args.list.now.items ++ option_to_list o) told)
+    let none = on_no_exit c.laws.ensures (known (table_at c.args.library.now) c.args.class objective) (metric_of objective) c.args.class p q m c.side-side.ensures.admissible c.play_legal-next.ensures on in
+    sym (append-nil c.args.list.now.items) ∙ sym (ap (λ o. c.args.list.now.items ++ option_to_list o) none)
 
 pub exit_at-exit-requires-clause-there : goal.exit_at-exit-requires-clause-there
 exit_at-exit-requires-clause-there c =
@@ -37,6 +36,5 @@ returns-clause-items c =
     let q = c.play_legal-next.result in
     let objective = c.args.objective.now in
     let off : ¬ GoesOn (metric_of objective) c.args.class p m q = subst (λ (metric : Metric). ¬ GoesOn metric c.args.class p m q) c.metric-metric.ensures (untrue c.goes_on.result c.if-goes_on.false c.goes_on.ensures.on) in
-    c.push.ensures.items
-    ∙ off_is_told c.laws.ensures (exit_to (known (table_at c.args.library.now) c.args.class objective) (metric_of objective)) (metric_of objective) c.args.class p q m c.exit_at-exit.result
-    c.side-side.ensures.admissible c.play_legal-next.ensures off c.exit_at-exit.ensures c.args.list.now.items
+    let some = off_exit c.laws.ensures (known (table_at c.args.library.now) c.args.class objective) (metric_of objective) c.args.class p q m c.side-side.ensures.admissible c.play_legal-next.ensures off in
+    c.push.ensures.items ∙ ap (λ e. c.args.list.now.items ++ e ∷ []) c.exit_at-exit.ensures ∙ sym (ap (λ o. c.args.list.now.items ++ option_to_list o) some)
