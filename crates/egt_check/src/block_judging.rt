@@ -37,8 +37,8 @@ fn part_scores(
     men: &ShelfMen,
     part: Part,
     side: Side,
-    keys: &mut BlockKeys,
-    blocks: &mut KeptBlocks,
+    keys: &mut [Option<BlockKey>],
+    blocks: &mut [Block],
     scores: &mut Block,
     zeroing: &mut Block,
 ) -> bool
@@ -125,8 +125,8 @@ pub(crate) fn block_is_right(
     first: u32,
     half: u32,
     side: Side,
-    keys: &mut BlockKeys,
-    blocks: &mut KeptBlocks,
+    keys: &mut [Option<BlockKey>],
+    blocks: &mut [Block],
 ) -> bool
     requires men { AreFourMen (column_of part) four.now men.now }
     requires room { first + half + 64 < 4294967296 }

@@ -126,8 +126,8 @@ pub(crate) fn zeroing_moves(
     column: Column,
     men: &ShelfMen,
     side: Side,
-    keys: &mut BlockKeys,
-    blocks: &mut KeptBlocks,
+    keys: &mut [Option<BlockKey>],
+    blocks: &mut [Block],
     out: &mut Block,
 ) -> bool
     requires men { AreFourMen column four.now men.now }
@@ -204,8 +204,8 @@ pub(crate) fn move_scores(
     four: &FourMen,
     men: &ShelfMen,
     side: Side,
-    keys: &mut BlockKeys,
-    blocks: &mut KeptBlocks,
+    keys: &mut [Option<BlockKey>],
+    blocks: &mut [Block],
     mates: &mut Block,
     zeroing: &mut Block,
 ) -> bool

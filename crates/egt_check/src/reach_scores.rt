@@ -26,8 +26,8 @@ pub(crate) fn reach_scores(
     four: &FourMen,
     men: &ShelfMen,
     side: Side,
-    keys: &mut BlockKeys,
-    blocks: &mut KeptBlocks,
+    keys: &mut [Option<BlockKey>],
+    blocks: &mut [Block],
     out: &mut Block,
 ) -> bool
     requires men { AreFourMen columns.Reach four.now men.now }
