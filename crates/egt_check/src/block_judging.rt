@@ -22,7 +22,7 @@ use crate::reach_scores::{raise_passed_reach, reach_scores};
 use crate::row_judging::row_is_right;
 use egt_blocks::blocks::{begin_with, nothing};
 use egt_blocks::digits::{digits_of, first_square};
-use egt_blocks::kept_blocks::{BlockKeys, KeptBlocks};
+use egt_blocks::kept_blocks::BlockKey;
 use egt_blocks::men::men_on;
 use egt_board::{Side, Square};
 use egt_index::ShelfMen;

@@ -15,7 +15,7 @@ ghost use Rattle.egt_check.specs.Worth.{column_score};
 use crate::pawn_scores::{Promotions, pawns_block};
 use crate::table_scores::TableScores;
 use egt_blocks::blocks::nothing;
-use egt_blocks::kept_blocks::{BlockKeys, KeptBlocks, raise_kept};
+use egt_blocks::kept_blocks::{BlockKey, raise_kept};
 use egt_blocks::men::men_swapped;
 use egt_blocks::own_men::{is_of, is_pawn_of};
 use egt_blocks::passing_blocks::passing_block;

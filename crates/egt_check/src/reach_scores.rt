@@ -13,7 +13,7 @@ ghost use Rattle.egt_check.specs.Worth.{column_score};
 use crate::move_scores::{FourMen, passing_captures, zeroing_moves};
 use crate::table_scores::TableScores;
 use egt_blocks::blocks::nothing;
-use egt_blocks::kept_blocks::{BlockKeys, KeptBlocks};
+use egt_blocks::kept_blocks::BlockKey;
 use egt_blocks::quiet_blocks::quiet_block;
 use egt_board::Side;
 use egt_index::ShelfMen;

@@ -39,7 +39,7 @@ use crate::part::{Part, column_of};
 use crate::pawn_scores::{Promotion, Promotions};
 use egt_blocks::blocks::nothing;
 use egt_blocks::digits::digits_of;
-use egt_blocks::kept_blocks::{BlockKeys, KeptBlocks, no_keys};
+use egt_blocks::kept_blocks::{BlockKey, NEAR_PLACES, no_keys};
 use egt_blocks::men::{are_equal, men_swapped};
 use egt_blocks::own_men::{is_pawn, turned_man};
 use egt_board::{Kind, Man, Side, Square};
@@ -47,6 +47,7 @@ use egt_class::Class;
 use egt_class::membership::of_men;
 use egt_index::laws::{a_code_is_an_index_or_void, numbers_stand_for_codes};
 use egt_index::{ShelfMen, has_target, last_digits, lone_man, shelf_men, size};
+use egt_lanes::Block;
 use egt_table::Table;
 
 /// The men with the kings on these squares.
@@ -131,7 +132,7 @@ fn side_pairs_are_right(
 {
     let step = u32::from(digits_of(men.one));
     let mut keys = no_keys();
-    let mut blocks = [nothing(); 12];
+    let mut blocks = [nothing(); NEAR_PLACES];
     for n in 0..64 * kings {
         let first = nth_pair(side, n, kings) * step;
         if !pair_is_right(four, men, part, first, half, side, &mut keys, &mut blocks) {

@@ -1,4 +1,4 @@
-use Rattle.std.proofs.Common.{◌≡◌, ◌+◌, ◌*◌, ◌∙◌, replicate, ap, arith, inl, inr, subst}
+use Rattle.std.proofs.Common.{◌≡◌, ◌+◌, ◌*◌, ◌∙◌, refl, replicate, ap, arith, inl, inr, subst}
 use Rattle.std.proofs.lemmas.Bool.{cases_lt}
 use Rattle.egt_board.specs.Man.{other_side}
 use Rattle.egt_index.specs.Scales.{kind_digits}
@@ -28,4 +28,4 @@ pub returns : goal.returns
 returns c = λ _ tables are n below. c.loop-n.invariant.0 tables are n (let past = c.loop-n-test.false in omega (arith, past, below))
 
 pub loop-n-init : goal.loop-n-init
-loop-n-init c = ((λ tables are n under. absurd (omega (arith, under))), c.no_keys-keys.ensures c.args.four.now.own.now.class (column_score c.args.four.now.own.now) c.args.men.now (other_side c.args.side) (replicate 12 c.nothing-blocks.result))
+loop-n-init c = ((λ tables are n under. absurd (omega (arith, under))), c.no_keys-keys.ensures c.args.four.now.own.now.class (column_score c.args.four.now.own.now) c.args.men.now (other_side c.args.side) (replicate 12 c.nothing-blocks.result) refl)
