@@ -1,5 +1,5 @@
 //! Tables.
-ghost use Rattle.std.specs.Prelude.{◌≡◌, ◌<◌, ◌↔◌, length, slice_index, IsSome, IsOk, IfOk, IfErr, IsTrue};
+ghost use Rattle.std.specs.Prelude.{◌≡◌, ◌≢◌, ◌<◌, ◌↔◌, ◌⊎◌, ℕ, length, slice_index, IsSome, IsOk, IfOk, IfErr, IsTrue};
 ghost use Rattle.egt_index.specs.Size.{size_of};
 ghost use Rattle.egt_table.specs.Table.{HasColumn, IsTable, columns_of, entries_of};
 
@@ -126,5 +126,24 @@ impl Table {
         ensures { result ≡ slice_index (entries_of column self.now) index }
     {
         self.entries(column)[index as usize]
+    }
+
+    /// Gives the code this entry in a column that is there.
+    pub fn set(&mut self, column: Column, index: u32, entry: u16)
+        requires there { HasColumn column self.old }
+        requires index { index < size_of self.old.class }
+        ensures class { self.new.class ≡ self.old.class }
+        ensures columns { (other : Column) → HasColumn other self.new ↔ HasColumn other self.old }
+        ensures here { slice_index (entries_of column self.new) index ≡ entry }
+        ensures others { (other : Column) (i : ℕ) → (other ≢ column) ⊎ (i ≢ index) → slice_index (entries_of other self.new) i ≡ slice_index (entries_of other self.old) i }
+    {
+        match column {
+            Column::Mate => self.mate.set(index, entry),
+            Column::Zeroing => self.zeroing.set(index, entry),
+            Column::Reach => match &mut self.reach {
+                Some(nears) => nears.set(index, entry),
+                None => unreachable!(),
+            },
+        }
     }
 }
