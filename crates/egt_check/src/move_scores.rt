@@ -7,7 +7,7 @@ ghost use Rattle.egt_lanes.specs.Scores.{zeroing_score};
 ghost use Rattle.egt_table.specs.declared.column.Column.TheVariants as columns;
 ghost use Rattle.egt_blocks.specs.Kept.{AreKept};
 ghost use Rattle.egt_blocks.specs.Leaps.{AreStill};
-ghost use Rattle.egt_check.specs.MoveScores.{AreFourMen, AreMoveScores, ArePassedScores, ArePassingCaptures, AreZeroingMoves};
+ghost use Rattle.egt_check.specs.MoveScores.{AreChildren, AreFourMen, AreMoveScores, ArePassedScores, ArePassingCaptures, AreZeroingMoves};
 ghost use Rattle.egt_check.specs.PawnScores.{AreRaisedByPawns};
 ghost use Rattle.egt_blocks.specs.Taken.{AreLeftCodes, men_swapped};
 ghost use Rattle.egt_check.specs.Worth.{column_score};
@@ -29,21 +29,38 @@ use egt_lanes::row::greater;
 use egt_lanes::score::zeroed;
 use egt_table::{Column, Table};
 
-/// The table of a class of two men beside the kings, and those of the classes that captures and promotions lead to,
-/// each with whether colours are exchanged there.
-#[derive(Drop)]
-pub(crate) struct FourMen<'t> {
-    pub(crate) own: &'t Table,
+/// The tables of the classes that captures and promotions of two men beside the kings lead to, each with whether
+/// colours are exchanged there.
+#[derive(Clone, Copy)]
+pub struct Children<'t> {
     /// Where the first man is left.
-    pub(crate) first: &'t Table,
-    pub(crate) first_flips: bool,
+    pub first: &'t Table,
+    pub first_flips: bool,
     /// Where the last man is left.
-    pub(crate) last: &'t Table,
-    pub(crate) last_flips: bool,
+    pub last: &'t Table,
+    pub last_flips: bool,
     /// Where the first man, a pawn, is promoted.
-    pub(crate) first_pawn: Option<Promotions<'t>>,
+    pub first_pawn: Option<Promotions<'t>>,
     /// Where the last man, a pawn, is promoted.
-    pub(crate) last_pawn: Option<Promotions<'t>>,
+    pub last_pawn: Option<Promotions<'t>>,
+}
+
+/// The table of a class of two men beside the kings, and those of the classes that moves lead to which leave it.
+#[derive(Drop)]
+pub struct FourMen<'t> {
+    pub own: &'t Table,
+    pub children: Children<'t>,
+}
+
+/// The class's own table beside those of its children.
+pub fn beside_own<'t>(own: &'t Table, children: &Children<'t>) -> FourMen<'t>
+    ensures own { result.own.now ≡ own.now }
+    ensures children { result.children ≡ children.now }
+{
+    FourMen {
+        own,
+        children: *children,
+    }
 }
 
 /// Raises each score to what the move zeroes that leads to this one.
@@ -58,23 +75,25 @@ fn raise_zeroed(out: &mut Block, mates: &Block)
 /// Raises the scores to those of captures of the first man that promote no pawn, where he is of the other side. False
 /// where a table does not tell.
 fn raise_first_taken(
-    four: &FourMen,
+    children: &Children,
     column: Column,
     men: &ShelfMen,
     side: Side,
     out: &mut Block,
 ) -> bool
-    requires { AreFourMen column four.now men.now }
-    ensures { result ≡ true → (a b : ℕ) → a < 64 → b < 64 → (taken : ℕ) × IsRaised 0 (AreLeftCodes four.now.last.now.class four.now.last_flips (men_swapped men.now) side b a) (column_score four.now.last.now column) taken × (at out.new a b ≡ max (at out.old a b) taken) }
+    requires { AreChildren column children.now men.now }
+    ensures { result ≡ true → (a b : ℕ) → a < 64 → b < 64 → (taken : ℕ) × IsRaised 0 (AreLeftCodes children.now.last.now.class children.now.last_flips (men_swapped men.now) side b a) (column_score children.now.last.now column) taken × (at out.new a b ≡ max (at out.old a b) taken) }
 {
     if !is_of(men.one, side.other()) {
         return true;
     }
     let mut across = nothing();
     if !taken_block(
-        &TableScores { table: four.last },
+        &TableScores {
+            table: children.last,
+        },
         column,
-        four.last_flips,
+        children.last_flips,
         &men_swapped(men),
         side,
         &mut across,
@@ -97,7 +116,7 @@ fn raise_pawns(
 ) -> bool
     requires four { AreFourMen column four.now men.now }
     requires still { AreStill four.now.own.now.class (column_score four.now.own.now column) false men.now side still.now }
-    ensures { result ≡ true → (a b : ℕ) → a < 64 → b < 64 → (pawns : ℕ) × AreRaisedByPawns column four.now.own.now four.now.first_pawn four.now.last_pawn men.now side a b pawns × (at out.new a b ≡ max (at out.old a b) pawns) }
+    ensures { result ≡ true → (a b : ℕ) → a < 64 → b < 64 → (pawns : ℕ) × AreRaisedByPawns column four.now.own.now four.now.children.first_pawn four.now.children.last_pawn men.now side a b pawns × (at out.new a b ≡ max (at out.old a b) pawns) }
 {
     if !is_pawn_of(men.one, side) && !is_pawn_of(men.last, side) {
         return true;
@@ -106,8 +125,8 @@ fn raise_pawns(
     if !pawns_block(
         four.own,
         column,
-        &four.first_pawn,
-        &four.last_pawn,
+        &four.children.first_pawn,
+        &four.children.last_pawn,
         men,
         side,
         still,
@@ -148,34 +167,38 @@ pub(crate) fn zeroing_moves(
         return false;
     }
     if !taken_block(
-        &TableScores { table: four.first },
+        &TableScores {
+            table: four.children.first,
+        },
         column,
-        four.first_flips,
+        four.children.first_flips,
         men,
         side,
         out,
     ) {
         return false;
     }
-    raise_first_taken(four, column, men, side, out)
+    raise_first_taken(&four.children, column, men, side, out)
         && raise_pawns(four, column, men, side, &still, out)
 }
 
 /// The same of the captures in passing.
-pub(crate) fn passing_captures(
-    four: &FourMen,
+pub fn passing_captures(
+    children: &Children,
     column: Column,
     men: &ShelfMen,
     side: Side,
     out: &mut Block,
 ) -> bool
-    requires { AreFourMen column four.now men.now }
-    ensures { result ≡ true → (a b : ℕ) → a < 64 → b < 64 → ArePassingCaptures column four.now men.now side a b (at out.new a b) }
+    requires { AreChildren column children.now men.now }
+    ensures { result ≡ true → (a b : ℕ) → a < 64 → b < 64 → ArePassingCaptures column children.now men.now side a b (at out.new a b) }
 {
     if !passing_block(
-        &TableScores { table: four.last },
+        &TableScores {
+            table: children.last,
+        },
         column,
-        four.last_flips,
+        children.last_flips,
         men,
         side,
         out,
@@ -185,9 +208,11 @@ pub(crate) fn passing_captures(
     let mut across = nothing();
     let swapped = men_swapped(men);
     if !passing_block(
-        &TableScores { table: four.first },
+        &TableScores {
+            table: children.first,
+        },
         column,
-        four.first_flips,
+        children.first_flips,
         &swapped,
         side,
         &mut across,
@@ -258,7 +283,7 @@ pub(crate) fn raise_passed(
         ArePassedScores four.now men.now side a b (at mates.new a b) (at zeroing.new a b) }
 {
     let mut taken = nothing();
-    if !passing_captures(four, Column::Mate, men, side, &mut taken) {
+    if !passing_captures(&four.children, Column::Mate, men, side, &mut taken) {
         return false;
     }
     raise(mates, &taken);

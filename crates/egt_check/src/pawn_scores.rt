@@ -25,25 +25,25 @@ use egt_table::{Column, Table};
 /// The tables of the classes that a pawn's promotion to one kind leads to, each with whether colours are exchanged
 /// there.
 #[derive(Clone, Copy)]
-pub(crate) struct Promotion<'t> {
-    pub(crate) kind: Kind,
+pub struct Promotion<'t> {
+    pub kind: Kind,
     /// Where the other man stays.
-    pub(crate) both: &'t Table,
-    pub(crate) both_flips: bool,
+    pub both: &'t Table,
+    pub both_flips: bool,
     /// Whether that class names the pawn's new man before the other one.
-    pub(crate) before: bool,
+    pub before: bool,
     /// Where the other man was taken.
-    pub(crate) alone: &'t Table,
-    pub(crate) alone_flips: bool,
+    pub alone: &'t Table,
+    pub alone_flips: bool,
 }
 
 /// The same of each kind that a pawn is promoted to.
 #[derive(Clone, Copy)]
-pub(crate) struct Promotions<'t> {
-    pub(crate) queen: Promotion<'t>,
-    pub(crate) rook: Promotion<'t>,
-    pub(crate) bishop: Promotion<'t>,
-    pub(crate) knight: Promotion<'t>,
+pub struct Promotions<'t> {
+    pub queen: Promotion<'t>,
+    pub rook: Promotion<'t>,
+    pub bishop: Promotion<'t>,
+    pub knight: Promotion<'t>,
 }
 
 /// Raises the scores to those of the positions after a promotion of the last man, a pawn of that side. False where a

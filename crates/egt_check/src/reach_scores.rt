@@ -65,7 +65,7 @@ pub(crate) fn raise_passed_reach(
     ensures { result ≡ true → (a b : ℕ) → a < 64 → b < 64 → AreReachScores four.now men.now side a b (at out.old a b) → ArePassedReachScores four.now men.now side a b (at out.new a b) }
 {
     let mut taken = nothing();
-    if !passing_captures(four, Column::Reach, men, side, &mut taken) {
+    if !passing_captures(&four.children, Column::Reach, men, side, &mut taken) {
         return false;
     }
     raise(out, &taken);
