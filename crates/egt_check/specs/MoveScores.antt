@@ -14,7 +14,7 @@ use Rattle.egt_table.specs.declared.column.Column.TheVariants as columns
 use Rattle.egt_entries.specs.declared.metric.Metric.TheVariants.{Mate, Zeroing}
 use Rattle.egt_steps.specs.InPassing.{ArePassingCodes}
 use Rattle.egt_steps.specs.PawnMoves.{IsClassOfTwo}
-use Rattle.egt_check.specs.PawnScores.{ArePromotionsOf, AreRaisedByPawns, HasPromotions}
+use Rattle.egt_check.specs.PawnScores.{ArePromotionsOf, AreRaisedByPawns, HasPromotions, IsBestPromotion}
 use Rattle.egt_steps.specs.QuietStands.{AreQuietCodes}
 use Rattle.egt_entries.specs.Tables.{Tables}
 use Rattle.egt_check.specs.Taken.{IsTableOf}
@@ -45,7 +45,19 @@ pub record AreFourMen (column : Column) (four : FourMen) (men : ShelfMen) : Type
   pub men_of : AreMenOf four.own.now.class men
   pub children : AreChildren column four.children men
 
--- the greatest score in the column of captures that promote no pawn, and of the other moves of pawns but captures in passing, where the first man stands on a and the last on b
+-- the greatest score in the column of captures that promote no pawn, but those in passing, and of promotions, where the first man stands on a and the last on b
+pub record AreExits (column : Column) (children : Children) (men : ShelfMen) (side : Side) (a b score : ℕ) : Type 0 where
+  pub by_first : ℕ
+  pub by_last : ℕ
+  pub last_promoted : ℕ
+  pub first_promoted : ℕ
+  pub first_raised : IsRaised 0 (AreLeftCodes children.first.now.class children.first_flips men side a b) (column_score children.first.now column) by_first
+  pub last_raised : IsRaised 0 (AreLeftCodes children.last.now.class children.last_flips (men_swapped men) side b a) (column_score children.last.now column) by_last
+  pub last_is : IsBestPromotion column children.last_pawn men side a b last_promoted
+  pub first_is : IsBestPromotion column children.first_pawn (men_swapped men) side b a first_promoted
+  pub is : score ≡ max (max by_first by_last) (max last_promoted first_promoted)
+
+-- the greatest score in the column of captures that promote no pawn, and of the other moves of pawns but captures in passing
 pub record AreZeroingMoves (column : Column) (four : FourMen) (men : ShelfMen) (side : Side) (a b score : ℕ) : Type 0 where
   pub by_first : ℕ
   pub by_last : ℕ

@@ -51,7 +51,7 @@ use egt_index::{ShelfMen, has_target, last_digits, lone_man, shelf_men, size};
 use egt_table::Table;
 
 /// The men with the kings on these squares.
-fn with_kings(men: &ShelfMen, white: Square, black: Square) -> ShelfMen
+pub fn with_kings(men: &ShelfMen, white: Square, black: Square) -> ShelfMen
     ensures { result ≡ with_kings men.now white black }
 {
     ShelfMen {

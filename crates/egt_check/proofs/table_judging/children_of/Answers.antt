@@ -1,11 +1,10 @@
-use Rattle.std.proofs.Common.{◌≡◌, ◌≢◌, ℕ, false, Some, refl, rules, sym, subst}
+use Rattle.std.proofs.Common.{◌≢◌, ℕ, false, Some, refl, rules, sym, subst}
 use Rattle.egt_board.specs.Setup.{Setup}
 use Rattle.egt_class.specs.Membership.{IsOf}
 use Rattle.egt_class.specs.Pair.{AreNonKings}
 use Rattle.egt_check.specs.Parts.{column_of, four_in, tables_in}
 use Rattle.egt_check.specs.MoveScores.{AreFourMen, AreTablesOf}
 use Rattle.egt_check.specs.declared.move_scores.Children.{Children}
-use Rattle.egt_check.specs.declared.move_scores.FourMen.{FourMen}
 use Rattle.egt_entries.specs.Tables.{beside, table_at}
 use Rattle.egt_blocks.specs.Taken.{men_swapped}
 use Rattle.egt_check.proofs.Finding.{beside_own}
