@@ -22,7 +22,7 @@ use egt_lanes::block::raise;
 use egt_table::Column;
 
 /// The greatest scores of all moves of that side but captures in passing. False where a table does not tell.
-pub(crate) fn reach_scores(
+pub fn reach_scores(
     four: &FourMen,
     men: &ShelfMen,
     side: Side,
@@ -55,17 +55,12 @@ pub(crate) fn reach_scores(
 }
 
 /// Raises those to the scores of captures in passing: then they are of all moves where there is a target.
-pub(crate) fn raise_passed_reach(
-    four: &FourMen,
-    men: &ShelfMen,
-    side: Side,
-    out: &mut Block,
-) -> bool
+pub fn raise_passed_reach(four: &FourMen, men: &ShelfMen, side: Side, out: &mut Block) -> bool
     requires { AreFourMen columns.Reach four.now men.now }
     ensures { result ≡ true → (a b : ℕ) → a < 64 → b < 64 → AreReachScores four.now men.now side a b (at out.old a b) → ArePassedReachScores four.now men.now side a b (at out.new a b) }
 {
     let mut taken = nothing();
-    if !passing_captures(four, Column::Reach, men, side, &mut taken) {
+    if !passing_captures(&four.children, Column::Reach, men, side, &mut taken) {
         return false;
     }
     raise(out, &taken);

@@ -29,7 +29,7 @@ use egt_moves::{Standing, standing};
 use egt_table::{Column, Table};
 
 /// The entry of a position without a legal move; `None` where there is one.
-fn entry_without_move(position: &Position) -> Option<u16>
+pub fn entry_without_move(position: &Position) -> Option<u16>
     ensures { IfSome result (IsAtEnd position.now) }
 {
     match standing(position) {

@@ -18,11 +18,12 @@ ghost use Rattle.egt_table.specs.Table.{HasColumn, TableValue};
 ghost use Rattle.egt_entries.specs.declared.metric.Metric.{Metric};
 ghost use Rattle.egt_blocks.specs.Blocks.{with_kings};
 ghost use Rattle.egt_blocks.specs.Kept.{AreKept};
-ghost use Rattle.egt_check.specs.MoveScores.{AreFourMen, AreTablesOf};
-ghost use Rattle.egt_check.specs.Parts.{column_of, four_in, promotion_in, promotions_in, table_in, tables_in};
+ghost use Rattle.egt_check.specs.MoveScores.{AreChildren, AreFourMen, AreTablesOf};
+ghost use Rattle.egt_check.specs.Parts.{IsOwnTable, column_of, four_in, promotion_in, promotions_in, table_in, tables_in};
 ghost use Rattle.egt_check.specs.PairOrder.{nth_pair};
 ghost use Rattle.egt_check.specs.PawnScores.{AreNamed, ArePromotionsOf, HasPromotion, HasPromotions, IsPromotionOf};
 ghost use Rattle.egt_check.specs.RightBlock.{AreJudged, KeepsPart};
+ghost use Rattle.egt_check.specs.declared.move_scores.FourMen.{FourMen};
 ghost use Rattle.egt_entries.specs.Rules.{KeepsBelow};
 ghost use Rattle.egt_blocks.specs.Taken.{men_swapped};
 ghost use Rattle.egt_entries.specs.Tables.{Tables, beside, table_at};
@@ -33,7 +34,7 @@ use crate::blank::side_is_blank;
 use crate::block_judging::block_is_right;
 use crate::bytes::{tells_bytes, true_table_tells};
 use crate::library::Library;
-use crate::move_scores::FourMen;
+use crate::move_scores::{Children, FourMen, beside_own};
 use crate::pair_order::nth_pair;
 use crate::part::{Part, column_of};
 use crate::pawn_scores::{Promotion, Promotions};
@@ -51,7 +52,7 @@ use egt_lanes::Block;
 use egt_table::Table;
 
 /// The men with the kings on these squares.
-fn with_kings(men: &ShelfMen, white: Square, black: Square) -> ShelfMen
+pub fn with_kings(men: &ShelfMen, white: Square, black: Square) -> ShelfMen
     ensures { result ≡ with_kings men.now white black }
 {
     ShelfMen {
@@ -308,23 +309,19 @@ fn is_own_class(class: Class, men: &ShelfMen) -> bool
     own.number() == class.number() && !flips
 }
 
-/// The table of a class with these men, whose bytes tell its entries of the part, and those of the classes that their
-/// moves lead to, which do so too. `None` where one of them is missing or does not, and where the class has other men.
-#[tactic(auto, using(crate::proofs::VoidScores::part_voids, crate::proofs::VoidScores::part_zeroing_voids))]
-pub(crate) fn four_men<'t>(
-    table: &'t Table,
+/// The tables of the classes that these men's moves lead to when they leave their own, whose bytes tell their entries of
+/// the part. `None` where one of them is missing or does not, and where the class has other men.
+#[tactic(auto, using(crate::proofs::VoidScores::part_voids))]
+pub fn children_of<'t>(
     library: &'t Library,
+    class: Class,
     men: &ShelfMen,
     part: Part,
-) -> Option<FourMen<'t>>
-    requires there { HasColumn (column_of part) table.now }
-    requires bytes { HasBytes (table_in part table.now) }
-    requires men { AreMenOf table.now.class men.now }
-    ensures own { IfSome result (λ four. four.own.now ≡ table.now) }
-    ensures of { IfSome result (λ four. AreFourMen (column_of part) four men.now) }
-    ensures tables { IfSome result (λ four. AreTablesOf (tables_in part (beside (table_at library.now) table.now)) (four_in part four) men.now) }
+) -> Option<Children<'t>>
+    ensures of { IfSome result (λ children. AreChildren (column_of part) children men.now) }
+    ensures four { IfSome result (λ children. (four : FourMen) → four.children ≡ children → IsOwnTable part class men.now four.own.now →
+        AreFourMen (column_of part) four men.now × AreTablesOf (tables_in part (beside (table_at library.now) four.own.now)) (four_in part four) men.now) }
 {
-    let class = table.class();
     if is_king(men.one) || is_king(men.last) || !is_own_class(class, men) {
         return None;
     }
@@ -338,8 +335,7 @@ pub(crate) fn four_men<'t>(
         return None;
     }
     let last_pawn = promotions(library, class, men, part);
-    Some(FourMen {
-        own: table,
+    Some(Children {
         first,
         first_flips,
         last,
@@ -347,6 +343,25 @@ pub(crate) fn four_men<'t>(
         first_pawn: first_promotions(library, class, men, part, &last_pawn),
         last_pawn,
     })
+}
+
+/// The table of a class with these men, whose bytes tell its entries of the part, and those of its children. `None` where
+/// one of them is missing or does not tell, and where the class has other men.
+pub(crate) fn four_men<'t>(
+    table: &'t Table,
+    library: &'t Library,
+    men: &ShelfMen,
+    part: Part,
+) -> Option<FourMen<'t>>
+    requires there { HasColumn (column_of part) table.now }
+    requires bytes { HasBytes (table_in part table.now) }
+    requires men { AreMenOf table.now.class men.now }
+    ensures own { IfSome result (λ four. four.own.now ≡ table.now) }
+    ensures of { IfSome result (λ four. AreFourMen (column_of part) four men.now) }
+    ensures tables { IfSome result (λ four. AreTablesOf (tables_in part (beside (table_at library.now) table.now)) (four_in part four) men.now) }
+{
+    let children = children_of(library, table.class(), men, part)?;
+    Some(beside_own(table, &children))
 }
 
 /// Whether all entries of the mate column and of the zeroing column keep the rules beside those of the successors, of a
