@@ -1,11 +1,12 @@
 -- The greatest scores of all moves, in both columns.
-use Rattle.std.specs.Prelude.{◌≡◌, ◌≢◌, ℕ, Bool, true, false, max, Some, IfSome}
+use Rattle.std.specs.Prelude.{◌≡◌, ◌≢◌, ℕ, ◌<◌, Bool, true, false, max, Some, IfSome, List}
 use Rattle.egt_board.specs.Turned.{turned_man}
 use Rattle.egt_board.specs.declared.man.Kind.TheVariants.{K}
 use Rattle.egt_board.specs.declared.man.Side.{Side}
 use Rattle.egt_index.specs.LoneCodes.{IsLoneMan}
 use Rattle.egt_index.specs.ShelfCodes.{AreMenOf}
 use Rattle.egt_index.specs.declared.shelf_codes.ShelfMen.{ShelfMen}
+use Rattle.egt_lanes.specs.Blocks.{at}
 use Rattle.egt_lanes.specs.Raised.{IsRaised}
 use Rattle.egt_lanes.specs.Scores.{zeroing_score}
 use Rattle.egt_table.specs.Table.{HasColumn, IsTable}
@@ -74,6 +75,13 @@ pub record ArePassingCaptures (column : Column) (children : Children) (men : She
   pub last_raised : IsRaised 0 (ArePassingCodes children.last.now.class children.last_flips men side a b) (column_score children.last.now column) by_last
   pub first_raised : IsRaised 0 (ArePassingCodes children.first.now.class children.first_flips (men_swapped men) side b a) (column_score children.first.now column) by_first
   pub is : score ≡ max by_last by_first
+
+-- the block holds the scores of exits, and of captures in passing
+abbrev pub HoldsExits : Column → Children → ShelfMen → Side → List (List ℕ) → Type 0
+HoldsExits column children men side block = (a b : ℕ) → a < 64 → b < 64 → AreExits column children men side a b (at block a b)
+
+abbrev pub HoldsPassing : Column → Children → ShelfMen → Side → List (List ℕ) → Type 0
+HoldsPassing column children men side block = (a b : ℕ) → a < 64 → b < 64 → ArePassingCaptures column children men side a b (at block a b)
 
 -- the greatest of quiet moves and of those that zero but captures in passing
 pub record AreMoveScores (four : FourMen) (men : ShelfMen) (side : Side) (a b mate zeroing : ℕ) : Type 0 where

@@ -10,7 +10,7 @@ ghost use Rattle.egt_table.specs.declared.column.Column.TheVariants as columns;
 ghost use Rattle.egt_blocks.specs.Kept.{AreKept};
 ghost use Rattle.egt_blocks.specs.Leaps.{AreStill};
 ghost use Rattle.egt_blocks.specs.Scored.{ScoresNoVoids};
-ghost use Rattle.egt_check.specs.MoveScores.{AreChildren, AreExits, AreFourMen, AreMoveScores, ArePassedScores, ArePassingCaptures, AreZeroingMoves};
+ghost use Rattle.egt_check.specs.MoveScores.{AreChildren, AreFourMen, AreMoveScores, ArePassedScores, AreZeroingMoves, HoldsExits, HoldsPassing};
 ghost use Rattle.egt_check.specs.PawnScores.{AreOwnPawnMoves, IsBestPromotion};
 ghost use Rattle.egt_blocks.specs.Taken.{AreLeftCodes, men_swapped};
 ghost use Rattle.egt_check.specs.Worth.{column_score};
@@ -155,7 +155,7 @@ pub fn exits(
     out: &mut Block,
 ) -> bool
     requires { AreChildren column children.now men.now }
-    ensures { result ≡ true → (a b : ℕ) → a < 64 → b < 64 → AreExits column children.now men.now side a b (at out.new a b) }
+    ensures { result ≡ true → HoldsExits column children.now men.now side out.new }
 {
     if !taken_block(
         &TableScores {
@@ -200,18 +200,20 @@ fn raise_own_pawns(
     true
 }
 
-/// The greatest scores in the column of all moves of that side that zero but captures in passing. False where a table
-/// does not tell.
+/// The greatest scores in the column of all moves of that side that zero but captures in passing, by those of its exits. False
+/// where the table does not tell.
 pub(crate) fn zeroing_moves(
     four: &FourMen,
     column: Column,
     men: &ShelfMen,
     side: Side,
+    leaving: &Block,
     keys: &mut [Option<BlockKey>],
     blocks: &mut [Block],
     out: &mut Block,
 ) -> bool
     requires men { AreFourMen column four.now men.now }
+    requires leaving { HoldsExits column four.now.children men.now side leaving.now }
     requires kept { AreKept four.now.own.now.class (column_score four.now.own.now) men.now (other_side side) keys.old blocks.old }
     ensures kept { result ≡ true → AreKept four.now.own.now.class (column_score four.now.own.now) men.now (other_side side) keys.new blocks.new }
     ensures scores { result ≡ true → (a b : ℕ) → a < 64 → b < 64 → AreZeroingMoves column four.now men.now side a b (at out.new a b) }
@@ -228,8 +230,8 @@ pub(crate) fn zeroing_moves(
     ) {
         return false;
     }
-    exits(&four.children, column, men, side, out)
-        && raise_own_pawns(four.own, column, men, side, &still, out)
+    *out = *leaving;
+    raise_own_pawns(four.own, column, men, side, &still, out)
 }
 
 /// The greatest scores in the column of the captures in passing. False where a table does not tell.
@@ -241,7 +243,7 @@ pub fn passing_captures(
     out: &mut Block,
 ) -> bool
     requires { AreChildren column children.now men.now }
-    ensures { result ≡ true → (a b : ℕ) → a < 64 → b < 64 → ArePassingCaptures column children.now men.now side a b (at out.new a b) }
+    ensures { result ≡ true → HoldsPassing column children.now men.now side out.new }
 {
     if !passing_block(
         &TableScores {
@@ -273,18 +275,20 @@ pub fn passing_captures(
     true
 }
 
-/// The greatest scores of all moves of that side but captures in passing, in the mate column and in the zeroing
-/// column. False where a table does not tell.
+/// The greatest scores of all moves of that side but captures in passing, in the mate column and in the zeroing column, by those
+/// of its exits. False where a table does not tell.
 pub fn move_scores(
     four: &FourMen,
     men: &ShelfMen,
     side: Side,
+    leaving: &Block,
     keys: &mut [Option<BlockKey>],
     blocks: &mut [Block],
     mates: &mut Block,
     zeroing: &mut Block,
 ) -> bool
     requires men { AreFourMen columns.Mate four.now men.now }
+    requires leaving { HoldsExits columns.Mate four.now.children men.now side leaving.now }
     requires kept { AreKept four.now.own.now.class (column_score four.now.own.now) men.now (other_side side) keys.old blocks.old }
     ensures kept { result ≡ true → AreKept four.now.own.now.class (column_score four.now.own.now) men.now (other_side side) keys.new blocks.new }
     ensures scores { result ≡ true → (a b : ℕ) → a < 64 → b < 64 → AreMoveScores four.now men.now side a b (at mates.new a b) (at zeroing.new a b) }
@@ -312,7 +316,16 @@ pub fn move_scores(
         return false;
     }
     let mut zeroed = nothing();
-    if !zeroing_moves(four, Column::Mate, men, side, keys, blocks, &mut zeroed) {
+    if !zeroing_moves(
+        four,
+        Column::Mate,
+        men,
+        side,
+        leaving,
+        keys,
+        blocks,
+        &mut zeroed,
+    ) {
         return false;
     }
     raise(mates, &zeroed);
@@ -320,23 +333,20 @@ pub fn move_scores(
     true
 }
 
-/// Raises those to the scores of captures in passing: then they are of all moves where there is a target.
+/// Raises those to the scores of captures in passing, which are these: then they are of all moves where there is a target. The
+/// contract alone reads the tables and the men.
 pub fn raise_passed(
     four: &FourMen,
     men: &ShelfMen,
     side: Side,
+    passing: &Block,
     mates: &mut Block,
     zeroing: &mut Block,
-) -> bool
-    requires { AreFourMen columns.Mate four.now men.now }
-    ensures { result ≡ true → (a b : ℕ) → a < 64 → b < 64 → AreMoveScores four.now men.now side a b (at mates.old a b) (at zeroing.old a b) →
+)
+    requires { HoldsPassing columns.Mate four.now.children men.now side passing.now }
+    ensures { (a b : ℕ) → a < 64 → b < 64 → AreMoveScores four.now men.now side a b (at mates.old a b) (at zeroing.old a b) →
         ArePassedScores four.now men.now side a b (at mates.new a b) (at zeroing.new a b) }
 {
-    let mut taken = nothing();
-    if !passing_captures(&four.children, Column::Mate, men, side, &mut taken) {
-        return false;
-    }
-    raise(mates, &taken);
-    raise_zeroed(zeroing, &taken);
-    true
+    raise(mates, passing);
+    raise_zeroed(zeroing, passing);
 }

@@ -43,5 +43,5 @@ returns-clause-judged c = λ told tables are.
           let b_in = square_in men.last.kind y y_in in
           let lane = c.shelves_are_right-2.ensures told x y x_in y_in in
           c.entries_due_to_all_moves_are_right.ensures part tables four men side true a b (code_of four.own.now.class (number_in four.own.now.class (c.args.first + c.args.half + x) side y)) (at c.raise_part_passed.new.scores a b) (at c.raise_part_passed.new.zeroing a b)
-          are c.requires.men.children.one c.requires.men.children.last lane (c.raise_part_passed.ensures c.if-not-raise_part_passed.false a b a_in b_in (scores a b a_in b_in)),
+          are c.requires.men.children.one c.requires.men.children.last lane (c.raise_part_passed.ensures a b a_in b_in (scores a b a_in b_in)),
     )

@@ -30,7 +30,7 @@ pub raise_own_pawns-requires-clause-still : goal.raise_own_pawns-requires-clause
 raise_own_pawns-requires-clause-still c =
     still_of c.args.four.now.own.now c.args.column c.args.men.now c.args.side c.other.result c.other.ensures c.nothing-still.result c.raise_kept.new.out c.nothing-still.ensures (c.raise_kept.ensures.raised c.if-not-raise_kept.false)
 
-pub returns-then-exits-clause-scores : goal.returns-then-exits-clause-scores
-returns-then-exits-clause-scores c = λ told a b a_in b_in.
+pub returns-clause-scores : goal.returns-clause-scores
+returns-clause-scores c = λ told a b a_in b_in.
     let pawns = c.raise_own_pawns.ensures told a b a_in b_in in
-    zeroing_of c.args.column c.args.four.now c.args.men.now c.args.side a b (at c.exits.new.out a b) pawns.0 (at c.raise_own_pawns.new.out a b) (c.exits.ensures c.if-exits.true a b a_in b_in) pawns.1 pawns.2
+    zeroing_of c.args.column c.args.four.now c.args.men.now c.args.side a b (at c.args.leaving.now a b) pawns.0 (at c.raise_own_pawns.new.out a b) (c.requires.leaving a b a_in b_in) pawns.1 pawns.2
