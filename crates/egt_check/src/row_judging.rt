@@ -84,7 +84,7 @@ fn ends_are_right(table: &Table, part: Part, man: Man, first: u32, ends: SquareS
 }
 
 /// The shelf's first number with that side to move.
-fn first_of(table: &Table, shelf: u32, side: Side) -> u32
+pub fn first_of(table: &Table, shelf: u32, side: Side) -> u32
     requires within { IsWithin table.now.class shelf }
     ensures { result ≡ number_in table.now.class shelf side 0 }
 {
@@ -99,7 +99,7 @@ fn first_of(table: &Table, shelf: u32, side: Side) -> u32
 
 /// What the scores in the part's column have to be, by the greatest of the scores after a move.
 #[inline(always)]
-fn due_in(part: Part, row: Row) -> Row
+pub fn due_in(part: Part, row: Row) -> Row
     ensures { (s : ℕ) → s < 64 → slice_index result s ≡ due_in part (slice_index row s) }
 {
     match part {

@@ -151,7 +151,7 @@ fn with_targets(class: Class, shelves: u32) -> u32
 }
 
 /// Whether all entries of the part keep the rules, at all codes of the class.
-pub(crate) fn pairs_are_right(four: &FourMen, men: &ShelfMen, part: Part) -> bool
+pub fn pairs_are_right(four: &FourMen, men: &ShelfMen, part: Part) -> bool
     requires men { AreFourMen (column_of part) four.now men.now }
     requires wide { places four.now.own.now.class ≡ kind_digits men.now.last.kind }
     ensures { result ≡ true → (tables : Tables) → AreTablesOf (tables_in part tables) (four_in part four.now) men.now → (i : ℕ) → i < size_of four.now.own.now.class → KeepsPart part tables four.now.own.now i }

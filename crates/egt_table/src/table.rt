@@ -1,7 +1,8 @@
 //! Tables.
-ghost use Rattle.std.specs.Prelude.{◌≡◌, ◌≢◌, ◌<◌, ◌↔◌, ◌⊎◌, ℕ, length, slice_index, IsSome, IsOk, IfOk, IfErr, IsTrue};
+ghost use Rattle.std.specs.Prelude.{◌≡◌, ◌≢◌, ◌<◌, ◌↔◌, ℕ, length, slice_index, IsSome, IsOk, IfOk, IfErr, IsTrue};
 ghost use Rattle.egt_index.specs.Size.{size_of};
 ghost use Rattle.egt_table.specs.Table.{HasColumn, IsTable, columns_of, entries_of};
+ghost use Rattle.egt_table.specs.declared.column.Column.TheVariants.{Reach};
 
 use crate::column::Column;
 use egt_class::Class;
@@ -133,9 +134,11 @@ impl Table {
         requires there { HasColumn column self.old }
         requires index { index < size_of self.old.class }
         ensures class { self.new.class ≡ self.old.class }
-        ensures columns { (other : Column) → HasColumn other self.new ↔ HasColumn other self.old }
+        ensures there { (other : Column) → HasColumn other self.old → HasColumn other self.new }
+        ensures columns { (other : Column) → other ≢ column → entries_of other self.new ≡ entries_of other self.old }
+        ensures reach { column ≢ Reach → self.new.reach ≡ self.old.reach }
         ensures here { slice_index (entries_of column self.new) index ≡ entry }
-        ensures others { (other : Column) (i : ℕ) → (other ≢ column) ⊎ (i ≢ index) → slice_index (entries_of other self.new) i ≡ slice_index (entries_of other self.old) i }
+        ensures others { (i : ℕ) → i ≢ index → slice_index (entries_of column self.new) i ≡ slice_index (entries_of column self.old) i }
     {
         match column {
             Column::Mate => self.mate.set(index, entry),
