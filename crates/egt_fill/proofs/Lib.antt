@@ -1,0 +1,3 @@
+pub mod PutEntries
+pub mod ShelfLanes
+pub mod UnlikeRows

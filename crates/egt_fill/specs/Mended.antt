@@ -1,0 +1,47 @@
+-- Tables some of whose entries were put anew.
+use Rattle.std.specs.Prelude.{◌≡◌, ◌≢◌, ℕ, ◌⊎◌, Bool, slice_index}
+use Rattle.egt_board.specs.declared.man.Side.{Side}
+use Rattle.egt_index.specs.ShelfCodes.{IsShelfOf, IsWithin}
+use Rattle.egt_index.specs.TellsMen.{TellsMen}
+use Rattle.egt_index.specs.declared.stand.Stand.{Stand}
+use Rattle.egt_table.specs.Table.{HasColumn, TableValue, entries_of}
+use Rattle.egt_table.specs.declared.column.Column.{Column}
+use Rattle.egt_table.specs.declared.column.Column.TheVariants as columns
+use Rattle.egt_entries.specs.declared.metric.Metric.TheVariants.{Mate, Zeroing}
+use Rattle.egt_check.specs.Parts.{table_in}
+use Rattle.egt_check.specs.Worth.{HasBytes, column_score, score_at}
+use Rattle.egt_check.specs.declared.part.Part.{Part}
+use Rattle.egt_check.specs.declared.part.Part.TheVariants.{Values, Reach}
+use Rattle.egt_fill.specs.declared.mending.Shelf.{Shelf}
+
+-- the code tells men of the class with the kings on these squares and that side to move
+pub record IsOfKings (c white black : ℕ) (side : Side) (code : ℕ) : Type 0 where
+  pub passed : Bool
+  pub stand : Stand
+  pub tells : TellsMen passed c code stand side
+  pub white_is : stand.white ≡ white
+  pub black_is : stand.black ≡ black
+
+-- the new table is the old one but for entries of the part at such codes, and its bytes tell its entries of the part
+pub record IsMendedAt (part : Part) (At : ℕ → Type 0) (old new : TableValue) : Type 0 where
+  pub class : new.class ≡ old.class
+  pub there : (column : Column) → HasColumn column old → HasColumn column new
+  pub same : (column : Column) (code : ℕ) → (slice_index (entries_of column new) code ≡ slice_index (entries_of column old) code) ⊎ At code
+  pub mate : part ≡ Reach → new.mate ≡ old.mate
+  pub zeroing : part ≡ Reach → new.zeroing ≡ old.zeroing
+  pub reach : part ≡ Values → new.reach ≡ old.reach
+  pub bytes : HasBytes (table_in part new)
+
+-- at codes of positions with the kings on these squares and that side to move
+abbrev pub IsMended : Part → (white black : ℕ) → Side → (old new : TableValue) → Type 0
+IsMended part white black side old new = IsMendedAt part (IsOfKings old.class white black side) old new
+
+-- the part's entries at the code have these scores; the second is of the zeroing column alone
+abbrev pub IsPutAt : Part → TableValue → (code score clock : ℕ) → Type 0
+IsPutAt Values t code score clock = (score_at t Mate code ≡ score) × (score_at t Zeroing code ≡ clock)
+IsPutAt Reach t code score clock = column_score t columns.Reach code ≡ score
+
+-- the shelf's number is that of its men, of positions with a target where one was passed
+pub record IsShelf (c : ℕ) (shelf : Shelf) : Type 0 where
+  pub of : IsShelfOf shelf.passed c shelf.number shelf.men
+  pub within : IsWithin c shelf.number

@@ -1,0 +1,8 @@
+//! Tables of classes with two men beside the kings, filled block by block with the kernels that check them: a look at the
+//! positions whose kings stand on two squares puts what is due to the greatest scores of all moves, and a block is looked at
+//! again where one that it reads has changed.
+#![tactic(auto)]
+
+pub mod entry_of;
+pub mod mending;
+pub mod putting;

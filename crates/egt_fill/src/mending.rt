@@ -1,0 +1,132 @@
+//! Entries that are put where they are not due to the greatest scores of the moves.
+ghost use Rattle.std.specs.Prelude.{◌≡◌, ◌≢◌, ◌+◌, ◌*◌, ◌<◌, ◌==◌, if◌then◌else◌, ℕ, true, slice_index};
+ghost use Rattle.std.specs.Int.{bit_at};
+ghost use Rattle.egt_board.specs.SquareSet.{Has};
+ghost use Rattle.egt_index.specs.Numbers.{code_of};
+ghost use Rattle.egt_index.specs.Scales.{kind_digits, kind_less};
+ghost use Rattle.egt_index.specs.ShelfCodes.{number_in};
+ghost use Rattle.egt_table.specs.Table.{HasColumn};
+ghost use Rattle.egt_check.specs.Parts.{column_of, table_in};
+ghost use Rattle.egt_entries.specs.declared.metric.Metric.TheVariants.{Zeroing};
+ghost use Rattle.egt_check.specs.Worth.{HasBytes, score_at};
+ghost use Rattle.egt_check.specs.declared.part.Part.TheVariants as parts;
+ghost use Rattle.egt_fill.specs.Mended.{IsMended, IsPutAt, IsShelf};
+ghost use Rattle.egt_fill.specs.declared.mending.Mended.TheVariants as mends;
+
+use crate::putting::put;
+use egt_blocks::digits::digit_on;
+use egt_board::{Side, SquareSet};
+use egt_check::part::Part;
+use egt_check::part::column_of;
+use egt_check::row_judging::{due_in, first_of};
+use egt_check::rows::row_of;
+use egt_index::laws::{codes_tell_turned_men, numbers_stand_for_codes};
+use egt_index::{ShelfMen, code_of, size};
+use egt_lanes::Row;
+use egt_lanes::score::due;
+use egt_lanes::sets::{kept, lanes_of};
+use egt_table::{Column, Table};
+use std::simd::prelude::*;
+
+/// A shelf of a class: its men with all squares of the last one, the side to move, and whether its positions have a target.
+#[derive(Clone, Copy)]
+pub(crate) struct Shelf {
+    pub(crate) number: u32,
+    pub(crate) men: ShelfMen,
+    pub(crate) side: Side,
+    pub(crate) passed: bool,
+}
+
+/// Of each square what `within` has there where the rows differ, else 0.
+#[inline(always)]
+fn unlike(a: Row, b: Row, within: Row) -> Row
+    ensures { (s : ℕ) → s < 64 → slice_index result s ≡ (if slice_index a s == slice_index b s then 0 else slice_index within s) }
+{
+    a.simd_ne(b).select(within, Row::splat(0))
+}
+
+/// The squares at which the rows differ and `within` is not 0.
+#[inline(always)]
+fn apart(a: Row, b: Row, within: Row) -> SquareSet
+    ensures { (s : ℕ) → s < 64 → bit_at result.bits s ≡ 0 → slice_index within s ≢ 0 → slice_index a s ≡ slice_index b s }
+{
+    lanes_of(unlike(a, b, within))
+}
+
+/// Puts the entries with these scores at the shelf's codes with the last man on these squares. False where no entries have them.
+fn put_lanes(table: &mut Table, part: Part, shelf: &Shelf, lanes: SquareSet, scores: Row, clocks: Row) -> bool
+    requires shelf { IsShelf table.old.class shelf.now }
+    requires there { HasColumn (column_of part) table.old }
+    requires bytes { HasBytes (table_in part table.old) }
+    ensures mended { IsMended part shelf.now.men.white shelf.now.men.black shelf.now.side table.old table.new }
+    ensures put { result ≡ true → (digit : ℕ) → digit < kind_digits shelf.now.men.last.kind → Has lanes (digit + kind_less shelf.now.men.last.kind) →
+        IsPutAt part table.new (code_of table.old.class (number_in table.old.class shelf.now.number shelf.now.side digit)) (slice_index scores (digit + kind_less shelf.now.men.last.kind)) (slice_index clocks (digit + kind_less shelf.now.men.last.kind)) }
+{
+    numbers_stand_for_codes();
+    let class = table.class();
+    let _size = size(class);
+    let first = first_of(table, shelf.number, shelf.side);
+    let mut rest = lanes;
+    while let Some(square) = rest.pop_first() {
+        let Some(digit) = digit_on(shelf.men.last, square) else {
+            return false;
+        };
+        let lane = usize::from(square.number());
+        let code = code_of(class, first + 2 * digit);
+        if !put(table, part, code, scores[lane], clocks[lane]) {
+            return false;
+        }
+    }
+    true
+}
+
+/// The squares at which the zeroing column, which is put with the mate column, is not due to these scores, among those where `within` is not 0.
+fn wrong_clocks(table: &Table, part: Part, shelf: &Shelf, clocks: Row, within: Row) -> SquareSet
+    requires shelf { IsShelf table.now.class shelf.now }
+    ensures { (digit : ℕ) → digit < kind_digits shelf.now.men.last.kind → bit_at result.bits (digit + kind_less shelf.now.men.last.kind) ≡ 0 → slice_index within (digit + kind_less shelf.now.men.last.kind) ≢ 0 →
+        part ≡ parts.Values → score_at table.now Zeroing (code_of table.now.class (number_in table.now.class shelf.now.number shelf.now.side digit)) ≡ slice_index clocks (digit + kind_less shelf.now.men.last.kind) }
+{
+    codes_tell_turned_men();
+    match part {
+        Part::Values => {
+            let own = row_of(table, Column::Zeroing, &shelf.men, shelf.number, shelf.side, shelf.passed);
+            apart(own, clocks, within)
+        }
+        Part::Reach => SquareSet::EMPTY,
+    }
+}
+
+/// What a look at a row came to.
+#[derive(Clone, Copy)]
+pub(crate) enum Mended {
+    /// All entries were due.
+    Due,
+    /// Others were put.
+    Put,
+    /// Some score has no entry.
+    Untold,
+}
+
+/// Puts what is due to the greatest scores of the moves, where there is a move, at the shelf's codes that are indexes.
+pub(crate) fn mend_row(table: &mut Table, part: Part, shelf: &Shelf, scores: Row, zeroing: Row) -> Mended
+    requires shelf { IsShelf table.old.class shelf.now }
+    requires there { HasColumn (column_of part) table.old }
+    requires bytes { HasBytes (table_in part table.old) }
+    ensures mended { IsMended part shelf.now.men.white shelf.now.men.black shelf.now.side table.old table.new }
+    ensures due { result ≡ mends.Due → table.new ≡ table.old }
+{
+    codes_tell_turned_men();
+    let own = row_of(table, column_of(part), &shelf.men, shelf.number, shelf.side, shelf.passed);
+    let within = kept(own, lanes_of(scores));
+    let due_scores = due_in(part, scores);
+    let due_clocks = due(zeroing);
+    let wrong = apart(own, due_scores, within).union(wrong_clocks(table, part, shelf, due_clocks, within));
+    if wrong.is_empty() {
+        return Mended::Due;
+    }
+    if put_lanes(table, part, shelf, wrong, due_scores, due_clocks) {
+        Mended::Put
+    } else {
+        Mended::Untold
+    }
+}
