@@ -1,3 +1,5 @@
 pub mod PutEntries
 pub mod ShelfLanes
 pub mod UnlikeRows
+pub mod ToldOnce
+pub mod KeptThrough
