@@ -40,7 +40,7 @@ pub fn entry_without_move(position: &Position) -> Option<u16>
 }
 
 /// Whether the code's position is checkmate or stalemate, and the entries of the part tell it.
-fn end_is_right(table: &Table, part: Part, code: u32) -> bool
+pub fn end_is_right(table: &Table, part: Part, code: u32) -> bool
     requires there { HasColumn (column_of part) table.now }
     requires code { code < size_of table.now.class }
     ensures { result ≡ true → IsRightEndOf part table.now code }

@@ -1,6 +1,7 @@
 -- Tables with some entries put anew.
 use Rattle.std.proofs.Common.{◌≡◌, ◌≢◌, ◌⊎◌, ℕ, ◌*◌, ◌-◌, ◌%◌, ◌<◌, Option, Some, None, IsSome, arith, refl, sym, ap, ◌∙◌, inl, inr, slice_index, subst, List}
 use Rattle.std.proofs.lemmas.Bool.{cases_eq}
+use Rattle.egt_index.specs.Code.{Spells}
 use Rattle.egt_index.specs.Index.{IsVoid}
 use Rattle.egt_index.specs.Size.{size_of}
 use Rattle.egt_table.specs.Table.{HasColumn, TableValue, entries_of, entries_or_none}
@@ -13,6 +14,7 @@ use Rattle.egt_entries.specs.declared.metric.Metric.TheVariants.{Mate, Zeroing}
 use Rattle.egt_lanes.specs.Scores.{byte_score, reach_score}
 use Rattle.egt_check.specs.Given.{AreAlike, IsKnown}
 use Rattle.egt_check.specs.Parts.{table_in}
+use Rattle.egt_check.specs.RightRow.{IsRightEndOf}
 use Rattle.egt_check.specs.Worth.{HasBytes}
 use Rattle.egt_check.specs.declared.part.Part.{Part}
 use Rattle.egt_check.specs.declared.part.Part.TheVariants as parts
@@ -159,3 +161,14 @@ put_stays part old new code i score clock mended other = of_part part
     of_part : (p : Part) → IsPutAt p old i score clock → IsPutAt p new i score clock
     of_part parts.Values put = (ap (λ n. byte_score (n % 256)) (kept columns.Mate) ∙ put.0, ap (λ n. byte_score (n % 256)) (kept columns.Zeroing) ∙ put.1)
     of_part parts.Reach put = ap (λ n. reach_score (n % 256)) (kept columns.Reach) ∙ put
+
+-- and entries that tell checkmate or stalemate
+pub end_stays : (part : Part) (old new : TableValue) (At : ℕ → Type 0) (i : ℕ) → IsMendedAt part At old new → ¬ At i → IsRightEndOf part old i → IsRightEndOf part new i
+end_stays part old new At i mended other = of_part part
+  where
+    kept : (column : Column) → slice_index (entries_of column new) i ≡ slice_index (entries_of column old) i
+    kept column = elim (mended.same column i) [ inl same ↦ same | inr is ↦ absurd (other is) ]
+
+    of_part : (p : Part) → IsRightEndOf p old i → IsRightEndOf p new i
+    of_part parts.Values right = λ p spells. let end = right p (subst (λ k. Spells k i p) mended.class spells) in (end.0, end.1, kept columns.Mate ∙ end.2, kept columns.Zeroing ∙ end.3)
+    of_part parts.Reach right = λ p spells. let end = right p (subst (λ k. Spells k i p) mended.class spells) in (end.0, end.1, ap (λ n. 2 * n - 1) (kept columns.Reach) ∙ end.2)

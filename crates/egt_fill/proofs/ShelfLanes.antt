@@ -1,12 +1,17 @@
 -- The codes of a shelf.
-use Rattle.std.proofs.Common.{◌≡◌, ℕ, ◌+◌, ◌*◌, ◌<◌, ◌≤◌, arith, refl, sym, ap, ◌∙◌}
+use Rattle.std.proofs.Common.{◌≡◌, ℕ, ◌+◌, ◌*◌, ◌<◌, ◌≤◌, arith, refl, sym, ap, subst, ◌∙◌}
 use Rattle.egt_board.specs.declared.man.Side.{Side}
 use Rattle.egt_index.specs.Numbers.{code_of, number_of, places}
 use Rattle.egt_index.specs.Scales.{kind_digits, kind_less}
 use Rattle.egt_index.specs.ShelfCodes.{number_in, stand_with}
 use Rattle.egt_index.specs.Size.{size_of}
 use Rattle.egt_blocks.proofs.ShelfRead.{side_few}
-use Rattle.egt_fill.specs.Mended.{IsOfKings, IsShelf}
+use Rattle.egt_board.specs.SquareSet.{Has}
+use Rattle.egt_board.specs.declared.square_set.SquareSet.{SquareSet}
+use Rattle.egt_table.specs.Table.{TableValue}
+use Rattle.egt_check.specs.declared.part.Part.{Part}
+use Rattle.egt_fill.specs.Mended.{IsLaneOf, IsMendedAt, IsOfKings, IsShelf}
+use Rattle.egt_fill.proofs.PutEntries.{mended_after}
 use Rattle.egt_fill.specs.declared.mending.Shelf.{Shelf}
 
 module _ (c : ℕ) (shelf : Shelf) (is : IsShelf c shelf) where
@@ -33,3 +38,20 @@ module _ (c : ℕ) (shelf : Shelf) (is : IsShelf c shelf) where
       let number : number_in c shelf.number shelf.side x ≡ number_in c shelf.number shelf.side y =
           sym (numbers (number_in c shelf.number shelf.side x) (number_within x x_in)) ∙ ap (number_of c) same ∙ numbers (number_in c shelf.number shelf.side y) (number_within y y_in) in
       omega (arith, number)
+
+-- the code of a square's digit
+pub code_at : (c d first digit shelf : ℕ) (side : Side) (code : ℕ) → d ≡ c → first ≡ number_in c shelf side 0 → code ≡ code_of d (first + 2 * digit) → code ≡ code_of c (number_in c shelf side digit)
+code_at c d first digit shelf side code same from is =
+    is ∙ ap (λ k. code_of k (first + 2 * digit)) same ∙ ap (code_of c) (let e : first + 2 * digit ≡ number_in c shelf side digit = omega (arith, from) in e)
+
+-- one more is put
+pub more : (part : Part) (d first digit square : ℕ) (shelf : Shelf) (lanes : SquareSet) (code : ℕ) (old mid new : TableValue) → digit < kind_digits shelf.men.last.kind → digit + kind_less shelf.men.last.kind ≡ square → Has lanes square
+    → d ≡ old.class → first ≡ number_in old.class shelf.number shelf.side 0 → code ≡ code_of d (first + 2 * digit)
+    → IsMendedAt part (IsLaneOf old.class shelf lanes) old mid → IsMendedAt part (λ i. i ≡ code) mid new → IsMendedAt part (IsLaneOf old.class shelf lanes) old new
+more part d first digit square shelf lanes code old mid new below on has same from code_is before put =
+    let at = code_at old.class d first digit shelf.number shelf.side code same from code_is in
+    mended_after part (IsLaneOf old.class shelf lanes) (λ i. i ≡ code) old mid new before put (λ i here. (digit, below, subst (λ s. Has lanes s) (sym on) has, here ∙ at))
+
+-- lanes of a shelf have its kings
+pub lanes_of_kings : (c : ℕ) (shelf : Shelf) (lanes : SquareSet) (code : ℕ) → IsShelf c shelf → IsLaneOf c shelf lanes code → IsOfKings c shelf.men.white shelf.men.black shelf.side code
+lanes_of_kings c shelf lanes code is lane = subst (IsOfKings c shelf.men.white shelf.men.black shelf.side) (sym lane.3) (of_kings c shelf is lane.0 lane.1)

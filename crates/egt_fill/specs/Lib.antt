@@ -1,2 +1,4 @@
 pub mod Mended
 pub mod Turns
+pub mod Reads
+pub mod Settled

@@ -1,7 +1,11 @@
 -- Tables some of whose entries were put anew.
-use Rattle.std.specs.Prelude.{◌≡◌, ◌≢◌, ℕ, ◌⊎◌, Bool, slice_index}
+use Rattle.std.specs.Prelude.{◌≡◌, ◌≢◌, ℕ, ◌+◌, ◌<◌, ◌⊎◌, Bool, slice_index}
+use Rattle.egt_board.specs.SquareSet.{Has}
 use Rattle.egt_board.specs.declared.man.Side.{Side}
-use Rattle.egt_index.specs.ShelfCodes.{IsShelfOf, IsWithin}
+use Rattle.egt_board.specs.declared.square_set.SquareSet.{SquareSet}
+use Rattle.egt_index.specs.Numbers.{code_of}
+use Rattle.egt_index.specs.Scales.{kind_digits, kind_less}
+use Rattle.egt_index.specs.ShelfCodes.{IsShelfOf, IsWithin, number_in}
 use Rattle.egt_index.specs.TellsMen.{TellsMen}
 use Rattle.egt_index.specs.declared.stand.Stand.{Stand}
 use Rattle.egt_table.specs.Table.{HasColumn, TableValue, entries_of}
@@ -9,6 +13,7 @@ use Rattle.egt_table.specs.declared.column.Column.{Column}
 use Rattle.egt_table.specs.declared.column.Column.TheVariants as columns
 use Rattle.egt_entries.specs.declared.metric.Metric.TheVariants.{Mate, Zeroing}
 use Rattle.egt_check.specs.Parts.{table_in}
+use Rattle.egt_check.specs.RightRow.{IsRightEndOf}
 use Rattle.egt_check.specs.Worth.{HasBytes, column_score, score_at}
 use Rattle.egt_check.specs.declared.part.Part.{Part}
 use Rattle.egt_check.specs.declared.part.Part.TheVariants.{Values, Reach}
@@ -45,3 +50,11 @@ IsPutAt Reach t code score clock = column_score t columns.Reach code ≡ score
 pub record IsShelf (c : ℕ) (shelf : Shelf) : Type 0 where
   pub of : IsShelfOf shelf.passed c shelf.number shelf.men
   pub within : IsWithin c shelf.number
+
+-- the code is the shelf's with the last man on one of these squares
+abbrev pub IsLaneOf : (c : ℕ) → Shelf → SquareSet → ℕ → Type 0
+IsLaneOf c shelf lanes code = (digit : ℕ) × (digit < kind_digits shelf.men.last.kind) × Has lanes (digit + kind_less shelf.men.last.kind) × (code ≡ code_of c (number_in c shelf.number shelf.side digit))
+
+-- at such codes the part's entries tell checkmate or stalemate
+abbrev pub AreEnded : Part → TableValue → Shelf → SquareSet → Type 0
+AreEnded part t shelf lanes = (digit : ℕ) → digit < kind_digits shelf.men.last.kind → Has lanes (digit + kind_less shelf.men.last.kind) → IsRightEndOf part t (code_of t.class (number_in t.class shelf.number shelf.side digit))

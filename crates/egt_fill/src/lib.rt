@@ -4,5 +4,6 @@
 #![tactic(auto)]
 
 pub mod entry_of;
+pub mod filling;
 pub mod mending;
 pub mod putting;

@@ -10,10 +10,10 @@ ghost use Rattle.egt_check.specs.Parts.{column_of, table_in};
 ghost use Rattle.egt_entries.specs.declared.metric.Metric.TheVariants.{Zeroing};
 ghost use Rattle.egt_check.specs.Worth.{HasBytes, score_at};
 ghost use Rattle.egt_check.specs.declared.part.Part.TheVariants as parts;
-ghost use Rattle.egt_fill.specs.Mended.{IsMended, IsPutAt, IsShelf};
+ghost use Rattle.egt_fill.specs.Mended.{AreEnded, IsLaneOf, IsMended, IsMendedAt, IsPutAt, IsShelf};
 ghost use Rattle.egt_fill.specs.declared.mending.Mended.TheVariants as mends;
 
-use crate::putting::put;
+use crate::putting::{put, see_end};
 use egt_blocks::digits::digit_on;
 use egt_board::{Side, SquareSet};
 use egt_check::part::Part;
@@ -58,7 +58,7 @@ fn put_lanes(table: &mut Table, part: Part, shelf: &Shelf, lanes: SquareSet, sco
     requires shelf { IsShelf table.old.class shelf.now }
     requires there { HasColumn (column_of part) table.old }
     requires bytes { HasBytes (table_in part table.old) }
-    ensures mended { IsMended part shelf.now.men.white shelf.now.men.black shelf.now.side table.old table.new }
+    ensures mended { IsMendedAt part (IsLaneOf table.old.class shelf.now lanes) table.old table.new }
     ensures put { result ≡ true → (digit : ℕ) → digit < kind_digits shelf.now.men.last.kind → Has lanes (digit + kind_less shelf.now.men.last.kind) →
         IsPutAt part table.new (code_of table.old.class (number_in table.old.class shelf.now.number shelf.now.side digit)) (slice_index scores (digit + kind_less shelf.now.men.last.kind)) (slice_index clocks (digit + kind_less shelf.now.men.last.kind)) }
 {
@@ -96,34 +96,68 @@ fn wrong_clocks(table: &Table, part: Part, shelf: &Shelf, clocks: Row, within: R
     }
 }
 
-/// What a look at a row came to.
+/// Sees that the entries tell checkmate and stalemate at the shelf's codes with the last man on these squares, and puts those of checkmate where they do not.
+/// False where some position there has a move.
+fn see_ends(table: &mut Table, part: Part, shelf: &Shelf, ends: SquareSet) -> bool
+    requires shelf { IsShelf table.old.class shelf.now }
+    requires there { HasColumn (column_of part) table.old }
+    requires bytes { HasBytes (table_in part table.old) }
+    ensures mended { IsMendedAt part (IsLaneOf table.old.class shelf.now ends) table.old table.new }
+    ensures right { result ≡ true → AreEnded part table.new shelf.now ends }
+{
+    numbers_stand_for_codes();
+    let class = table.class();
+    let _size = size(class);
+    let first = first_of(table, shelf.number, shelf.side);
+    let mut rest = ends;
+    while let Some(square) = rest.pop_first() {
+        let Some(digit) = digit_on(shelf.men.last, square) else {
+            return false;
+        };
+        if !see_end(table, part, code_of(class, first + 2 * digit)) {
+            return false;
+        }
+    }
+    true
+}
+
+/// What a look came to.
 #[derive(Clone, Copy)]
 pub(crate) enum Mended {
     /// All entries were due.
     Due,
     /// Others were put.
     Put,
-    /// Some score has no entry.
+    /// The entries are not told: some score has none.
     Untold,
 }
 
-/// Puts what is due to the greatest scores of the moves, where there is a move, at the shelf's codes that are indexes.
-pub(crate) fn mend_row(table: &mut Table, part: Part, shelf: &Shelf, scores: Row, zeroing: Row) -> Mended
+/// Puts what is due to the greatest scores of the moves at the shelf's codes that are indexes. Where there is no move, the entries tell checkmate or stalemate
+/// from the first look on, and `ended` has the last man's square.
+pub(crate) fn mend_row(table: &mut Table, part: Part, shelf: &Shelf, scores: Row, zeroing: Row, ended: &mut SquareSet) -> Mended
     requires shelf { IsShelf table.old.class shelf.now }
     requires there { HasColumn (column_of part) table.old }
     requires bytes { HasBytes (table_in part table.old) }
+    requires ended { AreEnded part table.old shelf.now ended.old }
     ensures mended { IsMended part shelf.now.men.white shelf.now.men.black shelf.now.side table.old table.new }
     ensures due { result ≡ mends.Due → table.new ≡ table.old }
 {
     codes_tell_turned_men();
     let own = row_of(table, column_of(part), &shelf.men, shelf.number, shelf.side, shelf.passed);
-    let within = kept(own, lanes_of(scores));
+    let moving = lanes_of(scores);
+    let within = kept(own, moving);
     let due_scores = due_in(part, scores);
     let due_clocks = due(zeroing);
     let wrong = apart(own, due_scores, within).union(wrong_clocks(table, part, shelf, due_clocks, within));
-    if wrong.is_empty() {
+    let ends = lanes_of(own).without(moving).without(*ended);
+    if wrong.is_empty() && ends.is_empty() {
         return Mended::Due;
     }
+    let seen = ended.union(ends);
+    if !wrong.common(seen).is_empty() || !see_ends(table, part, shelf, ends) {
+        return Mended::Untold;
+    }
+    *ended = seen;
     if put_lanes(table, part, shelf, wrong, due_scores, due_clocks) {
         Mended::Put
     } else {

@@ -4,12 +4,14 @@ ghost use Rattle.egt_index.specs.Size.{size_of};
 ghost use Rattle.egt_table.specs.Table.{HasColumn};
 ghost use Rattle.egt_check.specs.Given.{AreAlike, IsKnown};
 ghost use Rattle.egt_check.specs.Parts.{column_of, table_in};
+ghost use Rattle.egt_check.specs.RightRow.{IsRightEndOf};
 ghost use Rattle.egt_check.specs.Worth.{HasBytes};
 ghost use Rattle.egt_check.specs.declared.part.Part.TheVariants as parts;
 ghost use Rattle.egt_fill.specs.Mended.{IsMendedAt, IsPutAt};
 
 use crate::entry_of::{near_of, value_of};
 use egt_check::part::Part;
+use egt_check::row_judging::end_is_right;
 use egt_table::{Column, Table};
 
 /// Whether both entries show a win, a loss or a draw.
@@ -76,4 +78,20 @@ pub(crate) fn put(table: &mut Table, part: Part, code: u32, score: u8, clock: u8
         Part::Values => put_values(table, code, score, clock),
         Part::Reach => put_near(table, code, score),
     }
+}
+
+/// Sees that the code's position is checkmate or stalemate and that the entries tell it, and puts those of checkmate where they do not. False where it has a
+/// move.
+pub(crate) fn see_end(table: &mut Table, part: Part, code: u32) -> bool
+    requires there { HasColumn (column_of part) table.old }
+    requires code { code < size_of table.old.class }
+    requires bytes { HasBytes (table_in part table.old) }
+    ensures mended { IsMendedAt part (λ i. i ≡ code) table.old table.new }
+    ensures right { result ≡ true → IsRightEndOf part table.new code }
+{
+    if end_is_right(table, part, code) {
+        return true;
+    }
+    // All entries told a draw until now, and so stalemate.
+    put(table, part, code, 255, 255) && end_is_right(table, part, code)
 }

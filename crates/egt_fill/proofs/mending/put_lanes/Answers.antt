@@ -4,6 +4,7 @@ use Rattle.std.proofs.lemmas.Bool.{cases_eq}
 use Rattle.std.proofs.lemmas.List.{get_or_default}
 use Rattle.egt_board.specs.SquareSet.{Has}
 use Rattle.egt_board.specs.declared.man.Side.{Side}
+use Rattle.egt_board.specs.declared.square_set.SquareSet.{SquareSet}
 use Rattle.egt_index.specs.Numbers.{code_of}
 use Rattle.egt_index.specs.Scales.{kind_digits, kind_less}
 use Rattle.egt_index.specs.ShelfCodes.{number_in}
@@ -11,20 +12,20 @@ use Rattle.egt_index.specs.Size.{size_of}
 use Rattle.egt_check.specs.Parts.{column_of}
 use Rattle.egt_table.specs.Table.{TableValue}
 use Rattle.egt_check.specs.declared.part.Part.{Part}
-use Rattle.egt_fill.specs.Mended.{IsMended, IsMendedAt, IsOfKings, IsPutAt, IsShelf}
+use Rattle.egt_fill.specs.Mended.{IsLaneOf, IsMendedAt, IsPutAt, IsShelf}
 use Rattle.egt_fill.specs.declared.mending.Shelf.{Shelf}
-use Rattle.egt_fill.proofs.PutEntries.{mended_after, put_stays, stays}
-use Rattle.egt_fill.proofs.ShelfLanes.{number_within, of_kings, one_digit}
+use Rattle.egt_fill.proofs.PutEntries.{put_stays, stays}
+use Rattle.egt_fill.proofs.ShelfLanes.{code_at, more, number_within, one_digit}
 use Rattle.egt_fill.proofs.mending.put_lanes.Goals as goal
 
--- the code of a square's digit
-code_at : (c d first digit shelf : ℕ) (side : Side) (code : ℕ) → d ≡ c → first ≡ number_in c shelf side 0 → code ≡ code_of d (first + 2 * digit) → code ≡ code_of c (number_in c shelf side digit)
-code_at c d first digit shelf side code same from is =
-    is ∙ ap (λ k. code_of k (first + 2 * digit)) same ∙ ap (code_of c) (let e : first + 2 * digit ≡ number_in c shelf side digit = omega (arith, from) in e)
+-- what stands in a lane
+lane_at : (row : List ℕ) (x lane square : ℕ) → x ≡ get_or row lane x → lane ≡ square → lane < length row → x ≡ slice_index row square
+lane_at row x lane square is same inside = is ∙ get_or_default row lane x 0 inside ∙ ap (slice_index row) same
 
 pub loop-square-init : goal.loop-square-init
 loop-square-init c = (
-  stays c.args.part (IsOfKings c.args.table.now.class c.args.shelf.now.men.white c.args.shelf.now.men.black c.args.shelf.now.side) c.args.table.now c.requires.bytes,
+  stays c.args.part (IsLaneOf c.args.table.now.class c.args.shelf.now c.args.lanes) c.args.table.now c.requires.bytes,
+  λ t has. has,
   λ digit below has none. absurd (omega (arith, has, none)),
 )
 
@@ -50,31 +51,22 @@ put-requires-clause-code c = subst (λ k. c.code_of-code.result < size_of k) (c.
 pub put-requires-clause-bytes : goal.put-requires-clause-bytes
 put-requires-clause-bytes c = c.loop-square.invariant.0.bytes
 
--- what stands in a lane
-lane_at : (row : List ℕ) (x lane square : ℕ) → x ≡ get_or row lane x → lane ≡ square → lane < length row → x ≡ slice_index row square
-lane_at row x lane square is same inside = is ∙ get_or_default row lane x 0 inside ∙ ap (slice_index row) same
-
--- one more is put
-more : (part : Part) (d first digit : ℕ) (shelf : Shelf) (code : ℕ) (old mid new : TableValue) → IsShelf old.class shelf → digit < kind_digits shelf.men.last.kind
-    → d ≡ old.class → first ≡ number_in old.class shelf.number shelf.side 0 → code ≡ code_of d (first + 2 * digit)
-    → IsMended part shelf.men.white shelf.men.black shelf.side old mid → IsMendedAt part (λ i. i ≡ code) mid new → IsMended part shelf.men.white shelf.men.black shelf.side old new
-more part d first digit shelf code old mid new is below same from code_is before put =
-    let At = IsOfKings old.class shelf.men.white shelf.men.black shelf.side in
-    let at = code_at old.class d first digit shelf.number shelf.side code same from code_is in
-    mended_after part At (λ i. i ≡ code) old mid new before put (λ i here. subst At (sym (here ∙ at)) (of_kings old.class shelf is digit below))
-
 pub returns-then-not-put-clause-mended : goal.returns-then-not-put-clause-mended
 returns-then-not-put-clause-mended c =
-    more c.args.part c.class-class.result c.first_of-first.result c.in-Some-digit_on.digit c.args.shelf.now c.code_of-code.result c.args.table.now c.loop-square.table c.put.new.table c.requires.shelf
-    c.in-Some-digit_on.ensures.below c.class-class.ensures.class c.first_of-first.ensures c.code_of-code.ensures.is c.loop-square.invariant.0 c.put.ensures.mended
+    more c.args.part c.class-class.result c.first_of-first.result c.in-Some-digit_on.digit c.in-Some.square c.args.shelf.now c.args.lanes c.code_of-code.result c.args.table.now c.loop-square.table c.put.new.table
+    c.in-Some-digit_on.ensures.below c.in-Some-digit_on.ensures.is (c.loop-square.invariant.1 c.in-Some.square c.in-Some.ensures.had) c.class-class.ensures.class c.first_of-first.ensures c.code_of-code.ensures.is c.loop-square.invariant.0 c.put.ensures.mended
 
 pub loop-square-smaller : goal.loop-square-smaller
 loop-square-smaller c = c.in-Some.ensures.fewer
 
 pub loop-square-preserved : goal.loop-square-preserved
 loop-square-preserved c = (
-  more c.args.part c.class-class.result c.first_of-first.result c.in-Some-digit_on.digit c.args.shelf.now c.code_of-code.result c.args.table.now c.loop-square.table c.put.new.table c.requires.shelf
-      c.in-Some-digit_on.ensures.below c.class-class.ensures.class c.first_of-first.ensures c.code_of-code.ensures.is c.loop-square.invariant.0 c.put.ensures.mended,
+  more c.args.part c.class-class.result c.first_of-first.result c.in-Some-digit_on.digit c.in-Some.square c.args.shelf.now c.args.lanes c.code_of-code.result c.args.table.now c.loop-square.table c.put.new.table
+      c.in-Some-digit_on.ensures.below c.in-Some-digit_on.ensures.is (c.loop-square.invariant.1 c.in-Some.square c.in-Some.ensures.had) c.class-class.ensures.class c.first_of-first.ensures c.code_of-code.ensures.is c.loop-square.invariant.0 c.put.ensures.mended,
+  λ t has. elim (cases_eq t c.in-Some.square) [
+    | inl same ↦ absurd (let none = ap (bit_at c.pop_first.new.self.bits) same ∙ c.in-Some.ensures.gone in omega (arith, has, none))
+    | inr other ↦ c.loop-square.invariant.1 t (sym (c.in-Some.ensures.others t other) ∙ has)
+  ],
   λ digit below has gone.
       let cl = c.args.table.now.class in
       let shelf = c.args.shelf.now in
@@ -96,7 +88,7 @@ loop-square-preserved c = (
             (subst (λ s. IsPutAt part c.put.new.table c.code_of-code.result s (slice_index c.args.clocks (digit + less))) score
             (subst (λ k. IsPutAt part c.put.new.table c.code_of-code.result c.index.result.now k) clock (c.put.ensures.put c.if-not-put.false)))
         | inr other ↦
-            let before = c.loop-square.invariant.1 digit below has (sym (c.in-Some.ensures.others (digit + less) other) ∙ gone) in
+            let before = c.loop-square.invariant.2 digit below has (sym (c.in-Some.ensures.others (digit + less) other) ∙ gone) in
             put_stays part c.loop-square.table c.put.new.table c.code_of-code.result code (slice_index c.args.scores (digit + less)) (slice_index c.args.clocks (digit + less)) c.put.ensures.mended
             (λ e. other (let digit_is = one_digit cl shelf c.requires.shelf (λ n n_in. c.numbers_stand_for_codes.ensures.number cl n c.class-class.ensures.table.class_in n_in) digit here below c.in-Some-digit_on.ensures.below (e ∙ code_is) in let is = c.in-Some-digit_on.ensures.is in let same : digit + less ≡ c.in-Some.square = omega (arith, digit_is, is) in same))
             before
@@ -107,4 +99,4 @@ pub returns-clause-mended : goal.returns-clause-mended
 returns-clause-mended c = c.loop-square.invariant.0
 
 pub returns-clause-put : goal.returns-clause-put
-returns-clause-put c = λ told digit below has. c.loop-square.invariant.1 digit below has (c.in_default.ensures.empty (digit + kind_less c.args.shelf.now.men.last.kind))
+returns-clause-put c = λ told digit below has. c.loop-square.invariant.2 digit below has (c.in_default.ensures.empty (digit + kind_less c.args.shelf.now.men.last.kind))
