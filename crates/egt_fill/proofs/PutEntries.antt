@@ -152,8 +152,8 @@ mended_after part At Bt old mid new first second within = record {
 }
 
 -- what was put elsewhere stays
-pub put_stays : (part : Part) (old new : TableValue) (code i score clock : ℕ) → IsMendedAt part (λ n. n ≡ code) old new → i ≢ code → IsPutAt part old i score clock → IsPutAt part new i score clock
-put_stays part old new code i score clock mended other = of_part part
+pub put_stays : (part : Part) (old new : TableValue) (At : ℕ → Type 0) (i score clock : ℕ) → IsMendedAt part At old new → ¬ At i → IsPutAt part old i score clock → IsPutAt part new i score clock
+put_stays part old new At i score clock mended other = of_part part
   where
     kept : (column : Column) → slice_index (entries_of column new) i ≡ slice_index (entries_of column old) i
     kept column = elim (mended.same column i) [ inl same ↦ same | inr is ↦ absurd (other is) ]
@@ -172,3 +172,15 @@ end_stays part old new At i mended other = of_part part
     of_part : (p : Part) → IsRightEndOf p old i → IsRightEndOf p new i
     of_part parts.Values right = λ p spells. let end = right p (subst (λ k. Spells k i p) mended.class spells) in (end.0, end.1, kept columns.Mate ∙ end.2, kept columns.Zeroing ∙ end.3)
     of_part parts.Reach right = λ p spells. let end = right p (subst (λ k. Spells k i p) mended.class spells) in (end.0, end.1, ap (λ n. 2 * n - 1) (kept columns.Reach) ∙ end.2)
+
+-- at more codes
+pub widened : (part : Part) (At Bt : ℕ → Type 0) (old new : TableValue) → IsMendedAt part At old new → ((i : ℕ) → At i → Bt i) → IsMendedAt part Bt old new
+widened part At Bt old new mended within = record {
+  class = mended.class;
+  there = mended.there;
+  same = λ column code. elim (mended.same column code) [ inl same ↦ inl same | inr at ↦ inr (within code at) ];
+  mate = mended.mate;
+  zeroing = mended.zeroing;
+  reach = mended.reach;
+  bytes = mended.bytes;
+}

@@ -1,6 +1,8 @@
 -- Tables some of whose entries were put anew.
-use Rattle.std.specs.Prelude.{◌≡◌, ◌≢◌, ℕ, ◌+◌, ◌<◌, ◌⊎◌, Bool, slice_index}
+use Rattle.std.specs.Prelude.{◌≡◌, ◌≢◌, ℕ, ◌+◌, ◌<◌, ◌⊎◌, Bool, List, slice_index}
+use Rattle.std.specs.Int.{bit_at}
 use Rattle.egt_board.specs.SquareSet.{Has}
+use Rattle.egt_lanes.specs.Scores.{due_score}
 use Rattle.egt_board.specs.declared.man.Side.{Side}
 use Rattle.egt_board.specs.declared.square_set.SquareSet.{SquareSet}
 use Rattle.egt_index.specs.Numbers.{code_of}
@@ -12,8 +14,8 @@ use Rattle.egt_table.specs.Table.{HasColumn, TableValue, entries_of}
 use Rattle.egt_table.specs.declared.column.Column.{Column}
 use Rattle.egt_table.specs.declared.column.Column.TheVariants as columns
 use Rattle.egt_entries.specs.declared.metric.Metric.TheVariants.{Mate, Zeroing}
-use Rattle.egt_check.specs.Parts.{table_in}
-use Rattle.egt_check.specs.RightRow.{IsRightEndOf}
+use Rattle.egt_check.specs.Parts.{column_of, table_in}
+use Rattle.egt_check.specs.RightRow.{IsRightAtOf, IsRightEndOf, due_in}
 use Rattle.egt_check.specs.Worth.{HasBytes, column_score, score_at}
 use Rattle.egt_check.specs.declared.part.Part.{Part}
 use Rattle.egt_check.specs.declared.part.Part.TheVariants.{Values, Reach}
@@ -58,3 +60,21 @@ IsLaneOf c shelf lanes code = (digit : ℕ) × (digit < kind_digits shelf.men.la
 -- at such codes the part's entries tell checkmate or stalemate
 abbrev pub AreEnded : Part → TableValue → Shelf → SquareSet → Type 0
 AreEnded part t shelf lanes = (digit : ℕ) → digit < kind_digits shelf.men.last.kind → Has lanes (digit + kind_less shelf.men.last.kind) → IsRightEndOf part t (code_of t.class (number_in t.class shelf.number shelf.side digit))
+
+-- the score of the part's entry at the shelf's code
+abbrev pub score_in : Part → TableValue → Shelf → ℕ → ℕ
+score_in part t shelf digit = column_score t (column_of part) (code_of t.class (number_in t.class shelf.number shelf.side digit))
+
+-- what is to be put at a row's squares, by the greatest scores of the moves: `wrong` has those where the entries are not due to them, and `ends` those without a move
+-- that `ended` lacks
+pub record IsRowSeen (part : Part) (t : TableValue) (shelf : Shelf) (scores zeroing : List ℕ) (ended wrong ends : SquareSet) : Type 0 where
+  pub due : (digit : ℕ) → digit < kind_digits shelf.men.last.kind → score_in part t shelf digit ≢ 0 → slice_index scores (digit + kind_less shelf.men.last.kind) ≢ 0 → bit_at wrong.bits (digit + kind_less shelf.men.last.kind) ≡ 0 →
+      IsPutAt part t (code_of t.class (number_in t.class shelf.number shelf.side digit)) (due_in part (slice_index scores (digit + kind_less shelf.men.last.kind))) (due_score (slice_index zeroing (digit + kind_less shelf.men.last.kind)))
+  pub moving : (digit : ℕ) → digit < kind_digits shelf.men.last.kind → Has wrong (digit + kind_less shelf.men.last.kind) → slice_index scores (digit + kind_less shelf.men.last.kind) ≢ 0
+  pub end : (digit : ℕ) → digit < kind_digits shelf.men.last.kind → score_in part t shelf digit ≢ 0 → slice_index scores (digit + kind_less shelf.men.last.kind) ≡ 0 → bit_at ended.bits (digit + kind_less shelf.men.last.kind) ≡ 0 → Has ends (digit + kind_less shelf.men.last.kind)
+  pub still : (digit : ℕ) → digit < kind_digits shelf.men.last.kind → Has ends (digit + kind_less shelf.men.last.kind) → slice_index scores (digit + kind_less shelf.men.last.kind) ≡ 0
+
+-- the part's entries of the row are due to the greatest scores of the moves, or tell checkmate or stalemate
+abbrev pub IsRightRow : Part → TableValue → Shelf → (scores zeroing : List ℕ) → Type 0
+IsRightRow part t shelf scores zeroing = (digit : ℕ) → digit < kind_digits shelf.men.last.kind → score_in part t shelf digit ≢ 0 →
+    IsRightAtOf part t (code_of t.class (number_in t.class shelf.number shelf.side digit)) (slice_index scores (digit + kind_less shelf.men.last.kind)) (slice_index zeroing (digit + kind_less shelf.men.last.kind))

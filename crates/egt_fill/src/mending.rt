@@ -10,7 +10,7 @@ ghost use Rattle.egt_check.specs.Parts.{column_of, table_in};
 ghost use Rattle.egt_entries.specs.declared.metric.Metric.TheVariants.{Zeroing};
 ghost use Rattle.egt_check.specs.Worth.{HasBytes, score_at};
 ghost use Rattle.egt_check.specs.declared.part.Part.TheVariants as parts;
-ghost use Rattle.egt_fill.specs.Mended.{AreEnded, IsLaneOf, IsMended, IsMendedAt, IsPutAt, IsShelf};
+ghost use Rattle.egt_fill.specs.Mended.{AreEnded, IsLaneOf, IsMended, IsMendedAt, IsPutAt, IsRightRow, IsRowSeen, IsShelf};
 ghost use Rattle.egt_fill.specs.declared.mending.Mended.TheVariants as mends;
 
 use crate::putting::{put, see_end};
@@ -132,6 +132,21 @@ pub(crate) enum Mended {
     Untold,
 }
 
+/// The last man's squares at which the entries of a row are not due to the greatest scores of the moves, and those at which there is no move and that `ended`
+/// lacks.
+fn row_seen(table: &Table, part: Part, shelf: &Shelf, scores: Row, zeroing: Row, ended: SquareSet) -> (SquareSet, SquareSet)
+    requires shelf { IsShelf table.now.class shelf.now }
+    requires there { HasColumn (column_of part) table.now }
+    ensures { IsRowSeen part table.now shelf.now scores zeroing ended result.0 result.1 }
+{
+    codes_tell_turned_men();
+    let own = row_of(table, column_of(part), &shelf.men, shelf.number, shelf.side, shelf.passed);
+    let moving = lanes_of(scores);
+    let within = kept(own, moving);
+    let wrong = apart(own, due_in(part, scores), within).union(wrong_clocks(table, part, shelf, due(zeroing), within));
+    (wrong.common(moving), lanes_of(own).without(moving).without(ended))
+}
+
 /// Puts what is due to the greatest scores of the moves at the shelf's codes that are indexes. Where there is no move, the entries tell checkmate or stalemate
 /// from the first look on, and `ended` has the last man's square.
 pub(crate) fn mend_row(table: &mut Table, part: Part, shelf: &Shelf, scores: Row, zeroing: Row, ended: &mut SquareSet) -> Mended
@@ -141,24 +156,25 @@ pub(crate) fn mend_row(table: &mut Table, part: Part, shelf: &Shelf, scores: Row
     requires ended { AreEnded part table.old shelf.now ended.old }
     ensures mended { IsMended part shelf.now.men.white shelf.now.men.black shelf.now.side table.old table.new }
     ensures due { result ≡ mends.Due → table.new ≡ table.old }
+    ensures ended { result ≢ mends.Untold → AreEnded part table.new shelf.now ended.new }
+    ensures right { result ≢ mends.Untold → IsRightRow part table.new shelf.now scores zeroing }
 {
-    codes_tell_turned_men();
-    let own = row_of(table, column_of(part), &shelf.men, shelf.number, shelf.side, shelf.passed);
-    let moving = lanes_of(scores);
-    let within = kept(own, moving);
-    let due_scores = due_in(part, scores);
-    let due_clocks = due(zeroing);
-    let wrong = apart(own, due_scores, within).union(wrong_clocks(table, part, shelf, due_clocks, within));
-    let ends = lanes_of(own).without(moving).without(*ended);
+    numbers_stand_for_codes();
+    let _class = table.class();
+    let (wrong, ends) = row_seen(table, part, shelf, scores, zeroing, *ended);
     if wrong.is_empty() && ends.is_empty() {
         return Mended::Due;
     }
     let seen = ended.union(ends);
-    if !wrong.common(seen).is_empty() || !see_ends(table, part, shelf, ends) {
+    // What was seen to have no move has none.
+    if !wrong.common(seen).is_empty() {
+        return Mended::Untold;
+    }
+    if !see_ends(table, part, shelf, ends) {
         return Mended::Untold;
     }
     *ended = seen;
-    if put_lanes(table, part, shelf, wrong, due_scores, due_clocks) {
+    if put_lanes(table, part, shelf, wrong, due_in(part, scores), due(zeroing)) {
         Mended::Put
     } else {
         Mended::Untold

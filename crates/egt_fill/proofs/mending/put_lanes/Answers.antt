@@ -89,7 +89,7 @@ loop-square-preserved c = (
             (subst (λ k. IsPutAt part c.put.new.table c.code_of-code.result c.index.result.now k) clock (c.put.ensures.put c.if-not-put.false)))
         | inr other ↦
             let before = c.loop-square.invariant.2 digit below has (sym (c.in-Some.ensures.others (digit + less) other) ∙ gone) in
-            put_stays part c.loop-square.table c.put.new.table c.code_of-code.result code (slice_index c.args.scores (digit + less)) (slice_index c.args.clocks (digit + less)) c.put.ensures.mended
+            put_stays part c.loop-square.table c.put.new.table (λ n. n ≡ c.code_of-code.result) code (slice_index c.args.scores (digit + less)) (slice_index c.args.clocks (digit + less)) c.put.ensures.mended
             (λ e. other (let digit_is = one_digit cl shelf c.requires.shelf (λ n n_in. c.numbers_stand_for_codes.ensures.number cl n c.class-class.ensures.table.class_in n_in) digit here below c.in-Some-digit_on.ensures.below (e ∙ code_is) in let is = c.in-Some-digit_on.ensures.is in let same : digit + less ≡ c.in-Some.square = omega (arith, digit_is, is) in same))
             before
       ],
