@@ -17,10 +17,10 @@ use Rattle.egt_check.specs.RightRow.{IsRightAtOf, IsRightEndOf, due_in}
 use Rattle.egt_check.specs.Worth.{column_score, entry_score}
 use Rattle.egt_check.specs.declared.part.Part.{Part}
 use Rattle.egt_check.specs.declared.part.Part.TheVariants.{Values, Reach}
-use Rattle.egt_fill.specs.Mended.{AreEnded, IsLaneOf, IsMended, IsMendedAt, IsPutAt, IsRightRow, IsRowSeen, IsShelf, score_in}
+use Rattle.egt_fill.specs.Mended.{AreEnded, IsCodeOf, IsLaneOf, IsMendedAt, IsPutAt, IsRightRow, IsRowSeen, IsShelf, score_in}
 use Rattle.egt_fill.specs.declared.mending.Shelf.{Shelf}
 use Rattle.egt_fill.proofs.PutEntries.{end_stays, mended_after, put_stays, widened}
-use Rattle.egt_fill.proofs.ShelfLanes.{lanes_of_kings, one_digit}
+use Rattle.egt_fill.proofs.ShelfLanes.{one_digit}
 
 -- entries that are due, and entries at an end
 right_of : (part : Part) (t : TableValue) (i score zeroing : ℕ) → score ≢ 0 → IsPutAt part t i (due_in part score) (due_score zeroing) → IsRightAtOf part t i score zeroing
@@ -56,9 +56,9 @@ module _ (part : Part) (old mid new : TableValue) (shelf : Shelf) (is : IsShelf 
   second : IsMendedAt part (IsLaneOf old.class shelf wrong) mid new
   second = subst (λ c. IsMendedAt part (IsLaneOf c shelf wrong) mid new) first.class later
 
-  pub row_mended : IsMended part shelf.men.white shelf.men.black shelf.side old new
-  row_mended = mended_after part _ (IsLaneOf old.class shelf wrong) old mid new (widened part (IsLaneOf old.class shelf ends) _ old mid first (λ i lane. lanes_of_kings old.class shelf ends i is lane)) second
-      (λ i lane. lanes_of_kings old.class shelf wrong i is lane)
+  pub row_mended : IsMendedAt part (IsCodeOf old.class shelf) old new
+  row_mended = mended_after part (IsCodeOf old.class shelf) (IsLaneOf old.class shelf wrong) old mid new (widened part (IsLaneOf old.class shelf ends) (IsCodeOf old.class shelf) old mid first (λ i lane. (lane.0, lane.1, lane.3))) second
+      (λ i lane. (lane.0, lane.1, lane.3))
 
   same_class : new.class ≡ old.class
   same_class = second.class ∙ first.class

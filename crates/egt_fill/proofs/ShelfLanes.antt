@@ -10,7 +10,7 @@ use Rattle.egt_board.specs.SquareSet.{Has}
 use Rattle.egt_board.specs.declared.square_set.SquareSet.{SquareSet}
 use Rattle.egt_table.specs.Table.{TableValue}
 use Rattle.egt_check.specs.declared.part.Part.{Part}
-use Rattle.egt_fill.specs.Mended.{IsLaneOf, IsMendedAt, IsOfKings, IsShelf}
+use Rattle.egt_fill.specs.Mended.{IsCodeOf, IsLaneOf, IsMendedAt, IsOfKings, IsShelf}
 use Rattle.egt_fill.proofs.PutEntries.{mended_after}
 use Rattle.egt_fill.specs.declared.mending.Shelf.{Shelf}
 
@@ -52,6 +52,6 @@ more part d first digit square shelf lanes code old mid new below on has same fr
     let at = code_at old.class d first digit shelf.number shelf.side code same from code_is in
     mended_after part (IsLaneOf old.class shelf lanes) (λ i. i ≡ code) old mid new before put (λ i here. (digit, below, subst (λ s. Has lanes s) (sym on) has, here ∙ at))
 
--- lanes of a shelf have its kings
-pub lanes_of_kings : (c : ℕ) (shelf : Shelf) (lanes : SquareSet) (code : ℕ) → IsShelf c shelf → IsLaneOf c shelf lanes code → IsOfKings c shelf.men.white shelf.men.black shelf.side code
-lanes_of_kings c shelf lanes code is lane = subst (IsOfKings c shelf.men.white shelf.men.black shelf.side) (sym lane.3) (of_kings c shelf is lane.0 lane.1)
+-- codes of a shelf have its kings
+pub codes_of_kings : (c : ℕ) (shelf : Shelf) (code : ℕ) → IsShelf c shelf → IsCodeOf c shelf code → IsOfKings c shelf.men.white shelf.men.black shelf.side code
+codes_of_kings c shelf code is of = subst (IsOfKings c shelf.men.white shelf.men.black shelf.side) (sym of.2) (of_kings c shelf is of.0 of.1)

@@ -1,5 +1,5 @@
 -- Tables some of whose entries were put anew.
-use Rattle.std.specs.Prelude.{◌≡◌, ◌≢◌, ℕ, ◌+◌, ◌<◌, ◌⊎◌, Bool, List, slice_index}
+use Rattle.std.specs.Prelude.{◌≡◌, ◌≢◌, ℕ, ◌+◌, ◌<◌, ◌⊎◌, Bool, List, [], slice_index, slice_index_or}
 use Rattle.std.specs.Int.{bit_at}
 use Rattle.egt_board.specs.SquareSet.{Has}
 use Rattle.egt_lanes.specs.Scores.{due_score}
@@ -10,6 +10,7 @@ use Rattle.egt_index.specs.Scales.{kind_digits, kind_less}
 use Rattle.egt_index.specs.ShelfCodes.{IsShelfOf, IsWithin, number_in}
 use Rattle.egt_index.specs.TellsMen.{TellsMen}
 use Rattle.egt_index.specs.declared.stand.Stand.{Stand}
+use Rattle.egt_steps.specs.Stands.{men_on}
 use Rattle.egt_table.specs.Table.{HasColumn, TableValue, entries_of}
 use Rattle.egt_table.specs.declared.column.Column.{Column}
 use Rattle.egt_table.specs.declared.column.Column.TheVariants as columns
@@ -78,3 +79,29 @@ pub record IsRowSeen (part : Part) (t : TableValue) (shelf : Shelf) (scores zero
 abbrev pub IsRightRow : Part → TableValue → Shelf → (scores zeroing : List ℕ) → Type 0
 IsRightRow part t shelf scores zeroing = (digit : ℕ) → digit < kind_digits shelf.men.last.kind → score_in part t shelf digit ≢ 0 →
     IsRightAtOf part t (code_of t.class (number_in t.class shelf.number shelf.side digit)) (slice_index scores (digit + kind_less shelf.men.last.kind)) (slice_index zeroing (digit + kind_less shelf.men.last.kind))
+
+-- the code is one of the shelf's
+abbrev pub IsCodeOf : (c : ℕ) → Shelf → ℕ → Type 0
+IsCodeOf c shelf code = (digit : ℕ) × (digit < kind_digits shelf.men.last.kind) × (code ≡ code_of c (number_in c shelf.number shelf.side digit))
+
+-- of the shelves of these men from this one on, that with the first man's digit
+abbrev pub shelf_at : Shelf → ℕ → Shelf
+shelf_at shelves digit = record {
+  number = shelves.number + digit;
+  men = men_on shelves.men (digit + kind_less shelves.men.one.kind);
+  side = shelves.side;
+  passed = shelves.passed;
+}
+
+-- no squares
+abbrev pub no_squares : SquareSet
+no_squares = record { bits = 0 }
+
+-- in each of these shelves, by the first man's square, the entries tell checkmate or stalemate at these squares of the last one
+abbrev pub AllEnded : Part → TableValue → Shelf → List SquareSet → Type 0
+AllEnded part t shelves ended = (x : ℕ) → x < kind_digits shelves.men.one.kind → AreEnded part t (shelf_at shelves x) (slice_index_or ended (x + kind_less shelves.men.one.kind) no_squares)
+
+-- the entries of the first so many of them are due
+abbrev pub AreRightRows : Part → TableValue → Shelf → (scores zeroing : List (List ℕ)) → ℕ → Type 0
+AreRightRows part t shelves scores zeroing many = (x : ℕ) → x < many →
+    IsRightRow part t (shelf_at shelves x) (slice_index_or scores (x + kind_less shelves.men.one.kind) []) (slice_index_or zeroing (x + kind_less shelves.men.one.kind) [])

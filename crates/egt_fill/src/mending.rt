@@ -4,25 +4,28 @@ ghost use Rattle.std.specs.Int.{bit_at};
 ghost use Rattle.egt_board.specs.SquareSet.{Has};
 ghost use Rattle.egt_index.specs.Numbers.{code_of};
 ghost use Rattle.egt_index.specs.Scales.{kind_digits, kind_less};
-ghost use Rattle.egt_index.specs.ShelfCodes.{number_in};
+ghost use Rattle.egt_index.specs.ShelfCodes.{AreMenOf, number_in};
+ghost use Rattle.egt_blocks.specs.Blocks.{AreShelvesOf};
 ghost use Rattle.egt_table.specs.Table.{HasColumn};
 ghost use Rattle.egt_check.specs.Parts.{column_of, table_in};
 ghost use Rattle.egt_entries.specs.declared.metric.Metric.TheVariants.{Zeroing};
 ghost use Rattle.egt_check.specs.Worth.{HasBytes, score_at};
 ghost use Rattle.egt_check.specs.declared.part.Part.TheVariants as parts;
-ghost use Rattle.egt_fill.specs.Mended.{AreEnded, IsLaneOf, IsMended, IsMendedAt, IsPutAt, IsRightRow, IsRowSeen, IsShelf};
+ghost use Rattle.egt_fill.specs.Mended.{AllEnded, AreEnded, AreRightRows, IsCodeOf, IsLaneOf, IsMended, IsMendedAt, IsPutAt, IsRightRow, IsRowSeen, IsShelf};
 ghost use Rattle.egt_fill.specs.declared.mending.Mended.TheVariants as mends;
 
 use crate::putting::{put, see_end};
-use egt_blocks::digits::digit_on;
-use egt_board::{Side, SquareSet};
+use egt_blocks::blocks::begin_with;
+use egt_blocks::digits::{digit_on, digits_of, first_square};
+use egt_blocks::men::men_on;
+use egt_board::{Side, Square, SquareSet};
 use egt_check::part::Part;
 use egt_check::part::column_of;
 use egt_check::row_judging::{due_in, first_of};
 use egt_check::rows::row_of;
 use egt_index::laws::{codes_tell_turned_men, numbers_stand_for_codes};
 use egt_index::{ShelfMen, code_of, size};
-use egt_lanes::Row;
+use egt_lanes::{Block, Row};
 use egt_lanes::score::due;
 use egt_lanes::sets::{kept, lanes_of};
 use egt_table::{Column, Table};
@@ -154,7 +157,7 @@ pub(crate) fn mend_row(table: &mut Table, part: Part, shelf: &Shelf, scores: Row
     requires there { HasColumn (column_of part) table.old }
     requires bytes { HasBytes (table_in part table.old) }
     requires ended { AreEnded part table.old shelf.now ended.old }
-    ensures mended { IsMended part shelf.now.men.white shelf.now.men.black shelf.now.side table.old table.new }
+    ensures mended { IsMendedAt part (IsCodeOf table.old.class shelf.now) table.old table.new }
     ensures due { result ≡ mends.Due → table.new ≡ table.old }
     ensures ended { result ≢ mends.Untold → AreEnded part table.new shelf.now ended.new }
     ensures right { result ≢ mends.Untold → IsRightRow part table.new shelf.now scores zeroing }
@@ -179,4 +182,42 @@ pub(crate) fn mend_row(table: &mut Table, part: Part, shelf: &Shelf, scores: Row
     } else {
         Mended::Untold
     }
+}
+
+/// Puts what is due to the greatest scores of the moves at the codes of the shelves of these men from this one on, one for each digit of the first man; `ended`
+/// has for each of his squares those of the last man at which there is no move.
+pub(crate) fn mend_shelves(table: &mut Table, part: Part, shelves: &Shelf, scores: &Block, zeroing: &Block, ended: &mut [SquareSet; 64]) -> Mended
+    requires men { AreMenOf table.old.class shelves.now.men }
+    requires room { shelves.now.number + 64 < 4294967296 }
+    requires there { HasColumn (column_of part) table.old }
+    requires bytes { HasBytes (table_in part table.old) }
+    requires ended { AllEnded part table.old shelves.now ended.old }
+    ensures mended { IsMended part shelves.now.men.white shelves.now.men.black shelves.now.side table.old table.new }
+    ensures due { result ≡ mends.Due → table.new ≡ table.old }
+    ensures shelves { result ≢ mends.Untold → AreShelvesOf shelves.now.passed table.old.class shelves.now.men shelves.now.number }
+    ensures ended { result ≢ mends.Untold → AllEnded part table.new shelves.now ended.new }
+    ensures right { result ≢ mends.Untold → AreRightRows part table.new shelves.now scores.now zeroing.now (kind_digits shelves.now.men.one.kind) }
+{
+    numbers_stand_for_codes();
+    if !begin_with(table.class(), &shelves.men, shelves.passed, shelves.number) {
+        return Mended::Untold;
+    }
+    let from = first_square(shelves.men.one);
+    let mut found = Mended::Due;
+    for digit in 0..digits_of(shelves.men.one) {
+        let square = from + digit;
+        let row = usize::from(square);
+        let shelf = Shelf {
+            number: shelves.number + u32::from(digit),
+            men: men_on(&shelves.men, Square::at(square)),
+            side: shelves.side,
+            passed: shelves.passed,
+        };
+        match mend_row(table, part, &shelf, scores[row], zeroing[row], &mut ended[row]) {
+            Mended::Due => {}
+            Mended::Put => found = Mended::Put,
+            Mended::Untold => return Mended::Untold,
+        }
+    }
+    found
 }
