@@ -3,3 +3,5 @@ pub mod ShelfLanes
 pub mod UnlikeRows
 pub mod ToldOnce
 pub mod KeptThrough
+pub mod ScoresThrough
+pub mod DueThrough
