@@ -4,3 +4,5 @@ pub mod UnlikeRows
 pub mod ToldOnce
 pub mod KeptThrough
 pub mod RowMended
+pub mod ScoresThrough
+pub mod DueThrough
