@@ -213,7 +213,10 @@ pub(crate) fn mend_shelves(table: &mut Table, part: Part, shelves: &Shelf, score
             side: shelves.side,
             passed: shelves.passed,
         };
-        match mend_row(table, part, &shelf, scores[row], zeroing[row], &mut ended[row]) {
+        let mut here = ended[row];
+        let row_found = mend_row(table, part, &shelf, scores[row], zeroing[row], &mut here);
+        ended[row] = here;
+        match row_found {
             Mended::Due => {}
             Mended::Put => found = Mended::Put,
             Mended::Untold => return Mended::Untold,
