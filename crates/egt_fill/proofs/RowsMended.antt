@@ -23,10 +23,10 @@ use Rattle.egt_check.specs.RightRow.{IsRightAtOf, IsRightEndOf}
 use Rattle.egt_check.specs.Worth.{column_score, entry_score}
 use Rattle.egt_check.specs.declared.part.Part.{Part}
 use Rattle.egt_check.specs.declared.part.Part.TheVariants.{Values, Reach}
-use Rattle.egt_fill.specs.Mended.{AllEnded, AreEnded, AreRightRows, IsCodeOf, IsMended, IsMendedAt, IsOfKings, IsRightRow, IsShelf, no_squares, shelf_at}
+use Rattle.egt_fill.specs.Mended.{AllEnded, AreEnded, AreRightRows, IsCodeIn, IsCodeOf, IsMendedAt, IsRightRow, IsShelf, no_squares, shelf_at}
 use Rattle.egt_fill.specs.declared.mending.Shelf.{Shelf}
 use Rattle.egt_fill.proofs.PutEntries.{end_stays, mended_after}
-use Rattle.egt_fill.proofs.ShelfLanes.{codes_of_kings, number_within}
+use Rattle.egt_fill.proofs.ShelfLanes.{number_within}
 
 -- numbers of different shelves differ
 one_shelf : (kind : Kind) (m n s y z : ℕ) → y < kind_digits kind → z < kind_digits kind → m * (2 * kind_digits kind) + s + 2 * y ≡ n * (2 * kind_digits kind) + s + 2 * z → m ≡ n
@@ -91,9 +91,9 @@ module _ (part : Part) (mid new : TableValue) (shelves : Shelf) (are : AreShelve
 
     -- one row more is put
     module _ (old : TableValue) (row : Shelf) (same : row ≡ shelf_at shelves d) (ended : List SquareSet) (long : length ended ≡ 64) (place : ℕ) (at : place ≡ d + kind_less shelves.men.one.kind) (set : SquareSet) (scores zeroing : List (List ℕ)) where
-      pub more_mended : IsMended part shelves.men.white shelves.men.black shelves.side old mid → IsMended part shelves.men.white shelves.men.black shelves.side old new
-      more_mended before = mended_after part (IsOfKings old.class shelves.men.white shelves.men.black shelves.side) (IsCodeOf mid.class (shelf_at shelves d)) old mid new before mended
-          (λ i of. subst (λ c. IsOfKings c shelves.men.white shelves.men.black shelves.side i) before.class (codes_of_kings mid.class (shelf_at shelves d) i (row_is d d_in) of))
+      pub more_mended : IsMendedAt part (IsCodeIn old.class shelves) old mid → IsMendedAt part (IsCodeIn old.class shelves) old new
+      more_mended before = mended_after part (IsCodeIn old.class shelves) (IsCodeOf mid.class (shelf_at shelves d)) old mid new before mended
+          (λ i of. (d, d_in, subst (λ c. IsCodeOf c (shelf_at shelves d) i) before.class of))
 
       pub more_ended : AllEnded part mid shelves ended → AreEnded part new row set → AllEnded part new shelves (slice_set ended place set)
       more_ended before here x x_in = elim (cases_eq x d) [
@@ -127,3 +127,25 @@ pub shelf_same : (shelves : Shelf) (n : ℕ) (m : ShelfMen) (d on : ℕ) → n �
 shelf_same shelves n m d on same is at =
     ap (λ k. record { number = shelves.number + k; men = m; side = shelves.side; passed = shelves.passed }) same
     ∙ ap (λ (k : ShelfMen). record { number = shelves.number + d; men = k; side = shelves.side; passed = shelves.passed }) (is ∙ ap (men_on shelves.men) at)
+
+-- ---- shelves stay right while entries elsewhere are put
+
+module _ (part : Part) (old new : TableValue) (At : ℕ → Type 0) (mended : IsMendedAt part At old new) (shelves : Shelf)
+    (apart : (x y : ℕ) → x < kind_digits shelves.men.one.kind → y < kind_digits shelves.men.last.kind → ¬ At (code_of old.class (number_in old.class (shelves.number + x) shelves.side y))) where
+  pub rows_stay : (scores zeroing : List (List ℕ)) → AreRightRows part old shelves scores zeroing (kind_digits shelves.men.one.kind) → AreRightRows part new shelves scores zeroing (kind_digits shelves.men.one.kind)
+  rows_stay scores zeroing right x x_in y y_in =
+      let a = x + kind_less shelves.men.one.kind in
+      let b = y + kind_less shelves.men.last.kind in
+      subst (λ c. column_score new (column_of part) (code_of c (number_in c (shelves.number + x) shelves.side y)) ≢ 0 → IsRightAtOf part new (code_of c (number_in c (shelves.number + x) shelves.side y)) (slice_index (slice_index_or scores a []) b) (slice_index (slice_index_or zeroing a []) b)) (sym mended.class)
+      (λ some.
+      let code = code_of old.class (number_in old.class (shelves.number + x) shelves.side y) in
+      let kept : column_score new (column_of part) code ≡ column_score old (column_of part) code = elim (mended.same (column_of part) code) [
+        | inl same ↦ ap (λ n. entry_score (column_of part) (n % 256)) same
+        | inr at ↦ absurd (apart x y x_in y_in at)
+      ] in
+      right_at_stays part old new At code (slice_index (slice_index_or scores a []) b) (slice_index (slice_index_or zeroing a []) b) mended (apart x y x_in y_in) (right x x_in y y_in (λ e. some (kept ∙ e))))
+
+  pub all_ended_stay : (ended : List SquareSet) → AllEnded part old shelves ended → AllEnded part new shelves ended
+  all_ended_stay ended before x x_in y y_in has =
+      subst (λ c. IsRightEndOf part new (code_of c (number_in c (shelves.number + x) shelves.side y))) (sym mended.class)
+      (end_stays part old new At (code_of old.class (number_in old.class (shelves.number + x) shelves.side y)) mended (apart x y x_in y_in) (before x x_in y y_in has))

@@ -1,5 +1,5 @@
 -- A code tells one side to move and one square for each man.
-use Rattle.std.proofs.Common.{◌≡◌, ◌≢◌, ℕ, ◌<◌, Bool, true, false, cond, List, [], ◌∷◌, refl, sym, ap, ◌∙◌, arith}
+use Rattle.std.proofs.Common.{◌≡◌, ◌≢◌, ℕ, ◌<◌, Bool, true, false, cond, List, [], ◌∷◌, refl, sym, ap, subst, ◌∙◌, arith}
 use Rattle.egt_board.specs.Attack.{king_of}
 use Rattle.egt_board.specs.Images.{side_number}
 use Rattle.egt_board.specs.declared.man.Man.{Man}
@@ -28,6 +28,15 @@ ends_fit false side passed = (side_few side, tt)
 
 heads : {a b : ℕ} {x y : List ℕ} → a ∷ x ≡ b ∷ y → a ≡ b
 heads e = cc
+
+tails : {a b : ℕ} {x y : List ℕ} → a ∷ x ≡ b ∷ y → x ≡ y
+tails e = cc
+
+one_flag : (p q : Bool) → ◌≡◌ {A = ℕ} (cond p 1 0) (cond q 1 0) → p ≡ q
+one_flag true true e = refl
+one_flag true false e = absurd (omega (arith, e))
+one_flag false true e = absurd (omega (arith, e))
+one_flag false false e = refl
 
 one_side : (side other : Side) → side_number side ≡ side_number other → side ≡ other
 one_side White White e = refl
@@ -63,3 +72,10 @@ module _ (c code : ℕ) (p q : Bool) (s t : Stand) (side other : Side) (here : T
 
   pub kings_told : (s.white ≡ t.white) × (s.black ≡ t.black)
   kings_told = first_squares s.white s.black t.white t.black _ _ same_list
+
+  same_flag : (b : Bool) → has_target (material_of c) ≡ b → p ≡ q
+  same_flag false none = here.ends.never none ∙ sym (there.ends.never none)
+  same_flag true some = one_flag p q (heads (tails (subst (λ (t : Bool). ◌≡◌ {A = List ℕ} (side_number side ∷ cond t (cond p 1 0 ∷ []) []) (side_number other ∷ cond t (cond q 1 0 ∷ []) [])) some both.1)))
+
+  pub passed_told : p ≡ q
+  passed_told = same_flag (has_target (material_of c)) refl

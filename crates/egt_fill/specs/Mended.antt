@@ -93,6 +93,10 @@ shelf_at shelves digit = record {
   passed = shelves.passed;
 }
 
+-- the code is of one of the shelves of these men from this one on
+abbrev pub IsCodeIn : (c : ℕ) → Shelf → ℕ → Type 0
+IsCodeIn c shelves code = (x : ℕ) × (x < kind_digits shelves.men.one.kind) × IsCodeOf c (shelf_at shelves x) code
+
 -- no squares
 abbrev pub no_squares : SquareSet
 no_squares = record { bits = 0 }

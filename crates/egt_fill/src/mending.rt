@@ -11,7 +11,7 @@ ghost use Rattle.egt_check.specs.Parts.{column_of, table_in};
 ghost use Rattle.egt_entries.specs.declared.metric.Metric.TheVariants.{Zeroing};
 ghost use Rattle.egt_check.specs.Worth.{HasBytes, score_at};
 ghost use Rattle.egt_check.specs.declared.part.Part.TheVariants as parts;
-ghost use Rattle.egt_fill.specs.Mended.{AllEnded, AreEnded, AreRightRows, IsCodeOf, IsLaneOf, IsMended, IsMendedAt, IsPutAt, IsRightRow, IsRowSeen, IsShelf};
+ghost use Rattle.egt_fill.specs.Mended.{AllEnded, AreEnded, AreRightRows, IsCodeIn, IsCodeOf, IsLaneOf, IsMendedAt, IsPutAt, IsRightRow, IsRowSeen, IsShelf};
 ghost use Rattle.egt_fill.specs.declared.mending.Mended.TheVariants as mends;
 
 use crate::putting::{put, see_end};
@@ -192,7 +192,7 @@ pub(crate) fn mend_shelves(table: &mut Table, part: Part, shelves: &Shelf, score
     requires there { HasColumn (column_of part) table.old }
     requires bytes { HasBytes (table_in part table.old) }
     requires ended { AllEnded part table.old shelves.now ended.old }
-    ensures mended { IsMended part shelves.now.men.white shelves.now.men.black shelves.now.side table.old table.new }
+    ensures mended { IsMendedAt part (IsCodeIn table.old.class shelves.now) table.old table.new }
     ensures due { result ≡ mends.Due → table.new ≡ table.old }
     ensures shelves { result ≢ mends.Untold → AreShelvesOf shelves.now.passed table.old.class shelves.now.men shelves.now.number }
     ensures ended { result ≢ mends.Untold → AllEnded part table.new shelves.now ended.new }
