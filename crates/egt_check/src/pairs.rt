@@ -1,5 +1,5 @@
 //! The pairs of squares that the kings stand on, of a class with two men beside them.
-ghost use Rattle.std.specs.Prelude.{◌≡◌, ◌*◌, ◌<◌, ◌≤◌, ℕ, IfSome};
+ghost use Rattle.std.specs.Prelude.{◌*◌, ◌<◌, ◌≤◌, ℕ, IfSome};
 ghost use Rattle.egt_board.specs.declared.man.Side.{Side};
 ghost use Rattle.egt_index.specs.Size.{size_of};
 ghost use Rattle.egt_index.specs.declared.shelf_codes.ShelfMen.{ShelfMen};

@@ -3,3 +3,4 @@ pub mod ShelfLanes
 pub mod UnlikeRows
 pub mod ToldOnce
 pub mod KeptThrough
+pub mod DueJudged
