@@ -1,5 +1,5 @@
 //! The judgement of a whole table of a class with two men beside the kings, block by block.
-ghost use Rattle.std.specs.Prelude.{◌≡◌, ◌≢◌, ◌+◌, ◌*◌, ◌<◌, ◌≤◌, ℕ, false, true, Some, None, IfSome};
+ghost use Rattle.std.specs.Prelude.{◌≡◌, ◌≢◌, ◌+◌, ◌*◌, ◌<◌, ℕ, false, true, Some, None, IfSome};
 ghost use Rattle.egt_board.specs.Man.{other_side};
 ghost use Rattle.egt_board.specs.Turned.{turned_man};
 ghost use Rattle.egt_board.specs.Setup.{Setup};
@@ -8,8 +8,6 @@ ghost use Rattle.egt_board.specs.declared.man.Side.{Side};
 ghost use Rattle.egt_class.specs.Membership.{IsOf};
 ghost use Rattle.egt_class.specs.Pair.{AreNonKings};
 ghost use Rattle.egt_index.specs.LoneCodes.{IsLoneMan};
-ghost use Rattle.egt_index.specs.Numbers.{places};
-ghost use Rattle.egt_index.specs.Scales.{kind_digits};
 ghost use Rattle.egt_index.specs.ShelfCodes.{AreMenOf};
 ghost use Rattle.egt_index.specs.Size.{size_of};
 ghost use Rattle.egt_index.specs.declared.shelf_codes.ShelfMen.{ShelfMen};
@@ -20,7 +18,7 @@ ghost use Rattle.egt_blocks.specs.Blocks.{with_kings};
 ghost use Rattle.egt_blocks.specs.Kept.{AreKept};
 ghost use Rattle.egt_check.specs.MoveScores.{AreChildren, AreFourMen, AreTablesOf};
 ghost use Rattle.egt_check.specs.Parts.{IsOwnTable, column_of, four_in, promotion_in, promotions_in, table_in, tables_in};
-ghost use Rattle.egt_check.specs.PairOrder.{nth_pair};
+ghost use Rattle.egt_check.specs.Pairs.{AreJudgedPairs};
 ghost use Rattle.egt_check.specs.PawnScores.{AreNamed, ArePromotionsOf, HasPromotion, HasPromotions, IsPromotionOf};
 ghost use Rattle.egt_check.specs.RightBlock.{AreJudged, KeepsPart};
 ghost use Rattle.egt_check.specs.declared.move_scores.FourMen.{FourMen};
@@ -36,18 +34,18 @@ use crate::bytes::{tells_bytes, true_table_tells};
 use crate::library::Library;
 use crate::move_scores::{Children, FourMen, beside_own};
 use crate::pair_order::nth_pair;
+use crate::pairs::{Pairs, judged_pairs_hold_all_codes, pairs_of};
 use crate::part::{Part, column_of};
 use crate::pawn_scores::{Promotion, Promotions};
 use egt_blocks::blocks::nothing;
-use egt_blocks::digits::digits_of;
 use egt_blocks::kept_blocks::{BlockKey, NEAR_PLACES, no_keys};
 use egt_blocks::men::{are_equal, men_swapped};
 use egt_blocks::own_men::{is_pawn, turned_man};
 use egt_board::{Kind, Man, Side, Square};
 use egt_class::Class;
 use egt_class::membership::of_men;
-use egt_index::laws::{a_code_is_an_index_or_void, numbers_stand_for_codes};
-use egt_index::{ShelfMen, has_target, last_digits, lone_man, shelf_men, size};
+use egt_index::laws::a_code_is_an_index_or_void;
+use egt_index::{ShelfMen, lone_man, shelf_men};
 use egt_lanes::Block;
 use egt_table::Table;
 
@@ -117,56 +115,50 @@ fn pair_is_right(
     side_is_right(four, &there, part, first, half, side, keys, blocks)
 }
 
-/// Whether so are those of all pairs of kings' squares, of which the white king has so many.
+/// Whether so are those of all pairs of kings' squares.
 fn side_pairs_are_right(
     four: &FourMen,
     men: &ShelfMen,
     part: Part,
-    kings: u32,
-    half: u32,
+    pairs: &Pairs,
     side: Side,
 ) -> bool
     requires men { AreFourMen (column_of part) four.now men.now }
-    requires room { 64 * kings * kind_digits men.now.one.kind + half + 64 < 4294967296 }
-    ensures { result ≡ true → (tables : Tables) → AreTablesOf (tables_in part tables) (four_in part four.now) men.now → (n : ℕ) → n < 64 * kings →
-        AreJudged part tables four.now.own.now men.now (nth_pair side kings n * kind_digits men.now.one.kind) side × AreJudged part tables four.now.own.now men.now (nth_pair side kings n * kind_digits men.now.one.kind + half) side }
+    requires few { 64 * pairs.now.kings < 4294967296 }
+    requires room { 64 * pairs.now.kings * pairs.now.step + pairs.now.half + 64 < 4294967296 }
+    ensures { result ≡ true → (tables : Tables) → AreTablesOf (tables_in part tables) (four_in part four.now) men.now → AreJudgedPairs part tables four.now.own.now men.now pairs.now side }
 {
-    let step = u32::from(digits_of(men.one));
     let mut keys = no_keys();
     let mut blocks = [nothing(); NEAR_PLACES];
-    for n in 0..64 * kings {
-        let first = nth_pair(side, n, kings) * step;
-        if !pair_is_right(four, men, part, first, half, side, &mut keys, &mut blocks) {
+    for n in 0..64 * pairs.kings {
+        let first = nth_pair(side, n, pairs.kings) * pairs.step;
+        if !pair_is_right(
+            four,
+            men,
+            part,
+            first,
+            pairs.half,
+            side,
+            &mut keys,
+            &mut blocks,
+        ) {
             return false;
         }
     }
     true
 }
 
-/// How many of the class's shelves have a target: the upper half, or none.
-fn with_targets(class: Class, shelves: u32) -> u32
-    ensures { 2 * result ≤ shelves }
-{
-    if has_target(class) { shelves / 2 } else { 0 }
-}
-
 /// Whether all entries of the part keep the rules, at all codes of the class.
 pub fn pairs_are_right(four: &FourMen, men: &ShelfMen, part: Part) -> bool
     requires men { AreFourMen (column_of part) four.now men.now }
-    requires wide { places four.now.own.now.class ≡ kind_digits men.now.last.kind }
     ensures { result ≡ true → (tables : Tables) → AreTablesOf (tables_in part tables) (four_in part four.now) men.now → (i : ℕ) → i < size_of four.now.own.now.class → KeepsPart part tables four.now.own.now i }
 {
-    numbers_stand_for_codes();
-    let class = four.own.class();
-    let step = u32::from(digits_of(men.one));
-    let shelves = size(class).div_ceil(2 * last_digits(class));
-    let half = with_targets(class, shelves);
-    let kings = (shelves - half) / (64 * step);
-    if 64 * kings * step != shelves - half {
+    judged_pairs_hold_all_codes();
+    let Some(pairs) = pairs_of(four.own.class(), men) else {
         return false;
-    }
-    side_pairs_are_right(four, men, part, kings, half, Side::White)
-        && side_pairs_are_right(four, men, part, kings, half, Side::Black)
+    };
+    side_pairs_are_right(four, men, part, &pairs, Side::White)
+        && side_pairs_are_right(four, men, part, &pairs, Side::Black)
 }
 
 /// Whether this is the table of the class in which the man is left alone beside the kings, in colours exchanged where

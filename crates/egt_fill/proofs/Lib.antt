@@ -7,3 +7,4 @@ pub mod RowMended
 pub mod ScoresThrough
 pub mod DueThrough
 pub mod RowsMended
+pub mod DueJudged

@@ -3,7 +3,9 @@
 //! again where one that it reads has changed.
 #![tactic(auto)]
 
+pub mod covering;
 pub mod entry_of;
 pub mod filling;
+pub mod items;
 pub mod mending;
 pub mod putting;
