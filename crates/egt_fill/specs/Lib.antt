@@ -2,4 +2,5 @@ pub mod Mended
 pub mod Turns
 pub mod Reads
 pub mod Settled
+pub mod Items
 pub mod Covered

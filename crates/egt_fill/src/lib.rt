@@ -7,5 +7,6 @@ pub mod covering;
 pub mod entry_of;
 pub mod filling;
 pub mod items;
+pub mod looking;
 pub mod mending;
 pub mod putting;

@@ -1,0 +1,155 @@
+//! A look at an item: what is due to the greatest scores of all moves is put in its entries.
+ghost use Rattle.std.specs.Prelude.{◌≡◌, ◌≢◌, true};
+ghost use Rattle.egt_board.specs.Man.{other_side};
+ghost use Rattle.egt_blocks.specs.Kept.{AreKept};
+ghost use Rattle.egt_check.specs.Parts.{IsOwnTable};
+ghost use Rattle.egt_check.specs.Worth.{column_score};
+ghost use Rattle.egt_fill.specs.Items.{AreItemScores, IsItem, IsRightItem, IsSameItem, IsSeenItem, men_of};
+ghost use Rattle.egt_fill.specs.Mended.{IsMended};
+ghost use Rattle.egt_fill.specs.Settled.{IsFilling};
+ghost use Rattle.egt_fill.specs.declared.mending.Mended.TheVariants as mends;
+
+use crate::filling::Filling;
+use crate::items::Item;
+use crate::mending::{Mended, Shelf, mend_shelves};
+use egt_blocks::blocks::nothing;
+use egt_blocks::kept_blocks::{BlockKey, NEAR_PLACES, no_keys};
+use egt_check::block_judging::{part_scores, raise_part_passed};
+use egt_check::move_scores::{beside_own, passing_captures};
+use egt_check::part::column_of;
+use egt_check::table_judging::with_kings;
+use egt_index::men::has_equal_sides;
+use egt_index::ShelfMen;
+use egt_lanes::Block;
+use egt_table::Table;
+
+/// The greatest scores of all moves, where there is no target and where there is one; the second of each are of the zeroing column alone.
+pub(crate) struct Scores {
+    pub(crate) plain: Block,
+    pub(crate) clocks: Block,
+    pub(crate) passed: Block,
+    pub(crate) passed_clocks: Block,
+}
+
+/// What a look reads and writes beside the table and the item: blocks that were read before, and scores.
+pub(crate) struct Desk {
+    pub(crate) keys: [Option<BlockKey>; NEAR_PLACES],
+    pub(crate) blocks: [Block; NEAR_PLACES],
+    pub(crate) scores: Scores,
+}
+
+/// The greatest scores of all moves from the item's positions. False where a table does not tell.
+fn item_scores(f: &Filling, table: &Table, item: &Item, men: &ShelfMen, desk: &mut Desk) -> bool
+    requires filling { IsFilling f.now }
+    requires table { IsOwnTable f.now.part f.now.class f.now.men table.now }
+    requires item { IsItem f.now table.now item.now }
+    requires men { men.now ≡ men_of f.now item.now }
+    requires kept { AreKept f.now.class (column_score table.now) f.now.men (other_side item.now.side) desk.old.keys desk.old.blocks }
+    ensures kept { result ≡ true → AreKept f.now.class (column_score table.now) f.now.men (other_side item.now.side) desk.new.keys desk.new.blocks }
+    ensures scores { result ≡ true → AreItemScores f.now table.now men.now item.now.side desk.new.scores }
+{
+    let side = item.side;
+    let four = beside_own(table, &f.children);
+    let out = &mut desk.scores;
+    if !part_scores(
+        &four,
+        men,
+        f.part,
+        side,
+        &item.leaving,
+        &mut desk.keys,
+        &mut desk.blocks,
+        &mut out.plain,
+        &mut out.clocks,
+    ) {
+        return false;
+    }
+    if f.half == 0 {
+        return true;
+    }
+    let mut passing = nothing();
+    if !passing_captures(&f.children, column_of(f.part), men, side, &mut passing) {
+        return false;
+    }
+    out.passed = out.plain;
+    out.passed_clocks = out.clocks;
+    raise_part_passed(
+        &four,
+        men,
+        f.part,
+        side,
+        &passing,
+        &mut out.passed,
+        &mut out.passed_clocks,
+    );
+    true
+}
+
+/// Of what two looks came to, what they come to together.
+fn together(one: Mended, other: Mended) -> Mended
+    ensures due { result ≡ mends.Due → (one ≡ mends.Due) × (other ≡ mends.Due) }
+    ensures told { result ≢ mends.Untold → (one ≢ mends.Untold) × (other ≢ mends.Untold) }
+{
+    match (one, other) {
+        (Mended::Untold, _) | (_, Mended::Untold) => Mended::Untold,
+        (Mended::Due, Mended::Due) => Mended::Due,
+        _ => Mended::Put,
+    }
+}
+
+/// Puts what is due to the scores in the item's entries.
+fn mend_item(f: &Filling, table: &mut Table, item: &mut Item, men: &ShelfMen, scores: &Scores) -> Mended
+    requires filling { IsFilling f.now }
+    requires table { IsOwnTable f.now.part f.now.class f.now.men table.old }
+    requires item { IsItem f.now table.old item.old }
+    requires men { men.now ≡ men_of f.now item.old }
+    ensures mended { IsMended f.now.part item.old.white item.old.black item.old.side table.old table.new }
+    ensures due { result ≡ mends.Due → table.new ≡ table.old }
+    ensures same { IsSameItem item.old item.new }
+    ensures item { result ≢ mends.Untold → IsItem f.now table.new item.new }
+    ensures right { result ≢ mends.Untold → IsRightItem f.now table.new item.new scores.now }
+{
+    let plain = Shelf {
+        number: item.first,
+        men: *men,
+        side: item.side,
+        passed: false,
+    };
+    let lower = mend_shelves(table, f.part, &plain, &scores.plain, &scores.clocks, &mut item.ended);
+    if f.half == 0 {
+        return lower;
+    }
+    let passed = Shelf {
+        number: item.first + f.half,
+        men: *men,
+        side: item.side,
+        passed: true,
+    };
+    let upper = mend_shelves(table, f.part, &passed, &scores.passed, &scores.passed_clocks, &mut item.passed_ended);
+    together(lower, upper)
+}
+
+/// Looks at the item's positions: puts what is due to the greatest scores of all moves.
+pub(crate) fn look(f: &Filling, table: &mut Table, item: &mut Item, desk: &mut Desk) -> Mended
+    requires filling { IsFilling f.now }
+    requires table { IsOwnTable f.now.part f.now.class f.now.men table.old }
+    requires item { IsItem f.now table.old item.old }
+    requires kept { AreKept f.now.class (column_score table.old) f.now.men (other_side item.old.side) desk.old.keys desk.old.blocks }
+    ensures mended { IsMended f.now.part item.old.white item.old.black item.old.side table.old table.new }
+    ensures due { result ≡ mends.Due → table.new ≡ table.old }
+    ensures same { IsSameItem item.old item.new }
+    ensures item { result ≢ mends.Untold → IsItem f.now table.new item.new }
+    ensures seen { result ≢ mends.Untold → IsSeenItem f.now table.old table.new item.new }
+    ensures kept { result ≢ mends.Untold → AreKept f.now.class (column_score table.new) f.now.men (other_side item.old.side) desk.new.keys desk.new.blocks }
+{
+    let men = with_kings(&f.men, item.white, item.black);
+    if !item_scores(f, table, item, &men, desk) {
+        return Mended::Untold;
+    }
+    let found = mend_item(f, table, item, &men, &desk.scores);
+    // Where sides have the same men, positions with either side to move are read as those of the other.
+    if has_equal_sides(f.class) {
+        desk.keys = no_keys();
+    }
+    found
+}
