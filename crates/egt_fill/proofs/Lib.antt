@@ -6,3 +6,4 @@ pub mod KeptThrough
 pub mod RowMended
 pub mod ScoresThrough
 pub mod DueThrough
+pub mod StampPlaces

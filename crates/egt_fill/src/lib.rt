@@ -7,3 +7,4 @@ pub mod entry_of;
 pub mod filling;
 pub mod mending;
 pub mod putting;
+pub mod stamps;
