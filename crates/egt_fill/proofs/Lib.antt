@@ -8,3 +8,4 @@ pub mod ScoresThrough
 pub mod DueThrough
 pub mod RowsMended
 pub mod DueJudged
+pub mod StampPlaces

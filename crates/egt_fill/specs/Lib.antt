@@ -4,3 +4,4 @@ pub mod Reads
 pub mod Settled
 pub mod Items
 pub mod Covered
+pub mod Stamps

@@ -10,3 +10,4 @@ pub mod items;
 pub mod looking;
 pub mod mending;
 pub mod putting;
+pub mod stamps;
