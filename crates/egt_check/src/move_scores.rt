@@ -50,13 +50,13 @@ pub struct Children<'t> {
 
 /// The table of a class of two men beside the kings, and those of the classes that moves lead to which leave it.
 #[derive(Drop)]
-pub struct FourMen<'t> {
-    pub own: &'t Table,
+pub struct FourMen<'o, 't> {
+    pub own: &'o Table,
     pub children: Children<'t>,
 }
 
 /// The class's own table beside those of its children.
-pub fn beside_own<'t>(own: &'t Table, children: &Children<'t>) -> FourMen<'t>
+pub fn beside_own<'o, 't>(own: &'o Table, children: &Children<'t>) -> FourMen<'o, 't>
     ensures own { result.own.now ≡ own.now }
     ensures children { result.children ≡ children.now }
 {

@@ -344,7 +344,7 @@ pub(crate) fn four_men<'t>(
     library: &'t Library,
     men: &ShelfMen,
     part: Part,
-) -> Option<FourMen<'t>>
+) -> Option<FourMen<'t, 't>>
     requires there { HasColumn (column_of part) table.now }
     requires bytes { HasBytes (table_in part table.now) }
     requires men { AreMenOf table.now.class men.now }

@@ -1,5 +1,5 @@
 //! A look at an item: what is due to the greatest scores of all moves is put in its entries.
-ghost use Rattle.std.specs.Prelude.{◌≡◌, ◌≢◌, true};
+ghost use Rattle.std.specs.Prelude.{◌≡◌, ◌≢◌, ◌<◌, ℕ, length, slice_index_or, None, true};
 ghost use Rattle.egt_board.specs.Man.{other_side};
 ghost use Rattle.egt_blocks.specs.Kept.{AreKept};
 ghost use Rattle.egt_check.specs.Parts.{IsOwnTable};
@@ -13,7 +13,7 @@ use crate::filling::Filling;
 use crate::items::Item;
 use crate::mending::{Mended, Shelf, mend_shelves};
 use egt_blocks::blocks::nothing;
-use egt_blocks::kept_blocks::{BlockKey, NEAR_PLACES, no_keys};
+use egt_blocks::kept_blocks::BlockKey;
 use egt_check::block_judging::{part_scores, raise_part_passed};
 use egt_check::move_scores::{beside_own, passing_captures};
 use egt_check::part::column_of;
@@ -31,39 +31,35 @@ pub(crate) struct Scores {
     pub(crate) passed_clocks: Block,
 }
 
-/// What a look reads and writes beside the table and the item: blocks that were read before, and scores.
-pub(crate) struct Desk {
-    pub(crate) keys: [Option<BlockKey>; NEAR_PLACES],
-    pub(crate) blocks: [Block; NEAR_PLACES],
-    pub(crate) scores: Scores,
-}
-
 /// The greatest scores of all moves from the item's positions. False where a table does not tell.
-fn item_scores(f: &Filling, table: &Table, item: &Item, men: &ShelfMen, desk: &mut Desk) -> bool
+fn item_scores(f: &Filling, table: &Table, item: &Item, men: &ShelfMen, keys: &mut [Option<BlockKey>], blocks: &mut [Block], out: &mut Scores) -> bool
     requires filling { IsFilling f.now }
     requires table { IsOwnTable f.now.part f.now.class f.now.men table.now }
     requires item { IsItem f.now table.now item.now }
     requires men { men.now ≡ men_of f.now item.now }
-    requires kept { AreKept f.now.class (column_score table.now) f.now.men (other_side item.now.side) desk.old.keys desk.old.blocks }
-    ensures kept { result ≡ true → AreKept f.now.class (column_score table.now) f.now.men (other_side item.now.side) desk.new.keys desk.new.blocks }
-    ensures scores { result ≡ true → AreItemScores f.now table.now men.now item.now.side desk.new.scores }
+    requires kept { AreKept f.now.class (column_score table.now) f.now.men (other_side item.now.side) keys.old blocks.old }
+    ensures kept { result ≡ true → AreKept f.now.class (column_score table.now) f.now.men (other_side item.now.side) keys.new blocks.new }
+    ensures scores { result ≡ true → AreItemScores f.now table.now men.now item.now.side out.new }
 {
     let side = item.side;
     let four = beside_own(table, &f.children);
-    let out = &mut desk.scores;
+    let mut plain = nothing();
+    let mut clocks = nothing();
     if !part_scores(
         &four,
         men,
         f.part,
         side,
         &item.leaving,
-        &mut desk.keys,
-        &mut desk.blocks,
-        &mut out.plain,
-        &mut out.clocks,
+        keys,
+        blocks,
+        &mut plain,
+        &mut clocks,
     ) {
         return false;
     }
+    out.plain = plain;
+    out.clocks = clocks;
     if f.half == 0 {
         return true;
     }
@@ -71,17 +67,17 @@ fn item_scores(f: &Filling, table: &Table, item: &Item, men: &ShelfMen, desk: &m
     if !passing_captures(&f.children, column_of(f.part), men, side, &mut passing) {
         return false;
     }
-    out.passed = out.plain;
-    out.passed_clocks = out.clocks;
     raise_part_passed(
         &four,
         men,
         f.part,
         side,
         &passing,
-        &mut out.passed,
-        &mut out.passed_clocks,
+        &mut plain,
+        &mut clocks,
     );
+    out.passed = plain;
+    out.passed_clocks = clocks;
     true
 }
 
@@ -129,27 +125,35 @@ fn mend_item(f: &Filling, table: &mut Table, item: &mut Item, men: &ShelfMen, sc
     together(lower, upper)
 }
 
+/// Forgets the blocks that were read before.
+fn forget(keys: &mut [Option<BlockKey>])
+    ensures length { length keys.new ≡ length keys.old }
+    ensures none { (i : ℕ) → i < length keys.new → slice_index_or keys.new i None ≡ None }
+{
+    keys.fill(None);
+}
+
 /// Looks at the item's positions: puts what is due to the greatest scores of all moves.
-pub(crate) fn look(f: &Filling, table: &mut Table, item: &mut Item, desk: &mut Desk) -> Mended
+pub(crate) fn look(f: &Filling, table: &mut Table, item: &mut Item, keys: &mut [Option<BlockKey>], blocks: &mut [Block], scores: &mut Scores) -> Mended
     requires filling { IsFilling f.now }
     requires table { IsOwnTable f.now.part f.now.class f.now.men table.old }
     requires item { IsItem f.now table.old item.old }
-    requires kept { AreKept f.now.class (column_score table.old) f.now.men (other_side item.old.side) desk.old.keys desk.old.blocks }
+    requires kept { AreKept f.now.class (column_score table.old) f.now.men (other_side item.old.side) keys.old blocks.old }
     ensures mended { IsMended f.now.part item.old.white item.old.black item.old.side table.old table.new }
     ensures due { result ≡ mends.Due → table.new ≡ table.old }
     ensures same { IsSameItem item.old item.new }
     ensures item { result ≢ mends.Untold → IsItem f.now table.new item.new }
     ensures seen { result ≢ mends.Untold → IsSeenItem f.now table.old table.new item.new }
-    ensures kept { result ≢ mends.Untold → AreKept f.now.class (column_score table.new) f.now.men (other_side item.old.side) desk.new.keys desk.new.blocks }
+    ensures kept { result ≢ mends.Untold → AreKept f.now.class (column_score table.new) f.now.men (other_side item.old.side) keys.new blocks.new }
 {
     let men = with_kings(&f.men, item.white, item.black);
-    if !item_scores(f, table, item, &men, desk) {
+    if !item_scores(f, table, item, &men, keys, blocks, scores) {
         return Mended::Untold;
     }
-    let found = mend_item(f, table, item, &men, &desk.scores);
+    let found = mend_item(f, table, item, &men, scores);
     // Where sides have the same men, positions with either side to move are read as those of the other.
     if has_equal_sides(f.class) {
-        desk.keys = no_keys();
+        forget(keys);
     }
     found
 }
