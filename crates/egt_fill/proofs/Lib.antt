@@ -10,3 +10,4 @@ pub mod RowsMended
 pub mod DueJudged
 pub mod StampPlaces
 pub mod ItemMended
+pub mod ItemSeen

@@ -20,6 +20,7 @@ use egt_check::part::column_of;
 use egt_check::table_judging::with_kings;
 use egt_index::men::has_equal_sides;
 use egt_index::ShelfMen;
+use egt_index::laws::numbers_stand_for_codes;
 use egt_lanes::Block;
 use egt_table::Table;
 
@@ -146,6 +147,7 @@ pub(crate) fn look(f: &Filling, table: &mut Table, item: &mut Item, keys: &mut [
     ensures seen { result ≢ mends.Untold → IsSeenItem f.now table.old table.new item.new }
     ensures kept { result ≢ mends.Untold → AreKept f.now.class (column_score table.new) f.now.men (other_side item.old.side) keys.new blocks.new }
 {
+    numbers_stand_for_codes();
     let men = with_kings(&f.men, item.white, item.black);
     if !item_scores(f, table, item, &men, keys, blocks, scores) {
         return Mended::Untold;
