@@ -6,3 +6,6 @@ pub mod KeptThrough
 pub mod RowMended
 pub mod ScoresThrough
 pub mod DueThrough
+pub mod DrawnCodes
+pub mod DrawnBytes
+pub mod FilledTables

@@ -3,7 +3,12 @@
 //! again where one that it reads has changed.
 #![tactic(auto)]
 
+pub mod begun;
 pub mod entry_of;
 pub mod filling;
 pub mod mending;
 pub mod putting;
+pub mod settling;
+pub mod tables;
+
+pub use tables::{Reached, filled_reach, filled_values};
