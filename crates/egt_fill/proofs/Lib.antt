@@ -11,3 +11,6 @@ pub mod DueJudged
 pub mod StampPlaces
 pub mod ItemMended
 pub mod ItemSeen
+pub mod DrawnCodes
+pub mod DrawnBytes
+pub mod FilledTables

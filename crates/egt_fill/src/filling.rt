@@ -10,6 +10,7 @@ use egt_class::Class;
 use egt_index::{ShelfMen, has_target, last_digits, shelf_men, size};
 
 /// A part of the table of a class with two men beside the kings, and the tables of its children.
+#[derive(Drop)]
 pub(crate) struct Filling<'t> {
     pub(crate) library: &'t Library,
     pub(crate) class: Class,
@@ -26,6 +27,7 @@ pub(crate) fn filling_of<'t>(library: &'t Library, class: Class, part: Part) -> 
     ensures filling { IfSome result IsFilling }
     ensures class { IfSome result (λ f. f.class ≡ class) }
     ensures part { IfSome result (λ f. f.part ≡ part) }
+    ensures library { IfSome result (λ f. f.library.now ≡ library.now) }
 {
     let men = shelf_men(class, 0)?;
     let _number = class.number();

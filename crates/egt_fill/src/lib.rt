@@ -4,6 +4,7 @@
 #![tactic(auto)]
 
 pub mod covering;
+pub mod begun;
 pub mod entry_of;
 pub mod filling;
 pub mod items;
@@ -11,3 +12,7 @@ pub mod looking;
 pub mod mending;
 pub mod putting;
 pub mod stamps;
+pub mod settling;
+pub mod tables;
+
+pub use tables::{Reached, filled_reach, filled_values};

@@ -79,6 +79,18 @@ impl Table {
         })
     }
 
+    /// The table without the column of the nearest mates, which is given back.
+    pub fn without_reach(self) -> Table
+        ensures { result ≡ record { class = self.class; mate = self.mate; zeroing = self.zeroing; reach = None } }
+    {
+        Table {
+            class: self.class,
+            mate: self.mate,
+            zeroing: self.zeroing,
+            reach: None,
+        }
+    }
+
     pub fn class(&self) -> Class
         ensures class { result ≡ self.now.class }
         ensures table { IsTable self.now }
