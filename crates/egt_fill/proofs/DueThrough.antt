@@ -75,7 +75,7 @@ module _ (part : Part) (white black : ℕ) (s : Side) (old new : TableValue) (me
         apart : ¬ IsOfKings old.class white black s i
         apart = other_code passed a b i lane.tells
 
-  scores_in_stay : (passed : Bool) (children : Children) (men : ShelfMen) (side : Side) → ¬ ReadsKings old.class men side white black s
+  pub scores_in_stay : (passed : Bool) (children : Children) (men : ShelfMen) (side : Side) → ¬ ReadsKings old.class men side white black s
       → (a b score zeroing : ℕ) → AreScoresIn part passed old children men side a b score zeroing → AreScoresIn part passed new children men side a b score zeroing
   scores_in_stay passed children men side unread a b score zeroing are four own_is children_is =
       let before : FourMen = record { own = record { ref_ptr = four.own.ref_ptr; now = old }; children = four.children } in

@@ -6,3 +6,4 @@ pub mod Items
 pub mod Covered
 pub mod Stamps
 pub mod Filled
+pub mod UnderWay
