@@ -14,3 +14,4 @@ pub mod ItemSeen
 pub mod DrawnCodes
 pub mod DrawnBytes
 pub mod FilledTables
+pub mod StillUnderWay

@@ -1,5 +1,5 @@
 -- Items while a part is filled.
-use Rattle.std.specs.Prelude.{◌≡◌, ◌≢◌, ℕ, ◌+◌, ◌<◌, ◌≤◌, ◌⊎◌, List, length, slice_index, slice_index_or, slice_set}
+use Rattle.std.specs.Prelude.{◌≡◌, ◌≢◌, ℕ, ◌+◌, ◌<◌, ◌≤◌, ◌⊎◌, List, length, slice_index, slice_index_or}
 use Rattle.std.specs.List.{All}
 use Rattle.egt_table.specs.Table.{TableValue}
 use Rattle.egt_fill.specs.Covered.{IsDueItem}
@@ -21,11 +21,11 @@ pub record IsUnderWay (f : Filling) (t : TableValue) (items : List Item) (places
   pub placed : (k : ℕ) (d : Item) → k < length items → slice_index places (place_of (slice_index_or items k d)) ≡ k
   pub due : All (λ (item : Item). IsFresh f.class (men_of f item) item.side stamps item.looked → IsDueItem f t item) items
 
--- nothing was put, or the entries' stamp is new
+-- nothing was put, or the stamp of these entries is new
 abbrev pub IsStamped : (item : Item) (old new : TableValue) (stamps after : List ℕ) (tick later : ℕ) → Type 0
 IsStamped item old new stamps after tick later =
     ((new ≡ old) × (after ≡ stamps) × (later ≡ tick))
-    ⊎ ((later ≡ tick + 1) × (after ≡ slice_set stamps (place_of item) later))
+    ⊎ ((later ≡ tick + 1) × (length after ≡ length stamps) × (slice_index after (place_of item) ≡ later) × ((i : ℕ) → i ≢ place_of item → slice_index after i ≡ slice_index stamps i))
 
 -- the item after a look at the tick
 pub record IsLookedAt (f : Filling) (old new : TableValue) (item after : Item) (tick : ℕ) : Type 0 where
