@@ -15,3 +15,4 @@ pub mod DrawnCodes
 pub mod DrawnBytes
 pub mod FilledTables
 pub mod StillUnderWay
+pub mod PassKept

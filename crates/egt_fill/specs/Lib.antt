@@ -7,3 +7,4 @@ pub mod Covered
 pub mod Stamps
 pub mod Filled
 pub mod UnderWay
+pub mod Rounds

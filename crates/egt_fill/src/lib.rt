@@ -12,6 +12,7 @@ pub mod looking;
 pub mod mending;
 pub mod putting;
 pub mod stamps;
+pub mod rounds;
 pub mod settling;
 pub mod tables;
 
