@@ -2,12 +2,15 @@
 use Rattle.std.proofs.Common.{◌≡◌, ◌≢◌, ◌∙◌, ℕ, ◌+◌, ◌<◌, Bool, true, false, List, Option, length, slice_index_or, slice_set, inl, inr, refl, ap, sym, subst, arith}
 use Rattle.std.proofs.lemmas.Bool.{cases_lt, false≢true}
 use Rattle.std.proofs.lemmas.List.{get_or_default, length-set, set-get_or}
+use Rattle.std.specs.List.{All}
 use Rattle.egt_board.specs.Man.{other_side}
 use Rattle.egt_board.specs.declared.man.Side.{Side}
+use Rattle.egt_board.specs.declared.man.Side.TheVariants.{White, Black}
 use Rattle.egt_table.specs.Table.{TableValue}
 use Rattle.egt_blocks.specs.Kept.{AreKept}
 use Rattle.egt_blocks.specs.declared.kept_blocks.BlockKey.{BlockKey}
 use Rattle.egt_check.specs.Worth.{column_score}
+use Rattle.egt_fill.specs.Covered.{IsDueItem}
 use Rattle.egt_fill.specs.Mended.{IsMended, IsMendedAt, IsOfKings}
 use Rattle.egt_fill.specs.Rounds.{AreFreshItems, IsFreshItem, IsUntouched, IsUntouchedPass}
 use Rattle.egt_fill.specs.UnderWay.{IsLookedAt, IsStamped, IsUnderWay}
@@ -82,3 +85,18 @@ module _ (f : Filling) (first : TableValue) (items : List Item) (stamps : List �
           length-set now i after ∙ passed.3,
           λ none. absurd (false≢true (sym none)),
         )
+
+-- where none of either side was looked at, all are due
+pub both_fresh : (f : Filling) (t : TableValue) (items items' items'' : List Item) (places stamps stamps' stamps'' : List ℕ) (tick : ℕ) → IsUnderWay f t items'' places stamps'' tick → items' ≡ items → stamps' ≡ stamps → items'' ≡ items' → stamps'' ≡ stamps'
+    → AreFreshItems f stamps items White (length items) → AreFreshItems f stamps' items' Black (length items') → All (IsDueItem f t) items''
+both_fresh f t items items' items'' places stamps stamps' stamps'' tick under ei es ei' es' white black k d k_in = under.due k d k_in (of_side (slice_index_or items'' k d).side refl)
+  where
+    here : AreFreshItems f stamps'' items'' White (length items'')
+    here = subst (λ (l : List Item). AreFreshItems f stamps'' l White (length l)) (sym (ei' ∙ ei)) (subst (λ (l : List ℕ). AreFreshItems f l items White (length items)) (sym (es' ∙ es)) white)
+
+    there : AreFreshItems f stamps'' items'' Black (length items'')
+    there = subst (λ (l : List Item). AreFreshItems f stamps'' l Black (length l)) (sym ei') (subst (λ (l : List ℕ). AreFreshItems f l items' Black (length items')) (sym es') black)
+
+    of_side : (s : Side) → (slice_index_or items'' k d).side ≡ s → IsFreshItem f stamps'' (slice_index_or items'' k d)
+    of_side White is = here k d k_in k_in is
+    of_side Black is = there k d k_in k_in is

@@ -1,5 +1,5 @@
 //! Rounds of looks: an item is looked at where something that it reads has changed since it was, until nothing has.
-ghost use Rattle.std.specs.Prelude.{◌≡◌, ◌≢◌, ◌↔◌, ℕ, length, Some, IfSome, IsTrue, false};
+ghost use Rattle.std.specs.Prelude.{◌≡◌, ◌≢◌, ◌↔◌, ℕ, length, Some, IfSome, IsTrue, false, true};
 ghost use Rattle.std.specs.List.{All};
 ghost use Rattle.egt_board.specs.Man.{other_side};
 ghost use Rattle.egt_blocks.specs.Kept.{AreKept};
@@ -130,4 +130,77 @@ fn pass(
         }
     }
     Some(any)
+}
+
+/// Visits all items, those with White to move first. Whether one was looked at; `None` where its entries are not told. The contract alone reads the places.
+fn round(
+    f: &Filling,
+    table: &mut Table,
+    items: &mut [Item],
+    places: &[u32],
+    stamps: &mut [u32],
+    tick: &mut u32,
+    scores: &mut Scores,
+) -> Option<bool>
+    requires filling { IsFilling f.now }
+    requires table { IsOwnTable f.now.part f.now.class f.now.men table.old }
+    requires under { IsUnderWay f.now table.old items.old places.now stamps.old tick.old }
+    ensures mended { IsMendedAt f.now.part (λ i. Unit {0}) table.old table.new }
+    ensures under { IfSome result (λ any. IsUnderWay f.now table.new items.new places.now stamps.new tick.new) }
+    ensures due { result ≡ Some false → All (IsDueItem f.now table.new) items.new }
+{
+    let Some(white) = pass(
+        f,
+        table,
+        items,
+        places,
+        stamps,
+        tick,
+        Side::White,
+        scores,
+    ) else {
+        return None;
+    };
+    let _class = table.class();
+    let Some(black) = pass(
+        f,
+        table,
+        items,
+        places,
+        stamps,
+        tick,
+        Side::Black,
+        scores,
+    ) else {
+        return None;
+    };
+    Some(white || black)
+}
+
+/// Looks at items until nothing that one reads has changed since it was looked at: then all entries are due. False where their entries are not told, and where
+/// there are too many rounds.
+pub(crate) fn settle_items(
+    f: &Filling,
+    table: &mut Table,
+    items: &mut [Item],
+    places: &[u32],
+    stamps: &mut [u32],
+    scores: &mut Scores,
+) -> bool
+    requires filling { IsFilling f.now }
+    requires table { IsOwnTable f.now.part f.now.class f.now.men table.old }
+    requires under { IsUnderWay f.now table.old items.old places.now stamps.old 1 }
+    ensures mended { IsMendedAt f.now.part (λ i. Unit {0}) table.old table.new }
+    ensures due { result ≡ true → All (IsDueItem f.now table.new) items.new }
+{
+    let mut tick = 1;
+    for _ in 0..ROUNDS {
+        let _class = table.class();
+        match round(f, table, items, places, stamps, &mut tick, scores) {
+            Some(true) => {}
+            Some(false) => return true,
+            None => return false,
+        }
+    }
+    false
 }
