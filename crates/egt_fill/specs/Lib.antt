@@ -5,3 +5,4 @@ pub mod Settled
 pub mod Items
 pub mod Covered
 pub mod Stamps
+pub mod Begun
