@@ -9,3 +9,4 @@ pub mod DueThrough
 pub mod RowsMended
 pub mod DueJudged
 pub mod StampPlaces
+pub mod BegunItems

@@ -18,5 +18,5 @@ pub(crate) struct Item {
     /// Those where there is a target.
     pub(crate) passed_ended: [SquareSet; 64],
     /// The greatest scores of the moves that leave the class, but captures in passing.
-    pub(crate) leaving: Block,
+    pub(crate) leaving: Box<Block>,
 }
