@@ -16,3 +16,4 @@ pub mod DrawnBytes
 pub mod FilledTables
 pub mod StillUnderWay
 pub mod PassKept
+pub mod BegunItems

@@ -34,7 +34,7 @@ passed_shelves_of f item = record { number = item.first + f.half; men = men_of f
 -- what is kept of it holds of the table
 pub record IsItem (f : Filling) (t : TableValue) (item : Item) : Type 0 where
   pub room : item.first + f.half + 64 < 4294967296
-  pub leaving : HoldsExits (column_of f.part) f.children (men_of f item) item.side item.leaving
+  pub leaving : HoldsExits (column_of f.part) f.children (men_of f item) item.side item.leaving.value
   pub plain : AreShelvesOf false f.class (men_of f item) item.first
   pub passed : f.half ≢ 0 → AreShelvesOf true f.class (men_of f item) (item.first + f.half)
   pub ended : AllEnded f.part t (shelves_of f item) item.ended

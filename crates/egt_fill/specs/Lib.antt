@@ -8,3 +8,4 @@ pub mod Stamps
 pub mod Filled
 pub mod UnderWay
 pub mod Rounds
+pub mod Begun

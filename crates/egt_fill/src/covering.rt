@@ -8,7 +8,8 @@ ghost use Rattle.egt_fill.specs.Settled.{IsFilling};
 ghost use Rattle.egt_fill.specs.declared.items.Item.{Item};
 
 use crate::filling::Filling;
-use crate::items::{Item, place_at};
+use crate::items::Item;
+use crate::stamps::stamp_place;
 use egt_board::{Side, Square};
 use egt_check::blank::side_is_blank;
 use egt_check::pairs::{judged_pairs_hold_all_codes, pairs_of};
@@ -30,7 +31,7 @@ fn has_item(
 ) -> bool
     ensures { result ≡ true → (item : Item) × Contains items.now item × (item.first ≡ first) × (item.side ≡ side) }
 {
-    let Some(&place) = places.get(place_at(white, black, side)) else {
+    let Some(&place) = places.get(stamp_place(side, white, black)) else {
         return false;
     };
     match items.get(place as usize) {

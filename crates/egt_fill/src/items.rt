@@ -1,6 +1,4 @@
 //! What is kept of the kings on two squares with one side to move.
-ghost use Rattle.std.specs.Prelude.{◌≡◌, ◌+◌, ◌*◌};
-ghost use Rattle.egt_board.specs.Images.{side_number};
 
 use egt_board::{Side, Square, SquareSet};
 use egt_lanes::Block;
@@ -20,16 +18,5 @@ pub(crate) struct Item {
     /// Those where there is a target.
     pub(crate) passed_ended: [SquareSet; 64],
     /// The greatest scores of the moves that leave the class, but captures in passing.
-    pub(crate) leaving: Block,
-}
-
-/// Where the item's number stands in a list of places, of 8192 in all.
-pub(crate) fn place_at(white: Square, black: Square, side: Side) -> usize
-    ensures { result ≡ 4096 * side_number side + 64 * white + black }
-{
-    let kings = 64 * usize::from(white.number()) + usize::from(black.number());
-    match side {
-        Side::White => kings,
-        Side::Black => 4096 + kings,
-    }
+    pub(crate) leaving: Box<Block>,
 }

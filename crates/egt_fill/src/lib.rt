@@ -3,6 +3,7 @@
 //! again where one that it reads has changed.
 #![tactic(auto)]
 
+pub mod beginning;
 pub mod covering;
 pub mod begun;
 pub mod entry_of;
