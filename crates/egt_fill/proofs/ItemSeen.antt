@@ -41,9 +41,9 @@ rows_seen part passed old new children men first side scores clocks are coded ri
 pub item_seen : (f : Filling) (old new : TableValue) (item : Item) (scores : Scores) → new.class ≡ f.class → ((n : ℕ) → n < size_of f.class → code_of f.class n < size_of f.class)
     → IsItem f new item → IsRightItem f new item scores → AreItemScores f old (men_of f item) item.side scores → IsSeenItem f old new item
 item_seen f old new item scores class coded is right told = record {
-  plain = rows_seen f.part false old new f.children (men_of f item) item.first item.side scores.plain scores.clocks (subst (λ c. AreShelvesOf false c (men_of f item) item.first) (sym class) is.plain)
+  plain = rows_seen f.part false old new f.children (men_of f item) item.first item.side scores.plain.value scores.clocks.value (subst (λ c. AreShelvesOf false c (men_of f item) item.first) (sym class) is.plain)
       (subst (λ c. (n : ℕ) → n < size_of c → code_of c n < size_of c) (sym class) coded) right.plain told.plain;
-  passed = λ some. rows_seen f.part true old new f.children (men_of f item) (item.first + f.half) item.side scores.passed scores.passed_clocks (subst (λ c. AreShelvesOf true c (men_of f item) (item.first + f.half)) (sym class) (is.passed some))
+  passed = λ some. rows_seen f.part true old new f.children (men_of f item) (item.first + f.half) item.side scores.passed.value scores.passed_clocks.value (subst (λ c. AreShelvesOf true c (men_of f item) (item.first + f.half)) (sym class) (is.passed some))
       (subst (λ c. (n : ℕ) → n < size_of c → code_of c n < size_of c) (sym class) coded) (right.passed some) (told.passed some);
 }
 

@@ -54,13 +54,13 @@ abbrev pub AreBlockScores : Part → (passed : Bool) → TableValue → Children
 AreBlockScores part passed t children men side scores clocks = (a b : ℕ) → a < 64 → b < 64 → AreScoresIn part passed t children men side a b (at scores a b) (at clocks a b)
 
 pub record AreItemScores (f : Filling) (t : TableValue) (men : ShelfMen) (side : Side) (scores : Scores) : Type 0 where
-  pub plain : AreBlockScores f.part false t f.children men side scores.plain scores.clocks
-  pub passed : f.half ≢ 0 → AreBlockScores f.part true t f.children men side scores.passed scores.passed_clocks
+  pub plain : AreBlockScores f.part false t f.children men side scores.plain.value scores.clocks.value
+  pub passed : f.half ≢ 0 → AreBlockScores f.part true t f.children men side scores.passed.value scores.passed_clocks.value
 
 -- the item's entries are due to these scores
 pub record IsRightItem (f : Filling) (t : TableValue) (item : Item) (scores : Scores) : Type 0 where
-  pub plain : AreRightRows f.part t (shelves_of f item) scores.plain scores.clocks (kind_digits f.men.one.kind)
-  pub passed : f.half ≢ 0 → AreRightRows f.part t (passed_shelves_of f item) scores.passed scores.passed_clocks (kind_digits f.men.one.kind)
+  pub plain : AreRightRows f.part t (shelves_of f item) scores.plain.value scores.clocks.value (kind_digits f.men.one.kind)
+  pub passed : f.half ≢ 0 → AreRightRows f.part t (passed_shelves_of f item) scores.passed.value scores.passed_clocks.value (kind_digits f.men.one.kind)
 
 -- the new table's entries of these shelves are due to the greatest scores of all moves by the old one's
 abbrev pub AreSeen : Part → (passed : Bool) → (old new : TableValue) → Children → ShelfMen → (first : ℕ) → Side → Type 0

@@ -168,7 +168,7 @@ pub(crate) fn begun_items(
 }
 
 /// How many places there are: one for each pair of kings' squares and side to move.
-const PLACES: usize = 8192;
+pub(crate) const PLACES: usize = 8192;
 
 /// Writes the number of each item at its place.
 fn write_numbers(items: &[Item], places: &mut [u32])

@@ -25,11 +25,12 @@ use egt_lanes::Block;
 use egt_table::Table;
 
 /// The greatest scores of all moves, where there is no target and where there is one; the second of each are of the zeroing column alone.
+#[derive(Drop)]
 pub(crate) struct Scores {
-    pub(crate) plain: Block,
-    pub(crate) clocks: Block,
-    pub(crate) passed: Block,
-    pub(crate) passed_clocks: Block,
+    pub(crate) plain: Box<Block>,
+    pub(crate) clocks: Box<Block>,
+    pub(crate) passed: Box<Block>,
+    pub(crate) passed_clocks: Box<Block>,
 }
 
 /// The greatest scores of all moves from the item's positions. False where a table does not tell.
@@ -59,8 +60,8 @@ fn item_scores(f: &Filling, table: &Table, item: &Item, men: &ShelfMen, keys: &m
     ) {
         return false;
     }
-    out.plain = plain;
-    out.clocks = clocks;
+    *out.plain = plain;
+    *out.clocks = clocks;
     if f.half == 0 {
         return true;
     }
@@ -77,8 +78,8 @@ fn item_scores(f: &Filling, table: &Table, item: &Item, men: &ShelfMen, keys: &m
         &mut plain,
         &mut clocks,
     );
-    out.passed = plain;
-    out.passed_clocks = clocks;
+    *out.passed = plain;
+    *out.passed_clocks = clocks;
     true
 }
 

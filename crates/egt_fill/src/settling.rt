@@ -10,9 +10,24 @@ ghost use Rattle.egt_check.specs.Worth.{HasBytes};
 ghost use Rattle.egt_check.specs.declared.part.Part.TheVariants as parts;
 ghost use Rattle.egt_fill.specs.Settled.{IsFilling};
 
+use crate::beginning::{PLACES, begun_items, places_of};
+use crate::covering::all_are_covered;
 use crate::filling::Filling;
+use crate::looking::Scores;
+use crate::rounds::settle_items;
+use egt_blocks::blocks::nothing;
 use egt_table::Table;
 use std::alloc::{AllocError, Global};
+
+/// Room for the scores of a look.
+fn room(alloc: Global) -> Result<Scores, AllocError> {
+    Ok(Scores {
+        plain: Box::new(alloc, nothing())?,
+        clocks: Box::new(alloc, nothing())?,
+        passed: Box::new(alloc, nothing())?,
+        passed_clocks: Box::new(alloc, nothing())?,
+    })
+}
 
 /// Puts what is due at all codes of the part, until all entries are. False where that is not told by bytes.
 pub(crate) fn settle(alloc: Global, f: &Filling, table: &mut Table) -> Result<bool, AllocError>
@@ -26,5 +41,17 @@ pub(crate) fn settle(alloc: Global, f: &Filling, table: &mut Table) -> Result<bo
     ensures bytes { HasBytes (table_in f.now.part table.new) }
     ensures right { IfOk result (λ told. told ≡ true → (i : ℕ) → i < size_of table.new.class → KeepsPart f.now.part (beside (table_at f.now.library.now) table.new) table.new i) }
 {
-    Ok(false)
+    let Some(mut items) = begun_items(alloc, f, table)? else {
+        return Ok(false);
+    };
+    let Some(places) = places_of(alloc, &items)? else {
+        return Ok(false);
+    };
+    let mut stamps = vec![in alloc; 0; PLACES]?;
+    let mut scores = room(alloc)?;
+    if !settle_items(f, table, &mut items, &places, &mut stamps, &mut scores) {
+        return Ok(false);
+    }
+    let _class = table.class();
+    Ok(all_are_covered(f, table, &items, &places))
 }

@@ -35,3 +35,12 @@ returns-clause-scores c = λ told. record {
       scores_same c.args.f.now.part four next (own ∙ sym c.beside_own-four.ensures.own) (same ∙ sym c.beside_own-four.ensures.children) true c.args.men.now c.args.item.now.side a b (at c.raise_part_passed.new.scores a b) (at c.raise_part_passed.new.zeroing a b)
       (c.raise_part_passed.ensures a b a_in b_in (c.part_scores.ensures.scores c.if-not-part_scores.false a b a_in b_in));
 }
+
+pub returns-then-f-eq0-clause-scores : goal.returns-then-f-eq0-clause-scores
+returns-then-f-eq0-clause-scores c = λ told. record {
+  plain = λ a b a_in b_in next own same.
+      let four = c.beside_own-four.result in
+      scores_same c.args.f.now.part four next (own ∙ sym c.beside_own-four.ensures.own) (same ∙ sym c.beside_own-four.ensures.children) false c.args.men.now c.args.item.now.side a b (at c.part_scores.new.scores a b) (at c.part_scores.new.zeroing a b)
+      (c.part_scores.ensures.scores c.if-not-part_scores.false a b a_in b_in);
+  passed = λ some. absurd (some c.if-f-eq0.true);
+}

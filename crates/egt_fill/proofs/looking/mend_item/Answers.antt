@@ -1,4 +1,4 @@
-use Rattle.std.proofs.Common.{◌≡◌, ◌+◌, ap, true, false, subst, sym}
+use Rattle.std.proofs.Common.{◌≡◌, ◌+◌, ℕ, List, true, false, subst, sym}
 use Rattle.egt_index.specs.Scales.{kind_digits}
 use Rattle.egt_index.specs.declared.shelf_codes.ShelfMen.{ShelfMen}
 use Rattle.egt_fill.specs.Items.{passed_shelves_of, shelves_of}
@@ -69,7 +69,11 @@ returns-clause-right c = λ told.
     let first = subst (λ (m : ShelfMen). IsMendedAt f.part (IsCodeIn old.class (record { number = item.first; men = m; side = item.side; passed = false })) old mid) c.requires.men c.mend_shelves-lower.ensures.mended in
     let second = subst (λ (m : ShelfMen). IsMendedAt f.part (IsCodeIn mid.class (record { number = item.first + f.half; men = m; side = item.side; passed = true })) mid new) c.requires.men c.mend_shelves-upper.ensures.mended in
     record {
-      plain = lower_right f old item c.requires.item c.requires.table.class_is mid first c.if-f-eq0.false new second scores.plain scores.clocks
-          (subst (λ (m : ShelfMen). AreRightRows f.part mid (record { number = item.first; men = m; side = item.side; passed = false }) scores.plain scores.clocks (kind_digits m.one.kind)) c.requires.men (c.mend_shelves-lower.ensures.right both.0));
-      passed = λ some. subst (λ (m : ShelfMen). AreRightRows f.part new (record { number = item.first + f.half; men = m; side = item.side; passed = true }) scores.passed scores.passed_clocks (kind_digits m.one.kind)) c.requires.men (c.mend_shelves-upper.ensures.right both.1);
+      plain = lower_right f old item c.requires.item c.requires.table.class_is mid first c.if-f-eq0.false new second scores.plain.value scores.clocks.value
+          (subst (λ (m : ShelfMen). AreRightRows f.part mid (record { number = item.first; men = m; side = item.side; passed = false }) scores.plain.value scores.clocks.value (kind_digits m.one.kind)) c.requires.men
+          (subst (λ (s : List (List ℕ)). AreRightRows f.part mid (record { number = item.first; men = c.args.men.now; side = item.side; passed = false }) s scores.clocks.value (kind_digits c.args.men.now.one.kind)) c.deref.ensures
+          (subst (λ (s : List (List ℕ)). AreRightRows f.part mid (record { number = item.first; men = c.args.men.now; side = item.side; passed = false }) c.deref.result.now s (kind_digits c.args.men.now.one.kind)) c.deref-2.ensures (c.mend_shelves-lower.ensures.right both.0))));
+      passed = λ some. subst (λ (m : ShelfMen). AreRightRows f.part new (record { number = item.first + f.half; men = m; side = item.side; passed = true }) scores.passed.value scores.passed_clocks.value (kind_digits m.one.kind)) c.requires.men
+          (subst (λ (s : List (List ℕ)). AreRightRows f.part new (record { number = item.first + f.half; men = c.args.men.now; side = item.side; passed = true }) s scores.passed_clocks.value (kind_digits c.args.men.now.one.kind)) c.deref-3.ensures
+          (subst (λ (s : List (List ℕ)). AreRightRows f.part new (record { number = item.first + f.half; men = c.args.men.now; side = item.side; passed = true }) c.deref-3.result.now s (kind_digits c.args.men.now.one.kind)) c.deref-4.ensures (c.mend_shelves-upper.ensures.right both.1)));
     }
