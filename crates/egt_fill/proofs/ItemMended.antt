@@ -38,7 +38,7 @@ apart_shelves c one other ones others apart x y x_in y_in of =
     let code = code_of c (number_in c (one.number + x) one.side y) in
     let digit = of.2.0 in
     let there : TellsMen other.passed c code (stand_with (shelf_at other of.0).men (digit + kind_less other.men.last.kind)) other.side =
-        subst (λ n. TellsMen other.passed c n (stand_with (shelf_at other of.0).men (digit + kind_less other.men.last.kind)) other.side) (sym of.2.2) (code_told c other others of.0 digit of.1 of.2.1) in
+    subst (λ n. TellsMen other.passed c n (stand_with (shelf_at other of.0).men (digit + kind_less other.men.last.kind)) other.side) (sym of.2.2) (code_told c other others of.0 digit of.1 of.2.1) in
     apart (passed_told c code one.passed other.passed (stand_with (shelf_at one x).men (y + kind_less one.men.last.kind)) (stand_with (shelf_at other of.0).men (digit + kind_less other.men.last.kind)) one.side other.side (code_told c one ones x y x_in y_in) there)
 
 module _ (f : Filling) (old : TableValue) (item : Item) (is : IsItem f old item) (class : old.class ≡ f.class) where

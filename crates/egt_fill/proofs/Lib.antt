@@ -17,3 +17,4 @@ pub mod FilledTables
 pub mod StillUnderWay
 pub mod PassKept
 pub mod BegunItems
+pub mod BegunWay

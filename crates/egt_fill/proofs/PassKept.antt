@@ -58,7 +58,10 @@ module _ (f : Filling) (first : TableValue) (items : List Item) (stamps : List �
     -- another side's item
     pub passed_by : here.side ≢ side → Passed f first items stamps tick places side t now marks later keys blocks any (i + 1)
     passed_by other = (
-      passed.0, passed.1, passed.2, passed.3,
+      passed.0,
+      passed.1,
+      passed.2,
+      passed.3,
       λ none. let before = passed.4 none in (before.0, λ k d under k_in mine. more_fresh k d before.0.1 under k_in mine before.1 (λ is. absurd (other is))),
     )
 
@@ -68,7 +71,8 @@ module _ (f : Filling) (first : TableValue) (items : List Item) (stamps : List �
     left_alone u after stamped now_tick keys' blocks' same fresh kept mine =
         let items_same : slice_set now i after ≡ now = ap (slice_set now i) (same.1 ∙ at) ∙ set-get_or now i here in
         carried t u now (slice_set now i after) marks stamped later now_tick keys' keys' blocks' blocks' any any (i + 1) same.0 items_same same.2 same.3 refl refl refl (
-          passed.0, passed.1,
+          passed.0,
+          passed.1,
           subst (λ (v : TableValue). AreKept f.class (column_score v) f.men (other_side side) keys' blocks') same.0 (subst (λ (s : Side). AreKept f.class (column_score u) f.men (other_side s) keys' blocks') mine kept),
           passed.3,
           λ none. let before = passed.4 none in (before.0, λ k d under k_in own. more_fresh k d before.0.1 under k_in own before.1 (λ is. subst (λ (l : List ℕ). IsFreshItem f l here) before.0.2 fresh)),

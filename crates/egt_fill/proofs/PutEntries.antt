@@ -7,7 +7,6 @@ use Rattle.egt_index.specs.Size.{size_of}
 use Rattle.egt_table.specs.Table.{HasColumn, TableValue, entries_of, entries_or_none}
 use Rattle.egt_table.specs.declared.column.Column.{Column}
 use Rattle.egt_table.specs.declared.column.Column.TheVariants as columns
-
 use Rattle.egt_entries.specs.Tables.{entry_at, reach_at}
 use Rattle.egt_entries.specs.declared.metric.Metric.{Metric}
 use Rattle.egt_entries.specs.declared.metric.Metric.TheVariants.{Mate, Zeroing}

@@ -102,7 +102,7 @@ module _ (part : Part) (old mid new : TableValue) (shelf : Shelf) (is : IsShelf 
   row_ended digit below has = subst (λ c. IsRightEndOf part new (code_of c (number_in c shelf.number shelf.side digit))) (sym same_class) (end_there digit below has)
 
   module _ (put : (digit : ℕ) → digit < kind_digits shelf.men.last.kind → bit_at wrong.bits (digit + kind_less shelf.men.last.kind) ≡ 1 →
-        IsPutAt part new (code_of mid.class (number_in mid.class shelf.number shelf.side digit)) (due_in part (slice_index scores (digit + kind_less shelf.men.last.kind))) (due_score (slice_index zeroing (digit + kind_less shelf.men.last.kind)))) where
+      IsPutAt part new (code_of mid.class (number_in mid.class shelf.number shelf.side digit)) (due_in part (slice_index scores (digit + kind_less shelf.men.last.kind))) (due_score (slice_index zeroing (digit + kind_less shelf.men.last.kind)))) where
     put_there : (digit : ℕ) → digit < kind_digits shelf.men.last.kind → bit_at wrong.bits (place digit) ≡ 1 → IsPutAt part new (code digit) (due_in part (slice_index scores (place digit))) (due_score (slice_index zeroing (place digit)))
     unfolding code place
     put_there digit below has = subst (λ c. IsPutAt part new (code_of c (number_in c shelf.number shelf.side digit)) (due_in part (slice_index scores (place digit))) (due_score (slice_index zeroing (place digit)))) first.class (put digit below has)

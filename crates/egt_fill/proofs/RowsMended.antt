@@ -67,10 +67,10 @@ module _ (part : Part) (mid new : TableValue) (shelves : Shelf) (are : AreShelve
         let here = row_is x x_in in
         let wide = here.of.0.len in
         let number : number_in c (shelves.number + x) shelves.side y ≡ number_in c (shelves.number + d) shelves.side of.0 =
-            sym (numbers (number_in c (shelves.number + x) shelves.side y) (number_within c (shelf_at shelves x) here y y_in)) ∙ ap (number_of c) of.2 ∙ numbers (number_in c (shelves.number + d) shelves.side of.0) (number_within c (shelf_at shelves d) (row_is d d_in) of.0 of.1) in
+        sym (numbers (number_in c (shelves.number + x) shelves.side y) (number_within c (shelf_at shelves x) here y y_in)) ∙ ap (number_of c) of.2 ∙ numbers (number_in c (shelves.number + d) shelves.side of.0) (number_within c (shelf_at shelves d) (row_is d d_in) of.0 of.1) in
         let shelf : shelves.number + x ≡ shelves.number + d =
-            one_shelf shelves.men.last.kind (shelves.number + x) (shelves.number + d) (side_number shelves.side) y of.0 y_in of.1
-            (subst (λ p. (shelves.number + x) * (2 * p) + side_number shelves.side + 2 * y ≡ (shelves.number + d) * (2 * p) + side_number shelves.side + 2 * of.0) wide number) in
+        one_shelf shelves.men.last.kind (shelves.number + x) (shelves.number + d) (side_number shelves.side) y of.0 y_in of.1
+        (subst (λ p. (shelves.number + x) * (2 * p) + side_number shelves.side + 2 * y ≡ (shelves.number + d) * (2 * p) + side_number shelves.side + 2 * of.0) wide number) in
         other (omega (arith, shelf))
 
     pub right_stays : (x : ℕ) → x < kind_digits shelves.men.one.kind → x ≢ d → (scores zeroing : List ℕ) → IsRightRow part mid (shelf_at shelves x) scores zeroing → IsRightRow part new (shelf_at shelves x) scores zeroing
@@ -101,7 +101,7 @@ module _ (part : Part) (mid new : TableValue) (shelves : Shelf) (are : AreShelve
             let there : x + kind_less shelves.men.one.kind ≡ place = omega (arith, is, at) in
             let on_board = square_in shelves.men.one.kind x x_in in
             let stands : slice_index_or (slice_set ended place set) (x + kind_less shelves.men.one.kind) no_squares ≡ set =
-                ap (λ k. slice_index_or (slice_set ended place set) k no_squares) there ∙ get_or-set_same ended place set no_squares (omega (arith, there, on_board, long)) in
+            ap (λ k. slice_index_or (slice_set ended place set) k no_squares) there ∙ get_or-set_same ended place set no_squares (omega (arith, there, on_board, long)) in
             subst (λ (s : SquareSet). AreEnded part new (shelf_at shelves x) s) (sym stands)
             (subst (λ k. AreEnded part new (shelf_at shelves k) set) (sym is) (subst (λ (r : Shelf). AreEnded part new r set) same here))
         | inr other ↦

@@ -36,7 +36,7 @@ module _ (c : ℕ) (shelf : Shelf) (is : IsShelf c shelf) where
       → code_of c (number_in c shelf.number shelf.side x) ≡ code_of c (number_in c shelf.number shelf.side y) → x ≡ y
   one_digit numbers x y x_in y_in same =
       let number : number_in c shelf.number shelf.side x ≡ number_in c shelf.number shelf.side y =
-          sym (numbers (number_in c shelf.number shelf.side x) (number_within x x_in)) ∙ ap (number_of c) same ∙ numbers (number_in c shelf.number shelf.side y) (number_within y y_in) in
+      sym (numbers (number_in c shelf.number shelf.side x) (number_within x x_in)) ∙ ap (number_of c) same ∙ numbers (number_in c shelf.number shelf.side y) (number_within y y_in) in
       omega (arith, number)
 
 -- the code of a square's digit

@@ -90,7 +90,7 @@ module _ (f : Filling) (old new : TableValue) (items : List Item) (places stamps
           let one = slice_index_or items k d in
           let two = slice_index_or items i next in
           let place : place_of one ≡ place_of two = ap (λ (s : Side). place_of (record { first = one.first; white = one.white; black = one.black; side = s; looked = one.looked; ended = one.ended; passed_ended = one.passed_ended; leaving = one.leaving })) same.2
-              ∙ (let white = same.0 in let black = same.1 in omega (arith, white, black)) in
+          ∙ (let white = same.0 in let black = same.1 in omega (arith, white, black)) in
           other (sym (under.placed k d k_in) ∙ ap (slice_index places) place ∙ under.placed i next i_in)
 
       stays_item : IsItem f new (slice_index_or items k d)
@@ -100,9 +100,9 @@ module _ (f : Filling) (old new : TableValue) (items : List Item) (places stamps
           let two = slice_index_or items i next in
           let At = IsOfKings old.class two.white two.black two.side in
           let apart : (shelves : Shelf) → AreShelvesOf shelves.passed f.class shelves.men shelves.number → ¬ ((shelves.men.white ≡ two.white) × (shelves.men.black ≡ two.black) × (shelves.side ≡ two.side)) → (x y : ℕ) → x < kind_digits shelves.men.one.kind → y < kind_digits shelves.men.last.kind
-              → ¬ At (code_of old.class (number_in old.class (shelves.number + x) shelves.side y)) = λ shelves are unlike x y x_in y_in of.
-              unlike (kings_once old.class (code_of old.class (number_in old.class (shelves.number + x) shelves.side y)) shelves.men.white shelves.men.black two.white two.black shelves.side two.side
-              (codes_in_kings old.class shelves (subst (λ c. AreShelvesOf shelves.passed c shelves.men shelves.number) (sym class) are) (code_of old.class (number_in old.class (shelves.number + x) shelves.side y)) (x, x_in, (y, y_in, refl))) of) in
+          → ¬ At (code_of old.class (number_in old.class (shelves.number + x) shelves.side y)) = λ shelves are unlike x y x_in y_in of.
+          unlike (kings_once old.class (code_of old.class (number_in old.class (shelves.number + x) shelves.side y)) shelves.men.white shelves.men.black two.white two.black shelves.side two.side
+          (codes_in_kings old.class shelves (subst (λ c. AreShelvesOf shelves.passed c shelves.men shelves.number) (sym class) are) (code_of old.class (number_in old.class (shelves.number + x) shelves.side y)) (x, x_in, (y, y_in, refl))) of) in
           record {
             room = is.room;
             leaving = is.leaving;
@@ -129,9 +129,9 @@ module _ (f : Filling) (old new : TableValue) (items : List Item) (places stamps
     looked_due : IsFresh f.class (men_of f next) next.side after next.looked → IsDueItem f new next
     looked_due fresh = elim stamped [
       | inl same ↦ record {
-          plain = subst (λ (t : TableValue). AreSeen f.part false t new f.children (men_of f next) next.first next.side) (sym same.0) look.seen.plain;
-          passed = λ some. subst (λ (t : TableValue). AreSeen f.part true t new f.children (men_of f next) (next.first + f.half) next.side) (sym same.0) (look.seen.passed some);
-        }
+        plain = subst (λ (t : TableValue). AreSeen f.part false t new f.children (men_of f next) next.first next.side) (sym same.0) look.seen.plain;
+        passed = λ some. subst (λ (t : TableValue). AreSeen f.part true t new f.children (men_of f next) (next.first + f.half) next.side) (sym same.0) (look.seen.passed some);
+      }
       | inr new_stamp ↦
           let two = slice_index_or items i next in
           let apart = not_read (men_of f next) next.side next.looked (let e = look.looked in omega (arith, e)) (new_stamp.2 ∙ new_stamp.0) fresh in

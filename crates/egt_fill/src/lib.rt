@@ -4,17 +4,17 @@
 #![tactic(auto)]
 
 pub mod beginning;
-pub mod covering;
 pub mod begun;
+pub mod covering;
 pub mod entry_of;
 pub mod filling;
 pub mod items;
 pub mod looking;
 pub mod mending;
 pub mod putting;
-pub mod stamps;
 pub mod rounds;
 pub mod settling;
+pub mod stamps;
 pub mod tables;
 
 pub use tables::{Reached, filled_reach, filled_values};

@@ -18,9 +18,9 @@ use egt_check::block_judging::{part_scores, raise_part_passed};
 use egt_check::move_scores::{beside_own, passing_captures};
 use egt_check::part::column_of;
 use egt_check::table_judging::with_kings;
-use egt_index::men::has_equal_sides;
 use egt_index::ShelfMen;
 use egt_index::laws::numbers_stand_for_codes;
+use egt_index::men::has_equal_sides;
 use egt_lanes::Block;
 use egt_table::Table;
 
@@ -34,7 +34,15 @@ pub(crate) struct Scores {
 }
 
 /// The greatest scores of all moves from the item's positions. False where a table does not tell.
-fn item_scores(f: &Filling, table: &Table, item: &Item, men: &ShelfMen, keys: &mut [Option<BlockKey>], blocks: &mut [Block], out: &mut Scores) -> bool
+fn item_scores(
+    f: &Filling,
+    table: &Table,
+    item: &Item,
+    men: &ShelfMen,
+    keys: &mut [Option<BlockKey>],
+    blocks: &mut [Block],
+    out: &mut Scores,
+) -> bool
     requires filling { IsFilling f.now }
     requires table { IsOwnTable f.now.part f.now.class f.now.men table.now }
     requires item { IsItem f.now table.now item.now }
@@ -69,15 +77,7 @@ fn item_scores(f: &Filling, table: &Table, item: &Item, men: &ShelfMen, keys: &m
     if !passing_captures(&f.children, column_of(f.part), men, side, &mut passing) {
         return false;
     }
-    raise_part_passed(
-        &four,
-        men,
-        f.part,
-        side,
-        &passing,
-        &mut plain,
-        &mut clocks,
-    );
+    raise_part_passed(&four, men, f.part, side, &passing, &mut plain, &mut clocks);
     *out.passed = plain;
     *out.passed_clocks = clocks;
     true
@@ -96,7 +96,13 @@ fn together(one: Mended, other: Mended) -> Mended
 }
 
 /// Puts what is due to the scores in the item's entries.
-fn mend_item(f: &Filling, table: &mut Table, item: &mut Item, men: &ShelfMen, scores: &Scores) -> Mended
+fn mend_item(
+    f: &Filling,
+    table: &mut Table,
+    item: &mut Item,
+    men: &ShelfMen,
+    scores: &Scores,
+) -> Mended
     requires filling { IsFilling f.now }
     requires table { IsOwnTable f.now.part f.now.class f.now.men table.old }
     requires item { IsItem f.now table.old item.old }
@@ -113,7 +119,14 @@ fn mend_item(f: &Filling, table: &mut Table, item: &mut Item, men: &ShelfMen, sc
         side: item.side,
         passed: false,
     };
-    let lower = mend_shelves(table, f.part, &plain, &scores.plain, &scores.clocks, &mut item.ended);
+    let lower = mend_shelves(
+        table,
+        f.part,
+        &plain,
+        &scores.plain,
+        &scores.clocks,
+        &mut item.ended,
+    );
     if f.half == 0 {
         return lower;
     }
@@ -123,7 +136,14 @@ fn mend_item(f: &Filling, table: &mut Table, item: &mut Item, men: &ShelfMen, sc
         side: item.side,
         passed: true,
     };
-    let upper = mend_shelves(table, f.part, &passed, &scores.passed, &scores.passed_clocks, &mut item.passed_ended);
+    let upper = mend_shelves(
+        table,
+        f.part,
+        &passed,
+        &scores.passed,
+        &scores.passed_clocks,
+        &mut item.passed_ended,
+    );
     together(lower, upper)
 }
 
@@ -136,7 +156,14 @@ fn forget(keys: &mut [Option<BlockKey>])
 }
 
 /// Looks at the item's positions: puts what is due to the greatest scores of all moves.
-pub(crate) fn look(f: &Filling, table: &mut Table, item: &mut Item, keys: &mut [Option<BlockKey>], blocks: &mut [Block], scores: &mut Scores) -> Mended
+pub(crate) fn look(
+    f: &Filling,
+    table: &mut Table,
+    item: &mut Item,
+    keys: &mut [Option<BlockKey>],
+    blocks: &mut [Block],
+    scores: &mut Scores,
+) -> Mended
     requires filling { IsFilling f.now }
     requires table { IsOwnTable f.now.part f.now.class f.now.men table.old }
     requires item { IsItem f.now table.old item.old }

@@ -19,15 +19,14 @@ use egt_blocks::blocks::begin_with;
 use egt_blocks::digits::{digit_on, digits_of, first_square};
 use egt_blocks::men::men_on;
 use egt_board::{Side, Square, SquareSet};
-use egt_check::part::Part;
-use egt_check::part::column_of;
+use egt_check::part::{Part, column_of};
 use egt_check::row_judging::{due_in, first_of};
 use egt_check::rows::row_of;
 use egt_index::laws::{codes_tell_turned_men, numbers_stand_for_codes};
 use egt_index::{ShelfMen, code_of, size};
-use egt_lanes::{Block, Row};
 use egt_lanes::score::due;
 use egt_lanes::sets::{kept, lanes_of};
+use egt_lanes::{Block, Row};
 use egt_table::{Column, Table};
 use std::simd::prelude::*;
 
@@ -57,7 +56,14 @@ fn apart(a: Row, b: Row, within: Row) -> SquareSet
 }
 
 /// Puts the entries with these scores at the shelf's codes with the last man on these squares. False where no entries have them.
-fn put_lanes(table: &mut Table, part: Part, shelf: &Shelf, lanes: SquareSet, scores: Row, clocks: Row) -> bool
+fn put_lanes(
+    table: &mut Table,
+    part: Part,
+    shelf: &Shelf,
+    lanes: SquareSet,
+    scores: Row,
+    clocks: Row,
+) -> bool
     requires shelf { IsShelf table.old.class shelf.now }
     requires there { HasColumn (column_of part) table.old }
     requires bytes { HasBytes (table_in part table.old) }
@@ -92,7 +98,14 @@ fn wrong_clocks(table: &Table, part: Part, shelf: &Shelf, clocks: Row, within: R
     codes_tell_turned_men();
     match part {
         Part::Values => {
-            let own = row_of(table, Column::Zeroing, &shelf.men, shelf.number, shelf.side, shelf.passed);
+            let own = row_of(
+                table,
+                Column::Zeroing,
+                &shelf.men,
+                shelf.number,
+                shelf.side,
+                shelf.passed,
+            );
             apart(own, clocks, within)
         }
         Part::Reach => SquareSet::EMPTY,
@@ -137,22 +150,52 @@ pub(crate) enum Mended {
 
 /// The last man's squares at which the entries of a row are not due to the greatest scores of the moves, and those at which there is no move and that `ended`
 /// lacks.
-fn row_seen(table: &Table, part: Part, shelf: &Shelf, scores: Row, zeroing: Row, ended: SquareSet) -> (SquareSet, SquareSet)
+fn row_seen(
+    table: &Table,
+    part: Part,
+    shelf: &Shelf,
+    scores: Row,
+    zeroing: Row,
+    ended: SquareSet,
+) -> (SquareSet, SquareSet)
     requires shelf { IsShelf table.now.class shelf.now }
     requires there { HasColumn (column_of part) table.now }
     ensures { IsRowSeen part table.now shelf.now scores zeroing ended result.0 result.1 }
 {
     codes_tell_turned_men();
-    let own = row_of(table, column_of(part), &shelf.men, shelf.number, shelf.side, shelf.passed);
+    let own = row_of(
+        table,
+        column_of(part),
+        &shelf.men,
+        shelf.number,
+        shelf.side,
+        shelf.passed,
+    );
     let moving = lanes_of(scores);
     let within = kept(own, moving);
-    let wrong = apart(own, due_in(part, scores), within).union(wrong_clocks(table, part, shelf, due(zeroing), within));
-    (wrong.common(moving), lanes_of(own).without(moving).without(ended))
+    let wrong = apart(own, due_in(part, scores), within).union(wrong_clocks(
+        table,
+        part,
+        shelf,
+        due(zeroing),
+        within,
+    ));
+    (
+        wrong.common(moving),
+        lanes_of(own).without(moving).without(ended),
+    )
 }
 
 /// Puts what is due to the greatest scores of the moves at the shelf's codes that are indexes. Where there is no move, the entries tell checkmate or stalemate
 /// from the first look on, and `ended` has the last man's square.
-pub(crate) fn mend_row(table: &mut Table, part: Part, shelf: &Shelf, scores: Row, zeroing: Row, ended: &mut SquareSet) -> Mended
+pub(crate) fn mend_row(
+    table: &mut Table,
+    part: Part,
+    shelf: &Shelf,
+    scores: Row,
+    zeroing: Row,
+    ended: &mut SquareSet,
+) -> Mended
     requires shelf { IsShelf table.old.class shelf.now }
     requires there { HasColumn (column_of part) table.old }
     requires bytes { HasBytes (table_in part table.old) }
@@ -177,7 +220,14 @@ pub(crate) fn mend_row(table: &mut Table, part: Part, shelf: &Shelf, scores: Row
         return Mended::Untold;
     }
     *ended = seen;
-    if put_lanes(table, part, shelf, wrong, due_in(part, scores), due(zeroing)) {
+    if put_lanes(
+        table,
+        part,
+        shelf,
+        wrong,
+        due_in(part, scores),
+        due(zeroing),
+    ) {
         Mended::Put
     } else {
         Mended::Untold
@@ -186,7 +236,14 @@ pub(crate) fn mend_row(table: &mut Table, part: Part, shelf: &Shelf, scores: Row
 
 /// Puts what is due to the greatest scores of the moves at the codes of the shelves of these men from this one on, one for each digit of the first man; `ended`
 /// has for each of his squares those of the last man at which there is no move.
-pub(crate) fn mend_shelves(table: &mut Table, part: Part, shelves: &Shelf, scores: &Block, zeroing: &Block, ended: &mut [SquareSet; 64]) -> Mended
+pub(crate) fn mend_shelves(
+    table: &mut Table,
+    part: Part,
+    shelves: &Shelf,
+    scores: &Block,
+    zeroing: &Block,
+    ended: &mut [SquareSet; 64],
+) -> Mended
     requires men { AreMenOf table.old.class shelves.now.men }
     requires room { shelves.now.number + 64 < 4294967296 }
     requires there { HasColumn (column_of part) table.old }

@@ -149,29 +149,11 @@ fn round(
     ensures under { IfSome result (λ any. IsUnderWay f.now table.new items.new places.now stamps.new tick.new) }
     ensures due { result ≡ Some false → All (IsDueItem f.now table.new) items.new }
 {
-    let Some(white) = pass(
-        f,
-        table,
-        items,
-        places,
-        stamps,
-        tick,
-        Side::White,
-        scores,
-    ) else {
+    let Some(white) = pass(f, table, items, places, stamps, tick, Side::White, scores) else {
         return None;
     };
     let _class = table.class();
-    let Some(black) = pass(
-        f,
-        table,
-        items,
-        places,
-        stamps,
-        tick,
-        Side::Black,
-        scores,
-    ) else {
+    let Some(black) = pass(f, table, items, places, stamps, tick, Side::Black, scores) else {
         return None;
     };
     Some(white || black)

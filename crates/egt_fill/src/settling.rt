@@ -1,5 +1,5 @@
 //! Entries that are put until all are due.
-ghost use Rattle.std.specs.Prelude.{◌≡◌, ◌<◌, ℕ, true, IfOk};
+ghost use Rattle.std.specs.Prelude.{◌≡◌, ◌<◌, ℕ, true, length, slice_index, IfOk};
 ghost use Rattle.egt_index.specs.Size.{size_of};
 ghost use Rattle.egt_table.specs.Table.{HasColumn};
 ghost use Rattle.egt_table.specs.declared.column.Column.{Column};
@@ -8,11 +8,14 @@ ghost use Rattle.egt_check.specs.Parts.{IsOwnTable, table_in};
 ghost use Rattle.egt_check.specs.RightBlock.{KeepsPart};
 ghost use Rattle.egt_check.specs.Worth.{HasBytes};
 ghost use Rattle.egt_check.specs.declared.part.Part.TheVariants as parts;
+ghost use Rattle.egt_fill.specs.Mended.{IsMendedAt};
 ghost use Rattle.egt_fill.specs.Settled.{IsFilling};
+ghost use Rattle.egt_fill.specs.UnderWay.{IsUnderWay};
 
 use crate::beginning::{PLACES, begun_items, places_of};
 use crate::covering::all_are_covered;
 use crate::filling::Filling;
+use crate::items::Item;
 use crate::looking::Scores;
 use crate::rounds::settle_items;
 use egt_blocks::blocks::nothing;
@@ -27,6 +30,36 @@ fn room(alloc: Global) -> Result<Scores, AllocError> {
         passed: Box::new(alloc, nothing())?,
         passed_clocks: Box::new(alloc, nothing())?,
     })
+}
+
+/// No stamp of any entries.
+fn no_stamps(alloc: Global) -> Result<Vec<u32>, AllocError>
+    ensures long { IfOk result (λ stamps. length stamps.items ≡ 8192) }
+    ensures none { IfOk result (λ stamps. (i : ℕ) → slice_index stamps.items i ≡ 0) }
+{
+    vec![in alloc; 0; PLACES]
+}
+
+/// Looks at the items until all that is due is put, and sees that they are of all codes.
+fn settle_all(
+    f: &Filling,
+    table: &mut Table,
+    items: &mut [Item],
+    places: &[u32],
+    stamps: &mut [u32],
+    scores: &mut Scores,
+) -> bool
+    requires filling { IsFilling f.now }
+    requires table { IsOwnTable f.now.part f.now.class f.now.men table.old }
+    requires under { IsUnderWay f.now table.old items.old places.now stamps.old 1 }
+    ensures mended { IsMendedAt f.now.part (λ i. Unit {0}) table.old table.new }
+    ensures right { result ≡ true → (i : ℕ) → i < size_of table.new.class → KeepsPart f.now.part (beside (table_at f.now.library.now) table.new) table.new i }
+{
+    if !settle_items(f, table, items, places, stamps, scores) {
+        return false;
+    }
+    let _class = table.class();
+    all_are_covered(f, table, items, places)
 }
 
 /// Puts what is due at all codes of the part, until all entries are. False where that is not told by bytes.
@@ -47,11 +80,7 @@ pub(crate) fn settle(alloc: Global, f: &Filling, table: &mut Table) -> Result<bo
     let Some(places) = places_of(alloc, &items)? else {
         return Ok(false);
     };
-    let mut stamps = vec![in alloc; 0; PLACES]?;
+    let mut stamps = no_stamps(alloc)?;
     let mut scores = room(alloc)?;
-    if !settle_items(f, table, &mut items, &places, &mut stamps, &mut scores) {
-        return Ok(false);
-    }
-    let _class = table.class();
-    Ok(all_are_covered(f, table, &items, &places))
+    Ok(settle_all(f, table, &mut items, &places, &mut stamps, &mut scores))
 }

@@ -1,9 +1,7 @@
-use Rattle.std.proofs.Common.{◌≡◌, ◌+◌, ℕ, List, true, false, subst, sym}
+use Rattle.std.proofs.Common.{◌+◌, ℕ, List, true, false, subst, sym}
 use Rattle.egt_index.specs.Scales.{kind_digits}
 use Rattle.egt_index.specs.declared.shelf_codes.ShelfMen.{ShelfMen}
-use Rattle.egt_fill.specs.Items.{passed_shelves_of, shelves_of}
 use Rattle.egt_fill.specs.Mended.{AllEnded, AreRightRows, IsCodeIn, IsMendedAt}
-use Rattle.egt_fill.specs.declared.mending.Shelf.{Shelf}
 use Rattle.egt_fill.proofs.ItemMended.{both_mended, lower_ended, lower_mended, lower_right, upper_ended}
 use Rattle.egt_fill.proofs.looking.mend_item.Goals as goal
 

@@ -1,4 +1,4 @@
-use Rattle.std.proofs.Common.{◌≡◌, ◌∙◌, slice_index, sym, inl, inr, arith}
+use Rattle.std.proofs.Common.{◌∙◌, slice_index, sym, inl, inr, arith}
 use Rattle.std.proofs.lemmas.Bool.{cases_eq}
 use Rattle.egt_check.proofs.ByteJudged.{if_not}
 use Rattle.egt_fill.proofs.mending.apart.Goals as goal

@@ -1,9 +1,8 @@
-use Rattle.std.proofs.Common.{◌∙◌, ◌+◌, ◌<◌, slice_index, sym, subst}
+use Rattle.std.proofs.Common.{◌∙◌, ◌+◌, slice_index, sym, subst}
 use Rattle.egt_index.specs.Numbers.{code_of}
 use Rattle.egt_index.specs.Scales.{kind_less}
 use Rattle.egt_index.specs.ShelfCodes.{number_in}
 use Rattle.egt_lanes.specs.Scores.{due_score}
-use Rattle.egt_check.specs.RightRow.{due_in}
 use Rattle.egt_blocks.proofs.ShelfRead.{square_in}
 use Rattle.egt_fill.specs.Mended.{IsPutAt}
 use Rattle.egt_fill.proofs.RowMended.{due_row, row_ended, row_mended, row_right}

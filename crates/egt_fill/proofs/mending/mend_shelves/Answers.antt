@@ -1,4 +1,4 @@
-use Rattle.std.proofs.Common.{◌≡◌, ◌≢◌, ◌∙◌, ℕ, ◌+◌, ◌<◌, arith, sym, subst, length}
+use Rattle.std.proofs.Common.{◌≡◌, ◌≢◌, ◌∙◌, ℕ, ◌+◌, ◌<◌, arith, sym, subst}
 use Rattle.std.proofs.lemmas.List.{length-set}
 use Rattle.egt_index.specs.Numbers.{code_of, number_of}
 use Rattle.egt_index.specs.Scales.{kind_digits, kind_less}
@@ -8,7 +8,7 @@ use Rattle.egt_fill.specs.Mended.{IsCodeOf, IsMendedAt, IsShelf, shelf_at}
 use Rattle.egt_fill.specs.declared.mending.Mended.{Mended}
 use Rattle.egt_fill.specs.declared.mending.Mended.TheVariants as mends
 use Rattle.egt_fill.specs.declared.mending.Shelf.{Shelf}
-use Rattle.egt_fill.proofs.RowsMended.{more_ended, more_mended, more_right, row_is, shelf_same}
+use Rattle.egt_fill.proofs.RowsMended.{more_ended, more_mended, more_right, shelf_same}
 use Rattle.egt_fill.proofs.mending.mend_shelves.Goals as goal
 use Rattle.egt_fill.proofs.mending.mend_shelves.Goals.{in-Due, in-Put}
 

@@ -32,9 +32,9 @@ returns c =
     let kind = shelf.men.last.kind in
     let moving = c.lanes_of-moving.result in
     let own_is : (digit : ℕ) → (below : digit < _) → slice_index c.row_of-own.result (digit + kind_less kind) ≡ score_in part t shelf digit = λ digit below.
-        let b_in = square_in kind digit below in
-        subst (λ (column : Column). slice_index c.row_of-own.result (digit + kind_less kind) ≡ column_score t column (code_of t.class (number_in t.class shelf.number shelf.side digit))) c.column_of.ensures
-        (lane_is shelf.passed t c.column_of.result shelf.men shelf.number shelf.side c.requires.shelf.of c.codes_tell_turned_men.ensures.one digit (slice_index c.row_of-own.result (digit + kind_less kind)) below (c.row_of-own.ensures (digit + kind_less kind) b_in)) in
+    let b_in = square_in kind digit below in
+    subst (λ (column : Column). slice_index c.row_of-own.result (digit + kind_less kind) ≡ column_score t column (code_of t.class (number_in t.class shelf.number shelf.side digit))) c.column_of.ensures
+    (lane_is shelf.passed t c.column_of.result shelf.men shelf.number shelf.side c.requires.shelf.of c.codes_tell_turned_men.ensures.one digit (slice_index c.row_of-own.result (digit + kind_less kind)) below (c.row_of-own.ensures (digit + kind_less kind) b_in)) in
     record {
       due = λ digit below some can none.
           let b = digit + kind_less kind in

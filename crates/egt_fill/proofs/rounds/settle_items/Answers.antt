@@ -1,4 +1,4 @@
-use Rattle.std.proofs.Common.{◌∙◌, Some, ap}
+use Rattle.std.proofs.Common.{Some, ap}
 use Rattle.egt_fill.proofs.rounds.settle_items.Goals as goal
 
 pub returns-in-Some-false-clause-due : goal.returns-in-Some-false-clause-due
