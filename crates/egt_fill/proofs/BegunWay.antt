@@ -1,5 +1,5 @@
 -- Before the first look.
-use Rattle.std.proofs.Common.{◌≡◌, ℕ, ◌<◌, ◌≤◌, List, length, slice_index, arith}
+use Rattle.std.proofs.Common.{◌≡◌, ℕ, zero, suc, List, length, replicate, slice_index, refl, arith}
 use Rattle.std.specs.List.{All}
 use Rattle.egt_table.specs.Table.{TableValue}
 use Rattle.egt_fill.specs.Begun.{AreNumbered}
@@ -18,3 +18,9 @@ begun_under_way f t items places stamps are unseen numbered long none = record {
   placed = numbered;
   due = λ k d k_in fresh. absurd (let e = unseen k d k_in in let some = fresh.0 in omega (arith, e, some));
 }
+
+-- of zeros alone
+pub zeros : (n i : ℕ) → slice_index (replicate n 0) i ≡ 0
+zeros zero i = refl
+zeros (suc n) zero = refl
+zeros (suc n) (suc i) = zeros n i

@@ -37,7 +37,8 @@ fn no_stamps(alloc: Global) -> Result<Vec<u32>, AllocError>
     ensures long { IfOk result (λ stamps. length stamps.items ≡ 8192) }
     ensures none { IfOk result (λ stamps. (i : ℕ) → slice_index stamps.items i ≡ 0) }
 {
-    vec![in alloc; 0; PLACES]
+    let stamps = vec![in alloc; 0; PLACES]?;
+    Ok(stamps)
 }
 
 /// Looks at the items until all that is due is put, and sees that they are of all codes.

@@ -13,3 +13,6 @@ all_are_covered-requires-clause-own c =
       bytes = mended.bytes;
       men_of = subst (λ k. AreMenOf k c.args.f.now.men) (sym mended.class) c.requires.table.men_of;
     }
+
+pub all_are_covered-requires-clause-due : goal.all_are_covered-requires-clause-due
+all_are_covered-requires-clause-due c = c.settle_items.ensures.due c.if-not-settle_items.false
