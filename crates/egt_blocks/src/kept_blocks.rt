@@ -1,6 +1,6 @@
-//! Blocks that were read shortly before. Kings who stand near each other step to the same squares, so pairs of kings that
-//! are judged one after the other read most blocks once.
-ghost use Rattle.std.specs.Prelude.{◌≡◌, ◌<◌, ℕ, List, [], false, true, slice_index_or};
+//! Blocks that were read before. Kings who stand near each other step to the same squares, so pairs of kings that are
+//! judged one after the other read most blocks once; whoever keeps more places reads a block once until its scores change.
+ghost use Rattle.std.specs.Prelude.{◌≡◌, ◌<◌, ℕ, List, [], length, false, true, slice_index_or};
 ghost use Rattle.egt_board.specs.declared.man.Side.{Side};
 ghost use Rattle.egt_index.specs.ShelfCodes.{AreMenOf};
 ghost use Rattle.egt_index.specs.TurnedMen.{IsSomeTurnedCode};
@@ -9,7 +9,7 @@ ghost use Rattle.egt_lanes.specs.Blocks.{at};
 ghost use Rattle.egt_lanes.specs.Raised.{IsRaised};
 ghost use Rattle.egt_table.specs.declared.column.Column.{Column};
 ghost use Rattle.egt_steps.specs.Stands.{stand_on};
-ghost use Rattle.egt_blocks.specs.Kept.{AreKept, IsOfMen, place_of};
+ghost use Rattle.egt_blocks.specs.Kept.{AreKept, IsOfMen};
 ghost use Rattle.egt_blocks.specs.Scored.{IsRead, ScoresNoVoids};
 
 use crate::blocks::read_block;
@@ -29,17 +29,14 @@ pub struct BlockKey {
     pub black: Square,
 }
 
-/// Which blocks are kept, each in its place; `None` before one is read.
-pub type BlockKeys = [Option<BlockKey>; 12];
+/// How many places there are for the blocks that neighbours read.
+pub const NEAR_PLACES: usize = 12;
 
-/// Those blocks.
-pub type KeptBlocks = [Block; 12];
-
-/// No block's key.
-pub fn no_keys() -> BlockKeys
-    ensures { (c : ℕ) (worth : Column → ℕ → ℕ) (men : ShelfMen) (side : Side) (blocks : List (List (List ℕ))) → AreKept c worth men side result blocks }
+/// No block's key: nothing is kept in any place before it is read.
+pub fn no_keys() -> [Option<BlockKey>; NEAR_PLACES]
+    ensures { (c : ℕ) (worth : Column → ℕ → ℕ) (men : ShelfMen) (side : Side) (blocks : List (List (List ℕ))) → length blocks ≡ 12 → AreKept c worth men side result blocks }
 {
-    [None; 12]
+    [None; NEAR_PLACES]
 }
 
 /// Whether the key is that of the column's block of these men.
@@ -52,16 +49,41 @@ fn is_of(key: Option<BlockKey>, column: Column, men: &ShelfMen) -> bool
     }
 }
 
-/// The place of a block by its column and by the square of the king who moves: squares of two files and three ranks side by
-/// side have different places, and so have the columns that are judged at the same time.
-fn place_of(column: Column, king: Square) -> usize
-    ensures { result ≡ place_of column king }
+/// The place among the nearest by the square of the king who moves: squares of two files and three ranks side by side have
+/// different places, and so have the columns that are judged at the same time.
+fn near_place(column: Column, king: Square) -> usize
+    ensures { result < 12 }
 {
     let first = match column {
         Column::Zeroing => 6,
         Column::Mate | Column::Reach => 0,
     };
     first + usize::from(king.number() % 2 * 3 + king.number() / 8 % 3)
+}
+
+/// The place among as many as there are pairs of kings: the white king stands on one of the first five files.
+fn wide_place(column: Column, men: &ShelfMen) -> usize
+    ensures { result < 8192 }
+{
+    let first = match column {
+        Column::Zeroing => 2560,
+        Column::Mate | Column::Reach => 0,
+    };
+    let white = men.white.number();
+    let king = usize::from(white / 8 * 5 + white % 8);
+    first + king * 64 + usize::from(men.black.number())
+}
+
+/// The place of a block among so many, by its column and its kings.
+fn place_of(column: Column, men: &ShelfMen, side: Side, places: usize) -> usize
+    requires { 0 < places }
+    ensures { result < places }
+{
+    if places <= NEAR_PLACES {
+        near_place(column, king_of_men(men, side.other())) % places
+    } else {
+        wide_place(column, men) % places
+    }
 }
 
 /// The scores of the positions with these men where that side is to move. False where the source does not tell.
@@ -88,13 +110,13 @@ fn keep<S: ShelfScores>(
     men: &ShelfMen,
     side: Side,
     place: usize,
-    keys: &mut BlockKeys,
-    blocks: &mut KeptBlocks,
+    keys: &mut [Option<BlockKey>],
+    blocks: &mut [Block],
 ) -> bool
     requires there { S.has source.now column }
     requires voids { ScoresNoVoids (S.number source.now) (S.worth source.now column) }
     requires men { AreMenOf (S.number source.now) men.now }
-    requires place { place < 12 }
+    requires place { place < length keys.old }
     requires kept { AreKept (S.number source.now) (S.worth source.now) men.now side keys.old blocks.old }
     ensures kept { AreKept (S.number source.now) (S.worth source.now) men.now side keys.new blocks.new }
     ensures read { result ≡ true → (a b : ℕ) → a < 64 → b < 64 → IsRead (S.number source.now) (S.worth source.now column) false (stand_on men.now a b) side (at (slice_index_or blocks.new place []) a b) }
@@ -121,8 +143,8 @@ pub fn raise_kept<S: ShelfScores>(
     column: Column,
     men: &ShelfMen,
     side: Side,
-    keys: &mut BlockKeys,
-    blocks: &mut KeptBlocks,
+    keys: &mut [Option<BlockKey>],
+    blocks: &mut [Block],
     out: &mut Block,
 ) -> bool
     requires there { S.has source.now column }
@@ -132,7 +154,7 @@ pub fn raise_kept<S: ShelfScores>(
     ensures kept { AreKept (S.number source.now) (S.worth source.now) men.now side keys.new blocks.new }
     ensures raised { result ≡ true → (a b : ℕ) → a < 64 → b < 64 → IsRaised (at out.old a b) (λ code. IsSomeTurnedCode (S.number source.now) code false (stand_on men.now a b) side) (S.worth source.now column) (at out.new a b) }
 {
-    let place = place_of(column, king_of_men(men, side.other()));
+    let place = place_of(column, men, side, keys.len());
     if !keep(source, column, men, side, place, keys, blocks) {
         return false;
     }

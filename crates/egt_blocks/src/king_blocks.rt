@@ -11,7 +11,7 @@ ghost use Rattle.egt_blocks.specs.Kept.{AreKept};
 ghost use Rattle.egt_blocks.specs.Scored.{ScoresNoVoids};
 
 use crate::blocks::nothing;
-use crate::kept_blocks::{BlockKeys, KeptBlocks, raise_kept};
+use crate::kept_blocks::{BlockKey, raise_kept};
 use crate::men::{king_of_men, with_king};
 use crate::scored::ShelfScores;
 use egt_board::attack_lines::reach_past;
@@ -37,8 +37,8 @@ pub fn king_block<S: ShelfScores>(
     column: Column,
     men: &ShelfMen,
     side: Side,
-    keys: &mut BlockKeys,
-    blocks: &mut KeptBlocks,
+    keys: &mut [Option<BlockKey>],
+    blocks: &mut [Block],
     out: &mut Block,
 ) -> bool
     requires there { S.has source.now column }

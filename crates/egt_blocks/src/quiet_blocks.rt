@@ -15,7 +15,7 @@ ghost use Rattle.egt_blocks.specs.QuietSteps.{IsFirstStep, IsLastStep};
 ghost use Rattle.egt_blocks.specs.Scored.{ScoresNoVoids};
 
 use crate::blocks::nothing;
-use crate::kept_blocks::{BlockKeys, KeptBlocks, raise_kept};
+use crate::kept_blocks::{BlockKey, raise_kept};
 use crate::king_blocks::king_block;
 use crate::men::kings_of;
 use crate::own_men::is_own_piece;
@@ -73,8 +73,8 @@ pub fn quiet_block<S: ShelfScores>(
     column: Column,
     men: &ShelfMen,
     side: Side,
-    keys: &mut BlockKeys,
-    blocks: &mut KeptBlocks,
+    keys: &mut [Option<BlockKey>],
+    blocks: &mut [Block],
     out: &mut Block,
 ) -> bool
     requires there { S.has source.now column }

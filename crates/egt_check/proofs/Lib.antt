@@ -14,6 +14,7 @@ pub mod Worth
 pub mod RowRead
 pub mod LoneRead
 pub mod EqualPawns
+pub mod Exits
 pub mod TablePairs
 pub mod ByteJudged
 pub mod QuietGiven

@@ -15,7 +15,7 @@ use Rattle.egt_check.specs.declared.move_scores.FourMen.{FourMen}
 use Rattle.egt_check.specs.declared.pawn_scores.Promotion.{Promotion}
 use Rattle.egt_check.specs.declared.pawn_scores.Promotions.{Promotions}
 use Rattle.egt_check.specs.MoveScores.{AreAllScores, AreMoveScores, ArePassingCaptures, AreTablesOf, AreZeroingMoves}
-use Rattle.egt_check.specs.Parts.{four_in, promotion_in, promotions_in, some_promotions_in}
+use Rattle.egt_check.specs.Parts.{children_in, four_in, promotion_in, promotions_in, some_promotions_in}
 use Rattle.egt_check.specs.PawnScores.{ArePawnScores, HasPromotion, HasPromotions, IsPromotionScore, IsRaisedByPawn}
 use Rattle.egt_check.specs.ReachScores.{AreAllReachScores, AreReachScores}
 use Rattle.egt_entries.specs.Tables.{Tables}
@@ -84,24 +84,24 @@ module _ (or_void : (c code : ℕ) → c < 36 → ((p : Setup) × Spells c code 
       by_first = s.by_first;
       by_last = s.by_last;
       by_pawns = s.by_pawns;
-      first_raised = near_raised four.first.now 0 s.by_first _ are.first.is_table are.first.bytes s.first_raised;
-      last_raised = near_raised four.last.now 0 s.by_last _ are.last.is_table are.last.bytes s.last_raised;
+      first_raised = near_raised four.children.first.now 0 s.by_first _ are.first.is_table are.first.bytes s.first_raised;
+      last_raised = near_raised four.children.last.now 0 s.by_last _ are.last.is_table are.last.bytes s.last_raised;
       pawns = record {
         by_first = s.pawns.by_first;
         by_last = s.pawns.by_last;
-        first_is = by_pawn tables (men_swapped men) side b a four.own.now true are.is_table are.bytes four.first_pawn 0 s.pawns.by_first are.first_pawn s.pawns.first_is;
-        last_is = by_pawn tables men side a b four.own.now false are.is_table are.bytes four.last_pawn 0 s.pawns.by_last are.last_pawn s.pawns.last_is;
+        first_is = by_pawn tables (men_swapped men) side b a four.own.now true are.is_table are.bytes four.children.first_pawn 0 s.pawns.by_first are.first_pawn s.pawns.first_is;
+        last_is = by_pawn tables men side a b four.own.now false are.is_table are.bytes four.children.last_pawn 0 s.pawns.by_last are.last_pawn s.pawns.last_is;
         is = s.pawns.is;
       };
       is = s.is;
     }
 
-    of_passing : (score : ℕ) → ArePassingCaptures columns.Reach four men side a b score → ArePassingCaptures columns.Mate (four_in Reach four) men side a b score
+    of_passing : (score : ℕ) → ArePassingCaptures columns.Reach four.children men side a b score → ArePassingCaptures columns.Mate (children_in Reach four.children) men side a b score
     of_passing score s = record {
       by_last = s.by_last;
       by_first = s.by_first;
-      last_raised = near_raised four.last.now 0 s.by_last _ are.last.is_table are.last.bytes s.last_raised;
-      first_raised = near_raised four.first.now 0 s.by_first _ are.first.is_table are.first.bytes s.first_raised;
+      last_raised = near_raised four.children.last.now 0 s.by_last _ are.last.is_table are.last.bytes s.last_raised;
+      first_raised = near_raised four.children.first.now 0 s.by_first _ are.first.is_table are.first.bytes s.first_raised;
       is = s.is;
     }
 

@@ -15,7 +15,7 @@ use Rattle.egt_moves.specs.Promotion.{arriving}
 use Rattle.egt_table.specs.Table.{HasColumn, TableValue}
 use Rattle.egt_table.specs.declared.column.Column.{Column}
 use Rattle.egt_blocks.specs.Blocks.{with_kings}
-use Rattle.egt_check.specs.MoveScores.{AreFourMen, AreTablesOf}
+use Rattle.egt_check.specs.MoveScores.{AreChildren, AreFourMen, AreTablesOf}
 use Rattle.egt_entries.specs.Library.{IsShelved}
 use Rattle.egt_check.specs.Parts.{column_of, promotions_in, some_promotions_in, table_in, tables_in}
 use Rattle.egt_steps.specs.PawnMoves.{IsClassAfter, men_after}
@@ -24,6 +24,7 @@ use Rattle.egt_blocks.specs.Taken.{men_swapped}
 use Rattle.egt_check.specs.PawnScores.{AreNamed, ArePromotionsOf, HasPromotion, HasPromotions, IsPromotionOf}
 use Rattle.egt_entries.specs.Tables.{Tables, beside}
 use Rattle.egt_check.specs.Worth.{HasBytes}
+use Rattle.egt_check.specs.declared.move_scores.Children.{Children}
 use Rattle.egt_check.specs.declared.move_scores.FourMen.{FourMen}
 use Rattle.egt_check.specs.declared.part.Part.{Part}
 use Rattle.egt_check.specs.declared.part.Part.TheVariants.{Values, Reach}
@@ -85,21 +86,26 @@ module _ (men : ShelfMen) (white black : ℕ) where
   }
 
 module _ (men : ShelfMen) (white black : ℕ) where
+  pub children_there : (column : Column) (children : Children) → AreChildren column children men → AreChildren column children (with_kings men white black)
+  children_there column children are = record {
+    first_there = are.first_there;
+    last_there = are.last_there;
+    one = are.one;
+    last = are.last;
+    first_left = are.first_left;
+    last_left = are.last_left;
+    first_pawn = promotions_there (men_swapped men) white black column children.first_pawn are.first_pawn;
+    last_pawn = promotions_there men white black column children.last_pawn are.last_pawn;
+    same = are.same;
+  }
+
   pub four_there : (column : Column) (four : FourMen) → AreFourMen column four men → AreFourMen column four (with_kings men white black)
   four_there column four are = record {
     own_there = are.own_there;
     own_voids = are.own_voids;
     zeroing_voids = are.zeroing_voids;
-    first_there = are.first_there;
-    last_there = are.last_there;
     men_of = record { are = are.men_of.are; one_beside = are.men_of.one_beside; last_beside = are.men_of.last_beside };
-    one = are.one;
-    last = are.last;
-    first_left = are.first_left;
-    last_left = are.last_left;
-    first_pawn = promotions_there (men_swapped men) white black column four.first_pawn are.first_pawn;
-    last_pawn = promotions_there men white black column four.last_pawn are.last_pawn;
-    same = are.same;
+    children = children_there column four.children are.children;
   }
 
   pub tables_of_there : (tables : Tables) (four : FourMen) → AreTablesOf tables four men → AreTablesOf tables four (with_kings men white black)
@@ -110,8 +116,8 @@ module _ (men : ShelfMen) (white black : ℕ) where
     first = are.first;
     last = are.last;
     own_after = are.own_after;
-    first_pawn = tables_there (men_swapped men) white black tables four.first_pawn are.first_pawn;
-    last_pawn = tables_there men white black tables four.last_pawn are.last_pawn;
+    first_pawn = tables_there (men_swapped men) white black tables four.children.first_pawn are.first_pawn;
+    last_pawn = tables_there men white black tables four.children.last_pawn are.last_pawn;
   }
 
 -- ---- the table of a class that a promotion leads to

@@ -1,7 +1,6 @@
 -- Whole tables of classes with two men beside the kings: what holds at all codes, shelf by shelf, and the tables that moves lead to.
-use Rattle.std.proofs.Common.{◌≡◌, ◌≢◌, ℕ, min, ◌+◌, ◌-◌, ◌*◌, ◌/◌, ◌%◌, ◌<◌, ◌≤◌, ◌⊎◌, Bool, ne_eqb, refl, inl, inr, Some, None, sym, ap, ◌∙◌, subst, arith}
+use Rattle.std.proofs.Common.{◌≡◌, ◌≢◌, ℕ, ◌+◌, ◌-◌, ◌*◌, ◌/◌, ◌%◌, ◌<◌, ◌≤◌, ◌⊎◌, Bool, ne_eqb, refl, inl, inr, Some, None, sym, ap, ◌∙◌, subst, arith}
 use Rattle.std.proofs.lemmas.Bool.{cases_lt}
-use Rattle.std.proofs.lemmas.Grind.{div_ceil_times}
 use Rattle.std.proofs.Math.Nat.{mul-le-mul_right}
 use Rattle.egt_board.specs.Setup.{Setup}
 use Rattle.egt_board.specs.Turned.{turned_man}
@@ -86,13 +85,6 @@ keeps_halves Right c wide half first meet lower upper = λ k from below. elim (c
       let met = mul-le-mul_right wide meet in
       upper k (omega (arith, met, past)) below
 ]
-
--- the shelves hold all numbers
-pub all_shelves : (size digits wide shelves first : ℕ) → 0 < digits → digits ≡ wide → shelves ≡ size / (2 * digits) + min 1 (size % (2 * digits)) → shelves ≤ first → size ≤ first * (2 * wide)
-all_shelves size digits wide shelves first some same is past =
-    let up = (div_ceil_times size (2 * digits) (omega (arith, some))).0 in
-    let more = mul-le-mul_right (2 * digits) past in
-    subst (λ w. size ≤ first * (2 * w)) same (subst (λ n. size ≤ n * (2 * digits) → size ≤ first * (2 * digits)) is (λ le. omega (arith, le, more)) up)
 
 -- each code is that of its number
 pub keeps_codes : (Right : ℕ → Type 0) (c n : ℕ) → ((i : ℕ) → i < size_of c → code_of c (number_of c i) ≡ i) → ((i : ℕ) → i < size_of c → number_of c i < size_of c) → size_of c ≤ n → NumbersKeep Right c 0 n → (i : ℕ) → i < size_of c → Right i

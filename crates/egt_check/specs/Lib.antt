@@ -9,6 +9,7 @@ pub mod MoveScores
 pub mod RightBlock
 pub mod Blank
 pub mod PairOrder
+pub mod Pairs
 pub mod PawnScores
 pub mod Place
 pub mod Parts

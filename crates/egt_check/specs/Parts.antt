@@ -1,12 +1,16 @@
 -- The parts of a table that are judged one after the other, and the tables as they are seen then: the column of the nearest mates is seen as a mate
 -- column.
-use Rattle.std.specs.Prelude.{ℕ, List, map, Option, None, option_map}
+use Rattle.std.specs.Prelude.{◌≡◌, ℕ, List, map, Option, None, option_map}
 use Rattle.std.specs.Borrow.{Bor}
-use Rattle.egt_table.specs.Table.{TableValue, entries_or_none}
+use Rattle.egt_index.specs.ShelfCodes.{AreMenOf}
+use Rattle.egt_index.specs.declared.shelf_codes.ShelfMen.{ShelfMen}
+use Rattle.egt_table.specs.Table.{HasColumn, IsTable, TableValue, entries_or_none}
 use Rattle.egt_table.specs.declared.column.Column.{Column}
 use Rattle.egt_table.specs.declared.column.Column.TheVariants as columns
 use Rattle.egt_entries.specs.NearTables.{near_entry, near_tables}
 use Rattle.egt_entries.specs.Tables.{Tables}
+use Rattle.egt_check.specs.Worth.{HasBytes}
+use Rattle.egt_check.specs.declared.move_scores.Children.{Children}
 use Rattle.egt_check.specs.declared.move_scores.FourMen.{FourMen}
 use Rattle.egt_check.specs.declared.part.Part.{Part}
 use Rattle.egt_check.specs.declared.part.Part.TheVariants.{Values, Reach}
@@ -63,13 +67,23 @@ abbrev pub some_promotions_in : Part → Option Promotions → Option Promotions
 some_promotions_in Values some = some
 some_promotions_in Reach some = option_map (promotions_in Reach) some
 
-abbrev pub four_in : Part → FourMen → FourMen
-four_in part four = record {
-  own = reference_in part four.own;
-  first = reference_in part four.first;
-  first_flips = four.first_flips;
-  last = reference_in part four.last;
-  last_flips = four.last_flips;
-  first_pawn = some_promotions_in part four.first_pawn;
-  last_pawn = some_promotions_in part four.last_pawn;
+abbrev pub children_in : Part → Children → Children
+children_in part children = record {
+  first = reference_in part children.first;
+  first_flips = children.first_flips;
+  last = reference_in part children.last;
+  last_flips = children.last_flips;
+  first_pawn = some_promotions_in part children.first_pawn;
+  last_pawn = some_promotions_in part children.last_pawn;
 }
+
+abbrev pub four_in : Part → FourMen → FourMen
+four_in part four = record { own = reference_in part four.own; children = children_in part four.children }
+
+-- the table of the class of these men, whose bytes tell its entries of the part
+pub record IsOwnTable (part : Part) (class : ℕ) (men : ShelfMen) (t : TableValue) : Type 0 where
+  pub is_table : IsTable t
+  pub class_is : t.class ≡ class
+  pub there : HasColumn (column_of part) t
+  pub bytes : HasBytes (table_in part t)
+  pub men_of : AreMenOf t.class men

@@ -46,6 +46,38 @@ pub record IsPromotionScore (column : Column) (promotion : Promotion) (men : She
   pub taken_raised : IsRaised 0 (ArePromotedCodes promotion.alone.now.class promotion.alone_flips men side promotion.kind a b) (column_score promotion.alone.now column) taken
   pub is : high ≡ max (max low advanced) taken
 
+-- of promotions to each kind
+pub record ArePromotionScores (column : Column) (promotions : Promotions) (men : ShelfMen) (side : Side) (a b low high : ℕ) : Type 0 where
+  pub queen : ℕ
+  pub rook : ℕ
+  pub bishop : ℕ
+  pub queen_is : IsPromotionScore column promotions.queen men side a b low queen
+  pub rook_is : IsPromotionScore column promotions.rook men side a b queen rook
+  pub bishop_is : IsPromotionScore column promotions.bishop men side a b rook bishop
+  pub knight_is : IsPromotionScore column promotions.knight men side a b bishop high
+
+-- the greatest score after the last man's promotions, where he is a pawn of that side, or 0
+abbrev pub IsBestPromotion : (column : Column) (promotions : Option Promotions) (men : ShelfMen) (side : Side) (a b score : ℕ) → Type 0
+IsBestPromotion column promotions men side a b score =
+    ((score ≡ 0) × ¬ ((men.last.kind ≡ P) × (men.last.side ≡ side)))
+    ⊎ ((men.last.kind ≡ P) × (men.last.side ≡ side) × (kinds : Promotions) × (promotions ≡ Some kinds) × ArePromotionScores column kinds men side a b 0 score)
+
+-- the greatest score after the last man's advances without promotion
+pub record AreAdvanceScores (column : Column) (own : TableValue) (first : Bool) (men : ShelfMen) (side : Side) (a b score : ℕ) : Type 0 where
+  pub stepped : ℕ
+  pub leapt : ℕ
+  pub stepped_raised : IsRaised 0 (AreStepCodes own.class first men side a b) (column_score own column) stepped
+  pub leapt_raised : IsRaised 0 (AreLeapCodes own.class first men side a b) (column_score own column) leapt
+  pub is : score ≡ max stepped leapt
+
+-- of both men's, with the first on a and the last on b
+pub record AreOwnPawnMoves (column : Column) (own : TableValue) (men : ShelfMen) (side : Side) (a b score : ℕ) : Type 0 where
+  pub by_last : ℕ
+  pub by_first : ℕ
+  pub last_is : AreAdvanceScores column own false men side a b by_last
+  pub first_is : AreAdvanceScores column own true (men_swapped men) side b a by_first
+  pub is : score ≡ max by_last by_first
+
 -- the greatest score after the pawn's advances, promotions and promoting captures
 pub record ArePawnScores (column : Column) (own : TableValue) (first : Bool) (promotions : Promotions) (men : ShelfMen) (side : Side) (a b score : ℕ) : Type 0 where
   pub stepped : ℕ

@@ -24,7 +24,7 @@ pub record ArePassedReachScores (four : FourMen) (men : ShelfMen) (side : Side) 
   pub plain : ℕ
   pub passing : ℕ
   pub plain_is : AreReachScores four men side a b plain
-  pub passing_are : ArePassingCaptures Reach four men side a b passing
+  pub passing_are : ArePassingCaptures Reach four.children men side a b passing
   pub is : reach ≡ max plain passing
 
 -- that of all moves, where there is a target or where there is none

@@ -44,7 +44,7 @@ fn shelves_are_blank(
 }
 
 /// Whether so are those, and those of the shelves `half` further on, which have the same men and a target; 0 in a class without targets.
-pub(crate) fn side_is_blank(
+pub fn side_is_blank(
     table: &Table,
     column: Column,
     men: &ShelfMen,

@@ -8,21 +8,21 @@ ghost use Rattle.egt_lanes.specs.Blocks.{at};
 ghost use Rattle.egt_table.specs.Table.{HasColumn};
 ghost use Rattle.egt_steps.specs.Stands.{men_on};
 ghost use Rattle.egt_blocks.specs.Kept.{AreKept};
-ghost use Rattle.egt_check.specs.MoveScores.{AreFourMen, AreTablesOf};
+ghost use Rattle.egt_check.specs.MoveScores.{AreFourMen, AreTablesOf, HoldsExits, HoldsPassing};
 ghost use Rattle.egt_check.specs.Parts.{column_of, four_in, tables_in};
 ghost use Rattle.egt_check.specs.ReachScores.{AreAllScoresOf};
 ghost use Rattle.egt_check.specs.RightBlock.{AreJudged, IsRightLane};
 ghost use Rattle.egt_entries.specs.Tables.{Tables};
 ghost use Rattle.egt_check.specs.Worth.{column_score};
 
-use crate::move_scores::{FourMen, move_scores, raise_passed};
-use crate::part::Part;
+use crate::move_scores::{FourMen, exits, move_scores, passing_captures, raise_passed};
+use crate::part::{Part, column_of};
 use crate::part_laws::entries_due_to_all_moves_are_right;
 use crate::reach_scores::{raise_passed_reach, reach_scores};
 use crate::row_judging::row_is_right;
 use egt_blocks::blocks::{begin_with, nothing};
 use egt_blocks::digits::{digits_of, first_square};
-use egt_blocks::kept_blocks::{BlockKeys, KeptBlocks};
+use egt_blocks::kept_blocks::BlockKey;
 use egt_blocks::men::men_on;
 use egt_board::{Side, Square};
 use egt_index::ShelfMen;
@@ -30,45 +30,48 @@ use egt_index::laws::numbers_stand_for_codes;
 use egt_lanes::Block;
 use egt_table::Table;
 
-/// The greatest scores of all moves but captures in passing, in the part's column, and of `Values` in the zeroing
-/// column too. False where a table does not tell.
-fn part_scores(
+/// The greatest scores of all moves but captures in passing, by those of the exits, in the part's column, and of `Values` in
+/// the zeroing column too. False where a table does not tell.
+pub fn part_scores(
     four: &FourMen,
     men: &ShelfMen,
     part: Part,
     side: Side,
-    keys: &mut BlockKeys,
-    blocks: &mut KeptBlocks,
+    leaving: &Block,
+    keys: &mut [Option<BlockKey>],
+    blocks: &mut [Block],
     scores: &mut Block,
     zeroing: &mut Block,
 ) -> bool
     requires men { AreFourMen (column_of part) four.now men.now }
+    requires leaving { HoldsExits (column_of part) four.now.children men.now side leaving.now }
     requires kept { AreKept four.now.own.now.class (column_score four.now.own.now) men.now (other_side side) keys.old blocks.old }
     ensures kept { result ≡ true → AreKept four.now.own.now.class (column_score four.now.own.now) men.now (other_side side) keys.new blocks.new }
     ensures scores { result ≡ true → (a b : ℕ) → a < 64 → b < 64 → AreAllScoresOf part false four.now men.now side a b (at scores.new a b) (at zeroing.new a b) }
 {
     match part {
-        Part::Values => move_scores(four, men, side, keys, blocks, scores, zeroing),
-        Part::Reach => reach_scores(four, men, side, keys, blocks, scores),
+        Part::Values => move_scores(four, men, side, leaving, keys, blocks, scores, zeroing),
+        Part::Reach => reach_scores(four, men, side, leaving, keys, blocks, scores),
     }
 }
 
-/// Raises those to the scores of captures in passing: then they are of all moves where there is a target.
-fn raise_part_passed(
+/// Raises those to the scores of captures in passing, which are these: then they are of all moves where there is a target.
+pub fn raise_part_passed(
     four: &FourMen,
     men: &ShelfMen,
     part: Part,
     side: Side,
+    passing: &Block,
     scores: &mut Block,
     zeroing: &mut Block,
-) -> bool
-    requires { AreFourMen (column_of part) four.now men.now }
-    ensures { result ≡ true → (a b : ℕ) → a < 64 → b < 64 → AreAllScoresOf part false four.now men.now side a b (at scores.old a b) (at zeroing.old a b) →
+)
+    requires { HoldsPassing (column_of part) four.now.children men.now side passing.now }
+    ensures { (a b : ℕ) → a < 64 → b < 64 → AreAllScoresOf part false four.now men.now side a b (at scores.old a b) (at zeroing.old a b) →
         AreAllScoresOf part true four.now men.now side a b (at scores.new a b) (at zeroing.new a b) }
 {
     match part {
-        Part::Values => raise_passed(four, men, side, scores, zeroing),
-        Part::Reach => raise_passed_reach(four, men, side, scores),
+        Part::Values => raise_passed(four, men, side, passing, scores, zeroing),
+        Part::Reach => raise_passed_reach(four, men, side, passing, scores),
     }
 }
 
@@ -125,8 +128,8 @@ pub(crate) fn block_is_right(
     first: u32,
     half: u32,
     side: Side,
-    keys: &mut BlockKeys,
-    blocks: &mut KeptBlocks,
+    keys: &mut [Option<BlockKey>],
+    blocks: &mut [Block],
 ) -> bool
     requires men { AreFourMen (column_of part) four.now men.now }
     requires room { first + half + 64 < 4294967296 }
@@ -136,6 +139,11 @@ pub(crate) fn block_is_right(
         AreJudged part tables four.now.own.now men.now first side × AreJudged part tables four.now.own.now men.now (first + half) side }
 {
     entries_due_to_all_moves_are_right();
+    let column = column_of(part);
+    let mut leaving = nothing();
+    if !exits(&four.children, column, men, side, &mut leaving) {
+        return false;
+    }
     let mut scores = nothing();
     let mut zeroing = nothing();
     if !part_scores(
@@ -143,6 +151,7 @@ pub(crate) fn block_is_right(
         men,
         part,
         side,
+        &leaving,
         keys,
         blocks,
         &mut scores,
@@ -156,9 +165,11 @@ pub(crate) fn block_is_right(
     if half == 0 {
         return true;
     }
-    if !raise_part_passed(four, men, part, side, &mut scores, &mut zeroing) {
+    let mut passing = nothing();
+    if !passing_captures(&four.children, column, men, side, &mut passing) {
         return false;
     }
+    raise_part_passed(four, men, part, side, &passing, &mut scores, &mut zeroing);
     shelves_are_right(
         four.own,
         men,

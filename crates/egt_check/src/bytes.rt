@@ -24,7 +24,7 @@ fn are_alike(table: &Table) -> bool
 
 /// Whether each code that no position has holds 0 in both columns, and each other one entries with a byte of their own,
 /// alike in both columns. Of a class with two men beside the kings.
-pub(crate) fn tells_bytes(table: &Table) -> bool
+pub fn tells_bytes(table: &Table) -> bool
     ensures { result ≡ true → HasBytes table.now }
 {
     are_alike(table) && tells_voids(table)
@@ -39,7 +39,7 @@ fn true_table_tells_bytes(table: &Table) -> bool
 }
 
 /// Whether the entries of the nearest mates have bytes of their own, and are 0 where the mate entries are.
-pub(crate) fn tells_reach_bytes(table: &Table) -> bool
+pub fn tells_reach_bytes(table: &Table) -> bool
     requires there { IsSome table.now.reach }
     requires voids { TellsVoids table.now }
     ensures { result ≡ true → HasBytes (table_in parts.Reach table.now) }

@@ -1,5 +1,5 @@
 //! What holds of tables and their rules. These functions do nothing: a caller calls one to know what it ensures.
-ghost use Rattle.std.specs.Prelude.{◌≡◌, ◌≢◌, ◌↔◌, ◌<◌, max, ℕ, Bool, false, None, Some};
+ghost use Rattle.std.specs.Prelude.{◌≡◌, ◌≢◌, ◌↔◌, ◌<◌, max, ℕ, Bool, false, None, Some, IsSome};
 ghost use Rattle.std.specs.Option.{is_some};
 ghost use Rattle.egt_class.specs.Membership.{IsOf};
 ghost use Rattle.egt_index.specs.Code.{Spells};
@@ -35,8 +35,9 @@ ghost use Rattle.egt_lanes.specs.Raised.{IsRaised};
 ghost use Rattle.egt_moves.specs.Arena.{NoMove};
 ghost use Rattle.egt_entries.specs.Tables.{Tables, entry_at};
 ghost use Rattle.egt_entries.specs.Library.{ReachesDown};
-ghost use Rattle.egt_entries.specs.Rules.{KeepsRules};
-ghost use Rattle.egt_entries.specs.Truth.{IsTrueTable, HasTrueChildren};
+ghost use Rattle.egt_entries.specs.Rules.{KeepsReachBelow, KeepsRules};
+ghost use Rattle.egt_entries.specs.Truth.{IsTrueReach, IsTrueTable, HasTrueChildren};
+ghost use Rattle.egt_index.specs.Size.{size_of};
 
 use crate::pawn_laws::{
     codes_after_advances_beside_pawns_give_them, codes_after_advances_give_the_advances,
@@ -57,6 +58,14 @@ use egt_steps::pawn_laws::pawns_moves_are_of_four_kinds;
 pub fn rules_are_kept_by_true_tables_alone()
     ensures { (tables : Tables) (t : TableValue) → IsTable t → tables t.class ≡ Some t → HasTrueChildren tables t.class →
         ReachesDown tables t → KeepsRules tables t ↔ IsTrueTable t }
+{
+    facts();
+}
+
+/// Where the children's tables are true, the column of the nearest mates of a table is true where its entries keep all rules.
+pub fn kept_reaches_are_true()
+    ensures { (tables : Tables) (t : TableValue) → IsTable t → tables t.class ≡ Some t → HasTrueChildren tables t.class → ReachesDown tables t →
+        IsSome t.reach → KeepsReachBelow tables t (size_of t.class) → IsTrueReach t }
 {
     facts();
 }

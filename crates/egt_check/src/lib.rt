@@ -12,6 +12,7 @@ pub mod laws;
 pub mod library;
 pub mod move_scores;
 pub mod pair_order;
+pub mod pairs;
 pub mod part;
 pub mod part_laws;
 pub mod pawn_laws;

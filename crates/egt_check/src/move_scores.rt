@@ -1,22 +1,25 @@
 //! The greatest scores of the moves of a side with two men beside the kings, who stand on two squares.
 ghost use Rattle.std.specs.Prelude.{◌≡◌, ◌<◌, max, ℕ, false, true};
 ghost use Rattle.egt_board.specs.Man.{other_side};
+ghost use Rattle.egt_index.specs.ShelfCodes.{AreMenOf};
 ghost use Rattle.egt_lanes.specs.Blocks.{at};
 ghost use Rattle.egt_lanes.specs.Raised.{IsRaised};
 ghost use Rattle.egt_lanes.specs.Scores.{zeroing_score};
+ghost use Rattle.egt_table.specs.Table.{HasColumn};
 ghost use Rattle.egt_table.specs.declared.column.Column.TheVariants as columns;
 ghost use Rattle.egt_blocks.specs.Kept.{AreKept};
 ghost use Rattle.egt_blocks.specs.Leaps.{AreStill};
-ghost use Rattle.egt_check.specs.MoveScores.{AreFourMen, AreMoveScores, ArePassedScores, ArePassingCaptures, AreZeroingMoves};
-ghost use Rattle.egt_check.specs.PawnScores.{AreRaisedByPawns};
+ghost use Rattle.egt_blocks.specs.Scored.{ScoresNoVoids};
+ghost use Rattle.egt_check.specs.MoveScores.{AreChildren, AreFourMen, AreMoveScores, ArePassedScores, AreZeroingMoves, HoldsExits, HoldsPassing};
+ghost use Rattle.egt_check.specs.PawnScores.{AreOwnPawnMoves, IsBestPromotion};
 ghost use Rattle.egt_blocks.specs.Taken.{AreLeftCodes, men_swapped};
 ghost use Rattle.egt_check.specs.Worth.{column_score};
 
-use crate::pawn_scores::{Promotions, pawns_block};
+use crate::pawn_scores::{Promotions, own_pawn_moves, promotions_block};
 use crate::table_scores::TableScores;
 use egt_blocks::blocks::nothing;
-use egt_blocks::kept_blocks::{BlockKeys, KeptBlocks, raise_kept};
-use egt_blocks::men::men_swapped;
+use egt_blocks::kept_blocks::{BlockKey, raise_kept};
+use egt_blocks::men::{are_equal, men_swapped};
 use egt_blocks::own_men::{is_of, is_pawn_of};
 use egt_blocks::passing_blocks::passing_block;
 use egt_blocks::quiet_blocks::quiet_block;
@@ -29,21 +32,38 @@ use egt_lanes::row::greater;
 use egt_lanes::score::zeroed;
 use egt_table::{Column, Table};
 
-/// The table of a class of two men beside the kings, and those of the classes that captures and promotions lead to,
-/// each with whether colours are exchanged there.
-#[derive(Drop)]
-pub(crate) struct FourMen<'t> {
-    pub(crate) own: &'t Table,
+/// The tables of the classes that captures and promotions of two men beside the kings lead to, each with whether
+/// colours are exchanged there.
+#[derive(Clone, Copy)]
+pub struct Children<'t> {
     /// Where the first man is left.
-    pub(crate) first: &'t Table,
-    pub(crate) first_flips: bool,
+    pub first: &'t Table,
+    pub first_flips: bool,
     /// Where the last man is left.
-    pub(crate) last: &'t Table,
-    pub(crate) last_flips: bool,
+    pub last: &'t Table,
+    pub last_flips: bool,
     /// Where the first man, a pawn, is promoted.
-    pub(crate) first_pawn: Option<Promotions<'t>>,
+    pub first_pawn: Option<Promotions<'t>>,
     /// Where the last man, a pawn, is promoted.
-    pub(crate) last_pawn: Option<Promotions<'t>>,
+    pub last_pawn: Option<Promotions<'t>>,
+}
+
+/// The table of a class of two men beside the kings, and those of the classes that moves lead to which leave it.
+#[derive(Drop)]
+pub struct FourMen<'o, 't> {
+    pub own: &'o Table,
+    pub children: Children<'t>,
+}
+
+/// The class's own table beside those of its children.
+pub fn beside_own<'o, 't>(own: &'o Table, children: &Children<'t>) -> FourMen<'o, 't>
+    ensures own { result.own.now ≡ own.now }
+    ensures children { result.children ≡ children.now }
+{
+    FourMen {
+        own,
+        children: *children,
+    }
 }
 
 /// Raises each score to what the move zeroes that leads to this one.
@@ -58,23 +78,25 @@ fn raise_zeroed(out: &mut Block, mates: &Block)
 /// Raises the scores to those of captures of the first man that promote no pawn, where he is of the other side. False
 /// where a table does not tell.
 fn raise_first_taken(
-    four: &FourMen,
+    children: &Children,
     column: Column,
     men: &ShelfMen,
     side: Side,
     out: &mut Block,
 ) -> bool
-    requires { AreFourMen column four.now men.now }
-    ensures { result ≡ true → (a b : ℕ) → a < 64 → b < 64 → (taken : ℕ) × IsRaised 0 (AreLeftCodes four.now.last.now.class four.now.last_flips (men_swapped men.now) side b a) (column_score four.now.last.now column) taken × (at out.new a b ≡ max (at out.old a b) taken) }
+    requires { AreChildren column children.now men.now }
+    ensures { result ≡ true → (a b : ℕ) → a < 64 → b < 64 → (taken : ℕ) × IsRaised 0 (AreLeftCodes children.now.last.now.class children.now.last_flips (men_swapped men.now) side b a) (column_score children.now.last.now column) taken × (at out.new a b ≡ max (at out.old a b) taken) }
 {
     if !is_of(men.one, side.other()) {
         return true;
     }
     let mut across = nothing();
     if !taken_block(
-        &TableScores { table: four.last },
+        &TableScores {
+            table: children.last,
+        },
         column,
-        four.last_flips,
+        children.last_flips,
         &men_swapped(men),
         side,
         &mut across,
@@ -85,52 +107,113 @@ fn raise_first_taken(
     true
 }
 
-/// Raises the scores to those of pawns' moves but captures in passing, where that side has a pawn; `still` are those of the
-/// men where they stand, the other side to move. False where a table does not tell.
-fn raise_pawns(
-    four: &FourMen,
+/// Raises the scores to those of promotions of both men, where that side has a pawn. False where a table does not tell.
+fn raise_pawns_promoted(
+    children: &Children,
+    column: Column,
+    men: &ShelfMen,
+    side: Side,
+    out: &mut Block,
+) -> bool
+    requires { AreChildren column children.now men.now }
+    ensures { result ≡ true → (a b : ℕ) → a < 64 → b < 64 → (last first : ℕ) × IsBestPromotion column children.now.last_pawn men.now side a b last × IsBestPromotion column children.now.first_pawn (men_swapped men.now) side b a first × (at out.new a b ≡ max (at out.old a b) (max last first)) }
+{
+    if !is_pawn_of(men.one, side) && !is_pawn_of(men.last, side) {
+        return true;
+    }
+    let mut promoted = nothing();
+    if !promotions_block(&children.last_pawn, column, men, side, &mut promoted) {
+        return false;
+    }
+    raise(out, &promoted);
+    // What equal men are promoted to is told once.
+    if are_equal(men) {
+        raise_transposed(out, &promoted);
+        return true;
+    }
+    let mut across = nothing();
+    if !promotions_block(
+        &children.first_pawn,
+        column,
+        &men_swapped(men),
+        side,
+        &mut across,
+    ) {
+        return false;
+    }
+    raise_transposed(out, &across);
+    true
+}
+
+/// The greatest scores in the column of the moves of that side that leave the class, but captures in passing: they depend on
+/// the tables of the children alone. False where a table does not tell.
+pub fn exits(
+    children: &Children,
+    column: Column,
+    men: &ShelfMen,
+    side: Side,
+    out: &mut Block,
+) -> bool
+    requires { AreChildren column children.now men.now }
+    ensures { result ≡ true → HoldsExits column children.now men.now side out.new }
+{
+    if !taken_block(
+        &TableScores {
+            table: children.first,
+        },
+        column,
+        children.first_flips,
+        men,
+        side,
+        out,
+    ) {
+        return false;
+    }
+    raise_first_taken(children, column, men, side, out)
+        && raise_pawns_promoted(children, column, men, side, out)
+}
+
+/// Raises the scores to those of pawns' advances within the class, where that side has a pawn; `still` are those of the men
+/// where they stand, the other side to move. False where the table does not tell.
+fn raise_own_pawns(
+    own: &Table,
     column: Column,
     men: &ShelfMen,
     side: Side,
     still: &Block,
     out: &mut Block,
 ) -> bool
-    requires four { AreFourMen column four.now men.now }
-    requires still { AreStill four.now.own.now.class (column_score four.now.own.now column) false men.now side still.now }
-    ensures { result ≡ true → (a b : ℕ) → a < 64 → b < 64 → (pawns : ℕ) × AreRaisedByPawns column four.now.own.now four.now.first_pawn four.now.last_pawn men.now side a b pawns × (at out.new a b ≡ max (at out.old a b) pawns) }
+    requires there { HasColumn column own.now }
+    requires voids { ScoresNoVoids own.now.class (column_score own.now column) }
+    requires men { AreMenOf own.now.class men.now }
+    requires still { AreStill own.now.class (column_score own.now column) false men.now side still.now }
+    ensures { result ≡ true → (a b : ℕ) → a < 64 → b < 64 → (pawns : ℕ) × AreOwnPawnMoves column own.now men.now side a b pawns × (at out.new a b ≡ max (at out.old a b) pawns) }
 {
     if !is_pawn_of(men.one, side) && !is_pawn_of(men.last, side) {
         return true;
     }
     let mut pawns = nothing();
-    if !pawns_block(
-        four.own,
-        column,
-        &four.first_pawn,
-        &four.last_pawn,
-        men,
-        side,
-        still,
-        &mut pawns,
-    ) {
+    if !own_pawn_moves(own, column, men, side, still, &mut pawns) {
         return false;
     }
     raise(out, &pawns);
     true
 }
 
-/// The greatest scores in the column of all moves of that side that zero but captures in passing. False where a table
-/// does not tell.
+/// The greatest scores in the column of all moves of that side that zero but captures in passing, by those of its exits. False
+/// where the table does not tell.
 pub(crate) fn zeroing_moves(
     four: &FourMen,
     column: Column,
     men: &ShelfMen,
     side: Side,
-    keys: &mut BlockKeys,
-    blocks: &mut KeptBlocks,
+    leaving: &Block,
+    keys: &mut [Option<BlockKey>],
+    blocks: &mut [Block],
     out: &mut Block,
 ) -> bool
     requires men { AreFourMen column four.now men.now }
+    requires leaving { HoldsExits column four.now.children men.now side leaving.now }
     requires kept { AreKept four.now.own.now.class (column_score four.now.own.now) men.now (other_side side) keys.old blocks.old }
     ensures kept { result ≡ true → AreKept four.now.own.now.class (column_score four.now.own.now) men.now (other_side side) keys.new blocks.new }
     ensures scores { result ≡ true → (a b : ℕ) → a < 64 → b < 64 → AreZeroingMoves column four.now men.now side a b (at out.new a b) }
@@ -147,35 +230,27 @@ pub(crate) fn zeroing_moves(
     ) {
         return false;
     }
-    if !taken_block(
-        &TableScores { table: four.first },
-        column,
-        four.first_flips,
-        men,
-        side,
-        out,
-    ) {
-        return false;
-    }
-    raise_first_taken(four, column, men, side, out)
-        && raise_pawns(four, column, men, side, &still, out)
+    *out = *leaving;
+    raise_own_pawns(four.own, column, men, side, &still, out)
 }
 
-/// The same of the captures in passing.
-pub(crate) fn passing_captures(
-    four: &FourMen,
+/// The greatest scores in the column of the captures in passing. False where a table does not tell.
+pub fn passing_captures(
+    children: &Children,
     column: Column,
     men: &ShelfMen,
     side: Side,
     out: &mut Block,
 ) -> bool
-    requires { AreFourMen column four.now men.now }
-    ensures { result ≡ true → (a b : ℕ) → a < 64 → b < 64 → ArePassingCaptures column four.now men.now side a b (at out.new a b) }
+    requires { AreChildren column children.now men.now }
+    ensures { result ≡ true → HoldsPassing column children.now men.now side out.new }
 {
     if !passing_block(
-        &TableScores { table: four.last },
+        &TableScores {
+            table: children.last,
+        },
         column,
-        four.last_flips,
+        children.last_flips,
         men,
         side,
         out,
@@ -185,9 +260,11 @@ pub(crate) fn passing_captures(
     let mut across = nothing();
     let swapped = men_swapped(men);
     if !passing_block(
-        &TableScores { table: four.first },
+        &TableScores {
+            table: children.first,
+        },
         column,
-        four.first_flips,
+        children.first_flips,
         &swapped,
         side,
         &mut across,
@@ -198,18 +275,20 @@ pub(crate) fn passing_captures(
     true
 }
 
-/// The greatest scores of all moves of that side but captures in passing, in the mate column and in the zeroing
-/// column. False where a table does not tell.
-pub(crate) fn move_scores(
+/// The greatest scores of all moves of that side but captures in passing, in the mate column and in the zeroing column, by those
+/// of its exits. False where a table does not tell.
+pub fn move_scores(
     four: &FourMen,
     men: &ShelfMen,
     side: Side,
-    keys: &mut BlockKeys,
-    blocks: &mut KeptBlocks,
+    leaving: &Block,
+    keys: &mut [Option<BlockKey>],
+    blocks: &mut [Block],
     mates: &mut Block,
     zeroing: &mut Block,
 ) -> bool
     requires men { AreFourMen columns.Mate four.now men.now }
+    requires leaving { HoldsExits columns.Mate four.now.children men.now side leaving.now }
     requires kept { AreKept four.now.own.now.class (column_score four.now.own.now) men.now (other_side side) keys.old blocks.old }
     ensures kept { result ≡ true → AreKept four.now.own.now.class (column_score four.now.own.now) men.now (other_side side) keys.new blocks.new }
     ensures scores { result ≡ true → (a b : ℕ) → a < 64 → b < 64 → AreMoveScores four.now men.now side a b (at mates.new a b) (at zeroing.new a b) }
@@ -237,7 +316,16 @@ pub(crate) fn move_scores(
         return false;
     }
     let mut zeroed = nothing();
-    if !zeroing_moves(four, Column::Mate, men, side, keys, blocks, &mut zeroed) {
+    if !zeroing_moves(
+        four,
+        Column::Mate,
+        men,
+        side,
+        leaving,
+        keys,
+        blocks,
+        &mut zeroed,
+    ) {
         return false;
     }
     raise(mates, &zeroed);
@@ -245,23 +333,20 @@ pub(crate) fn move_scores(
     true
 }
 
-/// Raises those to the scores of captures in passing: then they are of all moves where there is a target.
-pub(crate) fn raise_passed(
+/// Raises those to the scores of captures in passing, which are these: then they are of all moves where there is a target. The
+/// contract alone reads the tables and the men.
+pub fn raise_passed(
     four: &FourMen,
     men: &ShelfMen,
     side: Side,
+    passing: &Block,
     mates: &mut Block,
     zeroing: &mut Block,
-) -> bool
-    requires { AreFourMen columns.Mate four.now men.now }
-    ensures { result ≡ true → (a b : ℕ) → a < 64 → b < 64 → AreMoveScores four.now men.now side a b (at mates.old a b) (at zeroing.old a b) →
+)
+    requires { HoldsPassing columns.Mate four.now.children men.now side passing.now }
+    ensures { (a b : ℕ) → a < 64 → b < 64 → AreMoveScores four.now men.now side a b (at mates.old a b) (at zeroing.old a b) →
         ArePassedScores four.now men.now side a b (at mates.new a b) (at zeroing.new a b) }
 {
-    let mut taken = nothing();
-    if !passing_captures(four, Column::Mate, men, side, &mut taken) {
-        return false;
-    }
-    raise(mates, &taken);
-    raise_zeroed(zeroing, &taken);
-    true
+    raise(mates, passing);
+    raise_zeroed(zeroing, passing);
 }

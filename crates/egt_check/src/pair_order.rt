@@ -6,7 +6,7 @@ use egt_board::Side;
 
 /// The number of the pair that is the n-th with that side to move. The squares of Black's king are the lower digits of pairs; with White to move those of
 /// White's king follow one another.
-pub(crate) fn nth_pair(side: Side, n: u32, kings: u32) -> u32
+pub fn nth_pair(side: Side, n: u32, kings: u32) -> u32
     requires below { n < 64 * kings }
     requires room { 64 * kings < 4294967296 }
     ensures is { result ≡ nth_pair side kings n }

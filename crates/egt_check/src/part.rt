@@ -6,7 +6,7 @@ use egt_table::Column;
 
 /// What of a table is judged at once.
 #[derive(Clone, Copy)]
-pub(crate) enum Part {
+pub enum Part {
     /// The mate column with the zeroing column.
     Values,
     /// The column of the nearest mates.
@@ -14,7 +14,7 @@ pub(crate) enum Part {
 }
 
 /// The column that scores come from, of moves that zero too.
-pub(crate) fn column_of(part: Part) -> Column
+pub fn column_of(part: Part) -> Column
     ensures { result ≡ column_of part }
 {
     match part {

@@ -1,12 +1,11 @@
-//! The greatest scores of all moves of a pawn who is the last man beside the kings, whose kings stand on two squares.
+//! The greatest scores of the moves of pawns beside two kings who stand on two squares.
 ghost use Rattle.std.specs.Prelude.{◌≡◌, ◌<◌, ℕ, false, true, IfSome};
 ghost use Rattle.egt_index.specs.ShelfCodes.{AreMenOf};
 ghost use Rattle.egt_lanes.specs.Blocks.{at};
 ghost use Rattle.egt_table.specs.Table.{HasColumn};
 ghost use Rattle.egt_steps.specs.PawnMoves.{men_after};
 ghost use Rattle.egt_blocks.specs.Leaps.{AreStill};
-ghost use Rattle.egt_check.specs.PawnScores.{ArePawnScores, ArePromotionsOf, AreRaisedByPawns, IsPromotionOf, IsPromotionScore, IsRaisedByPawn};
-ghost use Rattle.egt_blocks.specs.Taken.{men_swapped};
+ghost use Rattle.egt_check.specs.PawnScores.{AreAdvanceScores, AreOwnPawnMoves, ArePromotionScores, ArePromotionsOf, IsBestPromotion, IsPromotionOf, IsPromotionScore};
 ghost use Rattle.egt_blocks.specs.Scored.{ScoresNoVoids};
 ghost use Rattle.egt_check.specs.Worth.{column_score};
 
@@ -14,7 +13,7 @@ use crate::table_scores::TableScores;
 use egt_blocks::advance_blocks::{leap_block, promoting_block, promotion_block, step_block};
 use egt_blocks::blocks::nothing;
 use egt_blocks::men::{are_equal, men_swapped};
-use egt_blocks::own_men::{is_of, is_pawn};
+use egt_blocks::own_men::{is_of, is_pawn, is_pawn_of};
 use egt_board::{Kind, Side};
 use egt_index::ShelfMen;
 use egt_index::men::has_equal_sides;
@@ -25,25 +24,25 @@ use egt_table::{Column, Table};
 /// The tables of the classes that a pawn's promotion to one kind leads to, each with whether colours are exchanged
 /// there.
 #[derive(Clone, Copy)]
-pub(crate) struct Promotion<'t> {
-    pub(crate) kind: Kind,
+pub struct Promotion<'t> {
+    pub kind: Kind,
     /// Where the other man stays.
-    pub(crate) both: &'t Table,
-    pub(crate) both_flips: bool,
+    pub both: &'t Table,
+    pub both_flips: bool,
     /// Whether that class names the pawn's new man before the other one.
-    pub(crate) before: bool,
+    pub before: bool,
     /// Where the other man was taken.
-    pub(crate) alone: &'t Table,
-    pub(crate) alone_flips: bool,
+    pub alone: &'t Table,
+    pub alone_flips: bool,
 }
 
 /// The same of each kind that a pawn is promoted to.
 #[derive(Clone, Copy)]
-pub(crate) struct Promotions<'t> {
-    pub(crate) queen: Promotion<'t>,
-    pub(crate) rook: Promotion<'t>,
-    pub(crate) bishop: Promotion<'t>,
-    pub(crate) knight: Promotion<'t>,
+pub struct Promotions<'t> {
+    pub queen: Promotion<'t>,
+    pub rook: Promotion<'t>,
+    pub bishop: Promotion<'t>,
+    pub knight: Promotion<'t>,
 }
 
 /// Raises the scores to those of the positions after a promotion of the last man, a pawn of that side. False where a
@@ -93,13 +92,59 @@ fn raise_promotion(
     true
 }
 
-/// The greatest scores of the positions after all advances, promotions and promoting captures of the last man, who is
-/// its class's first where `first`. False where a table does not tell.
-pub(crate) fn pawn_block(
+/// Raises the scores to those of the positions after all promotions of the last man, a pawn of that side. False where a
+/// table does not tell.
+fn raise_promotions(
+    promotions: &Promotions,
+    column: Column,
+    men: &ShelfMen,
+    side: Side,
+    out: &mut Block,
+) -> bool
+    requires of { ArePromotionsOf column promotions.now men.now }
+    requires mine { men.now.last.side ≡ side }
+    ensures { result ≡ true → (a b : ℕ) → a < 64 → b < 64 → ArePromotionScores column promotions.now men.now side a b (at out.old a b) (at out.new a b) }
+{
+    if !raise_promotion(&promotions.queen, column, men, side, out) {
+        return false;
+    }
+    if !raise_promotion(&promotions.rook, column, men, side, out) {
+        return false;
+    }
+    if !raise_promotion(&promotions.bishop, column, men, side, out) {
+        return false;
+    }
+    raise_promotion(&promotions.knight, column, men, side, out)
+}
+
+/// The greatest scores of the positions after all promotions of the last man, where he is a pawn of that side. False where
+/// a table does not tell.
+pub(crate) fn promotions_block(
+    promotions: &Option<Promotions>,
+    column: Column,
+    men: &ShelfMen,
+    side: Side,
+    out: &mut Block,
+) -> bool
+    requires { IfSome promotions.now (λ p. ArePromotionsOf column p men.now) }
+    ensures { result ≡ true → (a b : ℕ) → a < 64 → b < 64 → IsBestPromotion column promotions.now men.now side a b (at out.new a b) }
+{
+    *out = nothing();
+    if !is_pawn(men.last) || !is_of(men.last, side) {
+        return true;
+    }
+    let Some(of_kinds) = promotions else {
+        return false;
+    };
+    raise_promotions(of_kinds, column, men, side, out)
+}
+
+/// The greatest scores of the positions after all advances without promotion of the last man, who is its class's first
+/// where `first`. False where the table does not tell.
+fn advances_block(
     own: &Table,
     column: Column,
     first: bool,
-    promotions: &Promotions,
     men: &ShelfMen,
     side: Side,
     still: &Block,
@@ -108,10 +153,8 @@ pub(crate) fn pawn_block(
     requires there { HasColumn column own.now }
     requires voids { ScoresNoVoids own.now.class (column_score own.now column) }
     requires men { AreMenOf own.now.class (men_after first false men.now men.now.last) }
-    requires promotions { ArePromotionsOf column promotions.now men.now }
-    requires mine { men.now.last.side ≡ side }
     requires still { AreStill own.now.class (column_score own.now column) first men.now side still.now }
-    ensures { result ≡ true → (a b : ℕ) → a < 64 → b < 64 → ArePawnScores column own.now first promotions.now men.now side a b (at out.new a b) }
+    ensures { result ≡ true → (a b : ℕ) → a < 64 → b < 64 → AreAdvanceScores column own.now first men.now side a b (at out.new a b) }
 {
     step_block(
         &TableScores { table: own },
@@ -134,58 +177,14 @@ pub(crate) fn pawn_block(
         return false;
     }
     raise(out, &leaps);
-    if !raise_promotion(&promotions.queen, column, men, side, out) {
-        return false;
-    }
-    if !raise_promotion(&promotions.rook, column, men, side, out) {
-        return false;
-    }
-    if !raise_promotion(&promotions.bishop, column, men, side, out) {
-        return false;
-    }
-    raise_promotion(&promotions.knight, column, men, side, out)
-}
-
-/// Raises the scores to those of all advances, promotions and promoting captures of the last man, where he is a pawn
-/// of that side. False where a table does not tell.
-fn raise_pawn(
-    own: &Table,
-    column: Column,
-    first: bool,
-    promotions: &Option<Promotions>,
-    men: &ShelfMen,
-    side: Side,
-    still: &Block,
-    out: &mut Block,
-) -> bool
-    requires there { HasColumn column own.now }
-    requires voids { ScoresNoVoids own.now.class (column_score own.now column) }
-    requires men { AreMenOf own.now.class (men_after first false men.now men.now.last) }
-    requires promotions { IfSome promotions.now (λ p. ArePromotionsOf column p men.now) }
-    requires still { AreStill own.now.class (column_score own.now column) first men.now side still.now }
-    ensures { result ≡ true → (a b : ℕ) → a < 64 → b < 64 → IsRaisedByPawn column own.now first promotions.now men.now side a b (at out.old a b) (at out.new a b) }
-{
-    if !is_pawn(men.last) || !is_of(men.last, side) {
-        return true;
-    }
-    let Some(of_kinds) = promotions else {
-        return false;
-    };
-    let mut block = nothing();
-    if !pawn_block(own, column, first, of_kinds, men, side, still, &mut block) {
-        return false;
-    }
-    raise(out, &block);
     true
 }
 
-/// The greatest scores of the positions after all advances, promotions and promoting captures of both men, as far as
-/// they are pawns of that side; `still` are the scores of the men where they stand, the other side to move. False where a table does not tell.
-pub(crate) fn pawns_block(
+/// The greatest scores of the positions after all advances without promotion of both men, as far as they are pawns of that
+/// side; `still` are the scores of the men where they stand, the other side to move. False where the table does not tell.
+pub fn own_pawn_moves(
     own: &Table,
     column: Column,
-    first: &Option<Promotions>,
-    last: &Option<Promotions>,
     men: &ShelfMen,
     side: Side,
     still: &Block,
@@ -194,17 +193,16 @@ pub(crate) fn pawns_block(
     requires there { HasColumn column own.now }
     requires voids { ScoresNoVoids own.now.class (column_score own.now column) }
     requires men { AreMenOf own.now.class men.now }
-    requires first { IfSome first.now (λ p. ArePromotionsOf column p (men_swapped men.now)) }
-    requires last { IfSome last.now (λ p. ArePromotionsOf column p men.now) }
-    requires same { men.now.one ≡ men.now.last → first.now ≡ last.now }
     requires still { AreStill own.now.class (column_score own.now column) false men.now side still.now }
-    ensures { result ≡ true → (a b : ℕ) → a < 64 → b < 64 → AreRaisedByPawns column own.now first.now last.now men.now side a b (at out.new a b) }
+    ensures { result ≡ true → (a b : ℕ) → a < 64 → b < 64 → AreOwnPawnMoves column own.now men.now side a b (at out.new a b) }
 {
-    *out = nothing();
-    if !raise_pawn(own, column, false, last, men, side, still, out) {
+    if !advances_block(own, column, false, men, side, still, out) {
         return false;
     }
-    // What equal men are promoted to is told once: in either order of the two the codes are the same.
+    if !is_pawn_of(men.one, side) {
+        return true;
+    }
+    // Equal men advance alike: in either order of the two the codes are the same.
     if are_equal(men) && !has_equal_sides(own.class()) {
         let copy = *out;
         raise_transposed(out, &copy);
@@ -213,11 +211,10 @@ pub(crate) fn pawns_block(
     let mut still_across = nothing();
     raise_transposed(&mut still_across, still);
     let mut across = nothing();
-    if !raise_pawn(
+    if !advances_block(
         own,
         column,
         true,
-        first,
         &men_swapped(men),
         side,
         &still_across,

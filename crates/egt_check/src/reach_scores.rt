@@ -6,14 +6,14 @@ ghost use Rattle.egt_board.specs.Man.{other_side};
 ghost use Rattle.egt_lanes.specs.Blocks.{at};
 ghost use Rattle.egt_table.specs.declared.column.Column.TheVariants as columns;
 ghost use Rattle.egt_blocks.specs.Kept.{AreKept};
-ghost use Rattle.egt_check.specs.MoveScores.{AreFourMen};
+ghost use Rattle.egt_check.specs.MoveScores.{AreFourMen, HoldsExits, HoldsPassing};
 ghost use Rattle.egt_check.specs.ReachScores.{ArePassedReachScores, AreReachScores};
 ghost use Rattle.egt_check.specs.Worth.{column_score};
 
-use crate::move_scores::{FourMen, passing_captures, zeroing_moves};
+use crate::move_scores::{FourMen, zeroing_moves};
 use crate::table_scores::TableScores;
 use egt_blocks::blocks::nothing;
-use egt_blocks::kept_blocks::{BlockKeys, KeptBlocks};
+use egt_blocks::kept_blocks::BlockKey;
 use egt_blocks::quiet_blocks::quiet_block;
 use egt_board::Side;
 use egt_index::ShelfMen;
@@ -21,16 +21,19 @@ use egt_lanes::Block;
 use egt_lanes::block::raise;
 use egt_table::Column;
 
-/// The greatest scores of all moves of that side but captures in passing. False where a table does not tell.
-pub(crate) fn reach_scores(
+/// The greatest scores of all moves of that side but captures in passing, by those of its exits. False where a table does not
+/// tell.
+pub fn reach_scores(
     four: &FourMen,
     men: &ShelfMen,
     side: Side,
-    keys: &mut BlockKeys,
-    blocks: &mut KeptBlocks,
+    leaving: &Block,
+    keys: &mut [Option<BlockKey>],
+    blocks: &mut [Block],
     out: &mut Block,
 ) -> bool
     requires men { AreFourMen columns.Reach four.now men.now }
+    requires leaving { HoldsExits columns.Reach four.now.children men.now side leaving.now }
     requires kept { AreKept four.now.own.now.class (column_score four.now.own.now) men.now (other_side side) keys.old blocks.old }
     ensures kept { result ≡ true → AreKept four.now.own.now.class (column_score four.now.own.now) men.now (other_side side) keys.new blocks.new }
     ensures scores { result ≡ true → (a b : ℕ) → a < 64 → b < 64 → AreReachScores four.now men.now side a b (at out.new a b) }
@@ -47,27 +50,33 @@ pub(crate) fn reach_scores(
         return false;
     }
     let mut zeroed = nothing();
-    if !zeroing_moves(four, Column::Reach, men, side, keys, blocks, &mut zeroed) {
+    if !zeroing_moves(
+        four,
+        Column::Reach,
+        men,
+        side,
+        leaving,
+        keys,
+        blocks,
+        &mut zeroed,
+    ) {
         return false;
     }
     raise(out, &zeroed);
     true
 }
 
-/// Raises those to the scores of captures in passing: then they are of all moves where there is a target.
-pub(crate) fn raise_passed_reach(
+/// Raises those to the scores of captures in passing, which are these: then they are of all moves where there is a target. The
+/// contract alone reads the tables and the men.
+pub fn raise_passed_reach(
     four: &FourMen,
     men: &ShelfMen,
     side: Side,
+    passing: &Block,
     out: &mut Block,
-) -> bool
-    requires { AreFourMen columns.Reach four.now men.now }
-    ensures { result ≡ true → (a b : ℕ) → a < 64 → b < 64 → AreReachScores four.now men.now side a b (at out.old a b) → ArePassedReachScores four.now men.now side a b (at out.new a b) }
+)
+    requires { HoldsPassing columns.Reach four.now.children men.now side passing.now }
+    ensures { (a b : ℕ) → a < 64 → b < 64 → AreReachScores four.now men.now side a b (at out.old a b) → ArePassedReachScores four.now men.now side a b (at out.new a b) }
 {
-    let mut taken = nothing();
-    if !passing_captures(four, Column::Reach, men, side, &mut taken) {
-        return false;
-    }
-    raise(out, &taken);
-    true
+    raise(out, passing);
 }

@@ -29,7 +29,7 @@ use egt_moves::{Standing, standing};
 use egt_table::{Column, Table};
 
 /// The entry of a position without a legal move; `None` where there is one.
-fn entry_without_move(position: &Position) -> Option<u16>
+pub fn entry_without_move(position: &Position) -> Option<u16>
     ensures { IfSome result (IsAtEnd position.now) }
 {
     match standing(position) {
@@ -40,7 +40,7 @@ fn entry_without_move(position: &Position) -> Option<u16>
 }
 
 /// Whether the code's position is checkmate or stalemate, and the entries of the part tell it.
-fn end_is_right(table: &Table, part: Part, code: u32) -> bool
+pub fn end_is_right(table: &Table, part: Part, code: u32) -> bool
     requires there { HasColumn (column_of part) table.now }
     requires code { code < size_of table.now.class }
     ensures { result ≡ true → IsRightEndOf part table.now code }
@@ -84,7 +84,7 @@ fn ends_are_right(table: &Table, part: Part, man: Man, first: u32, ends: SquareS
 }
 
 /// The shelf's first number with that side to move.
-fn first_of(table: &Table, shelf: u32, side: Side) -> u32
+pub fn first_of(table: &Table, shelf: u32, side: Side) -> u32
     requires within { IsWithin table.now.class shelf }
     ensures { result ≡ number_in table.now.class shelf side 0 }
 {
@@ -99,7 +99,7 @@ fn first_of(table: &Table, shelf: u32, side: Side) -> u32
 
 /// What the scores in the part's column have to be, by the greatest of the scores after a move.
 #[inline(always)]
-fn due_in(part: Part, row: Row) -> Row
+pub fn due_in(part: Part, row: Row) -> Row
     ensures { (s : ℕ) → s < 64 → slice_index result s ≡ due_in part (slice_index row s) }
 {
     match part {

@@ -86,7 +86,7 @@ fn target_row(
 
 /// The scores of the codes that tell these men, who are those of the shelf, by the last man's square, and a target where one was passed.
 #[inline(always)]
-pub(crate) fn row_of(
+pub fn row_of(
     table: &Table,
     column: Column,
     men: &ShelfMen,

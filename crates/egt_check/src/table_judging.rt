@@ -1,5 +1,5 @@
 //! The judgement of a whole table of a class with two men beside the kings, block by block.
-ghost use Rattle.std.specs.Prelude.{◌≡◌, ◌≢◌, ◌+◌, ◌*◌, ◌<◌, ◌≤◌, ℕ, false, true, Some, None, IfSome};
+ghost use Rattle.std.specs.Prelude.{◌≡◌, ◌≢◌, ◌+◌, ◌*◌, ◌<◌, ℕ, false, true, Some, None, IfSome};
 ghost use Rattle.egt_board.specs.Man.{other_side};
 ghost use Rattle.egt_board.specs.Turned.{turned_man};
 ghost use Rattle.egt_board.specs.Setup.{Setup};
@@ -8,8 +8,6 @@ ghost use Rattle.egt_board.specs.declared.man.Side.{Side};
 ghost use Rattle.egt_class.specs.Membership.{IsOf};
 ghost use Rattle.egt_class.specs.Pair.{AreNonKings};
 ghost use Rattle.egt_index.specs.LoneCodes.{IsLoneMan};
-ghost use Rattle.egt_index.specs.Numbers.{places};
-ghost use Rattle.egt_index.specs.Scales.{kind_digits};
 ghost use Rattle.egt_index.specs.ShelfCodes.{AreMenOf};
 ghost use Rattle.egt_index.specs.Size.{size_of};
 ghost use Rattle.egt_index.specs.declared.shelf_codes.ShelfMen.{ShelfMen};
@@ -18,11 +16,12 @@ ghost use Rattle.egt_table.specs.Table.{HasColumn, TableValue};
 ghost use Rattle.egt_entries.specs.declared.metric.Metric.{Metric};
 ghost use Rattle.egt_blocks.specs.Blocks.{with_kings};
 ghost use Rattle.egt_blocks.specs.Kept.{AreKept};
-ghost use Rattle.egt_check.specs.MoveScores.{AreFourMen, AreTablesOf};
-ghost use Rattle.egt_check.specs.Parts.{column_of, four_in, promotion_in, promotions_in, table_in, tables_in};
-ghost use Rattle.egt_check.specs.PairOrder.{nth_pair};
+ghost use Rattle.egt_check.specs.MoveScores.{AreChildren, AreFourMen, AreTablesOf};
+ghost use Rattle.egt_check.specs.Parts.{IsOwnTable, column_of, four_in, promotion_in, promotions_in, table_in, tables_in};
+ghost use Rattle.egt_check.specs.Pairs.{AreJudgedPairs};
 ghost use Rattle.egt_check.specs.PawnScores.{AreNamed, ArePromotionsOf, HasPromotion, HasPromotions, IsPromotionOf};
 ghost use Rattle.egt_check.specs.RightBlock.{AreJudged, KeepsPart};
+ghost use Rattle.egt_check.specs.declared.move_scores.FourMen.{FourMen};
 ghost use Rattle.egt_entries.specs.Rules.{KeepsBelow};
 ghost use Rattle.egt_blocks.specs.Taken.{men_swapped};
 ghost use Rattle.egt_entries.specs.Tables.{Tables, beside, table_at};
@@ -33,24 +32,25 @@ use crate::blank::side_is_blank;
 use crate::block_judging::block_is_right;
 use crate::bytes::{tells_bytes, true_table_tells};
 use crate::library::Library;
-use crate::move_scores::FourMen;
+use crate::move_scores::{Children, FourMen, beside_own};
 use crate::pair_order::nth_pair;
+use crate::pairs::{Pairs, judged_pairs_hold_all_codes, pairs_of};
 use crate::part::{Part, column_of};
 use crate::pawn_scores::{Promotion, Promotions};
 use egt_blocks::blocks::nothing;
-use egt_blocks::digits::digits_of;
-use egt_blocks::kept_blocks::{BlockKeys, KeptBlocks, no_keys};
+use egt_blocks::kept_blocks::{BlockKey, NEAR_PLACES, no_keys};
 use egt_blocks::men::{are_equal, men_swapped};
 use egt_blocks::own_men::{is_pawn, turned_man};
 use egt_board::{Kind, Man, Side, Square};
 use egt_class::Class;
 use egt_class::membership::of_men;
-use egt_index::laws::{a_code_is_an_index_or_void, numbers_stand_for_codes};
-use egt_index::{ShelfMen, has_target, last_digits, lone_man, shelf_men, size};
+use egt_index::laws::a_code_is_an_index_or_void;
+use egt_index::{ShelfMen, lone_man, shelf_men};
+use egt_lanes::Block;
 use egt_table::Table;
 
 /// The men with the kings on these squares.
-fn with_kings(men: &ShelfMen, white: Square, black: Square) -> ShelfMen
+pub fn with_kings(men: &ShelfMen, white: Square, black: Square) -> ShelfMen
     ensures { result ≡ with_kings men.now white black }
 {
     ShelfMen {
@@ -71,8 +71,8 @@ fn side_is_right(
     first: u32,
     half: u32,
     side: Side,
-    keys: &mut BlockKeys,
-    blocks: &mut KeptBlocks,
+    keys: &mut [Option<BlockKey>],
+    blocks: &mut [Block],
 ) -> bool
     requires men { AreFourMen (column_of part) four.now men.now }
     requires room { first + half + 64 < 4294967296 }
@@ -98,8 +98,8 @@ fn pair_is_right(
     first: u32,
     half: u32,
     side: Side,
-    keys: &mut BlockKeys,
-    blocks: &mut KeptBlocks,
+    keys: &mut [Option<BlockKey>],
+    blocks: &mut [Block],
 ) -> bool
     requires men { AreFourMen (column_of part) four.now men.now }
     requires room { first + half + 64 < 4294967296 }
@@ -115,56 +115,50 @@ fn pair_is_right(
     side_is_right(four, &there, part, first, half, side, keys, blocks)
 }
 
-/// Whether so are those of all pairs of kings' squares, of which the white king has so many.
+/// Whether so are those of all pairs of kings' squares.
 fn side_pairs_are_right(
     four: &FourMen,
     men: &ShelfMen,
     part: Part,
-    kings: u32,
-    half: u32,
+    pairs: &Pairs,
     side: Side,
 ) -> bool
     requires men { AreFourMen (column_of part) four.now men.now }
-    requires room { 64 * kings * kind_digits men.now.one.kind + half + 64 < 4294967296 }
-    ensures { result ≡ true → (tables : Tables) → AreTablesOf (tables_in part tables) (four_in part four.now) men.now → (n : ℕ) → n < 64 * kings →
-        AreJudged part tables four.now.own.now men.now (nth_pair side kings n * kind_digits men.now.one.kind) side × AreJudged part tables four.now.own.now men.now (nth_pair side kings n * kind_digits men.now.one.kind + half) side }
+    requires few { 64 * pairs.now.kings < 4294967296 }
+    requires room { 64 * pairs.now.kings * pairs.now.step + pairs.now.half + 64 < 4294967296 }
+    ensures { result ≡ true → (tables : Tables) → AreTablesOf (tables_in part tables) (four_in part four.now) men.now → AreJudgedPairs part tables four.now.own.now men.now pairs.now side }
 {
-    let step = u32::from(digits_of(men.one));
     let mut keys = no_keys();
-    let mut blocks = [nothing(); 12];
-    for n in 0..64 * kings {
-        let first = nth_pair(side, n, kings) * step;
-        if !pair_is_right(four, men, part, first, half, side, &mut keys, &mut blocks) {
+    let mut blocks = [nothing(); NEAR_PLACES];
+    for n in 0..64 * pairs.kings {
+        let first = nth_pair(side, n, pairs.kings) * pairs.step;
+        if !pair_is_right(
+            four,
+            men,
+            part,
+            first,
+            pairs.half,
+            side,
+            &mut keys,
+            &mut blocks,
+        ) {
             return false;
         }
     }
     true
 }
 
-/// How many of the class's shelves have a target: the upper half, or none.
-fn with_targets(class: Class, shelves: u32) -> u32
-    ensures { 2 * result ≤ shelves }
-{
-    if has_target(class) { shelves / 2 } else { 0 }
-}
-
 /// Whether all entries of the part keep the rules, at all codes of the class.
-pub(crate) fn pairs_are_right(four: &FourMen, men: &ShelfMen, part: Part) -> bool
+pub fn pairs_are_right(four: &FourMen, men: &ShelfMen, part: Part) -> bool
     requires men { AreFourMen (column_of part) four.now men.now }
-    requires wide { places four.now.own.now.class ≡ kind_digits men.now.last.kind }
     ensures { result ≡ true → (tables : Tables) → AreTablesOf (tables_in part tables) (four_in part four.now) men.now → (i : ℕ) → i < size_of four.now.own.now.class → KeepsPart part tables four.now.own.now i }
 {
-    numbers_stand_for_codes();
-    let class = four.own.class();
-    let step = u32::from(digits_of(men.one));
-    let shelves = size(class).div_ceil(2 * last_digits(class));
-    let half = with_targets(class, shelves);
-    let kings = (shelves - half) / (64 * step);
-    if 64 * kings * step != shelves - half {
+    judged_pairs_hold_all_codes();
+    let Some(pairs) = pairs_of(four.own.class(), men) else {
         return false;
-    }
-    side_pairs_are_right(four, men, part, kings, half, Side::White)
-        && side_pairs_are_right(four, men, part, kings, half, Side::Black)
+    };
+    side_pairs_are_right(four, men, part, &pairs, Side::White)
+        && side_pairs_are_right(four, men, part, &pairs, Side::Black)
 }
 
 /// Whether this is the table of the class in which the man is left alone beside the kings, in colours exchanged where
@@ -307,23 +301,19 @@ fn is_own_class(class: Class, men: &ShelfMen) -> bool
     own.number() == class.number() && !flips
 }
 
-/// The table of a class with these men, whose bytes tell its entries of the part, and those of the classes that their
-/// moves lead to, which do so too. `None` where one of them is missing or does not, and where the class has other men.
-#[tactic(auto, using(crate::proofs::VoidScores::part_voids, crate::proofs::VoidScores::part_zeroing_voids))]
-pub(crate) fn four_men<'t>(
-    table: &'t Table,
+/// The tables of the classes that these men's moves lead to when they leave their own, whose bytes tell their entries of
+/// the part. `None` where one of them is missing or does not, and where the class has other men.
+#[tactic(auto, using(crate::proofs::VoidScores::part_voids))]
+pub fn children_of<'t>(
     library: &'t Library,
+    class: Class,
     men: &ShelfMen,
     part: Part,
-) -> Option<FourMen<'t>>
-    requires there { HasColumn (column_of part) table.now }
-    requires bytes { HasBytes (table_in part table.now) }
-    requires men { AreMenOf table.now.class men.now }
-    ensures own { IfSome result (λ four. four.own.now ≡ table.now) }
-    ensures of { IfSome result (λ four. AreFourMen (column_of part) four men.now) }
-    ensures tables { IfSome result (λ four. AreTablesOf (tables_in part (beside (table_at library.now) table.now)) (four_in part four) men.now) }
+) -> Option<Children<'t>>
+    ensures of { IfSome result (λ children. AreChildren (column_of part) children men.now) }
+    ensures four { IfSome result (λ children. (four : FourMen) → four.children ≡ children → IsOwnTable part class men.now four.own.now →
+        AreFourMen (column_of part) four men.now × AreTablesOf (tables_in part (beside (table_at library.now) four.own.now)) (four_in part four) men.now) }
 {
-    let class = table.class();
     if is_king(men.one) || is_king(men.last) || !is_own_class(class, men) {
         return None;
     }
@@ -337,8 +327,7 @@ pub(crate) fn four_men<'t>(
         return None;
     }
     let last_pawn = promotions(library, class, men, part);
-    Some(FourMen {
-        own: table,
+    Some(Children {
         first,
         first_flips,
         last,
@@ -346,6 +335,25 @@ pub(crate) fn four_men<'t>(
         first_pawn: first_promotions(library, class, men, part, &last_pawn),
         last_pawn,
     })
+}
+
+/// The table of a class with these men, whose bytes tell its entries of the part, and those of its children. `None` where
+/// one of them is missing or does not tell, and where the class has other men.
+pub(crate) fn four_men<'t>(
+    table: &'t Table,
+    library: &'t Library,
+    men: &ShelfMen,
+    part: Part,
+) -> Option<FourMen<'t, 't>>
+    requires there { HasColumn (column_of part) table.now }
+    requires bytes { HasBytes (table_in part table.now) }
+    requires men { AreMenOf table.now.class men.now }
+    ensures own { IfSome result (λ four. four.own.now ≡ table.now) }
+    ensures of { IfSome result (λ four. AreFourMen (column_of part) four men.now) }
+    ensures tables { IfSome result (λ four. AreTablesOf (tables_in part (beside (table_at library.now) table.now)) (four_in part four) men.now) }
+{
+    let children = children_of(library, table.class(), men, part)?;
+    Some(beside_own(table, &children))
 }
 
 /// Whether all entries of the mate column and of the zeroing column keep the rules beside those of the successors, of a

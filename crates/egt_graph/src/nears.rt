@@ -17,7 +17,7 @@ impl Model for Nears {
 }
 
 impl Nears {
-    ghost use Rattle.std.specs.Prelude.{◌≡◌};
+    ghost use Rattle.std.specs.Prelude.{◌≡◌, ◌≢◌, ◌<◌, ℕ, length, slice_index};
 
     /// Judges nothing.
     pub fn from_entries(entries: Vec<u16>) -> Self
@@ -30,5 +30,15 @@ impl Nears {
         ensures { result.now ≡ self.now }
     {
         &self.entries
+    }
+
+    /// Gives the node this entry.
+    pub fn set(&mut self, node: u32, entry: u16)
+        requires { node < length self.old }
+        ensures length { length self.new ≡ length self.old }
+        ensures here { slice_index self.new node ≡ entry }
+        ensures others { (i : ℕ) → i ≢ node → slice_index self.new i ≡ slice_index self.old i }
+    {
+        self.entries[node as usize] = entry;
     }
 }

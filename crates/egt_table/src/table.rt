@@ -1,7 +1,8 @@
 //! Tables.
-ghost use Rattle.std.specs.Prelude.{◌≡◌, ◌<◌, ◌↔◌, length, slice_index, IsSome, IsOk, IfOk, IfErr, IsTrue};
+ghost use Rattle.std.specs.Prelude.{◌≡◌, ◌≢◌, ◌<◌, ◌↔◌, ℕ, length, slice_index, IsSome, IsOk, IfOk, IfErr, IsTrue};
 ghost use Rattle.egt_index.specs.Size.{size_of};
 ghost use Rattle.egt_table.specs.Table.{HasColumn, IsTable, columns_of, entries_of};
+ghost use Rattle.egt_table.specs.declared.column.Column.TheVariants.{Reach};
 
 use crate::column::Column;
 use egt_class::Class;
@@ -78,6 +79,18 @@ impl Table {
         })
     }
 
+    /// The table without the column of the nearest mates, which is given back.
+    pub fn without_reach(self) -> Table
+        ensures { result ≡ record { class = self.class; mate = self.mate; zeroing = self.zeroing; reach = None } }
+    {
+        Table {
+            class: self.class,
+            mate: self.mate,
+            zeroing: self.zeroing,
+            reach: None,
+        }
+    }
+
     pub fn class(&self) -> Class
         ensures class { result ≡ self.now.class }
         ensures table { IsTable self.now }
@@ -126,5 +139,26 @@ impl Table {
         ensures { result ≡ slice_index (entries_of column self.now) index }
     {
         self.entries(column)[index as usize]
+    }
+
+    /// Gives the code this entry in a column that is there.
+    pub fn set(&mut self, column: Column, index: u32, entry: u16)
+        requires there { HasColumn column self.old }
+        requires index { index < size_of self.old.class }
+        ensures class { self.new.class ≡ self.old.class }
+        ensures there { (other : Column) → HasColumn other self.old → HasColumn other self.new }
+        ensures columns { (other : Column) → other ≢ column → entries_of other self.new ≡ entries_of other self.old }
+        ensures reach { column ≢ Reach → self.new.reach ≡ self.old.reach }
+        ensures here { slice_index (entries_of column self.new) index ≡ entry }
+        ensures others { (i : ℕ) → i ≢ index → slice_index (entries_of column self.new) i ≡ slice_index (entries_of column self.old) i }
+    {
+        match column {
+            Column::Mate => self.mate.set(index, entry),
+            Column::Zeroing => self.zeroing.set(index, entry),
+            Column::Reach => match &mut self.reach {
+                Some(nears) => nears.set(index, entry),
+                None => unreachable!(),
+            },
+        }
     }
 }

@@ -19,7 +19,7 @@ returns-then-half-eq0-clause-judged c = λ _ tables are.
     let scores = c.part_scores.ensures.scores c.if-not-part_scores.false a b (square_in men.one.kind x x_in) (square_in men.last.kind y y_in) in
     let lane = c.shelves_are_right.ensures c.if-not-shelves_are_right.false x y x_in y_in in
     c.entries_due_to_all_moves_are_right.ensures part tables four men side false a b (code_of four.own.now.class (number_in four.own.now.class (c.args.first + x) side y)) (at c.part_scores.new.scores a b) (at c.part_scores.new.zeroing a b)
-    are c.requires.men.one c.requires.men.last lane scores in
+    are c.requires.men.children.one c.requires.men.children.last lane scores in
     let none = c.if-half-eq0.true in
     (lower, subst (λ n. AreJudged part tables four.own.now men n side) (omega (arith, none)) lower)
 
@@ -35,7 +35,7 @@ returns-clause-judged c = λ told tables are.
           let b = y + kind_less men.last.kind in
           let lane = c.shelves_are_right.ensures c.if-not-shelves_are_right.false x y x_in y_in in
           c.entries_due_to_all_moves_are_right.ensures part tables four men side false a b (code_of four.own.now.class (number_in four.own.now.class (c.args.first + x) side y)) (at c.part_scores.new.scores a b) (at c.part_scores.new.zeroing a b)
-          are c.requires.men.one c.requires.men.last lane (scores a b (square_in men.one.kind x x_in) (square_in men.last.kind y y_in)),
+          are c.requires.men.children.one c.requires.men.children.last lane (scores a b (square_in men.one.kind x x_in) (square_in men.last.kind y y_in)),
       λ x y x_in y_in.
           let a = x + kind_less men.one.kind in
           let b = y + kind_less men.last.kind in
@@ -43,5 +43,5 @@ returns-clause-judged c = λ told tables are.
           let b_in = square_in men.last.kind y y_in in
           let lane = c.shelves_are_right-2.ensures told x y x_in y_in in
           c.entries_due_to_all_moves_are_right.ensures part tables four men side true a b (code_of four.own.now.class (number_in four.own.now.class (c.args.first + c.args.half + x) side y)) (at c.raise_part_passed.new.scores a b) (at c.raise_part_passed.new.zeroing a b)
-          are c.requires.men.one c.requires.men.last lane (c.raise_part_passed.ensures c.if-not-raise_part_passed.false a b a_in b_in (scores a b a_in b_in)),
+          are c.requires.men.children.one c.requires.men.children.last lane (c.raise_part_passed.ensures a b a_in b_in (scores a b a_in b_in)),
     )

@@ -46,11 +46,11 @@ returns c = λ tables four men side passed a b p mate zeroing are one last has s
         (c.moves_of_either_kind_give_all.ensures tables p s.quiet_mate s.quiet_zeroing (max greatest passing) (zeroing_score (max greatest passing))
         (c.quiet_codes_give_the_quiet_moves.ensures tables four.own.now men side passed a b p s.quiet_mate s.quiet_zeroing are.is_table are.found are.bytes has s.mate_raised s.zeroing_raised)
         (loud_given tables k men side passed a b p has (λ q m leads. c.pawns_moves_are_of_four_kinds.ensures.kinds p q m.from m leads refl)
-        four.own.now four.first_pawn four.last_pawn (max z.by_first z.by_last) z.by_pawns passing
+        four.own.now four.children.first_pawn four.children.last_pawn (max z.by_first z.by_last) z.by_pawns passing
         (laws tables k class_in men false side passed a b p one has)
         (laws tables k class_in (men_swapped men) true side passed b a p last has)
         (record { is_table = are.is_table; found = are.found; bytes = are.bytes; class_after = are.own_after }) are.first_pawn are.last_pawn
-        (c.codes_after_captures_give_the_captures.ensures tables k men side passed a b p four.first.now four.last.now four.first_flips four.last_flips z.by_first z.by_last class_in one last
+        (c.codes_after_captures_give_the_captures.ensures tables k men side passed a b p four.children.first.now four.children.last.now four.children.first_flips four.children.last_flips z.by_first z.by_last class_in one last
         has are.first are.last z.first_raised z.last_raised)
         z.pawns by_passing)))
 
@@ -70,7 +70,7 @@ returns c = λ tables four men side passed a b p mate zeroing are one last has s
         (subst (AreGiven tables p (λ m. Unit {0}) (max s.plain_mate s.passing)) (sym s.zeroing_is)
         (with_passing tables four men side a b p are one last true s.plain_mate s.plain_zeroing s.passing has s.plain
         (subst (λ n. AreGiven tables p (IsEitherPassing men p a b) n (zeroing_score n)) passing_is
-        (passing_given tables men side a b p four.first.now four.last.now four.first_flips four.last_flips by.by_last by.by_first
-        (λ pawn raised. c.codes_after_captures_in_passing_give_them.ensures tables k men false side a b p four.last.now four.last_flips by.by_last class_in one pawn has are.last raised)
-        (λ pawn raised. c.codes_after_captures_in_passing_give_them.ensures tables k (men_swapped men) true side b a p four.first.now four.first_flips by.by_first class_in last pawn has are.first raised)
+        (passing_given tables men side a b p four.children.first.now four.children.last.now four.children.first_flips four.children.last_flips by.by_last by.by_first
+        (λ pawn raised. c.codes_after_captures_in_passing_give_them.ensures tables k men false side a b p four.children.last.now four.children.last_flips by.by_last class_in one pawn has are.last raised)
+        (λ pawn raised. c.codes_after_captures_in_passing_give_them.ensures tables k (men_swapped men) true side b a p four.children.first.now four.children.first_flips by.by_first class_in last pawn has are.first raised)
         by.last_raised by.first_raised))))

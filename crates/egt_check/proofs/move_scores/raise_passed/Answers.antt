@@ -2,12 +2,12 @@ use Rattle.egt_lanes.specs.Blocks.{at}
 use Rattle.egt_check.proofs.move_scores.raise_passed.Goals as goal
 
 pub returns : goal.returns
-returns c = λ told a b a_in b_in plain. record {
+returns c = λ a b a_in b_in plain. record {
   plain_mate = at c.args.mates.now a b;
   plain_zeroing = at c.args.zeroing.now a b;
-  passing = at c.passing_captures.new.out a b;
+  passing = at c.args.passing.now a b;
   plain = plain;
-  passing_are = c.passing_captures.ensures c.if-not-passing_captures.false a b a_in b_in;
+  passing_are = c.requires a b a_in b_in;
   mate_is = c.raise.ensures a b a_in b_in;
   zeroing_is = c.raise_zeroed.ensures a b a_in b_in;
 }

@@ -1,4 +1,4 @@
-use Rattle.std.proofs.Common.{◌≡◌, ℕ, ◌<◌, List, false, ◌∙◌, ap, max, sym, subst}
+use Rattle.std.proofs.Common.{◌≡◌, ℕ, ◌<◌, List, false, sym, subst}
 use Rattle.egt_board.specs.Man.{other_side}
 use Rattle.egt_board.specs.declared.man.Side.{Side}
 use Rattle.egt_index.specs.TurnedMen.{IsSomeTurnedCode}
@@ -12,6 +12,7 @@ use Rattle.egt_blocks.specs.Kept.{AreKept}
 use Rattle.egt_blocks.specs.Leaps.{AreStill}
 use Rattle.egt_check.specs.Worth.{column_score}
 use Rattle.egt_blocks.specs.Scored.{IsRead}
+use Rattle.egt_check.proofs.Exits.{zeroing_of}
 use Rattle.egt_check.proofs.move_scores.zeroing_moves.Goals as goal
 
 -- ---- the men where they stand
@@ -25,19 +26,11 @@ still_of t column men side other is low high none raised = λ a b a_in b_in.
 pub raise_kept-requires-clause-kept : goal.raise_kept-requires-clause-kept
 raise_kept-requires-clause-kept c = subst (λ (s : Side). AreKept c.args.four.now.own.now.class (column_score c.args.four.now.own.now) c.args.men.now s c.args.keys.now c.args.blocks.now) (sym c.other.ensures) c.requires.kept
 
-pub raise_pawns-requires-clause-still : goal.raise_pawns-requires-clause-still
-raise_pawns-requires-clause-still c =
+pub raise_own_pawns-requires-clause-still : goal.raise_own_pawns-requires-clause-still
+raise_own_pawns-requires-clause-still c =
     still_of c.args.four.now.own.now c.args.column c.args.men.now c.args.side c.other.result c.other.ensures c.nothing-still.result c.raise_kept.new.out c.nothing-still.ensures (c.raise_kept.ensures.raised c.if-not-raise_kept.false)
 
-pub returns-then-raise_first_taken-clause-scores : goal.returns-then-raise_first_taken-clause-scores
-returns-then-raise_first_taken-clause-scores c = λ told a b a_in b_in.
-    let taken = c.raise_first_taken.ensures c.if-raise_first_taken.true a b a_in b_in in
-    let pawns = c.raise_pawns.ensures told a b a_in b_in in record {
-      by_first = at c.taken_block.new.out a b;
-      by_last = taken.0;
-      by_pawns = pawns.0;
-      first_raised = c.taken_block.ensures c.if-not-taken_block.false a b a_in b_in;
-      last_raised = taken.1;
-      pawns = pawns.1;
-      is = pawns.2 ∙ ap (λ n. max n pawns.0) taken.2;
-    }
+pub returns-clause-scores : goal.returns-clause-scores
+returns-clause-scores c = λ told a b a_in b_in.
+    let pawns = c.raise_own_pawns.ensures told a b a_in b_in in
+    zeroing_of c.args.column c.args.four.now c.args.men.now c.args.side a b (at c.args.leaving.now a b) pawns.0 (at c.raise_own_pawns.new.out a b) (c.requires.leaving a b a_in b_in) pawns.1 pawns.2

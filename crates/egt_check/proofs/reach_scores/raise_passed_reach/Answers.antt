@@ -2,10 +2,10 @@ use Rattle.egt_lanes.specs.Blocks.{at}
 use Rattle.egt_check.proofs.reach_scores.raise_passed_reach.Goals as goal
 
 pub returns : goal.returns
-returns c = λ told a b a_in b_in plain. record {
+returns c = λ a b a_in b_in plain. record {
   plain = at c.args.out.now a b;
-  passing = at c.passing_captures.new.out a b;
+  passing = at c.args.passing.now a b;
   plain_is = plain;
-  passing_are = c.passing_captures.ensures c.if-not-passing_captures.false a b a_in b_in;
+  passing_are = c.requires a b a_in b_in;
   is = c.raise.ensures a b a_in b_in;
 }

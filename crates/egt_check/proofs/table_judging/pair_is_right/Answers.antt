@@ -1,5 +1,8 @@
-use Rattle.std.proofs.Common.{◌≡◌, ◌+◌, ℕ, sym, subst}
+use Rattle.std.proofs.Common.{◌≡◌, ◌↔◌, ◌+◌, ℕ, List, Option, sym, subst}
 use Rattle.egt_board.specs.Man.{other_side}
+use Rattle.egt_board.specs.declared.man.Side.{Side}
+use Rattle.egt_table.specs.declared.column.Column.{Column}
+use Rattle.egt_blocks.specs.declared.kept_blocks.BlockKey.{BlockKey}
 use Rattle.egt_index.specs.declared.shelf_codes.ShelfMen.{ShelfMen}
 use Rattle.egt_blocks.specs.Blocks.{with_kings}
 use Rattle.egt_blocks.specs.Kept.{AreKept}
@@ -30,8 +33,20 @@ returns-clause-judged c = λ told tables are.
     (tables_of_there c.args.men.now c.in-Some.here.white c.in-Some.here.black (tables_in part tables) (four_in part c.args.four.now) are) in
     subst (λ (men : ShelfMen). AreJudged part tables t men c.args.first side × AreJudged part tables t men upper side) c.with_kings-there.ensures (c.side_is_right.ensures.judged told tables there)
 
+-- what is kept tells of all squares of the kings
+kept_there : (d : ℕ) (worth : Column → ℕ → ℕ) (men there : ShelfMen) (white black : ℕ) (side : Side) (keys : List (Option BlockKey)) (blocks : List (List (List ℕ))) → there ≡ with_kings men white black
+    → AreKept d worth men side keys blocks ↔ AreKept d worth there side keys blocks
+kept_there d worth men there white black side keys blocks is = (
+  (λ kept. let at_home : AreKept d worth (with_kings men white black) side keys blocks = record { some = kept.some; as_many = kept.as_many; each = kept.each } in
+      subst (λ (m : ShelfMen). AreKept d worth m side keys blocks) (sym is) at_home),
+  (λ kept. let at_home : AreKept d worth (with_kings men white black) side keys blocks = subst (λ (m : ShelfMen). AreKept d worth m side keys blocks) is kept in
+      record { some = at_home.some; as_many = at_home.as_many; each = at_home.each }),
+)
+
 pub side_is_right-requires-clause-kept : goal.side_is_right-requires-clause-kept
-side_is_right-requires-clause-kept c = subst (λ (m : ShelfMen). AreKept c.args.four.now.own.now.class (column_score c.args.four.now.own.now) m (other_side c.args.side) c.args.keys.now c.args.blocks.now) (sym c.with_kings-there.ensures) c.requires.kept
+side_is_right-requires-clause-kept c =
+    (kept_there c.args.four.now.own.now.class (column_score c.args.four.now.own.now) c.args.men.now c.with_kings-there.result c.in-Some.here.white c.in-Some.here.black (other_side c.args.side) c.args.keys.now c.args.blocks.now c.with_kings-there.ensures).0 c.requires.kept
 
 pub returns-clause-kept : goal.returns-clause-kept
-returns-clause-kept c = λ told. subst (λ (m : ShelfMen). AreKept c.args.four.now.own.now.class (column_score c.args.four.now.own.now) m (other_side c.args.side) c.side_is_right.new.keys c.side_is_right.new.blocks) c.with_kings-there.ensures (c.side_is_right.ensures.kept told)
+returns-clause-kept c = λ told.
+    (kept_there c.args.four.now.own.now.class (column_score c.args.four.now.own.now) c.args.men.now c.with_kings-there.result c.in-Some.here.white c.in-Some.here.black (other_side c.args.side) c.side_is_right.new.keys c.side_is_right.new.blocks c.with_kings-there.ensures).1 (c.side_is_right.ensures.kept told)

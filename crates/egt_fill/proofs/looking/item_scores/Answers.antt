@@ -1,0 +1,46 @@
+use Rattle.std.proofs.Common.{◌∙◌, false, true, sym, subst}
+use Rattle.egt_index.specs.declared.shelf_codes.ShelfMen.{ShelfMen}
+use Rattle.egt_lanes.specs.Blocks.{at}
+use Rattle.egt_table.specs.Table.{TableValue}
+use Rattle.egt_table.specs.declared.column.Column.{Column}
+use Rattle.egt_check.specs.MoveScores.{AreChildren, AreFourMen}
+use Rattle.egt_check.specs.Parts.{IsOwnTable, column_of}
+use Rattle.egt_check.proofs.PromotionTables.{children_there, four_there}
+use Rattle.egt_fill.proofs.ScoresThrough.{scores_same}
+use Rattle.egt_fill.proofs.looking.item_scores.Goals as goal
+
+pub part_scores-requires-clause-men : goal.part_scores-requires-clause-men
+part_scores-requires-clause-men c =
+    let f = c.args.f.now in
+    let item = c.args.item.now in
+    let four = c.beside_own-four.result in
+    let own : IsOwnTable f.part f.class f.men four.own.now = subst (λ (t : TableValue). IsOwnTable f.part f.class f.men t) (sym c.beside_own-four.ensures.own) c.requires.table in
+    subst (λ (m : ShelfMen). AreFourMen (column_of f.part) four m) (sym c.requires.men) (four_there f.men item.white item.black (column_of f.part) four (c.requires.filling.four four c.beside_own-four.ensures.children own).0)
+
+pub passing_captures-requires : goal.passing_captures-requires
+passing_captures-requires c =
+    let f = c.args.f.now in
+    let item = c.args.item.now in
+    subst (λ (column : Column). AreChildren column f.children c.args.men.now) (sym c.column_of.ensures)
+    (subst (λ (m : ShelfMen). AreChildren (column_of f.part) f.children m) (sym c.requires.men) (children_there f.men item.white item.black (column_of f.part) f.children c.requires.filling.children))
+
+pub returns-clause-scores : goal.returns-clause-scores
+returns-clause-scores c = λ told. record {
+  plain = λ a b a_in b_in next own same.
+      let four = c.beside_own-four.result in
+      scores_same c.args.f.now.part four next (own ∙ sym c.beside_own-four.ensures.own) (same ∙ sym c.beside_own-four.ensures.children) false c.args.men.now c.args.item.now.side a b (at c.part_scores.new.scores a b) (at c.part_scores.new.zeroing a b)
+      (c.part_scores.ensures.scores c.if-not-part_scores.false a b a_in b_in);
+  passed = λ some a b a_in b_in next own same.
+      let four = c.beside_own-four.result in
+      scores_same c.args.f.now.part four next (own ∙ sym c.beside_own-four.ensures.own) (same ∙ sym c.beside_own-four.ensures.children) true c.args.men.now c.args.item.now.side a b (at c.raise_part_passed.new.scores a b) (at c.raise_part_passed.new.zeroing a b)
+      (c.raise_part_passed.ensures a b a_in b_in (c.part_scores.ensures.scores c.if-not-part_scores.false a b a_in b_in));
+}
+
+pub returns-then-f-eq0-clause-scores : goal.returns-then-f-eq0-clause-scores
+returns-then-f-eq0-clause-scores c = λ told. record {
+  plain = λ a b a_in b_in next own same.
+      let four = c.beside_own-four.result in
+      scores_same c.args.f.now.part four next (own ∙ sym c.beside_own-four.ensures.own) (same ∙ sym c.beside_own-four.ensures.children) false c.args.men.now c.args.item.now.side a b (at c.part_scores.new.scores a b) (at c.part_scores.new.zeroing a b)
+      (c.part_scores.ensures.scores c.if-not-part_scores.false a b a_in b_in);
+  passed = λ some. absurd (some c.if-f-eq0.true);
+}

@@ -1,0 +1,6 @@
+use Rattle.egt_fill.specs.Mended.{IsMendedAt}
+use Rattle.egt_fill.specs.UnderWay.{IsUnderWay}
+use Rattle.egt_fill.proofs.rounds.settle_items.Given as goal
+
+abbrev pub invariant-loop : goal.invariant-loop
+invariant-loop l = IsMendedAt l.f.part (λ i. Unit {0}) l.fn.table l.table × IsUnderWay l.f l.table l.items l.places l.stamps l.tick

@@ -1,0 +1,17 @@
+use Rattle.std.proofs.Common.{◌≡◌, ℕ, ◌≤◌, slice_index}
+use Rattle.std.specs.Int.{bit_at}
+use Rattle.egt_board.specs.Man.{other_side}
+use Rattle.egt_board.specs.declared.man.Side.{Side}
+use Rattle.egt_steps.specs.Stands.{IsBesideKing, with_king}
+use Rattle.egt_fill.specs.Stamps.{stamp_place}
+use Rattle.egt_fill.specs.Turns.{TurnsTo}
+use Rattle.egt_fill.proofs.stamps.needs_look.Given as goal
+
+-- no stamp is later after the king's steps so far
+abbrev pub invariant-loop-to : goal.invariant-loop-to
+invariant-loop-to l =
+    (k : ℕ) → IsBesideKing l.men l.side k → bit_at l.rest.bits k ≡ 0 → (w b : ℕ) (s : Side) → TurnsTo l.class (with_king l.men l.side k).white (with_king l.men l.side k).black (other_side l.side) w b s
+    → slice_index l.stamps (stamp_place s w b) ≤ l.looked
+
+abbrev pub decreases-loop-to : goal.decreases-loop-to
+decreases-loop-to l = l.rest.bits

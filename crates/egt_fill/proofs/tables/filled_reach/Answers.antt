@@ -1,0 +1,31 @@
+use Rattle.std.proofs.Common.{◌∙◌, subst, sym}
+use Rattle.egt_check.specs.declared.part.Part.TheVariants.{Reach}
+use Rattle.egt_entries.specs.Tables.{HasReachChildren, Tables, beside, table_at}
+use Rattle.egt_entries.specs.Truth.{HasTrueChildren}
+use Rattle.egt_table.specs.Table.{TableValue}
+use Rattle.egt_table.specs.declared.column.Column.TheVariants as columns
+use Rattle.egt_fill.specs.Filled.{IsWithReach}
+use Rattle.egt_fill.proofs.FilledTables.{KeepsAll, reach_is_true, with_true_reach}
+use Rattle.egt_fill.proofs.tables.filled_reach.Goals as goal
+
+pub returns-in-Ok-true : goal.returns-in-Ok-true
+returns-in-Ok-true c =
+    let tables : Tables = table_at c.args.library.now in
+    let f = c.in-Some.filling in
+    let old : TableValue = c.args.table in
+    let t : TableValue = c.settle-told.new.table in
+    let begun = c.in-Ok.ensures.with in
+    let with : IsWithReach old t = record {
+      class = c.settle-told.ensures.class ∙ begun.class;
+      mate = c.settle-told.ensures.mate c.in-Some.ensures.part ∙ begun.mate;
+      zeroing = c.settle-told.ensures.zeroing c.in-Some.ensures.part ∙ begun.zeroing;
+      reach = c.settle-told.ensures.there columns.Reach begun.reach;
+    } in
+    let children = subst (HasTrueChildren tables) (sym (with.class ∙ sym c.class-class.ensures.class)) c.children_are_true.ensures in
+    let reach_children = subst (HasReachChildren tables) (sym with.class) c.requires.reach_children in
+    let right : KeepsAll f.part (beside (table_at f.library.now) t) t = c.in-Ok-true.ensures.right c.in-Ok-true.field-0-test in
+    let keeps = subst (λ library. KeepsAll Reach (beside (table_at library) t) t) c.in-Some.ensures.library (subst (λ part. KeepsAll part (beside (table_at f.library.now) t) t) c.in-Some.ensures.part right) in (
+      with,
+      with_true_reach old t with c.requires.truth
+          (reach_is_true c.children_have_smaller_numbers.ensures.smaller tables t c.class-class-2.ensures.table children reach_children with.reach keeps c.kept_reaches_are_true.ensures),
+    )

@@ -1,0 +1,11 @@
+pub mod Mended
+pub mod Turns
+pub mod Reads
+pub mod Settled
+pub mod Items
+pub mod Covered
+pub mod Stamps
+pub mod Filled
+pub mod UnderWay
+pub mod Rounds
+pub mod Begun

@@ -1,0 +1,189 @@
+//! A look at an item: what is due to the greatest scores of all moves is put in its entries.
+ghost use Rattle.std.specs.Prelude.{◌≡◌, ◌≢◌, ◌<◌, ℕ, length, slice_index_or, None, true};
+ghost use Rattle.egt_board.specs.Man.{other_side};
+ghost use Rattle.egt_blocks.specs.Kept.{AreKept};
+ghost use Rattle.egt_check.specs.Parts.{IsOwnTable};
+ghost use Rattle.egt_check.specs.Worth.{column_score};
+ghost use Rattle.egt_fill.specs.Items.{AreItemScores, IsItem, IsRightItem, IsSameItem, IsSeenItem, men_of};
+ghost use Rattle.egt_fill.specs.Mended.{IsMended};
+ghost use Rattle.egt_fill.specs.Settled.{IsFilling};
+ghost use Rattle.egt_fill.specs.declared.mending.Mended.TheVariants as mends;
+
+use crate::filling::Filling;
+use crate::items::Item;
+use crate::mending::{Mended, Shelf, mend_shelves};
+use egt_blocks::blocks::nothing;
+use egt_blocks::kept_blocks::BlockKey;
+use egt_check::block_judging::{part_scores, raise_part_passed};
+use egt_check::move_scores::{beside_own, passing_captures};
+use egt_check::part::column_of;
+use egt_check::table_judging::with_kings;
+use egt_index::ShelfMen;
+use egt_index::laws::numbers_stand_for_codes;
+use egt_index::men::has_equal_sides;
+use egt_lanes::Block;
+use egt_table::Table;
+
+/// The greatest scores of all moves, where there is no target and where there is one; the second of each are of the zeroing column alone.
+#[derive(Drop)]
+pub(crate) struct Scores {
+    pub(crate) plain: Box<Block>,
+    pub(crate) clocks: Box<Block>,
+    pub(crate) passed: Box<Block>,
+    pub(crate) passed_clocks: Box<Block>,
+}
+
+/// The greatest scores of all moves from the item's positions. False where a table does not tell.
+fn item_scores(
+    f: &Filling,
+    table: &Table,
+    item: &Item,
+    men: &ShelfMen,
+    keys: &mut [Option<BlockKey>],
+    blocks: &mut [Block],
+    out: &mut Scores,
+) -> bool
+    requires filling { IsFilling f.now }
+    requires table { IsOwnTable f.now.part f.now.class f.now.men table.now }
+    requires item { IsItem f.now table.now item.now }
+    requires men { men.now ≡ men_of f.now item.now }
+    requires kept { AreKept f.now.class (column_score table.now) f.now.men (other_side item.now.side) keys.old blocks.old }
+    ensures kept { result ≡ true → AreKept f.now.class (column_score table.now) f.now.men (other_side item.now.side) keys.new blocks.new }
+    ensures scores { result ≡ true → AreItemScores f.now table.now men.now item.now.side out.new }
+{
+    let side = item.side;
+    let four = beside_own(table, &f.children);
+    let mut plain = nothing();
+    let mut clocks = nothing();
+    if !part_scores(
+        &four,
+        men,
+        f.part,
+        side,
+        &item.leaving,
+        keys,
+        blocks,
+        &mut plain,
+        &mut clocks,
+    ) {
+        return false;
+    }
+    *out.plain = plain;
+    *out.clocks = clocks;
+    if f.half == 0 {
+        return true;
+    }
+    let mut passing = nothing();
+    if !passing_captures(&f.children, column_of(f.part), men, side, &mut passing) {
+        return false;
+    }
+    raise_part_passed(&four, men, f.part, side, &passing, &mut plain, &mut clocks);
+    *out.passed = plain;
+    *out.passed_clocks = clocks;
+    true
+}
+
+/// Of what two looks came to, what they come to together.
+fn together(one: Mended, other: Mended) -> Mended
+    ensures due { result ≡ mends.Due → (one ≡ mends.Due) × (other ≡ mends.Due) }
+    ensures told { result ≢ mends.Untold → (one ≢ mends.Untold) × (other ≢ mends.Untold) }
+{
+    match (one, other) {
+        (Mended::Untold, _) | (_, Mended::Untold) => Mended::Untold,
+        (Mended::Due, Mended::Due) => Mended::Due,
+        _ => Mended::Put,
+    }
+}
+
+/// Puts what is due to the scores in the item's entries.
+fn mend_item(
+    f: &Filling,
+    table: &mut Table,
+    item: &mut Item,
+    men: &ShelfMen,
+    scores: &Scores,
+) -> Mended
+    requires filling { IsFilling f.now }
+    requires table { IsOwnTable f.now.part f.now.class f.now.men table.old }
+    requires item { IsItem f.now table.old item.old }
+    requires men { men.now ≡ men_of f.now item.old }
+    ensures mended { IsMended f.now.part item.old.white item.old.black item.old.side table.old table.new }
+    ensures due { result ≡ mends.Due → table.new ≡ table.old }
+    ensures same { IsSameItem item.old item.new }
+    ensures item { result ≢ mends.Untold → IsItem f.now table.new item.new }
+    ensures right { result ≢ mends.Untold → IsRightItem f.now table.new item.new scores.now }
+{
+    let plain = Shelf {
+        number: item.first,
+        men: *men,
+        side: item.side,
+        passed: false,
+    };
+    let lower = mend_shelves(
+        table,
+        f.part,
+        &plain,
+        &scores.plain,
+        &scores.clocks,
+        &mut item.ended,
+    );
+    if f.half == 0 {
+        return lower;
+    }
+    let passed = Shelf {
+        number: item.first + f.half,
+        men: *men,
+        side: item.side,
+        passed: true,
+    };
+    let upper = mend_shelves(
+        table,
+        f.part,
+        &passed,
+        &scores.passed,
+        &scores.passed_clocks,
+        &mut item.passed_ended,
+    );
+    together(lower, upper)
+}
+
+/// Forgets the blocks that were read before.
+fn forget(keys: &mut [Option<BlockKey>])
+    ensures length { length keys.new ≡ length keys.old }
+    ensures none { (i : ℕ) → i < length keys.new → slice_index_or keys.new i None ≡ None }
+{
+    keys.fill(None);
+}
+
+/// Looks at the item's positions: puts what is due to the greatest scores of all moves.
+pub(crate) fn look(
+    f: &Filling,
+    table: &mut Table,
+    item: &mut Item,
+    keys: &mut [Option<BlockKey>],
+    blocks: &mut [Block],
+    scores: &mut Scores,
+) -> Mended
+    requires filling { IsFilling f.now }
+    requires table { IsOwnTable f.now.part f.now.class f.now.men table.old }
+    requires item { IsItem f.now table.old item.old }
+    requires kept { AreKept f.now.class (column_score table.old) f.now.men (other_side item.old.side) keys.old blocks.old }
+    ensures mended { IsMended f.now.part item.old.white item.old.black item.old.side table.old table.new }
+    ensures due { result ≡ mends.Due → table.new ≡ table.old }
+    ensures same { IsSameItem item.old item.new }
+    ensures item { result ≢ mends.Untold → IsItem f.now table.new item.new }
+    ensures seen { result ≢ mends.Untold → IsSeenItem f.now table.old table.new item.new }
+    ensures kept { result ≢ mends.Untold → AreKept f.now.class (column_score table.new) f.now.men (other_side item.old.side) keys.new blocks.new }
+{
+    numbers_stand_for_codes();
+    let men = with_kings(&f.men, item.white, item.black);
+    if !item_scores(f, table, item, &men, keys, blocks, scores) {
+        return Mended::Untold;
+    }
+    let found = mend_item(f, table, item, &men, scores);
+    // Where sides have the same men, positions with either side to move are read as those of the other.
+    if has_equal_sides(f.class) {
+        forget(keys);
+    }
+    found
+}

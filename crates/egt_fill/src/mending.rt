@@ -1,0 +1,283 @@
+//! Entries that are put where they are not due to the greatest scores of the moves.
+ghost use Rattle.std.specs.Prelude.{◌≡◌, ◌≢◌, ◌+◌, ◌*◌, ◌<◌, ◌==◌, if◌then◌else◌, ℕ, true, slice_index};
+ghost use Rattle.std.specs.Int.{bit_at};
+ghost use Rattle.egt_board.specs.SquareSet.{Has};
+ghost use Rattle.egt_index.specs.Numbers.{code_of};
+ghost use Rattle.egt_index.specs.Scales.{kind_digits, kind_less};
+ghost use Rattle.egt_index.specs.ShelfCodes.{AreMenOf, number_in};
+ghost use Rattle.egt_blocks.specs.Blocks.{AreShelvesOf};
+ghost use Rattle.egt_table.specs.Table.{HasColumn};
+ghost use Rattle.egt_check.specs.Parts.{column_of, table_in};
+ghost use Rattle.egt_entries.specs.declared.metric.Metric.TheVariants.{Zeroing};
+ghost use Rattle.egt_check.specs.Worth.{HasBytes, score_at};
+ghost use Rattle.egt_check.specs.declared.part.Part.TheVariants as parts;
+ghost use Rattle.egt_fill.specs.Mended.{AllEnded, AreEnded, AreRightRows, IsCodeIn, IsCodeOf, IsLaneOf, IsMendedAt, IsPutAt, IsRightRow, IsRowSeen, IsShelf};
+ghost use Rattle.egt_fill.specs.declared.mending.Mended.TheVariants as mends;
+
+use crate::putting::{put, see_end};
+use egt_blocks::blocks::begin_with;
+use egt_blocks::digits::{digit_on, digits_of, first_square};
+use egt_blocks::men::men_on;
+use egt_board::{Side, Square, SquareSet};
+use egt_check::part::{Part, column_of};
+use egt_check::row_judging::{due_in, first_of};
+use egt_check::rows::row_of;
+use egt_index::laws::{codes_tell_turned_men, numbers_stand_for_codes};
+use egt_index::{ShelfMen, code_of, size};
+use egt_lanes::score::due;
+use egt_lanes::sets::{kept, lanes_of};
+use egt_lanes::{Block, Row};
+use egt_table::{Column, Table};
+use std::simd::prelude::*;
+
+/// A shelf of a class: its men with all squares of the last one, the side to move, and whether its positions have a target.
+#[derive(Clone, Copy)]
+pub(crate) struct Shelf {
+    pub(crate) number: u32,
+    pub(crate) men: ShelfMen,
+    pub(crate) side: Side,
+    pub(crate) passed: bool,
+}
+
+/// Of each square what `within` has there where the rows differ, else 0.
+#[inline(always)]
+fn unlike(a: Row, b: Row, within: Row) -> Row
+    ensures { (s : ℕ) → s < 64 → slice_index result s ≡ (if slice_index a s == slice_index b s then 0 else slice_index within s) }
+{
+    a.simd_ne(b).select(within, Row::splat(0))
+}
+
+/// The squares at which the rows differ and `within` is not 0.
+#[inline(always)]
+fn apart(a: Row, b: Row, within: Row) -> SquareSet
+    ensures { (s : ℕ) → s < 64 → bit_at result.bits s ≡ 0 → slice_index within s ≢ 0 → slice_index a s ≡ slice_index b s }
+{
+    lanes_of(unlike(a, b, within))
+}
+
+/// Puts the entries with these scores at the shelf's codes with the last man on these squares. False where no entries have them.
+fn put_lanes(
+    table: &mut Table,
+    part: Part,
+    shelf: &Shelf,
+    lanes: SquareSet,
+    scores: Row,
+    clocks: Row,
+) -> bool
+    requires shelf { IsShelf table.old.class shelf.now }
+    requires there { HasColumn (column_of part) table.old }
+    requires bytes { HasBytes (table_in part table.old) }
+    ensures mended { IsMendedAt part (IsLaneOf table.old.class shelf.now lanes) table.old table.new }
+    ensures put { result ≡ true → (digit : ℕ) → digit < kind_digits shelf.now.men.last.kind → Has lanes (digit + kind_less shelf.now.men.last.kind) →
+        IsPutAt part table.new (code_of table.old.class (number_in table.old.class shelf.now.number shelf.now.side digit)) (slice_index scores (digit + kind_less shelf.now.men.last.kind)) (slice_index clocks (digit + kind_less shelf.now.men.last.kind)) }
+{
+    numbers_stand_for_codes();
+    let class = table.class();
+    let _size = size(class);
+    let first = first_of(table, shelf.number, shelf.side);
+    let mut rest = lanes;
+    while let Some(square) = rest.pop_first() {
+        let Some(digit) = digit_on(shelf.men.last, square) else {
+            return false;
+        };
+        let lane = usize::from(square.number());
+        let code = code_of(class, first + 2 * digit);
+        if !put(table, part, code, scores[lane], clocks[lane]) {
+            return false;
+        }
+    }
+    true
+}
+
+/// The squares at which the zeroing column, which is put with the mate column, is not due to these scores, among those where `within` is not 0.
+fn wrong_clocks(table: &Table, part: Part, shelf: &Shelf, clocks: Row, within: Row) -> SquareSet
+    requires shelf { IsShelf table.now.class shelf.now }
+    ensures { (digit : ℕ) → digit < kind_digits shelf.now.men.last.kind → bit_at result.bits (digit + kind_less shelf.now.men.last.kind) ≡ 0 → slice_index within (digit + kind_less shelf.now.men.last.kind) ≢ 0 →
+        part ≡ parts.Values → score_at table.now Zeroing (code_of table.now.class (number_in table.now.class shelf.now.number shelf.now.side digit)) ≡ slice_index clocks (digit + kind_less shelf.now.men.last.kind) }
+{
+    codes_tell_turned_men();
+    match part {
+        Part::Values => {
+            let own = row_of(
+                table,
+                Column::Zeroing,
+                &shelf.men,
+                shelf.number,
+                shelf.side,
+                shelf.passed,
+            );
+            apart(own, clocks, within)
+        }
+        Part::Reach => SquareSet::EMPTY,
+    }
+}
+
+/// Sees that the entries tell checkmate and stalemate at the shelf's codes with the last man on these squares, and puts those of checkmate where they do not.
+/// False where some position there has a move.
+fn see_ends(table: &mut Table, part: Part, shelf: &Shelf, ends: SquareSet) -> bool
+    requires shelf { IsShelf table.old.class shelf.now }
+    requires there { HasColumn (column_of part) table.old }
+    requires bytes { HasBytes (table_in part table.old) }
+    ensures mended { IsMendedAt part (IsLaneOf table.old.class shelf.now ends) table.old table.new }
+    ensures right { result ≡ true → AreEnded part table.new shelf.now ends }
+{
+    numbers_stand_for_codes();
+    let class = table.class();
+    let _size = size(class);
+    let first = first_of(table, shelf.number, shelf.side);
+    let mut rest = ends;
+    while let Some(square) = rest.pop_first() {
+        let Some(digit) = digit_on(shelf.men.last, square) else {
+            return false;
+        };
+        if !see_end(table, part, code_of(class, first + 2 * digit)) {
+            return false;
+        }
+    }
+    true
+}
+
+/// What a look came to.
+#[derive(Clone, Copy)]
+pub(crate) enum Mended {
+    /// All entries were due.
+    Due,
+    /// Others were put.
+    Put,
+    /// The entries are not told: some score has none.
+    Untold,
+}
+
+/// The last man's squares at which the entries of a row are not due to the greatest scores of the moves, and those at which there is no move and that `ended`
+/// lacks.
+fn row_seen(
+    table: &Table,
+    part: Part,
+    shelf: &Shelf,
+    scores: Row,
+    zeroing: Row,
+    ended: SquareSet,
+) -> (SquareSet, SquareSet)
+    requires shelf { IsShelf table.now.class shelf.now }
+    requires there { HasColumn (column_of part) table.now }
+    ensures { IsRowSeen part table.now shelf.now scores zeroing ended result.0 result.1 }
+{
+    codes_tell_turned_men();
+    let own = row_of(
+        table,
+        column_of(part),
+        &shelf.men,
+        shelf.number,
+        shelf.side,
+        shelf.passed,
+    );
+    let moving = lanes_of(scores);
+    let within = kept(own, moving);
+    let wrong = apart(own, due_in(part, scores), within).union(wrong_clocks(
+        table,
+        part,
+        shelf,
+        due(zeroing),
+        within,
+    ));
+    (
+        wrong.common(moving),
+        lanes_of(own).without(moving).without(ended),
+    )
+}
+
+/// Puts what is due to the greatest scores of the moves at the shelf's codes that are indexes. Where there is no move, the entries tell checkmate or stalemate
+/// from the first look on, and `ended` has the last man's square.
+pub(crate) fn mend_row(
+    table: &mut Table,
+    part: Part,
+    shelf: &Shelf,
+    scores: Row,
+    zeroing: Row,
+    ended: &mut SquareSet,
+) -> Mended
+    requires shelf { IsShelf table.old.class shelf.now }
+    requires there { HasColumn (column_of part) table.old }
+    requires bytes { HasBytes (table_in part table.old) }
+    requires ended { AreEnded part table.old shelf.now ended.old }
+    ensures mended { IsMendedAt part (IsCodeOf table.old.class shelf.now) table.old table.new }
+    ensures due { result ≡ mends.Due → table.new ≡ table.old }
+    ensures ended { result ≢ mends.Untold → AreEnded part table.new shelf.now ended.new }
+    ensures right { result ≢ mends.Untold → IsRightRow part table.new shelf.now scores zeroing }
+{
+    numbers_stand_for_codes();
+    let _class = table.class();
+    let (wrong, ends) = row_seen(table, part, shelf, scores, zeroing, *ended);
+    if wrong.is_empty() && ends.is_empty() {
+        return Mended::Due;
+    }
+    let seen = ended.union(ends);
+    // What was seen to have no move has none.
+    if !wrong.common(seen).is_empty() {
+        return Mended::Untold;
+    }
+    if !see_ends(table, part, shelf, ends) {
+        return Mended::Untold;
+    }
+    *ended = seen;
+    if put_lanes(
+        table,
+        part,
+        shelf,
+        wrong,
+        due_in(part, scores),
+        due(zeroing),
+    ) {
+        Mended::Put
+    } else {
+        Mended::Untold
+    }
+}
+
+/// Puts what is due to the greatest scores of the moves at the codes of the shelves of these men from this one on, one for each digit of the first man; `ended`
+/// has for each of his squares those of the last man at which there is no move.
+pub(crate) fn mend_shelves(
+    table: &mut Table,
+    part: Part,
+    shelves: &Shelf,
+    scores: &Block,
+    zeroing: &Block,
+    ended: &mut [SquareSet; 64],
+) -> Mended
+    requires men { AreMenOf table.old.class shelves.now.men }
+    requires room { shelves.now.number + 64 < 4294967296 }
+    requires there { HasColumn (column_of part) table.old }
+    requires bytes { HasBytes (table_in part table.old) }
+    requires ended { AllEnded part table.old shelves.now ended.old }
+    ensures mended { IsMendedAt part (IsCodeIn table.old.class shelves.now) table.old table.new }
+    ensures due { result ≡ mends.Due → table.new ≡ table.old }
+    ensures shelves { result ≢ mends.Untold → AreShelvesOf shelves.now.passed table.old.class shelves.now.men shelves.now.number }
+    ensures ended { result ≢ mends.Untold → AllEnded part table.new shelves.now ended.new }
+    ensures right { result ≢ mends.Untold → AreRightRows part table.new shelves.now scores.now zeroing.now (kind_digits shelves.now.men.one.kind) }
+{
+    numbers_stand_for_codes();
+    if !begin_with(table.class(), &shelves.men, shelves.passed, shelves.number) {
+        return Mended::Untold;
+    }
+    let from = first_square(shelves.men.one);
+    let mut found = Mended::Due;
+    for digit in 0..digits_of(shelves.men.one) {
+        let square = from + digit;
+        let row = usize::from(square);
+        let shelf = Shelf {
+            number: shelves.number + u32::from(digit),
+            men: men_on(&shelves.men, Square::at(square)),
+            side: shelves.side,
+            passed: shelves.passed,
+        };
+        let mut here = ended[row];
+        let row_found = mend_row(table, part, &shelf, scores[row], zeroing[row], &mut here);
+        ended[row] = here;
+        match row_found {
+            Mended::Due => {}
+            Mended::Put => found = Mended::Put,
+            Mended::Untold => return Mended::Untold,
+        }
+    }
+    found
+}

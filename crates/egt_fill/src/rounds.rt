@@ -1,0 +1,188 @@
+//! Rounds of looks: an item is looked at where something that it reads has changed since it was, until nothing has.
+ghost use Rattle.std.specs.Prelude.{◌≡◌, ◌≢◌, ◌↔◌, ℕ, length, Some, IfSome, IsTrue, false, true};
+ghost use Rattle.std.specs.List.{All};
+ghost use Rattle.egt_board.specs.Man.{other_side};
+ghost use Rattle.egt_blocks.specs.Kept.{AreKept};
+ghost use Rattle.egt_check.specs.Parts.{IsOwnTable};
+ghost use Rattle.egt_check.specs.Worth.{column_score};
+ghost use Rattle.egt_fill.specs.Covered.{IsDueItem};
+ghost use Rattle.egt_fill.specs.Items.{IsItem, men_of};
+ghost use Rattle.egt_fill.specs.Mended.{IsMended, IsMendedAt};
+ghost use Rattle.egt_fill.specs.Rounds.{AreFreshItems, IsFreshItem, IsUntouched, IsUntouchedPass};
+ghost use Rattle.egt_fill.specs.Settled.{IsFilling};
+ghost use Rattle.egt_fill.specs.Stamps.{IsFresh};
+ghost use Rattle.egt_fill.specs.UnderWay.{IsLookedAt, IsStamped, IsUnderWay};
+ghost use Rattle.egt_fill.specs.declared.items.Item.{Item};
+ghost use Rattle.egt_fill.specs.declared.rounds.Visited.TheVariants as visits;
+
+use crate::filling::Filling;
+use crate::items::Item;
+use crate::looking::{Scores, look};
+use crate::mending::Mended;
+use crate::stamps::{needs_look, stamp_place};
+use egt_blocks::blocks::nothing;
+use egt_blocks::kept_blocks::{BlockKey, NEAR_PLACES, no_keys};
+use egt_board::Side;
+use egt_check::table_judging::with_kings;
+use egt_lanes::Block;
+use egt_table::Table;
+
+/// How many rounds there are at most. A distance in bytes needs fewer.
+const ROUNDS: u32 = 256;
+
+/// What a visit came to.
+#[derive(Clone, Copy)]
+enum Visited {
+    /// Nothing that the item reads has changed.
+    Left,
+    /// It was looked at.
+    Looked,
+    /// Its entries are not told.
+    Untold,
+}
+
+/// Looks at the item where something that it reads has changed since it was looked at; where entries were put, that is stamped.
+fn visit(
+    f: &Filling,
+    table: &mut Table,
+    item: &mut Item,
+    stamps: &mut [u32],
+    tick: &mut u32,
+    keys: &mut [Option<BlockKey>],
+    blocks: &mut [Block],
+    scores: &mut Scores,
+) -> Visited
+    requires filling { IsFilling f.now }
+    requires table { IsOwnTable f.now.part f.now.class f.now.men table.old }
+    requires item { IsItem f.now table.old item.old }
+    requires long { length stamps.old ≡ 8192 }
+    requires kept { AreKept f.now.class (column_score table.old) f.now.men (other_side item.old.side) keys.old blocks.old }
+    ensures mended { IsMended f.now.part item.old.white item.old.black item.old.side table.old table.new }
+    ensures left { result ≡ visits.Left → IsUntouched table.old table.new item.old item.new stamps.old stamps.new tick.old tick.new × IsFreshItem f.now stamps.old item.old }
+    ensures looked { result ≡ visits.Looked → IsLookedAt f.now table.old table.new item.old item.new tick.old }
+    ensures stamped { result ≡ visits.Looked → IsStamped item.old table.old table.new stamps.old stamps.new tick.old tick.new }
+    ensures kept { result ≢ visits.Untold → AreKept f.now.class (column_score table.new) f.now.men (other_side item.old.side) keys.new blocks.new }
+{
+    let men = with_kings(&f.men, item.white, item.black);
+    if !needs_look(f.class, &men, item.side, stamps, item.looked) {
+        return Visited::Left;
+    }
+    item.looked = *tick;
+    match look(f, table, item, keys, blocks, scores) {
+        Mended::Untold => Visited::Untold,
+        Mended::Due => Visited::Looked,
+        Mended::Put => {
+            let Some(later) = tick.checked_add(1) else {
+                return Visited::Untold;
+            };
+            *tick = later;
+            stamps[stamp_place(item.side, item.white, item.black)] = later;
+            Visited::Looked
+        }
+    }
+}
+
+/// Whether the sides are one.
+fn is_side(one: Side, other: Side) -> bool
+    ensures { IsTrue result ↔ (one ≡ other) }
+{
+    one == other
+}
+
+/// Visits all items with that side to move. Whether one was looked at; `None` where its entries are not told. The contract alone reads the places.
+fn pass(
+    f: &Filling,
+    table: &mut Table,
+    items: &mut [Item],
+    places: &[u32],
+    stamps: &mut [u32],
+    tick: &mut u32,
+    side: Side,
+    scores: &mut Scores,
+) -> Option<bool>
+    requires filling { IsFilling f.now }
+    requires table { IsOwnTable f.now.part f.now.class f.now.men table.old }
+    requires under { IsUnderWay f.now table.old items.old places.now stamps.old tick.old }
+    ensures mended { IsMendedAt f.now.part (λ i. Unit {0}) table.old table.new }
+    ensures under { IfSome result (λ any. IsUnderWay f.now table.new items.new places.now stamps.new tick.new) }
+    ensures left { result ≡ Some false → IsUntouchedPass table.old table.new items.old items.new stamps.old stamps.new tick.old tick.new × AreFreshItems f.now stamps.old items.old side (length items.old) }
+{
+    let mut keys = no_keys();
+    let mut blocks = [nothing(); NEAR_PLACES];
+    let mut any = false;
+    for i in 0..items.len() {
+        let _class = table.class();
+        if is_side(items[i].side, side) {
+            match visit(
+                f,
+                table,
+                &mut items[i],
+                stamps,
+                tick,
+                &mut keys,
+                &mut blocks,
+                scores,
+            ) {
+                Visited::Left => {}
+                Visited::Looked => any = true,
+                Visited::Untold => return None,
+            }
+        }
+    }
+    Some(any)
+}
+
+/// Visits all items, those with White to move first. Whether one was looked at; `None` where its entries are not told. The contract alone reads the places.
+fn round(
+    f: &Filling,
+    table: &mut Table,
+    items: &mut [Item],
+    places: &[u32],
+    stamps: &mut [u32],
+    tick: &mut u32,
+    scores: &mut Scores,
+) -> Option<bool>
+    requires filling { IsFilling f.now }
+    requires table { IsOwnTable f.now.part f.now.class f.now.men table.old }
+    requires under { IsUnderWay f.now table.old items.old places.now stamps.old tick.old }
+    ensures mended { IsMendedAt f.now.part (λ i. Unit {0}) table.old table.new }
+    ensures under { IfSome result (λ any. IsUnderWay f.now table.new items.new places.now stamps.new tick.new) }
+    ensures due { result ≡ Some false → All (IsDueItem f.now table.new) items.new }
+{
+    let Some(white) = pass(f, table, items, places, stamps, tick, Side::White, scores) else {
+        return None;
+    };
+    let _class = table.class();
+    let Some(black) = pass(f, table, items, places, stamps, tick, Side::Black, scores) else {
+        return None;
+    };
+    Some(white || black)
+}
+
+/// Looks at items until nothing that one reads has changed since it was looked at: then all entries are due. False where their entries are not told, and where
+/// there are too many rounds.
+pub(crate) fn settle_items(
+    f: &Filling,
+    table: &mut Table,
+    items: &mut [Item],
+    places: &[u32],
+    stamps: &mut [u32],
+    scores: &mut Scores,
+) -> bool
+    requires filling { IsFilling f.now }
+    requires table { IsOwnTable f.now.part f.now.class f.now.men table.old }
+    requires under { IsUnderWay f.now table.old items.old places.now stamps.old 1 }
+    ensures mended { IsMendedAt f.now.part (λ i. Unit {0}) table.old table.new }
+    ensures due { result ≡ true → All (IsDueItem f.now table.new) items.new }
+{
+    let mut tick = 1;
+    for _ in 0..ROUNDS {
+        let _class = table.class();
+        match round(f, table, items, places, stamps, &mut tick, scores) {
+            Some(true) => {}
+            Some(false) => return true,
+            None => return false,
+        }
+    }
+    false
+}

@@ -1,0 +1,87 @@
+//! Entries that are put until all are due.
+ghost use Rattle.std.specs.Prelude.{◌≡◌, ◌<◌, ℕ, true, length, slice_index, IfOk};
+ghost use Rattle.egt_index.specs.Size.{size_of};
+ghost use Rattle.egt_table.specs.Table.{HasColumn};
+ghost use Rattle.egt_table.specs.declared.column.Column.{Column};
+ghost use Rattle.egt_entries.specs.Tables.{beside, table_at};
+ghost use Rattle.egt_check.specs.Parts.{IsOwnTable, table_in};
+ghost use Rattle.egt_check.specs.RightBlock.{KeepsPart};
+ghost use Rattle.egt_check.specs.Worth.{HasBytes};
+ghost use Rattle.egt_check.specs.declared.part.Part.TheVariants as parts;
+ghost use Rattle.egt_fill.specs.Mended.{IsMendedAt};
+ghost use Rattle.egt_fill.specs.Settled.{IsFilling};
+ghost use Rattle.egt_fill.specs.UnderWay.{IsUnderWay};
+
+use crate::beginning::{PLACES, begun_items, places_of};
+use crate::covering::all_are_covered;
+use crate::filling::Filling;
+use crate::items::Item;
+use crate::looking::Scores;
+use crate::rounds::settle_items;
+use egt_blocks::blocks::nothing;
+use egt_table::Table;
+use std::alloc::{AllocError, Global};
+
+/// Room for the scores of a look.
+fn room(alloc: Global) -> Result<Scores, AllocError> {
+    Ok(Scores {
+        plain: Box::new(alloc, nothing())?,
+        clocks: Box::new(alloc, nothing())?,
+        passed: Box::new(alloc, nothing())?,
+        passed_clocks: Box::new(alloc, nothing())?,
+    })
+}
+
+/// No stamp of any entries.
+fn no_stamps(alloc: Global) -> Result<Vec<u32>, AllocError>
+    ensures long { IfOk result (λ stamps. length stamps.items ≡ 8192) }
+    ensures none { IfOk result (λ stamps. (i : ℕ) → slice_index stamps.items i ≡ 0) }
+{
+    let stamps = vec![in alloc; 0; PLACES]?;
+    Ok(stamps)
+}
+
+/// Looks at the items until all that is due is put, and sees that they are of all codes.
+fn settle_all(
+    f: &Filling,
+    table: &mut Table,
+    items: &mut [Item],
+    places: &[u32],
+    stamps: &mut [u32],
+    scores: &mut Scores,
+) -> bool
+    requires filling { IsFilling f.now }
+    requires table { IsOwnTable f.now.part f.now.class f.now.men table.old }
+    requires under { IsUnderWay f.now table.old items.old places.now stamps.old 1 }
+    ensures mended { IsMendedAt f.now.part (λ i. Unit {0}) table.old table.new }
+    ensures right { result ≡ true → (i : ℕ) → i < size_of table.new.class → KeepsPart f.now.part (beside (table_at f.now.library.now) table.new) table.new i }
+{
+    if !settle_items(f, table, items, places, stamps, scores) {
+        return false;
+    }
+    let _class = table.class();
+    all_are_covered(f, table, items, places)
+}
+
+/// Puts what is due at all codes of the part, until all entries are. False where that is not told by bytes.
+pub(crate) fn settle(alloc: Global, f: &Filling, table: &mut Table) -> Result<bool, AllocError>
+    requires filling { IsFilling f.now }
+    requires table { IsOwnTable f.now.part f.now.class f.now.men table.old }
+    ensures class { table.new.class ≡ table.old.class }
+    ensures there { (column : Column) → HasColumn column table.old → HasColumn column table.new }
+    ensures mate { f.now.part ≡ parts.Reach → table.new.mate ≡ table.old.mate }
+    ensures zeroing { f.now.part ≡ parts.Reach → table.new.zeroing ≡ table.old.zeroing }
+    ensures reach { f.now.part ≡ parts.Values → table.new.reach ≡ table.old.reach }
+    ensures bytes { HasBytes (table_in f.now.part table.new) }
+    ensures right { IfOk result (λ told. told ≡ true → (i : ℕ) → i < size_of table.new.class → KeepsPart f.now.part (beside (table_at f.now.library.now) table.new) table.new i) }
+{
+    let Some(mut items) = begun_items(alloc, f, table)? else {
+        return Ok(false);
+    };
+    let Some(places) = places_of(alloc, &items)? else {
+        return Ok(false);
+    };
+    let mut stamps = no_stamps(alloc)?;
+    let mut scores = room(alloc)?;
+    Ok(settle_all(f, table, &mut items, &places, &mut stamps, &mut scores))
+}
