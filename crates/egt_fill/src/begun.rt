@@ -68,7 +68,7 @@ pub(crate) fn begun_values(alloc: Global, class: Class) -> Result<Table, AllocEr
     ensures bytes { IfOk result HasBytes }
 {
     let mate = Ranks::from_entries(drawn(alloc, class)?);
-    let zeroing = mate.copied(alloc)?;
+    let zeroing = Ranks::from_entries(drawn(alloc, class)?);
     match Table::from_ranks(class, mate, zeroing) {
         Ok(table) => {
             let _class = table.class();

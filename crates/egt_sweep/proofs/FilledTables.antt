@@ -17,5 +17,9 @@ module _ (laws : Laws) (tables : Tables) (t : TableValue) (table : IsTable t) (t
   pub kept_is_true : RulesTell → KeepsRules (beside tables t) t → IsTrueTable t
   kept_is_true rules = (rules (beside tables t) t table (beside_own tables t) (beside_children laws tables t table.class_in true_children) (λ there. beside_reach laws tables t table.class_in (down there))).0
 
-  pub kept_is_accepted : HasChildren tables t.class → KeepsRules (beside tables t) t → IsAccepted tables t
-  kept_is_accepted children kept = record { children = children; reach_children = down; rules = kept }
+  pub true_is_accepted : HasChildren tables t.class → RulesTell → IsTrueTable t → IsAccepted tables t
+  true_is_accepted children rules truth = record {
+    children = children;
+    reach_children = down;
+    rules = (rules (beside tables t) t table (beside_own tables t) (beside_children laws tables t table.class_in true_children) (λ there. beside_reach laws tables t table.class_in (down there))).1 truth;
+  }

@@ -8,4 +8,3 @@ pub mod MateColumn
 pub mod Objective
 pub mod Built
 pub mod Fault
-pub mod Filling

@@ -4,8 +4,8 @@ ghost use Rattle.egt_graph.specs.Near.{AreNears};
 ghost use Rattle.egt_graph.specs.Value.{AreRanks};
 ghost use Rattle.egt_index.specs.Size.{size_of};
 ghost use Rattle.egt_entries.specs.declared.metric.Metric.TheVariants.{Mate, Zeroing};
-ghost use Rattle.egt_entries.specs.Rules.{KeepsRules};
 ghost use Rattle.egt_entries.specs.Tables.{table_at, beside, HasChildren, HasReachChildren};
+ghost use Rattle.egt_entries.specs.Truth.{IsTrueTable};
 ghost use Rattle.egt_sweep.specs.Built.{AllWithinLimit, IsBuilt, IsNotBuilt, HasNoFalseChild, SomeReachesFar};
 ghost use Rattle.egt_sweep.specs.ClassGame.{class_game};
 ghost use Rattle.egt_sweep.specs.MateColumn.{mate_table};
@@ -184,14 +184,14 @@ fn solved(alloc: Global, class: Class, library: &Library, limit: u16) -> Result<
     }
 }
 
-/// The table that was filled by blocks, whose entries keep the rules, unless one of its mates takes more plies than the limit.
+/// The table that was filled by blocks, a true one, unless one of its mates takes more plies than the limit.
 fn kept(table: Table, class: Class, library: &Library, limit: u16) -> Result<Table, BuildFault>
     requires limit { limit ≤ 32000 }
     requires children { HasChildren (table_at library.now) class }
     requires reach_children { HasReachChildren (table_at library.now) class }
     requires class { table.class ≡ class }
     requires reach { IsSome table.reach }
-    requires rules { KeepsRules (beside (table_at library.now) table) table }
+    requires truth { IsTrueTable table }
     ensures built { IfOk result (IsBuilt (table_at library.now) class limit) }
     ensures refused { IfErr result (IsNotBuilt (table_at library.now) class limit) }
 {
@@ -203,8 +203,8 @@ fn kept(table: Table, class: Class, library: &Library, limit: u16) -> Result<Tab
 }
 
 /// The table of a class whose children have their tables in the library, each with the column of the nearest mates, with no mate distance above `limit`,
-/// which is at most 32,000. First the mate column is made, then the zeroing column, then that of the nearest mates, by retrograde analysis (Thompson
-/// 1986). No check is run, and none is needed: every entry is true, and the library takes the table unless it has one of the class.
+/// which is at most 32,000. A class of two men beside the kings is filled
+/// by blocks, another by retrograde analysis (Thompson 1986). No check is run, and none is needed: every entry is true, and the library takes the table unless it has one of the class.
 ///
 /// # Errors
 ///
@@ -227,9 +227,8 @@ pub fn build(
     if let Some(child) = first_lacking(class, library) {
         return Err(BuildFault::NoReach(child));
     }
-    match filled(alloc, class, library) {
-        Ok(Some(table)) => kept(table, class, library, limit),
-        Ok(None) => solved(alloc, class, library, limit),
-        Err(_refused) => Err(BuildFault::NoMemory),
+    match filled(alloc, class, library)? {
+        Some(table) => kept(table, class, library, limit),
+        None => solved(alloc, class, library, limit),
     }
 }

@@ -1,43 +1,37 @@
 //! Tables filled by blocks, where no game is solved.
-ghost use Rattle.std.specs.Prelude.{◌≡◌, None, IfOk, IfSome, IsSome};
-ghost use Rattle.egt_entries.specs.Library.{IsAccepted};
-ghost use Rattle.egt_entries.specs.Rules.{KeepsRules};
-ghost use Rattle.egt_entries.specs.Tables.{table_at, beside, HasChildren, HasReachChildren};
-ghost use Rattle.egt_sweep.specs.Filling.{IfFilled, IfLeft};
+ghost use Rattle.std.specs.Prelude.{◌≡◌, IfOk, IfErr, IfSome, IsSome};
+ghost use Rattle.egt_entries.specs.Tables.{table_at, HasChildren, HasReachChildren};
+ghost use Rattle.egt_entries.specs.Truth.{IsTrueTable};
+ghost use Rattle.egt_sweep.specs.declared.build_fault.BuildFault.TheVariants as faults;
 
-use crate::refill::Refilled;
+use crate::build_fault::BuildFault;
 use egt_check::Library;
 use egt_class::Class;
-use egt_graph::NoMemory;
+use egt_fill::{Reached, filled_reach, filled_values};
 use egt_table::Table;
 use std::alloc::Global;
 
-/// The table of a class, or none where blocks do not tell of it.
+/// The table of a class with all its columns; none where bytes do not tell of its entries.
 pub(crate) fn filled(
-    _alloc: Global,
+    alloc: Global,
     class: Class,
     library: &Library,
-) -> Result<Option<Table>, NoMemory>
+) -> Result<Option<Table>, BuildFault>
     requires children { HasChildren (table_at library.now) class }
     requires reach_children { HasReachChildren (table_at library.now) class }
-    ensures class { IfOk result (λ told. IfSome told (λ t. t.class ≡ class)) }
-    ensures reach { IfOk result (λ told. IfSome told (λ t. IsSome t.reach)) }
-    ensures rules { IfOk result (λ told. IfSome told (λ t. KeepsRules (beside (table_at library.now) t) t)) }
+    ensures class { IfOk result (λ filled. IfSome filled (λ t. t.class ≡ class)) }
+    ensures reach { IfOk result (λ filled. IfSome filled (λ t. IsSome t.reach)) }
+    ensures truth { IfOk result (λ filled. IfSome filled IsTrueTable) }
+    ensures refused { IfErr result (λ fault. fault ≡ faults.NoMemory) }
 {
-    Ok(None)
-}
-
-/// The table with the column of the nearest mates too, which it lacks; or the table back.
-pub(crate) fn refilled(_alloc: Global, table: Table, library: &Library) -> Refilled
-    requires accepted { IsAccepted (table_at library.now) table }
-    requires lacks { table.reach ≡ None }
-    requires reach_children { HasReachChildren (table_at library.now) table.class }
-    ensures class { IfFilled result (λ t. t.class ≡ table.class) }
-    ensures mate { IfFilled result (λ t. t.mate ≡ table.mate) }
-    ensures zeroing { IfFilled result (λ t. t.zeroing ≡ table.zeroing) }
-    ensures reach { IfFilled result (λ t. IsSome t.reach) }
-    ensures rules { IfFilled result (λ t. KeepsRules (beside (table_at library.now) t) t) }
-    ensures back { IfLeft result (λ t. t ≡ table) }
-{
-    Refilled::Untold(table)
+    let table = match filled_values(alloc, class, library) {
+        Ok(Some(table)) => table,
+        Ok(None) => return Ok(None),
+        Err(_refused) => return Err(BuildFault::NoMemory),
+    };
+    match filled_reach(alloc, table, library) {
+        Reached::Filled(table) => Ok(Some(table)),
+        Reached::Untold(_table) => Ok(None),
+        Reached::NoMemory(_table) => Err(BuildFault::NoMemory),
+    }
 }

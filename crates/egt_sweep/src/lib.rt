@@ -17,7 +17,6 @@ mod nodes;
 mod objective;
 pub mod ranks;
 mod reach_game;
-mod refill;
 mod sources;
 mod zero_game;
 

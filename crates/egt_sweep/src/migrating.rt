@@ -5,13 +5,12 @@ ghost use Rattle.egt_entries.specs.Tables.{table_at, HasReachChildren};
 ghost use Rattle.egt_sweep.specs.Built.{IsMigrated, IsNotMigrated};
 
 use crate::building::{children_are_true, reach_column};
-use crate::filling::refilled;
 use crate::laws::laws;
 use crate::migrate_fault::MigrateFault;
 use crate::ranks::reach_numbers_are_the_nearest_mates;
-use crate::refill::Refilled;
 use egt_check::laws::rules_are_kept_by_true_tables_alone;
 use egt_check::{Library, first_lacking};
+use egt_fill::{Reached, filled_reach};
 use egt_graph::SolveFault;
 use egt_table::Table;
 use std::alloc::Global;
@@ -67,12 +66,12 @@ pub fn migrate(
     if let Some(child) = first_lacking(class, library) {
         return Err((table, MigrateFault::NoReach(child)));
     }
-    match refilled(alloc, table, library) {
-        Refilled::Filled(table) => {
+    match filled_reach(alloc, table, library) {
+        Reached::Filled(table) => {
             let _class = table.class();
             Ok(table)
         }
-        Refilled::Untold(table) => solved(alloc, table, library),
-        Refilled::NoMemory(table) => Err((table, MigrateFault::NoMemory)),
+        Reached::Untold(table) => solved(alloc, table, library),
+        Reached::NoMemory(table) => Err((table, MigrateFault::NoMemory)),
     }
 }

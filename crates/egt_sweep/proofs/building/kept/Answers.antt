@@ -1,11 +1,11 @@
 use Rattle.std.proofs.Common.{◌≡◌, ℕ, Result, Ok, Err, IfOk, IfErr, refl, sym, subst, inl}
 use Rattle.egt_entries.specs.Tables.{Tables, table_at, HasChildren, HasReachChildren}
-use Rattle.egt_entries.specs.Truth.{HasTrueChildren, IsTrueTable}
+use Rattle.egt_entries.specs.Truth.{HasTrueChildren}
 use Rattle.egt_table.specs.Table.{TableValue}
 use Rattle.egt_sweep.specs.Built.{AllWithinLimit, IsBuilt, IsNotBuilt, SomeAboveLimit}
 use Rattle.egt_sweep.specs.declared.build_fault.BuildFault.{BuildFault}
 use Rattle.egt_sweep.specs.declared.build_fault.BuildFault.TheVariants as faults
-use Rattle.egt_sweep.proofs.FilledTables.{kept_is_accepted, kept_is_true}
+use Rattle.egt_sweep.proofs.FilledTables.{true_is_accepted}
 use Rattle.egt_sweep.proofs.TrueChildren.{true_children}
 use Rattle.egt_sweep.proofs.building.kept.Goals as goal
 
@@ -18,18 +18,6 @@ refused (Ok u) tables d c limit is above class children reach_children = tt
 refused (Err fault) tables d c limit is above class children reach_children =
     subst (IsNotBuilt tables c limit) (sym is) (children, reach_children, inl (refl, subst (λ (k : ℕ). SomeAboveLimit k limit) class above))
 
--- the table is true
-truth : (c : goal.After-class-class) → IsTrueTable c.args.table
-truth c =
-    let t = c.args.table in
-    let tables = table_at c.args.library.now in
-    let children = true_children tables c.args.class c.children_are_true.ensures c.requires.children in
-    kept_is_true c.laws.ensures tables t c.class-class.ensures.table (subst (HasTrueChildren tables) (sym c.requires.class) children)
-    (λ there. subst (HasReachChildren tables) (sym c.requires.class) c.requires.reach_children) c.rules_are_kept_by_true_tables_alone.ensures c.requires.rules
-
-pub within_limit-requires-clause-truth : goal.within_limit-requires-clause-truth
-within_limit-requires-clause-truth c = truth c
-
 pub returns-clause-built : goal.returns-clause-built
 returns-clause-built c =
     let t = c.args.table in
@@ -38,10 +26,9 @@ returns-clause-built c =
     built c.within_limit.result tables t c.args.class c.args.limit c.within_limit.ensures.same c.within_limit.ensures.within c.requires.class (λ within. record {
       class = c.requires.class;
       reach = c.requires.reach;
-      true = kept_is_true c.laws.ensures tables t c.class-class.ensures.table (subst (HasTrueChildren tables) (sym c.requires.class) children)
-          (λ there. subst (HasReachChildren tables) (sym c.requires.class) c.requires.reach_children) c.rules_are_kept_by_true_tables_alone.ensures c.requires.rules;
-      accepted = kept_is_accepted c.laws.ensures tables t c.class-class.ensures.table (subst (HasTrueChildren tables) (sym c.requires.class) children)
-          (λ there. subst (HasReachChildren tables) (sym c.requires.class) c.requires.reach_children) (subst (HasChildren tables) (sym c.requires.class) c.requires.children) c.requires.rules;
+      true = c.requires.truth;
+      accepted = true_is_accepted c.laws.ensures tables t c.class-class.ensures.table (subst (HasTrueChildren tables) (sym c.requires.class) children)
+          (λ there. subst (HasReachChildren tables) (sym c.requires.class) c.requires.reach_children) (subst (HasChildren tables) (sym c.requires.class) c.requires.children) c.rules_are_kept_by_true_tables_alone.ensures c.requires.truth;
       within = within;
     })
 
