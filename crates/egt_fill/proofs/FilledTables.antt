@@ -1,5 +1,5 @@
 -- Tables whose entries keep the rules beside the true tables of the children are true.
-use Rattle.std.proofs.Common.{◌≡◌, ℕ, ◌<◌, ◌↔◌, ◌∙◌, false, None, Some, IsSome, IfSome, Option, List, arith, ap, refl, subst, sym, slice_index}
+use Rattle.std.proofs.Common.{◌≡◌, ℕ, ◌<◌, ◌↔◌, ◌∙◌, None, Some, IsSome, IfSome, Option, List, arith, ap, refl, subst, sym, slice_index}
 use Rattle.std.specs.List.{Contains}
 use Rattle.std.proofs.lemmas.Bool.{false≢true, ne_eqb}
 use Rattle.egt_class.specs.Children.{children_of}

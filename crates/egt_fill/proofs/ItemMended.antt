@@ -1,5 +1,5 @@
 -- The entries of an item, without a target and with one.
-use Rattle.std.proofs.Common.{◌≡◌, ◌≢◌, ◌∙◌, ℕ, ◌+◌, ◌<◌, Bool, true, false, List, sym, subst}
+use Rattle.std.proofs.Common.{◌≡◌, ◌≢◌, ℕ, ◌+◌, ◌<◌, Bool, true, false, List, sym, subst}
 use Rattle.std.proofs.lemmas.Bool.{false≢true}
 use Rattle.egt_board.specs.declared.square_set.SquareSet.{SquareSet}
 use Rattle.egt_index.specs.Numbers.{code_of}
@@ -8,9 +8,8 @@ use Rattle.egt_index.specs.ShelfCodes.{number_in, stand_with}
 use Rattle.egt_index.specs.TellsMen.{TellsMen}
 use Rattle.egt_table.specs.Table.{TableValue}
 use Rattle.egt_blocks.specs.Blocks.{AreShelvesOf}
-use Rattle.egt_check.specs.declared.part.Part.{Part}
 use Rattle.egt_fill.specs.Items.{IsItem, men_of, passed_shelves_of, shelves_of}
-use Rattle.egt_fill.specs.Mended.{AllEnded, AreRightRows, IsCodeIn, IsCodeOf, IsMended, IsMendedAt, IsOfKings, IsShelf, shelf_at}
+use Rattle.egt_fill.specs.Mended.{AllEnded, AreRightRows, IsCodeIn, IsMended, IsMendedAt, IsOfKings, IsShelf, shelf_at}
 use Rattle.egt_fill.specs.declared.filling.Filling.{Filling}
 use Rattle.egt_fill.specs.declared.items.Item.{Item}
 use Rattle.egt_fill.specs.declared.mending.Shelf.{Shelf}

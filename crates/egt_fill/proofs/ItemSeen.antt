@@ -1,5 +1,5 @@
 -- What a look sees of an item.
-use Rattle.std.proofs.Common.{◌≡◌, ◌≢◌, ℕ, ◌+◌, ◌<◌, Bool, true, false, List, length, Option, None, slice_index_or, sym, ap, ◌∙◌, subst}
+use Rattle.std.proofs.Common.{◌≡◌, ℕ, ◌+◌, ◌<◌, Bool, true, false, List, Option, None, slice_index_or, sym, ap, ◌∙◌, subst}
 use Rattle.egt_board.specs.Man.{other_side}
 use Rattle.egt_board.specs.declared.man.Side.{Side}
 use Rattle.egt_class.specs.Material.{has_equal_sides}
@@ -22,7 +22,6 @@ use Rattle.egt_fill.specs.Mended.{AreRightRows, IsMended}
 use Rattle.egt_fill.specs.declared.filling.Filling.{Filling}
 use Rattle.egt_fill.specs.declared.items.Item.{Item}
 use Rattle.egt_fill.specs.declared.looking.Scores.{Scores}
-use Rattle.egt_fill.specs.declared.mending.Shelf.{Shelf}
 use Rattle.egt_fill.proofs.KeptThrough.{all_kept, some_apart}
 
 rows_seen : (part : Part) (passed : Bool) (old new : TableValue) (children : Children) (men : ShelfMen) (first : ℕ) (side : Side) (scores clocks : List (List ℕ)) → AreShelvesOf passed new.class men first

@@ -1,23 +1,21 @@
 -- What was read of positions stays when entries of others are put.
-use Rattle.std.proofs.Common.{◌≡◌, ◌≢◌, ◌⊎◌, ℕ, ◌/◌, ◌%◌, ◌<◌, ◌≤◌, Bool, true, false, not, eqb, List, [], length, Option, Some, None, IfSome, IsTrue, refl, sym, ap, ◌∙◌, inl, inr, subst, slice_index, slice_index_or, arith}
+use Rattle.std.proofs.Common.{◌≡◌, ◌≢◌, ℕ, ◌/◌, ◌%◌, ◌<◌, Bool, true, false, eqb, List, [], length, Option, Some, None, IfSome, refl, sym, ap, ◌∙◌, inl, inr, slice_index_or, arith}
 use Rattle.std.proofs.lemmas.Bool.{false≢true}
 use Rattle.egt_board.specs.Man.{other_side}
 use Rattle.egt_board.specs.Turned.{turned_side, turned_square}
 use Rattle.egt_board.specs.declared.man.Side.{Side}
 use Rattle.egt_board.specs.declared.man.Side.TheVariants.{White, Black}
 use Rattle.egt_class.specs.Material.{has_equal_sides}
-use Rattle.egt_index.specs.TellsMen.{TellsMen}
-use Rattle.egt_index.specs.TurnedMen.{IsInEitherOrder, IsSeenBy, IsSomeTurnedCode, IsSomeTurnedCodeWith, seen_across, swapped, turned_by}
+use Rattle.egt_index.specs.TurnedMen.{IsInEitherOrder, IsSeenBy, IsSomeTurnedCodeWith, turned_by}
 use Rattle.egt_index.specs.declared.shelf_codes.ShelfMen.{ShelfMen}
 use Rattle.egt_index.specs.declared.stand.Stand.{Stand}
 use Rattle.egt_lanes.specs.Blocks.{at}
 use Rattle.egt_lanes.specs.Raised.{IsRaised}
 use Rattle.egt_steps.specs.Stands.{stand_on}
-use Rattle.egt_table.specs.Table.{TableValue, entries_of}
+use Rattle.egt_table.specs.Table.{TableValue}
 use Rattle.egt_table.specs.declared.column.Column.{Column}
 use Rattle.egt_blocks.specs.Blocks.{with_kings}
 use Rattle.egt_blocks.specs.Kept.{AreKept, IsKept}
-use Rattle.egt_blocks.specs.Scored.{IsRead}
 use Rattle.egt_blocks.specs.declared.kept_blocks.BlockKey.{BlockKey}
 use Rattle.egt_check.specs.Worth.{column_score, entry_score}
 use Rattle.egt_check.specs.declared.part.Part.{Part}

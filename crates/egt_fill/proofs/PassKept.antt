@@ -1,18 +1,20 @@
 -- A pass over items, one item more.
-use Rattle.std.proofs.Common.{◌≡◌, ◌≢◌, ◌∙◌, ℕ, ◌+◌, ◌<◌, Bool, true, false, List, Option, length, slice_index_or, slice_set, inl, inr, refl, ap, sym, subst, arith}
+use Rattle.std.proofs.Common.{◌≡◌, ◌≢◌, ◌∙◌, ℕ, ◌+◌, ◌<◌, Bool, true, false, List, [], None, Option, length, slice_index_or, slice_set, inl, inr, refl, ap, sym, subst, arith}
 use Rattle.std.proofs.lemmas.Bool.{cases_lt, false≢true}
 use Rattle.std.proofs.lemmas.List.{get_or_default, length-set, set-get_or}
 use Rattle.std.specs.List.{All}
 use Rattle.egt_board.specs.Man.{other_side}
 use Rattle.egt_board.specs.declared.man.Side.{Side}
 use Rattle.egt_board.specs.declared.man.Side.TheVariants.{White, Black}
+use Rattle.egt_index.specs.declared.shelf_codes.ShelfMen.{ShelfMen}
+use Rattle.egt_table.specs.declared.column.Column.{Column}
 use Rattle.egt_table.specs.Table.{TableValue}
-use Rattle.egt_blocks.specs.Kept.{AreKept}
+use Rattle.egt_blocks.specs.Kept.{AreKept, IsKept}
 use Rattle.egt_blocks.specs.declared.kept_blocks.BlockKey.{BlockKey}
 use Rattle.egt_check.specs.Worth.{column_score}
 use Rattle.egt_fill.specs.Covered.{IsDueItem}
-use Rattle.egt_fill.specs.Mended.{IsMended, IsMendedAt, IsOfKings}
-use Rattle.egt_fill.specs.Rounds.{AreFreshItems, IsFreshItem, IsUntouched, IsUntouchedPass}
+use Rattle.egt_fill.specs.Mended.{IsMendedAt, IsOfKings}
+use Rattle.egt_fill.specs.Rounds.{AreFreshItems, HasRoom, IsFreshItem, IsUntouched, IsUntouchedPass}
 use Rattle.egt_fill.specs.UnderWay.{IsLookedAt, IsStamped, IsUnderWay}
 use Rattle.egt_fill.specs.declared.filling.Filling.{Filling}
 use Rattle.egt_fill.specs.declared.items.Item.{Item}
@@ -104,3 +106,12 @@ both_fresh f t items items' items'' places stamps stamps' stamps'' tick under ei
     of_side : (s : Side) → (slice_index_or items'' k d).side ≡ s → IsFreshItem f stamps'' (slice_index_or items'' k d)
     of_side White is = here k d k_in k_in is
     of_side Black is = there k d k_in k_in is
+
+-- where no place has a key, nothing is kept that could be wrong
+pub none_kept : (c : ℕ) (worth : Column → ℕ → ℕ) (men : ShelfMen) (side : Side) (before : List (Option BlockKey)) (blocks : List (List (List ℕ))) (keys : List (Option BlockKey)) → HasRoom before blocks →
+    length keys ≡ length before → ((i : ℕ) → i < length keys → slice_index_or keys i None ≡ None) → AreKept c worth men side keys blocks
+none_kept c worth men side before blocks keys room same none = record {
+  some = subst (λ n. 0 < n) (sym same) room.some;
+  as_many = room.as_many ∙ sym same;
+  each = λ i below. subst (λ key. IsKept c worth men side key (slice_index_or blocks i [])) (sym (none i below)) tt;
+}

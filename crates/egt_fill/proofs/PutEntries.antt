@@ -1,5 +1,5 @@
 -- Tables with some entries put anew.
-use Rattle.std.proofs.Common.{◌≡◌, ◌≢◌, ◌⊎◌, ℕ, ◌*◌, ◌-◌, ◌%◌, ◌<◌, Option, Some, None, IsSome, arith, refl, sym, ap, ◌∙◌, inl, inr, slice_index, subst, List}
+use Rattle.std.proofs.Common.{◌≡◌, ◌≢◌, ◌⊎◌, ℕ, ◌*◌, ◌-◌, ◌%◌, ◌<◌, Option, arith, refl, sym, ap, ◌∙◌, inl, inr, slice_index, subst, List}
 use Rattle.std.proofs.lemmas.Bool.{cases_eq}
 use Rattle.egt_index.specs.Code.{Spells}
 use Rattle.egt_index.specs.Index.{IsVoid}

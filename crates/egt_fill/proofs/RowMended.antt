@@ -1,23 +1,21 @@
 -- A row whose entries are put where they are not due.
-use Rattle.std.proofs.Common.{◌≡◌, ◌≢◌, ◌∙◌, ℕ, ◌+◌, ◌*◌, ◌%◌, ◌<◌, List, max, min, arith, sym, ap, inl, inr, slice_index, subst}
+use Rattle.std.proofs.Common.{◌≡◌, ◌≢◌, ◌∙◌, ℕ, ◌+◌, ◌%◌, ◌<◌, List, max, min, arith, sym, ap, inl, inr, slice_index, subst}
 use Rattle.std.specs.Int.{bit_at}
 use Rattle.std.proofs.lemmas.Bool.{cases_eq}
 use Rattle.std.proofs.lemmas.Nat.Bits.{bit_at-lt}
-use Rattle.egt_board.specs.SquareSet.{Has}
 use Rattle.egt_board.specs.declared.square_set.SquareSet.{SquareSet}
 use Rattle.egt_index.specs.Numbers.{code_of, number_of}
 use Rattle.egt_index.specs.Scales.{kind_digits, kind_less}
 use Rattle.egt_index.specs.ShelfCodes.{number_in}
 use Rattle.egt_index.specs.Size.{size_of}
 use Rattle.egt_lanes.specs.Scores.{due_score}
-use Rattle.egt_table.specs.Table.{TableValue, entries_of}
-use Rattle.egt_table.specs.declared.column.Column.{Column}
+use Rattle.egt_table.specs.Table.{TableValue}
 use Rattle.egt_check.specs.Parts.{column_of}
 use Rattle.egt_check.specs.RightRow.{IsRightAtOf, IsRightEndOf, due_in}
 use Rattle.egt_check.specs.Worth.{column_score, entry_score}
 use Rattle.egt_check.specs.declared.part.Part.{Part}
 use Rattle.egt_check.specs.declared.part.Part.TheVariants.{Values, Reach}
-use Rattle.egt_fill.specs.Mended.{AreEnded, IsCodeOf, IsLaneOf, IsMendedAt, IsPutAt, IsRightRow, IsRowSeen, IsShelf, score_in}
+use Rattle.egt_fill.specs.Mended.{AreEnded, IsCodeOf, IsLaneOf, IsMendedAt, IsPutAt, IsRightRow, IsRowSeen, IsShelf}
 use Rattle.egt_fill.specs.declared.mending.Shelf.{Shelf}
 use Rattle.egt_fill.proofs.PutEntries.{end_stays, mended_after, put_stays, widened}
 use Rattle.egt_fill.proofs.ShelfLanes.{one_digit}

@@ -1,7 +1,7 @@
 -- The codes of a shelf.
-use Rattle.std.proofs.Common.{◌≡◌, ℕ, ◌+◌, ◌*◌, ◌<◌, ◌≤◌, arith, refl, sym, ap, subst, ◌∙◌}
+use Rattle.std.proofs.Common.{◌≡◌, ℕ, ◌+◌, ◌*◌, ◌<◌, arith, refl, sym, ap, subst, ◌∙◌}
 use Rattle.egt_board.specs.declared.man.Side.{Side}
-use Rattle.egt_index.specs.Numbers.{code_of, number_of, places}
+use Rattle.egt_index.specs.Numbers.{code_of, number_of}
 use Rattle.egt_index.specs.Scales.{kind_digits, kind_less}
 use Rattle.egt_index.specs.ShelfCodes.{number_in, stand_with}
 use Rattle.egt_index.specs.Size.{size_of}

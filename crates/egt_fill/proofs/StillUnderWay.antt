@@ -12,10 +12,10 @@ use Rattle.egt_blocks.specs.Blocks.{AreShelvesOf}
 use Rattle.egt_check.specs.declared.move_scores.Children.{Children}
 use Rattle.egt_check.specs.declared.part.Part.{Part}
 use Rattle.egt_fill.specs.Covered.{IsDueItem}
-use Rattle.egt_fill.specs.Items.{AreSeen, IsItem, IsSeenItem, men_of, passed_shelves_of, shelves_of}
+use Rattle.egt_fill.specs.Items.{AreSeen, IsItem, men_of, passed_shelves_of, shelves_of}
 use Rattle.egt_fill.specs.Mended.{IsMended, IsOfKings}
 use Rattle.egt_fill.specs.Reads.{ReadsKings}
-use Rattle.egt_fill.specs.Settled.{AreAllDue, AreDue}
+use Rattle.egt_fill.specs.Settled.{AreDue}
 use Rattle.egt_fill.specs.Stamps.{IsFresh}
 use Rattle.egt_fill.specs.UnderWay.{IsLookedAt, IsStamped, IsUnderWay, place_of}
 use Rattle.egt_fill.specs.declared.filling.Filling.{Filling}

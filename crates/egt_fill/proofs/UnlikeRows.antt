@@ -1,5 +1,5 @@
 -- Rows where two others differ.
-use Rattle.std.proofs.Common.{◌≡◌, ℕ, zero, suc, ◌<◌, Bool, true, false, not, cond, eqb, List, [], ◌∷◌, map, length, get_or, replicate, refl, arith}
+use Rattle.std.proofs.Common.{◌≡◌, ℕ, zero, suc, ◌<◌, Bool, true, false, not, cond, eqb, List, [], ◌∷◌, length, get_or, replicate, refl, arith}
 use lib.Lanes.{zip2, top}
 use Rattle.egt_lanes.proofs.Rows.{other, select}
 

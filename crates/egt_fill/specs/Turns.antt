@@ -1,5 +1,5 @@
 -- Kings where turns of a class take them.
-use Rattle.std.specs.Prelude.{◌≡◌, ℕ, ◌/◌, ◌%◌, ◌<◌, ◌==◌, ◌⊎◌, Bool, true, false, IsTrue}
+use Rattle.std.specs.Prelude.{◌≡◌, ℕ, ◌/◌, ◌%◌, ◌<◌, ◌==◌, ◌⊎◌, true, false, IsTrue}
 use Rattle.egt_board.specs.Man.{other_side}
 use Rattle.egt_board.specs.Turned.{turned_square}
 use Rattle.egt_board.specs.declared.man.Side.{Side}

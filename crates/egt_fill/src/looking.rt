@@ -148,7 +148,7 @@ fn mend_item(
 }
 
 /// Forgets the blocks that were read before.
-fn forget(keys: &mut [Option<BlockKey>])
+pub(crate) fn forget(keys: &mut [Option<BlockKey>])
     ensures length { length keys.new ≡ length keys.old }
     ensures none { (i : ℕ) → i < length keys.new → slice_index_or keys.new i None ≡ None }
 {

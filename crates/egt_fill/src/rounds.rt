@@ -8,7 +8,7 @@ ghost use Rattle.egt_check.specs.Worth.{column_score};
 ghost use Rattle.egt_fill.specs.Covered.{IsDueItem};
 ghost use Rattle.egt_fill.specs.Items.{IsItem, men_of};
 ghost use Rattle.egt_fill.specs.Mended.{IsMended, IsMendedAt};
-ghost use Rattle.egt_fill.specs.Rounds.{AreFreshItems, IsFreshItem, IsUntouched, IsUntouchedPass};
+ghost use Rattle.egt_fill.specs.Rounds.{AreFreshItems, HasRoom, IsFreshItem, IsUntouched, IsUntouchedPass};
 ghost use Rattle.egt_fill.specs.Settled.{IsFilling};
 ghost use Rattle.egt_fill.specs.Stamps.{IsFresh};
 ghost use Rattle.egt_fill.specs.UnderWay.{IsLookedAt, IsStamped, IsUnderWay};
@@ -17,11 +17,10 @@ ghost use Rattle.egt_fill.specs.declared.rounds.Visited.TheVariants as visits;
 
 use crate::filling::Filling;
 use crate::items::Item;
-use crate::looking::{Scores, look};
+use crate::looking::{Scores, forget, look};
 use crate::mending::Mended;
 use crate::stamps::{needs_look, stamp_place};
-use egt_blocks::blocks::nothing;
-use egt_blocks::kept_blocks::{BlockKey, NEAR_PLACES, no_keys};
+use egt_blocks::kept_blocks::BlockKey;
 use egt_board::Side;
 use egt_check::table_judging::with_kings;
 use egt_lanes::Block;
@@ -98,31 +97,25 @@ fn pass(
     stamps: &mut [u32],
     tick: &mut u32,
     side: Side,
+    keys: &mut [Option<BlockKey>],
+    blocks: &mut [Block],
     scores: &mut Scores,
 ) -> Option<bool>
     requires filling { IsFilling f.now }
     requires table { IsOwnTable f.now.part f.now.class f.now.men table.old }
     requires under { IsUnderWay f.now table.old items.old places.now stamps.old tick.old }
+    requires room { HasRoom keys.old blocks.old }
     ensures mended { IsMendedAt f.now.part (λ i. Unit {0}) table.old table.new }
     ensures under { IfSome result (λ any. IsUnderWay f.now table.new items.new places.now stamps.new tick.new) }
+    ensures room { IfSome result (λ any. HasRoom keys.new blocks.new) }
     ensures left { result ≡ Some false → IsUntouchedPass table.old table.new items.old items.new stamps.old stamps.new tick.old tick.new × AreFreshItems f.now stamps.old items.old side (length items.old) }
 {
-    let mut keys = no_keys();
-    let mut blocks = [nothing(); NEAR_PLACES];
+    forget(keys);
     let mut any = false;
     for i in 0..items.len() {
         let _class = table.class();
         if is_side(items[i].side, side) {
-            match visit(
-                f,
-                table,
-                &mut items[i],
-                stamps,
-                tick,
-                &mut keys,
-                &mut blocks,
-                scores,
-            ) {
+            match visit(f, table, &mut items[i], stamps, tick, keys, blocks, scores) {
                 Visited::Left => {}
                 Visited::Looked => any = true,
                 Visited::Untold => return None,
@@ -140,20 +133,46 @@ fn round(
     places: &[u32],
     stamps: &mut [u32],
     tick: &mut u32,
+    keys: &mut [Option<BlockKey>],
+    blocks: &mut [Block],
     scores: &mut Scores,
 ) -> Option<bool>
     requires filling { IsFilling f.now }
     requires table { IsOwnTable f.now.part f.now.class f.now.men table.old }
     requires under { IsUnderWay f.now table.old items.old places.now stamps.old tick.old }
+    requires room { HasRoom keys.old blocks.old }
     ensures mended { IsMendedAt f.now.part (λ i. Unit {0}) table.old table.new }
     ensures under { IfSome result (λ any. IsUnderWay f.now table.new items.new places.now stamps.new tick.new) }
+    ensures room { IfSome result (λ any. HasRoom keys.new blocks.new) }
     ensures due { result ≡ Some false → All (IsDueItem f.now table.new) items.new }
 {
-    let Some(white) = pass(f, table, items, places, stamps, tick, Side::White, scores) else {
+    let Some(white) = pass(
+        f,
+        table,
+        items,
+        places,
+        stamps,
+        tick,
+        Side::White,
+        keys,
+        blocks,
+        scores,
+    ) else {
         return None;
     };
     let _class = table.class();
-    let Some(black) = pass(f, table, items, places, stamps, tick, Side::Black, scores) else {
+    let Some(black) = pass(
+        f,
+        table,
+        items,
+        places,
+        stamps,
+        tick,
+        Side::Black,
+        keys,
+        blocks,
+        scores,
+    ) else {
         return None;
     };
     Some(white || black)
@@ -167,18 +186,23 @@ pub(crate) fn settle_items(
     items: &mut [Item],
     places: &[u32],
     stamps: &mut [u32],
+    keys: &mut [Option<BlockKey>],
+    blocks: &mut [Block],
     scores: &mut Scores,
 ) -> bool
     requires filling { IsFilling f.now }
     requires table { IsOwnTable f.now.part f.now.class f.now.men table.old }
     requires under { IsUnderWay f.now table.old items.old places.now stamps.old 1 }
+    requires room { HasRoom keys.old blocks.old }
     ensures mended { IsMendedAt f.now.part (λ i. Unit {0}) table.old table.new }
     ensures due { result ≡ true → All (IsDueItem f.now table.new) items.new }
 {
     let mut tick = 1;
     for _ in 0..ROUNDS {
         let _class = table.class();
-        match round(f, table, items, places, stamps, &mut tick, scores) {
+        match round(
+            f, table, items, places, stamps, &mut tick, keys, blocks, scores,
+        ) {
             Some(true) => {}
             Some(false) => return true,
             None => return false,

@@ -9,6 +9,7 @@ ghost use Rattle.egt_check.specs.RightBlock.{KeepsPart};
 ghost use Rattle.egt_check.specs.Worth.{HasBytes};
 ghost use Rattle.egt_check.specs.declared.part.Part.TheVariants as parts;
 ghost use Rattle.egt_fill.specs.Mended.{IsMendedAt};
+ghost use Rattle.egt_fill.specs.Rounds.{HasRoom};
 ghost use Rattle.egt_fill.specs.Settled.{IsFilling};
 ghost use Rattle.egt_fill.specs.UnderWay.{IsUnderWay};
 
@@ -19,8 +20,13 @@ use crate::items::Item;
 use crate::looking::Scores;
 use crate::rounds::settle_items;
 use egt_blocks::blocks::nothing;
+use egt_blocks::kept_blocks::BlockKey;
+use egt_lanes::Block;
 use egt_table::Table;
 use std::alloc::{AllocError, Global};
+
+/// How many blocks are kept: of each column one for each pair of kings, where the white one stands on one of the first five files.
+const BLOCKS: usize = 5_120;
 
 /// Room for the scores of a look.
 fn room(alloc: Global) -> Result<Scores, AllocError> {
@@ -48,15 +54,18 @@ fn settle_all(
     items: &mut [Item],
     places: &[u32],
     stamps: &mut [u32],
+    keys: &mut [Option<BlockKey>],
+    blocks: &mut [Block],
     scores: &mut Scores,
 ) -> bool
     requires filling { IsFilling f.now }
     requires table { IsOwnTable f.now.part f.now.class f.now.men table.old }
     requires under { IsUnderWay f.now table.old items.old places.now stamps.old 1 }
+    requires room { HasRoom keys.old blocks.old }
     ensures mended { IsMendedAt f.now.part (λ i. Unit {0}) table.old table.new }
     ensures right { result ≡ true → (i : ℕ) → i < size_of table.new.class → KeepsPart f.now.part (beside (table_at f.now.library.now) table.new) table.new i }
 {
-    if !settle_items(f, table, items, places, stamps, scores) {
+    if !settle_items(f, table, items, places, stamps, keys, blocks, scores) {
         return false;
     }
     let _class = table.class();
@@ -83,5 +92,16 @@ pub(crate) fn settle(alloc: Global, f: &Filling, table: &mut Table) -> Result<bo
     };
     let mut stamps = no_stamps(alloc)?;
     let mut scores = room(alloc)?;
-    Ok(settle_all(f, table, &mut items, &places, &mut stamps, &mut scores))
+    let mut keys = vec![in alloc; None; BLOCKS]?;
+    let mut blocks = vec![in alloc; nothing(); BLOCKS]?;
+    Ok(settle_all(
+        f,
+        table,
+        &mut items,
+        &places,
+        &mut stamps,
+        &mut keys,
+        &mut blocks,
+        &mut scores,
+    ))
 }

@@ -6,7 +6,7 @@ use Rattle.egt_check.specs.Worth.{column_score}
 use Rattle.egt_fill.specs.declared.items.Item.{Item}
 use Rattle.egt_fill.specs.declared.rounds.Visited.{Visited}
 use Rattle.egt_fill.specs.declared.rounds.Visited.TheVariants as visits
-use Rattle.egt_fill.proofs.PassKept.{carried, left_alone, looked_at, passed_by}
+use Rattle.egt_fill.proofs.PassKept.{carried, left_alone, looked_at, none_kept, passed_by}
 use Rattle.egt_fill.proofs.PutEntries.{stays}
 use Rattle.egt_fill.proofs.rounds.pass.Goals as goal
 use Rattle.egt_fill.proofs.rounds.pass.Goals.{then-is_side+in-Left, then-is_side+in-Looked, else-is_side}
@@ -15,7 +15,7 @@ pub loop-i-init : goal.loop-i-init
 loop-i-init c = (
   stays c.args.f.now.part (λ k. Unit {0}) c.args.table.now c.requires.table.bytes,
   c.requires.under,
-  c.no_keys-keys.ensures c.args.f.now.class (column_score c.args.table.now) c.args.f.now.men (other_side c.args.side) _ refl,
+  none_kept c.args.f.now.class (column_score c.args.table.now) c.args.f.now.men (other_side c.args.side) c.args.keys.now c.args.blocks.now c.forget.new.keys c.requires.room c.forget.ensures.length c.forget.ensures.none,
   refl,
   λ _. ((refl, refl, refl, refl), λ k d none. absurd (omega (arith, none))),
 )

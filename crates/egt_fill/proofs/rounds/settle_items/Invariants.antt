@@ -1,6 +1,7 @@
 use Rattle.egt_fill.specs.Mended.{IsMendedAt}
+use Rattle.egt_fill.specs.Rounds.{HasRoom}
 use Rattle.egt_fill.specs.UnderWay.{IsUnderWay}
 use Rattle.egt_fill.proofs.rounds.settle_items.Given as goal
 
 abbrev pub invariant-loop : goal.invariant-loop
-invariant-loop l = IsMendedAt l.f.part (λ i. Unit {0}) l.fn.table l.table × IsUnderWay l.f l.table l.items l.places l.stamps l.tick
+invariant-loop l = IsMendedAt l.f.part (λ i. Unit {0}) l.fn.table l.table × IsUnderWay l.f l.table l.items l.places l.stamps l.tick × HasRoom l.keys l.blocks

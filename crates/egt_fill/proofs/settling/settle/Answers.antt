@@ -1,9 +1,6 @@
-use Rattle.std.proofs.Common.{◌≡◌, ◌∙◌, ℕ, List, Option, Vec, IfSome, length, slice_index, sym, subst}
+use Rattle.std.proofs.Common.{◌≡◌, ℕ, List, Option, Vec, IfSome, sym, subst}
 use Rattle.std.specs.List.{All}
-use Rattle.egt_index.specs.ShelfCodes.{AreMenOf}
-use Rattle.egt_check.specs.Parts.{column_of}
 use Rattle.egt_fill.specs.Begun.{AreNumbered}
-use Rattle.egt_fill.specs.Covered.{IsDueItem}
 use Rattle.egt_fill.specs.Items.{IsItem}
 use Rattle.egt_fill.specs.UnderWay.{IsUnderWay}
 use Rattle.egt_fill.specs.declared.items.Item.{Item}
