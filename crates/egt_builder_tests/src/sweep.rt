@@ -1,4 +1,5 @@
 //! The builder, and the three games over a class.
+mod blocks;
 mod builds;
 mod damaged;
 mod figures;
