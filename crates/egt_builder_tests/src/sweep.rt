@@ -1,5 +1,4 @@
 //! The builder, and the three games over a class.
-mod blocks;
 mod builds;
 mod damaged;
 mod figures;

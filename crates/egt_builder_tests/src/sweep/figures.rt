@@ -1,5 +1,5 @@
 //! Tables that are built, beside public figures and beside tables of sweeps forward.
-use super::built;
+use super::{built, longest_win};
 use egt_class::Class;
 use egt_fixtures::shelf::{file_of, named, whole_library_of};
 use egt_index::size;
@@ -44,6 +44,48 @@ fn a_rook_wins_as_often_as_counted(rt: HostRuntime) -> Result<(), Fail> {
     // There is no other position.
     assert_eq!(rt; all, 28_056);
     assert_eq!(rt; count(&table, 0), 40_960 - 28_056);
+    Ok(())
+}
+
+/// The plies of the longest win of a class of four men that is built over these and admitted.
+fn longest(alloc: Global, below: &[&str], name: &str) -> Result<u16, Fail> {
+    let mut library = built(alloc, below)?;
+    let table = build(alloc, named(name)?, &library, 32_000)?;
+    let longest = longest_win(&table);
+    if library.admit(table).is_err() {
+        return Err(Fail::from("a built table was refused"));
+    }
+    Ok(longest)
+}
+
+// Two bishops mate in 19 moves at most, a bishop and a knight in 33.
+#[test]
+fn two_bishops(rt: HostRuntime) -> Result<(), Fail> {
+    assert_eq!(rt; longest(rt.alloc(), &["KK", "KBK"], "KBBK")?, 37);
+    Ok(())
+}
+
+#[test]
+fn a_bishop_and_a_knight(rt: HostRuntime) -> Result<(), Fail> {
+    assert_eq!(rt; longest(rt.alloc(), &["KK", "KBK", "KNK"], "KBNK")?, 65);
+    Ok(())
+}
+
+// A rook mates a rook in 19 moves at most, a knight and a pawn mate in 27.
+#[test]
+fn two_rooks(rt: HostRuntime) -> Result<(), Fail> {
+    assert_eq!(rt; longest(rt.alloc(), &["KK", "KRK"], "KRKR")?, 37);
+    Ok(())
+}
+
+/// What a knight and a pawn rest on.
+const KNIGHTS: [&str; 10] = [
+    "KK", "KQK", "KRK", "KBK", "KNK", "KPK", "KQNK", "KRNK", "KBNK", "KNNK",
+];
+
+#[test]
+fn a_knight_and_a_pawn(rt: HostRuntime) -> Result<(), Fail> {
+    assert_eq!(rt; longest(rt.alloc(), &KNIGHTS, "KNPK")?, 53);
     Ok(())
 }
 
