@@ -254,10 +254,10 @@ king_goes c men side A In to a b low high f before step covers a_in to_in =
 -- what is kept tells of all squares of the kings
 pub kept_beside : (c : ℕ) (worth : Column → ℕ → ℕ) (men : ShelfMen) (side : Side) (k : ℕ) (s : Side) (keys : List (Option BlockKey)) (blocks : List (List (List ℕ))) → AreKept c worth men s keys blocks ↔ AreKept c worth (with_king men side k) s keys blocks
 kept_beside c worth men White k s keys blocks = (
-  (λ kept. record { some = kept.some; as_many = kept.as_many; each = kept.each }),
-  (λ kept. record { some = kept.some; as_many = kept.as_many; each = kept.each }),
+  (λ kept. record { some = kept.some; as_many = kept.as_many; each = kept.each; placed = kept.placed }),
+  (λ kept. record { some = kept.some; as_many = kept.as_many; each = kept.each; placed = kept.placed }),
 )
 kept_beside c worth men Black k s keys blocks = (
-  (λ kept. record { some = kept.some; as_many = kept.as_many; each = kept.each }),
-  (λ kept. record { some = kept.some; as_many = kept.as_many; each = kept.each }),
+  (λ kept. record { some = kept.some; as_many = kept.as_many; each = kept.each; placed = kept.placed }),
+  (λ kept. record { some = kept.some; as_many = kept.as_many; each = kept.each; placed = kept.placed }),
 )

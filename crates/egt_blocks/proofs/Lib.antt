@@ -7,3 +7,4 @@ pub mod Taking
 pub mod AdvanceRaising
 pub mod LeapRaising
 pub mod PassingRaising
+pub mod Keeping

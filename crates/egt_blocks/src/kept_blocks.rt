@@ -1,5 +1,6 @@
 //! Blocks that were read before. Kings who stand near each other step to the same squares, so pairs of kings that are
-//! judged one after the other read most blocks once; whoever keeps more places reads a block once until its scores change.
+//! judged one after the other read most blocks once. Whoever has a place for each pair of kings reads a block again only
+//! where it was forgotten.
 ghost use Rattle.std.specs.Prelude.{◌≡◌, ◌<◌, ℕ, List, [], length, false, true, slice_index_or};
 ghost use Rattle.egt_board.specs.declared.man.Side.{Side};
 ghost use Rattle.egt_index.specs.ShelfCodes.{AreMenOf};
@@ -9,7 +10,7 @@ ghost use Rattle.egt_lanes.specs.Blocks.{at};
 ghost use Rattle.egt_lanes.specs.Raised.{IsRaised};
 ghost use Rattle.egt_table.specs.declared.column.Column.{Column};
 ghost use Rattle.egt_steps.specs.Stands.{stand_on};
-ghost use Rattle.egt_blocks.specs.Kept.{AreKept, IsOfMen};
+ghost use Rattle.egt_blocks.specs.Kept.{AreKept, IsOfMen, IsPlaced, key_of, wide_place};
 ghost use Rattle.egt_blocks.specs.Scored.{IsRead, ScoresNoVoids};
 
 use crate::blocks::read_block;
@@ -61,28 +62,38 @@ fn near_place(column: Column, king: Square) -> usize
     first + usize::from(king.number() % 2 * 3 + king.number() / 8 % 3)
 }
 
-/// The place among as many as there are pairs of kings: the white king stands on one of the first five files.
-fn wide_place(column: Column, men: &ShelfMen) -> usize
-    ensures { result < 8192 }
+/// How many places there are for a white king on the first five files of a rank: two for each square of either.
+pub const RANK_PLACES: usize = 640;
+
+/// The place among as many as there are pairs of kings, the white one on the first five files of so many ranks; one who
+/// stands farther away has the places of the nearest of these squares.
+pub fn wide_place(column: Column, white: Square, black: Square, places: usize) -> usize
+    requires { 0 < places }
+    ensures is { result ≡ wide_place column white black places }
+    ensures within { result < places }
+    ensures on_board { (white < 64) × (black < 64) }
 {
-    let first = match column {
-        Column::Zeroing => 2560,
+    let second = match column {
+        Column::Zeroing => 1,
         Column::Mate | Column::Reach => 0,
     };
-    let white = men.white.number();
-    let king = usize::from(white / 8 * 5 + white % 8);
-    first + king * 64 + usize::from(men.black.number())
+    let last_rank = (places / RANK_PLACES).saturating_sub(1);
+    let rank = usize::from(white.number() / 8).min(last_rank);
+    let file = usize::from(white.number() % 8).min(4);
+    let kings = 64 * (5 * rank + file) + usize::from(black.number());
+    (2 * kings + second) % places
 }
 
 /// The place of a block among so many, by its column and its kings.
 fn place_of(column: Column, men: &ShelfMen, side: Side, places: usize) -> usize
     requires { 0 < places }
-    ensures { result < places }
+    ensures within { result < places }
+    ensures wide { 12 < places → IsPlaced places (key_of column men.now) result }
 {
     if places <= NEAR_PLACES {
         near_place(column, king_of_men(men, side.other())) % places
     } else {
-        wide_place(column, men) % places
+        wide_place(column, men.white, men.black, places)
     }
 }
 
@@ -117,6 +128,7 @@ fn keep<S: ShelfScores>(
     requires voids { ScoresNoVoids (S.number source.now) (S.worth source.now column) }
     requires men { AreMenOf (S.number source.now) men.now }
     requires place { place < length keys.old }
+    requires wide { 12 < length keys.old → IsPlaced (length keys.old) (key_of column men.now) place }
     requires kept { AreKept (S.number source.now) (S.worth source.now) men.now side keys.old blocks.old }
     ensures kept { AreKept (S.number source.now) (S.worth source.now) men.now side keys.new blocks.new }
     ensures read { result ≡ true → (a b : ℕ) → a < 64 → b < 64 → IsRead (S.number source.now) (S.worth source.now column) false (stand_on men.now a b) side (at (slice_index_or blocks.new place []) a b) }

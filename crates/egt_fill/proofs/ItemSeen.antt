@@ -46,14 +46,6 @@ item_seen f old new item scores class coded is right told = record {
       (subst (λ c. (n : ℕ) → n < size_of c → code_of c n < size_of c) (sym class) coded) (right.passed some) (told.passed some);
 }
 
--- what was read of positions with the other side to move holds where sides differ
-pub kept_by_others : (part : Part) (c white black : ℕ) (side : Side) (old new : TableValue) (men : ShelfMen) (keys : List (Option BlockKey)) (blocks : List (List (List ℕ))) → old.class ≡ c → IsMended part white black side old new
-    → has_equal_sides c ≡ false → AreKept c (column_score old) men (other_side side) keys blocks → AreKept c (column_score new) men (other_side side) keys blocks
-kept_by_others part c white black side old new men keys blocks class mended unlike kept =
-    subst (λ d. AreKept d (column_score new) men (other_side side) keys blocks) class
-    (all_kept part white black side old new mended men (other_side side) keys blocks (λ i i_in. some_apart old.class white black side (slice_index_or keys i None) (subst (λ d. has_equal_sides d ≡ false) (sym class) unlike))
-    (subst (λ d. AreKept d (column_score old) men (other_side side) keys blocks) (sym class) kept))
-
 -- the same item has the same men
 pub same_men : (f : Filling) (old new : Item) → IsSameItem old new → men_of f new ≡ men_of f old
 same_men f old new same = ap (λ w. with_kings f.men w new.black) same.white ∙ ap (λ b. with_kings f.men old.white b) same.black

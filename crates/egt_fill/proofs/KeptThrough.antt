@@ -106,19 +106,5 @@ module _ (part : Part) (white black : ℕ) (side : Side) (old new : TableValue) 
     some = kept.some;
     as_many = kept.as_many;
     each = λ i i_in. kept_stays men s (slice_index_or keys i None) (slice_index_or blocks i []) (apart i i_in) (kept.each i i_in);
+    placed = kept.placed;
   }
-
-other_apart : (side : Side) → side ≢ other_side side
-other_apart White e = cc
-other_apart Black e = cc
-
--- no turn takes kings to positions with the other side to move, where sides differ
-pub apart_sides : (c white black w b : ℕ) (side : Side) → has_equal_sides c ≡ false → ¬ TurnsTo c white black (other_side side) w b side
-apart_sides c white black w b side unlike to = elim to.takes [
-  | inl own ↦ other_apart side own.3
-  | inr across ↦ false≢true (sym unlike ∙ across.0)
-]
-
-pub some_apart : (c w b : ℕ) (side : Side) (key : Option BlockKey) → has_equal_sides c ≡ false → IfSome key (λ k. ¬ TurnsTo c k.white k.black (other_side side) w b side)
-some_apart c w b side None unlike = tt
-some_apart c w b side (Some k) unlike = apart_sides c k.white k.black w b side unlike

@@ -3,6 +3,7 @@ pub mod ShelfLanes
 pub mod UnlikeRows
 pub mod ToldOnce
 pub mod KeptThrough
+pub mod KeysForgotten
 pub mod RowMended
 pub mod ScoresThrough
 pub mod DueThrough

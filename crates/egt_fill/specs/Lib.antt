@@ -8,4 +8,5 @@ pub mod Stamps
 pub mod Filled
 pub mod UnderWay
 pub mod Rounds
+pub mod Forgotten
 pub mod Begun

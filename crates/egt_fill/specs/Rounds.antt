@@ -2,7 +2,9 @@
 use Rattle.std.specs.Prelude.{◌≡◌, ℕ, ◌<◌, List, Option, length, slice_index_or}
 use Rattle.egt_board.specs.declared.man.Side.{Side}
 use Rattle.egt_table.specs.Table.{TableValue}
+use Rattle.egt_blocks.specs.Kept.{AreKept}
 use Rattle.egt_blocks.specs.declared.kept_blocks.BlockKey.{BlockKey}
+use Rattle.egt_check.specs.Worth.{column_score}
 use Rattle.egt_fill.specs.Items.{men_of}
 use Rattle.egt_fill.specs.Stamps.{IsFresh}
 use Rattle.egt_fill.specs.declared.filling.Filling.{Filling}
@@ -23,7 +25,7 @@ IsUntouchedPass old new items after stamps later tick now = (new ≡ old) × (af
 abbrev pub AreFreshItems : Filling → (stamps : List ℕ) → List Item → Side → ℕ → Type 0
 AreFreshItems f stamps items side many = (k : ℕ) (d : Item) → k < many → k < length items → (slice_index_or items k d).side ≡ side → IsFreshItem f stamps (slice_index_or items k d)
 
--- there is some room for blocks and a key for each
-pub record HasRoom (keys : List (Option BlockKey)) (blocks : List (List (List ℕ))) : Type 0 where
-  pub some : 0 < length keys
-  pub as_many : length blocks ≡ length keys
+-- what is kept of positions with that side to move holds, and there is a place for each pair of kings
+pub record AreAllKept (f : Filling) (t : TableValue) (side : Side) (keys : List (Option BlockKey)) (blocks : List (List (List ℕ))) : Type 0 where
+  pub kept : AreKept f.class (column_score t) f.men side keys blocks
+  pub wide : 12 < length keys

@@ -8,6 +8,7 @@ pub mod begun;
 pub mod covering;
 pub mod entry_of;
 pub mod filling;
+mod forgetting;
 pub mod items;
 pub mod looking;
 pub mod mending;
@@ -16,5 +17,6 @@ pub mod rounds;
 pub mod settling;
 pub mod stamps;
 pub mod tables;
+mod turns;
 
 pub use tables::{Reached, filled_reach, filled_values};

@@ -1,5 +1,5 @@
 //! A look at an item: what is due to the greatest scores of all moves is put in its entries.
-ghost use Rattle.std.specs.Prelude.{◌≡◌, ◌≢◌, ◌<◌, ℕ, length, slice_index_or, None, true};
+ghost use Rattle.std.specs.Prelude.{◌≡◌, ◌≢◌, ◌<◌, ℕ, true};
 ghost use Rattle.egt_board.specs.Man.{other_side};
 ghost use Rattle.egt_blocks.specs.Kept.{AreKept};
 ghost use Rattle.egt_check.specs.Parts.{IsOwnTable};
@@ -20,7 +20,6 @@ use egt_check::part::column_of;
 use egt_check::table_judging::with_kings;
 use egt_index::ShelfMen;
 use egt_index::laws::numbers_stand_for_codes;
-use egt_index::men::has_equal_sides;
 use egt_lanes::Block;
 use egt_table::Table;
 
@@ -147,14 +146,6 @@ fn mend_item(
     together(lower, upper)
 }
 
-/// Forgets the blocks that were read before.
-pub(crate) fn forget(keys: &mut [Option<BlockKey>])
-    ensures length { length keys.new ≡ length keys.old }
-    ensures none { (i : ℕ) → i < length keys.new → slice_index_or keys.new i None ≡ None }
-{
-    keys.fill(None);
-}
-
 /// Looks at the item's positions: puts what is due to the greatest scores of all moves.
 pub(crate) fn look(
     f: &Filling,
@@ -173,17 +164,12 @@ pub(crate) fn look(
     ensures same { IsSameItem item.old item.new }
     ensures item { result ≢ mends.Untold → IsItem f.now table.new item.new }
     ensures seen { result ≢ mends.Untold → IsSeenItem f.now table.old table.new item.new }
-    ensures kept { result ≢ mends.Untold → AreKept f.now.class (column_score table.new) f.now.men (other_side item.old.side) keys.new blocks.new }
+    ensures kept { result ≢ mends.Untold → AreKept f.now.class (column_score table.old) f.now.men (other_side item.old.side) keys.new blocks.new }
 {
     numbers_stand_for_codes();
     let men = with_kings(&f.men, item.white, item.black);
     if !item_scores(f, table, item, &men, keys, blocks, scores) {
         return Mended::Untold;
     }
-    let found = mend_item(f, table, item, &men, scores);
-    // Where sides have the same men, positions with either side to move are read as those of the other.
-    if has_equal_sides(f.class) {
-        forget(keys);
-    }
-    found
+    mend_item(f, table, item, &men, scores)
 }

@@ -2,13 +2,12 @@
 ghost use Rattle.std.specs.Prelude.{◌≡◌, ◌≢◌, ◌↔◌, ℕ, length, Some, IfSome, IsTrue, false, true};
 ghost use Rattle.std.specs.List.{All};
 ghost use Rattle.egt_board.specs.Man.{other_side};
-ghost use Rattle.egt_blocks.specs.Kept.{AreKept};
+ghost use Rattle.egt_board.specs.declared.man.Side.TheVariants.{Black, White};
 ghost use Rattle.egt_check.specs.Parts.{IsOwnTable};
-ghost use Rattle.egt_check.specs.Worth.{column_score};
 ghost use Rattle.egt_fill.specs.Covered.{IsDueItem};
 ghost use Rattle.egt_fill.specs.Items.{IsItem, men_of};
 ghost use Rattle.egt_fill.specs.Mended.{IsMended, IsMendedAt};
-ghost use Rattle.egt_fill.specs.Rounds.{AreFreshItems, HasRoom, IsFreshItem, IsUntouched, IsUntouchedPass};
+ghost use Rattle.egt_fill.specs.Rounds.{AreAllKept, AreFreshItems, IsFreshItem, IsUntouched, IsUntouchedPass};
 ghost use Rattle.egt_fill.specs.Settled.{IsFilling};
 ghost use Rattle.egt_fill.specs.Stamps.{IsFresh};
 ghost use Rattle.egt_fill.specs.UnderWay.{IsLookedAt, IsStamped, IsUnderWay};
@@ -16,8 +15,9 @@ ghost use Rattle.egt_fill.specs.declared.items.Item.{Item};
 ghost use Rattle.egt_fill.specs.declared.rounds.Visited.TheVariants as visits;
 
 use crate::filling::Filling;
+use crate::forgetting::forget_read;
 use crate::items::Item;
-use crate::looking::{Scores, forget, look};
+use crate::looking::{Scores, look};
 use crate::mending::Mended;
 use crate::stamps::{needs_look, stamp_place};
 use egt_blocks::kept_blocks::BlockKey;
@@ -40,7 +40,8 @@ enum Visited {
     Untold,
 }
 
-/// Looks at the item where something that it reads has changed since it was looked at; where entries were put, that is stamped.
+/// Looks at the item where something that it reads has changed since it was looked at; where entries were put, that is stamped, and what was read from them is
+/// forgotten. Blocks are kept of positions with the other side to move, which are read, and of those with the item's own.
 fn visit(
     f: &Filling,
     table: &mut Table,
@@ -49,18 +50,22 @@ fn visit(
     tick: &mut u32,
     keys: &mut [Option<BlockKey>],
     blocks: &mut [Block],
+    own_keys: &mut [Option<BlockKey>],
+    own_blocks: &[Block],
     scores: &mut Scores,
 ) -> Visited
     requires filling { IsFilling f.now }
     requires table { IsOwnTable f.now.part f.now.class f.now.men table.old }
     requires item { IsItem f.now table.old item.old }
     requires long { length stamps.old ≡ 8192 }
-    requires kept { AreKept f.now.class (column_score table.old) f.now.men (other_side item.old.side) keys.old blocks.old }
+    requires kept { AreAllKept f.now table.old (other_side item.old.side) keys.old blocks.old }
+    requires own { AreAllKept f.now table.old item.old.side own_keys.old own_blocks.now }
     ensures mended { IsMended f.now.part item.old.white item.old.black item.old.side table.old table.new }
     ensures left { result ≡ visits.Left → IsUntouched table.old table.new item.old item.new stamps.old stamps.new tick.old tick.new × IsFreshItem f.now stamps.old item.old }
     ensures looked { result ≡ visits.Looked → IsLookedAt f.now table.old table.new item.old item.new tick.old }
     ensures stamped { result ≡ visits.Looked → IsStamped item.old table.old table.new stamps.old stamps.new tick.old tick.new }
-    ensures kept { result ≢ visits.Untold → AreKept f.now.class (column_score table.new) f.now.men (other_side item.old.side) keys.new blocks.new }
+    ensures kept { result ≢ visits.Untold → AreAllKept f.now table.new (other_side item.old.side) keys.new blocks.new }
+    ensures own { result ≢ visits.Untold → AreAllKept f.now table.new item.old.side own_keys.new own_blocks.now }
 {
     let men = with_kings(&f.men, item.white, item.black);
     if !needs_look(f.class, &men, item.side, stamps, item.looked) {
@@ -76,6 +81,7 @@ fn visit(
             };
             *tick = later;
             stamps[stamp_place(item.side, item.white, item.black)] = later;
+            forget_read(f.class, item.white, item.black, own_keys, keys);
             Visited::Looked
         }
     }
@@ -99,23 +105,37 @@ fn pass(
     side: Side,
     keys: &mut [Option<BlockKey>],
     blocks: &mut [Block],
+    own_keys: &mut [Option<BlockKey>],
+    own_blocks: &[Block],
     scores: &mut Scores,
 ) -> Option<bool>
     requires filling { IsFilling f.now }
     requires table { IsOwnTable f.now.part f.now.class f.now.men table.old }
     requires under { IsUnderWay f.now table.old items.old places.now stamps.old tick.old }
-    requires room { HasRoom keys.old blocks.old }
+    requires kept { AreAllKept f.now table.old (other_side side) keys.old blocks.old }
+    requires own { AreAllKept f.now table.old side own_keys.old own_blocks.now }
     ensures mended { IsMendedAt f.now.part (λ i. Unit {0}) table.old table.new }
     ensures under { IfSome result (λ any. IsUnderWay f.now table.new items.new places.now stamps.new tick.new) }
-    ensures room { IfSome result (λ any. HasRoom keys.new blocks.new) }
+    ensures kept { IfSome result (λ any. AreAllKept f.now table.new (other_side side) keys.new blocks.new) }
+    ensures own { IfSome result (λ any. AreAllKept f.now table.new side own_keys.new own_blocks.now) }
     ensures left { result ≡ Some false → IsUntouchedPass table.old table.new items.old items.new stamps.old stamps.new tick.old tick.new × AreFreshItems f.now stamps.old items.old side (length items.old) }
 {
-    forget(keys);
     let mut any = false;
     for i in 0..items.len() {
         let _class = table.class();
         if is_side(items[i].side, side) {
-            match visit(f, table, &mut items[i], stamps, tick, keys, blocks, scores) {
+            match visit(
+                f,
+                table,
+                &mut items[i],
+                stamps,
+                tick,
+                keys,
+                blocks,
+                own_keys,
+                own_blocks,
+                scores,
+            ) {
                 Visited::Left => {}
                 Visited::Looked => any = true,
                 Visited::Untold => return None,
@@ -133,17 +153,21 @@ fn round(
     places: &[u32],
     stamps: &mut [u32],
     tick: &mut u32,
-    keys: &mut [Option<BlockKey>],
-    blocks: &mut [Block],
+    white_keys: &mut [Option<BlockKey>],
+    white_blocks: &mut [Block],
+    black_keys: &mut [Option<BlockKey>],
+    black_blocks: &mut [Block],
     scores: &mut Scores,
 ) -> Option<bool>
     requires filling { IsFilling f.now }
     requires table { IsOwnTable f.now.part f.now.class f.now.men table.old }
     requires under { IsUnderWay f.now table.old items.old places.now stamps.old tick.old }
-    requires room { HasRoom keys.old blocks.old }
+    requires white { AreAllKept f.now table.old White white_keys.old white_blocks.old }
+    requires black { AreAllKept f.now table.old Black black_keys.old black_blocks.old }
     ensures mended { IsMendedAt f.now.part (λ i. Unit {0}) table.old table.new }
     ensures under { IfSome result (λ any. IsUnderWay f.now table.new items.new places.now stamps.new tick.new) }
-    ensures room { IfSome result (λ any. HasRoom keys.new blocks.new) }
+    ensures white { IfSome result (λ any. AreAllKept f.now table.new White white_keys.new white_blocks.new) }
+    ensures black { IfSome result (λ any. AreAllKept f.now table.new Black black_keys.new black_blocks.new) }
     ensures due { result ≡ Some false → All (IsDueItem f.now table.new) items.new }
 {
     let Some(white) = pass(
@@ -154,8 +178,10 @@ fn round(
         stamps,
         tick,
         Side::White,
-        keys,
-        blocks,
+        black_keys,
+        black_blocks,
+        white_keys,
+        white_blocks,
         scores,
     ) else {
         return None;
@@ -169,8 +195,10 @@ fn round(
         stamps,
         tick,
         Side::Black,
-        keys,
-        blocks,
+        white_keys,
+        white_blocks,
+        black_keys,
+        black_blocks,
         scores,
     ) else {
         return None;
@@ -186,14 +214,17 @@ pub(crate) fn settle_items(
     items: &mut [Item],
     places: &[u32],
     stamps: &mut [u32],
-    keys: &mut [Option<BlockKey>],
-    blocks: &mut [Block],
+    white_keys: &mut [Option<BlockKey>],
+    white_blocks: &mut [Block],
+    black_keys: &mut [Option<BlockKey>],
+    black_blocks: &mut [Block],
     scores: &mut Scores,
 ) -> bool
     requires filling { IsFilling f.now }
     requires table { IsOwnTable f.now.part f.now.class f.now.men table.old }
     requires under { IsUnderWay f.now table.old items.old places.now stamps.old 1 }
-    requires room { HasRoom keys.old blocks.old }
+    requires white { AreAllKept f.now table.old White white_keys.old white_blocks.old }
+    requires black { AreAllKept f.now table.old Black black_keys.old black_blocks.old }
     ensures mended { IsMendedAt f.now.part (λ i. Unit {0}) table.old table.new }
     ensures due { result ≡ true → All (IsDueItem f.now table.new) items.new }
 {
@@ -201,7 +232,17 @@ pub(crate) fn settle_items(
     for _ in 0..ROUNDS {
         let _class = table.class();
         match round(
-            f, table, items, places, stamps, &mut tick, keys, blocks, scores,
+            f,
+            table,
+            items,
+            places,
+            stamps,
+            &mut tick,
+            white_keys,
+            white_blocks,
+            black_keys,
+            black_blocks,
+            scores,
         ) {
             Some(true) => {}
             Some(false) => return true,

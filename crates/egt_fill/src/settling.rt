@@ -1,5 +1,6 @@
 //! Entries that are put until all are due.
 ghost use Rattle.std.specs.Prelude.{◌≡◌, ◌<◌, ℕ, true, length, slice_index, IfOk};
+ghost use Rattle.egt_board.specs.declared.man.Side.TheVariants.{Black, White};
 ghost use Rattle.egt_index.specs.Size.{size_of};
 ghost use Rattle.egt_table.specs.Table.{HasColumn};
 ghost use Rattle.egt_table.specs.declared.column.Column.{Column};
@@ -9,7 +10,7 @@ ghost use Rattle.egt_check.specs.RightBlock.{KeepsPart};
 ghost use Rattle.egt_check.specs.Worth.{HasBytes};
 ghost use Rattle.egt_check.specs.declared.part.Part.TheVariants as parts;
 ghost use Rattle.egt_fill.specs.Mended.{IsMendedAt};
-ghost use Rattle.egt_fill.specs.Rounds.{HasRoom};
+ghost use Rattle.egt_fill.specs.Rounds.{AreAllKept};
 ghost use Rattle.egt_fill.specs.Settled.{IsFilling};
 ghost use Rattle.egt_fill.specs.UnderWay.{IsUnderWay};
 
@@ -20,13 +21,21 @@ use crate::items::Item;
 use crate::looking::Scores;
 use crate::rounds::settle_items;
 use egt_blocks::blocks::nothing;
-use egt_blocks::kept_blocks::BlockKey;
+use egt_blocks::kept_blocks::{BlockKey, RANK_PLACES};
+use egt_class::Class;
+use egt_index::men::has_pawns;
 use egt_lanes::Block;
 use egt_table::Table;
 use std::alloc::{AllocError, Global};
 
-/// How many blocks are kept: of each column one for each pair of kings, where the white one stands on one of the first five files.
-const BLOCKS: usize = 5_120;
+/// How many blocks are kept of the positions with one side to move: one for each pair of kings and column. The white king stands on one of the first five files,
+/// and in a class without pawns on one of the first five ranks.
+fn places_for(class: Class) -> usize
+    ensures { 12 < result }
+{
+    let ranks = if has_pawns(class) { 8 } else { 5 };
+    ranks * RANK_PLACES
+}
 
 /// Room for the scores of a look.
 fn room(alloc: Global) -> Result<Scores, AllocError> {
@@ -54,18 +63,32 @@ fn settle_all(
     items: &mut [Item],
     places: &[u32],
     stamps: &mut [u32],
-    keys: &mut [Option<BlockKey>],
-    blocks: &mut [Block],
+    white_keys: &mut [Option<BlockKey>],
+    white_blocks: &mut [Block],
+    black_keys: &mut [Option<BlockKey>],
+    black_blocks: &mut [Block],
     scores: &mut Scores,
 ) -> bool
     requires filling { IsFilling f.now }
     requires table { IsOwnTable f.now.part f.now.class f.now.men table.old }
     requires under { IsUnderWay f.now table.old items.old places.now stamps.old 1 }
-    requires room { HasRoom keys.old blocks.old }
+    requires white { AreAllKept f.now table.old White white_keys.old white_blocks.old }
+    requires black { AreAllKept f.now table.old Black black_keys.old black_blocks.old }
     ensures mended { IsMendedAt f.now.part (λ i. Unit {0}) table.old table.new }
     ensures right { result ≡ true → (i : ℕ) → i < size_of table.new.class → KeepsPart f.now.part (beside (table_at f.now.library.now) table.new) table.new i }
 {
-    if !settle_items(f, table, items, places, stamps, keys, blocks, scores) {
+    if !settle_items(
+        f,
+        table,
+        items,
+        places,
+        stamps,
+        white_keys,
+        white_blocks,
+        black_keys,
+        black_blocks,
+        scores,
+    ) {
         return false;
     }
     let _class = table.class();
@@ -92,16 +115,21 @@ pub(crate) fn settle(alloc: Global, f: &Filling, table: &mut Table) -> Result<bo
     };
     let mut stamps = no_stamps(alloc)?;
     let mut scores = room(alloc)?;
-    let mut keys = vec![in alloc; None; BLOCKS]?;
-    let mut blocks = vec![in alloc; nothing(); BLOCKS]?;
+    let kept = places_for(f.class);
+    let mut white_keys = vec![in alloc; None; kept]?;
+    let mut white_blocks = vec![in alloc; nothing(); kept]?;
+    let mut black_keys = vec![in alloc; None; kept]?;
+    let mut black_blocks = vec![in alloc; nothing(); kept]?;
     Ok(settle_all(
         f,
         table,
         &mut items,
         &places,
         &mut stamps,
-        &mut keys,
-        &mut blocks,
+        &mut white_keys,
+        &mut white_blocks,
+        &mut black_keys,
+        &mut black_blocks,
         &mut scores,
     ))
 }

@@ -8,12 +8,13 @@ ghost use Rattle.egt_index.specs.Size.{has_pawns};
 ghost use Rattle.egt_fill.specs.Stamps.{IsFresh, stamp_place};
 ghost use Rattle.egt_fill.specs.Turns.{TurnsTo};
 
+use crate::turns::turns_of;
 use egt_blocks::king_blocks::beside_king;
 use egt_blocks::men::with_king;
 use egt_board::{Side, Square};
 use egt_class::Class;
 use egt_index::ShelfMen;
-use egt_index::men::{has_equal_sides, has_pawns};
+use egt_index::men::has_equal_sides;
 use egt_index::turning::turned_square;
 
 /// The place of the stamp of positions with the kings on these squares and that side to move.
@@ -59,9 +60,8 @@ fn any_changed(
     requires { length stamps.now ≡ 8192 }
     ensures { result ≡ false → (t : ℕ) → IsTurnWith (has_pawns (material_of class)) flips t → slice_index stamps.now (stamp_place side (turned_square (t % 8) flips white) (turned_square (t % 8) flips black)) ≤ looked }
 {
-    let first = if flips { 8 } else { 0 };
-    let many = if has_pawns(class) { 2 } else { 8 };
-    for turn in first..first + many {
+    let (first, end) = turns_of(class, flips);
+    for turn in first..end {
         if changed_after(turn, white, black, side, stamps, looked) {
             return true;
         }

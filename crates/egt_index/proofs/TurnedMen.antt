@@ -50,7 +50,7 @@ use Rattle.egt_index.proofs.Turned.{counted_of, differ, turned_class}
 
 -- ---- the turn that undoes another in the same colours
 
-unfoldable undoing : Bool → ℕ → ℕ
+unfoldable pub undoing : Bool → ℕ → ℕ
 undoing false n = inverse n
 undoing true n = slice_index (0 ∷ 1 ∷ 2 ∷ 3 ∷ 7 ∷ 5 ∷ 6 ∷ 4 ∷ []) n
 
@@ -62,7 +62,7 @@ unfolding all_below is_undone undoing inverse
 all_are_undone true = refl
 all_are_undone false = refl
 
-undone : (flips : Bool) (n s : ℕ) → n < 8 → s < 64 → (turned_square n flips s < 64) × (turned_square (undoing flips n) flips (turned_square n flips s) ≡ s)
+pub undone : (flips : Bool) (n s : ℕ) → n < 8 → s < 64 → (turned_square n flips s < 64) × (turned_square (undoing flips n) flips (turned_square n flips s) ≡ s)
 unfolding is_undone
 undone flips n s n_in s_in =
     let both = and_parts _ _ (passes_below (is_undone flips n) 64 s (passes_below (λ n. all_below (is_undone flips n) 64) 8 n (all_are_undone flips) n_in) s_in) in
@@ -75,7 +75,7 @@ all_undoing true false = refl
 all_undoing false true = refl
 all_undoing false false = refl
 
-undoing_in : (pawns flips : Bool) (n : ℕ) → n < symmetries pawns → undoing flips n < symmetries pawns
+pub undoing_in : (pawns flips : Bool) (n : ℕ) → n < symmetries pawns → undoing flips n < symmetries pawns
 undoing_in pawns flips n n_in = ltb-true _ _ (passes_below (λ n. ltb (undoing flips n) (symmetries pawns)) (symmetries pawns) n (all_undoing pawns flips) n_in)
 
 -- ---- what such a code spells is an image of a position with the men

@@ -1,10 +1,30 @@
-use Rattle.std.proofs.Common.{◌≡◌, ◌∙◌, [], Option, None, slice_index_or, subst, sym}
-use Rattle.std.proofs.lemmas.List.{get_or_default}
-use Rattle.egt_blocks.specs.Kept.{IsKept}
+use Rattle.std.proofs.Common.{◌≡◌, ◌∙◌, ◌<◌, [], Option, None, length, slice_index_or, slice_set, arith, subst, sym}
+use Rattle.std.proofs.lemmas.List.{get_or_default, get_or-set_other, get_or-set_same, length-set}
+use Rattle.egt_blocks.specs.Kept.{IsKept, IsPlaced, key_of}
 use Rattle.egt_blocks.specs.declared.kept_blocks.BlockKey.{BlockKey}
+use Rattle.egt_blocks.proofs.Keeping.{kept_anew}
 use Rattle.egt_blocks.proofs.kept_blocks.keep.Goals as goal
 
 pub returns-then-is_of-clause-read : goal.returns-then-is_of-clause-read
 returns-then-is_of-clause-read g c = λ told.
     let place = c.args.place in
     subst (λ (key : Option BlockKey). IsKept (g.S.ShelfScores.number c.args.source.now) (g.S.ShelfScores.worth c.args.source.now) c.args.men.now c.args.side key (slice_index_or c.args.blocks.now place [])) (let same : slice_index_or c.args.keys.now place None ≡ c.index-keys-place.result = sym (c.index-keys-place.is ∙ get_or_default c.args.keys.now place c.index-keys-place.result None c.requires.place) in same ∙ c.is_of.ensures c.if-is_of.true) (c.requires.kept.each place c.requires.place)
+
+pub returns-clause-kept : goal.returns-clause-kept
+returns-clause-kept g c =
+    let number = g.S.ShelfScores.number c.args.source.now in
+    let worth = g.S.ShelfScores.worth c.args.source.now in
+    let keys = c.args.keys.now in
+    let blocks = c.args.blocks.now in
+    let place = c.args.place in
+    let key = key_of c.args.column c.args.men.now in
+    let none = slice_set keys place None in
+    let after = slice_set none place key in
+    let raised = slice_set blocks place c.read_all.new.out in
+    let in_none : place < length none = let long = length-set keys place None in let inside = c.requires.place in omega (arith, long, inside) in
+    let at : slice_index_or after place None ≡ key = get_or-set_same none place key None in_none in
+    let block : slice_index_or raised place [] ≡ c.read_all.new.out = get_or-set_same blocks place c.read_all.new.out [] (let inside = c.requires.place in let many = c.requires.kept.as_many in omega (arith, inside, many)) in
+    kept_anew number worth c.args.men.now c.args.side keys after blocks raised place c.requires.kept (length-set none place key ∙ length-set keys place None) (length-set blocks place c.read_all.new.out)
+    (λ i other. get_or-set_other none place i key None other ∙ get_or-set_other keys place i None None other) (λ i other. get_or-set_other blocks place i c.read_all.new.out [] other)
+    (subst (λ (k : Option BlockKey). IsKept number worth c.args.men.now c.args.side k (slice_index_or raised place [])) (sym at) (subst (IsKept number worth c.args.men.now c.args.side key) (sym block) (c.read_all.ensures c.if-not-read_all.false)))
+    (λ wide. subst (λ (k : Option BlockKey). IsPlaced (length keys) k place) (sym at) (c.requires.wide wide))

@@ -37,10 +37,10 @@ returns-clause-judged c = λ told tables are.
 kept_there : (d : ℕ) (worth : Column → ℕ → ℕ) (men there : ShelfMen) (white black : ℕ) (side : Side) (keys : List (Option BlockKey)) (blocks : List (List (List ℕ))) → there ≡ with_kings men white black
     → AreKept d worth men side keys blocks ↔ AreKept d worth there side keys blocks
 kept_there d worth men there white black side keys blocks is = (
-  (λ kept. let at_home : AreKept d worth (with_kings men white black) side keys blocks = record { some = kept.some; as_many = kept.as_many; each = kept.each } in
+  (λ kept. let at_home : AreKept d worth (with_kings men white black) side keys blocks = record { some = kept.some; as_many = kept.as_many; each = kept.each; placed = kept.placed } in
       subst (λ (m : ShelfMen). AreKept d worth m side keys blocks) (sym is) at_home),
   (λ kept. let at_home : AreKept d worth (with_kings men white black) side keys blocks = subst (λ (m : ShelfMen). AreKept d worth m side keys blocks) is kept in
-      record { some = at_home.some; as_many = at_home.as_many; each = at_home.each }),
+      record { some = at_home.some; as_many = at_home.as_many; each = at_home.each; placed = at_home.placed }),
 )
 
 pub side_is_right-requires-clause-kept : goal.side_is_right-requires-clause-kept

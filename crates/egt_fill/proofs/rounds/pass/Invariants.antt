@@ -1,9 +1,7 @@
 use Rattle.std.proofs.Common.{◌≡◌, length, false}
 use Rattle.egt_board.specs.Man.{other_side}
-use Rattle.egt_blocks.specs.Kept.{AreKept}
-use Rattle.egt_check.specs.Worth.{column_score}
 use Rattle.egt_fill.specs.Mended.{IsMendedAt}
-use Rattle.egt_fill.specs.Rounds.{AreFreshItems, IsUntouchedPass}
+use Rattle.egt_fill.specs.Rounds.{AreAllKept, AreFreshItems, IsUntouchedPass}
 use Rattle.egt_fill.specs.UnderWay.{IsUnderWay}
 use Rattle.egt_fill.proofs.rounds.pass.Given as goal
 
@@ -12,6 +10,7 @@ abbrev pub invariant-loop-i : goal.invariant-loop-i
 invariant-loop-i l =
     IsMendedAt l.f.part (λ i. Unit {0}) l.fn.table l.table
     × IsUnderWay l.f l.table l.items l.places l.stamps l.tick
-    × AreKept l.f.class (column_score l.table) l.f.men (other_side l.side) l.keys l.blocks
+    × AreAllKept l.f l.table (other_side l.side) l.keys l.blocks
+    × AreAllKept l.f l.table l.side l.own_keys l.own_blocks
     × (length l.items ≡ length l.fn.items)
     × (l.any ≡ false → IsUntouchedPass l.fn.table l.table l.fn.items l.items l.fn.stamps l.stamps l.fn.tick l.tick × AreFreshItems l.f l.fn.stamps l.fn.items l.side l.i)

@@ -1,23 +1,8 @@
-use Rattle.std.proofs.Common.{◌≡◌, ◌∙◌, ℕ, ◌+◌, ◌/◌, ◌%◌, ◌==◌, ◌<◌, ◌≤◌, Bool, true, false, cond, slice_index, arith, sym, ap, subst, inl, inr}
+use Rattle.std.proofs.Common.{ℕ, ◌≤◌, ◌/◌, ◌%◌, ◌==◌, Bool, slice_index, arith, sym, subst, inl, inr}
 use Rattle.std.proofs.lemmas.Bool.{cases_eq}
-use Rattle.std.proofs.lemmas.Bool.Decides.{nat_tests}
 use Rattle.egt_board.specs.Turned.{turned_square}
-use Rattle.egt_class.specs.Material.{material_of}
-use Rattle.egt_index.specs.Home.{IsTurnWith}
-use Rattle.egt_index.specs.Size.{has_pawns}
 use Rattle.egt_fill.specs.Stamps.{stamp_place}
 use Rattle.egt_fill.proofs.stamps.any_changed.Goals as goal
-use Rattle.egt_fill.proofs.stamps.any_changed.Goals.{then-flips, else-flips, then-has_pawns, else-has_pawns}
-
--- a turn by whether it exchanges colours, and its symmetry
-eighth : (t : ℕ) (flips : Bool) → t < 16 → (t / 8 == 1) ≡ flips → t ≡ cond flips 8 0 + t % 8
-eighth t true below is = grind (arith, nat_tests)
-eighth t false below is = grind (arith, nat_tests)
-
--- how many symmetries there are
-few : (t : ℕ) (pawns flips : Bool) → IsTurnWith pawns flips t → t % 8 < cond pawns 2 8
-few t true flips is = is.keeps
-few t false flips is = is.keeps
 
 pub loop-turn-preserved : goal.loop-turn-preserved
 loop-turn-preserved c = λ t from before. elim (cases_eq t c.loop-turn.turn) [
@@ -28,16 +13,7 @@ loop-turn-preserved c = λ t from before. elim (cases_eq t c.loop-turn.turn) [
 
 pub returns : goal.returns
 returns c = λ none t is.
-    let first_is : c.if-flips.first ≡ cond c.args.flips 8 0 = elim c.if-flips.branch [
-      | then-flips w ↦ w.first-is ∙ ap (λ f. cond f 8 0) (sym w.if-flips.true)
-      | else-flips w ↦ w.first-is ∙ ap (λ f. cond f 8 0) (sym w.if-flips.false)
-    ] in
-    let many_is : c.if-has_pawns.many ≡ cond (has_pawns (material_of c.args.class)) 2 8 = elim c.if-has_pawns.branch [
-      | then-has_pawns w ↦ w.many-is ∙ ap (λ p. cond p 2 8) (sym w.if-has_pawns.true ∙ c.has_pawns.ensures)
-      | else-has_pawns w ↦ w.many-is ∙ ap (λ p. cond p 2 8) (sym w.if-has_pawns.false ∙ c.has_pawns.ensures)
-    ] in
-    let at = eighth t c.args.flips is.below is.flips_is in
-    let within = few t (has_pawns (material_of c.args.class)) c.args.flips is in
+    let among = c.turns_of-first.ensures.all t is in
     let past = c.loop-turn-test.false in
     subst (λ (f : Bool). slice_index c.args.stamps.now (stamp_place c.args.side (turned_square (t % 8) f c.args.white) (turned_square (t % 8) f c.args.black)) ≤ c.args.looked) is.flips_is
-    (c.loop-turn.invariant t (omega (arith, first_is, at)) (omega (arith, first_is, many_is, at, within, past)))
+    (c.loop-turn.invariant t among.0 (omega (arith, among.1, past)))

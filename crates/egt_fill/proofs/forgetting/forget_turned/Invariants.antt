@@ -1,0 +1,13 @@
+use Rattle.std.proofs.Common.{◌≡◌, ℕ, ◌≤◌, ◌<◌, ◌/◌, ◌%◌, ◌==◌, None, length, slice_index_or}
+use Rattle.egt_board.specs.Turned.{turned_square}
+use Rattle.egt_blocks.specs.Kept.{wide_place}
+use Rattle.egt_table.specs.declared.column.Column.{Column}
+use Rattle.egt_fill.specs.Forgotten.{AreFewer}
+use Rattle.egt_fill.proofs.forgetting.forget_turned.Given as goal
+
+-- the keys at the places of the turns so far are gone
+abbrev pub invariant-loop-turn : goal.invariant-loop-turn
+invariant-loop-turn l =
+    AreFewer l.fn.keys l.keys
+    × ((t : ℕ) (column : Column) → l.first ≤ t → t < l.turn → slice_index_or l.keys (wide_place column (turned_square (t % 8) (t / 8 == 1) l.white) (turned_square (t % 8) (t / 8 == 1) l.black) (length l.fn.keys)) None ≡ None)
+    × (length l.keys ≡ length l.fn.keys)
