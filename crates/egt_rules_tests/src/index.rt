@@ -109,10 +109,30 @@ fn two_kings_have_462_indexes(rt: HostRuntime) {
     assert!(rt; count(0) == Some(462));
 }
 
-// Counted by an independent program, as the orbits of all admissible positions.
+// A symmetry without pawns keeps a position of three men only where it is the identity, or the mirror in a long diagonal on which all three
+// stand; so (all + 2 * those on one such diagonal) / 8 positions of a side to move are indexes. With Black to move the kings do not touch: in 3612
+// ways, each with 62 squares for the third man, and in 42 * 6 on a diagonal. That leaves (223944 + 2 * 252) / 8 = 28056 of a queen as of a rook.
+//
+// With White to move those fall away in which the third man attacks the black king. From a square at distance d on a free line he does so wherever
+// the white king stands but between, beside the black king or on a square that is taken: on 64 - n - d squares, where n have a king's step to the
+// black king's: 3 for 4 squares, 5 for 24 and 8 for 36. A queen reaches 21 squares from each of the outer 28, and 23, 25 and 27 from the
+// 20, 12 and 4 within: 21 * 61 * 4 + 21 * 59 * 24 + 56 * (23 * 20 + 25 * 12 + 27 * 4) = 83468; a rook 14: 14 * (61 * 4 + 59 * 24 + 56 * 36) = 51464.
+// The distances are 168 on a line of eight squares both ways, of which a rook has 16, in all 2688, and on diagonals 2 * (168 + 2 * (112 + 70 + 40 + 20 +
+// 8 + 2)) = 1344. So 83468 - 4032 = 79436 fall away of a queen, and 51464 - 2688 = 48776 of a rook. On a diagonal a rook attacks no king there; a
+// queen, unless the white king is between and does not touch: of 56 triples 21 have the kings side by side, so 2 * 35 = 70 are left.
+// (223944 - 79436 + 2 * 70) / 8 = 18081, and (223944 - 48776 + 2 * 252) / 8 = 21959.
+//
+// With a pawn the mirror of files keeps no position, so half of all are indexes. With Black to move each of 3612 pairs has 48 squares for the
+// pawn, less those of kings there: a king on one of the 48 has 58 squares for the other from 12 of them and 55 from 36: 3612 * 48 - 2 * (12 * 58 + 36
+// * 55) = 168024. With White to move those fall away in which the pawn attacks the king: from one square on the outer files, else from two, and the
+// white king then has 58, 55, and on the eighth rank 60 or 58 squares: 10 * 58 + 30 * 2 * 55 + 2 * 60 + 6 * 2 * 58 = 4696.
 #[test]
 fn classes_of_three_men_have_as_many_indexes_as_orbits(rt: HostRuntime) {
-    for (number, wanted) in [(1, 46_137), (2, 50_015), (5, 165_676)] {
-        assert!(rt; count(number) == Some(wanted), "{number}");
+    for (number, black, white) in [
+        (1, 28_056, 18_081),
+        (2, 28_056, 21_959),
+        (5, 168_024 / 2, (168_024 - 4_696) / 2),
+    ] {
+        assert!(rt; count(number) == Some(black + white), "{number}");
     }
 }

@@ -2,7 +2,7 @@
 use super::{KINGS, Step, all_go, changed, fails, folder, put};
 use egt_fixtures::kings::{kings_file, whole_kings_file};
 use egt_fixtures::shelf::file_of;
-use egt_plain::{PlainTables, whole_table_of};
+use egt_plain::{PlainTables, table_of, whole_table_of};
 use std::fs;
 use std::test::Fail;
 
@@ -39,6 +39,55 @@ const KNIGHT: [Step; 3] = [
     ),
     ("probe DIR", "", 0, "", ""),
 ];
+
+/// What is told of the file of two kings, of version 2, and of a knight's of version 1: only the first tells of dead positions.
+const OF_BOTH_VERSIONS: [Step; 4] = [
+    ("check DIR", "", 0, "ok KK\nok KNK\n", ""),
+    (
+        "probe DIR",
+        MIXED,
+        0,
+        "KNK draw hold d2c1\nerror fen 1 FieldCount\nKK dead hold e3d2\nerror probe 11 Missing KQK\n",
+        "",
+    ),
+    (
+        "probe DIR KNK",
+        MIXED,
+        0,
+        "KNK draw hold d2c1\nerror fen 1 FieldCount\nKK dead hold e3d2\nerror probe 11 Missing KQK\n",
+        "",
+    ),
+    (
+        "probe DIR KK",
+        MIXED,
+        0,
+        "error probe 11 Missing KNK\nerror fen 1 FieldCount\nKK dead hold e3d2\nerror probe 11 Missing KQK\n",
+        "",
+    ),
+];
+
+/// What is told of both of version 1: no table tells of dead positions.
+const OF_VERSION_1: Step = (
+    "probe DIR",
+    MIXED,
+    0,
+    "KNK draw hold d2c1\nerror fen 1 FieldCount\nKK draw hold e3d2\nerror probe 11 Missing KQK\n",
+    "",
+);
+
+#[test]
+fn files_of_both_versions(rt: HostRuntime) -> Result<(), Fail> {
+    let folder = folder(&rt, "versions")?;
+    let tables = PlainTables::solve(rt.alloc(), 5)?;
+    let knight = file_of(rt.alloc(), &table_of(rt.alloc(), &tables, 4)?)?;
+    put(&rt, &folder, "KK.egt", &whole_kings_file(rt.alloc())?)?;
+    put(&rt, &folder, "KNK.egt", &knight)?;
+    all_go(&rt, &folder, &OF_BOTH_VERSIONS)?;
+    put(&rt, &folder, "KK.egt", &kings_file(rt.alloc())?)?;
+    all_go(&rt, &folder, &[OF_VERSION_1])?;
+    fs::remove_dir_all(&rt, folder.as_str())?;
+    Ok(())
+}
 
 /// What is told beside a pawn's file: its child with the least number that is not there.
 const PAWN: [Step; 3] = [
