@@ -1,4 +1,5 @@
-//! What codes spell (`docs/CLASSES.md`): digits are taken off one by one, and each image of the position is tried for a lesser code.
+//! What codes spell (`docs/CLASSES.md`): digits are taken off one by one, and each image of the position is tried for a
+//! lesser code.
 use crate::setup::Setup;
 use crate::unmoves::is_settled_position;
 use arrayvec::ArrayVec;
@@ -20,8 +21,8 @@ pub enum Spelled {
     Otherwise,
 }
 
-/// What a class's codes are made of: its men in the order of the digits, and whether there are pawns, both sides have the same men, and
-/// both have a pawn.
+/// What a class's codes are made of: its men in the order of the digits, and whether there are pawns, both sides have
+/// the same men, and both have a pawn.
 #[derive(Drop)]
 struct Form {
     men: ArrayVec<Man, 4>,
@@ -120,7 +121,11 @@ impl Form {
         match man.kind {
             Kind::P => Some(u32::from(square.checked_sub(8)?)),
             Kind::K if man.side == Side::White && self.pawns => {
-                if square % 8 < 4 { Some(u32::from(square / 8 * 4 + square % 8)) } else { None }
+                if square % 8 < 4 {
+                    Some(u32::from(square / 8 * 4 + square % 8))
+                } else {
+                    None
+                }
             }
             Kind::K if man.side == Side::White => {
                 let place = TRIANGLE.iter().position(|other| *other == square)?;
@@ -134,13 +139,21 @@ impl Form {
     fn placed(&self, code: u32) -> Option<Placed> {
         let mut rest = code;
         let passed = self.passing && taken_off(&mut rest, 2) == 1;
-        let side = if taken_off(&mut rest, 2) == 0 { Side::White } else { Side::Black };
+        let side = if taken_off(&mut rest, 2) == 0 {
+            Side::White
+        } else {
+            Side::Black
+        };
         let mut men = ArrayVec::new();
         for man in self.men.as_slice().iter().rev() {
             let digit = taken_off(&mut rest, self.base(*man));
             men.try_push((*man, self.square(*man, digit)?)).ok()?;
         }
-        if rest == 0 { Some(Placed { men, side, passed }) } else { None }
+        if rest == 0 {
+            Some(Placed { men, side, passed })
+        } else {
+            None
+        }
     }
 
     /// The code of what is placed, of equal men the first that is placed before or behind the other.
@@ -150,9 +163,13 @@ impl Form {
         for man in self.men.as_slice() {
             let place = taken(placed.men.as_slice(), *man, behind, &mut left)?;
             let (_, square) = placed.men.as_slice().get(place)?;
-            code = code.checked_mul(self.base(*man))?.checked_add(self.digit(*man, *square)?)?;
+            code = code
+                .checked_mul(self.base(*man))?
+                .checked_add(self.digit(*man, *square)?)?;
         }
-        code = code.checked_mul(2)?.checked_add(u32::from(placed.side == Side::Black))?;
+        code = code
+            .checked_mul(2)?
+            .checked_add(u32::from(placed.side == Side::Black))?;
         if self.passing {
             code = code.checked_mul(2)?.checked_add(u32::from(placed.passed))?;
         }
@@ -190,7 +207,8 @@ fn taken(men: &[(Man, u8)], man: Man, last: bool, left: &mut [bool; 4]) -> Optio
     found
 }
 
-/// The square after a turn: mirrors of files, of ranks and of the long diagonal, and behind them an exchange of colours, by its bits.
+/// The square after a turn: mirrors of files, of ranks and of the long diagonal, and behind them an exchange of colours,
+/// by its bits.
 fn turned(square: u8, turn: u8) -> u8 {
     let (mut file, mut rank) = (square % 8, square / 8 % 8);
     if turn % 2 == 1 {
@@ -271,12 +289,11 @@ fn is_index(class: Class, position: &Position, code: u32) -> bool {
 }
 
 /// What the code of the class spells.
-pub fn spelled(class: Class, code: u32) -> Spelled {
+pub fn spelling(class: Class, code: u32) -> Spelled {
     match (position(class, code), spelled_plainly(class, code)) {
         (None, None) => Spelled::Nothing,
         (Some(position), Some(setup))
-            if setup.is_like(&Setup::of(&position)) && is_index(class, &position, code) =>
-        {
+            if setup.is_like(&Setup::of(&position)) && is_index(class, &position, code) => {
             Spelled::Position(position)
         }
         _ => Spelled::Otherwise,

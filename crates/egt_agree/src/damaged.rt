@@ -1,5 +1,5 @@
 //! Tables with entries changed at random: what the checker names of each, against the rules asked plainly.
-use crate::codes::{Spelled, spelled};
+use crate::codes::{Spelled, spelling};
 use crate::judged::{Change, Changed, SpelledOtherwise};
 use crate::steps::steps;
 use crate::tables::entry_at;
@@ -116,7 +116,7 @@ impl Numbers {
 
 /// The index of a position of the class that the move with this number leads to, if the code's position has such a move.
 fn successor(class: Class, code: u32, number: u32) -> Option<u32> {
-    let Spelled::Position(position) = spelled(class, code) else {
+    let Spelled::Position(position) = spelling(class, code) else {
         return None;
     };
     let steps = steps(&position);
@@ -192,7 +192,11 @@ fn named(alloc: Global, changes: &Changed<'_>) -> Result<Option<(u32, Rule)>, Un
                 rule,
             },
         ) => {
-            if column == changes.column { Ok(Some((index, rule))) } else { Err(Unlike::Judged) }
+            if column == changes.column {
+                Ok(Some((index, rule)))
+            } else {
+                Err(Unlike::Judged)
+            }
         }
         Err(Reject::Missing(_)) => Err(Unlike::Missing),
         Err(Reject::NoReach(_)) => Err(Unlike::NoReach),
@@ -203,11 +207,20 @@ fn named(alloc: Global, changes: &Changed<'_>) -> Result<Option<(u32, Rule)>, Un
 /// Whether the table is refused, by the checker as by the plain rules.
 fn is_refused(alloc: Global, changes: &Changed<'_>) -> Result<bool, Unlike> {
     let named = named(alloc, changes)?;
-    if named == changes.first_broken()? { Ok(named.is_some()) } else { Err(Unlike::Judged) }
+    if named == changes.first_broken()? {
+        Ok(named.is_some())
+    } else {
+        Err(Unlike::Judged)
+    }
 }
 
-/// How many changed tables of the class the checker judges as the plain rules do; else why it does not, and the first code that was changed there.
-pub fn damaged_agrees(alloc: Global, class: Class, library: &Library) -> Result<u32, (Unlike, u32)> {
+/// How many changed tables of the class the checker judges as the plain rules do; else why it does not, and the first
+/// code that was changed there.
+pub fn damaged_agrees(
+    alloc: Global,
+    class: Class,
+    library: &Library,
+) -> Result<u32, (Unlike, u32)> {
     let mut numbers = Numbers {
         last: 2_463_534_242 ^ u32::from(class.number()),
     };
@@ -223,5 +236,9 @@ pub fn damaged_agrees(alloc: Global, class: Class, library: &Library) -> Result<
         }
         tables = tables.wrapping_add(1);
     }
-    if refused == 0 { Err((Unlike::NoneRefused, 0)) } else { Ok(tables) }
+    if refused == 0 {
+        Err((Unlike::NoneRefused, 0))
+    } else {
+        Ok(tables)
+    }
 }

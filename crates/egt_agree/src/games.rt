@@ -3,7 +3,7 @@ ghost use Rattle.std.specs.Prelude.{IfOk};
 ghost use Rattle.egt_entries.specs.Tables.{table_at};
 ghost use Rattle.egt_sweep.specs.MateColumn.{AreMateRanks};
 
-use crate::codes::{Spelled, spelled};
+use crate::codes::{Spelled, spelling};
 use crate::rule::{Value, said_by};
 use crate::setup::Setup;
 use crate::steps::{Step, steps};
@@ -88,7 +88,7 @@ impl Plain<'_> {
 
     /// Whether a move leads from the position that the code spells to the node.
     fn leads(&self, code: u32, node: u32) -> bool {
-        match spelled(self.class, code) {
+        match spelling(self.class, code) {
             Spelled::Position(before) => self.node(&before).nodes.as_slice().contains(&node),
             _ => false,
         }
@@ -182,7 +182,7 @@ fn code_agrees<G: Game>(game: &G, plain: &Plain<'_>, code: u32) -> bool {
     if code >= game.size() {
         return false;
     }
-    match spelled(plain.class, code) {
+    match spelling(plain.class, code) {
         Spelled::Position(position) => {
             let node = plain.node(&position);
             node_agrees(game, code, &node)

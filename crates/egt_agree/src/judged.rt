@@ -1,5 +1,5 @@
 //! The rules of entries (`docs/RULES.md`), asked plainly of a table with some entries changed.
-use crate::codes::{Spelled, spelled};
+use crate::codes::{Spelled, spelling};
 use crate::rule::{Value, said_by};
 use crate::setup::Setup;
 use crate::steps::{Step, steps};
@@ -59,7 +59,7 @@ fn plies_of(shown: Option<Value>, lost: bool) -> Option<u16> {
 fn around(class: Class, code: u32) -> ArrayVec<u32, 129> {
     let mut codes = ArrayVec::new();
     let _ = codes.try_push(code);
-    let Spelled::Position(position) = spelled(class, code) else {
+    let Spelled::Position(position) = spelling(class, code) else {
         return codes;
     };
     for unmove in unmoves(&position).as_slice() {
@@ -220,7 +220,7 @@ impl Changed<'_> {
     /// The first rule that the entry of the code breaks in the column that is changed.
     fn broken(&self, code: u32) -> Result<Option<Rule>, SpelledOtherwise> {
         let entry = self.entry(self.column, self.class, code);
-        match spelled(self.class, code) {
+        match spelling(self.class, code) {
             Spelled::Position(_) if entry == 0 => Ok(Some(Rule::Void)),
             Spelled::Position(position) => Ok(self.broken_at(code, entry, &position)),
             Spelled::Nothing if entry == 0 => Ok(None),

@@ -1,5 +1,5 @@
 //! Samples of a class's codes: every so many of them.
-use crate::codes::{Spelled, spelled};
+use crate::codes::{Spelled, spelling};
 use crate::moves::moves_agree;
 use crate::tables::entries_agree;
 use crate::unmoves::unmoves_agree;
@@ -31,7 +31,7 @@ fn agrees(held: Held, library: &Library, class: Class, code: u32) -> bool {
     if let Held::Entries = held {
         return entries_agree(library, class, code);
     }
-    match spelled(class, code) {
+    match spelling(class, code) {
         Spelled::Position(position) => agrees_at(held, &position),
         Spelled::Nothing => true,
         Spelled::Otherwise => false,

@@ -2,7 +2,7 @@
 ghost use Rattle.std.specs.Prelude.{◌≡◌, true};
 ghost use Rattle.egt_table.specs.Table.{HasColumn};
 
-use crate::codes::{Spelled, spelled};
+use crate::codes::{Spelled, spelling};
 use crate::rule::{Value, best, entry, nearest, said_by};
 use crate::setup::Setup;
 use crate::steps::{Step, steps};
@@ -96,7 +96,7 @@ pub fn entries_agree(library: &Library, class: Class, code: u32) -> bool {
     let Some(table) = library.get(class) else {
         return false;
     };
-    let spelled = spelled(class, code);
+    let spelled = spelling(class, code);
     for column in table.columns() {
         let wanted = match &spelled {
             Spelled::Position(position) => wanted(library, *column, position),

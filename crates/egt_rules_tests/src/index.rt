@@ -109,23 +109,29 @@ fn two_kings_have_462_indexes(rt: HostRuntime) {
     assert!(rt; count(0) == Some(462));
 }
 
-// A symmetry without pawns keeps a position of three men only where it is the identity, or the mirror in a long diagonal on which all three
-// stand; so (all + 2 * those on one such diagonal) / 8 positions of a side to move are indexes. With Black to move the kings do not touch: in 3612
-// ways, each with 62 squares for the third man, and in 42 * 6 on a diagonal. That leaves (223944 + 2 * 252) / 8 = 28056 of a queen as of a rook.
+// Positions of three men, counted by hand. Of the symmetries without pawns the identity and the mirrors in the two long
+// diagonals keep some, and a mirror does where all men stand on its diagonal: so all of a side to move, and twice those
+// on one diagonal, are together eight times as many as there are indexes.
 //
-// With White to move those fall away in which the third man attacks the black king. From a square at distance d on a free line he does so wherever
-// the white king stands but between, beside the black king or on a square that is taken: on 64 - n - d squares, where n have a king's step to the
-// black king's: 3 for 4 squares, 5 for 24 and 8 for 36. A queen reaches 21 squares from each of the outer 28, and 23, 25 and 27 from the
-// 20, 12 and 4 within: 21 * 61 * 4 + 21 * 59 * 24 + 56 * (23 * 20 + 25 * 12 + 27 * 4) = 83468; a rook 14: 14 * (61 * 4 + 59 * 24 + 56 * 36) = 51464.
-// The distances are 168 on a line of eight squares both ways, of which a rook has 16, in all 2688, and on diagonals 2 * (168 + 2 * (112 + 70 + 40 + 20 +
-// 8 + 2)) = 1344. So 83468 - 4032 = 79436 fall away of a queen, and 51464 - 2688 = 48776 of a rook. On a diagonal a rook attacks no king there; a
-// queen, unless the white king is between and does not touch: of 56 triples 21 have the kings side by side, so 2 * 35 = 70 are left.
-// (223944 - 79436 + 2 * 70) / 8 = 18081, and (223944 - 48776 + 2 * 252) / 8 = 21959.
+// Black to move: the kings do not touch, in 3612 ways, of which 42 are on a diagonal, and the third man has 62 squares,
+// 6 of them there: 3612 * 62 = 223944, and (223944 + 2 * 42 * 6) / 8 = 28056, of a queen as of a rook.
 //
-// With a pawn the mirror of files keeps no position, so half of all are indexes. With Black to move each of 3612 pairs has 48 squares for the
-// pawn, less those of kings there: a king on one of the 48 has 58 squares for the other from 12 of them and 55 from 36: 3612 * 48 - 2 * (12 * 58 + 36
-// * 55) = 168024. With White to move those fall away in which the pawn attacks the king: from one square on the outer files, else from two, and the
-// white king then has 58, 55, and on the eighth rank 60 or 58 squares: 10 * 58 + 30 * 2 * 55 + 2 * 60 + 6 * 2 * 58 = 4696.
+// White to move: less those where the third man attacks the black king. At a distance d on a line he does so unless the
+// white king stands between: with n squares beside the black king, 64 - n - d are left for the white one, and n is 3 on
+// 4 squares, 5 on 24 and 8 on 36. A queen has 21 squares at the edge, and 23, 25 and 27 on the 20, 12 and 4 squares
+// further in, a rook 14. The distances on the lines of a rook add up to 16 * 168 = 2688, and on diagonals to
+// 2 * (168 + 2 * (112 + 70 + 40 + 20 + 8 + 2)) = 1344.
+// Queen: 21 * (4 * 61 + 24 * 59) + 56 * (20 * 23 + 12 * 25 + 4 * 27) - 2688 - 1344 = 79436 fall away. On a diagonal she
+// attacks unless the white king is between and not beside the black one: 56 - 21 = 35 triples, either way round.
+// (223944 - 79436 + 2 * 2 * 35) / 8 = 18081.
+// Rook: 14 * (4 * 61 + 24 * 59 + 36 * 56) - 2688 = 48776 fall away, none of them on a diagonal:
+// (223944 - 48776 + 2 * 42 * 6) / 8 = 21959.
+//
+// With a pawn the mirror of files keeps no position, and half of all are indexes. Black to move: the pawn has 48
+// squares, less those of the kings; a king there leaves the other 58 squares from 12 of them and 55 from 36:
+// 3612 * 48 - 2 * (12 * 58 + 36 * 55) = 168024. White to move: less those where the pawn attacks the black king, from
+// one square on the outer files and from two on the others; the white king then has 58 or 55 squares, and with the black
+// king on the eighth rank 60 or 58: 10 * 58 + 30 * 2 * 55 + 2 * 60 + 6 * 2 * 58 = 4696.
 #[test]
 fn classes_of_three_men_have_as_many_indexes_as_orbits(rt: HostRuntime) {
     for (number, black, white) in [

@@ -68,18 +68,24 @@ fn a_rook_mates_within_sixteen_moves(rt: HostRuntime) -> Result<(), Fail> {
 /// Whether the bytes have these from each of the places on.
 fn have(bytes: &[u8], parts: &[(usize, &[u8])]) -> bool {
     for (place, part) in parts {
-        if !bytes.get(*place..).is_some_and(|rest| rest.starts_with(part)) {
+        if !bytes
+            .get(*place..)
+            .is_some_and(|rest| rest.starts_with(part))
+        {
             return false;
         }
     }
     true
 }
 
-/// The bytes of the pawn's file at code 164434, which has three unlike entries: in the image king c7, pawn b7 and king a7, ((26 * 64 + 48) * 48 + 41) * 2
-/// + 0. White wins in three plies: 8. The first zeroes: 4. No first move mates, so no mate is nearer: 5. The columns begin at byte 16 and, of 196,608
-/// entries each, 393,216 bytes further and as many more.
-const PAWN_BYTES: [(usize, &[u8]); 3] =
-    [(328_884, &[8, 0]), (722_100, &[4, 0]), (1_115_316, &[5, 0])];
+/// The bytes of the pawn's file at code 164434, whose entries differ. In the image with king c7, pawn b7 and king a7 it
+/// is ((26 * 64 + 48) * 48 + 41) * 2 + 0. White wins in three plies: 8. The first zeroes: 4. No first move mates, so no
+/// mate is nearer: 5. The columns, of 196,608 entries each, begin at byte 16, 393,216 bytes further and as many more.
+const PAWN_BYTES: [(usize, &[u8]); 3] = [
+    (328_884, &[8, 0]),
+    (722_100, &[4, 0]),
+    (1_115_316, &[5, 0]),
+];
 
 // White to move, king f7, pawn g7, black king h7: g7g8q, h7h6, g8g6 mate. The first move zeroes.
 #[test]
@@ -111,10 +117,11 @@ fn the_least_child_is_missing(rt: HostRuntime) -> Result<(), Fail> {
     Ok(())
 }
 
-/// The bytes of the queen's file at codes 41022 and 41023: king b6, queen d1 and king a8, in the image king c2, queen h4 and king a1, ((5 * 64 + 0) * 64 +
-/// 31) * 2 + 0 and, with Black to move, 1. White wins in one ply, d1d8: 4. Black has a8b8 alone, and d1d8 mates again, so he loses in two plies: 7. Nothing
-/// zeroes on the way but the mate, so the second column has the same; and no mate is nearer: 3 and 4 in the third. The columns begin at byte 16 and, of
-/// 81,920 entries each, 163,840 bytes further and as many more.
+/// The bytes of the queen's file at codes 41022 and 41023: king b6, queen d1 and king a8, in the image king c2, queen h4
+/// and king a1, ((5 * 64 + 0) * 64 + 31) * 2, and 1 more with Black to move. White wins in one ply, d1d8: 4. Black has
+/// a8b8 alone, and d1d8 mates again, so he loses in two plies: 7. Nothing zeroes before the mate, so the second column
+/// has the same; and no mate is nearer: 3 and 4 in the third. The columns, of 81,920 entries each, begin at byte 16,
+/// 163,840 bytes further and as many more.
 const QUEEN_BYTES: [(usize, &[u8]); 3] = [
     (82_060, &[4, 0, 7, 0]),
     (245_900, &[4, 0, 7, 0]),

@@ -40,7 +40,8 @@ const KNIGHT: [Step; 3] = [
     ("probe DIR", "", 0, "", ""),
 ];
 
-/// What is told of the file of two kings, of version 2, and of a knight's of version 1: only the first tells of dead positions.
+/// What is told of the file of two kings, of version 2, and of a knight's of version 1: only the first tells of dead
+/// positions.
 const OF_BOTH_VERSIONS: [Step; 4] = [
     ("check DIR", "", 0, "ok KK\nok KNK\n", ""),
     (
