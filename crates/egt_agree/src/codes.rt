@@ -282,20 +282,28 @@ fn spelled_plainly(class: Class, code: u32) -> Option<Setup> {
     }
 }
 
-/// Whether the code is the position's index in the class.
-fn is_index(class: Class, position: &Position, code: u32) -> bool {
+/// Whether the position is what is spelled plainly, and the code its index in the class.
+fn is_alike(plain: Option<Setup>, class: Class, position: &Position, code: u32) -> bool {
+    let Some(setup) = plain else {
+        return false;
+    };
     let (own, _) = of(position);
-    own == class && index(own, position) == code
+    setup.is_like(&Setup::of(position)) && own == class && index(own, position) == code
 }
 
 /// What the code of the class spells.
 pub fn spelling(class: Class, code: u32) -> Spelled {
-    match (position(class, code), spelled_plainly(class, code)) {
-        (None, None) => Spelled::Nothing,
-        (Some(position), Some(setup))
-            if setup.is_like(&Setup::of(&position)) && is_index(class, &position, code) => {
-            Spelled::Position(position)
-        }
-        _ => Spelled::Otherwise,
+    let plain = spelled_plainly(class, code);
+    let Some(position) = position(class, code) else {
+        return if plain.is_none() {
+            Spelled::Nothing
+        } else {
+            Spelled::Otherwise
+        };
+    };
+    if is_alike(plain, class, &position, code) {
+        Spelled::Position(position)
+    } else {
+        Spelled::Otherwise
     }
 }

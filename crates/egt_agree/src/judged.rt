@@ -220,11 +220,13 @@ impl Changed<'_> {
     /// The first rule that the entry of the code breaks in the column that is changed.
     fn broken(&self, code: u32) -> Result<Option<Rule>, SpelledOtherwise> {
         let entry = self.entry(self.column, self.class, code);
-        match spelling(self.class, code) {
-            Spelled::Position(_) if entry == 0 => Ok(Some(Rule::Void)),
-            Spelled::Position(position) => Ok(self.broken_at(code, entry, &position)),
-            Spelled::Nothing if entry == 0 => Ok(None),
-            Spelled::Nothing => Ok(Some(Rule::Void)),
+        match &spelling(self.class, code) {
+            Spelled::Position(position) => Ok(if entry == 0 {
+                Some(Rule::Void)
+            } else {
+                self.broken_at(code, entry, position)
+            }),
+            Spelled::Nothing => Ok(if entry == 0 { None } else { Some(Rule::Void) }),
             Spelled::Otherwise => Err(SpelledOtherwise),
         }
     }

@@ -28,7 +28,7 @@ pub trait Growing {
 
 /// Mixes a number into another.
 fn mixed(sum: u64, number: u64) -> u64 {
-    sum.wrapping_mul(0x0010_0000_01b3).wrapping_add(number)
+    sum.wrapping_mul(0x0100_0000_01b3).wrapping_add(number)
 }
 
 fn of_bytes(bytes: &[u8]) -> Answered {

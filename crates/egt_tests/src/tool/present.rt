@@ -2,7 +2,7 @@
 use super::{KINGS, Step, all_go, changed, fails, folder, put};
 use egt_fixtures::kings::{kings_file, whole_kings_file};
 use egt_fixtures::shelf::file_of;
-use egt_plain::{PlainTables, table_of, whole_table_of};
+use egt_plain::{PlainTables, whole_table_of};
 use std::fs;
 use std::test::Fail;
 
@@ -76,13 +76,27 @@ const OF_VERSION_1: Step = (
     "",
 );
 
+const BUILT: [Step; 2] = [
+    ("build DIR KK", "", 0, "built KK entries 1280\n", ""),
+    ("build DIR KNK", "", 0, "built KNK entries 81920\n", ""),
+];
+
+/// Puts the folder's file of a knight into version 1: without the third column, and with other numbers of the version
+/// and of columns.
+fn put_first_version(rt: &HostRuntime, folder: &str) -> Result<(), Fail> {
+    let path = format!(in rt.alloc(); "{folder}/KNK.egt")?;
+    let file = fs::read(rt, path.as_str())?;
+    let version = changed(rt.alloc(), file.as_slice(), 4, 1)?;
+    let mut first = changed(rt.alloc(), &version, 10, 2)?;
+    first.truncate(327_696);
+    put(rt, folder, "KNK.egt", &first)
+}
+
 #[test]
 fn files_of_both_versions(rt: HostRuntime) -> Result<(), Fail> {
     let folder = folder(&rt, "versions")?;
-    let tables = PlainTables::solve(rt.alloc(), 5)?;
-    let knight = file_of(rt.alloc(), &table_of(rt.alloc(), &tables, 4)?)?;
-    put(&rt, &folder, "KK.egt", &whole_kings_file(rt.alloc())?)?;
-    put(&rt, &folder, "KNK.egt", &knight)?;
+    all_go(&rt, &folder, &BUILT)?;
+    put_first_version(&rt, &folder)?;
     all_go(&rt, &folder, &OF_BOTH_VERSIONS)?;
     put(&rt, &folder, "KK.egt", &kings_file(rt.alloc())?)?;
     all_go(&rt, &folder, &[OF_VERSION_1])?;
