@@ -62,7 +62,7 @@ fn around(class: Class, code: u32) -> ArrayVec<u32, 129> {
     let Spelled::Position(position) = spelling(class, code) else {
         return codes;
     };
-    for unmove in unmoves(&position).as_slice() {
+    for unmove in unmoves(&position.settle()).as_slice() {
         let (other, _) = of(&unmove.before);
         if other.number() == class.number() {
             let _ = codes.try_push(index(other, &unmove.before));
