@@ -1,16 +1,57 @@
 //! Tables with entries changed at random: what the checker names of each, against the rules asked plainly.
-use crate::judged::{Change, Changed};
+use crate::codes::{Spelled, spelling};
+use crate::judged::{Change, Changed, SpelledOtherwise};
 use crate::steps::steps;
 use crate::tables::entry_at;
-use egt_check::{Library, Reject, check};
+use egt_check::{Library, Reject, Rule, check};
 use egt_class::Class;
 use egt_graph::{Nears, Ranks};
-use egt_index::{position, size};
+use egt_index::size;
 use egt_table::{Column, Table};
 use std::alloc::{AllocError, Global};
 
 /// How many tables of a class are changed.
 const TABLES: u32 = 70;
+
+/// Why the checker does not judge changed tables as the plain rules do.
+#[derive(Clone, Copy, Debug, PartialEq, Eq)]
+pub enum Unlike {
+    /// It takes what they refuse, refuses what they take, or names another entry or another rule.
+    Judged,
+    /// It says that a child has no table.
+    Missing,
+    /// It says that a child's table lacks the column of the nearest mates.
+    NoReach,
+    /// It says that the library has a table of the class.
+    AlreadyThere,
+    /// A code spells something else than it does plainly.
+    Spelled,
+    /// The table was not made: the library lacks what is to be changed, or there is no memory.
+    NotMade,
+    /// No table was refused.
+    NoneRefused,
+}
+
+impl Unlike {
+    /// What is printed of it.
+    pub fn text(self) -> &'static str {
+        match self {
+            Unlike::Judged => "judged otherwise",
+            Unlike::Missing => "a child is missing",
+            Unlike::NoReach => "a child lacks the third column",
+            Unlike::AlreadyThere => "the table is there already",
+            Unlike::Spelled => "a code spells something else",
+            Unlike::NotMade => "the table was not made",
+            Unlike::NoneRefused => "no table was refused",
+        }
+    }
+}
+
+impl From<SpelledOtherwise> for Unlike {
+    fn from(_otherwise: SpelledOtherwise) -> Unlike {
+        Unlike::Spelled
+    }
+}
 
 /// A sequence of numbers that look random (Marsaglia's xorshift).
 #[derive(Drop)]
@@ -75,7 +116,9 @@ impl Numbers {
 
 /// The index of a position of the class that the move with this number leads to, if the code's position has such a move.
 fn successor(class: Class, code: u32, number: u32) -> Option<u32> {
-    let position = position(class, code)?;
+    let Spelled::Position(position) = spelling(class, code) else {
+        return None;
+    };
     let steps = steps(&position);
     let number = number.checked_rem(steps.len() as u32)?;
     let step = steps.as_slice().get(number as usize)?;
@@ -87,16 +130,20 @@ fn successor(class: Class, code: u32, number: u32) -> Option<u32> {
 }
 
 /// A change of one entry or, half of the time, of that of a successor too by the same amount, so that one may hide the other.
-fn change_at_random<'l>(library: &'l Library, class: Class, numbers: &mut Numbers) -> Changed<'l> {
+fn change_at_random<'l>(
+    library: &'l Library,
+    class: Class,
+    numbers: &mut Numbers,
+) -> Option<Changed<'l>> {
     let column = numbers.column();
     let code = numbers.code(class);
-    let right = entry_at(library, column, class, code).unwrap_or(0);
+    let right = entry_at(library, column, class, code)?;
     let entry = numbers.entry(right);
     let first = Change { code, entry };
     let number = numbers.below(64);
     let second = match successor(class, code, number) {
         Some(next) if number % 2 == 0 && next != code => {
-            let other = entry_at(library, column, class, next).unwrap_or(0);
+            let other = entry_at(library, column, class, next)?;
             Change {
                 code: next,
                 entry: other.wrapping_add(entry.wrapping_sub(right)),
@@ -104,12 +151,12 @@ fn change_at_random<'l>(library: &'l Library, class: Class, numbers: &mut Number
         }
         _ => first,
     };
-    Changed {
+    Some(Changed {
         library,
         class,
         column,
         changes: [first, second],
-    }
+    })
 }
 
 /// The column of the table with its changes.
@@ -131,35 +178,67 @@ fn table_of(alloc: Global, changes: &Changed<'_>) -> Option<Table> {
     table.with_reach(reach).ok()
 }
 
-/// Whether the checker names the entry and the rule that the plain rules name, or takes the table where all are kept.
-fn is_named(alloc: Global, changes: &Changed<'_>) -> Option<bool> {
-    let table = table_of(alloc, changes)?;
-    let answer = match check(&table, changes.library) {
-        Ok(()) => None,
+/// The entry and the rule that the checker names; none where it takes the table.
+fn named(alloc: Global, changes: &Changed<'_>) -> Result<Option<(u32, Rule)>, Unlike> {
+    let Some(table) = table_of(alloc, changes) else {
+        return Err(Unlike::NotMade);
+    };
+    match check(&table, changes.library) {
+        Ok(()) => Ok(None),
         Err(
             Reject::Rejected {
                 column,
                 index,
                 rule,
             },
-        ) if column == changes.column => Some((index, rule)),
-        Err(_) => return Some(false),
-    };
-    Some(answer == changes.first_broken())
+        ) => {
+            if column == changes.column {
+                Ok(Some((index, rule)))
+            } else {
+                Err(Unlike::Judged)
+            }
+        }
+        Err(Reject::Missing(_)) => Err(Unlike::Missing),
+        Err(Reject::NoReach(_)) => Err(Unlike::NoReach),
+        Err(Reject::AlreadyThere) => Err(Unlike::AlreadyThere),
+    }
 }
 
-/// How many changed tables of the class the checker judges as the plain rules do; the first code of one that it does not.
-pub fn damaged_agrees(alloc: Global, class: Class, library: &Library) -> Result<u32, u32> {
+/// Whether the table is refused, by the checker as by the plain rules.
+fn is_refused(alloc: Global, changes: &Changed<'_>) -> Result<bool, Unlike> {
+    let named = named(alloc, changes)?;
+    if named == changes.first_broken()? {
+        Ok(named.is_some())
+    } else {
+        Err(Unlike::Judged)
+    }
+}
+
+/// How many changed tables of the class the checker judges as the plain rules do; else why it does not, and the first
+/// code that was changed there.
+pub fn damaged_agrees(
+    alloc: Global,
+    class: Class,
+    library: &Library,
+) -> Result<u32, (Unlike, u32)> {
     let mut numbers = Numbers {
         last: 2_463_534_242 ^ u32::from(class.number()),
     };
     let mut tables = 0u32;
+    let mut refused = 0u32;
     for _ in 0..TABLES {
-        let changes = change_at_random(library, class, &mut numbers);
-        if is_named(alloc, &changes) != Some(true) {
-            return Err(changes.changes[0].code);
+        let Some(changes) = change_at_random(library, class, &mut numbers) else {
+            return Err((Unlike::NotMade, 0));
+        };
+        match is_refused(alloc, &changes) {
+            Ok(is_refused) => refused = refused.wrapping_add(u32::from(is_refused)),
+            Err(unlike) => return Err((unlike, changes.changes[0].code)),
         }
         tables = tables.wrapping_add(1);
     }
-    Ok(tables)
+    if refused == 0 {
+        Err((Unlike::NoneRefused, 0))
+    } else {
+        Ok(tables)
+    }
 }

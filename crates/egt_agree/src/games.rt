@@ -3,15 +3,16 @@ ghost use Rattle.std.specs.Prelude.{IfOk};
 ghost use Rattle.egt_entries.specs.Tables.{table_at};
 ghost use Rattle.egt_sweep.specs.MateColumn.{AreMateRanks};
 
+use crate::codes::{Spelled, spelling};
 use crate::rule::{Value, said_by};
 use crate::setup::Setup;
 use crate::steps::{Step, steps};
 use crate::tables::mate_value;
 use arrayvec::ArrayVec;
+use egt_board::Position;
 use egt_check::{Library, Metric};
 use egt_class::Class;
 use egt_graph::{Exit, Game, Ranks, solve};
-use egt_index::position;
 use egt_sweep::{MateGame, ZeroGame};
 use std::alloc::Global;
 
@@ -64,12 +65,11 @@ impl Plain<'_> {
         }
     }
 
-    /// The node of the code, if it spells a position.
-    fn node(&self, code: u32) -> Option<Node> {
-        let position = position(self.class, code)?;
+    /// The node of a position.
+    fn node(&self, position: &Position) -> Node {
         let mut nodes = ArrayVec::<u32, 64>::new();
         let mut exits = ArrayVec::<Exit, 64>::new();
-        let steps = steps(&position);
+        let steps = steps(position);
         for step in steps.as_slice() {
             if !self.goes_on(step) {
                 let _ = exits.try_push(self.exit(step));
@@ -77,13 +77,21 @@ impl Plain<'_> {
                 let _ = nodes.try_push(step.index);
             }
         }
-        let setup = Setup::of(&position);
+        let setup = Setup::of(position);
         let mated = steps.is_empty() && setup.is_in_check(setup.side);
-        Some(Node {
+        Node {
             nodes,
             exits,
             mated,
-        })
+        }
+    }
+
+    /// Whether a move leads from the position that the code spells to the node.
+    fn leads(&self, code: u32, node: u32) -> bool {
+        match spelling(self.class, code) {
+            Spelled::Position(before) => self.node(&before).nodes.as_slice().contains(&node),
+            _ => false,
+        }
     }
 }
 
@@ -138,9 +146,8 @@ fn comes_from<G: Game>(game: &G, node: u32, source: u32) -> bool {
 /// Whether plain moves lead from each of these to the node.
 fn lead(plain: &Plain<'_>, sources: &[u32], node: u32) -> bool {
     for source in sources {
-        match plain.node(*source) {
-            Some(before) if before.nodes.as_slice().contains(&node) => {}
-            _ => return false,
+        if !plain.leads(*source, node) {
+            return false;
         }
     }
     ascends(sources)
@@ -175,12 +182,14 @@ fn code_agrees<G: Game>(game: &G, plain: &Plain<'_>, code: u32) -> bool {
     if code >= game.size() {
         return false;
     }
-    match plain.node(code) {
-        Some(node) => {
+    match spelling(plain.class, code) {
+        Spelled::Position(position) => {
+            let node = plain.node(&position);
             node_agrees(game, code, &node)
                 && sources_agree(game, plain, code, node.nodes.as_slice())
         }
-        None => game.void(code),
+        Spelled::Nothing => game.void(code),
+        Spelled::Otherwise => false,
     }
 }
 

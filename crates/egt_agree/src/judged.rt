@@ -1,4 +1,5 @@
 //! The rules of entries (`docs/RULES.md`), asked plainly of a table with some entries changed.
+use crate::codes::{Spelled, spelling};
 use crate::rule::{Value, said_by};
 use crate::setup::Setup;
 use crate::steps::{Step, steps};
@@ -7,9 +8,13 @@ use arrayvec::ArrayVec;
 use egt_board::Position;
 use egt_check::{Library, Rule};
 use egt_class::{Class, of};
-use egt_index::{index, position};
+use egt_index::index;
 use egt_table::Column;
 use egt_unmoves::unmoves;
+
+/// The product spells something else by a code than the plain form.
+#[derive(Clone, Copy, Debug, PartialEq, Eq)]
+pub struct SpelledOtherwise;
 
 /// An entry put in the place of the one at a code.
 #[derive(Clone, Copy)]
@@ -54,10 +59,10 @@ fn plies_of(shown: Option<Value>, lost: bool) -> Option<u16> {
 fn around(class: Class, code: u32) -> ArrayVec<u32, 129> {
     let mut codes = ArrayVec::new();
     let _ = codes.try_push(code);
-    let Some(position) = position(class, code) else {
+    let Spelled::Position(position) = spelling(class, code) else {
         return codes;
     };
-    for unmove in unmoves(&position).as_slice() {
+    for unmove in unmoves(&position.settle()).as_slice() {
         let (other, _) = of(&unmove.before);
         if other.number() == class.number() {
             let _ = codes.try_push(index(other, &unmove.before));
@@ -213,18 +218,21 @@ impl Changed<'_> {
     }
 
     /// The first rule that the entry of the code breaks in the column that is changed.
-    fn broken(&self, code: u32) -> Option<Rule> {
+    fn broken(&self, code: u32) -> Result<Option<Rule>, SpelledOtherwise> {
         let entry = self.entry(self.column, self.class, code);
-        match position(self.class, code) {
-            Some(_) if entry == 0 => Some(Rule::Void),
-            Some(position) => self.broken_at(code, entry, &position),
-            None if entry == 0 => None,
-            None => Some(Rule::Void),
+        match &spelling(self.class, code) {
+            Spelled::Position(position) => Ok(if entry == 0 {
+                Some(Rule::Void)
+            } else {
+                self.broken_at(code, entry, position)
+            }),
+            Spelled::Nothing => Ok(if entry == 0 { None } else { Some(Rule::Void) }),
+            Spelled::Otherwise => Err(SpelledOtherwise),
         }
     }
 
     /// The least code whose entry breaks a rule, and the first that it breaks, where the table is true but for the changes.
-    pub fn first_broken(&self) -> Option<(u32, Rule)> {
+    pub fn first_broken(&self) -> Result<Option<(u32, Rule)>, SpelledOtherwise> {
         let mut first: Option<(u32, Rule)> = None;
         for change in &self.changes {
             for code in around(self.class, change.code).as_slice() {
@@ -232,11 +240,11 @@ impl Changed<'_> {
                     Some((known, _)) => *code < known,
                     None => true,
                 };
-                if is_before && let Some(rule) = self.broken(*code) {
+                if is_before && let Some(rule) = self.broken(*code)? {
                     first = Some((*code, rule));
                 }
             }
         }
-        first
+        Ok(first)
     }
 }

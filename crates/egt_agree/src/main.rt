@@ -1,12 +1,14 @@
-//! Holds what is fast against plain forms that walk the board. `egt_agree DIR CLASS` reads the tables of the class and of those below it
-//! from a folder and prints a line: that the entries of the class's codes are what those of the positions after each legal move give, and
-//! that legal moves, moves backwards and both games over the class are the plain ones; or the first code at which one of them differs, and then
-//! its status is 1. All codes of classes of two and three men are asked, and of the others every so many.
+//! Holds what is fast against plain forms that walk the board. `egt_agree DIR CLASS` reads the tables of the class and
+//! of those below it from a folder and prints a line: that the entries of the class's codes are what those of the
+//! positions after each legal move give, and that what codes spell, legal moves, moves backwards and both games over the
+//! class are the plain ones; or the first code at which one of them differs, and then its status is 1. All codes of
+//! classes of two and three men are asked, and of the others every so many.
 //! `egt_agree sampled` asks the same of fewer codes, with no folder, and prints that they agree.
 //! `egt_agree solved DIR CLASS` solves both games over the class by counters, which takes a while for four men, and holds their ranks against its table.
 //! `egt_agree damaged DIR CLASS` changes entries of the class's table at random, and holds what the checker names against the rules asked plainly.
 #![tactic(auto)]
 
+mod codes;
 mod damaged;
 mod folder;
 mod games;
@@ -110,8 +112,9 @@ fn print_damaged(rt: &HostRuntime, class: Class, library: &Library) -> io::Resul
             println!(rt; "{class} damaged: {tables} tables")?;
             Ok(true)
         }
-        Err(code) => {
-            println!(rt; "{class} differs: table changed at code {code}")?;
+        Err((unlike, code)) => {
+            let why = unlike.text();
+            println!(rt; "{class} differs: table changed at code {code}: {why}")?;
             Ok(false)
         }
     }

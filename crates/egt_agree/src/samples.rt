@@ -1,11 +1,12 @@
 //! Samples of a class's codes: every so many of them.
+use crate::codes::{Spelled, spelling};
 use crate::moves::moves_agree;
 use crate::tables::entries_agree;
 use crate::unmoves::unmoves_agree;
 use egt_board::Position;
 use egt_check::Library;
 use egt_class::Class;
-use egt_index::{position, size};
+use egt_index::size;
 
 /// What is held against its plain form.
 #[derive(Clone, Copy)]
@@ -30,9 +31,10 @@ fn agrees(held: Held, library: &Library, class: Class, code: u32) -> bool {
     if let Held::Entries = held {
         return entries_agree(library, class, code);
     }
-    match position(class, code) {
-        Some(position) => agrees_at(held, &position),
-        None => true,
+    match spelling(class, code) {
+        Spelled::Position(position) => agrees_at(held, &position),
+        Spelled::Nothing => true,
+        Spelled::Otherwise => false,
     }
 }
 

@@ -76,13 +76,19 @@ fn stepped(square: u8, step: (u8, u8)) -> Option<u8> {
 }
 
 impl Setup {
+    /// A board without men.
+    pub fn empty(side: Side, target: Option<u8>) -> Setup {
+        Setup {
+            men: [None; 64],
+            side,
+            target,
+        }
+    }
+
     /// The plain board of a position.
     pub fn of(position: &Position) -> Setup {
-        let mut setup = Setup {
-            men: [None; 64],
-            side: position.side(),
-            target: position.target().map(|square| square.number()),
-        };
+        let target = position.target().map(|square| square.number());
+        let mut setup = Setup::empty(position.side(), target);
         for placed in position.men().as_slice() {
             setup.put(placed.1.number(), Some(placed.0));
         }

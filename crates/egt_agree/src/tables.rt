@@ -2,6 +2,7 @@
 ghost use Rattle.std.specs.Prelude.{◌≡◌, true};
 ghost use Rattle.egt_table.specs.Table.{HasColumn};
 
+use crate::codes::{Spelled, spelling};
 use crate::rule::{Value, best, entry, nearest, said_by};
 use crate::setup::Setup;
 use crate::steps::{Step, steps};
@@ -9,7 +10,7 @@ use arrayvec::ArrayVec;
 use egt_board::Position;
 use egt_check::{Library, Metric};
 use egt_class::Class;
-use egt_index::{position, size};
+use egt_index::size;
 use egt_table::{Column, Table};
 
 /// Whether the column is there.
@@ -95,11 +96,12 @@ pub fn entries_agree(library: &Library, class: Class, code: u32) -> bool {
     let Some(table) = library.get(class) else {
         return false;
     };
-    let spelled = position(class, code);
+    let spelled = spelling(class, code);
     for column in table.columns() {
         let wanted = match &spelled {
-            Some(position) => wanted(library, *column, position),
-            None => Some(0),
+            Spelled::Position(position) => wanted(library, *column, position),
+            Spelled::Nothing => Some(0),
+            Spelled::Otherwise => None,
         };
         if wanted.is_none() || entry_at(library, *column, class, code) != wanted {
             return false;

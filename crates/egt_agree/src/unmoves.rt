@@ -43,7 +43,7 @@ fn may_have_been_passed(setup: &Setup, target: u8) -> bool {
 
 /// Whether it is a settled position: no pawn stands on the first rank or the last, the king of the side that waits is not attacked, and
 /// a target is one that a pawn may take.
-fn is_settled_position(setup: &Setup) -> bool {
+pub(crate) fn is_settled_position(setup: &Setup) -> bool {
     let edges = (0..8u8).chain(56..64u8);
     for square in edges {
         if setup.at(square).is_some_and(|man| man.kind == Kind::P) {

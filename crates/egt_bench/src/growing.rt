@@ -2,7 +2,7 @@
 use egt_check::{Library, check};
 use egt_class::Class;
 use egt_fen::{Fen, write};
-use egt_graph::{Nears, Ranks, Rounds, SolveFault, nearest, solve};
+use egt_graph::{Game, Nears, Ranks, Rounds, SolveFault, nearest, solve};
 use egt_probe::{AnswerFault, LineFault, answer, line};
 use egt_sweep::{BuildFault, MateGame, MigrateFault, build, migrate};
 use egt_table::{Column, FileFault, MemorySink, MemorySource, Table};
@@ -28,7 +28,7 @@ pub trait Growing {
 
 /// Mixes a number into another.
 fn mixed(sum: u64, number: u64) -> u64 {
-    sum.wrapping_mul(0x0010_0000_01b3).wrapping_add(number)
+    sum.wrapping_mul(0x0100_0000_01b3).wrapping_add(number)
 }
 
 fn of_bytes(bytes: &[u8]) -> Answered {
@@ -229,13 +229,13 @@ impl Growing for Solve<'_, '_> {
     }
 }
 
-/// `nearest` over it.
+/// `nearest` over a game.
 #[derive(Drop)]
-pub struct Nearest<'a, 'l> {
-    pub game: &'a MateGame<'l>,
+pub struct Nearest<'a, G> {
+    pub game: &'a G,
 }
 
-impl Growing for Nearest<'_, '_> {
+impl<G: Game> Growing for Nearest<'_, G> {
     fn made(&mut self, alloc: Global) -> Answered {
         match nearest(alloc, self.game) {
             Ok(nears) => of_nears(&nears),
@@ -245,7 +245,7 @@ impl Growing for Nearest<'_, '_> {
     }
 }
 
-/// `Rounds::new` over it.
+/// `Rounds::new` over a class's game of mates.
 #[derive(Drop)]
 pub struct NewRounds<'a, 'l> {
     pub game: &'a MateGame<'l>,

@@ -8,7 +8,7 @@ use egt_check::Library;
 use egt_class::{Class, by_name};
 use egt_fen::{Fen, read};
 use egt_graph::{Ranks, Rounds};
-use egt_sweep::{MateGame, build};
+use egt_sweep::{MateGame, ReachGame, build};
 use egt_table::{Column, MemorySink, Table};
 use std::alloc::Global;
 use std::io;
@@ -187,6 +187,19 @@ fn run_over(
     }
 }
 
+/// Makes `nearest` over the class's game of the nearest mates.
+fn run_over_reach(
+    rt: &HostRuntime,
+    class: Class,
+    library: &Library,
+    stage: Stage,
+) -> io::Result<()> {
+    match ReachGame::new(class, library) {
+        Ok(game) => run(rt, &mut Nearest { game: &game }, stage),
+        Err(_lacking) => println!(rt; "no game"),
+    }
+}
+
 /// Makes the call of that name as far as the stage says: behind `build` stands the class that is built beside those that it rests on, behind
 /// the others the class whose table or game they want.
 pub fn refuse(rt: &HostRuntime, call: &str, class: &str, stage: Stage) -> io::Result<()> {
@@ -220,6 +233,7 @@ pub fn refuse(rt: &HostRuntime, call: &str, class: &str, stage: Stage) -> io::Re
             stage,
         ),
         "read" | "line" | "migrate" | "answer" => run_beside(rt, call, class, &library, stage),
+        "reach" => run_over_reach(rt, class, &library, stage),
         _ => run_over(rt, call, class, &library, stage),
     }
 }

@@ -109,10 +109,36 @@ fn two_kings_have_462_indexes(rt: HostRuntime) {
     assert!(rt; count(0) == Some(462));
 }
 
-// Counted by an independent program, as the orbits of all admissible positions.
+// Positions of three men, counted by hand. Of the symmetries without pawns the identity and the mirrors in the two long
+// diagonals keep some, and a mirror does where all men stand on its diagonal: so all of a side to move, and twice those
+// on one diagonal, are together eight times as many as there are indexes.
+//
+// Black to move: the kings do not touch, in 3612 ways, of which 42 are on a diagonal, and the third man has 62 squares,
+// 6 of them there: 3612 * 62 = 223944, and (223944 + 2 * 42 * 6) / 8 = 28056, of a queen as of a rook.
+//
+// White to move: less those where the third man attacks the black king. At a distance d on a line he does so unless the
+// white king stands between: with n squares beside the black king, 64 - n - d are left for the white one, and n is 3 on
+// 4 squares, 5 on 24 and 8 on 36. A queen has 21 squares at the edge, and 23, 25 and 27 on the 20, 12 and 4 squares
+// further in, a rook 14. The distances on the lines of a rook add up to 16 * 168 = 2688, and on diagonals to
+// 2 * (168 + 2 * (112 + 70 + 40 + 20 + 8 + 2)) = 1344.
+// Queen: 21 * (4 * 61 + 24 * 59) + 56 * (20 * 23 + 12 * 25 + 4 * 27) - 2688 - 1344 = 79436 fall away. On a diagonal she
+// attacks unless the white king is between and not beside the black one: 56 - 21 = 35 triples, either way round.
+// (223944 - 79436 + 2 * 2 * 35) / 8 = 18081.
+// Rook: 14 * (4 * 61 + 24 * 59 + 36 * 56) - 2688 = 48776 fall away, none of them on a diagonal:
+// (223944 - 48776 + 2 * 42 * 6) / 8 = 21959.
+//
+// With a pawn the mirror of files keeps no position, and half of all are indexes. Black to move: the pawn has 48
+// squares, less those of the kings; a king there leaves the other 58 squares from 12 of them and 55 from 36:
+// 3612 * 48 - 2 * (12 * 58 + 36 * 55) = 168024. White to move: less those where the pawn attacks the black king, from
+// one square on the outer files and from two on the others; the white king then has 58 or 55 squares, and with the black
+// king on the eighth rank 60 or 58: 10 * 58 + 30 * 2 * 55 + 2 * 60 + 6 * 2 * 58 = 4696.
 #[test]
 fn classes_of_three_men_have_as_many_indexes_as_orbits(rt: HostRuntime) {
-    for (number, wanted) in [(1, 46_137), (2, 50_015), (5, 165_676)] {
-        assert!(rt; count(number) == Some(wanted), "{number}");
+    for (number, black, white) in [
+        (1, 28_056, 18_081),
+        (2, 28_056, 21_959),
+        (5, 168_024 / 2, (168_024 - 4_696) / 2),
+    ] {
+        assert!(rt; count(number) == Some(black + white), "{number}");
     }
 }

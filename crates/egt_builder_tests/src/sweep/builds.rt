@@ -1,8 +1,10 @@
 //! Tables that are built pass the check and are admitted. The numbers of plies are those of the literature.
 use super::{built, built_over, longest_win};
 use egt_check::{Library, Reject, check};
+use egt_class::Class;
 use egt_fixtures::shelf::{entry_of, file_of, named};
-use egt_sweep::{BuildFault, build};
+use egt_graph::Ranks;
+use egt_sweep::{BuildFault, MigrateFault, build};
 use egt_table::{Column, Table};
 use std::alloc::Global;
 use std::test::*;
@@ -63,6 +65,28 @@ fn a_rook_mates_within_sixteen_moves(rt: HostRuntime) -> Result<(), Fail> {
     Ok(())
 }
 
+/// Whether the bytes have these from each of the places on.
+fn have(bytes: &[u8], parts: &[(usize, &[u8])]) -> bool {
+    for (place, part) in parts {
+        if !bytes
+            .get(*place..)
+            .is_some_and(|rest| rest.starts_with(part))
+        {
+            return false;
+        }
+    }
+    true
+}
+
+/// The bytes of the pawn's file at code 164434, whose entries differ. In the image with king c7, pawn b7 and king a7 it
+/// is ((26 * 64 + 48) * 48 + 41) * 2 + 0. White wins in three plies: 8. The first zeroes: 4. No first move mates, so no
+/// mate is nearer: 5. The columns, of 196,608 entries each, begin at byte 16, 393,216 bytes further and as many more.
+const PAWN_BYTES: [(usize, &[u8]); 3] = [
+    (328_884, &[8, 0]),
+    (722_100, &[4, 0]),
+    (1_115_316, &[5, 0]),
+];
+
 // White to move, king f7, pawn g7, black king h7: g7g8q, h7h6, g8g6 mate. The first move zeroes.
 #[test]
 fn a_pawn_zeroes_before_it_mates(rt: HostRuntime) -> Result<(), Fail> {
@@ -71,6 +95,7 @@ fn a_pawn_zeroes_before_it_mates(rt: HostRuntime) -> Result<(), Fail> {
     assert_eq!(rt; check(&table, &library), Ok(()));
     assert_eq!(rt; entry_of(&table, Column::Mate, 164_434), Some(8));
     assert_eq!(rt; entry_of(&table, Column::Zeroing, 164_434), Some(4));
+    assert!(rt; have(&file_of(rt.alloc(), &table)?, &PAWN_BYTES));
     Ok(())
 }
 
@@ -92,6 +117,17 @@ fn the_least_child_is_missing(rt: HostRuntime) -> Result<(), Fail> {
     Ok(())
 }
 
+/// The bytes of the queen's file at codes 41022 and 41023: king b6, queen d1 and king a8, in the image king c2, queen h4
+/// and king a1, ((5 * 64 + 0) * 64 + 31) * 2, and 1 more with Black to move. White wins in one ply, d1d8: 4. Black has
+/// a8b8 alone, and d1d8 mates again, so he loses in two plies: 7. Nothing zeroes before the mate, so the second column
+/// has the same; and no mate is nearer: 3 and 4 in the third. The columns, of 81,920 entries each, begin at byte 16,
+/// 163,840 bytes further and as many more.
+const QUEEN_BYTES: [(usize, &[u8]); 3] = [
+    (82_060, &[4, 0, 7, 0]),
+    (245_900, &[4, 0, 7, 0]),
+    (409_740, &[3, 0, 4, 0]),
+];
+
 #[test]
 fn the_file_of_a_queen(rt: HostRuntime) -> Result<(), Fail> {
     let table = made(built_over(rt.alloc(), &["KK"], "KQK", 20)?)?;
@@ -104,8 +140,54 @@ fn the_file_of_a_queen(rt: HostRuntime) -> Result<(), Fail> {
         ]
         .as_slice())
     );
-    assert_eq!(rt; bytes.get(82_060..82_064), Some([4, 0, 7, 0].as_slice()));
-    assert_eq!(rt; bytes.get(245_900..245_904), Some([4, 0, 7, 0].as_slice()));
-    assert_eq!(rt; bytes.get(409_740..409_744), Some([3, 0, 4, 0].as_slice()));
+    assert!(rt; have(&bytes, &QUEEN_BYTES));
     Ok(())
+}
+
+/// The table without the column of the nearest mates.
+fn without_reach(alloc: Global, table: &Table) -> Result<Table, Fail> {
+    let mate = Ranks::from_entries(Vec::from_slice(alloc, table.entries(Column::Mate))?);
+    let zeroing = Ranks::from_entries(Vec::from_slice(alloc, table.entries(Column::Zeroing))?);
+    match Table::from_ranks(table.class(), mate, zeroing) {
+        Ok(table) => Ok(table),
+        Err(_columns) => Err(Fail::from("a column of another length")),
+    }
+}
+
+// In version 1 the first two columns stand where they do in version 2, and the file ends behind them.
+#[test]
+fn the_file_of_a_queen_without_the_third_column(rt: HostRuntime) -> Result<(), Fail> {
+    let table = made(built_over(rt.alloc(), &["KK"], "KQK", 20)?)?;
+    let bytes = file_of(rt.alloc(), &without_reach(rt.alloc(), &table)?)?;
+    assert_eq!(rt; bytes.len(), 327_696);
+    assert_eq!(rt;
+        bytes.get(..16),
+        Some([
+            0x45, 0x47, 0x54, 0x42, 1, 0, 1, 0, 1, 0, 2, 0, 0, 0x40, 1, 0
+        ]
+        .as_slice())
+    );
+    assert!(rt; have(&bytes, &QUEEN_BYTES[..2]));
+    Ok(())
+}
+
+#[test]
+fn faults_by_number_and_name(rt: HostRuntime) {
+    let class = Class::at(0);
+    for (fault, number, name) in [
+        (BuildFault::NoMemory, 1, "NoMemory"),
+        (BuildFault::TooDeep(18), 2, "TooDeep"),
+        (BuildFault::Missing(class), 3, "Missing"),
+        (BuildFault::NoReach(class), 4, "NoReach"),
+    ] {
+        assert!(rt; fault.number() == number && fault.name() == name, "{name}");
+    }
+    for (fault, number, name) in [
+        (MigrateFault::NoMemory, 1, "NoMemory"),
+        (MigrateFault::TooDeep, 2, "TooDeep"),
+        (MigrateFault::NoReach(class), 4, "NoReach"),
+        (MigrateFault::HasReach, 5, "HasReach"),
+    ] {
+        assert!(rt; fault.number() == number && fault.name() == name, "{name}");
+    }
 }

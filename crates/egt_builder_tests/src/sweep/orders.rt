@@ -9,7 +9,7 @@ use egt_fixtures::runs::{
     expand, played, post_all, post_block, with_draws, with_held, with_losses,
 };
 use egt_fixtures::shelf::{file_of, named};
-use egt_graph::{Close, Post, Ranks, Rounds, solve};
+use egt_graph::{Batch, Close, Game, Post, Ranks, Rounds, solve};
 use egt_sweep::{MateGame, ZeroGame};
 use egt_table::Table;
 use std::alloc::Global;
@@ -126,5 +126,39 @@ fn past_the_limit_no_ranks_are_given(rt: HostRuntime) -> Result<(), Fail> {
     post_all(rt.alloc(), &mut rounds, &UP)?;
     assert_eq!(rt; rounds.close(), Close::TooDeep);
     assert!(rt; rounds.into_ranks().is_err());
+    Ok(())
+}
+
+/// The most moves that a batch of the block has into a node, where each node has just those that the game tells.
+fn most_targets<G: Game>(batch: &Batch<'_, G>, game: &G) -> Option<usize> {
+    let mut most = 0usize;
+    for (place, node) in batch.nodes().iter().enumerate() {
+        if *node >= game.size() || game.void(*node) {
+            return None;
+        }
+        let sources = game.into(*node);
+        if batch.targets(place) != sources.as_slice() {
+            return None;
+        }
+        most = most.max(sources.len());
+    }
+    Some(most)
+}
+
+// King c1, queen b2 and king a1 is checkmate, and the queen came from more than one square.
+#[test]
+fn targets_of_each_checkmate_of_a_queen(rt: HostRuntime) -> Result<(), Fail> {
+    let library = built(rt.alloc(), &["KK"])?;
+    let Ok(game) = MateGame::new(named("KQK")?, &library) else {
+        return Err(Fail::from("two kings are there"));
+    };
+    let rounds = Rounds::new(rt.alloc(), &game, 20)?;
+    let mut most = 0usize;
+    for block in 0..rounds.blocks() {
+        let batch = expand(rt.alloc(), &rounds, block)?;
+        let targets = most_targets(&batch, &game).ok_or("other moves than the game tells")?;
+        most = most.max(targets);
+    }
+    assert!(rt; most > 1);
     Ok(())
 }

@@ -410,10 +410,10 @@ fn bishop_and_knight_have_the_plain_positions(rt: HostRuntime) -> Result<(), Fai
 
 #[test]
 fn index_is_the_plain_index(rt: HostRuntime) -> Result<(), Fail> {
-    // Counted by an independent program, as the orbits of all admissible positions.
+    // Those with Black to move and those with White to move, as they are counted by hand in `index.rt`.
     assert!(rt; agree(0, 1)? == 462);
-    assert!(rt; agree(1, 1)? == 46_137);
-    assert!(rt; agree(5, 1)? == 165_676);
+    assert!(rt; agree(1, 1)? == 28_056 + 18_081);
+    assert!(rt; agree(5, 1)? == 84_012 + 81_664);
     for number in 2..5 {
         assert!(rt; agree(number, 1)? > 0);
     }

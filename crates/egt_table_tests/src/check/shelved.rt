@@ -43,6 +43,17 @@ fn a_bad_table_comes_back(rt: HostRuntime) -> Result<(), Fail> {
     Ok(())
 }
 
+const RULES: [(Rule, &str); 8] = [
+    (Rule::Void, "void"),
+    (Rule::Range, "range"),
+    (Rule::Kind, "kind"),
+    (Rule::Win, "win"),
+    (Rule::Loss, "loss"),
+    (Rule::Draw, "draw"),
+    (Rule::Reach, "reach"),
+    (Rule::Dead, "dead"),
+];
+
 #[test]
 fn refusals_by_number_and_name(rt: HostRuntime) -> Result<(), Fail> {
     let missing = Reject::Missing(Class::at(0));
@@ -52,7 +63,14 @@ fn refusals_by_number_and_name(rt: HostRuntime) -> Result<(), Fail> {
     );
     let lacking = Reject::NoReach(Class::at(0));
     assert!(rt; lacking.number() == 17 && lacking.name() == "NoReach");
-    assert!(rt; Rule::Void.name() == "void" && Rule::Draw.name() == "draw");
-    assert!(rt; Rule::Reach.name() == "reach" && Rule::Dead.name() == "dead");
+    let rejected = Reject::Rejected {
+        column: Column::Zeroing,
+        index: 4,
+        rule: Rule::Kind,
+    };
+    assert!(rt; rejected.number() == 12 && rejected.name() == "Rejected");
+    for (rule, name) in RULES {
+        assert_eq!(rt; rule.name(), name);
+    }
     Ok(())
 }

@@ -109,6 +109,50 @@ fn after_the_end(rt: HostRuntime) -> Result<(), Fail> {
     Ok(())
 }
 
+/// Which blocks count as posted.
+fn posted_blocks(rounds: &Rounds<'_, Stairs<'_>>) -> [bool; 3] {
+    [
+        is_posted(rounds, 0),
+        is_posted(rounds, 1),
+        is_posted(rounds, 2),
+    ]
+}
+
+#[test]
+fn a_run_that_is_not_over_comes_back_as_it_was(rt: HostRuntime) -> Result<(), Fail> {
+    let mut rounds = Rounds::new(rt.alloc(), &STAIRS, 4)?;
+    play_round(rt.alloc(), &mut rounds)?;
+    assert_eq!(rt; post_block(rt.alloc(), &mut rounds, 1)?, Post::Posted);
+    let Err(mut rounds) = rounds.into_ranks() else {
+        return Err(Fail::from("ranks of a run that is not over"));
+    };
+    assert_eq!(rt; rounds.round(), 1);
+    assert_eq!(rt; posted_blocks(&rounds), [false, true, false]);
+    assert_eq!(rt; post_block(rt.alloc(), &mut rounds, 1)?, Post::Repeat);
+    for _round in 1..5 {
+        play_round(rt.alloc(), &mut rounds)?;
+    }
+    let Ok(ranks) = rounds.into_ranks() else {
+        return Err(Fail::from("the run is over"));
+    };
+    assert!(rt; are_stair_ranks(&ranks));
+    Ok(())
+}
+
+#[test]
+fn each_block_counts_as_posted_after_the_end(rt: HostRuntime) -> Result<(), Fail> {
+    let mut rounds = Rounds::new(rt.alloc(), &STAIRS, 4)?;
+    assert_eq!(rt; posted_blocks(&rounds), [false; 3]);
+    for _round in 0..5 {
+        play_round(rt.alloc(), &mut rounds)?;
+    }
+    assert_eq!(rt; rounds.close(), Close::Finished);
+    assert_eq!(rt; posted_blocks(&rounds), [true; 3]);
+    assert_eq!(rt; post_block(rt.alloc(), &mut rounds, 1)?, Post::Stale);
+    assert_eq!(rt; posted_blocks(&rounds), [true; 3]);
+    Ok(())
+}
+
 #[test]
 fn targets_are_the_moves_into_a_node(rt: HostRuntime) -> Result<(), Fail> {
     let rounds = Rounds::new(rt.alloc(), &STAIRS, 4)?;

@@ -5,7 +5,7 @@ use egt_fixtures::kings::{
     LENGTH, class, flip, kings_file, table_with, whole_kings_file, whole_table_with,
 };
 use egt_fixtures::shelf::{entry_of, file_of};
-use egt_table::{Column, FailingSource, MemorySource, Table};
+use egt_table::{Column, Device, FailingSource, FileFault, MemorySource, Source, Table};
 use std::alloc::Global;
 use std::test::*;
 
@@ -218,4 +218,56 @@ fn each_pull_fails_in_turn(rt: HostRuntime) -> Result<(), Fail> {
     }
     assert_eq!(rt; fault_at_pull(rt.alloc(), &bytes, 5), (0, 1));
     Ok(())
+}
+
+/// What the next pull gives: the bytes, of which there is room for two, or a failure.
+fn pulled(source: &mut FailingSource<MemorySource<'_>>, wanted: &[u8]) -> bool {
+    let mut room = [0; 2];
+    match source.pull(&mut room) {
+        Ok(n) => room.get(..n) == Some(wanted),
+        Err(Device) => false,
+    }
+}
+
+// The failed call takes nothing, and those before and behind it are the source's own.
+#[test]
+fn a_source_goes_on_behind_its_failure(rt: HostRuntime) {
+    let mut source = FailingSource::new(MemorySource::new(&[1, 2, 3, 4, 5]), 2);
+    assert_eq!(rt; source.calls_to_failure(), 2);
+    assert!(rt; pulled(&mut source, &[1, 2]));
+    assert_eq!(rt; source.calls_to_failure(), 1);
+    assert_eq!(rt; source.pull(&mut [0; 2]), Err(Device));
+    assert_eq!(rt; source.calls_to_failure(), 0);
+    assert!(rt; pulled(&mut source, &[3, 4]));
+    assert!(rt; pulled(&mut source, &[5]));
+    assert!(rt; pulled(&mut source, &[]));
+    assert_eq!(rt; source.calls_to_failure(), 0);
+}
+
+#[test]
+fn a_source_that_never_fails(rt: HostRuntime) {
+    let mut source = FailingSource::new(MemorySource::new(&[1, 2]), 0);
+    assert!(rt; pulled(&mut source, &[1, 2]));
+    assert!(rt; pulled(&mut source, &[]));
+    assert_eq!(rt; source.calls_to_failure(), 0);
+}
+
+const FAULTS: [(FileFault, u8, &str); 10] = [
+    (FileFault::Device, 1, "Device"),
+    (FileFault::Short, 2, "Short"),
+    (FileFault::Magic, 3, "Magic"),
+    (FileFault::Version, 4, "Version"),
+    (FileFault::Layout, 5, "Layout"),
+    (FileFault::Class, 6, "Class"),
+    (FileFault::Columns, 7, "Columns"),
+    (FileFault::Count, 8, "Count"),
+    (FileFault::Trailing, 9, "Trailing"),
+    (FileFault::NoMemory, 10, "NoMemory"),
+];
+
+#[test]
+fn faults_by_number_and_name(rt: HostRuntime) {
+    for (fault, number, name) in FAULTS {
+        assert!(rt; fault.number() == number && fault.name() == name, "{name}");
+    }
 }

@@ -1,7 +1,7 @@
 //! What is written.
 use egt_fixtures::kings::{LENGTH, kings_file, table_with, whole_kings_file};
 use egt_fixtures::shelf::file_of;
-use egt_table::{FailingSink, MemorySink, Table};
+use egt_table::{Device, FailingSink, MemorySink, Sink, Table};
 use std::alloc::Global;
 use std::test::*;
 
@@ -100,5 +100,31 @@ fn each_push_fails_in_turn(rt: HostRuntime) -> Result<(), Fail> {
         );
     }
     assert!(rt; fails_once(rt.alloc(), &table) == Some(true));
+    Ok(())
+}
+
+// The failed call adds nothing, and those before and behind it are the sink's own.
+#[test]
+fn a_sink_goes_on_behind_its_failure(rt: HostRuntime) -> Result<(), Fail> {
+    let mut sink = FailingSink::new(MemorySink::new(rt.alloc(), 5)?, 2);
+    assert_eq!(rt; sink.calls_to_failure(), 2);
+    assert_eq!(rt; sink.push(&[1, 2]), Ok(2));
+    assert_eq!(rt; sink.calls_to_failure(), 1);
+    assert_eq!(rt; sink.push(&[3]), Err(Device));
+    assert_eq!(rt; sink.calls_to_failure(), 0);
+    assert_eq!(rt; sink.push(&[4, 5]), Ok(2));
+    assert_eq!(rt; sink.push(&[6, 7]), Ok(1));
+    assert_eq!(rt; sink.push(&[7]), Err(Device));
+    assert!(rt; sink.into_inner().bytes() == [1, 2, 4, 5, 6].as_slice());
+    Ok(())
+}
+
+#[test]
+fn a_sink_that_never_fails(rt: HostRuntime) -> Result<(), Fail> {
+    let mut sink = FailingSink::new(MemorySink::new(rt.alloc(), 5)?, 0);
+    assert_eq!(rt; sink.push(&[1, 2]), Ok(2));
+    assert_eq!(rt; sink.push(&[3]), Ok(1));
+    assert_eq!(rt; sink.calls_to_failure(), 0);
+    assert!(rt; sink.into_inner().bytes() == [1, 2, 3].as_slice());
     Ok(())
 }

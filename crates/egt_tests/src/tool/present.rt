@@ -40,6 +40,70 @@ const KNIGHT: [Step; 3] = [
     ("probe DIR", "", 0, "", ""),
 ];
 
+/// What is told of the file of two kings, of version 2, and of a knight's of version 1: only the first tells of dead
+/// positions.
+const OF_BOTH_VERSIONS: [Step; 4] = [
+    ("check DIR", "", 0, "ok KK\nok KNK\n", ""),
+    (
+        "probe DIR",
+        MIXED,
+        0,
+        "KNK draw hold d2c1\nerror fen 1 FieldCount\nKK dead hold e3d2\nerror probe 11 Missing KQK\n",
+        "",
+    ),
+    (
+        "probe DIR KNK",
+        MIXED,
+        0,
+        "KNK draw hold d2c1\nerror fen 1 FieldCount\nKK dead hold e3d2\nerror probe 11 Missing KQK\n",
+        "",
+    ),
+    (
+        "probe DIR KK",
+        MIXED,
+        0,
+        "error probe 11 Missing KNK\nerror fen 1 FieldCount\nKK dead hold e3d2\nerror probe 11 Missing KQK\n",
+        "",
+    ),
+];
+
+/// What is told of both of version 1: no table tells of dead positions.
+const OF_VERSION_1: Step = (
+    "probe DIR",
+    MIXED,
+    0,
+    "KNK draw hold d2c1\nerror fen 1 FieldCount\nKK draw hold e3d2\nerror probe 11 Missing KQK\n",
+    "",
+);
+
+const BUILT: [Step; 2] = [
+    ("build DIR KK", "", 0, "built KK entries 1280\n", ""),
+    ("build DIR KNK", "", 0, "built KNK entries 81920\n", ""),
+];
+
+/// Puts the folder's file of a knight into version 1: without the third column, and with other numbers of the version
+/// and of columns.
+fn put_first_version(rt: &HostRuntime, folder: &str) -> Result<(), Fail> {
+    let path = format!(in rt.alloc(); "{folder}/KNK.egt")?;
+    let file = fs::read(rt, path.as_str())?;
+    let version = changed(rt.alloc(), file.as_slice(), 4, 1)?;
+    let mut first = changed(rt.alloc(), &version, 10, 2)?;
+    first.truncate(327_696);
+    put(rt, folder, "KNK.egt", &first)
+}
+
+#[test]
+fn files_of_both_versions(rt: HostRuntime) -> Result<(), Fail> {
+    let folder = folder(&rt, "versions")?;
+    all_go(&rt, &folder, &BUILT)?;
+    put_first_version(&rt, &folder)?;
+    all_go(&rt, &folder, &OF_BOTH_VERSIONS)?;
+    put(&rt, &folder, "KK.egt", &kings_file(rt.alloc())?)?;
+    all_go(&rt, &folder, &[OF_VERSION_1])?;
+    fs::remove_dir_all(&rt, folder.as_str())?;
+    Ok(())
+}
+
 /// What is told beside a pawn's file: its child with the least number that is not there.
 const PAWN: [Step; 3] = [
     (
